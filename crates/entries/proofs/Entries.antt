@@ -1,0 +1,126 @@
+-- Entries by their place in the page, as the loops go, and that this is what the rules say of their words. Assumes nothing.
+use Prim.Native.Nat.{ℕ, zero, suc, _+_, _-_, _*_, _/_, _%_, _^_, _≤_, _<_}
+use mathlib.Core.Path.{_≡_, refl, sym, ap, _∙_}
+use mathlib.Core.Bool.{Bool, true, false}
+use mathlib.Core.List.{List, [], _∷_, _++_}
+use native.Mathlib.Numerals.{add-one}
+use native.Mathlib.Nat.{mul-suc, mul-le-mul-left, le-div-iff-mul-le, div-lt-iff-lt-mul, mul-comm, mul-assoc, add-zero}
+use native.Mathlib.Omega.{arith}
+use lib.ListN.{getD}
+use Rattle.words.specs.Tests.{every}
+use Rattle.words.proofs.Tests.{every-none, every-more, every-not, every-same}
+use Rattle.words.specs.Word.{part, wordAt, wordsOf}
+use Rattle.words.proofs.Read.{wordsOf-at, wordsOf-suc, num-part}
+use Rattle.entries.specs.Entry.{per, size, entryOk, entriesOk, sum}
+use Rattle.entries.specs.Array.{wordsAt, entryAt, entryPlace, entriesAt, sumAt}
+
+-- ---- words in an entry
+pub per-one : per 1 ≡ 6
+unfolding per
+per-one = refl
+
+pub per-other : (k : ℕ) → (k ≡ 1 → ⊥) → per k ≡ 2
+unfolding per
+per-other zero h = refl
+per-other (suc zero) h = absurd (h refl)
+per-other (suc (suc k)) h = refl
+
+pub per-range : (k : ℕ) → (2 ≤ per k) × (per k ≤ 6)
+unfolding per
+per-range zero = omega arith
+per-range (suc zero) = omega arith
+per-range (suc (suc k)) = omega arith
+
+-- ---- the room for c entries, by a division
+module _ (k c room : ℕ) where
+  step : 0 < 8 * per k
+  step = let p = per-range k .0 in omega arith
+
+  size-bytes : size k c ≡ c * (8 * per k)
+  unfolding size
+  size-bytes = omega (arith, mul-comm c (8 * per k), mul-assoc 8 (per k) c)
+
+  pub size-fits : room / (8 * per k) < c → room < size k c
+  size-fits h = rw size-bytes (div-lt-iff-lt-mul step .0 h)
+
+  pub size-room : c ≤ room / (8 * per k) → size k c ≤ room
+  size-room h = rw size-bytes (le-div-iff-mul-le step .0 h)
+
+-- ---- entries in place
+pub place-none : (k at : ℕ) → entryPlace k at 0 ≡ at
+unfolding entryPlace
+place-none k at = omega arith
+
+pub place-more : (k at i : ℕ) → entryPlace k at i + 8 * per k ≡ entryPlace k at (i + 1)
+unfolding entryPlace
+place-more k at i = rw (add-one, mul-suc) (omega arith)
+
+pub place-room : (k at i count : ℕ) → i < count → entryPlace k at i + 8 * per k ≤ at + size k count
+unfolding entryPlace size
+place-room k at i count h = omega (arith, mul-suc (per k) i, mul-le-mul-left (per k) h)
+
+pub entries-none : (w k at : ℕ) (page : List ℕ) → entriesAt w k at 0 page ≡ true
+unfolding entriesAt
+entries-none w k at page = every-none (λ i. entryAt w k (entryPlace k at i) page)
+
+pub entries-more : (w k at i : ℕ) (page : List ℕ) → entriesAt w k at i page ≡ true → entryAt w k (entryPlace k at i) page ≡ true → entriesAt w k at (i + 1) page ≡ true
+unfolding entriesAt
+entries-more w k at i page p q = every-more i (λ i. entryAt w k (entryPlace k at i) page) p q
+
+pub entries-not : (w k at count i : ℕ) (page : List ℕ) → i < count → entryAt w k (entryPlace k at i) page ≡ false → entriesAt w k at count page ≡ false
+unfolding entriesAt
+entries-not w k at count i page h q = every-not count (λ i. entryAt w k (entryPlace k at i) page) i h q
+
+-- ---- a word of the array is a word of the page
+module _ (k at i count : ℕ) (page : List ℕ) (h : i < count) where
+  pub word-in : (j : ℕ) → j < per k → getD (wordsAt k count at page) (per k * i + j) 0 ≡ wordAt (entryPlace k at i + 8 * j) page
+  unfolding wordsAt size entryPlace
+  word-in j l =
+      let m : per k * i + j < per k * count = omega (arith, mul-suc (per k) i, mul-le-mul-left (per k) h) in
+      wordsOf-at (per k * count) (part at (8 * (per k * count)) page) (per k * i + j) m
+      ∙ num-part 8 at (8 * (per k * count)) (8 * (per k * i + j)) page (omega arith)
+      ∙ ap (λ x. wordAt x page) (let e : at + 8 * (per k * i + j) ≡ at + 8 * (per k * i) + 8 * j = omega arith in e)
+
+  first-in : getD (wordsAt k count at page) (per k * i) 0 ≡ wordAt (entryPlace k at i) page
+  first-in = let p = per-range k .0 in simp add-zero at (word-in 0 (omega arith))
+
+  entry-same : (w : ℕ) → entryOk w k (wordsAt k count at page) (per k * i) ≡ entryAt w k (entryPlace k at i) page
+  unfolding entryOk entryAt
+  entry-same w = let p = per-range k .0 in rw (first-in, word-in 1 (omega arith), word-in (per k - 1) (omega arith))
+
+pub entries-same : (w k at count : ℕ) (page : List ℕ) → entriesOk w k count (wordsAt k count at page) ≡ entriesAt w k at count page
+unfolding entriesOk entriesAt
+entries-same w k at count page =
+    every-same count (λ i. entryOk w k (wordsAt k count at page) (per k * i)) (λ i. entryAt w k (entryPlace k at i) page)
+    (λ i h. entry-same k at i count page h w)
+
+-- ---- the sum of an array's words
+pub sum-words : (k at count : ℕ) (page : List ℕ) → sumAt at (per k * count) page ≡ sum (wordsAt k count at page)
+unfolding sumAt wordsAt size
+sum-words k at count page = refl
+
+sum-snoc : (xs : List ℕ) (y : ℕ) → sum (xs ++ (y ∷ [])) ≡ sum xs + y
+unfolding sum
+sum-snoc [] y = omega arith
+sum-snoc (x ∷ xs) y = rw (sum-snoc xs y) (omega arith)
+
+-- one word more
+pub sum-step : (page : List ℕ) (at off i m acc w r : ℕ) → 8 * (i + 1) ≤ m → off ≡ at + 8 * i → acc ≡ sum (wordsOf i (part at m page)) % 2 ^ 64 → w ≡ wordAt off page →
+    r ≡ (acc + w) % 2 ^ 64 → r ≡ sum (wordsOf (i + 1) (part at m page)) % 2 ^ 64
+sum-step page at off i m acc w r h o e f g =
+    let k : w ≡ wordAt (at + 8 * i) page = rw o at f in
+    rw (add-one, wordsOf-suc, sum-snoc, num-part 8 at m (8 * i) page (omega arith), ← k) (omega arith)
+
+-- the total of a section, added in three steps that wrap
+mod-left : (a b : ℕ) → (a % 2 ^ 64 + b) % 2 ^ 64 ≡ (a + b) % 2 ^ 64
+mod-left a b = omega arith
+
+mod-right : (a b : ℕ) → (a + b % 2 ^ 64) % 2 ^ 64 ≡ (a + b) % 2 ^ 64
+mod-right a b = omega arith
+
+pub total-law : (c p s k x h m t : ℕ) → x ≡ s % 2 ^ 64 → h ≡ (c + p) % 2 ^ 64 → m ≡ (x + k) % 2 ^ 64 → t ≡ (h + m) % 2 ^ 64 → t ≡ (c + p + s + k) % 2 ^ 64
+total-law c p s k x h m t a b d e =
+    e ∙ rw (b, d, a, mod-left s k, mod-left (c + p) ((s + k) % 2 ^ 64), mod-right (c + p) (s + k), let f : c + p + s + k ≡ c + p + (s + k) = omega arith in f)
+
+pub not-zero : (n : ℕ) → (n ≡ 0 → ⊥) → 0 < n
+not-zero n h = omega arith

@@ -1,0 +1,34 @@
+-- Entries at an offset of a page, where the words of an array lie. Assumes nothing.
+use Prim.Native.Nat.{ℕ, _+_, _-_, _*_, _%_}
+use mathlib.Core.Bool.{Bool}
+use mathlib.Core.List.{List}
+use lib.Dec.{ltb, eqb}
+use Rattle.words.specs.Tests.{both, every}
+use Rattle.words.specs.Word.{part, wordAt, wordsOf}
+use Rattle.entries.specs.Entry.{per, size, entryRule, entriesOk, sum, checkOk}
+
+-- the words of an array of c entries of section k at an offset
+unfoldable pub wordsAt : ℕ → ℕ → ℕ → List ℕ → List ℕ
+wordsAt k c at page = wordsOf (per k * c) (part at (size k c) page)
+
+-- The part of a section's rule that no edition changes, on a page of minor w, of count c, pointer p, checksum s and the
+-- array's words ws: "count 1 or more, a pointer that is a multiple of 8", "each checksum holds", and the entries' rules.
+unfoldable pub soundOf : ℕ → ℕ → ℕ → ℕ → ℕ → List ℕ → Bool
+soundOf w k c p s ws = both (ltb 0 c) (both (eqb (p % 8) 0) (both (checkOk c p ws s) (entriesOk w k c ws)))
+
+-- ---- as the loops go
+-- the rule of the entry at an offset
+unfoldable pub entryAt : ℕ → ℕ → ℕ → List ℕ → Bool
+entryAt w k at page = entryRule w k (wordAt at page) (wordAt (at + 8) page) (wordAt (at + 8 * (per k - 1)) page)
+
+-- the offset of entry i of the array at an offset
+unfoldable pub entryPlace : ℕ → ℕ → ℕ → ℕ
+entryPlace k at i = at + 8 * (per k * i)
+
+-- the rule of each of c entries at an offset
+unfoldable pub entriesAt : ℕ → ℕ → ℕ → ℕ → List ℕ → Bool
+entriesAt w k at c page = every c (λ i. entryAt w k (entryPlace k at i) page)
+
+-- the sum of n words from an offset on
+unfoldable pub sumAt : ℕ → ℕ → List ℕ → ℕ
+sumAt at n page = sum (wordsOf n (part at (8 * n) page))

@@ -1,0 +1,55 @@
+-- The entries of a section. Sections are numbered as in 01's table: 0 plat_dram, 1 plat_console, 2 plat_ncoh_region,
+-- 3 plat_coh_region. Assumes nothing.
+use Prim.Native.Nat.{ℕ, zero, suc, _+_, _-_, _*_, _%_, _^_}
+use mathlib.Core.Bool.{Bool, cond}
+use mathlib.Core.List.{List, [], _∷_}
+use lib.ListN.{getD}
+use lib.Dec.{leb, ltb, eqb}
+use Rattle.words.specs.Tests.{both, every}
+
+-- words in an entry of section k: "A bank or region entry is 16 bytes: base, size. A console entry is 48 bytes: base,
+-- map_pages, name (8 bytes), clk_in_hz, baud_rate, flags."
+unfoldable pub per : ℕ → ℕ
+per zero = 2
+per (suc zero) = 6
+per (suc (suc k)) = 2
+
+-- bytes of c entries
+unfoldable pub size : ℕ → ℕ → ℕ
+size k c = 8 * (per k * c)
+
+-- "bank and region: base and size multiples of 4,096, size not 0, base + size at most 2^52"
+unfoldable pub bankOk : ℕ → ℕ → Bool
+bankOk b s = both (eqb (b % 4096) 0) (both (eqb (s % 4096) 0) (both (ltb 0 s) (leb (b + s) (2 ^ 52))))
+
+-- "flags 0". The rule may look at the page's minor w; at present it is the same for each.
+unfoldable pub flagsOk : ℕ → ℕ → Bool
+flagsOk w f = eqb f 0
+
+-- "console: base a multiple of 4,096, map_pages not 0, base + 4,096 x map_pages at most 2^52, flags 0"
+unfoldable pub consoleOk : ℕ → ℕ → ℕ → ℕ → Bool
+consoleOk w b n f = both (eqb (b % 4096) 0) (both (ltb 0 n) (both (leb (b + 4096 * n) (2 ^ 52)) (flagsOk w f)))
+
+-- the rule of an entry of section k by its first, second and last word, on a page of minor w; of a bank the second is the last
+unfoldable pub entryRule : ℕ → ℕ → ℕ → ℕ → ℕ → Bool
+entryRule w k a b z = cond (eqb k 1) (consoleOk w a b z) (bankOk a b)
+
+-- the rule of the entry whose words start at place j of ws
+unfoldable pub entryOk : ℕ → ℕ → List ℕ → ℕ → Bool
+entryOk w k ws j = entryRule w k (getD ws j 0) (getD ws (j + 1) 0) (getD ws (j + (per k - 1)) 0)
+
+-- the rule of each of c entries
+unfoldable pub entriesOk : ℕ → ℕ → ℕ → List ℕ → Bool
+entriesOk w k c ws = every c (λ i. entryOk w k ws (per k * i))
+
+-- the entries of section k as they are shown on a page of minor w: at present as they stand
+unfoldable pub shownWords : ℕ → ℕ → List ℕ → List ℕ
+shownWords w k ws = ws
+
+unfoldable pub sum : List ℕ → ℕ
+sum [] = 0
+sum (w ∷ ws) = w + sum ws
+
+-- "Checksum: count, pointer, all 8-byte words of the array and the checksum itself sum to 0 modulo 2^64."
+unfoldable pub checkOk : ℕ → ℕ → List ℕ → ℕ → Bool
+checkOk c p ws s = eqb ((c + p + sum ws + s) % 2 ^ 64) 0

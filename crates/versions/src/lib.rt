@@ -1,0 +1,114 @@
+// Versions as numbers, and the editions of the manifest's layout.
+ghost use mathlib.Core.Path.{_≡_};
+ghost use Prim.Native.Nat.{min, _<_, _≤_};
+ghost use Rattle.versions.specs.Version.{minorOf, majorOf, accepted, later, agreed};
+ghost use Rattle.versions.specs.Edition.{secs, core, editionOk};
+
+// A version's minor, bits 0 to 15.
+pub fn minor(version: u64) -> u64
+    ensures { λ r. ⌜ (r ≡ minorOf version) × (r < 0x1_0000) ⌝ }
+{
+    version % 0x1_0000
+}
+
+// A version's major, bits 16 to 30.
+pub fn major(version: u64) -> u64
+    ensures { λ r. ⌜ (r ≡ majorOf version) × (r < 0x8000) ⌝ }
+{
+    version / 0x1_0000 % 0x8000
+}
+
+// Whether a boot interface's or a manifest's version is accepted: bit 31 zero, major 0, minor 1 or more. A number above 32
+// bits is no version.
+pub fn is_accepted(version: u64) -> bool
+    ensures { λ r. ⌜ r ≡ accepted version ⌝ }
+{
+    if version / 0x8000_0000 != 0 {
+        return false;
+    }
+    if major(version) != 0 {
+        return false;
+    }
+    if minor(version) < 1 {
+        return false;
+    }
+    true
+}
+
+// Whether version a is later than version b. They are numbers: 0.10 is later than 0.9.
+pub fn is_later(a: u64, b: u64) -> bool
+    ensures { λ r. ⌜ r ≡ later a b ⌝ }
+{
+    b < a
+}
+
+// The smaller of two numbers.
+pub fn smaller(a: u64, b: u64) -> u64
+    ensures { λ r. ⌜ r ≡ min a b ⌝ }
+{
+    if a < b {
+        return a;
+    }
+    b
+}
+
+// The interface minor that both sides speak, where this version is offered.
+pub fn agreed_minor(version: u64) -> u64
+    ensures { λ r. ⌜ (r ≡ agreed version) × (r ≤ 5) ⌝ }
+{
+    smaller(5, minor(version))
+}
+
+// Whether there is such an edition: 1 to 4.
+pub fn is_edition(edition: u64) -> bool
+    ensures { λ r. ⌜ r ≡ editionOk edition ⌝ }
+{
+    if edition < 1 {
+        return false;
+    }
+    if 4 < edition {
+        return false;
+    }
+    true
+}
+
+// An edition of the layout: a minor. Every number is one, in its promises: below 1 as 1, above 4 as 4.
+pub struct Edition {
+    pub minor: u64,
+}
+
+impl Edition {
+    pub const CORE_1: u64 = 16;
+
+    pub const CORE_2: u64 = 40;
+
+    pub const CORE_3: u64 = 64;
+
+    pub const CORE_4: u64 = 112;
+
+    // The core's size in bytes.
+    pub fn core_size(self) -> u64
+        ensures { λ r. ⌜ (r ≡ core (self .minor)) × (r ≤ 112) ⌝ }
+    {
+        let minor = self.minor;
+        match minor {
+            0 | 1 => Edition::CORE_1,
+            2 => Edition::CORE_2,
+            3 => Edition::CORE_3,
+            _ => Edition::CORE_4,
+        }
+    }
+
+    // How many of the four sections it has.
+    pub fn sections(self) -> usize
+        ensures { λ r. ⌜ (r ≡ secs (self .minor)) × (r ≤ 4) ⌝ }
+    {
+        let minor = self.minor;
+        match minor {
+            0 | 1 => 0,
+            2 => 1,
+            3 => 2,
+            _ => 4,
+        }
+    }
+}

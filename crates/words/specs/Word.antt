@@ -1,0 +1,44 @@
+-- Numbers in bytes. 01: "All fields are little-endian (house rule)." Assumes nothing.
+use Prim.Native.Nat.{ℕ, zero, suc, _+_, _*_, _/_, _%_}
+use mathlib.Core.Bool.{cond}
+use mathlib.Core.List.{List, [], _∷_, _++_}
+use lib.ListN.{length, take, drop}
+use lib.Dec.{leb}
+
+-- the number that bytes stand for, the lowest byte first
+unfoldable pub leOf : List ℕ → ℕ
+leOf [] = 0
+leOf (b ∷ bs) = b + 256 * leOf bs
+
+-- the n low bytes of x, the lowest first
+unfoldable pub leBytes : ℕ → ℕ → List ℕ
+leBytes zero x = []
+leBytes (suc n) x = x % 256 ∷ leBytes n (x / 256)
+
+-- n bytes of s from an offset on; fewer where s ends before
+unfoldable pub part : ℕ → ℕ → List ℕ → List ℕ
+part off n s = take n (drop off s)
+
+-- the n-byte number at an offset; a byte past the end counts as 0
+unfoldable pub numAt : ℕ → ℕ → List ℕ → ℕ
+numAt n off s = leOf (part off n s)
+
+-- the 8-byte word and the 4-byte half at an offset
+abbrev pub wordAt : ℕ → List ℕ → ℕ
+wordAt off s = numAt 8 off s
+
+abbrev pub halfAt : ℕ → List ℕ → ℕ
+halfAt off s = numAt 4 off s
+
+-- the first n words of a list of bytes
+unfoldable pub wordsOf : ℕ → List ℕ → List ℕ
+wordsOf zero bs = []
+wordsOf (suc n) bs = leOf (take 8 bs) ∷ wordsOf n (drop 8 bs)
+
+-- s with vs over it from an offset on
+unfoldable pub splice : ℕ → List ℕ → List ℕ → List ℕ
+splice off vs s = take off s ++ vs ++ drop (off + length vs) s
+
+-- the same where all of vs fits; else s as it was
+unfoldable pub laid : ℕ → List ℕ → List ℕ → List ℕ
+laid off vs s = cond (leb (off + length vs) (length s)) (splice off vs s) s

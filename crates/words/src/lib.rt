@@ -1,0 +1,126 @@
+// Little-endian fields of a lent slice: 8-byte words and 4-byte halves, read and written at any offset.
+ghost use mathlib.Core.Path.{_≡_};
+ghost use Prim.Native.Nat.{_+_, _<_, _≤_};
+ghost use lib.ListN.{length};
+ghost use Rattle.words.specs.Word.{leBytes, numAt, wordAt, halfAt, splice, laid};
+
+// The numbers of 1, 2 and 4 bytes at an offset within the slice. Each width is two of the one below it, so that one law
+// serves all; the compiler makes one load of them.
+fn byte(s: &[u8], at: usize) -> u64
+    requires { ⌜ at < length (now s) ⌝ }
+    ensures { λ r. ⌜ (r ≡ numAt 1 at (now (s .entry))) × (r < 0x100) ⌝ }
+{
+    s[at] as u64
+}
+
+fn pair(s: &[u8], at: usize) -> u64
+    requires { ⌜ at + 2 ≤ length (now s) ⌝ }
+    ensures { λ r. ⌜ (r ≡ numAt 2 at (now (s .entry))) × (r < 0x1_0000) ⌝ }
+{
+    byte(s, at) + byte(s, at + 1) * 0x100
+}
+
+fn quad(s: &[u8], at: usize) -> u64
+    requires { ⌜ at + 4 ≤ length (now s) ⌝ }
+    ensures { λ r. ⌜ (r ≡ numAt 4 at (now (s .entry))) × (r < 0x1_0000_0000) ⌝ }
+{
+    pair(s, at) + pair(s, at + 2) * 0x1_0000
+}
+
+// The word at an offset of which at most 7 bytes are there.
+fn rest(s: &[u8], at: usize) -> u64
+    requires { ⌜ (at ≤ length (now s)) × (length (now s) < at + 8) ⌝ }
+    ensures { λ r. ⌜ r ≡ wordAt at (now (s .entry)) ⌝ }
+{
+    let mut sum: u64 = 0;
+    let mut i = s.len();
+    while at < i {
+        i -= 1;
+        sum = byte(s, i) + sum * 0x100;
+    }
+    sum
+}
+
+// The word at an offset. A byte past the end counts as 0.
+pub fn word_at(s: &[u8], at: usize) -> u64
+    ensures { λ r. ⌜ r ≡ wordAt at (now (s .entry)) ⌝ }
+{
+    if s.len() < at {
+        return 0;
+    }
+    if s.len() - at < 8 {
+        return rest(s, at);
+    }
+    quad(s, at) + quad(s, at + 4) * 0x1_0000_0000
+}
+
+// The half at an offset. A byte past the end counts as 0.
+pub fn half_at(s: &[u8], at: usize) -> u64
+    ensures { λ r. ⌜ r ≡ halfAt at (now (s .entry)) ⌝ }
+{
+    if s.len() < at {
+        return 0;
+    }
+    if s.len() - at < 4 {
+        return rest(s, at);
+    }
+    quad(s, at)
+}
+
+// The 1, 2, 4 and 8 low bytes of w, put at an offset within the slice.
+fn put_byte(s: &mut [u8], at: usize, w: u64)
+    requires { ⌜ at + 1 ≤ length (now s) ⌝ }
+    ensures { λ _. ⌜ now (s .exit) ≡ splice at (leBytes 1 w) (now (s .entry)) ⌝ }
+{
+    s[at] = (w % 0x100) as u8;
+}
+
+fn put_pair(s: &mut [u8], at: usize, w: u64)
+    requires { ⌜ at + 2 ≤ length (now s) ⌝ }
+    ensures { λ _. ⌜ now (s .exit) ≡ splice at (leBytes 2 w) (now (s .entry)) ⌝ }
+{
+    put_byte(s, at, w);
+    put_byte(s, at + 1, w / 0x100);
+}
+
+fn put_quad(s: &mut [u8], at: usize, w: u64)
+    requires { ⌜ at + 4 ≤ length (now s) ⌝ }
+    ensures { λ _. ⌜ now (s .exit) ≡ splice at (leBytes 4 w) (now (s .entry)) ⌝ }
+{
+    put_pair(s, at, w);
+    put_pair(s, at + 2, w / 0x1_0000);
+}
+
+fn put_eight(s: &mut [u8], at: usize, w: u64)
+    requires { ⌜ at + 8 ≤ length (now s) ⌝ }
+    ensures { λ _. ⌜ now (s .exit) ≡ splice at (leBytes 8 w) (now (s .entry)) ⌝ }
+{
+    put_quad(s, at, w);
+    put_quad(s, at + 4, w / 0x1_0000_0000);
+}
+
+// Puts the word w at an offset; where it does not fit whole, no byte changes.
+pub fn put_word(s: &mut [u8], at: usize, w: u64)
+    ensures { λ _. ⌜ now (s .exit) ≡ laid at (leBytes 8 w) (now (s .entry)) ⌝ }
+{
+    if s.len() < 8 {
+        return;
+    }
+    if s.len() - 8 < at {
+        return;
+    }
+    put_eight(s, at, w);
+}
+
+// Puts the low half of w at an offset; where it does not fit whole, no byte changes.
+pub fn put_half(s: &mut [u8], at: usize, w: u64)
+    ensures { λ _. ⌜ now (s .exit) ≡ laid at (leBytes 4 w) (now (s .entry)) ⌝ }
+{
+    if s.len() < 4 {
+        return;
+    }
+    if s.len() - 4 < at {
+        return;
+    }
+    put_quad(s, at, w);
+}
