@@ -100,7 +100,7 @@ impl Edition {
     }
 
     // How many of the four sections it has.
-    pub fn sections(self) -> usize
+    pub fn sections(self) -> u8
         ensures { λ r. ⌜ (r ≡ secs (self .minor)) × (r ≤ 4) ⌝ }
     {
         let minor = self.minor;

@@ -1,0 +1,63 @@
+-- What a page holds: "Page" is the shared buffer, 4,096 bytes at physical base B. Assumes nothing.
+use Prim.Native.Nat.{ℕ, _+_, _-_, _*_, _%_, _^_}
+use mathlib.Core.Bool.{Bool, cond}
+use mathlib.Core.List.{List, []}
+use lib.Dec.{leb, ltb, eqb}
+use Rattle.words.specs.Tests.{both}
+use Rattle.words.specs.Word.{part, wordAt, halfAt}
+use Rattle.entries.specs.Entry.{size}
+
+-- code -5: "page length not 4,096; B zero, not a multiple of 4,096, or above 2^52 - 4,096"
+unfoldable pub placeOk : ℕ → ℕ → Bool
+placeOk base n = both (eqb n 4096) (both (ltb 0 base) (both (eqb (base % 4096) 0) (leb base (2 ^ 52 - 4096))))
+
+-- Offset 0: version, 4 bytes. Offset 4: padding, 4 bytes, zero.
+abbrev pub versionAt : List ℕ → ℕ
+versionAt page = halfAt 0 page
+
+abbrev pub paddingAt : List ℕ → ℕ
+paddingAt page = halfAt 4 page
+
+-- "A section is 24 bytes: count, pointer, checksum." The first, plat_dram, is at offset 16.
+abbrev pub countAt : ℕ → List ℕ → ℕ
+countAt k page = wordAt (16 + 24 * k) page
+
+abbrev pub pointerAt : ℕ → List ℕ → ℕ
+pointerAt k page = wordAt (24 + 24 * k) page
+
+abbrev pub checkAt : ℕ → List ℕ → ℕ
+checkAt k page = wordAt (32 + 24 * k) page
+
+-- n bytes at address p lie within the page
+unfoldable pub inPage : ℕ → ℕ → ℕ → Bool
+inPage base p n = both (leb base p) (leb (p + n) (base + 4096))
+
+-- those bytes, none where they do not
+unfoldable pub arrayAt : ℕ → List ℕ → ℕ → ℕ → List ℕ
+arrayAt base page p n = cond (inPage base p n) (part (p - base) n page) []
+
+-- All that a page says of section k: its three words, and the bytes of its array. No rule sees more of the page than this.
+pub record Sec : Type 0 where
+  pub count : ℕ
+  pub ptr : ℕ
+  pub chk : ℕ
+  pub bytes : List ℕ
+
+unfoldable pub mkSec : ℕ → ℕ → ℕ → List ℕ → Sec
+mkSec c p s b = record { count = c; ptr = p; chk = s; bytes = b }
+
+unfoldable pub secAt : ℕ → List ℕ → ℕ → Sec
+secAt base page k =
+    mkSec (countAt k page) (pointerAt k page) (checkAt k page)
+    (arrayAt base page (pointerAt k page) (size k (countAt k page)))
+
+-- All that a page says of the platform data: at present the pointer alone ("what it points at is not read").
+pub record Plat : Type 0 where
+  pub at : ℕ
+
+unfoldable pub mkPlat : ℕ → Plat
+mkPlat q = record { at = q }
+
+-- Offset 8: plat_data pointer.
+unfoldable pub platAt : ℕ → List ℕ → Plat
+platAt base page = mkPlat (wordAt 8 page)

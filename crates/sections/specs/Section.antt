@@ -1,0 +1,61 @@
+-- When a reader accepts: "It accepts when all hold". w is the page's minor, e the edition that it is read as, and f says what
+-- the page holds of each section. Assumes nothing.
+use Prim.Native.Nat.{ℕ, _+_, _*_, _%_}
+use mathlib.Core.Bool.{Bool}
+use mathlib.Core.List.{List}
+use lib.Dec.{leb, ltb, eqb}
+use Rattle.words.specs.Tests.{both, either, every}
+use Rattle.words.specs.Word.{wordsOf}
+use Rattle.versions.specs.Edition.{secs, core}
+use Rattle.entries.specs.Entry.{per, size}
+use Rattle.entries.specs.Array.{soundOf}
+use Rattle.sections.specs.Page.{Sec, Plat, paddingAt, platAt, secAt}
+
+-- "plat_data is 0 or lies from B + core size of e to B + 4,095"
+unfoldable pub platOk : ℕ → ℕ → Plat → Bool
+platOk e base q = either (eqb (q .at) 0) (both (leb (base + core e) (q .at)) (ltb (q .at) (base + 4096)))
+
+-- the words of a section's array
+unfoldable pub wordsIn : ℕ → Sec → List ℕ
+wordsIn k s = wordsOf (per k * s .count) (s .bytes)
+
+-- "24 zero bytes (shown as empty)"
+unfoldable pub nothing : ℕ → ℕ → ℕ → Bool
+nothing c p s = both (eqb c 0) (both (eqb p 0) (eqb s 0))
+
+-- "an array wholly between the core of e and the page's end"
+unfoldable pub inRange : ℕ → ℕ → ℕ → ℕ → ℕ → Bool
+inRange e base k c p = both (leb (base + core e) p) (leb (p + size k c) (base + 4096))
+
+-- The rule of section k by itself: "each section of e is either 24 zero bytes .., or has count 1 or more, a pointer that is a
+-- multiple of 8, and an array wholly between the core of e and the page's end", with its checksum and its entries' rules.
+unfoldable pub secOk : ℕ → ℕ → ℕ → ℕ → Sec → Bool
+secOk w e base k s =
+    either (nothing (s .count) (s .ptr) (s .chk))
+    (both (inRange e base k (s .count) (s .ptr)) (soundOf w k (s .count) (s .ptr) (s .chk) (wordsIn k s)))
+
+-- the addresses of an array, from one up to another
+pub record Span : Type 0 where
+  pub from : ℕ
+  pub to : ℕ
+
+unfoldable pub span : ℕ → Sec → Span
+span k s = record { from = s .ptr; to = s .ptr + size k (s .count) }
+
+-- two spans that share no byte; they may touch
+unfoldable pub apart : Span → Span → Bool
+apart a b = either (leb (a .to) (b .from)) (leb (b .to) (a .from))
+
+-- "no two arrays overlap": section i stands apart from each section before it
+unfoldable pub clear : (ℕ → Sec) → ℕ → Bool
+clear f i = every i (λ j. apart (span i (f i)) (span j (f j)))
+
+-- code -7: "any other manifest rule broken"
+unfoldable pub rules : ℕ → ℕ → ℕ → ℕ → Plat → (ℕ → Sec) → Bool
+rules w e base pad q f =
+    both (eqb pad 0)
+    (both (platOk e base q) (both (every (secs e) (λ k. secOk w e base k (f k))) (every (secs e) (λ k. clear f k))))
+
+-- the same of a page
+unfoldable pub rulesAt : ℕ → ℕ → ℕ → List ℕ → Bool
+rulesAt w e base page = rules w e base (paddingAt page) (platAt base page) (secAt base page)

@@ -1,0 +1,214 @@
+// The rules of a manifest's page, read where its words lie: the place, the padding, the platform pointer, each section by
+// itself, and that no two arrays overlap.
+use versions::Edition;
+ghost use mathlib.Core.Path.{_≡_};
+ghost use Prim.Native.Nat.{ℕ, _+_, _≤_, _<_};
+ghost use lib.ListN.{length};
+ghost use lib.Dec.{leb};
+ghost use Rattle.words.specs.Tests.{both};
+ghost use Rattle.versions.specs.Edition.{secs};
+ghost use Rattle.entries.specs.Entry.{size};
+ghost use Rattle.sections.specs.Page.{placeOk, versionAt, paddingAt, countAt, pointerAt, checkAt, mkPlat};
+ghost use Rattle.sections.specs.Section.{platOk, nothing, inRange, rulesAt};
+ghost use Rattle.sections.specs.Steps.{okAt, okTo, endOf, apartAt, apartTo};
+
+// Whether a page of n bytes at this base is a place for a manifest.
+pub fn place_ok(base: u64, n: usize) -> bool
+    ensures { λ r. ⌜ r ≡ placeOk base n ⌝ }
+{
+    if n != 4096 {
+        return false;
+    }
+    if base == 0 {
+        return false;
+    }
+    if base % 4096 != 0 {
+        return false;
+    }
+    if 0xF_FFFF_FFFF_F000 < base {
+        return false;
+    }
+    true
+}
+
+// The fields of the core, in place.
+pub fn version_at(page: &[u8]) -> u64
+    ensures { λ r. ⌜ r ≡ versionAt (now (page .entry)) ⌝ }
+{
+    words::half_at(page, 0)
+}
+
+pub fn padding_at(page: &[u8]) -> u64
+    ensures { λ r. ⌜ r ≡ paddingAt (now (page .entry)) ⌝ }
+{
+    words::half_at(page, 4)
+}
+
+// Count, pointer and checksum of section k.
+pub fn count_at(page: &[u8], k: u8) -> u64
+    ensures { λ r. ⌜ r ≡ countAt k (now (page .entry)) ⌝ }
+{
+    words::word_at(page, 16 + 24 * (k as usize))
+}
+
+pub fn pointer_at(page: &[u8], k: u8) -> u64
+    ensures { λ r. ⌜ r ≡ pointerAt k (now (page .entry)) ⌝ }
+{
+    words::word_at(page, 24 + 24 * (k as usize))
+}
+
+pub fn check_at(page: &[u8], k: u8) -> u64
+    ensures { λ r. ⌜ r ≡ checkAt k (now (page .entry)) ⌝ }
+{
+    words::word_at(page, 32 + 24 * (k as usize))
+}
+
+// The rule of the platform pointer, of a page read as edition e.
+fn plat_ok(base: u64, e: Edition, plat: u64) -> bool
+    requires { ⌜ base ≤ 0x10_0000_0000_0000 ⌝ }
+    ensures { λ r. ⌜ r ≡ platOk (e .minor) base (mkPlat plat) ⌝ }
+{
+    if plat == 0 {
+        return true;
+    }
+    if plat < base + e.core_size() {
+        return false;
+    }
+    if base + 4096 <= plat {
+        return false;
+    }
+    true
+}
+
+// Whether a section's three words are zero.
+fn is_nothing(count: u64, pointer: u64, check: u64) -> bool
+    ensures { λ r. ⌜ r ≡ nothing count pointer check ⌝ }
+{
+    if count != 0 {
+        return false;
+    }
+    if pointer != 0 {
+        return false;
+    }
+    if check != 0 {
+        return false;
+    }
+    true
+}
+
+// Whether an array lies wholly between the core of e and the page's end.
+fn in_range(base: u64, e: Edition, k: usize, count: u64, pointer: u64) -> bool
+    requires { ⌜ base ≤ 0x10_0000_0000_0000 ⌝ }
+    ensures { λ r. ⌜ r ≡ inRange (e .minor) base k count pointer ⌝ }
+{
+    if pointer < base + e.core_size() {
+        return false;
+    }
+    if base + 4096 < pointer {
+        return false;
+    }
+    if !entries::fits(k, count, base + 4096 - pointer) {
+        return false;
+    }
+    true
+}
+
+// The rule of section k by itself, on a page of that minor read as edition e.
+fn section_ok(page: &[u8], base: u64, minor: u64, e: Edition, k: u8) -> bool
+    requires { ⌜ (length (now page) ≡ 4096) × (base ≤ 0x10_0000_0000_0000) ⌝ }
+    ensures { λ r. ⌜ r ≡ okAt minor (e .minor) base k (now (page .entry)) ⌝ }
+{
+    let count = count_at(page, k);
+    let pointer = pointer_at(page, k);
+    let check = check_at(page, k);
+    if is_nothing(count, pointer, check) {
+        return true;
+    }
+    if !in_range(base, e, k as usize, count, pointer) {
+        return false;
+    }
+    let at = (pointer - base) as usize;
+    entries::sound_at(page, minor, k as usize, at, count, pointer, check)
+}
+
+// The rule of each of the first n sections by itself.
+fn sections_ok(page: &[u8], base: u64, minor: u64, e: Edition, n: u8) -> bool
+    requires { ⌜ (length (now page) ≡ 4096) × (base ≤ 0x10_0000_0000_0000) ⌝ }
+    ensures { λ r. ⌜ r ≡ okTo minor (e .minor) base n (now (page .entry)) ⌝ }
+{
+    for k in 0..n {
+        if !section_ok(page, base, minor, e, k) {
+            return false;
+        }
+    }
+    true
+}
+
+// The address at which the array of section k ends.
+fn end_of(page: &[u8], k: u8) -> u64
+    requires { ⌜ endOf k (now page) < 0x1_0000_0000_0000_0000 ⌝ }
+    ensures { λ r. ⌜ r ≡ endOf k (now (page .entry)) ⌝ }
+{
+    let words = entries::entry_words(k as usize) as u64;
+    pointer_at(page, k) + 8 * (words * count_at(page, k))
+}
+
+// Whether the arrays of sections i and j do not overlap.
+fn is_apart(page: &[u8], i: u8, j: u8) -> bool
+    requires { ⌜ (endOf i (now page) < 0x1_0000_0000_0000_0000) × (endOf j (now page) < 0x1_0000_0000_0000_0000) ⌝ }
+    ensures { λ r. ⌜ r ≡ apartAt i j (now (page .entry)) ⌝ }
+{
+    if end_of(page, i) <= pointer_at(page, j) {
+        return true;
+    }
+    if end_of(page, j) <= pointer_at(page, i) {
+        return true;
+    }
+    false
+}
+
+// Whether no two of the first n arrays overlap: each pair in turn, up to the first clash. An empty section has pointer and
+// count 0 and clashes with none.
+fn all_apart(page: &[u8], n: u8) -> bool
+    requires { ⌜ (n ≤ 4) × ((k : ℕ) → k < n → endOf k (now page) < 0x1_0000_0000_0000_0000) ⌝ }
+    ensures { λ r. ⌜ r ≡ apartTo n (now (page .entry)) ⌝ }
+{
+    let mut ok = true;
+    'pairs: for i in 0..n {
+        for j in 0..i {
+            if !is_apart(page, i, j) {
+                ok = false;
+                break 'pairs;
+            }
+        }
+    }
+    ok
+}
+
+// The rules of a page of that minor, read as edition e.
+fn rules_ok(page: &[u8], base: u64, minor: u64, e: Edition) -> bool
+    requires { ⌜ (length (now page) ≡ 4096) × (base ≤ 0x10_0000_0000_0000) ⌝ }
+    ensures { λ r. ⌜ r ≡ rulesAt minor (e .minor) base (now (page .entry)) ⌝ }
+{
+    if padding_at(page) != 0 {
+        return false;
+    }
+    if !plat_ok(base, e, words::word_at(page, 8)) {
+        return false;
+    }
+    let n = e.sections();
+    if !sections_ok(page, base, minor, e, n) {
+        return false;
+    }
+    all_apart(page, n)
+}
+
+// Whether a page is a place for a manifest and keeps its rules, of that minor and read as edition e.
+pub fn page_ok(page: &[u8], base: u64, minor: u64, e: Edition) -> bool
+    ensures { λ r. ⌜ r ≡ both (placeOk base (length (now (page .entry)))) (rulesAt minor (e .minor) base (now (page .entry))) ⌝ }
+{
+    if !place_ok(base, page.len()) {
+        return false;
+    }
+    rules_ok(page, base, minor, e)
+}
