@@ -1,0 +1,4 @@
+pub mod Whole
+pub mod Newer
+pub mod Named
+pub mod Demand

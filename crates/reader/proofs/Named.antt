@@ -1,0 +1,106 @@
+-- The bytes that an edition names are all that a reader looks at. Assumes nothing.
+use Prim.Native.Nat.{ℕ, zero, suc, _+_, _-_, _*_, min, _≤_, _<_}
+use mathlib.Core.Bool.{Bool, true, false}
+use mathlib.Core.Path.{_≡_, refl, ap}
+use mathlib.Core.List.{List}
+use native.Mathlib.Omega.{arith}
+use native.Mathlib.Decide.{decLt}
+use lib.ListN.{length, getD}
+use lib.Dec.{leb, ltb, eqb, lit≤}
+use borrow.Author.Tests.{leb-true, le-leb, lt-ltb, le-ltb}
+use Rattle.words.specs.Tests.{Yes, both, either}
+use Rattle.words.specs.Word.{leOf, part, numAt, wordAt}
+use Rattle.words.proofs.Tests.{both-l, both-r, both-of, either-l, either-r, every-same, some-of, cond-same}
+use Rattle.words.proofs.Read.{part-same}
+use Rattle.versions.specs.Version.{minorOf, accepted}
+use Rattle.versions.specs.Edition.{secs, core}
+use Rattle.entries.specs.Entry.{size}
+use Rattle.sections.specs.Page.{placeOk, versionAt, countAt, pointerAt, inPage, arrayAt, Sec, secAt, Plat, platAt}
+use Rattle.sections.specs.Section.{secOk, clear, rules}
+use Rattle.reader.specs.Answer.{Answer, shown, viewOf, gate, judge, readOf, inArray, namedBy, named}
+use Rattle.reader.proofs.Newer.{shows-same}
+
+-- ---- answers by what is read
+gate-same : (p v v' o o' : Bool) (c c' : Answer) → (Yes p → v ≡ v') → (Yes p → Yes v → (o ≡ o') × (c ≡ c')) → gate p v o c ≡ gate p v' o' c'
+unfolding gate
+gate-same true true v' o o' c c' f g = rw (← f refl, g refl refl .0, g refl refl .1)
+gate-same true false v' o o' c c' f g = rw (← f refl)
+gate-same false v v' o o' c c' f g = refl
+
+clear-same : (f g : ℕ → Sec) (i : ℕ) → f i ≡ g i → ((j : ℕ) → j < i → f j ≡ g j) → clear f i ≡ clear g i
+unfolding clear
+clear-same f g i e h = every-same i _ _ (λ j m. rw (e, h j m))
+
+pub rules-same : (w e base pad : ℕ) (q : Plat) (f g : ℕ → Sec) → ((k : ℕ) → k < secs e → f k ≡ g k) → rules w e base pad q f ≡ rules w e base pad q g
+unfolding rules
+rules-same w e base pad q f g h =
+    rw (
+      every-same (secs e) (λ k. secOk w e base k (f k)) (λ k. secOk w e base k (g k)) (λ k l. rw (h k l)),
+      every-same (secs e) (λ k. clear f k) (λ k. clear g k) (λ k l. clear-same f g k (h k l) (λ j m. h j (omega arith))),
+    )
+
+shown-same : (w e k : ℕ) (s t : Sec) → (k < secs e → s ≡ t) → shown w e k s ≡ shown w e k t
+unfolding shown
+shown-same w e k s t h = go (decLt k (secs e))
+  where
+    go : Dec (k < secs e) → shown w e k s ≡ shown w e k t
+    go (yes l) = rw (h l)
+    go (no l) = rw (le-ltb k (secs e) (omega arith))
+
+view-same : (w e : ℕ) (q : Plat) (f g : ℕ → Sec) → ((k : ℕ) → k < secs e → f k ≡ g k) → viewOf w e q f ≡ viewOf w e q g
+unfolding viewOf
+view-same w e q f g h = shows-same _ _ _ _ _ (λ k. shown-same w e k (f k) (g k) (h k))
+
+low-page : (base a n : ℕ) → Yes (inPage base a n) → base ≤ a
+unfolding inPage
+low-page base a n y = leb-true _ _ (both-l _ _ y)
+
+place-length : (base n : ℕ) → Yes (placeOk base n) → Yes (eqb n 4096)
+unfolding placeOk
+place-length base n t = both-l _ _ t
+
+-- ---- two pages that agree in the bytes named in the first
+module _ (r base : ℕ) (p q : List ℕ) (l : length p ≡ length q) (h : (i : ℕ) → Yes (named r base p i) → getD p i 0 ≡ getD q i 0)
+    (t : Yes (placeOk base (length p))) where
+  head-same : (n off : ℕ) → off + n ≤ 16 → numAt n off p ≡ numAt n off q
+  unfolding named numAt
+  head-same n off m = ap leOf (part-same off n p q l (λ i a b.
+      let c : i < 16 = omega arith in
+      h i (both-of _ _ (place-length base _ t) (either-l _ _ (lt-ltb i 16 c)))))
+
+  plat-same : platAt base p ≡ platAt base q
+  unfolding platAt
+  plat-same = rw (head-same 8 8 (lit≤ tt))
+
+  module _ (v : Yes (accepted (versionAt p))) where
+    rest-same : (i : ℕ) → Yes (namedBy (min r (minorOf (versionAt p))) base p i) → getD p i 0 ≡ getD q i 0
+    unfolding named
+    rest-same i b = h i (both-of _ _ (place-length base _ t) (either-r _ _ (both-of _ _ v b)))
+
+    core-same : (off : ℕ) → off + 8 ≤ core (min r (minorOf (versionAt p))) → wordAt off p ≡ wordAt off q
+    unfolding numAt namedBy
+    core-same off m = ap leOf (part-same off 8 p q l (λ i a b. rest-same i (either-l _ _ (omega (arith, lt-ltb)))))
+
+    module _ (k : ℕ) (b : k < secs (min r (minorOf (versionAt p)))) where
+      field-same : (off : ℕ) → off ≤ 32 → wordAt (off + 24 * k) p ≡ wordAt (off + 24 * k) q
+      unfolding core
+      field-same off m = core-same (off + 24 * k) (omega arith)
+
+      array-same : arrayAt base p (pointerAt k p) (size k (countAt k p)) ≡ arrayAt base q (pointerAt k p) (size k (countAt k p))
+      unfolding arrayAt inArray namedBy
+      array-same = cond-same _ _ _ _ (λ y. part-same _ _ p q l (λ i c d.
+          let z = low-page _ _ _ y in
+          rest-same i (either-r _ _ (some-of _ _ k b (both-of _ _ y (both-of _ _ (omega (arith, le-leb)) (omega (arith, lt-ltb))))))))
+
+      sec-same : secAt base p k ≡ secAt base q k
+      unfolding secAt
+      sec-same = rw (array-same, field-same 16 (lit≤ tt), field-same 24 (lit≤ tt), field-same 32 (lit≤ tt))
+
+pub unnamed : (r base : ℕ) (p q : List ℕ) → length p ≡ length q → ((i : ℕ) → Yes (named r base p i) → getD p i 0 ≡ getD q i 0) → readOf r base p ≡ readOf r base q
+unfolding readOf judge
+unnamed r base p q l h = rw (← l) (gate-same _ _ _ _ _ _ _
+    (λ t. rw (head-same r base p q l h t 4 0 (lit≤ tt)))
+    (λ t v.
+    let f = sec-same r base p q l h t (both-r _ _ v) in
+    rw (← head-same r base p q l h t 4 0 (lit≤ tt), ← head-same r base p q l h t 4 4 (lit≤ tt), ← plat-same r base p q l h t)
+    (rules-same _ _ _ _ _ _ _ f, view-same _ _ _ _ _ f)))

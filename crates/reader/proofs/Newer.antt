@@ -1,0 +1,117 @@
+-- A newer reader and an older one on the same page. Assumes nothing.
+use Prim.Native.Nat.{ℕ, zero, suc, _+_, _*_, min, _≤_, _<_}
+use mathlib.Core.Bool.{Bool, true, false, false≢true, cond}
+use mathlib.Core.Path.{_≡_, refl, sym, ap, _∙_, fun-ext}
+use mathlib.Core.List.{List}
+use native.Mathlib.Omega.{arith}
+use lib.Dec.{leb, ltb}
+use lib.IntN.{ℤ}
+use borrow.Author.Tests.{leb-true, ltb-true, le-leb, lt-ltb}
+use Rattle.words.specs.Tests.{Yes, both, every}
+use Rattle.words.proofs.Tests.{both-l, both-r, both-of, both-map, either-map, every-at, every-of, same-test}
+use Rattle.versions.specs.Edition.{secs, core, editionOk}
+use Rattle.versions.proofs.Editions.{secs-mono, secs-min, edition-of}
+use Rattle.sections.specs.Page.{Sec, Plat}
+use Rattle.sections.specs.Section.{inRange, secOk, platOk, rules}
+use Rattle.reader.specs.Answer.{Shown, absent, PlatShown, Answer, refused, shows, shown, platShown, viewOf, gate, judge, readOf, less}
+
+-- ---- what a later edition accepts, an earlier one accepts
+module _ (w a b base : ℕ) (h : a ≤ b) where
+  low-mono : (q : ℕ) → Yes (leb (base + core b) q) → Yes (leb (base + core a) q)
+  unfolding core
+  low-mono q t = let l = secs-mono a b h in omega (arith, leb-true, le-leb)
+
+  secOk-mono : (k : ℕ) (s : Sec) → Yes (secOk w b base k s) → Yes (secOk w a base k s)
+  unfolding secOk inRange
+  secOk-mono k s = search (either-map, both-map, low-mono)
+
+  platOk-mono : (q : Plat) → Yes (platOk b base q) → Yes (platOk a base q)
+  unfolding platOk
+  platOk-mono q = search (either-map, both-map, low-mono)
+
+  every-mono : (f g : ℕ → Bool) → ((i : ℕ) → Yes (f i) → Yes (g i)) → Yes (every (secs b) f) → Yes (every (secs a) g)
+  every-mono f g m t = every-of (secs a) g (λ i l. m i (every-at (secs b) f t i (let s = secs-mono a b h in omega arith)))
+
+  pub rules-mono : (pad : ℕ) (q : Plat) (f : ℕ → Sec) → Yes (rules w b base pad q f) → Yes (rules w a base pad q f)
+  unfolding rules
+  rules-mono pad q f = search (both-map, platOk-mono, every-mono, secOk-mono)
+
+-- ---- the checks in order
+pub never : {n : ℤ} {w e : ℕ} {q : PlatShown} {s : ℕ → Shown} → refused n ≡ shows w e q s → ⊥
+never h = let z : _≡_ {A = ℕ} 0 1 = cc in omega arith
+
+-- what an accepted page passed
+pub gate-shows : (p v o : Bool) (c : Answer) (w e : ℕ) (q : PlatShown) (s : ℕ → Shown) → gate p v o c ≡ shows w e q s → (Yes p × Yes v × Yes o) × (c ≡ shows w e q s)
+unfolding gate
+gate-shows true true true c w e q s h = ((refl, refl, refl), h)
+gate-shows true true false c w e q s h = absurd (never h)
+gate-shows true false o c w e q s h = absurd (never h)
+gate-shows false v o c w e q s h = absurd (never h)
+
+pub gate-true : (p v o : Bool) (c : Answer) → Yes p → Yes v → Yes o → gate p v o c ≡ c
+unfolding gate
+gate-true p v o c x y z = rw (x, y, z, gate)
+
+gate-older : (p v o o' : Bool) (w e : ℕ) (q : PlatShown) (s : ℕ → Shown) (c : Answer) {n : ℤ} → (Yes o' → Yes o) → gate p v o (shows w e q s) ≡ refused n → gate p v o' c ≡ refused n
+unfolding gate
+gate-older true true true o' w e q s c g h = absurd (never (sym h))
+gate-older true true false true w e q s c g h = absurd (false≢true (g refl))
+gate-older true true false false w e q s c g h = h
+gate-older true false o o' w e q s c g h = h
+gate-older false v o o' w e q s c g h = h
+
+-- ---- what is shown
+-- an answer as an older reader gives it
+unfoldable older : ℕ → Answer → Answer
+older r (refused n) = refused n
+older r (shows w e q s) = shows w (min r w) q (less r s)
+
+cond-both : (a b : Bool) (x y : Shown) → cond (both a b) x y ≡ cond a (cond b x y) y
+unfolding both
+cond-both true b x y = refl
+cond-both false b x y = refl
+
+pub shows-same : (w e : ℕ) (q : PlatShown) (s t : ℕ → Shown) → ((k : ℕ) → s k ≡ t k) → shows w e q s ≡ shows w e q t
+shows-same w e q s t h = ap (shows w e q) (fun-ext h)
+
+shown-less : (r r' w : ℕ) → r ≤ r' → (f : ℕ → Sec) (k : ℕ) → shown w (min r w) k (f k) ≡ less r (λ k. shown w (min r' w) k (f k)) k
+unfolding shown less
+shown-less r r' w h f k =
+    let m = secs-min r w in
+    let m' = secs-min r' w in
+    let l = secs-mono r r' h in
+    rw (
+      ← cond-both,
+      same-test (ltb k (secs (min r w))) (both (ltb k (secs r)) (ltb k (secs (min r' w))))
+          (λ t. both-of _ _ (omega (arith, ltb-true, lt-ltb)) (omega (arith, ltb-true, lt-ltb)))
+          (λ t. let x = both-l _ _ t in let y = both-r _ _ t in omega (arith, ltb-true, lt-ltb)),
+    )
+
+-- ---- the two laws
+module _ (r r' : ℕ) (lo : 1 ≤ r) (h : r ≤ r') (hi : r' ≤ 4) where
+  ed : Yes (editionOk r) × Yes (editionOk r')
+  ed = (edition-of r lo (omega arith), edition-of r' (omega arith) hi)
+
+  module _ (base n v m pad : ℕ) (p : Plat) (f : ℕ → Sec) where
+    judge-mono : Yes (rules m (min r' m) base pad p f) → Yes (rules m (min r m) base pad p f)
+    judge-mono = rules-mono m (min r m) (min r' m) base (omega arith) pad p f
+
+    newer : (w e : ℕ) (q : PlatShown) (s : ℕ → Shown) → judge r' base n v m pad p f ≡ shows w e q s → judge r base n v m pad p f ≡ shows w (min r w) q (less r s)
+    unfolding judge viewOf older
+    newer w e q s a =
+        let g = gate-shows _ _ _ _ _ _ _ _ a in
+        gate-true _ _ _ _ (g .0 .0) (both-of _ _ (ed .0) (both-r _ _ (g .0 .1))) (judge-mono (g .0 .2))
+        ∙ shows-same m (min r m) (platShown p) _ _ (shown-less r r' m h f)
+        ∙ ap (older r) (g .1)
+
+    older-no : (c : ℤ) → judge r base n v m pad p f ≡ refused c → judge r' base n v m pad p f ≡ refused c
+    unfolding judge viewOf
+    older-no c a = rw (ed .1) (gate-older _ _ _ _ _ _ _ _ _ judge-mono (rw (ed .0) at a))
+
+  pub newer-accepts : (base : ℕ) (page : List ℕ) (w e : ℕ) (q : PlatShown) (s : ℕ → Shown) → readOf r' base page ≡ shows w e q s → readOf r base page ≡ shows w (min r w) q (less r s)
+  unfolding readOf
+  newer-accepts base page = newer base _ _ _ _ _ _
+
+  pub older-refuses : (base : ℕ) (page : List ℕ) (c : ℤ) → readOf r base page ≡ refused c → readOf r' base page ≡ refused c
+  unfolding readOf
+  older-refuses base page = older-no base _ _ _ _ _ _

@@ -1,0 +1,49 @@
+use mathlib.Core.Path.{_≡_, _∙_}
+use Rattle.sections.specs.Page.{countAt, pointerAt}
+use Rattle.sections.proofs.Sections.{range-low, ok-in-range}
+use Rattle.reader.proofs.Whole.{shown-absent, shown-empty, shown-entries}
+use borrow.Author.Needs.{needs}
+use native.Mathlib.Omega.{arith}
+use Rattle.reader.proofs.section_at.Statement.{statement}
+use Rattle.reader.proofs.section_at.Tie as tie
+
+sections-requires : tie.Need-sections-requires
+sections-requires c κs = search needs
+
+returns : tie.Need-returns
+returns c = let a = c .before .before .before .args in shown-absent (a .minor) (a .e .minor) (a .base) (a .k) (a .page .now) (omega arith)
+
+count-at-requires : tie.Need-count-at-requires
+count-at-requires c κs = search needs
+
+returns-2 : tie.Need-returns-2
+returns-2 c = let a = c .before .before .before .before .before .args in shown-empty (a .minor) (a .e .minor) (a .base) (a .k) (a .page .now) (omega arith) (omega arith)
+
+pointer-at-requires : tie.Need-pointer-at-requires
+pointer-at-requires c κs = search needs
+
+sub-t10 : tie.Need-sub-t10
+sub-t10 c =
+    let a = c .before .before .before .before .before .before .args in
+    let z : (countAt (a .k) (a .page .now) ≡ 0 → ⊥) = (λ e. c .before .if2 .left (c .before .before .count-at .ensures ∙ e)) in
+    let o = c .before .before .before .before .before .before .pre .1 (omega arith) in
+    omega (arith, range-low (a .e .minor) (a .base) (a .k) (countAt (a .k) (a .page .now)) (pointerAt (a .k) (a .page .now)) (ok-in-range (a .minor) (a .e .minor) (a .base) (a .k) (a .page .now) o z))
+
+returns-3 : tie.Need-returns-3
+returns-3 c =
+    let a = c .before .before .before .before .before .before .args in
+    let z : (countAt (a .k) (a .page .now) ≡ 0 → ⊥) = (λ e. c .before .if2 .left (c .before .before .count-at .ensures ∙ e)) in
+    let o = c .before .before .before .before .before .before .pre .1 (omega arith) in
+    rw (c .pointer-at .ensures, c .before .before .count-at .ensures) (shown-entries (a .minor) (a .e .minor) (a .base) (a .k) (a .page .now) (c .before .before .before .before .before .before .pre .0) (omega arith) o z)
+
+pub section-at-spec : {M : Type 1} → statement M
+section-at-spec =
+    tie.close
+    (tie.spec
+    sections-requires
+    returns
+    count-at-requires
+    returns-2
+    pointer-at-requires
+    sub-t10
+    returns-3)

@@ -1,0 +1,44 @@
+-- What the reader's enum stands for: 01's numbers and values, with the page that it was read from. Assumes nothing.
+use Prim.Native.Nat.{ℕ, zero, suc, _+_, _*_}
+use mathlib.Core.Bool.{cond}
+use mathlib.Core.List.{List, []}
+use lib.ListN.{length}
+use lib.Dec.{leb}
+use lib.IntN.{ℤ}
+use Rattle.words.specs.Word.{part}
+use Rattle.entries.specs.Entry.{size, shownWords}
+use Rattle.entries.specs.Array.{wordsAt}
+use Rattle.reader.specs.Answer.{Shown, absent, empty, full, Answer, refused, shows, minus}
+use Rattle.reader.specs.declared.Section.{Section}
+use Rattle.reader.specs.declared.Section.the-variants.{Absent, Empty, Entries}
+use Rattle.reader.specs.declared.View.{View}
+use Rattle.reader.specs.declared.Code.{Code}
+use Rattle.reader.specs.declared.Code.the-variants.{Place, Version, Rules}
+use Rattle.reader.specs.declared.Reading.{Reading}
+use Rattle.reader.specs.declared.Reading.the-variants.{Accepted, Refused}
+
+-- 01's codes
+abbrev pub codeOf : Code → ℤ
+codeOf Place = minus 5
+codeOf Version = minus 6
+codeOf Rules = minus 7
+
+-- section k of a view; a number above 3 is none
+unfoldable pub sectionOf : View → ℕ → Section
+sectionOf v zero = v .dram
+sectionOf v (suc zero) = v .console
+sectionOf v (suc (suc zero)) = v .ncoh
+sectionOf v (suc (suc (suc zero))) = v .coh
+sectionOf v (suc (suc (suc (suc k)))) = Absent
+
+-- Section k of a view on a page of minor w. Of a view that no reading made, entries that do not lie within the page are none.
+unfoldable pub shownAs : ℕ → ℕ → Section → List ℕ → Shown
+shownAs w k Absent page = absent
+shownAs w k Empty page = empty
+shownAs w k (Entries at count) page =
+    cond (leb (at + size k count) (length page)) (full (shownWords w k (wordsAt k count at page)) (part at (size k count) page)) empty
+
+unfoldable pub answerOf : List ℕ → Reading → Answer
+answerOf page (Refused c) = refused (codeOf c)
+answerOf page (Accepted v) =
+    shows (v .minor) (v .edition) (record { pointer = v .plat }) (λ k. shownAs (v .minor) k (sectionOf v k) page)

@@ -1,0 +1,124 @@
+// The manifest reader: a lent page is judged where it lies, and shown as a view of places in it.
+use versions::Edition;
+ghost use mathlib.Core.Path.{_≡_};
+ghost use mathlib.Core.Bool.{true};
+ghost use Prim.Native.Nat.{_<_};
+ghost use lib.ListN.{length};
+ghost use Rattle.versions.specs.Edition.{secs};
+ghost use Rattle.sections.specs.Page.{secAt, platAt};
+ghost use Rattle.sections.specs.Steps.{okAt, okTo};
+ghost use Rattle.reader.specs.Answer.{shown, viewOf, readOf, lookIn, lookOf, wordIn};
+ghost use Rattle.reader.specs.Reading.{codeOf, sectionOf, shownAs, answerOf};
+
+// What is shown of a section: not in the edition, 24 zero bytes, or so many entries at an offset of the page.
+pub enum Section {
+    Absent,
+    Empty,
+    Entries { at: usize, count: usize },
+}
+
+// All that an accepted page shows: its minor, the edition that it was read as, the platform pointer and the four sections.
+pub struct View {
+    pub minor: u64,
+    pub edition: u64,
+    pub plat: u64,
+    pub dram: Section,
+    pub console: Section,
+    pub ncoh: Section,
+    pub coh: Section,
+}
+
+// Why a page is refused: its place (-5), the edition or the version (-6), any other rule (-7).
+pub enum Code {
+    Place,
+    Version,
+    Rules,
+}
+
+pub enum Reading {
+    Accepted(View),
+    Refused(Code),
+}
+
+// The code's number.
+pub fn number(code: Code) -> i32
+    ensures { λ r. ⌜ r ≡ codeOf code ⌝ }
+{
+    match code {
+        Code::Place => -5,
+        Code::Version => -6,
+        Code::Rules => -7,
+    }
+}
+
+// What is shown of section k, whose rule holds if it is in edition e.
+fn section_at(page: &[u8], base: u64, minor: u64, e: Edition, k: u8) -> Section
+    requires { ⌜ (length (now page) ≡ 4096) × (k < secs (e .minor) → okAt minor (e .minor) base k (now page) ≡ true) ⌝ }
+    ensures { λ r. ⌜ shownAs minor k r (now (page .entry)) ≡ shown minor (e .minor) k (secAt base (now (page .entry)) k) ⌝ }
+{
+    if e.sections() <= k {
+        return Section::Absent;
+    }
+    let count = sections::count_at(page, k);
+    if count == 0 {
+        return Section::Empty;
+    }
+    let pointer = sections::pointer_at(page, k);
+    Section::Entries {
+        at: (pointer - base) as usize,
+        count: count as usize,
+    }
+}
+
+// The view of a page whose rules hold.
+fn view_at(page: &[u8], base: u64, minor: u64, e: Edition) -> View
+    requires { ⌜ (length (now page) ≡ 4096) × (okTo minor (e .minor) base (secs (e .minor)) (now page) ≡ true) ⌝ }
+    ensures { λ r. ⌜ answerOf (now (page .entry)) (Reading.Accepted r) ≡ viewOf minor (e .minor) (platAt base (now (page .entry))) (secAt base (now (page .entry))) ⌝ }
+{
+    View {
+        minor: minor,
+        edition: e.minor,
+        plat: words::word_at(page, 8),
+        dram: section_at(page, base, minor, e, 0),
+        console: section_at(page, base, minor, e, 1),
+        ncoh: section_at(page, base, minor, e, 2),
+        coh: section_at(page, base, minor, e, 3),
+    }
+}
+
+// Reads a lent page at a base, as a reader of an edition: all that it shows, or the first code in the order of the checks.
+pub fn read(page: &[u8], base: u64, edition: u64) -> Reading
+    ensures { λ r. ⌜ answerOf (now (page .entry)) r ≡ readOf edition base (now (page .entry)) ⌝ }
+{
+    if !sections::place_ok(base, page.len()) {
+        return Reading::Refused(Code::Place);
+    }
+    if !versions::is_edition(edition) {
+        return Reading::Refused(Code::Version);
+    }
+    let version = sections::version_at(page);
+    if !versions::is_accepted(version) {
+        return Reading::Refused(Code::Version);
+    }
+    let minor = versions::minor(version);
+    let e = Edition {
+        minor: versions::smaller(edition, minor),
+    };
+    if !sections::page_ok(page, base, minor, e) {
+        return Reading::Refused(Code::Rules);
+    }
+    Reading::Accepted(view_at(page, base, minor, e))
+}
+
+// Section k of a view; a number above 3 is absent.
+pub fn section_of(view: View, k: usize) -> Section
+    ensures { λ r. ⌜ r ≡ sectionOf view k ⌝ }
+{
+    match k {
+        0 => view.dram,
+        1 => view.console,
+        2 => view.ncoh,
+        3 => view.coh,
+        _ => Section::Absent,
+    }
+}
