@@ -103,6 +103,11 @@ wordsOf-at zero bs j h = absurd (not-suc-le-zero h)
 wordsOf-at (suc n) bs zero h = refl
 wordsOf-at (suc n) bs (suc j) h = rw (mul-suc-8, ← drop-drop) (wordsOf-at n (drop 8 bs) j (omega arith))
 
+pub wordsOf-length : (n : ℕ) (bs : List ℕ) → length (wordsOf n bs) ≡ n
+unfolding wordsOf
+wordsOf-length zero bs = refl
+wordsOf-length (suc n) bs = ap suc (wordsOf-length n (drop 8 bs))
+
 -- one more word
 pub wordsOf-suc : (n : ℕ) (bs : List ℕ) → wordsOf (suc n) bs ≡ wordsOf n bs ++ (wordAt (8 * n) bs ∷ [])
 unfolding wordsOf numAt part

@@ -1,0 +1,107 @@
+-- Laws of the lookups. Assumes nothing.
+use Prim.Native.Nat.{ℕ, zero, suc, _+_, _-_, _*_, _/_, _≤_, _<_}
+use mathlib.Core.Path.{_≡_, refl, sym, ap, _∙_}
+use mathlib.Core.Bool.{Bool, true, false, cond}
+use mathlib.Core.List.{List, []}
+use native.Mathlib.Omega.{arith}
+use lib.ListN.{length}
+use lib.ListN.{getD, List·getD-eq-default}
+use lib.Dec.{leb, ltb}
+use native.Mathlib.Nat.{mul-le-mul-left}
+use borrow.Author.Tests.{le-leb, lt-leb, le-ltb, lt-ltb}
+use Rattle.words.specs.Word.{part, wordAt, wordsOf}
+use Rattle.words.proofs.Read.{wordsOf-length}
+use Rattle.entries.specs.Entry.{per, size, shownWords}
+use Rattle.entries.specs.Array.{wordsAt, entryPlace}
+use Rattle.entries.proofs.Entries.{word-in}
+use Rattle.reader.specs.Answer.{Shown, empty, full, bytesIn, lookIn, lookOf, countIn, entryCount, entryWord, wordIn, readOf}
+use Rattle.reader.specs.Reading.{sectionOf, shownAs, answerOf}
+use Rattle.reader.specs.declared.Section.{Section}
+use Rattle.reader.specs.declared.Section.the-variants.{Absent, Empty, Entries}
+use Rattle.reader.specs.declared.View.{View}
+use Rattle.reader.specs.declared.Code.{Code}
+use Rattle.reader.specs.declared.Reading.the-variants.{Accepted, Refused}
+use Rattle.lookup.specs.Lookup.{arrayOf, wordOf}
+
+-- ---- the array
+bytes-cond : (b : Bool) (ws bs : List ℕ) → bytesIn (cond b (full ws bs) empty) ≡ cond b bs []
+unfolding bytesIn
+bytes-cond true ws bs = refl
+bytes-cond false ws bs = refl
+
+module _ (k at count : ℕ) (page : List ℕ) where
+  pub array-in : at + size k count ≤ length page → arrayOf k (Entries at count) page ≡ part at (size k count) page
+  unfolding arrayOf shownAs bytesIn
+  array-in h = rw (le-leb (at + size k count) (length page) h)
+
+  pub array-out : length page < at + size k count → arrayOf k (Entries at count) page ≡ []
+  unfolding arrayOf shownAs bytesIn
+  array-out h = rw (lt-leb (at + size k count) (length page) h)
+
+-- a section's bytes, whatever the page's minor
+array-shown : (w k : ℕ) (s : Section) (page : List ℕ) → arrayOf k s page ≡ bytesIn (shownAs w k s page)
+unfolding arrayOf shownAs
+array-shown w k Absent page = refl
+array-shown w k Empty page = refl
+array-shown w k (Entries at count) page =
+    let b = leb (at + size k count) (length page) in
+    let x : List ℕ = shownWords 0 k (wordsAt k count at page) in
+    let y : List ℕ = shownWords w k (wordsAt k count at page) in
+    bytes-cond b x (part at (size k count) page) ∙ sym (bytes-cond b y (part at (size k count) page))
+
+pub array-view : (page : List ℕ) (v : View) (k : ℕ) → arrayOf k (sectionOf v k) page ≡ lookIn (answerOf page (Accepted v)) k
+unfolding lookIn answerOf
+array-view page v k = array-shown (v .minor) k (sectionOf v k) page
+
+pub count-view : (page : List ℕ) (v : View) (k : ℕ) → length (lookIn (answerOf page (Accepted v)) k) / (8 * per k) ≡ countIn (answerOf page (Accepted v)) k
+unfolding lookIn countIn entryCount answerOf
+count-view page v k = refl
+
+-- ---- a word of an entry
+word-cond : (k i j : ℕ) (b : Bool) (ws bs : List ℕ) → entryWord k i j (cond b (full ws bs) empty) ≡ cond b (cond (ltb j (per k)) (getD ws (per k * i + j) 0) 0) 0
+unfolding entryWord
+word-cond k i j true ws bs = refl
+word-cond k i j false ws bs = refl
+
+cond-none : (b : Bool) → _≡_ {A = ℕ} (cond b 0 0) 0
+cond-none true = refl
+cond-none false = refl
+
+module _ (w k at count i j : ℕ) (page : List ℕ) where
+  by-tests : wordOf w k i j (Entries at count) page ≡ cond (leb (at + size k count) (length page)) (cond (ltb j (per k)) (getD (wordsAt k count at page) (per k * i + j) 0) 0) 0
+  unfolding wordOf shownAs shownWords
+  by-tests = word-cond k i j (leb (at + size k count) (length page)) (wordsAt k count at page) (part at (size k count) page)
+
+  pub word-narrow : per k ≤ j → 0 ≡ wordOf w k i j (Entries at count) page
+  word-narrow h = sym (by-tests ∙ rw (le-ltb j (per k) h) (cond-none (leb (at + size k count) (length page))))
+
+  past : count ≤ i → getD (wordsAt k count at page) (per k * i + j) 0 ≡ 0
+  unfolding wordsAt
+  past h =
+      List·getD-eq-default (wordsOf (per k * count) (part at (size k count) page)) 0
+      (rw wordsOf-length (omega (arith, mul-le-mul-left (per k) h)))
+
+  pub word-past : count ≤ i → 0 ≡ wordOf w k i j (Entries at count) page
+  word-past h = sym (by-tests ∙ rw (past h, cond-none (ltb j (per k))) (cond-none (leb (at + size k count) (length page))))
+
+  pub word-out : length page < at + size k count → 0 ≡ wordOf w k i j (Entries at count) page
+  word-out h = sym (by-tests ∙ rw (lt-leb (at + size k count) (length page) h))
+
+  pub word-there : at + size k count ≤ length page → i < count → j < per k → wordAt (at + 8 * (per k * i + j)) page ≡ wordOf w k i j (Entries at count) page
+  unfolding entryPlace
+  word-there h l m =
+      sym (by-tests ∙ rw (le-leb (at + size k count) (length page) h, lt-ltb j (per k) m, word-in k at i count page l j m)
+      (ap (λ x. wordAt x page) (let e : at + 8 * (per k * i) + 8 * j ≡ at + 8 * (per k * i + j) = omega arith in e)))
+
+pub word-view : (page : List ℕ) (v : View) (k i j : ℕ) → wordOf (v .minor) k i j (sectionOf v k) page ≡ wordIn (answerOf page (Accepted v)) k i j
+unfolding wordOf wordIn answerOf
+word-view page v k i j = refl
+
+-- ---- the lookup of a page
+pub look-accepted : (r base k : ℕ) (page : List ℕ) (v : View) → answerOf page (Accepted v) ≡ readOf r base page → lookIn (answerOf page (Accepted v)) k ≡ lookOf r base page k
+unfolding lookOf
+look-accepted r base k page v h = rw h
+
+pub look-refused : (r base k : ℕ) (page : List ℕ) (c : Code) → answerOf page (Refused c) ≡ readOf r base page → [] ≡ lookOf r base page k
+unfolding lookOf lookIn answerOf
+look-refused r base k page c h = rw (← h)

@@ -1,0 +1,42 @@
+use mathlib.Core.Path.{sym, ap, _∙_}
+use Rattle.reader.specs.Answer.{entryWord}
+use Rattle.reader.specs.Reading.{shownAs}
+use Rattle.lookup.specs.Lookup.{wordOf}
+use borrow.Author.Needs.{needs}
+use Rattle.lookup.proofs.word_in.Statement.{statement}
+use Rattle.lookup.proofs.word_in.Tie as tie
+
+enum-told : tie.Need-enum-told
+enum-told c = search needs
+
+enum-told-2 : tie.Need-enum-told-2
+enum-told-2 c = search needs
+
+enum-known-section : tie.Need-enum-known-section
+enum-known-section c = search needs
+
+word-at-requires : tie.Need-word-at-requires
+word-at-requires c κs = search needs
+
+returns : tie.Need-returns
+unfolding wordOf shownAs entryWord
+returns c = let a = c .before .before .before .args in sym (ap (λ s. wordOf (a .minor) (a .k) (a .i) (a .j) s (a .page .now)) (c .enum-told .given .1))
+
+returns-2 : tie.Need-returns-2
+unfolding wordOf shownAs entryWord
+returns-2 c = let a = c .before .before .before .args in sym (ap (λ s. wordOf (a .minor) (a .k) (a .i) (a .j) s (a .page .now)) (c .enum-told2 .given .1))
+
+returns-3 : tie.Need-returns-3
+returns-3 c = let a = c .before .before .before .before .before .args in c .word-at .ensures ∙ sym (ap (λ s. wordOf (a .minor) (a .k) (a .i) (a .j) s (a .page .now)) (c .before .before .section .given .1))
+
+pub word-in-spec : {M : Type 1} → statement M
+word-in-spec =
+    tie.close
+    (tie.spec
+    enum-told
+    enum-told-2
+    enum-known-section
+    word-at-requires
+    returns
+    returns-2
+    returns-3)
