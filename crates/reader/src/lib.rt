@@ -64,10 +64,9 @@ fn section_at(page: &[u8], base: u64, minor: u64, e: Edition, k: u8) -> Section
         return Section::Empty;
     }
     let pointer = sections::pointer_at(page, k);
-    Section::Entries {
-        at: (pointer - base) as usize,
-        count: count as usize,
-    }
+    let at = (pointer - base) as usize;
+    let count = count as usize;
+    Section::Entries { at, count }
 }
 
 // The view of a page whose rules hold.
@@ -107,7 +106,8 @@ pub fn read(page: &[u8], base: u64, edition: u64) -> Reading
     if !sections::page_ok(page, base, minor, e) {
         return Reading::Refused(Code::Rules);
     }
-    Reading::Accepted(view_at(page, base, minor, e))
+    let view = view_at(page, base, minor, e);
+    Reading::Accepted(view)
 }
 
 // Section k of a view; a number above 3 is absent.

@@ -22,8 +22,8 @@ returns-2 c = let a = c .before .before .before .before .before .args in shown-e
 pointer-at-requires : tie.Need-pointer-at-requires
 pointer-at-requires c κs = search needs
 
-sub-t10 : tie.Need-sub-t10
-sub-t10 c =
+sub-at : tie.Need-sub-at
+sub-at c =
     let a = c .before .before .before .before .before .before .args in
     let z : (countAt (a .k) (a .page .now) ≡ 0 → ⊥) = (λ e. c .before .if2 .left (c .before .before .count-at .ensures ∙ e)) in
     let o = c .before .before .before .before .before .before .pre .1 (omega arith) in
@@ -45,5 +45,5 @@ section-at-spec =
     count-at-requires
     returns-2
     pointer-at-requires
-    sub-t10
+    sub-at
     returns-3)

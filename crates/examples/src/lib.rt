@@ -1,0 +1,1 @@
+// 01's examples marked *, proved of the definitions: specs/Examples.antt.

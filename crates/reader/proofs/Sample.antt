@@ -1,0 +1,33 @@
+-- Example 14's page, read: the reader accepts it and shows its bank. What refuses everything, or shows every page alike, fails
+-- here. Assumes nothing.
+use Prim.Native.Nat.{ℕ, zero, suc, _+_, _*_, _/_, _%_}
+use mathlib.Core.Bool.{Bool, true, false}
+use mathlib.Core.Path.{_≡_, refl}
+use mathlib.Core.List.{List, [], _∷_, _++_}
+use lib.ListN.{length, replicate}
+use Rattle.words.specs.Tests.{both, either, every}
+use Rattle.words.specs.Word.{leOf, leBytes, part, numAt, wordsOf}
+use Rattle.versions.specs.Version.{minorOf, majorOf, aboveOf, accepted}
+use Rattle.versions.specs.Edition.{secs, core, editionOk}
+use Rattle.entries.specs.Entry.{per, size, bankOk, entryRule, entryOk, entriesOk, shownWords, sum, checkOk}
+use Rattle.entries.specs.Array.{soundOf}
+use Rattle.sections.specs.Page.{placeOk, inPage, arrayAt, mkSec, secAt, mkPlat, platAt}
+use Rattle.sections.specs.Section.{platOk, wordsIn, nothing, inRange, secOk, span, apart, clear, rules}
+use Rattle.reader.specs.Answer.{shown, shownSec, platShown, viewOf, gate, judge, readOf, bytesIn, lookIn, entryWord, wordIn, entryCount, countIn}
+
+unfoldable pub bank : List ℕ
+bank = leBytes 8 0x90000000 ++ leBytes 8 0x10000000
+
+unfoldable pub page : List ℕ
+page =
+    leBytes 4 2 ++ leBytes 4 0 ++ leBytes 8 0
+    ++ leBytes 8 1 ++ leBytes 8 0x80000028 ++ leBytes 8 0xFFFFFFFEDFFFFFD7
+    ++ bank ++ replicate 4040 0
+
+pub sample : (countIn (readOf 4 0x80000000 page) 0 ≡ 1)
+    × (wordIn (readOf 4 0x80000000 page) 0 0 0 ≡ 0x90000000)
+    × (wordIn (readOf 4 0x80000000 page) 0 0 1 ≡ 0x10000000)
+    × (lookIn (readOf 4 0x80000000 page) 0 ≡ bank)
+    × (lookIn (readOf 4 0x80000000 page) 1 ≡ [])
+unfolding bank page countIn entryCount wordIn entryWord lookIn bytesIn readOf judge gate viewOf platShown shown shownSec rules clear apart span secOk inRange nothing wordsIn platOk platAt mkPlat secAt mkSec arrayAt inPage placeOk soundOf checkOk sum shownWords entriesOk entryOk entryRule bankOk size per editionOk core secs accepted aboveOf majorOf minorOf wordsOf numAt part leBytes leOf every either both
+sample = (refl, refl, refl, refl, refl)
