@@ -99,7 +99,7 @@ pub sum-words : (k at count : ℕ) (page : List ℕ) → sumAt at (per k * count
 unfolding sumAt wordsAt size
 sum-words k at count page = refl
 
-sum-snoc : (xs : List ℕ) (y : ℕ) → sum (xs ++ (y ∷ [])) ≡ sum xs + y
+pub sum-snoc : (xs : List ℕ) (y : ℕ) → sum (xs ++ (y ∷ [])) ≡ sum xs + y
 unfolding sum
 sum-snoc [] y = omega arith
 sum-snoc (x ∷ xs) y = rw (sum-snoc xs y) (omega arith)
@@ -112,10 +112,10 @@ sum-step page at off i m acc w r h o e f g =
     rw (add-one, wordsOf-suc, sum-snoc, num-part 8 at m (8 * i) page (omega arith), ← k) (omega arith)
 
 -- the total of a section, added in three steps that wrap
-mod-left : (a b : ℕ) → (a % 2 ^ 64 + b) % 2 ^ 64 ≡ (a + b) % 2 ^ 64
+pub mod-left : (a b : ℕ) → (a % 2 ^ 64 + b) % 2 ^ 64 ≡ (a + b) % 2 ^ 64
 mod-left a b = omega arith
 
-mod-right : (a b : ℕ) → (a + b % 2 ^ 64) % 2 ^ 64 ≡ (a + b) % 2 ^ 64
+pub mod-right : (a b : ℕ) → (a + b % 2 ^ 64) % 2 ^ 64 ≡ (a + b) % 2 ^ 64
 mod-right a b = omega arith
 
 pub total-law : (c p s k x h m t : ℕ) → x ≡ s % 2 ^ 64 → h ≡ (c + p) % 2 ^ 64 → m ≡ (x + k) % 2 ^ 64 → t ≡ (h + m) % 2 ^ 64 → t ≡ (c + p + s + k) % 2 ^ 64

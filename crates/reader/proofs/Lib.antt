@@ -1,5 +1,4 @@
 pub mod Whole
 pub mod Newer
 pub mod Named
-pub mod Demand
 pub mod Sample

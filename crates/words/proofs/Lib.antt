@@ -1,3 +1,4 @@
 pub mod Tests
 pub mod Read
 pub mod Store
+pub mod Lists

@@ -1,14 +1,15 @@
 -- Bytes laid over a list at an offset. Assumes nothing.
 use Prim.Native.Nat.{ℕ, zero, suc, _+_, _-_, _*_, _/_, _%_, _^_, _≤_, _<_}
 use mathlib.Core.Path.{_≡_, refl, sym, ap, _∙_}
-use mathlib.Core.List.{List, [], _∷_, _++_, append-assoc}
+use mathlib.Core.List.{List, [], _∷_, _++_, append-assoc, append-nil}
 use native.Mathlib.Numerals.{add-one}
 use native.Mathlib.Nat.{add-assoc}
 use native.Mathlib.Omega.{arith}
-use lib.ListN.{length, take, drop, set, length-append, length-drop}
-use lib.Seq.{length-take-le, take-at, drop-at, drop-drop, set-split, append-snoc}
+use lib.ListN.{length, take, drop, getD, set, length-append, length-drop}
+use lib.Seq.{length-take-le, take-at, drop-at, drop-drop, set-split, append-snoc, paste-zero, take-suc, take-length}
 use borrow.Author.Tests.{le-leb, lt-leb}
-use Rattle.words.specs.Word.{leOf, leBytes, part, numAt, splice, laid}
+use Rattle.words.specs.Word.{leOf, leBytes, part, numAt, bytesOf, splice, laid}
+use Rattle.words.proofs.Lists.{bytesOf-length, bytesOf-append}
 use Rattle.words.proofs.Read.{leBytes-length, leBytes-split, leOf-leBytes}
 
 module _ (i : ℕ) (vs s : List ℕ) where
@@ -66,3 +67,35 @@ unfolding numAt
 put-read n at w s h l =
     rw (put-in n at w s h)
     (ap leOf (rw (leBytes-length n w) at (part-splice at (leBytes n w) s (omega arith))) ∙ leOf-leBytes n w l)
+
+-- ---- a list of words, one by one
+one-word : (w : ℕ) → bytesOf (w ∷ []) ≡ leBytes 8 w
+unfolding bytesOf
+one-word w = append-nil (leBytes 8 w)
+
+pub words-in : (at : ℕ) (ws s : List ℕ) → at + 8 * length ws ≤ length s → laid at (bytesOf ws) s ≡ splice at (bytesOf ws) s
+unfolding laid
+words-in at ws s h = rw (bytesOf-length ws, le-leb (at + 8 * length ws) (length s) h)
+
+pub words-out : (at : ℕ) (ws s : List ℕ) → length s < at + 8 * length ws → laid at (bytesOf ws) s ≡ s
+unfolding laid
+words-out at ws s h = rw (bytesOf-length ws, lt-leb (at + 8 * length ws) (length s) h)
+
+-- the first i of them
+unfoldable pub wordsTo : ℕ → List ℕ → ℕ → List ℕ → List ℕ
+wordsTo at ws i s = splice at (bytesOf (take i ws)) s
+
+pub words-none : (at : ℕ) (ws s : List ℕ) → s ≡ wordsTo at ws 0 s
+unfolding wordsTo bytesOf splice
+words-none at ws s = paste-zero s at []
+
+pub words-more : (at : ℕ) (ws : List ℕ) (i : ℕ) (s : List ℕ) → at ≤ length s → i < length ws →
+    splice (at + 8 * i) (leBytes 8 (getD ws i 0)) (wordsTo at ws i s) ≡ wordsTo at ws (i + 1) s
+unfolding wordsTo
+words-more at ws i s h k =
+    let l : length (bytesOf (take i ws)) ≡ 8 * i = bytesOf-length (take i ws) ∙ ap (λ (n : ℕ). 8 * n) (length-take-le i ws (omega arith)) in
+    rw (add-one, take-suc ws i 0 k, bytesOf-append, one-word, ← l) (splice-splice at (bytesOf (take i ws)) s h (leBytes 8 (getD ws i 0)))
+
+pub words-all : (at : ℕ) (ws s : List ℕ) (i : ℕ) → i ≡ length ws → at + 8 * length ws ≤ length s → wordsTo at ws i s ≡ laid at (bytesOf ws) s
+unfolding wordsTo
+words-all at ws s i e h = rw (e, words-in at ws s h, take-length)

@@ -1,9 +1,10 @@
 -- Numbers in bytes. 01: "All fields are little-endian (house rule)." Assumes nothing.
-use Prim.Native.Nat.{ℕ, zero, suc, _+_, _*_, _/_, _%_}
-use mathlib.Core.Bool.{cond}
+use Prim.Native.Nat.{ℕ, zero, suc, _+_, _*_, _/_, _%_, _^_}
+use mathlib.Core.Bool.{Bool, true, cond}
 use mathlib.Core.List.{List, [], _∷_, _++_}
 use lib.ListN.{length, take, drop}
-use lib.Dec.{leb}
+use lib.Dec.{leb, ltb}
+use Rattle.words.specs.Tests.{both}
 
 -- the number that bytes stand for, the lowest byte first
 unfoldable pub leOf : List ℕ → ℕ
@@ -34,6 +35,21 @@ halfAt off s = numAt 4 off s
 unfoldable pub wordsOf : ℕ → List ℕ → List ℕ
 wordsOf zero bs = []
 wordsOf (suc n) bs = leOf (take 8 bs) ∷ wordsOf n (drop 8 bs)
+
+-- the bytes of a list of words
+unfoldable pub bytesOf : List ℕ → List ℕ
+bytesOf [] = []
+bytesOf (w ∷ ws) = leBytes 8 w ++ bytesOf ws
+
+-- each is a word: below 2^64
+unfoldable pub areWords : List ℕ → Bool
+areWords [] = true
+areWords (w ∷ ws) = both (ltb w (2 ^ 64)) (areWords ws)
+
+-- f 0, f 1, .. f (n - 1), one behind the other
+unfoldable pub joined : ℕ → (ℕ → List ℕ) → List ℕ
+joined zero f = []
+joined (suc n) f = joined n f ++ f n
 
 -- s with vs over it from an offset on
 unfoldable pub splice : ℕ → List ℕ → List ℕ → List ℕ

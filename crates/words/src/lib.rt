@@ -1,8 +1,8 @@
-// Little-endian fields of a lent slice: 8-byte words and 4-byte halves, read and written at any offset.
+// Little-endian fields of a lent slice: 8-byte words and 4-byte halves, read and written at any offset; lists of words written.
 ghost use mathlib.Core.Path.{_≡_};
 ghost use Prim.Native.Nat.{_+_, _<_, _≤_};
-ghost use lib.ListN.{length};
-ghost use Rattle.words.specs.Word.{leBytes, numAt, wordAt, halfAt, splice, laid};
+ghost use lib.ListN.{length, replicate};
+ghost use Rattle.words.specs.Word.{leBytes, numAt, wordAt, halfAt, bytesOf, splice, laid};
 
 // The numbers of 1, 2 and 4 bytes at an offset within the slice. Each width is two of the one below it, so that one law
 // serves all; the compiler makes one load of them.
@@ -123,4 +123,30 @@ pub fn put_half(s: &mut [u8], at: usize, w: u64)
         return;
     }
     put_quad(s, at, w);
+}
+
+// Puts a list of words from an offset on; where they do not all fit, no byte changes.
+pub fn put_words(s: &mut [u8], at: usize, words: &[u64])
+    ensures { λ _. ⌜ now (s .exit) ≡ laid at (bytesOf (now (words .entry))) (now (s .entry)) ⌝ }
+{
+    if s.len() < at {
+        return;
+    }
+    if (s.len() - at) / 8 < words.len() {
+        return;
+    }
+    let mut to = at;
+    for i in 0..words.len() {
+        put_eight(s, to, words[i]);
+        to += 8;
+    }
+}
+
+// Puts zero everywhere.
+pub fn clear(s: &mut [u8])
+    ensures { λ _. ⌜ now (s .exit) ≡ replicate (length (now (s .entry))) 0 ⌝ }
+{
+    for i in 0..s.len() {
+        s[i] = 0;
+    }
 }

@@ -1,0 +1,16 @@
+-- The lengths of the four lists, as the loops go. Assumes nothing.
+use Prim.Native.Nat.{ℕ, zero, suc, _+_}
+use mathlib.Core.Bool.{Bool}
+use mathlib.Core.List.{List}
+use lib.ListN.{getD}
+use lib.Dec.{ltb, eqb}
+use Rattle.words.specs.Tests.{either, every}
+
+-- the first k of the lengths n added
+unfoldable pub sumTo : ℕ → List ℕ → ℕ
+sumTo zero n = 0
+sumTo (suc k) n = sumTo k n + getD n k 0
+
+-- of the first k lists, those from a number on are empty
+unfoldable pub lateTo : ℕ → ℕ → List ℕ → Bool
+lateTo from k n = every k (λ j. either (ltb j from) (eqb (getD n j 0) 0))

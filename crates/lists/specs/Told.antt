@@ -1,0 +1,44 @@
+-- What the writer is told, and its checks W3 to W5. 01: "four lists of 64-bit words (2 words an entry, 6 for a console)". Assumes nothing.
+use Prim.Native.Nat.{ℕ, zero, suc, _+_, _*_, _/_, _%_}
+use mathlib.Core.Bool.{Bool}
+use mathlib.Core.List.{List, []}
+use lib.ListN.{length}
+use lib.Dec.{ltb, eqb}
+use Rattle.words.specs.Tests.{both, either, every}
+use Rattle.words.specs.Word.{joined}
+use Rattle.versions.specs.Edition.{secs, core}
+use Rattle.entries.specs.Entry.{per, entriesOk}
+
+-- what the writer is told: a list of words for each section
+pub record Told : Type 0 where
+  pub lists : ℕ → List ℕ
+
+unfoldable pub four : List ℕ → List ℕ → List ℕ → List ℕ → ℕ → List ℕ
+four a b c d zero = a
+four a b c d (suc zero) = b
+four a b c d (suc (suc zero)) = c
+four a b c d (suc (suc (suc zero))) = d
+four a b c d (suc (suc (suc (suc n)))) = []
+
+unfoldable pub toldBy : List ℕ → List ℕ → List ℕ → List ℕ → Told
+toldBy a b c d = record { lists = four a b c d }
+
+-- W3: "list length not a whole number of entries, or an entry that breaks a reader's rule"; all four lists, also those of
+-- sections after the edition
+unfoldable pub listOk : ℕ → ℕ → List ℕ → Bool
+listOk v k ws = both (eqb (length ws % per k) 0) (entriesOk v k (length ws / per k) ws)
+
+unfoldable pub toldOk : ℕ → Told → Bool
+toldOk v d = every 4 (λ k. listOk v k (d .lists k))
+
+-- W4: "a nonempty list for a section after the edition"
+unfoldable pub noneLate : ℕ → Told → Bool
+noneLate v d = every 4 (λ k. either (ltb k (secs v)) (eqb (length (d .lists k)) 0))
+
+-- the bytes of the platform data behind the arrays: at present none
+unfoldable pub platBytes : Told → List ℕ
+platBytes d = []
+
+-- W5: "core and arrays exceed 4,096 bytes"
+unfoldable pub used : ℕ → Told → ℕ
+used v d = core v + 8 * length (joined 4 (d .lists)) + length (platBytes d)

@@ -1,0 +1,5 @@
+pub mod Round
+pub mod Demand
+pub mod Sums
+pub mod Pages
+pub mod Checks

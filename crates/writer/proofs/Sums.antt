@@ -1,0 +1,41 @@
+-- The checksum of a list: its words added with wrapping, the total negated with wrapping. Assumes nothing.
+use Prim.Native.Nat.{ℕ, _+_, _-_, _/_, _%_, _^_, _<_}
+use mathlib.Core.Path.{_≡_, refl, _∙_}
+use mathlib.Core.List.{List, [], _∷_}
+use native.Mathlib.Numerals.{add-one}
+use native.Mathlib.Omega.{arith}
+use lib.ListN.{length, take, getD}
+use lib.Seq.{take-suc, take-length}
+use Rattle.entries.specs.Entry.{per, sum}
+use Rattle.entries.proofs.Entries.{sum-snoc, mod-left, mod-right}
+use Rattle.writer.specs.Write.{neg, desc}
+
+pub sum-none : (ws : List ℕ) → 0 ≡ sum (take 0 ws) % 2 ^ 64
+unfolding sum
+sum-none ws = refl
+
+pub sum-more : (ws : List ℕ) (i s r : ℕ) → i < length ws → s ≡ sum (take i ws) % 2 ^ 64 → r ≡ (s + getD ws i 0) % 2 ^ 64 → r ≡ sum (take (i + 1) ws) % 2 ^ 64
+sum-more ws i s r h e f = rw (add-one, take-suc ws i 0 h, sum-snoc) (omega arith)
+
+pub sum-all : (ws : List ℕ) (i : ℕ) → i ≡ length ws → sum (take i ws) ≡ sum ws
+sum-all ws i e = rw (e, take-length)
+
+neg-of : (x t r : ℕ) → t ≡ x % 2 ^ 64 → (r + t) % 2 ^ 64 ≡ 0 → r < 2 ^ 64 → r ≡ (2 ^ 64 - x % 2 ^ 64) % 2 ^ 64
+neg-of x t r m e f = omega arith
+
+-- count and pointer, then the words
+pub neg-law : (c p s x h t r : ℕ) → x ≡ s % 2 ^ 64 → h ≡ (c + p) % 2 ^ 64 → t ≡ (h + x) % 2 ^ 64 → (r + t) % 2 ^ 64 ≡ 0 → r < 2 ^ 64 → r ≡ neg (c + p + s)
+unfolding neg
+neg-law c p s x h t r a b d e f =
+    let m : t ≡ (c + p + s) % 2 ^ 64 = d ∙ rw (a, b, mod-left (c + p) (s % 2 ^ 64), mod-right (c + p) s) in
+    neg-of (c + p + s) t r m e f
+
+pub desc-none : (k p : ℕ) (ws : List ℕ) → length ws ≡ 0 → 0 ∷ 0 ∷ 0 ∷ [] ≡ desc k p ws
+unfolding desc
+desc-none k p [] h = refl
+desc-none k p (w ∷ ws) h = absurd (let z : ⊥ = omega arith in z)
+
+pub desc-some : (k p c s : ℕ) (ws : List ℕ) → (length ws ≡ 0 → ⊥) → c ≡ length ws / per k → s ≡ neg (c + p + sum ws) → c ∷ p ∷ s ∷ [] ≡ desc k p ws
+unfolding desc
+desc-some k p c s [] h e f = absurd (h refl)
+desc-some k p c s (w ∷ ws) h e f = rw (f, e)

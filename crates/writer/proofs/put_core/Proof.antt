@@ -1,0 +1,58 @@
+use mathlib.Core.Path.{ap}
+use Prim.Native.Nat.{ℕ, _+_}
+use Rattle.lists.specs.Told.{four, toldBy}
+use Rattle.writer.proofs.Pages.{core-law}
+use borrow.Author.Needs.{needs}
+use Rattle.writer.proofs.put_core.Statement.{statement}
+use Rattle.writer.proofs.put_core.Tie as tie
+
+slice-aggregate-put-words : tie.Need-slice-aggregate-put-words
+slice-aggregate-put-words c = search needs
+
+put-words-requires : tie.Need-put-words-requires
+put-words-requires c κs = search needs
+
+core-size-requires : tie.Need-core-size-requires
+core-size-requires c κs = search needs
+
+add-first : tie.Need-add-first
+add-first c = search needs
+
+put-section-requires : tie.Need-put-section-requires
+put-section-requires c κs = search needs
+
+put-section-requires-2 : tie.Need-put-section-requires-2
+put-section-requires-2 c κs = search needs
+
+put-section-requires-3 : tie.Need-put-section-requires-3
+put-section-requires-3 c κs = search needs
+
+put-section-requires-4 : tie.Need-put-section-requires-4
+put-section-requires-4 c κs = search needs
+
+same-length : tie.Need-same-length
+same-length c = search needs
+
+returns : tie.Need-returns
+unfolding toldBy four
+returns c =
+    let a = c .before .before .before .before .before .before .before .before .before .before .before .before .before .before .before .before .before .before .before .before .before .before .before .before .before .before .before .args in
+    core-law (a .base) (a .e .minor) (toldBy (a .dram .now) (a .console .now) (a .ncoh .now) (a .coh .now)) _ _ _ _ _ _ _ _ _ _
+    (c .before .before .before .before .before .before .before .before .before .before .before .before .before .before .before .before .before .before .before .before .before .before .before .before .before .before .before .pre .1) (c .before .before .before .before .before .before .before .before .before .before .before .before .before .before .before .before .before .before .before .put-words .ensures) (ap (λ (x : ℕ). a .base + x) (c .before .before .before .before .before .before .before .before .before .before .before .before .before .before .before .before .core-size .ensures .0))
+    (c .before .before .before .before .before .before .before .before .before .before .before .before .before .before .put-section .ensures .1) (c .before .before .before .before .before .before .before .before .before .before .before .before .before .before .put-section .ensures .0) (c .before .before .before .before .before .before .before .before .before .before .put-section2 .ensures .1) (c .before .before .before .before .before .before .before .before .before .before .put-section2 .ensures .0)
+    (c .before .before .before .before .before .before .put-section3 .ensures .1) (c .before .before .before .before .before .before .put-section3 .ensures .0) (c .before .before .put-section4 .ensures .1)
+
+pub put-core-spec : {M : Type 1} → statement M
+put-core-spec =
+    tie.close
+    (tie.spec
+    slice-aggregate-put-words
+    put-words-requires
+    core-size-requires
+    add-first
+    put-section-requires
+    put-section-requires-2
+    put-section-requires-3
+    put-section-requires-4
+    same-length
+    returns)

@@ -1,0 +1,115 @@
+use mathlib.Core.Bool.{true, false}
+use mathlib.Core.Path.{_≡_, refl, sym, _∙_}
+use lib.Dec.{leb}
+use lib.ListN.{length}
+use borrow.Author.Tests.{leb-true, not-true, not-false}
+use Rattle.versions.specs.Edition.{editionOk}
+use Rattle.sections.specs.Page.{placeOk}
+use Rattle.sections.proofs.Sections.{placed}
+use Rattle.lists.specs.Told.{toldBy, toldOk, noneLate, used}
+use Rattle.writer.specs.Wrote.{answerOf}
+use Rattle.writer.specs.declared.Wrote.the-variants.{Place, Edition, Lists, Late, Room}
+use Rattle.writer.proofs.Checks.{w-place, w-edition, w-lists, w-late, w-room, w-made, wrote-not, wrote-page}
+use borrow.Author.Needs.{needs}
+use native.Mathlib.Omega.{arith}
+use Rattle.writer.proofs.write.Statement.{statement}
+use Rattle.writer.proofs.write.Tie as tie
+
+place-ok-requires : tie.Need-place-ok-requires
+place-ok-requires c κs = search needs
+
+returns : tie.Need-returns
+unfolding answerOf
+returns c =
+    let a = c .before .before .before .before .before .before .before .args in
+    let h1 : placeOk (a .base) (length (a .page .now)) ≡ false = sym (c .before .place-ok .ensures) ∙ not-true _ (c .if1 .taken) in
+    wrote-not Place 1 (a .page .now) _ refl (w-place (a .base) (length (a .page .now)) (a .edition) (toldBy (a .dram .now) (a .console .now) (a .ncoh .now) (a .coh .now)) h1)
+
+is-edition-requires : tie.Need-is-edition-requires
+is-edition-requires c κs = search needs
+
+returns-2 : tie.Need-returns-2
+unfolding answerOf
+returns-2 c =
+    let a = c .before .before .before .before .before .before .before .before .before .args in
+    let h1 : placeOk (a .base) (length (a .page .now)) ≡ true = sym (c .before .before .before .place-ok .ensures) ∙ not-false _ (c .before .before .if1 .left) in
+    let h2 : editionOk (a .edition) ≡ false = sym (c .before .is-edition .ensures) ∙ not-true _ (c .if2 .taken) in
+    wrote-not Edition 2 (a .page .now) _ refl (w-edition (a .base) (length (a .page .now)) (a .edition) (toldBy (a .dram .now) (a .console .now) (a .ncoh .now) (a .coh .now)) h1 h2)
+
+lists-ok-requires : tie.Need-lists-ok-requires
+lists-ok-requires c κs = search needs
+
+returns-3 : tie.Need-returns-3
+unfolding answerOf
+returns-3 c =
+    let a = c .before .before .before .before .before .before .before .before .before .before .before .args in
+    let h1 : placeOk (a .base) (length (a .page .now)) ≡ true = sym (c .before .before .before .before .before .place-ok .ensures) ∙ not-false _ (c .before .before .before .before .if1 .left) in
+    let h2 : editionOk (a .edition) ≡ true = sym (c .before .before .before .is-edition .ensures) ∙ not-false _ (c .before .before .if2 .left) in
+    let h3 : toldOk (a .edition) (toldBy (a .dram .now) (a .console .now) (a .ncoh .now) (a .coh .now)) ≡ false = sym (c .before .lists-ok .ensures) ∙ not-true _ (c .if3 .taken) in
+    wrote-not Lists 3 (a .page .now) _ refl (w-lists (a .base) (length (a .page .now)) (a .edition) (toldBy (a .dram .now) (a .console .now) (a .ncoh .now) (a .coh .now)) h1 h2 h3)
+
+none-late-requires : tie.Need-none-late-requires
+none-late-requires c κs = search needs
+
+returns-4 : tie.Need-returns-4
+unfolding answerOf
+returns-4 c =
+    let a = c .before .before .before .before .before .before .before .before .before .before .before .before .before .args in
+    let h1 : placeOk (a .base) (length (a .page .now)) ≡ true = sym (c .before .before .before .before .before .before .before .place-ok .ensures) ∙ not-false _ (c .before .before .before .before .before .before .if1 .left) in
+    let h2 : editionOk (a .edition) ≡ true = sym (c .before .before .before .before .before .is-edition .ensures) ∙ not-false _ (c .before .before .before .before .if2 .left) in
+    let h3 : toldOk (a .edition) (toldBy (a .dram .now) (a .console .now) (a .ncoh .now) (a .coh .now)) ≡ true = sym (c .before .before .before .lists-ok .ensures) ∙ not-false _ (c .before .before .if3 .left) in
+    let h4 : noneLate (a .edition) (toldBy (a .dram .now) (a .console .now) (a .ncoh .now) (a .coh .now)) ≡ false = sym (c .before .none-late .ensures) ∙ not-true _ (c .if4 .taken) in
+    wrote-not Late 4 (a .page .now) _ refl (w-late (a .base) (length (a .page .now)) (a .edition) (toldBy (a .dram .now) (a .console .now) (a .ncoh .now) (a .coh .now)) h1 h2 h3 h4)
+
+room-ok-requires : tie.Need-room-ok-requires
+room-ok-requires c κs = search needs
+
+returns-5 : tie.Need-returns-5
+unfolding answerOf
+returns-5 c =
+    let a = c .before .before .before .before .before .before .before .before .before .before .before .before .before .before .before .args in
+    let h1 : placeOk (a .base) (length (a .page .now)) ≡ true = sym (c .before .before .before .before .before .before .before .before .before .place-ok .ensures) ∙ not-false _ (c .before .before .before .before .before .before .before .before .if1 .left) in
+    let h2 : editionOk (a .edition) ≡ true = sym (c .before .before .before .before .before .before .before .is-edition .ensures) ∙ not-false _ (c .before .before .before .before .before .before .if2 .left) in
+    let h3 : toldOk (a .edition) (toldBy (a .dram .now) (a .console .now) (a .ncoh .now) (a .coh .now)) ≡ true = sym (c .before .before .before .before .before .lists-ok .ensures) ∙ not-false _ (c .before .before .before .before .if3 .left) in
+    let h4 : noneLate (a .edition) (toldBy (a .dram .now) (a .console .now) (a .ncoh .now) (a .coh .now)) ≡ true = sym (c .before .before .before .none-late .ensures) ∙ not-false _ (c .before .before .if4 .left) in
+    let h5 : leb (used (a .edition) (toldBy (a .dram .now) (a .console .now) (a .ncoh .now) (a .coh .now))) 4096 ≡ false = sym (c .before .room-ok .ensures) ∙ not-true _ (c .if5 .taken) in
+    wrote-not Room 5 (a .page .now) _ refl (w-room (a .base) (length (a .page .now)) (a .edition) (toldBy (a .dram .now) (a .console .now) (a .ncoh .now) (a .coh .now)) h1 h2 h3 h4 h5)
+
+put-page-requires : tie.Need-put-page-requires
+put-page-requires c κs =
+    let a = c .before .before .before .before .before .before .before .before .before .before .before .before .before .before .before .before .args in
+    let h1 : placeOk (a .base) (length (a .page .now)) ≡ true = sym (c .before .before .before .before .before .before .before .before .before .before .place-ok .ensures) ∙ not-false _ (c .before .before .before .before .before .before .before .before .before .if1 .left) in
+    let h5 : leb (used (a .edition) (toldBy (a .dram .now) (a .console .now) (a .ncoh .now) (a .coh .now))) 4096 ≡ true = sym (c .before .before .room-ok .ensures) ∙ not-false _ (c .before .if5 .left) in
+    let p = placed (a .base) (length (a .page .now)) h1 in
+    (omega arith, p .0, leb-true _ _ h5)
+
+same-length : tie.Need-same-length
+same-length c = search needs
+
+returns-6 : tie.Need-returns-6
+returns-6 c =
+    let a = c .before .before .before .before .before .before .before .before .before .before .before .before .before .before .before .before .before .before .before .args in
+    let h1 : placeOk (a .base) (length (a .page .now)) ≡ true = sym (c .before .before .before .before .before .before .before .before .before .before .before .before .before .place-ok .ensures) ∙ not-false _ (c .before .before .before .before .before .before .before .before .before .before .before .before .if1 .left) in
+    let h2 : editionOk (a .edition) ≡ true = sym (c .before .before .before .before .before .before .before .before .before .before .before .is-edition .ensures) ∙ not-false _ (c .before .before .before .before .before .before .before .before .before .before .if2 .left) in
+    let h3 : toldOk (a .edition) (toldBy (a .dram .now) (a .console .now) (a .ncoh .now) (a .coh .now)) ≡ true = sym (c .before .before .before .before .before .before .before .before .before .lists-ok .ensures) ∙ not-false _ (c .before .before .before .before .before .before .before .before .if3 .left) in
+    let h4 : noneLate (a .edition) (toldBy (a .dram .now) (a .console .now) (a .ncoh .now) (a .coh .now)) ≡ true = sym (c .before .before .before .before .before .before .before .none-late .ensures) ∙ not-false _ (c .before .before .before .before .before .before .if4 .left) in
+    let h5 : leb (used (a .edition) (toldBy (a .dram .now) (a .console .now) (a .ncoh .now) (a .coh .now))) 4096 ≡ true = sym (c .before .before .before .before .before .room-ok .ensures) ∙ not-false _ (c .before .before .before .before .if5 .left) in
+    wrote-page (a .page .now) _ _ _ (w-made (a .base) (length (a .page .now)) (a .edition) (toldBy (a .dram .now) (a .console .now) (a .ncoh .now) (a .coh .now)) h1 h2 h3 h4 h5) (c .before .before .put-page .ensures)
+
+pub write-spec : {M : Type 1} → statement M
+write-spec =
+    tie.close
+    (tie.spec
+    place-ok-requires
+    returns
+    is-edition-requires
+    returns-2
+    lists-ok-requires
+    returns-3
+    none-late-requires
+    returns-4
+    room-ok-requires
+    returns-5
+    put-page-requires
+    same-length
+    returns-6)

@@ -1,0 +1,21 @@
+-- The page, step by step, as the code goes. Assumes nothing.
+use Prim.Native.Nat.{ℕ, _+_, _*_}
+use mathlib.Core.Bool.{cond}
+use mathlib.Core.List.{List}
+use lib.ListN.{length}
+use lib.Dec.{ltb}
+use Rattle.words.specs.Word.{bytesOf, laid}
+use Rattle.versions.specs.Edition.{secs}
+use Rattle.writer.specs.Write.{desc}
+
+-- the three words of section k, where the edition has it
+unfoldable pub sectionOn : ℕ → ℕ → ℕ → List ℕ → List ℕ → List ℕ
+sectionOn v k p ws page = cond (ltb k (secs v)) (laid (16 + 24 * k) (bytesOf (desc k p ws)) page) page
+
+-- the arrays one behind the other, from an offset on
+unfoldable pub arraysOn : ℕ → (ℕ → List ℕ) → List ℕ → List ℕ
+arraysOn at l page =
+    let b = at + 8 * length (l 0) in
+    let c = b + 8 * length (l 1) in
+    let d = c + 8 * length (l 2) in
+    laid d (bytesOf (l 3)) (laid c (bytesOf (l 2)) (laid b (bytesOf (l 1)) (laid at (bytesOf (l 0)) page)))

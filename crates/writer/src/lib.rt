@@ -1,0 +1,157 @@
+// The manifest writer: it judges what it is told, then makes the page.
+use versions::Edition;
+ghost use mathlib.Core.Path.{_≡_};
+ghost use mathlib.Core.List.{[]};
+ghost use Prim.Native.Nat.{_+_, _*_, _%_, _^_, _≤_, _<_};
+ghost use lib.ListN.{length};
+ghost use Rattle.words.specs.Word.{bytesOf, laid};
+ghost use Rattle.entries.specs.Entry.{sum};
+ghost use Rattle.lists.specs.Told.{four, toldBy, used};
+ghost use Rattle.writer.specs.Write.{desc, coreWords, filled, pageOf, writeOf};
+ghost use Rattle.writer.specs.Wrote.{answerOf, pageAfter};
+ghost use Rattle.writer.specs.Steps.{sectionOn, arraysOn};
+
+// A page was made, or why not: W1 the place, W2 the edition, W3 a list, W4 a section after the edition, W5 no room.
+pub enum Wrote {
+    Page,
+    Place,
+    Edition,
+    Lists,
+    Late,
+    Room,
+}
+
+// The sum of a list's words, modulo 2^64.
+fn sum_of(words: &[u64]) -> u64
+    ensures { λ r. ⌜ r ≡ sum (now (words .entry)) % 2 ^ 64 ⌝ }
+{
+    let mut total: u64 = 0;
+    for i in 0..words.len() {
+        total = std::num::wrapping_add_u64(total, words[i]);
+    }
+    total
+}
+
+// Count, pointer and checksum of section k with a list at an address; zeros for an empty list.
+fn section_words(k: usize, pointer: u64, words: &[u64]) -> [u64; 3]
+    ensures { λ r. ⌜ r ≡ desc k pointer (now (words .entry)) ⌝ }
+{
+    if words.len() == 0 {
+        return [0, 0, 0];
+    }
+    let count = (words.len() / entries::entry_words(k)) as u64;
+    let head = std::num::wrapping_add_u64(count, pointer);
+    let total = std::num::wrapping_add_u64(head, sum_of(words));
+    [count, pointer, std::num::wrapping_sub_u64(0, total)]
+}
+
+// Puts the words of section k where the edition has it, and answers the address behind its array.
+fn put_section(page: &mut [u8], e: Edition, k: u8, pointer: u64, words: &[u64]) -> u64
+    requires { ⌜ pointer + 8 * length (now words) < 0x1_0000_0000_0000_0000 ⌝ }
+    ensures { λ r. ⌜ (r ≡ pointer + 8 * length (now (words .entry))) × (now (page .exit) ≡ sectionOn (e .minor) k pointer (now (words .entry)) (now (page .entry))) ⌝ }
+{
+    let next = pointer + 8 * (words.len() as u64);
+    if e.sections() <= k {
+        return next;
+    }
+    let three = section_words(k as usize, pointer, words);
+    words::put_words(page, 16 + 24 * (k as usize), &three);
+    next
+}
+
+// Puts an array at an offset, and answers the offset behind it.
+fn put_array(page: &mut [u8], at: usize, words: &[u64]) -> usize
+    requires { ⌜ at + 8 * length (now words) < 0x1_0000_0000_0000_0000 ⌝ }
+    ensures { λ r. ⌜ (r ≡ at + 8 * length (now (words .entry))) × (now (page .exit) ≡ laid at (bytesOf (now (words .entry))) (now (page .entry))) ⌝ }
+{
+    words::put_words(page, at, words);
+    at + 8 * words.len()
+}
+
+// Puts the core over a page of zeros: version, padding, plat_data 0, the sections' words.
+fn put_core(
+    base: u64,
+    e: Edition,
+    dram: &[u64],
+    console: &[u64],
+    ncoh: &[u64],
+    coh: &[u64],
+    page: &mut [u8],
+)
+    requires { ⌜ (base ≤ 0x10_0000_0000_0000) × (now page ≡ filled [])
+        × (length (now dram) + length (now console) + length (now ncoh) + length (now coh) ≤ 512) ⌝ }
+    ensures { λ _. ⌜ now (page .exit) ≡ filled (bytesOf (coreWords base (e .minor) (toldBy (now (dram .entry)) (now (console .entry)) (now (ncoh .entry)) (now (coh .entry))))) ⌝ }
+{
+    let head = [e.minor, 0];
+    words::put_words(page, 0, &head);
+    let first = base + e.core_size();
+    let second = put_section(page, e, 0, first, dram);
+    let third = put_section(page, e, 1, second, console);
+    let fourth = put_section(page, e, 2, third, ncoh);
+    put_section(page, e, 3, fourth, coh);
+}
+
+// Puts the arrays behind the core, in section order.
+fn put_arrays(at: usize, dram: &[u64], console: &[u64], ncoh: &[u64], coh: &[u64], page: &mut [u8])
+    requires { ⌜ (at ≤ 112) × (length (now dram) + length (now console) + length (now ncoh) + length (now coh) ≤ 512) ⌝ }
+    ensures { λ _. ⌜ now (page .exit) ≡ arraysOn at (four (now (dram .entry)) (now (console .entry)) (now (ncoh .entry)) (now (coh .entry))) (now (page .entry)) ⌝ }
+{
+    let second = put_array(page, at, dram);
+    let third = put_array(page, second, console);
+    let fourth = put_array(page, third, ncoh);
+    put_array(page, fourth, coh);
+}
+
+// Makes the whole page: cleared, then core and arrays in the order of their addresses.
+fn put_page(
+    base: u64,
+    e: Edition,
+    dram: &[u64],
+    console: &[u64],
+    ncoh: &[u64],
+    coh: &[u64],
+    page: &mut [u8],
+)
+    requires { ⌜ (base ≤ 0x10_0000_0000_0000) × (length (now page) ≡ 4096)
+        × (used (e .minor) (toldBy (now dram) (now console) (now ncoh) (now coh)) ≤ 4096) ⌝ }
+    ensures { λ _. ⌜ now (page .exit) ≡ pageOf base (e .minor) (toldBy (now (dram .entry)) (now (console .entry)) (now (ncoh .entry)) (now (coh .entry))) ⌝ }
+{
+    words::clear(page);
+    put_core(base, e, dram, console, ncoh, coh, page);
+    let at = e.core_size() as usize;
+    put_arrays(at, dram, console, ncoh, coh, page);
+}
+
+// Writes a manifest of an edition for a base into the lent page: exactly core and arrays, and zero everywhere else. Refused by
+// the first check in 01's order, it leaves the page as it was.
+pub fn write(
+    base: u64,
+    edition: u64,
+    dram: &[u64],
+    console: &[u64],
+    ncoh: &[u64],
+    coh: &[u64],
+    page: &mut [u8],
+) -> Wrote
+    ensures { λ r. ⌜ answerOf (now (page .exit)) r ≡ writeOf base (length (now (page .entry))) edition (toldBy (now (dram .entry)) (now (console .entry)) (now (ncoh .entry)) (now (coh .entry))) ⌝ }
+    ensures { λ r. ⌜ now (page .exit) ≡ pageAfter (now (page .entry)) (writeOf base (length (now (page .entry))) edition (toldBy (now (dram .entry)) (now (console .entry)) (now (ncoh .entry)) (now (coh .entry)))) ⌝ }
+{
+    if !sections::place_ok(base, page.len()) {
+        return Wrote::Place;
+    }
+    if !versions::is_edition(edition) {
+        return Wrote::Edition;
+    }
+    if !lists::lists_ok(edition, dram, console, ncoh, coh) {
+        return Wrote::Lists;
+    }
+    let e = Edition { minor: edition };
+    if !lists::none_late(e, dram, console, ncoh, coh) {
+        return Wrote::Late;
+    }
+    if !lists::room_ok(e, dram, console, ncoh, coh) {
+        return Wrote::Room;
+    }
+    put_page(base, e, dram, console, ncoh, coh, page);
+    Wrote::Page
+}
