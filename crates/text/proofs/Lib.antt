@@ -1,0 +1,4 @@
+pub mod Lay
+pub mod Numbers
+pub mod Parts
+pub mod Example

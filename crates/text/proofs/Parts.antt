@@ -1,0 +1,118 @@
+-- Parts of the listing by what is shown. Assumes nothing.
+use Prim.Native.Nat.{ℕ, zero, suc, _+_, _-_, _≤_}
+use mathlib.Core.Path.{_≡_, refl, _∙_}
+use mathlib.Core.Bool.{Bool, true, false, cond}
+use mathlib.Core.Logic.{⊎-elim}
+use mathlib.Core.List.{List, [], _∷_, _++_}
+use native.Mathlib.Omega.{arith}
+use lib.ListN.{length, take, drop, length-drop}
+use lib.Seq.{take-all}
+use lib.Dec.{leb}
+use types.Run.{OneOf}
+use denote.Enum.Declared.{tagOf}
+use borrow.Author.Tests.{eq-eqb, ne-eqb}
+use Rattle.words.specs.Tests.{both}
+use Rattle.words.specs.Word.{wordAt}
+use Rattle.entries.specs.Entry.{size}
+use Rattle.reader.specs.Answer.{Answer, refused, readOf, empty, full, wordIn, entryWord, countIn, entryCount}
+use Rattle.reader.specs.Reading.{codeOf, sectionOf, shownAs, answerOf}
+use Rattle.reader.specs.declared.Section.{Section}
+use Rattle.reader.specs.declared.Section.the-variants.{Absent, Empty, Entries}
+use Rattle.reader.proofs.Section.{the-type}
+use Rattle.reader.specs.declared.View.{View}
+use Rattle.reader.specs.declared.Code.{Code}
+use Rattle.reader.specs.declared.Code.the-variants.{Place}
+use Rattle.reader.specs.declared.Reading.{Reading}
+use Rattle.reader.specs.declared.Reading.the-variants.{Accepted, Refused}
+use Rattle.text.specs.Text.{newline, space, noneText, absentText, titleText, hexText, nameText, wordText, gapText, countText, stateText, pointerText, listingOf, printed}
+use Rattle.text.specs.Steps.{seen, refusalOf}
+
+-- ---- the space before a word
+pub gap-none : (j : ℕ) → j ≡ 0 → [] ≡ gapText j
+unfolding gapText
+gap-none j e = rw e
+
+pub gap-more : (j : ℕ) → (j ≡ 0 → ⊥) → space ≡ gapText j
+unfolding gapText
+gap-more zero h = absurd (h refl)
+gap-more (suc j) h = refl
+
+-- ---- a word by its place
+module _ (k j w : ℕ) where
+  pub word-other : (k ≡ 1 → ⊥) → hexText w ≡ wordText k j w
+  unfolding wordText both
+  word-other h = rw (ne-eqb k 1 h)
+
+  pub word-plain : k ≡ 1 → (j ≡ 2 → ⊥) → hexText w ≡ wordText k j w
+  unfolding wordText both
+  word-plain e h = rw (eq-eqb k 1 e, ne-eqb j 2 h)
+
+  pub word-name : k ≡ 1 → j ≡ 2 → nameText w ≡ wordText k j w
+  unfolding wordText both
+  word-name e f = rw (eq-eqb k 1 e, eq-eqb j 2 f)
+
+-- ---- what a view is asked for
+module _ (v : View) (page : List ℕ) (k : ℕ) where
+  pub word-seen : (i j : ℕ) → wordIn (answerOf page (Accepted v)) k i j ≡ entryWord k i j (seen v page k)
+  unfolding wordIn answerOf seen
+  word-seen i j = refl
+
+  pub count-seen : countIn (answerOf page (Accepted v)) k ≡ entryCount k (seen v page k)
+  unfolding countIn answerOf seen
+  count-seen = refl
+
+-- ---- names, and the platform pointer
+pub title-last : (k : ℕ) → 3 ≤ k → titleText 3 ≡ titleText k
+unfolding titleText
+title-last zero h = absurd (let z : ⊥ = omega arith in z)
+title-last (suc zero) h = absurd (let z : ⊥ = omega arith in z)
+title-last (suc (suc zero)) h = absurd (let z : ⊥ = omega arith in z)
+title-last (suc (suc (suc k))) h = refl
+
+pub pointer-none : (p : ℕ) → p ≡ 0 → noneText ≡ pointerText p
+unfolding pointerText
+pointer-none p e = rw (eq-eqb p 0 e)
+
+pub pointer-some : (p : ℕ) → (p ≡ 0 → ⊥) → hexText p ≡ pointerText p
+unfolding pointerText
+pointer-some p h = rw (ne-eqb p 0 h)
+
+-- ---- a section that is absent, and one that is not
+count-shown : (k : ℕ) (b : Bool) (ws bs : List ℕ) → countText k (cond b (full ws bs) empty) ≡ stateText k (cond b (full ws bs) empty)
+unfolding stateText
+count-shown k true ws bs = refl
+count-shown k false ws bs = refl
+
+count-other : (w k : ℕ) (s : Section) (page : List ℕ) → OneOf (1 ∷ 2 ∷ []) (tagOf the-type s) → countText k (shownAs w k s page) ≡ stateText k (shownAs w k s page)
+unfolding stateText shownAs
+count-other w k Absent page h = absurd (⊎-elim (λ e. omega arith) (λ e. omega arith) h)
+count-other w k Empty page h = refl
+count-other w k (Entries at n) page h = count-shown k (leb (at + size k n) (length page)) _ _
+
+module _ (v : View) (page : List ℕ) (k : ℕ) (s : Section) (e : s ≡ sectionOf v k) where
+  pub state-absent : s ≡ Absent → absentText ++ newline ≡ stateText k (seen v page k)
+  unfolding stateText seen shownAs
+  state-absent f = rw (← e, f)
+
+  pub state-other : OneOf (1 ∷ 2 ∷ []) (tagOf the-type s) → countText k (seen v page k) ≡ stateText k (seen v page k)
+  unfolding seen
+  state-other h = rw (← e) (count-other (v .minor) k s page h)
+
+-- ---- the answer of a reading
+pub list-refused : (page : List ℕ) (r : Reading) (c : Code) (a : Answer) → r ≡ Refused c → answerOf page r ≡ a → refusalOf r ≡ listingOf a
+unfolding refusalOf answerOf
+list-refused page r c a e f = rw (← f, e)
+
+pub list-accepted : (page : List ℕ) (r : Reading) (v : View) (a : Answer) → r ≡ Accepted v → answerOf page r ≡ a → listingOf (answerOf page (Accepted v)) ≡ listingOf a
+list-accepted page r v a e f = rw (← f, e)
+
+-- ---- the input of the program
+pub input-refused : (input : List ℕ) → (length input ≡ 4104 → ⊥) → listingOf (refused (codeOf Place)) ≡ printed input
+unfolding printed
+input-refused input h = rw (ne-eqb (length input) 4104 h)
+
+pub input-read : (input page : List ℕ) (base : ℕ) → length input ≡ 4104 → base ≡ wordAt 0 input → page ≡ take (length input - 8) (drop 8 input) → listingOf (readOf 4 base page) ≡ printed input
+unfolding printed
+input-read input page base h e f =
+    let g : page ≡ drop 8 input = f ∙ take-all (length input - 8) (drop 8 input) (omega (arith, length-drop 8 input)) in
+    rw (eq-eqb (length input) 4104 h, e, g)

@@ -1,0 +1,46 @@
+use Rattle.text.proofs.Lay.{wrote-same, wrote-whole}
+use Rattle.text.proofs.Parts.{list-refused, list-accepted}
+use borrow.Author.Needs.{needs}
+use Rattle.text.proofs.list.Statement.{statement}
+use Rattle.text.proofs.list.Tie as tie
+
+read-requires : tie.Need-read-requires
+read-requires c κs = search needs
+
+enum-known-reading : tie.Need-enum-known-reading
+enum-known-reading c = search needs
+
+enum-told : tie.Need-enum-told
+enum-told c = search needs
+
+put-refused-requires : tie.Need-put-refused-requires
+put-refused-requires c κs = search needs
+
+same-length : tie.Need-same-length
+same-length c = search needs
+
+returns : tie.Need-returns
+returns c = wrote-whole (wrote-same (list-refused (c .before .before .before .before .before .before .before .before .before .args .page .now) _ _ _ (c .before .before .before .before .enum-told .given .1) (c .before .before .before .before .before .before .read .ensures)) (c .before .before .put-refused .ensures))
+
+put-view-requires : tie.Need-put-view-requires
+put-view-requires c κs = search needs
+
+same-length-2 : tie.Need-same-length-2
+same-length-2 c = search needs
+
+returns-2 : tie.Need-returns-2
+returns-2 c = wrote-whole (wrote-same (list-accepted (c .before .before .before .before .before .before .before .before .before .before .args .page .now) _ _ _ (c .before .before .before .before .before .reading .given .1) (c .before .before .before .before .before .before .before .read .ensures)) (c .before .before .put-view .ensures))
+
+pub list-spec : {M : Type 1} → statement M
+list-spec =
+    tie.close
+    (tie.spec
+    read-requires
+    enum-known-reading
+    enum-told
+    put-refused-requires
+    same-length
+    returns
+    put-view-requires
+    same-length-2
+    returns-2)

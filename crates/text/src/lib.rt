@@ -1,0 +1,283 @@
+// The listing's text, laid into a lent slice as far as it fits. Each step puts a part of it at an offset, and answers where the
+// next part goes.
+use reader::Code;
+use reader::Reading;
+use reader::Section;
+use reader::View;
+ghost use mathlib.Core.Path.{_≡_};
+ghost use Prim.Native.Nat.{min, _<_, _≤_};
+ghost use lib.ListN.{length};
+ghost use Rattle.reader.specs.Answer.{readOf, refused};
+ghost use Rattle.reader.specs.Reading.{codeOf, answerOf};
+ghost use Rattle.text.specs.Text.{lay, newline, decimal, hexText, byteText, nameText, wordText, gapText, entryText, countText, stateText, titleText, sectionText, headText, pointerText, platText, listingOf, printed};
+ghost use Rattle.words.specs.Word.{joined};
+ghost use Rattle.text.specs.Steps.{Wrote, seen, refusalOf};
+
+// The smaller of two lengths.
+fn smaller(a: usize, b: usize) -> usize
+    ensures { λ r. ⌜ r ≡ min a b ⌝ }
+{
+    if a < b {
+        return a;
+    }
+    b
+}
+
+// Any bytes.
+fn put(out: &mut [u8], at: usize, text: &[u8]) -> usize
+    requires { ⌜ at ≤ length (now out) ⌝ }
+    ensures { λ r. ⌜ Wrote at (now (text .entry)) (now (out .entry)) r (now (out .exit)) ⌝ }
+{
+    let n = smaller(text.len(), out.len() - at);
+    for i in 0..n {
+        out[at + i] = text[i];
+    }
+    at + n
+}
+
+// A number in decimal.
+fn put_decimal(out: &mut [u8], at: usize, n: u64) -> usize
+    requires { ⌜ at ≤ length (now out) ⌝ }
+    ensures { λ r. ⌜ Wrote at (decimal n) (now (out .entry)) r (now (out .exit)) ⌝ }
+{
+    let mut digits = [0u8; 20];
+    let k = io::decimal(n, &mut digits);
+    put(out, at, &digits[..k])
+}
+
+// A word: 0x and 16 digits.
+fn put_hex(out: &mut [u8], at: usize, w: u64) -> usize
+    requires { ⌜ at ≤ length (now out) ⌝ }
+    ensures { λ r. ⌜ Wrote at (hexText w) (now (out .entry)) r (now (out .exit)) ⌝ }
+{
+    let mut digits = [0u8; 16];
+    let k = io::hex(w, 16, &mut digits);
+    let to = put(out, at, b"0x");
+    put(out, to, &digits[..k])
+}
+
+// A byte: two digits.
+fn put_byte(out: &mut [u8], at: usize, b: u64) -> usize
+    requires { ⌜ (at ≤ length (now out)) × (b < 256) ⌝ }
+    ensures { λ r. ⌜ Wrote at (byteText b) (now (out .entry)) r (now (out .exit)) ⌝ }
+{
+    let mut digits = [0u8; 16];
+    let k = io::hex(b, 2, &mut digits);
+    put(out, at, &digits[..k])
+}
+
+// A console's name: its 8 bytes in order.
+fn put_name(out: &mut [u8], at: usize, w: u64) -> usize
+    requires { ⌜ at ≤ length (now out) ⌝ }
+    ensures { λ r. ⌜ Wrote at (nameText w) (now (out .entry)) r (now (out .exit)) ⌝ }
+{
+    let mut to = at;
+    let mut rest = w;
+    for i in 0..8usize {
+        to = put_byte(out, to, rest % 256);
+        rest /= 256;
+    }
+    to
+}
+
+// Word j of an entry of section k.
+fn put_word(out: &mut [u8], at: usize, k: usize, j: usize, w: u64) -> usize
+    requires { ⌜ at ≤ length (now out) ⌝ }
+    ensures { λ r. ⌜ Wrote at (wordText k j w) (now (out .entry)) r (now (out .exit)) ⌝ }
+{
+    if k != 1 {
+        return put_hex(out, at, w);
+    }
+    if j != 2 {
+        return put_hex(out, at, w);
+    }
+    put_name(out, at, w)
+}
+
+// The space before word j of an entry; none before the first.
+fn put_gap(out: &mut [u8], at: usize, j: usize) -> usize
+    requires { ⌜ at ≤ length (now out) ⌝ }
+    ensures { λ r. ⌜ Wrote at (gapText j) (now (out .entry)) r (now (out .exit)) ⌝ }
+{
+    if j == 0 {
+        return at;
+    }
+    put(out, at, b" ")
+}
+
+// The end of a line.
+fn put_end(out: &mut [u8], at: usize) -> usize
+    requires { ⌜ at ≤ length (now out) ⌝ }
+    ensures { λ r. ⌜ Wrote at newline (now (out .entry)) r (now (out .exit)) ⌝ }
+{
+    put(out, at, b"\n")
+}
+
+// Entry i of section k of a view: its words, and the end of the line.
+fn put_entry(out: &mut [u8], at: usize, page: &[u8], view: View, k: usize, i: usize) -> usize
+    requires { ⌜ at ≤ length (now out) ⌝ }
+    ensures { λ r. ⌜ Wrote at (entryText k (seen view (now (page .entry)) k) i) (now (out .entry)) r (now (out .exit)) ⌝ }
+{
+    let n = entries::entry_words(k);
+    let mut to = at;
+    for j in 0..n {
+        to = put_gap(out, to, j);
+        to = put_word(out, to, k, j, lookup::word_of(page, view, k, i, j));
+    }
+    put_end(out, to)
+}
+
+// The first n entries of section k of a view.
+fn put_entries(out: &mut [u8], at: usize, page: &[u8], view: View, k: usize, n: usize) -> usize
+    requires { ⌜ at ≤ length (now out) ⌝ }
+    ensures { λ r. ⌜ Wrote at (joined n (entryText k (seen view (now (page .entry)) k))) (now (out .entry)) r (now (out .exit)) ⌝ }
+{
+    let mut to = at;
+    for i in 0..n {
+        to = put_entry(out, to, page, view, k, i);
+    }
+    to
+}
+
+// The count of section k of a view, and its entries.
+fn put_count(out: &mut [u8], at: usize, page: &[u8], view: View, k: usize) -> usize
+    requires { ⌜ at ≤ length (now out) ⌝ }
+    ensures { λ r. ⌜ Wrote at (countText k (seen view (now (page .entry)) k)) (now (out .entry)) r (now (out .exit)) ⌝ }
+{
+    let n = lookup::count_of(page, view, k);
+    let to = put_decimal(out, at, n as u64);
+    let to = put_end(out, to);
+    put_entries(out, to, page, view, k, n)
+}
+
+// What follows the name of section k of a view: that it is absent, or its count and entries.
+fn put_state(out: &mut [u8], at: usize, page: &[u8], view: View, k: usize) -> usize
+    requires { ⌜ at ≤ length (now out) ⌝ }
+    ensures { λ r. ⌜ Wrote at (stateText k (seen view (now (page .entry)) k)) (now (out .entry)) r (now (out .exit)) ⌝ }
+{
+    let section = reader::section_of(view, k);
+    match section {
+        Section::Absent => put(out, at, b"absent\n"),
+        _ => put_count(out, at, page, view, k),
+    }
+}
+
+// The name of section k.
+fn put_title(out: &mut [u8], at: usize, k: usize) -> usize
+    requires { ⌜ at ≤ length (now out) ⌝ }
+    ensures { λ r. ⌜ Wrote at (titleText k) (now (out .entry)) r (now (out .exit)) ⌝ }
+{
+    match k {
+        0 => put(out, at, b"dram"),
+        1 => put(out, at, b"console"),
+        2 => put(out, at, b"ncoh"),
+        _ => put(out, at, b"coh"),
+    }
+}
+
+// Section k of a view.
+fn put_section(out: &mut [u8], at: usize, page: &[u8], view: View, k: usize) -> usize
+    requires { ⌜ at ≤ length (now out) ⌝ }
+    ensures { λ r. ⌜ Wrote at (sectionText (seen view (now (page .entry))) k) (now (out .entry)) r (now (out .exit)) ⌝ }
+{
+    let to = put_title(out, at, k);
+    let to = put(out, to, b" ");
+    put_state(out, to, page, view, k)
+}
+
+// The four sections of a view.
+fn put_sections(out: &mut [u8], at: usize, page: &[u8], view: View) -> usize
+    requires { ⌜ at ≤ length (now out) ⌝ }
+    ensures { λ r. ⌜ Wrote at (joined 4 (sectionText (seen view (now (page .entry))))) (now (out .entry)) r (now (out .exit)) ⌝ }
+{
+    let mut to = at;
+    for k in 0..4 {
+        to = put_section(out, to, page, view, k);
+    }
+    to
+}
+
+// The first line: the version, whose major is 0, and the edition that the page was read as.
+fn put_head(out: &mut [u8], at: usize, minor: u64, edition: u64) -> usize
+    requires { ⌜ at ≤ length (now out) ⌝ }
+    ensures { λ r. ⌜ Wrote at (headText minor edition) (now (out .entry)) r (now (out .exit)) ⌝ }
+{
+    let to = put(out, at, b"manifest 0.");
+    let to = put_decimal(out, to, minor);
+    let to = put(out, to, b" read as ");
+    let to = put_decimal(out, to, edition);
+    put_end(out, to)
+}
+
+// The platform pointer, or that there is none.
+fn put_pointer(out: &mut [u8], at: usize, plat: u64) -> usize
+    requires { ⌜ at ≤ length (now out) ⌝ }
+    ensures { λ r. ⌜ Wrote at (pointerText plat) (now (out .entry)) r (now (out .exit)) ⌝ }
+{
+    if plat == 0 {
+        return put(out, at, b"none");
+    }
+    put_hex(out, at, plat)
+}
+
+// The second line.
+fn put_plat(out: &mut [u8], at: usize, plat: u64) -> usize
+    requires { ⌜ at ≤ length (now out) ⌝ }
+    ensures { λ r. ⌜ Wrote at (platText (record { pointer = plat })) (now (out .entry)) r (now (out .exit)) ⌝ }
+{
+    let to = put(out, at, b"platform ");
+    let to = put_pointer(out, to, plat);
+    put_end(out, to)
+}
+
+// The listing of an accepted page.
+fn put_view(out: &mut [u8], page: &[u8], view: View) -> usize
+    ensures { λ r. ⌜ Wrote 0 (listingOf (answerOf (now (page .entry)) (Reading.Accepted view))) (now (out .entry)) r (now (out .exit)) ⌝ }
+{
+    let to = put_head(out, 0, view.minor, view.edition);
+    let to = put_plat(out, to, view.plat);
+    put_sections(out, to, page, view)
+}
+
+// The line of a code.
+fn put_code(out: &mut [u8], code: Code) -> usize
+    ensures { λ r. ⌜ Wrote 0 (listingOf (refused (codeOf code))) (now (out .entry)) r (now (out .exit)) ⌝ }
+{
+    match code {
+        Code::Place => put(out, 0, b"refused -5\n"),
+        Code::Version => put(out, 0, b"refused -6\n"),
+        Code::Rules => put(out, 0, b"refused -7\n"),
+    }
+}
+
+// The line of a reading that refuses; nothing of one that does not.
+fn put_refused(out: &mut [u8], reading: Reading) -> usize
+    ensures { λ r. ⌜ Wrote 0 (refusalOf reading) (now (out .entry)) r (now (out .exit)) ⌝ }
+{
+    match reading {
+        Reading::Accepted(_) => 0,
+        Reading::Refused(code) => put_code(out, code),
+    }
+}
+
+// The listing of a page at a base, as a reader of an edition reads it: laid over out from its start as far as it fits, the rest
+// of out as it was. The answer is how many bytes of out it takes.
+pub fn list(page: &[u8], base: u64, edition: u64, out: &mut [u8]) -> usize
+    ensures { λ r. ⌜ (now (out .exit) ≡ lay 0 (listingOf (readOf edition base (now (page .entry)))) (now (out .entry))) × (r ≡ min (length (listingOf (readOf edition base (now (page .entry))))) (length (now (out .entry)))) ⌝ }
+{
+    let reading = reader::read(page, base, edition);
+    let Reading::Accepted(view) = reading else {
+        return put_refused(out, reading);
+    };
+    put_view(out, page, view)
+}
+
+// What the listing program prints of its input: B in 8 bytes, then the page, read as edition 4.
+pub fn list_input(input: &[u8], out: &mut [u8]) -> usize
+    ensures { λ r. ⌜ (now (out .exit) ≡ lay 0 (printed (now (input .entry))) (now (out .entry))) × (r ≡ min (length (printed (now (input .entry)))) (length (now (out .entry)))) ⌝ }
+{
+    if input.len() != 4104 {
+        return put_code(out, Code::Place);
+    }
+    list(&input[8..], words::word_at(input, 0), 4, out)
+}
