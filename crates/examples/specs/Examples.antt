@@ -1,17 +1,37 @@
 -- 01, Numbered examples: those marked * are proved of the rules, in one table under a single claim. Assumes nothing.
-use Prim.Native.Nat.{ℕ, _+_, _%_, _^_, _<_}
+use Prim.Native.Nat.{ℕ, zero, suc, _+_, _-_, _*_, _/_, _%_, _^_, _<_}
 use mathlib.Core.Bool.{Bool, true, false}
 use mathlib.Core.Path.{_≡_, refl}
 use mathlib.Core.List.{List, [], _∷_}
 use native.Mathlib.Omega.{arith}
 use borrow.Author.Tests.{eqb-true}
-use Rattle.words.specs.Tests.{Yes, both}
+use Rattle.words.specs.Tests.{both, either, every}
 use Rattle.versions.specs.Version.{minorOf, majorOf, aboveOf, accepted, later}
-use Rattle.entries.specs.Entry.{sum, checkOk}
+use Rattle.words.specs.Word.{joined}
+use Rattle.versions.specs.Edition.{secs, core, editionOk}
+use Rattle.entries.specs.Entry.{per, bankOk, flagsOk, consoleOk, entryRule, entryOk, entriesOk, sum, checkOk}
+use Rattle.sections.specs.Page.{placeOk}
+use Rattle.lists.specs.Told.{four, toldBy, listOk, toldOk, noneLate, platBytes, used}
+use Rattle.writer.specs.Write.{Made, no-page, a-page, wgate, writeOf}
 
 -- the bank of example 4: base, size
 abbrev bank : List ℕ
 bank = 0x90000000 ∷ 0x10000000 ∷ []
+
+-- so many banks, so many consoles
+abbrev banks : ℕ → List ℕ
+banks n = joined n (λ i. bank)
+
+abbrev consoles : ℕ → List ℕ
+consoles n = joined n (λ i. 0x90000000 ∷ 1 ∷ 0 ∷ 0 ∷ 0 ∷ 0 ∷ [])
+
+-- whether the writer makes a page of these banks and consoles: any refusal is no page
+unfoldable pub made : Made → Bool
+made (no-page n) = false
+made (a-page p) = true
+
+abbrev fits : ℕ → List ℕ → List ℕ → Bool
+fits v a b = made (writeOf 0x80000000 4096 v (toldBy a b [] []))
 
 pub record Examples : Type 0 where
   -- "1* Version 0x0000000A is later than 0x00000009."
@@ -23,11 +43,15 @@ pub record Examples : Type 0 where
   -- "4* Count 1, pointer 0x80000028, bank 0x90000000 of 0x10000000 bytes: checksum 0xFFFFFFFEDFFFFFD7." No other word holds.
   pub e4 : (s : ℕ) → s < 2 ^ 64 → checkOk 1 0x80000028 bank s ≡ true → s ≡ 0xFFFFFFFEDFFFFFD7
   pub e4-holds : checkOk 1 0x80000028 bank 0xFFFFFFFEDFFFFFD7 ≡ true
+  -- "5* Edition 4: 249 banks fit, 250 do not."
+  pub e5 : (fits 4 (banks 249) [] ≡ true) × (fits 4 (banks 250) [] ≡ false)
+  -- "6* Edition 4: 83 consoles fit, 84 do not; edition 3 holds 84."
+  pub e6 : (fits 4 [] (consoles 83) ≡ true) × (fits 4 [] (consoles 84) ≡ false) × (fits 3 [] (consoles 84) ≡ true)
 
 check-one : (s : ℕ) → s < 2 ^ 64 → checkOk 1 0x80000028 bank s ≡ true → s ≡ 0xFFFFFFFEDFFFFFD7
 unfolding checkOk sum
 check-one s h t = let e : (1 + 0x80000028 + (0x90000000 + (0x10000000 + 0)) + s) % 2 ^ 64 ≡ 0 = eqb-true _ _ t in omega arith
 
 pub examples : Examples
-unfolding later accepted aboveOf majorOf minorOf checkOk sum both
-examples = record { e1 = refl; e2 = refl; e3 = refl; e4 = check-one; e4-holds = refl }
+unfolding later accepted aboveOf majorOf minorOf checkOk sum both either every joined made writeOf wgate placeOk editionOk toldOk listOk noneLate used platBytes toldBy four core secs per entriesOk entryOk entryRule bankOk consoleOk flagsOk
+examples = record { e1 = refl; e2 = refl; e3 = refl; e4 = check-one; e4-holds = refl; e5 = (refl, refl); e6 = (refl, refl, refl) }

@@ -3,3 +3,4 @@ pub mod Demand
 pub mod Sums
 pub mod Pages
 pub mod Checks
+pub mod Sample

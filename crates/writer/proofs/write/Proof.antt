@@ -1,12 +1,8 @@
-use mathlib.Core.Bool.{true, false}
-use mathlib.Core.Path.{_≡_, refl, sym, _∙_}
-use lib.Dec.{leb}
+use mathlib.Core.Path.{refl, sym, _∙_}
 use lib.ListN.{length}
 use borrow.Author.Tests.{leb-true, not-true, not-false}
-use Rattle.versions.specs.Edition.{editionOk}
-use Rattle.sections.specs.Page.{placeOk}
 use Rattle.sections.proofs.Sections.{placed}
-use Rattle.lists.specs.Told.{toldBy, toldOk, noneLate, used}
+use Rattle.lists.specs.Told.{toldBy}
 use Rattle.writer.specs.Wrote.{answerOf}
 use Rattle.writer.specs.declared.Wrote.the-variants.{Place, Edition, Lists, Late, Room}
 use Rattle.writer.proofs.Checks.{w-place, w-edition, w-lists, w-late, w-room, w-made, wrote-not, wrote-page}
@@ -22,8 +18,9 @@ returns : tie.Need-returns
 unfolding answerOf
 returns c =
     let a = c .before .before .before .before .before .before .before .args in
-    let h1 : placeOk (a .base) (length (a .page .now)) ≡ false = sym (c .before .place-ok .ensures) ∙ not-true _ (c .if1 .taken) in
-    wrote-not Place 1 (a .page .now) _ refl (w-place (a .base) (length (a .page .now)) (a .edition) (toldBy (a .dram .now) (a .console .now) (a .ncoh .now) (a .coh .now)) h1)
+    wrote-not Place 1 (a .page .now) _ refl
+    (w-place (a .base) (length (a .page .now)) (a .edition) (toldBy (a .dram .now) (a .console .now) (a .ncoh .now) (a .coh .now))
+    (sym (c .before .place-ok .ensures) ∙ not-true _ (c .if1 .taken)))
 
 is-edition-requires : tie.Need-is-edition-requires
 is-edition-requires c κs = search needs
@@ -32,9 +29,10 @@ returns-2 : tie.Need-returns-2
 unfolding answerOf
 returns-2 c =
     let a = c .before .before .before .before .before .before .before .before .before .args in
-    let h1 : placeOk (a .base) (length (a .page .now)) ≡ true = sym (c .before .before .before .place-ok .ensures) ∙ not-false _ (c .before .before .if1 .left) in
-    let h2 : editionOk (a .edition) ≡ false = sym (c .before .is-edition .ensures) ∙ not-true _ (c .if2 .taken) in
-    wrote-not Edition 2 (a .page .now) _ refl (w-edition (a .base) (length (a .page .now)) (a .edition) (toldBy (a .dram .now) (a .console .now) (a .ncoh .now) (a .coh .now)) h1 h2)
+    wrote-not Edition 2 (a .page .now) _ refl
+    (w-edition (a .base) (length (a .page .now)) (a .edition) (toldBy (a .dram .now) (a .console .now) (a .ncoh .now) (a .coh .now))
+    (sym (c .before .before .before .place-ok .ensures) ∙ not-false _ (c .before .before .if1 .left))
+    (sym (c .before .is-edition .ensures) ∙ not-true _ (c .if2 .taken)))
 
 lists-ok-requires : tie.Need-lists-ok-requires
 lists-ok-requires c κs = search needs
@@ -43,10 +41,11 @@ returns-3 : tie.Need-returns-3
 unfolding answerOf
 returns-3 c =
     let a = c .before .before .before .before .before .before .before .before .before .before .before .args in
-    let h1 : placeOk (a .base) (length (a .page .now)) ≡ true = sym (c .before .before .before .before .before .place-ok .ensures) ∙ not-false _ (c .before .before .before .before .if1 .left) in
-    let h2 : editionOk (a .edition) ≡ true = sym (c .before .before .before .is-edition .ensures) ∙ not-false _ (c .before .before .if2 .left) in
-    let h3 : toldOk (a .edition) (toldBy (a .dram .now) (a .console .now) (a .ncoh .now) (a .coh .now)) ≡ false = sym (c .before .lists-ok .ensures) ∙ not-true _ (c .if3 .taken) in
-    wrote-not Lists 3 (a .page .now) _ refl (w-lists (a .base) (length (a .page .now)) (a .edition) (toldBy (a .dram .now) (a .console .now) (a .ncoh .now) (a .coh .now)) h1 h2 h3)
+    wrote-not Lists 3 (a .page .now) _ refl
+    (w-lists (a .base) (length (a .page .now)) (a .edition) (toldBy (a .dram .now) (a .console .now) (a .ncoh .now) (a .coh .now))
+    (sym (c .before .before .before .before .before .place-ok .ensures) ∙ not-false _ (c .before .before .before .before .if1 .left))
+    (sym (c .before .before .before .is-edition .ensures) ∙ not-false _ (c .before .before .if2 .left))
+    (sym (c .before .lists-ok .ensures) ∙ not-true _ (c .if3 .taken)))
 
 none-late-requires : tie.Need-none-late-requires
 none-late-requires c κs = search needs
@@ -55,11 +54,12 @@ returns-4 : tie.Need-returns-4
 unfolding answerOf
 returns-4 c =
     let a = c .before .before .before .before .before .before .before .before .before .before .before .before .before .args in
-    let h1 : placeOk (a .base) (length (a .page .now)) ≡ true = sym (c .before .before .before .before .before .before .before .place-ok .ensures) ∙ not-false _ (c .before .before .before .before .before .before .if1 .left) in
-    let h2 : editionOk (a .edition) ≡ true = sym (c .before .before .before .before .before .is-edition .ensures) ∙ not-false _ (c .before .before .before .before .if2 .left) in
-    let h3 : toldOk (a .edition) (toldBy (a .dram .now) (a .console .now) (a .ncoh .now) (a .coh .now)) ≡ true = sym (c .before .before .before .lists-ok .ensures) ∙ not-false _ (c .before .before .if3 .left) in
-    let h4 : noneLate (a .edition) (toldBy (a .dram .now) (a .console .now) (a .ncoh .now) (a .coh .now)) ≡ false = sym (c .before .none-late .ensures) ∙ not-true _ (c .if4 .taken) in
-    wrote-not Late 4 (a .page .now) _ refl (w-late (a .base) (length (a .page .now)) (a .edition) (toldBy (a .dram .now) (a .console .now) (a .ncoh .now) (a .coh .now)) h1 h2 h3 h4)
+    wrote-not Late 4 (a .page .now) _ refl
+    (w-late (a .base) (length (a .page .now)) (a .edition) (toldBy (a .dram .now) (a .console .now) (a .ncoh .now) (a .coh .now))
+    (sym (c .before .before .before .before .before .before .before .place-ok .ensures) ∙ not-false _ (c .before .before .before .before .before .before .if1 .left))
+    (sym (c .before .before .before .before .before .is-edition .ensures) ∙ not-false _ (c .before .before .before .before .if2 .left))
+    (sym (c .before .before .before .lists-ok .ensures) ∙ not-false _ (c .before .before .if3 .left))
+    (sym (c .before .none-late .ensures) ∙ not-true _ (c .if4 .taken)))
 
 room-ok-requires : tie.Need-room-ok-requires
 room-ok-requires c κs = search needs
@@ -68,20 +68,19 @@ returns-5 : tie.Need-returns-5
 unfolding answerOf
 returns-5 c =
     let a = c .before .before .before .before .before .before .before .before .before .before .before .before .before .before .before .args in
-    let h1 : placeOk (a .base) (length (a .page .now)) ≡ true = sym (c .before .before .before .before .before .before .before .before .before .place-ok .ensures) ∙ not-false _ (c .before .before .before .before .before .before .before .before .if1 .left) in
-    let h2 : editionOk (a .edition) ≡ true = sym (c .before .before .before .before .before .before .before .is-edition .ensures) ∙ not-false _ (c .before .before .before .before .before .before .if2 .left) in
-    let h3 : toldOk (a .edition) (toldBy (a .dram .now) (a .console .now) (a .ncoh .now) (a .coh .now)) ≡ true = sym (c .before .before .before .before .before .lists-ok .ensures) ∙ not-false _ (c .before .before .before .before .if3 .left) in
-    let h4 : noneLate (a .edition) (toldBy (a .dram .now) (a .console .now) (a .ncoh .now) (a .coh .now)) ≡ true = sym (c .before .before .before .none-late .ensures) ∙ not-false _ (c .before .before .if4 .left) in
-    let h5 : leb (used (a .edition) (toldBy (a .dram .now) (a .console .now) (a .ncoh .now) (a .coh .now))) 4096 ≡ false = sym (c .before .room-ok .ensures) ∙ not-true _ (c .if5 .taken) in
-    wrote-not Room 5 (a .page .now) _ refl (w-room (a .base) (length (a .page .now)) (a .edition) (toldBy (a .dram .now) (a .console .now) (a .ncoh .now) (a .coh .now)) h1 h2 h3 h4 h5)
+    wrote-not Room 5 (a .page .now) _ refl
+    (w-room (a .base) (length (a .page .now)) (a .edition) (toldBy (a .dram .now) (a .console .now) (a .ncoh .now) (a .coh .now))
+    (sym (c .before .before .before .before .before .before .before .before .before .place-ok .ensures) ∙ not-false _ (c .before .before .before .before .before .before .before .before .if1 .left))
+    (sym (c .before .before .before .before .before .before .before .is-edition .ensures) ∙ not-false _ (c .before .before .before .before .before .before .if2 .left))
+    (sym (c .before .before .before .before .before .lists-ok .ensures) ∙ not-false _ (c .before .before .before .before .if3 .left))
+    (sym (c .before .before .before .none-late .ensures) ∙ not-false _ (c .before .before .if4 .left))
+    (sym (c .before .room-ok .ensures) ∙ not-true _ (c .if5 .taken)))
 
 put-page-requires : tie.Need-put-page-requires
 put-page-requires c κs =
     let a = c .before .before .before .before .before .before .before .before .before .before .before .before .before .before .before .before .args in
-    let h1 : placeOk (a .base) (length (a .page .now)) ≡ true = sym (c .before .before .before .before .before .before .before .before .before .before .place-ok .ensures) ∙ not-false _ (c .before .before .before .before .before .before .before .before .before .if1 .left) in
-    let h5 : leb (used (a .edition) (toldBy (a .dram .now) (a .console .now) (a .ncoh .now) (a .coh .now))) 4096 ≡ true = sym (c .before .before .room-ok .ensures) ∙ not-false _ (c .before .if5 .left) in
-    let p = placed (a .base) (length (a .page .now)) h1 in
-    (omega arith, p .0, leb-true _ _ h5)
+    let p = placed (a .base) (length (a .page .now)) (sym (c .before .before .before .before .before .before .before .before .before .before .place-ok .ensures) ∙ not-false _ (c .before .before .before .before .before .before .before .before .before .if1 .left)) in
+    (omega arith, p .0, leb-true _ _ (sym (c .before .before .room-ok .ensures) ∙ not-false _ (c .before .if5 .left)))
 
 same-length : tie.Need-same-length
 same-length c = search needs
@@ -89,12 +88,14 @@ same-length c = search needs
 returns-6 : tie.Need-returns-6
 returns-6 c =
     let a = c .before .before .before .before .before .before .before .before .before .before .before .before .before .before .before .before .before .before .before .args in
-    let h1 : placeOk (a .base) (length (a .page .now)) ≡ true = sym (c .before .before .before .before .before .before .before .before .before .before .before .before .before .place-ok .ensures) ∙ not-false _ (c .before .before .before .before .before .before .before .before .before .before .before .before .if1 .left) in
-    let h2 : editionOk (a .edition) ≡ true = sym (c .before .before .before .before .before .before .before .before .before .before .before .is-edition .ensures) ∙ not-false _ (c .before .before .before .before .before .before .before .before .before .before .if2 .left) in
-    let h3 : toldOk (a .edition) (toldBy (a .dram .now) (a .console .now) (a .ncoh .now) (a .coh .now)) ≡ true = sym (c .before .before .before .before .before .before .before .before .before .lists-ok .ensures) ∙ not-false _ (c .before .before .before .before .before .before .before .before .if3 .left) in
-    let h4 : noneLate (a .edition) (toldBy (a .dram .now) (a .console .now) (a .ncoh .now) (a .coh .now)) ≡ true = sym (c .before .before .before .before .before .before .before .none-late .ensures) ∙ not-false _ (c .before .before .before .before .before .before .if4 .left) in
-    let h5 : leb (used (a .edition) (toldBy (a .dram .now) (a .console .now) (a .ncoh .now) (a .coh .now))) 4096 ≡ true = sym (c .before .before .before .before .before .room-ok .ensures) ∙ not-false _ (c .before .before .before .before .if5 .left) in
-    wrote-page (a .page .now) _ _ _ (w-made (a .base) (length (a .page .now)) (a .edition) (toldBy (a .dram .now) (a .console .now) (a .ncoh .now) (a .coh .now)) h1 h2 h3 h4 h5) (c .before .before .put-page .ensures)
+    wrote-page (a .page .now) _ _ _
+    (w-made (a .base) (length (a .page .now)) (a .edition) (toldBy (a .dram .now) (a .console .now) (a .ncoh .now) (a .coh .now))
+    (sym (c .before .before .before .before .before .before .before .before .before .before .before .before .before .place-ok .ensures) ∙ not-false _ (c .before .before .before .before .before .before .before .before .before .before .before .before .if1 .left))
+    (sym (c .before .before .before .before .before .before .before .before .before .before .before .is-edition .ensures) ∙ not-false _ (c .before .before .before .before .before .before .before .before .before .before .if2 .left))
+    (sym (c .before .before .before .before .before .before .before .before .before .lists-ok .ensures) ∙ not-false _ (c .before .before .before .before .before .before .before .before .if3 .left))
+    (sym (c .before .before .before .before .before .before .before .none-late .ensures) ∙ not-false _ (c .before .before .before .before .before .before .if4 .left))
+    (sym (c .before .before .before .before .before .room-ok .ensures) ∙ not-false _ (c .before .before .before .before .if5 .left)))
+    (c .before .before .put-page .ensures)
 
 pub write-spec : {M : Type 1} → statement M
 write-spec =
