@@ -7,6 +7,8 @@ use native.Mathlib.Numerals.{add-one}
 use native.Mathlib.Nat.{mul-suc, mul-le-mul-left, le-div-iff-mul-le, div-lt-iff-lt-mul, mul-comm, mul-assoc, add-zero}
 use native.Mathlib.Omega.{arith}
 use lib.ListN.{getD}
+use lib.Dec.{leb}
+use borrow.Author.Tests.{leb-true}
 use Rattle.words.specs.Tests.{every}
 use Rattle.words.proofs.Tests.{every-none, every-more, every-not, every-same}
 use Rattle.words.specs.Word.{part, wordAt, wordsOf}
@@ -45,6 +47,14 @@ module _ (k c room : ℕ) where
 
   pub size-room : c ≤ room / (8 * per k) → size k c ≤ room
   size-room h = rw size-bytes (le-div-iff-mul-le step .0 h)
+
+-- an array that fits behind an offset ends within the page, whatever its entry's words were called
+pub fits-end : (k c at n w : ℕ) (b : Bool) → w ≡ per k → b ≡ leb (size k c) (n - at) → b ≡ true → at ≤ n → at + 8 * (w * c) ≤ n
+unfolding size
+fits-end k c at n w b e f g h =
+    let s : 8 * (per k * c) ≤ n - at = leb-true _ _ (sym f ∙ g) in
+    let z : w * c ≡ per k * c = rw e in
+    omega arith
 
 -- ---- entries in place
 pub place-none : (k at : ℕ) → entryPlace k at 0 ≡ at

@@ -7,7 +7,7 @@ use native.Mathlib.Omega.{arith}
 use lib.ListN.{length}
 use lib.ListN.{getD, List·getD-eq-default}
 use lib.Dec.{leb, ltb}
-use native.Mathlib.Nat.{mul-le-mul-left}
+use native.Mathlib.Nat.{mul-suc, mul-le-mul-left}
 use borrow.Author.Tests.{le-leb, lt-leb, le-ltb, lt-ltb}
 use Rattle.words.specs.Word.{part, wordAt, wordsOf}
 use Rattle.words.proofs.Read.{wordsOf-length}
@@ -92,6 +92,10 @@ module _ (w k at count i j : ℕ) (page : List ℕ) where
   word-there h l m =
       sym (by-tests ∙ rw (le-leb (at + size k count) (length page) h, lt-ltb j (per k) m, word-in k at i count page l j m)
       (ap (λ x. wordAt x page) (let e : at + 8 * (per k * i) + 8 * j ≡ at + 8 * (per k * i + j) = omega arith in e)))
+
+-- word j of entry i, below count, lies in the array's words
+pub word-place : (i count j w : ℕ) → i < count → j < w → w * i + j < w * count
+word-place i count j w h l = omega (arith, mul-suc w i, mul-le-mul-left w h)
 
 pub word-view : (page : List ℕ) (v : View) (k i j : ℕ) → wordOf (v .minor) k i j (sectionOf v k) page ≡ wordIn (answerOf page (Accepted v)) k i j
 unfolding wordOf wordIn answerOf

@@ -38,39 +38,24 @@ fn print_case(edition: u64, base: u64, page: &[u8]) {
     }
 }
 
-// Case n, if there is one.
-fn case(n: u64) -> bool
-    requires { ⌜ n < 1000 ⌝ }
-{
-    let digits = [
-        48 + (n / 100) as u8,
-        48 + (n / 10 % 10) as u8,
-        48 + (n % 10) as u8,
-    ];
-    let name = [b'c', digits[0], digits[1], digits[2]];
-    let fd = os::open_read(&name);
-    if fd < 0 {
-        return false;
+fn print_input(input: &[u8]) {
+    if input.len() < 16 {
+        return;
     }
-    let mut input = [0u8; 8209];
-    let length = io::read_full(fd, &mut input);
-    libc::close(fd);
-    io::write_all(STDOUT_FILENO, b"case ");
-    io::write_all(STDOUT_FILENO, &digits);
-    io::write_all(STDOUT_FILENO, b"\n");
-    if 16 <= length {
-        print_case(
-            words::word_at(&input, 0),
-            words::word_at(&input, 8),
-            &input[16..length],
-        );
-    }
-    true
+    print_case(
+        words::word_at(input, 0),
+        words::word_at(input, 8),
+        &input[16..],
+    );
 }
 
 fn main() {
-    let mut n: u64 = 0;
-    while n < 1000 && case(n) {
-        n += 1;
+    let mut input = [0u8; 8209];
+    for n in 0..1000u64 {
+        let length = cases::load(n, &mut input);
+        if length == 0 {
+            return;
+        }
+        print_input(&input[..length]);
     }
 }

@@ -98,6 +98,10 @@ module _ (w e base : ℕ) (page : List ℕ) where
   ok-each n k h l = every-at n (λ k. okAt w e base k page) h k l
 
 -- ---- two arrays
+pub end-steps : (k w c : ℕ) (page : List ℕ) → w ≡ per k → c ≡ countAt k page → pointerAt k page + 8 * (w * c) ≡ endOf k page
+unfolding endOf size
+end-steps k w c page e f = rw (e, f)
+
 module _ (page : List ℕ) where
   pub clear-none : (i : ℕ) → clearTo i 0 page ≡ true
   unfolding clearTo

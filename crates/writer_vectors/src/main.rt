@@ -133,33 +133,13 @@ fn print_case(input: &[u8]) {
     );
 }
 
-// Case n, if there is one.
-fn case(n: u64) -> bool
-    requires { ⌜ n < 1000 ⌝ }
-{
-    let digits = [
-        48 + (n / 100) as u8,
-        48 + (n / 10 % 10) as u8,
-        48 + (n % 10) as u8,
-    ];
-    let name = [b'c', digits[0], digits[1], digits[2]];
-    let fd = os::open_read(&name);
-    if fd < 0 {
-        return false;
-    }
-    let mut input = [0u8; 32768];
-    let length = io::read_full(fd, &mut input);
-    libc::close(fd);
-    io::write_all(STDOUT_FILENO, b"case ");
-    io::write_all(STDOUT_FILENO, &digits);
-    io::write_all(STDOUT_FILENO, b"\n");
-    print_case(&input[..length]);
-    true
-}
-
 fn main() {
-    let mut n: u64 = 0;
-    while n < 1000 && case(n) {
-        n += 1;
+    let mut input = [0u8; 32768];
+    for n in 0..1000u64 {
+        let length = cases::load(n, &mut input);
+        if length == 0 {
+            return;
+        }
+        print_case(&input[..length]);
     }
 }

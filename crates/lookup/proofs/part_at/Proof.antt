@@ -1,9 +1,10 @@
 use mathlib.Core.Path.{_≡_, sym, _∙_}
-use Prim.Native.Nat.{_+_, _-_, _*_, _≤_, _<_}
+use Prim.Native.Nat.{_+_, _-_, _*_, _<_}
 use lib.ListN.{length}
-use borrow.Author.Tests.{leb-true, leb-false, not-true, not-false}
+use borrow.Author.Tests.{leb-false, not-true, not-false}
 use Rattle.words.specs.Word.{part}
 use Rattle.entries.specs.Entry.{per, size}
+use Rattle.entries.proofs.Entries.{fits-end}
 use Rattle.lookup.proofs.Lookups.{array-in, array-out}
 use borrow.Author.Needs.{needs}
 use native.Mathlib.Omega.{arith}
@@ -20,9 +21,7 @@ part-result-end : tie.Need-part-result-end
 part-result-end c = search needs
 
 returns : tie.Need-returns
-returns c =
-    let a = c .before .before .before .args in
-    sym (array-out (a .k) (a .at) (a .count) (a .page .now) (omega arith))
+returns c = let a = c .before .before .before .args in sym (array-out (a .k) (a .at) (a .count) (a .page .now) (omega arith))
 
 sub-fits : tie.Need-sub-fits
 sub-fits c = search needs
@@ -49,28 +48,13 @@ entry-words-requires : tie.Need-entry-words-requires
 entry-words-requires c κs = search needs
 
 mul-end : tie.Need-mul-end
-unfolding size
-mul-end c =
-    let a = c .before .before .before .before .before .args in
-    let f : size (a .k) (a .count) ≤ length (a .page .now) - a .at = leb-true _ _ (sym (c .before .before .fits2 .ensures) ∙ not-false _ (c .before .if2 .left)) in
-    let e : c .entry-words .result * a .count ≡ per (a .k) * a .count = rw (c .entry-words .ensures .0) in
-    omega arith
+mul-end c = omega (arith, fits-end (c .before .before .before .before .before .args .k) (c .before .before .before .before .before .args .count) (c .before .before .before .before .before .args .at) (length (c .before .before .before .before .before .args .page .now)) (c .entry-words .result) _ (c .entry-words .ensures .0) (c .before .before .fits2 .ensures) (not-false _ (c .before .if2 .left)) (search needs))
 
 mul-end-2 : tie.Need-mul-end-2
-unfolding size
-mul-end-2 c =
-    let a = c .before .before .before .before .before .args in
-    let f : size (a .k) (a .count) ≤ length (a .page .now) - a .at = leb-true _ _ (sym (c .before .before .fits2 .ensures) ∙ not-false _ (c .before .if2 .left)) in
-    let e : c .entry-words .result * a .count ≡ per (a .k) * a .count = rw (c .entry-words .ensures .0) in
-    omega arith
+mul-end-2 c = omega (arith, fits-end (c .before .before .before .before .before .args .k) (c .before .before .before .before .before .args .count) (c .before .before .before .before .before .args .at) (length (c .before .before .before .before .before .args .page .now)) (c .entry-words .result) _ (c .entry-words .ensures .0) (c .before .before .fits2 .ensures) (not-false _ (c .before .if2 .left)) (search needs))
 
 add-end : tie.Need-add-end
-unfolding size
-add-end c =
-    let a = c .before .before .before .before .before .args in
-    let f : size (a .k) (a .count) ≤ length (a .page .now) - a .at = leb-true _ _ (sym (c .before .before .fits2 .ensures) ∙ not-false _ (c .before .if2 .left)) in
-    let e : c .entry-words .result * a .count ≡ per (a .k) * a .count = rw (c .entry-words .ensures .0) in
-    omega arith
+add-end c = omega (arith, fits-end (c .before .before .before .before .before .args .k) (c .before .before .before .before .before .args .count) (c .before .before .before .before .before .args .at) (length (c .before .before .before .before .before .args .page .now)) (c .entry-words .result) _ (c .entry-words .ensures .0) (c .before .before .fits2 .ensures) (not-false _ (c .before .if2 .left)) (search needs))
 
 sub-result-3 : tie.Need-sub-result-3
 sub-result-3 c = search needs
@@ -79,19 +63,14 @@ part-result-start-3 : tie.Need-part-result-start-3
 part-result-start-3 c = search needs
 
 part-result-end-3 : tie.Need-part-result-end-3
-unfolding size
-part-result-end-3 c =
-    let a = c .before .before .before .before .before .args in
-    let f : size (a .k) (a .count) ≤ length (a .page .now) - a .at = leb-true _ _ (sym (c .before .before .fits2 .ensures) ∙ not-false _ (c .before .if2 .left)) in
-    let e : c .entry-words .result * a .count ≡ per (a .k) * a .count = rw (c .entry-words .ensures .0) in
-    omega arith
+part-result-end-3 c = omega (arith, fits-end (c .before .before .before .before .before .args .k) (c .before .before .before .before .before .args .count) (c .before .before .before .before .before .args .at) (length (c .before .before .before .before .before .args .page .now)) (c .entry-words .result) _ (c .entry-words .ensures .0) (c .before .before .fits2 .ensures) (not-false _ (c .before .if2 .left)) (search needs))
 
 returns-3 : tie.Need-returns-3
 unfolding part size
 returns-3 c =
     let a = c .before .before .before .before .before .before .args in
-    let f : size (a .k) (a .count) ≤ length (a .page .now) - a .at = leb-true _ _ (sym (c .before .before .before .fits2 .ensures) ∙ not-false _ (c .before .before .if2 .left)) in
     let e : c .before .entry-words .result * a .count ≡ per (a .k) * a .count = rw (c .before .entry-words .ensures .0) in
+    let f = fits-end (c .before .before .before .before .before .before .args .k) (c .before .before .before .before .before .before .args .count) (c .before .before .before .before .before .before .args .at) (length (c .before .before .before .before .before .before .args .page .now)) (c .before .entry-words .result) _ (c .before .entry-words .ensures .0) (c .before .before .before .fits2 .ensures) (not-false _ (c .before .before .if2 .left)) (search needs) in
     let q : a .at + 8 * (c .before .entry-words .result * a .count) - a .at ≡ 8 * (per (a .k) * a .count) = omega arith in
     rw q (sym (array-in (a .k) (a .at) (a .count) (a .page .now) (omega arith)))
 

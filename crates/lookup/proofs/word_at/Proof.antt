@@ -2,11 +2,9 @@ use mathlib.Core.Path.{_≡_, sym, _∙_}
 use Prim.Native.Nat.{_+_, _-_, _*_, _≤_, _<_}
 use lib.ListN.{length}
 use borrow.Author.Tests.{leb-true, leb-false, not-true, not-false}
-use Rattle.words.specs.Word.{wordAt}
-use Rattle.entries.specs.Entry.{per, size}
-use Rattle.entries.specs.Array.{entryPlace}
-use Rattle.entries.proofs.Entries.{place-room}
-use Rattle.lookup.proofs.Lookups.{word-narrow, word-past, word-out, word-there}
+use Rattle.entries.specs.Entry.{size}
+use Rattle.entries.proofs.Entries.{fits-end}
+use Rattle.lookup.proofs.Lookups.{word-narrow, word-past, word-out, word-there, word-place}
 use borrow.Author.Needs.{needs}
 use native.Mathlib.Omega.{arith}
 use Rattle.lookup.proofs.word_at.Statement.{statement}
@@ -37,36 +35,16 @@ returns-4 c =
     word-out (a .minor) (a .k) (a .at) (a .count) (a .i) (a .j) (a .page .now) (omega arith)
 
 mul-word-at : tie.Need-mul-word-at
-unfolding entryPlace
-mul-word-at c =
-    let a = c .before .before .before .before .before .before .before .args in
-    let f : size (a .k) (a .count) ≤ length (a .page .now) - a .at = leb-true _ _ (sym (c .before .fits2 .ensures) ∙ not-false _ (c .if4 .left)) in
-    let e : c .before .before .before .before .before .entry-words .result * a .i ≡ per (a .k) * a .i = rw (c .before .before .before .before .before .entry-words .ensures .0) in
-    omega (arith, place-room (a .k) (a .at) (a .i) (a .count) (search needs), c .before .before .before .before .before .entry-words .ensures .0)
+mul-word-at c = omega (arith, word-place (c .before .before .before .before .before .before .before .args .i) (c .before .before .before .before .before .before .before .args .count) (c .before .before .before .before .before .before .before .args .j) (c .before .before .before .before .before .entry-words .result) (search needs) (search needs), fits-end (c .before .before .before .before .before .before .before .args .k) (c .before .before .before .before .before .before .before .args .count) (c .before .before .before .before .before .before .before .args .at) (length (c .before .before .before .before .before .before .before .args .page .now)) (c .before .before .before .before .before .entry-words .result) _ (c .before .before .before .before .before .entry-words .ensures .0) (c .before .fits2 .ensures) (not-false _ (c .if4 .left)) (search needs))
 
 add-word-at : tie.Need-add-word-at
-unfolding entryPlace
-add-word-at c =
-    let a = c .before .before .before .before .before .before .before .args in
-    let f : size (a .k) (a .count) ≤ length (a .page .now) - a .at = leb-true _ _ (sym (c .before .fits2 .ensures) ∙ not-false _ (c .if4 .left)) in
-    let e : c .before .before .before .before .before .entry-words .result * a .i ≡ per (a .k) * a .i = rw (c .before .before .before .before .before .entry-words .ensures .0) in
-    omega (arith, place-room (a .k) (a .at) (a .i) (a .count) (search needs), c .before .before .before .before .before .entry-words .ensures .0)
+add-word-at c = omega (arith, word-place (c .before .before .before .before .before .before .before .args .i) (c .before .before .before .before .before .before .before .args .count) (c .before .before .before .before .before .before .before .args .j) (c .before .before .before .before .before .entry-words .result) (search needs) (search needs), fits-end (c .before .before .before .before .before .before .before .args .k) (c .before .before .before .before .before .before .before .args .count) (c .before .before .before .before .before .before .before .args .at) (length (c .before .before .before .before .before .before .before .args .page .now)) (c .before .before .before .before .before .entry-words .result) _ (c .before .before .before .before .before .entry-words .ensures .0) (c .before .fits2 .ensures) (not-false _ (c .if4 .left)) (search needs))
 
 mul-word-at-2 : tie.Need-mul-word-at-2
-unfolding entryPlace
-mul-word-at-2 c =
-    let a = c .before .before .before .before .before .before .before .args in
-    let f : size (a .k) (a .count) ≤ length (a .page .now) - a .at = leb-true _ _ (sym (c .before .fits2 .ensures) ∙ not-false _ (c .if4 .left)) in
-    let e : c .before .before .before .before .before .entry-words .result * a .i ≡ per (a .k) * a .i = rw (c .before .before .before .before .before .entry-words .ensures .0) in
-    omega (arith, place-room (a .k) (a .at) (a .i) (a .count) (search needs), c .before .before .before .before .before .entry-words .ensures .0)
+mul-word-at-2 c = omega (arith, word-place (c .before .before .before .before .before .before .before .args .i) (c .before .before .before .before .before .before .before .args .count) (c .before .before .before .before .before .before .before .args .j) (c .before .before .before .before .before .entry-words .result) (search needs) (search needs), fits-end (c .before .before .before .before .before .before .before .args .k) (c .before .before .before .before .before .before .before .args .count) (c .before .before .before .before .before .before .before .args .at) (length (c .before .before .before .before .before .before .before .args .page .now)) (c .before .before .before .before .before .entry-words .result) _ (c .before .before .before .before .before .entry-words .ensures .0) (c .before .fits2 .ensures) (not-false _ (c .if4 .left)) (search needs))
 
 add-word-at-2 : tie.Need-add-word-at-2
-unfolding entryPlace
-add-word-at-2 c =
-    let a = c .before .before .before .before .before .before .before .args in
-    let f : size (a .k) (a .count) ≤ length (a .page .now) - a .at = leb-true _ _ (sym (c .before .fits2 .ensures) ∙ not-false _ (c .if4 .left)) in
-    let e : c .before .before .before .before .before .entry-words .result * a .i ≡ per (a .k) * a .i = rw (c .before .before .before .before .before .entry-words .ensures .0) in
-    omega (arith, place-room (a .k) (a .at) (a .i) (a .count) (search needs), c .before .before .before .before .before .entry-words .ensures .0)
+add-word-at-2 c = omega (arith, word-place (c .before .before .before .before .before .before .before .args .i) (c .before .before .before .before .before .before .before .args .count) (c .before .before .before .before .before .before .before .args .j) (c .before .before .before .before .before .entry-words .result) (search needs) (search needs), fits-end (c .before .before .before .before .before .before .before .args .k) (c .before .before .before .before .before .before .before .args .count) (c .before .before .before .before .before .before .before .args .at) (length (c .before .before .before .before .before .before .before .args .page .now)) (c .before .before .before .before .before .entry-words .result) _ (c .before .before .before .before .before .entry-words .ensures .0) (c .before .fits2 .ensures) (not-false _ (c .if4 .left)) (search needs))
 
 word-at-requires : tie.Need-word-at-requires
 word-at-requires c κs = search needs

@@ -1,19 +1,36 @@
 use Prim.Native.Nat.{_-_, _≤_}
+use mathlib.Core.Path.{_≡_}
+use lib.ListN.{length}
 use borrow.Author.Needs.{needs}
 use Rattle.reader_vectors.proofs.main.Statement.{statement}
 use Rattle.reader_vectors.proofs.main.Tie as tie
 
 abbrev Inv-loop : tie.InvT-loop
-Inv-loop n₀ n = n ≤ 1000
+Inv-loop input₀ n₀ input n = (n ≤ 1000) × (length input ≡ 8209)
 
 abbrev μ-loop : tie.MeasureT-loop
-μ-loop n₀ n = 1000 - n
+μ-loop input₀ n₀ input n = 1000 - n
 
 loop-holds : tie.Need-loop-holds Inv-loop μ-loop
 loop-holds c = search needs
 
-case-requires : tie.Need-case-requires Inv-loop μ-loop
-case-requires c κs = search needs
+slice-aggregate-load : tie.Need-slice-aggregate-load Inv-loop μ-loop
+slice-aggregate-load c = search needs
+
+load-requires : tie.Need-load-requires Inv-loop μ-loop
+load-requires c κs = search needs
+
+returns : tie.Need-returns Inv-loop μ-loop
+returns c = search needs
+
+array-share-prefix-input : tie.Need-array-share-prefix-input Inv-loop μ-loop
+array-share-prefix-input c = search needs
+
+slice-aggregate-print-input : tie.Need-slice-aggregate-print-input Inv-loop μ-loop
+slice-aggregate-print-input c = search needs
+
+print-input-requires : tie.Need-print-input-requires Inv-loop μ-loop
+print-input-requires c κs = search needs
 
 add-n : tie.Need-add-n Inv-loop μ-loop
 add-n c = search needs
@@ -23,9 +40,6 @@ loop-less c = search needs
 
 loop-again : tie.Need-loop-again Inv-loop μ-loop
 loop-again c = search needs
-
-returns : tie.Need-returns Inv-loop μ-loop
-returns c = search needs
 
 returns-2 : tie.Need-returns-2 Inv-loop μ-loop
 returns-2 c = search needs
@@ -37,9 +51,13 @@ main-spec =
     Inv-loop
     μ-loop
     loop-holds
-    case-requires
+    slice-aggregate-load
+    load-requires
+    returns
+    array-share-prefix-input
+    slice-aggregate-print-input
+    print-input-requires
     add-n
     loop-less
     loop-again
-    returns
     returns-2)
