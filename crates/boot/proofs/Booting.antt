@@ -1,0 +1,65 @@
+-- Cold and warm boot, return by return. Assumes nothing.
+use Prim.Native.Nat.{ℕ, _≤_, _<_}
+use mathlib.Core.Path.{_≡_, refl, sym, ap, _∙_}
+use mathlib.Core.Bool.{Bool, true, false}
+use mathlib.Core.List.{List}
+use lib.IntN.{ℤ, pos, negsuc}
+use borrow.Author.Tests.{lt-leb, le-leb, lt-ltb, le-ltb}
+use Rattle.versions.specs.Version.{accepted, agreed}
+use Rattle.reader.specs.Answer.{Answer, refused, minus, readOf}
+use Rattle.reader.specs.Reading.{codeOf, answerOf}
+use Rattle.reader.specs.declared.View.{View}
+use Rattle.reader.specs.declared.Code.{Code as ReaderCode}
+use Rattle.reader.specs.declared.Code.the-variants.{Place, Version as BadVersion, Rules}
+use Rattle.reader.specs.declared.Reading.{Reading}
+use Rattle.reader.specs.declared.Reading.the-variants.{Accepted, Refused}
+use Rattle.boot.specs.Boot.{numberOf, codeIn, numberIn, isFresh, coldGate, coldCode, after, coldNext, cpuCode}
+use Rattle.boot.specs.declared.Record.{Record}
+use Rattle.boot.specs.declared.Record.the-variants.{Fresh, Up, Closed}
+
+-- a code that is not 0 closes
+pub closes : (c : ReaderCode) (s : Record) → Closed ≡ after (codeOf c) s
+unfolding after
+closes Place s = refl
+closes BadVersion s = refl
+closes Rules s = refl
+
+module _ (s : Record) (x0 x1 x2 x3 most : ℕ) (page : List ℕ) where
+  pub cold-state : isFresh s ≡ false → (minus 1 ≡ coldCode s x0 x1 x2 x3 most page) × (Closed ≡ coldNext s x0 x1 x2 x3 most page)
+  unfolding coldNext coldCode coldGate after
+  cold-state h = rw h (refl, refl)
+
+  module _ (h : isFresh s ≡ true) where
+    pub cold-version : accepted x1 ≡ false → (minus 2 ≡ coldCode s x0 x1 x2 x3 most page) × (Closed ≡ coldNext s x0 x1 x2 x3 most page)
+    unfolding coldNext coldCode coldGate after
+    cold-version v = rw (h, v) (refl, refl)
+
+    module _ (v : accepted x1 ≡ true) where
+      pub cold-cpus : most < x2 → (minus 3 ≡ coldCode s x0 x1 x2 x3 most page) × (Closed ≡ coldNext s x0 x1 x2 x3 most page)
+      unfolding coldNext coldCode coldGate after
+      cold-cpus m = rw (h, v, lt-leb x2 most m) (refl, refl)
+
+      module _ (m : x2 ≤ most) where
+        pub cold-cpu : x2 ≤ x0 → (minus 4 ≡ coldCode s x0 x1 x2 x3 most page) × (Closed ≡ coldNext s x0 x1 x2 x3 most page)
+        unfolding coldNext coldCode coldGate after
+        cold-cpu n = rw (h, v, le-leb x2 most m, le-ltb x0 x2 n) (refl, refl)
+
+        module _ (n : x0 < x2) where
+          pub cold-refused : (c : ReaderCode) → answerOf page (Refused c) ≡ readOf 4 x3 page →
+              (codeOf c ≡ coldCode s x0 x1 x2 x3 most page) × (Closed ≡ coldNext s x0 x1 x2 x3 most page)
+          unfolding coldNext coldCode coldGate codeIn answerOf
+          cold-refused c e = rw (h, v, le-leb x2 most m, lt-ltb x0 x2 n, ← e) (refl, closes c (Up x2 x3 (agreed x1)))
+
+          pub cold-up : (w : View) → answerOf page (Accepted w) ≡ readOf 4 x3 page →
+              (pos 0 ≡ coldCode s x0 x1 x2 x3 most page) × (Up x2 x3 (agreed x1) ≡ coldNext s x0 x1 x2 x3 most page)
+          unfolding coldNext coldCode coldGate codeIn answerOf after
+          cold-up w e = rw (h, v, le-leb x2 most m, lt-ltb x0 x2 n, ← e) (refl, refl)
+
+module _ (cpus x0 : ℕ) (s : Record) where
+  pub kept-not : cpus ≤ x0 → (minus 4 ≡ cpuCode cpus x0) × (Closed ≡ after (cpuCode cpus x0) s)
+  unfolding cpuCode after
+  kept-not h = rw (le-ltb x0 cpus h) (refl, refl)
+
+  pub kept-up : x0 < cpus → (pos 0 ≡ cpuCode cpus x0) × (s ≡ after (cpuCode cpus x0) s)
+  unfolding cpuCode after
+  kept-up h = rw (lt-ltb x0 cpus h) (refl, refl)

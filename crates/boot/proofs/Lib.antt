@@ -1,0 +1,2 @@
+pub mod Booting
+pub mod Closing

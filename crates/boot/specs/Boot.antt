@@ -1,0 +1,75 @@
+-- Cold and warm boot. 01, Codes: "The boot record is fresh, up or closed; it keeps x2, B and the agreed minor when up. Any boot
+-- error closes it for good." Assumes nothing.
+use Prim.Native.Nat.{ℕ}
+use mathlib.Core.Bool.{Bool, true, false, cond}
+use mathlib.Core.List.{List}
+use lib.Dec.{leb, ltb}
+use lib.IntN.{ℤ, pos, negsuc}
+use Rattle.versions.specs.Version.{accepted, agreed}
+use Rattle.reader.specs.Answer.{Answer, refused, shows, minus, readOf}
+use Rattle.reader.specs.Reading.{codeOf}
+use Rattle.reader.specs.declared.Reading.{Reading}
+use Rattle.reader.specs.declared.Reading.the-variants.{Accepted, Refused}
+use Rattle.boot.specs.declared.Record.{Record}
+use Rattle.boot.specs.declared.Record.the-variants.{Fresh, Up, Closed}
+use Rattle.boot.specs.declared.Code.{Code}
+use Rattle.boot.specs.declared.Code.the-variants.{Done, State, Version, Cpus, Cpu, Manifest}
+
+-- 01's number of each case; success is 0, as in 002
+abbrev pub numberOf : Code → ℤ
+numberOf Done = pos 0
+numberOf State = minus 1
+numberOf Version = minus 2
+numberOf Cpus = minus 3
+numberOf Cpu = minus 4
+numberOf (Manifest c) = codeOf c
+
+-- the code of a reader's answer
+unfoldable pub codeIn : Answer → ℤ
+codeIn (refused c) = c
+codeIn (shows w e q s) = pos 0
+
+-- the same of the reader's enum
+unfoldable pub numberIn : Reading → ℤ
+numberIn (Refused c) = codeOf c
+numberIn (Accepted v) = pos 0
+
+unfoldable pub isFresh : Record → Bool
+isFresh Fresh = true
+isFresh (Up c b m) = false
+isFresh Closed = false
+
+-- "in this order of checks": -1 the record is not fresh, -2 "x1 above 32 bits or version not accepted", -3 "x2 above the
+-- monitor's maximum", -4 "x0 not below x2", then the page: "Cold boot reads as edition 4."
+unfoldable pub coldGate : Bool → Bool → Bool → Bool → ℤ → ℤ
+coldGate true true true true c = c
+coldGate true true true false c = minus 4
+coldGate true true false n c = minus 3
+coldGate true false m n c = minus 2
+coldGate false v m n c = minus 1
+
+-- x0 is the CPU, x1 the version offered, x2 the number of CPUs, x3 the base B, most the monitor's maximum
+unfoldable pub coldCode : Record → ℕ → ℕ → ℕ → ℕ → ℕ → List ℕ → ℤ
+coldCode s x0 x1 x2 x3 most page =
+    coldGate (isFresh s) (accepted x1) (leb x2 most) (ltb x0 x2) (codeIn (readOf 4 x3 page))
+
+-- the record after a boot: the one given if the code is 0, else closed
+unfoldable pub after : ℤ → Record → Record
+after (pos n) s = s
+after (negsuc n) s = Closed
+
+unfoldable pub coldNext : Record → ℕ → ℕ → ℕ → ℕ → ℕ → List ℕ → Record
+coldNext s x0 x1 x2 x3 most page = after (coldCode s x0 x1 x2 x3 most page) (Up x2 x3 (agreed x1))
+
+-- -4 "x0 not below the cold boot's x2"
+unfoldable pub cpuCode : ℕ → ℕ → ℤ
+cpuCode cpus x0 = cond (ltb x0 cpus) (pos 0) (minus 4)
+
+-- -1 the record is not up, then -4. "x1 to x3 at warm boot are ignored. A CPU may warm boot twice."
+unfoldable pub warmCode : Record → ℕ → ℤ
+warmCode Fresh x0 = minus 1
+warmCode (Up c b m) x0 = cpuCode c x0
+warmCode Closed x0 = minus 1
+
+unfoldable pub warmNext : Record → ℕ → Record
+warmNext s x0 = after (warmCode s x0) s

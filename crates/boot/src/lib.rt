@@ -1,0 +1,143 @@
+// Cold and warm boot: the monitor checks the boot registers and the manifest, and keeps a record of the outcome.
+use reader::Reading;
+ghost use mathlib.Core.Path.{_≡_};
+ghost use Rattle.boot.specs.Boot.{numberOf, numberIn, isFresh, coldCode, coldNext, after, cpuCode, warmCode, warmNext};
+
+// The boot record. Up keeps the cold boot's x2, the base B and the agreed interface minor.
+pub enum Record {
+    Fresh,
+    Up { cpus: u64, base: u64, minor: u64 },
+    Closed,
+}
+
+// The outcome of a boot: 0, or why it is refused, -1 to -4 or the manifest's code.
+pub enum Code {
+    Done,
+    State,
+    Version,
+    Cpus,
+    Cpu,
+    Manifest(reader::Code),
+}
+
+// The next record, with the code.
+pub struct Booted {
+    pub next: Record,
+    pub code: Code,
+}
+
+// The code's number.
+pub fn number(code: Code) -> i32
+    ensures { λ r. ⌜ r ≡ numberOf code ⌝ }
+{
+    match code {
+        Code::Done => 0,
+        Code::State => -1,
+        Code::Version => -2,
+        Code::Cpus => -3,
+        Code::Cpu => -4,
+        Code::Manifest(inner) => reader::number(inner),
+    }
+}
+
+fn is_fresh(state: Record) -> bool
+    ensures { λ r. ⌜ r ≡ isFresh state ⌝ }
+{
+    match state {
+        Record::Fresh => true,
+        Record::Up {
+            cpus: _,
+            base: _,
+            minor: _,
+        } => false,
+        Record::Closed => false,
+    }
+}
+
+// A boot that failed: the record is closed for good.
+fn failed(code: Code) -> Booted
+    ensures { λ r. ⌜ (r .next ≡ Record.Closed) × (r .code ≡ code) ⌝ }
+{
+    Booted {
+        next: Record::Closed,
+        code,
+    }
+}
+
+// Warm boot of CPU x0 on a record that is up with so many CPUs.
+fn kept(state: Record, cpus: u64, x0: u64) -> Booted
+    ensures { λ r. ⌜ (numberOf (r .code) ≡ cpuCode cpus x0) × (r .next ≡ after (cpuCode cpus x0) state) ⌝ }
+{
+    if cpus <= x0 {
+        return failed(Code::Cpu);
+    }
+    Booted {
+        next: state,
+        code: Code::Done,
+    }
+}
+
+// The code of a reading; 0 of one that is accepted.
+fn code_of(reading: Reading) -> Code
+    ensures { λ r. ⌜ numberOf r ≡ numberIn reading ⌝ }
+{
+    match reading {
+        Reading::Accepted(_) => Code::Done,
+        Reading::Refused(code) => Code::Manifest(code),
+    }
+}
+
+impl Record {
+    // A record that no boot has seen.
+    pub fn fresh() -> Self
+        ensures { λ r. ⌜ r ≡ Record.Fresh ⌝ }
+    {
+        Record::Fresh
+    }
+
+    // Cold boot with x0 to x3 on a monitor of at most so many CPUs, and the manifest's page at x3, read as edition 4.
+    pub fn cold(self, x0: u64, x1: u64, x2: u64, x3: u64, most: u64, page: &[u8]) -> Booted
+        ensures { λ r. ⌜ (numberOf (r .code) ≡ coldCode self x0 x1 x2 x3 most (now (page .entry))) × (r .next ≡ coldNext self x0 x1 x2 x3 most (now (page .entry))) ⌝ }
+    {
+        if !is_fresh(self) {
+            return failed(Code::State);
+        }
+        if !versions::is_accepted(x1) {
+            return failed(Code::Version);
+        }
+        if most < x2 {
+            return failed(Code::Cpus);
+        }
+        if x2 <= x0 {
+            return failed(Code::Cpu);
+        }
+        let reading = reader::read(page, x3, 4);
+        let Reading::Accepted(_) = reading else {
+            return failed(code_of(reading));
+        };
+        let next = Record::Up {
+            cpus: x2,
+            base: x3,
+            minor: versions::agreed_minor(x1),
+        };
+        Booted {
+            next,
+            code: Code::Done,
+        }
+    }
+
+    // Warm boot with x0 to x3, of which only x0 counts.
+    pub fn warm(self, x0: u64, x1: u64, x2: u64, x3: u64) -> Booted
+        ensures { λ r. ⌜ (numberOf (r .code) ≡ warmCode self x0) × (r .next ≡ warmNext self x0) ⌝ }
+    {
+        match self {
+            Record::Fresh => failed(Code::State),
+            Record::Up {
+                cpus,
+                base: _,
+                minor: _,
+            } => kept(self, cpus, x0),
+            Record::Closed => failed(Code::State),
+        }
+    }
+}
