@@ -5,7 +5,7 @@ use mathlib.Core.Bool.{Bool, true, false}
 use mathlib.Core.List.{List}
 use lib.IntN.{ℤ, pos, negsuc}
 use borrow.Author.Tests.{lt-leb, le-leb, lt-ltb, le-ltb}
-use Rattle.versions.specs.Version.{accepted, agreed}
+use Rattle.versions.specs.Version.{accepted}
 use Rattle.reader.specs.Answer.{Answer, refused, minus, readOf}
 use Rattle.reader.specs.Reading.{codeOf, answerOf}
 use Rattle.reader.specs.declared.View.{View}
@@ -13,7 +13,7 @@ use Rattle.reader.specs.declared.Code.{Code as ReaderCode}
 use Rattle.reader.specs.declared.Code.the-variants.{Place, Version as BadVersion, Rules}
 use Rattle.reader.specs.declared.Reading.{Reading}
 use Rattle.reader.specs.declared.Reading.the-variants.{Accepted, Refused}
-use Rattle.boot.specs.Boot.{numberOf, codeIn, numberIn, isFresh, coldGate, coldCode, after, coldNext, cpuCode}
+use Rattle.boot.specs.Boot.{numberOf, codeIn, numberIn, isFresh, coldGate, coldCode, after, kept, coldNext, cpuCode}
 use Rattle.boot.specs.declared.Record.{Record}
 use Rattle.boot.specs.declared.Record.the-variants.{Fresh, Up, Closed}
 
@@ -48,10 +48,10 @@ module _ (s : Record) (x0 x1 x2 x3 most : ℕ) (page : List ℕ) where
           pub cold-refused : (c : ReaderCode) → answerOf page (Refused c) ≡ readOf 4 x3 page →
               (codeOf c ≡ coldCode s x0 x1 x2 x3 most page) × (Closed ≡ coldNext s x0 x1 x2 x3 most page)
           unfolding coldNext coldCode coldGate codeIn answerOf
-          cold-refused c e = rw (h, v, le-leb x2 most m, lt-ltb x0 x2 n, ← e) (refl, closes c (Up x2 x3 (agreed x1)))
+          cold-refused c e = rw (h, v, le-leb x2 most m, lt-ltb x0 x2 n, ← e) (refl, closes c (Up (kept x1 x2 x3)))
 
           pub cold-up : (w : View) → answerOf page (Accepted w) ≡ readOf 4 x3 page →
-              (pos 0 ≡ coldCode s x0 x1 x2 x3 most page) × (Up x2 x3 (agreed x1) ≡ coldNext s x0 x1 x2 x3 most page)
+              (pos 0 ≡ coldCode s x0 x1 x2 x3 most page) × (Up (kept x1 x2 x3) ≡ coldNext s x0 x1 x2 x3 most page)
           unfolding coldNext coldCode coldGate codeIn answerOf after
           cold-up w e = rw (h, v, le-leb x2 most m, lt-ltb x0 x2 n, ← e) (refl, refl)
 

@@ -10,6 +10,7 @@ use Rattle.reader.specs.Answer.{Answer, refused, shows, minus, readOf}
 use Rattle.reader.specs.Reading.{codeOf}
 use Rattle.reader.specs.declared.Reading.{Reading}
 use Rattle.reader.specs.declared.Reading.the-variants.{Accepted, Refused}
+use Rattle.boot.specs.declared.Kept.{Kept}
 use Rattle.boot.specs.declared.Record.{Record}
 use Rattle.boot.specs.declared.Record.the-variants.{Fresh, Up, Closed}
 use Rattle.boot.specs.declared.Code.{Code}
@@ -36,7 +37,7 @@ numberIn (Accepted v) = pos 0
 
 unfoldable pub isFresh : Record → Bool
 isFresh Fresh = true
-isFresh (Up c b m) = false
+isFresh (Up u) = false
 isFresh Closed = false
 
 -- "in this order of checks": -1 the record is not fresh, -2 "x1 above 32 bits or version not accepted", -3 "x2 above the
@@ -58,8 +59,12 @@ unfoldable pub after : ℤ → Record → Record
 after (pos n) s = s
 after (negsuc n) s = Closed
 
+-- "it keeps x2, B and the agreed minor when up"
+unfoldable pub kept : ℕ → ℕ → ℕ → Kept
+kept x1 x2 x3 = record { cpus = x2; base = x3; minor = agreed x1 }
+
 unfoldable pub coldNext : Record → ℕ → ℕ → ℕ → ℕ → ℕ → List ℕ → Record
-coldNext s x0 x1 x2 x3 most page = after (coldCode s x0 x1 x2 x3 most page) (Up x2 x3 (agreed x1))
+coldNext s x0 x1 x2 x3 most page = after (coldCode s x0 x1 x2 x3 most page) (Up (kept x1 x2 x3))
 
 -- -4 "x0 not below the cold boot's x2"
 unfoldable pub cpuCode : ℕ → ℕ → ℤ
@@ -68,7 +73,7 @@ cpuCode cpus x0 = cond (ltb x0 cpus) (pos 0) (minus 4)
 -- -1 the record is not up, then -4. "x1 to x3 at warm boot are ignored. A CPU may warm boot twice."
 unfoldable pub warmCode : Record → ℕ → ℤ
 warmCode Fresh x0 = minus 1
-warmCode (Up c b m) x0 = cpuCode c x0
+warmCode (Up u) x0 = cpuCode (u .cpus) x0
 warmCode Closed x0 = minus 1
 
 unfoldable pub warmNext : Record → ℕ → Record

@@ -3,10 +3,17 @@ use reader::Reading;
 ghost use mathlib.Core.Path.{_≡_};
 ghost use Rattle.boot.specs.Boot.{numberOf, numberIn, isFresh, coldCode, coldNext, after, cpuCode, warmCode, warmNext};
 
-// The boot record. Up keeps the cold boot's x2, the base B and the agreed interface minor.
+// What a record that is up keeps of its cold boot: x2, the base B and the agreed interface minor.
+pub struct Kept {
+    pub cpus: u64,
+    pub base: u64,
+    pub minor: u64,
+}
+
+// The boot record.
 pub enum Record {
     Fresh,
-    Up { cpus: u64, base: u64, minor: u64 },
+    Up(Kept),
     Closed,
 }
 
@@ -45,11 +52,7 @@ fn is_fresh(state: Record) -> bool
 {
     match state {
         Record::Fresh => true,
-        Record::Up {
-            cpus: _,
-            base: _,
-            minor: _,
-        } => false,
+        Record::Up(_) => false,
         Record::Closed => false,
     }
 }
@@ -65,7 +68,7 @@ fn failed(code: Code) -> Booted
 }
 
 // Warm boot of CPU x0 on a record that is up with so many CPUs.
-fn kept(state: Record, cpus: u64, x0: u64) -> Booted
+fn warm_up(state: Record, cpus: u64, x0: u64) -> Booted
     ensures { λ r. ⌜ (numberOf (r .code) ≡ cpuCode cpus x0) × (r .next ≡ after (cpuCode cpus x0) state) ⌝ }
 {
     if cpus <= x0 {
@@ -115,13 +118,13 @@ impl Record {
         let Reading::Accepted(_) = reading else {
             return failed(code_of(reading));
         };
-        let next = Record::Up {
+        let kept = Kept {
             cpus: x2,
             base: x3,
             minor: versions::agreed_minor(x1),
         };
         Booted {
-            next,
+            next: Record::Up(kept),
             code: Code::Done,
         }
     }
@@ -132,11 +135,7 @@ impl Record {
     {
         match self {
             Record::Fresh => failed(Code::State),
-            Record::Up {
-                cpus,
-                base: _,
-                minor: _,
-            } => kept(self, cpus, x0),
+            Record::Up(kept) => warm_up(self, kept.cpus, x0),
             Record::Closed => failed(Code::State),
         }
     }

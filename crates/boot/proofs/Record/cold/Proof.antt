@@ -1,7 +1,7 @@
 use mathlib.Core.Path.{sym, ap, _∙_}
 use borrow.Author.Tests.{not-true, not-false}
 use Rattle.reader.specs.Reading.{answerOf}
-use Rattle.boot.specs.Boot.{numberOf, numberIn}
+use Rattle.boot.specs.Boot.{numberOf, numberIn, kept}
 use Rattle.boot.proofs.Booting.{cold-state, cold-version, cold-cpus, cold-cpu, cold-refused, cold-up}
 use borrow.Author.Needs.{needs}
 use Rattle.boot.proofs.Record.cold.Statement.{statement}
@@ -76,6 +76,7 @@ agreed-minor-requires : tie.Need-agreed-minor-requires
 agreed-minor-requires c κs = search needs
 
 returns-6 : tie.Need-returns-6
+unfolding kept
 returns-6 c =
     let a = c .before .before .before .before .before .before .before .before .before .before .before .args in
     let g = c .before .enum-told .given in

@@ -13,8 +13,8 @@ failed-requires c κs = search needs
 enum-known-self : tie.Need-enum-known-self
 enum-known-self c = search needs
 
-kept-requires : tie.Need-kept-requires
-kept-requires c κs = search needs
+warm-up-requires : tie.Need-warm-up-requires
+warm-up-requires c κs = search needs
 
 enum-told-2 : tie.Need-enum-told-2
 enum-told-2 c = search needs
@@ -34,7 +34,7 @@ unfolding warmCode warmNext after
 returns-2 c =
     let a = c .before .before .before .before .args in
     let t = c .before .before .self .given .1 in
-    (c .kept .ensures .0 ∙ sym (ap (λ s. warmCode s (a .x0)) t), c .kept .ensures .1 ∙ rw t)
+    (c .warm-up .ensures .0 ∙ sym (ap (λ s. warmCode s (a .x0)) t), c .warm-up .ensures .1 ∙ rw t)
 
 returns-3 : tie.Need-returns-3
 unfolding warmCode warmNext after
@@ -50,7 +50,7 @@ warm-spec =
     enum-told
     failed-requires
     enum-known-self
-    kept-requires
+    warm-up-requires
     enum-told-2
     failed-requires-2
     returns

@@ -2,8 +2,8 @@ use mathlib.Core.Path.{ap, _∙_}
 use Rattle.boot.specs.Boot.{numberOf}
 use Rattle.boot.proofs.Booting.{kept-not, kept-up}
 use borrow.Author.Needs.{needs}
-use Rattle.boot.proofs.kept.Statement.{statement}
-use Rattle.boot.proofs.kept.Tie as tie
+use Rattle.boot.proofs.warm_up.Statement.{statement}
+use Rattle.boot.proofs.warm_up.Tie as tie
 
 failed-requires : tie.Need-failed-requires
 failed-requires c κs = search needs
@@ -17,5 +17,5 @@ returns c =
 returns-2 : tie.Need-returns-2
 returns-2 c = let a = c .before .args in kept-up (a .cpus) (a .x0) (a .state) (search needs)
 
-pub kept-spec : {M : Type 1} → statement M
-kept-spec = tie.close (tie.spec failed-requires returns returns-2)
+pub warm-up-spec : {M : Type 1} → statement M
+warm-up-spec = tie.close (tie.spec failed-requires returns returns-2)

@@ -1,0 +1,145 @@
+// Boots what the numbered cases of data/ describe, in turn, up to the first that is missing. A case is 8-byte words: the record
+// (0 fresh, 1 up, 2 closed, then what it keeps), the number of steps; each step is cold (0) or warm (1), x0 to x3, the monitor's
+// maximum, the page's length, and the page. Prints the code and the next record of each step.
+use boot::Booted;
+use boot::Kept;
+use boot::Record;
+use libc::STDOUT_FILENO;
+ghost use Prim.Native.Nat.{_+_, _≤_};
+
+// The record after a step, and where the next step starts.
+struct Stepped {
+    next: Record,
+    at: usize,
+}
+
+fn at_most(x: u64, most: usize) -> usize
+    ensures { λ r. ⌜ r ≤ most ⌝ }
+{
+    if (most as u64) < x {
+        return most;
+    }
+    x as usize
+}
+
+fn record_of(input: &[u8]) -> Record {
+    let state = words::word_at(input, 0);
+    let kept = Kept {
+        cpus: words::word_at(input, 8),
+        base: words::word_at(input, 16),
+        minor: words::word_at(input, 24),
+    };
+    match state {
+        1 => Record::Up(kept),
+        2 => Record::Closed,
+        _ => Record::Fresh,
+    }
+}
+
+fn print_word(x: u64) {
+    io::write_all(STDOUT_FILENO, b" ");
+    io::print_hex(STDOUT_FILENO, x, 16);
+}
+
+fn print_record(state: Record) {
+    match state {
+        Record::Fresh => {
+            io::write_all(STDOUT_FILENO, b" fresh\n");
+        }
+        Record::Up(kept) => {
+            io::write_all(STDOUT_FILENO, b" up");
+            print_word(kept.cpus);
+            print_word(kept.base);
+            print_word(kept.minor);
+            io::write_all(STDOUT_FILENO, b"\n");
+        }
+        Record::Closed => {
+            io::write_all(STDOUT_FILENO, b" closed\n");
+        }
+    }
+}
+
+// The code in decimal: 0, or a sign and a digit.
+fn print_code(code: i32) {
+    if code == 0 {
+        io::write_all(STDOUT_FILENO, b"code 0");
+        return;
+    }
+    io::write_all(STDOUT_FILENO, b"code -");
+    if code == -1 {
+        io::write_all(STDOUT_FILENO, b"1");
+    }
+    if code == -2 {
+        io::write_all(STDOUT_FILENO, b"2");
+    }
+    if code == -3 {
+        io::write_all(STDOUT_FILENO, b"3");
+    }
+    if code == -4 {
+        io::write_all(STDOUT_FILENO, b"4");
+    }
+    if code == -5 {
+        io::write_all(STDOUT_FILENO, b"5");
+    }
+    if code == -6 {
+        io::write_all(STDOUT_FILENO, b"6");
+    }
+    if code == -7 {
+        io::write_all(STDOUT_FILENO, b"7");
+    }
+}
+
+// A boot with the registers of a step, whose words stand at an offset of the case.
+fn boot_with(state: Record, input: &[u8], at: usize, page: &[u8]) -> Booted
+    requires { ⌜ at ≤ 100000 ⌝ }
+{
+    let x0 = words::word_at(input, at + 8);
+    let x1 = words::word_at(input, at + 16);
+    let x2 = words::word_at(input, at + 24);
+    let x3 = words::word_at(input, at + 32);
+    if words::word_at(input, at) == 0 {
+        return state.cold(x0, x1, x2, x3, words::word_at(input, at + 40), page);
+    }
+    state.warm(x0, x1, x2, x3)
+}
+
+fn step(state: Record, input: &[u8], at: usize) -> Stepped
+    requires { ⌜ at ≤ 100000 ⌝ }
+    ensures { λ r. ⌜ r .at ≤ at + 4256 ⌝ }
+{
+    let n = at_most(words::word_at(input, at + 48), 4200);
+    let from = at + 56;
+    let to = from + n;
+    if input.len() < to {
+        io::write_all(STDOUT_FILENO, b"case cut short\n");
+        return Stepped { next: state, at };
+    }
+    let booted = boot_with(state, input, at, &input[from..to]);
+    let next = booted.next;
+    let code = booted.code;
+    print_code(boot::number(code));
+    print_record(next);
+    Stepped { next, at: to }
+}
+
+fn print_case(input: &[u8]) {
+    let steps = at_most(words::word_at(input, 32), 20);
+    let mut state = record_of(input);
+    let mut at: usize = 40;
+    for i in 0..steps {
+        let done = step(state, input, at);
+        state = done.next;
+        at = done.at;
+    }
+}
+
+fn main() {
+    let mut input = [0u8; 32768];
+    for n in 0..1000u64 {
+        let length = cases::load(n, &mut input);
+        if length == 0 {
+            return;
+        }
+        print_case(&input[..length]);
+    }
+}

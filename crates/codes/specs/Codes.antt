@@ -1,0 +1,67 @@
+-- Runtime codes. 01: "Runtime codes: OK 0, UNK -1, BAD_ADDR -2, BAD_PAS -3, INVAL -5, AGAIN -6; 002's NOMEM (-4) is not used. x0
+-- holds the code sign-extended to 64 bits; unused result registers are 0." Assumes nothing.
+use Prim.Native.Nat.{ℕ, suc, _-_, _^_}
+use mathlib.Core.Bool.{Bool, true, false, cond}
+use lib.IntN.{ℤ, pos, negsuc}
+use Rattle.reader.specs.Answer.{minus}
+use Rattle.boot.specs.declared.Kept.{Kept}
+use Rattle.boot.specs.declared.Record.{Record}
+use Rattle.boot.specs.declared.Record.the-variants.{Fresh, Up, Closed}
+use Rattle.codes.specs.declared.Code.{Code}
+use Rattle.codes.specs.declared.Code.the-variants.{Ok, Unk, BadAddr, BadPas, Inval, Again}
+use Rattle.codes.specs.declared.Answer.{Answer}
+
+abbrev pub numberOf : Code → ℤ
+numberOf Ok = pos 0
+numberOf Unk = minus 1
+numberOf BadAddr = minus 2
+numberOf BadPas = minus 3
+numberOf Inval = minus 5
+numberOf Again = minus 6
+
+-- a number sign-extended to 64 bits
+unfoldable pub extended : ℤ → ℕ
+extended (pos n) = n
+extended (negsuc n) = 2 ^ 64 - suc n
+
+unfoldable pub x0Of : Code → ℕ
+x0Of c = extended (numberOf c)
+
+unfoldable pub answerOf : Code → ℕ → ℕ → Answer
+answerOf c x1 x2 = record { code = c; x0 = x0Of c; x1 = x1; x2 = x2 }
+
+abbrev pub isOk : Code → Bool
+isOk Ok = true
+isOk Unk = false
+isOk BadAddr = false
+isOk BadPas = false
+isOk Inval = false
+isOk Again = false
+
+unfoldable pub unless : Bool → Bool
+unless true = false
+unless false = true
+
+-- a check: the code if the test holds, else the checks after it. A command's checks are these, read downwards in 01's order.
+unfoldable pub fails : Bool → Code → Code → Code
+fails true c next = c
+fails false c next = next
+
+unfoldable pub isUp : Record → Bool
+isUp Fresh = false
+isUp (Up u) = true
+isUp Closed = false
+
+-- "B and the agreed minor come from the boot record"
+unfoldable pub upOf : Record → Kept
+upOf Fresh = record { cpus = 0; base = 0; minor = 0 }
+upOf (Up u) = u
+upOf Closed = record { cpus = 0; base = 0; minor = 0 }
+
+-- "while it is not up, every command but 0xC400018F answers UNK before its own checks"
+unfoldable pub whenUp : Record → Code → Code
+whenUp s k = fails (unless (isUp s)) Unk k
+
+-- the new value if the code is OK, else the old: what a refused call leaves
+abbrev pub ifOk : {A : Type 0} → Code → A → A → A
+ifOk k new old = cond (isOk k) new old

@@ -1,0 +1,75 @@
+// The runtime's codes, and the answer of a command.
+use boot::Kept;
+use boot::Record;
+ghost use mathlib.Core.Path.{_≡_};
+ghost use Rattle.codes.specs.Codes.{x0Of, answerOf, isUp, upOf};
+
+pub enum Code {
+    Ok,
+    Unk,
+    BadAddr,
+    BadPas,
+    Inval,
+    Again,
+}
+
+// What a command answers: its code, and the result registers, x0 being the code. An unused register is 0.
+pub struct Answer {
+    pub code: Code,
+    pub x0: u64,
+    pub x1: u64,
+    pub x2: u64,
+}
+
+// The code as x0 holds it: sign-extended to 64 bits.
+pub fn x0(code: Code) -> u64
+    ensures { λ r. ⌜ r ≡ x0Of code ⌝ }
+{
+    match code {
+        Code::Ok => 0,
+        Code::Unk => 0xFFFF_FFFF_FFFF_FFFF,
+        Code::BadAddr => 0xFFFF_FFFF_FFFF_FFFE,
+        Code::BadPas => 0xFFFF_FFFF_FFFF_FFFD,
+        Code::Inval => 0xFFFF_FFFF_FFFF_FFFB,
+        Code::Again => 0xFFFF_FFFF_FFFF_FFFA,
+    }
+}
+
+// The answer of a code and two result registers.
+pub fn answered(code: Code, x1: u64, x2: u64) -> Answer
+    ensures { λ r. ⌜ r ≡ answerOf code x1 x2 ⌝ }
+{
+    Answer {
+        code,
+        x0: x0(code),
+        x1,
+        x2,
+    }
+}
+
+// Whether a boot record is up.
+pub fn is_up(state: Record) -> bool
+    ensures { λ r. ⌜ r ≡ isUp state ⌝ }
+{
+    match state {
+        Record::Fresh => false,
+        Record::Up(_) => true,
+        Record::Closed => false,
+    }
+}
+
+// What a boot record keeps; zeros where it is not up.
+pub fn up_of(state: Record) -> Kept
+    ensures { λ r. ⌜ r ≡ upOf state ⌝ }
+{
+    let none = Kept {
+        cpus: 0,
+        base: 0,
+        minor: 0,
+    };
+    match state {
+        Record::Fresh => none,
+        Record::Up(kept) => kept,
+        Record::Closed => none,
+    }
+}

@@ -1,0 +1,350 @@
+#!/usr/bin/env python3
+"""Run vectors for the cold and warm boot checks, made from docs/01-scope.md alone.
+
+Run from the repository's root:  python3 tests/boot/make.py
+It rewrites crates/boot_vectors/data/c000, c001, .. (8-byte words: the record's state, cpus, base
+and minor, the number of steps; then for each step its kind, x0 to x3, the monitor's maximum, the
+page's length, the page), crates/boot_vectors/stdout (what the program has to print for them in
+order) and tests/boot/CASES.md (what each case is for). The same run always gives the same bytes.
+"""
+
+import sys
+from collections import Counter, namedtuple
+from itertools import combinations
+from pathlib import Path
+from random import Random
+
+HERE = Path(__file__).resolve().parent
+CRATE = HERE.parents[1] / "crates" / "boot_vectors"
+
+sys.dont_write_bytecode = True
+sys.path.insert(0, str(HERE.parent / "reader"))
+from make import (B, HEAD, JUNK, PAGE, SAMPLE, TOP, WORD, Page,
+                  broken, example_14, field_pages, full, read, with_entry)
+
+ONES = WORD - 1
+STATES, KINDS = ("fresh", "up", "closed"), ("cold", "warm")     # a file has the index
+Record = namedtuple("Record", "state cpus base minor")
+Step = namedtuple("Step", "kind x0 x1 x2 x3 most page")
+Case = namedtuple("Case", "text record steps answers")          # answers as run gives them
+FRESH, UP, CLOSED = Record("fresh", 0, 0, 0), Record("up", 8, B, 4), Record("closed", 0, 0, 0)
+
+
+# ---- Boot, from 01's text in 01's order. All arithmetic is on plain numbers. ----
+
+def code_of(record, step):
+    """The code of the first check that fails, 0 if none does."""
+    if record.state != ("fresh" if step.kind == "cold" else "up"):
+        return -1
+    if step.kind == "warm":
+        return -4 if step.x0 >= record.cpus else 0
+    minor, major, bit31 = step.x1 % 2**16, step.x1 // 2**16 % 2**15, step.x1 // 2**31 % 2
+    if step.x1 >= 2**32 or bit31 != 0 or major != 0 or minor < 1:
+        return -2
+    if step.x2 > step.most:
+        return -3
+    if step.x0 >= step.x2:
+        return -4
+    answer, _ = read(4, step.x3, step.page)
+    return answer if isinstance(answer, int) else 0
+
+
+def run(record, steps):
+    """Of each step its code and the record after it."""
+    answers = []
+    for step in steps:
+        code = code_of(record, step)
+        if code != 0:
+            record = CLOSED
+        elif step.kind == "cold":
+            record = Record("up", step.x2, step.x3, min(5, step.x1 % 2**16))
+        answers.append((code, record))
+    return answers
+
+
+def file_of(case):
+    """The bytes of a case's file."""
+    state, *kept = case.record
+    parts = [STATES.index(state), *kept, len(case.steps)]
+    for kind, *registers, page in case.steps:
+        parts += [KINDS.index(kind), *registers, len(page), page]
+    return b"".join(p if isinstance(p, bytes) else p.to_bytes(8, "little") for p in parts)
+
+
+def expected(number_of_case, case):
+    """What the program prints for one case."""
+    text = f"case {number_of_case:03}\n"
+    for code, (state, *kept) in case.answers:
+        words = "".join(f" {word:016x}" for word in kept if state == "up")
+        text += f"code {code} {state}{words}\n"
+    return text
+
+
+# ---- The case list ----
+
+GROUPS = []                         # (heading, [case, ..])
+name = "{:#x}".format               # how a number is shown in a text
+
+
+def cold(page=None, **other):
+    """A cold boot that a fresh record accepts (CPU 0 of 8, version 0.4, a full page), but for
+    the page and the registers given. B is right for a page under construction."""
+    page = full() if page is None else page
+    registers = {"x0": 0, "x1": 4, "x2": 8, "x3": getattr(page, "b", B), "most": 8, **other}
+    return Step("cold", **registers, page=bytes(getattr(page, "data", page)))
+
+
+def warm(x0=0, x1=0, x2=0, x3=0, most=0):
+    return Step("warm", x0, x1, x2, x3, most, b"")
+
+
+def add(codes, text, *steps, record=FRESH, kept=None):
+    """Note a case. Its steps have to give these codes (any if None); if kept is given, the record
+    has to be up at the end and keep these values."""
+    answers = run(record, steps)
+    assert codes is None or [code for code, _ in answers] == list(codes), (text, answers)
+    assert kept is None or answers[-1][1] == Record("up", *kept), (text, answers)
+    GROUPS[-1][1].append(Case(text, record, steps, answers))
+
+
+def versions():
+    """The version in x1"""
+    for x1 in (0, 0x10000, 0x10005, 0x40000004, 0x7FFF0005, 0x80000000, 0x80000005, 0xFFFFFFFF,
+               2**32, 2**32 + 2, 5 * 2**32, 2**48 + 5, 2**63, 2**63 + 4, ONES):
+        add([-2], f"x1 = {name(x1)}", cold(x1=x1))
+    for minor in (1, 2, 3, 4, 5, 6, 9, 10, 255, 256, 257, 32768, 65535):
+        agreed = minor if minor <= 5 else 5
+        add([0, 0], f"x1 = {minor}: minor {agreed} is agreed; a warm boot keeps it",
+            cold(x1=minor), warm(1, x1=9), kept=(8, B, agreed))
+
+
+def processors():
+    """Example 13; x0, x2 and the monitor's maximum at cold boot"""
+    for code, x0, x2, most in (
+            (-4, 0, 0, 8), (-4, 1, 0, 8), (-4, ONES, 0, 8), (-4, 0, 0, 0),      # example 13
+            (0, 0, 7, 8), (0, 0, 1, 1), (0, 0, 5, 2**63), (0, 0, 2**32, 2**32), (0, 7, 8, 8),
+            (0, 3, 8, ONES), (0, 2**32 - 1, 2**32, ONES), (0, 2**63, ONES, ONES),
+            (0, ONES - 1, ONES, ONES), (-3, 0, 9, 8), (-3, 0, ONES, 8), (-3, 0, 1, 0),
+            (-3, 0, ONES, 0), (-3, 0, 2**32, 8), (-3, 0, 2**32 + 1, 2**32),
+            (-3, 0, 2**63, 2**63 - 1), (-3, 0, ONES, ONES - 1), (-4, 8, 8, 8), (-4, 8, 8, 16),
+            (-4, 9, 8, 8), (-4, ONES, 8, 8), (-4, 1, 1, 8), (-4, 2**32, 8, 8),
+            (-4, 2**32 + 1, 8, 8), (-4, 2**63, 8, 8), (-4, ONES, ONES, ONES)):
+        add([code], f"x0 = {name(x0)}, x2 = {name(x2)}, maximum {name(most)}",
+            cold(x0=x0, x2=x2, most=most), kept=None if code else (x2, B, 4))
+    add([-4, -1, -1], "x2 = 0, then good boots", cold(x2=0), cold(), warm())
+
+
+def bases_and_lengths():
+    """B in x3 and the page's length"""
+    for b in (4096, 0xFFBFF000, TOP - 4096):
+        add([0, 0], f"B = {name(b)}, page made for it", cold(full(b=b)), warm(7), kept=(8, b, 4))
+    for b in (0, B + 8, B + 2048, TOP, 2**63, WORD - 4096):
+        add([-5], f"B = {name(b)}, page made for it", cold(full(b=b)))
+    for b in (B + 1, TOP - 4095, ONES):
+        add([-5], f"B = {name(b)}, all sections empty", cold(Page(), x3=b))
+    add([0], "page made for another B, all sections empty", cold(Page(), x3=4096))
+    add([-7], "page made for another B, sections filled", cold(x3=4096))
+    for length in (0, 1, 4095, 4097, 4200):
+        add([-5], f"page of {length:,} bytes", cold(bytes(full().data * 2)[:length]))
+
+
+def manifests():
+    """The manifest, read as edition 4 whatever the minor in x1"""
+    for version in (0, 0x00010004, 0x80000004, 0x40000004):
+        add([-6], f"manifest version 0x{version:08x}", cold(full().version(version)))
+    for rule, text, page in (
+            ("padding", "padding 1", full().put(4, b"\1")),
+            ("plat_data", "plat_data 1 below the core's end", full().words(8, B + 111)),
+            ("count", "dram: count 0 with a pointer", full().words(HEAD[0], 0, B + 512, 0)),
+            ("align", "console: pointer not aligned", full(places=(0x200, 0x304, 0x500, 0x600))),
+            ("place", "ncoh: pointer at B + 4,096", Page().seal(2, 1, B + 4096)),
+            ("place", "dram: count 2^60 + 1", full().seal(0, 2**60 + 1, B + 512, SAMPLE[0][0])),
+            ("overlap", "dram and coh overlap",
+             Page().words(0x800, *[0x1000] * 6).claim(0, 2, 0x800).claim(3, 2, 0x810)),
+            ("checksum", "coh: checksum 0", full().checksum(3, 0)),
+            ("entry", "dram: last size 0", with_entry(0, -1, (0x90000000, 0))),
+            ("entry", "coh: base + size wraps past 2^64", with_entry(3, 0, (WORD - 4096, 8192))),
+            ("entry", "console: flags 1", with_entry(1, 0, (*SAMPLE[1][0][:5], 1)))):
+        assert [rule] == [found for _, found in broken(4, B, page.data)], text
+        add([-7], text, cold(page))
+    for edition, text, page in ((1, "dram checksum 1", full().checksum(0, 1)),
+                                (2, "console checksum 1", full().checksum(1, 1)),
+                                (2, "plat_data at B + 40", full().words(8, B + 40)),
+                                (3, "coh checksum 1", full().checksum(3, 1))):
+        assert not broken(edition, B, page.data)
+        add([-7], f"x1 = {edition}: {text}, edition {edition} would accept", cold(page, x1=edition))
+    for minor, x1, agreed in ((1, 5, 5), (2, 4, 4), (3, 6, 5), (4, 1, 1), (5, 2, 2), (9, 4, 4),
+                              (9, 1, 1), (10, 10, 5), (256, 3, 3), (65535, 65535, 5)):
+        page = full(minor, fill=JUNK)
+        add([0], f"0.{minor} page, x1 = {x1}", cold(page, x1=x1), kept=(8, B, agreed))
+    add([-7], "0.9 page, coh checksum broken", cold(full(9).checksum(3, 1), x1=9))
+    add([0], "0.3 page, coh there but broken", cold(full().version(3).checksum(3, 1), x1=5))
+    add([0], "example 14's page", cold(example_14()), kept=(8, B, 4))
+    for stem, b, page, _ in field_pages():      # qemu's console checksum does not hold
+        add([-7 if stem.startswith("qemu") else 0], f"field page {stem}", cold(page, x3=b))
+
+
+# Three ways to break each check of cold boot and no other. Those of one index go together.
+WAYS = {
+    -2: (("x1 = 0", {"x1": 0}), ("x1 = 2^32 + 4", {"x1": 2**32 + 4}), ("major 1", {"x1": 0x10004})),
+    -3: (("x2 = 9", {"x2": 9}), ("x2 = 2^32 + 8", {"x2": 2**32 + 8}), ("maximum 7", {"most": 7})),
+    -4: (("x0 = 9", {"x0": 9}), ("x0 = 2^64 - 1", {"x0": ONES}), ("x0 = 8", {"x0": 8})),
+    -5: (("length 4,095", {"length": 4095}), ("B zero", {"x3": 0}), ("B = 2^52", {"x3": TOP})),
+    -6: [(f"manifest version 0x{n:08x}", {"version": n}) for n in (0, 0x10004, 0x80000004)],
+    -7: (("padding 1", {"poke": (0, 2**32)}), ("coh checksum 2", {"poke": (104, 2)}),
+         ("dram pointer 4", {"poke": (24, 4)}))}
+
+
+def spoiled(i, *codes):
+    """A cold boot that breaks these checks, each in its way i; and the words for it."""
+    ways = [WAYS[code][i % 3] for code in codes]
+    change = {key: value for _, way in ways for key, value in way.items()}
+    page = full().words(*change.pop("poke", (8, 0))).version(change.pop("version", 4))
+    step = cold(page.data[:change.pop("length", PAGE)], **change)
+    return step, " with ".join(text for text, _ in ways)
+
+
+def several_at_once():
+    """Several checks broken at once: the first in 01's order answers"""
+    assert all(code_of(FRESH, spoiled(i, code)[0]) == code for code in WAYS for i in range(3))
+    for n, (one, two) in enumerate(combinations(WAYS, 2)):
+        for i in (n, n + 1):
+            step, text = spoiled(i, one, two)
+            add([one], f"{one} and {two}: {text}", step)
+    for first in (-2, -3, -4, -5):
+        add([first], f"all of {first} to -7", spoiled(1, *range(first, -8, -1))[0])
+    for n, code in enumerate(WAYS):
+        step, text = spoiled(n, code)
+        add([-1], f"-1 and {code}: up, {text}", step, record=UP)
+        add([-1], f"-1 and {code}: closed, {text}", step, record=CLOSED)
+    add([0, -1], "up by a cold boot, then all of -2 to -7", cold(), spoiled(1, *WAYS)[0])
+
+
+def warm_boots():
+    """Warm boot"""
+    for code, record in ((-1, FRESH), (0, UP), (-1, CLOSED)):
+        add([code], f"{record.state} record", warm(), record=record)
+    add([-1], "fresh record, x0 = 2^64 - 1", warm(ONES))
+    for x0 in (8, 9, 2**32, 2**63, ONES):
+        add([-4, -1], f"x0 = {name(x0)} of 8, then a good one", warm(x0), warm(), record=UP)
+    good = cold(x0=2, x2=4, x1=9)
+    for x0, codes in ((3, (0, 0, 0)), (4, (0, -4, -1)), (ONES, (0, -4, -1))):
+        add(codes, f"cold x2 = 4 of 8, warm x0 = {name(x0)}, then 0", good, warm(x0), warm())
+    add([0] * 6, "junk in x1 to x3", good, warm(1, ONES, ONES, ONES, ONES), warm(3),
+        warm(0, 2**32, 1, 8), warm(2, 0x80000000, 2, B + 8), warm(3, 5, 9, TOP), kept=(4, B, 5))
+    add([0, -4], "its own x2 is not looked at: x0 = 4 of 4, x2 = 8", good, warm(4, 4, 8, B, 8))
+    add([0] * 4, "one CPU twice, then another", cold(), warm(3), warm(3), warm(5), kept=(8, B, 4))
+    add([0] * 6, "all five CPUs in turn", cold(x2=5), *map(warm, range(5)), kept=(5, B, 4))
+    add([0] * 5 + [-4], "five CPUs, then a sixth", cold(x0=4, x2=5), *map(warm, (3, 2, 1, 0, 5)))
+
+
+def sequences():
+    """Sequences of boots"""
+    add([0, -1, -1], "a second cold boot, then a warm boot", cold(), cold(), warm())
+    add([0, 0, -1, -1, -1, -1], "a second cold boot after a warm boot, another B, and on",
+        cold(), warm(1), cold(full(b=4096), x1=2, x2=3), warm(), cold(), warm(2))
+    for n, code in enumerate(WAYS):
+        step, text = spoiled(n + 1, code)
+        add([code, -1, -1], f"{text}, then a good cold boot, a warm boot", step, cold(), warm())
+    add([0, -4, -1, -1, -1, -1], "closed by a warm boot, then good boots",
+        cold(), warm(8), warm(), cold(), warm(7), cold())
+    for record in (FRESH, CLOSED):
+        add([-1] * 6, f"{record.state}: warm, cold in turn", *[warm(), cold()] * 3, record=record)
+    add([0] + [-1] * 5, "six good cold boots", *[cold(x0=i) for i in range(6)])
+    add([-5] + [-1] * 5, "six pages of 4,200 bytes", *[cold(full().data + JUNK[:104])] * 6)
+
+
+def forged_records():
+    """Records that are up with any kept values"""
+    for cpus, tries in ((0, [0]), (1, [0, 0, 1]), (ONES, [0, 2**63, ONES - 1, ONES])):
+        for base, minor in ((0, 0), (ONES, ONES), (B + 1, 6)):
+            add([0] * (len(tries) - 1) + [-4], f"cpus {name(cpus)}, base {name(base)}, minor "
+                f"{name(minor)}: x0 = {', then '.join(map(name, tries))}",
+                *map(warm, tries), record=Record("up", cpus, base, minor))
+    add([-4], "cpus 0: x0 = 2^64 - 1", warm(ONES), record=Record("up", 0, 0, 1))
+    for n in (2**32, 2**63):
+        add([0, 0, -4], f"cpus {name(n)}: last, first, one too many",
+            warm(n - 1), warm(), warm(n), record=Record("up", n, 0, 0))
+    for n in (0, ONES):
+        add([-1, -1], f"cpus, base and minor {name(n)}: cold, then warm boot",
+            cold(), warm(), record=Record("up", n, n, n))
+    add([0] * 6, "cpus, base and minor 2^64 - 1: six good warm boots", *map(warm, range(6)),
+        record=Record("up", ONES, ONES, ONES), kept=(ONES, ONES, ONES))
+
+
+def random_sequences():
+    """Random sequences"""
+    dice = Random(1)
+
+    def pick(n):
+        return dice.getrandbits(64) % n
+
+    def wide():
+        return pick(2**pick(65))    # of any number of digits
+
+    def random_cold():
+        cpus, b = max(1, wide()), 4096 * max(1, pick(2**pick(41)))
+        step = cold(full(1 + pick(2**pick(16)), b, JUNK), x0=pick(cpus), x1=1 + pick(2**pick(16)),
+                    x2=cpus, most=cpus + pick(WORD - cpus))
+        return step if pick(3) else step._replace(**{("x0", "x1", "x2", "x3")[pick(4)]: wide()})
+
+    for i in range(40):
+        first = record = (*[FRESH] * 7, *[Record("up", wide(), wide(), wide())] * 2, CLOSED)[i % 10]
+        steps = []
+        for _ in range(2 + pick(5)):
+            is_cold = pick(8) < (7 if record == FRESH else 1)
+            x0 = pick(record.cpus) if record.cpus and pick(8) else wide()
+            steps.append(random_cold() if is_cold else warm(x0, wide(), wide(), wide(), wide()))
+            record = run(first, steps)[-1][1]
+        add(None, f"{first.state}: {', '.join(step.kind for step in steps)}", *steps, record=first)
+
+
+# ---- Output ----
+
+def build_all():
+    for group in (versions, processors, bases_and_lengths, manifests, several_at_once, warm_boots,
+                  sequences, forged_records, random_sequences):
+        GROUPS.append((group.__doc__, []))
+        group()
+
+
+def check():
+    """The bounds of a case file, the spread of codes, and that an error closes for good."""
+    cases, tally = [case for _, group in GROUPS for case in group], Counter()
+    for case in cases:
+        good = next((i for i, (code, _) in enumerate(case.answers) if code), len(case.steps))
+        assert all(record.state == "up" for _, record in case.answers[:good]), case.text
+        assert all(answer == (-1, CLOSED) for answer in case.answers[good + 1:]), case.text
+        tally.update((step.kind, code) for step, (code, _) in zip(case.steps, case.answers))
+        assert 1 <= len(case.steps) <= 6 and len(file_of(case)) <= 32000
+        assert all(len(step.page) <= (4200 if step.kind == "cold" else 0) for step in case.steps)
+    assert len({file_of(case) for case in cases}) == len(cases) <= 250
+    assert {code for kind, code in tally if kind == "cold"} == {0, *range(-7, 0)}
+    assert {code for kind, code in tally if kind == "warm"} == {0, -1, -4}
+    print(f"{len(cases)} cases, steps by code:",
+          ", ".join(f"{kind} {code}: {n}" for (kind, code), n in sorted(tally.items())))
+
+
+def write_all():
+    """Write the data files, stdout and CASES.md."""
+    data = CRATE / "data"
+    data.mkdir(parents=True, exist_ok=True)
+    for stale in data.glob("c*"):
+        stale.unlink()
+    stdout, table, n = "", "# Boot cases\n\nWritten by make.py; do not edit.\n", 0
+    for heading, cases in GROUPS:
+        table += f"\n## {heading}\n\n| Number | What | Codes of its steps |\n|---|---|---|\n"
+        for case in cases:
+            (data / f"c{n:03}").write_bytes(file_of(case))
+            stdout += expected(n, case)
+            codes = ", ".join(str(code) for code, _ in case.answers)
+            table += f"| {n:03} | {case.text} | `{codes}` |\n"
+            n += 1
+    (CRATE / "stdout").write_text(stdout)
+    (HERE / "CASES.md").write_text(table)
+
+
+if __name__ == "__main__":
+    build_all()
+    check()
+    write_all()
