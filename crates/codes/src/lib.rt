@@ -21,6 +21,12 @@ pub struct Answer {
     pub x2: u64,
 }
 
+// What the platform has to do beside.
+pub enum Work {
+    Nothing,
+    Reprogram(u64),
+}
+
 // The code as x0 holds it: sign-extended to 64 bits.
 pub fn x0(code: Code) -> u64
     ensures { λ r. ⌜ r ≡ x0Of code ⌝ }

@@ -3,10 +3,10 @@ use Prim.Native.Nat.{ℕ, zero, suc, _+_, _-_, _*_, _/_, _%_, _^_, _≤_, _<_}
 use mathlib.Core.Path.{_≡_, refl, sym, ap, _∙_}
 use mathlib.Core.List.{List, [], _∷_, _++_, append-assoc, append-nil}
 use native.Mathlib.Numerals.{add-one}
-use native.Mathlib.Nat.{add-assoc}
+use native.Mathlib.Nat.{add-assoc, zero-add}
 use native.Mathlib.Omega.{arith}
-use lib.ListN.{length, take, drop, getD, set, length-append, length-drop}
-use lib.Seq.{length-take-le, take-at, drop-at, drop-drop, set-split, append-snoc, paste-zero, take-suc, take-length}
+use lib.ListN.{length, take, drop, getD, set, length-append, length-drop, drop-of-length-le}
+use lib.Seq.{length-take-le, take-at, drop-at, drop-drop, set-split, append-snoc, paste-zero, take-suc, take-length, take-all}
 use borrow.Author.Tests.{le-leb, lt-leb}
 use Rattle.words.specs.Word.{leOf, leBytes, part, numAt, bytesOf, splice, laid}
 use Rattle.words.proofs.Lists.{bytesOf-length, bytesOf-append}
@@ -99,3 +99,50 @@ words-more at ws i s h k =
 pub words-all : (at : ℕ) (ws s : List ℕ) (i : ℕ) → i ≡ length ws → at + 8 * length ws ≤ length s → wordsTo at ws i s ≡ laid at (bytesOf ws) s
 unfolding wordsTo
 words-all at ws s i e h = rw (e, words-in at ws s h, take-length)
+
+-- ---- bytes, one by one
+pub bytes-in : (at : ℕ) (vs s : List ℕ) → at + length vs ≤ length s → laid at vs s ≡ splice at vs s
+unfolding laid
+bytes-in at vs s h = rw (le-leb (at + length vs) (length s) h)
+
+pub bytes-out : (at : ℕ) (vs s : List ℕ) → length s < at + length vs → laid at vs s ≡ s
+unfolding laid
+bytes-out at vs s h = rw (lt-leb (at + length vs) (length s) h)
+
+-- the first i of them, from the start on
+unfoldable pub bytesTo : List ℕ → ℕ → List ℕ → List ℕ
+bytesTo vs i s = splice 0 (take i vs) s
+
+pub bytes-none : (vs s : List ℕ) → s ≡ bytesTo vs 0 s
+unfolding bytesTo splice
+bytes-none vs s = paste-zero s 0 []
+
+pub bytes-more : (vs : List ℕ) (i : ℕ) (s : List ℕ) → i < length vs → length vs ≤ length s → length (bytesTo vs i s) ≡ length s → set (bytesTo vs i s) i (getD vs i 0) ≡ bytesTo vs (i + 1) s
+unfolding bytesTo
+bytes-more vs i s h l n =
+    let m : length (take i vs) ≡ i = length-take-le i vs (omega arith) in
+    set-splice (splice 0 (take i vs) s) i (getD vs i 0) (omega arith)
+    ∙ rw (add-one, take-suc vs i 0 h)
+    (ap (λ (k : ℕ). splice k (getD vs i 0 ∷ []) (splice 0 (take i vs) s)) (let e : i ≡ 0 + length (take i vs) = omega arith in e)
+    ∙ splice-splice 0 (take i vs) s (omega arith) (getD vs i 0 ∷ []))
+
+pub bytes-all : (vs s : List ℕ) (i : ℕ) → i ≡ length vs → length vs ≤ length s → bytesTo vs i s ≡ laid 0 vs s
+unfolding bytesTo
+bytes-all vs s i e h = rw (e, bytes-in 0 vs s (omega arith), take-length)
+
+lent : (at : ℕ) (vs s : List ℕ) → take at s ++ splice 0 vs (drop at s) ≡ splice at vs s
+unfolding splice
+lent at vs s = rw (drop-drop (0 + length vs) at s) (simp (append-assoc, zero-add))
+
+-- a part lent from an offset on, and laid over there, is the whole laid over at that offset
+pub lent-back : (at : ℕ) (vs s : List ℕ) → at + length vs ≤ length s → take at s ++ (laid 0 vs (take (length s - at) (drop at s)) ++ drop (length s - at) (drop at s)) ≡ laid at vs s
+lent-back at vs s h =
+    let p : length (drop at s) ≤ length s - at = omega (arith, length-drop at s) in
+    rw (
+      take-all (length s - at) (drop at s) p,
+      drop-of-length-le (drop at s) p,
+      append-nil,
+      bytes-in 0 vs (drop at s) (rw length-drop (omega arith)),
+      bytes-in at vs s h,
+    )
+    (lent at vs s)

@@ -150,3 +150,15 @@ pub fn clear(s: &mut [u8])
         s[i] = 0;
     }
 }
+
+// Copies all bytes of a slice over the start of another; where they do not fit, no byte changes.
+pub fn copy(to: &mut [u8], from: &[u8])
+    ensures { λ _. ⌜ now (to .exit) ≡ laid 0 (now (from .entry)) (now (to .entry)) ⌝ }
+{
+    if to.len() < from.len() {
+        return;
+    }
+    for i in 0..from.len() {
+        to[i] = from[i];
+    }
+}

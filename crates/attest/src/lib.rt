@@ -1,0 +1,52 @@
+// Attestation: the realm key.
+use boot::Record;
+use codes::Answer;
+use codes::Code;
+use range::Fit;
+ghost use mathlib.Core.Path.{_≡_};
+ghost use Prim.Native.Nat.{_+_, _≤_};
+ghost use lib.ListN.{length};
+ghost use Rattle.attest.specs.Key.{Keyed, keyRest, keyed, realmKeyOf};
+
+// The realm key into a buffer at an offset within the page.
+fn put_key(page: &mut [u8], key: &[u8], at: usize, size: u64, curve: u64) -> Answer
+    requires { ⌜ at + size ≤ length (now page) ⌝ }
+    ensures { λ r. ⌜ _≡_ {A = Keyed} (record { answer = r; page = now (page .exit) }) (keyed (keyRest size curve (now (key .entry))) at (now (page .entry)) (now (key .entry))) ⌝ }
+{
+    if curve != 0 {
+        return codes::answered(Code::Inval, 0, 0);
+    }
+    if key.len() == 0 {
+        return codes::answered(Code::Unk, 0, 0);
+    }
+    if size < (key.len() as u64) {
+        return codes::answered(Code::Unk, 0, 0);
+    }
+    words::copy(&mut page[at..], key);
+    codes::answered(Code::Ok, key.len() as u64, 0)
+}
+
+// 0xC40001B2: writes the realm key that the platform lends at pa, into a buffer of so many bytes; x1 is its length.
+pub fn realm_key(
+    state: Record,
+    page: &mut [u8],
+    key: &[u8],
+    pa: u64,
+    size: u64,
+    curve: u64,
+) -> Answer
+    ensures { λ r. ⌜ _≡_ {A = Keyed} (record { answer = r; page = now (page .exit) }) (realmKeyOf state (now (page .entry)) (now (key .entry)) pa size curve) ⌝ }
+{
+    if !codes::is_up(state) {
+        return codes::answered(Code::Unk, 0, 0);
+    }
+    if page.len() != 4096 {
+        return codes::answered(Code::Unk, 0, 0);
+    }
+    let fit = range::fit_of(codes::up_of(state), pa, size);
+    match fit {
+        Fit::Outside => codes::answered(Code::BadAddr, 0, 0),
+        Fit::TooLong => codes::answered(Code::Inval, 0, 0),
+        Fit::At(at) => put_key(page, key, at, size, curve),
+    }
+}

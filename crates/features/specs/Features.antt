@@ -1,0 +1,43 @@
+-- 0xC40001B4 features, 0xC40001B6 key update, 0xC400018F. Assumes nothing.
+use Prim.Native.Nat.{ℕ, _+_, _-_, _^_, min}
+use lib.Dec.{ltb, eqb}
+use Rattle.words.specs.Tests.{either}
+use Rattle.boot.specs.declared.Kept.{Kept}
+use Rattle.boot.specs.declared.Record.{Record}
+use Rattle.codes.specs.Codes.{unless, fails, upOf, whenUp, ifOk, answerOf}
+use Rattle.codes.specs.declared.Code.{Code}
+use Rattle.codes.specs.declared.Code.the-variants.{Ok, Unk, Inval}
+use Rattle.codes.specs.declared.Answer.{Answer}
+use Rattle.codes.specs.declared.Work.{Work}
+use Rattle.codes.specs.declared.Work.the-variants.{Nothing, Reprogram}
+use Rattle.features.specs.declared.Updated.{Updated}
+
+-- "features: index not 0 INVAL; agreed minor below 4 UNK;"
+unfoldable pub featuresCode : Kept → ℕ → Code
+featuresCode u index = fails (unless (eqb index 0)) Inval (fails (ltb (u .minor) 4) Unk Ok)
+
+-- "x1 is 1 (token signing present)."
+unfoldable pub featuresBy : Code → Answer
+featuresBy k = answerOf k (ifOk k 1 0) 0
+
+unfoldable pub featuresOf : Record → ℕ → Answer
+featuresOf s index = featuresBy (whenUp s (featuresCode (upOf s) index))
+
+-- "key update: mecid above 65,535 or above 2^(m+1) - 1 INVAL, m being MECIDWidthm1 and taken as 15 if larger; m above 15 or minor
+-- below 5 UNK;"
+unfoldable pub updateCode : Kept → ℕ → ℕ → Code
+updateCode u m mecid =
+    fails (either (ltb 65535 mecid) (ltb (2 ^ (min m 15 + 1) - 1) mecid)) Inval
+    (fails (either (ltb 15 m) (ltb (u .minor) 5)) Unk
+    Ok)
+
+-- "else the mecid to reprogram": an answer beside the registers
+unfoldable pub updateBy : Code → ℕ → Updated
+updateBy k mecid = record { answer = answerOf k 0 0; work = ifOk k (Reprogram mecid) Nothing }
+
+unfoldable pub updateOf : Record → ℕ → ℕ → Updated
+updateOf s m mecid = updateBy (whenUp s (updateCode (upOf s) m mecid)) mecid
+
+-- "forwards err_code (x1) to the Non-secure world; it has no result": what is forwarded, whatever the record is
+unfoldable pub forwardOf : Record → ℕ → ℕ
+forwardOf s x1 = x1

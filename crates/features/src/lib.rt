@@ -1,0 +1,87 @@
+// Features, key update, and the error that is forwarded.
+use boot::Record;
+use codes::Answer;
+use codes::Code;
+use codes::Work;
+ghost use mathlib.Core.Path.{_≡_};
+ghost use lib.Dec.{ltb};
+ghost use Prim.Native.Nat.{_+_, _-_, _^_, _≤_, min};
+ghost use Rattle.features.specs.Features.{featuresOf, updateOf, forwardOf};
+ghost use Rattle.codes.specs.Codes.{answerOf};
+
+// What a key update answers, and what the platform has to do.
+pub struct Updated {
+    pub answer: Answer,
+    pub work: Work,
+}
+
+// 0xC40001B4: whether token signing is there, by the index of a feature register.
+pub fn features(state: Record, index: u64) -> Answer
+    ensures { λ r. ⌜ r ≡ featuresOf state index ⌝ }
+{
+    if !codes::is_up(state) {
+        return codes::answered(Code::Unk, 0, 0);
+    }
+    if index != 0 {
+        return codes::answered(Code::Inval, 0, 0);
+    }
+    let kept = codes::up_of(state);
+    if kept.minor < 4 {
+        return codes::answered(Code::Unk, 0, 0);
+    }
+    codes::answered(Code::Ok, 1, 0)
+}
+
+// Whether a mecid has more than so many bits.
+fn is_above(mecid: u64, bits: u64) -> bool
+    requires { ⌜ bits ≤ 16 ⌝ }
+    ensures { λ r. ⌜ r ≡ ltb (2 ^ bits - 1) mecid ⌝ }
+{
+    if mecid >> bits == 0 {
+        return false;
+    }
+    true
+}
+
+// A refused update.
+fn refused(code: Code) -> Updated
+    ensures { λ r. ⌜ (r .answer ≡ answerOf code 0 0) × (r .work ≡ Work.Nothing) ⌝ }
+{
+    Updated {
+        answer: codes::answered(code, 0, 0),
+        work: Work::Nothing,
+    }
+}
+
+// 0xC40001B6: the mecid to reprogram, width being MECIDWidthm1.
+pub fn key_update(state: Record, width: u64, mecid: u64) -> Updated
+    ensures { λ r. ⌜ r ≡ updateOf state width mecid ⌝ }
+{
+    if !codes::is_up(state) {
+        return refused(Code::Unk);
+    }
+    if 65535 < mecid {
+        return refused(Code::Inval);
+    }
+    if is_above(mecid, versions::smaller(width, 15) + 1) {
+        return refused(Code::Inval);
+    }
+    if 15 < width {
+        return refused(Code::Unk);
+    }
+    let kept = codes::up_of(state);
+    if kept.minor < 5 {
+        return refused(Code::Unk);
+    }
+    Updated {
+        answer: codes::answered(Code::Ok, 0, 0),
+        work: Work::Reprogram(mecid),
+    }
+}
+
+// 0xC400018F: the error code that goes to the Non-secure world, whatever the record is. There is no result.
+pub fn forward(state: Record, x1: u64) -> u64
+    ensures { λ r. ⌜ r ≡ forwardOf state x1 ⌝ }
+{
+    x1
+}

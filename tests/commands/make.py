@@ -1,0 +1,420 @@
+#!/usr/bin/env python3
+"""Run vectors for six runtime commands, made from docs/01-scope.md alone.
+
+Run from the repository's root:  python3 tests/commands/make.py
+It rewrites crates/command_vectors/data/c000, c001, .. (8-byte words: the record's state, cpus,
+base and minor, of which the last three count only when it is up; function id, x1, x2, x3, G, m,
+the lengths of table, key and page; then the bytes of these three, and those of table and page at
+exit), crates/command_vectors/stdout (what the program has to print for them in order) and
+tests/commands/CASES.md (what each case is for). The same run always gives the same bytes.
+"""
+
+from collections import Counter, namedtuple
+from itertools import combinations
+from pathlib import Path
+from random import Random
+
+HERE = Path(__file__).resolve().parent
+CRATE = HERE.parents[1] / "crates" / "command_vectors"
+
+PAGE = 4096
+WORD = 2**64
+ONES = WORD - 1
+STATES = ("fresh", "up", "closed")      # a file has the index
+FORWARD, DELEGATE, UNDELEGATE = 0xC400018F, 0xC40001B0, 0xC40001B1
+KEY, FEATURES, UPDATE = 0xC40001B2, 0xC40001B4, 0xC40001B6
+GRANULE = (DELEGATE, UNDELEGATE)        # the index is the byte that the command asks for
+CODES = {"OK": 0, "UNK": -1, "BAD_ADDR": -2, "BAD_PAS": -3, "INVAL": -5}
+GRANULE_CHECKS = {"not up": "UNK", "G": "BAD_ADDR", "address": "BAD_ADDR", "off": "BAD_ADDR",
+                  "byte": "BAD_PAS"}
+CHECKS = {                              # the checks of each command in 01's order, with the code
+    FORWARD: {}, DELEGATE: GRANULE_CHECKS, UNDELEGATE: GRANULE_CHECKS,
+    KEY: {"not up": "UNK", "length": "UNK", "outside": "BAD_ADDR", "too long": "INVAL",
+          "curve": "INVAL", "key": "UNK"},
+    FEATURES: {"not up": "UNK", "index": "INVAL", "minor": "UNK"},
+    UPDATE: {"not up": "UNK", "mecid": "INVAL", "width": "UNK", "minor": "UNK"}}
+Case = namedtuple("Case", "text state cpus base minor id x1 x2 x3 g m table key page")
+Answer = namedtuple("Answer", "code registers told table page")
+
+
+# ---- The commands, from 01's text. All arithmetic is on plain numbers. ----
+
+def failing(case):
+    """Every check that fails, in 01's order. The first of them gives the answer."""
+    end, index = case.base + PAGE, (case.x1 - case.g) // 4096
+    off = not 0 <= index < len(case.table)
+    fails = {
+        "not up": case.state != "up",
+        "length": len(case.page) != PAGE,
+        "outside": case.x1 < case.base or case.x1 >= end,
+        "too long": case.x2 > end - case.x1,
+        "curve": case.x3 != 0,
+        "key": len(case.key) == 0 or len(case.key) > case.x2,
+        "G": case.g % 4096 != 0,
+        "address": case.x1 % 4096 != 0,
+        "off": off,
+        "byte": not off and case.table[index] != (0 if case.id == DELEGATE else 1),
+        "index": case.x1 != 0,
+        "mecid": case.x1 > 65535 or case.x1 > 2**(min(case.m, 15) + 1) - 1,
+        "width": case.m > 15,
+        "minor": case.minor < (4 if case.id == FEATURES else 5)}
+    return [name for name in CHECKS[case.id] if fails[name]]
+
+
+def run(case):
+    """The answer: code, x0 to x2, what is told beside them, table and page at exit."""
+    table, page, x1, told = bytearray(case.table), bytearray(case.page), 0, None
+    if case.id == FORWARD:
+        return Answer("forward", None, case.x1, bytes(table), bytes(page))
+    codes = [CHECKS[case.id][name] for name in failing(case)]
+    code = codes[0] if codes else "OK"
+    if code == "OK":
+        if case.id in GRANULE:
+            table[(case.x1 - case.g) // 4096] = 1 if case.id == DELEGATE else 0
+        elif case.id == KEY:
+            offset, x1 = case.x1 - case.base, len(case.key)
+            page[offset:offset + x1] = case.key
+        elif case.id == FEATURES:
+            x1 = 1
+        else:
+            told = case.x1
+    return Answer(code, (CODES[code] % WORD, x1, 0), told, bytes(table), bytes(page))
+
+
+def file_of(case):
+    """The bytes of a case's file."""
+    lent, answer = (case.table, case.key, case.page), run(case)
+    words = (STATES.index(case.state), case.cpus, case.base, case.minor, case.id, case.x1,
+             case.x2, case.x3, case.g, case.m, *map(len, lent))
+    head = b"".join(word.to_bytes(8, "little") for word in words)
+    return head + b"".join(lent) + answer.table + answer.page
+
+
+def expected(number_of_case, case):
+    """What the program prints for one case."""
+    answer = run(case)
+    text = f"case {number_of_case:03}\n"
+    if answer.registers is not None:
+        text += f"registers {' '.join(f'{word:016x}' for word in answer.registers)}\n"
+    if answer.told is not None:
+        text += f"{'forward' if case.id == FORWARD else 'reprogram'} {answer.told:016x}\n"
+    return text + "table as expected\npage as expected\n"
+
+
+# ---- The case list ----
+
+GROUPS, NOTED = [], set()               # (heading, [case, ..]); the files of all cases so far
+B, G = 0x80000000, 0x880000000
+# No byte of the lent page is 0 or one of the key's, so that each byte written is seen.
+LENT = bytes(1 + (i * 67 + i // 127 * 31) % 127 for i in range(4200))
+SECRET = bytes(128 + (i * 89 + i // 128 * 57) % 128 for i in range(4200))
+ONE = SECRET[:1]
+ALL = {"state": "up", "cpus": 8, "base": B, "minor": 5, "x2": ONES, "x3": ONES - 1, "g": G, "m": 15,
+       "table": bytes([0, 1, 2, 3, 255]), "key": SECRET[:96], "page": LENT[:PAGE]}
+USUAL = {                               # for each command, input that it accepts
+    FORWARD: {"x1": 1}, FEATURES: {"x1": 0}, UPDATE: {"x1": 200},
+    DELEGATE: {"x1": G + 2 * 4096, "table": b"\0" * 8},
+    UNDELEGATE: {"x1": G + 2 * 4096, "table": b"\1" * 8},
+    KEY: {"x1": B + 0x315, "x2": 128, "x3": 0}}
+
+
+def show(n):
+    """A number in words: by its distance from a power of two if that is small."""
+    for power in (64, 63, 32):
+        far = n - 2**power
+        if abs(far) <= 8192:
+            return f"2^{power}" + (f" {'-' if far < 0 else '+'} {abs(far):,}" if far else "")
+    return f"{n:,}" if n <= 65537 else f"0x{n:x}"
+
+
+def add(outcome, command, text, **changes):
+    """Note a case, unless the same is there already: the usual input with these changes. Its
+    outcome is "OK", or all checks that fail with commas between; None if that is not said."""
+    case = Case(**{**ALL, **USUAL[command], **changes}, id=command,
+                text=f"{command % 4096:X}: {text}")
+    found = ", ".join(failing(case)) or "OK"
+    assert outcome in (None, found), (case.text, outcome, found)
+    if file_of(case) not in NOTED:
+        NOTED.add(file_of(case))
+        GROUPS[-1][1].append(case)
+    return case
+
+
+def examples():
+    """Examples 7 to 11"""
+    add("OK", KEY, "example 7: pa = B + 4,095, size 1", x1=B + 4095, x2=1, key=ONE)
+    add("too long", KEY, "example 7: pa = B + 4,095, size 2", x1=B + 4095, x2=2, key=ONE)
+    add("outside, key", KEY, "example 8: pa = B + 4,096, size 0", x1=B + 4096, x2=0, key=ONE)
+    case = add("address", DELEGATE, "example 9: code -2", x1=G + 1)
+    assert run(case).registers == (0xFFFFFFFFFFFFFFFE, 0, 0)
+    add("byte", DELEGATE, "example 10: a Realm granule", table=b"\1" * 8)
+    add("OK", UPDATE, "example 11: m = 7, mecid 255", x1=255, m=7)
+    add("mecid", UPDATE, "example 11: m = 7, mecid 256", x1=256, m=7)
+
+
+def forwarding():
+    """Forwarding, whatever the record says"""
+    for state in STATES:
+        for err in (0, 1, ONES):
+            add("OK", FORWARD, f"record {state}, err_code {show(err)}", state=state, x1=err)
+    for err in (2**32, 2**63 + 1, 0x0123456789ABCDEF):
+        add("OK", FORWARD, f"err_code {show(err)}", x1=err)
+
+
+def records():
+    """A command's usual input, with a record that is not up or holds forged values"""
+    for command in (DELEGATE, UNDELEGATE, KEY, FEATURES, UPDATE):
+        for state in ("fresh", "closed"):
+            add("not up", command, f"record {state}", state=state)
+    for value in (0, ONES):
+        same = {"cpus": value, "base": value}
+        for command in (FORWARD, DELEGATE, UNDELEGATE):
+            add("OK", command, f"cpus, base and minor {show(value)}", **same, minor=value)
+        for command in (FEATURES, UPDATE):
+            add("OK", command, f"cpus and base {show(value)}", **same)
+        add("OK", KEY, f"cpus, base, minor and pa {show(value)}", **same, minor=value, x1=value)
+
+
+def page_lengths():
+    """Pages that are not 4,096 bytes long: only 0xC40001B2 minds"""
+    for length in (0, 4095, 4097, 4200):
+        add("length", KEY, f"page of {length:,} bytes", page=LENT[:length])
+    for command in (FORWARD, DELEGATE, UNDELEGATE, FEATURES, UPDATE):
+        for length in (0, 4095, 4097):
+            add("OK", command, f"page of {length:,} bytes", page=LENT[:length])
+
+
+def granule_addresses():
+    """G and the address, the byte being right"""
+    top = WORD - 4096
+    for command in GRANULE:
+        for text, g, index, length in (
+                ("a middle granule", G, 5, 8), ("the first granule", G, 0, 8),
+                ("the last granule of 8", G, 7, 8), ("granule 256 of 600", G, 256, 600),
+                ("the last granule of 600", G, 599, 600), ("G = 0, the first granule", 0, 0, 8),
+                ("G = 0, the last granule", 0, 7, 8), ("G = 2^64 - 4,096, its granule", top, 0, 1),
+                ("G = 2^64 - 8,192, the granule at 2^64 - 4,096", top - 4096, 1, 3)):
+            table = bytearray(b"\2" * length)
+            table[index] = GRANULE.index(command)       # right for this granule alone
+            add("OK", command, text, g=g, x1=g + 4096 * index, table=bytes(table))
+        for outcome, text, g, address in (
+                ("address", "address 1 too high", G, G + 1),
+                ("address", "address 2,048 too high", G, G + 2048),
+                ("address", "the last byte of the last granule", G, G + 8 * 4096 - 1),
+                ("off", "one past the table", G, G + 8 * 4096),
+                ("off", "granule 256 of 8", G, G + 256 * 4096),
+                ("off", "granule 2^32 of 8", G, G + 2**32 * 4096),
+                ("off", "one below G", G, G - 4096), ("off", "address 2^64 - 4,096", G, top),
+                ("address, off", "address G - 1", G, G - 1),
+                ("address, off", "address 2^64 - 1", G, ONES),
+                ("off", "G = 0, one past the table", 0, 8 * 4096),
+                ("off", "G = 0, address 2^64 - 4,096", 0, top),
+                ("off", "G = 2^64 - 4,096, address 0", top, 0),
+                ("off", "G = 2^64 - 8,192, address 4,096", top - 4096, 4096),
+                ("G", "G 1 too high", G + 1, G + 4096), ("G", "G 8 too low", G - 8, G + 4096),
+                ("G", "G 4,095 too high", G + 4095, G + 4096),
+                ("G, off", "G 1 too high, above the address", G + 1, G),
+                ("G, address", "G and address 1 too high", G + 1, G + 4097),
+                ("G, address", "G and address 2^64 - 1", ONES, ONES)):
+            add(outcome, command, text, g=g, x1=address)
+        for g in (G, 0):
+            add("off", command, f"an empty table, address = G = {show(g)}", g=g, x1=g, table=b"")
+
+
+def granule_bytes():
+    """The granule's byte, in a table that holds all 256"""
+    table = bytes((i * 77 + 30) % 256 for i in range(256))
+    assert sorted(table) == list(range(256))
+    for command in GRANULE:
+        for value in (0, 1, 2, 3, 4, 5, 16, 17, 127, 128, 129, 254, 255):
+            add("OK" if value == GRANULE.index(command) else "byte", command, f"byte {value}",
+                x1=G + 4096 * table.index(value), table=table)
+
+
+def key_ranges():
+    """Realm key: pa and size, also with forged bases"""
+    for base in (B, 0, B + 1, WORD - 4096, WORD - 2048, ONES):
+        last, wrapped = min(base + 4095, ONES), (base + 4096) % WORD
+        for pa in sorted({base - 1, wrapped - 1, wrapped, ONES} - {-1, last}):
+            add("outside" if pa < base else "outside, too long", KEY,
+                f"B = {show(base)}, pa = {show(pa)}", base=base, x1=pa, x2=1, key=ONE)
+        for pa in sorted({base, base + 1, base + 2048, last} if base == B else {base, last}):
+            room = base + 4096 - pa
+            for outcome, size, key in (
+                    ("key", 0, ONE), ("OK", 1, ONE), ("OK", room, SECRET[:room]),
+                    ("too long", room + 1, ONE), ("too long", ONES, ONE)):
+                add(outcome, KEY, f"B = {show(base)}, pa = {show(pa)}, size {show(size)}",
+                    base=base, x1=pa, x2=size, key=key)
+    for text, size in (("B", WORD - 100), ("0", WORD - B - 100), ("1", WORD - B - 99)):
+        add("too long", KEY, f"pa = B + 100, pa + size is 2^64 + {text}", x1=B + 100, x2=size)
+    add("outside", KEY, "pa 2^32 too low", base=B + 2**32, x1=B)
+    add("outside, too long", KEY, "pa 2^32 too high", x1=B + 2**32)
+
+
+def keys_and_curves():
+    """Realm key: key and curve"""
+    for outcome, k, size, offset in (
+            ("OK", 1, 4096, 0), ("OK", 95, 96, 16), ("OK", 96, 96, 16), ("key", 97, 96, 16),
+            ("OK", 96, 4080, 16), ("OK", 2, 2, 4094), ("key", 3, 2, 4094), ("key", 2, 1, 7),
+            ("OK", 4095, 4096, 0), ("OK", 4096, 4096, 0), ("key", 4097, 4096, 0),
+            ("key", 4200, 4096, 0), ("key", 4096, 4095, 1), ("key", 257, 1, 0), ("key", 0, 4096, 0),
+            ("key", 0, 1, 4095), ("key", 0, 0, 0)):
+        add(outcome, KEY, f"key of {k:,} bytes, size {size:,}, pa = B + {offset:,}",
+            x1=B + offset, x2=size, key=SECRET[:k])
+    for curve in (1, 256, 2**32, 2**63, ONES):
+        add("curve", KEY, f"curve {show(curve)}", x3=curve)
+
+
+def features():
+    """Features: index and minor"""
+    for index in (0, 1, 2**32, ONES):
+        for minor in (0, 3, 4, 5, 2**32, ONES):
+            fails = ["index"] * (index > 0) + ["minor"] * (minor < 4)
+            add(", ".join(fails) or "OK", FEATURES, f"index {show(index)}, minor {show(minor)}",
+                x1=index, minor=minor)
+
+
+def key_updates():
+    """Key update: mecid, m and minor"""
+    def update(mecid, m, limit, minor=5):
+        fails = ["mecid"] * (mecid > limit) + ["width"] * (m > 15) + ["minor"] * (minor < 5)
+        add(", ".join(fails) or "OK", UPDATE,
+            f"mecid {show(mecid)}, m = {show(m)}, minor {show(minor)}", x1=mecid, m=m, minor=minor)
+
+    for m, limit in ((0, 1), (7, 255), (15, 65535), (16, 65535), (63, 65535), (ONES, 65535)):
+        for mecid in (0, 255, 256, 65535, 65536, ONES):
+            update(mecid, m, limit)
+    for m, limit in ((7, 255), (16, 65535)):
+        for minor in (0, 3, 4, ONES):
+            update(limit, m, limit, minor)
+            update(limit + 1, m, limit, minor)
+    for m, limit in ((0, 1), (1, 3), (8, 511), (14, 32767)):
+        update(limit, m, limit)
+        update(limit + 1, m, limit)
+    for mecid, m in ((2**32, 15), (3, 2**32), (200, 2**32 + 7), (3, 64)):
+        update(mecid, m, 65535)
+
+
+def together():
+    """Several checks fail: the first in 01's order answers"""
+    ways = {                            # one or two ways to make each check fail
+        "not up": ({"state": "fresh"}, {"state": "closed"}),
+        "length": ({"page": LENT[:4095]}, {"page": LENT[:4097]}),
+        "outside": ({"x1": B - 1}, {"x1": B + 4097}), "too long": ({"x2": ONES}, {"x2": 4097}),
+        "curve": ({"x3": 1}, {"x3": 2**32}), "key": ({"key": b""}, {"key": SECRET}),
+        "index": ({"x1": 1}, {"x1": 2**32}), "mecid": ({"x1": 65536}, {"x1": ONES}),
+        "width": ({"m": 16}, {"m": 63}), "minor": ({"minor": 3}, {"minor": 0}),
+        "G": ({"g": G + 8},), "address": ({"x1": G + 2 * 4096 + 8},),
+        "off": ({"table": b""},), "byte": ({"table": b"\2" * 8},)}
+    for command in (DELEGATE, UNDELEGATE, KEY, FEATURES, UPDATE):
+        for one, two in combinations(CHECKS[command], 2):
+            if (one, two) == ("off", "byte"):
+                continue                # off the table there is no byte
+            for i in range(1 if command in GRANULE else 2):
+                case = add(None, command, f"{one} and {two}{', again' if i else ''}",
+                           **ways[one][i], **ways[two][i])
+                fails = failing(case)
+                assert fails[0] == one and two in fails and (i or len(fails) == 2), case.text
+    for command in GRANULE:
+        add("not up, G, address, off", command, "all but byte", state="closed", g=G + 8, x1=G + 7)
+    late, names = {"x1": ONES, "x2": 0, "x3": 1}, "outside, too long, curve, key"
+    add(f"not up, length, {names}", KEY, "all", state="fresh", page=b"", **late)
+    add(f"length, {names}", KEY, "all but the first", page=b"", **late)
+    add(names, KEY, "all but the first two", **late)
+    add("too long, curve, key", KEY, "the last three", x2=ONES, x3=1, key=b"")
+    add("not up, index, minor", FEATURES, "all", state="fresh", x1=ONES, minor=0)
+    add("not up, mecid, width, minor", UPDATE, "all", state="fresh", x1=ONES, m=ONES, minor=0)
+
+
+def random_inputs():
+    """Random inputs"""
+    dice = Random(7)
+
+    def pick(n):
+        return dice.getrandbits(64) % n
+
+    for i in range(40):
+        command = (KEY, DELEGATE, UNDELEGATE, UPDATE, KEY, FEATURES, KEY, FORWARD)[i % 8]
+        base, g, length = pick(2**pick(65)), 4096 * pick(2**pick(53)), 1 + pick(600)
+        x1, x2, x3 = pick(WORD), pick(WORD), pick(WORD)
+        if command in GRANULE:
+            x1 = min(g + 4096 * pick(length + 1), WORD - 4096)
+        elif command == KEY:
+            x1 = min(base + pick(4100), ONES)
+            x2, x3 = pick(max(base + 4100 - x1, 1)), pick(5) // 4
+        elif command in (FEATURES, UPDATE):
+            x1 = pick(2) if command == FEATURES else pick(2**pick(18))
+        add(None, command, f"random input {i}", cpus=pick(2**pick(65)), base=base, minor=pick(8),
+            x1=x1, x2=x2, x3=x3, g=g, m=pick(18), table=bytes(pick(3) for _ in range(length)),
+            key=bytes(pick(256) for _ in range(pick(300))),
+            page=bytes(pick(256) for _ in range(PAGE if command == KEY else pick(100))))
+
+
+# ---- Output ----
+
+def build_all():
+    for group in (examples, forwarding, records, page_lengths, granule_addresses, granule_bytes,
+                  key_ranges, keys_and_curves, features, key_updates, together, random_inputs):
+        GROUPS.append((group.__doc__, []))
+        group()
+
+
+def check_exit(case):
+    """What holds of registers, table and page at exit."""
+    code, registers, told, table, page = run(case)
+    assert len(case.table) <= 600 and len(case.key) <= 4200 and len(case.page) <= 4200
+    assert told == (case.x1 if (case.id, code) in ((FORWARD, "forward"), (UPDATE, "OK")) else None)
+    assert table == case.table or case.id in GRANULE and code == "OK", case.text
+    assert page == case.page or case.id == KEY and code == "OK", case.text
+    if code not in ("OK", "forward"):
+        assert registers == (WORD + CODES[code], 0, 0), case.text
+    elif case.id in GRANULE:
+        i, rest = divmod(case.x1 - case.g, 4096)
+        assert rest == case.g % 4096 == 0 and len(table) == len(case.table), case.text
+        assert table[:i] + table[i + 1:] == case.table[:i] + case.table[i + 1:], case.text
+        assert (case.table[i], table[i]) == ((0, 1) if case.id == DELEGATE else (1, 0)), case.text
+    elif case.id == KEY:
+        start, k = case.x1 - case.base, len(case.key)
+        assert 0 <= start and start + k <= start + case.x2 <= PAGE == len(page), case.text
+        assert page == case.page[:start] + case.key + case.page[start + k:] != case.page, case.text
+        assert registers == (0, k, 0), case.text
+
+
+def check():
+    """Each code of each command occurs; each check fails alone and with each other one."""
+    cases = [case for _, group in GROUPS for case in group]
+    for case in cases:
+        check_exit(case)
+    assert len(cases) <= 450
+    for command, checks in CHECKS.items():
+        ours = [case for case in cases if case.id == command]
+        tally = Counter(run(case).code for case in ours)
+        assert set(tally) == ({"OK", *checks.values()} if checks else {"forward"}), tally
+        wanted = {fails for n in (0, 1, 2) for fails in combinations(checks, n)}
+        assert wanted - {tuple(failing(case)) for case in ours} <= {("off", "byte")}
+        print(f"0x{command:X}:", ", ".join(f"{n} {code}" for code, n in sorted(tally.items())))
+    print(f"{len(cases)} cases")
+
+
+def write_all():
+    """Write the data files, stdout and CASES.md."""
+    data = CRATE / "data"
+    data.mkdir(parents=True, exist_ok=True)
+    for stale in data.glob("c*"):
+        stale.unlink()
+    stdout, table, n = "", "# Command cases\n\nWritten by make.py; do not edit.\n", 0
+    for heading, cases in GROUPS:
+        table += f"\n## {heading}\n\n| Number | What | Answer |\n|---|---|---|\n"
+        for case in cases:
+            (data / f"c{n:03}").write_bytes(file_of(case))
+            stdout += expected(n, case)
+            table += f"| {n:03} | {case.text} | `{run(case).code}` |\n"
+            n += 1
+    (CRATE / "stdout").write_text(stdout)
+    (HERE / "CASES.md").write_text(table)
+
+
+if __name__ == "__main__":
+    build_all()
+    check()
+    write_all()
