@@ -13,29 +13,6 @@ struct Stepped {
     at: usize,
 }
 
-fn at_most(x: u64, most: usize) -> usize
-    ensures { λ r. ⌜ r ≤ most ⌝ }
-{
-    if (most as u64) < x {
-        return most;
-    }
-    x as usize
-}
-
-fn record_of(input: &[u8]) -> Record {
-    let state = words::word_at(input, 0);
-    let kept = Kept {
-        cpus: words::word_at(input, 8),
-        base: words::word_at(input, 16),
-        minor: words::word_at(input, 24),
-    };
-    match state {
-        1 => Record::Up(kept),
-        2 => Record::Closed,
-        _ => Record::Fresh,
-    }
-}
-
 fn print_word(x: u64) {
     io::write_all(STDOUT_FILENO, b" ");
     io::print_hex(STDOUT_FILENO, x, 16);
@@ -107,7 +84,7 @@ fn step(state: Record, input: &[u8], at: usize) -> Stepped
     requires { ⌜ at ≤ 100000 ⌝ }
     ensures { λ r. ⌜ r .at ≤ at + 4256 ⌝ }
 {
-    let n = at_most(words::word_at(input, at + 48), 4200);
+    let n = cases::at_most(words::word_at(input, at + 48), 4200);
     let from = at + 56;
     let to = from + n;
     if input.len() < to {
@@ -123,8 +100,8 @@ fn step(state: Record, input: &[u8], at: usize) -> Stepped
 }
 
 fn print_case(input: &[u8]) {
-    let steps = at_most(words::word_at(input, 32), 20);
-    let mut state = record_of(input);
+    let steps = cases::at_most(words::word_at(input, 32), 20);
+    let mut state = cases::record_at(input);
     let mut at: usize = 40;
     for i in 0..steps {
         let done = step(state, input, at);

@@ -1,7 +1,11 @@
-// The numbered case files of a program: c000, c001, ..
+// The numbered case files of a program: c000, c001, .., and what such programs share.
+use boot::Kept;
+use boot::Record;
 use libc::STDOUT_FILENO;
+ghost use mathlib.Core.Path.{_≡_};
+ghost use Prim.Native.Nat.{min, _≤_};
 ghost use Rattle.io.specs.Counts.{Counts};
-ghost use Prim.Native.Nat.{_<_};
+ghost use Rattle.cases.specs.Cases.{recordAt, sameBytes};
 
 // A digit of n, as text.
 fn digit(n: u64) -> u8 {
@@ -24,4 +28,48 @@ pub fn load(n: u64, input: &mut [u8]) -> usize
     io::write_all(STDOUT_FILENO, &name[1..]);
     io::write_all(STDOUT_FILENO, b"\n");
     length
+}
+
+// The smaller of a number and a length.
+pub fn at_most(x: u64, most: usize) -> usize
+    ensures { λ r. ⌜ (r ≡ min x most) × (r ≤ most) ⌝ }
+{
+    if (most as u64) < x {
+        return most;
+    }
+    x as usize
+}
+
+// Whether two runs of bytes are the same.
+pub fn same(a: &[u8], b: &[u8]) -> bool
+    ensures { λ r. ⌜ r ≡ sameBytes (now (a .entry)) (now (b .entry)) ⌝ }
+{
+    if a.len() != b.len() {
+        return false;
+    }
+    for i in 0..a.len() {
+        if a[i] != b[i] {
+            return false;
+        }
+    }
+    true
+}
+
+// The boot record that a case starts with: 1 up with what it keeps, 2 closed, else fresh.
+pub fn record_at(input: &[u8]) -> Record
+    ensures { λ r. ⌜ r ≡ recordAt (now (input .entry)) ⌝ }
+{
+    let state = words::word_at(input, 0);
+    let kept = Kept {
+        cpus: words::word_at(input, 8),
+        base: words::word_at(input, 16),
+        minor: words::word_at(input, 24),
+    };
+    if state == 1 {
+        return Record::Up(kept);
+    }
+    if state == 2 {
+        return Record::Closed;
+    }
+    Record::Fresh
 }

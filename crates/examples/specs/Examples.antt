@@ -1,10 +1,11 @@
 -- 01, Numbered examples: those marked * are proved of the rules, in one table under a single claim. Assumes nothing.
-use Prim.Native.Nat.{ℕ, zero, suc, _+_, _-_, _*_, _/_, _%_, _^_, _<_}
+use Prim.Native.Nat.{ℕ, zero, suc, _+_, _-_, _*_, _/_, _%_, _^_, min, _≤_, _<_}
 use mathlib.Core.Bool.{Bool, true, false}
 use mathlib.Core.Path.{_≡_, refl}
 use mathlib.Core.List.{List, [], _∷_}
 use native.Mathlib.Omega.{arith}
-use borrow.Author.Tests.{eqb-true}
+use lib.ListN.{length, getD}
+use borrow.Author.Tests.{eqb-true, le-ltb, lt-ltb, le-leb, lt-leb}
 use Rattle.words.specs.Tests.{both, either, every}
 use Rattle.versions.specs.Version.{minorOf, majorOf, aboveOf, accepted, later}
 use Rattle.words.specs.Word.{joined}
@@ -12,6 +13,14 @@ use Rattle.versions.specs.Edition.{secs, core, editionOk}
 use Rattle.entries.specs.Entry.{per, bankOk, flagsOk, consoleOk, entryRule, entryOk, entriesOk, sum, checkOk}
 use Rattle.sections.specs.Page.{placeOk}
 use Rattle.lists.specs.Told.{four, toldBy, listOk, toldOk, noneLate, platBytes, used}
+use Rattle.boot.specs.declared.Kept.{Kept}
+use Rattle.boot.specs.declared.Record.the-variants.{Up}
+use Rattle.codes.specs.Codes.{extended, x0Of, answerOf, unless, fails, isUp, whenUp}
+use Rattle.codes.specs.declared.Code.the-variants.{Ok, BadAddr, BadPas, Inval}
+use Rattle.range.specs.Range.{outside, tooLong}
+use Rattle.granules.specs.Granules.{granuleOf, falls, moveCode, moveOf, delegateOf}
+use Rattle.granules.specs.declared.Granules.{Granules}
+use Rattle.features.specs.Features.{updateCode}
 use Rattle.writer.specs.Write.{Made, no-page, a-page, wgate, writeOf}
 
 -- the bank of example 4: base, size
@@ -47,11 +56,44 @@ pub record Examples : Type 0 where
   pub e5 : (fits 4 (banks 249) [] ≡ true) × (fits 4 (banks 250) [] ≡ false)
   -- "6* Edition 4: 83 consoles fit, 84 do not; edition 3 holds 84."
   pub e6 : (fits 4 [] (consoles 83) ≡ true) × (fits 4 [] (consoles 84) ≡ false) × (fits 3 [] (consoles 84) ≡ true)
+  -- "7* pa = B + 4,095, size 1 is inside; size 2 too long."
+  pub e7 : (u : Kept) → (outside u (u .base + 4095) ≡ false) × (tooLong u (u .base + 4095) 1 ≡ false) × (tooLong u (u .base + 4095) 2 ≡ true)
+  -- "8* pa = B + 4,096, size 0 is outside."
+  pub e8 : (u : Kept) → outside u (u .base + 4096) ≡ true
+  -- "9* Code -2 in x0 is 0xFFFFFFFFFFFFFFFE."
+  pub e9 : x0Of BadAddr ≡ 0xFFFFFFFFFFFFFFFE
+  -- "10* Delegating a Realm granule: BAD_PAS."
+  pub e10 : (u : Kept) (g : Granules) (t : List ℕ) (addr : ℕ) → falls g (length t) addr ≡ true → getD t (granuleOf g addr) 0 ≡ 1 →
+      delegateOf (Up u) g t addr ≡ record { answer = answerOf BadPas 0 0; table = t }
+  -- "11* m = 7: mecid 255 passes, 256 does not."
+  pub e11 : (u : Kept) → (5 ≤ u .minor → updateCode u 7 255 ≡ Ok) × (updateCode u 7 256 ≡ Inval)
 
 check-one : (s : ℕ) → s < 2 ^ 64 → checkOk 1 0x80000028 bank s ≡ true → s ≡ 0xFFFFFFFEDFFFFFD7
 unfolding checkOk sum
 check-one s h t = let e : (1 + 0x80000028 + (0x90000000 + (0x10000000 + 0)) + s) % 2 ^ 64 ≡ 0 = eqb-true _ _ t in omega arith
 
+granted : (u : Kept) (g : Granules) (t : List ℕ) (addr : ℕ) → falls g (length t) addr ≡ true → getD t (granuleOf g addr) 0 ≡ 1 →
+    delegateOf (Up u) g t addr ≡ record { answer = answerOf BadPas 0 0; table = t }
+unfolding moveOf moveCode whenUp isUp unless fails
+granted u g t addr f b = rw (f, b)
+
 pub examples : Examples
-unfolding later accepted aboveOf majorOf minorOf checkOk sum both either every joined made writeOf wgate placeOk editionOk toldOk listOk noneLate used platBytes toldBy four core secs per entriesOk entryOk entryRule bankOk consoleOk flagsOk
-examples = record { e1 = refl; e2 = refl; e3 = refl; e4 = check-one; e4-holds = refl; e5 = (refl, refl); e6 = (refl, refl, refl) }
+unfolding later accepted aboveOf majorOf minorOf checkOk sum both either every joined made writeOf wgate placeOk editionOk toldOk listOk noneLate used platBytes toldBy four core secs per entriesOk entryOk entryRule bankOk consoleOk flagsOk outside tooLong x0Of extended updateCode fails unless
+examples = record {
+  e1 = refl;
+  e2 = refl;
+  e3 = refl;
+  e4 = check-one;
+  e4-holds = refl;
+  e5 = (refl, refl);
+  e6 = (refl, refl, refl);
+  e7 = λ u. (
+    rw (le-ltb (u .base + 4095) (u .base) (omega arith), lt-leb (u .base + 4096) (u .base + 4095) (omega arith)),
+    le-ltb (u .base + 4096 - (u .base + 4095)) 1 (omega arith),
+    lt-ltb (u .base + 4096 - (u .base + 4095)) 2 (omega arith),
+  );
+  e8 = λ u. rw (le-ltb (u .base + 4096) (u .base) (omega arith), le-leb (u .base + 4096) (u .base + 4096) (omega arith));
+  e9 = refl;
+  e10 = granted;
+  e11 = λ u. (λ h. rw (le-ltb (u .minor) 5 h), refl);
+}

@@ -3,17 +3,8 @@
 // expected at exit. Prints the answer, whether the page is the one expected, and what the four editions show of a page made.
 use libc::STDOUT_FILENO;
 use writer::Wrote;
-ghost use Prim.Native.Nat.{_<_, _≤_};
+ghost use Prim.Native.Nat.{_≤_};
 ghost use lib.ListN.{length};
-
-fn at_most(x: u64, most: usize) -> usize
-    ensures { λ r. ⌜ r ≤ most ⌝ }
-{
-    if (most as u64) < x {
-        return most;
-    }
-    x as usize
-}
 
 // The words of the case from an offset on.
 fn load(input: &[u8], at: usize) -> [u64; 600]
@@ -28,19 +19,6 @@ fn load(input: &[u8], at: usize) -> [u64; 600]
 
 fn filled(byte: u8) -> [u8; 8192] {
     [byte; 8192]
-}
-
-// Whether two runs of bytes are the same.
-fn same(a: &[u8], b: &[u8]) -> bool {
-    if a.len() != b.len() {
-        return false;
-    }
-    for i in 0..a.len() {
-        if a[i] != b[i] {
-            return false;
-        }
-    }
-    true
 }
 
 fn print_answer(answer: Wrote) {
@@ -61,7 +39,7 @@ fn print_page(page: &[u8], input: &[u8], at: usize) {
         io::write_all(STDOUT_FILENO, b"case cut short\n");
         return;
     }
-    if same(page, &input[at..]) {
+    if cases::same(page, &input[at..]) {
         io::write_all(STDOUT_FILENO, b"page as expected\n");
     } else {
         io::write_all(STDOUT_FILENO, b"page not as expected\n");
@@ -110,16 +88,16 @@ fn print_written(
 }
 
 fn print_case(input: &[u8]) {
-    let a = at_most(words::word_at(input, 32), 600);
-    let b = at_most(words::word_at(input, 40), 600);
-    let c = at_most(words::word_at(input, 48), 600);
-    let d = at_most(words::word_at(input, 56), 600);
+    let a = cases::at_most(words::word_at(input, 32), 600);
+    let b = cases::at_most(words::word_at(input, 40), 600);
+    let c = cases::at_most(words::word_at(input, 48), 600);
+    let d = cases::at_most(words::word_at(input, 56), 600);
     let dram = load(input, 64);
     let console = load(input, 64 + 8 * a);
     let ncoh = load(input, 64 + 8 * (a + b));
     let coh = load(input, 64 + 8 * (a + b + c));
     let mut room = filled((words::word_at(input, 16) % 256) as u8);
-    let n = at_most(words::word_at(input, 24), 8192);
+    let n = cases::at_most(words::word_at(input, 24), 8192);
     let last = 64 + 8 * (a + b + c + d);
     print_written(
         input,

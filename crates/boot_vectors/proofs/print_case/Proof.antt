@@ -15,8 +15,8 @@ word-at-requires c κs = search needs
 at-most-requires : tie.Need-at-most-requires Inv-loop μ-loop
 at-most-requires c κs = search needs
 
-record-of-requires : tie.Need-record-of-requires Inv-loop μ-loop
-record-of-requires c κs = search needs
+record-at-requires : tie.Need-record-at-requires Inv-loop μ-loop
+record-at-requires c κs = search needs
 
 loop-holds : tie.Need-loop-holds Inv-loop μ-loop
 loop-holds c = search needs
@@ -44,7 +44,7 @@ print-case-spec =
     μ-loop
     word-at-requires
     at-most-requires
-    record-of-requires
+    record-at-requires
     loop-holds
     step-requires
     add-i

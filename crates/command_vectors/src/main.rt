@@ -1,0 +1,124 @@
+// Runs the commands that the numbered cases of data/ describe, in turn, up to the first that is missing. A case is 8-byte words:
+// the record (0 fresh, 1 up, 2 closed, then what it keeps), the function id, x1 to x3, G, MECIDWidthm1, the lengths of table, key
+// and page; then these three, and table and page expected at exit. Prints the answer, and whether both are as expected.
+use boot::Record;
+use codes::Answer;
+use codes::Work;
+use granules::Granules;
+use libc::STDOUT_FILENO;
+ghost use Prim.Native.Nat.{_≤_};
+ghost use lib.ListN.{length};
+
+fn print_word(x: u64) {
+    io::write_all(STDOUT_FILENO, b" ");
+    io::print_hex(STDOUT_FILENO, x, 16);
+}
+
+fn print_answer(answer: Answer) {
+    io::write_all(STDOUT_FILENO, b"registers");
+    print_word(answer.x0);
+    print_word(answer.x1);
+    print_word(answer.x2);
+    io::write_all(STDOUT_FILENO, b"\n");
+}
+
+fn print_work(work: Work) {
+    let Work::Reprogram(mecid) = work else {
+        return;
+    };
+    io::write_all(STDOUT_FILENO, b"reprogram");
+    print_word(mecid);
+    io::write_all(STDOUT_FILENO, b"\n");
+}
+
+// A command that lends neither table nor page.
+fn print_other(state: Record, id: u64, x1: u64, width: u64) {
+    if id == 0xC400_01B4 {
+        print_answer(features::features(state, x1));
+        return;
+    }
+    if id == 0xC400_01B6 {
+        let updated = features::key_update(state, width, x1);
+        print_answer(updated.answer);
+        let work = updated.work;
+        print_work(work);
+        return;
+    }
+    io::write_all(STDOUT_FILENO, b"forward");
+    print_word(features::forward(state, x1));
+    io::write_all(STDOUT_FILENO, b"\n");
+}
+
+// The command of a case, on the table, key and page that it lends.
+fn print_command(input: &[u8], table: &mut [u8], key: &[u8], page: &mut [u8]) {
+    let state = cases::record_at(input);
+    let granules = Granules {
+        start: words::word_at(input, 64),
+    };
+    let id = words::word_at(input, 32);
+    let x1 = words::word_at(input, 40);
+    if id == 0xC400_01B0 {
+        print_answer(granules::delegate(state, granules, table, x1));
+        return;
+    }
+    if id == 0xC400_01B1 {
+        print_answer(granules::undelegate(state, granules, table, x1));
+        return;
+    }
+    if id == 0xC400_01B2 {
+        let size = words::word_at(input, 48);
+        let curve = words::word_at(input, 56);
+        print_answer(attest::realm_key(state, page, key, x1, size, curve));
+        return;
+    }
+    print_other(state, id, x1, words::word_at(input, 72));
+}
+
+fn print_same(what: &[u8], held: &[u8], expected: &[u8]) {
+    io::write_all(STDOUT_FILENO, what);
+    if cases::same(held, expected) {
+        io::write_all(STDOUT_FILENO, b" as expected\n");
+    } else {
+        io::write_all(STDOUT_FILENO, b" not as expected\n");
+    }
+}
+
+// A case with its lends at their places: table, key and page from 104 on, then table and page expected.
+fn print_lent(input: &[u8], t: usize, k: usize, n: usize, table: &mut [u8], page: &mut [u8])
+    requires { ⌜ (t ≤ 600) × (k ≤ 4200) × (n ≤ 4200) × (t ≤ length (now table)) × (n ≤ length (now page)) ⌝ }
+{
+    let key = 104 + t;
+    let first = key + k;
+    let second = first + n;
+    let third = second + t;
+    let end = third + n;
+    if input.len() < end {
+        io::write_all(STDOUT_FILENO, b"case cut short\n");
+        return;
+    }
+    words::copy(&mut table[..t], &input[104..key]);
+    words::copy(&mut page[..n], &input[first..second]);
+    print_command(input, &mut table[..t], &input[key..first], &mut page[..n]);
+    print_same(b"table", &table[..t], &input[second..third]);
+    print_same(b"page", &page[..n], &input[third..end]);
+}
+
+fn print_case(input: &[u8]) {
+    let mut table = [0u8; 600];
+    let mut page = [0u8; 4200];
+    let t = cases::at_most(words::word_at(input, 80), 600);
+    let k = cases::at_most(words::word_at(input, 88), 4200);
+    let n = cases::at_most(words::word_at(input, 96), 4200);
+    print_lent(input, t, k, n, &mut table, &mut page);
+}
+
+fn main() {
+    let mut input = [0u8; 32768];
+    for n in 0..1000u64 {
+        let length = cases::load(n, &mut input);
+        if length == 0 {
+            return;
+        }
+        print_case(&input[..length]);
+    }
+}
