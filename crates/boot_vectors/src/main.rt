@@ -36,34 +36,26 @@ fn print_record(state: Record) {
     }
 }
 
-// The code in decimal: 0, or a sign and a digit.
+// A code without its sign.
+fn magnitude(code: i32) -> u64 {
+    match code {
+        -1 => 1,
+        -2 => 2,
+        -3 => 3,
+        -4 => 4,
+        -5 => 5,
+        -6 => 6,
+        -7 => 7,
+        _ => 0,
+    }
+}
+
 fn print_code(code: i32) {
-    if code == 0 {
-        io::write_all(STDOUT_FILENO, b"code 0");
-        return;
+    io::write_all(STDOUT_FILENO, b"code ");
+    if code < 0 {
+        io::write_all(STDOUT_FILENO, b"-");
     }
-    io::write_all(STDOUT_FILENO, b"code -");
-    if code == -1 {
-        io::write_all(STDOUT_FILENO, b"1");
-    }
-    if code == -2 {
-        io::write_all(STDOUT_FILENO, b"2");
-    }
-    if code == -3 {
-        io::write_all(STDOUT_FILENO, b"3");
-    }
-    if code == -4 {
-        io::write_all(STDOUT_FILENO, b"4");
-    }
-    if code == -5 {
-        io::write_all(STDOUT_FILENO, b"5");
-    }
-    if code == -6 {
-        io::write_all(STDOUT_FILENO, b"6");
-    }
-    if code == -7 {
-        io::write_all(STDOUT_FILENO, b"7");
-    }
+    io::print_decimal(STDOUT_FILENO, magnitude(code));
 }
 
 // A boot with the registers of a step, whose words stand at an offset of the case.
