@@ -1,17 +1,14 @@
 -- The realm key, return by return, and what a refusal leaves. Assumes nothing.
-use Prim.Native.Nat.{ℕ, _+_, _≤_, _<_}
-use mathlib.Core.Path.{_≡_, refl, ap, _∙_}
+use Prim.Native.Nat.{ℕ, _≤_, _<_}
+use mathlib.Core.Path.{_≡_}
 use mathlib.Core.Bool.{true, false}
-use mathlib.Core.List.{List, _++_}
-use native.Mathlib.Omega.{arith}
+use mathlib.Core.List.{List}
 use lib.ListN.{length}
-use lib.Dec.{eqb}
 use borrow.Author.Tests.{eq-eqb, ne-eqb, lt-ltb, le-ltb}
 use Rattle.words.specs.Tests.{either}
-use Rattle.words.specs.Word.{splice, laid}
-use Rattle.words.proofs.Store.{bytes-in}
+use Rattle.words.specs.Word.{splice}
 use Rattle.boot.specs.declared.Record.{Record}
-use Rattle.range.specs.Range.{outside, tooLong, placeOf}
+use Rattle.range.specs.Range.{outside, tooLong}
 use Rattle.codes.specs.Codes.{isUp, upOf, unless, fails, whenUp, isOk, answerOf}
 use Rattle.codes.specs.declared.Code.{Code}
 use Rattle.codes.specs.declared.Code.the-variants.{Ok, Unk, BadAddr, Inval}

@@ -1,21 +1,20 @@
 -- Cold and warm boot, return by return. Assumes nothing.
 use Prim.Native.Nat.{ℕ, _≤_, _<_}
-use mathlib.Core.Path.{_≡_, refl, sym, ap, _∙_}
-use mathlib.Core.Bool.{Bool, true, false}
+use mathlib.Core.Path.{_≡_, refl}
+use mathlib.Core.Bool.{true, false}
 use mathlib.Core.List.{List}
-use lib.IntN.{ℤ, pos, negsuc}
+use lib.IntN.{pos}
 use borrow.Author.Tests.{lt-leb, le-leb, lt-ltb, le-ltb}
 use Rattle.versions.specs.Version.{accepted}
-use Rattle.reader.specs.Answer.{Answer, refused, minus, readOf}
+use Rattle.reader.specs.Answer.{minus, readOf}
 use Rattle.reader.specs.Reading.{codeOf, answerOf}
 use Rattle.reader.specs.declared.View.{View}
 use Rattle.reader.specs.declared.Code.{Code as ReaderCode}
 use Rattle.reader.specs.declared.Code.the-variants.{Place, Version as BadVersion, Rules}
-use Rattle.reader.specs.declared.Reading.{Reading}
 use Rattle.reader.specs.declared.Reading.the-variants.{Accepted, Refused}
-use Rattle.boot.specs.Boot.{numberOf, codeIn, numberIn, isFresh, coldGate, coldCode, after, kept, coldNext, cpuCode}
+use Rattle.boot.specs.Boot.{codeIn, isFresh, coldGate, coldCode, after, kept, coldNext, cpuCode}
 use Rattle.boot.specs.declared.Record.{Record}
-use Rattle.boot.specs.declared.Record.the-variants.{Fresh, Up, Closed}
+use Rattle.boot.specs.declared.Record.the-variants.{Up, Closed}
 
 -- a code that is not 0 closes
 pub closes : (c : ReaderCode) (s : Record) → Closed ≡ after (codeOf c) s

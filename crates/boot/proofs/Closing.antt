@@ -1,8 +1,8 @@
 -- A failed boot closes the record, and a closed record never opens again. Assumes nothing.
 use Prim.Native.Nat.{ℕ}
-use mathlib.Core.Path.{_≡_, refl, _∙_}
+use mathlib.Core.Path.{_≡_, refl}
 use mathlib.Core.List.{List, [], _∷_}
-use lib.IntN.{ℤ, pos, negsuc}
+use lib.IntN.{negsuc}
 use Rattle.boot.specs.Boot.{isFresh, coldGate, coldCode, after, coldNext, warmCode, warmNext}
 use Rattle.boot.specs.Boots.{Boot, cold, warm, booted, allBooted}
 use Rattle.boot.specs.declared.Record.{Record}

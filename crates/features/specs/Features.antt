@@ -8,7 +8,6 @@ use Rattle.codes.specs.Codes.{unless, fails, upOf, whenUp, ifOk, answerOf}
 use Rattle.codes.specs.declared.Code.{Code}
 use Rattle.codes.specs.declared.Code.the-variants.{Ok, Unk, Inval}
 use Rattle.codes.specs.declared.Answer.{Answer}
-use Rattle.codes.specs.declared.Work.{Work}
 use Rattle.codes.specs.declared.Work.the-variants.{Nothing, Reprogram}
 use Rattle.features.specs.declared.Updated.{Updated}
 

@@ -3,7 +3,6 @@ use boot::Record;
 use codes::Answer;
 use codes::Code;
 ghost use mathlib.Core.Path.{_≡_};
-ghost use lib.ListN.{length};
 ghost use Rattle.granules.specs.Granules.{Moved, granuleAt, moveOf, delegateOf, undelegateOf};
 
 // The granule record: the address of the table's first granule.

@@ -1,5 +1,5 @@
 -- Laws of the lookups. Assumes nothing.
-use Prim.Native.Nat.{ℕ, zero, suc, _+_, _-_, _*_, _/_, _≤_, _<_}
+use Prim.Native.Nat.{ℕ, _+_, _*_, _/_, _≤_, _<_}
 use mathlib.Core.Path.{_≡_, refl, sym, ap, _∙_}
 use mathlib.Core.Bool.{Bool, true, false, cond}
 use mathlib.Core.List.{List, []}
@@ -14,7 +14,7 @@ use Rattle.words.proofs.Read.{wordsOf-length}
 use Rattle.entries.specs.Entry.{per, size, shownWords}
 use Rattle.entries.specs.Array.{wordsAt, entryPlace}
 use Rattle.entries.proofs.Entries.{word-in}
-use Rattle.reader.specs.Answer.{Shown, empty, full, bytesIn, lookIn, lookOf, countIn, entryCount, entryWord, wordIn, readOf}
+use Rattle.reader.specs.Answer.{empty, full, bytesIn, lookIn, lookOf, countIn, entryCount, entryWord, wordIn, readOf}
 use Rattle.reader.specs.Reading.{sectionOf, shownAs, answerOf}
 use Rattle.reader.specs.declared.Section.{Section}
 use Rattle.reader.specs.declared.Section.the-variants.{Absent, Empty, Entries}

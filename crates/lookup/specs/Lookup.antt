@@ -1,7 +1,7 @@
 -- What a section of a view is shown with, of a page of minor w, as the functions below the entries of this crate go. Assumes nothing.
 use Prim.Native.Nat.{ℕ}
 use mathlib.Core.List.{List}
-use Rattle.reader.specs.Answer.{bytesIn, entryCount, entryWord}
+use Rattle.reader.specs.Answer.{bytesIn, entryWord}
 use Rattle.reader.specs.Reading.{shownAs}
 use Rattle.reader.specs.declared.Section.{Section}
 

@@ -1,15 +1,15 @@
 -- The bytes that an edition names are all that a reader looks at. Assumes nothing.
-use Prim.Native.Nat.{ℕ, zero, suc, _+_, _-_, _*_, min, _≤_, _<_}
+use Prim.Native.Nat.{ℕ, _+_, _*_, min, _≤_, _<_}
 use mathlib.Core.Bool.{Bool, true, false}
 use mathlib.Core.Path.{_≡_, refl, ap}
 use mathlib.Core.List.{List}
 use native.Mathlib.Omega.{arith}
 use native.Mathlib.Decide.{decLt}
 use lib.ListN.{length, getD}
-use lib.Dec.{leb, ltb, eqb, lit≤}
+use lib.Dec.{eqb, lit≤}
 use borrow.Author.Tests.{leb-true, le-leb, lt-ltb, le-ltb}
-use Rattle.words.specs.Tests.{Yes, both, either}
-use Rattle.words.specs.Word.{leOf, part, numAt, wordAt}
+use Rattle.words.specs.Tests.{Yes}
+use Rattle.words.specs.Word.{leOf, numAt, wordAt}
 use Rattle.words.proofs.Tests.{both-l, both-r, both-of, either-l, either-r, every-same, some-of, cond-same}
 use Rattle.words.proofs.Read.{part-same}
 use Rattle.versions.specs.Version.{minorOf, accepted}

@@ -1,5 +1,5 @@
 -- A newer reader and an older one on the same page. Assumes nothing.
-use Prim.Native.Nat.{ℕ, zero, suc, _+_, _*_, min, _≤_, _<_}
+use Prim.Native.Nat.{ℕ, _+_, min, _≤_}
 use mathlib.Core.Bool.{Bool, true, false, false≢true, cond}
 use mathlib.Core.Path.{_≡_, refl, sym, ap, _∙_, fun-ext}
 use mathlib.Core.List.{List}
@@ -13,7 +13,7 @@ use Rattle.versions.specs.Edition.{secs, core, editionOk}
 use Rattle.versions.proofs.Editions.{secs-mono, secs-min, edition-of}
 use Rattle.sections.specs.Page.{Sec, Plat}
 use Rattle.sections.specs.Section.{inRange, secOk, platOk, rules}
-use Rattle.reader.specs.Answer.{Shown, absent, PlatShown, Answer, refused, shows, shown, platShown, viewOf, gate, judge, readOf, less}
+use Rattle.reader.specs.Answer.{Shown, PlatShown, Answer, refused, shows, shown, platShown, viewOf, gate, judge, readOf, less}
 
 -- ---- what a later edition accepts, an earlier one accepts
 module _ (w a b base : ℕ) (h : a ≤ b) where

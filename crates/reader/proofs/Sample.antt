@@ -1,10 +1,9 @@
 -- Example 14's page, read: the reader accepts it and shows its bank. What refuses everything, or shows every page alike, fails
 -- here. Assumes nothing.
-use Prim.Native.Nat.{ℕ, zero, suc, _+_, _*_, _/_, _%_}
-use mathlib.Core.Bool.{Bool, true, false}
+use Prim.Native.Nat.{ℕ}
 use mathlib.Core.Path.{_≡_, refl}
-use mathlib.Core.List.{List, [], _∷_, _++_}
-use lib.ListN.{length, replicate}
+use mathlib.Core.List.{List, [], _++_}
+use lib.ListN.{replicate}
 use Rattle.words.specs.Tests.{both, either, every}
 use Rattle.words.specs.Word.{leOf, leBytes, part, numAt, wordsOf}
 use Rattle.versions.specs.Version.{minorOf, majorOf, aboveOf, accepted}

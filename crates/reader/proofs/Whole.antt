@@ -1,13 +1,13 @@
 -- The whole answer, return by return. Assumes nothing.
 use Prim.Native.Nat.{ℕ, zero, suc, _+_, _-_, _≤_, _<_, min}
-use mathlib.Core.Path.{_≡_, refl, sym, ap, fun-ext}
+use mathlib.Core.Path.{_≡_, refl, ap, fun-ext}
 use mathlib.Core.Bool.{true, false}
-use mathlib.Core.List.{List, []}
+use mathlib.Core.List.{List}
 use native.Mathlib.Omega.{arith}
 use lib.ListN.{length}
-use borrow.Author.Tests.{lt-leb, le-leb, lt-ltb, le-ltb, eq-eqb, ne-eqb}
+use borrow.Author.Tests.{le-leb, lt-ltb, le-ltb, eq-eqb, ne-eqb}
 use Rattle.words.specs.Tests.{both}
-use Rattle.words.specs.Word.{part, wordAt}
+use Rattle.words.specs.Word.{wordAt}
 use Rattle.versions.specs.Version.{minorOf, accepted}
 use Rattle.versions.specs.Edition.{secs, core, editionOk}
 use Rattle.versions.proofs.Editions.{secs-most}
@@ -17,7 +17,7 @@ use Rattle.sections.specs.Page.{placeOk, versionAt, countAt, pointerAt, mkSec, 
 use Rattle.sections.specs.Section.{wordsIn, inRange, rulesAt}
 use Rattle.sections.specs.Steps.{okAt}
 use Rattle.sections.proofs.Sections.{range-low, range-high, array-in, ok-in-range}
-use Rattle.reader.specs.Answer.{Shown, Answer, PlatShown, shows, shown, shownSec, platShown, viewOf, gate, judge, readOf}
+use Rattle.reader.specs.Answer.{Shown, Answer, shows, shown, shownSec, platShown, viewOf, gate, judge, readOf}
 use Rattle.reader.specs.Reading.{sectionOf, shownAs, answerOf}
 use Rattle.reader.specs.declared.Section.the-variants.{Absent, Empty, Entries}
 use Rattle.reader.specs.declared.View.{View}

@@ -1,12 +1,11 @@
 -- What a reader answers. 01: "A reader of edition r, on a page of minor w, works with e = the smaller of r and w." Assumes nothing.
-use Prim.Native.Nat.{ℕ, zero, suc, _+_, _*_, _/_, min}
+use Prim.Native.Nat.{ℕ, _+_, _*_, _/_, min}
 use mathlib.Core.Bool.{Bool, true, false, cond}
 use mathlib.Core.List.{List, []}
 use lib.ListN.{length, getD}
 use lib.Dec.{leb, ltb, eqb}
 use lib.IntN.{ℤ, pos, negℤ}
 use Rattle.words.specs.Tests.{both, either, some}
-use Rattle.words.specs.Word.{wordAt}
 use Rattle.versions.specs.Version.{minorOf, accepted}
 use Rattle.versions.specs.Edition.{secs, core, editionOk}
 use Rattle.entries.specs.Entry.{per, size, shownWords}

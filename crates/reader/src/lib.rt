@@ -7,7 +7,7 @@ ghost use lib.ListN.{length};
 ghost use Rattle.versions.specs.Edition.{secs};
 ghost use Rattle.sections.specs.Page.{secAt, platAt};
 ghost use Rattle.sections.specs.Steps.{okAt, okTo};
-ghost use Rattle.reader.specs.Answer.{shown, viewOf, readOf, lookIn, lookOf, wordIn};
+ghost use Rattle.reader.specs.Answer.{shown, viewOf, readOf};
 ghost use Rattle.reader.specs.Reading.{codeOf, sectionOf, shownAs, answerOf};
 
 // What is shown of a section: not in the edition, 24 zero bytes, or so many entries at an offset of the page.

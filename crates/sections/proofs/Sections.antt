@@ -1,18 +1,18 @@
 -- Laws of the rules of a page's sections. Assumes nothing.
-use Prim.Native.Nat.{ℕ, zero, suc, _+_, _-_, _*_, _%_, _^_, _≤_, _<_}
-use mathlib.Core.Path.{_≡_, refl, sym, ap, _∙_}
-use mathlib.Core.Bool.{Bool, true, false}
+use Prim.Native.Nat.{ℕ, _+_, _-_, _*_, _%_, _^_, _≤_, _<_}
+use mathlib.Core.Path.{_≡_, refl}
+use mathlib.Core.Bool.{true, false}
 use mathlib.Core.List.{List}
 use native.Mathlib.Omega.{arith}
 use lib.Dec.{leb, eqb}
 use borrow.Author.Tests.{leb-true, ltb-true, eqb-true, le-leb}
-use Rattle.words.specs.Tests.{Yes, both, either, every}
-use Rattle.words.specs.Word.{part, wordsOf}
+use Rattle.words.specs.Tests.{Yes, both, either}
+use Rattle.words.specs.Word.{part}
 use Rattle.words.proofs.Tests.{both-l, both-r, both-of, either-cases, every-at, every-none, every-more, every-not}
 use Rattle.versions.specs.Edition.{secs, core}
 use Rattle.entries.specs.Entry.{per, size}
 use Rattle.entries.specs.Array.{wordsAt, soundOf}
-use Rattle.sections.specs.Page.{placeOk, paddingAt, countAt, pointerAt, checkAt, inPage, arrayAt, mkSec, secAt, mkPlat, platAt}
+use Rattle.sections.specs.Page.{placeOk, paddingAt, countAt, pointerAt, checkAt, inPage, arrayAt, mkSec, secAt, platAt}
 use Rattle.sections.specs.Section.{platOk, wordsIn, nothing, inRange, secOk, span, apart, clear, rules, rulesAt}
 use Rattle.sections.specs.Steps.{okAt, okTo, endOf, apartAt, clearTo, apartTo}
 

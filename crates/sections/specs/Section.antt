@@ -1,6 +1,6 @@
 -- When a reader accepts: "It accepts when all hold". w is the page's minor, e the edition that it is read as, and f says what
 -- the page holds of each section. Assumes nothing.
-use Prim.Native.Nat.{ℕ, _+_, _*_, _%_}
+use Prim.Native.Nat.{ℕ, _+_, _*_}
 use mathlib.Core.Bool.{Bool}
 use mathlib.Core.List.{List}
 use lib.Dec.{leb, ltb, eqb}

@@ -1,11 +1,11 @@
 -- 01's example 14 as its view gives it, a console's line, an empty section, and the three codes. Assumes nothing.
-use Prim.Native.Nat.{ℕ, zero, suc, _+_}
+use Prim.Native.Nat.{ℕ, zero, suc}
 use mathlib.Core.Path.{_≡_, refl}
 use mathlib.Core.List.{List, [], _∷_, _++_}
 use Rattle.words.specs.Tests.{both}
 use Rattle.words.specs.Word.{leBytes, joined}
 use Rattle.entries.specs.Entry.{per}
-use Rattle.reader.specs.Answer.{Shown, absent, empty, full, Answer, shows, refused, minus, entryWord, bytesIn, entryCount}
+use Rattle.reader.specs.Answer.{Shown, absent, empty, full, shows, refused, minus, entryWord, bytesIn, entryCount}
 use Rattle.text.specs.Text.{newline, space, dash, zeroX, manifestText, readAsText, platformText, noneText, absentText, refusedText, titleText, placesIn, places, decimal, signed, hexText, byteText, nameByte, nameText, wordText, gapText, partText, entryText, countText, stateText, sectionText, headText, pointerText, platText, listingOf}
 
 -- "example 4's bank on a 0.2 page": one bank, and no section after it

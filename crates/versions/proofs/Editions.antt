@@ -1,5 +1,5 @@
 -- The tables of editions. Assumes nothing.
-use Prim.Native.Nat.{ℕ, zero, suc, _+_, _*_, min, _≤_, _<_}
+use Prim.Native.Nat.{ℕ, zero, suc, min, _≤_, _<_}
 use mathlib.Core.Path.{_≡_, refl}
 use native.Mathlib.Nat.{not-suc-le-zero, le-refl, le-trans}
 use native.Mathlib.Decide.{le-ind, decLe}

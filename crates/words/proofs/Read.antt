@@ -1,5 +1,5 @@
 -- The facts about a number in bytes, once for every width. Assumes nothing.
-use Prim.Native.Nat.{ℕ, zero, suc, _+_, _-_, _*_, _/_, _%_, _^_, _≤_, _<_}
+use Prim.Native.Nat.{ℕ, zero, suc, _+_, _-_, _*_, _/_, _^_, _≤_, _<_}
 use mathlib.Core.Path.{_≡_, refl, sym, ap, _∙_}
 use mathlib.Core.List.{List, [], _∷_, _++_}
 use native.Mathlib.Nat.{pow-le-pow-right, pow-suc, add-suc, suc-add, add-zero, zero-add, mul-assoc, mul-left-comm, div-one, div-div-eq-div-mul, mul-comm, not-suc-le-zero}

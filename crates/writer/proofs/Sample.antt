@@ -1,9 +1,6 @@
 -- Example 14's page, made from its bank. A writer that refuses everything fails here. Assumes nothing.
-use Prim.Native.Nat.{ℕ, zero, suc, _+_, _-_, _*_, _/_, _%_}
-use mathlib.Core.Bool.{Bool, true, false}
 use mathlib.Core.Path.{_≡_, refl}
-use mathlib.Core.List.{List, [], _∷_, _++_}
-use lib.ListN.{length, replicate}
+use mathlib.Core.List.{[], _∷_}
 use Rattle.words.specs.Tests.{both, either, every}
 use Rattle.words.specs.Word.{leBytes, bytesOf, joined}
 use Rattle.versions.specs.Edition.{secs, core, editionOk}

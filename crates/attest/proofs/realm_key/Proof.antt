@@ -4,7 +4,7 @@ use Rattle.codes.specs.declared.Code.the-variants.{Unk, BadAddr, Inval}
 use Rattle.range.specs.Range.{placeOf, fitOf}
 use Rattle.range.proofs.Ranges.{is-outside, is-long, fits}
 use Rattle.codes.specs.Codes.{upOf, whenUp}
-use Rattle.attest.specs.Key.{keyCode, keyed, realmKeyOf}
+use Rattle.attest.specs.Key.{keyCode, realmKeyOf}
 use Rattle.attest.proofs.Keys.{stays, key-down, key-page, key-outside, key-long, key-fits}
 use borrow.Author.Needs.{needs}
 use native.Mathlib.Omega.{arith}

@@ -1,5 +1,5 @@
 use Rattle.entries.proofs.Entries.{total-law, not-zero, sum-words, entries-same}
-use Rattle.entries.specs.Array.{wordsAt, soundOf, sumAt}
+use Rattle.entries.specs.Array.{wordsAt, soundOf}
 use Rattle.words.specs.Tests.{both}
 use Rattle.entries.specs.Entry.{per, size, sum, checkOk}
 use Prim.Native.Nat.{_+_, _*_, _%_, _^_}

@@ -1,5 +1,5 @@
-use mathlib.Core.Path.{_≡_, sym, _∙_}
-use lib.ListN.{length, getD}
+use mathlib.Core.Path.{sym, _∙_}
+use lib.ListN.{length}
 use borrow.Author.Tests.{not-true, not-false}
 use Rattle.granules.proofs.Moving.{falls-in, granule-none, granule-at, move-down, move-addr, move-pas, move-ok}
 use borrow.Author.Needs.{needs}

@@ -1,6 +1,3 @@
-use lib.ListN.{length}
-use mathlib.Core.Path.{_∙_}
-use Prim.Native.Nat.{_*_, _/_}
 use Rattle.lookup.proofs.Lookups.{count-view}
 use borrow.Author.Needs.{needs}
 use Rattle.lookup.proofs.count_of.Statement.{statement}

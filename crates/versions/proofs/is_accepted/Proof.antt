@@ -1,10 +1,10 @@
 use Rattle.versions.specs.Version.{minorOf, majorOf, aboveOf, accepted}
 use Rattle.words.specs.Tests.{both}
-use Prim.Native.Nat.{_/_, _%_, _^_}
+use Prim.Native.Nat.{_/_, _^_}
 use borrow.Author.Tests.{eq-eqb, ne-eqb, lt-leb, le-leb}
 use borrow.Author.Needs.{needs}
 use native.Mathlib.Omega.{arith}
-use mathlib.Core.Path.{sym, _∙_}
+use mathlib.Core.Path.{_∙_}
 use Rattle.versions.proofs.is_accepted.Statement.{statement}
 use Rattle.versions.proofs.is_accepted.Tie as tie
 

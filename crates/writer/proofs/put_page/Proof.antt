@@ -1,5 +1,5 @@
 use mathlib.Core.Path.{_∙_}
-use Rattle.lists.specs.Told.{four, toldBy}
+use Rattle.lists.specs.Told.{toldBy}
 use lib.ListN.{length}
 use Rattle.writer.proofs.Pages.{filled-none, arrays-law, words-room}
 use borrow.Author.Needs.{needs}
