@@ -48,14 +48,20 @@ put-add m n s at w h =
     (ap (λ (k : ℕ). splice (at + k) (leBytes n (w / 256 ^ m)) (splice at (leBytes m w) s)) (sym (leBytes-length m w))
     ∙ splice-splice at (leBytes m w) s h (leBytes n (w / 256 ^ m)))
 
--- a number that fits is laid; of one that does not, no byte is
-pub put-in : (n at w : ℕ) (s : List ℕ) → at + n ≤ length s → laid at (leBytes n w) s ≡ splice at (leBytes n w) s
+-- what fits is laid; of what does not, no byte is
+pub bytes-in : (at : ℕ) (vs s : List ℕ) → at + length vs ≤ length s → laid at vs s ≡ splice at vs s
 unfolding laid
-put-in n at w s h = rw (leBytes-length n w, le-leb (at + n) (length s) h)
+bytes-in at vs s h = rw (le-leb (at + length vs) (length s) h)
+
+pub bytes-out : (at : ℕ) (vs s : List ℕ) → length s < at + length vs → laid at vs s ≡ s
+unfolding laid
+bytes-out at vs s h = rw (lt-leb (at + length vs) (length s) h)
+
+pub put-in : (n at w : ℕ) (s : List ℕ) → at + n ≤ length s → laid at (leBytes n w) s ≡ splice at (leBytes n w) s
+put-in n at w s h = bytes-in at (leBytes n w) s (rw leBytes-length h)
 
 pub put-out : (n at w : ℕ) (s : List ℕ) → length s < at + n → laid at (leBytes n w) s ≡ s
-unfolding laid
-put-out n at w s h = rw (leBytes-length n w, lt-leb (at + n) (length s) h)
+put-out n at w s h = bytes-out at (leBytes n w) s (rw leBytes-length h)
 
 -- what was put is read back
 part-splice : (at : ℕ) (vs s : List ℕ) → at ≤ length s → part at (length vs) (splice at vs s) ≡ vs
@@ -74,12 +80,10 @@ unfolding bytesOf
 one-word w = append-nil (leBytes 8 w)
 
 pub words-in : (at : ℕ) (ws s : List ℕ) → at + 8 * length ws ≤ length s → laid at (bytesOf ws) s ≡ splice at (bytesOf ws) s
-unfolding laid
-words-in at ws s h = rw (bytesOf-length ws, le-leb (at + 8 * length ws) (length s) h)
+words-in at ws s h = bytes-in at (bytesOf ws) s (rw bytesOf-length h)
 
 pub words-out : (at : ℕ) (ws s : List ℕ) → length s < at + 8 * length ws → laid at (bytesOf ws) s ≡ s
-unfolding laid
-words-out at ws s h = rw (bytesOf-length ws, lt-leb (at + 8 * length ws) (length s) h)
+words-out at ws s h = bytes-out at (bytesOf ws) s (rw bytesOf-length h)
 
 -- the first i of them
 unfoldable pub wordsTo : ℕ → List ℕ → ℕ → List ℕ → List ℕ
@@ -101,14 +105,6 @@ unfolding wordsTo
 words-all at ws s i e h = rw (e, words-in at ws s h, take-length)
 
 -- ---- bytes, one by one
-pub bytes-in : (at : ℕ) (vs s : List ℕ) → at + length vs ≤ length s → laid at vs s ≡ splice at vs s
-unfolding laid
-bytes-in at vs s h = rw (le-leb (at + length vs) (length s) h)
-
-pub bytes-out : (at : ℕ) (vs s : List ℕ) → length s < at + length vs → laid at vs s ≡ s
-unfolding laid
-bytes-out at vs s h = rw (lt-leb (at + length vs) (length s) h)
-
 -- the first i of them, from the start on
 unfoldable pub bytesTo : List ℕ → ℕ → List ℕ → List ℕ
 bytesTo vs i s = splice 0 (take i vs) s
