@@ -1,0 +1,68 @@
+use mathlib.Core.Path.{sym}
+use Rattle.token.proofs.Tokens.{send-none, send-last, send-more}
+use borrow.Author.Needs.{needs}
+use Rattle.token.proofs.send.Statement.{statement}
+use Rattle.token.proofs.send.Tie as tie
+
+answered-requires : tie.Need-answered-requires
+answered-requires c κs = search needs
+
+returns : tie.Need-returns
+returns c =
+    let a = c .before .before .before .before .args in
+    rw (c .answered .ensures) (sym (send-none (a .at) (a .token .now) (a .from) (a .size) (a .page .now) (search needs)))
+
+sub-left : tie.Need-sub-left
+sub-left c = search needs
+
+put-hunk-requires : tie.Need-put-hunk-requires
+put-hunk-requires c κs = search needs
+
+answered-requires-2 : tie.Need-answered-requires-2
+answered-requires-2 c κs = search needs
+
+same-length : tie.Need-same-length
+same-length c = search needs
+
+returns-2 : tie.Need-returns-2
+returns-2 c =
+    let a = c .before .before .before .before .before .before .before .before .before .args in
+    rw (c .answered2 .ensures, c .before .before .before .put-hunk .ensures) (sym (send-last (a .at) (a .token .now) (a .from) (a .size) (a .page .now) (search needs)))
+
+put-hunk-requires-2 : tie.Need-put-hunk-requires-2
+put-hunk-requires-2 c κs = search needs
+
+sub-answered : tie.Need-sub-answered
+sub-answered c = search needs
+
+answered-requires-3 : tie.Need-answered-requires-3
+answered-requires-3 c κs = search needs
+
+add-t28 : tie.Need-add-t28
+add-t28 c = search needs
+
+same-length-2 : tie.Need-same-length-2
+same-length-2 c = search needs
+
+returns-3 : tie.Need-returns-3
+returns-3 c =
+    let a = c .before .before .before .before .before .before .before .before .before .args in
+    rw (c .answered3 .ensures, c .before .before .before .put-hunk2 .ensures) (sym (send-more (a .at) (a .token .now) (a .from) (a .size) (a .page .now) (search needs)))
+
+pub send-spec : {M : Type 1} → statement M
+send-spec =
+    tie.close
+    (tie.spec
+    answered-requires
+    returns
+    sub-left
+    put-hunk-requires
+    answered-requires-2
+    same-length
+    returns-2
+    put-hunk-requires-2
+    sub-answered
+    answered-requires-3
+    add-t28
+    same-length-2
+    returns-3)

@@ -1,0 +1,211 @@
+// The platform token, sent hunk by hunk, and the lookup of its challenge.
+use boot::Kept;
+use boot::Record;
+use codes::Answer;
+use codes::Code;
+use range::Fit;
+ghost use mathlib.Core.Path.{_≡_};
+ghost use Prim.Native.Nat.{_+_, _≤_};
+ghost use lib.ListN.{length};
+ghost use Rattle.words.specs.Word.{part, splice};
+ghost use Rattle.range.specs.Range.{placeOf};
+ghost use Rattle.codes.specs.Codes.{answerOf};
+ghost use Rattle.token.specs.Token.{listed, bufferCode, startCode, gated, beginOf, TokenStep, sendOf, settled, tokenOf, challengeOf};
+
+// A session: none, or a token of which a part is sent.
+pub enum Session {
+    Idle,
+    Sending { whole: u64, sent: u64 },
+}
+
+// What a token call answers, and the session after it.
+pub struct Tokened {
+    pub answer: Answer,
+    pub session: Session,
+}
+
+// What checks hand on: the code of the first that fails, or a place.
+enum Gate {
+    Stop(Code),
+    Go(usize),
+}
+
+impl Session {
+    // No session.
+    pub fn idle() -> Self
+        ensures { λ r. ⌜ r ≡ Session.Idle ⌝ }
+    {
+        Session::Idle
+    }
+}
+
+// Whether c_size is one of a challenge, or 0.
+fn is_listed(csize: u64) -> bool
+    ensures { λ r. ⌜ r ≡ listed csize ⌝ }
+{
+    match csize {
+        0 => true,
+        32 => true,
+        48 => true,
+        64 => true,
+        _ => false,
+    }
+}
+
+// The checks of the buffer, and its offset in the page.
+fn buffer_of(kept: Kept, pa: u64, size: u64, csize: u64) -> Gate
+    ensures { λ r. ⌜ r ≡ gated (bufferCode kept pa size csize) (placeOf kept pa) ⌝ }
+{
+    match range::fit_of(kept, pa, size) {
+        Fit::Outside => Gate::Stop(Code::BadAddr),
+        Fit::TooLong => Gate::Stop(Code::Inval),
+        Fit::At(at) => {
+            if !is_listed(csize) {
+                return Gate::Stop(Code::Inval);
+            }
+            if size < csize {
+                return Gate::Stop(Code::Inval);
+            }
+            Gate::Go(at)
+        }
+    }
+}
+
+// The checks of session and token, and where in the token the call begins.
+fn start_of(session: Session, csize: u64, len: usize) -> Gate
+    ensures { λ r. ⌜ r ≡ gated (startCode session csize len) (beginOf session csize) ⌝ }
+{
+    if csize != 0 {
+        if len == 0 {
+            return Gate::Stop(Code::Unk);
+        }
+        return Gate::Go(0);
+    }
+    let Session::Sending { whole, sent } = session else {
+        return Gate::Stop(Code::Inval);
+    };
+    if len == 0 {
+        return Gate::Stop(Code::Unk);
+    }
+    if len as u64 != whole {
+        return Gate::Stop(Code::Unk);
+    }
+    Gate::Go(sent as usize)
+}
+
+// Writes n bytes of the token, from a place in it on, at an offset of the page.
+fn put_hunk(page: &mut [u8], at: usize, token: &[u8], from: usize, n: usize)
+    requires { ⌜ (at + n ≤ length (now page)) × (from + n ≤ length (now token)) ⌝ }
+    ensures { λ _. ⌜ now (page .exit) ≡ splice at (part from n (now (token .entry))) (now (page .entry)) ⌝ }
+{
+    let end = from + n;
+    words::copy(&mut page[at..], &token[from..end]);
+}
+
+// The next hunk, the smaller of buffer and rest, at an offset of the page. Past the token's end there is no rest.
+fn send(page: &mut [u8], at: usize, token: &[u8], from: usize, size: u64) -> Tokened
+    requires { ⌜ at + size ≤ length (now page) ⌝ }
+    ensures { λ r. ⌜ _≡_ {A = TokenStep} (record { answer = r .answer; page = now (page .exit); session = r .session }) (sendOf at (now (token .entry)) from size (now (page .entry))) ⌝ }
+{
+    let len = token.len();
+    if len <= from {
+        return Tokened {
+            answer: codes::answered(Code::Ok, 0, 0),
+            session: Session::Idle,
+        };
+    }
+    let left = len - from;
+    if left as u64 <= size {
+        put_hunk(page, at, token, from, left);
+        return Tokened {
+            answer: codes::answered(Code::Ok, left as u64, 0),
+            session: Session::Idle,
+        };
+    }
+    let n = size as usize;
+    put_hunk(page, at, token, from, n);
+    Tokened {
+        answer: codes::answered(Code::Ok, size, (left - n) as u64),
+        session: Session::Sending {
+            whole: len as u64,
+            sent: (from + n) as u64,
+        },
+    }
+}
+
+// A refused call.
+fn refused(code: Code, session: Session) -> Tokened
+    ensures { λ r. ⌜ (r .answer ≡ answerOf code 0 0) × (r .session ≡ session) ⌝ }
+{
+    Tokened {
+        answer: codes::answered(code, 0, 0),
+        session,
+    }
+}
+
+// A call whose buffer passed, at an offset of the page.
+fn send_at(
+    page: &mut [u8],
+    at: usize,
+    session: Session,
+    token: &[u8],
+    size: u64,
+    csize: u64,
+) -> Tokened
+    requires { ⌜ at + size ≤ length (now page) ⌝ }
+    ensures { λ r. ⌜ _≡_ {A = TokenStep} (record { answer = r .answer; page = now (page .exit); session = r .session }) (settled (startCode session csize (length (now (token .entry)))) (sendOf at (now (token .entry)) (beginOf session csize) size (now (page .entry))) (now (page .entry)) session) ⌝ }
+{
+    let gate = start_of(session, csize, token.len());
+    match gate {
+        Gate::Stop(code) => refused(code, session),
+        Gate::Go(from) => send(page, at, token, from, size),
+    }
+}
+
+// 0xC40001B3: the next hunk of the token that the platform lends, at pa, into a buffer of so many bytes; x1 is the hunk, x2 the
+// rest. A nonzero c_size starts again.
+pub fn platform_token(
+    state: Record,
+    page: &mut [u8],
+    session: Session,
+    busy: bool,
+    token: &[u8],
+    pa: u64,
+    size: u64,
+    csize: u64,
+) -> Tokened
+    ensures { λ r. ⌜ _≡_ {A = TokenStep} (record { answer = r .answer; page = now (page .exit); session = r .session }) (tokenOf state (now (page .entry)) session busy (now (token .entry)) pa size csize) ⌝ }
+{
+    if !codes::is_up(state) {
+        return refused(Code::Unk, session);
+    }
+    if page.len() != 4096 {
+        return refused(Code::Unk, session);
+    }
+    if busy {
+        return refused(Code::Again, session);
+    }
+    let gate = buffer_of(codes::up_of(state), pa, size, csize);
+    match gate {
+        Gate::Stop(code) => refused(code, session),
+        Gate::Go(at) => send_at(page, at, session, token, size, csize),
+    }
+}
+
+// The challenge of a start: c_size bytes at pa, as that part of the page; empty where there is none.
+pub fn challenge(state: Record, page: &[u8], pa: u64, size: u64, csize: u64) -> &[u8]
+    ensures { λ r. ⌜ now r ≡ challengeOf state (now (page .entry)) pa size csize ⌝ }
+{
+    if !codes::is_up(state) {
+        return &page[0..0];
+    }
+    if page.len() != 4096 {
+        return &page[0..0];
+    }
+    let gate = buffer_of(codes::up_of(state), pa, size, csize);
+    let Gate::Go(at) = gate else {
+        return &page[0..0];
+    };
+    let end = at + csize as usize;
+    &page[at..end]
+}
