@@ -10,6 +10,8 @@ use Rattle.boot.specs.declared.Record.the-variants.{Fresh, Up, Closed}
 use Rattle.codes.specs.declared.Code.{Code}
 use Rattle.codes.specs.declared.Code.the-variants.{Ok, Unk, BadAddr, BadPas, Inval, Again}
 use Rattle.codes.specs.declared.Answer.{Answer}
+use Rattle.codes.specs.declared.Gate.{Gate}
+use Rattle.codes.specs.declared.Gate.the-variants.{Stop, Go}
 
 abbrev pub numberOf : Code → ℤ
 numberOf Ok = pos 0
@@ -65,3 +67,11 @@ whenUp s k = fails (unless (isUp s)) Unk k
 -- the new value if the code is OK, else the old: what a refused call leaves
 abbrev pub ifOk : {A : Type 0} → Code → A → A → A
 ifOk k new old = cond (isOk k) new old
+
+-- checks, and those after them
+unfoldable pub andThen : Code → Code → Code
+andThen k next = ifOk k next k
+
+-- a code, and the place that goes with OK, as the checks hand them on
+unfoldable pub gated : Code → ℕ → Gate
+gated k n = cond (isOk k) (Go n) (Stop k)

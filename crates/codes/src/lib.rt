@@ -27,6 +27,12 @@ pub enum Work {
     Reprogram(u64),
 }
 
+// What checks hand on: the code of the first that fails, or a place.
+pub enum Gate {
+    Stop(Code),
+    Go(usize),
+}
+
 // The code as x0 holds it: sign-extended to 64 bits.
 pub fn x0(code: Code) -> u64
     ensures { λ r. ⌜ r ≡ x0Of code ⌝ }

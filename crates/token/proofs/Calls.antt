@@ -15,8 +15,9 @@ use Rattle.codes.specs.declared.Code.{Code}
 use Rattle.codes.specs.declared.Code.the-variants.{Ok, Unk, BadAddr, BadPas, Inval, Again}
 use Rattle.token.specs.declared.Session.{Session}
 use Rattle.token.specs.declared.Session.the-variants.{Idle, Sending}
-use Rattle.token.specs.Token.{andThen, bufferCode, startCode, sentOf, tokenCode, beginOf, hunkOf, restOf, sessionOf, TokenStep, sendOf, keeps, settled, tokenOf, afterCalls, Call, nextOf, runOf, oksOf}
-use Rattle.token.proofs.Tokens.{fails-ok, next-idle, start-empty, begin-again}
+use Rattle.token.specs.Token.{bufferCode, startCode, sentOf, tokenCode, beginOf, hunkOf, restOf, sessionOf, TokenStep, sendOf, keeps, settled, tokenOf, afterCalls, Call, nextOf, runOf, oksOf}
+use Rattle.codes.proofs.Gates.{fails-ok, then-ok}
+use Rattle.token.proofs.Tokens.{next-idle, start-empty, begin-again}
 
 -- a call that passes its checks sends the next hunk
 pub token-sent : (r : Record) (page : List ℕ) (s : Session) (busy : Bool) (token : List ℕ) (pa size c : ℕ) → whenUp r (tokenCode (upOf r) page s busy token pa size c) ≡ Ok →
@@ -72,15 +73,6 @@ settles BadAddr new page s e = kept refl refl
 settles BadPas new page s e = kept refl refl
 settles Inval new page s e = kept refl refl
 settles Again new page s e = kept refl refl
-
-then-ok : (k next : Code) → andThen k next ≡ Ok → next ≡ Ok
-unfolding andThen
-then-ok Ok next h = h
-then-ok Unk next h = absurd (false≢true (ap isOk h))
-then-ok BadAddr next h = absurd (false≢true (ap isOk h))
-then-ok BadPas next h = absurd (false≢true (ap isOk h))
-then-ok Inval next h = absurd (false≢true (ap isOk h))
-then-ok Again next h = absurd (false≢true (ap isOk h))
 
 -- with no session, a further call is refused
 idle-refused : (r : Record) (page : List ℕ) (s : Session) (busy : Bool) (token : List ℕ) (pa size : ℕ) → whenUp r (tokenCode (upOf r) page s busy token pa size 0) ≡ Ok → s ≡ Idle → ⊥

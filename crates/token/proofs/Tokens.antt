@@ -15,13 +15,13 @@ use Rattle.boot.specs.declared.Kept.{Kept}
 use Rattle.boot.specs.declared.Record.{Record}
 use Rattle.range.specs.Range.{outside, tooLong, placeOf}
 use Rattle.range.proofs.Ranges.{room-of}
-use Rattle.codes.specs.Codes.{isUp, upOf, unless, fails, whenUp, isOk, answerOf}
+use Rattle.codes.specs.Codes.{isUp, upOf, unless, fails, whenUp, isOk, answerOf, andThen}
+use Rattle.codes.proofs.Gates.{fails-ok}
 use Rattle.codes.specs.declared.Answer.{Answer}
 use Rattle.codes.specs.declared.Code.{Code}
 use Rattle.codes.specs.declared.Code.the-variants.{Ok, Unk, BadAddr, BadPas, Inval, Again}
 use Rattle.token.specs.declared.Session.{Session}
 use Rattle.token.specs.declared.Session.the-variants.{Idle, Sending}
-use Rattle.token.specs.declared.Gate.the-variants.{Stop, Go}
 use Rattle.token.specs.Token.{
   isIdle,
   wholeOf,
@@ -29,9 +29,7 @@ use Rattle.token.specs.Token.{
   listed,
   bufferCode,
   startCode,
-  andThen,
   tokenCode,
-  gated,
   beginOf,
   hunkOf,
   restOf,
@@ -44,33 +42,6 @@ use Rattle.token.specs.Token.{
   challengeCode,
   challengeOf,
 }
-
--- ---- what a gate tells of its code
-pub went : (k : Code) (n at : ℕ) → gated k n ≡ Go at → (k ≡ Ok) × (at ≡ n)
-unfolding gated
-went Ok n at h = (refl, cc)
-went Unk n at h = let z : _≡_ {A = ℕ} 0 1 = cc in absurd (omega arith)
-went BadAddr n at h = let z : _≡_ {A = ℕ} 0 1 = cc in absurd (omega arith)
-went BadPas n at h = let z : _≡_ {A = ℕ} 0 1 = cc in absurd (omega arith)
-went Inval n at h = let z : _≡_ {A = ℕ} 0 1 = cc in absurd (omega arith)
-went Again n at h = let z : _≡_ {A = ℕ} 0 1 = cc in absurd (omega arith)
-
-pub stood : (k : Code) (n : ℕ) (j : Code) → gated k n ≡ Stop j → (k ≡ j) × (isOk j ≡ false)
-unfolding gated
-stood Ok n j h = let z : _≡_ {A = ℕ} 0 1 = cc in absurd (omega arith)
-stood Unk n j h = let e : Unk ≡ j = cc in (e, rw (← e))
-stood BadAddr n j h = let e : BadAddr ≡ j = cc in (e, rw (← e))
-stood BadPas n j h = let e : BadPas ≡ j = cc in (e, rw (← e))
-stood Inval n j h = let e : Inval ≡ j = cc in (e, rw (← e))
-stood Again n j h = let e : Again ≡ j = cc in (e, rw (← e))
-
-pub stops : (k : Code) (n : ℕ) (j : Code) → k ≡ j → isOk j ≡ false → Stop j ≡ gated k n
-unfolding gated
-stops k n j e h = rw (e, h)
-
-pub goes : (k : Code) (n at : ℕ) → k ≡ Ok → at ≡ n → Go at ≡ gated k n
-unfolding gated
-goes k n at e p = rw (e, p)
 
 -- ---- the buffer
 module _ (u : Kept) (pa size c : ℕ) where
@@ -96,12 +67,6 @@ module _ (u : Kept) (pa size c : ℕ) where
         pub buffer-ok : c ≤ size → bufferCode u pa size c ≡ Ok
         unfolding bufferCode fails unless
         buffer-ok h = rw (o, l, i, le-ltb size c h)
-
--- what an OK tells of the check before it
-pub fails-ok : (b : Bool) (c next : Code) → isOk c ≡ false → fails b c next ≡ Ok → (b ≡ false) × (next ≡ Ok)
-unfolding fails
-fails-ok true c next n h = absurd (false≢true (sym n ∙ ap isOk h))
-fails-ok false c next n h = (refl, h)
 
 -- a buffer that passes lies in the page, and the challenge in the buffer
 pub record Room (u : Kept) (pa size c : ℕ) : Type 0 where

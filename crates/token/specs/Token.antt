@@ -9,14 +9,12 @@ use Rattle.words.specs.Word.{part, splice}
 use Rattle.boot.specs.declared.Kept.{Kept}
 use Rattle.boot.specs.declared.Record.{Record}
 use Rattle.range.specs.Range.{outside, tooLong, placeOf}
-use Rattle.codes.specs.Codes.{unless, fails, upOf, whenUp, isOk, ifOk, answerOf}
+use Rattle.codes.specs.Codes.{unless, fails, upOf, whenUp, ifOk, andThen, answerOf}
 use Rattle.codes.specs.declared.Code.{Code}
 use Rattle.codes.specs.declared.Code.the-variants.{Ok, Unk, BadAddr, Inval, Again}
 use Rattle.codes.specs.declared.Answer.{Answer}
 use Rattle.token.specs.declared.Session.{Session}
 use Rattle.token.specs.declared.Session.the-variants.{Idle, Sending}
-use Rattle.token.specs.declared.Gate.{Gate}
-use Rattle.token.specs.declared.Gate.the-variants.{Stop, Go}
 
 -- ---- a session: none, or the token's length at its start and how much of it is sent
 unfoldable pub isIdle : Session → Bool
@@ -52,20 +50,12 @@ startCode s c len =
     (fails (either (eqb len 0) (both (eqb c 0) (unless (eqb len (wholeOf s))))) Unk
     Ok)
 
--- checks, and those after them
-unfoldable pub andThen : Code → Code → Code
-andThen k next = ifOk k next k
-
 -- ".. B2, B3 and B5 do so too on a lent page not 4,096 bytes long (house rules)"; "platform busy AGAIN;", then the others
 unfoldable pub tokenCode : Kept → List ℕ → Session → Bool → List ℕ → ℕ → ℕ → ℕ → Code
 tokenCode u page s busy token pa size c =
     fails (unless (eqb (length page) 4096)) Unk
     (fails busy Again
     (andThen (bufferCode u pa size c) (startCode s c (length token))))
-
--- a code, and the place that goes with OK, as the checks hand them on
-unfoldable pub gated : Code → ℕ → Gate
-gated k n = cond (isOk k) (Go n) (Stop k)
 
 -- ---- a call that passes them
 -- "A nonzero c_size always starts again, also in mid-session": where in the token a call begins

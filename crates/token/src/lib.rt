@@ -3,14 +3,15 @@ use boot::Kept;
 use boot::Record;
 use codes::Answer;
 use codes::Code;
+use codes::Gate;
 use range::Fit;
 ghost use mathlib.Core.Path.{_≡_};
 ghost use Prim.Native.Nat.{_+_, _≤_};
 ghost use lib.ListN.{length};
 ghost use Rattle.words.specs.Word.{part, splice};
 ghost use Rattle.range.specs.Range.{placeOf};
-ghost use Rattle.codes.specs.Codes.{answerOf};
-ghost use Rattle.token.specs.Token.{listed, bufferCode, startCode, gated, beginOf, TokenStep, sendOf, settled, tokenOf, challengeOf};
+ghost use Rattle.codes.specs.Codes.{answerOf, gated};
+ghost use Rattle.token.specs.Token.{listed, bufferCode, startCode, beginOf, TokenStep, sendOf, settled, tokenOf, challengeOf};
 
 // A session: none, or a token of which a part is sent.
 pub enum Session {
@@ -22,12 +23,6 @@ pub enum Session {
 pub struct Tokened {
     pub answer: Answer,
     pub session: Session,
-}
-
-// What checks hand on: the code of the first that fails, or a place.
-enum Gate {
-    Stop(Code),
-    Go(usize),
 }
 
 impl Session {

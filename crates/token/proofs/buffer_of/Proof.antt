@@ -5,7 +5,8 @@ use Rattle.codes.specs.declared.Code.the-variants.{BadAddr, Inval}
 use Rattle.range.specs.Range.{placeOf}
 use Rattle.range.proofs.Ranges.{is-outside, is-long, fits}
 use Rattle.token.specs.Token.{listed, bufferCode}
-use Rattle.token.proofs.Tokens.{stops, goes, buffer-outside, buffer-long, buffer-unlisted, buffer-small, buffer-ok}
+use Rattle.codes.proofs.Gates.{stops, goes}
+use Rattle.token.proofs.Tokens.{buffer-outside, buffer-long, buffer-unlisted, buffer-small, buffer-ok}
 use borrow.Author.Needs.{needs}
 use Rattle.token.proofs.buffer_of.Statement.{statement}
 use Rattle.token.proofs.buffer_of.Tie as tie

@@ -2,10 +2,11 @@ use mathlib.Core.Path.{_≡_, sym, ap, _∙_}
 use Prim.Native.Nat.{_+_, _-_}
 use borrow.Author.Tests.{not-true, not-false}
 use Rattle.range.specs.Range.{placeOf}
-use Rattle.codes.specs.Codes.{upOf}
+use Rattle.codes.specs.Codes.{upOf, gated}
 use Rattle.words.specs.Word.{part}
-use Rattle.token.specs.Token.{bufferCode, gated}
-use Rattle.token.proofs.Tokens.{went, stood, buffer-room, challenge-down, challenge-page, challenge-none, challenge-shown}
+use Rattle.token.specs.Token.{bufferCode}
+use Rattle.codes.proofs.Gates.{went, stood}
+use Rattle.token.proofs.Tokens.{buffer-room, challenge-down, challenge-page, challenge-none, challenge-shown}
 use borrow.Author.Needs.{needs}
 use native.Mathlib.Omega.{arith}
 use Rattle.token.proofs.challenge.Statement.{statement}

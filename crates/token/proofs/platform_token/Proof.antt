@@ -2,9 +2,10 @@ use mathlib.Core.Path.{refl, sym, ap, _∙_}
 use borrow.Author.Tests.{not-true, not-false}
 use Rattle.codes.specs.declared.Code.the-variants.{Unk, Again}
 use Rattle.range.specs.Range.{placeOf}
-use Rattle.codes.specs.Codes.{upOf, whenUp}
-use Rattle.token.specs.Token.{bufferCode, tokenCode, gated, beginOf, sendOf, tokenOf}
-use Rattle.token.proofs.Tokens.{went, stood, buffer-room, stays, token-down, token-page, token-busy, token-buffer, token-start}
+use Rattle.codes.specs.Codes.{upOf, whenUp, gated}
+use Rattle.token.specs.Token.{bufferCode, tokenCode, beginOf, sendOf, tokenOf}
+use Rattle.codes.proofs.Gates.{went, stood}
+use Rattle.token.proofs.Tokens.{buffer-room, stays, token-down, token-page, token-busy, token-buffer, token-start}
 use borrow.Author.Needs.{needs}
 use native.Mathlib.Omega.{arith}
 use Rattle.token.proofs.platform_token.Statement.{statement}

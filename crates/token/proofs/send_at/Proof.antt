@@ -1,7 +1,8 @@
 use mathlib.Core.Path.{sym, _∙_}
 use lib.ListN.{length}
 use Rattle.token.specs.Token.{startCode, beginOf, sendOf}
-use Rattle.token.proofs.Tokens.{went, stood, stays, sends}
+use Rattle.codes.proofs.Gates.{went, stood}
+use Rattle.token.proofs.Tokens.{stays, sends}
 use borrow.Author.Needs.{needs}
 use Rattle.token.proofs.send_at.Statement.{statement}
 use Rattle.token.proofs.send_at.Tie as tie

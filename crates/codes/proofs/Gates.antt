@@ -1,0 +1,52 @@
+-- What a chain of checks tells, and the gate that hands it on. Assumes nothing.
+use Prim.Native.Nat.{ℕ}
+use mathlib.Core.Path.{_≡_, refl, sym, ap, _∙_}
+use mathlib.Core.Bool.{Bool, true, false, false≢true}
+use native.Mathlib.Omega.{arith}
+use Rattle.codes.specs.Codes.{fails, isOk, andThen, gated}
+use Rattle.codes.specs.declared.Code.{Code}
+use Rattle.codes.specs.declared.Code.the-variants.{Ok, Unk, BadAddr, BadPas, Inval, Again}
+use Rattle.codes.specs.declared.Gate.the-variants.{Stop, Go}
+
+-- what an OK tells of the check before it
+pub fails-ok : (b : Bool) (c next : Code) → isOk c ≡ false → fails b c next ≡ Ok → (b ≡ false) × (next ≡ Ok)
+unfolding fails
+fails-ok true c next n h = absurd (false≢true (sym n ∙ ap isOk h))
+fails-ok false c next n h = (refl, h)
+
+-- what an OK tells of the checks at the end
+pub then-ok : (k next : Code) → andThen k next ≡ Ok → next ≡ Ok
+unfolding andThen
+then-ok Ok next h = h
+then-ok Unk next h = absurd (false≢true (ap isOk h))
+then-ok BadAddr next h = absurd (false≢true (ap isOk h))
+then-ok BadPas next h = absurd (false≢true (ap isOk h))
+then-ok Inval next h = absurd (false≢true (ap isOk h))
+then-ok Again next h = absurd (false≢true (ap isOk h))
+
+-- ---- what a gate tells of its code
+pub went : (k : Code) (n at : ℕ) → gated k n ≡ Go at → (k ≡ Ok) × (at ≡ n)
+unfolding gated
+went Ok n at h = (refl, cc)
+went Unk n at h = let z : _≡_ {A = ℕ} 0 1 = cc in absurd (omega arith)
+went BadAddr n at h = let z : _≡_ {A = ℕ} 0 1 = cc in absurd (omega arith)
+went BadPas n at h = let z : _≡_ {A = ℕ} 0 1 = cc in absurd (omega arith)
+went Inval n at h = let z : _≡_ {A = ℕ} 0 1 = cc in absurd (omega arith)
+went Again n at h = let z : _≡_ {A = ℕ} 0 1 = cc in absurd (omega arith)
+
+pub stood : (k : Code) (n : ℕ) (j : Code) → gated k n ≡ Stop j → (k ≡ j) × (isOk j ≡ false)
+unfolding gated
+stood Ok n j h = let z : _≡_ {A = ℕ} 0 1 = cc in absurd (omega arith)
+stood Unk n j h = let e : Unk ≡ j = cc in (e, rw (← e))
+stood BadAddr n j h = let e : BadAddr ≡ j = cc in (e, rw (← e))
+stood BadPas n j h = let e : BadPas ≡ j = cc in (e, rw (← e))
+stood Inval n j h = let e : Inval ≡ j = cc in (e, rw (← e))
+stood Again n j h = let e : Again ≡ j = cc in (e, rw (← e))
+
+pub stops : (k : Code) (n : ℕ) (j : Code) → k ≡ j → isOk j ≡ false → Stop j ≡ gated k n
+unfolding gated
+stops k n j e h = rw (e, h)
+
+pub goes : (k : Code) (n at : ℕ) → k ≡ Ok → at ≡ n → Go at ≡ gated k n
+unfolding gated
+goes k n at e p = rw (e, p)
