@@ -1,157 +1,276 @@
--- How many calls a token takes. Assumes nothing.
-use Prim.Native.Nat.{ℕ, zero, suc, _+_, _-_, _*_, _≤_, _<_, min}
+-- How many calls a token takes, and that their hunks are the token. Assumes nothing.
+use Prim.Native.Nat.{ℕ, _+_, _-_, _*_, _≤_, _<_, min}
 use mathlib.Core.Path.{_≡_, refl, sym, ap, _∙_}
-use mathlib.Core.Bool.{Bool, true, false, false≢true}
-use mathlib.Core.List.{List, [], _∷_}
-use native.Mathlib.Decide.{decLt}
+use mathlib.Core.Bool.{Bool, true, false, cond, false≢true}
+use mathlib.Core.List.{List, [], _∷_, _++_, append-assoc}
+use native.Mathlib.Decide.{decLe, decLt}
 use native.Mathlib.Omega.{arith}
-use native.Mathlib.Nat.{min-eq-left, min-eq-right, suc-mul}
-use lib.ListN.{length}
-use borrow.Author.Tests.{ne-eqb}
-use Rattle.boot.specs.declared.Record.{Record}
+use native.Mathlib.Nat.{add-zero, zero-add, div-eq-of-lt-le, le-div-iff-mul-le, suc-mul, zero-mul, add-assoc}
+use native.Mathlib.Numerals.{one-add, add-one}
+use lib.Dec.{leb}
+use lib.ListN.{length, take, drop, length-drop, length-take}
+use lib.Seq.{take-all, take-add, drop-drop, length-take-le, take-at, drop-at}
+use borrow.Author.Tests.{le-leb, lt-leb, eq-eqb, ne-eqb, eqb-true}
+use Rattle.words.specs.Word.{part, splice}
 use Rattle.range.specs.Range.{placeOf}
-use Rattle.codes.specs.Codes.{upOf, whenUp, isOk, answerOf}
+use Rattle.codes.specs.Codes.{upOf, unless, whenUp, isOk, andThen, answerOf}
 use Rattle.codes.specs.declared.Code.{Code}
 use Rattle.codes.specs.declared.Code.the-variants.{Ok, Unk, BadAddr, BadPas, Inval, Again}
+use Rattle.codes.proofs.Gates.{fails-ok, then-ok}
 use Rattle.token.specs.declared.Session.{Session}
 use Rattle.token.specs.declared.Session.the-variants.{Idle, Sending}
-use Rattle.token.specs.Token.{bufferCode, startCode, sentOf, tokenCode, beginOf, hunkOf, restOf, sessionOf, TokenStep, sendOf, keeps, settled, tokenOf, afterCalls, Call, nextOf, runOf, oksOf}
-use Rattle.codes.proofs.Gates.{fails-ok, then-ok}
-use Rattle.token.proofs.Tokens.{next-idle, start-empty, begin-again}
+use Rattle.token.specs.Token.{bufferCode, startCode, tokenCode, beginOf, hunkOf, restOf, sessionOf, TokenStep, sendOf, keeps, settled, tokenOf}
+use Rattle.token.specs.Calls.{TokenCall, stepOf, accepted, shownOf, Ready, runOf, oksOf, hunksOf, leftOf, GoesOn, ceil, Calls}
+use Rattle.token.proofs.Tokens.{buffer-room, start-empty, start-again, begin-again, next-idle, next-ok, begin-next, sends, token-start, token-refused}
 
--- a call that passes its checks sends the next hunk
-pub token-sent : (r : Record) (page : List ℕ) (s : Session) (busy : Bool) (token : List ℕ) (pa size c : ℕ) → whenUp r (tokenCode (upOf r) page s busy token pa size c) ≡ Ok →
-    tokenOf r page s busy token pa size c ≡ sendOf (placeOf (upOf r) pa) token (beginOf s c) size page
-unfolding tokenOf settled
-token-sent r page s busy token pa size c h = rw h
+-- ---- the session once k bytes of the token were asked for
+unfoldable sessionAt : List ℕ → ℕ → Session
+sessionAt t k = cond (leb (length t) k) Idle (Sending (length t) k)
 
-module _ (token : List ℕ) (b : ℕ) where
-  session-more : (i : ℕ) → b < length token - i → sessionOf token i b ≡ Sending (length token) (i + b)
-  unfolding sessionOf restOf hunkOf
-  session-more i h =
-      let m : min b (length token - i) ≡ b = min-eq-left (omega arith) in
-      simp (m, ne-eqb (length token - i - b) 0 (λ e. omega arith))
+module _ (t : List ℕ) (k : ℕ) where
+  at-open : k < length t → sessionAt t k ≡ Sending (length t) k
+  unfolding sessionAt
+  at-open h = rw (lt-leb (length t) k h)
 
-  session-end : (i : ℕ) → length token - i ≤ b → sessionOf token i b ≡ Idle
-  unfolding sessionOf restOf hunkOf
-  session-end i h =
-      let m : min b (length token - i) ≡ length token - i = min-eq-right h in
-      let z : length token - i - (length token - i) ≡ 0 = omega arith in
-      simp (m, z)
+  at-end : length t ≤ k → sessionAt t k ≡ Idle
+  unfolding sessionAt
+  at-end h = rw (le-leb (length t) k h)
 
-  -- "a token of L bytes takes exactly L / b calls, rounded up": while fewer bytes are sent, b more each time, the session goes on
-  pub calls-more : (n : ℕ) → suc n * b < length token → afterCalls token b n ≡ Sending (length token) (suc n * b)
-  unfolding afterCalls sentOf
-  calls-more zero h =
-      let e : suc 0 * b ≡ b = suc-mul 0 b ∙ (let z : 0 * b + b ≡ b = omega arith in z) in
-      session-more 0 (omega arith) ∙ ap (Sending (length token)) (let z : 0 + b ≡ suc 0 * b = omega arith in z)
-  calls-more (suc n) h =
-      let e : suc (suc n) * b ≡ suc n * b + b = suc-mul (suc n) b in
-      let l : suc n * b < length token = omega arith in
-      rw (calls-more n l, e) (session-more (suc n * b) (omega arith))
+  is-open : (sessionAt t k ≡ Idle → ⊥) → k < length t
+  is-open f = go (decLe (length t) k)
+    where
+      go : Dec (length t ≤ k) → k < length t
+      go (yes a) = absurd (f (at-end a))
+      go (no a) = omega arith
 
-  -- and it ends with the call that sends the last of them
-  pub calls-end : (n : ℕ) → n * b < length token → length token ≤ suc n * b → afterCalls token b n ≡ Idle
-  unfolding afterCalls sentOf
-  calls-end zero h k =
-      let e : suc 0 * b ≡ 0 * b + b = suc-mul 0 b in
-      session-end 0 (omega arith)
-  calls-end (suc n) h k =
-      let e : suc (suc n) * b ≡ suc n * b + b = suc-mul (suc n) b in
-      rw (calls-more n h) (session-end (suc n * b) (omega arith))
+  is-end : sessionAt t k ≡ Idle → length t ≤ k
+  is-end h = go (decLt k (length t))
+    where
+      go : Dec (k < length t) → length t ≤ k
+      go (yes a) = let z : _≡_ {A = ℕ} 0 1 = cc (at-open a, h) in absurd (omega arith)
+      go (no a) = omega arith
 
--- ---- any sequence of further calls, refused ones among them
-data Settles (k : Code) (new : TokenStep) (page : List ℕ) (s : Session) : Type 0 where
-  sent : k ≡ Ok → isOk (settled k new page s .answer .code) ≡ true → settled k new page s .session ≡ new .session → Settles k new page s
-  kept : isOk (settled k new page s .answer .code) ≡ false → settled k new page s .session ≡ s → Settles k new page s
+-- ---- one hunk
+module _ (t : List ℕ) (i size : ℕ) where
+  session-next : i < length t → sessionOf t i size ≡ sessionAt t (i + size)
+  unfolding sessionOf sessionAt restOf hunkOf
+  session-next h = go (decLe (length t) (i + size))
+    where
+      go : Dec (length t ≤ i + size) → sessionOf t i size ≡ sessionAt t (i + size)
+      go (yes a) = rw (eq-eqb (length t - i - min size (length t - i)) 0 (omega arith), le-leb (length t) (i + size) a)
+      go (no a) = rw (ne-eqb (length t - i - min size (length t - i)) 0 (omega arith), lt-leb (length t) (i + size) (omega arith)) (ap (Sending (length t)) (omega arith))
 
-settles : (k : Code) (new : TokenStep) (page : List ℕ) (s : Session) → new .answer .code ≡ Ok → Settles k new page s
+  rest-next : restOf t i size ≡ length t - (i + size)
+  unfolding restOf hunkOf
+  rest-next = omega arith
+
+  hunk-length : length (part i (hunkOf t i size) t) ≡ hunkOf t i size
+  unfolding part hunkOf
+  hunk-length = rw (length-take, length-drop) (omega arith)
+
+  hunk-bytes : part i (hunkOf t i size) t ≡ take size (drop i t)
+  unfolding part hunkOf
+  hunk-bytes = go (decLe size (length t - i))
+    where
+      go : Dec (size ≤ length t - i) → take (min size (length t - i)) (drop i t) ≡ take size (drop i t)
+      go (yes a) = rw (let e : min size (length t - i) ≡ size = omega arith in e)
+      go (no a) = take-all (min size (length t - i)) (drop i t) (omega (arith, length-drop i t)) ∙ sym (take-all size (drop i t) (omega (arith, length-drop i t)))
+
+-- what was laid over the page stands there
+written : (at n : ℕ) (vs page : List ℕ) → length vs ≡ n → at ≤ length page → part at n (splice at vs page) ≡ vs
+unfolding part splice
+written at n vs page e h = rw (← e, append-assoc) (simp (drop-at, take-at, length-take-le at page h))
+
+-- ---- a call that is OK
+settled-ok : (k : Code) (new : TokenStep) (page : List ℕ) (s : Session) → isOk (settled k new page s .answer .code) ≡ true → k ≡ Ok
 unfolding settled keeps answerOf
-settles Ok new page s e = sent refl (ap isOk e) refl
-settles Unk new page s e = kept refl refl
-settles BadAddr new page s e = kept refl refl
-settles BadPas new page s e = kept refl refl
-settles Inval new page s e = kept refl refl
-settles Again new page s e = kept refl refl
+settled-ok Ok new page s h = refl
+settled-ok Unk new page s h = absurd (false≢true h)
+settled-ok BadAddr new page s h = absurd (false≢true h)
+settled-ok BadPas new page s h = absurd (false≢true h)
+settled-ok Inval new page s h = absurd (false≢true h)
+settled-ok Again new page s h = absurd (false≢true h)
 
--- with no session, a further call is refused
-idle-refused : (r : Record) (page : List ℕ) (s : Session) (busy : Bool) (token : List ℕ) (pa size : ℕ) → whenUp r (tokenCode (upOf r) page s busy token pa size 0) ≡ Ok → s ≡ Idle → ⊥
-unfolding whenUp tokenCode
-idle-refused r page s busy token pa size h e =
-    let p = fails-ok _ _ _ refl h in
-    let q = fails-ok _ _ _ refl (p .1) in
-    let t = fails-ok _ _ _ refl (q .1) in
-    let u = then-ok (bufferCode (upOf r) pa size 0) (startCode s 0 (length token)) (t .1) in
-    false≢true (ap isOk (sym (next-idle s 0 (length token) refl e) ∙ u))
+first-ok : (k next : Code) → andThen k next ≡ Ok → k ≡ Ok
+unfolding andThen
+first-ok Ok next h = refl
+first-ok Unk next h = h
+first-ok BadAddr next h = h
+first-ok BadPas next h = h
+first-ok Inval next h = h
+first-ok Again next h = h
 
-module _ (token : List ℕ) (b : ℕ) where
-  -- n calls after the start were OK before them
-  pub record Run (n : ℕ) (s : Session) (xs : List Call) : Type 0 where
-    pub ends : runOf token b s xs ≡ afterCalls token b (n + oksOf token b s xs)
-    pub below : (n + oksOf token b s xs) * b < length token
+unless-false : (b : Bool) → unless b ≡ false → b ≡ true
+unfolding unless
+unless-false true h = refl
+unless-false false h = sym h
 
-  on-more : (n : ℕ) → (afterCalls token b n ≡ Idle → ⊥) → n * b < length token → suc n * b < length token
-  on-more n f h = go (decLt (suc n * b) (length token))
-    where
-      go : Dec (suc n * b < length token) → suc n * b < length token
-      go (yes a) = a
-      go (no a) = absurd (f (calls-end token b n h (omega arith)))
+module _ (s : Session) (x : TokenCall) (h : accepted s x ≡ true) where
+  code-ok : whenUp (x .state) (tokenCode (upOf (x .state)) (x .page) s (x .busy) (x .token) (x .pa) (x .size) (x .csize)) ≡ Ok
+  unfolding accepted stepOf tokenOf
+  code-ok = settled-ok _ (sendOf (placeOf (upOf (x .state)) (x .pa)) (x .token) (beginOf s (x .csize)) (x .size) (x .page)) (x .page) s h
 
-  -- "refusals not counted": with the calls-more and calls-end above, the session ends with call number L / b, rounded up
-  pub calls-run : (n : ℕ) (s : Session) (xs : List Call) → s ≡ afterCalls token b n → n * b < length token → Run n s xs
-  unfolding runOf oksOf nextOf tokenOf sendOf answerOf afterCalls beginOf
-  calls-run n s [] e h =
-      let z : n + 0 ≡ n = omega arith in
-      record { ends = rw z e; below = rw z h }
-  calls-run n s (x ∷ xs) e h =
-      go
-      (settles (whenUp (x .state) (tokenCode (upOf (x .state)) (x .page) s (x .busy) token (x .pa) b 0)) (sendOf (placeOf (upOf (x .state)) (x .pa)) token (beginOf s 0) b (x .page)) (x .page) s refl)
-      (λ m t. calls-run m t xs)
-    where
-      go : Settles (whenUp (x .state) (tokenCode (upOf (x .state)) (x .page) s (x .busy) token (x .pa) b 0)) (sendOf (placeOf (upOf (x .state)) (x .pa)) token (beginOf s 0) b (x .page)) (x .page) s → ((m : ℕ) (t : Session) → t ≡ afterCalls token b m → m * b < length token → Run m t xs) → Run n s (x ∷ xs)
-      go (sent k o t) rec =
-          let f : afterCalls token b n ≡ Idle → ⊥ = λ i. idle-refused (x .state) (x .page) s (x .busy) token (x .pa) b k (e ∙ i) in
-          let r = rec (suc n) (nextOf token b s x .session) (t ∙ ap (λ q. sessionOf token (sentOf q) b) e) (on-more n f h) in
-          let q : n + (1 + oksOf token b (nextOf token b s x .session) xs) ≡ suc n + oksOf token b (nextOf token b s x .session) xs = omega arith in
-          record { ends = rw (o, q) (r .ends); below = rw (o, q) (r .below) }
-      go (kept o t) rec =
-          let r = rec n (nextOf token b s x .session) (t ∙ e) h in
-          let q : n + (0 + oksOf token b (nextOf token b s x .session) xs) ≡ n + oksOf token b (nextOf token b s x .session) xs = omega arith in
-          record { ends = rw (o, q) (r .ends); below = rw (o, q) (r .below) }
+  step-is : stepOf s x ≡ sendOf (placeOf (upOf (x .state)) (x .pa)) (x .token) (beginOf s (x .csize)) (x .size) (x .page)
+  unfolding stepOf tokenOf
+  step-is = sym (sends _ _ (x .page) s code-ok)
 
--- ---- a start that is OK, and any further calls, k of them OK: while (k + 1) * b < L the session goes on, and then it is ended
-pub record Took (token : List ℕ) (b : ℕ) (s : Session) (xs : List Call) : Type 0 where
-  pub below : oksOf token b s xs * b < length token
-  pub ended : length token ≤ suc (oksOf token b s xs) * b → runOf token b s xs ≡ Idle
-  pub goes-on : suc (oksOf token b s xs) * b < length token → runOf token b s xs ≡ Sending (length token) (suc (oksOf token b s xs) * b)
+  page-whole : length (x .page) ≡ 4096
+  unfolding whenUp tokenCode
+  page-whole = eqb-true _ _ (unless-false _ (fails-ok _ _ _ refl (fails-ok _ _ _ refl code-ok .1) .0))
 
-token-there : (r : Record) (page : List ℕ) (s : Session) (busy : Bool) (token : List ℕ) (pa b c : ℕ) → (c ≡ 0 → ⊥) → whenUp r (tokenCode (upOf r) page s busy token pa b c) ≡ Ok → 0 < length token
-unfolding whenUp tokenCode
-token-there r page s busy token pa b c n h =
-    let p = fails-ok _ _ _ refl h in
-    let q = fails-ok _ _ _ refl (p .1) in
-    let t = fails-ok _ _ _ refl (q .1) in
-    go (decLt 0 (length token)) (then-ok (bufferCode (upOf r) pa b c) (startCode s c (length token)) (t .1))
-  where
-    go : Dec (0 < length token) → startCode s c (length token) ≡ Ok → 0 < length token
-    go (yes a) u = a
-    go (no a) u = absurd (false≢true (ap isOk (sym (start-empty s c (length token) n (omega arith)) ∙ u)))
+  checks-ok : andThen (bufferCode (upOf (x .state)) (x .pa) (x .size) (x .csize)) (startCode s (x .csize) (length (x .token))) ≡ Ok
+  unfolding whenUp tokenCode
+  checks-ok = fails-ok _ _ _ refl (fails-ok _ _ _ refl (fails-ok _ _ _ refl code-ok .1) .1) .1
 
--- "With a fixed buffer of b bytes, .. one start and the same token lent throughout, a token of L bytes takes exactly L / b calls,
--- rounded up, refusals not counted": the start and k more end it just when k * b < L ≤ (k + 1) * b
-pub token-took : (r : Record) (page : List ℕ) (s : Session) (busy : Bool) (token : List ℕ) (pa b c : ℕ) → (c ≡ 0 → ⊥) → whenUp r (tokenCode (upOf r) page s busy token pa b c) ≡ Ok → (xs : List Call) →
-    Took token b (tokenOf r page s busy token pa b c .session) xs
-unfolding sendOf afterCalls
-token-took r page s busy token pa b c n h xs =
-    let l = token-there r page s busy token pa b c n h in
-    let a : tokenOf r page s busy token pa b c .session ≡ afterCalls token b 0 = ap (λ (t : TokenStep). t .session) (token-sent r page s busy token pa b c h) ∙ ap (λ (i : ℕ). sessionOf token i b) (sym (begin-again s c (length token) n)) in
-    let z : 0 * b < length token = omega arith in
-    let u = calls-run token b 0 (tokenOf r page s busy token pa b c .session) xs a z in
-    let q : 0 + oksOf token b (tokenOf r page s busy token pa b c .session) xs ≡ oksOf token b (tokenOf r page s busy token pa b c .session) xs = omega arith in
-    let w : oksOf token b (tokenOf r page s busy token pa b c .session) xs * b < length token = rw q at (u .below) in
-    let v : runOf token b (tokenOf r page s busy token pa b c .session) xs ≡ afterCalls token b (oksOf token b (tokenOf r page s busy token pa b c .session) xs) = u .ends ∙ ap (afterCalls token b) q in
+  session-is : beginOf s (x .csize) < length (x .token) → stepOf s x .session ≡ sessionAt (x .token) (beginOf s (x .csize) + x .size)
+  unfolding sendOf
+  session-is l = ap (λ (t : TokenStep). t .session) step-is ∙ session-next (x .token) (beginOf s (x .csize)) (x .size) l
+
+  left-is : stepOf s x .answer .x2 ≡ length (x .token) - (beginOf s (x .csize) + x .size)
+  unfolding sendOf answerOf
+  left-is = ap (λ (t : TokenStep). t .answer .x2) step-is ∙ rest-next (x .token) (beginOf s (x .csize)) (x .size)
+
+  shown-is : shownOf s x ≡ take (x .size) (drop (beginOf s (x .csize)) (x .token))
+  unfolding shownOf sendOf answerOf
+  shown-is =
+      let i : ℕ = beginOf s (x .csize) in
+      let n : ℕ = hunkOf (x .token) i (x .size) in
+      let at : ℕ = placeOf (upOf (x .state)) (x .pa) in
+      let r = buffer-room _ _ _ _ (first-ok _ _ checks-ok) in
+      let l : at ≤ length (x .page) = omega (arith, r .room, page-whole) in
+      rw h
+      (ap (λ (t : TokenStep). part at (t .answer .x1) (t .page)) step-is
+      ∙ written at n (part i n (x .token)) (x .page) (hunk-length (x .token) i (x .size)) l
+      ∙ hunk-bytes (x .token) i (x .size))
+
+-- a further call that is OK: the session is open, and the next bytes are sent
+record Next (t : List ℕ) (size k : ℕ) (s : Session) (x : TokenCall) : Type 0 where
+  below : k < length t
+  after : stepOf s x .session ≡ sessionAt t (k + size)
+  shown : shownOf s x ≡ take size (drop k t)
+  left : stepOf s x .answer .x2 ≡ length t - (k + size)
+
+step-on : (t : List ℕ) (size : ℕ) (s : Session) (x : TokenCall) (k : ℕ) → accepted s x ≡ true → x .csize ≡ 0 → x .size ≡ size → x .token ≡ t → s ≡ sessionAt t k → Next t size k s x
+step-on t size s x k h c z e o =
+    let q = then-ok _ _ (checks-ok s x h) in
+    let l : k < length t = is-open t k (λ i. false≢true (ap isOk (sym (next-idle s (x .csize) (length (x .token)) c (o ∙ i)) ∙ q))) in
+    let b : beginOf s (x .csize) ≡ k = sym (begin-next s (x .csize) (length (x .token)) c (length t) k (o ∙ at-open t k l)) in
     record {
-      below = w;
-      ended = λ k. v ∙ calls-end token b (oksOf token b (tokenOf r page s busy token pa b c .session) xs) w k;
-      goes-on = λ k. v ∙ calls-more token b (oksOf token b (tokenOf r page s busy token pa b c .session) xs) k;
+      below = l;
+      after = session-is s x h (rw (b, e) l) ∙ (cc);
+      shown = shown-is s x h ∙ (cc);
+      left = left-is s x h ∙ (cc);
     }
+
+-- a call that is refused shows nothing and leaves the session
+step-off : (s : Session) (x : TokenCall) → accepted s x ≡ false → (shownOf s x ≡ []) × (stepOf s x .session ≡ s)
+unfolding shownOf accepted stepOf
+step-off s x h = (rw h, ap (λ (t : TokenStep). t .session) (token-refused (x .state) (x .page) s (x .busy) (x .token) (x .pa) (x .size) (x .csize) h))
+
+-- a call that passes the checks of session and token, and the others, is OK
+ready-ok : (s : Session) (x : TokenCall) → Ready x → startCode s (x .csize) (length (x .token)) ≡ Ok → accepted s x ≡ true
+unfolding accepted stepOf tokenOf sendOf settled answerOf
+ready-ok s x a h = rw (token-start (x .state) (x .page) s (x .busy) (x .token) (x .pa) (x .size) (x .csize) (a .up) (a .whole) (a .free) (a .buffer) ∙ h)
+
+-- ---- any calls after the start
+-- n buffers of size were sent of t, from place k on
+record Sent (t : List ℕ) (size k n : ℕ) (bytes : List ℕ) (left : ℕ) (s : Session) : Type 0 where
+  joined : bytes ≡ take (n * size) (drop k t)
+  rest : left ≡ length t - (k + n * size)
+  ends : s ≡ sessionAt t (k + n * size)
+  no-more : k + n * size < length t + size
+
+sent-none : (t : List ℕ) (size k left : ℕ) (s : Session) → left ≡ length t - k → s ≡ sessionAt t k → k < length t + size → Sent t size k 0 [] left s
+sent-none t size k left s r h l = record { joined = rw zero-mul; rest = rw (zero-mul, add-zero) r; ends = rw (zero-mul, add-zero) h; no-more = rw (zero-mul, add-zero) l }
+
+sent-more : (t : List ℕ) (size k n : ℕ) (bytes : List ℕ) (left : ℕ) (s : Session) → Sent t size (k + size) n bytes left s → Sent t size k (1 + n) (take size (drop k t) ++ bytes) left s
+sent-more t size k n bytes left s p =
+    let e : (1 + n) * size ≡ size + n * size = rw one-add (rw suc-mul (omega arith)) in
+    record {
+      joined = rw (e, take-add, drop-drop, p .joined);
+      rest = p .rest ∙ rw (e, add-assoc);
+      ends = p .ends ∙ rw (e, add-assoc);
+      no-more = rw e (omega (arith, p .no-more));
+    }
+
+sent-same : (t : List ℕ) (size k n : ℕ) (bytes : List ℕ) (left : ℕ) (s : Session) → Sent t size k n bytes left s → Sent t size k (0 + n) ([] ++ bytes) left s
+sent-same t size k n bytes left s p = rw zero-add p
+
+module _ (t : List ℕ) (size : ℕ) where
+  goes-on : (xs : List TokenCall) (s : Session) (k left : ℕ) → left ≡ length t - k → s ≡ sessionAt t k → k < length t + size → GoesOn t size s xs →
+      Sent t size k (oksOf s xs) (hunksOf s xs) (leftOf left s xs) (runOf s xs)
+  unfolding oksOf hunksOf leftOf runOf
+  goes-on [] s k left r o l f = sent-none t size k left s r o l
+  goes-on (x ∷ xs) s k left r o l f = go (accepted s x) refl (λ i m q p j. goes-on xs (stepOf s x .session) i m q p j (f .1))
+    where
+      go : (b : Bool) → accepted s x ≡ b →
+          ((i m : ℕ) → m ≡ length t - i → stepOf s x .session ≡ sessionAt t i → i < length t + size →
+          Sent t size i (oksOf (stepOf s x .session) xs) (hunksOf (stepOf s x .session) xs) (leftOf m (stepOf s x .session) xs) (runOf (stepOf s x .session) xs)) →
+          Sent t size k (cond (accepted s x) 1 0 + oksOf (stepOf s x .session) xs) (shownOf s x ++ hunksOf (stepOf s x .session) xs) (leftOf (cond (accepted s x) (stepOf s x .answer .x2) left) (stepOf s x .session) xs) (runOf (stepOf s x .session) xs)
+      go true e ih =
+          let y = f .0 e in
+          let p = step-on t size s x k e (y .0) (y .1) (y .2) o in
+          rw (e, p .shown) (sent-more t size k _ _ _ _ (ih (k + size) (stepOf s x .answer .x2) (p .left) (p .after) (omega (arith, p .below))))
+      go false e ih =
+          let p = step-off s x e in
+          rw (e, p .0) (sent-same t size k _ _ _ _ (ih k left r (p .1 ∙ o) l))
+
+-- ---- the whole, from a start that is OK
+ceil-is : (l b n : ℕ) → 0 < b → l ≤ n * b → n * b < l + b → n ≡ ceil l b
+unfolding ceil
+ceil-is l b n p h k = sym (div-eq-of-lt-le b (omega arith) (rw (add-one, suc-mul) (omega arith)))
+
+ceil-above : (l b n : ℕ) → 0 < b → n * b < l → n < ceil l b
+unfolding ceil
+ceil-above l b n p h = le-div-iff-mul-le p .1 (rw suc-mul (omega arith))
+
+module _ (s : Session) (x : TokenCall) (xs : List TokenCall) (n : x .csize ≡ 0 → ⊥) (h : accepted s x ≡ true) (f : GoesOn (x .token) (x .size) (stepOf s x .session) xs) where
+  token-there : 0 < length (x .token)
+  token-there = go (decLt 0 (length (x .token)))
+    where
+      go : Dec (0 < length (x .token)) → 0 < length (x .token)
+      go (yes a) = a
+      go (no a) = absurd (false≢true (ap isOk (sym (start-empty s (x .csize) (length (x .token)) n (omega arith)) ∙ then-ok _ _ (checks-ok s x h))))
+
+  start-sent : Sent (x .token) (x .size) 0 (oksOf s (x ∷ xs)) (hunksOf s (x ∷ xs)) (leftOf 0 s (x ∷ xs)) (runOf s (x ∷ xs))
+  unfolding oksOf hunksOf leftOf runOf
+  start-sent =
+      let l = token-there in
+      let b : beginOf s (x .csize) ≡ 0 = sym (begin-again s (x .csize) (length (x .token)) n) in
+      let a = session-is s x h (rw b l) in
+      let d = left-is s x h in
+      rw (h, shown-is s x h, b)
+      (sent-more (x .token) (x .size) 0 _ _ _ _ (goes-on (x .token) (x .size) xs _ (0 + x .size) _ (rw b at d) (rw b at a) (omega (arith, l)) f))
+
+  -- "a token of L bytes takes exactly L / b calls, rounded up, refusals not counted", and the hunks joined are the token: of a start
+  -- that is OK, in any session, and any calls after it of which those that are OK go on with its token and buffer
+  pub token-calls : Calls (x .token) (x .size) (oksOf s (x ∷ xs)) (hunksOf s (x ∷ xs)) (leftOf 0 s (x ∷ xs)) (runOf s (x ∷ xs))
+  token-calls =
+      let t : List ℕ = x .token in
+      let b : ℕ = x .size in
+      let m : ℕ = oksOf s (x ∷ xs) in
+      let r = buffer-room _ _ _ _ (first-ok _ _ (checks-ok s x h)) in
+      let z : 0 < b = omega (arith, r .holds, n) in
+      let p = start-sent in
+      record {
+        ended = λ e.
+            let l : length t ≤ m * b = omega (arith, is-end t (0 + m * b) (sym (p .ends) ∙ e)) in
+            (ceil-is (length t) b m z l (omega (arith, p .no-more)), p .joined ∙ take-all (m * b) t l, p .rest ∙ (omega arith));
+        before = λ e.
+            let l : m * b < length t = omega (arith, is-open t (0 + m * b) (λ i. e (p .ends ∙ i))) in
+            (ceil-above (length t) b m z l, p .joined, p .rest ∙ (omega arith));
+      }
+
+  -- and it does end: until then a call with c_size 0 and that token is OK, if the checks of record, page, platform and buffer pass
+  pub token-goes : (runOf s (x ∷ xs) ≡ Idle → ⊥) → (y : TokenCall) → Ready y → y .csize ≡ 0 → y .token ≡ x .token → accepted (runOf s (x ∷ xs)) y ≡ true
+  token-goes e y a c d =
+      let t : List ℕ = x .token in
+      let k : ℕ = 0 + oksOf s (x ∷ xs) * x .size in
+      let p = start-sent in
+      let l : k < length t = is-open t k (λ i. e (p .ends ∙ i)) in
+      let w : length (y .token) ≡ length t = ap length d in
+      ready-ok (runOf s (x ∷ xs)) y a (next-ok _ (y .csize) (length (y .token)) c (length t) k (p .ends ∙ at-open t k l) (omega arith) w)
+
+-- "A nonzero c_size always starts again, also in mid-session": in any session it is OK, if those checks pass and the token is not empty
+pub token-starts : (s : Session) (x : TokenCall) → Ready x → (x .csize ≡ 0 → ⊥) → (length (x .token) ≡ 0 → ⊥) → accepted s x ≡ true
+token-starts s x a n e = ready-ok s x a (start-again s (x .csize) (length (x .token)) n e)

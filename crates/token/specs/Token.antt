@@ -1,7 +1,7 @@
 -- 0xC40001B3: platform token, and the lookup of its challenge. Assumes nothing.
-use Prim.Native.Nat.{ℕ, zero, suc, _+_, _-_, min}
+use Prim.Native.Nat.{ℕ, _+_, _-_, min}
 use mathlib.Core.Bool.{Bool, true, false, cond}
-use mathlib.Core.List.{List, [], _∷_}
+use mathlib.Core.List.{List, []}
 use lib.ListN.{length}
 use lib.Dec.{ltb, eqb}
 use Rattle.words.specs.Tests.{both, either}
@@ -100,30 +100,6 @@ settled k new page s = ifOk k new (keeps k page s)
 unfoldable pub tokenOf : Record → List ℕ → Session → Bool → List ℕ → ℕ → ℕ → ℕ → TokenStep
 tokenOf r page s busy token pa size c =
     settled (whenUp r (tokenCode (upOf r) page s busy token pa size c)) (sendOf (placeOf (upOf r) pa) token (beginOf s c) size page) page s
-
--- the session after a start and n more calls, each OK, with the same token and a buffer of b bytes
-unfoldable pub afterCalls : List ℕ → ℕ → ℕ → Session
-afterCalls token b zero = sessionOf token 0 b
-afterCalls token b (suc n) = sessionOf token (sentOf (afterCalls token b n)) b
-
--- a further call with the same token and a buffer of b bytes: c_size is 0, the rest any
-pub record Call : Type 0 where
-  pub state : Record
-  pub page : List ℕ
-  pub busy : Bool
-  pub pa : ℕ
-
-unfoldable pub nextOf : List ℕ → ℕ → Session → Call → TokenStep
-nextOf token b s x = tokenOf (x .state) (x .page) s (x .busy) token (x .pa) b 0
-
--- the session after a sequence of them, and how many of them are OK
-unfoldable pub runOf : List ℕ → ℕ → Session → List Call → Session
-runOf token b s [] = s
-runOf token b s (x ∷ xs) = runOf token b (nextOf token b s x .session) xs
-
-unfoldable pub oksOf : List ℕ → ℕ → Session → List Call → ℕ
-oksOf token b s [] = 0
-oksOf token b s (x ∷ xs) = ifOk (nextOf token b s x .answer .code) 1 0 + oksOf token b (nextOf token b s x .session) xs
 
 -- ---- the challenge
 -- ".. empty if the record is not up, the page is not 4,096 bytes long, or a BAD_ADDR or INVAL check above fails." The INVAL check of

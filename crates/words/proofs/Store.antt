@@ -1,12 +1,12 @@
 -- Bytes laid over a list at an offset. Assumes nothing.
 use Prim.Native.Nat.{ℕ, _+_, _-_, _*_, _/_, _%_, _^_, _≤_, _<_}
-use mathlib.Core.Path.{_≡_, sym, ap, _∙_}
+use mathlib.Core.Path.{_≡_, refl, sym, ap, _∙_}
 use mathlib.Core.List.{List, [], _∷_, _++_, append-assoc, append-nil}
 use native.Mathlib.Numerals.{add-one}
 use native.Mathlib.Nat.{add-assoc, zero-add}
 use native.Mathlib.Omega.{arith}
-use lib.ListN.{length, take, drop, getD, set, length-append, length-drop, drop-of-length-le}
-use lib.Seq.{length-take-le, take-at, drop-at, drop-drop, set-split, append-snoc, paste-zero, take-suc, take-length, take-all}
+use lib.ListN.{length, take, drop, getD, set, length-append, length-drop, drop-of-length-le, take-append-drop}
+use lib.Seq.{length-take-le, take-at, drop-at, drop-drop, drop-append-le, set-split, append-snoc, paste-zero, take-suc, take-length, take-all}
 use borrow.Author.Tests.{le-leb, lt-leb}
 use Rattle.words.specs.Word.{leOf, leBytes, part, numAt, bytesOf, splice, laid}
 use Rattle.words.proofs.Lists.{bytesOf-length, bytesOf-append}
@@ -142,3 +142,31 @@ lent-back at vs s h =
       bytes-in at vs s h,
     )
     (lent at vs s)
+
+over : (n : ℕ) (vs t : List ℕ) → n ≤ length t → length vs ≤ n → splice 0 vs (take n t) ++ drop n t ≡ splice 0 vs t
+unfolding splice
+over n vs t h k =
+    let l : length (take n t) ≡ n = length-take-le n t h in
+    let e : drop (0 + length vs) (take n t) ++ drop n t ≡ drop (0 + length vs) t = sym (drop-append-le (0 + length vs) (take n t) (drop n t) (omega arith)) ∙ ap (drop (0 + length vs)) (take-append-drop n t) in
+    append-assoc vs (drop (0 + length vs) (take n t)) (drop n t) ∙ ap (λ (r : List ℕ). vs ++ r) e
+
+-- a part lent from an offset on for n bytes: as it was, and laid over from its start
+pub part-back : (at n : ℕ) (s : List ℕ) → take at s ++ (take n (drop at s) ++ drop n (drop at s)) ≡ s
+part-back at n s = ap (λ (l : List ℕ). take at s ++ l) (take-append-drop n (drop at s)) ∙ take-append-drop at s
+
+pub buffer-back : (at n : ℕ) (vs s : List ℕ) → at + n ≤ length s → length vs ≤ n → take at s ++ (splice 0 vs (take n (drop at s)) ++ drop n (drop at s)) ≡ splice at vs s
+buffer-back at n vs s h k = ap (λ (l : List ℕ). take at s ++ l) within ∙ lent at vs s
+  where
+    within : splice 0 vs (take n (drop at s)) ++ drop n (drop at s) ≡ splice 0 vs (drop at s)
+    within = over n vs (drop at s) (omega (arith, length-drop at s)) k
+
+-- bytes laid over as many others are all there is; over more, they are the first
+pub laid-all : (vs s : List ℕ) → length vs ≡ length s → laid 0 vs s ≡ vs
+unfolding splice
+laid-all vs s e =
+    let d : drop (0 + length vs) s ≡ [] = drop-of-length-le s {i = 0 + length vs} (omega arith) in
+    bytes-in 0 vs s (omega arith) ∙ rw d (append-nil vs)
+
+pub laid-front : (vs s : List ℕ) → length vs ≤ length s → take (length vs) (laid 0 vs s) ≡ vs
+unfolding splice
+laid-front vs s h = rw (bytes-in 0 vs s (omega arith)) (take-at vs _ _ refl)

@@ -1,4 +1,5 @@
-// Little-endian fields of a lent slice: 8-byte words and 4-byte halves, read and written at any offset; lists of words written.
+// Little-endian fields of a lent slice: 8-byte words and 4-byte halves, read and written at any offset; 2-byte quarters and lists
+// of words written.
 ghost use mathlib.Core.Path.{_≡_};
 ghost use Prim.Native.Nat.{_+_, _<_, _≤_};
 ghost use lib.ListN.{length, replicate};
@@ -123,6 +124,19 @@ pub fn put_half(s: &mut [u8], at: usize, w: u64)
         return;
     }
     put_quad(s, at, w);
+}
+
+// Puts the low quarter of w at an offset; where it does not fit whole, no byte changes.
+pub fn put_quarter(s: &mut [u8], at: usize, w: u64)
+    ensures { λ _. ⌜ now (s .exit) ≡ laid at (leBytes 2 w) (now (s .entry)) ⌝ }
+{
+    if s.len() < 2 {
+        return;
+    }
+    if s.len() - 2 < at {
+        return;
+    }
+    put_pair(s, at, w);
 }
 
 // Puts a list of words from an offset on; where they do not all fit, no byte changes.

@@ -1,0 +1,68 @@
+// Requests: read from their buffer, and pushed to the queue.
+use codes::Code;
+use queue::Queue;
+use queue::Queued;
+use queue::Request;
+ghost use mathlib.Core.Path.{_≡_};
+ghost use mathlib.Core.Bool.{false};
+ghost use Prim.Native.Nat.{_≤_};
+ghost use lib.ListN.{length};
+ghost use Rattle.codes.specs.Codes.{isOk, answerOf};
+ghost use Rattle.queue.specs.Queue.{SigningStep, listsOf};
+ghost use Rattle.requests.specs.Push.{requestOf, pushOf};
+
+// The request in a buffer; the bytes between its fields are not read.
+fn request_of(buffer: &[u8]) -> Request
+    requires { ⌜ 80 ≤ length (now buffer) ⌝ }
+    ensures { λ r. ⌜ r ≡ requestOf (now (buffer .entry)) ⌝ }
+{
+    let mut hash = [0u8; 48];
+    words::copy(&mut hash, &buffer[32..80]);
+    Request {
+        algorithm: words::half_at(buffer, 0),
+        granule: words::word_at(buffer, 8),
+        ticket: words::word_at(buffer, 16),
+        hashid: words::half_at(buffer, 24),
+        hash,
+    }
+}
+
+// A refused push.
+fn refused(code: Code, queue: Queue) -> Queued
+    ensures { λ r. ⌜ (r .answer ≡ answerOf code 0 0) × (r .queue ≡ queue) ⌝ }
+{
+    Queued {
+        answer: codes::answered(code, 0, 0),
+        queue,
+    }
+}
+
+// Push: the request in the buffer joins the end of those that wait.
+pub fn push(buffer: &[u8], queue: Queue) -> Queued
+    ensures { λ r. ⌜ _≡_ {A = SigningStep} (record { answer = r .answer; page = now (buffer .entry); queue = listsOf (r .queue) }) (pushOf (now (buffer .entry)) (listsOf queue)) ⌝ }
+    ensures { λ r. ⌜ (isOk (r .answer .code) ≡ false → r .queue ≡ queue) ⌝ }
+{
+    if buffer.len() < 80 {
+        return refused(Code::Inval, queue);
+    }
+    let request = request_of(buffer);
+    if request.algorithm != 0 {
+        return refused(Code::Inval, queue);
+    }
+    if request.hashid != 1 {
+        return refused(Code::Inval, queue);
+    }
+    let requests = queue.requests;
+    let responses = queue.responses;
+    if 8 <= queue::request_count(requests) {
+        return refused(Code::Again, queue);
+    }
+    let more = queue::join_request(requests, request);
+    Queued {
+        answer: codes::answered(Code::Ok, 0, 0),
+        queue: Queue {
+            requests: more,
+            responses,
+        },
+    }
+}

@@ -1,0 +1,36 @@
+-- The signer's own step. Assumes nothing.
+use Prim.Native.Nat.{ℕ}
+use mathlib.Core.List.{List, [], _∷_, _++_}
+use lib.ListN.{length, drop}
+use lib.Dec.{leb, ltb, eqb}
+use Rattle.codes.specs.Codes.{fails, ifOk, answerOf}
+use Rattle.codes.specs.declared.Code.{Code}
+use Rattle.codes.specs.declared.Code.the-variants.{Ok, Inval, Again}
+use Rattle.codes.specs.declared.Answer.{Answer}
+use Rattle.queue.specs.declared.Request.{Request}
+use Rattle.queue.specs.Queue.{Signed, Lists, oldestRequest}
+
+-- "signature length not 1 to 104 INVAL; no request AGAIN; eight responses waiting AGAIN;"
+unfoldable pub signCode : Lists → List ℕ → Code
+signCode q s =
+    fails (eqb (length s) 0) Inval
+    (fails (ltb 104 (length s)) Inval
+    (fails (eqb (length (q .requests)) 0) Again
+    (fails (leb 8 (length (q .responses))) Again
+    Ok)))
+
+-- the response to a request: rec_granule and req_ticket are never altered
+unfoldable pub signedBy : Request → List ℕ → Signed
+signedBy r s = record { granule = r .granule; ticket = r .ticket; signature = s }
+
+-- "otherwise the oldest request becomes the newest response."
+unfoldable pub signed : Lists → List ℕ → Lists
+signed q s = record { requests = drop 1 (q .requests); responses = q .responses ++ (signedBy (oldestRequest (q .requests)) s ∷ []) }
+
+-- the answer, and what waits then
+pub record SignStep : Type 0 where
+  pub answer : Answer
+  pub queue : Lists
+
+unfoldable pub signOf : Lists → List ℕ → SignStep
+signOf q s = record { answer = answerOf (signCode q s) 0 0; queue = ifOk (signCode q s) (signed q s) q }

@@ -1,0 +1,122 @@
+// Responses: made by the signer's own step, and pulled into their buffer.
+use codes::Code;
+use queue::Queue;
+use queue::Queued;
+use queue::Response;
+ghost use mathlib.Core.Path.{_≡_};
+ghost use mathlib.Core.Bool.{false};
+ghost use Prim.Native.Nat.{_+_, _≤_};
+ghost use lib.ListN.{length};
+ghost use Rattle.words.specs.Word.{splice};
+ghost use Rattle.codes.specs.Codes.{isOk, answerOf};
+ghost use Rattle.queue.specs.Queue.{SigningStep, signedIn, listsOf};
+ghost use Rattle.responses.specs.Pull.{responseBytes, pullOf};
+ghost use Rattle.responses.specs.Sign.{SignStep, signOf};
+
+// How many bytes the signature of a response has; a length above 104 stands for 104.
+fn signature_len(response: Response) -> usize
+    ensures { λ r. ⌜ (r ≡ length (signedIn response .signature)) × (r ≤ 104) ⌝ }
+{
+    let n = response.len;
+    if 104 < n {
+        return 104;
+    }
+    n
+}
+
+// Writes a response at the start of a buffer that holds it.
+fn put_response(buffer: &mut [u8], response: Response)
+    requires { ⌜ 18 + length (signedIn response .signature) ≤ length (now buffer) ⌝ }
+    ensures { λ _. ⌜ now (buffer .exit) ≡ splice 0 (responseBytes (signedIn response)) (now (buffer .entry)) ⌝ }
+{
+    let n = signature_len(response);
+    let signature = response.signature;
+    words::put_word(buffer, 0, response.granule);
+    words::put_word(buffer, 8, response.ticket);
+    words::put_quarter(buffer, 16, n as u64);
+    words::copy(&mut buffer[18..], &signature[..n]);
+}
+
+// A refused call.
+fn refused(code: Code, queue: Queue) -> Queued
+    ensures { λ r. ⌜ (r .answer ≡ answerOf code 0 0) × (r .queue ≡ queue) ⌝ }
+{
+    Queued {
+        answer: codes::answered(code, 0, 0),
+        queue,
+    }
+}
+
+// Pull: writes the oldest response into the buffer and drops it; one that does not fit is kept.
+pub fn pull(buffer: &mut [u8], queue: Queue) -> Queued
+    ensures { λ r. ⌜ _≡_ {A = SigningStep} (record { answer = r .answer; page = now (buffer .exit); queue = listsOf (r .queue) }) (pullOf (now (buffer .entry)) (listsOf queue)) ⌝ }
+    ensures { λ r. ⌜ (isOk (r .answer .code) ≡ false → r .queue ≡ queue) ⌝ }
+{
+    let requests = queue.requests;
+    let responses = queue.responses;
+    if queue::response_count(responses) == 0 {
+        return refused(Code::Again, queue);
+    }
+    let response = queue::first_response(responses);
+    if buffer.len() < 18 + signature_len(response) {
+        return refused(Code::Inval, queue);
+    }
+    put_response(buffer, response);
+    let rest = queue::drop_response(responses);
+    Queued {
+        answer: codes::answered(Code::Ok, 0, 0),
+        queue: Queue {
+            requests,
+            responses: rest,
+        },
+    }
+}
+
+// The response that carries a signature, for a granule and a ticket.
+fn response_of(granule: u64, ticket: u64, signature: &[u8]) -> Response
+    requires { ⌜ length (now signature) ≤ 104 ⌝ }
+    ensures { λ r. ⌜ signedIn r ≡ record { granule = granule; ticket = ticket; signature = now (signature .entry) } ⌝ }
+{
+    let mut bytes = [0u8; 104];
+    words::copy(&mut bytes, signature);
+    Response {
+        granule,
+        ticket,
+        len: signature.len(),
+        signature: bytes,
+    }
+}
+
+// The signer's own step: the oldest request becomes the newest response, with the signature that the signer lends.
+pub fn sign(queue: Queue, signature: &[u8]) -> Queued
+    ensures { λ r. ⌜ _≡_ {A = SignStep} (record { answer = r .answer; queue = listsOf (r .queue) }) (signOf (listsOf queue) (now (signature .entry))) ⌝ }
+    ensures { λ r. ⌜ (isOk (r .answer .code) ≡ false → r .queue ≡ queue) ⌝ }
+{
+    if signature.len() == 0 {
+        return refused(Code::Inval, queue);
+    }
+    if 104 < signature.len() {
+        return refused(Code::Inval, queue);
+    }
+    let requests = queue.requests;
+    let responses = queue.responses;
+    if queue::request_count(requests) == 0 {
+        return refused(Code::Again, queue);
+    }
+    if 8 <= queue::response_count(responses) {
+        return refused(Code::Again, queue);
+    }
+    let first = queue::first_request(requests);
+    let rest = queue::drop_request(requests);
+    let more = queue::join_response(
+        responses,
+        response_of(first.granule, first.ticket, signature),
+    );
+    Queued {
+        answer: codes::answered(Code::Ok, 0, 0),
+        queue: Queue {
+            requests: rest,
+            responses: more,
+        },
+    }
+}
