@@ -1,0 +1,157 @@
+// Token signing: push, pull and key by opcode, each on its buffer in the page.
+use boot::Kept;
+use boot::Record;
+use codes::Code;
+use codes::Gate;
+use queue::Queue;
+use queue::Queued;
+use range::Fit;
+ghost use mathlib.Core.Path.{_≡_};
+ghost use mathlib.Core.Bool.{false};
+ghost use Prim.Native.Nat.{_+_, _≤_};
+ghost use lib.ListN.{length};
+ghost use Rattle.range.specs.Range.{placeOf};
+ghost use Rattle.codes.specs.Codes.{isOk, answerOf, gated};
+ghost use Rattle.queue.specs.Queue.{SigningStep, queued, listsOf};
+ghost use Rattle.signing.specs.Signing.{opcodeOf, isOther, badCurve, sharedCode, publicOf, opCode, opStep, signingOf};
+
+// What a token signing call asks for.
+pub enum Opcode {
+    Push,
+    Pull,
+    Key,
+    Other,
+}
+
+fn opcode_of(n: u64) -> Opcode
+    ensures { λ r. ⌜ r ≡ opcodeOf n ⌝ }
+{
+    match n {
+        1 => Opcode::Push,
+        2 => Opcode::Pull,
+        3 => Opcode::Key,
+        _ => Opcode::Other,
+    }
+}
+
+// Whether the opcode is none that is listed.
+fn is_other(opcode: Opcode) -> bool
+    ensures { λ r. ⌜ r ≡ isOther opcode ⌝ }
+{
+    match opcode {
+        Opcode::Push => false,
+        Opcode::Pull => false,
+        Opcode::Key => false,
+        Opcode::Other => true,
+    }
+}
+
+// Whether the key of a curve that is not there is asked for.
+fn bad_curve(opcode: Opcode, curve: u64) -> bool
+    ensures { λ r. ⌜ r ≡ badCurve opcode curve ⌝ }
+{
+    match opcode {
+        Opcode::Push => false,
+        Opcode::Pull => false,
+        Opcode::Key => {
+            if curve == 0 {
+                return false;
+            }
+            true
+        }
+        Opcode::Other => false,
+    }
+}
+
+// The checks that all opcodes share, and the buffer's offset in the page.
+fn gate_of(kept: Kept, opcode: Opcode, pa: u64, size: u64, curve: u64) -> Gate
+    ensures { λ r. ⌜ r ≡ gated (sharedCode kept opcode pa size curve) (placeOf kept pa) ⌝ }
+{
+    if is_other(opcode) {
+        return Gate::Stop(Code::Inval);
+    }
+    match range::fit_of(kept, pa, size) {
+        Fit::Outside => Gate::Stop(Code::Inval),
+        Fit::TooLong => Gate::Stop(Code::Inval),
+        Fit::At(at) => {
+            if bad_curve(opcode, curve) {
+                return Gate::Stop(Code::Inval);
+            }
+            if kept.minor < 4 {
+                return Gate::Stop(Code::Unk);
+            }
+            Gate::Go(at)
+        }
+    }
+}
+
+// A refused call.
+fn refused(code: Code, queue: Queue) -> Queued
+    ensures { λ r. ⌜ (r .answer ≡ answerOf code 0 0) × (r .queue ≡ queue) ⌝ }
+{
+    Queued {
+        answer: codes::answered(code, 0, 0),
+        queue,
+    }
+}
+
+// Key: writes the public key that the platform lends into the buffer; x1 is its length.
+fn public_key(buffer: &mut [u8], queue: Queue, key: &[u8]) -> Queued
+    ensures { λ r. ⌜ _≡_ {A = SigningStep} (record { answer = r .answer; page = now (buffer .exit); queue = listsOf (r .queue) }) (publicOf (now (buffer .entry)) (listsOf queue) (now (key .entry))) ⌝ }
+    ensures { λ r. ⌜ (isOk (r .answer .code) ≡ false → r .queue ≡ queue) ⌝ }
+{
+    if key.len() == 0 {
+        return refused(Code::Again, queue);
+    }
+    if buffer.len() < key.len() {
+        return refused(Code::Inval, queue);
+    }
+    words::copy(buffer, key);
+    Queued {
+        answer: codes::answered(Code::Ok, key.len() as u64, 0),
+        queue,
+    }
+}
+
+// A call whose buffer passed, at an offset of the page: the buffer is lent to what the opcode asks for.
+fn serve(page: &mut [u8], at: usize, size: u64, queue: Queue, key: &[u8], opcode: Opcode) -> Queued
+    requires { ⌜ at + size ≤ length (now page) ⌝ }
+    ensures { λ r. ⌜ _≡_ {A = SigningStep} (record { answer = r .answer; page = now (page .exit); queue = listsOf (r .queue) }) (queued (opCode opcode at size (now (page .entry)) (listsOf queue) (now (key .entry))) (opStep opcode at size (now (page .entry)) (listsOf queue) (now (key .entry))) (now (page .entry)) (listsOf queue)) ⌝ }
+    ensures { λ r. ⌜ (isOk (r .answer .code) ≡ false → r .queue ≡ queue) ⌝ }
+{
+    let end = at + size as usize;
+    match opcode {
+        Opcode::Push => requests::push(&page[at..end], queue),
+        Opcode::Pull => responses::pull(&mut page[at..end], queue),
+        Opcode::Key => public_key(&mut page[at..end], queue, key),
+        Opcode::Other => refused(Code::Inval, queue),
+    }
+}
+
+// 0xC40001B5: push, pull or key, by opcode, on a buffer of so many bytes at pa. The key is the public one that the platform lends.
+pub fn token_signing(
+    state: Record,
+    page: &mut [u8],
+    queue: Queue,
+    key: &[u8],
+    opcode: u64,
+    pa: u64,
+    size: u64,
+    curve: u64,
+) -> Queued
+    ensures { λ r. ⌜ _≡_ {A = SigningStep} (record { answer = r .answer; page = now (page .exit); queue = listsOf (r .queue) }) (signingOf state (now (page .entry)) (listsOf queue) (now (key .entry)) opcode pa size curve) ⌝ }
+    ensures { λ r. ⌜ (isOk (r .answer .code) ≡ false → r .queue ≡ queue) ⌝ }
+{
+    if !codes::is_up(state) {
+        return refused(Code::Unk, queue);
+    }
+    if page.len() != 4096 {
+        return refused(Code::Unk, queue);
+    }
+    let asked = opcode_of(opcode);
+    let gate = gate_of(codes::up_of(state), asked, pa, size, curve);
+    match gate {
+        Gate::Stop(code) => refused(code, queue),
+        Gate::Go(at) => serve(page, at, size, queue, key, asked),
+    }
+}
