@@ -1,0 +1,206 @@
+-- The signing queue over any sequence of commands: what goes in comes out, whole and in order. Assumes nothing.
+use Prim.Native.Nat.{ℕ}
+use mathlib.Core.Path.{_≡_, refl, sym, ap, ap₂, _∙_}
+use mathlib.Core.Bool.{Bool, true, false, cond, true≢false}
+use mathlib.Core.List.{List, [], _∷_, _++_, append-assoc, append-nil, map, map-append}
+use lib.ListN.{length, take, drop, take-append-drop}
+use lib.Dec.{eqb}
+use Rattle.words.specs.Word.{part}
+use Rattle.boot.specs.declared.Record.{Record}
+use Rattle.range.specs.Range.{placeOf}
+use Rattle.codes.specs.Codes.{isOk, upOf, whenUp, answerOf}
+use Rattle.codes.proofs.Gates.{fails-ok}
+use Rattle.codes.specs.declared.Code.{Code}
+use Rattle.codes.specs.declared.Code.the-variants.{Ok, Unk, BadAddr, BadPas, Inval, Again}
+use Rattle.granules.specs.declared.Granules.{Granules}
+use Rattle.queue.specs.declared.Request.{Request}
+use Rattle.queue.specs.Queue.{Signed, Lists, queued, oldestRequest}
+use Rattle.requests.specs.Push.{requestOf, pushed}
+use Rattle.responses.specs.Pull.{pulled}
+use Rattle.responses.specs.Sign.{signCode, signedBy, signed, signOf}
+use Rattle.signing.specs.Signing.{opcodeOf, opStep, signingCode, signingOf}
+use Rattle.signing.specs.declared.Opcode.{Opcode}
+use Rattle.signing.specs.declared.Opcode.the-variants.{Push, Pull, Key, Other}
+use Rattle.runtime.specs.declared.Kind.{Kind}
+use Rattle.runtime.specs.declared.Kind.the-variants.{ForwardError, Delegate, Undelegate, RealmKey, PlatformToken, Features, TokenSigning, KeyUpdate, Unlisted}
+use Rattle.runtime.specs.Step.{World, Call, Command, call, sign, kindOf, afterMove, afterKey, afterToken, afterSigning, afterUpdate, afterSign, callBy, callOf, stepOf, codeOf}
+use Rattle.runtime.specs.Run.{nextOf, accepted, worldAfter, gathered, ofSigning, ofPush, ofPull, pushes, pulls, signs, makes}
+
+none : {A : Type 0} (b : Bool) (l : List A) → l ++ cond b [] [] ≡ l
+none true l = append-nil l
+none false l = append-nil l
+
+nothing : {A : Type 0} (b : Bool) (l : List A) → l ≡ cond b [] [] ++ l
+nothing true l = refl
+nothing false l = refl
+
+-- ---- one signing call, by the code of its checks and its opcode
+module _ (at size : ℕ) (page : List ℕ) (q : Lists) (key : List ℕ) where
+  op-requests : (k : Code) (o : Opcode) →
+      q .requests ++ cond (isOk (queued k (opStep o at size page q key) page q .answer .code)) (ofPush o (requestOf (part at size page) ∷ [])) [] ≡ queued k (opStep o at size page q key) page q .queue .requests
+  unfolding queued opStep answerOf pushed pulled
+  op-requests Ok Push = refl
+  op-requests Ok Pull = append-nil (q .requests)
+  op-requests Ok Key = append-nil (q .requests)
+  op-requests Ok Other = append-nil (q .requests)
+  op-requests Unk o = append-nil (q .requests)
+  op-requests BadAddr o = append-nil (q .requests)
+  op-requests BadPas o = append-nil (q .requests)
+  op-requests Inval o = append-nil (q .requests)
+  op-requests Again o = append-nil (q .requests)
+
+  op-responses : (k : Code) (o : Opcode) →
+      q .responses ≡ cond (isOk (queued k (opStep o at size page q key) page q .answer .code)) (ofPull o (take 1 (q .responses))) [] ++ queued k (opStep o at size page q key) page q .queue .responses
+  unfolding queued opStep answerOf pushed pulled
+  op-responses Ok Push = refl
+  op-responses Ok Pull = sym (take-append-drop 1 (q .responses))
+  op-responses Ok Key = refl
+  op-responses Ok Other = refl
+  op-responses Unk o = refl
+  op-responses BadAddr o = refl
+  op-responses BadPas o = refl
+  op-responses Inval o = refl
+  op-responses Again o = refl
+
+-- ---- one call
+module _ (r : Record) (g : Granules) (w : World) (c : Call) where
+  call-requests : (k : Kind) →
+      w .queue .requests ++ cond (isOk (codeOf (callBy k r g w c .reply))) (ofSigning k (ofPush (opcodeOf (c .x1)) (requestOf (part (placeOf (upOf r) (c .x2)) (c .x3) (w .page)) ∷ []))) [] ≡ callBy k r g w c .next .queue .requests
+  unfolding callBy afterMove afterKey afterToken afterSigning afterUpdate codeOf signingOf
+  call-requests ForwardError = append-nil (w .queue .requests)
+  call-requests Delegate = none (isOk (codeOf (callBy Delegate r g w c .reply))) (w .queue .requests)
+  call-requests Undelegate = none (isOk (codeOf (callBy Undelegate r g w c .reply))) (w .queue .requests)
+  call-requests RealmKey = none (isOk (codeOf (callBy RealmKey r g w c .reply))) (w .queue .requests)
+  call-requests PlatformToken = none (isOk (codeOf (callBy PlatformToken r g w c .reply))) (w .queue .requests)
+  call-requests Features = none (isOk (codeOf (callBy Features r g w c .reply))) (w .queue .requests)
+  call-requests TokenSigning = op-requests (placeOf (upOf r) (c .x2)) (c .x3) (w .page) (w .queue) (c .publicKey) _ (opcodeOf (c .x1))
+  call-requests KeyUpdate = none (isOk (codeOf (callBy KeyUpdate r g w c .reply))) (w .queue .requests)
+  call-requests Unlisted = none (isOk (codeOf (callBy Unlisted r g w c .reply))) (w .queue .requests)
+
+  call-responses : (k : Kind) →
+      w .queue .responses ≡ cond (isOk (codeOf (callBy k r g w c .reply))) (ofSigning k (ofPull (opcodeOf (c .x1)) (take 1 (w .queue .responses)))) [] ++ callBy k r g w c .next .queue .responses
+  unfolding callBy afterMove afterKey afterToken afterSigning afterUpdate codeOf signingOf
+  call-responses ForwardError = refl
+  call-responses Delegate = nothing (isOk (codeOf (callBy Delegate r g w c .reply))) (w .queue .responses)
+  call-responses Undelegate = nothing (isOk (codeOf (callBy Undelegate r g w c .reply))) (w .queue .responses)
+  call-responses RealmKey = nothing (isOk (codeOf (callBy RealmKey r g w c .reply))) (w .queue .responses)
+  call-responses PlatformToken = nothing (isOk (codeOf (callBy PlatformToken r g w c .reply))) (w .queue .responses)
+  call-responses Features = nothing (isOk (codeOf (callBy Features r g w c .reply))) (w .queue .responses)
+  call-responses TokenSigning = op-responses (placeOf (upOf r) (c .x2)) (c .x3) (w .page) (w .queue) (c .publicKey) _ (opcodeOf (c .x1))
+  call-responses KeyUpdate = nothing (isOk (codeOf (callBy KeyUpdate r g w c .reply))) (w .queue .responses)
+  call-responses Unlisted = nothing (isOk (codeOf (callBy Unlisted r g w c .reply))) (w .queue .responses)
+
+-- ---- one step of the signer
+first : (s : List ℕ) (l : List Request) → eqb (length l) 0 ≡ false → map (λ (x : Request). signedBy x s) (take 1 l) ≡ signedBy (oldestRequest l) s ∷ []
+unfolding oldestRequest
+first s [] h = absurd (true≢false h)
+first s (x ∷ l) h = refl
+
+sign-some : (q : Lists) (s : List ℕ) → signCode q s ≡ Ok → map (λ (x : Request). signedBy x s) (take 1 (q .requests)) ≡ signedBy (oldestRequest (q .requests)) s ∷ []
+unfolding signCode
+sign-some q s h =
+    let a = fails-ok _ _ _ refl h in
+    let b = fails-ok _ _ _ refl (a .1) in
+    let d = fails-ok _ _ _ refl (b .1) in
+    first s (q .requests) (d .0)
+
+sign-requests : (q : Lists) (s : List ℕ) (k : Code) (n : Lists) → n .requests ≡ drop 1 (q .requests) → q .requests ++ [] ≡ cond (isOk k) (take 1 (q .requests)) [] ++ (cond (isOk k) n q) .requests
+sign-requests q s Ok n e = append-nil (q .requests) ∙ sym (take-append-drop 1 (q .requests)) ∙ ap (λ l. take 1 (q .requests) ++ l) (sym e)
+sign-requests q s Unk n e = append-nil (q .requests)
+sign-requests q s BadAddr n e = append-nil (q .requests)
+sign-requests q s BadPas n e = append-nil (q .requests)
+sign-requests q s Inval n e = append-nil (q .requests)
+sign-requests q s Again n e = append-nil (q .requests)
+
+sign-responses : (q : Lists) (k : Code) (came : List Signed) (n : Lists) → (k ≡ Ok → n .responses ≡ q .responses ++ came) → q .responses ++ cond (isOk k) came [] ≡ (cond (isOk k) n q) .responses
+sign-responses q Ok came n e = sym (e refl)
+sign-responses q Unk came n e = append-nil (q .responses)
+sign-responses q BadAddr came n e = append-nil (q .responses)
+sign-responses q BadPas came n e = append-nil (q .responses)
+sign-responses q Inval came n e = append-nil (q .responses)
+sign-responses q Again came n e = append-nil (q .responses)
+
+-- ---- one command
+module _ (r : Record) (g : Granules) (w : World) where
+  step-requests : (c : Command) → w .queue .requests ++ pushes r g w c ≡ signs r g w c ++ nextOf r g w c .queue .requests
+  unfolding pushes signs stepOf callOf afterSign signOf signed answerOf codeOf
+  step-requests (call c) = call-requests r g w c (kindOf (c .id))
+  step-requests (sign s) = sign-requests (w .queue) s (signCode (w .queue) s) (signed (w .queue) s) refl
+
+  step-responses : (c : Command) → w .queue .responses ++ makes r g w c ≡ pulls r g w c ++ nextOf r g w c .queue .responses
+  unfolding makes pulls stepOf callOf afterSign signOf signed answerOf codeOf
+  step-responses (call c) = append-nil (w .queue .responses) ∙ call-responses r g w c (kindOf (c .id))
+  step-responses (sign s) =
+      sign-responses (w .queue) (signCode (w .queue) s) (map (λ (x : Request). signedBy x s) (take 1 (w .queue .requests))) (signed (w .queue) s) (λ e. ap (λ l. w .queue .responses ++ l) (sym (sign-some (w .queue) s e)))
+
+-- ---- any sequence
+-- what waits at first and what came in, in order, is what went out and what waits at last
+books : {A : Type 0} (r : Record) (g : Granules) (held : World → List A) (came went : World → Command → List A) → ((w : World) (c : Command) → held w ++ came w c ≡ went w c ++ held (nextOf r g w c)) →
+    (w : World) (cs : List Command) → held w ++ gathered r g came w cs ≡ gathered r g went w cs ++ held (worldAfter r g w cs)
+unfolding gathered worldAfter
+books r g held came went one w [] = append-nil (held w)
+books r g held came went one w (c ∷ cs) =
+    sym (append-assoc (held w) (came w c) (gathered r g came (nextOf r g w c) cs))
+    ∙ ap (λ l. l ++ gathered r g came (nextOf r g w c) cs) (one w c)
+    ∙ append-assoc (went w c) (held (nextOf r g w c)) (gathered r g came (nextOf r g w c) cs)
+    ∙ ap (λ l. went w c ++ l) (books r g held came went one (nextOf r g w c) cs)
+    ∙ sym (append-assoc (went w c) (gathered r g went (nextOf r g w c) cs) (held (worldAfter r g (nextOf r g w c) cs)))
+
+module _ (r : Record) (g : Granules) (w : World) (cs : List Command) where
+  -- the requests that waited, then those pushed, are those signed, then those that wait
+  pub requests-in-order : w .queue .requests ++ gathered r g (pushes r g) w cs ≡ gathered r g (signs r g) w cs ++ worldAfter r g w cs .queue .requests
+  requests-in-order = books r g (λ v. v .queue .requests) (pushes r g) (signs r g) (step-requests r g) w cs
+
+  -- the responses that waited, then those made, are those pulled, then those that wait
+  pub responses-in-order : w .queue .responses ++ gathered r g (makes r g) w cs ≡ gathered r g (pulls r g) w cs ++ worldAfter r g w cs .queue .responses
+  responses-in-order = books r g (λ v. v .queue .responses) (makes r g) (pulls r g) (step-responses r g) w cs
+
+-- ---- end to end: rec_granule and req_ticket come out in the order in which they went in, and are never altered
+pub record Name : Type 0 where
+  pub granule : ℕ
+  pub ticket : ℕ
+
+abbrev pub asks : Request → Name
+asks x = record { granule = x .granule; ticket = x .ticket }
+
+abbrev pub gives : Signed → Name
+gives x = record { granule = x .granule; ticket = x .ticket }
+
+made-names : (s : List ℕ) (b : Bool) (l : List Request) → map gives (cond b (map (λ (x : Request). signedBy x s) (take 1 l)) []) ≡ map asks (cond b (take 1 l) [])
+unfolding signedBy
+made-names s true [] = refl
+made-names s true (x ∷ l) = refl
+made-names s false l = refl
+
+step-names : (r : Record) (g : Granules) (w : World) (c : Command) → map gives (makes r g w c) ≡ map asks (signs r g w c)
+unfolding makes signs
+step-names r g w (call c) = refl
+step-names r g w (sign s) = made-names s (accepted r g w (sign s)) (w .queue .requests)
+
+all-names : (r : Record) (g : Granules) (w : World) (cs : List Command) → map gives (gathered r g (makes r g) w cs) ≡ map asks (gathered r g (signs r g) w cs)
+unfolding gathered
+all-names r g w [] = refl
+all-names r g w (c ∷ cs) =
+    map-append gives (makes r g w c) (gathered r g (makes r g) (nextOf r g w c) cs)
+    ∙ ap₂ (λ x y. x ++ y) (step-names r g w c) (all-names r g (nextOf r g w c) cs)
+    ∙ sym (map-append asks (signs r g w c) (gathered r g (signs r g) (nextOf r g w c) cs))
+
+-- two queues in a row are one
+end-to-end : {A B C : Type 0} (f : A → C) (h : B → C) (d made out d' : List A) (a came taken a' : List B) → a ++ came ≡ taken ++ a' → d ++ made ≡ out ++ d' → map f made ≡ map h taken →
+    (map f d ++ map h a) ++ map h came ≡ map f out ++ (map f d' ++ map h a')
+end-to-end f h d made out d' a came taken a' p q m =
+    append-assoc (map f d) (map h a) (map h came)
+    ∙ ap (λ l. map f d ++ l) (sym (map-append h a came) ∙ ap (map h) p ∙ map-append h taken a' ∙ ap (λ l. l ++ map h a') (sym m))
+    ∙ sym (append-assoc (map f d) (map f made) (map h a'))
+    ∙ ap (λ l. l ++ map h a') (sym (map-append f d made) ∙ ap (map f) q ∙ map-append f out d')
+    ∙ append-assoc (map f out) (map f d') (map h a')
+
+abbrev pub names : Lists → List Name
+names q = map gives (q .responses) ++ map asks (q .requests)
+
+pub names-in-order : (r : Record) (g : Granules) (w : World) (cs : List Command) →
+    names (w .queue) ++ map asks (gathered r g (pushes r g) w cs) ≡ map gives (gathered r g (pulls r g) w cs) ++ names (worldAfter r g w cs .queue)
+names-in-order r g w cs =
+    end-to-end gives asks (w .queue .responses) (gathered r g (makes r g) w cs) (gathered r g (pulls r g) w cs) (worldAfter r g w cs .queue .responses)
+    (w .queue .requests) (gathered r g (pushes r g) w cs) (gathered r g (signs r g) w cs) (worldAfter r g w cs .queue .requests)
+    (requests-in-order r g w cs) (responses-in-order r g w cs) (all-names r g w cs)
