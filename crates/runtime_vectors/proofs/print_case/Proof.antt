@@ -1,0 +1,66 @@
+use lib.Seq.{length-take-le}
+use mathlib.Core.Path.{sym}
+use borrow.Author.Needs.{needs}
+use Rattle.runtime_vectors.proofs.print_case.Statement.{statement}
+use Rattle.runtime_vectors.proofs.print_case.Tie as tie
+
+word-at-requires : tie.Need-word-at-requires
+word-at-requires c κs = search needs
+
+at-most-requires : tie.Need-at-most-requires
+at-most-requires c κs = search needs
+
+word-at-requires-2 : tie.Need-word-at-requires-2
+word-at-requires-2 c κs = search needs
+
+at-most-requires-2 : tie.Need-at-most-requires-2
+at-most-requires-2 c κs = search needs
+
+array-borrow-prefix-page : tie.Need-array-borrow-prefix-page
+array-borrow-prefix-page c = search needs
+
+slice-aggregate-print-lent : tie.Need-slice-aggregate-print-lent
+slice-aggregate-print-lent c = sym (length-take-le _ _ (search needs))
+
+array-borrow-prefix-expected : tie.Need-array-borrow-prefix-expected
+array-borrow-prefix-expected c = search needs
+
+slice-aggregate-print-lent-2 : tie.Need-slice-aggregate-print-lent-2
+slice-aggregate-print-lent-2 c = sym (length-take-le _ _ (search needs))
+
+array-borrow-prefix-table : tie.Need-array-borrow-prefix-table
+array-borrow-prefix-table c = search needs
+
+slice-aggregate-print-lent-3 : tie.Need-slice-aggregate-print-lent-3
+slice-aggregate-print-lent-3 c = sym (length-take-le _ _ (search needs))
+
+array-borrow-prefix-wanted : tie.Need-array-borrow-prefix-wanted
+array-borrow-prefix-wanted c = search needs
+
+slice-aggregate-print-lent-4 : tie.Need-slice-aggregate-print-lent-4
+slice-aggregate-print-lent-4 c = sym (length-take-le _ _ (search needs))
+
+print-lent-requires : tie.Need-print-lent-requires
+print-lent-requires c κs = search needs
+
+returns : tie.Need-returns
+returns c = search needs
+
+pub print-case-spec : {M : Type 1} → statement M
+print-case-spec =
+    tie.close
+    (tie.spec
+    word-at-requires
+    at-most-requires
+    word-at-requires-2
+    at-most-requires-2
+    array-borrow-prefix-page
+    slice-aggregate-print-lent
+    array-borrow-prefix-expected
+    slice-aggregate-print-lent-2
+    array-borrow-prefix-table
+    slice-aggregate-print-lent-3
+    array-borrow-prefix-wanted
+    slice-aggregate-print-lent-4
+    print-lent-requires
+    returns)

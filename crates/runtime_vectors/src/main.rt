@@ -1,0 +1,433 @@
+// Runs the runtime's operations that the numbered cases of data/ describe, in turn, up to the first case that is missing. A case
+// is 8-byte words: the record (0 fresh, 1 up, 2 closed, then what it keeps), G, MECIDWidthm1, the session (0 idle, 1 sending, then
+// whole and sent), the places of page, table, realm key, public key and queue, the number of operations; then the operations.
+// A place is an offset in the file and a length. An operation: its kind (0 call, 1 signer's step, 2 challenge lookup, 3 oldest
+// request), function id, x1 to x4, busy, the places of token and signature, and what is to change in page and table: each an offset
+// there, and the place of the new bytes. Prints each answer and the state after it, and at the end of a case the whole queue.
+use codes::Answer;
+use codes::Work;
+use granules::Granules;
+use libc::STDOUT_FILENO;
+use queue::Queue;
+use queue::Request;
+use queue::Requests;
+use queue::Response;
+use queue::Responses;
+use queue::Waiting;
+use runtime::Reply;
+use token::Session;
+ghost use Prim.Native.Nat.{_≤_};
+
+// What goes from one operation to the next.
+struct State {
+    session: Session,
+    queue: Queue,
+}
+
+// ---- Reading a case ----
+
+// The part of a slice that has so many bytes from an offset on; empty where they are not all there.
+fn part(s: &[u8], at: usize, n: usize) -> &[u8] {
+    if s.len() < at {
+        return &s[0..0];
+    }
+    if s.len() - at < n {
+        return &s[0..0];
+    }
+    let end = at + n;
+    &s[at..end]
+}
+
+// What stands at the place that two words of the case give.
+fn lent(input: &[u8], at: usize) -> &[u8]
+    requires { ⌜ at ≤ 50000 ⌝ }
+{
+    let from = cases::at_most(words::word_at(input, at), 40000);
+    let length = cases::at_most(words::word_at(input, at + 8), 40000);
+    part(input, from, length)
+}
+
+fn request_at(image: &[u8], at: usize) -> Request
+    requires { ⌜ at ≤ 2000 ⌝ }
+{
+    let mut hash = [0u8; 48];
+    words::copy(&mut hash, part(image, at + 32, 48));
+    Request {
+        algorithm: words::word_at(image, at),
+        granule: words::word_at(image, at + 8),
+        ticket: words::word_at(image, at + 16),
+        hashid: words::word_at(image, at + 24),
+        hash,
+    }
+}
+
+fn response_at(image: &[u8], at: usize) -> Response
+    requires { ⌜ at ≤ 2000 ⌝ }
+{
+    let mut signature = [0u8; 104];
+    words::copy(&mut signature, part(image, at + 24, 104));
+    Response {
+        granule: words::word_at(image, at),
+        ticket: words::word_at(image, at + 8),
+        len: words::word_at(image, at + 16) as usize,
+        signature,
+    }
+}
+
+fn requests_at(image: &[u8]) -> Requests {
+    let mut items = [request_at(image, 16); 8];
+    for i in 0..8usize {
+        items[i] = request_at(image, 16 + 80 * i);
+    }
+    Requests {
+        items,
+        count: words::word_at(image, 0) as usize,
+    }
+}
+
+fn responses_at(image: &[u8]) -> Responses {
+    let mut items = [response_at(image, 656); 8];
+    for i in 0..8usize {
+        items[i] = response_at(image, 656 + 128 * i);
+    }
+    Responses {
+        items,
+        count: words::word_at(image, 8) as usize,
+    }
+}
+
+fn session_at(input: &[u8]) -> Session {
+    if words::word_at(input, 48) == 0 {
+        return Session::Idle;
+    }
+    Session::Sending {
+        whole: words::word_at(input, 56),
+        sent: words::word_at(input, 64),
+    }
+}
+
+// ---- Printing ----
+
+fn print(text: &[u8]) {
+    io::write_all(STDOUT_FILENO, text);
+}
+
+fn print_word(x: u64) {
+    print(b" ");
+    io::print_hex(STDOUT_FILENO, x, 1);
+}
+
+fn print_number(x: u64) {
+    print(b" ");
+    io::print_decimal(STDOUT_FILENO, x);
+}
+
+fn print_byte(x: u8) {
+    io::print_hex(STDOUT_FILENO, x as u64, 2);
+}
+
+// Bytes in hex, to the line's end.
+fn print_bytes(s: &[u8]) {
+    print(b" ");
+    for i in 0..s.len() {
+        print_byte(s[i]);
+    }
+    print(b"\n");
+}
+
+fn print_answer(answer: Answer) {
+    print(b"registers");
+    print_word(answer.x0);
+    print_word(answer.x1);
+    print_word(answer.x2);
+}
+
+fn print_reply(reply: Reply) {
+    match reply {
+        Reply::Forward(error) => {
+            print(b"forward");
+            print_word(error);
+        }
+        Reply::Back { answer, work } => {
+            print_answer(answer);
+            if let Work::Reprogram(mecid) = work {
+                print(b" reprogram");
+                print_word(mecid);
+            }
+        }
+    }
+    print(b"\n");
+}
+
+fn print_challenge(challenge: &[u8]) {
+    print(b"challenge");
+    print_number(challenge.len() as u64);
+    print_bytes(challenge);
+}
+
+fn print_request(request: Request) {
+    print_word(request.algorithm);
+    print_word(request.granule);
+    print_word(request.ticket);
+    print_word(request.hashid);
+    let hash = request.hash;
+    print_bytes(&hash);
+}
+
+fn print_oldest(queue: Queue) {
+    let oldest = queue::oldest_request(queue);
+    let waiting = oldest.waiting;
+    match waiting {
+        Waiting::None => {
+            print(b"oldest none\n");
+        }
+        Waiting::Some => {
+            print(b"oldest");
+            let request = oldest.request;
+            print_request(request);
+        }
+    }
+}
+
+// A response. A length above the room for a signature stands for all of it.
+fn print_response(response: Response) {
+    print(b"response");
+    print_word(response.granule);
+    print_word(response.ticket);
+    print_number(response.len as u64);
+    let signature = response.signature;
+    let length = cases::at_most(response.len as u64, 104);
+    print_bytes(part(&signature, 0, length));
+}
+
+// Those that wait. A count above eight stands for eight.
+fn print_requests(items: [Request; 8], count: usize) {
+    let waiting = cases::at_most(count as u64, 8);
+    for i in 0..waiting {
+        print(b"request");
+        let request = items[i];
+        print_request(request);
+    }
+}
+
+fn print_responses(items: [Response; 8], count: usize) {
+    let waiting = cases::at_most(count as u64, 8);
+    for i in 0..waiting {
+        let response = items[i];
+        print_response(response);
+    }
+}
+
+fn print_queue(queue: Queue) {
+    let requests = queue.requests;
+    let asked = requests.items;
+    print_requests(asked, requests.count);
+    let responses = queue.responses;
+    let done = responses.items;
+    print_responses(done, responses.count);
+}
+
+fn print_same(what: &[u8], held: &[u8], expected: &[u8]) {
+    print(what);
+    if cases::same(held, expected) {
+        print(b" same");
+    } else {
+        print(b" differs");
+    }
+}
+
+// The session, and the counts of the queue as they are stored.
+fn print_state(state: State) {
+    let session = state.session;
+    let queue = state.queue;
+    let requests = queue.requests;
+    let responses = queue.responses;
+    match session {
+        Session::Idle => {
+            print(b"session idle");
+        }
+        Session::Sending { whole, sent } => {
+            print(b"session");
+            print_number(whole);
+            print_number(sent);
+        }
+    }
+    print(b", queue");
+    print_number(requests.count as u64);
+    print_number(responses.count as u64);
+}
+
+// ---- The operations ----
+
+fn call(input: &[u8], at: usize, page: &mut [u8], table: &mut [u8], state: State) -> State
+    requires { ⌜ at ≤ 40000 ⌝ }
+{
+    let granules = Granules {
+        start: words::word_at(input, 32),
+    };
+    let session = state.session;
+    let queue = state.queue;
+    let stepped = runtime::call(
+        cases::record_at(input),
+        granules,
+        words::word_at(input, at + 8),
+        words::word_at(input, at + 16),
+        words::word_at(input, at + 24),
+        words::word_at(input, at + 32),
+        words::word_at(input, at + 40),
+        page,
+        table,
+        lent(input, 104),
+        words::word_at(input, at + 48) != 0,
+        lent(input, at + 56),
+        session,
+        queue,
+        lent(input, 120),
+        words::word_at(input, 40),
+    );
+    let reply = stepped.reply;
+    print_reply(reply);
+    let next = stepped.session;
+    let waiting = stepped.queue;
+    State {
+        session: next,
+        queue: waiting,
+    }
+}
+
+fn sign(input: &[u8], at: usize, state: State) -> State
+    requires { ⌜ at ≤ 40000 ⌝ }
+{
+    let session = state.session;
+    let queue = state.queue;
+    let signed = responses::sign(queue, lent(input, at + 72));
+    print_answer(signed.answer);
+    print(b"\n");
+    let next = signed.queue;
+    State {
+        session,
+        queue: next,
+    }
+}
+
+// An operation whose words stand at an offset of the case.
+fn operate(input: &[u8], at: usize, page: &mut [u8], table: &mut [u8], state: State) -> State
+    requires { ⌜ at ≤ 40000 ⌝ }
+{
+    let kind = words::word_at(input, at);
+    if kind == 0 {
+        return call(input, at, page, table, state);
+    }
+    if kind == 1 {
+        return sign(input, at, state);
+    }
+    if kind == 2 {
+        let pa = words::word_at(input, at + 16);
+        let size = words::word_at(input, at + 24);
+        let csize = words::word_at(input, at + 32);
+        let challenge = token::challenge(cases::record_at(input), page, pa, size, csize);
+        print_challenge(challenge);
+        return state;
+    }
+    let queue = state.queue;
+    print_oldest(queue);
+    state
+}
+
+// Lays over what is expected the change that an operation names: an offset, and the place of the new bytes.
+fn lay(input: &[u8], at: usize, expected: &mut [u8])
+    requires { ⌜ at ≤ 40000 ⌝ }
+{
+    let to = cases::at_most(words::word_at(input, at), 40000);
+    if expected.len() < to {
+        return;
+    }
+    words::copy(&mut expected[to..], lent(input, at + 8));
+}
+
+// The state that a case starts with.
+fn state_at(input: &[u8]) -> State {
+    let image = lent(input, 136);
+    State {
+        session: session_at(input),
+        queue: Queue {
+            requests: requests_at(image),
+            responses: responses_at(image),
+        },
+    }
+}
+
+// Holds page or table to what is expected after an operation, whose change of it stands at an offset of the case.
+fn print_change(input: &[u8], at: usize, what: &[u8], held: &[u8], expected: &mut [u8])
+    requires { ⌜ at ≤ 40000 ⌝ }
+{
+    lay(input, at, expected);
+    print_same(what, held, expected);
+}
+
+fn print_operations(
+    input: &[u8],
+    page: &mut [u8],
+    expected: &mut [u8],
+    table: &mut [u8],
+    wanted: &mut [u8],
+) -> Queue {
+    let mut state = state_at(input);
+    let count = cases::at_most(words::word_at(input, 152), 250);
+    for i in 0..count {
+        let at = 160 + 136 * i;
+        state = operate(input, at, page, table, state);
+        print_state(state);
+        print_change(input, at + 88, b", page", page, expected);
+        print_change(input, at + 112, b", table", table, wanted);
+        print(b"\n");
+    }
+    state.queue
+}
+
+// Before the first operation the same bytes are held and expected.
+fn fill(held: &mut [u8], expected: &mut [u8], bytes: &[u8]) {
+    words::copy(held, bytes);
+    words::copy(expected, bytes);
+}
+
+// A case, with room for page and table, and for what is expected of them.
+fn print_lent(
+    input: &[u8],
+    page: &mut [u8],
+    expected: &mut [u8],
+    table: &mut [u8],
+    wanted: &mut [u8],
+) {
+    fill(page, expected, lent(input, 72));
+    fill(table, wanted, lent(input, 88));
+    let queue = print_operations(input, page, expected, table, wanted);
+    print_queue(queue);
+}
+
+fn print_case(input: &[u8]) {
+    let mut page = [0u8; 4200];
+    let mut expected = [0u8; 4200];
+    let mut table = [0u8; 600];
+    let mut wanted = [0u8; 600];
+    let n = cases::at_most(words::word_at(input, 80), 4200);
+    let t = cases::at_most(words::word_at(input, 96), 600);
+    print_lent(
+        input,
+        &mut page[..n],
+        &mut expected[..n],
+        &mut table[..t],
+        &mut wanted[..t],
+    );
+}
+
+fn main() {
+    let mut input = [0u8; 32768];
+    for n in 0..1000u64 {
+        let length = cases::load(n, &mut input);
+        if length == 0 {
+            return;
+        }
+        print_case(&input[..length]);
+    }
+}
