@@ -5,7 +5,7 @@ ghost use mathlib.Core.Path.{_≡_};
 ghost use mathlib.Core.List.{[]};
 ghost use Prim.Native.Nat.{_<_, _≤_};
 ghost use lib.ListN.{length, drop, getD};
-ghost use Rattle.queue.specs.Queue.{waiting, held, listsOf, joined, noRequest, noResponse, waitingOf};
+ghost use Rattle.queue.specs.Queue.{waiting, held, listsOf, joined, noResponse, oldestRequest, waitingOf};
 
 // A request to sign a realm's token. Algorithm and hash id are the numbers of their four bytes.
 pub struct Request {
@@ -179,22 +179,23 @@ pub fn drop_response(side: Responses) -> Responses
 
 // The oldest of a side; any where none waits.
 pub fn first_request(side: Requests) -> Request
-    ensures { λ r. ⌜ (0 < length (waiting side) → r ≡ getD (waiting side) 0 noRequest) ⌝ }
+    ensures { λ r. ⌜ (0 < length (waiting side) → r ≡ oldestRequest (waiting side)) ⌝ }
 {
-    let items = side.items;
-    items[0]
+    let requests = side.items;
+    requests[0]
 }
 
 pub fn first_response(side: Responses) -> Response
     ensures { λ r. ⌜ (0 < length (held side) → r ≡ getD (held side) 0 noResponse) ⌝ }
 {
-    let items = side.items;
-    items[0]
+    let responses = side.items;
+    responses[0]
 }
 
 // The oldest request, all its fields, or that there is none.
 pub fn oldest_request(queue: Queue) -> Oldest
-    ensures { λ r. ⌜ (r .waiting ≡ waitingOf (listsOf queue .requests)) × (0 < length (listsOf queue .requests) → r .request ≡ getD (listsOf queue .requests) 0 noRequest) ⌝ }
+    ensures { λ r. ⌜ r .waiting ≡ waitingOf (listsOf queue .requests) ⌝ }
+    ensures { λ r. ⌜ (0 < length (listsOf queue .requests) → r .request ≡ oldestRequest (listsOf queue .requests)) ⌝ }
 {
     let requests = queue.requests;
     let request = first_request(requests);

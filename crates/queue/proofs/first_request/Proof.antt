@@ -1,6 +1,6 @@
 use mathlib.Core.Path.{_≡_}
 use lib.ListN.{length, length-map}
-use Rattle.queue.specs.Queue.{waiting, noRequest}
+use Rattle.queue.specs.Queue.{waiting, noRequest, oldestRequest}
 use Rattle.queue.proofs.Sides.{first-is}
 use borrow.Author.Needs.{needs}
 use Rattle.queue.proofs.first_request.Statement.{statement}
@@ -10,7 +10,7 @@ array-copy-out-result : tie.Need-array-copy-out-result
 array-copy-out-result c = search needs
 
 returns : tie.Need-returns
-unfolding waiting
+unfolding waiting oldestRequest
 returns c =
     let s = c .before .before .args .side in
     let n : length (s .items) ≡ 8 = simp length-map at (c .before .before .good .0 .1 .1 .0 .1 .0 .1) in
