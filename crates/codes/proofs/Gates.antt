@@ -3,7 +3,7 @@ use Prim.Native.Nat.{ℕ}
 use mathlib.Core.Path.{_≡_, refl, sym, ap, _∙_}
 use mathlib.Core.Bool.{Bool, true, false, false≢true}
 use native.Mathlib.Omega.{arith}
-use Rattle.codes.specs.Codes.{fails, isOk, andThen, gated}
+use Rattle.codes.specs.Codes.{unless, fails, isOk, andThen, gated}
 use Rattle.codes.specs.declared.Code.{Code}
 use Rattle.codes.specs.declared.Code.the-variants.{Ok, Unk, BadAddr, BadPas, Inval, Again}
 use Rattle.codes.specs.declared.Gate.the-variants.{Stop, Go}
@@ -13,6 +13,22 @@ pub fails-ok : (b : Bool) (c next : Code) → isOk c ≡ false → fails b c nex
 unfolding fails
 fails-ok true c next n h = absurd (false≢true (sym n ∙ ap isOk h))
 fails-ok false c next n h = (refl, h)
+
+-- what an OK tells of a check that fails unless a test holds
+pub unless-ok : (b : Bool) (c next : Code) → isOk c ≡ false → fails (unless b) c next ≡ Ok → (b ≡ true) × (next ≡ Ok)
+unfolding unless
+unless-ok true c next n h = (refl, fails-ok false c next n h .1)
+unless-ok false c next n h = absurd (false≢true (sym (fails-ok true c next n h .0)))
+
+-- what an OK tells of the checks at the front
+pub first-ok : (k next : Code) → andThen k next ≡ Ok → k ≡ Ok
+unfolding andThen
+first-ok Ok next h = refl
+first-ok Unk next h = h
+first-ok BadAddr next h = h
+first-ok BadPas next h = h
+first-ok Inval next h = h
+first-ok Again next h = h
 
 -- what an OK tells of the checks at the end
 pub then-ok : (k next : Code) → andThen k next ≡ Ok → next ≡ Ok

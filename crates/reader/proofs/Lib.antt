@@ -1,4 +1,5 @@
 pub mod Whole
 pub mod Newer
 pub mod Named
+pub mod Views
 pub mod Sample

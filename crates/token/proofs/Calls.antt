@@ -2,21 +2,22 @@
 use Prim.Native.Nat.{ℕ, _+_, _-_, _*_, _≤_, _<_, min}
 use mathlib.Core.Path.{_≡_, refl, sym, ap, _∙_}
 use mathlib.Core.Bool.{Bool, true, false, cond, false≢true}
-use mathlib.Core.List.{List, [], _∷_, _++_, append-assoc}
+use mathlib.Core.List.{List, [], _∷_, _++_}
 use native.Mathlib.Decide.{decLe, decLt}
 use native.Mathlib.Omega.{arith}
 use native.Mathlib.Nat.{add-zero, zero-add, div-eq-of-lt-le, le-div-iff-mul-le, suc-mul, zero-mul, add-assoc}
 use native.Mathlib.Numerals.{one-add, add-one}
 use lib.Dec.{leb}
 use lib.ListN.{length, take, drop, length-drop, length-take}
-use lib.Seq.{take-all, take-add, drop-drop, length-take-le, take-at, drop-at}
+use lib.Seq.{take-all, take-add, drop-drop}
 use borrow.Author.Tests.{le-leb, lt-leb, eq-eqb, ne-eqb, eqb-true}
 use Rattle.words.specs.Word.{part, splice}
+use Rattle.words.proofs.Store.{part-splice}
 use Rattle.range.specs.Range.{placeOf}
-use Rattle.codes.specs.Codes.{upOf, unless, whenUp, isOk, andThen, answerOf}
+use Rattle.codes.specs.Codes.{upOf, whenUp, isOk, andThen, answerOf}
 use Rattle.codes.specs.declared.Code.{Code}
 use Rattle.codes.specs.declared.Code.the-variants.{Ok, Unk, BadAddr, BadPas, Inval, Again}
-use Rattle.codes.proofs.Gates.{fails-ok, then-ok}
+use Rattle.codes.proofs.Gates.{fails-ok, unless-ok, first-ok, then-ok}
 use Rattle.token.specs.declared.Session.{Session}
 use Rattle.token.specs.declared.Session.the-variants.{Idle, Sending}
 use Rattle.token.specs.Token.{bufferCode, startCode, tokenCode, beginOf, hunkOf, restOf, sessionOf, TokenStep, sendOf, keeps, settled, tokenOf}
@@ -78,8 +79,7 @@ module _ (t : List ℕ) (i size : ℕ) where
 
 -- what was laid over the page stands there
 written : (at n : ℕ) (vs page : List ℕ) → length vs ≡ n → at ≤ length page → part at n (splice at vs page) ≡ vs
-unfolding part splice
-written at n vs page e h = rw (← e, append-assoc) (simp (drop-at, take-at, length-take-le at page h))
+written at n vs page e h = ap (λ (m : ℕ). part at m (splice at vs page)) (sym e) ∙ part-splice at vs page h
 
 -- ---- a call that is OK
 settled-ok : (k : Code) (new : TokenStep) (page : List ℕ) (s : Session) → isOk (settled k new page s .answer .code) ≡ true → k ≡ Ok
@@ -90,20 +90,6 @@ settled-ok BadAddr new page s h = absurd (false≢true h)
 settled-ok BadPas new page s h = absurd (false≢true h)
 settled-ok Inval new page s h = absurd (false≢true h)
 settled-ok Again new page s h = absurd (false≢true h)
-
-first-ok : (k next : Code) → andThen k next ≡ Ok → k ≡ Ok
-unfolding andThen
-first-ok Ok next h = refl
-first-ok Unk next h = h
-first-ok BadAddr next h = h
-first-ok BadPas next h = h
-first-ok Inval next h = h
-first-ok Again next h = h
-
-unless-false : (b : Bool) → unless b ≡ false → b ≡ true
-unfolding unless
-unless-false true h = refl
-unless-false false h = sym h
 
 module _ (s : Session) (x : TokenCall) (h : accepted s x ≡ true) where
   code-ok : whenUp (x .state) (tokenCode (upOf (x .state)) (x .page) s (x .busy) (x .token) (x .pa) (x .size) (x .csize)) ≡ Ok
@@ -116,7 +102,7 @@ module _ (s : Session) (x : TokenCall) (h : accepted s x ≡ true) where
 
   page-whole : length (x .page) ≡ 4096
   unfolding whenUp tokenCode
-  page-whole = eqb-true _ _ (unless-false _ (fails-ok _ _ _ refl (fails-ok _ _ _ refl code-ok .1) .0))
+  page-whole = eqb-true _ _ (unless-ok _ _ _ refl (fails-ok _ _ _ refl code-ok .1) .0)
 
   checks-ok : andThen (bufferCode (upOf (x .state)) (x .pa) (x .size) (x .csize)) (startCode s (x .csize) (length (x .token))) ≡ Ok
   unfolding whenUp tokenCode

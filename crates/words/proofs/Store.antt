@@ -20,9 +20,14 @@ module _ (i : ℕ) (vs s : List ℕ) where
   unfolding splice
   take-splice h = take-at _ _ _ (head-length h)
 
-  drop-splice : i ≤ length s → drop (i + length vs) (splice i vs s) ≡ drop (i + length vs) s
+  -- behind and before what is laid over, all is as it was
+  pub drop-splice : i ≤ length s → drop (i + length vs) (splice i vs s) ≡ drop (i + length vs) s
   unfolding splice
   drop-splice h = drop-at (take i s ++ vs) _ _ (head-length h)
+
+  pub front-splice : i ≤ length s → take i (splice i vs s) ≡ take i s
+  unfolding splice
+  front-splice h = rw append-assoc (take-at _ _ _ (length-take-le i s h))
 
   drop-splice-more : i ≤ length s → (k : ℕ) → drop (i + length vs + k) (splice i vs s) ≡ drop (i + length vs + k) s
   drop-splice-more h k = sym (drop-drop k (i + length vs) (splice i vs s)) ∙ ap (drop k) (drop-splice h) ∙ drop-drop k (i + length vs) s
@@ -64,7 +69,7 @@ pub put-out : (n at w : ℕ) (s : List ℕ) → length s < at + n → laid at (l
 put-out n at w s h = bytes-out at (leBytes n w) s (rw leBytes-length h)
 
 -- what was put is read back
-part-splice : (at : ℕ) (vs s : List ℕ) → at ≤ length s → part at (length vs) (splice at vs s) ≡ vs
+pub part-splice : (at : ℕ) (vs s : List ℕ) → at ≤ length s → part at (length vs) (splice at vs s) ≡ vs
 unfolding part splice
 part-splice at vs s h = rw (append-assoc) (simp (drop-at, take-at, length-take-le at s h))
 

@@ -3,4 +3,5 @@ pub mod Demand
 pub mod Sums
 pub mod Pages
 pub mod Checks
+pub mod Makes
 pub mod Sample
