@@ -3,7 +3,7 @@ use Prim.Native.Nat.{ℕ}
 use mathlib.Core.Path.{_≡_, refl, sym, ap, _∙_}
 use mathlib.Core.Bool.{Bool, true, false, false≢true}
 use native.Mathlib.Omega.{arith}
-use Rattle.codes.specs.Codes.{unless, fails, isOk, andThen, gated}
+use Rattle.codes.specs.Codes.{unless, fails, isOk, ifOk, andThen, gated}
 use Rattle.codes.specs.declared.Code.{Code}
 use Rattle.codes.specs.declared.Code.the-variants.{Ok, Unk, BadAddr, BadPas, Inval, Again}
 use Rattle.codes.specs.declared.Gate.the-variants.{Stop, Go}
@@ -66,3 +66,13 @@ stops k n j e h = rw (e, h)
 pub goes : (k : Code) (n at : ℕ) → k ≡ Ok → at ≡ n → Go at ≡ gated k n
 unfolding gated
 goes k n at e p = rw (e, p)
+
+-- ---- a call that is refused: what it answers is the refusal of its own code
+pub refused-as : {A : Type 0} (code : A → Code) (k : Code) (new : A) (old : Code → A) → code new ≡ Ok → ((c : Code) → code (old c) ≡ c) → isOk (code (ifOk k new (old k))) ≡ false →
+    ifOk k new (old k) ≡ old (code (ifOk k new (old k)))
+refused-as code Ok new old e f h = absurd (false≢true (sym h ∙ ap isOk e))
+refused-as code Unk new old e f h = ap old (sym (f Unk))
+refused-as code BadAddr new old e f h = ap old (sym (f BadAddr))
+refused-as code BadPas new old e f h = ap old (sym (f BadPas))
+refused-as code Inval new old e f h = ap old (sym (f Inval))
+refused-as code Again new old e f h = ap old (sym (f Again))

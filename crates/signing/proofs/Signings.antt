@@ -10,7 +10,7 @@ use Rattle.boot.specs.declared.Record.{Record}
 use Rattle.range.specs.Range.{outside, tooLong, placeOf}
 use Rattle.range.proofs.Ranges.{room-of}
 use Rattle.codes.specs.Codes.{isUp, upOf, unless, fails, andThen, whenUp, isOk, answerOf}
-use Rattle.codes.proofs.Gates.{fails-ok}
+use Rattle.codes.proofs.Gates.{fails-ok, refused-as}
 use Rattle.codes.specs.declared.Code.{Code}
 use Rattle.codes.specs.declared.Code.the-variants.{Ok, Unk, BadAddr, BadPas, Inval, Again}
 use Rattle.queue.specs.Queue.{Lists, SigningStep, queued}
@@ -92,16 +92,6 @@ module _ (r : Record) (page : List ℕ) (q : Lists) (key : List ℕ) (o : Opcode
       unfolding whenUp signingCode fails unless andThen
       signing-go e = rw (h, eq-eqb (length page) 4096 n, e)
 
-queued-refused : (k : Code) (new : SigningStep) (page : List ℕ) (q : Lists) → new .answer .code ≡ Ok → isOk (queued k new page q .answer .code) ≡ false →
-    queued k new page q ≡ record { answer = answerOf (queued k new page q .answer .code) 0 0; page = page; queue = q }
-unfolding queued answerOf
-queued-refused Ok new page q e h = absurd (false≢true (sym h ∙ ap isOk e))
-queued-refused Unk new page q e h = refl
-queued-refused BadAddr new page q e h = refl
-queued-refused BadPas new page q e h = refl
-queued-refused Inval new page q e h = refl
-queued-refused Again new page q e h = refl
-
 op-ok : (o : Opcode) (at size : ℕ) (page : List ℕ) (q : Lists) (key : List ℕ) → opStep o at size page q key .answer .code ≡ Ok
 unfolding opStep answerOf
 op-ok Push at size page q key = refl
@@ -112,6 +102,7 @@ op-ok Other at size page q key = refl
 -- a refused call leaves the page and both sides as they were, with zeros in the other registers
 pub signing-refused : (r : Record) (page : List ℕ) (q : Lists) (key : List ℕ) (op pa size curve : ℕ) → isOk (signingOf r page q key op pa size curve .answer .code) ≡ false →
     signingOf r page q key op pa size curve ≡ record { answer = answerOf (signingOf r page q key op pa size curve .answer .code) 0 0; page = page; queue = q }
-unfolding signingOf
+unfolding signingOf queued answerOf
 signing-refused r page q key op pa size curve h =
-    queued-refused (whenUp r (signingCode (upOf r) page q key (opcodeOf op) pa size curve)) (opStep (opcodeOf op) (placeOf (upOf r) pa) size page q key) page q (op-ok (opcodeOf op) (placeOf (upOf r) pa) size page q key) h
+    refused-as (λ (t : SigningStep). t .answer .code) (whenUp r (signingCode (upOf r) page q key (opcodeOf op) pa size curve)) (opStep (opcodeOf op) (placeOf (upOf r) pa) size page q key)
+    (λ (k : Code). record { answer = answerOf k 0 0; page = page; queue = q }) (op-ok (opcodeOf op) (placeOf (upOf r) pa) size page q key) (λ k. refl) h

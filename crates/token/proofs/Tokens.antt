@@ -16,7 +16,7 @@ use Rattle.boot.specs.declared.Record.{Record}
 use Rattle.range.specs.Range.{outside, tooLong, placeOf}
 use Rattle.range.proofs.Ranges.{room-of}
 use Rattle.codes.specs.Codes.{isUp, upOf, unless, fails, whenUp, isOk, answerOf, andThen}
-use Rattle.codes.proofs.Gates.{fails-ok}
+use Rattle.codes.proofs.Gates.{fails-ok, refused-as}
 use Rattle.codes.specs.declared.Answer.{Answer}
 use Rattle.codes.specs.declared.Code.{Code}
 use Rattle.codes.specs.declared.Code.the-variants.{Ok, Unk, BadAddr, BadPas, Inval, Again}
@@ -188,22 +188,12 @@ module _ (r : Record) (page : List ℕ) (s : Session) (busy : Bool) (token : Lis
         unfolding whenUp tokenCode fails unless andThen
         token-start e = rw (h, eq-eqb (length page) 4096 n, b, e)
 
-settled-refused : (k : Code) (new : TokenStep) (page : List ℕ) (s : Session) → new .answer .code ≡ Ok → isOk (settled k new page s .answer .code) ≡ false →
-    settled k new page s ≡ record { answer = answerOf (settled k new page s .answer .code) 0 0; page = page; session = s }
-unfolding settled keeps answerOf
-settled-refused Ok new page s e h = absurd (false≢true (sym h ∙ ap isOk e))
-settled-refused Unk new page s e h = refl
-settled-refused BadAddr new page s e h = refl
-settled-refused BadPas new page s e h = refl
-settled-refused Inval new page s e h = refl
-settled-refused Again new page s e h = refl
-
 -- a refused call leaves the page and the session as they were, with zeros in the other registers
 pub token-refused : (r : Record) (page : List ℕ) (s : Session) (busy : Bool) (token : List ℕ) (pa size c : ℕ) → isOk (tokenOf r page s busy token pa size c .answer .code) ≡ false →
     tokenOf r page s busy token pa size c ≡ record { answer = answerOf (tokenOf r page s busy token pa size c .answer .code) 0 0; page = page; session = s }
-unfolding tokenOf sendOf answerOf
+unfolding tokenOf sendOf settled keeps answerOf
 token-refused r page s busy token pa size c h =
-    settled-refused (whenUp r (tokenCode (upOf r) page s busy token pa size c)) (sendOf (placeOf (upOf r) pa) token (beginOf s c) size page) page s refl h
+    refused-as (λ (t : TokenStep). t .answer .code) (whenUp r (tokenCode (upOf r) page s busy token pa size c)) (sendOf (placeOf (upOf r) pa) token (beginOf s c) size page) (λ (k : Code). keeps k page s) refl (λ k. refl) h
 
 -- ---- the challenge
 module _ (r : Record) (page : List ℕ) (pa size c : ℕ) where
