@@ -1,0 +1,85 @@
+//! Lists for the writer.
+
+use super::Random;
+use crate::reference::layout::{Edition, ENTRY_WORDS, PAGE, SECTIONS};
+
+/// What the writer is told, and the page that it is lent.
+#[derive(Clone, Debug)]
+pub struct Writing {
+    pub base: u64,
+    pub edition: u64,
+    pub lists: [Vec<u64>; SECTIONS],
+    pub page: Vec<u8>,
+}
+
+impl Writing {
+    pub fn lists(&self) -> [&[u64]; SECTIONS] {
+        std::array::from_fn(|k| &self.lists[k][..])
+    }
+}
+
+impl Random {
+    /// Valid, or with one or two things wrong, so that the order of the refusals counts.
+    pub fn any_writing(&mut self) -> Writing {
+        let mut writing = self.valid_writing();
+        for _ in 0..self.pick(&[0, 1, 1, 2]) {
+            self.spoil(&mut writing);
+        }
+        writing
+    }
+
+    /// Lists that the writer makes a page of.
+    pub fn valid_writing(&mut self) -> Writing {
+        let edition = self.between(1, 4);
+        let counts = self.counts(Edition::new(edition).expect("1 to 4"));
+        Writing {
+            base: self.base(),
+            edition,
+            lists: std::array::from_fn(|k| self.entries(k, counts[k])),
+            page: vec![self.word() as u8; PAGE],
+        }
+    }
+
+    fn entries(&mut self, k: usize, count: usize) -> Vec<u64> {
+        (0..count).flat_map(|_| self.entry(k)).collect()
+    }
+
+    fn spoil(&mut self, writing: &mut Writing) {
+        let k = self.index(SECTIONS);
+        let list = &mut writing.lists[k];
+        match self.below(12) {
+            0 => writing.base = self.any_base(),
+            1 => writing.edition = self.any_edition(),
+            2 => {
+                let length = self.pick(&[0, 112, 4095, 4097]);
+                writing.page.resize(length, 0);
+            }
+            // Of an odd length.
+            3 => list.push(self.edge()),
+            4 => drop(list.pop()),
+            // A list too long, or as long as just fits.
+            5 => {
+                let most = (PAGE / 8 / ENTRY_WORDS[k]) as u64;
+                let count = self.between(most - 10, most + 2) as usize;
+                *list = self.entries(k, count);
+            }
+            // Some more entries: late, too long, or quite all right.
+            6 | 7 => {
+                let count = self.between(1, 4) as usize;
+                list.extend(self.entries(k, count));
+            }
+            _ => self.spoil_word(list),
+        }
+    }
+
+    fn spoil_word(&mut self, list: &mut [u64]) {
+        if list.is_empty() {
+            return;
+        }
+        let i = self.index(list.len());
+        list[i] = match self.below(3) {
+            0 => list[i] ^ (1 << self.below(64)),
+            _ => self.edge(),
+        };
+    }
+}

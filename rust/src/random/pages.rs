@@ -1,0 +1,397 @@
+//! Manifest pages: valid, damaged, and random.
+
+use super::Random;
+use crate::reference::layout::{
+    accepted_minor, half_at, header_offset, word_at, Edition, CONSOLE, ENTRY_WORDS, PAGE, SECTIONS,
+};
+
+/// Pages of memory: 2^52 bytes.
+const MEMORY_PAGES: u64 = 1 << 40;
+
+/// A page to read, at a base, by a reader of an edition.
+#[derive(Clone, Debug)]
+pub struct Reading {
+    pub base: u64,
+    pub edition: u64,
+    pub page: Vec<u8>,
+}
+
+/// Sets a word of a page.
+pub fn put(page: &mut [u8], at: usize, word: u64) {
+    page[at..at + 8].copy_from_slice(&word.to_le_bytes());
+}
+
+fn put_version(page: &mut [u8], version: u32) {
+    page[..4].copy_from_slice(&version.to_le_bytes());
+}
+
+/// Counts and places of the arrays of a page; count 0 is an empty section.
+#[derive(Clone, Copy, Debug, Default)]
+struct Plan {
+    counts: [usize; SECTIONS],
+    offsets: [usize; SECTIONS],
+}
+
+impl Random {
+    /// Any of the three kinds; now and then of another length, at another base or for another reader.
+    pub fn any_page(&mut self) -> Reading {
+        let mut reading = match self.below(8) {
+            0 => self.random_page(),
+            1..=3 => self.valid_page(),
+            _ => self.damaged_page(),
+        };
+        match self.below(40) {
+            0 => reading.base = self.any_base(),
+            1 => reading.edition = self.any_edition(),
+            2 => {
+                let length = self.pick(&[0, 1, 15, 16, 4095, 4097, 8192]);
+                reading.page.resize(length, 0);
+            }
+            _ => {}
+        }
+        reading
+    }
+
+    /// A page that a reader of the edition accepts. What that reader does not look at is zero or anything.
+    pub fn valid_page(&mut self) -> Reading {
+        let edition = self.reader_edition();
+        let minor = self.minor();
+        let works = Edition::new(edition).expect("1 to 4").on_minor(minor);
+        let base = self.base();
+        let mut page = vec![0; PAGE];
+        if self.one_in(2) {
+            self.fill(&mut page);
+        }
+        put(&mut page, 0, u64::from(minor));
+        let plat_data = self.plat_data(base, works);
+        put(&mut page, 8, plat_data);
+        let plan = self.plan(works);
+        for k in 0..works.sections() {
+            self.put_section(&mut page, base, k, plan.counts[k], plan.offsets[k]);
+        }
+        Reading {
+            base,
+            edition,
+            page,
+        }
+    }
+
+    /// A valid page with one to three bytes or words changed. In half of them the checksums are made good again, so that other
+    /// rules have to find the damage.
+    pub fn damaged_page(&mut self) -> Reading {
+        let mut reading = self.valid_page();
+        for _ in 0..self.between(1, 3) {
+            self.damage(&mut reading);
+        }
+        if self.one_in(2) {
+            (0..sections_read(&reading)).for_each(|k| seal(&mut reading, k));
+        }
+        reading
+    }
+
+    /// A page of any bytes, half of them with a version that is accepted.
+    pub fn random_page(&mut self) -> Reading {
+        let mut page = self.bytes(PAGE);
+        if self.one_in(2) {
+            put_version(&mut page, u32::from(self.minor()));
+        }
+        Reading {
+            base: self.base(),
+            edition: self.reader_edition(),
+            page,
+        }
+    }
+
+    /// A base that is allowed.
+    pub fn base(&mut self) -> u64 {
+        match self.below(4) {
+            0 => self.pick(&[4096, 0x8000_0000, 1 << 51, (1 << 52) - 4096]),
+            1 => 4096 * self.between(1, 1 << 20),
+            _ => 4096 * self.between(1, MEMORY_PAGES - 1),
+        }
+    }
+
+    /// A base that may not be allowed.
+    pub fn any_base(&mut self) -> u64 {
+        let last = (1 << 52) - 4096;
+        match self.below(3) {
+            0 => self.pick(&[
+                0,
+                1,
+                4095,
+                4097,
+                last + 1,
+                last + 4096,
+                1 << 63,
+                u64::MAX - 4095,
+            ]),
+            1 => self.edge(),
+            _ => self.base(),
+        }
+    }
+
+    /// An edition, more often one with sections.
+    fn reader_edition(&mut self) -> u64 {
+        self.pick(&[1, 2, 3, 3, 4, 4, 4, 4])
+    }
+
+    /// An edition that may not be one.
+    pub fn any_edition(&mut self) -> u64 {
+        match self.below(3) {
+            0 => self.edge(),
+            1 => self.pick(&[
+                0,
+                5,
+                6,
+                (1 << 32) + 4,
+                (1 << 16) + 1,
+                (1 << 8) + 2,
+                u64::MAX,
+            ]),
+            _ => self.between(1, 4),
+        }
+    }
+
+    /// An accepted minor, most often near those that are editions.
+    pub fn minor(&mut self) -> u16 {
+        match self.below(8) {
+            0 => self.pick(&[255, 256, 257, 0x7fff, 0x8000, u16::MAX]),
+            1 => self.between(1, 65_535) as u16,
+            _ => self.between(1, 6) as u16,
+        }
+    }
+
+    /// A version of which most are not accepted: above 65,535 the major is not 0.
+    fn any_version(&mut self) -> u32 {
+        match self.below(4) {
+            0 => self.pick(&[0, 0x8000_0000, 0x8000_0005, 0x7fff_0000, u32::MAX]),
+            1 => self.between(65_536, 70_000) as u32,
+            2 => self.word() as u32,
+            _ => self.between(0, 7) as u32,
+        }
+    }
+
+    fn plat_data(&mut self, base: u64, edition: Edition) -> u64 {
+        let core = edition.core() as u64;
+        match self.below(4) {
+            0 => base + core,
+            1 => base + 4095,
+            2 => base + self.between(core, 4095),
+            _ => 0,
+        }
+    }
+
+    /// How many entries each section of the edition gets: together they fit behind the core.
+    pub(super) fn counts(&mut self, edition: Edition) -> [usize; SECTIONS] {
+        let mut counts = [0; SECTIONS];
+        let mut free = (PAGE - edition.core()) / 8;
+        let mut order = [0, 1, 2, 3];
+        let order = &mut order[..edition.sections()];
+        self.shuffle(order);
+        for &mut k in order {
+            let most = (free / ENTRY_WORDS[k]) as u64;
+            if most == 0 || self.one_in(4) {
+                continue;
+            }
+            let count = match self.below(6) {
+                0 => most,
+                1 => self.between(1, most),
+                _ => self.between(1, most.min(8)),
+            };
+            counts[k] = count as usize;
+            free -= counts[k] * ENTRY_WORDS[k];
+        }
+        counts
+    }
+
+    /// Arrays in any order, with holes of whole words between them.
+    fn plan(&mut self, edition: Edition) -> Plan {
+        let counts = self.counts(edition);
+        let used: usize = (0..SECTIONS).map(|k| counts[k] * ENTRY_WORDS[k]).sum();
+        let mut slack = (PAGE - edition.core()) / 8 - used;
+        let mut plan = Plan {
+            counts,
+            ..Plan::default()
+        };
+        let mut at = edition.core() / 8;
+        let mut order = [0, 1, 2, 3];
+        self.shuffle(&mut order);
+        for k in order {
+            let hole = match self.below(3) {
+                0 => 0,
+                1 => self.index(slack.min(3) + 1),
+                _ => self.index(slack + 1),
+            };
+            slack -= hole;
+            plan.offsets[k] = 8 * (at + hole);
+            at += hole + counts[k] * ENTRY_WORDS[k];
+        }
+        plan
+    }
+
+    fn put_section(&mut self, page: &mut [u8], base: u64, k: usize, count: usize, offset: usize) {
+        let header = header_offset(k);
+        if count == 0 {
+            page[header..header + 24].fill(0);
+            return;
+        }
+        let pointer = base + offset as u64;
+        let mut sum = pointer.wrapping_add(count as u64);
+        let entries: Vec<u64> = (0..count).flat_map(|_| self.entry(k)).collect();
+        for (i, &word) in entries.iter().enumerate() {
+            put(page, offset + 8 * i, word);
+            sum = sum.wrapping_add(word);
+        }
+        put(page, header, count as u64);
+        put(page, header + 8, pointer);
+        put(page, header + 16, sum.wrapping_neg());
+    }
+
+    /// The words of a sound entry of a section.
+    pub(super) fn entry(&mut self, k: usize) -> Vec<u64> {
+        let (first, pages) = match self.below(8) {
+            0 => (0, MEMORY_PAGES),
+            1 => (MEMORY_PAGES - 1, 1),
+            2 => {
+                let first = self.below(MEMORY_PAGES);
+                (first, MEMORY_PAGES - first)
+            }
+            3 => {
+                let first = self.below(MEMORY_PAGES);
+                (first, self.between(1, MEMORY_PAGES - first))
+            }
+            _ => (self.below(1 << 24), self.between(1, 1 << 20)),
+        };
+        if k == CONSOLE {
+            let [name, clock, baud] = [self.free_word(), self.free_word(), self.free_word()];
+            vec![4096 * first, pages, name, clock, baud, 0]
+        } else {
+            vec![4096 * first, 4096 * pages]
+        }
+    }
+
+    /// A word that no rule looks at.
+    fn free_word(&mut self) -> u64 {
+        self.word() >> self.pick(&[0, 0, 32, 63])
+    }
+
+    fn damage(&mut self, reading: &mut Reading) {
+        let base = reading.base;
+        let sections = sections_read(reading).max(1);
+        let core = header_offset(sections);
+        let page = &mut reading.page;
+        match self.below(16) {
+            0 => put_version(page, self.any_version()),
+            1 => {
+                let at = self.index(PAGE);
+                page[at] = self.word() as u8;
+            }
+            2 | 3 => {
+                let at = self.index(core);
+                page[at] ^= 1 << self.below(8);
+            }
+            4 => put(page, 8 * self.index(core / 8), self.edge()),
+            5 => nudge(page, 8 * self.index(core / 8), self.shift()),
+            6 => put(page, 8, self.near_page(base)),
+            7 | 8 => {
+                let at = header_offset(self.index(sections)) + 8;
+                put(page, at, self.near_page(base));
+            }
+            9 | 10 => {
+                // One array on, into, or just beside another.
+                let [from, to] = [(); 2].map(|()| header_offset(self.index(sections)) + 8);
+                let pointer = word_at(page, from);
+                put(page, to, pointer.wrapping_add(self.shift()));
+            }
+            11 => {
+                let at = header_offset(self.index(sections));
+                let count = match self.below(2) {
+                    0 => word_at(page, at).wrapping_add(self.shift()),
+                    // Times the size of an entry, these wrap to little.
+                    _ => self.pick(&[1 << 60, (1 << 60) + 1, u64::MAX / 48 + 1, u64::MAX / 16 + 2]),
+                };
+                put(page, at, count);
+            }
+            12 | 13 => {
+                let at = self.entry_word(reading, sections);
+                put(&mut reading.page, at, self.edge());
+            }
+            _ => {
+                let at = self.entry_word(reading, sections);
+                nudge(&mut reading.page, at, self.shift());
+            }
+        }
+    }
+
+    /// A small difference, up or down.
+    fn shift(&mut self) -> u64 {
+        let shift = self.pick(&[0u64, 1, 4, 8, 16, 48, 4096]);
+        if self.one_in(2) {
+            shift.wrapping_neg()
+        } else {
+            shift
+        }
+    }
+
+    /// An address in or just beside the page.
+    fn near_page(&mut self, base: u64) -> u64 {
+        let offset = match self.below(3) {
+            0 => self.pick(&[0, 8, 16, 40, 64, 104, 108, 112, 4048, 4072, 4080, 4088]),
+            1 => self.pick(&[4095, 4096, 4104, 8u64.wrapping_neg(), u64::MAX]),
+            _ => self.below(PAGE as u64),
+        };
+        base.wrapping_add(offset)
+    }
+
+    /// The offset of a word of some entry, or of any word of the page.
+    fn entry_word(&mut self, reading: &Reading, sections: usize) -> usize {
+        let k = self.index(sections);
+        match array_at(reading, k) {
+            Some((offset, count)) => offset + 8 * self.index(count * ENTRY_WORDS[k]),
+            None => 8 * self.index(PAGE / 8),
+        }
+    }
+}
+
+/// Offset and count of an array that lies in the page, if the section's header places one there.
+fn array_at(reading: &Reading, k: usize) -> Option<(usize, usize)> {
+    let header = header_offset(k);
+    let count = word_at(&reading.page, header);
+    let offset = word_at(&reading.page, header + 8).wrapping_sub(reading.base);
+    let end = offset.checked_add(count.checked_mul(8 * ENTRY_WORDS[k] as u64)?)?;
+    (count != 0 && end <= PAGE as u64).then_some((offset as usize, count as usize))
+}
+
+/// How many sections the reader looks at.
+fn sections_read(reading: &Reading) -> usize {
+    let reader = Edition::new(reading.edition);
+    let minor = accepted_minor(half_at(&reading.page, 0));
+    match (reader, minor) {
+        (Some(reader), Some(minor)) => reader.on_minor(minor).sections(),
+        _ => 0,
+    }
+}
+
+/// Makes a section's checksum good again.
+fn seal(reading: &mut Reading, k: usize) {
+    let (offset, count) = match array_at(reading, k) {
+        Some(array) => array,
+        None => return,
+    };
+    let header = header_offset(k);
+    // The checksum itself may be among the words that an overlapping array sums.
+    put(&mut reading.page, header + 16, 0);
+    let page = &reading.page;
+    let fields = [header, header + 8].into_iter();
+    let words = (0..count * ENTRY_WORDS[k]).map(|i| offset + 8 * i);
+    let sum = fields
+        .chain(words)
+        .fold(0u64, |sum, at| sum.wrapping_add(word_at(page, at)));
+    put(&mut reading.page, header + 16, sum.wrapping_neg());
+}
+
+/// Adds to a word of the page.
+fn nudge(page: &mut [u8], at: usize, shift: u64) {
+    let word = word_at(page, at).wrapping_add(shift);
+    put(page, at, word);
+}

@@ -1,0 +1,40 @@
+//! Delegate and undelegate, over a table of one byte a granule.
+
+use super::boot::Record;
+use super::codes::{need_up, Error, Outcome};
+use super::layout::GRANULE;
+
+const NON_SECURE: u8 = 0;
+const REALM: u8 = 1;
+
+/// From Non-secure to Realm. The table's first granule is at `start` (G).
+#[inline]
+pub fn delegate(record: Record, start: u64, table: &mut [u8], address: u64) -> Outcome {
+    change(record, start, table, address, NON_SECURE, REALM)
+}
+
+/// From Realm to Non-secure.
+#[inline]
+pub fn undelegate(record: Record, start: u64, table: &mut [u8], address: u64) -> Outcome {
+    change(record, start, table, address, REALM, NON_SECURE)
+}
+
+#[inline]
+fn change(record: Record, start: u64, table: &mut [u8], address: u64, from: u8, to: u8) -> Outcome {
+    need_up(record)?;
+    let state = granule(start, table, address).ok_or(Error::BadAddr)?;
+    if *state != from {
+        return Err(Error::BadPas);
+    }
+    *state = to;
+    Ok([0, 0])
+}
+
+#[inline]
+fn granule(start: u64, table: &mut [u8], address: u64) -> Option<&mut u8> {
+    if (start | address) % GRANULE != 0 {
+        return None;
+    }
+    let index = address.checked_sub(start)? / GRANULE;
+    table.get_mut(usize::try_from(index).ok()?)
+}

@@ -1,0 +1,19 @@
+//! The rules of the RMM-EL3 interface in plain Rust. Nothing here shares code or definitions with the proved library.
+
+pub mod boot;
+pub mod codes;
+pub mod entries;
+pub mod features;
+pub mod granules;
+pub mod key;
+pub mod layout;
+pub mod listing;
+pub mod queue;
+pub mod reader;
+pub mod runtime;
+pub mod signing;
+pub mod token;
+pub mod writer;
+
+#[cfg(test)]
+mod examples;

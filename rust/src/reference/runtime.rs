@@ -1,0 +1,109 @@
+//! The dispatcher over all commands, by function id.
+
+use super::boot::Record;
+use super::codes::{Answer, Error, Outcome};
+use super::features::{features, forward, key_update};
+use super::granules::{delegate, undelegate};
+use super::key::realm_key;
+use super::queue::Queue;
+use super::signing::{token_sign, SignCall};
+use super::token::{Session, TokenCall};
+
+pub const REQ_COMPLETE: u64 = 0xC400_018F;
+pub const DELEGATE: u64 = 0xC400_01B0;
+pub const UNDELEGATE: u64 = 0xC400_01B1;
+pub const REALM_KEY: u64 = 0xC400_01B2;
+pub const PLAT_TOKEN: u64 = 0xC400_01B3;
+pub const FEATURES: u64 = 0xC400_01B4;
+pub const TOKEN_SIGN: u64 = 0xC400_01B5;
+pub const KEY_UPDATE: u64 = 0xC400_01B6;
+
+/// What goes from one call to the next.
+#[derive(Clone, Copy, Debug)]
+pub struct State {
+    pub record: Record,
+    pub session: Session,
+    pub queue: Queue,
+}
+
+/// What the platform lends to a call.
+#[derive(Debug)]
+pub struct Lent<'a> {
+    pub page: &'a mut [u8],
+    /// One byte a granule, from address `start` (G).
+    pub table: &'a mut [u8],
+    pub start: u64,
+    pub realm_key: &'a [u8],
+    pub public_key: &'a [u8],
+    pub token: &'a [u8],
+    pub busy: bool,
+    /// MECIDWidthm1.
+    pub width: u64,
+}
+
+/// The registers of a call: the function id, then x1 to x4.
+#[derive(Clone, Copy, Debug)]
+pub struct Call {
+    pub id: u64,
+    pub x: [u64; 4],
+}
+
+#[derive(Clone, Copy, Debug, PartialEq, Eq)]
+pub enum Reply {
+    /// The error code goes to the Non-secure world; nothing comes back.
+    Forward(u64),
+    /// Registers, and a mecid if one is to be reprogrammed.
+    Back {
+        answer: Answer,
+        reprogram: Option<u64>,
+    },
+}
+
+impl From<Outcome> for Reply {
+    #[inline]
+    fn from(outcome: Outcome) -> Reply {
+        Reply::Back {
+            answer: outcome.into(),
+            reprogram: None,
+        }
+    }
+}
+
+/// Answers a call.
+pub fn call(state: &mut State, lent: &mut Lent, call: Call) -> Reply {
+    let record = state.record;
+    let [x1, x2, x3, x4] = call.x;
+    let outcome = match call.id {
+        REQ_COMPLETE => return Reply::Forward(forward(x1)),
+        KEY_UPDATE => return reprogram(key_update(record, lent.width, x1)),
+        DELEGATE => delegate(record, lent.start, lent.table, x1),
+        UNDELEGATE => undelegate(record, lent.start, lent.table, x1),
+        REALM_KEY => realm_key(record, lent.page, lent.realm_key, x1, x2, x3),
+        PLAT_TOKEN => {
+            let (pa, size, c_size) = (x1, x2, x3);
+            let call = TokenCall { pa, size, c_size };
+            let session = &mut state.session;
+            session.send(record, lent.page, lent.busy, lent.token, call)
+        }
+        FEATURES => features(record, x1),
+        TOKEN_SIGN => {
+            let call = SignCall {
+                opcode: x1,
+                pa: x2,
+                size: x3,
+                curve: x4,
+            };
+            token_sign(record, &mut state.queue, lent.page, lent.public_key, call)
+        }
+        _ => Err(Error::Unk),
+    };
+    outcome.into()
+}
+
+#[inline]
+fn reprogram(mecid: Result<u64, Error>) -> Reply {
+    Reply::Back {
+        answer: mecid.map(|_| [0, 0]).into(),
+        reprogram: mecid.ok(),
+    }
+}

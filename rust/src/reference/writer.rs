@@ -1,0 +1,105 @@
+//! The manifest writer.
+
+use super::entries::{bank_sum, console_sum};
+use super::layout::{header_offset, placed_mut, Edition, CONSOLE, ENTRY_WORDS, PAGE, SECTIONS};
+
+/// Why nothing is written: W1 to W5.
+#[derive(Clone, Copy, Debug, PartialEq, Eq)]
+pub enum Unwritten {
+    Place = 1,
+    Edition,
+    Lists,
+    Late,
+    Room,
+}
+
+/// The words of each section's entries.
+pub type Lists<'a> = [&'a [u64]; SECTIONS];
+
+/// Writes the manifest into the page; on a refusal the page stays as it was.
+pub fn write(base: u64, edition: u64, lists: Lists, page: &mut [u8]) -> Result<(), Unwritten> {
+    let page = placed_mut(page, base).ok_or(Unwritten::Place)?;
+    let edition = Edition::new(edition).ok_or(Unwritten::Edition)?;
+    let sums = list_sums(lists).ok_or(Unwritten::Lists)?;
+    if !lists[edition.sections()..]
+        .iter()
+        .all(|list| list.is_empty())
+    {
+        return Err(Unwritten::Late);
+    }
+    if !fits(edition, lists) {
+        return Err(Unwritten::Room);
+    }
+    fill(page, base, edition, lists, sums);
+    Ok(())
+}
+
+/// The sum of each list's words, if all entries of all lists are whole and sound.
+#[inline]
+fn list_sums(lists: Lists) -> Option<[u64; SECTIONS]> {
+    let mut sums = [0; SECTIONS];
+    for (k, list) in lists.into_iter().enumerate() {
+        sums[k] = list_sum(list, k)?;
+    }
+    Some(sums)
+}
+
+#[inline]
+fn list_sum(list: &[u64], k: usize) -> Option<u64> {
+    if k == CONSOLE {
+        let consoles = list.chunks_exact(6);
+        let odd = consoles.remainder();
+        console_sum(consoles.map(entry::<6>)).filter(|_| odd.is_empty())
+    } else {
+        let banks = list.chunks_exact(2);
+        let odd = banks.remainder();
+        bank_sum(banks.map(entry::<2>)).filter(|_| odd.is_empty())
+    }
+}
+
+#[inline]
+fn entry<const WORDS: usize>(words: &[u64]) -> [u64; WORDS] {
+    words.try_into().expect("a whole entry")
+}
+
+#[inline]
+fn fits(edition: Edition, lists: Lists) -> bool {
+    // One list may be lent four times over, so even lengths of real lists could wrap.
+    let total = lists.iter().fold(edition.core() / 8, |sum, list| {
+        sum.saturating_add(list.len())
+    });
+    total <= PAGE / 8
+}
+
+/// The page of lists that were all checked: core, arrays in section order, zeros.
+#[inline]
+fn fill(page: &mut [u8; PAGE], base: u64, edition: Edition, lists: Lists, sums: [u64; SECTIONS]) {
+    let mut at = edition.core();
+    page[..at].fill(0);
+    put(page, 0, &[edition.number()]);
+    for k in 0..edition.sections() {
+        let list = lists[k];
+        if list.is_empty() {
+            continue;
+        }
+        let count = (list.len() / ENTRY_WORDS[k]) as u64;
+        let pointer = base + at as u64;
+        let checksum = count
+            .wrapping_add(pointer)
+            .wrapping_add(sums[k])
+            .wrapping_neg();
+        put(page, header_offset(k), &[count, pointer, checksum]);
+        put(page, at, list);
+        at += 8 * list.len();
+    }
+    page[at..].fill(0);
+}
+
+/// Sets words of the page from an offset on.
+#[inline]
+fn put(page: &mut [u8; PAGE], at: usize, words: &[u64]) {
+    let place = &mut page[at..at + 8 * words.len()];
+    for (cell, word) in place.chunks_exact_mut(8).zip(words) {
+        cell.copy_from_slice(&word.to_le_bytes());
+    }
+}

@@ -1,0 +1,448 @@
+//! The repository's run vectors, through the reference: what it prints is compared byte for byte with the expected text, which a
+//! third implementation made. The programs that print it from the proved library are crates/*_vectors/src/main.rt; a case's format
+//! is described at the top of each.
+
+use potterbeam_tests::reference::boot::{boot_code, Kept, Record};
+use potterbeam_tests::reference::codes::{Answer, Outcome};
+use potterbeam_tests::reference::features::{features, forward, key_update};
+use potterbeam_tests::reference::granules::{delegate, undelegate};
+use potterbeam_tests::reference::key::realm_key;
+use potterbeam_tests::reference::layout::word_at;
+use potterbeam_tests::reference::listing::{list, list_input};
+use potterbeam_tests::reference::queue::{Queue, Request, Response, Ring, PLACES};
+use potterbeam_tests::reference::reader::array;
+use potterbeam_tests::reference::runtime::{call, Call, Lent, Reply, State};
+use potterbeam_tests::reference::token::{challenge, Session, TokenCall};
+use potterbeam_tests::reference::writer::write;
+use std::fmt::Write;
+use std::path::{Path, PathBuf};
+
+// ---- Running a family ----
+
+fn family(name: &str) -> PathBuf {
+    let root = Path::new(env!("CARGO_MANIFEST_DIR")).parent();
+    root.expect("repository").join("crates").join(name)
+}
+
+/// Prints the cases up to the first that is missing, and compares.
+fn compare(name: &str, cases: usize, print: fn(&mut String, &[u8])) {
+    let place = family(name);
+    let mut out = String::new();
+    let mut count = 0;
+    while let Ok(input) = std::fs::read(place.join(format!("data/c{count:03}"))) {
+        writeln!(out, "case {count:03}").unwrap();
+        print(&mut out, &input);
+        count += 1;
+    }
+    assert!(count >= cases, "{name}: only {count} cases");
+    let expected = std::fs::read_to_string(place.join("stdout")).expect("expected text");
+    report_differences(name, &out, &expected);
+    println!("{name}: {count} cases, {} bytes", expected.len());
+}
+
+fn report_differences(name: &str, out: &str, expected: &str) {
+    if out == expected {
+        return;
+    }
+    let mut case = "";
+    for (n, (ours, theirs)) in out.lines().zip(expected.lines()).enumerate() {
+        if theirs.starts_with("case ") {
+            case = theirs;
+        }
+        assert_eq!(ours, theirs, "{name}, {case}, line {}", n + 1);
+    }
+    panic!("{name}: one text is longer, or ends without a newline");
+}
+
+// ---- Parts of a case ----
+
+fn size_at(input: &[u8], at: usize) -> usize {
+    usize::try_from(word_at(input, at)).expect("a size")
+}
+
+fn record_at(input: &[u8]) -> Record {
+    let [cpus, base, minor] = [8, 16, 24].map(|at| word_at(input, at));
+    match word_at(input, 0) {
+        0 => Record::Fresh,
+        1 => Record::Up(Kept { cpus, base, minor }),
+        _ => Record::Closed,
+    }
+}
+
+/// Takes so many bytes off the front.
+fn take<'a>(input: &mut &'a [u8], length: usize) -> &'a [u8] {
+    assert!(length <= input.len(), "case cut short");
+    let (taken, rest) = input.split_at(length);
+    *input = rest;
+    taken
+}
+
+fn words(bytes: &[u8]) -> Vec<u64> {
+    bytes.chunks_exact(8).map(|cell| word_at(cell, 0)).collect()
+}
+
+// ---- Reader ----
+
+/// A number that tells one run of bytes from another.
+fn mark(part: &[u8]) -> u64 {
+    part.iter()
+        .fold(0, |mark, &byte| mark % (1 << 56) * 31 + u64::from(byte))
+}
+
+fn print_reading(out: &mut String, input: &[u8]) {
+    if input.len() < 16 {
+        return;
+    }
+    let (edition, base, page) = (word_at(input, 0), word_at(input, 8), &input[16..]);
+    list(out, page, base, edition).unwrap();
+    for k in 0..5 {
+        let part = array(page, base, edition, k);
+        writeln!(out, "array {k} {} {:016x}", part.len(), mark(part)).unwrap();
+    }
+}
+
+#[test]
+fn reader_vectors() {
+    compare("reader_vectors", 450, print_reading);
+}
+
+// ---- Listing ----
+
+fn compare_listing(input: &Path, expected: &Path) {
+    let mut out = String::new();
+    list_input(&mut out, &std::fs::read(input).expect("input")).unwrap();
+    let expected = std::fs::read_to_string(expected).expect("expected text");
+    assert_eq!(out, expected, "{}", input.display());
+}
+
+/// The listing's own input, and the pages that real firmware wrote.
+#[test]
+fn listings() {
+    let listing = family("listing");
+    compare_listing(&listing.join("stdin"), &listing.join("stdout"));
+    let field = family("../tests/reader/field");
+    let mut count = 0;
+    for file in std::fs::read_dir(field).expect("field pages") {
+        let input = file.expect("a file").path();
+        if input.extension().map_or(false, |kind| kind == "in") {
+            compare_listing(&input, &input.with_extension("out"));
+            count += 1;
+        }
+    }
+    assert!(count >= 4, "only {count} field pages");
+    println!("listings: {count} field pages");
+}
+
+// ---- Writer ----
+
+fn print_writing(out: &mut String, input: &[u8]) {
+    let (base, edition) = (word_at(input, 0), word_at(input, 8));
+    let mut page = vec![word_at(input, 16) as u8; size_at(input, 24)];
+    let mut rest = &input[64..];
+    let lists = [32, 40, 48, 56].map(|at| words(take(&mut rest, 8 * size_at(input, at))));
+    let [dram, console, ncoh, coh] = &lists;
+    let answer = write(base, edition, [dram, console, ncoh, coh], &mut page);
+    match answer {
+        Ok(()) => writeln!(out, "made"),
+        Err(refusal) => writeln!(out, "refused W{}", refusal as u8),
+    }
+    .unwrap();
+    writeln!(out, "page {}as expected", not_if(page != rest)).unwrap();
+    if answer.is_err() {
+        return;
+    }
+    for edition in 1..=4 {
+        writeln!(out, "edition {edition}").unwrap();
+        list(out, &page, base, edition).unwrap();
+    }
+}
+
+fn not_if(differs: bool) -> &'static str {
+    if differs {
+        "not "
+    } else {
+        ""
+    }
+}
+
+#[test]
+fn writer_vectors() {
+    compare("writer_vectors", 299, print_writing);
+}
+
+// ---- Boot ----
+
+fn print_boots(out: &mut String, input: &[u8]) {
+    let mut record = record_at(input);
+    let mut rest = &input[40..];
+    for _ in 0..word_at(input, 32) {
+        let step = take(&mut rest, 56);
+        let page = take(&mut rest, size_at(step, 48));
+        let x = [8, 16, 24, 32].map(|at| word_at(step, at));
+        let (next, answer) = match word_at(step, 0) {
+            0 => record.cold(x, word_at(step, 40), page),
+            _ => record.warm(x),
+        };
+        record = next;
+        write!(out, "code {}", boot_code(answer)).unwrap();
+        match record {
+            Record::Fresh => writeln!(out, " fresh"),
+            Record::Up(Kept { cpus, base, minor }) => {
+                writeln!(out, " up {cpus:016x} {base:016x} {minor:016x}")
+            }
+            Record::Closed => writeln!(out, " closed"),
+        }
+        .unwrap();
+    }
+}
+
+#[test]
+fn boot_vectors() {
+    compare("boot_vectors", 246, print_boots);
+}
+
+// ---- Single commands ----
+
+fn print_command(out: &mut String, input: &[u8]) {
+    let record = record_at(input);
+    let [id, x1, x2, x3, start, width] = [32, 40, 48, 56, 64, 72].map(|at| word_at(input, at));
+    let [in_table, in_key, in_page] = [80, 88, 96].map(|at| size_at(input, at));
+    let mut rest = &input[104..];
+    let mut table = take(&mut rest, in_table).to_vec();
+    let key = take(&mut rest, in_key);
+    let mut page = take(&mut rest, in_page).to_vec();
+    match id {
+        0xC400_01B0 => print_padded(out, delegate(record, start, &mut table, x1)),
+        0xC400_01B1 => print_padded(out, undelegate(record, start, &mut table, x1)),
+        0xC400_01B2 => print_padded(out, realm_key(record, &mut page, key, x1, x2, x3)),
+        0xC400_01B4 => print_padded(out, features(record, x1)),
+        0xC400_01B6 => {
+            let mecid = key_update(record, width, x1);
+            print_padded(out, mecid.map(|_| [0, 0]));
+            if let Ok(mecid) = mecid {
+                writeln!(out, "reprogram {mecid:016x}").unwrap();
+            }
+        }
+        _ => writeln!(out, "forward {:016x}", forward(x1)).unwrap(),
+    }
+    let table_differs = table != take(&mut rest, in_table);
+    let page_differs = page != take(&mut rest, in_page);
+    writeln!(out, "table {}as expected", not_if(table_differs)).unwrap();
+    writeln!(out, "page {}as expected", not_if(page_differs)).unwrap();
+}
+
+fn print_padded(out: &mut String, outcome: Outcome) {
+    let Answer { x0, x1, x2 } = outcome.into();
+    writeln!(out, "registers {x0:016x} {x1:016x} {x2:016x}").unwrap();
+}
+
+#[test]
+fn command_vectors() {
+    compare("command_vectors", 930, print_command);
+}
+
+// ---- The runtime ----
+
+/// What stands at the place that two words of the case give.
+fn lent(input: &[u8], at: usize) -> &[u8] {
+    let (from, length) = (size_at(input, at), size_at(input, at + 8));
+    &input[from..from + length]
+}
+
+fn request_at(image: &[u8], i: usize) -> Request {
+    let bytes = &image[16 + 80 * i..][..80];
+    let [algorithm, granule, ticket, hash_id] = [0, 8, 16, 24].map(|at| word_at(bytes, at));
+    Request {
+        algorithm,
+        granule,
+        ticket,
+        hash_id,
+        hash: bytes[32..].try_into().unwrap(),
+    }
+}
+
+fn response_at(image: &[u8], i: usize) -> Response {
+    let bytes = &image[656 + 128 * i..][..128];
+    Response {
+        granule: word_at(bytes, 0),
+        ticket: word_at(bytes, 8),
+        len: size_at(bytes, 16),
+        signature: bytes[24..].try_into().unwrap(),
+    }
+}
+
+/// The queue that a case starts with. No image at all is an empty one.
+fn queue_at(image: &[u8]) -> Queue {
+    if image.is_empty() {
+        return Queue::EMPTY;
+    }
+    let requests: [Request; PLACES] = std::array::from_fn(|i| request_at(image, i));
+    let responses: [Response; PLACES] = std::array::from_fn(|i| response_at(image, i));
+    Queue {
+        requests: Ring::new(requests, size_at(image, 0)),
+        responses: Ring::new(responses, size_at(image, 8)),
+    }
+}
+
+fn session_at(input: &[u8]) -> Session {
+    match word_at(input, 48) {
+        0 => Session::Idle,
+        _ => Session::Sending {
+            whole: word_at(input, 56),
+            sent: word_at(input, 64),
+        },
+    }
+}
+
+fn print_bytes(out: &mut String, bytes: &[u8]) {
+    out.push(' ');
+    for byte in bytes {
+        write!(out, "{byte:02x}").unwrap();
+    }
+    out.push('\n');
+}
+
+fn print_reply(out: &mut String, reply: Reply) {
+    match reply {
+        Reply::Forward(error) => write!(out, "forward {error:x}").unwrap(),
+        Reply::Back { answer, reprogram } => {
+            let Answer { x0, x1, x2 } = answer;
+            write!(out, "registers {x0:x} {x1:x} {x2:x}").unwrap();
+            if let Some(mecid) = reprogram {
+                write!(out, " reprogram {mecid:x}").unwrap();
+            }
+        }
+    }
+    out.push('\n');
+}
+
+fn print_request(out: &mut String, name: &str, request: &Request) {
+    let Request {
+        algorithm,
+        granule,
+        ticket,
+        hash_id,
+        hash,
+    } = request;
+    write!(
+        out,
+        "{name} {algorithm:x} {granule:x} {ticket:x} {hash_id:x}"
+    )
+    .unwrap();
+    print_bytes(out, hash);
+}
+
+fn print_queue(out: &mut String, queue: &Queue) {
+    for request in queue.requests.iter() {
+        print_request(out, "request", request);
+    }
+    for response in queue.responses.iter() {
+        let Response {
+            granule,
+            ticket,
+            len,
+            ..
+        } = response;
+        write!(out, "response {granule:x} {ticket:x} {len}").unwrap();
+        print_bytes(out, response.signature());
+    }
+}
+
+fn print_state(out: &mut String, state: &State) {
+    match state.session {
+        Session::Idle => write!(out, "session idle"),
+        Session::Sending { whole, sent } => write!(out, "session {whole} {sent}"),
+    }
+    .unwrap();
+    let (requests, responses) = (&state.queue.requests, &state.queue.responses);
+    let counts = [requests.stored_count(), responses.stored_count()];
+    write!(out, ", queue {} {}", counts[0], counts[1]).unwrap();
+}
+
+/// Page and table, as they are held or as they are expected.
+#[derive(Clone, PartialEq)]
+struct Memory {
+    page: Vec<u8>,
+    table: Vec<u8>,
+}
+
+fn operate(out: &mut String, input: &[u8], step: &[u8], state: &mut State, memory: &mut Memory) {
+    let [x1, x2, x3, x4] = [16, 24, 32, 40].map(|at| word_at(step, at));
+    match word_at(step, 0) {
+        0 => {
+            let mut lent = Lent {
+                page: &mut memory.page,
+                table: &mut memory.table,
+                start: word_at(input, 32),
+                realm_key: lent(input, 104),
+                public_key: lent(input, 120),
+                token: lent_by(input, step, 56),
+                busy: word_at(step, 48) != 0,
+                width: word_at(input, 40),
+            };
+            let id = word_at(step, 8);
+            let x = [x1, x2, x3, x4];
+            print_reply(out, call(state, &mut lent, Call { id, x }));
+        }
+        1 => print_reply(out, state.queue.sign(lent_by(input, step, 72)).into()),
+        2 => {
+            let (pa, size, c_size) = (x1, x2, x3);
+            let call = TokenCall { pa, size, c_size };
+            let part = challenge(state.record, &memory.page, call);
+            write!(out, "challenge {}", part.len()).unwrap();
+            print_bytes(out, part);
+        }
+        _ => match state.queue.oldest_request() {
+            Some(request) => print_request(out, "oldest", request),
+            None => out.push_str("oldest none\n"),
+        },
+    }
+}
+
+/// What stands at the place that two words of an operation give.
+fn lent_by<'a>(input: &'a [u8], step: &[u8], at: usize) -> &'a [u8] {
+    let (from, length) = (size_at(step, at), size_at(step, at + 8));
+    &input[from..from + length]
+}
+
+/// Lays over what is expected the change that an operation names.
+fn lay(input: &[u8], step: &[u8], at: usize, expected: &mut [u8]) {
+    let bytes = lent_by(input, step, at + 8);
+    expected[size_at(step, at)..][..bytes.len()].copy_from_slice(bytes);
+}
+
+fn same_or_differs(same: bool) -> &'static str {
+    if same {
+        "same"
+    } else {
+        "differs"
+    }
+}
+
+fn print_runtime(out: &mut String, input: &[u8]) {
+    let mut state = State {
+        record: record_at(input),
+        session: session_at(input),
+        queue: queue_at(lent(input, 136)),
+    };
+    let mut held = Memory {
+        page: lent(input, 72).to_vec(),
+        table: lent(input, 88).to_vec(),
+    };
+    let mut expected = held.clone();
+    for step in input[160..].chunks_exact(136).take(size_at(input, 152)) {
+        operate(out, input, step, &mut state, &mut held);
+        lay(input, step, 88, &mut expected.page);
+        lay(input, step, 112, &mut expected.table);
+        print_state(out, &state);
+        let page = same_or_differs(held.page == expected.page);
+        let table = same_or_differs(held.table == expected.table);
+        writeln!(out, ", page {page}, table {table}").unwrap();
+    }
+    print_queue(out, &state.queue);
+}
+
+#[test]
+fn runtime_vectors() {
+    compare("runtime_vectors", 840, print_runtime);
+}
