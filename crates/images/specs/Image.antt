@@ -1,0 +1,91 @@
+-- States and answers as lent words, for C. An image that no state has is read as the state named here. Assumes nothing.
+use Prim.Native.Nat.{ℕ, _+_}
+use mathlib.Core.Bool.{cond}
+use mathlib.Core.List.{List, [], _∷_}
+use lib.ListN.{getD}
+use lib.Dec.{eqb}
+use Rattle.boot.specs.declared.Record.{Record}
+use Rattle.boot.specs.declared.Record.the-variants.{Fresh, Up, Closed}
+use Rattle.codes.specs.declared.Answer.{Answer}
+use Rattle.codes.specs.declared.Work.{Work}
+use Rattle.codes.specs.declared.Work.the-variants.{Nothing, Reprogram}
+use Rattle.reader.specs.declared.Section.{Section}
+use Rattle.reader.specs.declared.Section.the-variants.{Absent, Empty, Entries}
+use Rattle.reader.specs.declared.View.{View}
+use Rattle.token.specs.declared.Session.{Session}
+use Rattle.token.specs.declared.Session.the-variants.{Idle, Sending}
+
+-- ---- the boot record: 0 fresh, 1 up, any other number closed; then what it keeps
+unfoldable pub recordOf : List ℕ → Record
+recordOf w =
+    cond (eqb (getD w 0 0) 0) Fresh
+    (cond (eqb (getD w 0 0) 1) (Up (record { cpus = getD w 1 0; base = getD w 2 0; minor = getD w 3 0 }))
+    Closed)
+
+unfoldable pub recordWords : Record → List ℕ
+recordWords Fresh = 0 ∷ 0 ∷ 0 ∷ 0 ∷ []
+recordWords (Up u) = 1 ∷ u .cpus ∷ u .base ∷ u .minor ∷ []
+recordWords Closed = 2 ∷ 0 ∷ 0 ∷ 0 ∷ []
+
+-- ---- the token session: 0 idle, any other number sending; then the token's length at its start, and how much of it is sent
+unfoldable pub sessionOf : List ℕ → Session
+sessionOf w = cond (eqb (getD w 0 0) 0) Idle (Sending (getD w 1 0) (getD w 2 0))
+
+unfoldable pub sessionWords : Session → List ℕ
+sessionWords Idle = 0 ∷ 0 ∷ 0 ∷ []
+sessionWords (Sending whole sent) = 1 ∷ whole ∷ sent ∷ []
+
+-- ---- the result registers, x0 to x2
+unfoldable pub registers : Answer → List ℕ
+registers a = a .x0 ∷ a .x1 ∷ a .x2 ∷ []
+
+-- ---- what the platform has to do: 0 nothing, or 1 and the mecid to reprogram
+unfoldable pub workWords : Work → List ℕ
+workWords Nothing = 0 ∷ 0 ∷ []
+workWords (Reprogram mecid) = 1 ∷ mecid ∷ []
+
+-- ---- what a page shows: its minor, the edition that it was read as, the platform pointer, and for each section 0 absent, 1 empty, or
+-- any other number and then the offset of the entries and how many they are
+unfoldable pub sectionBy : ℕ → ℕ → ℕ → Section
+sectionBy tag at count = cond (eqb tag 0) Absent (cond (eqb tag 1) Empty (Entries at count))
+
+unfoldable pub tagOf : Section → ℕ
+tagOf Absent = 0
+tagOf Empty = 1
+tagOf (Entries at count) = 2
+
+unfoldable pub placeOf : Section → ℕ
+placeOf Absent = 0
+placeOf Empty = 0
+placeOf (Entries at count) = at
+
+unfoldable pub countOf : Section → ℕ
+countOf Absent = 0
+countOf Empty = 0
+countOf (Entries at count) = count
+
+unfoldable pub sectionIn : ℕ → List ℕ → Section
+sectionIn i w = sectionBy (getD w i 0) (getD w (i + 1) 0) (getD w (i + 2) 0)
+
+unfoldable pub viewOf : List ℕ → View
+viewOf w =
+    record {
+      minor = getD w 0 0;
+      edition = getD w 1 0;
+      plat = getD w 2 0;
+      dram = sectionIn 3 w;
+      console = sectionIn 6 w;
+      ncoh = sectionIn 9 w;
+      coh = sectionIn 12 w;
+    }
+
+unfoldable pub sectionWords : Section → List ℕ
+sectionWords s = tagOf s ∷ placeOf s ∷ countOf s ∷ []
+
+unfoldable pub viewWords : View → List ℕ
+viewWords v =
+    v .minor ∷ v .edition ∷ v .plat ∷
+    tagOf (v .dram) ∷ placeOf (v .dram) ∷ countOf (v .dram) ∷
+    tagOf (v .console) ∷ placeOf (v .console) ∷ countOf (v .console) ∷
+    tagOf (v .ncoh) ∷ placeOf (v .ncoh) ∷ countOf (v .ncoh) ∷
+    tagOf (v .coh) ∷ placeOf (v .coh) ∷ countOf (v .coh) ∷ []

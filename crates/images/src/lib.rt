@@ -1,0 +1,146 @@
+// States and answers as lent words, for C: an image is read as a state, and a state written as its image. An image that no state
+// has is an input like any other.
+use boot::Kept;
+use boot::Record;
+use codes::Answer;
+use codes::Work;
+use reader::Section;
+use reader::View;
+use token::Session;
+ghost use mathlib.Core.Path.{_≡_};
+ghost use Prim.Native.Nat.{_+_, _≤_};
+ghost use lib.ListN.{length};
+ghost use Rattle.images.specs.Image.{recordOf, recordWords, sessionOf, sessionWords, registers as Image·registers, workWords, sectionIn, sectionWords, viewOf, viewWords};
+
+pub fn record_of(image: &[u64; 4]) -> Record
+    ensures { λ r. ⌜ r ≡ recordOf (now (image .entry)) ⌝ }
+{
+    if image[0] == 0 {
+        return Record::Fresh;
+    }
+    if image[0] == 1 {
+        return Record::Up(Kept {
+            cpus: image[1],
+            base: image[2],
+            minor: image[3],
+        });
+    }
+    Record::Closed
+}
+
+pub fn record_words(state: Record) -> [u64; 4]
+    ensures { λ r. ⌜ r ≡ recordWords state ⌝ }
+{
+    match state {
+        Record::Fresh => [0, 0, 0, 0],
+        Record::Up(kept) => [1, kept.cpus, kept.base, kept.minor],
+        Record::Closed => [2, 0, 0, 0],
+    }
+}
+
+pub fn session_of(image: &[u64; 3]) -> Session
+    ensures { λ r. ⌜ r ≡ sessionOf (now (image .entry)) ⌝ }
+{
+    if image[0] == 0 {
+        return Session::Idle;
+    }
+    Session::Sending {
+        whole: image[1],
+        sent: image[2],
+    }
+}
+
+pub fn session_words(session: Session) -> [u64; 3]
+    ensures { λ r. ⌜ r ≡ sessionWords session ⌝ }
+{
+    match session {
+        Session::Idle => [0, 0, 0],
+        Session::Sending { whole, sent } => [1, whole, sent],
+    }
+}
+
+pub fn registers(answer: Answer) -> [u64; 3]
+    ensures { λ r. ⌜ r ≡ Image·registers answer ⌝ }
+{
+    [answer.x0, answer.x1, answer.x2]
+}
+
+pub fn work_words(work: Work) -> [u64; 2]
+    ensures { λ r. ⌜ r ≡ workWords work ⌝ }
+{
+    match work {
+        Work::Nothing => [0, 0],
+        Work::Reprogram(mecid) => [1, mecid],
+    }
+}
+
+// The section whose three words begin at a place of an image.
+fn section_in(image: &[u64; 15], at: usize) -> Section
+    requires { ⌜ at ≤ 12 ⌝ }
+    ensures { λ r. ⌜ r ≡ sectionIn at (now (image .entry)) ⌝ }
+{
+    if image[at] == 0 {
+        return Section::Absent;
+    }
+    if image[at] == 1 {
+        return Section::Empty;
+    }
+    Section::Entries {
+        at: image[at + 1] as usize,
+        count: image[at + 2] as usize,
+    }
+}
+
+fn section_words(section: Section) -> [u64; 3]
+    ensures { λ r. ⌜ r ≡ sectionWords section ⌝ }
+{
+    match section {
+        Section::Absent => [0, 0, 0],
+        Section::Empty => [1, 0, 0],
+        Section::Entries { at, count } => [2, at as u64, count as u64],
+    }
+}
+
+pub fn view_of(image: &[u64; 15]) -> View
+    ensures { λ r. ⌜ r ≡ viewOf (now (image .entry)) ⌝ }
+{
+    View {
+        minor: image[0],
+        edition: image[1],
+        plat: image[2],
+        dram: section_in(image, 3),
+        console: section_in(image, 6),
+        ncoh: section_in(image, 9),
+        coh: section_in(image, 12),
+    }
+}
+
+pub fn view_words(view: View) -> [u64; 15]
+    ensures { λ r. ⌜ r ≡ viewWords view ⌝ }
+{
+    let dram = view.dram;
+    let console = view.console;
+    let ncoh = view.ncoh;
+    let coh = view.coh;
+    let a = section_words(dram);
+    let b = section_words(console);
+    let c = section_words(ncoh);
+    let d = section_words(coh);
+    [
+        view.minor,
+        view.edition,
+        view.plat,
+        a[0],
+        a[1],
+        a[2],
+        b[0],
+        b[1],
+        b[2],
+        c[0],
+        c[1],
+        c[2],
+        d[0],
+        d[1],
+        d[2],
+    ]
+}

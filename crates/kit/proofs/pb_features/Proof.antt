@@ -1,0 +1,21 @@
+use mathlib.Core.Path.{_≡_, sym, ap, _∙_}
+use Rattle.images.specs.Image.{registers as Image·registers}
+use borrow.Author.Needs.{needs}
+use Rattle.kit.proofs.pb_features.Statement.{statement}
+use Rattle.kit.proofs.pb_features.Tie as tie
+
+record-of-requires : tie.Need-record-of-requires
+record-of-requires c κs = search needs
+
+features-requires : tie.Need-features-requires
+features-requires c κs = search needs
+
+registers-requires : tie.Need-registers-requires
+registers-requires c κs = search needs
+
+returns : tie.Need-returns
+returns c = rw (← c .before .before .record-of .ensures) (c .registers .ensures ∙ ap Image·registers (c .before .features .ensures))
+
+pub pb-features-spec : {M : Type 1} → statement M
+pb-features-spec =
+    tie.close (tie.spec record-of-requires features-requires registers-requires returns)
