@@ -4,9 +4,8 @@ ghost use mathlib.Core.Path.{_≡_};
 ghost use Rattle.boot.specs.Boot.{coldCode, coldNext, warmCode, warmNext};
 ghost use Rattle.granules.specs.Granules.{delegateOf, undelegateOf};
 ghost use Rattle.attest.specs.Key.{realmKeyOf};
-ghost use Rattle.token.specs.Token.{tokenOf};
 ghost use Rattle.features.specs.Features.{featuresOf, updateOf, forwardOf};
-ghost use Rattle.images.specs.Image.{recordOf, recordWords, sessionOf, sessionWords, registers as Image·registers, workWords};
+ghost use Rattle.images.specs.Image.{recordOf, recordWords, registers as Image·registers, workWords};
 
 // ---- Boot ----
 
@@ -110,39 +109,6 @@ pub extern "C" fn pb_realm_key(
         size,
         curve,
     ));
-}
-
-// 0xC40001B3: the next hunk of the token at pa.
-#[no_mangle]
-pub extern "C" fn pb_platform_token(
-    state: &[u64; 4],
-    page: &mut [u8],
-    session: &mut [u64; 3],
-    busy: bool,
-    token: &[u8],
-    pa: u64,
-    size: u64,
-    csize: u64,
-    out: &mut [u64; 3],
-)
-    ensures { λ _. ⌜ now (out .exit) ≡ Image·registers (tokenOf (recordOf (now (state .entry))) (now (page .entry)) (sessionOf (now (session .entry))) busy (now (token .entry)) pa size csize .answer) ⌝ }
-    ensures { λ _. ⌜ now (page .exit) ≡ tokenOf (recordOf (now (state .entry))) (now (page .entry)) (sessionOf (now (session .entry))) busy (now (token .entry)) pa size csize .page ⌝ }
-    ensures { λ _. ⌜ now (session .exit) ≡ sessionWords (tokenOf (recordOf (now (state .entry))) (now (page .entry)) (sessionOf (now (session .entry))) busy (now (token .entry)) pa size csize .session) ⌝ }
-{
-    let done = token::platform_token(
-        images::record_of(state),
-        page,
-        images::session_of(session),
-        busy,
-        token,
-        pa,
-        size,
-        csize,
-    );
-    let next = done.session;
-    *session = images::session_words(next);
-    let answer = done.answer;
-    *out = images::registers(answer);
 }
 
 // 0xC40001B4: the features at an index.

@@ -1,10 +1,12 @@
 // The signing queue: requests that wait to be signed, and responses that wait to be pulled. Each side is an array of eight by
 // value, the oldest first, shifted on take. A count above eight, which no call leaves, stands for eight.
 use codes::Answer;
+use codes::Code;
 ghost use mathlib.Core.Path.{_≡_};
 ghost use mathlib.Core.List.{[]};
 ghost use Prim.Native.Nat.{_<_, _≤_};
 ghost use lib.ListN.{length, drop, getD};
+ghost use Rattle.codes.specs.Codes.{answerOf};
 ghost use Rattle.queue.specs.Queue.{waiting, held, listsOf, joined, noResponse, oldestRequest, waitingOf};
 
 // A request to sign a realm's token. Algorithm and hash id are the numbers of their four bytes.
@@ -85,6 +87,16 @@ impl Queue {
                 count: 0,
             },
         }
+    }
+}
+
+// A refused call on the queue: zeros in the other registers, and the very queue.
+pub fn refused(code: Code, queue: Queue) -> Queued
+    ensures { λ r. ⌜ (r .answer ≡ answerOf code 0 0) × (r .queue ≡ queue) ⌝ }
+{
+    Queued {
+        answer: codes::answered(code, 0, 0),
+        queue,
     }
 }
 

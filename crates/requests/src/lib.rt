@@ -7,7 +7,7 @@ ghost use mathlib.Core.Path.{_≡_};
 ghost use mathlib.Core.Bool.{false};
 ghost use Prim.Native.Nat.{_≤_};
 ghost use lib.ListN.{length};
-ghost use Rattle.codes.specs.Codes.{isOk, answerOf};
+ghost use Rattle.codes.specs.Codes.{isOk};
 ghost use Rattle.queue.specs.Queue.{SigningStep, listsOf};
 ghost use Rattle.requests.specs.Push.{requestOf, pushOf};
 
@@ -27,35 +27,25 @@ fn request_of(buffer: &[u8]) -> Request
     }
 }
 
-// A refused push.
-fn refused(code: Code, queue: Queue) -> Queued
-    ensures { λ r. ⌜ (r .answer ≡ answerOf code 0 0) × (r .queue ≡ queue) ⌝ }
-{
-    Queued {
-        answer: codes::answered(code, 0, 0),
-        queue,
-    }
-}
-
 // Push: the request in the buffer joins the end of those that wait.
 pub fn push(buffer: &[u8], queue: Queue) -> Queued
     ensures { λ r. ⌜ _≡_ {A = SigningStep} (record { answer = r .answer; page = now (buffer .entry); queue = listsOf (r .queue) }) (pushOf (now (buffer .entry)) (listsOf queue)) ⌝ }
     ensures { λ r. ⌜ (isOk (r .answer .code) ≡ false → r .queue ≡ queue) ⌝ }
 {
     if buffer.len() < 80 {
-        return refused(Code::Inval, queue);
+        return queue::refused(Code::Inval, queue);
     }
     let request = request_of(buffer);
     if request.algorithm != 0 {
-        return refused(Code::Inval, queue);
+        return queue::refused(Code::Inval, queue);
     }
     if request.hashid != 1 {
-        return refused(Code::Inval, queue);
+        return queue::refused(Code::Inval, queue);
     }
     let requests = queue.requests;
     let responses = queue.responses;
     if 8 <= queue::request_count(requests) {
-        return refused(Code::Again, queue);
+        return queue::refused(Code::Again, queue);
     }
     let more = queue::join_request(requests, request);
     Queued {

@@ -8,7 +8,7 @@ ghost use mathlib.Core.Bool.{false};
 ghost use Prim.Native.Nat.{_+_, _≤_};
 ghost use lib.ListN.{length};
 ghost use Rattle.words.specs.Word.{splice};
-ghost use Rattle.codes.specs.Codes.{isOk, answerOf};
+ghost use Rattle.codes.specs.Codes.{isOk};
 ghost use Rattle.queue.specs.Queue.{SigningStep, signedIn, listsOf};
 ghost use Rattle.responses.specs.Pull.{responseBytes, pullOf};
 ghost use Rattle.responses.specs.Sign.{SignStep, signOf};
@@ -37,16 +37,6 @@ fn put_response(buffer: &mut [u8], response: Response)
     words::copy(&mut buffer[18..], &signature[..n]);
 }
 
-// A refused call.
-fn refused(code: Code, queue: Queue) -> Queued
-    ensures { λ r. ⌜ (r .answer ≡ answerOf code 0 0) × (r .queue ≡ queue) ⌝ }
-{
-    Queued {
-        answer: codes::answered(code, 0, 0),
-        queue,
-    }
-}
-
 // Pull: writes the oldest response into the buffer and drops it; one that does not fit is kept.
 pub fn pull(buffer: &mut [u8], queue: Queue) -> Queued
     ensures { λ r. ⌜ _≡_ {A = SigningStep} (record { answer = r .answer; page = now (buffer .exit); queue = listsOf (r .queue) }) (pullOf (now (buffer .entry)) (listsOf queue)) ⌝ }
@@ -55,11 +45,11 @@ pub fn pull(buffer: &mut [u8], queue: Queue) -> Queued
     let requests = queue.requests;
     let responses = queue.responses;
     if queue::response_count(responses) == 0 {
-        return refused(Code::Again, queue);
+        return queue::refused(Code::Again, queue);
     }
     let response = queue::first_response(responses);
     if buffer.len() < 18 + signature_len(response) {
-        return refused(Code::Inval, queue);
+        return queue::refused(Code::Inval, queue);
     }
     put_response(buffer, response);
     let rest = queue::drop_response(responses);
@@ -93,18 +83,18 @@ pub fn sign(queue: Queue, signature: &[u8]) -> Queued
     ensures { λ r. ⌜ (isOk (r .answer .code) ≡ false → r .queue ≡ queue) ⌝ }
 {
     if signature.len() == 0 {
-        return refused(Code::Inval, queue);
+        return queue::refused(Code::Inval, queue);
     }
     if 104 < signature.len() {
-        return refused(Code::Inval, queue);
+        return queue::refused(Code::Inval, queue);
     }
     let requests = queue.requests;
     let responses = queue.responses;
     if queue::request_count(requests) == 0 {
-        return refused(Code::Again, queue);
+        return queue::refused(Code::Again, queue);
     }
     if 8 <= queue::response_count(responses) {
-        return refused(Code::Again, queue);
+        return queue::refused(Code::Again, queue);
     }
     let first = queue::first_request(requests);
     let rest = queue::drop_request(requests);

@@ -11,7 +11,7 @@ ghost use mathlib.Core.Bool.{false};
 ghost use Prim.Native.Nat.{_+_, _≤_};
 ghost use lib.ListN.{length};
 ghost use Rattle.range.specs.Range.{placeOf};
-ghost use Rattle.codes.specs.Codes.{isOk, answerOf, gated};
+ghost use Rattle.codes.specs.Codes.{isOk, gated};
 ghost use Rattle.queue.specs.Queue.{SigningStep, queued, listsOf};
 ghost use Rattle.signing.specs.Signing.{opcodeOf, isOther, badCurve, sharedCode, publicOf, opCode, opStep, signingOf};
 
@@ -85,26 +85,16 @@ fn gate_of(kept: Kept, opcode: Opcode, pa: u64, size: u64, curve: u64) -> Gate
     }
 }
 
-// A refused call.
-fn refused(code: Code, queue: Queue) -> Queued
-    ensures { λ r. ⌜ (r .answer ≡ answerOf code 0 0) × (r .queue ≡ queue) ⌝ }
-{
-    Queued {
-        answer: codes::answered(code, 0, 0),
-        queue,
-    }
-}
-
 // Key: writes the public key that the platform lends into the buffer; x1 is its length.
 fn public_key(buffer: &mut [u8], queue: Queue, key: &[u8]) -> Queued
     ensures { λ r. ⌜ _≡_ {A = SigningStep} (record { answer = r .answer; page = now (buffer .exit); queue = listsOf (r .queue) }) (publicOf (now (buffer .entry)) (listsOf queue) (now (key .entry))) ⌝ }
     ensures { λ r. ⌜ (isOk (r .answer .code) ≡ false → r .queue ≡ queue) ⌝ }
 {
     if key.len() == 0 {
-        return refused(Code::Again, queue);
+        return queue::refused(Code::Again, queue);
     }
     if buffer.len() < key.len() {
-        return refused(Code::Inval, queue);
+        return queue::refused(Code::Inval, queue);
     }
     words::copy(buffer, key);
     Queued {
@@ -124,7 +114,7 @@ fn serve(page: &mut [u8], at: usize, size: u64, queue: Queue, key: &[u8], opcode
         Opcode::Push => requests::push(&page[at..end], queue),
         Opcode::Pull => responses::pull(&mut page[at..end], queue),
         Opcode::Key => public_key(&mut page[at..end], queue, key),
-        Opcode::Other => refused(Code::Inval, queue),
+        Opcode::Other => queue::refused(Code::Inval, queue),
     }
 }
 
@@ -143,15 +133,15 @@ pub fn token_signing(
     ensures { λ r. ⌜ (isOk (r .answer .code) ≡ false → r .queue ≡ queue) ⌝ }
 {
     if !codes::is_up(state) {
-        return refused(Code::Unk, queue);
+        return queue::refused(Code::Unk, queue);
     }
     if page.len() != 4096 {
-        return refused(Code::Unk, queue);
+        return queue::refused(Code::Unk, queue);
     }
     let asked = opcode_of(opcode);
     let gate = gate_of(codes::up_of(state), asked, pa, size, curve);
     match gate {
-        Gate::Stop(code) => refused(code, queue),
+        Gate::Stop(code) => queue::refused(code, queue),
         Gate::Go(at) => serve(page, at, size, queue, key, asked),
     }
 }
