@@ -2,7 +2,7 @@
 use boot::Kept;
 use boot::Record;
 ghost use mathlib.Core.Path.{_≡_};
-ghost use Rattle.codes.specs.Codes.{x0Of, answerOf, isUp, upOf};
+ghost use Rattle.codes.specs.Codes.{x0Of, answerOf, isOk, isUp, upOf};
 
 pub enum Code {
     Ok,
@@ -56,6 +56,20 @@ pub fn answered(code: Code, x1: u64, x2: u64) -> Answer
         x0: x0(code),
         x1,
         x2,
+    }
+}
+
+// Whether a call was accepted.
+pub fn is_ok(code: Code) -> bool
+    ensures { λ r. ⌜ r ≡ isOk code ⌝ }
+{
+    match code {
+        Code::Ok => true,
+        Code::Unk => false,
+        Code::BadAddr => false,
+        Code::BadPas => false,
+        Code::Inval => false,
+        Code::Again => false,
     }
 }
 
