@@ -1,7 +1,22 @@
-//! The other side of the differential test and of the benchmark: `reference` is a second implementation of the rules, written from
-//! the papers alone, and `random` makes the inputs that both sides are given.
+//! The proved library and the other side of its differential test and benchmark: `kit` calls the library, `reference` is a second
+//! implementation of the rules, written from the papers alone, `model` is that one on the library's images, and `random` makes the
+//! inputs that both sides are given.
+//!
+//! After `rt staticlib kit`: `cargo test --offline --release` for all tests, `cargo run --offline --release --example bench` for
+//! the times; the long run is told in `tests/differential/main.rs`. POTTERBEAM_KIT_DIR names another directory with a libkit.a.
 
-#![forbid(unsafe_code)]
+// Only calls to the library need unsafe code.
+#![deny(unsafe_code)]
 
+#[forbid(unsafe_code)]
+pub mod exports;
+#[forbid(unsafe_code)]
+pub mod images;
+#[allow(unsafe_code)]
+pub mod kit;
+#[forbid(unsafe_code)]
+pub mod model;
+#[forbid(unsafe_code)]
 pub mod random;
+#[forbid(unsafe_code)]
 pub mod reference;

@@ -3,6 +3,7 @@
 
 pub mod boots;
 pub mod calls;
+pub mod forged;
 pub mod lists;
 pub mod pages;
 

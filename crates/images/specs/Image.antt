@@ -2,18 +2,28 @@
 use Prim.Native.Nat.{ℕ, _+_}
 use mathlib.Core.Bool.{cond}
 use mathlib.Core.List.{List, [], _∷_}
-use lib.ListN.{getD}
+use lib.ListN.{getD, replicate}
 use lib.Dec.{eqb}
+use Rattle.words.specs.declared.Span.{Span}
 use Rattle.boot.specs.declared.Record.{Record}
 use Rattle.boot.specs.declared.Record.the-variants.{Fresh, Up, Closed}
 use Rattle.codes.specs.declared.Answer.{Answer}
 use Rattle.codes.specs.declared.Work.{Work}
 use Rattle.codes.specs.declared.Work.the-variants.{Nothing, Reprogram}
+use Rattle.reader.specs.Answer.{Answer as ReaderAnswer, refused, shows}
+use Rattle.reader.specs.Reading.{viewAt}
+use Rattle.reader.specs.declared.Reading.{Reading}
+use Rattle.reader.specs.declared.Reading.the-variants.{Accepted, Refused}
 use Rattle.reader.specs.declared.Section.{Section}
 use Rattle.reader.specs.declared.Section.the-variants.{Absent, Empty, Entries}
 use Rattle.reader.specs.declared.View.{View}
+use Rattle.runtime.specs.declared.Reply.{Reply}
+use Rattle.runtime.specs.declared.Reply.the-variants.{Forward, Back}
 use Rattle.token.specs.declared.Session.{Session}
 use Rattle.token.specs.declared.Session.the-variants.{Idle, Sending}
+use Rattle.writer.specs.Write.{Made, no-page, a-page}
+use Rattle.writer.specs.declared.Wrote.{Wrote}
+use Rattle.writer.specs.declared.Wrote.the-variants.{Page, Place, Edition, Lists, Late, Room}
 
 -- ---- the boot record: 0 fresh, 1 up, any other number closed; then what it keeps
 unfoldable pub recordOf : List ℕ → Record
@@ -89,3 +99,41 @@ viewWords v =
     tagOf (v .console) ∷ placeOf (v .console) ∷ countOf (v .console) ∷
     tagOf (v .ncoh) ∷ placeOf (v .ncoh) ∷ countOf (v .ncoh) ∷
     tagOf (v .coh) ∷ placeOf (v .coh) ∷ countOf (v .coh) ∷ []
+
+-- the view of a reader's answer on a page at a base; zeros where it refuses the page
+unfoldable pub shownWords : ℕ → List ℕ → ReaderAnswer → List ℕ
+shownWords base page (refused c) = replicate 15 0
+shownWords base page (shows w e q s) = viewWords (viewAt w e base page)
+
+-- the same of the reader's enum
+unfoldable pub readingWords : Reading → List ℕ
+readingWords (Refused c) = replicate 15 0
+readingWords (Accepted v) = viewWords v
+
+-- ---- the number of the writer's answer: 0, or 1 to 5 for W1 to W5
+unfoldable pub madeNumber : Made → ℕ
+madeNumber (no-page n) = n
+madeNumber (a-page p) = 0
+
+-- the same of the writer's enum
+unfoldable pub wroteNumber : Wrote → ℕ
+wroteNumber Page = 0
+wroteNumber Place = 1
+wroteNumber Edition = 2
+wroteNumber Lists = 3
+wroteNumber Late = 4
+wroteNumber Room = 5
+
+-- ---- where a part of the page lies: its offset and its length
+unfoldable pub spanWords : Span → List ℕ
+spanWords p = p .at ∷ p .len ∷ []
+
+-- ---- the dispatcher's reply: the result registers, zeros for 0xC400018F, which has none; and what the platform has to do, 2 being an
+-- error code to forward to the Non-secure world
+unfoldable pub replyRegisters : Reply → List ℕ
+replyRegisters (Forward n) = 0 ∷ 0 ∷ 0 ∷ []
+replyRegisters (Back a work) = registers a
+
+unfoldable pub replyWords : Reply → List ℕ
+replyWords (Forward n) = 2 ∷ n ∷ []
+replyWords (Back a work) = workWords work

@@ -3,14 +3,23 @@
 use boot::Kept;
 use boot::Record;
 use codes::Answer;
+use codes::Code;
 use codes::Work;
+use reader::Reading;
 use reader::Section;
 use reader::View;
+use runtime::Reply;
 use token::Session;
+use words::Span;
+use writer::Wrote;
 ghost use mathlib.Core.Path.{_≡_};
 ghost use Prim.Native.Nat.{_+_, _≤_};
 ghost use lib.ListN.{length};
-ghost use Rattle.images.specs.Image.{recordOf, recordWords, sessionOf, sessionWords, registers as Image·registers, workWords, sectionIn, sectionWords, viewOf, viewWords};
+ghost use lib.Dec.{eqb};
+ghost use Rattle.boot.specs.Boot.{numberIn};
+ghost use Rattle.codes.specs.Codes.{unless, ifOk};
+ghost use Rattle.runtime.specs.Step.{codeOf};
+ghost use Rattle.images.specs.Image.{recordOf, recordWords, sessionOf, sessionWords, registers as Image·registers, workWords, sectionIn, sectionWords, viewOf, viewWords, spanWords, readingWords, wroteNumber, replyRegisters, replyWords};
 
 pub fn record_of(image: &[u64; 4]) -> Record
     ensures { λ r. ⌜ r ≡ recordOf (now (image .entry)) ⌝ }
@@ -57,6 +66,25 @@ pub fn session_words(session: Session) -> [u64; 3]
         Session::Idle => [0, 0, 0],
         Session::Sending { whole, sent } => [1, whole, sent],
     }
+}
+
+// The session after a call: written where the call was accepted, else the image stays as it was, also one that no session has.
+pub fn put_session(image: &mut [u64; 3], session: Session, code: Code)
+    ensures { λ _. ⌜ now (image .exit) ≡ ifOk code (sessionWords session) (now (image .entry)) ⌝ }
+{
+    if codes::is_ok(code) {
+        *image = session_words(session);
+    }
+}
+
+// A flag as a number: any but 0 is set.
+pub fn is_set(flag: u64) -> bool
+    ensures { λ r. ⌜ r ≡ unless (eqb flag 0) ⌝ }
+{
+    if flag == 0 {
+        return false;
+    }
+    true
 }
 
 pub fn registers(answer: Answer) -> [u64; 3]
@@ -143,4 +171,72 @@ pub fn view_words(view: View) -> [u64; 15]
         d[1],
         d[2],
     ]
+}
+
+// The view of a reading; zeros where the page is refused.
+pub fn reading_words(reading: Reading) -> [u64; 15]
+    ensures { λ r. ⌜ r ≡ readingWords reading ⌝ }
+{
+    match reading {
+        Reading::Accepted(view) => view_words(view),
+        Reading::Refused(_) => [0u64; 15],
+    }
+}
+
+// The number of a reading: 0, or the code.
+pub fn reading_number(reading: Reading) -> i32
+    ensures { λ r. ⌜ r ≡ numberIn reading ⌝ }
+{
+    match reading {
+        Reading::Accepted(_) => 0,
+        Reading::Refused(code) => reader::number(code),
+    }
+}
+
+// The number of the writer's answer: 0, or 1 to 5 for W1 to W5.
+pub fn wrote_number(wrote: Wrote) -> u32
+    ensures { λ r. ⌜ r ≡ wroteNumber wrote ⌝ }
+{
+    match wrote {
+        Wrote::Page => 0,
+        Wrote::Place => 1,
+        Wrote::Edition => 2,
+        Wrote::Lists => 3,
+        Wrote::Late => 4,
+        Wrote::Room => 5,
+    }
+}
+
+pub fn span_words(span: Span) -> [u64; 2]
+    ensures { λ r. ⌜ r ≡ spanWords span ⌝ }
+{
+    [span.at as u64, span.len as u64]
+}
+
+// A reply's code; one that goes to the Non-secure world is never refused.
+pub fn reply_code(reply: Reply) -> Code
+    ensures { λ r. ⌜ r ≡ codeOf reply ⌝ }
+{
+    match reply {
+        Reply::Forward(_) => Code::Ok,
+        Reply::Back { answer, work: _ } => answer.code,
+    }
+}
+
+pub fn reply_registers(reply: Reply) -> [u64; 3]
+    ensures { λ r. ⌜ r ≡ replyRegisters reply ⌝ }
+{
+    match reply {
+        Reply::Forward(_) => [0, 0, 0],
+        Reply::Back { answer, work: _ } => registers(answer),
+    }
+}
+
+pub fn reply_words(reply: Reply) -> [u64; 2]
+    ensures { λ r. ⌜ r ≡ replyWords reply ⌝ }
+{
+    match reply {
+        Reply::Forward(error) => [2, error],
+        Reply::Back { answer: _, work } => work_words(work),
+    }
 }

@@ -8,50 +8,49 @@ use lib.ListN.{length}
 use lib.ListN.{getD, List·getD-eq-default}
 use lib.Dec.{leb, ltb}
 use native.Mathlib.Nat.{mul-suc, mul-le-mul-left}
-use borrow.Author.Tests.{le-leb, lt-leb, le-ltb, lt-ltb}
-use Rattle.words.specs.Word.{part, wordAt, wordsOf}
+use borrow.Author.Tests.{leb-true, le-leb, lt-leb, le-ltb, lt-ltb}
+use Rattle.words.specs.Word.{part, wordAt, wordsOf, spanAt, spanned, noSpan}
 use Rattle.words.proofs.Read.{wordsOf-length}
+use Rattle.words.proofs.Store.{span-none, span-in}
 use Rattle.entries.specs.Entry.{per, size, shownWords}
 use Rattle.entries.specs.Array.{wordsAt, entryPlace}
 use Rattle.entries.proofs.Entries.{word-in}
 use Rattle.reader.specs.Answer.{empty, full, bytesIn, lookIn, lookOf, countIn, entryCount, entryWord, wordIn, readOf}
-use Rattle.reader.specs.Reading.{sectionOf, shownAs, answerOf}
+use Rattle.reader.specs.Reading.{sectionOf, shownAs, answerOf, viewAt, placedAs}
 use Rattle.reader.specs.declared.Section.{Section}
 use Rattle.reader.specs.declared.Section.the-variants.{Absent, Empty, Entries}
 use Rattle.reader.specs.declared.View.{View}
 use Rattle.reader.specs.declared.Code.{Code}
+use Rattle.reader.specs.declared.Reading.{Reading}
 use Rattle.reader.specs.declared.Reading.the-variants.{Accepted, Refused}
-use Rattle.lookup.specs.Lookup.{arrayOf, wordOf}
+use Rattle.lookup.specs.Lookup.{spanOf, spanIn, wordOf}
 
--- ---- the array
-bytes-cond : (b : Bool) (ws bs : List ℕ) → bytesIn (cond b (full ws bs) empty) ≡ cond b bs []
+-- ---- where the array lies
+module _ (k at count n : ℕ) where
+  pub place-in : at + size k count ≤ n → spanOf k (Entries at count) n ≡ spanAt at (size k count)
+  unfolding spanOf
+  place-in h = rw (le-leb (at + size k count) n h)
+
+  pub place-out : n < at + size k count → noSpan ≡ spanOf k (Entries at count) n
+  unfolding spanOf
+  place-out h = rw (lt-leb (at + size k count) n h)
+
+-- ---- the bytes there
+some-there : (b : Bool) (at n : ℕ) (ws page : List ℕ) → leb (at + n) (length page) ≡ b →
+    spanned (cond b (spanAt at n) noSpan) page ≡ bytesIn (cond b (full ws (part at n page)) empty)
 unfolding bytesIn
-bytes-cond true ws bs = refl
-bytes-cond false ws bs = refl
+some-there true at n ws page h = span-in at n page (leb-true (at + n) (length page) h)
+some-there false at n ws page h = span-none page
 
-module _ (k at count : ℕ) (page : List ℕ) where
-  pub array-in : at + size k count ≤ length page → arrayOf k (Entries at count) page ≡ part at (size k count) page
-  unfolding arrayOf shownAs bytesIn
-  array-in h = rw (le-leb (at + size k count) (length page) h)
+span-shown : (w k : ℕ) (s : Section) (page : List ℕ) → spanned (spanOf k s (length page)) page ≡ bytesIn (shownAs w k s page)
+unfolding spanOf shownAs bytesIn
+span-shown w k Absent page = span-none page
+span-shown w k Empty page = span-none page
+span-shown w k (Entries at count) page = some-there (leb (at + size k count) (length page)) at (size k count) (shownWords w k (wordsAt k count at page)) page refl
 
-  pub array-out : length page < at + size k count → arrayOf k (Entries at count) page ≡ []
-  unfolding arrayOf shownAs bytesIn
-  array-out h = rw (lt-leb (at + size k count) (length page) h)
-
--- a section's bytes, whatever the page's minor
-array-shown : (w k : ℕ) (s : Section) (page : List ℕ) → arrayOf k s page ≡ bytesIn (shownAs w k s page)
-unfolding arrayOf shownAs
-array-shown w k Absent page = refl
-array-shown w k Empty page = refl
-array-shown w k (Entries at count) page =
-    let b = leb (at + size k count) (length page) in
-    let x : List ℕ = shownWords 0 k (wordsAt k count at page) in
-    let y : List ℕ = shownWords w k (wordsAt k count at page) in
-    bytes-cond b x (part at (size k count) page) ∙ sym (bytes-cond b y (part at (size k count) page))
-
-pub array-view : (page : List ℕ) (v : View) (k : ℕ) → arrayOf k (sectionOf v k) page ≡ lookIn (answerOf page (Accepted v)) k
+pub place-view : (page : List ℕ) (v : View) (k : ℕ) → spanned (spanOf k (sectionOf v k) (length page)) page ≡ lookIn (answerOf page (Accepted v)) k
 unfolding lookIn answerOf
-array-view page v k = array-shown (v .minor) k (sectionOf v k) page
+place-view page v k = span-shown (v .minor) k (sectionOf v k) page
 
 pub count-view : (page : List ℕ) (v : View) (k : ℕ) → length (lookIn (answerOf page (Accepted v)) k) / (8 * per k) ≡ countIn (answerOf page (Accepted v)) k
 unfolding lookIn countIn entryCount answerOf
@@ -102,10 +101,22 @@ unfolding wordOf wordIn answerOf
 word-view page v k i j = refl
 
 -- ---- the lookup of a page
-pub look-accepted : (r base k : ℕ) (page : List ℕ) (v : View) → answerOf page (Accepted v) ≡ readOf r base page → lookIn (answerOf page (Accepted v)) k ≡ lookOf r base page k
-unfolding lookOf
-look-accepted r base k page v h = rw h
+viewIn : Reading → View → View
+viewIn (Accepted v) u = v
+viewIn (Refused c) u = u
 
-pub look-refused : (r base k : ℕ) (page : List ℕ) (c : Code) → answerOf page (Refused c) ≡ readOf r base page → [] ≡ lookOf r base page k
-unfolding lookOf lookIn answerOf
-look-refused r base k page c h = rw (← h)
+accepted-same : (u v : View) → Accepted u ≡ Accepted v → u ≡ v
+unfolding viewIn
+accepted-same u v h = ap (λ r. viewIn r u) h
+
+module _ (r base k : ℕ) (page : List ℕ) where
+  pub place-accepted : (v : View) → answerOf page (Accepted v) ≡ readOf r base page → Accepted v ≡ placedAs base page (Accepted v) →
+      (spanOf k (sectionOf v k) (length page) ≡ spanIn base page (readOf r base page) k) × (lookIn (answerOf page (Accepted v)) k ≡ lookOf r base page k)
+  unfolding lookOf spanIn answerOf placedAs
+  place-accepted v h p =
+      let u = viewAt (v .minor) (v .edition) base page in
+      (ap (λ x. spanOf k (sectionOf x k) (length page)) (accepted-same v u p) ∙ ap (λ x. spanIn base page x k) h, rw h)
+
+  pub place-refused : (c : Code) → answerOf page (Refused c) ≡ readOf r base page → (noSpan ≡ spanIn base page (readOf r base page) k) × (spanned noSpan page ≡ lookOf r base page k)
+  unfolding lookOf lookIn spanIn answerOf
+  place-refused c h = rw (← h) (refl, span-none page)

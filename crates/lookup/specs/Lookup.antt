@@ -1,14 +1,29 @@
--- What a section of a view is shown with, of a page of minor w, as the functions below the entries of this crate go. Assumes nothing.
-use Prim.Native.Nat.{ℕ}
+-- Where a section's array lies in the page, and a word of its entries. Assumes nothing.
+use Prim.Native.Nat.{ℕ, _+_}
+use mathlib.Core.Bool.{cond}
 use mathlib.Core.List.{List}
-use Rattle.reader.specs.Answer.{bytesIn, entryWord}
-use Rattle.reader.specs.Reading.{shownAs}
+use lib.ListN.{length}
+use lib.Dec.{leb}
+use Rattle.words.specs.Word.{noSpan, spanAt}
+use Rattle.words.specs.declared.Span.{Span}
+use Rattle.entries.specs.Entry.{size}
+use Rattle.reader.specs.Answer.{Answer, refused, shows, entryWord}
+use Rattle.reader.specs.Reading.{sectionOf, shownAs, viewAt}
 use Rattle.reader.specs.declared.Section.{Section}
+use Rattle.reader.specs.declared.Section.the-variants.{Absent, Empty, Entries}
 
--- its array's bytes, which no minor changes
-unfoldable pub arrayOf : ℕ → Section → List ℕ → List ℕ
-arrayOf k s page = bytesIn (shownAs 0 k s page)
+-- "the part of the lent page that holds it": where the array of a section k lies in a page of n bytes. "an absent or empty section gives
+-- an empty part", and so do, of a view that no reading made, entries that do not lie within the page.
+unfoldable pub spanOf : ℕ → Section → ℕ → Span
+spanOf k Absent n = noSpan
+spanOf k Empty n = noSpan
+spanOf k (Entries at count) n = cond (leb (at + size k count) n) (spanAt at (size k count)) noSpan
 
--- word j of its entry i
+-- the same of a reader's answer: "a refused page .. gives an empty part"
+unfoldable pub spanIn : ℕ → List ℕ → Answer → ℕ → Span
+spanIn base page (refused c) k = noSpan
+spanIn base page (shows w e q s) k = spanOf k (sectionOf (viewAt w e base page) k) (length page)
+
+-- word j of entry i of a section of a view, on a page of minor w
 unfoldable pub wordOf : ℕ → ℕ → ℕ → ℕ → Section → List ℕ → ℕ
 wordOf w k i j s page = entryWord k i j (shownAs w k s page)

@@ -3,42 +3,52 @@
 use reader::Reading;
 use reader::Section;
 use reader::View;
+use words::Span;
 ghost use mathlib.Core.Path.{_≡_};
-ghost use Rattle.reader.specs.Answer.{lookIn, lookOf, countIn, wordIn};
-ghost use Rattle.reader.specs.Reading.{answerOf};
-ghost use Rattle.lookup.specs.Lookup.{arrayOf, wordOf};
+ghost use lib.ListN.{length};
+ghost use Rattle.words.specs.Word.{spanned};
+ghost use Rattle.reader.specs.Answer.{lookIn, lookOf, countIn, wordIn, readOf};
+ghost use Rattle.reader.specs.Reading.{sectionOf, answerOf};
+ghost use Rattle.lookup.specs.Lookup.{spanOf, spanIn, wordOf};
 
-// The part of the page that holds count entries of section k at an offset; empty where they do not lie within the page.
-fn part_at(page: &[u8], k: usize, at: usize, count: usize) -> &[u8]
-    ensures { λ r. ⌜ now r ≡ arrayOf k (Section.Entries at count) (now (page .entry)) ⌝ }
+// Where count entries of section k at an offset lie in a page of so many bytes; nowhere where they do not lie within it.
+fn place_at(room: usize, k: usize, at: usize, count: usize) -> Span
+    ensures { λ r. ⌜ r ≡ spanOf k (Section.Entries at count) room ⌝ }
 {
-    if page.len() < at {
-        return &page[0..0];
+    if room < at {
+        return Span { at: 0, len: 0 };
     }
-    if !entries::fits(k, count as u64, (page.len() - at) as u64) {
-        return &page[0..0];
+    if !entries::fits(k, count as u64, (room - at) as u64) {
+        return Span { at: 0, len: 0 };
     }
-    let end = at + 8 * (entries::entry_words(k) * count);
-    &page[at..end]
+    words::span_at(at, 8 * (entries::entry_words(k) * count))
 }
 
-// The part of the page that holds a section's array; empty where there is none.
-fn part_of(page: &[u8], section: Section, k: usize) -> &[u8]
-    ensures { λ r. ⌜ now r ≡ arrayOf k section (now (page .entry)) ⌝ }
+// Where a section's array lies in a page of so many bytes.
+fn place_in(room: usize, section: Section, k: usize) -> Span
+    ensures { λ r. ⌜ r ≡ spanOf k section room ⌝ }
 {
     match section {
-        Section::Absent => &page[0..0],
-        Section::Empty => &page[0..0],
-        Section::Entries { at, count } => part_at(page, k, at, count),
+        Section::Absent => Span { at: 0, len: 0 },
+        Section::Empty => Span { at: 0, len: 0 },
+        Section::Entries { at, count } => place_at(room, k, at, count),
     }
 }
 
-// The array of section k of a view, as the part of the page that holds it: empty for a section that is absent or empty, for a
-// number above 3, and, of a view that no reading made, for entries that do not lie within the page.
+// Where the array of section k of a view lies in the page: nowhere for a section that is absent or empty, for a number above 3,
+// and, of a view that no reading made, for entries that do not lie within the page.
+pub fn place_of(page: &[u8], view: View, k: usize) -> Span
+    ensures { λ r. ⌜ r ≡ spanOf k (sectionOf view k) (length (now (page .entry))) ⌝ }
+    ensures { λ r. ⌜ spanned r (now (page .entry)) ≡ lookIn (answerOf (now (page .entry)) (Reading.Accepted view)) k ⌝ }
+{
+    place_in(page.len(), reader::section_of(view, k), k)
+}
+
+// The array of section k of a view, as the part of the page that holds it; empty where it lies nowhere.
 pub fn array_of(page: &[u8], view: View, k: usize) -> &[u8]
     ensures { λ r. ⌜ now r ≡ lookIn (answerOf (now (page .entry)) (Reading.Accepted view)) k ⌝ }
 {
-    part_of(page, reader::section_of(view, k), k)
+    words::part_of(page, place_of(page, view, k))
 }
 
 // How many entries section k of a view has: 0 where its array is empty.
@@ -88,14 +98,22 @@ pub fn word_of(page: &[u8], view: View, k: usize, i: usize, j: usize) -> u64
     word_in(page, view.minor, reader::section_of(view, k), k, i, j)
 }
 
-// The array lookup: the array of section k as a reader of an edition finds it on a page at a base; empty where it refuses the
-// page or shows no entries.
-pub fn array(page: &[u8], base: u64, edition: u64, k: usize) -> &[u8]
-    ensures { λ r. ⌜ now r ≡ lookOf edition base (now (page .entry)) k ⌝ }
+// Where the array of section k lies in a page at a base, as a reader of an edition finds it; nowhere where it refuses the page or
+// shows no entries.
+pub fn place(page: &[u8], base: u64, edition: u64, k: usize) -> Span
+    ensures { λ r. ⌜ r ≡ spanIn base (now (page .entry)) (readOf edition base (now (page .entry))) k ⌝ }
+    ensures { λ r. ⌜ spanned r (now (page .entry)) ≡ lookOf edition base (now (page .entry)) k ⌝ }
 {
     let reading = reader::read(page, base, edition);
     let Reading::Accepted(view) = reading else {
-        return &page[0..0];
+        return Span { at: 0, len: 0 };
     };
-    array_of(page, view, k)
+    place_of(page, view, k)
+}
+
+// The array lookup: the array of section k as the part of the page that holds it.
+pub fn array(page: &[u8], base: u64, edition: u64, k: usize) -> &[u8]
+    ensures { λ r. ⌜ now r ≡ lookOf edition base (now (page .entry)) k ⌝ }
+{
+    words::part_of(page, place(page, base, edition, k))
 }

@@ -7,7 +7,7 @@ ghost use mathlib.Core.List.{[]};
 ghost use Prim.Native.Nat.{_<_, _≤_};
 ghost use lib.ListN.{length, drop, getD};
 ghost use Rattle.codes.specs.Codes.{answerOf};
-ghost use Rattle.queue.specs.Queue.{waiting, held, listsOf, joined, noResponse, oldestRequest, waitingOf};
+ghost use Rattle.queue.specs.Queue.{waiting, held, signedIn, listsOf, joined, noResponse, oldestRequest, waitingOf};
 
 // A request to sign a realm's token. Algorithm and hash id are the numbers of their four bytes.
 pub struct Request {
@@ -202,6 +202,17 @@ pub fn first_response(side: Responses) -> Response
 {
     let responses = side.items;
     responses[0]
+}
+
+// How many bytes the signature of a response has; a length above 104 stands for 104.
+pub fn signature_len(response: Response) -> usize
+    ensures { λ r. ⌜ (r ≡ length (signedIn response .signature)) × (r ≤ 104) ⌝ }
+{
+    let n = response.len;
+    if 104 < n {
+        return 104;
+    }
+    n
 }
 
 // The oldest request, all its fields, or that there is none.

@@ -1,6 +1,6 @@
 -- The whole answer, return by return. Assumes nothing.
 use Prim.Native.Nat.{ℕ, zero, suc, _+_, _-_, _≤_, _<_, min}
-use mathlib.Core.Path.{_≡_, refl, ap, fun-ext}
+use mathlib.Core.Path.{_≡_, refl, sym, ap, fun-ext, _∙_}
 use mathlib.Core.Bool.{true, false}
 use mathlib.Core.List.{List}
 use native.Mathlib.Omega.{arith}
@@ -18,7 +18,7 @@ use Rattle.sections.specs.Section.{wordsIn, inRange, rulesAt}
 use Rattle.sections.specs.Steps.{okAt}
 use Rattle.sections.proofs.Sections.{range-low, range-high, array-in, ok-in-range}
 use Rattle.reader.specs.Answer.{Shown, Answer, shows, shown, shownSec, platShown, viewOf, gate, judge, readOf}
-use Rattle.reader.specs.Reading.{sectionOf, shownAs, answerOf}
+use Rattle.reader.specs.Reading.{sectionOf, shownAs, answerOf, viewAt, placedAs}
 use Rattle.reader.specs.declared.Section.the-variants.{Absent, Empty, Entries}
 use Rattle.reader.specs.declared.View.{View}
 use Rattle.reader.specs.declared.Code.the-variants.{Place, Version, Rules}
@@ -69,6 +69,10 @@ pub view-shows : (w e base : ℕ) (page : List ℕ) (v : View) → v .minor ≡ 
 unfolding answerOf viewOf platShown platAt mkPlat
 view-shows w e base page v a b c h =
     shows-same (v .minor) w (v .edition) e (v .plat) (wordAt 8 page) (λ k. shownAs (v .minor) k (sectionOf v k) page) (λ k. shown w e k (secAt base page k)) a b c h
+
+pub view-placed : (w e base : ℕ) (page : List ℕ) (v : View) → v ≡ viewAt w e base page → Accepted v ≡ placedAs base page (Accepted v)
+unfolding viewAt placedAs
+view-placed w e base page v h = ap Accepted (h ∙ sym (ap (λ u. viewAt (u .minor) (u .edition) base page) h))
 
 -- ---- the answer
 module _ (r base : ℕ) (page : List ℕ) where

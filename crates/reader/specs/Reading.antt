@@ -1,13 +1,15 @@
 -- What the reader's enum stands for: 01's numbers and values, with the page that it was read from. Assumes nothing.
-use Prim.Native.Nat.{ℕ, zero, suc, _+_}
+use Prim.Native.Nat.{ℕ, zero, suc, _+_, _-_}
 use mathlib.Core.Bool.{cond}
 use mathlib.Core.List.{List}
 use lib.ListN.{length}
-use lib.Dec.{leb}
+use lib.Dec.{leb, ltb, eqb}
 use lib.IntN.{ℤ}
-use Rattle.words.specs.Word.{part}
+use Rattle.words.specs.Word.{part, wordAt}
+use Rattle.versions.specs.Edition.{secs}
 use Rattle.entries.specs.Entry.{size, shownWords}
 use Rattle.entries.specs.Array.{wordsAt}
+use Rattle.sections.specs.Page.{countAt, pointerAt}
 use Rattle.reader.specs.Answer.{Shown, absent, empty, full, Answer, refused, shows, minus}
 use Rattle.reader.specs.declared.Section.{Section}
 use Rattle.reader.specs.declared.Section.the-variants.{Absent, Empty, Entries}
@@ -42,3 +44,26 @@ unfoldable pub answerOf : List ℕ → Reading → Answer
 answerOf page (Refused c) = refused (codeOf c)
 answerOf page (Accepted v) =
     shows (v .minor) (v .edition) (record { pointer = v .plat }) (λ k. shownAs (v .minor) k (sectionOf v k) page)
+
+-- ---- where the arrays lie: an array is "the part of the lent page that holds it", at its pointer
+unfoldable pub sectionAt : ℕ → ℕ → List ℕ → ℕ → Section
+sectionAt e base page k =
+    cond (ltb k (secs e)) (cond (eqb (countAt k page) 0) Empty (Entries (pointerAt k page - base) (countAt k page))) Absent
+
+-- the view of an accepted page of minor w, read as edition e
+unfoldable pub viewAt : ℕ → ℕ → ℕ → List ℕ → View
+viewAt w e base page =
+    record {
+      minor = w;
+      edition = e;
+      plat = wordAt 8 page;
+      dram = sectionAt e base page 0;
+      console = sectionAt e base page 1;
+      ncoh = sectionAt e base page 2;
+      coh = sectionAt e base page 3;
+    }
+
+-- a reading whose view is that of the page
+unfoldable pub placedAs : ℕ → List ℕ → Reading → Reading
+placedAs base page (Refused c) = Refused c
+placedAs base page (Accepted v) = Accepted (viewAt (v .minor) (v .edition) base page)

@@ -8,7 +8,7 @@ ghost use Rattle.versions.specs.Edition.{secs};
 ghost use Rattle.sections.specs.Page.{secAt, platAt};
 ghost use Rattle.sections.specs.Steps.{okAt, okTo};
 ghost use Rattle.reader.specs.Answer.{shown, viewOf, readOf};
-ghost use Rattle.reader.specs.Reading.{codeOf, sectionOf, shownAs, answerOf};
+ghost use Rattle.reader.specs.Reading.{codeOf, sectionOf, shownAs, answerOf, sectionAt, viewAt, placedAs};
 
 // What is shown of a section: not in the edition, 24 zero bytes, or so many entries at an offset of the page.
 pub enum Section {
@@ -55,6 +55,7 @@ pub fn number(code: Code) -> i32
 fn section_at(page: &[u8], base: u64, minor: u64, e: Edition, k: u8) -> Section
     requires { ⌜ (length (now page) ≡ 4096) × (k < secs (e .minor) → okAt minor (e .minor) base k (now page) ≡ true) ⌝ }
     ensures { λ r. ⌜ shownAs minor k r (now (page .entry)) ≡ shown minor (e .minor) k (secAt base (now (page .entry)) k) ⌝ }
+    ensures { λ r. ⌜ r ≡ sectionAt (e .minor) base (now (page .entry)) k ⌝ }
 {
     if e.sections() <= k {
         return Section::Absent;
@@ -73,6 +74,7 @@ fn section_at(page: &[u8], base: u64, minor: u64, e: Edition, k: u8) -> Section
 fn view_at(page: &[u8], base: u64, minor: u64, e: Edition) -> View
     requires { ⌜ (length (now page) ≡ 4096) × (okTo minor (e .minor) base (secs (e .minor)) (now page) ≡ true) ⌝ }
     ensures { λ r. ⌜ answerOf (now (page .entry)) (Reading.Accepted r) ≡ viewOf minor (e .minor) (platAt base (now (page .entry))) (secAt base (now (page .entry))) ⌝ }
+    ensures { λ r. ⌜ r ≡ viewAt minor (e .minor) base (now (page .entry)) ⌝ }
 {
     View {
         minor: minor,
@@ -85,9 +87,11 @@ fn view_at(page: &[u8], base: u64, minor: u64, e: Edition) -> View
     }
 }
 
-// Reads a lent page at a base, as a reader of an edition: all that it shows, or the first code in the order of the checks.
+// Reads a lent page at a base, as a reader of an edition: all that it shows, or the first code in the order of the checks. The
+// view's places are those that the page's own pointers name.
 pub fn read(page: &[u8], base: u64, edition: u64) -> Reading
     ensures { λ r. ⌜ answerOf (now (page .entry)) r ≡ readOf edition base (now (page .entry)) ⌝ }
+    ensures { λ r. ⌜ r ≡ placedAs base (now (page .entry)) r ⌝ }
 {
     if !sections::place_ok(base, page.len()) {
         return Reading::Refused(Code::Place);

@@ -13,23 +13,12 @@ ghost use Rattle.queue.specs.Queue.{SigningStep, signedIn, listsOf};
 ghost use Rattle.responses.specs.Pull.{responseBytes, pullOf};
 ghost use Rattle.responses.specs.Sign.{SignStep, signOf};
 
-// How many bytes the signature of a response has; a length above 104 stands for 104.
-fn signature_len(response: Response) -> usize
-    ensures { λ r. ⌜ (r ≡ length (signedIn response .signature)) × (r ≤ 104) ⌝ }
-{
-    let n = response.len;
-    if 104 < n {
-        return 104;
-    }
-    n
-}
-
 // Writes a response at the start of a buffer that holds it.
 fn put_response(buffer: &mut [u8], response: Response)
     requires { ⌜ 18 + length (signedIn response .signature) ≤ length (now buffer) ⌝ }
     ensures { λ _. ⌜ now (buffer .exit) ≡ splice 0 (responseBytes (signedIn response)) (now (buffer .entry)) ⌝ }
 {
-    let n = signature_len(response);
+    let n = queue::signature_len(response);
     let signature = response.signature;
     words::put_word(buffer, 0, response.granule);
     words::put_word(buffer, 8, response.ticket);
@@ -48,7 +37,7 @@ pub fn pull(buffer: &mut [u8], queue: Queue) -> Queued
         return queue::refused(Code::Again, queue);
     }
     let response = queue::first_response(responses);
-    if buffer.len() < 18 + signature_len(response) {
+    if buffer.len() < 18 + queue::signature_len(response) {
         return queue::refused(Code::Inval, queue);
     }
     put_response(buffer, response);

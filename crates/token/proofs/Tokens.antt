@@ -9,8 +9,8 @@ use lib.ListN.{length, take, drop, take-append-drop, length-drop}
 use lib.Seq.{length-take-le}
 use borrow.Author.Tests.{eq-eqb, ne-eqb, lt-ltb, le-ltb, ltb-false}
 use Rattle.words.specs.Tests.{both, either}
-use Rattle.words.specs.Word.{part, splice, laid}
-use Rattle.words.proofs.Store.{bytes-in, lent-back}
+use Rattle.words.specs.Word.{part, splice, laid, spanAt, spanned, noSpan}
+use Rattle.words.proofs.Store.{bytes-in, lent-back, span-none, span-in}
 use Rattle.boot.specs.declared.Kept.{Kept}
 use Rattle.boot.specs.declared.Record.{Record}
 use Rattle.range.specs.Range.{outside, tooLong, placeOf}
@@ -41,6 +41,7 @@ use Rattle.token.specs.Token.{
   tokenOf,
   challengeCode,
   challengeOf,
+  challengeSpan,
 }
 
 -- ---- the buffer
@@ -195,22 +196,28 @@ unfolding tokenOf sendOf settled keeps answerOf
 token-refused r page s busy token pa size c h =
     refused-as (λ (t : TokenStep). t .answer .code) (whenUp r (tokenCode (upOf r) page s busy token pa size c)) (sendOf (placeOf (upOf r) pa) token (beginOf s c) size page) (λ (k : Code). keeps k page s) refl (λ k. refl) h
 
--- ---- the challenge
+-- ---- the challenge, and where it lies
 module _ (r : Record) (page : List ℕ) (pa size c : ℕ) where
-  pub challenge-down : isUp r ≡ false → [] ≡ challengeOf r page pa size c
-  unfolding challengeOf whenUp fails unless
-  challenge-down h = rw h
+  -- that it is empty
+  abbrev pub Nowhere : Type 0
+  Nowhere = (noSpan ≡ challengeSpan r page pa size c) × (spanned noSpan page ≡ challengeOf r page pa size c)
+
+  pub challenge-down : isUp r ≡ false → Nowhere
+  unfolding challengeOf challengeSpan whenUp fails unless
+  challenge-down h = rw h (refl, span-none page)
 
   module _ (h : isUp r ≡ true) where
-    pub challenge-page : (length page ≡ 4096 → ⊥) → [] ≡ challengeOf r page pa size c
-    unfolding challengeOf whenUp challengeCode fails unless
-    challenge-page n = rw (h, ne-eqb (length page) 4096 n)
+    pub challenge-page : (length page ≡ 4096 → ⊥) → Nowhere
+    unfolding challengeOf challengeSpan whenUp challengeCode fails unless
+    challenge-page n = rw (h, ne-eqb (length page) 4096 n) (refl, span-none page)
 
     module _ (n : length page ≡ 4096) where
-      pub challenge-none : (j : Code) → bufferCode (upOf r) pa size c ≡ j → isOk j ≡ false → [] ≡ challengeOf r page pa size c
-      unfolding challengeOf whenUp challengeCode fails unless
-      challenge-none j e o = rw (h, eq-eqb (length page) 4096 n, e, o)
+      pub challenge-none : (j : Code) → bufferCode (upOf r) pa size c ≡ j → isOk j ≡ false → Nowhere
+      unfolding challengeOf challengeSpan whenUp challengeCode fails unless
+      challenge-none j e o = rw (h, eq-eqb (length page) 4096 n, e, o) (refl, span-none page)
 
-      pub challenge-shown : bufferCode (upOf r) pa size c ≡ Ok → part (placeOf (upOf r) pa) c page ≡ challengeOf r page pa size c
-      unfolding challengeOf whenUp challengeCode fails unless
-      challenge-shown e = rw (h, eq-eqb (length page) 4096 n, e)
+      pub challenge-shown : bufferCode (upOf r) pa size c ≡ Ok → (at : ℕ) → at ≡ placeOf (upOf r) pa → (spanAt at c ≡ challengeSpan r page pa size c) × (spanned (spanAt at c) page ≡ challengeOf r page pa size c)
+      unfolding challengeOf challengeSpan whenUp challengeCode fails unless
+      challenge-shown e at i =
+          let m = buffer-room (upOf r) pa size c e in
+          rw (i, h, eq-eqb (length page) 4096 n, e) (refl, span-in (placeOf (upOf r) pa) c page (omega (arith, m .room, m .holds)))

@@ -5,7 +5,8 @@ use mathlib.Core.List.{List, []}
 use lib.ListN.{length}
 use lib.Dec.{ltb, eqb}
 use Rattle.words.specs.Tests.{both, either}
-use Rattle.words.specs.Word.{part, splice}
+use Rattle.words.specs.Word.{part, splice, noSpan, spanAt}
+use Rattle.words.specs.declared.Span.{Span}
 use Rattle.boot.specs.declared.Kept.{Kept}
 use Rattle.boot.specs.declared.Record.{Record}
 use Rattle.range.specs.Range.{outside, tooLong, placeOf}
@@ -110,3 +111,7 @@ challengeCode u page pa size c = fails (unless (eqb (length page) 4096)) Unk (bu
 -- "A lookup before a start shows the challenge, c_size bytes at pa, as that part of the page;"
 unfoldable pub challengeOf : Record → List ℕ → ℕ → ℕ → ℕ → List ℕ
 challengeOf r page pa size c = ifOk (whenUp r (challengeCode (upOf r) page pa size c)) (part (placeOf (upOf r) pa) c page) []
+
+-- where it lies in the page; nowhere where it is empty
+unfoldable pub challengeSpan : Record → List ℕ → ℕ → ℕ → ℕ → Span
+challengeSpan r page pa size c = ifOk (whenUp r (challengeCode (upOf r) page pa size c)) (spanAt (placeOf (upOf r) pa) c) noSpan

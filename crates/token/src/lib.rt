@@ -5,13 +5,14 @@ use codes::Answer;
 use codes::Code;
 use codes::Gate;
 use range::Fit;
+use words::Span;
 ghost use mathlib.Core.Path.{_≡_};
 ghost use Prim.Native.Nat.{_+_, _≤_};
 ghost use lib.ListN.{length};
-ghost use Rattle.words.specs.Word.{part, splice};
+ghost use Rattle.words.specs.Word.{part, splice, spanned};
 ghost use Rattle.range.specs.Range.{placeOf};
 ghost use Rattle.codes.specs.Codes.{answerOf, gated};
-ghost use Rattle.token.specs.Token.{listed, bufferCode, startCode, beginOf, TokenStep, sendOf, settled, tokenOf, challengeOf};
+ghost use Rattle.token.specs.Token.{listed, bufferCode, startCode, beginOf, TokenStep, sendOf, settled, tokenOf, challengeOf, challengeSpan};
 
 // A session: none, or a token of which a part is sent.
 pub enum Session {
@@ -187,20 +188,27 @@ pub fn platform_token(
     }
 }
 
-// The challenge of a start: c_size bytes at pa, as that part of the page; empty where there is none.
-pub fn challenge(state: Record, page: &[u8], pa: u64, size: u64, csize: u64) -> &[u8]
-    ensures { λ r. ⌜ now r ≡ challengeOf state (now (page .entry)) pa size csize ⌝ }
+// Where the challenge of a start lies in the page: c_size bytes at pa; nowhere where there is none.
+pub fn challenge_place(state: Record, page: &[u8], pa: u64, size: u64, csize: u64) -> Span
+    ensures { λ r. ⌜ r ≡ challengeSpan state (now (page .entry)) pa size csize ⌝ }
+    ensures { λ r. ⌜ spanned r (now (page .entry)) ≡ challengeOf state (now (page .entry)) pa size csize ⌝ }
 {
     if !codes::is_up(state) {
-        return &page[0..0];
+        return Span { at: 0, len: 0 };
     }
     if page.len() != 4096 {
-        return &page[0..0];
+        return Span { at: 0, len: 0 };
     }
     let gate = buffer_of(codes::up_of(state), pa, size, csize);
     let Gate::Go(at) = gate else {
-        return &page[0..0];
+        return Span { at: 0, len: 0 };
     };
-    let end = at + csize as usize;
-    &page[at..end]
+    words::span_at(at, csize as usize)
+}
+
+// The challenge of a start, as that part of the page; empty where there is none.
+pub fn challenge(state: Record, page: &[u8], pa: u64, size: u64, csize: u64) -> &[u8]
+    ensures { λ r. ⌜ now r ≡ challengeOf state (now (page .entry)) pa size csize ⌝ }
+{
+    words::part_of(page, challenge_place(state, page, pa, size, csize))
 }

@@ -1,14 +1,17 @@
 -- Bytes laid over a list at an offset. Assumes nothing.
 use Prim.Native.Nat.{ℕ, _+_, _-_, _*_, _/_, _%_, _^_, _≤_, _<_}
 use mathlib.Core.Path.{_≡_, refl, sym, ap, _∙_}
+use mathlib.Core.Bool.{Bool, true, false, cond}
 use mathlib.Core.List.{List, [], _∷_, _++_, append-assoc, append-nil}
 use native.Mathlib.Numerals.{add-one}
 use native.Mathlib.Nat.{add-assoc, zero-add}
 use native.Mathlib.Omega.{arith}
 use lib.ListN.{length, take, drop, getD, set, length-append, length-drop, drop-of-length-le, take-append-drop}
 use lib.Seq.{length-take-le, take-at, drop-at, drop-drop, drop-append-le, set-split, append-snoc, paste-zero, take-suc, take-length, take-all}
-use borrow.Author.Tests.{le-leb, lt-leb}
-use Rattle.words.specs.Word.{leOf, leBytes, part, numAt, bytesOf, splice, laid}
+use lib.Dec.{eqb}
+use borrow.Author.Tests.{le-leb, lt-leb, eqb-true}
+use Rattle.words.specs.Tests.{Yes}
+use Rattle.words.specs.Word.{leOf, leBytes, part, numAt, bytesOf, splice, laid, spanAt, spanned, noSpan}
 use Rattle.words.proofs.Lists.{bytesOf-length, bytesOf-append}
 use Rattle.words.proofs.Read.{leBytes-length, leBytes-split, leOf-leBytes}
 
@@ -175,3 +178,17 @@ laid-all vs s e =
 pub laid-front : (vs s : List ℕ) → length vs ≤ length s → take (length vs) (laid 0 vs s) ≡ vs
 unfolding splice
 laid-front vs s h = rw (bytes-in 0 vs s (omega arith)) (take-at vs _ _ refl)
+
+-- the part that a span names
+pub span-none : (s : List ℕ) → spanned noSpan s ≡ []
+unfolding spanned noSpan part
+span-none s = rw (le-leb 0 (length s) (omega arith))
+
+span-by : (b : Bool) (at n : ℕ) (s : List ℕ) → (Yes b → n ≡ 0) → at + n ≤ length s → spanned (cond b noSpan (record { at = at; len = n })) s ≡ part at n s
+unfolding spanned part
+span-by true at n s z h = span-none s ∙ sym (ap (λ (m : ℕ). take m (drop at s)) (z refl))
+span-by false at n s z h = rw (le-leb (at + n) (length s) h)
+
+pub span-in : (at n : ℕ) (s : List ℕ) → at + n ≤ length s → spanned (spanAt at n) s ≡ part at n s
+unfolding spanAt
+span-in at n s h = span-by (eqb n 0) at n s (eqb-true n 0) h

@@ -3,8 +3,9 @@ use Prim.Native.Nat.{ℕ, zero, suc, _+_, _*_, _/_, _%_, _^_}
 use mathlib.Core.Bool.{Bool, true, cond}
 use mathlib.Core.List.{List, [], _∷_, _++_}
 use lib.ListN.{length, take, drop}
-use lib.Dec.{leb, ltb}
+use lib.Dec.{leb, ltb, eqb}
 use Rattle.words.specs.Tests.{both}
+use Rattle.words.specs.declared.Span.{Span}
 
 -- the number that bytes stand for, the lowest byte first
 unfoldable pub leOf : List ℕ → ℕ
@@ -58,3 +59,14 @@ splice off vs s = take off s ++ vs ++ drop (off + length vs) s
 -- the same where all of vs fits; else s as it was
 unfoldable pub laid : ℕ → List ℕ → List ℕ → List ℕ
 laid off vs s = cond (leb (off + length vs) (length s)) (splice off vs s) s
+
+-- the span of n bytes at an offset; that of no bytes is at 0
+unfoldable pub noSpan : Span
+noSpan = record { at = 0; len = 0 }
+
+unfoldable pub spanAt : ℕ → ℕ → Span
+spanAt at n = cond (eqb n 0) noSpan (record { at = at; len = n })
+
+-- the part of s that a span names; none where it does not lie within s
+unfoldable pub spanned : Span → List ℕ → List ℕ
+spanned p s = cond (leb (p .at + p .len) (length s)) (part (p .at) (p .len) s) []

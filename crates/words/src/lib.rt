@@ -3,7 +3,13 @@
 ghost use mathlib.Core.Path.{_≡_};
 ghost use Prim.Native.Nat.{_+_, _<_, _≤_};
 ghost use lib.ListN.{length, replicate};
-ghost use Rattle.words.specs.Word.{leBytes, numAt, wordAt, halfAt, bytesOf, splice, laid};
+ghost use Rattle.words.specs.Word.{leBytes, numAt, wordAt, halfAt, bytesOf, splice, laid, spanAt, spanned};
+
+// Where a part of a slice begins, and how many bytes it has.
+pub struct Span {
+    pub at: usize,
+    pub len: usize,
+}
 
 // The numbers of 1, 2 and 4 bytes at an offset within the slice. Each width is two of the one below it, so that one law
 // serves all; the compiler makes one load of them.
@@ -175,4 +181,30 @@ pub fn copy(to: &mut [u8], from: &[u8])
     for i in 0..from.len() {
         to[i] = from[i];
     }
+}
+
+// The span of so many bytes at an offset; that of no bytes is at 0.
+pub fn span_at(at: usize, len: usize) -> Span
+    ensures { λ r. ⌜ r ≡ spanAt at len ⌝ }
+{
+    if len == 0 {
+        return Span { at: 0, len: 0 };
+    }
+    Span { at, len }
+}
+
+// The part of a slice that a span names; empty where it does not lie within the slice.
+pub fn part_of(s: &[u8], span: Span) -> &[u8]
+    ensures { λ r. ⌜ now r ≡ spanned span (now (s .entry)) ⌝ }
+{
+    let at = span.at;
+    let len = span.len;
+    if s.len() < at {
+        return &s[0..0];
+    }
+    if s.len() - at < len {
+        return &s[0..0];
+    }
+    let end = at + len;
+    &s[at..end]
 }

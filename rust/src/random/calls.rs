@@ -142,7 +142,8 @@ impl Random {
         }
     }
 
-    fn change_lent(&mut self, scene: &mut Scene) {
+    /// Changes what is lent now and then, and sometimes the record.
+    pub fn change_lent(&mut self, scene: &mut Scene) {
         match self.below(24) {
             0 => scene.token = self.token(),
             1 => {
@@ -159,10 +160,17 @@ impl Random {
         scene.busy &= !self.one_in(3);
     }
 
-    /// The registers of a call. A push finds a request in its buffer, most often a good one.
+    /// A call of any command, or of an id that is none.
     pub fn call(&mut self, scene: &mut Scene) -> Call {
         let id = self.pick(&IDS);
-        let x = match id {
+        let x = self.registers(id, scene);
+        let id = if self.one_in(20) { self.any_id(id) } else { id };
+        Call { id, x }
+    }
+
+    /// Registers x1 to x4 for a command. A push finds a request in its buffer, most often a good one.
+    pub fn registers(&mut self, id: u64, scene: &mut Scene) -> [u64; 4] {
+        match id {
             runtime::DELEGATE | runtime::UNDELEGATE => [self.granule(scene), 0, 0, 0],
             runtime::REALM_KEY => {
                 let (pa, size) = self.buffer(scene);
@@ -176,9 +184,7 @@ impl Random {
             runtime::TOKEN_SIGN => self.sign_registers(scene),
             runtime::KEY_UPDATE => [self.mecid(scene.width), 0, 0, 0],
             _ => from_fn(|_| self.edge()),
-        };
-        let id = if self.one_in(20) { self.any_id(id) } else { id };
-        Call { id, x }
+        }
     }
 
     /// An id that may not be listed.
@@ -214,6 +220,8 @@ impl Random {
             1 => scene.start.wrapping_add(4096 * count),
             2 => scene.start.wrapping_add(self.below(4096 * count + 1)),
             3 => self.edge(),
+            // On a multiple of 4,096, even where G is on none.
+            4 => scene.start.wrapping_add(4096 * self.below(count + 1)) & !4095,
             _ => scene.start.wrapping_add(4096 * self.below(count + 1)),
         }
     }
@@ -335,6 +343,7 @@ impl Random {
             0 => 0,
             1 => self.edge(),
             2 => self.pick(&[u64::MAX - 4095, u64::MAX - 8191, 1 << 52]),
+            3 => 4096 * self.below(1 << 40) + self.between(1, 4095),
             _ => 4096 * self.below(1 << 40),
         }
     }

@@ -276,11 +276,28 @@ impl Random {
     }
 
     fn damage(&mut self, reading: &mut Reading) {
-        let base = reading.base;
         let sections = sections_read(reading).max(1);
+        match self.below(19) {
+            0..=6 => self.damage_core(&mut reading.page, reading.base, sections),
+            7..=11 => self.damage_header(&mut reading.page, reading.base, sections),
+            12 | 13 => {
+                let at = self.entry_word(reading, sections);
+                put(&mut reading.page, at, self.edge());
+            }
+            14 | 15 => {
+                let at = self.entry_word(reading, sections);
+                nudge(&mut reading.page, at, self.shift());
+            }
+            16 => self.misalign(reading, sections),
+            17 => self.sink(reading, sections),
+            _ => self.overlap(reading, sections),
+        }
+    }
+
+    /// Changes a byte or word of the core, or any byte.
+    fn damage_core(&mut self, page: &mut [u8], base: u64, sections: usize) {
         let core = header_offset(sections);
-        let page = &mut reading.page;
-        match self.below(16) {
+        match self.below(7) {
             0 => put_version(page, self.any_version()),
             1 => {
                 let at = self.index(PAGE);
@@ -292,19 +309,21 @@ impl Random {
             }
             4 => put(page, 8 * self.index(core / 8), self.edge()),
             5 => nudge(page, 8 * self.index(core / 8), self.shift()),
-            6 => put(page, 8, self.near_page(base)),
-            7 | 8 => {
-                let at = header_offset(self.index(sections)) + 8;
-                put(page, at, self.near_page(base));
-            }
-            9 | 10 => {
+            _ => put(page, 8, self.near_page(base)),
+        }
+    }
+
+    /// Changes the pointer or the count of a section.
+    fn damage_header(&mut self, page: &mut [u8], base: u64, sections: usize) {
+        let at = header_offset(self.index(sections));
+        match self.below(5) {
+            0 | 1 => put(page, at + 8, self.near_page(base)),
+            2 | 3 => {
                 // One array on, into, or just beside another.
-                let [from, to] = [(); 2].map(|()| header_offset(self.index(sections)) + 8);
-                let pointer = word_at(page, from);
-                put(page, to, pointer.wrapping_add(self.shift()));
+                let pointer = word_at(page, header_offset(self.index(sections)) + 8);
+                put(page, at + 8, pointer.wrapping_add(self.shift()));
             }
-            11 => {
-                let at = header_offset(self.index(sections));
+            _ => {
                 let count = match self.below(2) {
                     0 => word_at(page, at).wrapping_add(self.shift()),
                     // Times the size of an entry, these wrap to little.
@@ -312,14 +331,39 @@ impl Random {
                 };
                 put(page, at, count);
             }
-            12 | 13 => {
-                let at = self.entry_word(reading, sections);
-                put(&mut reading.page, at, self.edge());
-            }
-            _ => {
-                let at = self.entry_word(reading, sections);
-                nudge(&mut reading.page, at, self.shift());
-            }
+        }
+    }
+
+    /// Moves an array by less than a word.
+    fn misalign(&mut self, reading: &mut Reading, sections: usize) {
+        let k = self.index(sections);
+        let shift = self.pick(&[1, 2, 4, 4, 7]);
+        let forward = self.one_in(2);
+        move_array(reading, k, |_, offset| match forward {
+            true => offset + shift,
+            false => offset.saturating_sub(shift),
+        });
+    }
+
+    /// Moves an array one word into the core. The first base is 0 then, and so is the checksum there if the last section is empty.
+    fn sink(&mut self, reading: &mut Reading, sections: usize) {
+        let k = self.index(sections);
+        let last = header_offset(sections) - 8;
+        if word_at(&reading.page, last) == 0 {
+            move_array(reading, k, |page, offset| {
+                put(page, offset, 0);
+                last
+            });
+        }
+    }
+
+    /// Moves an array into another one, entry on entry.
+    fn overlap(&mut self, reading: &mut Reading, sections: usize) {
+        let [k, other] = [(); 2].map(|()| self.index(sections));
+        if let Some((offset, count)) = array_at(reading, other) {
+            let to = offset + 8 * ENTRY_WORDS[other] * self.index(count);
+            move_array(reading, k, |_, _| to);
+            seal(reading, other);
         }
     }
 
@@ -360,6 +404,22 @@ fn array_at(reading: &Reading, k: usize) -> Option<(usize, usize)> {
     let offset = word_at(&reading.page, header + 8).wrapping_sub(reading.base);
     let end = offset.checked_add(count.checked_mul(8 * ENTRY_WORDS[k] as u64)?)?;
     (count != 0 && end <= PAGE as u64).then_some((offset as usize, count as usize))
+}
+
+/// Moves a section's array with its entries, so that nothing but its place is wrong then. Where to is told by its offset.
+fn move_array(reading: &mut Reading, k: usize, to: impl FnOnce(&mut [u8], usize) -> usize) {
+    let (offset, count) = match array_at(reading, k) {
+        Some(array) => array,
+        None => return,
+    };
+    let length = 8 * ENTRY_WORDS[k] * count;
+    let to = to(&mut reading.page, offset);
+    if to + length <= PAGE {
+        reading.page.copy_within(offset..offset + length, to);
+        let pointer = reading.base + to as u64;
+        put(&mut reading.page, header_offset(k) + 8, pointer);
+        seal(reading, k);
+    }
 }
 
 /// How many sections the reader looks at.

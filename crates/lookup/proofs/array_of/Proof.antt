@@ -1,20 +1,18 @@
-use mathlib.Core.Path.{ap, _∙_}
-use Rattle.lookup.specs.Lookup.{arrayOf}
-use Rattle.lookup.proofs.Lookups.{array-view}
+use mathlib.Core.Path.{_∙_}
 use borrow.Author.Needs.{needs}
 use Rattle.lookup.proofs.array_of.Statement.{statement}
 use Rattle.lookup.proofs.array_of.Tie as tie
+use Rattle.lookup.proofs.place_of.Reads as place-of-reads
+use Rattle.words.proofs.part_of.Reads as part-of-reads
 
-section-of-requires : tie.Need-section-of-requires
-section-of-requires c κs = search needs
+place-of-requires : tie.Need-place-of-requires
+place-of-requires c κs = search needs
 
 part-of-requires : tie.Need-part-of-requires
 part-of-requires c κs = search needs
 
 returns : tie.Need-returns
-returns c =
-    let a = c .before .before .before .args in
-    c .part-of .ensures ∙ ap (λ s. arrayOf (a .k) s (a .page .now)) (c .before .section-of .ensures) ∙ array-view (a .page .now) (a .view) (a .k)
+returns c = c .part-of .ensures ∙ c .before .place-of .ensures .1
 
 pub array-of-spec : {M : Type 1} → statement M
-array-of-spec = tie.close (tie.spec section-of-requires part-of-requires returns)
+array-of-spec = tie.close (tie.spec place-of-requires part-of-requires returns)

@@ -2,6 +2,7 @@ use mathlib.Core.Path.{refl}
 use Rattle.versions.specs.Edition.{secs}
 use Rattle.sections.proofs.Sections.{ok-each}
 use Rattle.reader.proofs.Whole.{shown-all, view-shows}
+use Rattle.reader.specs.Reading.{viewAt}
 use borrow.Author.Needs.{needs}
 use Rattle.reader.proofs.view_at.Statement.{statement}
 use Rattle.reader.proofs.view_at.Tie as tie
@@ -34,10 +35,13 @@ section-at-requires-4 c κs =
     (p .0, λ h. ok-each (a .minor) (a .e .minor) (a .base) (a .page .now) (secs (a .e .minor)) 3 (p .1) h)
 
 returns : tie.Need-returns
+unfolding viewAt
 returns c =
-    let a = c .before .before .before .before .before .before .args in
-    view-shows (a .minor) (a .e .minor) (a .base) (a .page .now) _ refl refl (c .before .before .before .before .word-at .ensures)
-    (shown-all (a .minor) (a .e .minor) (a .base) (a .page .now) _ (c .before .before .before .section-at .ensures) (c .before .before .section-at2 .ensures) (c .before .section-at3 .ensures) (c .section-at4 .ensures))
+    let a = c .before .before .before .before .before .before .args in (
+      view-shows (a .minor) (a .e .minor) (a .base) (a .page .now) _ refl refl (c .before .before .before .before .word-at .ensures)
+          (shown-all (a .minor) (a .e .minor) (a .base) (a .page .now) _ (c .before .before .before .section-at .ensures .0) (c .before .before .section-at2 .ensures .0) (c .before .section-at3 .ensures .0) (c .section-at4 .ensures .0)),
+      rw (c .before .before .before .before .word-at .ensures, c .before .before .before .section-at .ensures .1, c .before .before .section-at2 .ensures .1, c .before .section-at3 .ensures .1, c .section-at4 .ensures .1),
+    )
 
 pub view-at-spec : {M : Type 1} → statement M
 view-at-spec =

@@ -69,7 +69,7 @@ unfolding numberIn
 returns-5 c =
     let a = c .before .before .before .before .before .before .before .before .before .before .before .before .args in
     let g = c .before .before .enum-told2 .given in
-    let k = cold-refused (a .self) (a .x0) (a .x1) (a .x2) (a .x3) (a .most) (a .page .now) (sym (c .before .before .before .before .before .before .before .before .before .before .is-fresh .ensures) ∙ not-false _ (c .before .before .before .before .before .before .before .before .before .if1 .left)) (sym (c .before .before .before .before .before .before .before .before .is-accepted .ensures) ∙ not-false _ (c .before .before .before .before .before .before .before .if2 .left)) (search needs) (search needs) (g .0 .0) (sym (ap (answerOf (a .page .now)) (g .1)) ∙ c .before .before .before .before .read .ensures) in
+    let k = cold-refused (a .self) (a .x0) (a .x1) (a .x2) (a .x3) (a .most) (a .page .now) (sym (c .before .before .before .before .before .before .before .before .before .before .is-fresh .ensures) ∙ not-false _ (c .before .before .before .before .before .before .before .before .before .if1 .left)) (sym (c .before .before .before .before .before .before .before .before .is-accepted .ensures) ∙ not-false _ (c .before .before .before .before .before .before .before .if2 .left)) (search needs) (search needs) (g .0 .0) (sym (ap (answerOf (a .page .now)) (g .1)) ∙ c .before .before .before .before .read .ensures .0) in
     (ap numberOf (c .failed5 .ensures .1) ∙ c .before .code-of .ensures ∙ ap numberIn (g .1) ∙ k .0, c .failed5 .ensures .0 ∙ k .1)
 
 agreed-minor-requires : tie.Need-agreed-minor-requires
@@ -80,7 +80,7 @@ unfolding kept
 returns-6 c =
     let a = c .before .before .before .before .before .before .before .before .before .before .before .args in
     let g = c .before .enum-told .given in
-    let k = cold-up (a .self) (a .x0) (a .x1) (a .x2) (a .x3) (a .most) (a .page .now) (sym (c .before .before .before .before .before .before .before .before .before .is-fresh .ensures) ∙ not-false _ (c .before .before .before .before .before .before .before .before .if1 .left)) (sym (c .before .before .before .before .before .before .before .is-accepted .ensures) ∙ not-false _ (c .before .before .before .before .before .before .if2 .left)) (search needs) (search needs) (g .0 .0) (sym (ap (answerOf (a .page .now)) (g .1)) ∙ c .before .before .before .read .ensures) in
+    let k = cold-up (a .self) (a .x0) (a .x1) (a .x2) (a .x3) (a .most) (a .page .now) (sym (c .before .before .before .before .before .before .before .before .before .is-fresh .ensures) ∙ not-false _ (c .before .before .before .before .before .before .before .before .if1 .left)) (sym (c .before .before .before .before .before .before .before .is-accepted .ensures) ∙ not-false _ (c .before .before .before .before .before .before .if2 .left)) (search needs) (search needs) (g .0 .0) (sym (ap (answerOf (a .page .now)) (g .1)) ∙ c .before .before .before .read .ensures .0) in
     (k .0, rw (c .agreed-minor .ensures .0) (k .1))
 
 pub cold-spec : {M : Type 1} → statement M

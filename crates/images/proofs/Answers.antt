@@ -1,0 +1,45 @@
+-- What an enum of the code stands for, and its image. Assumes nothing.
+use Prim.Native.Nat.{ℕ}
+use mathlib.Core.Path.{_≡_, refl, sym, ap, _∙_}
+use mathlib.Core.List.{List}
+use Rattle.reader.specs.Answer.{readOf}
+use Rattle.reader.specs.Reading.{answerOf, placedAs, viewAt}
+use Rattle.reader.specs.declared.Reading.{Reading}
+use Rattle.reader.specs.declared.Reading.the-variants.{Accepted, Refused}
+use Rattle.boot.specs.Boot.{codeIn, numberIn}
+use Rattle.writer.specs.Write.{Made}
+use Rattle.writer.specs.Wrote.{answerOf as madeOf}
+use Rattle.writer.specs.declared.Wrote.{Wrote}
+use Rattle.writer.specs.declared.Wrote.the-variants.{Page, Place, Edition, Lists, Late, Room}
+use Rattle.images.specs.Image.{viewWords, shownWords, readingWords, madeNumber, wroteNumber}
+
+-- ---- the reader's answer
+number-in : (page : List ℕ) (r : Reading) → numberIn r ≡ codeIn (answerOf page r)
+unfolding numberIn codeIn answerOf
+number-in page (Accepted v) = refl
+number-in page (Refused c) = refl
+
+words-in : (base : ℕ) (page : List ℕ) (r : Reading) → readingWords (placedAs base page r) ≡ shownWords base page (answerOf page r)
+unfolding readingWords placedAs shownWords answerOf
+words-in base page (Accepted v) = refl
+words-in base page (Refused c) = refl
+
+module _ (e base : ℕ) (page : List ℕ) (r : Reading) (h : answerOf page r ≡ readOf e base page) where
+  pub reading-code : numberIn r ≡ codeIn (readOf e base page)
+  reading-code = number-in page r ∙ ap codeIn h
+
+  pub reading-words : r ≡ placedAs base page r → readingWords r ≡ shownWords base page (readOf e base page)
+  reading-words p = ap readingWords p ∙ words-in base page r ∙ ap (shownWords base page) h
+
+-- ---- the writer's answer
+made-number : (page : List ℕ) (x : Wrote) → wroteNumber x ≡ madeNumber (madeOf page x)
+unfolding wroteNumber madeNumber madeOf
+made-number page Page = refl
+made-number page Place = refl
+made-number page Edition = refl
+made-number page Lists = refl
+made-number page Late = refl
+made-number page Room = refl
+
+pub wrote-code : (page : List ℕ) (x : Wrote) (m : Made) → madeOf page x ≡ m → wroteNumber x ≡ madeNumber m
+wrote-code page x m h = made-number page x ∙ ap madeNumber h

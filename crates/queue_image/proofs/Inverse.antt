@@ -1,0 +1,131 @@
+-- The image of a queue, and the queue of an image, are inverse to each other. Assumes nothing.
+use Prim.Native.Nat.{ℕ, zero, suc, _+_, _-_, _*_, _/_, _%_, _≤_, _<_}
+use mathlib.Core.Path.{_≡_, refl, ap}
+use mathlib.Core.Bool.{Bool}
+use mathlib.Core.List.{List, [], _∷_, _++_, append-assoc, append-nil, map}
+use native.Mathlib.Nat.{zero-add, suc-add, sub-zero, suc-sub-suc}
+use native.Mathlib.Omega.{arith}
+use lib.ListN.{length, take, drop, replicate, replicate-append-replicate, length-take, length-drop}
+use lib.Seq.{take-at, drop-at, take-append-seam}
+use borrow.Author.Tests.{ltb-true, leb-true, eqb-true}
+use Rattle.words.specs.Tests.{Yes}
+use Rattle.words.specs.Word.{leOf, leBytes, wordsOf, bytesOf}
+use Rattle.words.proofs.Tests.{both-l, both-r, both-of}
+use Rattle.words.proofs.Read.{mul-suc-8}
+use Rattle.queue.specs.declared.Request.{Request}
+use Rattle.queue.specs.Queue.{Signed, Lists, signedIn}
+use Rattle.queue_image.specs.Image.{rows, requestIn, heldIn, responseIn, listsIn, requestWords, responseWords, flat, padded, queueWords, areBytes, requestFits, responseFits, each, eightFit, fits}
+use Rattle.queue_image.proofs.Rows.{flat-length, padded-length}
+use Rattle.queue_image.proofs.Sides.{request-wide, response-wide}
+
+-- ---- what holds of each holds of each in a part
+module _ {A : Type 0} (f : A → Bool) where
+  pub each-take : (k : ℕ) (l : List A) → Yes (each f l) → Yes (each f (take k l))
+  unfolding each
+  each-take zero l h = refl
+  each-take (suc k) [] h = refl
+  each-take (suc k) (x ∷ l) h = both-of _ _ (both-l _ _ h) (each-take k l (both-r _ _ h))
+
+  pub each-drop : (k : ℕ) (l : List A) → Yes (each f l) → Yes (each f (drop k l))
+  unfolding each
+  each-drop zero l h = h
+  each-drop (suc k) [] h = refl
+  each-drop (suc k) (x ∷ l) h = each-drop k l (both-r _ _ h)
+
+-- ---- bytes come back from their words, with zeros to the end of the last
+zero-back : (m : ℕ) → leBytes m 0 ≡ replicate m 0
+unfolding leBytes
+zero-back zero = refl
+zero-back (suc m) = ap (λ (t : List ℕ). 0 ∷ t) (zero-back m)
+
+word-back : (m : ℕ) (bs : List ℕ) → length bs ≤ m → Yes (areBytes bs) → leBytes m (leOf bs) ≡ padded m bs
+unfolding leBytes leOf padded areBytes each
+word-back m [] h a = rw sub-zero (zero-back m)
+word-back zero (b ∷ bs) h a = absurd (omega arith)
+word-back (suc m) (b ∷ bs) h a =
+    let l : b < 256 = ltb-true b 256 (both-l _ _ a) in
+    let low : (b + 256 * leOf bs) % 256 ≡ b = omega arith in
+    let high : (b + 256 * leOf bs) / 256 ≡ leOf bs = omega arith in
+    rw (low, high, suc-sub-suc, word-back m bs (omega arith) (both-r _ _ a))
+
+padded-split : (k n : ℕ) (l : List ℕ) → padded k (take k l) ++ padded n (drop k l) ≡ padded (k + n) l
+unfolding padded
+padded-split zero n l = rw zero-add
+padded-split (suc k) n [] = simp sub-zero (replicate-append-replicate (suc k) n 0)
+padded-split (suc k) n (x ∷ l) = rw (suc-add, suc-sub-suc, suc-sub-suc) (ap (λ (t : List ℕ). x ∷ t) (padded-split k n l))
+
+bytes-back : (n : ℕ) (bs : List ℕ) → length bs ≤ 8 * n → Yes (areBytes bs) → bytesOf (wordsOf n bs) ≡ padded (8 * n) bs
+unfolding wordsOf bytesOf padded areBytes
+bytes-back zero [] h a = refl
+bytes-back zero (b ∷ bs) h a = absurd (omega arith)
+bytes-back (suc n) bs h a =
+    rw (
+      word-back 8 (take 8 bs) (omega (arith, length-take 8 bs)) (each-take _ 8 bs a),
+      bytes-back n (drop 8 bs) (omega (arith, length-drop 8 bs)) (each-drop _ 8 bs a),
+      mul-suc-8,
+    )
+    (padded-split 8 (8 * n) bs)
+
+padded-full : (n : ℕ) (l : List ℕ) → length l ≡ n → padded n l ≡ l
+unfolding padded
+padded-full n l e = rw (let z : n - length l ≡ 0 = omega arith in z) (append-nil l)
+
+-- ---- a request and a response come back from their rows
+request-back : (r : Request) → Yes (requestFits r) → requestIn (requestWords r) ≡ r
+unfolding requestIn requestWords requestFits
+request-back r h =
+    let l : length (r .hash) ≡ 48 = eqb-true _ _ (both-l _ _ (both-r _ _ h)) in
+    rw (bytes-back 6 (r .hash) (omega arith) (both-r _ _ (both-r _ _ h)), padded-full 48 (r .hash) l)
+
+response-back : (r : Signed) → Yes (responseFits r) → responseIn (responseWords r) ≡ r
+unfolding responseIn signedIn heldIn responseWords responseFits padded
+response-back r h =
+    let l : length (r .signature) ≤ 104 = leb-true _ _ (both-l _ _ (both-r _ _ h)) in
+    rw (bytes-back 13 (r .signature) (omega arith) (both-r _ _ (both-r _ _ h)), take-append-seam)
+
+-- ---- a side comes back from its rows, whatever follows them
+module _ {A : Type 0} (f : List ℕ → A) (g : A → List ℕ) (ok : A → Bool) (width : ℕ) (wide : (x : A) → length (g x) ≡ width) (back : (x : A) → Yes (ok x) → f (g x) ≡ x) where
+  rows-back : (n : ℕ) (l : List A) (rest : List ℕ) → Yes (each ok l) → length l ≤ n → take (length l) (map f (rows width n (flat g l ++ rest))) ≡ l
+  unfolding rows flat each
+  rows-back n [] rest h k = refl
+  rows-back zero (x ∷ l) rest h k = absurd (omega arith)
+  rows-back (suc n) (x ∷ l) rest h k =
+      rw (
+        append-assoc,
+        take-at (g x) (flat g l ++ rest) width (wide x),
+        drop-at (g x) (flat g l ++ rest) width (wide x),
+        back x (both-l _ _ h),
+        rows-back n l rest (both-r _ _ h) (omega arith),
+      )
+
+  side-back : (n : ℕ) (l : List A) (rest : List ℕ) → Yes (eightFit ok l) → take (length l) (map f (rows width 8 (padded n (flat g l) ++ rest))) ≡ l
+  unfolding eightFit padded
+  side-back n l rest h = rw append-assoc (rows-back 8 l _ (both-r _ _ h) (leb-true _ _ (both-l _ _ h)))
+
+-- ---- a queue comes back from its image
+pub queue-back : (q : Lists) → Yes (fits q) → listsIn (queueWords q) ≡ q
+unfolding listsIn queueWords fits eightFit
+queue-back q h =
+    let a : List Request = q .requests in
+    let b : List Signed = q .responses in
+    let p : List ℕ = padded 128 (flat responseWords b) in
+    let eight : length a ≤ 8 = leb-true (length a) 8 (both-l _ _ (both-l _ _ h)) in
+    let front : length (padded 80 (flat requestWords a)) ≡ 80 = padded-length 80 (flat requestWords a) (omega (arith, flat-length requestWords 10 request-wide a)) in
+    rw (
+      side-back requestIn requestWords requestFits 10 request-wide request-back 80 a p (both-l _ _ h),
+      drop-at (padded 80 (flat requestWords a)) p 80 front,
+      rw append-nil at (side-back responseIn responseWords responseFits 16 response-wide response-back 128 b [] (both-r _ _ h)),
+    )
+
+-- and an image that a queue has comes back from its queue
+pub queue-again : (w : List ℕ) (q : Lists) → w ≡ queueWords q → Yes (fits q) → queueWords (listsIn w) ≡ w
+queue-again w q e h = rw (e, queue-back q h)
+
+-- ---- zeros are the image of the queue in which nothing waits
+pub zeros-in : listsIn (replicate 210 0) ≡ record { requests = []; responses = [] }
+unfolding listsIn
+zeros-in = refl
+
+pub zeros-out : queueWords (record { requests = []; responses = [] }) ≡ replicate 210 0
+unfolding queueWords flat padded
+zeros-out = refl

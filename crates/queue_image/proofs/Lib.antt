@@ -1,0 +1,4 @@
+pub mod Rows
+pub mod Sides
+pub mod Inverse
+pub mod Fits

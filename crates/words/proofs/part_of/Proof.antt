@@ -1,0 +1,80 @@
+use Prim.Native.Nat.{_+_}
+use mathlib.Core.Path.{sym}
+use lib.ListN.{length}
+use native.Mathlib.Nat.{add-sub-cancel-left}
+use native.Mathlib.Omega.{arith}
+use borrow.Author.Tests.{le-leb, lt-leb}
+use Rattle.words.specs.Word.{part, spanned}
+use borrow.Author.Needs.{needs}
+use Rattle.words.proofs.part_of.Statement.{statement}
+use Rattle.words.proofs.part_of.Tie as tie
+
+sub-result : tie.Need-sub-result
+sub-result c = search needs
+
+part-result-start : tie.Need-part-result-start
+part-result-start c = search needs
+
+part-result-end : tie.Need-part-result-end
+part-result-end c = search needs
+
+returns : tie.Need-returns
+unfolding spanned
+returns c =
+    let a = c .before .before .args in
+    simp (lt-leb (a .span .at + a .span .len) (length (a .s .now)) (omega arith))
+
+sub-if2 : tie.Need-sub-if2
+sub-if2 c = search needs
+
+sub-result-2 : tie.Need-sub-result-2
+sub-result-2 c = search needs
+
+part-result-start-2 : tie.Need-part-result-start-2
+part-result-start-2 c = search needs
+
+part-result-end-2 : tie.Need-part-result-end-2
+part-result-end-2 c = search needs
+
+returns-2 : tie.Need-returns-2
+unfolding spanned
+returns-2 c =
+    let a = c .before .before .before .args in
+    simp (lt-leb (a .span .at + a .span .len) (length (a .s .now)) (omega arith))
+
+add-end : tie.Need-add-end
+add-end c = search needs
+
+sub-result-3 : tie.Need-sub-result-3
+sub-result-3 c = search needs
+
+part-result-start-3 : tie.Need-part-result-start-3
+part-result-start-3 c = search needs
+
+part-result-end-3 : tie.Need-part-result-end-3
+part-result-end-3 c = search needs
+
+returns-3 : tie.Need-returns-3
+unfolding spanned part
+returns-3 c =
+    let a = c .before .before .before .args in
+    simp (le-leb (a .span .at + a .span .len) (length (a .s .now)) (omega arith), add-sub-cancel-left)
+
+pub part-of-spec : {M : Type 1} → statement M
+part-of-spec =
+    tie.close
+    (tie.spec
+    sub-result
+    part-result-start
+    part-result-end
+    returns
+    sub-if2
+    sub-result-2
+    part-result-start-2
+    part-result-end-2
+    returns-2
+    add-end
+    sub-result-3
+    part-result-start-3
+    part-result-end-3
+    returns-3)

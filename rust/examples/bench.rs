@@ -1,0 +1,354 @@
+//! The proved library against the reference, nanoseconds a call: `cargo run --offline --release --example bench`
+//!
+//! Both are timed in turn, on pages of the same content and alignment, and the best of many short runs counts. The reference keeps
+//! its states as Rust values, as code written by hand would. For the queue a second line has the reference on the same image as the
+//! library, so that what the image itself costs can be told apart.
+
+use potterbeam_tests::exports::{Exports, QueueImage, RecordImage};
+use potterbeam_tests::images::record_of;
+use potterbeam_tests::kit::Kit;
+use potterbeam_tests::model::Model;
+use potterbeam_tests::reference::boot::Record;
+use potterbeam_tests::reference::codes::Outcome;
+use potterbeam_tests::reference::granules::{delegate, undelegate};
+use potterbeam_tests::reference::layout::PAGE;
+use potterbeam_tests::reference::queue::Queue;
+use potterbeam_tests::reference::reader::read;
+use potterbeam_tests::reference::signing::{token_sign, SignCall};
+use potterbeam_tests::reference::token::{Session, TokenCall};
+use potterbeam_tests::reference::writer::{write, Lists};
+use std::sync::atomic::{AtomicU64, Ordering};
+use std::time::{Duration, Instant};
+
+const BASE: u64 = 0x8000_0000;
+const BANK: [u64; 2] = [0x9000_0000, 0x1000_0000];
+const CONSOLE: [u64; 6] = [0x1c0c_0000, 1, 0x7061_7274, 24_000_000, 115_200, 0];
+/// Runs of each side, and how long one of them is to be.
+const RUNS: usize = 1_000;
+const RUN: Duration = Duration::from_micros(40);
+
+/// A word of each result goes here, so that no call is left out or moved. `std::hint::black_box` came after Rust 1.63.
+static SEEN: AtomicU64 = AtomicU64::new(0);
+
+fn see(word: u64) {
+    SEEN.store(word, Ordering::Relaxed);
+}
+
+/// The same words, but no compiler knows: else the reference would be compiled for the very arguments that it is timed with.
+fn hidden<const N: usize>(words: [u64; N]) -> [u64; N] {
+    words.map(|word| {
+        see(word);
+        SEEN.load(Ordering::Relaxed)
+    })
+}
+
+/// A page where hardware would have it.
+#[repr(align(4096))]
+struct Page([u8; PAGE]);
+
+impl Page {
+    fn lent(&mut self) -> &mut [u8] {
+        let [length] = hidden([PAGE as u64]);
+        &mut self.0[..length as usize]
+    }
+}
+
+/// A record that is up, as an image and as a value.
+struct Up {
+    image: RecordImage,
+    record: Record,
+}
+
+impl Up {
+    fn new() -> Up {
+        let image = hidden([1, 8, BASE, 5]);
+        let record = record_of(&image);
+        Up { image, record }
+    }
+}
+
+// ---- Timing ----
+
+/// One side: a body, repeated so many times.
+type Side<'a> = Box<dyn FnMut(u32) + 'a>;
+
+fn side<'a>(mut body: impl FnMut() + 'a) -> Side<'a> {
+    Box::new(move |times| (0..times).for_each(|_| body()))
+}
+
+fn timed(side: &mut Side, times: u32) -> Duration {
+    let start = Instant::now();
+    side(times);
+    start.elapsed()
+}
+
+/// How often a body goes into one run.
+fn times_of(side: &mut Side) -> u32 {
+    let once = timed(side, 100).as_nanos().max(1) / 100;
+    (RUN.as_nanos() / once.max(1)).clamp(1, 20_000) as u32
+}
+
+/// Prints nanoseconds a call of the library, and of each other side with the ratio. A body makes so many calls.
+fn compare(name: &str, calls: u32, kit: Side, others: Vec<(&str, Side)>) {
+    let (names, others): (Vec<_>, Vec<_>) = others.into_iter().unzip();
+    let mut sides: Vec<_> = std::iter::once(kit).chain(others).collect();
+    let times: Vec<_> = sides.iter_mut().map(times_of).collect();
+    let mut best = vec![f64::INFINITY; sides.len()];
+    for _ in 0..RUNS {
+        for (i, side) in sides.iter_mut().enumerate() {
+            let run = timed(side, times[i]).as_nanos() as f64;
+            best[i] = best[i].min(run / f64::from(times[i] * calls));
+        }
+    }
+    for (other, best_of_other) in names.iter().zip(&best[1..]) {
+        let ratio = best[0] / best_of_other;
+        println!(
+            "{name:<36} {:9.1} {best_of_other:9.1} {ratio:6.2}  {other}",
+            best[0]
+        );
+    }
+}
+
+// ---- Manifest ----
+
+fn compare_manifest(name: &str, edition: u64, lists: Lists) {
+    let [mut page, mut ours, mut theirs] = [(); 3].map(|()| Page([0; PAGE]));
+    write(BASE, edition, lists, &mut page.0).expect("written");
+    let page = &page.0;
+    let mut view = [0; 15];
+    // Neither `read` nor `write` can be inlined from another crate, so they need no wrapper to be calls.
+    compare(
+        &format!("read {name}"),
+        1,
+        side(|| {
+            assert_eq!(Kit::read(page, BASE, 4, &mut view), 0);
+            see(view[2]);
+        }),
+        vec![(
+            "native",
+            side(|| see(read(page, BASE, 4).expect("accepted").plat_data)),
+        )],
+    );
+    compare(
+        &format!("write {name}"),
+        1,
+        side(|| {
+            assert_eq!(Kit::write(BASE, edition, lists, &mut ours.0), 0);
+            see(u64::from(ours.0[0]));
+        }),
+        vec![(
+            "native",
+            side(|| {
+                write(BASE, edition, lists, &mut theirs.0).expect("written");
+                see(u64::from(theirs.0[0]));
+            }),
+        )],
+    );
+}
+
+// ---- Granules ----
+
+#[inline(never)]
+fn native_delegate(record: &Record, start: u64, table: &mut [u8], address: u64) -> Outcome {
+    delegate(*record, start, table, address)
+}
+
+#[inline(never)]
+fn native_undelegate(record: &Record, start: u64, table: &mut [u8], address: u64) -> Outcome {
+    undelegate(*record, start, table, address)
+}
+
+fn compare_granules() {
+    let Up { image, record } = Up::new();
+    let [start, address, length] = hidden([0, 77 * 4096, 512]);
+    let [mut ours, mut theirs] = [(); 2].map(|()| vec![0; length as usize]);
+    compare(
+        "delegate, undelegate",
+        2,
+        side(|| {
+            let mut out = [0; 3];
+            Kit::delegate(&image, start, &mut ours, address, &mut out);
+            see(out[0]);
+            Kit::undelegate(&image, start, &mut ours, address, &mut out);
+            see(out[0]);
+        }),
+        vec![(
+            "native",
+            side(|| {
+                see(native_delegate(&record, start, &mut theirs, address).expect("done")[0]);
+                see(native_undelegate(&record, start, &mut theirs, address).expect("done")[0]);
+            }),
+        )],
+    );
+    assert_eq!(ours, theirs);
+}
+
+// ---- Token ----
+
+#[inline(never)]
+fn native_send(
+    session: &mut Session,
+    record: &Record,
+    page: &mut [u8],
+    busy: u64,
+    token: &[u8],
+    [pa, size, c_size]: [u64; 3],
+) -> Outcome {
+    let call = TokenCall { pa, size, c_size };
+    session.send(*record, page, busy != 0, token, call)
+}
+
+/// A token of 4,096 bytes, in hunks of this size.
+fn compare_token(size: u64) {
+    let Up { image, record } = Up::new();
+    let calls = 4096 / size;
+    let [busy, pa, size, c_size, length] = hidden([0, BASE, size, 64, 4096]);
+    let token: Vec<u8> = (0..length).map(|i| i as u8).collect();
+    // The first call has a challenge.
+    let x = |i| [pa, size, if i == 0 { c_size } else { 0 }];
+    let [mut first, mut second] = [(); 2].map(|()| Page([0; PAGE]));
+    let (ours, theirs) = (first.lent(), second.lent());
+    let (mut words, mut session) = ([0; 3], Session::Idle);
+    compare(
+        &format!("4,096-byte token in hunks of {size}"),
+        calls as u32,
+        side(|| {
+            for i in 0..calls {
+                let mut out = [0; 3];
+                Kit::platform_token(&image, &mut words, ours, &token, busy, x(i), &mut out);
+                see(out[2]);
+            }
+        }),
+        vec![(
+            "native",
+            side(|| {
+                for i in 0..calls {
+                    let sent = native_send(&mut session, &record, theirs, busy, &token, x(i));
+                    see(sent.expect("sent")[1]);
+                }
+            }),
+        )],
+    );
+    assert!(first.0 == second.0 && words == [0; 3] && session == Session::Idle);
+}
+
+// ---- Queue ----
+
+#[inline(never)]
+fn native_token_sign(
+    record: &Record,
+    queue: &mut Queue,
+    page: &mut [u8],
+    key: &[u8],
+    [opcode, pa, size, curve]: [u64; 4],
+) -> Outcome {
+    let call = SignCall {
+        opcode,
+        pa,
+        size,
+        curve,
+    };
+    token_sign(*record, queue, page, key, call)
+}
+
+#[inline(never)]
+fn native_sign(queue: &mut Queue, signature: &[u8]) -> Outcome {
+    queue.sign(signature)
+}
+
+/// What a request on its way needs: registers of push and pull, and the signature, which is lent as a key too.
+struct Way {
+    up: Up,
+    push: [u64; 4],
+    pull: [u64; 4],
+    signature: Vec<u8>,
+}
+
+impl Way {
+    fn new() -> Way {
+        let [length] = hidden([96]);
+        Way {
+            up: Up::new(),
+            push: hidden([1, BASE, 80, 0]),
+            pull: hidden([2, BASE + 1024, 122, 0]),
+            signature: vec![0xA5; length as usize],
+        }
+    }
+
+    fn native(&self, queue: &mut Queue, page: &mut [u8], x: [u64; 4]) {
+        let outcome = native_token_sign(&self.up.record, queue, page, &self.signature, x);
+        see(outcome.expect("done")[0]);
+    }
+
+    fn native_sign(&self, queue: &mut Queue) {
+        see(native_sign(queue, &self.signature).expect("signed")[0]);
+    }
+
+    fn image<S: Exports>(&self, queue: &mut QueueImage, page: &mut [u8], x: [u64; 4]) {
+        let mut out = [0; 3];
+        S::token_signing(&self.up.image, queue, page, &self.signature, x, &mut out);
+        see(out[0]);
+    }
+
+    fn image_sign<S: Exports>(&self, queue: &mut QueueImage) {
+        let mut out = [0; 3];
+        S::sign(queue, &self.signature, &mut out);
+        see(out[0]);
+    }
+
+    /// A queue with so many responses.
+    fn waiting(&self, responses: usize, page: &mut [u8]) -> (QueueImage, Queue) {
+        let (mut image, mut queue) = ([0; 210], Queue::EMPTY);
+        for _ in 0..responses {
+            self.image::<Model>(&mut image, page, self.push);
+            self.image_sign::<Model>(&mut image);
+            self.native(&mut queue, page, self.push);
+            self.native_sign(&mut queue);
+        }
+        (image, queue)
+    }
+}
+
+/// A request goes all the way through, while so many responses wait.
+fn compare_queue(waiting: usize) {
+    let way = Way::new();
+    let mut pages = [(); 3].map(|()| Page([0; PAGE]));
+    // The hash id that is asked for.
+    pages.iter_mut().for_each(|page| page.0[24] = 1);
+    let [ours, theirs, modelled] = &mut pages;
+    let (ours, theirs, modelled) = (ours.lent(), theirs.lent(), modelled.lent());
+    let (mut kit, mut native) = way.waiting(waiting, ours);
+    let mut model = kit;
+    let kit_side = side(|| {
+        way.image::<Kit>(&mut kit, ours, way.push);
+        way.image_sign::<Kit>(&mut kit);
+        way.image::<Kit>(&mut kit, ours, way.pull);
+    });
+    let native_side = side(|| {
+        way.native(&mut native, theirs, way.push);
+        way.native_sign(&mut native);
+        way.native(&mut native, theirs, way.pull);
+    });
+    let model_side = side(|| {
+        way.image::<Model>(&mut model, modelled, way.push);
+        way.image_sign::<Model>(&mut model);
+        way.image::<Model>(&mut model, modelled, way.pull);
+    });
+    let others = vec![("native", native_side), ("on the image", model_side)];
+    let name = format!("push, sign, pull, {waiting} waiting");
+    compare(&name, 3, kit_side, others);
+    assert!(kit == model && pages[0].0 == pages[1].0);
+}
+
+fn main() {
+    println!("Best of {RUNS} runs, in turn. No page, table or image is cleared before a call.");
+    println!("ns a call                              library reference  ratio  reference's state");
+    compare_manifest("example 14's page", 2, [&BANK, &[], &[], &[]]);
+    compare_manifest("249 banks", 4, [&BANK.repeat(249), &[], &[], &[]]);
+    compare_manifest("83 consoles", 4, [&[], &CONSOLE.repeat(83), &[], &[]]);
+    compare_granules();
+    compare_token(64);
+    compare_token(4096);
+    compare_queue(0);
+    compare_queue(7);
+}

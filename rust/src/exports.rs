@@ -1,0 +1,103 @@
+//! The library's exports as Rust sees them: the words that each image has, and one signature for the library (`kit`) and for the
+//! reference on the same images (`model`), so that a test or a benchmark can put either in the other's place.
+
+/// The boot record: 0 fresh, 1 up, any other number closed; then x2, B and the agreed minor when up.
+pub type RecordImage = [u64; 4];
+/// The token session: 0 idle, any other number sending; then the token's length at the start, and how much of it is sent.
+pub type SessionImage = [u64; 3];
+/// The signing queue: two counts, eight requests of 10 words, eight responses of 16.
+pub type QueueImage = [u64; 210];
+/// What a page shows: w, e, plat_data, then three words a section: 0 absent, 1 empty or 2 entries, their offset, their number.
+pub type ViewImage = [u64; 15];
+/// A request as it stands in the queue.
+pub type RequestImage = [u64; 10];
+/// Offset and length of a part of the page; zeros where it is empty.
+pub type Place = [u64; 2];
+/// x0 to x2 of an answer.
+pub type Registers = [u64; 3];
+/// What the platform has to do: nothing, (1, mecid) to reprogram, or (2, err_code) to forward.
+pub type Work = [u64; 2];
+
+/// What the platform lends to a call by function id.
+#[derive(Debug)]
+pub struct Lent<'a> {
+    pub page: &'a mut [u8],
+    /// G.
+    pub start: u64,
+    pub table: &'a mut [u8],
+    pub key: &'a [u8],
+    pub token: &'a [u8],
+    pub busy: u64,
+    pub public_key: &'a [u8],
+    /// MECIDWidthm1.
+    pub width: u64,
+}
+
+/// All exports. Registers come as arrays, in their order.
+pub trait Exports {
+    fn read(page: &[u8], base: u64, edition: u64, view: &mut ViewImage) -> i32;
+    fn array(page: &[u8], base: u64, edition: u64, section: usize, place: &mut Place);
+    fn array_of(page: &[u8], view: &ViewImage, section: usize, place: &mut Place);
+    fn count(page: &[u8], view: &ViewImage, section: usize) -> usize;
+    fn word(page: &[u8], view: &ViewImage, section: usize, entry: usize, word: usize) -> u64;
+    fn write(base: u64, edition: u64, lists: [&[u64]; 4], page: &mut [u8]) -> u32;
+
+    fn cold_boot(state: &mut RecordImage, x: [u64; 4], most: u64, page: &[u8]) -> i32;
+    fn warm_boot(state: &mut RecordImage, x: [u64; 4]) -> i32;
+
+    fn delegate(state: &RecordImage, start: u64, table: &mut [u8], at: u64, out: &mut Registers);
+    fn undelegate(state: &RecordImage, start: u64, table: &mut [u8], at: u64, out: &mut Registers);
+    /// x: pa, size, curve.
+    fn realm_key(
+        state: &RecordImage,
+        page: &mut [u8],
+        key: &[u8],
+        x: [u64; 3],
+        out: &mut Registers,
+    );
+    /// x: pa, size, c_size.
+    fn platform_token(
+        state: &RecordImage,
+        session: &mut SessionImage,
+        page: &mut [u8],
+        token: &[u8],
+        busy: u64,
+        x: [u64; 3],
+        out: &mut Registers,
+    );
+    /// x as for the platform token.
+    fn challenge(state: &RecordImage, page: &[u8], x: [u64; 3], place: &mut Place);
+    fn features(state: &RecordImage, index: u64, out: &mut Registers);
+    /// x: opcode, pa, size, curve.
+    fn token_signing(
+        state: &RecordImage,
+        queue: &mut QueueImage,
+        page: &mut [u8],
+        key: &[u8],
+        x: [u64; 4],
+        out: &mut Registers,
+    );
+    fn key_update(
+        state: &RecordImage,
+        width: u64,
+        mecid: u64,
+        out: &mut Registers,
+        work: &mut Work,
+    );
+    fn forward(state: &RecordImage, x1: u64) -> u64;
+
+    fn sign(queue: &mut QueueImage, signature: &[u8], out: &mut Registers);
+    /// How many requests wait.
+    fn oldest(queue: &QueueImage, request: &mut RequestImage) -> usize;
+
+    /// x: the function id, then x1 to x4.
+    fn call(
+        state: &RecordImage,
+        session: &mut SessionImage,
+        queue: &mut QueueImage,
+        lent: &mut Lent,
+        x: &[u64; 5],
+        out: &mut Registers,
+        work: &mut Work,
+    );
+}

@@ -1,0 +1,163 @@
+//! The reference's states as images of words, and back. An image that no state has is read as the state that it stands for.
+
+use crate::exports::{QueueImage, RecordImage, Registers, RequestImage, SessionImage, ViewImage};
+use crate::reference::boot::{Kept, Record};
+use crate::reference::codes::Answer;
+use crate::reference::layout::{word_at, ENTRY_WORDS, SECTIONS};
+use crate::reference::queue::{Queue, Request, Response, Ring, PLACES, SIGNATURE};
+use crate::reference::reader::{Section, View};
+use crate::reference::token::Session;
+use std::array::from_fn;
+use std::ops::Range;
+
+/// Words of a request, and of a response.
+const REQUEST: usize = 10;
+const RESPONSE: usize = 16;
+/// Where the requests begin, and the responses.
+const REQUESTS: usize = 2;
+const RESPONSES: usize = REQUESTS + PLACES * REQUEST;
+
+pub fn record_of(image: &RecordImage) -> Record {
+    let [tag, cpus, base, minor] = *image;
+    match tag {
+        0 => Record::Fresh,
+        1 => Record::Up(Kept { cpus, base, minor }),
+        _ => Record::Closed,
+    }
+}
+
+pub fn record_words(record: Record) -> RecordImage {
+    match record {
+        Record::Fresh => [0; 4],
+        Record::Up(Kept { cpus, base, minor }) => [1, cpus, base, minor],
+        Record::Closed => [2, 0, 0, 0],
+    }
+}
+
+pub fn session_of(image: &SessionImage) -> Session {
+    let [tag, whole, sent] = *image;
+    match tag {
+        0 => Session::Idle,
+        _ => Session::Sending { whole, sent },
+    }
+}
+
+pub fn session_words(session: Session) -> SessionImage {
+    match session {
+        Session::Idle => [0; 3],
+        Session::Sending { whole, sent } => [1, whole, sent],
+    }
+}
+
+pub fn registers(answer: Answer) -> Registers {
+    [answer.x0, answer.x1, answer.x2]
+}
+
+pub fn view_words(view: &View) -> ViewImage {
+    let mut image = [0; 15];
+    image[..3].copy_from_slice(&[u64::from(view.minor), view.edition.number(), view.plat_data]);
+    for (words, section) in image[3..].chunks_exact_mut(3).zip(view.sections) {
+        words.copy_from_slice(&match section {
+            Section::Absent => [0, 0, 0],
+            Section::Empty => [1, 0, 0],
+            Section::Entries { offset, count } => [2, offset as u64, count as u64],
+        });
+    }
+    image
+}
+
+/// The bytes that a section's array takes of a page of this length; none where it does not lie in the page.
+pub fn part_of(length: usize, view: &ViewImage, section: usize) -> Option<Range<usize>> {
+    if section >= SECTIONS {
+        return None;
+    }
+    let words = &view[3 + 3 * section..][..3];
+    if words[0] < 2 {
+        return None;
+    }
+    let size = words[2].checked_mul(8 * ENTRY_WORDS[section] as u64)?;
+    let end = words[1].checked_add(size)?;
+    (size != 0 && end <= length as u64).then_some(words[1] as usize..end as usize)
+}
+
+pub fn queue_of(image: &QueueImage) -> Queue {
+    // Counts stand for eight at most, so that a wide one is not cut off.
+    let count = |i: usize| image[i].min(PLACES as u64) as usize;
+    Queue {
+        requests: Ring::new(from_fn(|i| request_of(image, i)), count(0)),
+        responses: Ring::new(from_fn(|i| response_of(image, i)), count(1)),
+    }
+}
+
+/// The canonical image: zero past each count, and past each signature.
+pub fn queue_words(queue: &Queue) -> QueueImage {
+    let mut image = [0; 210];
+    image[0] = queue.requests.len() as u64;
+    image[1] = queue.responses.len() as u64;
+    let (requests, responses) = image[REQUESTS..].split_at_mut(RESPONSES - REQUESTS);
+    let places = requests.chunks_exact_mut(REQUEST);
+    for (place, request) in places.zip(queue.requests.iter()) {
+        place.copy_from_slice(&request_words(request));
+    }
+    let places = responses.chunks_exact_mut(RESPONSE);
+    for (place, response) in places.zip(queue.responses.iter()) {
+        put_response(place, response);
+    }
+    image
+}
+
+pub fn request_words(request: &Request) -> RequestImage {
+    let mut image = [0; REQUEST];
+    image[..4].copy_from_slice(&[
+        request.algorithm,
+        request.granule,
+        request.ticket,
+        request.hash_id,
+    ]);
+    put_bytes(&mut image[4..], &request.hash);
+    image
+}
+
+fn request_of(image: &QueueImage, i: usize) -> Request {
+    let words = &image[REQUESTS + REQUEST * i..][..REQUEST];
+    Request {
+        algorithm: words[0],
+        granule: words[1],
+        ticket: words[2],
+        hash_id: words[3],
+        hash: bytes_of(&words[4..]),
+    }
+}
+
+fn response_of(image: &QueueImage, i: usize) -> Response {
+    let words = &image[RESPONSES + RESPONSE * i..][..RESPONSE];
+    Response {
+        granule: words[0],
+        ticket: words[1],
+        len: words[2].min(SIGNATURE as u64) as usize,
+        signature: bytes_of(&words[3..]),
+    }
+}
+
+fn put_response(place: &mut [u64], response: &Response) {
+    let signature = response.signature();
+    let head = [response.granule, response.ticket, signature.len() as u64];
+    place[..3].copy_from_slice(&head);
+    let mut bytes = [0; SIGNATURE];
+    bytes[..signature.len()].copy_from_slice(signature);
+    put_bytes(&mut place[3..], &bytes);
+}
+
+fn put_bytes(words: &mut [u64], bytes: &[u8]) {
+    for (word, cell) in words.iter_mut().zip(bytes.chunks_exact(8)) {
+        *word = word_at(cell, 0);
+    }
+}
+
+fn bytes_of<const N: usize>(words: &[u64]) -> [u8; N] {
+    let mut bytes = [0; N];
+    for (cell, word) in bytes.chunks_exact_mut(8).zip(words) {
+        cell.copy_from_slice(&word.to_le_bytes());
+    }
+    bytes
+}

@@ -1,0 +1,397 @@
+//! The proved library: its C functions, and a safe call to each. They ask nothing of any value; all that can go wrong is a pointer
+//! or a length, and those come from slices and arrays here.
+
+use crate::exports::{
+    Exports, Lent, Place, QueueImage, RecordImage, Registers, RequestImage, SessionImage,
+    ViewImage, Work,
+};
+use std::ptr::{null, null_mut};
+
+/// The C functions. Tests of the stack call them by address.
+pub mod ffi {
+    use super::{
+        Place, QueueImage, RecordImage, Registers, RequestImage, SessionImage, ViewImage, Work,
+    };
+
+    extern "C" {
+        pub fn pb_read(
+            page: *const u8,
+            page_len: usize,
+            base: u64,
+            edition: u64,
+            view: *mut ViewImage,
+        ) -> i32;
+        pub fn pb_array(
+            page: *const u8,
+            page_len: usize,
+            base: u64,
+            edition: u64,
+            section: usize,
+            place: *mut Place,
+        );
+        pub fn pb_array_of(
+            page: *const u8,
+            page_len: usize,
+            view: *const ViewImage,
+            section: usize,
+            place: *mut Place,
+        );
+        pub fn pb_count(
+            page: *const u8,
+            page_len: usize,
+            view: *const ViewImage,
+            section: usize,
+        ) -> usize;
+        pub fn pb_word(
+            page: *const u8,
+            page_len: usize,
+            view: *const ViewImage,
+            section: usize,
+            entry: usize,
+            word: usize,
+        ) -> u64;
+        pub fn pb_write(
+            base: u64,
+            edition: u64,
+            dram: *const u64,
+            dram_len: usize,
+            console: *const u64,
+            console_len: usize,
+            ncoh: *const u64,
+            ncoh_len: usize,
+            coh: *const u64,
+            coh_len: usize,
+            page: *mut u8,
+            page_len: usize,
+        ) -> u32;
+        pub fn pb_cold_boot(
+            state: *mut RecordImage,
+            x0: u64,
+            x1: u64,
+            x2: u64,
+            x3: u64,
+            most: u64,
+            page: *const u8,
+            page_len: usize,
+        ) -> i32;
+        pub fn pb_warm_boot(state: *mut RecordImage, x0: u64, x1: u64, x2: u64, x3: u64) -> i32;
+        pub fn pb_delegate(
+            state: *const RecordImage,
+            start: u64,
+            table: *mut u8,
+            table_len: usize,
+            address: u64,
+            out: *mut Registers,
+        );
+        pub fn pb_undelegate(
+            state: *const RecordImage,
+            start: u64,
+            table: *mut u8,
+            table_len: usize,
+            address: u64,
+            out: *mut Registers,
+        );
+        pub fn pb_realm_key(
+            state: *const RecordImage,
+            page: *mut u8,
+            page_len: usize,
+            key: *const u8,
+            key_len: usize,
+            pa: u64,
+            size: u64,
+            curve: u64,
+            out: *mut Registers,
+        );
+        pub fn pb_platform_token(
+            state: *const RecordImage,
+            session: *mut SessionImage,
+            page: *mut u8,
+            page_len: usize,
+            token: *const u8,
+            token_len: usize,
+            busy: u64,
+            pa: u64,
+            size: u64,
+            csize: u64,
+            out: *mut Registers,
+        );
+        pub fn pb_challenge(
+            state: *const RecordImage,
+            page: *const u8,
+            page_len: usize,
+            pa: u64,
+            size: u64,
+            csize: u64,
+            place: *mut Place,
+        );
+        pub fn pb_features(state: *const RecordImage, index: u64, out: *mut Registers);
+        pub fn pb_token_signing(
+            state: *const RecordImage,
+            queue: *mut QueueImage,
+            page: *mut u8,
+            page_len: usize,
+            key: *const u8,
+            key_len: usize,
+            opcode: u64,
+            pa: u64,
+            size: u64,
+            curve: u64,
+            out: *mut Registers,
+        );
+        pub fn pb_key_update(
+            state: *const RecordImage,
+            width: u64,
+            mecid: u64,
+            out: *mut Registers,
+            work: *mut Work,
+        );
+        pub fn pb_forward(state: *const RecordImage, x1: u64) -> u64;
+        pub fn pb_sign(
+            queue: *mut QueueImage,
+            signature: *const u8,
+            signature_len: usize,
+            out: *mut Registers,
+        );
+        pub fn pb_oldest(queue: *const QueueImage, request: *mut RequestImage) -> usize;
+        pub fn pb_call(
+            state: *const RecordImage,
+            session: *mut SessionImage,
+            queue: *mut QueueImage,
+            page: *mut u8,
+            page_len: usize,
+            start: u64,
+            table: *mut u8,
+            table_len: usize,
+            key: *const u8,
+            key_len: usize,
+            token: *const u8,
+            token_len: usize,
+            busy: u64,
+            public_key: *const u8,
+            public_len: usize,
+            width: u64,
+            call: *const [u64; 5],
+            out: *mut Registers,
+            work: *mut Work,
+        );
+    }
+}
+
+/// The proved library.
+#[derive(Clone, Copy, Debug)]
+pub struct Kit;
+
+/// Pointer and length of a slice. An empty one goes as NULL, as C callers have it; Rust's own pointer would be neither that nor
+/// memory.
+#[inline]
+fn lend<T>(slice: &[T]) -> (*const T, usize) {
+    match slice.len() {
+        0 => (null(), 0),
+        length => (slice.as_ptr(), length),
+    }
+}
+
+/// The same, of a slice to write.
+#[inline]
+fn lend_mut<T>(slice: &mut [T]) -> (*mut T, usize) {
+    match slice.len() {
+        0 => (null_mut(), 0),
+        length => (slice.as_mut_ptr(), length),
+    }
+}
+
+// Each call is sound for one reason: every pointer comes from a live borrow of the length that goes with it, mutable where the
+// library writes, and Rust lets no two of those overlap.
+impl Exports for Kit {
+    #[inline]
+    fn read(page: &[u8], base: u64, edition: u64, view: &mut ViewImage) -> i32 {
+        let (page, page_len) = lend(page);
+        unsafe { ffi::pb_read(page, page_len, base, edition, view) }
+    }
+
+    #[inline]
+    fn array(page: &[u8], base: u64, edition: u64, section: usize, place: &mut Place) {
+        let (page, page_len) = lend(page);
+        unsafe { ffi::pb_array(page, page_len, base, edition, section, place) }
+    }
+
+    #[inline]
+    fn array_of(page: &[u8], view: &ViewImage, section: usize, place: &mut Place) {
+        let (page, page_len) = lend(page);
+        unsafe { ffi::pb_array_of(page, page_len, view, section, place) }
+    }
+
+    #[inline]
+    fn count(page: &[u8], view: &ViewImage, section: usize) -> usize {
+        let (page, page_len) = lend(page);
+        unsafe { ffi::pb_count(page, page_len, view, section) }
+    }
+
+    #[inline]
+    fn word(page: &[u8], view: &ViewImage, section: usize, entry: usize, word: usize) -> u64 {
+        let (page, page_len) = lend(page);
+        unsafe { ffi::pb_word(page, page_len, view, section, entry, word) }
+    }
+
+    #[inline]
+    fn write(base: u64, edition: u64, lists: [&[u64]; 4], page: &mut [u8]) -> u32 {
+        let [dram, console, ncoh, coh] = lists;
+        let (dram, dram_len) = lend(dram);
+        let (console, console_len) = lend(console);
+        let (ncoh, ncoh_len) = lend(ncoh);
+        let (coh, coh_len) = lend(coh);
+        let (page, page_len) = lend_mut(page);
+        unsafe {
+            ffi::pb_write(
+                base,
+                edition,
+                dram,
+                dram_len,
+                console,
+                console_len,
+                ncoh,
+                ncoh_len,
+                coh,
+                coh_len,
+                page,
+                page_len,
+            )
+        }
+    }
+
+    #[inline]
+    fn cold_boot(state: &mut RecordImage, x: [u64; 4], most: u64, page: &[u8]) -> i32 {
+        let [x0, x1, x2, x3] = x;
+        let (page, page_len) = lend(page);
+        unsafe { ffi::pb_cold_boot(state, x0, x1, x2, x3, most, page, page_len) }
+    }
+
+    #[inline]
+    fn warm_boot(state: &mut RecordImage, [x0, x1, x2, x3]: [u64; 4]) -> i32 {
+        unsafe { ffi::pb_warm_boot(state, x0, x1, x2, x3) }
+    }
+
+    #[inline]
+    fn delegate(state: &RecordImage, start: u64, table: &mut [u8], at: u64, out: &mut Registers) {
+        let (table, table_len) = lend_mut(table);
+        unsafe { ffi::pb_delegate(state, start, table, table_len, at, out) }
+    }
+
+    #[inline]
+    fn undelegate(state: &RecordImage, start: u64, table: &mut [u8], at: u64, out: &mut Registers) {
+        let (table, table_len) = lend_mut(table);
+        unsafe { ffi::pb_undelegate(state, start, table, table_len, at, out) }
+    }
+
+    #[inline]
+    fn realm_key(
+        state: &RecordImage,
+        page: &mut [u8],
+        key: &[u8],
+        [pa, size, curve]: [u64; 3],
+        out: &mut Registers,
+    ) {
+        let (page, page_len) = lend_mut(page);
+        let (key, key_len) = lend(key);
+        unsafe { ffi::pb_realm_key(state, page, page_len, key, key_len, pa, size, curve, out) }
+    }
+
+    #[inline]
+    fn platform_token(
+        state: &RecordImage,
+        session: &mut SessionImage,
+        page: &mut [u8],
+        token: &[u8],
+        busy: u64,
+        [pa, size, csize]: [u64; 3],
+        out: &mut Registers,
+    ) {
+        let (page, page_len) = lend_mut(page);
+        let (token, token_len) = lend(token);
+        unsafe {
+            ffi::pb_platform_token(
+                state, session, page, page_len, token, token_len, busy, pa, size, csize, out,
+            )
+        }
+    }
+
+    #[inline]
+    fn challenge(state: &RecordImage, page: &[u8], [pa, size, csize]: [u64; 3], place: &mut Place) {
+        let (page, page_len) = lend(page);
+        unsafe { ffi::pb_challenge(state, page, page_len, pa, size, csize, place) }
+    }
+
+    #[inline]
+    fn features(state: &RecordImage, index: u64, out: &mut Registers) {
+        unsafe { ffi::pb_features(state, index, out) }
+    }
+
+    #[inline]
+    fn token_signing(
+        state: &RecordImage,
+        queue: &mut QueueImage,
+        page: &mut [u8],
+        key: &[u8],
+        [opcode, pa, size, curve]: [u64; 4],
+        out: &mut Registers,
+    ) {
+        let (page, page_len) = lend_mut(page);
+        let (key, key_len) = lend(key);
+        unsafe {
+            ffi::pb_token_signing(
+                state, queue, page, page_len, key, key_len, opcode, pa, size, curve, out,
+            )
+        }
+    }
+
+    #[inline]
+    fn key_update(
+        state: &RecordImage,
+        width: u64,
+        mecid: u64,
+        out: &mut Registers,
+        work: &mut Work,
+    ) {
+        unsafe { ffi::pb_key_update(state, width, mecid, out, work) }
+    }
+
+    #[inline]
+    fn forward(state: &RecordImage, x1: u64) -> u64 {
+        unsafe { ffi::pb_forward(state, x1) }
+    }
+
+    #[inline]
+    fn sign(queue: &mut QueueImage, signature: &[u8], out: &mut Registers) {
+        let (signature, signature_len) = lend(signature);
+        unsafe { ffi::pb_sign(queue, signature, signature_len, out) }
+    }
+
+    #[inline]
+    fn oldest(queue: &QueueImage, request: &mut RequestImage) -> usize {
+        unsafe { ffi::pb_oldest(queue, request) }
+    }
+
+    #[inline]
+    fn call(
+        state: &RecordImage,
+        session: &mut SessionImage,
+        queue: &mut QueueImage,
+        lent: &mut Lent,
+        x: &[u64; 5],
+        out: &mut Registers,
+        work: &mut Work,
+    ) {
+        let (page, page_len) = lend_mut(lent.page);
+        let (table, table_len) = lend_mut(lent.table);
+        let (key, key_len) = lend(lent.key);
+        let (token, token_len) = lend(lent.token);
+        let (public, public_len) = lend(lent.public_key);
+        let (start, busy, width) = (lent.start, lent.busy, lent.width);
+        unsafe {
+            ffi::pb_call(
+                state, session, queue, page, page_len, start, table, table_len, key, key_len,
+                token, token_len, busy, public, public_len, width, x, out, work,
+            )
+        }
+    }
+}

@@ -1,0 +1,243 @@
+//! The reference on the library's images: each export reads the image, does the step, and writes back what the step changed. A
+//! refused command leaves its images as they are, whatever they hold; a boot always writes the record.
+
+use crate::exports::{
+    Exports, Lent, Place, QueueImage, RecordImage, Registers, RequestImage, SessionImage,
+    ViewImage, Work,
+};
+use crate::images::{
+    part_of, queue_of, queue_words, record_of, record_words, registers, request_words, session_of,
+    session_words, view_words,
+};
+use crate::reference::boot::{boot_code, BootError, Record};
+use crate::reference::codes::{Answer, Outcome};
+use crate::reference::features::{features, forward, key_update};
+use crate::reference::granules::{delegate, undelegate};
+use crate::reference::key::realm_key;
+use crate::reference::layout::{word_at, ENTRY_WORDS};
+use crate::reference::queue::Queue;
+use crate::reference::reader::{array, read};
+use crate::reference::runtime::{self, call, Call, Reply, State};
+use crate::reference::signing::{token_sign, SignCall};
+use crate::reference::token::{challenge, TokenCall};
+use crate::reference::writer::write;
+
+/// The reference in the library's place.
+#[derive(Clone, Copy, Debug)]
+pub struct Model;
+
+impl Exports for Model {
+    fn read(page: &[u8], base: u64, edition: u64, view: &mut ViewImage) -> i32 {
+        let answer = read(page, base, edition);
+        *view = answer.as_ref().map_or([0; 15], view_words);
+        answer.map_or_else(|refusal| refusal.code(), |_| 0)
+    }
+
+    fn array(page: &[u8], base: u64, edition: u64, section: usize, place: &mut Place) {
+        *place = place_in(page, array(page, base, edition, section));
+    }
+
+    fn array_of(page: &[u8], view: &ViewImage, section: usize, place: &mut Place) {
+        let part = part_of(page.len(), view, section);
+        *place = part.map_or([0; 2], |part| [part.start as u64, part.len() as u64]);
+    }
+
+    fn count(page: &[u8], view: &ViewImage, section: usize) -> usize {
+        let part = part_of(page.len(), view, section);
+        part.map_or(0, |_| view[5 + 3 * section] as usize)
+    }
+
+    fn word(page: &[u8], view: &ViewImage, section: usize, entry: usize, word: usize) -> u64 {
+        let part = match part_of(page.len(), view, section) {
+            Some(part) => &page[part],
+            None => return 0,
+        };
+        let mut entries = part.chunks_exact(8 * ENTRY_WORDS[section]);
+        match entries.nth(entry) {
+            Some(entry) if word < ENTRY_WORDS[section] => word_at(entry, 8 * word),
+            _ => 0,
+        }
+    }
+
+    fn write(base: u64, edition: u64, lists: [&[u64]; 4], page: &mut [u8]) -> u32 {
+        write(base, edition, lists, page).map_or_else(|refusal| refusal as u32, |()| 0)
+    }
+
+    fn cold_boot(state: &mut RecordImage, x: [u64; 4], most: u64, page: &[u8]) -> i32 {
+        boot(state, |record| record.cold(x, most, page))
+    }
+
+    fn warm_boot(state: &mut RecordImage, x: [u64; 4]) -> i32 {
+        boot(state, |record| record.warm(x))
+    }
+
+    fn delegate(state: &RecordImage, start: u64, table: &mut [u8], at: u64, out: &mut Registers) {
+        *out = answered(delegate(record_of(state), start, table, at));
+    }
+
+    fn undelegate(state: &RecordImage, start: u64, table: &mut [u8], at: u64, out: &mut Registers) {
+        *out = answered(undelegate(record_of(state), start, table, at));
+    }
+
+    fn realm_key(
+        state: &RecordImage,
+        page: &mut [u8],
+        key: &[u8],
+        [pa, size, curve]: [u64; 3],
+        out: &mut Registers,
+    ) {
+        *out = answered(realm_key(record_of(state), page, key, pa, size, curve));
+    }
+
+    fn platform_token(
+        state: &RecordImage,
+        session: &mut SessionImage,
+        page: &mut [u8],
+        token: &[u8],
+        busy: u64,
+        x: [u64; 3],
+        out: &mut Registers,
+    ) {
+        let mut next = session_of(session);
+        let outcome = next.send(record_of(state), page, busy != 0, token, token_call(x));
+        *out = answered(outcome);
+        if outcome.is_ok() {
+            *session = session_words(next);
+        }
+    }
+
+    fn challenge(state: &RecordImage, page: &[u8], x: [u64; 3], place: &mut Place) {
+        *place = place_in(page, challenge(record_of(state), page, token_call(x)));
+    }
+
+    fn features(state: &RecordImage, index: u64, out: &mut Registers) {
+        *out = answered(features(record_of(state), index));
+    }
+
+    fn token_signing(
+        state: &RecordImage,
+        queue: &mut QueueImage,
+        page: &mut [u8],
+        key: &[u8],
+        [opcode, pa, size, curve]: [u64; 4],
+        out: &mut Registers,
+    ) {
+        let call = SignCall {
+            opcode,
+            pa,
+            size,
+            curve,
+        };
+        *out = on_queue(queue, |queue| {
+            token_sign(record_of(state), queue, page, key, call)
+        });
+    }
+
+    fn key_update(
+        state: &RecordImage,
+        width: u64,
+        mecid: u64,
+        out: &mut Registers,
+        work: &mut Work,
+    ) {
+        let mecid = key_update(record_of(state), width, mecid);
+        *out = answered(mecid.map(|_| [0, 0]));
+        *work = mecid.map_or([0, 0], |mecid| [1, mecid]);
+    }
+
+    fn forward(_: &RecordImage, x1: u64) -> u64 {
+        forward(x1)
+    }
+
+    fn sign(queue: &mut QueueImage, signature: &[u8], out: &mut Registers) {
+        *out = on_queue(queue, |queue| queue.sign(signature));
+    }
+
+    fn oldest(queue: &QueueImage, request: &mut RequestImage) -> usize {
+        let queue = queue_of(queue);
+        let oldest = queue.oldest_request();
+        *request = oldest.map_or([0; 10], request_words);
+        queue.requests.len()
+    }
+
+    fn call(
+        state: &RecordImage,
+        session: &mut SessionImage,
+        queue: &mut QueueImage,
+        lent: &mut Lent,
+        x: &[u64; 5],
+        out: &mut Registers,
+        work: &mut Work,
+    ) {
+        let mut next = State {
+            record: record_of(state),
+            session: session_of(session),
+            queue: queue_of(queue),
+        };
+        let [id, x @ ..] = *x;
+        (*out, *work) = replied(call(&mut next, &mut native(lent), Call { id, x }));
+        if out[0] == 0 {
+            *session = session_words(next.session);
+            *queue = queue_words(&next.queue);
+        }
+    }
+}
+
+fn answered(outcome: Outcome) -> Registers {
+    registers(Answer::from(outcome))
+}
+
+fn replied(reply: Reply) -> (Registers, Work) {
+    match reply {
+        Reply::Forward(error) => ([0; 3], [2, error]),
+        Reply::Back { answer, reprogram } => (
+            registers(answer),
+            reprogram.map_or([0, 0], |mecid| [1, mecid]),
+        ),
+    }
+}
+
+fn boot(
+    state: &mut RecordImage,
+    step: impl FnOnce(Record) -> (Record, Result<(), BootError>),
+) -> i32 {
+    let (next, answer) = step(record_of(state));
+    *state = record_words(next);
+    boot_code(answer)
+}
+
+/// A step of the queue. The whole image is written, but only if the step is accepted.
+fn on_queue(image: &mut QueueImage, step: impl FnOnce(&mut Queue) -> Outcome) -> Registers {
+    let mut queue = queue_of(image);
+    let outcome = step(&mut queue);
+    if outcome.is_ok() {
+        *image = queue_words(&queue);
+    }
+    answered(outcome)
+}
+
+fn token_call([pa, size, c_size]: [u64; 3]) -> TokenCall {
+    TokenCall { pa, size, c_size }
+}
+
+fn native<'a>(lent: &'a mut Lent) -> runtime::Lent<'a> {
+    runtime::Lent {
+        page: lent.page,
+        table: lent.table,
+        start: lent.start,
+        realm_key: lent.key,
+        public_key: lent.public_key,
+        token: lent.token,
+        busy: lent.busy != 0,
+        width: lent.width,
+    }
+}
+
+/// Where a part of the page stands in it.
+fn place_in(page: &[u8], part: &[u8]) -> Place {
+    if part.is_empty() {
+        return [0; 2];
+    }
+    let offset = part.as_ptr() as usize - page.as_ptr() as usize;
+    [offset as u64, part.len() as u64]
+}

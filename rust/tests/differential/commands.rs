@@ -1,0 +1,363 @@
+//! Sequences of commands in scenes. The images go from step to step; now and then one is forged in between.
+
+use crate::calls;
+use crate::memory::Images;
+use crate::pair::Pair;
+use potterbeam_tests::exports::{Exports, Lent};
+use potterbeam_tests::images::{
+    queue_of, queue_words, record_of, record_words, session_of, session_words,
+};
+use potterbeam_tests::random::calls::Scene;
+use potterbeam_tests::reference::runtime::{
+    Call, DELEGATE, FEATURES, KEY_UPDATE, PLAT_TOKEN, REALM_KEY, REQ_COMPLETE, TOKEN_SIGN,
+    UNDELEGATE,
+};
+
+/// Steps of a scene.
+const STEPS: usize = 40;
+
+/// One kind of step.
+type Step = fn(&mut Pair, &mut Scene);
+
+/// Runs scenes of these steps until each export was called often enough.
+fn run(pair: &mut Pair, steps: &[Step], names: &[&str]) {
+    while names.iter().any(|name| pair.calls(name) < calls()) {
+        let mut scene = pair.random.scene();
+        pair.load(|random, m| {
+            m.table.load(&scene.table, random.index(8));
+            m.images.record.words = random.record_image();
+            m.images.session.words = random.session_image(scene.token.len() as u64);
+            m.images.queue.words = random.queue_image();
+            scene.state.record = record_of(&m.images.record.words);
+        });
+        for _ in 0..STEPS {
+            change(pair, &mut scene);
+            let step = pair.random.pick(steps);
+            step(pair, &mut scene);
+            scene.state.session = session_of(&pair.model.images.session.words);
+        }
+    }
+    pair.print_counts();
+}
+
+/// What may happen between two steps.
+fn change(pair: &mut Pair, scene: &mut Scene) {
+    pair.random.change_lent(scene);
+    pair.load(|random, m| {
+        let images = &mut m.images;
+        if scene.state.record != record_of(&images.record.words) {
+            images.record.words = record_words(scene.state.record);
+        }
+        match random.below(48) {
+            0 => images.record.words = random.record_image(),
+            1 => images.session.words = random.session_image(scene.token.len() as u64),
+            2 => images.queue.words = random.queue_image(),
+            _ => {}
+        }
+        scene.state.record = record_of(&images.record.words);
+        scene.state.session = session_of(&images.session.words);
+    });
+}
+
+/// The registers of a command, and the page with what it is to find there.
+fn registers(pair: &mut Pair, scene: &mut Scene, id: u64) -> [u64; 4] {
+    let x = pair.random.registers(id, scene);
+    load_page(pair, scene);
+    x
+}
+
+fn load_page(pair: &mut Pair, scene: &Scene) {
+    pair.load(|random, m| m.page.load(&scene.page, random.index(8)));
+}
+
+/// Busy or not, as a number.
+fn busy(pair: &mut Pair, scene: &Scene) -> u64 {
+    match scene.busy {
+        true => pair.random.pick(&[1, 2, 1 << 32, u64::MAX]),
+        false => 0,
+    }
+}
+
+/// Notes the code of a step that answers in registers, and takes over the page.
+fn note(pair: &mut Pair, scene: &mut Scene, name: &'static str, case: u64) {
+    let [x0, ..] = pair.model.images.out.words;
+    pair.meet(name, case, x0 as i64);
+    scene.page.copy_from_slice(pair.model.page.lent());
+}
+
+fn delegate(pair: &mut Pair, scene: &mut Scene) {
+    let (start, [at, ..]) = (scene.start, registers(pair, scene, DELEGATE));
+    check!(pair, "pb_delegate", (start, at), |S, m| {
+        let (images, table) = (&mut m.images, m.table.lent_mut());
+        S::delegate(
+            &images.record.words,
+            start,
+            table,
+            at,
+            &mut images.out.words,
+        );
+    });
+    note(pair, scene, "pb_delegate", 0);
+}
+
+fn undelegate(pair: &mut Pair, scene: &mut Scene) {
+    let (start, [at, ..]) = (scene.start, registers(pair, scene, UNDELEGATE));
+    check!(pair, "pb_undelegate", (start, at), |S, m| {
+        let (images, table) = (&mut m.images, m.table.lent_mut());
+        S::undelegate(
+            &images.record.words,
+            start,
+            table,
+            at,
+            &mut images.out.words,
+        );
+    });
+    note(pair, scene, "pb_undelegate", 0);
+}
+
+fn realm_key(pair: &mut Pair, scene: &mut Scene) {
+    let [pa, size, curve, _] = registers(pair, scene, REALM_KEY);
+    let (key, x) = (&scene.realm_key, [pa, size, curve]);
+    check!(pair, "pb_realm_key", (key, x), |S, m| {
+        let (images, page) = (&mut m.images, m.page.lent_mut());
+        S::realm_key(&images.record.words, page, key, x, &mut images.out.words);
+    });
+    note(pair, scene, "pb_realm_key", 0);
+}
+
+fn platform_token(pair: &mut Pair, scene: &mut Scene) {
+    let [pa, size, csize, _] = registers(pair, scene, PLAT_TOKEN);
+    let busy = busy(pair, scene);
+    let (token, x) = (&scene.token, [pa, size, csize]);
+    check!(pair, "pb_platform_token", (token, busy, x), |S, m| {
+        let page = m.page.lent_mut();
+        let Images {
+            record,
+            session,
+            out,
+            ..
+        } = &mut m.images;
+        let (session, out) = (&mut session.words, &mut out.words);
+        S::platform_token(&record.words, session, page, token, busy, x, out);
+    });
+    note(pair, scene, "pb_platform_token", 0);
+    note_forged_session(pair, "pb_platform_token");
+}
+
+fn challenge(pair: &mut Pair, scene: &mut Scene) {
+    let [pa, size, csize, _] = registers(pair, scene, PLAT_TOKEN);
+    let x = [pa, size, csize];
+    check!(pair, "pb_challenge", (x), |S, m| {
+        let images = &mut m.images;
+        let place = &mut images.place.words;
+        S::challenge(&images.record.words, m.page.lent(), x, place);
+    });
+    let [_, length] = pair.model.images.place.words;
+    pair.meet("pb_challenge", 0, length as i64);
+}
+
+fn features(pair: &mut Pair, scene: &mut Scene) {
+    let [index, ..] = registers(pair, scene, FEATURES);
+    check!(pair, "pb_features", (index), |S, m| {
+        let images = &mut m.images;
+        S::features(&images.record.words, index, &mut images.out.words);
+    });
+    note(pair, scene, "pb_features", 0);
+}
+
+fn token_signing(pair: &mut Pair, scene: &mut Scene) {
+    let x = registers(pair, scene, TOKEN_SIGN);
+    let key = &scene.public_key;
+    check!(pair, "pb_token_signing", (key, x), |S, m| {
+        let page = m.page.lent_mut();
+        let Images {
+            record, queue, out, ..
+        } = &mut m.images;
+        let (queue, out) = (&mut queue.words, &mut out.words);
+        S::token_signing(&record.words, queue, page, key, x, out);
+    });
+    note(pair, scene, "pb_token_signing", x[0].min(4));
+    note_forged_queue(pair, "pb_token_signing");
+}
+
+fn key_update(pair: &mut Pair, scene: &mut Scene) {
+    let (width, [mecid, ..]) = (scene.width, registers(pair, scene, KEY_UPDATE));
+    check!(pair, "pb_key_update", (width, mecid), |S, m| {
+        let Images {
+            record, out, work, ..
+        } = &mut m.images;
+        S::key_update(&record.words, width, mecid, &mut out.words, &mut work.words);
+    });
+    note(pair, scene, "pb_key_update", 0);
+}
+
+fn forward(pair: &mut Pair, scene: &mut Scene) {
+    let [x1, ..] = registers(pair, scene, REQ_COMPLETE);
+    check!(pair, "pb_forward", (x1), |S, m| {
+        m.returned = S::forward(&m.images.record.words, x1) as i64;
+    });
+    pair.meet("pb_forward", 0, i64::from(pair.model.returned != 0));
+}
+
+fn sign(pair: &mut Pair, _: &mut Scene) {
+    let signature = pair.random.signature();
+    check!(pair, "pb_sign", (signature), |S, m| {
+        let images = &mut m.images;
+        S::sign(&mut images.queue.words, &signature, &mut images.out.words);
+    });
+    let [x0, ..] = pair.model.images.out.words;
+    pair.meet("pb_sign", 0, x0 as i64);
+    note_forged_queue(pair, "pb_sign");
+}
+
+fn oldest(pair: &mut Pair, _: &mut Scene) {
+    check!(pair, "pb_oldest", (), |S, m| {
+        let images = &mut m.images;
+        m.returned = S::oldest(&images.queue.words, &mut images.request.words) as i64;
+    });
+    pair.meet("pb_oldest", 0, pair.model.returned);
+}
+
+fn call(pair: &mut Pair, scene: &mut Scene) {
+    let Call { id, x } = pair.random.call(scene);
+    load_page(pair, scene);
+    let (busy, [x1, x2, x3, x4]) = (busy(pair, scene), x);
+    let x = [id, x1, x2, x3, x4];
+    check!(pair, "pb_call", (scene, busy, x), |S, m| {
+        let mut lent = Lent {
+            page: m.page.lent_mut(),
+            start: scene.start,
+            table: m.table.lent_mut(),
+            key: &scene.realm_key,
+            token: &scene.token,
+            busy,
+            public_key: &scene.public_key,
+            width: scene.width,
+        };
+        let images = &mut m.images;
+        let (session, queue) = (&mut images.session.words, &mut images.queue.words);
+        let (out, work) = (&mut images.out.words, &mut images.work.words);
+        S::call(
+            &images.record.words,
+            session,
+            queue,
+            &mut lent,
+            &x,
+            out,
+            work,
+        );
+    });
+    let listed = (DELEGATE..=KEY_UPDATE).contains(&id) || id == REQ_COMPLETE;
+    note(pair, scene, "pb_call", if listed { id } else { 0 });
+    match id {
+        PLAT_TOKEN => note_forged_session(pair, "pb_call"),
+        TOKEN_SIGN => note_forged_queue(pair, "pb_call"),
+        _ => {}
+    }
+}
+
+/// In place of an opcode or id: the session, or the queue, was an image that no state has. The answer noted is whether the call was
+/// accepted.
+const FORGED_SESSION: u64 = u64::MAX;
+const FORGED_QUEUE: u64 = u64::MAX - 1;
+
+fn note_forged_session(pair: &mut Pair, name: &'static str) {
+    let session = &pair.before.images.session.words;
+    if session_words(session_of(session)) != *session {
+        pair.meet(name, FORGED_SESSION, accepted(pair));
+    }
+}
+
+fn note_forged_queue(pair: &mut Pair, name: &'static str) {
+    let queue = &pair.before.images.queue.words;
+    if queue_words(&queue_of(queue)) != *queue {
+        pair.meet(name, FORGED_QUEUE, accepted(pair));
+    }
+}
+
+fn accepted(pair: &Pair) -> i64 {
+    i64::from(pair.model.images.out.words[0] == 0)
+}
+
+#[test]
+fn token_sessions() {
+    let mut pair = Pair::new(24);
+    let token: Step = platform_token;
+    let names = ["pb_platform_token", "pb_challenge"];
+    run(&mut pair, &[token, token, token, challenge], &names);
+    pair.expect(&[
+        ("pb_platform_token", 0, &[0, -1, -2, -5, -6]),
+        ("pb_platform_token", FORGED_SESSION, &[0, 1]),
+        ("pb_challenge", 0, &[0, 32, 48, 64]),
+    ]);
+}
+
+#[test]
+fn signing_queues() {
+    let mut pair = Pair::new(25);
+    let signing: Step = token_signing;
+    let names = ["pb_token_signing", "pb_sign", "pb_oldest"];
+    run(
+        &mut pair,
+        &[signing, signing, signing, sign, oldest],
+        &names,
+    );
+    pair.expect(&[
+        ("pb_token_signing", 0, &[-1, -5]),
+        ("pb_token_signing", 1, &[0, -1, -5, -6]),
+        ("pb_token_signing", 2, &[0, -1, -5, -6]),
+        ("pb_token_signing", 3, &[0, -1, -5, -6]),
+        ("pb_token_signing", 4, &[-1, -5]),
+        ("pb_token_signing", FORGED_QUEUE, &[0, 1]),
+        ("pb_sign", 0, &[0, -5, -6]),
+        ("pb_sign", FORGED_QUEUE, &[0, 1]),
+        ("pb_oldest", 0, &[0, 1, 2, 3, 4, 5, 6, 7, 8]),
+    ]);
+}
+
+#[test]
+fn single_commands() {
+    let mut pair = Pair::new(26);
+    let steps: [Step; 6] = [
+        delegate, undelegate, realm_key, features, key_update, forward,
+    ];
+    let names = [
+        "pb_delegate",
+        "pb_undelegate",
+        "pb_realm_key",
+        "pb_features",
+        "pb_key_update",
+        "pb_forward",
+    ];
+    run(&mut pair, &steps, &names);
+    pair.expect(&[
+        ("pb_delegate", 0, &[0, -1, -2, -3]),
+        ("pb_undelegate", 0, &[0, -1, -2, -3]),
+        ("pb_realm_key", 0, &[0, -1, -2, -5]),
+        ("pb_features", 0, &[0, -1, -5]),
+        ("pb_key_update", 0, &[0, -1, -5]),
+        ("pb_forward", 0, &[0, 1]),
+    ]);
+}
+
+#[test]
+fn calls_by_id() {
+    let mut pair = Pair::new(27);
+    let by_id: Step = call;
+    // Without the signer no queue would have a response.
+    run(&mut pair, &[by_id, by_id, by_id, sign], &["pb_call"]);
+    pair.met.retain(|&(name, ..), _| name == "pb_call");
+    pair.expect(&[
+        ("pb_call", 0, &[-1]),
+        ("pb_call", REQ_COMPLETE, &[0]),
+        ("pb_call", DELEGATE, &[0, -1, -2, -3]),
+        ("pb_call", UNDELEGATE, &[0, -1, -2, -3]),
+        ("pb_call", REALM_KEY, &[0, -1, -2, -5]),
+        ("pb_call", PLAT_TOKEN, &[0, -1, -2, -5, -6]),
+        ("pb_call", FEATURES, &[0, -1, -5]),
+        ("pb_call", TOKEN_SIGN, &[0, -1, -5, -6]),
+        ("pb_call", KEY_UPDATE, &[0, -1, -5]),
+        ("pb_call", FORGED_SESSION, &[0, 1]),
+        ("pb_call", FORGED_QUEUE, &[0, 1]),
+    ]);
+}

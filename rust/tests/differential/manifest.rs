@@ -1,0 +1,114 @@
+//! Reader, lookups and writer.
+
+use crate::calls;
+use crate::memory::Image;
+use crate::pair::Pair;
+use potterbeam_tests::exports::Exports;
+use potterbeam_tests::random::pages::Reading;
+
+#[test]
+fn reader_and_lookups() {
+    let mut pair = Pair::new(21);
+    for _ in 0..10 * calls() {
+        let reading = pair.random.any_page();
+        read(&mut pair, &reading);
+        if pair.random.one_in(8) {
+            array(&mut pair, &reading);
+        }
+        if pair.random.one_in(3) {
+            look(&mut pair);
+        }
+    }
+    pair.print_counts();
+    // Of a lookup the answer noted is whether there was anything.
+    pair.expect(&[
+        ("pb_read", 0, &[0, -5, -6, -7]),
+        ("pb_array", 0, &[0, 1]),
+        ("pb_array_of", 0, &[0, 1]),
+        ("pb_count", 0, &[0, 1]),
+        ("pb_word", 0, &[0, 1]),
+    ]);
+}
+
+fn read(pair: &mut Pair, reading: &Reading) {
+    let &Reading { base, edition, .. } = reading;
+    pair.load(|random, m| {
+        m.page.load(&reading.page, random.index(8));
+        m.images.view = Image::default();
+    });
+    check!(pair, "pb_read", (base, edition), |S, m| {
+        m.returned = S::read(m.page.lent(), base, edition, &mut m.images.view.words).into();
+    });
+    pair.meet("pb_read", 0, pair.model.returned);
+}
+
+/// Mostly one of the four.
+fn section(pair: &mut Pair) -> usize {
+    match pair.random.below(16) {
+        0 => pair.random.edge() as usize,
+        1 => 4,
+        _ => pair.random.index(4),
+    }
+}
+
+fn array(pair: &mut Pair, reading: &Reading) {
+    let &Reading { base, edition, .. } = reading;
+    let section = section(pair);
+    check!(pair, "pb_array", (base, edition, section), |S, m| {
+        let place = &mut m.images.place.words;
+        S::array(m.page.lent(), base, edition, section, place);
+    });
+    meet_place(pair, "pb_array");
+}
+
+/// The lookups in a view: the one that was read, or a forged one.
+fn look(pair: &mut Pair) {
+    if pair.random.one_in(3) {
+        pair.load(|random, m| random.forge_view(&mut m.images.view.words));
+    }
+    let section = section(pair);
+    check!(pair, "pb_array_of", (section), |S, m| {
+        let view = &m.images.view.words;
+        S::array_of(m.page.lent(), view, section, &mut m.images.place.words);
+    });
+    meet_place(pair, "pb_array_of");
+    check!(pair, "pb_count", (section), |S, m| {
+        m.returned = S::count(m.page.lent(), &m.images.view.words, section) as i64;
+    });
+    let count = pair.model.returned;
+    pair.meet("pb_count", 0, i64::from(count != 0));
+    let entry = match pair.random.below(8) {
+        0 => pair.random.edge() as usize,
+        1 => count as usize,
+        _ => pair.random.below(count as u64 + 1) as usize,
+    };
+    let word = match pair.random.below(8) {
+        0 => pair.random.edge() as usize,
+        _ => pair.random.index(7),
+    };
+    check!(pair, "pb_word", (section, entry, word), |S, m| {
+        m.returned = S::word(m.page.lent(), &m.images.view.words, section, entry, word) as i64;
+    });
+    pair.meet("pb_word", 0, i64::from(pair.model.returned != 0));
+}
+
+fn meet_place(pair: &mut Pair, name: &'static str) {
+    let [_, length] = pair.model.images.place.words;
+    pair.meet(name, 0, i64::from(length != 0));
+}
+
+#[test]
+fn writer() {
+    let mut pair = Pair::new(22);
+    for _ in 0..calls() {
+        let writing = pair.random.any_writing();
+        let (base, edition, lists) = (writing.base, writing.edition, writing.lists());
+        pair.load(|random, m| m.page.load(&writing.page, random.index(8)));
+        check!(pair, "pb_write", (base, edition, lists), |S, m| {
+            m.returned = S::write(base, edition, lists, m.page.lent_mut()).into();
+        });
+        pair.meet("pb_write", 0, pair.model.returned);
+    }
+    pair.print_counts();
+    pair.expect(&[("pb_write", 0, &[0, 1, 2, 3, 4, 5])]);
+}

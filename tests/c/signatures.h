@@ -1,0 +1,40 @@
+/* Every function of the header with its type, written out once more: a changed type or a lost declaration does not compile.
+ * Included by header.c and header.cc. */
+#ifndef SIGNATURES_H
+#define SIGNATURES_H
+
+typedef const uint8_t *bytes;
+typedef const uint64_t *words;
+
+struct signatures {
+    int32_t (*read)(bytes, size_t, uint64_t, uint64_t, uint64_t *);
+    void (*array)(bytes, size_t, uint64_t, uint64_t, size_t, uint64_t *);
+    void (*array_of)(bytes, size_t, words, size_t, uint64_t *);
+    size_t (*count)(bytes, size_t, words, size_t);
+    uint64_t (*word)(bytes, size_t, words, size_t, size_t, size_t);
+    uint32_t (*write)(uint64_t, uint64_t, words, size_t, words, size_t, words, size_t, words, size_t, uint8_t *, size_t);
+    int32_t (*cold_boot)(uint64_t *, uint64_t, uint64_t, uint64_t, uint64_t, uint64_t, bytes, size_t);
+    int32_t (*warm_boot)(uint64_t *, uint64_t, uint64_t, uint64_t, uint64_t);
+    void (*delegate)(words, uint64_t, uint8_t *, size_t, uint64_t, uint64_t *);
+    void (*undelegate)(words, uint64_t, uint8_t *, size_t, uint64_t, uint64_t *);
+    void (*realm_key)(words, uint8_t *, size_t, bytes, size_t, uint64_t, uint64_t, uint64_t, uint64_t *);
+    void (*platform_token)(words, uint64_t *, uint8_t *, size_t, bytes, size_t, uint64_t, uint64_t, uint64_t, uint64_t, uint64_t *);
+    void (*challenge)(words, bytes, size_t, uint64_t, uint64_t, uint64_t, uint64_t *);
+    void (*features)(words, uint64_t, uint64_t *);
+    void (*token_signing)(words, uint64_t *, uint8_t *, size_t, bytes, size_t, uint64_t, uint64_t, uint64_t, uint64_t, uint64_t *);
+    void (*key_update)(words, uint64_t, uint64_t, uint64_t *, uint64_t *);
+    uint64_t (*forward)(words, uint64_t);
+    void (*sign)(uint64_t *, bytes, size_t, uint64_t *);
+    size_t (*oldest)(words, uint64_t *);
+    void (*call)(words, uint64_t *, uint64_t *, uint8_t *, size_t, uint64_t, uint8_t *, size_t, bytes, size_t, bytes, size_t, uint64_t,
+                 bytes, size_t, uint64_t, words, uint64_t *, uint64_t *);
+};
+
+#define SIGNATURES                                                                                                              \
+    {                                                                                                                           \
+        pb_read, pb_array, pb_array_of, pb_count, pb_word, pb_write, pb_cold_boot, pb_warm_boot, pb_delegate, pb_undelegate,    \
+            pb_realm_key, pb_platform_token, pb_challenge, pb_features, pb_token_signing, pb_key_update, pb_forward, pb_sign,   \
+            pb_oldest, pb_call                                                                                                  \
+    }
+
+#endif
