@@ -644,7 +644,7 @@ static void check_request_layout(void)
     SAME(signing(state, queue, PB_OPCODE_PUSH, 80), PB_X0_OK);
     SAME(first[PB_REQUEST_WORDS + PB_REQUEST_WORD_GRANULE], get(page + HERE + PB_REQUEST_GRANULE, 8));
     guard(request);
-    SAME(pb_oldest(queue, request), 1);
+    SAME(pb_oldest(queue, request), 2);
     SAME(PB_REQUEST_WORDS, written(request));
     for (size_t i = 0; i < PB_REQUEST_WORDS; i++)
         SAME(request[i], first[i]);
