@@ -32,6 +32,15 @@ per-range zero = omega arith
 per-range (suc zero) = omega arith
 per-range (suc (suc k)) = omega arith
 
+-- bytes of c consoles, and of c banks or regions
+pub size-one : (c : ℕ) → size 1 c ≡ 48 * c
+unfolding size per
+size-one c = omega arith
+
+pub size-other : (k c : ℕ) → (k ≡ 1 → ⊥) → size k c ≡ 16 * c
+unfolding size
+size-other k c h = rw (per-other k h) (omega arith)
+
 -- ---- the room for c entries, by a division
 module _ (k c room : ℕ) where
   step : 0 < 8 * per k

@@ -5,8 +5,9 @@ ghost use Prim.Native.Nat.{_+_, _*_, _%_, _^_, _≤_};
 ghost use lib.ListN.{length};
 ghost use lib.Dec.{leb};
 ghost use Rattle.words.specs.Tests.{both};
-ghost use Rattle.entries.specs.Entry.{per, size, bankOk, consoleOk, entryRule};
-ghost use Rattle.entries.specs.Array.{wordsAt, entryAt, entriesAt, sumAt, soundOf};
+ghost use Rattle.entries.specs.Entry.{per, size, bankOk, consoleOk};
+ghost use Rattle.entries.specs.Array.{wordsAt, entriesAt, sumAt, soundOf};
+ghost use Rattle.entries.specs.Gathered.{noBits, bankClear, consoleClear};
 
 // The words in an entry of section k.
 pub fn entry_words(k: usize) -> usize
@@ -29,69 +30,117 @@ pub fn fits(k: usize, count: u64, room: u64) -> bool
     true
 }
 
-// The rule of a bank or a region.
-fn bank_ok(base: u64, size: u64) -> bool
-    ensures { λ r. ⌜ r ≡ bankOk base size ⌝ }
+// Bits of many entries, gathered with "or": the rule holds of each of them where these stay clear. So a loop over entries has no exit
+// before its end, and the compiler takes several entries at a time.
+pub struct Bits {
+    pub low: u64,
+    pub high: u64,
+    pub flags: u64,
+}
+
+impl Bits {
+    // Those of no entry.
+    pub fn none() -> Self
+        ensures { λ r. ⌜ r ≡ noBits ⌝ }
+    {
+        Bits {
+            low: 0,
+            high: 0,
+            flags: 0,
+        }
+    }
+}
+
+// The bits with those of one more bank or region. A size of 0 wraps, so it is too high.
+pub fn with_bank(bits: Bits, base: u64, size: u64) -> Bits
+    ensures { λ r. ⌜ bankClear r ≡ both (bankClear bits) (bankOk base size) ⌝ }
 {
-    if base % 4096 != 0 {
+    let span = std::num::wrapping_sub_u64(size, 1);
+    let last = std::num::wrapping_add_u64(base, span);
+    Bits {
+        low: bits.low | (base | size),
+        high: bits.high | (span | last),
+        flags: bits.flags,
+    }
+}
+
+// The bits with those of one more console, on a page of that minor. Its pages are counted: a product might not fit a word.
+pub fn with_console(bits: Bits, minor: u64, base: u64, pages: u64, flags: u64) -> Bits
+    ensures { λ r. ⌜ consoleClear minor r ≡ both (consoleClear minor bits) (consoleOk minor base pages flags) ⌝ }
+{
+    let span = std::num::wrapping_sub_u64(pages, 1);
+    let last = std::num::wrapping_add_u64(base / 4096, span);
+    Bits {
+        low: bits.low | base,
+        high: bits.high | (span | last),
+        flags: bits.flags | flags,
+    }
+}
+
+// Whether the bits of banks or regions are clear.
+pub fn banks_clear(bits: Bits) -> bool
+    ensures { λ r. ⌜ r ≡ bankClear bits ⌝ }
+{
+    if bits.low % 4096 != 0 {
         return false;
     }
-    if size % 4096 != 0 {
+    if 0x20_0000_0000_0000 <= bits.low {
         return false;
     }
-    if size == 0 {
-        return false;
-    }
-    if 0x10_0000_0000_0000 < base {
-        return false;
-    }
-    if 0x10_0000_0000_0000 - base < size {
+    if 0x10_0000_0000_0000 <= bits.high {
         return false;
     }
     true
 }
 
-// The rule of a console, on a page of that minor.
-fn console_ok(minor: u64, base: u64, pages: u64, flags: u64) -> bool
-    ensures { λ r. ⌜ r ≡ consoleOk minor base pages flags ⌝ }
+// Whether the bits of consoles on a page of that minor are.
+pub fn consoles_clear(bits: Bits, minor: u64) -> bool
+    ensures { λ r. ⌜ r ≡ consoleClear minor bits ⌝ }
 {
-    if base % 4096 != 0 {
+    if bits.low % 4096 != 0 {
         return false;
     }
-    if pages == 0 {
+    if 0x100_0000_0000 <= bits.high {
         return false;
     }
-    if 0x10_0000_0000_0000 < base {
-        return false;
-    }
-    if (0x10_0000_0000_0000 - base) / 4096 < pages {
-        return false;
-    }
-    if flags != 0 {
+    if bits.flags != 0 {
         return false;
     }
     true
 }
 
-// The rule of an entry of section k by its first, second and last word, on a page of that minor.
-pub fn entry_rule(minor: u64, k: usize, base: u64, second: u64, last: u64) -> bool
-    ensures { λ r. ⌜ r ≡ entryRule minor k base second last ⌝ }
+// The rule of each of count banks or regions at an offset; k is their section.
+fn banks_ok(page: &[u8], minor: u64, k: usize, at: usize, count: usize) -> bool
+    requires { ⌜ (k ≡ 1 → ⊥) × (at + 16 * count ≤ length (now page)) ⌝ }
+    ensures { λ r. ⌜ r ≡ entriesAt minor k at count (now (page .entry)) ⌝ }
 {
-    if k == 1 {
-        return console_ok(minor, base, second, last);
+    let mut bits = Bits::none();
+    let mut from = at;
+    for i in 0..count {
+        let end = from + 16;
+        let bank = &page[from..end];
+        bits = with_bank(bits, words::word_at(bank, 0), words::word_at(bank, 8));
+        from = end;
     }
-    bank_ok(base, second)
+    banks_clear(bits)
 }
 
-// The rule of the entry of section k at an offset.
-fn entry_ok(page: &[u8], minor: u64, k: usize, at: usize) -> bool
-    requires { ⌜ at + 8 * per k ≤ length (now page) ⌝ }
-    ensures { λ r. ⌜ r ≡ entryAt minor k at (now (page .entry)) ⌝ }
+// The rule of each of count consoles at an offset.
+fn consoles_ok(page: &[u8], minor: u64, at: usize, count: usize) -> bool
+    requires { ⌜ at + 48 * count ≤ length (now page) ⌝ }
+    ensures { λ r. ⌜ r ≡ entriesAt minor 1 at count (now (page .entry)) ⌝ }
 {
-    let base = words::word_at(page, at);
-    let second = words::word_at(page, at + 8);
-    let last = words::word_at(page, at + 8 * (entry_words(k) - 1));
-    entry_rule(minor, k, base, second, last)
+    let mut bits = Bits::none();
+    let mut from = at;
+    for i in 0..count {
+        let end = from + 48;
+        let console = &page[from..end];
+        let base = words::word_at(console, 0);
+        let pages = words::word_at(console, 8);
+        bits = with_console(bits, minor, base, pages, words::word_at(console, 40));
+        from = end;
+    }
+    consoles_clear(bits, minor)
 }
 
 // The rule of each of count entries of section k at an offset.
@@ -99,15 +148,10 @@ fn entries_ok(page: &[u8], minor: u64, k: usize, at: usize, count: usize) -> boo
     requires { ⌜ at + size k count ≤ length (now page) ⌝ }
     ensures { λ r. ⌜ r ≡ entriesAt minor k at count (now (page .entry)) ⌝ }
 {
-    let step = 8 * entry_words(k);
-    let mut from = at;
-    for i in 0..count {
-        if !entry_ok(page, minor, k, from) {
-            return false;
-        }
-        from += step;
+    if k == 1 {
+        return consoles_ok(page, minor, at, count);
     }
-    true
+    banks_ok(page, minor, k, at, count)
 }
 
 // The sum of n words from an offset on, modulo 2^64.
@@ -118,8 +162,10 @@ fn sum_words(page: &[u8], at: usize, n: usize) -> u64
     let mut sum: u64 = 0;
     let mut from = at;
     for i in 0..n {
-        sum = std::num::wrapping_add_u64(sum, words::word_at(page, from));
-        from += 8;
+        let end = from + 8;
+        let cell = &page[from..end];
+        sum = std::num::wrapping_add_u64(sum, words::word_at(cell, 0));
+        from = end;
     }
     sum
 }

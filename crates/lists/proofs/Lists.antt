@@ -1,6 +1,6 @@
 -- Laws of the checks of four lists. Assumes nothing.
 use Prim.Native.Nat.{ℕ, zero, suc, _+_, _-_, _*_, _/_, _%_, _≤_, _<_}
-use mathlib.Core.Path.{_≡_, refl}
+use mathlib.Core.Path.{_≡_, refl, sym, ap, _∙_}
 use mathlib.Core.Bool.{Bool, true, false}
 use mathlib.Core.List.{List, [], _∷_}
 use native.Mathlib.Numerals.{add-one}
@@ -14,40 +14,38 @@ use Rattle.words.proofs.Tests.{either-l, every-of, every-at, every-none, every-
 use Rattle.words.specs.Word.{joined}
 use Rattle.versions.specs.Edition.{secs, core}
 use Rattle.versions.proofs.Editions.{secs-most}
-use Rattle.entries.specs.Entry.{per, entryOk, entriesOk}
+use Rattle.entries.specs.Entry.{per, bankOk, consoleOk, entryRule, entryOk, entriesOk}
+use Rattle.entries.proofs.Entries.{per-other}
 use Rattle.lists.specs.Told.{four, toldBy, listOk, toldOk, noneLate, platBytes, used}
 use Rattle.lists.specs.Lengths.{sumTo, lateTo}
 
 -- ---- one list, entry by entry
--- where entry i of a list starts
-unfoldable pub start : ℕ → ℕ → ℕ
-start k i = per k * i
+pub told-none : (w k : ℕ) (ws : List ℕ) → entriesOk w k 0 ws ≡ true
+unfolding entriesOk
+told-none w k ws = every-none (λ i. entryOk w k ws (per k * i))
 
-pub start-none : (k : ℕ) → start k 0 ≡ 0
-unfolding start
-start-none k = omega arith
+told-step : (w k i : ℕ) (ws : List ℕ) → both (entriesOk w k i ws) (entryOk w k ws (per k * i)) ≡ entriesOk w k (i + 1) ws
+unfolding entriesOk every
+told-step w k i ws = rw add-one
 
-pub start-more : (k i : ℕ) → start k i + per k ≡ start k (i + 1)
-unfolding start
-start-more k i = rw (add-one, mul-suc) (omega arith)
+module _ (w i : ℕ) (ws : List ℕ) (r : Bool) where
+  pub told-bank : (k at : ℕ) → (k ≡ 1 → ⊥) → at ≡ 2 * i → r ≡ both (entriesOk w k i ws) (bankOk (getD ws at 0) (getD ws (at + 1) 0)) → r ≡ entriesOk w k (i + 1) ws
+  unfolding entryOk entryRule
+  told-bank k at n o e =
+      let f : entryOk w k ws (per k * i) ≡ bankOk (getD ws at 0) (getD ws (at + 1) 0) = rw (ne-eqb k 1 n, per-other k n, ← o) in
+      e ∙ ap (both (entriesOk w k i ws)) (sym f) ∙ told-step w k i ws
 
-pub start-room : (k i n : ℕ) → i < n / per k → start k i + per k ≤ n
-unfolding start
-start-room k i n h = omega (arith, mul-suc (per k) i, mul-le-mul-left (per k) h, div-add-mod n (per k))
+  pub told-console : (at : ℕ) → at ≡ 6 * i → r ≡ both (entriesOk w 1 i ws) (consoleOk w (getD ws at 0) (getD ws (at + 1) 0) (getD ws (at + 5) 0)) → r ≡ entriesOk w 1 (i + 1) ws
+  unfolding entryOk entryRule per
+  told-console at o e =
+      let f : entryOk w 1 ws (per 1 * i) ≡ consoleOk w (getD ws at 0) (getD ws (at + 1) 0) (getD ws (at + 5) 0) = rw (← o) in
+      e ∙ ap (both (entriesOk w 1 i ws)) (sym f) ∙ told-step w 1 i ws
+
+-- as many whole entries as the length says
+pub whole-room : (k n : ℕ) → per k * (n / per k) ≤ n
+whole-room k n = omega (arith, div-add-mod n (per k))
 
 module _ (w k : ℕ) (ws : List ℕ) where
-  pub told-none : entriesOk w k 0 ws ≡ true
-  unfolding entriesOk
-  told-none = every-none (λ i. entryOk w k ws (per k * i))
-
-  pub told-more : (i : ℕ) → entriesOk w k i ws ≡ true → entryOk w k ws (start k i) ≡ true → entriesOk w k (i + 1) ws ≡ true
-  unfolding entriesOk start
-  told-more i p q = every-more i (λ i. entryOk w k ws (per k * i)) p q
-
-  pub told-not : (n i : ℕ) → i < n → entryOk w k ws (start k i) ≡ false → entriesOk w k n ws ≡ false
-  unfolding entriesOk start
-  told-not n i h q = every-not n (λ i. entryOk w k ws (per k * i)) i h q
-
   pub list-part : (length ws % per k ≡ 0 → ⊥) → listOk w k ws ≡ false
   unfolding listOk both
   list-part h = rw (ne-eqb (length ws % per k) 0 h)

@@ -1,20 +1,40 @@
 // The writer's checks of what it is told: whole entries within their rules, none of a section after the edition, and room.
+use entries::Bits;
 use versions::Edition;
 ghost use mathlib.Core.Path.{_≡_};
-ghost use Prim.Native.Nat.{_+_, _≤_};
+ghost use Prim.Native.Nat.{_*_, _≤_};
 ghost use lib.ListN.{length};
 ghost use lib.Dec.{leb};
-ghost use Rattle.entries.specs.Entry.{per, entryOk};
+ghost use Rattle.entries.specs.Entry.{entriesOk};
 ghost use Rattle.lists.specs.Told.{toldBy, listOk, toldOk, noneLate, used};
 ghost use Rattle.lists.specs.Lengths.{sumTo, lateTo};
 
-// The rule of the entry of section k whose words start at a place of the list, for a page of that minor.
-fn entry_ok(words: &[u64], minor: u64, k: usize, at: usize) -> bool
-    requires { ⌜ at + per k ≤ length (now words) ⌝ }
-    ensures { λ r. ⌜ r ≡ entryOk minor k (now (words .entry)) at ⌝ }
+// The rule of each of count banks or regions of a list; k is their section.
+fn banks_ok(words: &[u64], minor: u64, k: usize, count: usize) -> bool
+    requires { ⌜ (k ≡ 1 → ⊥) × (2 * count ≤ length (now words)) ⌝ }
+    ensures { λ r. ⌜ r ≡ entriesOk minor k count (now (words .entry)) ⌝ }
 {
-    let last = at + (entries::entry_words(k) - 1);
-    entries::entry_rule(minor, k, words[at], words[at + 1], words[last])
+    let mut bits = Bits::none();
+    let mut at = 0;
+    for i in 0..count {
+        bits = entries::with_bank(bits, words[at], words[at + 1]);
+        at += 2;
+    }
+    entries::banks_clear(bits)
+}
+
+// The rule of each of count consoles of a list, for a page of that minor.
+fn consoles_ok(words: &[u64], minor: u64, count: usize) -> bool
+    requires { ⌜ 6 * count ≤ length (now words) ⌝ }
+    ensures { λ r. ⌜ r ≡ entriesOk minor 1 count (now (words .entry)) ⌝ }
+{
+    let mut bits = Bits::none();
+    let mut at = 0;
+    for i in 0..count {
+        bits = entries::with_console(bits, minor, words[at], words[at + 1], words[at + 5]);
+        at += 6;
+    }
+    entries::consoles_clear(bits, minor)
 }
 
 // Whether a list is whole entries of section k, each within its rule.
@@ -26,14 +46,10 @@ pub fn list_ok(words: &[u64], minor: u64, k: usize) -> bool
         return false;
     }
     let count = words.len() / step;
-    let mut at = 0;
-    for i in 0..count {
-        if !entry_ok(words, minor, k, at) {
-            return false;
-        }
-        at += step;
+    if k == 1 {
+        return consoles_ok(words, minor, count);
     }
-    true
+    banks_ok(words, minor, k, count)
 }
 
 // W3: whether all four lists are, also those of sections after the edition.

@@ -94,6 +94,11 @@ num-part w off n j s h =
     let m : j + i < n = omega arith in
     simp (getD-take, getD-drop) (ap (λ x. getD s x 0) (let e : off + (j + i) ≡ (off + j) + i = omega arith in e))))
 
+-- the same of the part of n bytes from an offset on, as code lends it
+pub num-lent : (w from n j off : ℕ) (s : List ℕ) → j + w ≤ n → off ≡ from + j → numAt w j (take (from + n - from) (drop from s)) ≡ numAt w off s
+unfolding part
+num-lent w from n j off s h e = rw (let z : from + n - from ≡ n = omega arith in z, e) (num-part w from n j s h)
+
 pub mul-suc-8 : (k : ℕ) → 8 * suc k ≡ 8 + 8 * k
 mul-suc-8 k = omega arith
 

@@ -11,8 +11,8 @@ pub struct Span {
     pub len: usize,
 }
 
-// The numbers of 1, 2 and 4 bytes at an offset within the slice. Each width is two of the one below it, so that one law
-// serves all; the compiler makes one load of them.
+// The numbers of 1, 4 and 8 bytes at an offset within the slice, each as one sum of its bytes: of that the compiler makes one load,
+// and it does so early enough to take several words of a loop at a time.
 fn byte(s: &[u8], at: usize) -> u64
     requires { ⌜ at < length (now s) ⌝ }
     ensures { λ r. ⌜ (r ≡ numAt 1 at (now (s .entry))) × (r < 0x100) ⌝ }
@@ -20,18 +20,28 @@ fn byte(s: &[u8], at: usize) -> u64
     s[at] as u64
 }
 
-fn pair(s: &[u8], at: usize) -> u64
-    requires { ⌜ at + 2 ≤ length (now s) ⌝ }
-    ensures { λ r. ⌜ (r ≡ numAt 2 at (now (s .entry))) × (r < 0x1_0000) ⌝ }
-{
-    byte(s, at) + byte(s, at + 1) * 0x100
-}
-
 fn quad(s: &[u8], at: usize) -> u64
     requires { ⌜ at + 4 ≤ length (now s) ⌝ }
     ensures { λ r. ⌜ (r ≡ numAt 4 at (now (s .entry))) × (r < 0x1_0000_0000) ⌝ }
 {
-    pair(s, at) + pair(s, at + 2) * 0x1_0000
+    byte(s, at)
+        + byte(s, at + 1) * 0x100
+        + byte(s, at + 2) * 0x1_0000
+        + byte(s, at + 3) * 0x100_0000
+}
+
+fn eight(s: &[u8], at: usize) -> u64
+    requires { ⌜ at + 8 ≤ length (now s) ⌝ }
+    ensures { λ r. ⌜ r ≡ numAt 8 at (now (s .entry)) ⌝ }
+{
+    byte(s, at)
+        + byte(s, at + 1) * 0x100
+        + byte(s, at + 2) * 0x1_0000
+        + byte(s, at + 3) * 0x100_0000
+        + byte(s, at + 4) * 0x1_0000_0000
+        + byte(s, at + 5) * 0x100_0000_0000
+        + byte(s, at + 6) * 0x1_0000_0000_0000
+        + byte(s, at + 7) * 0x100_0000_0000_0000
 }
 
 // The word at an offset of which at most 7 bytes are there.
@@ -58,7 +68,7 @@ pub fn word_at(s: &[u8], at: usize) -> u64
     if s.len() - at < 8 {
         return rest(s, at);
     }
-    quad(s, at) + quad(s, at + 4) * 0x1_0000_0000
+    eight(s, at)
 }
 
 // The half at an offset. A byte past the end counts as 0.

@@ -4,7 +4,8 @@ use Rattle.entries.specs.Array.{sumAt}
 use Rattle.entries.proofs.Entries.{sum-step}
 use Prim.Native.Nat.{_+_, _*_, _-_, _%_, _^_, _≤_}
 use borrow.Author.Needs.{needs}
-use mathlib.Core.Path.{_≡_, refl}
+use mathlib.Core.Path.{_≡_, refl, _∙_}
+use Rattle.words.proofs.Read.{num-lent}
 use native.Mathlib.Omega.{arith}
 use Rattle.entries.proofs.sum_words.Statement.{statement}
 use Rattle.entries.proofs.sum_words.Tie as tie
@@ -19,14 +20,23 @@ loop-holds : tie.Need-loop-holds Inv-loop μ-loop
 unfolding wordsOf sum
 loop-holds c = (search needs, search needs, refl)
 
+add-end : tie.Need-add-end Inv-loop μ-loop
+add-end c = search needs
+
+sub-cell : tie.Need-sub-cell Inv-loop μ-loop
+sub-cell c = search needs
+
+part-cell-start : tie.Need-part-cell-start Inv-loop μ-loop
+part-cell-start c = search needs
+
+part-cell-end : tie.Need-part-cell-end Inv-loop μ-loop
+part-cell-end c = search needs
+
 word-at-requires : tie.Need-word-at-requires Inv-loop μ-loop
 word-at-requires c κs = search needs
 
 wrapping-add-u64-requires : tie.Need-wrapping-add-u64-requires Inv-loop μ-loop
 wrapping-add-u64-requires c κs = search needs
-
-add-from : tie.Need-add-from Inv-loop μ-loop
-add-from c = search needs
 
 add-i : tie.Need-add-i Inv-loop μ-loop
 add-i c = search needs
@@ -35,7 +45,10 @@ loop-less : tie.Need-loop-less Inv-loop μ-loop
 loop-less c = search needs
 
 loop-again : tie.Need-loop-again Inv-loop μ-loop
-loop-again c = let l = c .before .before .before .loop in (search needs, search needs, sum-step _ _ _ _ _ _ _ _ (omega arith) (l .inv .1) (l .inv .2) (c .before .word-at .ensures) (c .wrapping-add-u64 .ensures))
+loop-again c =
+    let l = c .before .before .before .before .loop in
+    let p = c .before .before .before .before .before .before .args .page .now in
+    (search needs, search needs, sum-step _ _ (l .from) _ _ _ _ _ (omega arith) (l .inv .1) (l .inv .2) (c .before .word-at .ensures ∙ num-lent 8 (l .from) 8 0 (l .from) p (omega arith) (omega arith)) (c .wrapping-add-u64 .ensures))
 
 returns : tie.Need-returns Inv-loop μ-loop
 unfolding sumAt
@@ -48,9 +61,12 @@ sum-words-spec =
     Inv-loop
     μ-loop
     loop-holds
+    add-end
+    sub-cell
+    part-cell-start
+    part-cell-end
     word-at-requires
     wrapping-add-u64-requires
-    add-from
     add-i
     loop-less
     loop-again

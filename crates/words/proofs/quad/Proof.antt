@@ -1,17 +1,18 @@
-use Rattle.words.proofs.Read.{num-add}
 use native.Mathlib.Omega.{arith}
+use Rattle.words.proofs.Read.{num-add}
 use borrow.Author.Needs.{needs}
 use Rattle.words.proofs.quad.Statement.{statement}
 use Rattle.words.proofs.quad.Tie as tie
+use Rattle.words.proofs.byte.Reads as byte-reads
 
-pair-requires : tie.Need-pair-requires
-pair-requires c κs = search needs
+byte-requires : tie.Need-byte-requires
+byte-requires c κs = search needs
 
-add-pair : tie.Need-add-pair
-add-pair c = search needs
+add-byte : tie.Need-add-byte
+add-byte c = search needs
 
-pair-requires-2 : tie.Need-pair-requires-2
-pair-requires-2 c κs = search needs
+byte-requires-2 : tie.Need-byte-requires-2
+byte-requires-2 c κs = search needs
 
 mul-result : tie.Need-mul-result
 mul-result c = search needs
@@ -19,9 +20,50 @@ mul-result c = search needs
 add-result : tie.Need-add-result
 add-result c = search needs
 
+add-byte-2 : tie.Need-add-byte-2
+add-byte-2 c = search needs
+
+byte-requires-3 : tie.Need-byte-requires-3
+byte-requires-3 c κs = search needs
+
+mul-result-2 : tie.Need-mul-result-2
+mul-result-2 c = search needs
+
+add-result-2 : tie.Need-add-result-2
+add-result-2 c = search needs
+
+add-byte-3 : tie.Need-add-byte-3
+add-byte-3 c = search needs
+
+byte-requires-4 : tie.Need-byte-requires-4
+byte-requires-4 c κs = search needs
+
+mul-result-3 : tie.Need-mul-result-3
+mul-result-3 c = search needs
+
+add-result-3 : tie.Need-add-result-3
+add-result-3 c = search needs
+
 returns : tie.Need-returns
-returns c = let a = c .before .before .before .args in (omega (arith, num-add 2 2 (a .at) (a .s .now)), search needs)
+returns c =
+    let a = c .before .before .before .before .before .args in
+    (omega (arith, num-add 1 1 (a .at) (a .s .now), num-add 2 1 (a .at) (a .s .now), num-add 3 1 (a .at) (a .s .now)), search needs)
 
 pub quad-spec : {M : Type 1} → statement M
 quad-spec =
-    tie.close (tie.spec pair-requires add-pair pair-requires-2 mul-result add-result returns)
+    tie.close
+    (tie.spec
+    byte-requires
+    add-byte
+    byte-requires-2
+    mul-result
+    add-result
+    add-byte-2
+    byte-requires-3
+    mul-result-2
+    add-result-2
+    add-byte-3
+    byte-requires-4
+    mul-result-3
+    add-result-3
+    returns)

@@ -1,5 +1,4 @@
-use Rattle.words.proofs.Read.{num-add, num-out}
-use native.Mathlib.Omega.{arith}
+use Rattle.words.proofs.Read.{num-out}
 use mathlib.Core.Path.{sym}
 use borrow.Author.Needs.{needs}
 use Rattle.words.proofs.word_at.Statement.{statement}
@@ -17,35 +16,12 @@ rest-requires c κs = search needs
 returns-2 : tie.Need-returns-2
 returns-2 c = c .rest .ensures
 
-quad-requires : tie.Need-quad-requires
-quad-requires c κs = search needs
-
-add-quad : tie.Need-add-quad
-add-quad c = search needs
-
-quad-requires-2 : tie.Need-quad-requires-2
-quad-requires-2 c κs = search needs
-
-mul-result : tie.Need-mul-result
-mul-result c = search needs
-
-add-result : tie.Need-add-result
-add-result c = search needs
+eight-requires : tie.Need-eight-requires
+eight-requires c κs = search needs
 
 returns-3 : tie.Need-returns-3
-returns-3 c = let a = c .before .before .before .before .before .args in omega (arith, num-add 4 4 (a .at) (a .s .now))
+returns-3 c = c .eight .ensures
 
 pub word-at-spec : {M : Type 1} → statement M
 word-at-spec =
-    tie.close
-    (tie.spec
-    returns
-    sub-if2
-    rest-requires
-    returns-2
-    quad-requires
-    add-quad
-    quad-requires-2
-    mul-result
-    add-result
-    returns-3)
+    tie.close (tie.spec returns sub-if2 rest-requires returns-2 eight-requires returns-3)

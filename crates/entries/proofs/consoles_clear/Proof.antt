@@ -1,0 +1,36 @@
+use Prim.Native.Nat.{_%_, _^_}
+use native.Mathlib.Omega.{arith}
+use borrow.Author.Tests.{eq-eqb, ne-eqb, lt-ltb, le-ltb}
+use Rattle.words.specs.Tests.{both}
+use Rattle.entries.specs.Entry.{flagsOk}
+use Rattle.entries.specs.Gathered.{consoleClear}
+use borrow.Author.Needs.{needs}
+use Rattle.entries.proofs.consoles_clear.Statement.{statement}
+use Rattle.entries.proofs.consoles_clear.Tie as tie
+
+returns : tie.Need-returns
+unfolding consoleClear flagsOk both
+returns c =
+    let b = c .before .before .args .bits in
+    simp (ne-eqb (b .low % 4096) 0 (search needs))
+
+returns-2 : tie.Need-returns-2
+unfolding consoleClear flagsOk both
+returns-2 c =
+    let b = c .before .before .before .before .args .bits in
+    simp (eq-eqb (b .low % 4096) 0 (search needs), le-ltb (b .high) (2 ^ 40) (omega arith))
+
+returns-3 : tie.Need-returns-3
+unfolding consoleClear flagsOk both
+returns-3 c =
+    let b = c .before .before .before .before .before .before .args .bits in
+    simp (eq-eqb (b .low % 4096) 0 (search needs), lt-ltb (b .high) (2 ^ 40) (omega arith), ne-eqb (b .flags) 0 (search needs))
+
+returns-4 : tie.Need-returns-4
+unfolding consoleClear flagsOk both
+returns-4 c =
+    let b = c .before .before .before .before .before .before .args .bits in
+    simp (eq-eqb (b .low % 4096) 0 (search needs), lt-ltb (b .high) (2 ^ 40) (omega arith), eq-eqb (b .flags) 0 (search needs))
+
+pub consoles-clear-spec : {M : Type 1} → statement M
+consoles-clear-spec = tie.close (tie.spec returns returns-2 returns-3 returns-4)

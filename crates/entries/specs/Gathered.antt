@@ -1,0 +1,18 @@
+-- Bits of many entries, gathered with "or". Assumes nothing.
+use Prim.Native.Nat.{ℕ, _%_, _^_}
+use mathlib.Core.Bool.{Bool}
+use lib.Dec.{ltb, eqb}
+use Rattle.words.specs.Tests.{both}
+use Rattle.entries.specs.Entry.{flagsOk}
+use Rattle.entries.specs.declared.Bits.{Bits}
+
+abbrev pub noBits : Bits
+noBits = record { low = 0; high = 0; flags = 0 }
+
+-- of banks and regions: low has base and size of each, high its size less 1 and its last byte's address
+unfoldable pub bankClear : Bits → Bool
+bankClear b = both (eqb (b .low % 4096) 0) (both (ltb (b .low) (2 ^ 53)) (ltb (b .high) (2 ^ 52)))
+
+-- of consoles: low has the base of each, high its pages less 1 and the number of its last page, flags its flags
+unfoldable pub consoleClear : ℕ → Bits → Bool
+consoleClear w b = both (eqb (b .low % 4096) 0) (both (ltb (b .high) (2 ^ 40)) (flagsOk w (b .flags)))
