@@ -129,6 +129,14 @@ sum-step page at off i m acc w r h o e f g =
     let k : w ≡ wordAt (at + 8 * i) page = rw o at f in
     rw (add-one, wordsOf-suc, sum-snoc, num-part 8 at m (8 * i) page (omega arith), ← k) (omega arith)
 
+-- two words more
+pub sum-two : (page : List ℕ) (at off i m acc x y t r : ℕ) → 16 * (i + 1) ≤ m → off ≡ at + 16 * i → acc ≡ sum (wordsOf (2 * i) (part at m page)) % 2 ^ 64 →
+    x ≡ wordAt off page → y ≡ wordAt (off + 8) page → t ≡ (x + y) % 2 ^ 64 → r ≡ (acc + t) % 2 ^ 64 → r ≡ sum (wordsOf (2 * (i + 1)) (part at m page)) % 2 ^ 64
+sum-two page at off i m acc x y t r h o e f g u v =
+    let one : (acc + x) % 2 ^ 64 ≡ sum (wordsOf (2 * i + 1) (part at m page)) % 2 ^ 64 = sum-step page at off (2 * i) m acc x ((acc + x) % 2 ^ 64) (omega arith) (omega arith) e f refl in
+    let two : r ≡ sum (wordsOf (2 * i + 1 + 1) (part at m page)) % 2 ^ 64 = sum-step page at (off + 8) (2 * i + 1) m ((acc + x) % 2 ^ 64) y r (omega arith) (omega arith) one g (omega arith) in
+    two ∙ ap (λ n. sum (wordsOf n (part at m page)) % 2 ^ 64) (let z : 2 * i + 1 + 1 ≡ 2 * (i + 1) = omega arith in z)
+
 -- the total of a section, added in three steps that wrap
 pub mod-left : (a b : ℕ) → (a % 2 ^ 64 + b) % 2 ^ 64 ≡ (a + b) % 2 ^ 64
 mod-left a b = omega arith

@@ -109,20 +109,47 @@ pub fn consoles_clear(bits: Bits, minor: u64) -> bool
     true
 }
 
-// The rule of each of count banks or regions at an offset; k is their section.
-fn banks_ok(page: &[u8], minor: u64, k: usize, at: usize, count: usize) -> bool
+// What entries were found to be: the sum of their words modulo 2^64, and whether the rule holds of each.
+struct Found {
+    sum: u64,
+    ok: bool,
+}
+
+// The sum of n words from an offset on, modulo 2^64.
+fn sum_words(page: &[u8], at: usize, n: usize) -> u64
+    requires { ⌜ at + 8 * n ≤ length (now page) ⌝ }
+    ensures { λ r. ⌜ r ≡ sumAt at n (now (page .entry)) % 2 ^ 64 ⌝ }
+{
+    let mut sum: u64 = 0;
+    let mut from = at;
+    for i in 0..n {
+        let end = from + 8;
+        let cell = &page[from..end];
+        sum = std::num::wrapping_add_u64(sum, words::word_at(cell, 0));
+        from = end;
+    }
+    sum
+}
+
+// Count banks or regions at an offset, added and judged in one loop; k is their section.
+fn find_banks(page: &[u8], minor: u64, k: usize, at: usize, count: usize) -> Found
     requires { ⌜ (k ≡ 1 → ⊥) × (at + 16 * count ≤ length (now page)) ⌝ }
-    ensures { λ r. ⌜ r ≡ entriesAt minor k at count (now (page .entry)) ⌝ }
+    ensures { λ r. ⌜ (r .sum ≡ sumAt at (2 * count) (now (page .entry)) % 2 ^ 64) × (r .ok ≡ entriesAt minor k at count (now (page .entry))) ⌝ }
 {
     let mut bits = Bits::none();
+    let mut sum: u64 = 0;
     let mut from = at;
     for i in 0..count {
         let end = from + 16;
         let bank = &page[from..end];
-        bits = with_bank(bits, words::word_at(bank, 0), words::word_at(bank, 8));
+        let base = words::word_at(bank, 0);
+        let size = words::word_at(bank, 8);
+        sum = std::num::wrapping_add_u64(sum, std::num::wrapping_add_u64(base, size));
+        bits = with_bank(bits, base, size);
         from = end;
     }
-    banks_clear(bits)
+    let ok = banks_clear(bits);
+    Found { sum, ok }
 }
 
 // The rule of each of count consoles at an offset.
@@ -143,31 +170,25 @@ fn consoles_ok(page: &[u8], minor: u64, at: usize, count: usize) -> bool
     consoles_clear(bits, minor)
 }
 
-// The rule of each of count entries of section k at an offset.
-fn entries_ok(page: &[u8], minor: u64, k: usize, at: usize, count: usize) -> bool
-    requires { ⌜ at + size k count ≤ length (now page) ⌝ }
-    ensures { λ r. ⌜ r ≡ entriesAt minor k at count (now (page .entry)) ⌝ }
+// Count consoles at an offset. Added by themselves: their words are too many to be judged in the same loop without loss.
+fn find_consoles(page: &[u8], minor: u64, at: usize, count: usize) -> Found
+    requires { ⌜ at + 48 * count ≤ length (now page) ⌝ }
+    ensures { λ r. ⌜ (r .sum ≡ sumAt at (6 * count) (now (page .entry)) % 2 ^ 64) × (r .ok ≡ entriesAt minor 1 at count (now (page .entry))) ⌝ }
 {
-    if k == 1 {
-        return consoles_ok(page, minor, at, count);
-    }
-    banks_ok(page, minor, k, at, count)
+    let sum = sum_words(page, at, 6 * count);
+    let ok = consoles_ok(page, minor, at, count);
+    Found { sum, ok }
 }
 
-// The sum of n words from an offset on, modulo 2^64.
-fn sum_words(page: &[u8], at: usize, n: usize) -> u64
-    requires { ⌜ at + 8 * n ≤ length (now page) ⌝ }
-    ensures { λ r. ⌜ r ≡ sumAt at n (now (page .entry)) % 2 ^ 64 ⌝ }
+// Count entries of section k at an offset.
+fn find(page: &[u8], minor: u64, k: usize, at: usize, count: usize) -> Found
+    requires { ⌜ at + size k count ≤ length (now page) ⌝ }
+    ensures { λ r. ⌜ (r .sum ≡ sumAt at (per k * count) (now (page .entry)) % 2 ^ 64) × (r .ok ≡ entriesAt minor k at count (now (page .entry))) ⌝ }
 {
-    let mut sum: u64 = 0;
-    let mut from = at;
-    for i in 0..n {
-        let end = from + 8;
-        let cell = &page[from..end];
-        sum = std::num::wrapping_add_u64(sum, words::word_at(cell, 0));
-        from = end;
+    if k == 1 {
+        return find_consoles(page, minor, at, count);
     }
-    sum
+    find_banks(page, minor, k, at, count)
 }
 
 // The part of a section's rule that no edition changes, where its array lies within the page.
@@ -189,13 +210,13 @@ fn is_sound(
     if pointer % 8 != 0 {
         return false;
     }
-    let n = entry_words(k) * (count as usize);
+    let found = find(page, minor, k, at, count as usize);
     let head = std::num::wrapping_add_u64(count, pointer);
-    let tail = std::num::wrapping_add_u64(sum_words(page, at, n), check);
+    let tail = std::num::wrapping_add_u64(found.sum, check);
     if std::num::wrapping_add_u64(head, tail) != 0 {
         return false;
     }
-    entries_ok(page, minor, k, at, count as usize)
+    found.ok
 }
 
 // The same for any offset and count: false where the array does not lie within the page.

@@ -1,29 +1,33 @@
--- Any image of words stands for a queue that fits: what it stands for comes back from the image that is written. Assumes nothing.
-use Prim.Native.Nat.{ℕ, zero, suc, _+_, _*_, _/_, _%_, _^_, _≤_, _<_}
+-- Any image of words stands for a queue that fits: what it stands for comes back from the image that is written. One more at the end of
+-- a side, and one less at its front, keep that it fits. The image of a queue that fits is 210 words. Assumes nothing.
+use Prim.Native.Nat.{ℕ, zero, suc, _+_, _-_, _*_, _/_, _%_, _^_, _≤_, _<_}
 use mathlib.Core.Path.{_≡_, refl, _∙_}
 use mathlib.Core.Bool.{Bool}
 use mathlib.Core.List.{List, [], _∷_, _++_, map}
+use native.Mathlib.Nat.{pow-suc}
 use native.Mathlib.Omega.{arith}
 use lib.Dec.{ltb, lit≤}
-use lib.ListN.{length, take, drop, getD, length-take, length-drop, length-map}
+use lib.ListN.{length, take, drop, getD, replicate, length-append, length-take, length-drop, length-map}
 use lib.Seq.{length-take-le}
-use borrow.Author.Tests.{ltb-true, lt-ltb, le-leb, eq-eqb}
+use borrow.Author.Tests.{ltb-true, leb-true, lt-ltb, le-leb, eq-eqb}
 use Rattle.words.specs.Tests.{Yes}
-use Rattle.words.specs.Word.{leBytes, bytesOf, areWords}
+use Rattle.words.specs.Word.{leOf, leBytes, part, numAt, wordsOf, bytesOf, areWords, splice}
 use Rattle.words.proofs.Tests.{both-l, both-r, both-of}
 use Rattle.words.proofs.Lists.{bytesOf-length, words-cons, words-append}
-use Rattle.queue.specs.Queue.{signedIn}
-use Rattle.queue_image.specs.Image.{rows, requestIn, heldIn, responseIn, listsIn, queueWords, each, areBytes, requestFits, responseFits, eightFit, fits}
-use Rattle.queue_image.proofs.Rows.{rows-length, mul-more}
+use Rattle.queue.specs.declared.Request.{Request}
+use Rattle.queue.specs.Queue.{Signed, Lists, signedIn}
+use Rattle.queue_image.specs.Image.{rows, requestIn, heldIn, responseIn, listsIn, requestWords, responseWords, flat, padded, queueWords, each, areBytes, requestFits, responseFits, eightFit, fits}
+use Rattle.queue_image.proofs.Rows.{rows-length, mul-more, flat-length, padded-length}
+use Rattle.queue_image.proofs.Sides.{request-wide, response-wide}
 use Rattle.queue_image.proofs.Inverse.{each-take, each-drop, queue-back}
 
 -- ---- the bytes of words are bytes
-each-append : {A : Type 0} (f : A → Bool) (xs ys : List A) → Yes (each f xs) → Yes (each f ys) → Yes (each f (xs ++ ys))
+pub each-append : {A : Type 0} (f : A → Bool) (xs ys : List A) → Yes (each f xs) → Yes (each f ys) → Yes (each f (xs ++ ys))
 unfolding each
 each-append f [] ys a b = b
 each-append f (x ∷ xs) ys a b = both-of _ _ (both-l _ _ a) (each-append f xs ys (both-r _ _ a) b)
 
-low-bytes : (n x : ℕ) → Yes (areBytes (leBytes n x))
+pub low-bytes : (n x : ℕ) → Yes (areBytes (leBytes n x))
 unfolding areBytes each leBytes
 low-bytes zero x = refl
 low-bytes (suc n) x = both-of _ _ (lt-ltb (x % 256) 256 (omega arith)) (low-bytes n (x / 256))
@@ -98,3 +102,90 @@ image-fits w l h =
 -- written again, any image stands for the same queue
 pub image-settles : (w : List ℕ) → length w ≡ 210 → Yes (areWords w) → listsIn (queueWords (listsIn w)) ≡ listsIn w
 image-settles w l h = queue-back (listsIn w) (image-fits w l h)
+
+-- ---- a side that fits, with one more at its end where fewer than eight wait, and without the one at its front
+module _ {A : Type 0} (f : A → Bool) (l : List A) (h : Yes (eightFit f l)) where
+  pub side-joins : (x : A) → length l < 8 → Yes (f x) → Yes (eightFit f (l ++ (x ∷ [])))
+  unfolding eightFit each
+  side-joins x n y = both-of _ _ (le-leb (length (l ++ (x ∷ []))) 8 (omega (arith, length-append l (x ∷ [])))) (each-append f l (x ∷ []) (both-r _ _ h) (both-of _ _ y refl))
+
+  pub side-rests : Yes (eightFit f (drop 1 l))
+  unfolding eightFit
+  side-rests = both-of _ _ (le-leb (length (drop 1 l)) 8 (omega (arith, length-drop 1 l, leb-true (length l) 8 (both-l _ _ h)))) (each-drop f 1 l (both-r _ _ h))
+
+-- ---- what is read from bytes and written to them: a part of bytes is bytes, bytes over bytes are, and a number of n bytes is below 256 ^ n
+pub part-bytes : (off n : ℕ) (s : List ℕ) → Yes (areBytes s) → Yes (areBytes (part off n s))
+unfolding part areBytes
+part-bytes off n s h = each-take _ n (drop off s) (each-drop _ off s h)
+
+pub splice-bytes : (off : ℕ) (vs s : List ℕ) → Yes (areBytes vs) → Yes (areBytes s) → Yes (areBytes (splice off vs s))
+unfolding splice areBytes
+splice-bytes off vs s a b = each-append _ (take off s ++ vs) (drop (off + length vs) s) (each-append _ (take off s) vs (each-take _ off s b) a) (each-drop _ (off + length vs) s b)
+
+number-below : (n : ℕ) (bs : List ℕ) → Yes (areBytes bs) → leOf (take n bs) < 256 ^ n
+unfolding areBytes each leOf
+number-below zero bs h = lit≤ tt
+number-below (suc n) [] h = let i = number-below n [] h in rw pow-suc (omega arith)
+number-below (suc n) (b ∷ bs) h =
+    let l : b < 256 = ltb-true b 256 (both-l _ _ h) in
+    let i = number-below n bs (both-r _ _ h) in
+    rw pow-suc (omega arith)
+
+pub num-below : (n off : ℕ) (s : List ℕ) → Yes (areBytes s) → numAt n off s < 256 ^ n
+unfolding numAt part areBytes
+num-below n off s h = number-below n (drop off s) (each-drop _ off s h)
+
+-- ---- the image of a queue that fits is 210 words
+zeros-words : (n : ℕ) → Yes (areWords (replicate n 0))
+unfolding areWords
+zeros-words zero = refl
+zeros-words (suc n) = both-of _ _ refl (zeros-words n)
+
+padded-words : (n : ℕ) (l : List ℕ) → Yes (areWords l) → Yes (areWords (padded n l))
+unfolding padded
+padded-words n l h = words-append l (replicate (n - length l) 0) h (zeros-words (n - length l))
+
+bytes-words : (n : ℕ) (bs : List ℕ) → Yes (areBytes bs) → Yes (areWords (wordsOf n bs))
+unfolding wordsOf areWords areBytes
+bytes-words zero bs a = refl
+bytes-words (suc n) bs a = both-of _ _ (lt-ltb (leOf (take 8 bs)) (2 ^ 64) (number-below 8 bs a)) (bytes-words n (drop 8 bs) (each-drop _ 8 bs a))
+
+request-words : (r : Request) → Yes (requestFits r) → Yes (areWords (requestWords r))
+unfolding requestWords requestFits
+request-words r h = words-append (r .algorithm ∷ r .granule ∷ r .ticket ∷ r .hashid ∷ []) (wordsOf 6 (r .hash)) (both-l _ _ h) (bytes-words 6 (r .hash) (both-r _ _ (both-r _ _ h)))
+
+response-words : (r : Signed) → Yes (responseFits r) → Yes (areWords (responseWords r))
+unfolding responseWords responseFits
+response-words r h =
+    let n : length (r .signature) ≤ 104 = leb-true _ _ (both-l _ _ (both-r _ _ h)) in
+    words-append (r .granule ∷ r .ticket ∷ []) (length (r .signature) ∷ wordsOf 13 (r .signature)) (both-l _ _ h)
+    (words-cons (length (r .signature)) (wordsOf 13 (r .signature)) (omega arith) (bytes-words 13 (r .signature) (both-r _ _ (both-r _ _ h))))
+
+module _ {A : Type 0} (g : A → List ℕ) (ok : A → Bool) (one : (x : A) → Yes (ok x) → Yes (areWords (g x))) where
+  flat-words : (l : List A) → Yes (each ok l) → Yes (areWords (flat g l))
+  unfolding flat each areWords
+  flat-words [] h = refl
+  flat-words (x ∷ l) h = words-append (g x) (flat g l) (one x (both-l _ _ h)) (flat-words l (both-r _ _ h))
+
+module _ (q : Lists) (h : Yes (fits q)) where
+  eights : (length (q .requests) ≤ 8) × (length (q .responses) ≤ 8)
+  unfolding fits eightFit
+  eights = (leb-true _ _ (both-l _ _ (both-l _ _ h)), leb-true _ _ (both-l _ _ (both-r _ _ h)))
+
+  pub queue-words : Yes (areWords (queueWords q))
+  unfolding queueWords fits eightFit
+  queue-words =
+      words-cons (length (q .requests)) _ (omega (arith, eights))
+      (words-cons (length (q .responses)) _ (omega (arith, eights))
+      (words-append (padded 80 (flat requestWords (q .requests))) (padded 128 (flat responseWords (q .responses)))
+      (padded-words 80 (flat requestWords (q .requests)) (flat-words requestWords requestFits request-words (q .requests) (both-r _ _ (both-l _ _ h))))
+      (padded-words 128 (flat responseWords (q .responses)) (flat-words responseWords responseFits response-words (q .responses) (both-r _ _ (both-r _ _ h))))))
+
+  pub queue-length : length (queueWords q) ≡ 210
+  unfolding queueWords
+  queue-length =
+      let a : List ℕ = flat requestWords (q .requests) in
+      let b : List ℕ = flat responseWords (q .responses) in
+      let p : length (padded 80 a) ≡ 80 = padded-length 80 a (omega (arith, eights, flat-length requestWords 10 request-wide (q .requests))) in
+      let r : length (padded 128 b) ≡ 128 = padded-length 128 b (omega (arith, eights, flat-length responseWords 16 response-wide (q .responses))) in
+      omega (arith, length-append (padded 80 a) (padded 128 b))

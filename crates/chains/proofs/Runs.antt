@@ -1,0 +1,126 @@
+-- Any sequence of exported calls, each on the images, the page and the table that the one before it left, is a sequence of the runtime's
+-- steps. Assumes nothing.
+use Prim.Native.Nat.{ℕ}
+use mathlib.Core.Path.{_≡_, refl, ap, _∙_}
+use mathlib.Core.Bool.{Bool}
+use mathlib.Core.List.{List, [], _∷_, _++_}
+use lib.Dec.{eqb}
+use lib.ListN.{length}
+use borrow.Author.Tests.{eqb-true, eq-eqb}
+use Rattle.words.specs.Tests.{Yes, both}
+use Rattle.words.specs.Word.{leBytes, areWords}
+use Rattle.words.proofs.Tests.{both-l, both-r, both-of}
+use Rattle.boot.specs.declared.Record.{Record}
+use Rattle.codes.specs.Codes.{upOf, whenUp}
+use Rattle.codes.specs.declared.Code.{Code}
+use Rattle.granules.specs.declared.Granules.{Granules}
+use Rattle.attest.specs.Key.{keyCode, keyed, realmKeyOf}
+use Rattle.token.specs.Token.{TokenStep, tokenCode, sendOf, keeps, settled, tokenOf}
+use Rattle.token.specs.declared.Session.{Session}
+use Rattle.queue.specs.Queue.{Signed, Lists, SigningStep, queued, oldestResponse}
+use Rattle.responses.specs.Pull.{responseBytes}
+use Rattle.signing.specs.Signing.{opcodeOf, opStep, signingCode, signingOf}
+use Rattle.signing.specs.declared.Opcode.{Opcode}
+use Rattle.signing.specs.declared.Opcode.the-variants.{Push, Pull, Key, Other}
+use Rattle.runtime.specs.declared.Kind.{Kind}
+use Rattle.runtime.specs.declared.Kind.the-variants.{ForwardError, Delegate, Undelegate, RealmKey, PlatformToken, Features, TokenSigning, KeyUpdate, Unlisted}
+use Rattle.runtime.specs.Step.{World, Call, Command, call, sign, kindOf, afterMove, afterKey, afterToken, afterSigning, afterUpdate, afterSign, callBy, callOf, stepOf}
+use Rattle.runtime.specs.Run.{worldAfter}
+use Rattle.images.specs.Image.{recordOf}
+use Rattle.queue_image.specs.Image.{listsIn, queueWords, each, areBytes, responseFits, eightFit, fits}
+use Rattle.queue_image.proofs.Fits.{image-fits, each-append, low-bytes, part-bytes, splice-bytes, queue-words, queue-length}
+use Rattle.chains.specs.Chain.{Lent, worldOf, lentAfter, allAfter, ofBytes}
+use Rattle.kit.specs.Kit.{queueAfter, signLeft, signIn, CallLeft, callLeft, callIn}
+use Rattle.chains.proofs.Chain.{kept, signed-fits, call-fits, sign-chain, call-chain}
+
+-- ---- a page of bytes stays one
+oldest-bytes : (l : List Signed) → Yes (each responseFits l) → Yes (areBytes (oldestResponse l .signature))
+unfolding oldestResponse each responseFits areBytes
+oldest-bytes [] h = refl
+oldest-bytes (r ∷ l) h = both-r _ _ (both-r _ _ (both-l _ _ h))
+
+response-bytes : (r : Signed) → Yes (areBytes (r .signature)) → Yes (areBytes (responseBytes r))
+unfolding responseBytes areBytes
+response-bytes r a =
+    let g : List ℕ = leBytes 8 (r .granule) in
+    let t : List ℕ = leBytes 8 (r .ticket) in
+    let n : List ℕ = leBytes 2 (length (r .signature)) in
+    each-append _ (g ++ t ++ n) (r .signature) (each-append _ (g ++ t) n (each-append _ g t (low-bytes 8 (r .granule)) (low-bytes 8 (r .ticket))) (low-bytes 2 (length (r .signature)))) a
+
+op-bytes : (o : Opcode) (at size : ℕ) (page : List ℕ) (q : Lists) (key : List ℕ) → Yes (areBytes page) → Yes (fits q) → Yes (areBytes key) → Yes (areBytes (opStep o at size page q key .page))
+unfolding opStep fits eightFit
+op-bytes Push at size page q key a f k = a
+op-bytes Pull at size page q key a f k = splice-bytes at (responseBytes (oldestResponse (q .responses))) page (response-bytes (oldestResponse (q .responses)) (oldest-bytes (q .responses) (both-r _ _ (both-r _ _ f)))) a
+op-bytes Key at size page q key a f k = splice-bytes at key page k a
+op-bytes Other at size page q key a f k = a
+
+signing-bytes : (r : Record) (page : List ℕ) (q : Lists) (key : List ℕ) (op pa size curve : ℕ) → Yes (areBytes page) → Yes (fits q) → Yes (areBytes key) → Yes (areBytes (signingOf r page q key op pa size curve .page))
+unfolding signingOf queued
+signing-bytes r page q key op pa size curve a f k = kept (λ (t : SigningStep). areBytes (t .page)) (whenUp r (signingCode (upOf r) page q key (opcodeOf op) pa size curve)) _ _ a (λ h. op-bytes (opcodeOf op) _ size page q key a f k)
+
+token-bytes : (r : Record) (page : List ℕ) (s : Session) (busy : Bool) (token : List ℕ) (pa size c : ℕ) → Yes (areBytes page) → Yes (areBytes token) → Yes (areBytes (tokenOf r page s busy token pa size c .page))
+unfolding tokenOf settled keeps sendOf
+token-bytes r page s busy token pa size c a t = kept (λ (x : TokenStep). areBytes (x .page)) (whenUp r (tokenCode (upOf r) page s busy token pa size c)) _ _ a (λ h. splice-bytes _ _ page (part-bytes _ _ token t) a)
+
+key-bytes : (r : Record) (page key : List ℕ) (pa size curve : ℕ) → Yes (areBytes page) → Yes (areBytes key) → Yes (areBytes (realmKeyOf r page key pa size curve .page))
+unfolding realmKeyOf keyed
+key-bytes r page key pa size curve a k = kept areBytes (whenUp r (keyCode (upOf r) page pa size curve key)) _ page a (λ h. splice-bytes _ key page k a)
+
+call-bytes : (k : Kind) (r : Record) (g : Granules) (w : World) (c : Call) → Yes (areBytes (w .page)) → Yes (fits (w .queue)) → Yes (ofBytes (call c)) → Yes (areBytes (callBy k r g w c .next .page))
+unfolding callBy afterMove afterKey afterToken afterSigning afterUpdate ofBytes
+call-bytes ForwardError r g w c a f b = a
+call-bytes Delegate r g w c a f b = a
+call-bytes Undelegate r g w c a f b = a
+call-bytes RealmKey r g w c a f b = key-bytes r (w .page) (c .realmKey) (c .x1) (c .x2) (c .x3) a (both-l _ _ b)
+call-bytes PlatformToken r g w c a f b = token-bytes r (w .page) (w .session) (c .busy) (c .token) (c .x1) (c .x2) (c .x3) a (both-l _ _ (both-r _ _ b))
+call-bytes Features r g w c a f b = a
+call-bytes TokenSigning r g w c a f b = signing-bytes r (w .page) (w .queue) (c .publicKey) (c .x1) (c .x2) (c .x3) (c .x4) a f (both-r _ _ (both-r _ _ b))
+call-bytes KeyUpdate r g w c a f b = a
+call-bytes Unlisted r g w c a f b = a
+
+-- ---- one command, and any sequence
+-- an image of 210 words stays one
+abbrev whole : List ℕ → Bool
+whole w = both (eqb (length w) 210) (areWords w)
+
+left-whole : (k : Code) (q : Lists) (image : List ℕ) → Yes (whole image) → Yes (fits q) → Yes (whole (queueAfter k q image))
+unfolding queueAfter
+left-whole k q image h f = kept whole k (queueWords q) image h (λ e. both-of _ _ (eq-eqb (length (queueWords q)) 210 (queue-length q f)) (queue-words q f))
+
+sound : Lent → Bool
+sound m = both (areBytes (m .page)) (whole (m .queue))
+
+module _ (state : List ℕ) (start : ℕ) where
+  module _ (m : Lent) (h : Yes (sound m)) where
+    page-bytes : Yes (areBytes (m .page))
+    unfolding sound
+    page-bytes = both-l _ _ h
+
+    queue-fits : Yes (fits (listsIn (m .queue)))
+    unfolding sound
+    queue-fits = image-fits (m .queue) (eqb-true _ _ (both-l _ _ (both-r _ _ h))) (both-r _ _ (both-r _ _ h))
+
+    step-sound : (c : Command) → Yes (ofBytes c) → Yes (sound (lentAfter state start m c))
+    unfolding sound lentAfter callIn callLeft signIn signLeft callOf ofBytes
+    step-sound (call c) b =
+        both-of _ _ (call-bytes (kindOf (c .id)) (recordOf state) (record { start = start }) (worldOf m) c page-bytes queue-fits b)
+        (left-whole _ _ (m .queue) (both-r _ _ h) (call-fits (kindOf (c .id)) (recordOf state) (record { start = start }) (worldOf m) c page-bytes queue-fits))
+    step-sound (sign s) b = both-of _ _ page-bytes (left-whole _ _ (m .queue) (both-r _ _ h) (signed-fits (listsIn (m .queue)) s b queue-fits))
+
+    step-chain : (c : Command) → Yes (ofBytes c) → worldOf (lentAfter state start m c) ≡ stepOf (recordOf state) (record { start = start }) (worldOf m) c .next
+    unfolding sound lentAfter stepOf afterSign ofBytes
+    step-chain (call c) b = call-chain state start (m .session) (m .queue) (m .page) (m .table) c (eqb-true _ _ (both-l _ _ (both-r _ _ h))) (both-r _ _ (both-r _ _ h)) page-bytes
+    step-chain (sign s) b = rw (sign-chain (m .queue) (eqb-true _ _ (both-l _ _ (both-r _ _ h))) (both-r _ _ (both-r _ _ h)) s b)
+
+  run-sound : (m : Lent) (cs : List Command) → Yes (sound m) → Yes (each ofBytes cs) → worldOf (allAfter state start m cs) ≡ worldAfter (recordOf state) (record { start = start }) (worldOf m) cs
+  unfolding allAfter worldAfter each
+  run-sound m [] h b = refl
+  run-sound m (c ∷ cs) h b =
+      run-sound (lentAfter state start m c) cs (step-sound m h c (both-l _ _ b)) (both-r _ _ b)
+      ∙ ap (λ (w : World). worldAfter (recordOf state) (record { start = start }) w cs) (step-chain m h c (both-l _ _ b))
+
+  -- from an image of 210 words and a page of bytes, with bytes lent to each
+  pub run-chain : (m : Lent) (cs : List Command) → length (m .queue) ≡ 210 → Yes (areWords (m .queue)) → Yes (areBytes (m .page)) → Yes (each ofBytes cs) →
+      worldOf (allAfter state start m cs) ≡ worldAfter (recordOf state) (record { start = start }) (worldOf m) cs
+  unfolding sound
+  run-chain m cs l w a b = run-sound m cs (both-of _ _ a (both-of _ _ (eq-eqb (length (m .queue)) 210 l) w)) b
