@@ -125,7 +125,7 @@ fn sum_words(page: &[u8], at: usize, n: usize) -> u64
     for i in 0..n {
         let end = from + 8;
         let cell = &page[from..end];
-        sum = std::num::wrapping_add_u64(sum, words::word_at(cell, 0));
+        sum = std::num::wrapping_add_u64(sum, words::whole_word(cell, 0));
         from = end;
     }
     sum
@@ -142,8 +142,8 @@ fn find_banks(page: &[u8], minor: u64, k: usize, at: usize, count: usize) -> Fou
     for i in 0..count {
         let end = from + 16;
         let bank = &page[from..end];
-        let base = words::word_at(bank, 0);
-        let size = words::word_at(bank, 8);
+        let base = words::whole_word(bank, 0);
+        let size = words::whole_word(bank, 8);
         sum = std::num::wrapping_add_u64(sum, std::num::wrapping_add_u64(base, size));
         bits = with_bank(bits, base, size);
         from = end;
@@ -162,9 +162,9 @@ fn consoles_ok(page: &[u8], minor: u64, at: usize, count: usize) -> bool
     for i in 0..count {
         let end = from + 48;
         let console = &page[from..end];
-        let base = words::word_at(console, 0);
-        let pages = words::word_at(console, 8);
-        bits = with_console(bits, minor, base, pages, words::word_at(console, 40));
+        let base = words::whole_word(console, 0);
+        let pages = words::whole_word(console, 8);
+        bits = with_console(bits, minor, base, pages, words::whole_word(console, 40));
         from = end;
     }
     consoles_clear(bits, minor)

@@ -7,8 +7,9 @@ use native.Mathlib.Numerals.{add-one}
 use native.Mathlib.Omega.{arith}
 use lib.Dec.{lit≤}
 use lib.ListN.{length, take, drop, getD, length-take, length-drop, drop-of-length-le}
-use lib.Seq.{take-nil, take-all, drop-cons, drop-drop, ext-getD, getD-take, getD-drop}
-use Rattle.words.specs.Word.{leOf, leBytes, part, numAt, wordAt, wordsOf}
+use lib.Seq.{length-take-le, take-nil, take-all, drop-cons, drop-drop, ext-getD, getD-take, getD-drop}
+use borrow.Author.Tests.{le-leb}
+use Rattle.words.specs.Word.{leOf, leBytes, part, numAt, wordAt, wholeWord, wordsOf}
 
 pub num-zero : (off : ℕ) (s : List ℕ) → numAt 0 off s ≡ 0
 unfolding numAt part leOf
@@ -94,10 +95,13 @@ num-part w off n j s h =
     let m : j + i < n = omega arith in
     simp (getD-take, getD-drop) (ap (λ x. getD s x 0) (let e : off + (j + i) ≡ (off + j) + i = omega arith in e))))
 
--- the same of the part of n bytes from an offset on, as code lends it
-pub num-lent : (w from n j off : ℕ) (s : List ℕ) → j + w ≤ n → off ≡ from + j → numAt w j (take (from + n - from) (drop from s)) ≡ numAt w off s
-unfolding part
-num-lent w from n j off s h e = rw (let z : from + n - from ≡ n = omega arith in z, e) (num-part w from n j s h)
+-- a whole word of the part of n bytes from an offset on, as code lends it
+pub word-lent : (from n j off : ℕ) (s : List ℕ) → from + n ≤ length s → j + 8 ≤ n → off ≡ from + j → wholeWord j (take (from + n - from) (drop from s)) ≡ wordAt off s
+unfolding wholeWord part
+word-lent from n j off s l h e =
+    let z : from + n - from ≡ n = omega arith in
+    let m : length (take n (drop from s)) ≡ n = length-take-le n (drop from s) (omega (arith, length-drop from s)) in
+    rw (z, le-leb (j + 8) (length (take n (drop from s))) (omega arith), e) (num-part 8 from n j s h)
 
 pub mul-suc-8 : (k : ℕ) → 8 * suc k ≡ 8 + 8 * k
 mul-suc-8 k = omega arith

@@ -3,7 +3,7 @@
 ghost use mathlib.Core.Path.{_≡_};
 ghost use Prim.Native.Nat.{_+_, _<_, _≤_};
 ghost use lib.ListN.{length, replicate};
-ghost use Rattle.words.specs.Word.{leBytes, numAt, wordAt, halfAt, bytesOf, splice, laid, spanAt, spanned};
+ghost use Rattle.words.specs.Word.{leBytes, numAt, wordAt, halfAt, wholeWord, bytesOf, splice, laid, spanAt, spanned};
 
 // Where a part of a slice begins, and how many bytes it has.
 pub struct Span {
@@ -11,37 +11,43 @@ pub struct Span {
     pub len: usize,
 }
 
-// The numbers of 1, 4 and 8 bytes at an offset within the slice, each as one sum of its bytes: of that the compiler makes one load,
-// and it does so early enough to take several words of a loop at a time.
+fn wide(x: u8) -> u64
+    ensures { λ r. ⌜ (r ≡ x) × (r < 0x100) ⌝ }
+{
+    x as u64
+}
+
+// The numbers of 1, 4 and 8 bytes at an offset within the slice. Four and eight are one sum of bytes read in place: of that the compiler
+// makes one load, early enough to take several words of a loop at a time.
 fn byte(s: &[u8], at: usize) -> u64
     requires { ⌜ at < length (now s) ⌝ }
     ensures { λ r. ⌜ (r ≡ numAt 1 at (now (s .entry))) × (r < 0x100) ⌝ }
 {
-    s[at] as u64
+    wide(s[at])
 }
 
 fn quad(s: &[u8], at: usize) -> u64
     requires { ⌜ at + 4 ≤ length (now s) ⌝ }
     ensures { λ r. ⌜ (r ≡ numAt 4 at (now (s .entry))) × (r < 0x1_0000_0000) ⌝ }
 {
-    byte(s, at)
-        + byte(s, at + 1) * 0x100
-        + byte(s, at + 2) * 0x1_0000
-        + byte(s, at + 3) * 0x100_0000
+    wide(s[at])
+        + wide(s[at + 1]) * 0x100
+        + wide(s[at + 2]) * 0x1_0000
+        + wide(s[at + 3]) * 0x100_0000
 }
 
 fn eight(s: &[u8], at: usize) -> u64
     requires { ⌜ at + 8 ≤ length (now s) ⌝ }
     ensures { λ r. ⌜ r ≡ numAt 8 at (now (s .entry)) ⌝ }
 {
-    byte(s, at)
-        + byte(s, at + 1) * 0x100
-        + byte(s, at + 2) * 0x1_0000
-        + byte(s, at + 3) * 0x100_0000
-        + byte(s, at + 4) * 0x1_0000_0000
-        + byte(s, at + 5) * 0x100_0000_0000
-        + byte(s, at + 6) * 0x1_0000_0000_0000
-        + byte(s, at + 7) * 0x100_0000_0000_0000
+    wide(s[at])
+        + wide(s[at + 1]) * 0x100
+        + wide(s[at + 2]) * 0x1_0000
+        + wide(s[at + 3]) * 0x100_0000
+        + wide(s[at + 4]) * 0x1_0000_0000
+        + wide(s[at + 5]) * 0x100_0000_0000
+        + wide(s[at + 6]) * 0x1_0000_0000_0000
+        + wide(s[at + 7]) * 0x100_0000_0000_0000
 }
 
 // The word at an offset of which at most 7 bytes are there.
@@ -67,6 +73,20 @@ pub fn word_at(s: &[u8], at: usize) -> u64
     }
     if s.len() - at < 8 {
         return rest(s, at);
+    }
+    eight(s, at)
+}
+
+// The word at an offset; 0 where it does not lie whole within the slice. Loops over entries read with this: it has no case for a part
+// of a word, which would keep the compiler from taking several at a time.
+pub fn whole_word(s: &[u8], at: usize) -> u64
+    ensures { λ r. ⌜ r ≡ wholeWord at (now (s .entry)) ⌝ }
+{
+    if s.len() < at {
+        return 0;
+    }
+    if s.len() - at < 8 {
+        return 0;
     }
     eight(s, at)
 }

@@ -2,7 +2,7 @@ use Prim.Native.Nat.{_+_, _*_, _-_, _≤_}
 use mathlib.Core.Path.{_≡_, sym, ap, _∙_}
 use native.Mathlib.Omega.{arith}
 use Rattle.words.specs.Tests.{both}
-use Rattle.words.proofs.Read.{num-lent}
+use Rattle.words.proofs.Read.{word-lent}
 use Rattle.entries.specs.Entry.{flagsOk, consoleOk}
 use Rattle.entries.specs.Array.{entriesAt}
 use Rattle.entries.specs.Gathered.{consoleClear}
@@ -43,14 +43,14 @@ part-console-start c = search needs
 part-console-end : tie.Need-part-console-end Inv-loop μ-loop
 part-console-end c = search needs
 
-word-at-requires : tie.Need-word-at-requires Inv-loop μ-loop
-word-at-requires c κs = search needs
+whole-word-requires : tie.Need-whole-word-requires Inv-loop μ-loop
+whole-word-requires c κs = search needs
 
-word-at-requires-2 : tie.Need-word-at-requires-2 Inv-loop μ-loop
-word-at-requires-2 c κs = search needs
+whole-word-requires-2 : tie.Need-whole-word-requires-2 Inv-loop μ-loop
+whole-word-requires-2 c κs = search needs
 
-word-at-requires-3 : tie.Need-word-at-requires-3 Inv-loop μ-loop
-word-at-requires-3 c κs = search needs
+whole-word-requires-3 : tie.Need-whole-word-requires-3 Inv-loop μ-loop
+whole-word-requires-3 c κs = search needs
 
 with-console-requires : tie.Need-with-console-requires Inv-loop μ-loop
 with-console-requires c κs = search needs
@@ -65,7 +65,7 @@ loop-again : tie.Need-loop-again Inv-loop μ-loop
 loop-again c =
     let a = c .before .before .before .before .before .before .before .before .before .args in
     let l = c .before .before .before .before .before .before .loop in
-    (search needs, search needs, console-step (a .minor) (a .at) (l .i) (a .page .now) _ _ _ _ (c .before .before .before .word-at .ensures ∙ num-lent 8 (l .from) 48 0 (a .at + 48 * l .i) (a .page .now) (omega arith) (omega arith)) (c .before .before .word-at2 .ensures ∙ num-lent 8 (l .from) 48 8 (a .at + 48 * l .i + 8) (a .page .now) (omega arith) (omega arith)) (c .before .word-at3 .ensures ∙ num-lent 8 (l .from) 48 40 (a .at + 48 * l .i + 40) (a .page .now) (omega arith) (omega arith)) (c .with-console .ensures ∙ ap (λ x. both x (consoleOk (a .minor) (c .before .before .before .word-at .result) (c .before .before .word-at2 .result) (c .before .word-at3 .result))) (l .inv .2)))
+    (search needs, search needs, console-step (a .minor) (a .at) (l .i) (a .page .now) _ _ _ _ (c .before .before .before .whole-word .ensures ∙ word-lent (l .from) 48 0 (a .at + 48 * l .i) (a .page .now) (omega arith) (omega arith) (omega arith)) (c .before .before .whole-word2 .ensures ∙ word-lent (l .from) 48 8 (a .at + 48 * l .i + 8) (a .page .now) (omega arith) (omega arith) (omega arith)) (c .before .whole-word3 .ensures ∙ word-lent (l .from) 48 40 (a .at + 48 * l .i + 40) (a .page .now) (omega arith) (omega arith) (omega arith)) (c .with-console .ensures ∙ ap (λ x. both x (consoleOk (a .minor) (c .before .before .before .whole-word .result) (c .before .before .whole-word2 .result) (c .before .whole-word3 .result))) (l .inv .2)))
 
 consoles-clear-requires : tie.Need-consoles-clear-requires Inv-loop μ-loop
 consoles-clear-requires c κs = search needs
@@ -89,9 +89,9 @@ consoles-ok-spec =
     sub-console
     part-console-start
     part-console-end
-    word-at-requires
-    word-at-requires-2
-    word-at-requires-3
+    whole-word-requires
+    whole-word-requires-2
+    whole-word-requires-3
     with-console-requires
     add-i
     loop-less

@@ -3,7 +3,7 @@ use mathlib.Core.Path.{_≡_, refl, sym, ap, _∙_}
 use native.Mathlib.Omega.{arith}
 use Rattle.words.specs.Tests.{both}
 use Rattle.words.specs.Word.{part, wordAt, wordsOf}
-use Rattle.words.proofs.Read.{num-lent}
+use Rattle.words.proofs.Read.{word-lent}
 use Rattle.entries.specs.Entry.{bankOk, sum}
 use Rattle.entries.specs.Array.{entriesAt, sumAt}
 use Rattle.entries.specs.Gathered.{bankClear}
@@ -45,11 +45,11 @@ part-bank-start c = search needs
 part-bank-end : tie.Need-part-bank-end Inv-loop μ-loop
 part-bank-end c = search needs
 
-word-at-requires : tie.Need-word-at-requires Inv-loop μ-loop
-word-at-requires c κs = search needs
+whole-word-requires : tie.Need-whole-word-requires Inv-loop μ-loop
+whole-word-requires c κs = search needs
 
-word-at-requires-2 : tie.Need-word-at-requires-2 Inv-loop μ-loop
-word-at-requires-2 c κs = search needs
+whole-word-requires-2 : tie.Need-whole-word-requires-2 Inv-loop μ-loop
+whole-word-requires-2 c κs = search needs
 
 wrapping-add-u64-requires : tie.Need-wrapping-add-u64-requires Inv-loop μ-loop
 wrapping-add-u64-requires c κs = search needs
@@ -70,9 +70,9 @@ loop-again : tie.Need-loop-again Inv-loop μ-loop
 loop-again c =
     let a = c .before .before .before .before .before .before .before .before .before .before .args in
     let l = c .before .before .before .before .before .before .before .loop in
-    let x : c .before .before .before .before .word-at .result ≡ wordAt (l .from) (a .page .now) = c .before .before .before .before .word-at .ensures ∙ num-lent 8 (l .from) 16 0 (l .from) (a .page .now) (omega arith) (omega arith) in
-    let y : c .before .before .before .word-at2 .result ≡ wordAt (l .from + 8) (a .page .now) = c .before .before .before .word-at2 .ensures ∙ num-lent 8 (l .from) 16 8 (l .from + 8) (a .page .now) (omega arith) (omega arith) in
-    (search needs, search needs, sum-two (a .page .now) (a .at) (l .from) (l .i) (8 * (2 * a .count)) (l .sum) _ _ _ _ (omega arith) (l .inv .1) (l .inv .2) x y (c .before .before .wrapping-add-u64 .ensures) (c .before .wrapping-add-u642 .ensures), bank-step (a .minor) (a .at) (l .i) (a .page .now) _ (a .k) _ _ (c .before .before .before .before .before .before .before .before .before .before .pre .0) (rw (l .inv .1) at x) (rw (l .inv .1) at y) (c .with-bank .ensures ∙ ap (λ z. both z (bankOk (c .before .before .before .before .word-at .result) (c .before .before .before .word-at2 .result))) (l .inv .3)))
+    let x : c .before .before .before .before .whole-word .result ≡ wordAt (l .from) (a .page .now) = c .before .before .before .before .whole-word .ensures ∙ word-lent (l .from) 16 0 (l .from) (a .page .now) (omega arith) (omega arith) (omega arith) in
+    let y : c .before .before .before .whole-word2 .result ≡ wordAt (l .from + 8) (a .page .now) = c .before .before .before .whole-word2 .ensures ∙ word-lent (l .from) 16 8 (l .from + 8) (a .page .now) (omega arith) (omega arith) (omega arith) in
+    (search needs, search needs, sum-two (a .page .now) (a .at) (l .from) (l .i) (8 * (2 * a .count)) (l .sum) _ _ _ _ (omega arith) (l .inv .1) (l .inv .2) x y (c .before .before .wrapping-add-u64 .ensures) (c .before .wrapping-add-u642 .ensures), bank-step (a .minor) (a .at) (l .i) (a .page .now) _ (a .k) _ _ (c .before .before .before .before .before .before .before .before .before .before .pre .0) (rw (l .inv .1) at x) (rw (l .inv .1) at y) (c .with-bank .ensures ∙ ap (λ z. both z (bankOk (c .before .before .before .before .whole-word .result) (c .before .before .before .whole-word2 .result))) (l .inv .3)))
 
 banks-clear-requires : tie.Need-banks-clear-requires Inv-loop μ-loop
 banks-clear-requires c κs = search needs
@@ -97,8 +97,8 @@ find-banks-spec =
     sub-bank
     part-bank-start
     part-bank-end
-    word-at-requires
-    word-at-requires-2
+    whole-word-requires
+    whole-word-requires-2
     wrapping-add-u64-requires
     wrapping-add-u64-requires-2
     with-bank-requires

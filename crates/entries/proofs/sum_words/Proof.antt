@@ -5,7 +5,7 @@ use Rattle.entries.proofs.Entries.{sum-step}
 use Prim.Native.Nat.{_+_, _*_, _-_, _%_, _^_, _≤_}
 use borrow.Author.Needs.{needs}
 use mathlib.Core.Path.{_≡_, refl, _∙_}
-use Rattle.words.proofs.Read.{num-lent}
+use Rattle.words.proofs.Read.{word-lent}
 use native.Mathlib.Omega.{arith}
 use Rattle.entries.proofs.sum_words.Statement.{statement}
 use Rattle.entries.proofs.sum_words.Tie as tie
@@ -32,8 +32,8 @@ part-cell-start c = search needs
 part-cell-end : tie.Need-part-cell-end Inv-loop μ-loop
 part-cell-end c = search needs
 
-word-at-requires : tie.Need-word-at-requires Inv-loop μ-loop
-word-at-requires c κs = search needs
+whole-word-requires : tie.Need-whole-word-requires Inv-loop μ-loop
+whole-word-requires c κs = search needs
 
 wrapping-add-u64-requires : tie.Need-wrapping-add-u64-requires Inv-loop μ-loop
 wrapping-add-u64-requires c κs = search needs
@@ -48,7 +48,7 @@ loop-again : tie.Need-loop-again Inv-loop μ-loop
 loop-again c =
     let l = c .before .before .before .before .loop in
     let p = c .before .before .before .before .before .before .args .page .now in
-    (search needs, search needs, sum-step _ _ (l .from) _ _ _ _ _ (omega arith) (l .inv .1) (l .inv .2) (c .before .word-at .ensures ∙ num-lent 8 (l .from) 8 0 (l .from) p (omega arith) (omega arith)) (c .wrapping-add-u64 .ensures))
+    (search needs, search needs, sum-step _ _ (l .from) _ _ _ _ _ (omega arith) (l .inv .1) (l .inv .2) (c .before .whole-word .ensures ∙ word-lent (l .from) 8 0 (l .from) p (omega arith) (omega arith) (omega arith)) (c .wrapping-add-u64 .ensures))
 
 returns : tie.Need-returns Inv-loop μ-loop
 unfolding sumAt
@@ -65,7 +65,7 @@ sum-words-spec =
     sub-cell
     part-cell-start
     part-cell-end
-    word-at-requires
+    whole-word-requires
     wrapping-add-u64-requires
     add-i
     loop-less

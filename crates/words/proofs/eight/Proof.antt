@@ -1,18 +1,25 @@
+use Prim.Native.Nat.{_+_}
 use native.Mathlib.Omega.{arith}
-use Rattle.words.proofs.Read.{num-add}
+use Rattle.words.proofs.Read.{num-one, num-add}
 use borrow.Author.Needs.{needs}
 use Rattle.words.proofs.eight.Statement.{statement}
 use Rattle.words.proofs.eight.Tie as tie
-use Rattle.words.proofs.byte.Reads as byte-reads
+use Rattle.words.proofs.wide.Reads as wide-reads
 
-byte-requires : tie.Need-byte-requires
-byte-requires c κs = search needs
+shared-slice-read-wide : tie.Need-shared-slice-read-wide
+shared-slice-read-wide c = search needs
 
-add-byte : tie.Need-add-byte
-add-byte c = search needs
+wide-requires : tie.Need-wide-requires
+wide-requires c κs = search needs
 
-byte-requires-2 : tie.Need-byte-requires-2
-byte-requires-2 c κs = search needs
+add-wide : tie.Need-add-wide
+add-wide c = search needs
+
+shared-slice-read-wide-2 : tie.Need-shared-slice-read-wide-2
+shared-slice-read-wide-2 c = search needs
+
+wide-requires-2 : tie.Need-wide-requires-2
+wide-requires-2 c κs = search needs
 
 mul-result : tie.Need-mul-result
 mul-result c = search needs
@@ -20,11 +27,14 @@ mul-result c = search needs
 add-result : tie.Need-add-result
 add-result c = search needs
 
-add-byte-2 : tie.Need-add-byte-2
-add-byte-2 c = search needs
+add-wide-2 : tie.Need-add-wide-2
+add-wide-2 c = search needs
 
-byte-requires-3 : tie.Need-byte-requires-3
-byte-requires-3 c κs = search needs
+shared-slice-read-wide-3 : tie.Need-shared-slice-read-wide-3
+shared-slice-read-wide-3 c = search needs
+
+wide-requires-3 : tie.Need-wide-requires-3
+wide-requires-3 c κs = search needs
 
 mul-result-2 : tie.Need-mul-result-2
 mul-result-2 c = search needs
@@ -32,11 +42,14 @@ mul-result-2 c = search needs
 add-result-2 : tie.Need-add-result-2
 add-result-2 c = search needs
 
-add-byte-3 : tie.Need-add-byte-3
-add-byte-3 c = search needs
+add-wide-3 : tie.Need-add-wide-3
+add-wide-3 c = search needs
 
-byte-requires-4 : tie.Need-byte-requires-4
-byte-requires-4 c κs = search needs
+shared-slice-read-wide-4 : tie.Need-shared-slice-read-wide-4
+shared-slice-read-wide-4 c = search needs
+
+wide-requires-4 : tie.Need-wide-requires-4
+wide-requires-4 c κs = search needs
 
 mul-result-3 : tie.Need-mul-result-3
 mul-result-3 c = search needs
@@ -44,11 +57,14 @@ mul-result-3 c = search needs
 add-result-3 : tie.Need-add-result-3
 add-result-3 c = search needs
 
-add-byte-4 : tie.Need-add-byte-4
-add-byte-4 c = search needs
+add-wide-4 : tie.Need-add-wide-4
+add-wide-4 c = search needs
 
-byte-requires-5 : tie.Need-byte-requires-5
-byte-requires-5 c κs = search needs
+shared-slice-read-wide-5 : tie.Need-shared-slice-read-wide-5
+shared-slice-read-wide-5 c = search needs
+
+wide-requires-5 : tie.Need-wide-requires-5
+wide-requires-5 c κs = search needs
 
 mul-result-4 : tie.Need-mul-result-4
 mul-result-4 c = search needs
@@ -56,11 +72,14 @@ mul-result-4 c = search needs
 add-result-4 : tie.Need-add-result-4
 add-result-4 c = search needs
 
-add-byte-5 : tie.Need-add-byte-5
-add-byte-5 c = search needs
+add-wide-5 : tie.Need-add-wide-5
+add-wide-5 c = search needs
 
-byte-requires-6 : tie.Need-byte-requires-6
-byte-requires-6 c κs = search needs
+shared-slice-read-wide-6 : tie.Need-shared-slice-read-wide-6
+shared-slice-read-wide-6 c = search needs
+
+wide-requires-6 : tie.Need-wide-requires-6
+wide-requires-6 c κs = search needs
 
 mul-result-5 : tie.Need-mul-result-5
 mul-result-5 c = search needs
@@ -68,11 +87,14 @@ mul-result-5 c = search needs
 add-result-5 : tie.Need-add-result-5
 add-result-5 c = search needs
 
-add-byte-6 : tie.Need-add-byte-6
-add-byte-6 c = search needs
+add-wide-6 : tie.Need-add-wide-6
+add-wide-6 c = search needs
 
-byte-requires-7 : tie.Need-byte-requires-7
-byte-requires-7 c κs = search needs
+shared-slice-read-wide-7 : tie.Need-shared-slice-read-wide-7
+shared-slice-read-wide-7 c = search needs
+
+wide-requires-7 : tie.Need-wide-requires-7
+wide-requires-7 c κs = search needs
 
 mul-result-6 : tie.Need-mul-result-6
 mul-result-6 c = search needs
@@ -80,11 +102,14 @@ mul-result-6 c = search needs
 add-result-6 : tie.Need-add-result-6
 add-result-6 c = search needs
 
-add-byte-7 : tie.Need-add-byte-7
-add-byte-7 c = search needs
+add-wide-7 : tie.Need-add-wide-7
+add-wide-7 c = search needs
 
-byte-requires-8 : tie.Need-byte-requires-8
-byte-requires-8 c κs = search needs
+shared-slice-read-wide-8 : tie.Need-shared-slice-read-wide-8
+shared-slice-read-wide-8 c = search needs
+
+wide-requires-8 : tie.Need-wide-requires-8
+wide-requires-8 c κs = search needs
 
 mul-result-7 : tie.Need-mul-result-7
 mul-result-7 c = search needs
@@ -94,40 +119,48 @@ add-result-7 c = search needs
 
 returns : tie.Need-returns
 returns c =
-    let a = c .before .before .before .before .before .before .before .before .before .args in
-    omega (arith, num-add 1 1 (a .at) (a .s .now), num-add 2 1 (a .at) (a .s .now), num-add 3 1 (a .at) (a .s .now), num-add 4 1 (a .at) (a .s .now), num-add 5 1 (a .at) (a .s .now), num-add 6 1 (a .at) (a .s .now), num-add 7 1 (a .at) (a .s .now))
+    let a = c .before .before .before .before .before .before .before .before .before .before .before .before .before .before .before .before .before .args in
+    omega (arith, num-one (a .at) (a .s .now), num-one (a .at + 1) (a .s .now), num-add 1 1 (a .at) (a .s .now), num-one (a .at + 2) (a .s .now), num-add 2 1 (a .at) (a .s .now), num-one (a .at + 3) (a .s .now), num-add 3 1 (a .at) (a .s .now), num-one (a .at + 4) (a .s .now), num-add 4 1 (a .at) (a .s .now), num-one (a .at + 5) (a .s .now), num-add 5 1 (a .at) (a .s .now), num-one (a .at + 6) (a .s .now), num-add 6 1 (a .at) (a .s .now), num-one (a .at + 7) (a .s .now), num-add 7 1 (a .at) (a .s .now))
 
 pub eight-spec : {M : Type 1} → statement M
 eight-spec =
     tie.close
     (tie.spec
-    byte-requires
-    add-byte
-    byte-requires-2
+    shared-slice-read-wide
+    wide-requires
+    add-wide
+    shared-slice-read-wide-2
+    wide-requires-2
     mul-result
     add-result
-    add-byte-2
-    byte-requires-3
+    add-wide-2
+    shared-slice-read-wide-3
+    wide-requires-3
     mul-result-2
     add-result-2
-    add-byte-3
-    byte-requires-4
+    add-wide-3
+    shared-slice-read-wide-4
+    wide-requires-4
     mul-result-3
     add-result-3
-    add-byte-4
-    byte-requires-5
+    add-wide-4
+    shared-slice-read-wide-5
+    wide-requires-5
     mul-result-4
     add-result-4
-    add-byte-5
-    byte-requires-6
+    add-wide-5
+    shared-slice-read-wide-6
+    wide-requires-6
     mul-result-5
     add-result-5
-    add-byte-6
-    byte-requires-7
+    add-wide-6
+    shared-slice-read-wide-7
+    wide-requires-7
     mul-result-6
     add-result-6
-    add-byte-7
-    byte-requires-8
+    add-wide-7
+    shared-slice-read-wide-8
+    wide-requires-8
     mul-result-7
     add-result-7
     returns)
