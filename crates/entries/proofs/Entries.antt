@@ -41,21 +41,6 @@ pub size-other : (k c : ℕ) → (k ≡ 1 → ⊥) → size k c ≡ 16 * c
 unfolding size
 size-other k c h = rw (per-other k h) (omega arith)
 
--- ---- the room for c entries, by a division
-module _ (k c room : ℕ) where
-  step : 0 < 8 * per k
-  step = let p = per-range k .0 in omega arith
-
-  size-bytes : size k c ≡ c * (8 * per k)
-  unfolding size
-  size-bytes = omega (arith, mul-comm c (8 * per k), mul-assoc 8 (per k) c)
-
-  pub size-fits : room / (8 * per k) < c → room < size k c
-  size-fits h = rw size-bytes (div-lt-iff-lt-mul step .0 h)
-
-  pub size-room : c ≤ room / (8 * per k) → size k c ≤ room
-  size-room h = rw size-bytes (le-div-iff-mul-le step .0 h)
-
 -- an array that fits behind an offset ends within the page, whatever its entry's words were called
 pub fits-end : (k c at n w : ℕ) (b : Bool) → w ≡ per k → b ≡ leb (size k c) (n - at) → b ≡ true → at ≤ n → at + 8 * (w * c) ≤ n
 unfolding size

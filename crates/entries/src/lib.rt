@@ -19,12 +19,18 @@ pub fn entry_words(k: usize) -> usize
     2
 }
 
-// Whether count entries of section k fit into so many bytes. By a division: the product might not fit a word.
+// Whether count entries of section k fit into so many bytes. By a division, since the product might not fit a word; by a constant in
+// each case, of which the compiler makes no division.
 pub fn fits(k: usize, count: u64, room: u64) -> bool
     ensures { λ r. ⌜ r ≡ leb (size k count) room ⌝ }
 {
-    let step = 8 * (entry_words(k) as u64);
-    if room / step < count {
+    if k == 1 {
+        if room / 48 < count {
+            return false;
+        }
+        return true;
+    }
+    if room / 16 < count {
         return false;
     }
     true
