@@ -21,6 +21,7 @@ use Rattle.reader.specs.Answer.{Shown, Answer, shows, shown, shownSec, p
 use Rattle.reader.specs.Reading.{sectionOf, shownAs, answerOf, viewAt, placedAs}
 use Rattle.reader.specs.declared.Section.the-variants.{Absent, Empty, Entries}
 use Rattle.reader.specs.declared.View.{View}
+use Rattle.reader.specs.declared.Code.{Code}
 use Rattle.reader.specs.declared.Code.the-variants.{Place, Version, Rules}
 use Rattle.reader.specs.declared.Reading.the-variants.{Accepted, Refused}
 
@@ -73,6 +74,10 @@ view-shows w e base page v a b c h =
 pub view-placed : (w e base : ℕ) (page : List ℕ) (v : View) → v ≡ viewAt w e base page → Accepted v ≡ placedAs base page (Accepted v)
 unfolding viewAt placedAs
 view-placed w e base page v h = ap Accepted (h ∙ sym (ap (λ u. viewAt (u .minor) (u .edition) base page) h))
+
+pub refused-placed : (base : ℕ) (page : List ℕ) (c : Code) → Refused c ≡ placedAs base page (Refused c)
+unfolding placedAs
+refused-placed base page c = refl
 
 -- ---- the answer
 module _ (r base : ℕ) (page : List ℕ) where

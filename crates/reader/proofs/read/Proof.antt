@@ -1,5 +1,5 @@
 use mathlib.Core.Bool.{true}
-use mathlib.Core.Path.{_≡_, refl, sym, _∙_}
+use mathlib.Core.Path.{_≡_, sym, _∙_}
 use Prim.Native.Nat.{min}
 use lib.ListN.{length}
 use borrow.Author.Tests.{not-true, not-false}
@@ -7,8 +7,7 @@ use Rattle.words.specs.Tests.{both}
 use Rattle.versions.specs.Version.{minorOf}
 use Rattle.sections.specs.Page.{placeOk, versionAt}
 use Rattle.sections.proofs.Sections.{placed, rules-sections}
-use Rattle.reader.proofs.Whole.{view-placed, read-place, read-edition, read-version, read-rules, read-shows}
-use Rattle.reader.specs.Reading.{placedAs}
+use Rattle.reader.proofs.Whole.{view-placed, refused-placed, read-place, read-edition, read-version, read-rules, read-shows}
 use borrow.Author.Needs.{needs}
 use Rattle.reader.proofs.read.Statement.{statement}
 use Rattle.reader.proofs.read.Tie as tie
@@ -17,19 +16,17 @@ place-ok-requires : tie.Need-place-ok-requires
 place-ok-requires c κs = search needs
 
 returns : tie.Need-returns
-unfolding placedAs
 returns c =
     let a = c .before .before .before .args in
-    (read-place (a .edition) (a .base) (a .page .now) (sym (c .before .place-ok .ensures) ∙ not-true _ (c .if1 .taken)), refl)
+    (read-place (a .edition) (a .base) (a .page .now) (sym (c .before .place-ok .ensures) ∙ not-true _ (c .if1 .taken)), refused-placed (a .base) (a .page .now) _)
 
 is-edition-requires : tie.Need-is-edition-requires
 is-edition-requires c κs = search needs
 
 returns-2 : tie.Need-returns-2
-unfolding placedAs
 returns-2 c =
     let a = c .before .before .before .before .before .args in
-    (read-edition (a .edition) (a .base) (a .page .now) (sym (c .before .before .before .place-ok .ensures) ∙ not-false _ (c .before .before .if1 .left)) (sym (c .before .is-edition .ensures) ∙ not-true _ (c .if2 .taken)), refl)
+    (read-edition (a .edition) (a .base) (a .page .now) (sym (c .before .before .before .place-ok .ensures) ∙ not-false _ (c .before .before .if1 .left)) (sym (c .before .is-edition .ensures) ∙ not-true _ (c .if2 .taken)), refused-placed (a .base) (a .page .now) _)
 
 version-at-requires : tie.Need-version-at-requires
 version-at-requires c κs = search needs
@@ -38,10 +35,9 @@ is-accepted-requires : tie.Need-is-accepted-requires
 is-accepted-requires c κs = search needs
 
 returns-3 : tie.Need-returns-3
-unfolding placedAs
 returns-3 c =
     let a = c .before .before .before .before .before .before .before .before .args in
-    (read-version (a .edition) (a .base) (a .page .now) (sym (c .before .before .before .before .before .before .place-ok .ensures) ∙ not-false _ (c .before .before .before .before .before .if1 .left)) (sym (c .before .before .before .before .is-edition .ensures) ∙ not-false _ (c .before .before .before .if2 .left)) (rw (← c .before .before .version-at .ensures) (sym (c .before .is-accepted .ensures) ∙ not-true _ (c .if3 .taken))), refl)
+    (read-version (a .edition) (a .base) (a .page .now) (sym (c .before .before .before .before .before .before .place-ok .ensures) ∙ not-false _ (c .before .before .before .before .before .if1 .left)) (sym (c .before .before .before .before .is-edition .ensures) ∙ not-false _ (c .before .before .before .if2 .left)) (rw (← c .before .before .version-at .ensures) (sym (c .before .is-accepted .ensures) ∙ not-true _ (c .if3 .taken))), refused-placed (a .base) (a .page .now) _)
 
 minor-requires : tie.Need-minor-requires
 minor-requires c κs = search needs
@@ -53,13 +49,13 @@ page-ok-requires : tie.Need-page-ok-requires
 page-ok-requires c κs = search needs
 
 returns-4 : tie.Need-returns-4
-unfolding both placedAs
+unfolding both
 returns-4 c =
     let a = c .before .before .before .before .before .before .before .before .before .before .before .before .args in
     let w : c .before .before .before .minor .result ≡ minorOf (versionAt (a .page .now)) = c .before .before .before .minor .ensures .0 ∙ rw (c .before .before .before .before .before .before .version-at .ensures) in
     let m : c .before .before .smaller .result ≡ min (a .edition) (minorOf (versionAt (a .page .now))) = c .before .before .smaller .ensures ∙ rw w in
     let p : placeOk (a .base) (length (a .page .now)) ≡ true = sym (c .before .before .before .before .before .before .before .before .before .before .place-ok .ensures) ∙ not-false _ (c .before .before .before .before .before .before .before .before .before .if1 .left) in
-    (read-rules (a .edition) (a .base) (a .page .now) p (sym (c .before .before .before .before .before .before .before .before .is-edition .ensures) ∙ not-false _ (c .before .before .before .before .before .before .before .if2 .left)) (rw (← c .before .before .before .before .before .before .version-at .ensures) (sym (c .before .before .before .before .before .is-accepted .ensures) ∙ not-false _ (c .before .before .before .before .if3 .left))) (rw (← m, ← w) (rw p at (sym (c .before .page-ok .ensures) ∙ not-true _ (c .if4 .taken)))), refl)
+    (read-rules (a .edition) (a .base) (a .page .now) p (sym (c .before .before .before .before .before .before .before .before .is-edition .ensures) ∙ not-false _ (c .before .before .before .before .before .before .before .if2 .left)) (rw (← c .before .before .before .before .before .before .version-at .ensures) (sym (c .before .before .before .before .before .is-accepted .ensures) ∙ not-false _ (c .before .before .before .before .if3 .left))) (rw (← m, ← w) (rw p at (sym (c .before .page-ok .ensures) ∙ not-true _ (c .if4 .taken)))), refused-placed (a .base) (a .page .now) _)
 
 view-at-requires : tie.Need-view-at-requires
 unfolding both
