@@ -5,7 +5,7 @@ use lib.ListN.{length}
 use lib.Dec.{ltb, eqb}
 use Rattle.words.specs.Tests.{either}
 use Rattle.words.specs.Word.{splice}
-use Rattle.boot.specs.declared.Kept.{Kept}
+use Rattle.boot.specs.declared.Params.{Params}
 use Rattle.boot.specs.declared.Record.{Record}
 use Rattle.range.specs.Range.{outside, tooLong, placeOf}
 use Rattle.codes.specs.Codes.{unless, fails, upOf, whenUp, ifOk, answerOf}
@@ -18,7 +18,7 @@ unfoldable pub keyRest : ℕ → ℕ → List ℕ → Code
 keyRest size curve key = fails (unless (eqb curve 0)) Inval (fails (either (eqb (length key) 0) (ltb size (length key))) Unk Ok)
 
 -- ".. B2, B3 and B5 do so too on a lent page not 4,096 bytes long (house rules)"; "outside BAD_ADDR; too long INVAL; .."
-unfoldable pub keyCode : Kept → List ℕ → ℕ → ℕ → ℕ → List ℕ → Code
+unfoldable pub keyCode : Params → List ℕ → ℕ → ℕ → ℕ → List ℕ → Code
 keyCode u page pa size curve key =
     fails (unless (eqb (length page) 4096)) Unk
     (fails (outside u pa) BadAddr

@@ -5,19 +5,19 @@ use mathlib.Core.Bool.{true, false}
 use mathlib.Core.List.{List}
 use lib.IntN.{pos}
 use borrow.Author.Tests.{lt-leb, le-leb, lt-ltb, le-ltb}
-use Rattle.versions.specs.Version.{accepted}
+use Rattle.versions.specs.Version.{versionOk}
 use Rattle.reader.specs.Answer.{minus, readOf}
-use Rattle.reader.specs.Reading.{codeOf, answerOf}
+use Rattle.reader.specs.Reading.{refusalNumber, readingAnswer}
 use Rattle.reader.specs.declared.View.{View}
-use Rattle.reader.specs.declared.Code.{Code as ReaderCode}
-use Rattle.reader.specs.declared.Code.the-variants.{Place, Version as BadVersion, Rules}
+use Rattle.reader.specs.declared.Refusal.{Refusal}
+use Rattle.reader.specs.declared.Refusal.the-variants.{Place, Version as BadVersion, Rules}
 use Rattle.reader.specs.declared.Reading.the-variants.{Accepted, Refused}
-use Rattle.boot.specs.Boot.{codeIn, isFresh, coldGate, coldCode, after, kept, coldNext, cpuCode}
+use Rattle.boot.specs.Boot.{codeIn, isFresh, coldGate, coldCode, after, paramsOf, coldNext, cpuCode}
 use Rattle.boot.specs.declared.Record.{Record}
 use Rattle.boot.specs.declared.Record.the-variants.{Up, Closed}
 
 -- a code that is not 0 closes
-pub closes : (c : ReaderCode) (s : Record) → Closed ≡ after (codeOf c) s
+pub closes : (c : Refusal) (s : Record) → Closed ≡ after (refusalNumber c) s
 unfolding after
 closes Place s = refl
 closes BadVersion s = refl
@@ -29,11 +29,11 @@ module _ (s : Record) (x0 x1 x2 x3 most : ℕ) (page : List ℕ) where
   cold-state h = rw h (refl, refl)
 
   module _ (h : isFresh s ≡ true) where
-    pub cold-version : accepted x1 ≡ false → (minus 2 ≡ coldCode s x0 x1 x2 x3 most page) × (Closed ≡ coldNext s x0 x1 x2 x3 most page)
+    pub cold-version : versionOk x1 ≡ false → (minus 2 ≡ coldCode s x0 x1 x2 x3 most page) × (Closed ≡ coldNext s x0 x1 x2 x3 most page)
     unfolding coldNext coldCode coldGate after
     cold-version v = rw (h, v) (refl, refl)
 
-    module _ (v : accepted x1 ≡ true) where
+    module _ (v : versionOk x1 ≡ true) where
       pub cold-cpus : most < x2 → (minus 3 ≡ coldCode s x0 x1 x2 x3 most page) × (Closed ≡ coldNext s x0 x1 x2 x3 most page)
       unfolding coldNext coldCode coldGate after
       cold-cpus m = rw (h, v, lt-leb x2 most m) (refl, refl)
@@ -44,14 +44,14 @@ module _ (s : Record) (x0 x1 x2 x3 most : ℕ) (page : List ℕ) where
         cold-cpu n = rw (h, v, le-leb x2 most m, le-ltb x0 x2 n) (refl, refl)
 
         module _ (n : x0 < x2) where
-          pub cold-refused : (c : ReaderCode) → answerOf page (Refused c) ≡ readOf 4 x3 page →
-              (codeOf c ≡ coldCode s x0 x1 x2 x3 most page) × (Closed ≡ coldNext s x0 x1 x2 x3 most page)
-          unfolding coldNext coldCode coldGate codeIn answerOf
-          cold-refused c e = rw (h, v, le-leb x2 most m, lt-ltb x0 x2 n, ← e) (refl, closes c (Up (kept x1 x2 x3)))
+          pub cold-refused : (c : Refusal) → readingAnswer page (Refused c) ≡ readOf 4 x3 page →
+              (refusalNumber c ≡ coldCode s x0 x1 x2 x3 most page) × (Closed ≡ coldNext s x0 x1 x2 x3 most page)
+          unfolding coldNext coldCode coldGate codeIn readingAnswer
+          cold-refused c e = rw (h, v, le-leb x2 most m, lt-ltb x0 x2 n, ← e) (refl, closes c (Up (paramsOf x1 x2 x3)))
 
-          pub cold-up : (w : View) → answerOf page (Accepted w) ≡ readOf 4 x3 page →
-              (pos 0 ≡ coldCode s x0 x1 x2 x3 most page) × (Up (kept x1 x2 x3) ≡ coldNext s x0 x1 x2 x3 most page)
-          unfolding coldNext coldCode coldGate codeIn answerOf after
+          pub cold-up : (w : View) → readingAnswer page (Accepted w) ≡ readOf 4 x3 page →
+              (pos 0 ≡ coldCode s x0 x1 x2 x3 most page) × (Up (paramsOf x1 x2 x3) ≡ coldNext s x0 x1 x2 x3 most page)
+          unfolding coldNext coldCode coldGate codeIn readingAnswer after
           cold-up w e = rw (h, v, le-leb x2 most m, lt-ltb x0 x2 n, ← e) (refl, refl)
 
 module _ (cpus x0 : ℕ) (s : Record) where

@@ -5,34 +5,34 @@ use mathlib.Core.Bool.{Bool, true, false, cond}
 use mathlib.Core.List.{List}
 use lib.Dec.{leb, ltb}
 use lib.IntN.{ℤ, pos, negsuc}
-use Rattle.versions.specs.Version.{accepted, agreed}
-use Rattle.reader.specs.Answer.{Answer, refused, shows, minus, readOf}
-use Rattle.reader.specs.Reading.{codeOf}
+use Rattle.versions.specs.Version.{versionOk, agreed}
+use Rattle.reader.specs.Answer.{ReaderAnswer, refused, shows, minus, readOf}
+use Rattle.reader.specs.Reading.{refusalNumber}
 use Rattle.reader.specs.declared.Reading.{Reading}
 use Rattle.reader.specs.declared.Reading.the-variants.{Accepted, Refused}
-use Rattle.boot.specs.declared.Kept.{Kept}
+use Rattle.boot.specs.declared.Params.{Params}
 use Rattle.boot.specs.declared.Record.{Record}
 use Rattle.boot.specs.declared.Record.the-variants.{Fresh, Up, Closed}
-use Rattle.boot.specs.declared.Code.{Code}
-use Rattle.boot.specs.declared.Code.the-variants.{Done, State, Version, Cpus, Cpu, Manifest}
+use Rattle.boot.specs.declared.BootCode.{BootCode}
+use Rattle.boot.specs.declared.BootCode.the-variants.{Done, State, Version, Cpus, Cpu, Manifest}
 
 -- 01's number of each case; success is 0, as in 002
-abbrev pub numberOf : Code → ℤ
-numberOf Done = pos 0
-numberOf State = minus 1
-numberOf Version = minus 2
-numberOf Cpus = minus 3
-numberOf Cpu = minus 4
-numberOf (Manifest c) = codeOf c
+abbrev pub bootNumber : BootCode → ℤ
+bootNumber Done = pos 0
+bootNumber State = minus 1
+bootNumber Version = minus 2
+bootNumber Cpus = minus 3
+bootNumber Cpu = minus 4
+bootNumber (Manifest c) = refusalNumber c
 
 -- the code of a reader's answer
-unfoldable pub codeIn : Answer → ℤ
+unfoldable pub codeIn : ReaderAnswer → ℤ
 codeIn (refused c) = c
 codeIn (shows w e q s) = pos 0
 
 -- the same of the reader's enum
 unfoldable pub numberIn : Reading → ℤ
-numberIn (Refused c) = codeOf c
+numberIn (Refused c) = refusalNumber c
 numberIn (Accepted v) = pos 0
 
 unfoldable pub isFresh : Record → Bool
@@ -52,7 +52,7 @@ coldGate false v m n c = minus 1
 -- x0 is the CPU, x1 the version offered, x2 the number of CPUs, x3 the base B, most the monitor's maximum
 unfoldable pub coldCode : Record → ℕ → ℕ → ℕ → ℕ → ℕ → List ℕ → ℤ
 coldCode s x0 x1 x2 x3 most page =
-    coldGate (isFresh s) (accepted x1) (leb x2 most) (ltb x0 x2) (codeIn (readOf 4 x3 page))
+    coldGate (isFresh s) (versionOk x1) (leb x2 most) (ltb x0 x2) (codeIn (readOf 4 x3 page))
 
 -- the record after a boot: the one given if the code is 0, else closed
 unfoldable pub after : ℤ → Record → Record
@@ -60,11 +60,11 @@ after (pos n) s = s
 after (negsuc n) s = Closed
 
 -- "it keeps x2, B and the agreed minor when up"
-unfoldable pub kept : ℕ → ℕ → ℕ → Kept
-kept x1 x2 x3 = record { cpus = x2; base = x3; minor = agreed x1 }
+unfoldable pub paramsOf : ℕ → ℕ → ℕ → Params
+paramsOf x1 x2 x3 = record { cpus = x2; base = x3; minor = agreed x1 }
 
 unfoldable pub coldNext : Record → ℕ → ℕ → ℕ → ℕ → ℕ → List ℕ → Record
-coldNext s x0 x1 x2 x3 most page = after (coldCode s x0 x1 x2 x3 most page) (Up (kept x1 x2 x3))
+coldNext s x0 x1 x2 x3 most page = after (coldCode s x0 x1 x2 x3 most page) (Up (paramsOf x1 x2 x3))
 
 -- -4 "x0 not below the cold boot's x2"
 unfoldable pub cpuCode : ℕ → ℕ → ℤ

@@ -1,10 +1,10 @@
 // Cold and warm boot: the monitor checks the boot registers and the manifest, and keeps a record of the outcome.
 use reader::Reading;
 ghost use mathlib.Core.Path.{_≡_};
-ghost use Rattle.boot.specs.Boot.{numberOf, numberIn, isFresh, coldCode, coldNext, after, cpuCode, warmCode, warmNext};
+ghost use Rattle.boot.specs.Boot.{bootNumber, numberIn, isFresh, coldCode, coldNext, after, cpuCode, warmCode, warmNext};
 
 // What a record that is up keeps of its cold boot: x2, the base B and the agreed interface minor.
-pub struct Kept {
+pub struct Params {
     pub cpus: u64,
     pub base: u64,
     pub minor: u64,
@@ -13,37 +13,37 @@ pub struct Kept {
 // The boot record.
 pub enum Record {
     Fresh,
-    Up(Kept),
+    Up(Params),
     Closed,
 }
 
 // The outcome of a boot: 0, or why it is refused, -1 to -4 or the manifest's code.
-pub enum Code {
+pub enum BootCode {
     Done,
     State,
     Version,
     Cpus,
     Cpu,
-    Manifest(reader::Code),
+    Manifest(reader::Refusal),
 }
 
 // The next record, with the code.
 pub struct Booted {
     pub next: Record,
-    pub code: Code,
+    pub code: BootCode,
 }
 
 // The code's number.
-pub fn number(code: Code) -> i32
-    ensures { λ r. ⌜ r ≡ numberOf code ⌝ }
+pub fn number(code: BootCode) -> i32
+    ensures { λ r. ⌜ r ≡ bootNumber code ⌝ }
 {
     match code {
-        Code::Done => 0,
-        Code::State => -1,
-        Code::Version => -2,
-        Code::Cpus => -3,
-        Code::Cpu => -4,
-        Code::Manifest(inner) => reader::number(inner),
+        BootCode::Done => 0,
+        BootCode::State => -1,
+        BootCode::Version => -2,
+        BootCode::Cpus => -3,
+        BootCode::Cpu => -4,
+        BootCode::Manifest(inner) => reader::number(inner),
     }
 }
 
@@ -58,7 +58,7 @@ fn is_fresh(state: Record) -> bool
 }
 
 // A boot that failed: the record is closed for good.
-fn failed(code: Code) -> Booted
+fn failed(code: BootCode) -> Booted
     ensures { λ r. ⌜ (r .next ≡ Record.Closed) × (r .code ≡ code) ⌝ }
 {
     Booted {
@@ -69,24 +69,24 @@ fn failed(code: Code) -> Booted
 
 // Warm boot of CPU x0 on a record that is up with so many CPUs.
 fn warm_up(state: Record, cpus: u64, x0: u64) -> Booted
-    ensures { λ r. ⌜ (numberOf (r .code) ≡ cpuCode cpus x0) × (r .next ≡ after (cpuCode cpus x0) state) ⌝ }
+    ensures { λ r. ⌜ (bootNumber (r .code) ≡ cpuCode cpus x0) × (r .next ≡ after (cpuCode cpus x0) state) ⌝ }
 {
     if cpus <= x0 {
-        return failed(Code::Cpu);
+        return failed(BootCode::Cpu);
     }
     Booted {
         next: state,
-        code: Code::Done,
+        code: BootCode::Done,
     }
 }
 
 // The code of a reading; 0 of one that is accepted.
-fn code_of(reading: Reading) -> Code
-    ensures { λ r. ⌜ numberOf r ≡ numberIn reading ⌝ }
+fn code_of(reading: Reading) -> BootCode
+    ensures { λ r. ⌜ bootNumber r ≡ numberIn reading ⌝ }
 {
     match reading {
-        Reading::Accepted(_) => Code::Done,
-        Reading::Refused(code) => Code::Manifest(code),
+        Reading::Accepted(_) => BootCode::Done,
+        Reading::Refused(code) => BootCode::Manifest(code),
     }
 }
 
@@ -100,43 +100,43 @@ impl Record {
 
     // Cold boot with x0 to x3 on a monitor of at most so many CPUs, and the manifest's page at x3, read as edition 4.
     pub fn cold(self, x0: u64, x1: u64, x2: u64, x3: u64, most: u64, page: &[u8]) -> Booted
-        ensures { λ r. ⌜ (numberOf (r .code) ≡ coldCode self x0 x1 x2 x3 most (now (page .entry))) × (r .next ≡ coldNext self x0 x1 x2 x3 most (now (page .entry))) ⌝ }
+        ensures { λ r. ⌜ (bootNumber (r .code) ≡ coldCode self x0 x1 x2 x3 most (now (page .entry))) × (r .next ≡ coldNext self x0 x1 x2 x3 most (now (page .entry))) ⌝ }
     {
         if !is_fresh(self) {
-            return failed(Code::State);
+            return failed(BootCode::State);
         }
         if !versions::is_accepted(x1) {
-            return failed(Code::Version);
+            return failed(BootCode::Version);
         }
         if most < x2 {
-            return failed(Code::Cpus);
+            return failed(BootCode::Cpus);
         }
         if x2 <= x0 {
-            return failed(Code::Cpu);
+            return failed(BootCode::Cpu);
         }
         let reading = reader::read(page, x3, 4);
         let Reading::Accepted(_) = reading else {
             return failed(code_of(reading));
         };
-        let kept = Kept {
+        let params = Params {
             cpus: x2,
             base: x3,
             minor: versions::agreed_minor(x1),
         };
         Booted {
-            next: Record::Up(kept),
-            code: Code::Done,
+            next: Record::Up(params),
+            code: BootCode::Done,
         }
     }
 
     // Warm boot with x0 to x3, of which only x0 counts.
     pub fn warm(self, x0: u64, x1: u64, x2: u64, x3: u64) -> Booted
-        ensures { λ r. ⌜ (numberOf (r .code) ≡ warmCode self x0) × (r .next ≡ warmNext self x0) ⌝ }
+        ensures { λ r. ⌜ (bootNumber (r .code) ≡ warmCode self x0) × (r .next ≡ warmNext self x0) ⌝ }
     {
         match self {
-            Record::Fresh => failed(Code::State),
-            Record::Up(kept) => warm_up(self, kept.cpus, x0),
-            Record::Closed => failed(Code::State),
+            Record::Fresh => failed(BootCode::State),
+            Record::Up(params) => warm_up(self, params.cpus, x0),
+            Record::Closed => failed(BootCode::State),
         }
     }
 }

@@ -2,7 +2,7 @@
 // (0 fresh, 1 up, 2 closed, then what it keeps), the number of steps; each step is cold (0) or warm (1), x0 to x3, the monitor's
 // maximum, the page's length, and the page. Prints the code and the next record of each step.
 use boot::Booted;
-use boot::Kept;
+use boot::Params;
 use boot::Record;
 use libc::STDOUT_FILENO;
 ghost use Prim.Native.Nat.{_+_, _≤_};
@@ -23,11 +23,11 @@ fn print_record(state: Record) {
         Record::Fresh => {
             io::write_all(STDOUT_FILENO, b" fresh\n");
         }
-        Record::Up(kept) => {
+        Record::Up(params) => {
             io::write_all(STDOUT_FILENO, b" up");
-            print_word(kept.cpus);
-            print_word(kept.base);
-            print_word(kept.minor);
+            print_word(params.cpus);
+            print_word(params.base);
+            print_word(params.minor);
             io::write_all(STDOUT_FILENO, b"\n");
         }
         Record::Closed => {

@@ -1,5 +1,5 @@
 // The numbered case files of a program: c000, c001, .., and what such programs share.
-use boot::Kept;
+use boot::Params;
 use boot::Record;
 use libc::STDOUT_FILENO;
 ghost use mathlib.Core.Path.{_≡_};
@@ -60,13 +60,13 @@ pub fn record_at(input: &[u8]) -> Record
     ensures { λ r. ⌜ r ≡ recordAt (now (input .entry)) ⌝ }
 {
     let state = words::word_at(input, 0);
-    let kept = Kept {
+    let params = Params {
         cpus: words::word_at(input, 8),
         base: words::word_at(input, 16),
         minor: words::word_at(input, 24),
     };
     if state == 1 {
-        return Record::Up(kept);
+        return Record::Up(params);
     }
     if state == 2 {
         return Record::Closed;

@@ -34,11 +34,11 @@ use Rattle.signing.specs.declared.Opcode.the-variants.{Push, Pull, Key, Other}
 use Rattle.signing.proofs.Signings.{signing-refused}
 use Rattle.runtime.specs.declared.Kind.{Kind}
 use Rattle.runtime.specs.declared.Kind.the-variants.{ForwardError, Delegate, Undelegate, RealmKey, PlatformToken, Features, TokenSigning, KeyUpdate, Unlisted}
-use Rattle.runtime.specs.Step.{World, Call, call, Step, kindOf, afterMove, afterKey, afterToken, afterSigning, afterUpdate, callBy, callOf, stepOf, codeOf}
+use Rattle.runtime.specs.Step.{World, Call, call, Step, kindOf, afterMove, afterKey, afterToken, afterSigning, afterUpdate, callBy, callOf, stepOf, replyCode}
 use Rattle.runtime.proofs.Refused.{refused}
 use Rattle.images.specs.Image.{recordOf, sessionOf, sessionWords}
 use Rattle.images.proofs.Inverse.{session-back}
-use Rattle.queue_image.specs.Image.{listsIn, queueWords, each, areBytes, requestFits, responseFits, eightFit, fits}
+use Rattle.queue_image.specs.Image.{listsIn, queueWords, each, areBytes, requestFits, responseFits, eightFit, queueFits}
 use Rattle.queue_image.proofs.Inverse.{queue-back}
 use Rattle.queue_image.proofs.Fits.{image-fits, side-joins, side-rests, part-bytes, num-below}
 use Rattle.chains.specs.Chain.{worldIn}
@@ -71,8 +71,8 @@ request-fits b a n =
     (both-of _ _ (lt-ltb (halfAt 24 b) (2 ^ 64) (omega (arith, num-below 4 24 b a))) refl))))
     (both-of _ _ (eq-eqb (length (part 32 48 b)) 48 l) (part-bytes 32 48 b a))
 
-push-fits : (b : List ℕ) (q : Lists) → Yes (areBytes b) → Yes (fits q) → pushCode b q ≡ Ok → Yes (fits (pushed b q))
-unfolding pushCode pushed fits
+push-fits : (b : List ℕ) (q : Lists) → Yes (areBytes b) → Yes (queueFits q) → pushCode b q ≡ Ok → Yes (queueFits (pushed b q))
+unfolding pushCode pushed queueFits
 push-fits b q a f h =
     let n = fails-ok _ _ _ refl h in
     let e = unless-ok _ _ _ refl (n .1) in
@@ -81,12 +81,12 @@ push-fits b q a f h =
     both-of _ _ (side-joins requestFits (q .requests) (both-l _ _ f) (requestOf b) (leb-false _ _ (w .0)) (request-fits b a (ltb-false _ _ (n .0)))) (both-r _ _ f)
 
 -- pull
-pull-fits : (q : Lists) → Yes (fits q) → Yes (fits (pulled q))
-unfolding pulled fits
+pull-fits : (q : Lists) → Yes (queueFits q) → Yes (queueFits (pulled q))
+unfolding pulled queueFits
 pull-fits q f = both-of _ _ (both-l _ _ f) (side-rests responseFits (q .responses) (both-r _ _ f))
 
 -- each opcode, and the command
-op-fits : (o : Opcode) (at size : ℕ) (page : List ℕ) (q : Lists) (key : List ℕ) → Yes (areBytes page) → Yes (fits q) → opCode o at size page q key ≡ Ok → Yes (fits (opStep o at size page q key .queue))
+op-fits : (o : Opcode) (at size : ℕ) (page : List ℕ) (q : Lists) (key : List ℕ) → Yes (areBytes page) → Yes (queueFits q) → opCode o at size page q key ≡ Ok → Yes (queueFits (opStep o at size page q key .queue))
 unfolding opCode opStep
 op-fits Push at size page q key a f h = push-fits (part at size page) q (part-bytes at size page a) f h
 op-fits Pull at size page q key a f h = pull-fits q f
@@ -94,18 +94,18 @@ op-fits Key at size page q key a f h = f
 op-fits Other at size page q key a f h = f
 
 -- a refusal leaves what was
-pub kept : {A : Type 0} (ok : A → Bool) (k : Code) (new old : A) → Yes (ok old) → (k ≡ Ok → Yes (ok new)) → Yes (ok (ifOk k new old))
-kept ok Ok new old f h = h refl
-kept ok Unk new old f h = f
-kept ok BadAddr new old f h = f
-kept ok BadPas new old f h = f
-kept ok Inval new old f h = f
-kept ok Again new old f h = f
+pub if-ok-holds : {A : Type 0} (ok : A → Bool) (k : Code) (new old : A) → Yes (ok old) → (k ≡ Ok → Yes (ok new)) → Yes (ok (ifOk k new old))
+if-ok-holds ok Ok new old f h = h refl
+if-ok-holds ok Unk new old f h = f
+if-ok-holds ok BadAddr new old f h = f
+if-ok-holds ok BadPas new old f h = f
+if-ok-holds ok Inval new old f h = f
+if-ok-holds ok Again new old f h = f
 
-signing-fits : (r : Record) (page : List ℕ) (q : Lists) (key : List ℕ) (op pa size curve : ℕ) → Yes (areBytes page) → Yes (fits q) → Yes (fits (signingOf r page q key op pa size curve .queue))
+signing-fits : (r : Record) (page : List ℕ) (q : Lists) (key : List ℕ) (op pa size curve : ℕ) → Yes (areBytes page) → Yes (queueFits q) → Yes (queueFits (signingOf r page q key op pa size curve .queue))
 unfolding signingOf queued whenUp signingCode
 signing-fits r page q key op pa size curve a f =
-    kept (λ (t : SigningStep). fits (t .queue)) (whenUp r (signingCode (upOf r) page q key (opcodeOf op) pa size curve)) _ _ f (λ h.
+    if-ok-holds (λ (t : SigningStep). queueFits (t .queue)) (whenUp r (signingCode (upOf r) page q key (opcodeOf op) pa size curve)) _ _ f (λ h.
     let u = fails-ok _ _ _ refl h in
     let n = unless-ok _ _ _ refl (u .1) in
     op-fits (opcodeOf op) _ size page q key a f (then-ok _ _ (n .1)))
@@ -118,8 +118,8 @@ oldest-words (r ∷ l) h =
     let w = both-r _ _ (both-l _ _ (both-l _ _ h)) in
     both-of _ _ (both-l _ _ w) (both-of _ _ (both-l _ _ (both-r _ _ w)) refl)
 
-sign-fits : (q : Lists) (s : List ℕ) → Yes (areBytes s) → Yes (fits q) → signCode q s ≡ Ok → Yes (fits (signed q s))
-unfolding signCode signed signedBy fits responseFits eightFit
+sign-fits : (q : Lists) (s : List ℕ) → Yes (areBytes s) → Yes (queueFits q) → signCode q s ≡ Ok → Yes (queueFits (signed q s))
+unfolding signCode signed signedBy queueFits responseFits eightFit
 sign-fits q s a f h =
     let n = fails-ok _ _ _ refl h in
     let m = fails-ok _ _ _ refl (n .1) in
@@ -129,9 +129,9 @@ sign-fits q s a f h =
     (side-joins responseFits (q .responses) (both-r _ _ f) (signedBy (oldestRequest (q .requests)) s) (leb-false _ _ (w .0))
     (both-of _ _ (oldest-words (q .requests) (both-r _ _ (both-l _ _ f))) (both-of _ _ (le-leb (length s) 104 (ltb-false _ _ (m .0))) a)))
 
-pub signed-fits : (q : Lists) (s : List ℕ) → Yes (areBytes s) → Yes (fits q) → Yes (fits (signOf q s .queue))
+pub signed-fits : (q : Lists) (s : List ℕ) → Yes (areBytes s) → Yes (queueFits q) → Yes (queueFits (signOf q s .queue))
 unfolding signOf
-signed-fits q s a f = kept fits (signCode q s) (signed q s) q f (sign-fits q s a f)
+signed-fits q s a f = if-ok-holds queueFits (signCode q s) (signed q s) q f (sign-fits q s a f)
 
 -- ---- token signing, and the signer's own step, on an image of 210 words
 module _ (image : List ℕ) (l : length image ≡ 210) (w : Yes (areWords image)) where
@@ -153,7 +153,7 @@ module _ (image : List ℕ) (l : length image ≡ 210) (w : Yes (areWords image)
       (λ h. ap (λ (x : SignStep). x .queue) (sign-refused (listsIn image) signature h))
 
 -- ---- any command: both images
-pub call-fits : (k : Kind) (r : Record) (g : Granules) (w : World) (c : Call) → Yes (areBytes (w .page)) → Yes (fits (w .queue)) → Yes (fits (callBy k r g w c .next .queue))
+pub call-fits : (k : Kind) (r : Record) (g : Granules) (w : World) (c : Call) → Yes (areBytes (w .page)) → Yes (queueFits (w .queue)) → Yes (queueFits (callBy k r g w c .next .queue))
 unfolding callBy afterMove afterKey afterToken afterSigning afterUpdate
 call-fits ForwardError r g w c a f = f
 call-fits Delegate r g w c a f = f
@@ -174,19 +174,19 @@ module _ (state : List ℕ) (start : ℕ) (session queue page table : List ℕ) 
   left = callIn state start session queue page table c
 
   -- a refused call changes nothing
-  stays : isOk (codeOf (step .reply)) ≡ false → step .next ≡ worldIn session queue page table
+  stays : isOk (replyCode (step .reply)) ≡ false → step .next ≡ worldIn session queue page table
   unfolding stepOf
   stays h = ap (λ (x : Step). x .next) (refused (recordOf state) (record { start = start }) (worldIn session queue page table) (call c) h)
 
   pub call-session-chain : sessionOf (left .session) ≡ step .next .session
   unfolding callIn callLeft sessionAfter
-  call-session-chain = chains sessionOf sessionWords (isOk (codeOf (step .reply))) (step .next .session) session (session-back (step .next .session)) (λ h. ap (λ (x : World). x .session) (stays h))
+  call-session-chain = chains sessionOf sessionWords (isOk (replyCode (step .reply))) (step .next .session) session (session-back (step .next .session)) (λ h. ap (λ (x : World). x .session) (stays h))
 
   module _ (l : length queue ≡ 210) (w : Yes (areWords queue)) (a : Yes (areBytes page)) where
     pub call-queue-chain : listsIn (left .queue) ≡ step .next .queue
     unfolding callIn callLeft queueAfter callOf
     call-queue-chain =
-        chains listsIn queueWords (isOk (codeOf (step .reply))) (step .next .queue) queue
+        chains listsIn queueWords (isOk (replyCode (step .reply))) (step .next .queue) queue
         (queue-back (step .next .queue) (call-fits (kindOf (c .id)) (recordOf state) (record { start = start }) (worldIn session queue page table) c a (image-fits queue l w)))
         (λ h. ap (λ (x : World). x .queue) (stays h))
 

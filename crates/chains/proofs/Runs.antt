@@ -27,11 +27,11 @@ use Rattle.runtime.specs.declared.Kind.the-variants.{ForwardError, Delegate, Un
 use Rattle.runtime.specs.Step.{World, Call, Command, call, sign, kindOf, afterMove, afterKey, afterToken, afterSigning, afterUpdate, afterSign, callBy, callOf, stepOf}
 use Rattle.runtime.specs.Run.{worldAfter}
 use Rattle.images.specs.Image.{recordOf}
-use Rattle.queue_image.specs.Image.{listsIn, queueWords, each, areBytes, responseFits, eightFit, fits}
+use Rattle.queue_image.specs.Image.{listsIn, queueWords, each, areBytes, responseFits, eightFit, queueFits}
 use Rattle.queue_image.proofs.Fits.{image-fits, each-append, low-bytes, part-bytes, splice-bytes, queue-words, queue-length}
 use Rattle.chains.specs.Chain.{Lent, worldOf, lentAfter, allAfter, ofBytes}
 use Rattle.kit.specs.Kit.{queueAfter, signLeft, signIn, CallLeft, callLeft, callIn}
-use Rattle.chains.proofs.Chain.{kept, signed-fits, call-fits, sign-chain, call-chain}
+use Rattle.chains.proofs.Chain.{if-ok-holds, signed-fits, call-fits, sign-chain, call-chain}
 
 -- ---- a page of bytes stays one
 oldest-bytes : (l : List Signed) → Yes (each responseFits l) → Yes (areBytes (oldestResponse l .signature))
@@ -47,26 +47,26 @@ response-bytes r a =
     let n : List ℕ = leBytes 2 (length (r .signature)) in
     each-append _ (g ++ t ++ n) (r .signature) (each-append _ (g ++ t) n (each-append _ g t (low-bytes 8 (r .granule)) (low-bytes 8 (r .ticket))) (low-bytes 2 (length (r .signature)))) a
 
-op-bytes : (o : Opcode) (at size : ℕ) (page : List ℕ) (q : Lists) (key : List ℕ) → Yes (areBytes page) → Yes (fits q) → Yes (areBytes key) → Yes (areBytes (opStep o at size page q key .page))
-unfolding opStep fits eightFit
+op-bytes : (o : Opcode) (at size : ℕ) (page : List ℕ) (q : Lists) (key : List ℕ) → Yes (areBytes page) → Yes (queueFits q) → Yes (areBytes key) → Yes (areBytes (opStep o at size page q key .page))
+unfolding opStep queueFits eightFit
 op-bytes Push at size page q key a f k = a
 op-bytes Pull at size page q key a f k = splice-bytes at (responseBytes (oldestResponse (q .responses))) page (response-bytes (oldestResponse (q .responses)) (oldest-bytes (q .responses) (both-r _ _ (both-r _ _ f)))) a
 op-bytes Key at size page q key a f k = splice-bytes at key page k a
 op-bytes Other at size page q key a f k = a
 
-signing-bytes : (r : Record) (page : List ℕ) (q : Lists) (key : List ℕ) (op pa size curve : ℕ) → Yes (areBytes page) → Yes (fits q) → Yes (areBytes key) → Yes (areBytes (signingOf r page q key op pa size curve .page))
+signing-bytes : (r : Record) (page : List ℕ) (q : Lists) (key : List ℕ) (op pa size curve : ℕ) → Yes (areBytes page) → Yes (queueFits q) → Yes (areBytes key) → Yes (areBytes (signingOf r page q key op pa size curve .page))
 unfolding signingOf queued
-signing-bytes r page q key op pa size curve a f k = kept (λ (t : SigningStep). areBytes (t .page)) (whenUp r (signingCode (upOf r) page q key (opcodeOf op) pa size curve)) _ _ a (λ h. op-bytes (opcodeOf op) _ size page q key a f k)
+signing-bytes r page q key op pa size curve a f k = if-ok-holds (λ (t : SigningStep). areBytes (t .page)) (whenUp r (signingCode (upOf r) page q key (opcodeOf op) pa size curve)) _ _ a (λ h. op-bytes (opcodeOf op) _ size page q key a f k)
 
 token-bytes : (r : Record) (page : List ℕ) (s : Session) (busy : Bool) (token : List ℕ) (pa size c : ℕ) → Yes (areBytes page) → Yes (areBytes token) → Yes (areBytes (tokenOf r page s busy token pa size c .page))
 unfolding tokenOf settled keeps sendOf
-token-bytes r page s busy token pa size c a t = kept (λ (x : TokenStep). areBytes (x .page)) (whenUp r (tokenCode (upOf r) page s busy token pa size c)) _ _ a (λ h. splice-bytes _ _ page (part-bytes _ _ token t) a)
+token-bytes r page s busy token pa size c a t = if-ok-holds (λ (x : TokenStep). areBytes (x .page)) (whenUp r (tokenCode (upOf r) page s busy token pa size c)) _ _ a (λ h. splice-bytes _ _ page (part-bytes _ _ token t) a)
 
 key-bytes : (r : Record) (page key : List ℕ) (pa size curve : ℕ) → Yes (areBytes page) → Yes (areBytes key) → Yes (areBytes (realmKeyOf r page key pa size curve .page))
 unfolding realmKeyOf keyed
-key-bytes r page key pa size curve a k = kept areBytes (whenUp r (keyCode (upOf r) page pa size curve key)) _ page a (λ h. splice-bytes _ key page k a)
+key-bytes r page key pa size curve a k = if-ok-holds areBytes (whenUp r (keyCode (upOf r) page pa size curve key)) _ page a (λ h. splice-bytes _ key page k a)
 
-call-bytes : (k : Kind) (r : Record) (g : Granules) (w : World) (c : Call) → Yes (areBytes (w .page)) → Yes (fits (w .queue)) → Yes (ofBytes (call c)) → Yes (areBytes (callBy k r g w c .next .page))
+call-bytes : (k : Kind) (r : Record) (g : Granules) (w : World) (c : Call) → Yes (areBytes (w .page)) → Yes (queueFits (w .queue)) → Yes (ofBytes (call c)) → Yes (areBytes (callBy k r g w c .next .page))
 unfolding callBy afterMove afterKey afterToken afterSigning afterUpdate ofBytes
 call-bytes ForwardError r g w c a f b = a
 call-bytes Delegate r g w c a f b = a
@@ -83,9 +83,9 @@ call-bytes Unlisted r g w c a f b = a
 abbrev whole : List ℕ → Bool
 whole w = both (eqb (length w) 210) (areWords w)
 
-left-whole : (k : Code) (q : Lists) (image : List ℕ) → Yes (whole image) → Yes (fits q) → Yes (whole (queueAfter k q image))
+left-whole : (k : Code) (q : Lists) (image : List ℕ) → Yes (whole image) → Yes (queueFits q) → Yes (whole (queueAfter k q image))
 unfolding queueAfter
-left-whole k q image h f = kept whole k (queueWords q) image h (λ e. both-of _ _ (eq-eqb (length (queueWords q)) 210 (queue-length q f)) (queue-words q f))
+left-whole k q image h f = if-ok-holds whole k (queueWords q) image h (λ e. both-of _ _ (eq-eqb (length (queueWords q)) 210 (queue-length q f)) (queue-words q f))
 
 sound : Lent → Bool
 sound m = both (areBytes (m .page)) (whole (m .queue))
@@ -96,7 +96,7 @@ module _ (state : List ℕ) (start : ℕ) where
     unfolding sound
     page-bytes = both-l _ _ h
 
-    queue-fits : Yes (fits (listsIn (m .queue)))
+    queue-fits : Yes (queueFits (listsIn (m .queue)))
     unfolding sound
     queue-fits = image-fits (m .queue) (eqb-true _ _ (both-l _ _ (both-r _ _ h))) (both-r _ _ (both-r _ _ h))
 

@@ -4,7 +4,7 @@ use Prim.Native.Nat.{ℕ, suc, _-_, _^_}
 use mathlib.Core.Bool.{Bool, true, false, cond}
 use lib.IntN.{ℤ, pos, negsuc}
 use Rattle.reader.specs.Answer.{minus}
-use Rattle.boot.specs.declared.Kept.{Kept}
+use Rattle.boot.specs.declared.Params.{Params}
 use Rattle.boot.specs.declared.Record.{Record}
 use Rattle.boot.specs.declared.Record.the-variants.{Fresh, Up, Closed}
 use Rattle.codes.specs.declared.Code.{Code}
@@ -55,7 +55,7 @@ isUp (Up u) = true
 isUp Closed = false
 
 -- "B and the agreed minor come from the boot record"
-unfoldable pub upOf : Record → Kept
+unfoldable pub upOf : Record → Params
 upOf Fresh = record { cpus = 0; base = 0; minor = 0 }
 upOf (Up u) = u
 upOf Closed = record { cpus = 0; base = 0; minor = 0 }

@@ -1,5 +1,5 @@
 // The runtime's codes, and the answer of a command.
-use boot::Kept;
+use boot::Params;
 use boot::Record;
 ghost use mathlib.Core.Path.{_≡_};
 ghost use Rattle.codes.specs.Codes.{x0Of, answerOf, isOk, isUp, upOf};
@@ -85,17 +85,17 @@ pub fn is_up(state: Record) -> bool
 }
 
 // What a boot record keeps; zeros where it is not up.
-pub fn up_of(state: Record) -> Kept
+pub fn up_of(state: Record) -> Params
     ensures { λ r. ⌜ r ≡ upOf state ⌝ }
 {
-    let none = Kept {
+    let none = Params {
         cpus: 0,
         base: 0,
         minor: 0,
     };
     match state {
         Record::Fresh => none,
-        Record::Up(kept) => kept,
+        Record::Up(params) => params,
         Record::Closed => none,
     }
 }

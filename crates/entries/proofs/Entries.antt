@@ -12,29 +12,29 @@ use borrow.Author.Tests.{leb-true}
 use Rattle.words.proofs.Tests.{every-none, every-more, every-not, every-same}
 use Rattle.words.specs.Word.{part, wordAt, wordsOf}
 use Rattle.words.proofs.Read.{wordsOf-at, wordsOf-suc, num-part}
-use Rattle.entries.specs.Entry.{per, size, entryOk, entriesOk, sum}
+use Rattle.entries.specs.Entry.{wordsPerEntry, size, entryOk, entriesOk, sum}
 use Rattle.entries.specs.Array.{wordsAt, entryAt, entryPlace, entriesAt, sumAt}
 
 -- ---- words in an entry
-pub per-one : per 1 ≡ 6
-unfolding per
+pub per-one : wordsPerEntry 1 ≡ 6
+unfolding wordsPerEntry
 per-one = refl
 
-pub per-other : (k : ℕ) → (k ≡ 1 → ⊥) → per k ≡ 2
-unfolding per
+pub per-other : (k : ℕ) → (k ≡ 1 → ⊥) → wordsPerEntry k ≡ 2
+unfolding wordsPerEntry
 per-other zero h = refl
 per-other (suc zero) h = absurd (h refl)
 per-other (suc (suc k)) h = refl
 
-pub per-range : (k : ℕ) → (2 ≤ per k) × (per k ≤ 6)
-unfolding per
+pub per-range : (k : ℕ) → (2 ≤ wordsPerEntry k) × (wordsPerEntry k ≤ 6)
+unfolding wordsPerEntry
 per-range zero = omega arith
 per-range (suc zero) = omega arith
 per-range (suc (suc k)) = omega arith
 
 -- bytes of c consoles, and of c banks or regions
 pub size-one : (c : ℕ) → size 1 c ≡ 48 * c
-unfolding size per
+unfolding size wordsPerEntry
 size-one c = omega arith
 
 pub size-other : (k c : ℕ) → (k ≡ 1 → ⊥) → size k c ≡ 16 * c
@@ -42,11 +42,11 @@ unfolding size
 size-other k c h = rw (per-other k h) (omega arith)
 
 -- an array that fits behind an offset ends within the page, whatever its entry's words were called
-pub fits-end : (k c at n w : ℕ) (b : Bool) → w ≡ per k → b ≡ leb (size k c) (n - at) → b ≡ true → at ≤ n → at + 8 * (w * c) ≤ n
+pub fits-end : (k c at n w : ℕ) (b : Bool) → w ≡ wordsPerEntry k → b ≡ leb (size k c) (n - at) → b ≡ true → at ≤ n → at + 8 * (w * c) ≤ n
 unfolding size
 fits-end k c at n w b e f g h =
-    let s : 8 * (per k * c) ≤ n - at = leb-true _ _ (sym f ∙ g) in
-    let z : w * c ≡ per k * c = rw e in
+    let s : 8 * (wordsPerEntry k * c) ≤ n - at = leb-true _ _ (sym f ∙ g) in
+    let z : w * c ≡ wordsPerEntry k * c = rw e in
     omega arith
 
 -- ---- entries in place
@@ -54,13 +54,13 @@ pub place-none : (k at : ℕ) → entryPlace k at 0 ≡ at
 unfolding entryPlace
 place-none k at = omega arith
 
-pub place-more : (k at i : ℕ) → entryPlace k at i + 8 * per k ≡ entryPlace k at (i + 1)
+pub place-more : (k at i : ℕ) → entryPlace k at i + 8 * wordsPerEntry k ≡ entryPlace k at (i + 1)
 unfolding entryPlace
 place-more k at i = rw (add-one, mul-suc) (omega arith)
 
-pub place-room : (k at i count : ℕ) → i < count → entryPlace k at i + 8 * per k ≤ at + size k count
+pub place-room : (k at i count : ℕ) → i < count → entryPlace k at i + 8 * wordsPerEntry k ≤ at + size k count
 unfolding entryPlace size
-place-room k at i count h = omega (arith, mul-suc (per k) i, mul-le-mul-left (per k) h)
+place-room k at i count h = omega (arith, mul-suc (wordsPerEntry k) i, mul-le-mul-left (wordsPerEntry k) h)
 
 pub entries-none : (w k at : ℕ) (page : List ℕ) → entriesAt w k at 0 page ≡ true
 unfolding entriesAt
@@ -76,29 +76,29 @@ entries-not w k at count i page h q = every-not count (λ i. entryAt w k (entryP
 
 -- ---- a word of the array is a word of the page
 module _ (k at i count : ℕ) (page : List ℕ) (h : i < count) where
-  pub word-in : (j : ℕ) → j < per k → getD (wordsAt k count at page) (per k * i + j) 0 ≡ wordAt (entryPlace k at i + 8 * j) page
+  pub word-in : (j : ℕ) → j < wordsPerEntry k → getD (wordsAt k count at page) (wordsPerEntry k * i + j) 0 ≡ wordAt (entryPlace k at i + 8 * j) page
   unfolding wordsAt size entryPlace
   word-in j l =
-      let m : per k * i + j < per k * count = omega (arith, mul-suc (per k) i, mul-le-mul-left (per k) h) in
-      wordsOf-at (per k * count) (part at (8 * (per k * count)) page) (per k * i + j) m
-      ∙ num-part 8 at (8 * (per k * count)) (8 * (per k * i + j)) page (omega arith)
-      ∙ ap (λ x. wordAt x page) (let e : at + 8 * (per k * i + j) ≡ at + 8 * (per k * i) + 8 * j = omega arith in e)
+      let m : wordsPerEntry k * i + j < wordsPerEntry k * count = omega (arith, mul-suc (wordsPerEntry k) i, mul-le-mul-left (wordsPerEntry k) h) in
+      wordsOf-at (wordsPerEntry k * count) (part at (8 * (wordsPerEntry k * count)) page) (wordsPerEntry k * i + j) m
+      ∙ num-part 8 at (8 * (wordsPerEntry k * count)) (8 * (wordsPerEntry k * i + j)) page (omega arith)
+      ∙ ap (λ x. wordAt x page) (let e : at + 8 * (wordsPerEntry k * i + j) ≡ at + 8 * (wordsPerEntry k * i) + 8 * j = omega arith in e)
 
-  first-in : getD (wordsAt k count at page) (per k * i) 0 ≡ wordAt (entryPlace k at i) page
+  first-in : getD (wordsAt k count at page) (wordsPerEntry k * i) 0 ≡ wordAt (entryPlace k at i) page
   first-in = let p = per-range k .0 in simp add-zero at (word-in 0 (omega arith))
 
-  entry-same : (w : ℕ) → entryOk w k (wordsAt k count at page) (per k * i) ≡ entryAt w k (entryPlace k at i) page
+  entry-same : (w : ℕ) → entryOk w k (wordsAt k count at page) (wordsPerEntry k * i) ≡ entryAt w k (entryPlace k at i) page
   unfolding entryOk entryAt
-  entry-same w = let p = per-range k .0 in rw (first-in, word-in 1 (omega arith), word-in (per k - 1) (omega arith))
+  entry-same w = let p = per-range k .0 in rw (first-in, word-in 1 (omega arith), word-in (wordsPerEntry k - 1) (omega arith))
 
 pub entries-same : (w k at count : ℕ) (page : List ℕ) → entriesOk w k count (wordsAt k count at page) ≡ entriesAt w k at count page
 unfolding entriesOk entriesAt
 entries-same w k at count page =
-    every-same count (λ i. entryOk w k (wordsAt k count at page) (per k * i)) (λ i. entryAt w k (entryPlace k at i) page)
+    every-same count (λ i. entryOk w k (wordsAt k count at page) (wordsPerEntry k * i)) (λ i. entryAt w k (entryPlace k at i) page)
     (λ i h. entry-same k at i count page h w)
 
 -- ---- the sum of an array's words
-pub sum-words : (k at count : ℕ) (page : List ℕ) → sumAt at (per k * count) page ≡ sum (wordsAt k count at page)
+pub sum-words : (k at count : ℕ) (page : List ℕ) → sumAt at (wordsPerEntry k * count) page ≡ sum (wordsAt k count at page)
 unfolding sumAt wordsAt size
 sum-words k at count page = refl
 

@@ -11,7 +11,7 @@ use borrow.Author.Tests.{eq-eqb, ne-eqb, eqb-true, lt-ltb, ltb-true, le-leb, leb
 use Rattle.words.specs.Tests.{Yes, both, every}
 use Rattle.words.specs.Word.{wordAt}
 use Rattle.words.proofs.Tests.{both-l, both-r, both-of, same-test}
-use Rattle.entries.specs.Entry.{per, bankOk, flagsOk, consoleOk, entryRule}
+use Rattle.entries.specs.Entry.{wordsPerEntry, bankOk, flagsOk, consoleOk, entryRule}
 use Rattle.entries.specs.Array.{entryAt, entryPlace, entriesAt}
 use Rattle.entries.specs.Gathered.{bankClear, consoleClear}
 use Rattle.entries.specs.declared.Bits.{Bits}
@@ -138,13 +138,13 @@ module _ (w at i : ℕ) (page : List ℕ) (r : Bool) where
       r ≡ both (entriesAt w k at i page) (bankOk base size) → r ≡ entriesAt w k at (i + 1) page
   unfolding entryAt entryPlace entryRule
   bank-step k base size n p q e =
-      let o : at + 8 * (per k * i) ≡ at + 16 * i = rw (per-other k n) (omega arith) in
+      let o : at + 8 * (wordsPerEntry k * i) ≡ at + 16 * i = rw (per-other k n) (omega arith) in
       let f : entryAt w k (entryPlace k at i) page ≡ bankOk base size = rw (o, ne-eqb k 1 n, ← p, ← q) in
       e ∙ ap (both (entriesAt w k at i page)) (sym f) ∙ entries-step w k at i page
 
   pub console-step : (base pages f : ℕ) → base ≡ wordAt (at + 48 * i) page → pages ≡ wordAt (at + 48 * i + 8) page → f ≡ wordAt (at + 48 * i + 40) page →
       r ≡ both (entriesAt w 1 at i page) (consoleOk w base pages f) → r ≡ entriesAt w 1 at (i + 1) page
-  unfolding entryAt entryPlace entryRule per
+  unfolding entryAt entryPlace entryRule wordsPerEntry
   console-step base pages f p q z e =
       let o : at + 8 * (6 * i) ≡ at + 48 * i = omega arith in
       let g : entryAt w 1 (entryPlace 1 at i) page ≡ consoleOk w base pages f = rw (o, ← p, ← q, ← z) in

@@ -5,11 +5,11 @@ use mathlib.Core.List.{List}
 use lib.Dec.{ltb, eqb}
 use Rattle.words.specs.Tests.{both, every}
 use Rattle.words.specs.Word.{part, wordAt, wordsOf}
-use Rattle.entries.specs.Entry.{per, size, entryRule, entriesOk, sum, checkOk}
+use Rattle.entries.specs.Entry.{wordsPerEntry, size, entryRule, entriesOk, sum, checkOk}
 
 -- the words of an array of c entries of section k at an offset
 unfoldable pub wordsAt : ℕ → ℕ → ℕ → List ℕ → List ℕ
-wordsAt k c at page = wordsOf (per k * c) (part at (size k c) page)
+wordsAt k c at page = wordsOf (wordsPerEntry k * c) (part at (size k c) page)
 
 -- The part of a section's rule that no edition changes, on a page of minor w, of count c, pointer p, checksum s and the
 -- array's words ws: "count 1 or more, a pointer that is a multiple of 8", "each checksum holds", and the entries' rules.
@@ -19,11 +19,11 @@ soundOf w k c p s ws = both (ltb 0 c) (both (eqb (p % 8) 0) (both (checkOk c p w
 -- ---- as the loops go
 -- the rule of the entry at an offset
 unfoldable pub entryAt : ℕ → ℕ → ℕ → List ℕ → Bool
-entryAt w k at page = entryRule w k (wordAt at page) (wordAt (at + 8) page) (wordAt (at + 8 * (per k - 1)) page)
+entryAt w k at page = entryRule w k (wordAt at page) (wordAt (at + 8) page) (wordAt (at + 8 * (wordsPerEntry k - 1)) page)
 
 -- the offset of entry i of the array at an offset
 unfoldable pub entryPlace : ℕ → ℕ → ℕ → ℕ
-entryPlace k at i = at + 8 * (per k * i)
+entryPlace k at i = at + 8 * (wordsPerEntry k * i)
 
 -- the rule of each of c entries at an offset
 unfoldable pub entriesAt : ℕ → ℕ → ℕ → ℕ → List ℕ → Bool

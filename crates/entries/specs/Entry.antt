@@ -9,14 +9,14 @@ use Rattle.words.specs.Tests.{both, every}
 
 -- words in an entry of section k: "A bank or region entry is 16 bytes: base, size. A console entry is 48 bytes: base,
 -- map_pages, name (8 bytes), clk_in_hz, baud_rate, flags."
-unfoldable pub per : ℕ → ℕ
-per zero = 2
-per (suc zero) = 6
-per (suc (suc k)) = 2
+unfoldable pub wordsPerEntry : ℕ → ℕ
+wordsPerEntry zero = 2
+wordsPerEntry (suc zero) = 6
+wordsPerEntry (suc (suc k)) = 2
 
 -- bytes of c entries
 unfoldable pub size : ℕ → ℕ → ℕ
-size k c = 8 * (per k * c)
+size k c = 8 * (wordsPerEntry k * c)
 
 -- "bank and region: base and size multiples of 4,096, size not 0, base + size at most 2^52"
 unfoldable pub bankOk : ℕ → ℕ → Bool
@@ -36,11 +36,11 @@ entryRule w k a b z = cond (eqb k 1) (consoleOk w a b z) (bankOk a b)
 
 -- the rule of the entry whose words start at place j of ws
 unfoldable pub entryOk : ℕ → ℕ → List ℕ → ℕ → Bool
-entryOk w k ws j = entryRule w k (getD ws j 0) (getD ws (j + 1) 0) (getD ws (j + (per k - 1)) 0)
+entryOk w k ws j = entryRule w k (getD ws j 0) (getD ws (j + 1) 0) (getD ws (j + (wordsPerEntry k - 1)) 0)
 
 -- the rule of each of c entries
 unfoldable pub entriesOk : ℕ → ℕ → ℕ → List ℕ → Bool
-entriesOk w k c ws = every c (λ i. entryOk w k ws (per k * i))
+entriesOk w k c ws = every c (λ i. entryOk w k ws (wordsPerEntry k * i))
 
 -- the entries of section k as they are shown on a page of minor w: at present as they stand
 unfoldable pub shownWords : ℕ → ℕ → List ℕ → List ℕ

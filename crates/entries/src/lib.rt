@@ -5,13 +5,13 @@ ghost use Prim.Native.Nat.{_+_, _*_, _%_, _^_, _≤_};
 ghost use lib.ListN.{length};
 ghost use lib.Dec.{leb};
 ghost use Rattle.words.specs.Tests.{both};
-ghost use Rattle.entries.specs.Entry.{per, size, bankOk, consoleOk};
+ghost use Rattle.entries.specs.Entry.{wordsPerEntry, size, bankOk, consoleOk};
 ghost use Rattle.entries.specs.Array.{wordsAt, entriesAt, sumAt, soundOf};
 ghost use Rattle.entries.specs.Gathered.{noBits, bankClear, consoleClear};
 
 // The words in an entry of section k.
 pub fn entry_words(k: usize) -> usize
-    ensures { λ r. ⌜ (r ≡ per k) × (2 ≤ r) × (r ≤ 6) ⌝ }
+    ensures { λ r. ⌜ (r ≡ wordsPerEntry k) × (2 ≤ r) × (r ≤ 6) ⌝ }
 {
     if k == 1 {
         return 6;
@@ -189,7 +189,7 @@ fn find_consoles(page: &[u8], minor: u64, at: usize, count: usize) -> Found
 // Count entries of section k at an offset.
 fn find(page: &[u8], minor: u64, k: usize, at: usize, count: usize) -> Found
     requires { ⌜ at + size k count ≤ length (now page) ⌝ }
-    ensures { λ r. ⌜ (r .sum ≡ sumAt at (per k * count) (now (page .entry)) % 2 ^ 64) × (r .ok ≡ entriesAt minor k at count (now (page .entry))) ⌝ }
+    ensures { λ r. ⌜ (r .sum ≡ sumAt at (wordsPerEntry k * count) (now (page .entry)) % 2 ^ 64) × (r .ok ≡ entriesAt minor k at count (now (page .entry))) ⌝ }
 {
     if k == 1 {
         return find_consoles(page, minor, at, count);

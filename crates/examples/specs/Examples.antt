@@ -7,13 +7,13 @@ use native.Mathlib.Omega.{arith}
 use lib.ListN.{length, getD}
 use borrow.Author.Tests.{eqb-true, le-ltb, lt-ltb, le-leb, lt-leb}
 use Rattle.words.specs.Tests.{both, either, every}
-use Rattle.versions.specs.Version.{minorOf, majorOf, aboveOf, accepted, later}
+use Rattle.versions.specs.Version.{minorOf, majorOf, aboveOf, versionOk, later}
 use Rattle.words.specs.Word.{joined}
-use Rattle.versions.specs.Edition.{secs, core, editionOk}
-use Rattle.entries.specs.Entry.{per, bankOk, flagsOk, consoleOk, entryRule, entryOk, entriesOk, sum, checkOk}
+use Rattle.versions.specs.Edition.{sectionCount, core, editionOk}
+use Rattle.entries.specs.Entry.{wordsPerEntry, bankOk, flagsOk, consoleOk, entryRule, entryOk, entriesOk, sum, checkOk}
 use Rattle.sections.specs.Page.{placeOk}
-use Rattle.lists.specs.Told.{four, toldBy, listOk, toldOk, noneLate, platBytes, used}
-use Rattle.boot.specs.declared.Kept.{Kept}
+use Rattle.lists.specs.Description.{four, descriptionOf, listOk, descriptionOk, noneLate, platBytes, used}
+use Rattle.boot.specs.declared.Params.{Params}
 use Rattle.boot.specs.declared.Record.the-variants.{Up}
 use Rattle.codes.specs.Codes.{extended, x0Of, answerOf, unless, fails, isUp, whenUp}
 use Rattle.codes.specs.declared.Code.the-variants.{Ok, BadAddr, BadPas, Inval}
@@ -21,7 +21,7 @@ use Rattle.range.specs.Range.{outside, tooLong}
 use Rattle.granules.specs.Granules.{granuleOf, falls, moveCode, moveOf, delegateOf}
 use Rattle.granules.specs.declared.Granules.{Granules}
 use Rattle.features.specs.Features.{updateCode}
-use Rattle.writer.specs.Write.{Made, no-page, a-page, wgate, writeOf}
+use Rattle.writer.specs.Write.{Made, no-page, a-page, writerGate, writeOf}
 
 -- the bank of example 4: base, size
 abbrev bank : List ℕ
@@ -40,15 +40,15 @@ made (no-page n) = false
 made (a-page p) = true
 
 abbrev fits : ℕ → List ℕ → List ℕ → Bool
-fits v a b = made (writeOf 0x80000000 4096 v (toldBy a b [] []))
+fits v a b = made (writeOf 0x80000000 4096 v (descriptionOf a b [] []))
 
 pub record Examples : Type 0 where
   -- "1* Version 0x0000000A is later than 0x00000009."
   pub e1 : later 0xA 0x9 ≡ true
   -- "2* 0x80000005 refused."
-  pub e2 : accepted 0x80000005 ≡ false
+  pub e2 : versionOk 0x80000005 ≡ false
   -- "3* 0x00010000 refused."
-  pub e3 : accepted 0x00010000 ≡ false
+  pub e3 : versionOk 0x00010000 ≡ false
   -- "4* Count 1, pointer 0x80000028, bank 0x90000000 of 0x10000000 bytes: checksum 0xFFFFFFFEDFFFFFD7." No other word holds.
   pub e4 : (s : ℕ) → s < 2 ^ 64 → checkOk 1 0x80000028 bank s ≡ true → s ≡ 0xFFFFFFFEDFFFFFD7
   pub e4-holds : checkOk 1 0x80000028 bank 0xFFFFFFFEDFFFFFD7 ≡ true
@@ -57,28 +57,28 @@ pub record Examples : Type 0 where
   -- "6* Edition 4: 83 consoles fit, 84 do not; edition 3 holds 84."
   pub e6 : (fits 4 [] (consoles 83) ≡ true) × (fits 4 [] (consoles 84) ≡ false) × (fits 3 [] (consoles 84) ≡ true)
   -- "7* pa = B + 4,095, size 1 is inside; size 2 too long."
-  pub e7 : (u : Kept) → (outside u (u .base + 4095) ≡ false) × (tooLong u (u .base + 4095) 1 ≡ false) × (tooLong u (u .base + 4095) 2 ≡ true)
+  pub e7 : (u : Params) → (outside u (u .base + 4095) ≡ false) × (tooLong u (u .base + 4095) 1 ≡ false) × (tooLong u (u .base + 4095) 2 ≡ true)
   -- "8* pa = B + 4,096, size 0 is outside."
-  pub e8 : (u : Kept) → outside u (u .base + 4096) ≡ true
+  pub e8 : (u : Params) → outside u (u .base + 4096) ≡ true
   -- "9* Code -2 in x0 is 0xFFFFFFFFFFFFFFFE."
   pub e9 : x0Of BadAddr ≡ 0xFFFFFFFFFFFFFFFE
   -- "10* Delegating a Realm granule: BAD_PAS."
-  pub e10 : (u : Kept) (g : Granules) (t : List ℕ) (addr : ℕ) → falls g (length t) addr ≡ true → getD t (granuleOf g addr) 0 ≡ 1 →
+  pub e10 : (u : Params) (g : Granules) (t : List ℕ) (addr : ℕ) → falls g (length t) addr ≡ true → getD t (granuleOf g addr) 0 ≡ 1 →
       delegateOf (Up u) g t addr ≡ record { answer = answerOf BadPas 0 0; table = t }
   -- "11* m = 7: mecid 255 passes, 256 does not."
-  pub e11 : (u : Kept) → (5 ≤ u .minor → updateCode u 7 255 ≡ Ok) × (updateCode u 7 256 ≡ Inval)
+  pub e11 : (u : Params) → (5 ≤ u .minor → updateCode u 7 255 ≡ Ok) × (updateCode u 7 256 ≡ Inval)
 
 check-one : (s : ℕ) → s < 2 ^ 64 → checkOk 1 0x80000028 bank s ≡ true → s ≡ 0xFFFFFFFEDFFFFFD7
 unfolding checkOk sum
 check-one s h t = let e : (1 + 0x80000028 + (0x90000000 + (0x10000000 + 0)) + s) % 2 ^ 64 ≡ 0 = eqb-true _ _ t in omega arith
 
-granted : (u : Kept) (g : Granules) (t : List ℕ) (addr : ℕ) → falls g (length t) addr ≡ true → getD t (granuleOf g addr) 0 ≡ 1 →
+granted : (u : Params) (g : Granules) (t : List ℕ) (addr : ℕ) → falls g (length t) addr ≡ true → getD t (granuleOf g addr) 0 ≡ 1 →
     delegateOf (Up u) g t addr ≡ record { answer = answerOf BadPas 0 0; table = t }
 unfolding moveOf moveCode whenUp isUp unless fails
 granted u g t addr f b = rw (f, b)
 
 pub examples : Examples
-unfolding later accepted aboveOf majorOf minorOf checkOk sum both either every joined made writeOf wgate placeOk editionOk toldOk listOk noneLate used platBytes toldBy four core secs per entriesOk entryOk entryRule bankOk consoleOk flagsOk outside tooLong x0Of extended updateCode fails unless
+unfolding later versionOk aboveOf majorOf minorOf checkOk sum both either every joined made writeOf writerGate placeOk editionOk descriptionOk listOk noneLate used platBytes descriptionOf four core sectionCount wordsPerEntry entriesOk entryOk entryRule bankOk consoleOk flagsOk outside tooLong x0Of extended updateCode fails unless
 examples = record {
   e1 = refl;
   e2 = refl;

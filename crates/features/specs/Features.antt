@@ -2,7 +2,7 @@
 use Prim.Native.Nat.{ℕ, _+_, _-_, _^_, min}
 use lib.Dec.{ltb, eqb}
 use Rattle.words.specs.Tests.{either}
-use Rattle.boot.specs.declared.Kept.{Kept}
+use Rattle.boot.specs.declared.Params.{Params}
 use Rattle.boot.specs.declared.Record.{Record}
 use Rattle.codes.specs.Codes.{unless, fails, upOf, whenUp, ifOk, answerOf}
 use Rattle.codes.specs.declared.Code.{Code}
@@ -12,7 +12,7 @@ use Rattle.codes.specs.declared.Work.the-variants.{Nothing, Reprogram}
 use Rattle.features.specs.declared.Updated.{Updated}
 
 -- "features: index not 0 INVAL; agreed minor below 4 UNK;"
-unfoldable pub featuresCode : Kept → ℕ → Code
+unfoldable pub featuresCode : Params → ℕ → Code
 featuresCode u index = fails (unless (eqb index 0)) Inval (fails (ltb (u .minor) 4) Unk Ok)
 
 -- "x1 is 1 (token signing present)."
@@ -24,7 +24,7 @@ featuresOf s index = featuresBy (whenUp s (featuresCode (upOf s) index))
 
 -- "key update: mecid above 65,535 or above 2^(m+1) - 1 INVAL, m being MECIDWidthm1 and taken as 15 if larger; m above 15 or minor
 -- below 5 UNK;"
-unfoldable pub updateCode : Kept → ℕ → ℕ → Code
+unfoldable pub updateCode : Params → ℕ → ℕ → Code
 updateCode u m mecid =
     fails (either (ltb 65535 mecid) (ltb (2 ^ (min m 15 + 1) - 1) mecid)) Inval
     (fails (either (ltb 15 m) (ltb (u .minor) 5)) Unk

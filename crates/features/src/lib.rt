@@ -25,8 +25,8 @@ pub fn features(state: Record, index: u64) -> Answer
     if index != 0 {
         return codes::answered(Code::Inval, 0, 0);
     }
-    let kept = codes::up_of(state);
-    if kept.minor < 4 {
+    let params = codes::up_of(state);
+    if params.minor < 4 {
         return codes::answered(Code::Unk, 0, 0);
     }
     codes::answered(Code::Ok, 1, 0)
@@ -69,8 +69,8 @@ pub fn key_update(state: Record, width: u64, mecid: u64) -> Updated
     if 15 < width {
         return refused(Code::Unk);
     }
-    let kept = codes::up_of(state);
-    if kept.minor < 5 {
+    let params = codes::up_of(state);
+    if params.minor < 5 {
         return refused(Code::Unk);
     }
     Updated {

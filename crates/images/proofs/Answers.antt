@@ -3,33 +3,33 @@ use Prim.Native.Nat.{ℕ}
 use mathlib.Core.Path.{_≡_, refl, sym, ap, _∙_}
 use mathlib.Core.List.{List}
 use Rattle.reader.specs.Answer.{readOf}
-use Rattle.reader.specs.Reading.{answerOf, placedAs, viewAt}
+use Rattle.reader.specs.Reading.{readingAnswer, placedAs, viewAt}
 use Rattle.reader.specs.declared.Reading.{Reading}
 use Rattle.reader.specs.declared.Reading.the-variants.{Accepted, Refused}
 use Rattle.boot.specs.Boot.{codeIn, numberIn}
 use Rattle.writer.specs.Write.{Made}
-use Rattle.writer.specs.Wrote.{answerOf as madeOf}
+use Rattle.writer.specs.Wrote.{madeBy as madeOf}
 use Rattle.writer.specs.declared.Wrote.{Wrote}
 use Rattle.writer.specs.declared.Wrote.the-variants.{Page, Place, Edition, Lists, Late, Room}
-use Rattle.images.specs.Image.{viewWords, shownWords, readingWords, madeNumber, wroteNumber}
+use Rattle.images.specs.Image.{viewWords, answerWords, readingWords, madeNumber, wroteNumber}
 
 -- ---- the reader's answer
-number-in : (page : List ℕ) (r : Reading) → numberIn r ≡ codeIn (answerOf page r)
-unfolding numberIn codeIn answerOf
+number-in : (page : List ℕ) (r : Reading) → numberIn r ≡ codeIn (readingAnswer page r)
+unfolding numberIn codeIn readingAnswer
 number-in page (Accepted v) = refl
 number-in page (Refused c) = refl
 
-words-in : (base : ℕ) (page : List ℕ) (r : Reading) → readingWords (placedAs base page r) ≡ shownWords base page (answerOf page r)
-unfolding readingWords placedAs shownWords answerOf
+words-in : (base : ℕ) (page : List ℕ) (r : Reading) → readingWords (placedAs base page r) ≡ answerWords base page (readingAnswer page r)
+unfolding readingWords placedAs answerWords readingAnswer
 words-in base page (Accepted v) = refl
 words-in base page (Refused c) = refl
 
-module _ (e base : ℕ) (page : List ℕ) (r : Reading) (h : answerOf page r ≡ readOf e base page) where
+module _ (e base : ℕ) (page : List ℕ) (r : Reading) (h : readingAnswer page r ≡ readOf e base page) where
   pub reading-code : numberIn r ≡ codeIn (readOf e base page)
   reading-code = number-in page r ∙ ap codeIn h
 
-  pub reading-words : r ≡ placedAs base page r → readingWords r ≡ shownWords base page (readOf e base page)
-  reading-words p = ap readingWords p ∙ words-in base page r ∙ ap (shownWords base page) h
+  pub reading-words : r ≡ placedAs base page r → readingWords r ≡ answerWords base page (readOf e base page)
+  reading-words p = ap readingWords p ∙ words-in base page r ∙ ap (answerWords base page) h
 
 -- ---- the writer's answer
 made-number : (page : List ℕ) (x : Wrote) → wroteNumber x ≡ madeNumber (madeOf page x)

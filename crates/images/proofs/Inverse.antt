@@ -9,7 +9,7 @@ use Rattle.reader.specs.declared.Section.the-variants.{Absent, Empty, Entries}
 use Rattle.reader.specs.declared.View.{View}
 use Rattle.token.specs.declared.Session.{Session}
 use Rattle.token.specs.declared.Session.the-variants.{Idle, Sending}
-use Rattle.images.specs.Image.{recordOf, recordWords, sessionOf, sessionWords, sectionBy, tagOf, placeOf, countOf, sectionIn, viewOf, viewWords}
+use Rattle.images.specs.Image.{recordOf, recordWords, sessionOf, sessionWords, sectionBy, tagWord, placeWord, countWord, sectionIn, viewOf, viewWords}
 
 -- a state comes back from its image
 pub record-back : (r : Record) → recordOf (recordWords r) ≡ r
@@ -23,8 +23,8 @@ unfolding sessionOf sessionWords
 session-back Idle = refl
 session-back (Sending whole sent) = refl
 
-section-back : (s : Section) → sectionBy (tagOf s) (placeOf s) (countOf s) ≡ s
-unfolding sectionBy tagOf placeOf countOf
+section-back : (s : Section) → sectionBy (tagWord s) (placeWord s) (countWord s) ≡ s
+unfolding sectionBy tagWord placeWord countWord
 section-back Absent = refl
 section-back Empty = refl
 section-back (Entries at count) = refl

@@ -10,7 +10,7 @@ use Rattle.boot.specs.declared.Record.the-variants.{Fresh, Up, Closed}
 use Rattle.codes.specs.declared.Answer.{Answer}
 use Rattle.codes.specs.declared.Work.{Work}
 use Rattle.codes.specs.declared.Work.the-variants.{Nothing, Reprogram}
-use Rattle.reader.specs.Answer.{Answer as ReaderAnswer, refused, shows}
+use Rattle.reader.specs.Answer.{ReaderAnswer, refused, shows}
 use Rattle.reader.specs.Reading.{viewAt}
 use Rattle.reader.specs.declared.Reading.{Reading}
 use Rattle.reader.specs.declared.Reading.the-variants.{Accepted, Refused}
@@ -46,8 +46,8 @@ sessionWords Idle = 0 ∷ 0 ∷ 0 ∷ []
 sessionWords (Sending whole sent) = 1 ∷ whole ∷ sent ∷ []
 
 -- ---- the result registers, x0 to x2
-unfoldable pub registers : Answer → List ℕ
-registers a = a .x0 ∷ a .x1 ∷ a .x2 ∷ []
+unfoldable pub registerWords : Answer → List ℕ
+registerWords a = a .x0 ∷ a .x1 ∷ a .x2 ∷ []
 
 -- ---- what the platform has to do: 0 nothing, or 1 and the mecid to reprogram
 unfoldable pub workWords : Work → List ℕ
@@ -59,20 +59,20 @@ workWords (Reprogram mecid) = 1 ∷ mecid ∷ []
 unfoldable pub sectionBy : ℕ → ℕ → ℕ → Section
 sectionBy tag at count = cond (eqb tag 0) Absent (cond (eqb tag 1) Empty (Entries at count))
 
-unfoldable pub tagOf : Section → ℕ
-tagOf Absent = 0
-tagOf Empty = 1
-tagOf (Entries at count) = 2
+unfoldable pub tagWord : Section → ℕ
+tagWord Absent = 0
+tagWord Empty = 1
+tagWord (Entries at count) = 2
 
-unfoldable pub placeOf : Section → ℕ
-placeOf Absent = 0
-placeOf Empty = 0
-placeOf (Entries at count) = at
+unfoldable pub placeWord : Section → ℕ
+placeWord Absent = 0
+placeWord Empty = 0
+placeWord (Entries at count) = at
 
-unfoldable pub countOf : Section → ℕ
-countOf Absent = 0
-countOf Empty = 0
-countOf (Entries at count) = count
+unfoldable pub countWord : Section → ℕ
+countWord Absent = 0
+countWord Empty = 0
+countWord (Entries at count) = count
 
 unfoldable pub sectionIn : ℕ → List ℕ → Section
 sectionIn i w = sectionBy (getD w i 0) (getD w (i + 1) 0) (getD w (i + 2) 0)
@@ -90,20 +90,20 @@ viewOf w =
     }
 
 unfoldable pub sectionWords : Section → List ℕ
-sectionWords s = tagOf s ∷ placeOf s ∷ countOf s ∷ []
+sectionWords s = tagWord s ∷ placeWord s ∷ countWord s ∷ []
 
 unfoldable pub viewWords : View → List ℕ
 viewWords v =
     v .minor ∷ v .edition ∷ v .plat ∷
-    tagOf (v .dram) ∷ placeOf (v .dram) ∷ countOf (v .dram) ∷
-    tagOf (v .console) ∷ placeOf (v .console) ∷ countOf (v .console) ∷
-    tagOf (v .ncoh) ∷ placeOf (v .ncoh) ∷ countOf (v .ncoh) ∷
-    tagOf (v .coh) ∷ placeOf (v .coh) ∷ countOf (v .coh) ∷ []
+    tagWord (v .dram) ∷ placeWord (v .dram) ∷ countWord (v .dram) ∷
+    tagWord (v .console) ∷ placeWord (v .console) ∷ countWord (v .console) ∷
+    tagWord (v .ncoh) ∷ placeWord (v .ncoh) ∷ countWord (v .ncoh) ∷
+    tagWord (v .coh) ∷ placeWord (v .coh) ∷ countWord (v .coh) ∷ []
 
 -- the view of a reader's answer on a page at a base; zeros where it refuses the page
-unfoldable pub shownWords : ℕ → List ℕ → ReaderAnswer → List ℕ
-shownWords base page (refused c) = replicate 15 0
-shownWords base page (shows w e q s) = viewWords (viewAt w e base page)
+unfoldable pub answerWords : ℕ → List ℕ → ReaderAnswer → List ℕ
+answerWords base page (refused c) = replicate 15 0
+answerWords base page (shows w e q s) = viewWords (viewAt w e base page)
 
 -- the same of the reader's enum
 unfoldable pub readingWords : Reading → List ℕ
@@ -132,7 +132,7 @@ spanWords p = p .at ∷ p .len ∷ []
 -- error code to forward to the Non-secure world
 unfoldable pub replyRegisters : Reply → List ℕ
 replyRegisters (Forward n) = 0 ∷ 0 ∷ 0 ∷ []
-replyRegisters (Back a work) = registers a
+replyRegisters (Back a work) = registerWords a
 
 unfoldable pub replyWords : Reply → List ℕ
 replyWords (Forward n) = 2 ∷ n ∷ []

@@ -1,6 +1,6 @@
 // States and answers as lent words, for C: an image is read as a state, and a state written as its image. An image that no state
 // has is an input like any other.
-use boot::Kept;
+use boot::Params;
 use boot::Record;
 use codes::Answer;
 use codes::Code;
@@ -18,8 +18,8 @@ ghost use lib.ListN.{length};
 ghost use lib.Dec.{eqb};
 ghost use Rattle.boot.specs.Boot.{numberIn};
 ghost use Rattle.codes.specs.Codes.{unless, ifOk};
-ghost use Rattle.runtime.specs.Step.{codeOf};
-ghost use Rattle.images.specs.Image.{recordOf, recordWords, sessionOf, sessionWords, registers as Image·registers, workWords, sectionIn, sectionWords, viewOf, viewWords, spanWords, readingWords, wroteNumber, replyRegisters, replyWords};
+ghost use Rattle.runtime.specs.Step.{replyCode};
+ghost use Rattle.images.specs.Image.{recordOf, recordWords, sessionOf, sessionWords, registerWords, workWords, sectionIn, sectionWords, viewOf, viewWords, spanWords, readingWords, wroteNumber, replyRegisters, replyWords};
 
 pub fn record_of(image: &[u64; 4]) -> Record
     ensures { λ r. ⌜ r ≡ recordOf (now (image .entry)) ⌝ }
@@ -28,7 +28,7 @@ pub fn record_of(image: &[u64; 4]) -> Record
         return Record::Fresh;
     }
     if image[0] == 1 {
-        return Record::Up(Kept {
+        return Record::Up(Params {
             cpus: image[1],
             base: image[2],
             minor: image[3],
@@ -42,7 +42,7 @@ pub fn record_words(state: Record) -> [u64; 4]
 {
     match state {
         Record::Fresh => [0, 0, 0, 0],
-        Record::Up(kept) => [1, kept.cpus, kept.base, kept.minor],
+        Record::Up(params) => [1, params.cpus, params.base, params.minor],
         Record::Closed => [2, 0, 0, 0],
     }
 }
@@ -88,7 +88,7 @@ pub fn is_set(flag: u64) -> bool
 }
 
 pub fn registers(answer: Answer) -> [u64; 3]
-    ensures { λ r. ⌜ r ≡ Image·registers answer ⌝ }
+    ensures { λ r. ⌜ r ≡ registerWords answer ⌝ }
 {
     [answer.x0, answer.x1, answer.x2]
 }
@@ -215,7 +215,7 @@ pub fn span_words(span: Span) -> [u64; 2]
 
 // A reply's code; one that goes to the Non-secure world is never refused.
 pub fn reply_code(reply: Reply) -> Code
-    ensures { λ r. ⌜ r ≡ codeOf reply ⌝ }
+    ensures { λ r. ⌜ r ≡ replyCode reply ⌝ }
 {
     match reply {
         Reply::Forward(_) => Code::Ok,

@@ -12,8 +12,8 @@ use Rattle.token.specs.declared.Session.{Session}
 use Rattle.queue.specs.Queue.{Lists, SigningStep}
 use Rattle.responses.specs.Sign.{SignStep, signOf}
 use Rattle.signing.specs.Signing.{signingOf}
-use Rattle.runtime.specs.Step.{Call, Step, callOf, codeOf}
-use Rattle.images.specs.Image.{recordOf, sessionOf, sessionWords, registers, replyRegisters, replyWords}
+use Rattle.runtime.specs.Step.{Call, Step, callOf, replyCode}
+use Rattle.images.specs.Image.{recordOf, sessionOf, sessionWords, registerWords, replyRegisters, replyWords}
 use Rattle.queue_image.specs.Image.{listsIn, queueWords}
 
 -- a flag as a number: any but 0 is set
@@ -34,7 +34,7 @@ pub record TokenLeft : Type 0 where
   pub session : List ℕ
 
 unfoldable pub tokenLeft : TokenStep → List ℕ → TokenLeft
-tokenLeft t image = record { out = registers (t .answer); page = t .page; session = sessionAfter (t .answer .code) (t .session) image }
+tokenLeft t image = record { out = registerWords (t .answer); page = t .page; session = sessionAfter (t .answer .code) (t .session) image }
 
 unfoldable pub tokenIn : List ℕ → List ℕ → List ℕ → List ℕ → ℕ → ℕ → ℕ → ℕ → TokenLeft
 tokenIn state image page token busy pa size c = tokenLeft (tokenOf (recordOf state) page (sessionOf image) (isSet busy) token pa size c) image
@@ -46,7 +46,7 @@ pub record SigningLeft : Type 0 where
   pub queue : List ℕ
 
 unfoldable pub signingLeft : SigningStep → List ℕ → SigningLeft
-signingLeft s image = record { out = registers (s .answer); page = s .page; queue = queueAfter (s .answer .code) (s .queue) image }
+signingLeft s image = record { out = registerWords (s .answer); page = s .page; queue = queueAfter (s .answer .code) (s .queue) image }
 
 unfoldable pub signingIn : List ℕ → List ℕ → List ℕ → List ℕ → ℕ → ℕ → ℕ → ℕ → SigningLeft
 signingIn state image page key opcode pa size curve = signingLeft (signingOf (recordOf state) page (listsIn image) key opcode pa size curve) image
@@ -57,7 +57,7 @@ pub record SignLeft : Type 0 where
   pub queue : List ℕ
 
 unfoldable pub signLeft : SignStep → List ℕ → SignLeft
-signLeft s image = record { out = registers (s .answer); queue = queueAfter (s .answer .code) (s .queue) image }
+signLeft s image = record { out = registerWords (s .answer); queue = queueAfter (s .answer .code) (s .queue) image }
 
 unfoldable pub signIn : List ℕ → List ℕ → SignLeft
 signIn image signature = signLeft (signOf (listsIn image) signature) image
@@ -78,8 +78,8 @@ callLeft s session queue =
       work = replyWords (s .reply);
       page = s .next .page;
       table = s .next .table;
-      session = sessionAfter (codeOf (s .reply)) (s .next .session) session;
-      queue = queueAfter (codeOf (s .reply)) (s .next .queue) queue;
+      session = sessionAfter (replyCode (s .reply)) (s .next .session) session;
+      queue = queueAfter (replyCode (s .reply)) (s .next .queue) queue;
     }
 
 -- what is lent to a call beside the images: x0, the function id, to x4, and what the platform says or lends

@@ -3,10 +3,10 @@ use granules::Granules;
 ghost use mathlib.Core.Path.{_≡_};
 ghost use lib.ListN.{length};
 ghost use Rattle.reader.specs.Answer.{countIn, wordIn, readOf};
-ghost use Rattle.reader.specs.Reading.{sectionOf, answerOf};
+ghost use Rattle.reader.specs.Reading.{sectionOf, readingAnswer};
 ghost use Rattle.reader.specs.declared.Reading.the-variants.{Accepted};
 ghost use Rattle.lookup.specs.Lookup.{spanOf, spanIn};
-ghost use Rattle.lists.specs.Told.{toldBy};
+ghost use Rattle.lists.specs.Description.{descriptionOf};
 ghost use Rattle.writer.specs.Write.{writeOf};
 ghost use Rattle.writer.specs.Wrote.{pageAfter};
 ghost use Rattle.boot.specs.Boot.{codeIn, coldCode, coldNext, warmCode, warmNext};
@@ -14,7 +14,7 @@ ghost use Rattle.granules.specs.Granules.{delegateOf, undelegateOf};
 ghost use Rattle.attest.specs.Key.{realmKeyOf};
 ghost use Rattle.token.specs.Token.{challengeSpan};
 ghost use Rattle.features.specs.Features.{featuresOf, updateOf, forwardOf};
-ghost use Rattle.images.specs.Image.{recordOf, recordWords, registers as Image·registers, workWords, viewOf, shownWords, madeNumber, spanWords};
+ghost use Rattle.images.specs.Image.{recordOf, recordWords, registerWords, workWords, viewOf, answerWords, madeNumber, spanWords};
 ghost use Rattle.queue_image.specs.Image.{listsIn, oldestWords};
 ghost use Rattle.kit.specs.Kit.{TokenLeft, tokenIn, SigningLeft, signingIn, SignLeft, signIn, CallLeft, callWith, callIn};
 
@@ -24,7 +24,7 @@ ghost use Rattle.kit.specs.Kit.{TokenLeft, tokenIn, SigningLeft, signing
 #[no_mangle]
 pub extern "C" fn pb_read(page: &[u8], base: u64, edition: u64, view: &mut [u64; 15]) -> i32
     ensures { λ r. ⌜ r ≡ codeIn (readOf edition base (now (page .entry))) ⌝ }
-    ensures { λ r. ⌜ now (view .exit) ≡ shownWords base (now (page .entry)) (readOf edition base (now (page .entry))) ⌝ }
+    ensures { λ r. ⌜ now (view .exit) ≡ answerWords base (now (page .entry)) (readOf edition base (now (page .entry))) ⌝ }
 {
     let reading = reader::read(page, base, edition);
     *view = images::reading_words(reading);
@@ -56,7 +56,7 @@ pub extern "C" fn pb_array_of(page: &[u8], view: &[u64; 15], section: usize, pla
 // How many entries a view's section has.
 #[no_mangle]
 pub extern "C" fn pb_count(page: &[u8], view: &[u64; 15], section: usize) -> usize
-    ensures { λ r. ⌜ r ≡ countIn (answerOf (now (page .entry)) (Accepted (viewOf (now (view .entry))))) section ⌝ }
+    ensures { λ r. ⌜ r ≡ countIn (readingAnswer (now (page .entry)) (Accepted (viewOf (now (view .entry))))) section ⌝ }
 {
     lookup::count_of(page, images::view_of(view), section)
 }
@@ -70,7 +70,7 @@ pub extern "C" fn pb_word(
     entry: usize,
     word: usize,
 ) -> u64
-    ensures { λ r. ⌜ r ≡ wordIn (answerOf (now (page .entry)) (Accepted (viewOf (now (view .entry))))) section entry word ⌝ }
+    ensures { λ r. ⌜ r ≡ wordIn (readingAnswer (now (page .entry)) (Accepted (viewOf (now (view .entry))))) section entry word ⌝ }
 {
     lookup::word_of(page, images::view_of(view), section, entry, word)
 }
@@ -86,8 +86,8 @@ pub extern "C" fn pb_write(
     coh: &[u64],
     page: &mut [u8],
 ) -> u32
-    ensures { λ r. ⌜ r ≡ madeNumber (writeOf base (length (now (page .entry))) edition (toldBy (now (dram .entry)) (now (console .entry)) (now (ncoh .entry)) (now (coh .entry)))) ⌝ }
-    ensures { λ r. ⌜ now (page .exit) ≡ pageAfter (now (page .entry)) (writeOf base (length (now (page .entry))) edition (toldBy (now (dram .entry)) (now (console .entry)) (now (ncoh .entry)) (now (coh .entry)))) ⌝ }
+    ensures { λ r. ⌜ r ≡ madeNumber (writeOf base (length (now (page .entry))) edition (descriptionOf (now (dram .entry)) (now (console .entry)) (now (ncoh .entry)) (now (coh .entry)))) ⌝ }
+    ensures { λ r. ⌜ now (page .exit) ≡ pageAfter (now (page .entry)) (writeOf base (length (now (page .entry))) edition (descriptionOf (now (dram .entry)) (now (console .entry)) (now (ncoh .entry)) (now (coh .entry)))) ⌝ }
 {
     images::wrote_number(writer::write(base, edition, dram, console, ncoh, coh, page))
 }
@@ -139,7 +139,7 @@ pub extern "C" fn pb_delegate(
     address: u64,
     out: &mut [u64; 3],
 )
-    ensures { λ _. ⌜ now (out .exit) ≡ Image·registers (delegateOf (recordOf (now (state .entry))) (record { start = start }) (now (table .entry)) address .answer) ⌝ }
+    ensures { λ _. ⌜ now (out .exit) ≡ registerWords (delegateOf (recordOf (now (state .entry))) (record { start = start }) (now (table .entry)) address .answer) ⌝ }
     ensures { λ _. ⌜ now (table .exit) ≡ delegateOf (recordOf (now (state .entry))) (record { start = start }) (now (table .entry)) address .table ⌝ }
 {
     let granules = Granules { start };
@@ -160,7 +160,7 @@ pub extern "C" fn pb_undelegate(
     address: u64,
     out: &mut [u64; 3],
 )
-    ensures { λ _. ⌜ now (out .exit) ≡ Image·registers (undelegateOf (recordOf (now (state .entry))) (record { start = start }) (now (table .entry)) address .answer) ⌝ }
+    ensures { λ _. ⌜ now (out .exit) ≡ registerWords (undelegateOf (recordOf (now (state .entry))) (record { start = start }) (now (table .entry)) address .answer) ⌝ }
     ensures { λ _. ⌜ now (table .exit) ≡ undelegateOf (recordOf (now (state .entry))) (record { start = start }) (now (table .entry)) address .table ⌝ }
 {
     let granules = Granules { start };
@@ -183,7 +183,7 @@ pub extern "C" fn pb_realm_key(
     curve: u64,
     out: &mut [u64; 3],
 )
-    ensures { λ _. ⌜ now (out .exit) ≡ Image·registers (realmKeyOf (recordOf (now (state .entry))) (now (page .entry)) (now (key .entry)) pa size curve .answer) ⌝ }
+    ensures { λ _. ⌜ now (out .exit) ≡ registerWords (realmKeyOf (recordOf (now (state .entry))) (now (page .entry)) (now (key .entry)) pa size curve .answer) ⌝ }
     ensures { λ _. ⌜ now (page .exit) ≡ realmKeyOf (recordOf (now (state .entry))) (now (page .entry)) (now (key .entry)) pa size curve .page ⌝ }
 {
     *out = images::registers(attest::realm_key(
@@ -253,7 +253,7 @@ pub extern "C" fn pb_challenge(
 // 0xC40001B4: the features at an index.
 #[no_mangle]
 pub extern "C" fn pb_features(state: &[u64; 4], index: u64, out: &mut [u64; 3])
-    ensures { λ _. ⌜ now (out .exit) ≡ Image·registers (featuresOf (recordOf (now (state .entry))) index) ⌝ }
+    ensures { λ _. ⌜ now (out .exit) ≡ registerWords (featuresOf (recordOf (now (state .entry))) index) ⌝ }
 {
     *out = images::registers(features::features(images::record_of(state), index));
 }
@@ -300,7 +300,7 @@ pub extern "C" fn pb_key_update(
     out: &mut [u64; 3],
     work: &mut [u64; 2],
 )
-    ensures { λ _. ⌜ now (out .exit) ≡ Image·registers (updateOf (recordOf (now (state .entry))) width mecid .answer) ⌝ }
+    ensures { λ _. ⌜ now (out .exit) ≡ registerWords (updateOf (recordOf (now (state .entry))) width mecid .answer) ⌝ }
     ensures { λ _. ⌜ now (work .exit) ≡ workWords (updateOf (recordOf (now (state .entry))) width mecid .work) ⌝ }
 {
     let updated = features::key_update(images::record_of(state), width, mecid);

@@ -12,52 +12,52 @@ use borrow.Author.Tests.{eq-eqb, ne-eqb, lt-ltb, le-ltb, le-leb, leb-true}
 use Rattle.words.specs.Tests.{both, either, every}
 use Rattle.words.proofs.Tests.{either-l, every-of, every-at, every-none, every-more, every-not, same-test}
 use Rattle.words.specs.Word.{joined}
-use Rattle.versions.specs.Edition.{secs, core}
-use Rattle.versions.proofs.Editions.{secs-most}
-use Rattle.entries.specs.Entry.{per, bankOk, consoleOk, entryRule, entryOk, entriesOk}
+use Rattle.versions.specs.Edition.{sectionCount, core}
+use Rattle.versions.proofs.Editions.{section-count-most}
+use Rattle.entries.specs.Entry.{wordsPerEntry, bankOk, consoleOk, entryRule, entryOk, entriesOk}
 use Rattle.entries.proofs.Entries.{per-other}
-use Rattle.lists.specs.Told.{four, toldBy, listOk, toldOk, noneLate, platBytes, used}
+use Rattle.lists.specs.Description.{four, descriptionOf, listOk, descriptionOk, noneLate, platBytes, used}
 use Rattle.lists.specs.Lengths.{sumTo, lateTo}
 
 -- ---- one list, entry by entry
-pub told-none : (w k : ℕ) (ws : List ℕ) → entriesOk w k 0 ws ≡ true
+pub described-none : (w k : ℕ) (ws : List ℕ) → entriesOk w k 0 ws ≡ true
 unfolding entriesOk
-told-none w k ws = every-none (λ i. entryOk w k ws (per k * i))
+described-none w k ws = every-none (λ i. entryOk w k ws (wordsPerEntry k * i))
 
-told-step : (w k i : ℕ) (ws : List ℕ) → both (entriesOk w k i ws) (entryOk w k ws (per k * i)) ≡ entriesOk w k (i + 1) ws
+described-step : (w k i : ℕ) (ws : List ℕ) → both (entriesOk w k i ws) (entryOk w k ws (wordsPerEntry k * i)) ≡ entriesOk w k (i + 1) ws
 unfolding entriesOk every
-told-step w k i ws = rw add-one
+described-step w k i ws = rw add-one
 
 module _ (w i : ℕ) (ws : List ℕ) (r : Bool) where
-  pub told-bank : (k at : ℕ) → (k ≡ 1 → ⊥) → at ≡ 2 * i → r ≡ both (entriesOk w k i ws) (bankOk (getD ws at 0) (getD ws (at + 1) 0)) → r ≡ entriesOk w k (i + 1) ws
+  pub described-bank : (k at : ℕ) → (k ≡ 1 → ⊥) → at ≡ 2 * i → r ≡ both (entriesOk w k i ws) (bankOk (getD ws at 0) (getD ws (at + 1) 0)) → r ≡ entriesOk w k (i + 1) ws
   unfolding entryOk entryRule
-  told-bank k at n o e =
-      let f : entryOk w k ws (per k * i) ≡ bankOk (getD ws at 0) (getD ws (at + 1) 0) = rw (ne-eqb k 1 n, per-other k n, ← o) in
-      e ∙ ap (both (entriesOk w k i ws)) (sym f) ∙ told-step w k i ws
+  described-bank k at n o e =
+      let f : entryOk w k ws (wordsPerEntry k * i) ≡ bankOk (getD ws at 0) (getD ws (at + 1) 0) = rw (ne-eqb k 1 n, per-other k n, ← o) in
+      e ∙ ap (both (entriesOk w k i ws)) (sym f) ∙ described-step w k i ws
 
-  pub told-console : (at : ℕ) → at ≡ 6 * i → r ≡ both (entriesOk w 1 i ws) (consoleOk w (getD ws at 0) (getD ws (at + 1) 0) (getD ws (at + 5) 0)) → r ≡ entriesOk w 1 (i + 1) ws
-  unfolding entryOk entryRule per
-  told-console at o e =
-      let f : entryOk w 1 ws (per 1 * i) ≡ consoleOk w (getD ws at 0) (getD ws (at + 1) 0) (getD ws (at + 5) 0) = rw (← o) in
-      e ∙ ap (both (entriesOk w 1 i ws)) (sym f) ∙ told-step w 1 i ws
+  pub described-console : (at : ℕ) → at ≡ 6 * i → r ≡ both (entriesOk w 1 i ws) (consoleOk w (getD ws at 0) (getD ws (at + 1) 0) (getD ws (at + 5) 0)) → r ≡ entriesOk w 1 (i + 1) ws
+  unfolding entryOk entryRule wordsPerEntry
+  described-console at o e =
+      let f : entryOk w 1 ws (wordsPerEntry 1 * i) ≡ consoleOk w (getD ws at 0) (getD ws (at + 1) 0) (getD ws (at + 5) 0) = rw (← o) in
+      e ∙ ap (both (entriesOk w 1 i ws)) (sym f) ∙ described-step w 1 i ws
 
 -- as many whole entries as the length says
-pub whole-room : (k n : ℕ) → per k * (n / per k) ≤ n
-whole-room k n = omega (arith, div-add-mod n (per k))
+pub whole-room : (k n : ℕ) → wordsPerEntry k * (n / wordsPerEntry k) ≤ n
+whole-room k n = omega (arith, div-add-mod n (wordsPerEntry k))
 
 module _ (w k : ℕ) (ws : List ℕ) where
-  pub list-part : (length ws % per k ≡ 0 → ⊥) → listOk w k ws ≡ false
+  pub list-part : (length ws % wordsPerEntry k ≡ 0 → ⊥) → listOk w k ws ≡ false
   unfolding listOk both
-  list-part h = rw (ne-eqb (length ws % per k) 0 h)
+  list-part h = rw (ne-eqb (length ws % wordsPerEntry k) 0 h)
 
-  pub list-whole : length ws % per k ≡ 0 → listOk w k ws ≡ entriesOk w k (length ws / per k) ws
+  pub list-whole : length ws % wordsPerEntry k ≡ 0 → listOk w k ws ≡ entriesOk w k (length ws / wordsPerEntry k) ws
   unfolding listOk both
-  list-whole h = rw (eq-eqb (length ws % per k) 0 h)
+  list-whole h = rw (eq-eqb (length ws % wordsPerEntry k) 0 h)
 
 -- ---- all four
-pub told-four : (w : ℕ) (a b c d : List ℕ) → toldOk w (toldBy a b c d) ≡ both (both (both (listOk w 0 a) (listOk w 1 b)) (listOk w 2 c)) (listOk w 3 d)
-unfolding toldOk toldBy every both four
-told-four w a b c d = refl
+pub described-four : (w : ℕ) (a b c d : List ℕ) → descriptionOk w (descriptionOf a b c d) ≡ both (both (both (listOk w 0 a) (listOk w 1 b)) (listOk w 2 c)) (listOk w 3 d)
+unfolding descriptionOk descriptionOf every both four
+described-four w a b c d = refl
 
 -- ---- the four lengths
 abbrev pub lens : List ℕ → List ℕ → List ℕ → List ℕ → List ℕ
@@ -110,15 +110,15 @@ module _ (from : ℕ) (n : List ℕ) where
   unfolding lateTo
   late-end k h p = every-of 4 (λ j. either (ltb j from) (eqb (getD n j 0) 0)) (λ i m. every-at k (λ j. either (ltb j from) (eqb (getD n j 0) 0)) p i (omega arith))
 
-pub late-same : (v : ℕ) (a b c d : List ℕ) → lateTo (secs v) 4 (lens a b c d) ≡ noneLate v (toldBy a b c d)
-unfolding lateTo noneLate toldBy four every
+pub late-same : (v : ℕ) (a b c d : List ℕ) → lateTo (sectionCount v) 4 (lens a b c d) ≡ noneLate v (descriptionOf a b c d)
+unfolding lateTo noneLate descriptionOf four every
 late-same v a b c d = refl
 
 -- the room behind the core
-pub room-same : (v s : ℕ) (a b c d : List ℕ) → s ≡ core v → leb (sumTo 4 (lens a b c d)) (512 - s / 8) ≡ leb (used v (toldBy a b c d)) 4096
-unfolding used core platBytes toldBy
+pub room-same : (v s : ℕ) (a b c d : List ℕ) → s ≡ core v → leb (sumTo 4 (lens a b c d)) (512 - s / 8) ≡ leb (used v (descriptionOf a b c d)) 4096
+unfolding used core platBytes descriptionOf
 room-same v s a b c d e =
     rw to-joined
     (same-test _ _
-    (λ p. le-leb (16 + 24 * secs v + 8 * length (joined 4 (four a b c d)) + 0) 4096 (let q = leb-true (length (joined 4 (four a b c d))) (512 - s / 8) p in let m = secs-most v in omega arith))
-    (λ p. le-leb (length (joined 4 (four a b c d))) (512 - s / 8) (let q = leb-true (16 + 24 * secs v + 8 * length (joined 4 (four a b c d)) + 0) 4096 p in let m = secs-most v in omega arith)))
+    (λ p. le-leb (16 + 24 * sectionCount v + 8 * length (joined 4 (four a b c d)) + 0) 4096 (let q = leb-true (length (joined 4 (four a b c d))) (512 - s / 8) p in let m = section-count-most v in omega arith))
+    (λ p. le-leb (length (joined 4 (four a b c d))) (512 - s / 8) (let q = leb-true (16 + 24 * sectionCount v + 8 * length (joined 4 (four a b c d)) + 0) 4096 p in let m = section-count-most v in omega arith)))

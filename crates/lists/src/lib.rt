@@ -1,4 +1,4 @@
-// The writer's checks of what it is told: whole entries within their rules, none of a section after the edition, and room.
+// The writer's checks of the description: whole entries within their rules, none of a section after the edition, and room.
 use entries::Bits;
 use versions::Edition;
 ghost use mathlib.Core.Path.{_≡_};
@@ -6,7 +6,7 @@ ghost use Prim.Native.Nat.{_*_, _≤_};
 ghost use lib.ListN.{length};
 ghost use lib.Dec.{leb};
 ghost use Rattle.entries.specs.Entry.{entriesOk};
-ghost use Rattle.lists.specs.Told.{toldBy, listOk, toldOk, noneLate, used};
+ghost use Rattle.lists.specs.Description.{descriptionOf, listOk, descriptionOk, noneLate, used};
 ghost use Rattle.lists.specs.Lengths.{sumTo, lateTo};
 
 // The rule of each of count banks or regions of a list; k is their section.
@@ -54,7 +54,7 @@ pub fn list_ok(words: &[u64], minor: u64, k: usize) -> bool
 
 // W3: whether all four lists are, also those of sections after the edition.
 pub fn lists_ok(minor: u64, dram: &[u64], console: &[u64], ncoh: &[u64], coh: &[u64]) -> bool
-    ensures { λ r. ⌜ r ≡ toldOk minor (toldBy (now (dram .entry)) (now (console .entry)) (now (ncoh .entry)) (now (coh .entry))) ⌝ }
+    ensures { λ r. ⌜ r ≡ descriptionOk minor (descriptionOf (now (dram .entry)) (now (console .entry)) (now (ncoh .entry)) (now (coh .entry))) ⌝ }
 {
     if !list_ok(dram, minor, 0) {
         return false;
@@ -82,7 +82,7 @@ fn empty_from(from: usize, n: [usize; 4]) -> bool
 
 // W4: whether each list of a section after the edition is empty.
 pub fn none_late(e: Edition, dram: &[u64], console: &[u64], ncoh: &[u64], coh: &[u64]) -> bool
-    ensures { λ r. ⌜ r ≡ noneLate (e .minor) (toldBy (now (dram .entry)) (now (console .entry)) (now (ncoh .entry)) (now (coh .entry))) ⌝ }
+    ensures { λ r. ⌜ r ≡ noneLate (e .minor) (descriptionOf (now (dram .entry)) (now (console .entry)) (now (ncoh .entry)) (now (coh .entry))) ⌝ }
 {
     let n = [dram.len(), console.len(), ncoh.len(), coh.len()];
     empty_from(e.sections() as usize, n)
@@ -104,7 +104,7 @@ fn fits(room: usize, n: [usize; 4]) -> bool
 
 // W5: whether core and arrays fit into 4,096 bytes, 512 words.
 pub fn room_ok(e: Edition, dram: &[u64], console: &[u64], ncoh: &[u64], coh: &[u64]) -> bool
-    ensures { λ r. ⌜ r ≡ leb (used (e .minor) (toldBy (now (dram .entry)) (now (console .entry)) (now (ncoh .entry)) (now (coh .entry)))) 4096 ⌝ }
+    ensures { λ r. ⌜ r ≡ leb (used (e .minor) (descriptionOf (now (dram .entry)) (now (console .entry)) (now (ncoh .entry)) (now (coh .entry)))) 4096 ⌝ }
 {
     let room = 512 - (e.core_size() as usize) / 8;
     let n = [dram.len(), console.len(), ncoh.len(), coh.len()];

@@ -7,7 +7,7 @@ use lib.Dec.{leb}
 use Rattle.words.specs.Word.{noSpan, spanAt}
 use Rattle.words.specs.declared.Span.{Span}
 use Rattle.entries.specs.Entry.{size}
-use Rattle.reader.specs.Answer.{Answer, refused, shows, entryWord}
+use Rattle.reader.specs.Answer.{ReaderAnswer, refused, shows, entryWord}
 use Rattle.reader.specs.Reading.{sectionOf, shownAs, viewAt}
 use Rattle.reader.specs.declared.Section.{Section}
 use Rattle.reader.specs.declared.Section.the-variants.{Absent, Empty, Entries}
@@ -20,7 +20,7 @@ spanOf k Empty n = noSpan
 spanOf k (Entries at count) n = cond (leb (at + size k count) n) (spanAt at (size k count)) noSpan
 
 -- the same of a reader's answer: "a refused page .. gives an empty part"
-unfoldable pub spanIn : ℕ → List ℕ → Answer → ℕ → Span
+unfoldable pub spanIn : ℕ → List ℕ → ReaderAnswer → ℕ → Span
 spanIn base page (refused c) k = noSpan
 spanIn base page (shows w e q s) k = spanOf k (sectionOf (viewAt w e base page) k) (length page)
 

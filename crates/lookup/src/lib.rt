@@ -8,7 +8,7 @@ ghost use mathlib.Core.Path.{_≡_};
 ghost use lib.ListN.{length};
 ghost use Rattle.words.specs.Word.{spanned};
 ghost use Rattle.reader.specs.Answer.{lookIn, lookOf, countIn, wordIn, readOf};
-ghost use Rattle.reader.specs.Reading.{sectionOf, answerOf};
+ghost use Rattle.reader.specs.Reading.{sectionOf, readingAnswer};
 ghost use Rattle.lookup.specs.Lookup.{spanOf, spanIn, wordOf};
 
 // Where count entries of section k at an offset lie in a page of so many bytes; nowhere where they do not lie within it.
@@ -39,21 +39,21 @@ fn place_in(room: usize, section: Section, k: usize) -> Span
 // and, of a view that no reading made, for entries that do not lie within the page.
 pub fn place_of(page: &[u8], view: View, k: usize) -> Span
     ensures { λ r. ⌜ r ≡ spanOf k (sectionOf view k) (length (now (page .entry))) ⌝ }
-    ensures { λ r. ⌜ spanned r (now (page .entry)) ≡ lookIn (answerOf (now (page .entry)) (Reading.Accepted view)) k ⌝ }
+    ensures { λ r. ⌜ spanned r (now (page .entry)) ≡ lookIn (readingAnswer (now (page .entry)) (Reading.Accepted view)) k ⌝ }
 {
     place_in(page.len(), reader::section_of(view, k), k)
 }
 
 // The array of section k of a view, as the part of the page that holds it; empty where it lies nowhere.
 pub fn array_of(page: &[u8], view: View, k: usize) -> &[u8]
-    ensures { λ r. ⌜ now r ≡ lookIn (answerOf (now (page .entry)) (Reading.Accepted view)) k ⌝ }
+    ensures { λ r. ⌜ now r ≡ lookIn (readingAnswer (now (page .entry)) (Reading.Accepted view)) k ⌝ }
 {
     words::part_of(page, place_of(page, view, k))
 }
 
 // How many entries section k of a view has: 0 where its array is empty.
 pub fn count_of(page: &[u8], view: View, k: usize) -> usize
-    ensures { λ r. ⌜ r ≡ countIn (answerOf (now (page .entry)) (Reading.Accepted view)) k ⌝ }
+    ensures { λ r. ⌜ r ≡ countIn (readingAnswer (now (page .entry)) (Reading.Accepted view)) k ⌝ }
 {
     let array = array_of(page, view, k);
     array.len() / (8 * entries::entry_words(k))
@@ -93,7 +93,7 @@ fn word_in(page: &[u8], minor: u64, section: Section, k: usize, i: usize, j: usi
 // Word j of entry i of section k of a view, as 01 numbers them from 0: 0 where the section has no entry i, or its entries no
 // word j.
 pub fn word_of(page: &[u8], view: View, k: usize, i: usize, j: usize) -> u64
-    ensures { λ r. ⌜ r ≡ wordIn (answerOf (now (page .entry)) (Reading.Accepted view)) k i j ⌝ }
+    ensures { λ r. ⌜ r ≡ wordIn (readingAnswer (now (page .entry)) (Reading.Accepted view)) k i j ⌝ }
 {
     word_in(page, view.minor, reader::section_of(view, k), k, i, j)
 }

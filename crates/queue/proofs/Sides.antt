@@ -8,7 +8,7 @@ use native.Mathlib.Omega.{arith}
 use lib.ListN.{length, take, drop, getD, set, length-take, length-drop}
 use lib.Seq.{take-all, length-take-le, getD-take, take-suc-set, drop-cons, take-suc, set-at, append-snoc, getD-drop, getD-append-add, take-append-le, take-take, take-nil}
 use borrow.Author.Tests.{lt-ltb, le-ltb}
-use Rattle.queue.specs.Queue.{joined}
+use Rattle.queue.specs.Queue.{appended}
 
 module _ {A : Type 0} where
   -- ---- the shift: each one place up, one store a turn
@@ -42,8 +42,8 @@ module _ {A : Type 0} where
       rw (take-append-le (n - 1) (take i (drop 1 l)) (drop i l) (omega arith), take-take (n - 1) i (drop 1 l) (omega arith), drop-take-one)
 
   -- ---- joining
-  pub joined-room : (l : List A) (x : A) → length l < 8 → joined l x ≡ l ++ (x ∷ [])
-  unfolding joined
+  pub joined-room : (l : List A) (x : A) → length l < 8 → appended l x ≡ l ++ (x ∷ [])
+  unfolding appended
   joined-room l x h = rw (lt-ltb (length l) 8 h)
 
   pub taken-all : (n : ℕ) (l : List A) → take (length (take n l)) l ≡ take n l
@@ -59,14 +59,14 @@ module _ {A : Type 0} where
     pub count-within : n ≤ 8 → length (take n l) ≡ n
     count-within h = length-take-le n l (omega arith)
 
-    pub joins-full : (x : A) → 8 ≤ n → take n l ≡ joined (take n l) x
-    unfolding joined
+    pub joins-full : (x : A) → 8 ≤ n → take n l ≡ appended (take n l) x
+    unfolding appended
     joins-full x h =
         let e : take n l ≡ l = take-all n l (omega arith) in
         rw (e, le-ltb (length l) 8 (omega arith))
 
-    pub joins : (x : A) → n < 8 → take (n + 1) (set l n x) ≡ joined (take n l) x
-    unfolding joined
+    pub joins : (x : A) → n < 8 → take (n + 1) (set l n x) ≡ appended (take n l) x
+    unfolding appended
     joins x h =
         let e : length (take n l) ≡ n = length-take-le n l (omega arith) in
         rw (lt-ltb (length (take n l)) 8 (omega arith), add-one, take-suc-set l n x (omega arith))

@@ -44,8 +44,8 @@ unfoldable pub listsOf : Queue → Lists
 listsOf q = record { requests = waiting (q .requests); responses = ready (q .responses) }
 
 -- one more at the end, where fewer than eight wait
-unfoldable pub joined : {A : Type 0} → List A → A → List A
-joined l x = cond (ltb (length l) 8) (l ++ (x ∷ [])) l
+unfoldable pub appended : {A : Type 0} → List A → A → List A
+appended l x = cond (ltb (length l) 8) (l ++ (x ∷ [])) l
 
 -- ---- the oldest; a stand-in where none waits, which no answer shows
 abbrev pub noRequest : Request

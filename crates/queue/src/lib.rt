@@ -7,7 +7,7 @@ ghost use mathlib.Core.List.{[]};
 ghost use Prim.Native.Nat.{_<_, _≤_};
 ghost use lib.ListN.{length, drop, getD};
 ghost use Rattle.codes.specs.Codes.{answerOf};
-ghost use Rattle.queue.specs.Queue.{waiting, held, signedIn, listsOf, joined, noResponse, oldestRequest, waitingOf};
+ghost use Rattle.queue.specs.Queue.{waiting, held, signedIn, listsOf, appended, noResponse, oldestRequest, waitingOf};
 
 // A request to sign a realm's token. Algorithm and hash id are the numbers of their four bytes.
 pub struct Request {
@@ -123,7 +123,7 @@ pub fn response_count(side: Responses) -> usize
 
 // The side with one more at its end; where eight wait, as it was.
 pub fn join_request(side: Requests, request: Request) -> Requests
-    ensures { λ r. ⌜ waiting r ≡ joined (waiting side) request ⌝ }
+    ensures { λ r. ⌜ waiting r ≡ appended (waiting side) request ⌝ }
 {
     let at = side.count;
     if 8 <= at {
@@ -138,7 +138,7 @@ pub fn join_request(side: Requests, request: Request) -> Requests
 }
 
 pub fn join_response(side: Responses, response: Response) -> Responses
-    ensures { λ r. ⌜ held r ≡ joined (held side) response ⌝ }
+    ensures { λ r. ⌜ held r ≡ appended (held side) response ⌝ }
 {
     let at = side.count;
     if 8 <= at {

@@ -16,7 +16,7 @@ use Rattle.words.proofs.Tests.{both-l, both-r, both-of}
 use Rattle.words.proofs.Lists.{bytesOf-length, words-cons, words-append}
 use Rattle.queue.specs.declared.Request.{Request}
 use Rattle.queue.specs.Queue.{Signed, Lists, signedIn}
-use Rattle.queue_image.specs.Image.{rows, requestIn, heldIn, responseIn, listsIn, requestWords, responseWords, flat, padded, queueWords, each, areBytes, requestFits, responseFits, eightFit, fits}
+use Rattle.queue_image.specs.Image.{rows, requestIn, heldIn, responseIn, listsIn, requestWords, responseWords, flat, padded, queueWords, each, areBytes, requestFits, responseFits, eightFit, queueFits}
 use Rattle.queue_image.proofs.Rows.{rows-length, mul-more, flat-length, padded-length}
 use Rattle.queue_image.proofs.Sides.{request-wide, response-wide}
 use Rattle.queue_image.proofs.Inverse.{each-take, each-drop, queue-back}
@@ -91,8 +91,8 @@ module _ {A : Type 0} (f : List ℕ → A) (ok : A → Bool) (width : ℕ) (one 
       let m : length (map f (rows width 8 v)) ≡ 8 = length-map (rows width 8 v) f ∙ rows-length width 8 v in
       both-of _ _ (le-leb (length (take n (map f (rows width 8 v)))) 8 (omega (arith, length-take n (map f (rows width 8 v))))) (each-take ok n (map f (rows width 8 v)) (rows-fit 8 v l h))
 
-pub image-fits : (w : List ℕ) → length w ≡ 210 → Yes (areWords w) → Yes (fits (listsIn w))
-unfolding fits listsIn
+pub image-fits : (w : List ℕ) → length w ≡ 210 → Yes (areWords w) → Yes (queueFits (listsIn w))
+unfolding queueFits listsIn
 image-fits w l h =
     let e = words-each w h in
     both-of _ _
@@ -167,13 +167,13 @@ module _ {A : Type 0} (g : A → List ℕ) (ok : A → Bool) (one : (x : A) → 
   flat-words [] h = refl
   flat-words (x ∷ l) h = words-append (g x) (flat g l) (one x (both-l _ _ h)) (flat-words l (both-r _ _ h))
 
-module _ (q : Lists) (h : Yes (fits q)) where
+module _ (q : Lists) (h : Yes (queueFits q)) where
   eights : (length (q .requests) ≤ 8) × (length (q .responses) ≤ 8)
-  unfolding fits eightFit
+  unfolding queueFits eightFit
   eights = (leb-true _ _ (both-l _ _ (both-l _ _ h)), leb-true _ _ (both-l _ _ (both-r _ _ h)))
 
   pub queue-words : Yes (areWords (queueWords q))
-  unfolding queueWords fits eightFit
+  unfolding queueWords queueFits eightFit
   queue-words =
       words-cons (length (q .requests)) _ (omega (arith, eights))
       (words-cons (length (q .responses)) _ (omega (arith, eights))

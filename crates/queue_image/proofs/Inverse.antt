@@ -14,7 +14,7 @@ use Rattle.words.proofs.Tests.{both-l, both-r, both-of}
 use Rattle.words.proofs.Read.{mul-suc-8}
 use Rattle.queue.specs.declared.Request.{Request}
 use Rattle.queue.specs.Queue.{Signed, Lists, signedIn}
-use Rattle.queue_image.specs.Image.{rows, requestIn, heldIn, responseIn, listsIn, requestWords, responseWords, flat, padded, queueWords, areBytes, requestFits, responseFits, each, eightFit, fits}
+use Rattle.queue_image.specs.Image.{rows, requestIn, heldIn, responseIn, listsIn, requestWords, responseWords, flat, padded, queueWords, areBytes, requestFits, responseFits, each, eightFit, queueFits}
 use Rattle.queue_image.proofs.Rows.{flat-length, padded-length}
 use Rattle.queue_image.proofs.Sides.{request-wide, response-wide}
 
@@ -103,8 +103,8 @@ module _ {A : Type 0} (f : List ℕ → A) (g : A → List ℕ) (ok : A → Bool
   side-back n l rest h = rw append-assoc (rows-back 8 l _ (both-r _ _ h) (leb-true _ _ (both-l _ _ h)))
 
 -- ---- a queue comes back from its image
-pub queue-back : (q : Lists) → Yes (fits q) → listsIn (queueWords q) ≡ q
-unfolding listsIn queueWords fits eightFit
+pub queue-back : (q : Lists) → Yes (queueFits q) → listsIn (queueWords q) ≡ q
+unfolding listsIn queueWords queueFits eightFit
 queue-back q h =
     let a : List Request = q .requests in
     let b : List Signed = q .responses in
@@ -118,7 +118,7 @@ queue-back q h =
     )
 
 -- and an image that a queue has comes back from its queue
-pub queue-again : (w : List ℕ) (q : Lists) → w ≡ queueWords q → Yes (fits q) → queueWords (listsIn w) ≡ w
+pub queue-again : (w : List ℕ) (q : Lists) → w ≡ queueWords q → Yes (queueFits q) → queueWords (listsIn w) ≡ w
 queue-again w q e h = rw (e, queue-back q h)
 
 -- ---- zeros are the image of the queue in which nothing waits

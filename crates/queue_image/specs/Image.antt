@@ -86,5 +86,5 @@ responseFits r = both (areWords (r .granule ∷ r .ticket ∷ [])) (both (leb (l
 unfoldable pub eightFit : {A : Type 0} → (A → Bool) → List A → Bool
 eightFit f l = both (leb (length l) 8) (each f l)
 
-unfoldable pub fits : Lists → Bool
-fits q = both (eightFit requestFits (q .requests)) (eightFit responseFits (q .responses))
+unfoldable pub queueFits : Lists → Bool
+queueFits q = both (eightFit requestFits (q .requests)) (eightFit responseFits (q .responses))

@@ -5,7 +5,7 @@ use mathlib.Core.Bool.{Bool, true, false, cond, true≢false}
 use native.Mathlib.Omega.{arith}
 use borrow.Author.Tests.{ltb-false, leb-false}
 use Rattle.words.specs.Tests.{either}
-use Rattle.boot.specs.declared.Kept.{Kept}
+use Rattle.boot.specs.declared.Params.{Params}
 use Rattle.range.specs.Range.{outside, tooLong, placeOf, fitOf}
 use Rattle.range.specs.declared.Fit.{Fit}
 use Rattle.range.specs.declared.Fit.the-variants.{Outside, TooLong, At}
@@ -31,15 +31,15 @@ pick-long true t n h = let z : _≡_ {A = ℕ} 0 1 = cc in absurd (omega arith)
 pick-long false true n h = (refl, refl)
 pick-long false false n h = let z : _≡_ {A = ℕ} 0 1 = cc in absurd (omega arith)
 
-pub is-outside : (u : Kept) (pa size : ℕ) → fitOf u pa size ≡ Outside → outside u pa ≡ true
+pub is-outside : (u : Params) (pa size : ℕ) → fitOf u pa size ≡ Outside → outside u pa ≡ true
 unfolding fitOf pick
 is-outside u pa size h = pick-outside (outside u pa) (tooLong u pa size) (placeOf u pa) h
 
-pub record Long (u : Kept) (pa size : ℕ) : Type 0 where
+pub record Long (u : Params) (pa size : ℕ) : Type 0 where
   pub inside : outside u pa ≡ false
   pub long : tooLong u pa size ≡ true
 
-pub is-long : (u : Kept) (pa size : ℕ) → fitOf u pa size ≡ TooLong → Long u pa size
+pub is-long : (u : Params) (pa size : ℕ) → fitOf u pa size ≡ TooLong → Long u pa size
 unfolding fitOf pick
 is-long u pa size h = let p = pick-long (outside u pa) (tooLong u pa size) (placeOf u pa) h in record { inside = p .0; long = p .1 }
 
@@ -48,7 +48,7 @@ unfolding either
 neither true b h = absurd (true≢false h)
 neither false b h = (refl, h)
 
-pub room-of : (u : Kept) (pa size at : ℕ) → outside u pa ≡ false → tooLong u pa size ≡ false → at ≡ placeOf u pa → at + size ≤ 4096
+pub room-of : (u : Params) (pa size at : ℕ) → outside u pa ≡ false → tooLong u pa size ≡ false → at ≡ placeOf u pa → at + size ≤ 4096
 unfolding outside tooLong placeOf
 room-of u pa size at h k e =
     let p = neither _ _ h in
@@ -58,13 +58,13 @@ room-of u pa size at h k e =
     omega arith
 
 -- a buffer that fits: its place, and that it lies in the page
-pub record Fits (u : Kept) (pa size at : ℕ) : Type 0 where
+pub record Fits (u : Params) (pa size at : ℕ) : Type 0 where
   pub inside : outside u pa ≡ false
   pub short : tooLong u pa size ≡ false
   pub place : at ≡ placeOf u pa
   pub room : at + size ≤ 4096
 
-pub fits : (u : Kept) (pa size at : ℕ) → fitOf u pa size ≡ At at → Fits u pa size at
+pub fits : (u : Params) (pa size at : ℕ) → fitOf u pa size ≡ At at → Fits u pa size at
 unfolding fitOf pick
 fits u pa size at h =
     let p = pick-inside (outside u pa) (tooLong u pa size) (placeOf u pa) at h in

@@ -1,5 +1,5 @@
 // The range check of every command and lookup that takes a buffer.
-use boot::Kept;
+use boot::Params;
 ghost use mathlib.Core.Path.{_≡_};
 ghost use Rattle.range.specs.Range.{fitOf};
 
@@ -11,10 +11,10 @@ pub enum Fit {
 }
 
 // The range check of a buffer at pa of so many bytes. No sum is made: it might wrap.
-pub fn fit_of(kept: Kept, pa: u64, size: u64) -> Fit
-    ensures { λ r. ⌜ r ≡ fitOf kept pa size ⌝ }
+pub fn fit_of(params: Params, pa: u64, size: u64) -> Fit
+    ensures { λ r. ⌜ r ≡ fitOf params pa size ⌝ }
 {
-    let base = kept.base;
+    let base = params.base;
     if pa < base {
         return Fit::Outside;
     }

@@ -12,43 +12,43 @@ use Rattle.words.specs.Tests.{Yes}
 use Rattle.words.specs.Word.{leOf, numAt, wordAt}
 use Rattle.words.proofs.Tests.{both-l, both-r, both-of, either-l, either-r, every-same, some-of, cond-same}
 use Rattle.words.proofs.Read.{part-same}
-use Rattle.versions.specs.Version.{minorOf, accepted}
-use Rattle.versions.specs.Edition.{secs, core}
+use Rattle.versions.specs.Version.{minorOf, versionOk}
+use Rattle.versions.specs.Edition.{sectionCount, core}
 use Rattle.entries.specs.Entry.{size}
 use Rattle.sections.specs.Page.{placeOk, versionAt, countAt, pointerAt, inPage, arrayAt, Sec, secAt, Plat, platAt}
-use Rattle.sections.specs.Section.{secOk, clear, rules}
-use Rattle.reader.specs.Answer.{Answer, shown, viewOf, gate, judge, readOf, inArray, namedBy, named}
+use Rattle.sections.specs.Section.{secOk, clearBefore, rules}
+use Rattle.reader.specs.Answer.{ReaderAnswer, shown, allShown, readerGate, judge, readOf, inArray, namedBy, named}
 use Rattle.reader.proofs.Newer.{shows-same}
 
 -- ---- answers by what is read
-gate-same : (p v v' o o' : Bool) (c c' : Answer) → (Yes p → v ≡ v') → (Yes p → Yes v → (o ≡ o') × (c ≡ c')) → gate p v o c ≡ gate p v' o' c'
-unfolding gate
+gate-same : (p v v' o o' : Bool) (c c' : ReaderAnswer) → (Yes p → v ≡ v') → (Yes p → Yes v → (o ≡ o') × (c ≡ c')) → readerGate p v o c ≡ readerGate p v' o' c'
+unfolding readerGate
 gate-same true true v' o o' c c' f g = rw (← f refl, g refl refl .0, g refl refl .1)
 gate-same true false v' o o' c c' f g = rw (← f refl)
 gate-same false v v' o o' c c' f g = refl
 
-clear-same : (f g : ℕ → Sec) (i : ℕ) → f i ≡ g i → ((j : ℕ) → j < i → f j ≡ g j) → clear f i ≡ clear g i
-unfolding clear
+clear-same : (f g : ℕ → Sec) (i : ℕ) → f i ≡ g i → ((j : ℕ) → j < i → f j ≡ g j) → clearBefore f i ≡ clearBefore g i
+unfolding clearBefore
 clear-same f g i e h = every-same i _ _ (λ j m. rw (e, h j m))
 
-pub rules-same : (w e base pad : ℕ) (q : Plat) (f g : ℕ → Sec) → ((k : ℕ) → k < secs e → f k ≡ g k) → rules w e base pad q f ≡ rules w e base pad q g
+pub rules-same : (w e base pad : ℕ) (q : Plat) (f g : ℕ → Sec) → ((k : ℕ) → k < sectionCount e → f k ≡ g k) → rules w e base pad q f ≡ rules w e base pad q g
 unfolding rules
 rules-same w e base pad q f g h =
     rw (
-      every-same (secs e) (λ k. secOk w e base k (f k)) (λ k. secOk w e base k (g k)) (λ k l. rw (h k l)),
-      every-same (secs e) (λ k. clear f k) (λ k. clear g k) (λ k l. clear-same f g k (h k l) (λ j m. h j (omega arith))),
+      every-same (sectionCount e) (λ k. secOk w e base k (f k)) (λ k. secOk w e base k (g k)) (λ k l. rw (h k l)),
+      every-same (sectionCount e) (λ k. clearBefore f k) (λ k. clearBefore g k) (λ k l. clear-same f g k (h k l) (λ j m. h j (omega arith))),
     )
 
-shown-same : (w e k : ℕ) (s t : Sec) → (k < secs e → s ≡ t) → shown w e k s ≡ shown w e k t
+shown-same : (w e k : ℕ) (s t : Sec) → (k < sectionCount e → s ≡ t) → shown w e k s ≡ shown w e k t
 unfolding shown
-shown-same w e k s t h = go (decLt k (secs e))
+shown-same w e k s t h = go (decLt k (sectionCount e))
   where
-    go : Dec (k < secs e) → shown w e k s ≡ shown w e k t
+    go : Dec (k < sectionCount e) → shown w e k s ≡ shown w e k t
     go (yes l) = rw (h l)
-    go (no l) = rw (le-ltb k (secs e) (omega arith))
+    go (no l) = rw (le-ltb k (sectionCount e) (omega arith))
 
-view-same : (w e : ℕ) (q : Plat) (f g : ℕ → Sec) → ((k : ℕ) → k < secs e → f k ≡ g k) → viewOf w e q f ≡ viewOf w e q g
-unfolding viewOf
+view-same : (w e : ℕ) (q : Plat) (f g : ℕ → Sec) → ((k : ℕ) → k < sectionCount e → f k ≡ g k) → allShown w e q f ≡ allShown w e q g
+unfolding allShown
 view-same w e q f g h = shows-same _ _ _ _ _ (λ k. shown-same w e k (f k) (g k) (h k))
 
 low-page : (base a n : ℕ) → Yes (inPage base a n) → base ≤ a
@@ -72,7 +72,7 @@ module _ (r base : ℕ) (p q : List ℕ) (l : length p ≡ length q) (h : (i : �
   unfolding platAt
   plat-same = rw (head-same 8 8 (lit≤ tt))
 
-  module _ (v : Yes (accepted (versionAt p))) where
+  module _ (v : Yes (versionOk (versionAt p))) where
     rest-same : (i : ℕ) → Yes (namedBy (min r (minorOf (versionAt p))) base p i) → getD p i 0 ≡ getD q i 0
     unfolding named
     rest-same i b = h i (both-of _ _ (place-length base _ t) (either-r _ _ (both-of _ _ v b)))
@@ -81,7 +81,7 @@ module _ (r base : ℕ) (p q : List ℕ) (l : length p ≡ length q) (h : (i : �
     unfolding numAt namedBy
     core-same off m = ap leOf (part-same off 8 p q l (λ i a b. rest-same i (either-l _ _ (omega (arith, lt-ltb)))))
 
-    module _ (k : ℕ) (b : k < secs (min r (minorOf (versionAt p)))) where
+    module _ (k : ℕ) (b : k < sectionCount (min r (minorOf (versionAt p)))) where
       field-same : (off : ℕ) → off ≤ 32 → wordAt (off + 24 * k) p ≡ wordAt (off + 24 * k) q
       unfolding core
       field-same off m = core-same (off + 24 * k) (omega arith)

@@ -6,13 +6,13 @@ use mathlib.Core.List.{List, [], _++_}
 use lib.ListN.{replicate}
 use Rattle.words.specs.Tests.{both, either, every}
 use Rattle.words.specs.Word.{leOf, leBytes, part, numAt, wordsOf}
-use Rattle.versions.specs.Version.{minorOf, majorOf, aboveOf, accepted}
-use Rattle.versions.specs.Edition.{secs, core, editionOk}
-use Rattle.entries.specs.Entry.{per, size, bankOk, entryRule, entryOk, entriesOk, shownWords, sum, checkOk}
+use Rattle.versions.specs.Version.{minorOf, majorOf, aboveOf, versionOk}
+use Rattle.versions.specs.Edition.{sectionCount, core, editionOk}
+use Rattle.entries.specs.Entry.{wordsPerEntry, size, bankOk, entryRule, entryOk, entriesOk, shownWords, sum, checkOk}
 use Rattle.entries.specs.Array.{soundOf}
 use Rattle.sections.specs.Page.{placeOk, inPage, arrayAt, mkSec, secAt, mkPlat, platAt}
-use Rattle.sections.specs.Section.{platOk, wordsIn, nothing, inRange, secOk, span, apart, clear, rules}
-use Rattle.reader.specs.Answer.{shown, shownSec, platShown, viewOf, gate, judge, readOf, bytesIn, lookIn, entryWord, wordIn, entryCount, countIn}
+use Rattle.sections.specs.Section.{platOk, wordsIn, nothing, inRange, secOk, extent, apart, clearBefore, rules}
+use Rattle.reader.specs.Answer.{shown, shownSec, platShown, allShown, readerGate, judge, readOf, bytesIn, lookIn, entryWord, wordIn, entryCount, countIn}
 
 unfoldable pub bank : List ℕ
 bank = leBytes 8 0x90000000 ++ leBytes 8 0x10000000
@@ -28,5 +28,5 @@ pub sample : (countIn (readOf 4 0x80000000 page) 0 ≡ 1)
     × (wordIn (readOf 4 0x80000000 page) 0 0 1 ≡ 0x10000000)
     × (lookIn (readOf 4 0x80000000 page) 0 ≡ bank)
     × (lookIn (readOf 4 0x80000000 page) 1 ≡ [])
-unfolding bank page countIn entryCount wordIn entryWord lookIn bytesIn readOf judge gate viewOf platShown shown shownSec rules clear apart span secOk inRange nothing wordsIn platOk platAt mkPlat secAt mkSec arrayAt inPage placeOk soundOf checkOk sum shownWords entriesOk entryOk entryRule bankOk size per editionOk core secs accepted aboveOf majorOf minorOf wordsOf numAt part leBytes leOf every either both
+unfolding bank page countIn entryCount wordIn entryWord lookIn bytesIn readOf judge readerGate allShown platShown shown shownSec rules clearBefore apart extent secOk inRange nothing wordsIn platOk platAt mkPlat secAt mkSec arrayAt inPage placeOk soundOf checkOk sum shownWords entriesOk entryOk entryRule bankOk size wordsPerEntry editionOk core sectionCount versionOk aboveOf majorOf minorOf wordsOf numAt part leBytes leOf every either both
 sample = (refl, refl, refl, refl, refl)

@@ -8,14 +8,14 @@ use lib.ListN.{length}
 use borrow.Author.Tests.{le-leb}
 use Rattle.words.specs.Word.{part, wordAt}
 use Rattle.versions.specs.Version.{minorOf}
-use Rattle.versions.specs.Edition.{secs, core}
+use Rattle.versions.specs.Edition.{sectionCount, core}
 use Rattle.entries.specs.Entry.{size, shownWords}
 use Rattle.entries.specs.Array.{wordsAt}
 use Rattle.sections.specs.Page.{versionAt, countAt, pointerAt, secAt, mkPlat, platAt}
 use Rattle.sections.specs.Section.{inRange, rulesAt}
 use Rattle.sections.specs.Steps.{okAt}
 use Rattle.sections.proofs.Sections.{placed, range-low, range-high, ok-in-range, ok-each, rules-sections}
-use Rattle.reader.specs.Answer.{Shown, absent, empty, full, PlatShown, shows, shown, platShown, viewOf, judge, readOf}
+use Rattle.reader.specs.Answer.{Shown, absent, empty, full, PlatShown, shows, shown, platShown, allShown, judge, readOf}
 use Rattle.reader.specs.Reading.{shownAs}
 use Rattle.reader.specs.declared.Section.the-variants.{Entries}
 use Rattle.reader.proofs.Whole.{shown-absent, shown-empty, shown-entries}
@@ -40,14 +40,14 @@ pub record Shows (r base : ℕ) (page : List ℕ) (w e : ℕ) (q : PlatShown) (s
   pub minor : w ≡ minorOf (versionAt page)
   pub edition : e ≡ min r w
   pub plat : q .pointer ≡ wordAt 8 page
-  pub later : (k : ℕ) → secs e ≤ k → s k ≡ absent
-  pub none : (k : ℕ) → k < secs e → countAt k page ≡ 0 → s k ≡ empty
-  pub entries : (k : ℕ) → k < secs e → (countAt k page ≡ 0 → ⊥) →
+  pub later : (k : ℕ) → sectionCount e ≤ k → s k ≡ absent
+  pub none : (k : ℕ) → k < sectionCount e → countAt k page ≡ 0 → s k ≡ empty
+  pub entries : (k : ℕ) → k < sectionCount e → (countAt k page ≡ 0 → ⊥) →
       s k ≡ full (shownWords w k (wordsAt k (countAt k page) (pointerAt k page - base) page)) (part (pointerAt k page - base) (size k (countAt k page)) page)
 
 -- of a page that a reader accepts
 pub shows-page : (r base : ℕ) (page : List ℕ) (w e : ℕ) (q : PlatShown) (s : ℕ → Shown) → readOf r base page ≡ shows w e q s → Shows r base page w e q s
-unfolding readOf judge viewOf platShown platAt mkPlat rulesAt shownAs
+unfolding readOf judge allShown platShown platAt mkPlat rulesAt shownAs
 shows-page r base page w e q s h =
     let g = gate-shows _ _ _ _ _ _ _ _ h in
     let i = shows-each _ w _ e _ q _ s (g .1) in
@@ -61,6 +61,6 @@ shows-page r base page w e q s h =
       later = λ k l. a k ∙ sym (shown-absent w e base k page l);
       none = λ k l z. a k ∙ sym (shown-empty w e base k page l z);
       entries = λ k l z.
-          let o = ok-each w e base page (secs e) k (rules-sections w e base page t) l in
+          let o = ok-each w e base page (sectionCount e) k (rules-sections w e base page t) l in
           a k ∙ sym (shown-entries w e base k page n l o z) ∙ entries-lie w e base k page n o z;
     }

@@ -6,9 +6,9 @@ use lib.ListN.{length, getD}
 use lib.Dec.{leb, ltb, eqb}
 use lib.IntN.{ℤ, pos, negℤ}
 use Rattle.words.specs.Tests.{both, either, some}
-use Rattle.versions.specs.Version.{minorOf, accepted}
-use Rattle.versions.specs.Edition.{secs, core, editionOk}
-use Rattle.entries.specs.Entry.{per, size, shownWords}
+use Rattle.versions.specs.Version.{minorOf, versionOk}
+use Rattle.versions.specs.Edition.{sectionCount, core, editionOk}
+use Rattle.entries.specs.Entry.{wordsPerEntry, size, shownWords}
 use Rattle.sections.specs.Page.{placeOk, versionAt, paddingAt, countAt, pointerAt, inPage, Sec, secAt, Plat, platAt}
 use Rattle.sections.specs.Section.{wordsIn, rules}
 
@@ -23,9 +23,9 @@ pub record PlatShown : Type 0 where
   pub pointer : ℕ
 
 -- "a lone reader's answer is its code or, on acceptance, all that it shows": w, e, plat_data and each section
-pub data Answer : Type 0 where
-  refused : ℤ → Answer
-  shows : ℕ → ℕ → PlatShown → (ℕ → Shown) → Answer
+pub data ReaderAnswer : Type 0 where
+  refused : ℤ → ReaderAnswer
+  shows : ℕ → ℕ → PlatShown → (ℕ → Shown) → ReaderAnswer
 
 abbrev pub minus : ℕ → ℤ
 minus n = negℤ (pos n)
@@ -36,29 +36,29 @@ shownSec w k s = cond (eqb (s .count) 0) empty (full (shownWords w k (wordsIn k 
 
 -- any of the four sections, and a number that is none of them
 unfoldable pub shown : ℕ → ℕ → ℕ → Sec → Shown
-shown w e k s = cond (ltb k (secs e)) (shownSec w k s) absent
+shown w e k s = cond (ltb k (sectionCount e)) (shownSec w k s) absent
 
 unfoldable pub platShown : Plat → PlatShown
 platShown q = record { pointer = q .at }
 
 -- "It shows w, e, plat_data, and for each of the four sections ..", of a page of minor w read as edition e
-unfoldable pub viewOf : ℕ → ℕ → Plat → (ℕ → Sec) → Answer
-viewOf w e q f = shows w e (platShown q) (λ k. shown w e k (f k))
+unfoldable pub allShown : ℕ → ℕ → Plat → (ℕ → Sec) → ReaderAnswer
+allShown w e q f = shows w e (platShown q) (λ k. shown w e k (f k))
 
 -- The checks in 01's order: the place (-5), edition and version (-6), the other rules (-7). "A lone reader starts at -5."
-unfoldable pub gate : Bool → Bool → Bool → Answer → Answer
-gate true true true a = a
-gate true true false a = refused (minus 7)
-gate true false o a = refused (minus 6)
-gate false v o a = refused (minus 5)
+unfoldable pub readerGate : Bool → Bool → Bool → ReaderAnswer → ReaderAnswer
+readerGate true true true a = a
+readerGate true true false a = refused (minus 7)
+readerGate true false o a = refused (minus 6)
+readerGate false v o a = refused (minus 5)
 
 -- the answer by what the page is and holds: its length n, version v with minor w, padding, platform data, sections
-unfoldable pub judge : ℕ → ℕ → ℕ → ℕ → ℕ → ℕ → Plat → (ℕ → Sec) → Answer
+unfoldable pub judge : ℕ → ℕ → ℕ → ℕ → ℕ → ℕ → Plat → (ℕ → Sec) → ReaderAnswer
 judge r base n v w pad q f =
-    gate (placeOk base n) (both (editionOk r) (accepted v)) (rules w (min r w) base pad q f) (viewOf w (min r w) q f)
+    readerGate (placeOk base n) (both (editionOk r) (versionOk v)) (rules w (min r w) base pad q f) (allShown w (min r w) q f)
 
 -- the answer of a reader of edition r at base B
-unfoldable pub readOf : ℕ → ℕ → List ℕ → Answer
+unfoldable pub readOf : ℕ → ℕ → List ℕ → ReaderAnswer
 readOf r base page =
     judge r base (length page) (versionAt page) (minorOf (versionAt page)) (paddingAt page) (platAt base page) (secAt base page)
 
@@ -70,7 +70,7 @@ bytesIn absent = []
 bytesIn empty = []
 bytesIn (full ws bs) = bs
 
-unfoldable pub lookIn : Answer → ℕ → List ℕ
+unfoldable pub lookIn : ReaderAnswer → ℕ → List ℕ
 lookIn (refused c) k = []
 lookIn (shows w e q s) k = bytesIn (s k)
 
@@ -81,24 +81,24 @@ lookOf r base page k = lookIn (readOf r base page) k
 unfoldable pub entryWord : ℕ → ℕ → ℕ → Shown → ℕ
 entryWord k i j absent = 0
 entryWord k i j empty = 0
-entryWord k i j (full ws bs) = cond (ltb j (per k)) (getD ws (per k * i + j) 0) 0
+entryWord k i j (full ws bs) = cond (ltb j (wordsPerEntry k)) (getD ws (wordsPerEntry k * i + j) 0) 0
 
-unfoldable pub wordIn : Answer → ℕ → ℕ → ℕ → ℕ
+unfoldable pub wordIn : ReaderAnswer → ℕ → ℕ → ℕ → ℕ
 wordIn (refused c) k i j = 0
 wordIn (shows w e q s) k i j = entryWord k i j (s k)
 
 -- how many entries section k is shown with
 unfoldable pub entryCount : ℕ → Shown → ℕ
-entryCount k s = length (bytesIn s) / (8 * per k)
+entryCount k s = length (bytesIn s) / (8 * wordsPerEntry k)
 
-unfoldable pub countIn : Answer → ℕ → ℕ
+unfoldable pub countIn : ReaderAnswer → ℕ → ℕ
 countIn (refused c) k = 0
 countIn (shows w e q s) k = entryCount k (s k)
 
 -- the sections of an answer, "less those that came after its edition": "The older reader shows each section that came after
 -- its edition as absent."
 unfoldable pub less : ℕ → (ℕ → Shown) → ℕ → Shown
-less r s k = cond (ltb k (secs r)) (s k) absent
+less r s k = cond (ltb k (sectionCount r)) (s k) absent
 
 -- ---- the bytes that an edition names
 -- byte i lies in the array that section k places within the page
@@ -109,10 +109,10 @@ inArray base page i k =
 
 -- "The bytes an edition names are its core and each array that its sections place within the page", e being the edition
 unfoldable pub namedBy : ℕ → ℕ → List ℕ → ℕ → Bool
-namedBy e base page i = either (ltb i (core e)) (some (secs e) (inArray base page i))
+namedBy e base page i = either (ltb i (core e)) (some (sectionCount e) (inArray base page i))
 
 -- "if the version is not accepted, the first 16 bytes only. Of a lent page not 4,096 bytes long none are named."
 unfoldable pub named : ℕ → ℕ → List ℕ → ℕ → Bool
 named r base page i =
     both (eqb (length page) 4096)
-    (either (ltb i 16) (both (accepted (versionAt page)) (namedBy (min r (minorOf (versionAt page))) base page i)))
+    (either (ltb i 16) (both (versionOk (versionAt page)) (namedBy (min r (minorOf (versionAt page))) base page i)))

@@ -6,24 +6,24 @@ use lib.ListN.{length}
 use lib.Dec.{leb, ltb, eqb}
 use lib.IntN.{ℤ}
 use Rattle.words.specs.Word.{part, wordAt}
-use Rattle.versions.specs.Edition.{secs}
+use Rattle.versions.specs.Edition.{sectionCount}
 use Rattle.entries.specs.Entry.{size, shownWords}
 use Rattle.entries.specs.Array.{wordsAt}
 use Rattle.sections.specs.Page.{countAt, pointerAt}
-use Rattle.reader.specs.Answer.{Shown, absent, empty, full, Answer, refused, shows, minus}
+use Rattle.reader.specs.Answer.{Shown, absent, empty, full, ReaderAnswer, refused, shows, minus}
 use Rattle.reader.specs.declared.Section.{Section}
 use Rattle.reader.specs.declared.Section.the-variants.{Absent, Empty, Entries}
 use Rattle.reader.specs.declared.View.{View}
-use Rattle.reader.specs.declared.Code.{Code}
-use Rattle.reader.specs.declared.Code.the-variants.{Place, Version, Rules}
+use Rattle.reader.specs.declared.Refusal.{Refusal}
+use Rattle.reader.specs.declared.Refusal.the-variants.{Place, Version, Rules}
 use Rattle.reader.specs.declared.Reading.{Reading}
 use Rattle.reader.specs.declared.Reading.the-variants.{Accepted, Refused}
 
 -- 01's codes
-abbrev pub codeOf : Code → ℤ
-codeOf Place = minus 5
-codeOf Version = minus 6
-codeOf Rules = minus 7
+abbrev pub refusalNumber : Refusal → ℤ
+refusalNumber Place = minus 5
+refusalNumber Version = minus 6
+refusalNumber Rules = minus 7
 
 -- section k of a view; a number above 3 is none
 unfoldable pub sectionOf : View → ℕ → Section
@@ -40,15 +40,15 @@ shownAs w k Empty page = empty
 shownAs w k (Entries at count) page =
     cond (leb (at + size k count) (length page)) (full (shownWords w k (wordsAt k count at page)) (part at (size k count) page)) empty
 
-unfoldable pub answerOf : List ℕ → Reading → Answer
-answerOf page (Refused c) = refused (codeOf c)
-answerOf page (Accepted v) =
+unfoldable pub readingAnswer : List ℕ → Reading → ReaderAnswer
+readingAnswer page (Refused c) = refused (refusalNumber c)
+readingAnswer page (Accepted v) =
     shows (v .minor) (v .edition) (record { pointer = v .plat }) (λ k. shownAs (v .minor) k (sectionOf v k) page)
 
 -- ---- where the arrays lie: an array is "the part of the lent page that holds it", at its pointer
 unfoldable pub sectionAt : ℕ → ℕ → List ℕ → ℕ → Section
 sectionAt e base page k =
-    cond (ltb k (secs e)) (cond (eqb (countAt k page) 0) Empty (Entries (pointerAt k page - base) (countAt k page))) Absent
+    cond (ltb k (sectionCount e)) (cond (eqb (countAt k page) 0) Empty (Entries (pointerAt k page - base) (countAt k page))) Absent
 
 -- the view of an accepted page of minor w, read as edition e
 unfoldable pub viewAt : ℕ → ℕ → ℕ → List ℕ → View

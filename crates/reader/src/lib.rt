@@ -4,11 +4,11 @@ ghost use mathlib.Core.Path.{_≡_};
 ghost use mathlib.Core.Bool.{true};
 ghost use Prim.Native.Nat.{_<_};
 ghost use lib.ListN.{length};
-ghost use Rattle.versions.specs.Edition.{secs};
+ghost use Rattle.versions.specs.Edition.{sectionCount};
 ghost use Rattle.sections.specs.Page.{secAt, platAt};
 ghost use Rattle.sections.specs.Steps.{okAt, okTo};
-ghost use Rattle.reader.specs.Answer.{shown, viewOf, readOf};
-ghost use Rattle.reader.specs.Reading.{codeOf, sectionOf, shownAs, answerOf, sectionAt, viewAt, placedAs};
+ghost use Rattle.reader.specs.Answer.{shown, allShown, readOf};
+ghost use Rattle.reader.specs.Reading.{refusalNumber, sectionOf, shownAs, readingAnswer, sectionAt, viewAt, placedAs};
 
 // What is shown of a section: not in the edition, 24 zero bytes, or so many entries at an offset of the page.
 pub enum Section {
@@ -29,7 +29,7 @@ pub struct View {
 }
 
 // Why a page is refused: its place (-5), the edition or the version (-6), any other rule (-7).
-pub enum Code {
+pub enum Refusal {
     Place,
     Version,
     Rules,
@@ -37,23 +37,23 @@ pub enum Code {
 
 pub enum Reading {
     Accepted(View),
-    Refused(Code),
+    Refused(Refusal),
 }
 
 // The code's number.
-pub fn number(code: Code) -> i32
-    ensures { λ r. ⌜ r ≡ codeOf code ⌝ }
+pub fn number(code: Refusal) -> i32
+    ensures { λ r. ⌜ r ≡ refusalNumber code ⌝ }
 {
     match code {
-        Code::Place => -5,
-        Code::Version => -6,
-        Code::Rules => -7,
+        Refusal::Place => -5,
+        Refusal::Version => -6,
+        Refusal::Rules => -7,
     }
 }
 
 // What is shown of section k, whose rule holds if it is in edition e.
 fn section_at(page: &[u8], base: u64, minor: u64, e: Edition, k: u8) -> Section
-    requires { ⌜ (length (now page) ≡ 4096) × (k < secs (e .minor) → okAt minor (e .minor) base k (now page) ≡ true) ⌝ }
+    requires { ⌜ (length (now page) ≡ 4096) × (k < sectionCount (e .minor) → okAt minor (e .minor) base k (now page) ≡ true) ⌝ }
     ensures { λ r. ⌜ shownAs minor k r (now (page .entry)) ≡ shown minor (e .minor) k (secAt base (now (page .entry)) k) ⌝ }
     ensures { λ r. ⌜ r ≡ sectionAt (e .minor) base (now (page .entry)) k ⌝ }
 {
@@ -72,8 +72,8 @@ fn section_at(page: &[u8], base: u64, minor: u64, e: Edition, k: u8) -> Section
 
 // The view of a page whose rules hold.
 fn view_at(page: &[u8], base: u64, minor: u64, e: Edition) -> View
-    requires { ⌜ (length (now page) ≡ 4096) × (okTo minor (e .minor) base (secs (e .minor)) (now page) ≡ true) ⌝ }
-    ensures { λ r. ⌜ answerOf (now (page .entry)) (Reading.Accepted r) ≡ viewOf minor (e .minor) (platAt base (now (page .entry))) (secAt base (now (page .entry))) ⌝ }
+    requires { ⌜ (length (now page) ≡ 4096) × (okTo minor (e .minor) base (sectionCount (e .minor)) (now page) ≡ true) ⌝ }
+    ensures { λ r. ⌜ readingAnswer (now (page .entry)) (Reading.Accepted r) ≡ allShown minor (e .minor) (platAt base (now (page .entry))) (secAt base (now (page .entry))) ⌝ }
     ensures { λ r. ⌜ r ≡ viewAt minor (e .minor) base (now (page .entry)) ⌝ }
 {
     View {
@@ -90,25 +90,25 @@ fn view_at(page: &[u8], base: u64, minor: u64, e: Edition) -> View
 // Reads a lent page at a base, as a reader of an edition: all that it shows, or the first code in the order of the checks. The
 // view's places are those that the page's own pointers name.
 pub fn read(page: &[u8], base: u64, edition: u64) -> Reading
-    ensures { λ r. ⌜ answerOf (now (page .entry)) r ≡ readOf edition base (now (page .entry)) ⌝ }
+    ensures { λ r. ⌜ readingAnswer (now (page .entry)) r ≡ readOf edition base (now (page .entry)) ⌝ }
     ensures { λ r. ⌜ r ≡ placedAs base (now (page .entry)) r ⌝ }
 {
     if !sections::place_ok(base, page.len()) {
-        return Reading::Refused(Code::Place);
+        return Reading::Refused(Refusal::Place);
     }
     if !versions::is_edition(edition) {
-        return Reading::Refused(Code::Version);
+        return Reading::Refused(Refusal::Version);
     }
     let version = sections::version_at(page);
     if !versions::is_accepted(version) {
-        return Reading::Refused(Code::Version);
+        return Reading::Refused(Refusal::Version);
     }
     let minor = versions::minor(version);
     let e = Edition {
         minor: versions::smaller(edition, minor),
     };
     if !sections::page_ok(page, base, minor, e) {
-        return Reading::Refused(Code::Rules);
+        return Reading::Refused(Refusal::Rules);
     }
     let view = view_at(page, base, minor, e);
     Reading::Accepted(view)

@@ -8,7 +8,7 @@ use Rattle.codes.specs.Codes.{fails}
 use Rattle.codes.specs.declared.Code.the-variants.{Ok, Inval, Again}
 use Rattle.queue.specs.declared.Response.{Response}
 use Rattle.queue.specs.declared.Responses.{Responses}
-use Rattle.queue.specs.Queue.{Signed, Lists, held, ready, signedIn, joined, noResponse, oldestResponse}
+use Rattle.queue.specs.Queue.{Signed, Lists, held, ready, signedIn, appended, noResponse, oldestResponse}
 use Rattle.queue.proofs.Sides.{joined-room}
 use Rattle.responses.specs.Pull.{pullCode}
 
@@ -37,7 +37,7 @@ pub ready-rest : (s t : Responses) → held t ≡ drop 1 (held s) → ready t �
 unfolding ready
 ready-rest s t h = ap (map signedIn) h ∙ map-rest signedIn (held s)
 
-pub ready-join : (s t : Responses) (r : Response) → held t ≡ joined (held s) r → length (held s) < 8 → ready t ≡ ready s ++ (signedIn r ∷ [])
+pub ready-join : (s t : Responses) (r : Response) → held t ≡ appended (held s) r → length (held s) < 8 → ready t ≡ ready s ++ (signedIn r ∷ [])
 unfolding ready
 ready-join s t r h k = ap (map signedIn) (h ∙ joined-room (held s) r k) ∙ map-snoc signedIn (held s) r
 

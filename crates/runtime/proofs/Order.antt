@@ -23,7 +23,7 @@ use Rattle.signing.specs.declared.Opcode.{Opcode}
 use Rattle.signing.specs.declared.Opcode.the-variants.{Push, Pull, Key, Other}
 use Rattle.runtime.specs.declared.Kind.{Kind}
 use Rattle.runtime.specs.declared.Kind.the-variants.{ForwardError, Delegate, Undelegate, RealmKey, PlatformToken, Features, TokenSigning, KeyUpdate, Unlisted}
-use Rattle.runtime.specs.Step.{World, Call, Command, call, sign, kindOf, afterMove, afterKey, afterToken, afterSigning, afterUpdate, afterSign, callBy, callOf, stepOf, codeOf}
+use Rattle.runtime.specs.Step.{World, Call, Command, call, sign, kindOf, afterMove, afterKey, afterToken, afterSigning, afterUpdate, afterSign, callBy, callOf, stepOf, replyCode}
 use Rattle.runtime.specs.Run.{nextOf, accepted, worldAfter, gathered, ofSigning, ofPush, ofPull, pushes, pulls, signs, makes}
 
 none : {A : Type 0} (b : Bool) (l : List A) → l ++ cond b [] [] ≡ l
@@ -65,30 +65,30 @@ module _ (at size : ℕ) (page : List ℕ) (q : Lists) (key : List ℕ) where
 -- ---- one call
 module _ (r : Record) (g : Granules) (w : World) (c : Call) where
   call-requests : (k : Kind) →
-      w .queue .requests ++ cond (isOk (codeOf (callBy k r g w c .reply))) (ofSigning k (ofPush (opcodeOf (c .x1)) (requestOf (part (placeOf (upOf r) (c .x2)) (c .x3) (w .page)) ∷ []))) [] ≡ callBy k r g w c .next .queue .requests
-  unfolding callBy afterMove afterKey afterToken afterSigning afterUpdate codeOf signingOf
+      w .queue .requests ++ cond (isOk (replyCode (callBy k r g w c .reply))) (ofSigning k (ofPush (opcodeOf (c .x1)) (requestOf (part (placeOf (upOf r) (c .x2)) (c .x3) (w .page)) ∷ []))) [] ≡ callBy k r g w c .next .queue .requests
+  unfolding callBy afterMove afterKey afterToken afterSigning afterUpdate replyCode signingOf
   call-requests ForwardError = append-nil (w .queue .requests)
-  call-requests Delegate = none (isOk (codeOf (callBy Delegate r g w c .reply))) (w .queue .requests)
-  call-requests Undelegate = none (isOk (codeOf (callBy Undelegate r g w c .reply))) (w .queue .requests)
-  call-requests RealmKey = none (isOk (codeOf (callBy RealmKey r g w c .reply))) (w .queue .requests)
-  call-requests PlatformToken = none (isOk (codeOf (callBy PlatformToken r g w c .reply))) (w .queue .requests)
-  call-requests Features = none (isOk (codeOf (callBy Features r g w c .reply))) (w .queue .requests)
+  call-requests Delegate = none (isOk (replyCode (callBy Delegate r g w c .reply))) (w .queue .requests)
+  call-requests Undelegate = none (isOk (replyCode (callBy Undelegate r g w c .reply))) (w .queue .requests)
+  call-requests RealmKey = none (isOk (replyCode (callBy RealmKey r g w c .reply))) (w .queue .requests)
+  call-requests PlatformToken = none (isOk (replyCode (callBy PlatformToken r g w c .reply))) (w .queue .requests)
+  call-requests Features = none (isOk (replyCode (callBy Features r g w c .reply))) (w .queue .requests)
   call-requests TokenSigning = op-requests (placeOf (upOf r) (c .x2)) (c .x3) (w .page) (w .queue) (c .publicKey) _ (opcodeOf (c .x1))
-  call-requests KeyUpdate = none (isOk (codeOf (callBy KeyUpdate r g w c .reply))) (w .queue .requests)
-  call-requests Unlisted = none (isOk (codeOf (callBy Unlisted r g w c .reply))) (w .queue .requests)
+  call-requests KeyUpdate = none (isOk (replyCode (callBy KeyUpdate r g w c .reply))) (w .queue .requests)
+  call-requests Unlisted = none (isOk (replyCode (callBy Unlisted r g w c .reply))) (w .queue .requests)
 
   call-responses : (k : Kind) →
-      w .queue .responses ≡ cond (isOk (codeOf (callBy k r g w c .reply))) (ofSigning k (ofPull (opcodeOf (c .x1)) (take 1 (w .queue .responses)))) [] ++ callBy k r g w c .next .queue .responses
-  unfolding callBy afterMove afterKey afterToken afterSigning afterUpdate codeOf signingOf
+      w .queue .responses ≡ cond (isOk (replyCode (callBy k r g w c .reply))) (ofSigning k (ofPull (opcodeOf (c .x1)) (take 1 (w .queue .responses)))) [] ++ callBy k r g w c .next .queue .responses
+  unfolding callBy afterMove afterKey afterToken afterSigning afterUpdate replyCode signingOf
   call-responses ForwardError = refl
-  call-responses Delegate = nothing (isOk (codeOf (callBy Delegate r g w c .reply))) (w .queue .responses)
-  call-responses Undelegate = nothing (isOk (codeOf (callBy Undelegate r g w c .reply))) (w .queue .responses)
-  call-responses RealmKey = nothing (isOk (codeOf (callBy RealmKey r g w c .reply))) (w .queue .responses)
-  call-responses PlatformToken = nothing (isOk (codeOf (callBy PlatformToken r g w c .reply))) (w .queue .responses)
-  call-responses Features = nothing (isOk (codeOf (callBy Features r g w c .reply))) (w .queue .responses)
+  call-responses Delegate = nothing (isOk (replyCode (callBy Delegate r g w c .reply))) (w .queue .responses)
+  call-responses Undelegate = nothing (isOk (replyCode (callBy Undelegate r g w c .reply))) (w .queue .responses)
+  call-responses RealmKey = nothing (isOk (replyCode (callBy RealmKey r g w c .reply))) (w .queue .responses)
+  call-responses PlatformToken = nothing (isOk (replyCode (callBy PlatformToken r g w c .reply))) (w .queue .responses)
+  call-responses Features = nothing (isOk (replyCode (callBy Features r g w c .reply))) (w .queue .responses)
   call-responses TokenSigning = op-responses (placeOf (upOf r) (c .x2)) (c .x3) (w .page) (w .queue) (c .publicKey) _ (opcodeOf (c .x1))
-  call-responses KeyUpdate = nothing (isOk (codeOf (callBy KeyUpdate r g w c .reply))) (w .queue .responses)
-  call-responses Unlisted = nothing (isOk (codeOf (callBy Unlisted r g w c .reply))) (w .queue .responses)
+  call-responses KeyUpdate = nothing (isOk (replyCode (callBy KeyUpdate r g w c .reply))) (w .queue .responses)
+  call-responses Unlisted = nothing (isOk (replyCode (callBy Unlisted r g w c .reply))) (w .queue .responses)
 
 -- ---- one step of the signer
 first : (s : List ℕ) (l : List Request) → eqb (length l) 0 ≡ false → map (λ (x : Request). signedBy x s) (take 1 l) ≡ signedBy (oldestRequest l) s ∷ []
@@ -123,12 +123,12 @@ sign-responses q Again came n e = append-nil (q .responses)
 -- ---- one command
 module _ (r : Record) (g : Granules) (w : World) where
   step-requests : (c : Command) → w .queue .requests ++ pushes r g w c ≡ signs r g w c ++ nextOf r g w c .queue .requests
-  unfolding pushes signs stepOf callOf afterSign signOf signed answerOf codeOf
+  unfolding pushes signs stepOf callOf afterSign signOf signed answerOf replyCode
   step-requests (call c) = call-requests r g w c (kindOf (c .id))
   step-requests (sign s) = sign-requests (w .queue) s (signCode (w .queue) s) (signed (w .queue) s) refl
 
   step-responses : (c : Command) → w .queue .responses ++ makes r g w c ≡ pulls r g w c ++ nextOf r g w c .queue .responses
-  unfolding makes pulls stepOf callOf afterSign signOf signed answerOf codeOf
+  unfolding makes pulls stepOf callOf afterSign signOf signed answerOf replyCode
   step-responses (call c) = append-nil (w .queue .responses) ∙ call-responses r g w c (kindOf (c .id))
   step-responses (sign s) =
       sign-responses (w .queue) (signCode (w .queue) s) (map (λ (x : Request). signedBy x s) (take 1 (w .queue .requests))) (signed (w .queue) s) (λ e. ap (λ l. w .queue .responses ++ l) (sym (sign-some (w .queue) s e)))

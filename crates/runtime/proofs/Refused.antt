@@ -21,14 +21,14 @@ use Rattle.signing.proofs.Signings.{signing-refused}
 use Rattle.runtime.specs.declared.Kind.{Kind}
 use Rattle.runtime.specs.declared.Kind.the-variants.{ForwardError, Delegate, Undelegate, RealmKey, PlatformToken, Features, TokenSigning, KeyUpdate, Unlisted}
 use Rattle.runtime.specs.declared.Reply.the-variants.{Back}
-use Rattle.runtime.specs.Step.{World, Call, Command, call, sign, Step, kindOf, back, afterMove, afterKey, afterToken, afterSigning, afterUpdate, afterSign, callBy, callOf, stepOf, codeOf}
+use Rattle.runtime.specs.Step.{World, Call, Command, call, sign, Step, kindOf, back, afterMove, afterKey, afterToken, afterSigning, afterUpdate, afterSign, callBy, callOf, stepOf, replyCode}
 
 -- a refusal: the code, zeros in the other registers, nothing for the platform to do, and the world as it was
 abbrev pub refusal : Step → World → Step
-refusal s w = record { reply = Back (answerOf (codeOf (s .reply)) 0 0) Nothing; next = w }
+refusal s w = record { reply = Back (answerOf (replyCode (s .reply)) 0 0) Nothing; next = w }
 
-refused-by : (k : Kind) (r : Record) (g : Granules) (w : World) (c : Call) → isOk (codeOf (callBy k r g w c .reply)) ≡ false → callBy k r g w c ≡ refusal (callBy k r g w c) w
-unfolding callBy afterMove afterKey afterToken afterSigning afterUpdate codeOf answerOf
+refused-by : (k : Kind) (r : Record) (g : Granules) (w : World) (c : Call) → isOk (replyCode (callBy k r g w c .reply)) ≡ false → callBy k r g w c ≡ refusal (callBy k r g w c) w
+unfolding callBy afterMove afterKey afterToken afterSigning afterUpdate replyCode answerOf
 refused-by ForwardError r g w c h = absurd (true≢false h)
 refused-by Delegate r g w c h = ap (λ (m : Moved). afterMove m w) (move-refused r g (w .table) (c .x1) 0 1 h)
 refused-by Undelegate r g w c h = ap (λ (m : Moved). afterMove m w) (move-refused r g (w .table) (c .x1) 1 0 h)
@@ -41,7 +41,7 @@ refused-by Unlisted r g w c h = refl
 
 -- "a refused call returns zero in the other result registers and changes no page, table, session or queue": whatever the records,
 -- the world and the command, the signer's own step too
-pub refused : (r : Record) (g : Granules) (w : World) (c : Command) → isOk (codeOf (stepOf r g w c .reply)) ≡ false → stepOf r g w c ≡ refusal (stepOf r g w c) w
-unfolding stepOf callOf afterSign codeOf
+pub refused : (r : Record) (g : Granules) (w : World) (c : Command) → isOk (replyCode (stepOf r g w c .reply)) ≡ false → stepOf r g w c ≡ refusal (stepOf r g w c) w
+unfolding stepOf callOf afterSign replyCode
 refused r g w (call c) h = refused-by (kindOf (c .id)) r g w c h
 refused r g w (sign s) h = ap (λ (t : SignStep). afterSign t w) (sign-refused (w .queue) s h)

@@ -4,7 +4,7 @@ use mathlib.Core.Bool.{true}
 use mathlib.Core.List.{List, [], _∷_, _++_}
 use Rattle.boot.specs.declared.Record.{Record}
 use Rattle.granules.specs.declared.Granules.{Granules}
-use Rattle.token.specs.Calls.{TokenCall, stepOf as tokenStep, runOf as tokenRun, accepted as tokenAccepted, oksOf, hunksOf, leftOf, GoesOn, Calls}
+use Rattle.token.specs.Calls.{TokenCall, tokenStepOf as tokenStep, runOf as tokenRun, tokenAccepted, oksOf, hunksOf, leftOf, GoesOn, Calls}
 use Rattle.token.proofs.Calls.{token-calls}
 use Rattle.runtime.specs.declared.Kind.{Kind}
 use Rattle.runtime.specs.declared.Kind.the-variants.{ForwardError, Delegate, Undelegate, RealmKey, PlatformToken, Features, TokenSigning, KeyUpdate, Unlisted}

@@ -18,14 +18,14 @@ use Rattle.signing.specs.declared.Opcode.{Opcode}
 use Rattle.signing.specs.declared.Opcode.the-variants.{Push, Pull, Key, Other}
 use Rattle.runtime.specs.declared.Kind.{Kind}
 use Rattle.runtime.specs.declared.Kind.the-variants.{ForwardError, Delegate, Undelegate, RealmKey, PlatformToken, Features, TokenSigning, KeyUpdate, Unlisted}
-use Rattle.runtime.specs.Step.{World, Call, Command, call, sign, Step, kindOf, stepOf, codeOf}
+use Rattle.runtime.specs.Step.{World, Call, Command, call, sign, Step, kindOf, stepOf, replyCode}
 
 abbrev pub nextOf : Record → Granules → World → Command → World
 nextOf r g w c = stepOf r g w c .next
 
 -- whether a command is accepted
 abbrev pub accepted : Record → Granules → World → Command → Bool
-accepted r g w c = isOk (codeOf (stepOf r g w c .reply))
+accepted r g w c = isOk (replyCode (stepOf r g w c .reply))
 
 module _ (r : Record) (g : Granules) where
   -- the world after all the commands

@@ -110,6 +110,6 @@ stepOf r g w (call c) = callOf r g w c
 stepOf r g w (sign s) = afterSign (signOf (w .queue) s) w
 
 -- the code that a reply shows; 0xC400018F has no result, and is never refused
-unfoldable pub codeOf : Reply → Code
-codeOf (Forward n) = Ok
-codeOf (Back a work) = a .code
+unfoldable pub replyCode : Reply → Code
+replyCode (Forward n) = Ok
+replyCode (Back a work) = a .code

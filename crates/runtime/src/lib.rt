@@ -13,7 +13,7 @@ ghost use mathlib.Core.Path.{_≡_};
 ghost use mathlib.Core.Bool.{false};
 ghost use Rattle.codes.specs.Codes.{isOk};
 ghost use Rattle.queue.specs.Queue.{listsOf};
-ghost use Rattle.runtime.specs.Step.{World, Call, Step, kindOf, callOf, codeOf};
+ghost use Rattle.runtime.specs.Step.{World, Call, Step, kindOf, callOf, replyCode};
 
 // A command, by its function id.
 pub enum Kind {
@@ -134,7 +134,7 @@ pub fn call(
     ensures { λ r. ⌜ _≡_ {A = Step} (record { reply = r .reply; next = record { page = now (page .exit); table = now (table .exit); session = r .session; queue = listsOf (r .queue) } })
         (callOf state granules (record { page = now (page .entry); table = now (table .entry); session = session; queue = listsOf queue })
         (record { id = id; x1 = x1; x2 = x2; x3 = x3; x4 = x4; busy = busy; realmKey = now (key .entry); token = now (token .entry); publicKey = now (public .entry); width = width })) ⌝ }
-    ensures { λ r. ⌜ (isOk (codeOf (r .reply)) ≡ false → r .queue ≡ queue) ⌝ }
+    ensures { λ r. ⌜ (isOk (replyCode (r .reply)) ≡ false → r .queue ≡ queue) ⌝ }
 {
     let kind = kind_of(id);
     match kind {

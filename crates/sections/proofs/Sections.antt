@@ -9,11 +9,11 @@ use borrow.Author.Tests.{leb-true, ltb-true, eqb-true, le-leb}
 use Rattle.words.specs.Tests.{Yes, both, either}
 use Rattle.words.specs.Word.{part}
 use Rattle.words.proofs.Tests.{both-l, both-r, both-of, either-cases, every-at, every-none, every-more, every-not}
-use Rattle.versions.specs.Edition.{secs, core}
-use Rattle.entries.specs.Entry.{per, size}
+use Rattle.versions.specs.Edition.{sectionCount, core}
+use Rattle.entries.specs.Entry.{wordsPerEntry, size}
 use Rattle.entries.specs.Array.{wordsAt, soundOf}
 use Rattle.sections.specs.Page.{placeOk, paddingAt, countAt, pointerAt, checkAt, inPage, arrayAt, mkSec, secAt, platAt}
-use Rattle.sections.specs.Section.{platOk, wordsIn, nothing, inRange, secOk, span, apart, clear, rules, rulesAt}
+use Rattle.sections.specs.Section.{platOk, wordsIn, nothing, inRange, secOk, extent, apart, clearBefore, rules, rulesAt}
 use Rattle.sections.specs.Steps.{okAt, okTo, endOf, apartAt, clearTo, apartTo}
 
 -- ---- the place of a page
@@ -98,7 +98,7 @@ module _ (w e base : ℕ) (page : List ℕ) where
   ok-each n k h l = every-at n (λ k. okAt w e base k page) h k l
 
 -- ---- two arrays
-pub end-steps : (k w c : ℕ) (page : List ℕ) → w ≡ per k → c ≡ countAt k page → pointerAt k page + 8 * (w * c) ≡ endOf k page
+pub end-steps : (k w c : ℕ) (page : List ℕ) → w ≡ wordsPerEntry k → c ≡ countAt k page → pointerAt k page + 8 * (w * c) ≡ endOf k page
 unfolding endOf size
 end-steps k w c page e f = rw (e, f)
 
@@ -125,9 +125,9 @@ module _ (page : List ℕ) where
 
 -- ---- the rules of a page, check by check
 pub rules-steps : (w e base : ℕ) (page : List ℕ) →
-    rulesAt w e base page ≡ both (eqb (paddingAt page) 0) (both (platOk e base (platAt base page)) (both (okTo w e base (secs e) page) (apartTo (secs e) page)))
-unfolding rulesAt rules okTo okAt apartTo clearTo apartAt clear apart span endOf secAt mkSec
+    rulesAt w e base page ≡ both (eqb (paddingAt page) 0) (both (platOk e base (platAt base page)) (both (okTo w e base (sectionCount e) page) (apartTo (sectionCount e) page)))
+unfolding rulesAt rules okTo okAt apartTo clearTo apartAt clearBefore apart extent endOf secAt mkSec
 rules-steps w e base page = refl
 
-pub rules-sections : (w e base : ℕ) (page : List ℕ) → rulesAt w e base page ≡ true → okTo w e base (secs e) page ≡ true
+pub rules-sections : (w e base : ℕ) (page : List ℕ) → rulesAt w e base page ≡ true → okTo w e base (sectionCount e) page ≡ true
 rules-sections w e base page h = both-l _ _ (both-r _ _ (both-r _ _ (rw (rules-steps w e base page) at h)))

@@ -6,8 +6,8 @@ use mathlib.Core.List.{List}
 use lib.Dec.{leb, ltb, eqb}
 use Rattle.words.specs.Tests.{both, either, every}
 use Rattle.words.specs.Word.{wordsOf}
-use Rattle.versions.specs.Edition.{secs, core}
-use Rattle.entries.specs.Entry.{per, size}
+use Rattle.versions.specs.Edition.{sectionCount, core}
+use Rattle.entries.specs.Entry.{wordsPerEntry, size}
 use Rattle.entries.specs.Array.{soundOf}
 use Rattle.sections.specs.Page.{Sec, Plat, paddingAt, platAt, secAt}
 
@@ -17,7 +17,7 @@ platOk e base q = either (eqb (q .at) 0) (both (leb (base + core e) (q .at)) (lt
 
 -- the words of a section's array
 unfoldable pub wordsIn : ℕ → Sec → List ℕ
-wordsIn k s = wordsOf (per k * s .count) (s .bytes)
+wordsIn k s = wordsOf (wordsPerEntry k * s .count) (s .bytes)
 
 -- "24 zero bytes (shown as empty)"
 unfoldable pub nothing : ℕ → ℕ → ℕ → Bool
@@ -35,26 +35,26 @@ secOk w e base k s =
     (both (inRange e base k (s .count) (s .ptr)) (soundOf w k (s .count) (s .ptr) (s .chk) (wordsIn k s)))
 
 -- the addresses of an array, from one up to another
-pub record Span : Type 0 where
+pub record Extent : Type 0 where
   pub from : ℕ
   pub to : ℕ
 
-unfoldable pub span : ℕ → Sec → Span
-span k s = record { from = s .ptr; to = s .ptr + size k (s .count) }
+unfoldable pub extent : ℕ → Sec → Extent
+extent k s = record { from = s .ptr; to = s .ptr + size k (s .count) }
 
 -- two spans that share no byte; they may touch
-unfoldable pub apart : Span → Span → Bool
+unfoldable pub apart : Extent → Extent → Bool
 apart a b = either (leb (a .to) (b .from)) (leb (b .to) (a .from))
 
 -- "no two arrays overlap": section i stands apart from each section before it
-unfoldable pub clear : (ℕ → Sec) → ℕ → Bool
-clear f i = every i (λ j. apart (span i (f i)) (span j (f j)))
+unfoldable pub clearBefore : (ℕ → Sec) → ℕ → Bool
+clearBefore f i = every i (λ j. apart (extent i (f i)) (extent j (f j)))
 
 -- code -7: "any other manifest rule broken"
 unfoldable pub rules : ℕ → ℕ → ℕ → ℕ → Plat → (ℕ → Sec) → Bool
 rules w e base pad q f =
     both (eqb pad 0)
-    (both (platOk e base q) (both (every (secs e) (λ k. secOk w e base k (f k))) (every (secs e) (λ k. clear f k))))
+    (both (platOk e base q) (both (every (sectionCount e) (λ k. secOk w e base k (f k))) (every (sectionCount e) (λ k. clearBefore f k))))
 
 -- the same of a page
 unfoldable pub rulesAt : ℕ → ℕ → ℕ → List ℕ → Bool

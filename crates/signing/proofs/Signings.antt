@@ -5,7 +5,7 @@ use mathlib.Core.Bool.{true, false, false≢true}
 use mathlib.Core.List.{List}
 use lib.ListN.{length}
 use borrow.Author.Tests.{eq-eqb, ne-eqb, lt-ltb, le-ltb}
-use Rattle.boot.specs.declared.Kept.{Kept}
+use Rattle.boot.specs.declared.Params.{Params}
 use Rattle.boot.specs.declared.Record.{Record}
 use Rattle.range.specs.Range.{outside, tooLong, placeOf}
 use Rattle.range.proofs.Ranges.{room-of}
@@ -19,7 +19,7 @@ use Rattle.signing.specs.declared.Opcode.{Opcode}
 use Rattle.signing.specs.declared.Opcode.the-variants.{Push, Pull, Key, Other}
 
 -- ---- the checks that all opcodes share
-module _ (u : Kept) (o : Opcode) (pa size curve : ℕ) where
+module _ (u : Params) (o : Opcode) (pa size curve : ℕ) where
   pub shared-other : isOther o ≡ true → sharedCode u o pa size curve ≡ Inval
   unfolding sharedCode fails
   shared-other h = rw h
@@ -49,7 +49,7 @@ module _ (u : Kept) (o : Opcode) (pa size curve : ℕ) where
           shared-ok m = rw (h, i, l, b, le-ltb (u .minor) 4 m)
 
 -- a buffer that passes lies in the page
-pub shared-room : (u : Kept) (o : Opcode) (pa size curve : ℕ) → sharedCode u o pa size curve ≡ Ok → placeOf u pa + size ≤ 4096
+pub shared-room : (u : Params) (o : Opcode) (pa size curve : ℕ) → sharedCode u o pa size curve ≡ Ok → placeOf u pa + size ≤ 4096
 unfolding sharedCode
 shared-room u o pa size curve h =
     let p = fails-ok _ _ _ refl h in

@@ -5,7 +5,7 @@ use mathlib.Core.List.{List}
 use lib.ListN.{length}
 use lib.Dec.{ltb, eqb}
 use Rattle.words.specs.Word.{part, splice}
-use Rattle.boot.specs.declared.Kept.{Kept}
+use Rattle.boot.specs.declared.Params.{Params}
 use Rattle.boot.specs.declared.Record.{Record}
 use Rattle.range.specs.Range.{outside, tooLong, placeOf}
 use Rattle.codes.specs.Codes.{unless, fails, andThen, upOf, whenUp, answerOf}
@@ -35,7 +35,7 @@ badCurve Key curve = unless (eqb curve 0)
 badCurve Other curve = false
 
 -- "opcode not 1 to 3, outside, too long, or opcode 3 with curve not 0: INVAL; minor below 4: UNK."
-unfoldable pub sharedCode : Kept → Opcode → ℕ → ℕ → ℕ → Code
+unfoldable pub sharedCode : Params → Opcode → ℕ → ℕ → ℕ → Code
 sharedCode u o pa size curve =
     fails (isOther o) Inval
     (fails (outside u pa) Inval
@@ -67,7 +67,7 @@ opStep Other at size page q key = record { answer = answerOf Ok 0 0; page = page
 
 -- ---- the command
 -- ".. B2, B3 and B5 do so too on a lent page not 4,096 bytes long (house rules)"; then the shared checks, then the opcode's own
-unfoldable pub signingCode : Kept → List ℕ → Lists → List ℕ → Opcode → ℕ → ℕ → ℕ → Code
+unfoldable pub signingCode : Params → List ℕ → Lists → List ℕ → Opcode → ℕ → ℕ → ℕ → Code
 signingCode u page q key o pa size curve =
     fails (unless (eqb (length page) 4096)) Unk
     (andThen (sharedCode u o pa size curve) (opCode o (placeOf u pa) size page q key))

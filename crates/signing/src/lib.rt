@@ -1,5 +1,5 @@
 // Token signing: push, pull and key by opcode, each on its buffer in the page.
-use boot::Kept;
+use boot::Params;
 use boot::Record;
 use codes::Code;
 use codes::Gate;
@@ -64,20 +64,20 @@ fn bad_curve(opcode: Opcode, curve: u64) -> bool
 }
 
 // The checks that all opcodes share, and the buffer's offset in the page.
-fn gate_of(kept: Kept, opcode: Opcode, pa: u64, size: u64, curve: u64) -> Gate
-    ensures { λ r. ⌜ r ≡ gated (sharedCode kept opcode pa size curve) (placeOf kept pa) ⌝ }
+fn gate_of(params: Params, opcode: Opcode, pa: u64, size: u64, curve: u64) -> Gate
+    ensures { λ r. ⌜ r ≡ gated (sharedCode params opcode pa size curve) (placeOf params pa) ⌝ }
 {
     if is_other(opcode) {
         return Gate::Stop(Code::Inval);
     }
-    match range::fit_of(kept, pa, size) {
+    match range::fit_of(params, pa, size) {
         Fit::Outside => Gate::Stop(Code::Inval),
         Fit::TooLong => Gate::Stop(Code::Inval),
         Fit::At(at) => {
             if bad_curve(opcode, curve) {
                 return Gate::Stop(Code::Inval);
             }
-            if kept.minor < 4 {
+            if params.minor < 4 {
                 return Gate::Stop(Code::Unk);
             }
             Gate::Go(at)

@@ -4,9 +4,9 @@ use mathlib.Core.Path.{_≡_, refl}
 use mathlib.Core.List.{List, [], _∷_, _++_}
 use Rattle.words.specs.Tests.{both}
 use Rattle.words.specs.Word.{leBytes, joined}
-use Rattle.entries.specs.Entry.{per}
+use Rattle.entries.specs.Entry.{wordsPerEntry}
 use Rattle.reader.specs.Answer.{Shown, absent, empty, full, shows, refused, minus, entryWord, bytesIn, entryCount}
-use Rattle.text.specs.Text.{newline, space, dash, zeroX, manifestText, readAsText, platformText, noneText, absentText, refusedText, titleText, placesIn, places, decimal, signed, hexText, byteText, nameByte, nameText, wordText, gapText, partText, entryText, countText, stateText, sectionText, headText, pointerText, platText, listingOf}
+use Rattle.text.specs.Text.{newline, space, dash, zeroX, manifestText, readAsText, platformText, noneText, absentText, refusedText, titleText, placesIn, places, decimal, signedDecimal, hexText, byteText, nameByte, nameText, wordText, gapText, partText, entryText, countText, stateText, sectionText, headText, pointerText, platText, listingOf}
 
 -- "example 4's bank on a 0.2 page": one bank, and no section after it
 abbrev sections : ℕ → Shown
@@ -42,7 +42,7 @@ abbrev line7 : List ℕ
 line7 = 99 ∷ 111 ∷ 104 ∷ 32 ∷ 97 ∷ 98 ∷ 115 ∷ 101 ∷ 110 ∷ 116 ∷ 10 ∷ []
 
 pub example-14 : listingOf (shows 2 2 (record { pointer = 0 }) sections) ≡ line1 ++ line2 ++ line3 ++ line4 ++ line5 ++ line6 ++ line7
-unfolding listingOf headText platText pointerText sectionText stateText countText entryText partText wordText gapText hexText decimal places placesIn titleText joined newline space zeroX manifestText readAsText platformText noneText absentText entryWord entryCount bytesIn per both leBytes
+unfolding listingOf headText platText pointerText sectionText stateText countText entryText partText wordText gapText hexText decimal places placesIn titleText joined newline space zeroX manifestText readAsText platformText noneText absentText entryWord entryCount bytesIn wordsPerEntry both leBytes
 example-14 = refl
 
 -- a console: "its 8 bytes in order as 16 such digits, no 0x"
@@ -54,12 +54,12 @@ abbrev console : Shown
 console = full (0x9000000 ∷ 1 ∷ 0x313130_6c70 ∷ 0x1000000 ∷ 115200 ∷ 0 ∷ []) []
 
 pub console-line : entryText 1 console 0 ≡ consoleLine
-unfolding entryText partText wordText gapText hexText nameText nameByte byteText joined newline space zeroX entryWord per both leBytes
+unfolding entryText partText wordText gapText hexText nameText nameByte byteText joined newline space zeroX entryWord wordsPerEntry both leBytes
 console-line = refl
 
 -- an empty section: `coh 0`
 pub empty-line : sectionText (λ k. empty) 3 ≡ 99 ∷ 111 ∷ 104 ∷ 32 ∷ 48 ∷ 10 ∷ []
-unfolding sectionText stateText countText decimal places placesIn titleText joined newline space entryCount bytesIn per
+unfolding sectionText stateText countText decimal places placesIn titleText joined newline space entryCount bytesIn wordsPerEntry
 empty-line = refl
 
 -- more than nine entries: `12`
@@ -72,5 +72,5 @@ pub refused-lines :
     (listingOf (refused (minus 5)) ≡ 114 ∷ 101 ∷ 102 ∷ 117 ∷ 115 ∷ 101 ∷ 100 ∷ 32 ∷ 45 ∷ 53 ∷ 10 ∷ [])
     × (listingOf (refused (minus 6)) ≡ 114 ∷ 101 ∷ 102 ∷ 117 ∷ 115 ∷ 101 ∷ 100 ∷ 32 ∷ 45 ∷ 54 ∷ 10 ∷ [])
     × (listingOf (refused (minus 7)) ≡ 114 ∷ 101 ∷ 102 ∷ 117 ∷ 115 ∷ 101 ∷ 100 ∷ 32 ∷ 45 ∷ 55 ∷ 10 ∷ [])
-unfolding listingOf refusedText signed dash decimal places placesIn newline
+unfolding listingOf refusedText signedDecimal dash decimal places placesIn newline
 refused-lines = (refl, refl, refl)

@@ -10,7 +10,7 @@ use lib.ListN.{length, take, drop, set, getD, length-append, length-take, length
 use lib.Seq.{length-take-le, take-nil, take-all, take-at, drop-at, drop-drop, take-take, take-suc, set-split, take-append-le, take-append-add, append-snoc}
 use Rattle.text.specs.Text.{lay}
 use Rattle.words.specs.Word.{joined}
-use Rattle.text.specs.Steps.{Wrote}
+use Rattle.text.specs.Steps.{LaidOver}
 
 pub length-lay : (at : ℕ) (vs s : List ℕ) → at ≤ length s → length (lay at vs s) ≡ length s
 unfolding lay
@@ -97,10 +97,10 @@ lay-fits at n vs s h e = go (decLt (length vs) (length s - at))
         rw (lay-end at (take n vs) s (omega arith), lay-end at vs s (omega arith), take-take (length s - at) n vs m)
 
 -- ---- what the steps promise
-pub wrote-none : (at : ℕ) (s : List ℕ) → at ≤ length s → Wrote at [] s at s
+pub wrote-none : (at : ℕ) (s : List ℕ) → at ≤ length s → LaidOver at [] s at s
 wrote-none at s h = record { cursor = omega arith; within = h; same = refl; bytes = sym (lay-none at s) }
 
-pub wrote-then : {at m r : ℕ} {vs ws s t u : List ℕ} → at ≤ length s → Wrote at vs s m t → Wrote m ws t r u → Wrote at (vs ++ ws) s r u
+pub wrote-then : {at m r : ℕ} {vs ws s t u : List ℕ} → at ≤ length s → LaidOver at vs s m t → LaidOver m ws t r u → LaidOver at (vs ++ ws) s r u
 wrote-then {at} {m} {r} {vs} {ws} {s} {t} {u} h p q =
     record {
       cursor = rw length-append (omega arith);
@@ -110,21 +110,21 @@ wrote-then {at} {m} {r} {vs} {ws} {s} {t} {u} h p q =
     }
 
 -- text that is put byte by byte
-pub wrote-put : (at n : ℕ) (vs s t : List ℕ) → at ≤ length s → n ≡ min (length vs) (length s - at) → t ≡ lay at (take n vs) s → Wrote at vs s (at + n) t
+pub wrote-put : (at n : ℕ) (vs s t : List ℕ) → at ≤ length s → n ≡ min (length vs) (length s - at) → t ≡ lay at (take n vs) s → LaidOver at vs s (at + n) t
 wrote-put at n vs s t h e f =
     let g : t ≡ lay at vs s = f ∙ lay-fits at n vs s h e in
     let l : length t ≡ length s = ap length g ∙ length-lay at vs s h in
     record { cursor = omega arith; within = omega arith; same = l; bytes = g }
 
 -- the same text by another name
-pub wrote-same : {at r : ℕ} {vs ws s t : List ℕ} → vs ≡ ws → Wrote at vs s r t → Wrote at ws s r t
+pub wrote-same : {at r : ℕ} {vs ws s t : List ℕ} → vs ≡ ws → LaidOver at vs s r t → LaidOver at ws s r t
 wrote-same {at} {r} {vs} {ws} {s} {t} e p = rw (← e) p
 
 -- one part more of many
-pub wrote-more : (f : ℕ → List ℕ) (i : ℕ) {at m r : ℕ} {s t u : List ℕ} → at ≤ length s → Wrote at (joined i f) s m t → Wrote m (f i) t r u → Wrote at (joined (i + 1) f) s r u
+pub wrote-more : (f : ℕ → List ℕ) (i : ℕ) {at m r : ℕ} {s t u : List ℕ} → at ≤ length s → LaidOver at (joined i f) s m t → LaidOver m (f i) t r u → LaidOver at (joined (i + 1) f) s r u
 unfolding joined
 wrote-more f i h p q = rw add-one (wrote-then h p q)
 
 -- all that is put from the start on
-pub wrote-whole : {r : ℕ} {vs s t : List ℕ} → Wrote 0 vs s r t → (t ≡ lay 0 vs s) × (r ≡ min (length vs) (length s))
+pub wrote-whole : {r : ℕ} {vs s t : List ℕ} → LaidOver 0 vs s r t → (t ≡ lay 0 vs s) × (r ≡ min (length vs) (length s))
 wrote-whole p = (p .bytes, omega arith)

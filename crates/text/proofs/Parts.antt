@@ -14,14 +14,14 @@ use borrow.Author.Tests.{eq-eqb, ne-eqb}
 use Rattle.words.specs.Tests.{both}
 use Rattle.words.specs.Word.{wordAt}
 use Rattle.entries.specs.Entry.{size}
-use Rattle.reader.specs.Answer.{Answer, refused, readOf, empty, full, wordIn, entryWord, countIn, entryCount}
-use Rattle.reader.specs.Reading.{codeOf, sectionOf, shownAs, answerOf}
+use Rattle.reader.specs.Answer.{ReaderAnswer, refused, readOf, empty, full, wordIn, entryWord, countIn, entryCount}
+use Rattle.reader.specs.Reading.{refusalNumber, sectionOf, shownAs, readingAnswer}
 use Rattle.reader.specs.declared.Section.{Section}
 use Rattle.reader.specs.declared.Section.the-variants.{Absent, Empty, Entries}
 use Rattle.reader.proofs.Section.{the-type}
 use Rattle.reader.specs.declared.View.{View}
-use Rattle.reader.specs.declared.Code.{Code}
-use Rattle.reader.specs.declared.Code.the-variants.{Place}
+use Rattle.reader.specs.declared.Refusal.{Refusal}
+use Rattle.reader.specs.declared.Refusal.the-variants.{Place}
 use Rattle.reader.specs.declared.Reading.{Reading}
 use Rattle.reader.specs.declared.Reading.the-variants.{Accepted, Refused}
 use Rattle.text.specs.Text.{newline, space, noneText, absentText, titleText, hexText, nameText, wordText, gapText, countText, stateText, pointerText, listingOf, printed}
@@ -53,12 +53,12 @@ module _ (k j w : ℕ) where
 
 -- ---- what a view is asked for
 module _ (v : View) (page : List ℕ) (k : ℕ) where
-  pub word-seen : (i j : ℕ) → wordIn (answerOf page (Accepted v)) k i j ≡ entryWord k i j (seen v page k)
-  unfolding wordIn answerOf seen
+  pub word-seen : (i j : ℕ) → wordIn (readingAnswer page (Accepted v)) k i j ≡ entryWord k i j (seen v page k)
+  unfolding wordIn readingAnswer seen
   word-seen i j = refl
 
-  pub count-seen : countIn (answerOf page (Accepted v)) k ≡ entryCount k (seen v page k)
-  unfolding countIn answerOf seen
+  pub count-seen : countIn (readingAnswer page (Accepted v)) k ≡ entryCount k (seen v page k)
+  unfolding countIn readingAnswer seen
   count-seen = refl
 
 -- ---- names, and the platform pointer
@@ -99,15 +99,15 @@ module _ (v : View) (page : List ℕ) (k : ℕ) (s : Section) (e : s ≡ section
   state-other h = rw (← e) (count-other (v .minor) k s page h)
 
 -- ---- the answer of a reading
-pub list-refused : (page : List ℕ) (r : Reading) (c : Code) (a : Answer) → r ≡ Refused c → answerOf page r ≡ a → refusalOf r ≡ listingOf a
-unfolding refusalOf answerOf
+pub list-refused : (page : List ℕ) (r : Reading) (c : Refusal) (a : ReaderAnswer) → r ≡ Refused c → readingAnswer page r ≡ a → refusalOf r ≡ listingOf a
+unfolding refusalOf readingAnswer
 list-refused page r c a e f = rw (← f, e)
 
-pub list-accepted : (page : List ℕ) (r : Reading) (v : View) (a : Answer) → r ≡ Accepted v → answerOf page r ≡ a → listingOf (answerOf page (Accepted v)) ≡ listingOf a
+pub list-accepted : (page : List ℕ) (r : Reading) (v : View) (a : ReaderAnswer) → r ≡ Accepted v → readingAnswer page r ≡ a → listingOf (readingAnswer page (Accepted v)) ≡ listingOf a
 list-accepted page r v a e f = rw (← f, e)
 
 -- ---- the input of the program
-pub input-refused : (input : List ℕ) → (length input ≡ 4104 → ⊥) → listingOf (refused (codeOf Place)) ≡ printed input
+pub input-refused : (input : List ℕ) → (length input ≡ 4104 → ⊥) → listingOf (refused (refusalNumber Place)) ≡ printed input
 unfolding printed
 input-refused input h = rw (ne-eqb (length input) 4104 h)
 

@@ -4,14 +4,14 @@ use mathlib.Core.Path.{_≡_}
 use mathlib.Core.List.{List, []}
 use lib.ListN.{length}
 use Rattle.reader.specs.Answer.{Shown, refused}
-use Rattle.reader.specs.Reading.{codeOf, sectionOf, shownAs}
+use Rattle.reader.specs.Reading.{refusalNumber, sectionOf, shownAs}
 use Rattle.reader.specs.declared.View.{View}
 use Rattle.reader.specs.declared.Reading.{Reading}
 use Rattle.reader.specs.declared.Reading.the-variants.{Accepted, Refused}
 use Rattle.text.specs.Text.{lay, listingOf}
 
 -- vs was laid over s from an offset on as far as it fits: that left t, and what comes next goes to r
-pub record Wrote (at : ℕ) (vs s : List ℕ) (r : ℕ) (t : List ℕ) : Type 0 where
+pub record LaidOver (at : ℕ) (vs s : List ℕ) (r : ℕ) (t : List ℕ) : Type 0 where
   pub cursor : r ≡ min (at + length vs) (length s)
   pub within : r ≤ length t
   pub same : length t ≡ length s
@@ -23,5 +23,5 @@ seen v page k = shownAs (v .minor) k (sectionOf v k) page
 
 -- the line of a reading that refuses
 unfoldable pub refusalOf : Reading → List ℕ
-refusalOf (Refused c) = listingOf (refused (codeOf c))
+refusalOf (Refused c) = listingOf (refused (refusalNumber c))
 refusalOf (Accepted v) = []

@@ -8,8 +8,8 @@ use lib.IntN.{ℤ, pos, negsuc}
 use Rattle.io.specs.Digits.{digits}
 use Rattle.words.specs.Tests.{both}
 use Rattle.words.specs.Word.{leBytes, wordAt, joined}
-use Rattle.entries.specs.Entry.{per}
-use Rattle.reader.specs.Answer.{Shown, absent, empty, full, PlatShown, Answer, refused, shows, minus, readOf, entryWord, entryCount}
+use Rattle.entries.specs.Entry.{wordsPerEntry}
+use Rattle.reader.specs.Answer.{Shown, absent, empty, full, PlatShown, ReaderAnswer, refused, shows, minus, readOf, entryWord, entryCount}
 
 -- vs over s from an offset on as far as it fits; the rest of s as it was
 unfoldable pub lay : ℕ → List ℕ → List ℕ → List ℕ
@@ -74,9 +74,9 @@ places n = placesIn n n
 unfoldable pub decimal : ℕ → List ℕ
 decimal n = digits 10 (places n) n
 
-unfoldable pub signed : ℤ → List ℕ
-signed (pos n) = decimal n
-signed (negsuc n) = dash ++ decimal (suc n)
+unfoldable pub signedDecimal : ℤ → List ℕ
+signedDecimal (pos n) = decimal n
+signedDecimal (negsuc n) = dash ++ decimal (suc n)
 
 -- ---- words
 -- a word: "each as 0x and 16 lower-case hex digits"
@@ -110,7 +110,7 @@ partText k s i j = gapText j ++ wordText k j (entryWord k i j s)
 
 -- entry i of section k, "all words in file order"
 unfoldable pub entryText : ℕ → Shown → ℕ → List ℕ
-entryText k s i = joined (per k) (partText k s i) ++ newline
+entryText k s i = joined (wordsPerEntry k) (partText k s i) ++ newline
 
 -- "its count (0 if empty) and then a line an entry"
 unfoldable pub countText : ℕ → Shown → List ℕ
@@ -139,8 +139,8 @@ unfoldable pub platText : PlatShown → List ℕ
 platText q = platformText ++ pointerText (q .pointer) ++ newline
 
 -- of a page that is refused: "one line, `refused` and the code"
-unfoldable pub listingOf : Answer → List ℕ
-listingOf (refused c) = refusedText ++ signed c ++ newline
+unfoldable pub listingOf : ReaderAnswer → List ℕ
+listingOf (refused c) = refusedText ++ signedDecimal c ++ newline
 listingOf (shows w e q s) = headText w e ++ platText q ++ joined 4 (sectionText s)
 
 -- "The listing program reads from standard input 8 bytes of B, then the page, as reader of edition 4." "Input of any length but

@@ -1,17 +1,17 @@
 // The listing's text, laid into a lent slice as far as it fits. Each step puts a part of it at an offset, and answers where the
 // next part goes.
-use reader::Code;
 use reader::Reading;
+use reader::Refusal;
 use reader::Section;
 use reader::View;
 ghost use mathlib.Core.Path.{_≡_};
 ghost use Prim.Native.Nat.{min, _<_, _≤_};
 ghost use lib.ListN.{length};
 ghost use Rattle.reader.specs.Answer.{readOf, refused};
-ghost use Rattle.reader.specs.Reading.{codeOf, answerOf};
+ghost use Rattle.reader.specs.Reading.{refusalNumber, readingAnswer};
 ghost use Rattle.text.specs.Text.{lay, newline, decimal, hexText, byteText, nameText, wordText, gapText, entryText, countText, stateText, titleText, sectionText, headText, pointerText, platText, listingOf, printed};
 ghost use Rattle.words.specs.Word.{joined};
-ghost use Rattle.text.specs.Steps.{Wrote, seen, refusalOf};
+ghost use Rattle.text.specs.Steps.{LaidOver, seen, refusalOf};
 
 // The smaller of two lengths.
 fn smaller(a: usize, b: usize) -> usize
@@ -26,7 +26,7 @@ fn smaller(a: usize, b: usize) -> usize
 // Any bytes.
 fn put(out: &mut [u8], at: usize, text: &[u8]) -> usize
     requires { ⌜ at ≤ length (now out) ⌝ }
-    ensures { λ r. ⌜ Wrote at (now (text .entry)) (now (out .entry)) r (now (out .exit)) ⌝ }
+    ensures { λ r. ⌜ LaidOver at (now (text .entry)) (now (out .entry)) r (now (out .exit)) ⌝ }
 {
     let n = smaller(text.len(), out.len() - at);
     for i in 0..n {
@@ -38,7 +38,7 @@ fn put(out: &mut [u8], at: usize, text: &[u8]) -> usize
 // A number in decimal.
 fn put_decimal(out: &mut [u8], at: usize, n: u64) -> usize
     requires { ⌜ at ≤ length (now out) ⌝ }
-    ensures { λ r. ⌜ Wrote at (decimal n) (now (out .entry)) r (now (out .exit)) ⌝ }
+    ensures { λ r. ⌜ LaidOver at (decimal n) (now (out .entry)) r (now (out .exit)) ⌝ }
 {
     let mut digits = [0u8; 20];
     let k = io::decimal(n, &mut digits);
@@ -48,7 +48,7 @@ fn put_decimal(out: &mut [u8], at: usize, n: u64) -> usize
 // A word: 0x and 16 digits.
 fn put_hex(out: &mut [u8], at: usize, w: u64) -> usize
     requires { ⌜ at ≤ length (now out) ⌝ }
-    ensures { λ r. ⌜ Wrote at (hexText w) (now (out .entry)) r (now (out .exit)) ⌝ }
+    ensures { λ r. ⌜ LaidOver at (hexText w) (now (out .entry)) r (now (out .exit)) ⌝ }
 {
     let mut digits = [0u8; 16];
     let k = io::hex(w, 16, &mut digits);
@@ -59,7 +59,7 @@ fn put_hex(out: &mut [u8], at: usize, w: u64) -> usize
 // A byte: two digits.
 fn put_byte(out: &mut [u8], at: usize, b: u64) -> usize
     requires { ⌜ (at ≤ length (now out)) × (b < 256) ⌝ }
-    ensures { λ r. ⌜ Wrote at (byteText b) (now (out .entry)) r (now (out .exit)) ⌝ }
+    ensures { λ r. ⌜ LaidOver at (byteText b) (now (out .entry)) r (now (out .exit)) ⌝ }
 {
     let mut digits = [0u8; 16];
     let k = io::hex(b, 2, &mut digits);
@@ -69,7 +69,7 @@ fn put_byte(out: &mut [u8], at: usize, b: u64) -> usize
 // A console's name: its 8 bytes in order.
 fn put_name(out: &mut [u8], at: usize, w: u64) -> usize
     requires { ⌜ at ≤ length (now out) ⌝ }
-    ensures { λ r. ⌜ Wrote at (nameText w) (now (out .entry)) r (now (out .exit)) ⌝ }
+    ensures { λ r. ⌜ LaidOver at (nameText w) (now (out .entry)) r (now (out .exit)) ⌝ }
 {
     let mut to = at;
     let mut rest = w;
@@ -83,7 +83,7 @@ fn put_name(out: &mut [u8], at: usize, w: u64) -> usize
 // Word j of an entry of section k.
 fn put_word(out: &mut [u8], at: usize, k: usize, j: usize, w: u64) -> usize
     requires { ⌜ at ≤ length (now out) ⌝ }
-    ensures { λ r. ⌜ Wrote at (wordText k j w) (now (out .entry)) r (now (out .exit)) ⌝ }
+    ensures { λ r. ⌜ LaidOver at (wordText k j w) (now (out .entry)) r (now (out .exit)) ⌝ }
 {
     if k != 1 {
         return put_hex(out, at, w);
@@ -97,7 +97,7 @@ fn put_word(out: &mut [u8], at: usize, k: usize, j: usize, w: u64) -> usize
 // The space before word j of an entry; none before the first.
 fn put_gap(out: &mut [u8], at: usize, j: usize) -> usize
     requires { ⌜ at ≤ length (now out) ⌝ }
-    ensures { λ r. ⌜ Wrote at (gapText j) (now (out .entry)) r (now (out .exit)) ⌝ }
+    ensures { λ r. ⌜ LaidOver at (gapText j) (now (out .entry)) r (now (out .exit)) ⌝ }
 {
     if j == 0 {
         return at;
@@ -108,7 +108,7 @@ fn put_gap(out: &mut [u8], at: usize, j: usize) -> usize
 // The end of a line.
 fn put_end(out: &mut [u8], at: usize) -> usize
     requires { ⌜ at ≤ length (now out) ⌝ }
-    ensures { λ r. ⌜ Wrote at newline (now (out .entry)) r (now (out .exit)) ⌝ }
+    ensures { λ r. ⌜ LaidOver at newline (now (out .entry)) r (now (out .exit)) ⌝ }
 {
     put(out, at, b"\n")
 }
@@ -116,7 +116,7 @@ fn put_end(out: &mut [u8], at: usize) -> usize
 // Entry i of section k of a view: its words, and the end of the line.
 fn put_entry(out: &mut [u8], at: usize, page: &[u8], view: View, k: usize, i: usize) -> usize
     requires { ⌜ at ≤ length (now out) ⌝ }
-    ensures { λ r. ⌜ Wrote at (entryText k (seen view (now (page .entry)) k) i) (now (out .entry)) r (now (out .exit)) ⌝ }
+    ensures { λ r. ⌜ LaidOver at (entryText k (seen view (now (page .entry)) k) i) (now (out .entry)) r (now (out .exit)) ⌝ }
 {
     let n = entries::entry_words(k);
     let mut to = at;
@@ -130,7 +130,7 @@ fn put_entry(out: &mut [u8], at: usize, page: &[u8], view: View, k: usize, i: us
 // The first n entries of section k of a view.
 fn put_entries(out: &mut [u8], at: usize, page: &[u8], view: View, k: usize, n: usize) -> usize
     requires { ⌜ at ≤ length (now out) ⌝ }
-    ensures { λ r. ⌜ Wrote at (joined n (entryText k (seen view (now (page .entry)) k))) (now (out .entry)) r (now (out .exit)) ⌝ }
+    ensures { λ r. ⌜ LaidOver at (joined n (entryText k (seen view (now (page .entry)) k))) (now (out .entry)) r (now (out .exit)) ⌝ }
 {
     let mut to = at;
     for i in 0..n {
@@ -142,7 +142,7 @@ fn put_entries(out: &mut [u8], at: usize, page: &[u8], view: View, k: usize, n: 
 // The count of section k of a view, and its entries.
 fn put_count(out: &mut [u8], at: usize, page: &[u8], view: View, k: usize) -> usize
     requires { ⌜ at ≤ length (now out) ⌝ }
-    ensures { λ r. ⌜ Wrote at (countText k (seen view (now (page .entry)) k)) (now (out .entry)) r (now (out .exit)) ⌝ }
+    ensures { λ r. ⌜ LaidOver at (countText k (seen view (now (page .entry)) k)) (now (out .entry)) r (now (out .exit)) ⌝ }
 {
     let n = lookup::count_of(page, view, k);
     let to = put_decimal(out, at, n as u64);
@@ -153,7 +153,7 @@ fn put_count(out: &mut [u8], at: usize, page: &[u8], view: View, k: usize) -> us
 // What follows the name of section k of a view: that it is absent, or its count and entries.
 fn put_state(out: &mut [u8], at: usize, page: &[u8], view: View, k: usize) -> usize
     requires { ⌜ at ≤ length (now out) ⌝ }
-    ensures { λ r. ⌜ Wrote at (stateText k (seen view (now (page .entry)) k)) (now (out .entry)) r (now (out .exit)) ⌝ }
+    ensures { λ r. ⌜ LaidOver at (stateText k (seen view (now (page .entry)) k)) (now (out .entry)) r (now (out .exit)) ⌝ }
 {
     let section = reader::section_of(view, k);
     match section {
@@ -165,7 +165,7 @@ fn put_state(out: &mut [u8], at: usize, page: &[u8], view: View, k: usize) -> us
 // The name of section k.
 fn put_title(out: &mut [u8], at: usize, k: usize) -> usize
     requires { ⌜ at ≤ length (now out) ⌝ }
-    ensures { λ r. ⌜ Wrote at (titleText k) (now (out .entry)) r (now (out .exit)) ⌝ }
+    ensures { λ r. ⌜ LaidOver at (titleText k) (now (out .entry)) r (now (out .exit)) ⌝ }
 {
     match k {
         0 => put(out, at, b"dram"),
@@ -178,7 +178,7 @@ fn put_title(out: &mut [u8], at: usize, k: usize) -> usize
 // Section k of a view.
 fn put_section(out: &mut [u8], at: usize, page: &[u8], view: View, k: usize) -> usize
     requires { ⌜ at ≤ length (now out) ⌝ }
-    ensures { λ r. ⌜ Wrote at (sectionText (seen view (now (page .entry))) k) (now (out .entry)) r (now (out .exit)) ⌝ }
+    ensures { λ r. ⌜ LaidOver at (sectionText (seen view (now (page .entry))) k) (now (out .entry)) r (now (out .exit)) ⌝ }
 {
     let to = put_title(out, at, k);
     let to = put(out, to, b" ");
@@ -188,7 +188,7 @@ fn put_section(out: &mut [u8], at: usize, page: &[u8], view: View, k: usize) -> 
 // The four sections of a view.
 fn put_sections(out: &mut [u8], at: usize, page: &[u8], view: View) -> usize
     requires { ⌜ at ≤ length (now out) ⌝ }
-    ensures { λ r. ⌜ Wrote at (joined 4 (sectionText (seen view (now (page .entry))))) (now (out .entry)) r (now (out .exit)) ⌝ }
+    ensures { λ r. ⌜ LaidOver at (joined 4 (sectionText (seen view (now (page .entry))))) (now (out .entry)) r (now (out .exit)) ⌝ }
 {
     let mut to = at;
     for k in 0..4 {
@@ -200,7 +200,7 @@ fn put_sections(out: &mut [u8], at: usize, page: &[u8], view: View) -> usize
 // The first line: the version, whose major is 0, and the edition that the page was read as.
 fn put_head(out: &mut [u8], at: usize, minor: u64, edition: u64) -> usize
     requires { ⌜ at ≤ length (now out) ⌝ }
-    ensures { λ r. ⌜ Wrote at (headText minor edition) (now (out .entry)) r (now (out .exit)) ⌝ }
+    ensures { λ r. ⌜ LaidOver at (headText minor edition) (now (out .entry)) r (now (out .exit)) ⌝ }
 {
     let to = put(out, at, b"manifest 0.");
     let to = put_decimal(out, to, minor);
@@ -212,7 +212,7 @@ fn put_head(out: &mut [u8], at: usize, minor: u64, edition: u64) -> usize
 // The platform pointer, or that there is none.
 fn put_pointer(out: &mut [u8], at: usize, plat: u64) -> usize
     requires { ⌜ at ≤ length (now out) ⌝ }
-    ensures { λ r. ⌜ Wrote at (pointerText plat) (now (out .entry)) r (now (out .exit)) ⌝ }
+    ensures { λ r. ⌜ LaidOver at (pointerText plat) (now (out .entry)) r (now (out .exit)) ⌝ }
 {
     if plat == 0 {
         return put(out, at, b"none");
@@ -223,7 +223,7 @@ fn put_pointer(out: &mut [u8], at: usize, plat: u64) -> usize
 // The second line.
 fn put_plat(out: &mut [u8], at: usize, plat: u64) -> usize
     requires { ⌜ at ≤ length (now out) ⌝ }
-    ensures { λ r. ⌜ Wrote at (platText (record { pointer = plat })) (now (out .entry)) r (now (out .exit)) ⌝ }
+    ensures { λ r. ⌜ LaidOver at (platText (record { pointer = plat })) (now (out .entry)) r (now (out .exit)) ⌝ }
 {
     let to = put(out, at, b"platform ");
     let to = put_pointer(out, to, plat);
@@ -232,7 +232,7 @@ fn put_plat(out: &mut [u8], at: usize, plat: u64) -> usize
 
 // The listing of an accepted page.
 fn put_view(out: &mut [u8], page: &[u8], view: View) -> usize
-    ensures { λ r. ⌜ Wrote 0 (listingOf (answerOf (now (page .entry)) (Reading.Accepted view))) (now (out .entry)) r (now (out .exit)) ⌝ }
+    ensures { λ r. ⌜ LaidOver 0 (listingOf (readingAnswer (now (page .entry)) (Reading.Accepted view))) (now (out .entry)) r (now (out .exit)) ⌝ }
 {
     let to = put_head(out, 0, view.minor, view.edition);
     let to = put_plat(out, to, view.plat);
@@ -240,19 +240,19 @@ fn put_view(out: &mut [u8], page: &[u8], view: View) -> usize
 }
 
 // The line of a code.
-fn put_code(out: &mut [u8], code: Code) -> usize
-    ensures { λ r. ⌜ Wrote 0 (listingOf (refused (codeOf code))) (now (out .entry)) r (now (out .exit)) ⌝ }
+fn put_code(out: &mut [u8], code: Refusal) -> usize
+    ensures { λ r. ⌜ LaidOver 0 (listingOf (refused (refusalNumber code))) (now (out .entry)) r (now (out .exit)) ⌝ }
 {
     match code {
-        Code::Place => put(out, 0, b"refused -5\n"),
-        Code::Version => put(out, 0, b"refused -6\n"),
-        Code::Rules => put(out, 0, b"refused -7\n"),
+        Refusal::Place => put(out, 0, b"refused -5\n"),
+        Refusal::Version => put(out, 0, b"refused -6\n"),
+        Refusal::Rules => put(out, 0, b"refused -7\n"),
     }
 }
 
 // The line of a reading that refuses; nothing of one that does not.
 fn put_refused(out: &mut [u8], reading: Reading) -> usize
-    ensures { λ r. ⌜ Wrote 0 (refusalOf reading) (now (out .entry)) r (now (out .exit)) ⌝ }
+    ensures { λ r. ⌜ LaidOver 0 (refusalOf reading) (now (out .entry)) r (now (out .exit)) ⌝ }
 {
     match reading {
         Reading::Accepted(_) => 0,
@@ -277,7 +277,7 @@ pub fn list_input(input: &[u8], out: &mut [u8]) -> usize
     ensures { λ r. ⌜ (now (out .exit) ≡ lay 0 (printed (now (input .entry))) (now (out .entry))) × (r ≡ min (length (printed (now (input .entry)))) (length (now (out .entry)))) ⌝ }
 {
     if input.len() != 4104 {
-        return put_code(out, Code::Place);
+        return put_code(out, Refusal::Place);
     }
     list(&input[8..], words::word_at(input, 0), 4, out)
 }

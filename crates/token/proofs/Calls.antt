@@ -20,8 +20,8 @@ use Rattle.codes.specs.declared.Code.the-variants.{Ok, Unk, BadAddr, BadPas, In
 use Rattle.codes.proofs.Gates.{fails-ok, unless-ok, first-ok, then-ok}
 use Rattle.token.specs.declared.Session.{Session}
 use Rattle.token.specs.declared.Session.the-variants.{Idle, Sending}
-use Rattle.token.specs.Token.{bufferCode, startCode, tokenCode, beginOf, hunkOf, restOf, sessionOf, TokenStep, sendOf, keeps, settled, tokenOf}
-use Rattle.token.specs.Calls.{TokenCall, stepOf, accepted, shownOf, Ready, runOf, oksOf, hunksOf, leftOf, GoesOn, ceil, Calls}
+use Rattle.token.specs.Token.{bufferCode, startCode, tokenCode, beginOf, hunkOf, restOf, nextSession, TokenStep, sendOf, keeps, settled, tokenOf}
+use Rattle.token.specs.Calls.{TokenCall, tokenStepOf, tokenAccepted, shownOf, Ready, runOf, oksOf, hunksOf, leftOf, GoesOn, ceil, Calls}
 use Rattle.token.proofs.Tokens.{buffer-room, start-empty, start-again, begin-again, next-idle, next-ok, begin-next, sends, token-start, token-refused}
 
 -- ---- the session once k bytes of the token were asked for
@@ -53,11 +53,11 @@ module _ (t : List ℕ) (k : ℕ) where
 
 -- ---- one hunk
 module _ (t : List ℕ) (i size : ℕ) where
-  session-next : i < length t → sessionOf t i size ≡ sessionAt t (i + size)
-  unfolding sessionOf sessionAt restOf hunkOf
+  session-next : i < length t → nextSession t i size ≡ sessionAt t (i + size)
+  unfolding nextSession sessionAt restOf hunkOf
   session-next h = go (decLe (length t) (i + size))
     where
-      go : Dec (length t ≤ i + size) → sessionOf t i size ≡ sessionAt t (i + size)
+      go : Dec (length t ≤ i + size) → nextSession t i size ≡ sessionAt t (i + size)
       go (yes a) = rw (eq-eqb (length t - i - min size (length t - i)) 0 (omega arith), le-leb (length t) (i + size) a)
       go (no a) = rw (ne-eqb (length t - i - min size (length t - i)) 0 (omega arith), lt-leb (length t) (i + size) (omega arith)) (ap (Sending (length t)) (omega arith))
 
@@ -91,13 +91,13 @@ settled-ok BadPas new page s h = absurd (false≢true h)
 settled-ok Inval new page s h = absurd (false≢true h)
 settled-ok Again new page s h = absurd (false≢true h)
 
-module _ (s : Session) (x : TokenCall) (h : accepted s x ≡ true) where
+module _ (s : Session) (x : TokenCall) (h : tokenAccepted s x ≡ true) where
   code-ok : whenUp (x .state) (tokenCode (upOf (x .state)) (x .page) s (x .busy) (x .token) (x .pa) (x .size) (x .csize)) ≡ Ok
-  unfolding accepted stepOf tokenOf
+  unfolding tokenAccepted tokenStepOf tokenOf
   code-ok = settled-ok _ (sendOf (placeOf (upOf (x .state)) (x .pa)) (x .token) (beginOf s (x .csize)) (x .size) (x .page)) (x .page) s h
 
-  step-is : stepOf s x ≡ sendOf (placeOf (upOf (x .state)) (x .pa)) (x .token) (beginOf s (x .csize)) (x .size) (x .page)
-  unfolding stepOf tokenOf
+  step-is : tokenStepOf s x ≡ sendOf (placeOf (upOf (x .state)) (x .pa)) (x .token) (beginOf s (x .csize)) (x .size) (x .page)
+  unfolding tokenStepOf tokenOf
   step-is = sym (sends _ _ (x .page) s code-ok)
 
   page-whole : length (x .page) ≡ 4096
@@ -108,11 +108,11 @@ module _ (s : Session) (x : TokenCall) (h : accepted s x ≡ true) where
   unfolding whenUp tokenCode
   checks-ok = fails-ok _ _ _ refl (fails-ok _ _ _ refl (fails-ok _ _ _ refl code-ok .1) .1) .1
 
-  session-is : beginOf s (x .csize) < length (x .token) → stepOf s x .session ≡ sessionAt (x .token) (beginOf s (x .csize) + x .size)
+  session-is : beginOf s (x .csize) < length (x .token) → tokenStepOf s x .session ≡ sessionAt (x .token) (beginOf s (x .csize) + x .size)
   unfolding sendOf
   session-is l = ap (λ (t : TokenStep). t .session) step-is ∙ session-next (x .token) (beginOf s (x .csize)) (x .size) l
 
-  left-is : stepOf s x .answer .x2 ≡ length (x .token) - (beginOf s (x .csize) + x .size)
+  left-is : tokenStepOf s x .answer .x2 ≡ length (x .token) - (beginOf s (x .csize) + x .size)
   unfolding sendOf answerOf
   left-is = ap (λ (t : TokenStep). t .answer .x2) step-is ∙ rest-next (x .token) (beginOf s (x .csize)) (x .size)
 
@@ -132,11 +132,11 @@ module _ (s : Session) (x : TokenCall) (h : accepted s x ≡ true) where
 -- a further call that is OK: the session is open, and the next bytes are sent
 record Next (t : List ℕ) (size k : ℕ) (s : Session) (x : TokenCall) : Type 0 where
   below : k < length t
-  after : stepOf s x .session ≡ sessionAt t (k + size)
+  after : tokenStepOf s x .session ≡ sessionAt t (k + size)
   shown : shownOf s x ≡ take size (drop k t)
-  left : stepOf s x .answer .x2 ≡ length t - (k + size)
+  left : tokenStepOf s x .answer .x2 ≡ length t - (k + size)
 
-step-on : (t : List ℕ) (size : ℕ) (s : Session) (x : TokenCall) (k : ℕ) → accepted s x ≡ true → x .csize ≡ 0 → x .size ≡ size → x .token ≡ t → s ≡ sessionAt t k → Next t size k s x
+step-on : (t : List ℕ) (size : ℕ) (s : Session) (x : TokenCall) (k : ℕ) → tokenAccepted s x ≡ true → x .csize ≡ 0 → x .size ≡ size → x .token ≡ t → s ≡ sessionAt t k → Next t size k s x
 step-on t size s x k h c z e o =
     let q = then-ok _ _ (checks-ok s x h) in
     let l : k < length t = is-open t k (λ i. false≢true (ap isOk (sym (next-idle s (x .csize) (length (x .token)) c (o ∙ i)) ∙ q))) in
@@ -149,13 +149,13 @@ step-on t size s x k h c z e o =
     }
 
 -- a call that is refused shows nothing and leaves the session
-step-off : (s : Session) (x : TokenCall) → accepted s x ≡ false → (shownOf s x ≡ []) × (stepOf s x .session ≡ s)
-unfolding shownOf accepted stepOf
+step-off : (s : Session) (x : TokenCall) → tokenAccepted s x ≡ false → (shownOf s x ≡ []) × (tokenStepOf s x .session ≡ s)
+unfolding shownOf tokenAccepted tokenStepOf
 step-off s x h = (rw h, ap (λ (t : TokenStep). t .session) (token-refused (x .state) (x .page) s (x .busy) (x .token) (x .pa) (x .size) (x .csize) h))
 
 -- a call that passes the checks of session and token, and the others, is OK
-ready-ok : (s : Session) (x : TokenCall) → Ready x → startCode s (x .csize) (length (x .token)) ≡ Ok → accepted s x ≡ true
-unfolding accepted stepOf tokenOf sendOf settled answerOf
+ready-ok : (s : Session) (x : TokenCall) → Ready x → startCode s (x .csize) (length (x .token)) ≡ Ok → tokenAccepted s x ≡ true
+unfolding tokenAccepted tokenStepOf tokenOf sendOf settled answerOf
 ready-ok s x a h = rw (token-start (x .state) (x .page) s (x .busy) (x .token) (x .pa) (x .size) (x .csize) (a .up) (a .whole) (a .free) (a .buffer) ∙ h)
 
 -- ---- any calls after the start
@@ -187,16 +187,16 @@ module _ (t : List ℕ) (size : ℕ) where
       Sent t size k (oksOf s xs) (hunksOf s xs) (leftOf left s xs) (runOf s xs)
   unfolding oksOf hunksOf leftOf runOf
   goes-on [] s k left r o l f = sent-none t size k left s r o l
-  goes-on (x ∷ xs) s k left r o l f = go (accepted s x) refl (λ i m q p j. goes-on xs (stepOf s x .session) i m q p j (f .1))
+  goes-on (x ∷ xs) s k left r o l f = go (tokenAccepted s x) refl (λ i m q p j. goes-on xs (tokenStepOf s x .session) i m q p j (f .1))
     where
-      go : (b : Bool) → accepted s x ≡ b →
-          ((i m : ℕ) → m ≡ length t - i → stepOf s x .session ≡ sessionAt t i → i < length t + size →
-          Sent t size i (oksOf (stepOf s x .session) xs) (hunksOf (stepOf s x .session) xs) (leftOf m (stepOf s x .session) xs) (runOf (stepOf s x .session) xs)) →
-          Sent t size k (cond (accepted s x) 1 0 + oksOf (stepOf s x .session) xs) (shownOf s x ++ hunksOf (stepOf s x .session) xs) (leftOf (cond (accepted s x) (stepOf s x .answer .x2) left) (stepOf s x .session) xs) (runOf (stepOf s x .session) xs)
+      go : (b : Bool) → tokenAccepted s x ≡ b →
+          ((i m : ℕ) → m ≡ length t - i → tokenStepOf s x .session ≡ sessionAt t i → i < length t + size →
+          Sent t size i (oksOf (tokenStepOf s x .session) xs) (hunksOf (tokenStepOf s x .session) xs) (leftOf m (tokenStepOf s x .session) xs) (runOf (tokenStepOf s x .session) xs)) →
+          Sent t size k (cond (tokenAccepted s x) 1 0 + oksOf (tokenStepOf s x .session) xs) (shownOf s x ++ hunksOf (tokenStepOf s x .session) xs) (leftOf (cond (tokenAccepted s x) (tokenStepOf s x .answer .x2) left) (tokenStepOf s x .session) xs) (runOf (tokenStepOf s x .session) xs)
       go true e ih =
           let y = f .0 e in
           let p = step-on t size s x k e (y .0) (y .1) (y .2) o in
-          rw (e, p .shown) (sent-more t size k _ _ _ _ (ih (k + size) (stepOf s x .answer .x2) (p .left) (p .after) (omega (arith, p .below))))
+          rw (e, p .shown) (sent-more t size k _ _ _ _ (ih (k + size) (tokenStepOf s x .answer .x2) (p .left) (p .after) (omega (arith, p .below))))
       go false e ih =
           let p = step-off s x e in
           rw (e, p .0) (sent-same t size k _ _ _ _ (ih k left r (p .1 ∙ o) l))
@@ -210,7 +210,7 @@ ceil-above : (l b n : ℕ) → 0 < b → n * b < l → n < ceil l b
 unfolding ceil
 ceil-above l b n p h = le-div-iff-mul-le p .1 (rw suc-mul (omega arith))
 
-module _ (s : Session) (x : TokenCall) (xs : List TokenCall) (n : x .csize ≡ 0 → ⊥) (h : accepted s x ≡ true) (f : GoesOn (x .token) (x .size) (stepOf s x .session) xs) where
+module _ (s : Session) (x : TokenCall) (xs : List TokenCall) (n : x .csize ≡ 0 → ⊥) (h : tokenAccepted s x ≡ true) (f : GoesOn (x .token) (x .size) (tokenStepOf s x .session) xs) where
   token-there : 0 < length (x .token)
   token-there = go (decLt 0 (length (x .token)))
     where
@@ -248,7 +248,7 @@ module _ (s : Session) (x : TokenCall) (xs : List TokenCall) (n : x .csize ≡ 0
       }
 
   -- and it does end: until then a call with c_size 0 and that token is OK, if the checks of record, page, platform and buffer pass
-  pub token-goes : (runOf s (x ∷ xs) ≡ Idle → ⊥) → (y : TokenCall) → Ready y → y .csize ≡ 0 → y .token ≡ x .token → accepted (runOf s (x ∷ xs)) y ≡ true
+  pub token-goes : (runOf s (x ∷ xs) ≡ Idle → ⊥) → (y : TokenCall) → Ready y → y .csize ≡ 0 → y .token ≡ x .token → tokenAccepted (runOf s (x ∷ xs)) y ≡ true
   token-goes e y a c d =
       let t : List ℕ = x .token in
       let k : ℕ = 0 + oksOf s (x ∷ xs) * x .size in
@@ -258,5 +258,5 @@ module _ (s : Session) (x : TokenCall) (xs : List TokenCall) (n : x .csize ≡ 0
       ready-ok (runOf s (x ∷ xs)) y a (next-ok _ (y .csize) (length (y .token)) c (length t) k (p .ends ∙ at-open t k l) (omega arith) w)
 
 -- "A nonzero c_size always starts again, also in mid-session": in any session it is OK, if those checks pass and the token is not empty
-pub token-starts : (s : Session) (x : TokenCall) → Ready x → (x .csize ≡ 0 → ⊥) → (length (x .token) ≡ 0 → ⊥) → accepted s x ≡ true
+pub token-starts : (s : Session) (x : TokenCall) → Ready x → (x .csize ≡ 0 → ⊥) → (length (x .token) ≡ 0 → ⊥) → tokenAccepted s x ≡ true
 token-starts s x a n e = ready-ok s x a (start-again s (x .csize) (length (x .token)) n e)

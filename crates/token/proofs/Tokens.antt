@@ -11,7 +11,7 @@ use borrow.Author.Tests.{eq-eqb, ne-eqb, lt-ltb, le-ltb, ltb-false}
 use Rattle.words.specs.Tests.{both, either}
 use Rattle.words.specs.Word.{part, splice, laid, spanAt, spanned, noSpan}
 use Rattle.words.proofs.Store.{bytes-in, lent-back, span-none, span-in}
-use Rattle.boot.specs.declared.Kept.{Kept}
+use Rattle.boot.specs.declared.Params.{Params}
 use Rattle.boot.specs.declared.Record.{Record}
 use Rattle.range.specs.Range.{outside, tooLong, placeOf}
 use Rattle.range.proofs.Ranges.{room-of}
@@ -33,7 +33,7 @@ use Rattle.token.specs.Token.{
   beginOf,
   hunkOf,
   restOf,
-  sessionOf,
+  nextSession,
   TokenStep,
   sendOf,
   keeps,
@@ -45,7 +45,7 @@ use Rattle.token.specs.Token.{
 }
 
 -- ---- the buffer
-module _ (u : Kept) (pa size c : ℕ) where
+module _ (u : Params) (pa size c : ℕ) where
   pub buffer-outside : outside u pa ≡ true → bufferCode u pa size c ≡ BadAddr
   unfolding bufferCode fails
   buffer-outside o = rw o
@@ -70,11 +70,11 @@ module _ (u : Kept) (pa size c : ℕ) where
         buffer-ok h = rw (o, l, i, le-ltb size c h)
 
 -- a buffer that passes lies in the page, and the challenge in the buffer
-pub record Room (u : Kept) (pa size c : ℕ) : Type 0 where
+pub record Room (u : Params) (pa size c : ℕ) : Type 0 where
   pub room : placeOf u pa + size ≤ 4096
   pub holds : c ≤ size
 
-pub buffer-room : (u : Kept) (pa size c : ℕ) → bufferCode u pa size c ≡ Ok → Room u pa size c
+pub buffer-room : (u : Params) (pa size c : ℕ) → bufferCode u pa size c ≡ Ok → Room u pa size c
 unfolding bufferCode
 buffer-room u pa size c h =
     let p = fails-ok _ _ _ refl h in
@@ -134,7 +134,7 @@ hunk-back at i n token page h k =
 
 module _ (at : ℕ) (token : List ℕ) (i size : ℕ) (page : List ℕ) where
   pub send-none : length token ≤ i → sendOf at token i size page ≡ record { answer = answerOf Ok 0 0; page = page; session = Idle }
-  unfolding sendOf sessionOf restOf hunkOf part splice
+  unfolding sendOf nextSession restOf hunkOf part splice
   send-none h =
       let z : length token - i ≡ 0 = omega arith in
       let y : take at page ++ drop (at + 0) page ≡ page = rw add-zero (take-append-drop at page) in
@@ -142,7 +142,7 @@ module _ (at : ℕ) (token : List ℕ) (i size : ℕ) (page : List ℕ) where
 
   pub send-last : length token - i ≤ size →
       sendOf at token i size page ≡ record { answer = answerOf Ok (length token - i) 0; page = splice at (part i (length token - i) token) page; session = Idle }
-  unfolding sendOf sessionOf restOf hunkOf
+  unfolding sendOf nextSession restOf hunkOf
   send-last h =
       let m : min size (length token - i) ≡ length token - i = min-eq-right h in
       let z : length token - i - (length token - i) ≡ 0 = omega arith in
@@ -150,7 +150,7 @@ module _ (at : ℕ) (token : List ℕ) (i size : ℕ) (page : List ℕ) where
 
   pub send-more : size < length token - i →
       sendOf at token i size page ≡ record { answer = answerOf Ok size (length token - i - size); page = splice at (part i size token) page; session = Sending (length token) (i + size) }
-  unfolding sendOf sessionOf restOf hunkOf
+  unfolding sendOf nextSession restOf hunkOf
   send-more h =
       let m : min size (length token - i) ≡ size = min-eq-left (omega arith) in
       simp (m, ne-eqb (length token - i - size) 0 (λ e. omega arith))

@@ -25,16 +25,16 @@ pub record TokenCall : Type 0 where
   pub size : ℕ
   pub csize : ℕ
 
-unfoldable pub stepOf : Session → TokenCall → TokenStep
-stepOf s x = tokenOf (x .state) (x .page) s (x .busy) (x .token) (x .pa) (x .size) (x .csize)
+unfoldable pub tokenStepOf : Session → TokenCall → TokenStep
+tokenStepOf s x = tokenOf (x .state) (x .page) s (x .busy) (x .token) (x .pa) (x .size) (x .csize)
 
 -- it answers OK
-unfoldable pub accepted : Session → TokenCall → Bool
-accepted s x = isOk (stepOf s x .answer .code)
+unfoldable pub tokenAccepted : Session → TokenCall → Bool
+tokenAccepted s x = isOk (tokenStepOf s x .answer .code)
 
 -- the bytes that stand in the page at pa after an OK, as many as x1 says; none after a refusal
 unfoldable pub shownOf : Session → TokenCall → List ℕ
-shownOf s x = cond (accepted s x) (part (placeOf (upOf (x .state)) (x .pa)) (stepOf s x .answer .x1) (stepOf s x .page)) []
+shownOf s x = cond (tokenAccepted s x) (part (placeOf (upOf (x .state)) (x .pa)) (tokenStepOf s x .answer .x1) (tokenStepOf s x .page)) []
 
 -- the checks that look at neither session nor token pass
 pub record Ready (x : TokenCall) : Type 0 where
@@ -47,28 +47,28 @@ pub record Ready (x : TokenCall) : Type 0 where
 -- the session after them
 unfoldable pub runOf : Session → List TokenCall → Session
 runOf s [] = s
-runOf s (x ∷ xs) = runOf (stepOf s x .session) xs
+runOf s (x ∷ xs) = runOf (tokenStepOf s x .session) xs
 
 -- "refusals not counted": how many of them are OK
 unfoldable pub oksOf : Session → List TokenCall → ℕ
 oksOf s [] = 0
-oksOf s (x ∷ xs) = cond (accepted s x) 1 0 + oksOf (stepOf s x .session) xs
+oksOf s (x ∷ xs) = cond (tokenAccepted s x) 1 0 + oksOf (tokenStepOf s x .session) xs
 
 -- the hunks, joined in order
 unfoldable pub hunksOf : Session → List TokenCall → List ℕ
 hunksOf s [] = []
-hunksOf s (x ∷ xs) = shownOf s x ++ hunksOf (stepOf s x .session) xs
+hunksOf s (x ∷ xs) = shownOf s x ++ hunksOf (tokenStepOf s x .session) xs
 
 -- x2 of the last of them that is OK; r if none is
 unfoldable pub leftOf : ℕ → Session → List TokenCall → ℕ
 leftOf r s [] = r
-leftOf r s (x ∷ xs) = leftOf (cond (accepted s x) (stepOf s x .answer .x2) r) (stepOf s x .session) xs
+leftOf r s (x ∷ xs) = leftOf (cond (tokenAccepted s x) (tokenStepOf s x .answer .x2) r) (tokenStepOf s x .session) xs
 
 -- "With a fixed buffer of b bytes, .. one start and the same token lent throughout": each of them that is OK has c_size 0, this
 -- buffer's size and this token. One that is refused is any call.
 abbrev pub GoesOn : List ℕ → ℕ → Session → List TokenCall → Type 0
 GoesOn token b s [] = Unit {0}
-GoesOn token b s (x ∷ xs) = (accepted s x ≡ true → (x .csize ≡ 0) × (x .size ≡ b) × (x .token ≡ token)) × GoesOn token b (stepOf s x .session) xs
+GoesOn token b s (x ∷ xs) = (tokenAccepted s x ≡ true → (x .csize ≡ 0) × (x .size ≡ b) × (x .token ≡ token)) × GoesOn token b (tokenStepOf s x .session) xs
 
 -- ---- what they make together
 -- "L / b calls, rounded up"

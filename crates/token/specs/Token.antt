@@ -7,7 +7,7 @@ use lib.Dec.{ltb, eqb}
 use Rattle.words.specs.Tests.{both, either}
 use Rattle.words.specs.Word.{part, splice, noSpan, spanAt}
 use Rattle.words.specs.declared.Span.{Span}
-use Rattle.boot.specs.declared.Kept.{Kept}
+use Rattle.boot.specs.declared.Params.{Params}
 use Rattle.boot.specs.declared.Record.{Record}
 use Rattle.range.specs.Range.{outside, tooLong, placeOf}
 use Rattle.codes.specs.Codes.{unless, fails, upOf, whenUp, ifOk, andThen, answerOf}
@@ -36,7 +36,7 @@ listed c = either (eqb c 0) (either (eqb c 32) (either (eqb c 48) (eqb c 64)))
 
 -- "outside BAD_ADDR; too long INVAL; c_size not 0, 32, 48 or 64 INVAL; c_size above the buffer's size INVAL;": the checks that token
 -- and challenge share
-unfoldable pub bufferCode : Kept → ℕ → ℕ → ℕ → Code
+unfoldable pub bufferCode : Params → ℕ → ℕ → ℕ → Code
 bufferCode u pa size c =
     fails (outside u pa) BadAddr
     (fails (tooLong u pa size) Inval
@@ -52,7 +52,7 @@ startCode s c len =
     Ok)
 
 -- ".. B2, B3 and B5 do so too on a lent page not 4,096 bytes long (house rules)"; "platform busy AGAIN;", then the others
-unfoldable pub tokenCode : Kept → List ℕ → Session → Bool → List ℕ → ℕ → ℕ → ℕ → Code
+unfoldable pub tokenCode : Params → List ℕ → Session → Bool → List ℕ → ℕ → ℕ → ℕ → Code
 tokenCode u page s busy token pa size c =
     fails (unless (eqb (length page) 4096)) Unk
     (fails busy Again
@@ -73,8 +73,8 @@ unfoldable pub restOf : List ℕ → ℕ → ℕ → ℕ
 restOf token i size = length token - i - hunkOf token i size
 
 -- "At rest 0 the session ends."
-unfoldable pub sessionOf : List ℕ → ℕ → ℕ → Session
-sessionOf token i size = cond (eqb (restOf token i size) 0) Idle (Sending (length token) (i + hunkOf token i size))
+unfoldable pub nextSession : List ℕ → ℕ → ℕ → Session
+nextSession token i size = cond (eqb (restOf token i size) 0) Idle (Sending (length token) (i + hunkOf token i size))
 
 -- the answer, the page at exit and the next session
 pub record TokenStep : Type 0 where
@@ -88,7 +88,7 @@ sendOf at token i size page =
     record {
       answer = answerOf Ok (hunkOf token i size) (restOf token i size);
       page = splice at (part i (hunkOf token i size) token) page;
-      session = sessionOf token i size;
+      session = nextSession token i size;
     }
 
 -- a refusal: zeros, and the page and the session as they were
@@ -105,7 +105,7 @@ tokenOf r page s busy token pa size c =
 -- ---- the challenge
 -- ".. empty if the record is not up, the page is not 4,096 bytes long, or a BAD_ADDR or INVAL check above fails." The INVAL check of
 -- c_size 0 needs no case: there the part is empty.
-unfoldable pub challengeCode : Kept → List ℕ → ℕ → ℕ → ℕ → Code
+unfoldable pub challengeCode : Params → List ℕ → ℕ → ℕ → ℕ → Code
 challengeCode u page pa size c = fails (unless (eqb (length page) 4096)) Unk (bufferCode u pa size c)
 
 -- "A lookup before a start shows the challenge, c_size bytes at pa, as that part of the page;"

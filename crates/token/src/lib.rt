@@ -1,5 +1,5 @@
 // The platform token, sent hunk by hunk, and the lookup of its challenge.
-use boot::Kept;
+use boot::Params;
 use boot::Record;
 use codes::Answer;
 use codes::Code;
@@ -49,10 +49,10 @@ fn is_listed(csize: u64) -> bool
 }
 
 // The checks of the buffer, and its offset in the page.
-fn buffer_of(kept: Kept, pa: u64, size: u64, csize: u64) -> Gate
-    ensures { λ r. ⌜ r ≡ gated (bufferCode kept pa size csize) (placeOf kept pa) ⌝ }
+fn buffer_of(params: Params, pa: u64, size: u64, csize: u64) -> Gate
+    ensures { λ r. ⌜ r ≡ gated (bufferCode params pa size csize) (placeOf params pa) ⌝ }
 {
-    match range::fit_of(kept, pa, size) {
+    match range::fit_of(params, pa, size) {
         Fit::Outside => Gate::Stop(Code::BadAddr),
         Fit::TooLong => Gate::Stop(Code::Inval),
         Fit::At(at) => {

@@ -8,53 +8,53 @@ use lib.Dec.{lit≤}
 use borrow.Author.Tests.{leb-true, le-leb}
 use Rattle.words.specs.Tests.{Yes}
 use Rattle.words.proofs.Tests.{both-l, both-r, both-of}
-use Rattle.versions.specs.Edition.{secs, core, editionOk}
+use Rattle.versions.specs.Edition.{sectionCount, core, editionOk}
 
 -- 01's core sizes
 pub core-sizes : (core 1 ≡ 16) × (core 2 ≡ 40) × (core 3 ≡ 64) × (core 4 ≡ 112)
-unfolding core secs
+unfolding core sectionCount
 core-sizes = (refl, refl, refl, refl)
 
-pub secs-most : (e : ℕ) → secs e ≤ 4
-unfolding secs
-secs-most zero = lit≤ tt
-secs-most (suc zero) = lit≤ tt
-secs-most (suc (suc zero)) = lit≤ tt
-secs-most (suc (suc (suc zero))) = lit≤ tt
-secs-most (suc (suc (suc (suc n)))) = lit≤ tt
+pub section-count-most : (e : ℕ) → sectionCount e ≤ 4
+unfolding sectionCount
+section-count-most zero = lit≤ tt
+section-count-most (suc zero) = lit≤ tt
+section-count-most (suc (suc zero)) = lit≤ tt
+section-count-most (suc (suc (suc zero))) = lit≤ tt
+section-count-most (suc (suc (suc (suc n)))) = lit≤ tt
 
-pub secs-first : (e : ℕ) → e < 2 → secs e ≡ 0
-unfolding secs
-secs-first zero h = refl
-secs-first (suc zero) h = refl
-secs-first (suc (suc e)) h = omega arith
+pub section-count-first : (e : ℕ) → e < 2 → sectionCount e ≡ 0
+unfolding sectionCount
+section-count-first zero h = refl
+section-count-first (suc zero) h = refl
+section-count-first (suc (suc e)) h = omega arith
 
-pub secs-last : (e : ℕ) → 3 < e → secs e ≡ 4
-unfolding secs
-secs-last zero h = absurd (not-suc-le-zero h)
-secs-last (suc zero) h = omega arith
-secs-last (suc (suc zero)) h = omega arith
-secs-last (suc (suc (suc zero))) h = omega arith
-secs-last (suc (suc (suc (suc n)))) h = refl
+pub section-count-last : (e : ℕ) → 3 < e → sectionCount e ≡ 4
+unfolding sectionCount
+section-count-last zero h = absurd (not-suc-le-zero h)
+section-count-last (suc zero) h = omega arith
+section-count-last (suc (suc zero)) h = omega arith
+section-count-last (suc (suc (suc zero))) h = omega arith
+section-count-last (suc (suc (suc (suc n)))) h = refl
 
 -- a later edition has the sections of an earlier one
-secs-step : (n : ℕ) → secs n ≤ secs (suc n)
-unfolding secs
-secs-step zero = lit≤ tt
-secs-step (suc zero) = lit≤ tt
-secs-step (suc (suc zero)) = lit≤ tt
-secs-step (suc (suc (suc zero))) = lit≤ tt
-secs-step (suc (suc (suc (suc n)))) = lit≤ tt
+section-count-step : (n : ℕ) → sectionCount n ≤ sectionCount (suc n)
+unfolding sectionCount
+section-count-step zero = lit≤ tt
+section-count-step (suc zero) = lit≤ tt
+section-count-step (suc (suc zero)) = lit≤ tt
+section-count-step (suc (suc (suc zero))) = lit≤ tt
+section-count-step (suc (suc (suc (suc n)))) = lit≤ tt
 
-pub secs-mono : (a b : ℕ) → a ≤ b → secs a ≤ secs b
-secs-mono a b h = le-ind (λ m. secs a ≤ secs m) (le-refl (secs a)) (λ m _ i. le-trans i (secs-step m)) b h
+pub section-count-mono : (a b : ℕ) → a ≤ b → sectionCount a ≤ sectionCount b
+section-count-mono a b h = le-ind (λ m. sectionCount a ≤ sectionCount m) (le-refl (sectionCount a)) (λ m _ i. le-trans i (section-count-step m)) b h
 
-pub secs-min : (a b : ℕ) → secs (min a b) ≡ min (secs a) (secs b)
-secs-min a b = go (decLe a b)
+pub section-count-min : (a b : ℕ) → sectionCount (min a b) ≡ min (sectionCount a) (sectionCount b)
+section-count-min a b = go (decLe a b)
   where
-    go : Dec (a ≤ b) → secs (min a b) ≡ min (secs a) (secs b)
-    go (yes h) = rw (let e : min a b ≡ a = omega arith in e) (omega (arith, secs-mono a b h))
-    go (no h) = rw (let e : min a b ≡ b = omega arith in e) (let l : secs b ≤ secs a = secs-mono b a (omega arith) in omega arith)
+    go : Dec (a ≤ b) → sectionCount (min a b) ≡ min (sectionCount a) (sectionCount b)
+    go (yes h) = rw (let e : min a b ≡ a = omega arith in e) (omega (arith, section-count-mono a b h))
+    go (no h) = rw (let e : min a b ≡ b = omega arith in e) (let l : sectionCount b ≤ sectionCount a = section-count-mono b a (omega arith) in omega arith)
 
 -- the editions that there are
 pub edition-of : (r : ℕ) → 1 ≤ r → r ≤ 4 → Yes (editionOk r)

@@ -8,21 +8,21 @@ use lib.Dec.{ltb, eqb}
 use borrow.Author.Tests.{leb-true, ltb-true, eqb-true, le-leb, lt-ltb, eq-eqb}
 use Rattle.words.specs.Tests.{Yes, both, either}
 use Rattle.words.proofs.Tests.{both-l, both-r, both-of, either-l, either-r, either-cases, same-test}
-use Rattle.versions.specs.Version.{minorOf, majorOf, aboveOf, accepted, later}
+use Rattle.versions.specs.Version.{minorOf, majorOf, aboveOf, versionOk, later}
 
 -- an accepted version is its minor
-pub accepted-minor : (v : ℕ) → Yes (accepted v) → (minorOf v ≡ v) × (1 ≤ v)
-unfolding accepted minorOf majorOf aboveOf
-accepted-minor v h =
+pub version-minor : (v : ℕ) → Yes (versionOk v) → (minorOf v ≡ v) × (1 ≤ v)
+unfolding versionOk minorOf majorOf aboveOf
+version-minor v h =
     let a : v / 2 ^ 31 ≡ 0 = eqb-true _ _ (both-l _ _ h) in
     let b : v / 2 ^ 16 % 2 ^ 15 ≡ 0 = eqb-true _ _ (both-l _ _ (both-r _ _ h)) in
     let c : 1 ≤ v % 2 ^ 16 = leb-true _ _ (both-r _ _ (both-r _ _ h)) in
     (omega arith, omega arith)
 
 -- and each number from 1 to 65,535 is one
-pub accepted-of : (v : ℕ) → 1 ≤ v → v < 2 ^ 16 → Yes (accepted v)
-unfolding accepted minorOf majorOf aboveOf
-accepted-of v a b =
+pub version-of : (v : ℕ) → 1 ≤ v → v < 2 ^ 16 → Yes (versionOk v)
+unfolding versionOk minorOf majorOf aboveOf
+version-of v a b =
     let x : v / 2 ^ 31 ≡ 0 = omega arith in
     let y : v / 2 ^ 16 % 2 ^ 15 ≡ 0 = omega arith in
     let z : 1 ≤ v % 2 ^ 16 = omega arith in

@@ -6,16 +6,16 @@ use Rattle.words.specs.Tests.{both}
 
 -- How many of the four sections an edition has, by "Since edition": plat_dram from 2, plat_console from 3,
 -- plat_ncoh_region and plat_coh_region from 4. Section k is in edition e when k is below this number.
-unfoldable pub secs : ℕ → ℕ
-secs zero = 0
-secs (suc zero) = 0
-secs (suc (suc zero)) = 1
-secs (suc (suc (suc zero))) = 2
-secs (suc (suc (suc (suc n)))) = 4
+unfoldable pub sectionCount : ℕ → ℕ
+sectionCount zero = 0
+sectionCount (suc zero) = 0
+sectionCount (suc (suc zero)) = 1
+sectionCount (suc (suc (suc zero))) = 2
+sectionCount (suc (suc (suc (suc n)))) = 4
 
 -- "Core sizes are 16, 40, 64 and 112 bytes for editions 1 to 4": 16 bytes, and 24 for each section
 unfoldable pub core : ℕ → ℕ
-core e = 16 + 24 * secs e
+core e = 16 + 24 * sectionCount e
 
 -- code -6: "reader edition not 1 to 4"; W2: "edition not 1 to 4"
 unfoldable pub editionOk : ℕ → Bool

@@ -17,8 +17,8 @@ unfoldable pub aboveOf : ℕ → ℕ
 aboveOf v = v / 2 ^ 31
 
 -- "Accepted here, for boot interface and manifest alike (house rule): bit 31 zero, major 0, minor 1 or more."
-unfoldable pub accepted : ℕ → Bool
-accepted v = both (eqb (aboveOf v) 0) (both (eqb (majorOf v) 0) (leb 1 (minorOf v)))
+unfoldable pub versionOk : ℕ → Bool
+versionOk v = both (eqb (aboveOf v) 0) (both (eqb (majorOf v) 0) (leb 1 (minorOf v)))
 
 -- whether a is later than b: versions are numbers, the major above the minor
 unfoldable pub later : ℕ → ℕ → Bool

@@ -1,8 +1,8 @@
 // Versions as numbers, and the editions of the manifest's layout.
 ghost use mathlib.Core.Path.{_≡_};
 ghost use Prim.Native.Nat.{min, _<_, _≤_};
-ghost use Rattle.versions.specs.Version.{minorOf, majorOf, accepted, later, agreed};
-ghost use Rattle.versions.specs.Edition.{secs, core, editionOk};
+ghost use Rattle.versions.specs.Version.{minorOf, majorOf, versionOk, later, agreed};
+ghost use Rattle.versions.specs.Edition.{sectionCount, core, editionOk};
 
 // A version's minor, bits 0 to 15.
 pub fn minor(version: u64) -> u64
@@ -21,7 +21,7 @@ pub fn major(version: u64) -> u64
 // Whether a boot interface's or a manifest's version is accepted: bit 31 zero, major 0, minor 1 or more. A number above 32
 // bits is no version.
 pub fn is_accepted(version: u64) -> bool
-    ensures { λ r. ⌜ r ≡ accepted version ⌝ }
+    ensures { λ r. ⌜ r ≡ versionOk version ⌝ }
 {
     if version / 0x8000_0000 != 0 {
         return false;
@@ -101,7 +101,7 @@ impl Edition {
 
     // How many of the four sections it has.
     pub fn sections(self) -> u8
-        ensures { λ r. ⌜ (r ≡ secs (self .minor)) × (r ≤ 4) ⌝ }
+        ensures { λ r. ⌜ (r ≡ sectionCount (self .minor)) × (r ≤ 4) ⌝ }
     {
         let minor = self.minor;
         match minor {

@@ -11,8 +11,8 @@ use Rattle.versions.specs.Edition.{editionOk}
 use Rattle.reader.specs.Answer.{Shown, PlatShown, refused, shows, readOf, less, named}
 use Rattle.reader.proofs.Newer.{newer-accepts, older-refuses}
 use Rattle.reader.proofs.Named.{unnamed}
-use Rattle.lists.specs.Told.{Told}
-use Rattle.writer.specs.Write.{a-page, writeOf, toldFits, described, platOwed}
+use Rattle.lists.specs.Description.{Description}
+use Rattle.writer.specs.Write.{a-page, writeOf, descriptionFits, described, platDescribed}
 use Rattle.writer.proofs.Round.{round}
 
 pub record Demand3 : Type 0 where
@@ -26,8 +26,8 @@ pub record Demand3 : Type 0 where
   -- is accepted by every reader of edition 1 to 4 at the base address it was made for. That reader shows exactly the sections
   -- that both editions have, as they were described." The lists are of 64-bit words; of the lent page writeOf sees the length
   -- alone, and it makes a page at editions 1 to 4 only.
-  pub written : (base n v : ℕ) (d : Told) (p : List ℕ) → Yes (toldFits d) → writeOf base n v d ≡ a-page p →
-      (r : ℕ) → Yes (editionOk r) → readOf r base p ≡ shows v (min r v) (platOwed base v d) (described (min r v) d)
+  pub written : (base n v : ℕ) (d : Description) (p : List ℕ) → Yes (descriptionFits d) → writeOf base n v d ≡ a-page p →
+      (r : ℕ) → Yes (editionOk r) → readOf r base p ≡ shows v (min r v) (platDescribed base v d) (described (min r v) d)
   -- "Two pages of one length that agree in all the bytes that the smaller edition names get the same answer, whatever their
   -- other bytes hold." Named bytes are those of the first page, by the smaller of the reader's edition and the page's minor.
   pub unread : (r base : ℕ) (p q : List ℕ) → length p ≡ length q → ((i : ℕ) → Yes (named r base p i) → getD p i 0 ≡ getD q i 0) →

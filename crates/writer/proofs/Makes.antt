@@ -9,43 +9,43 @@ use borrow.Author.Tests.{eq-eqb, le-leb, lt-ltb}
 use Rattle.words.specs.Tests.{Yes, either}
 use Rattle.words.specs.Word.{joined}
 use Rattle.words.proofs.Tests.{both-of, either-l, either-r, every-of}
-use Rattle.versions.specs.Edition.{secs, core}
+use Rattle.versions.specs.Edition.{sectionCount, core}
 use Rattle.versions.proofs.Editions.{edition-of}
-use Rattle.entries.specs.Entry.{per, entryOk, entriesOk}
+use Rattle.entries.specs.Entry.{wordsPerEntry, entryOk, entriesOk}
 use Rattle.sections.specs.Page.{placeOk}
-use Rattle.lists.specs.Told.{Told, listOk, toldOk, noneLate, platBytes, used}
+use Rattle.lists.specs.Description.{Description, listOk, descriptionOk, noneLate, platBytes, used}
 use Rattle.writer.specs.Write.{pageOf, a-page, writeOf}
 use Rattle.writer.proofs.Checks.{w-made}
 
 -- none of W1 to W5: the place (n is the lent page's length), the edition, the lists' lengths and entries, the sections after the
 -- edition, the room
-pub record Sound (base n v : ℕ) (d : Told) : Type 0 where
+pub record Sound (base n v : ℕ) (d : Description) : Type 0 where
   pub whole : n ≡ 4096
   pub positive : 0 < base
   pub align : base % 4096 ≡ 0
   pub top : base ≤ 2 ^ 52 - 4096
   pub first : 1 ≤ v
   pub last : v ≤ 4
-  pub lengths : (k : ℕ) → k < 4 → length (d .lists k) % per k ≡ 0
-  pub entries : (k i : ℕ) → k < 4 → i < length (d .lists k) / per k → Yes (entryOk v k (d .lists k) (per k * i))
-  pub late : (k : ℕ) → k < 4 → secs v ≤ k → length (d .lists k) ≡ 0
+  pub lengths : (k : ℕ) → k < 4 → length (d .lists k) % wordsPerEntry k ≡ 0
+  pub entries : (k i : ℕ) → k < 4 → i < length (d .lists k) / wordsPerEntry k → Yes (entryOk v k (d .lists k) (wordsPerEntry k * i))
+  pub late : (k : ℕ) → k < 4 → sectionCount v ≤ k → length (d .lists k) ≡ 0
   pub room : core v + 8 * (length (d .lists 0) + length (d .lists 1) + length (d .lists 2) + length (d .lists 3)) ≤ 4096
 
-module _ (base n v : ℕ) (d : Told) (t : Sound base n v d) where
+module _ (base n v : ℕ) (d : Description) (t : Sound base n v d) where
   place-is : Yes (placeOk base n)
   unfolding placeOk
   place-is = both-of _ _ (eq-eqb n 4096 (t .whole)) (both-of _ _ (lt-ltb 0 base (t .positive)) (both-of _ _ (eq-eqb (base % 4096) 0 (t .align)) (le-leb base (2 ^ 52 - 4096) (t .top))))
 
-  lists-are : Yes (toldOk v d)
-  unfolding toldOk listOk entriesOk
-  lists-are = every-of 4 _ (λ k l. both-of _ _ (eq-eqb (length (d .lists k) % per k) 0 (t .lengths k l)) (every-of (length (d .lists k) / per k) _ (λ i m. t .entries k i l m)))
+  lists-are : Yes (descriptionOk v d)
+  unfolding descriptionOk listOk entriesOk
+  lists-are = every-of 4 _ (λ k l. both-of _ _ (eq-eqb (length (d .lists k) % wordsPerEntry k) 0 (t .lengths k l)) (every-of (length (d .lists k) / wordsPerEntry k) _ (λ i m. t .entries k i l m)))
 
   late-are : Yes (noneLate v d)
   unfolding noneLate
-  late-are = every-of 4 _ (λ k l. go k l (decLt k (secs v)))
+  late-are = every-of 4 _ (λ k l. go k l (decLt k (sectionCount v)))
     where
-      go : (k : ℕ) → k < 4 → Dec (k < secs v) → Yes (either (ltb k (secs v)) (eqb (length (d .lists k)) 0))
-      go k l (yes a) = either-l _ _ (lt-ltb k (secs v) a)
+      go : (k : ℕ) → k < 4 → Dec (k < sectionCount v) → Yes (either (ltb k (sectionCount v)) (eqb (length (d .lists k)) 0))
+      go k l (yes a) = either-l _ _ (lt-ltb k (sectionCount v) a)
       go k l (no a) = either-r _ _ (eq-eqb (length (d .lists k)) 0 (t .late k l (omega arith)))
 
   room-is : used v d ≤ 4096

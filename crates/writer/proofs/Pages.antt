@@ -9,10 +9,10 @@ use lib.Seq.{take-append-seam, drop-append-add, drop-at}
 use borrow.Author.Tests.{lt-ltb, le-ltb, le-leb}
 use Rattle.words.specs.Word.{bytesOf, joined, splice, laid}
 use Rattle.words.proofs.Lists.{bytesOf-length, bytesOf-append, joined-length, joined-mono}
-use Rattle.versions.specs.Edition.{secs, core}
-use Rattle.versions.proofs.Editions.{secs-most}
-use Rattle.lists.specs.Told.{Told, four, toldBy, platBytes, used}
-use Rattle.writer.specs.Write.{platWord, desc, place, descAt, coreWords, filled, pageOf}
+use Rattle.versions.specs.Edition.{sectionCount, core}
+use Rattle.versions.proofs.Editions.{section-count-most}
+use Rattle.lists.specs.Description.{Description, four, descriptionOf, platBytes, used}
+use Rattle.writer.specs.Write.{platWord, descriptor, arrayAddress, descriptorAt, coreWords, filled, pageOf}
 use Rattle.writer.specs.Steps.{sectionOn, arraysOn}
 use Rattle.writer.proofs.Round.{desc-length}
 
@@ -50,66 +50,66 @@ words-more xs ws h =
     (filled-more (bytesOf xs) (bytesOf ws) (rw (bytesOf-length xs, bytesOf-length ws) (omega arith)))
 
 -- ---- the core
-pub section-in : (v k p : ℕ) (ws page : List ℕ) → k < secs v → sectionOn v k p ws page ≡ laid (16 + 24 * k) (bytesOf (desc k p ws)) page
+pub section-in : (v k p : ℕ) (ws page : List ℕ) → k < sectionCount v → sectionOn v k p ws page ≡ laid (16 + 24 * k) (bytesOf (descriptor k p ws)) page
 unfolding sectionOn
-section-in v k p ws page h = rw (lt-ltb k (secs v) h)
+section-in v k p ws page h = rw (lt-ltb k (sectionCount v) h)
 
-pub section-out : (v k p : ℕ) (ws page : List ℕ) → secs v ≤ k → sectionOn v k p ws page ≡ page
+pub section-out : (v k p : ℕ) (ws page : List ℕ) → sectionCount v ≤ k → sectionOn v k p ws page ≡ page
 unfolding sectionOn
-section-out v k p ws page h = rw (le-ltb k (secs v) h)
+section-out v k p ws page h = rw (le-ltb k (sectionCount v) h)
 
 -- the core's words with k sections done
-unfoldable headTo : ℕ → ℕ → Told → ℕ → List ℕ
-headTo base v d k = v ∷ platWord base v d ∷ joined (min k (secs v)) (descAt base v (d .lists))
+unfoldable headTo : ℕ → ℕ → Description → ℕ → List ℕ
+headTo base v d k = v ∷ platWord base v d ∷ joined (min k (sectionCount v)) (descriptorAt base v (d .lists))
 
 -- the offset of array k
-unfoldable offset : ℕ → Told → ℕ → ℕ
+unfoldable offset : ℕ → Description → ℕ → ℕ
 offset v d k = core v + 8 * length (joined k (d .lists))
 
-module _ (base v : ℕ) (d : Told) where
-  head-length : (k : ℕ) → length (headTo base v d k) ≡ 2 + 3 * min k (secs v)
-  unfolding headTo descAt
-  head-length k = let e = joined-length (min k (secs v)) 3 (descAt base v (d .lists)) (λ j. desc-length j (place base v (d .lists) j) (d .lists j)) in omega arith
+module _ (base v : ℕ) (d : Description) where
+  head-length : (k : ℕ) → length (headTo base v d k) ≡ 2 + 3 * min k (sectionCount v)
+  unfolding headTo descriptorAt
+  head-length k = let e = joined-length (min k (sectionCount v)) 3 (descriptorAt base v (d .lists)) (λ j. desc-length j (arrayAddress base v (d .lists) j) (d .lists j)) in omega arith
 
   head-start : v ∷ 0 ∷ [] ≡ headTo base v d 0
   unfolding headTo joined platWord
-  head-start = ap (λ (n : ℕ). v ∷ 0 ∷ joined n (descAt base v (d .lists))) (let e : 0 ≡ min 0 (secs v) = omega arith in e)
+  head-start = ap (λ (n : ℕ). v ∷ 0 ∷ joined n (descriptorAt base v (d .lists))) (let e : 0 ≡ min 0 (sectionCount v) = omega arith in e)
 
   head-none : (page : List ℕ) → page ≡ filled [] → laid 0 (bytesOf (v ∷ 0 ∷ [])) page ≡ filled (bytesOf (headTo base v d 0))
   unfolding bytesOf
   head-none page e = rw e (words-more [] (v ∷ 0 ∷ []) (omega arith)) ∙ ap (λ (ws : List ℕ). filled (bytesOf ws)) head-start
 
-  head-in : (k : ℕ) → k < secs v → headTo base v d (suc k) ≡ headTo base v d k ++ desc k (place base v (d .lists) k) (d .lists k)
-  unfolding headTo joined descAt
-  head-in k h = rw ((let e : min (suc k) (secs v) ≡ suc k = omega arith in e), (let e : min k (secs v) ≡ k = omega arith in e))
+  head-in : (k : ℕ) → k < sectionCount v → headTo base v d (suc k) ≡ headTo base v d k ++ descriptor k (arrayAddress base v (d .lists) k) (d .lists k)
+  unfolding headTo joined descriptorAt
+  head-in k h = rw ((let e : min (suc k) (sectionCount v) ≡ suc k = omega arith in e), (let e : min k (sectionCount v) ≡ k = omega arith in e))
 
-  head-out : (k : ℕ) → secs v ≤ k → headTo base v d (suc k) ≡ headTo base v d k
+  head-out : (k : ℕ) → sectionCount v ≤ k → headTo base v d (suc k) ≡ headTo base v d k
   unfolding headTo
-  head-out k h = ap (λ (n : ℕ). v ∷ platWord base v d ∷ joined n (descAt base v (d .lists))) (let e : min (suc k) (secs v) ≡ min k (secs v) = omega arith in e)
+  head-out k h = ap (λ (n : ℕ). v ∷ platWord base v d ∷ joined n (descriptorAt base v (d .lists))) (let e : min (suc k) (sectionCount v) ≡ min k (sectionCount v) = omega arith in e)
 
-  head-more : (k p : ℕ) (page : List ℕ) → k < 4 → p ≡ place base v (d .lists) k → page ≡ filled (bytesOf (headTo base v d k)) →
+  head-more : (k p : ℕ) (page : List ℕ) → k < 4 → p ≡ arrayAddress base v (d .lists) k → page ≡ filled (bytesOf (headTo base v d k)) →
       sectionOn v k p (d .lists k) page ≡ filled (bytesOf (headTo base v d (suc k)))
-  head-more k p page h e f = go (decLt k (secs v))
+  head-more k p page h e f = go (decLt k (sectionCount v))
     where
-      go : Dec (k < secs v) → sectionOn v k p (d .lists k) page ≡ filled (bytesOf (headTo base v d (suc k)))
+      go : Dec (k < sectionCount v) → sectionOn v k p (d .lists k) page ≡ filled (bytesOf (headTo base v d (suc k)))
       go (yes m) =
-          let n : length (headTo base v d k) ≡ 2 + 3 * min k (secs v) = head-length k in
+          let n : length (headTo base v d k) ≡ 2 + 3 * min k (sectionCount v) = head-length k in
           let i : 16 + 24 * k ≡ 8 * length (headTo base v d k) = omega arith in
           section-in v k p (d .lists k) page m
-          ∙ rw (f, e, i) (words-more (headTo base v d k) (desc k (place base v (d .lists) k) (d .lists k)) (omega (arith, secs-most v, desc-length k (place base v (d .lists) k) (d .lists k))))
+          ∙ rw (f, e, i) (words-more (headTo base v d k) (descriptor k (arrayAddress base v (d .lists) k) (d .lists k)) (omega (arith, section-count-most v, desc-length k (arrayAddress base v (d .lists) k) (d .lists k))))
           ∙ ap (λ (ws : List ℕ). filled (bytesOf ws)) (sym (head-in k m))
       go (no m) = section-out v k p (d .lists k) page (omega arith) ∙ f ∙ ap (λ (ws : List ℕ). filled (bytesOf ws)) (sym (head-out k (omega arith)))
 
   head-all : headTo base v d 4 ≡ coreWords base v d
   unfolding headTo coreWords
-  head-all = ap (λ (n : ℕ). v ∷ platWord base v d ∷ joined n (descAt base v (d .lists))) (let e : min 4 (secs v) ≡ secs v = omega (arith, secs-most v) in e)
+  head-all = ap (λ (n : ℕ). v ∷ platWord base v d ∷ joined n (descriptorAt base v (d .lists))) (let e : min 4 (sectionCount v) ≡ sectionCount v = omega (arith, section-count-most v) in e)
 
-  place-none : place base v (d .lists) 0 ≡ base + core v
-  unfolding place joined
+  place-none : arrayAddress base v (d .lists) 0 ≡ base + core v
+  unfolding arrayAddress joined
   place-none = omega arith
 
-  place-more : (k : ℕ) → place base v (d .lists) k + 8 * length (d .lists k) ≡ place base v (d .lists) (suc k)
-  unfolding place joined
+  place-more : (k : ℕ) → arrayAddress base v (d .lists) k + 8 * length (d .lists k) ≡ arrayAddress base v (d .lists) (suc k)
+  unfolding arrayAddress joined
   place-more k = rw length-append (omega arith)
 
   -- by the steps of the code
@@ -117,10 +117,10 @@ module _ (base v : ℕ) (d : Told) where
       p2 ≡ sectionOn v 0 a (d .lists 0) p1 → b ≡ a + 8 * length (d .lists 0) → p3 ≡ sectionOn v 1 b (d .lists 1) p2 → c ≡ b + 8 * length (d .lists 1) →
       p4 ≡ sectionOn v 2 c (d .lists 2) p3 → e ≡ c + 8 * length (d .lists 2) → p5 ≡ sectionOn v 3 e (d .lists 3) p4 → p5 ≡ filled (bytesOf (coreWords base v d))
   core-law p0 p1 p2 p3 p4 p5 a b c e e0 e1 f0 e2 f1 e3 f2 e4 f3 e5 =
-      let g0 : a ≡ place base v (d .lists) 0 = omega (arith, place-none) in
-      let g1 : b ≡ place base v (d .lists) 1 = omega (arith, place-more 0) in
-      let g2 : c ≡ place base v (d .lists) 2 = omega (arith, place-more 1) in
-      let g3 : e ≡ place base v (d .lists) 3 = omega (arith, place-more 2) in
+      let g0 : a ≡ arrayAddress base v (d .lists) 0 = omega (arith, place-none) in
+      let g1 : b ≡ arrayAddress base v (d .lists) 1 = omega (arith, place-more 0) in
+      let g2 : c ≡ arrayAddress base v (d .lists) 2 = omega (arith, place-more 1) in
+      let g3 : e ≡ arrayAddress base v (d .lists) 3 = omega (arith, place-more 2) in
       let h1 : p1 ≡ filled (bytesOf (headTo base v d 0)) = e1 ∙ head-none p0 e0 in
       let h2 : p2 ≡ filled (bytesOf (headTo base v d 1)) = e2 ∙ head-more 0 a p1 (omega arith) g0 h1 in
       let h3 : p3 ≡ filled (bytesOf (headTo base v d 2)) = e3 ∙ head-more 1 b p2 (omega arith) g1 h2 in
@@ -130,7 +130,7 @@ module _ (base v : ℕ) (d : Told) where
   -- ---- the arrays behind it
   core-bytes : 8 * length (coreWords base v d) ≡ core v
   unfolding core
-  core-bytes = rw (← head-all, head-length 4) (omega (arith, secs-most v))
+  core-bytes = rw (← head-all, head-length 4) (omega (arith, section-count-most v))
 
   offset-none : offset v d 0 ≡ core v
   unfolding offset joined
@@ -169,8 +169,8 @@ module _ (base v : ℕ) (d : Told) where
       h3 ∙ body-all
 
 -- what there is room for
-pub words-room : (v : ℕ) (a b c d : List ℕ) → used v (toldBy a b c d) ≤ 4096 → length a + length b + length c + length d ≤ 512
-unfolding used toldBy joined four
+pub words-room : (v : ℕ) (a b c d : List ℕ) → used v (descriptionOf a b c d) ≤ 4096 → length a + length b + length c + length d ≤ 512
+unfolding used descriptionOf joined four
 words-room v a b c d h =
     let e : length ((([] ++ a) ++ b) ++ c ++ d) ≡ length a + length b + length c + length d = simp length-append (omega arith) in
     omega arith

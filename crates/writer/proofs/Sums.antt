@@ -6,9 +6,9 @@ use native.Mathlib.Numerals.{add-one}
 use native.Mathlib.Omega.{arith}
 use lib.ListN.{length, take, getD}
 use lib.Seq.{take-suc, take-length}
-use Rattle.entries.specs.Entry.{per, sum}
+use Rattle.entries.specs.Entry.{wordsPerEntry, sum}
 use Rattle.entries.proofs.Entries.{sum-snoc, mod-left, mod-right}
-use Rattle.writer.specs.Write.{neg, desc}
+use Rattle.writer.specs.Write.{neg, descriptor}
 
 pub sum-none : (ws : List ℕ) → 0 ≡ sum (take 0 ws) % 2 ^ 64
 unfolding sum
@@ -30,12 +30,12 @@ neg-law c p s x h t r a b d e f =
     let m : t ≡ (c + p + s) % 2 ^ 64 = d ∙ rw (a, b, mod-left (c + p) (s % 2 ^ 64), mod-right (c + p) s) in
     neg-of (c + p + s) t r m e f
 
-pub desc-none : (k p : ℕ) (ws : List ℕ) → length ws ≡ 0 → 0 ∷ 0 ∷ 0 ∷ [] ≡ desc k p ws
-unfolding desc
+pub desc-none : (k p : ℕ) (ws : List ℕ) → length ws ≡ 0 → 0 ∷ 0 ∷ 0 ∷ [] ≡ descriptor k p ws
+unfolding descriptor
 desc-none k p [] h = refl
 desc-none k p (w ∷ ws) h = absurd (let z : ⊥ = omega arith in z)
 
-pub desc-some : (k p c s : ℕ) (ws : List ℕ) → (length ws ≡ 0 → ⊥) → c ≡ length ws / per k → s ≡ neg (c + p + sum ws) → c ∷ p ∷ s ∷ [] ≡ desc k p ws
-unfolding desc
+pub desc-some : (k p c s : ℕ) (ws : List ℕ) → (length ws ≡ 0 → ⊥) → c ≡ length ws / wordsPerEntry k → s ≡ neg (c + p + sum ws) → c ∷ p ∷ s ∷ [] ≡ descriptor k p ws
+unfolding descriptor
 desc-some k p c s [] h e f = absurd (h refl)
 desc-some k p c s (w ∷ ws) h e f = rw (f, e)

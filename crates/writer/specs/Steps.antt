@@ -5,12 +5,12 @@ use mathlib.Core.List.{List}
 use lib.ListN.{length}
 use lib.Dec.{ltb}
 use Rattle.words.specs.Word.{bytesOf, laid}
-use Rattle.versions.specs.Edition.{secs}
-use Rattle.writer.specs.Write.{desc}
+use Rattle.versions.specs.Edition.{sectionCount}
+use Rattle.writer.specs.Write.{descriptor}
 
 -- the three words of section k, where the edition has it
 unfoldable pub sectionOn : ℕ → ℕ → ℕ → List ℕ → List ℕ → List ℕ
-sectionOn v k p ws page = cond (ltb k (secs v)) (laid (16 + 24 * k) (bytesOf (desc k p ws)) page) page
+sectionOn v k p ws page = cond (ltb k (sectionCount v)) (laid (16 + 24 * k) (bytesOf (descriptor k p ws)) page) page
 
 -- the arrays one behind the other, from an offset on
 unfoldable pub arraysOn : ℕ → (ℕ → List ℕ) → List ℕ → List ℕ

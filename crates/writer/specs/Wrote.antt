@@ -6,13 +6,13 @@ use Rattle.writer.specs.declared.Wrote.{Wrote}
 use Rattle.writer.specs.declared.Wrote.the-variants.{Page, Place, Edition, Lists, Late, Room}
 
 -- W1 to W5, or the page that was made
-unfoldable pub answerOf : List ℕ → Wrote → Made
-answerOf page Page = a-page page
-answerOf page Place = no-page 1
-answerOf page Edition = no-page 2
-answerOf page Lists = no-page 3
-answerOf page Late = no-page 4
-answerOf page Room = no-page 5
+unfoldable pub madeBy : List ℕ → Wrote → Made
+madeBy page Page = a-page page
+madeBy page Place = no-page 1
+madeBy page Edition = no-page 2
+madeBy page Lists = no-page 3
+madeBy page Late = no-page 4
+madeBy page Room = no-page 5
 
 -- the lent page at exit: "the page stays untouched", or the one made
 unfoldable pub pageAfter : List ℕ → Made → List ℕ

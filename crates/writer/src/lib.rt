@@ -1,4 +1,4 @@
-// The manifest writer: it judges what it is told, then makes the page.
+// The manifest writer: it judges the description, then makes the page.
 use versions::Edition;
 ghost use mathlib.Core.Path.{_≡_};
 ghost use mathlib.Core.List.{[]};
@@ -6,9 +6,9 @@ ghost use Prim.Native.Nat.{_+_, _*_, _%_, _^_, _≤_, _<_};
 ghost use lib.ListN.{length};
 ghost use Rattle.words.specs.Word.{bytesOf, laid};
 ghost use Rattle.entries.specs.Entry.{sum};
-ghost use Rattle.lists.specs.Told.{four, toldBy, used};
-ghost use Rattle.writer.specs.Write.{desc, coreWords, filled, pageOf, writeOf};
-ghost use Rattle.writer.specs.Wrote.{answerOf, pageAfter};
+ghost use Rattle.lists.specs.Description.{four, descriptionOf, used};
+ghost use Rattle.writer.specs.Write.{descriptor, coreWords, filled, pageOf, writeOf};
+ghost use Rattle.writer.specs.Wrote.{madeBy, pageAfter};
 ghost use Rattle.writer.specs.Steps.{sectionOn, arraysOn};
 
 // A page was made, or why not: W1 the place, W2 the edition, W3 a list, W4 a section after the edition, W5 no room.
@@ -34,7 +34,7 @@ fn sum_of(words: &[u64]) -> u64
 
 // Count, pointer and checksum of section k with a list at an address; zeros for an empty list.
 fn section_words(k: usize, pointer: u64, words: &[u64]) -> [u64; 3]
-    ensures { λ r. ⌜ r ≡ desc k pointer (now (words .entry)) ⌝ }
+    ensures { λ r. ⌜ r ≡ descriptor k pointer (now (words .entry)) ⌝ }
 {
     if words.len() == 0 {
         return [0, 0, 0];
@@ -80,7 +80,7 @@ fn put_core(
 )
     requires { ⌜ (base ≤ 0x10_0000_0000_0000) × (now page ≡ filled [])
         × (length (now dram) + length (now console) + length (now ncoh) + length (now coh) ≤ 512) ⌝ }
-    ensures { λ _. ⌜ now (page .exit) ≡ filled (bytesOf (coreWords base (e .minor) (toldBy (now (dram .entry)) (now (console .entry)) (now (ncoh .entry)) (now (coh .entry))))) ⌝ }
+    ensures { λ _. ⌜ now (page .exit) ≡ filled (bytesOf (coreWords base (e .minor) (descriptionOf (now (dram .entry)) (now (console .entry)) (now (ncoh .entry)) (now (coh .entry))))) ⌝ }
 {
     let head = [e.minor, 0];
     words::put_words(page, 0, &head);
@@ -113,8 +113,8 @@ fn put_page(
     page: &mut [u8],
 )
     requires { ⌜ (base ≤ 0x10_0000_0000_0000) × (length (now page) ≡ 4096)
-        × (used (e .minor) (toldBy (now dram) (now console) (now ncoh) (now coh)) ≤ 4096) ⌝ }
-    ensures { λ _. ⌜ now (page .exit) ≡ pageOf base (e .minor) (toldBy (now (dram .entry)) (now (console .entry)) (now (ncoh .entry)) (now (coh .entry))) ⌝ }
+        × (used (e .minor) (descriptionOf (now dram) (now console) (now ncoh) (now coh)) ≤ 4096) ⌝ }
+    ensures { λ _. ⌜ now (page .exit) ≡ pageOf base (e .minor) (descriptionOf (now (dram .entry)) (now (console .entry)) (now (ncoh .entry)) (now (coh .entry))) ⌝ }
 {
     words::clear(page);
     put_core(base, e, dram, console, ncoh, coh, page);
@@ -133,8 +133,8 @@ pub fn write(
     coh: &[u64],
     page: &mut [u8],
 ) -> Wrote
-    ensures { λ r. ⌜ answerOf (now (page .exit)) r ≡ writeOf base (length (now (page .entry))) edition (toldBy (now (dram .entry)) (now (console .entry)) (now (ncoh .entry)) (now (coh .entry))) ⌝ }
-    ensures { λ r. ⌜ now (page .exit) ≡ pageAfter (now (page .entry)) (writeOf base (length (now (page .entry))) edition (toldBy (now (dram .entry)) (now (console .entry)) (now (ncoh .entry)) (now (coh .entry)))) ⌝ }
+    ensures { λ r. ⌜ madeBy (now (page .exit)) r ≡ writeOf base (length (now (page .entry))) edition (descriptionOf (now (dram .entry)) (now (console .entry)) (now (ncoh .entry)) (now (coh .entry))) ⌝ }
+    ensures { λ r. ⌜ now (page .exit) ≡ pageAfter (now (page .entry)) (writeOf base (length (now (page .entry))) edition (descriptionOf (now (dram .entry)) (now (console .entry)) (now (ncoh .entry)) (now (coh .entry)))) ⌝ }
 {
     if !sections::place_ok(base, page.len()) {
         return Wrote::Place;

@@ -1,7 +1,7 @@
 use Prim.Native.Nat.{_*_, _%_, _^_}
 use mathlib.Core.Path.{_≡_, sym, ap, _∙_}
 use native.Mathlib.Omega.{arith}
-use Rattle.entries.specs.Entry.{per, size}
+use Rattle.entries.specs.Entry.{wordsPerEntry, size}
 use Rattle.entries.specs.Array.{entriesAt, sumAt}
 use Rattle.entries.proofs.Entries.{per-one, per-other, size-one, size-other}
 use Rattle.entries.proofs.find.Statement.{statement}
@@ -19,7 +19,7 @@ returns : tie.Need-returns
 returns c =
     let a = c .before .before .before .args in
     let e = c .find-consoles .ensures in
-    let p : per (a .k) ≡ 6 = ap per (c .before .if1 .taken) ∙ per-one in
+    let p : wordsPerEntry (a .k) ≡ 6 = ap wordsPerEntry (c .before .if1 .taken) ∙ per-one in
     (e .0 ∙ sym (ap (λ x. sumAt (a .at) (x * a .count) (a .page .now) % 2 ^ 64) p), e .1 ∙ sym (ap (λ k. entriesAt (a .minor) k (a .at) (a .count) (a .page .now)) (c .before .if1 .taken)))
 
 find-banks-requires : tie.Need-find-banks-requires

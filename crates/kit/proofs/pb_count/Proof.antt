@@ -1,6 +1,6 @@
 use mathlib.Core.Path.{ap, _∙_}
 use Rattle.reader.specs.Answer.{countIn}
-use Rattle.reader.specs.Reading.{answerOf}
+use Rattle.reader.specs.Reading.{readingAnswer}
 use Rattle.reader.specs.declared.View.{View}
 use Rattle.reader.specs.declared.Reading.the-variants.{Accepted}
 use borrow.Author.Needs.{needs}
@@ -18,7 +18,7 @@ count-of-requires c κs = search needs
 returns : tie.Need-returns
 returns c =
     let a = c .before .before .before .args in
-    c .count-of .ensures ∙ ap (λ (v : View). countIn (answerOf (a .page .now) (Accepted v)) (a .section)) (c .before .view-of .ensures)
+    c .count-of .ensures ∙ ap (λ (v : View). countIn (readingAnswer (a .page .now) (Accepted v)) (a .section)) (c .before .view-of .ensures)
 
 pub pb-count-spec : {M : Type 1} → statement M
 pb-count-spec = tie.close (tie.spec view-of-requires count-of-requires returns)

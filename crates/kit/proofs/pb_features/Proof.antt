@@ -1,5 +1,5 @@
 use mathlib.Core.Path.{_≡_, sym, ap, _∙_}
-use Rattle.images.specs.Image.{registers as Image·registers}
+use Rattle.images.specs.Image.{registerWords}
 use borrow.Author.Needs.{needs}
 use Rattle.kit.proofs.pb_features.Statement.{statement}
 use Rattle.kit.proofs.pb_features.Tie as tie
@@ -14,7 +14,7 @@ registers-requires : tie.Need-registers-requires
 registers-requires c κs = search needs
 
 returns : tie.Need-returns
-returns c = rw (← c .before .before .record-of .ensures) (c .registers .ensures ∙ ap Image·registers (c .before .features .ensures))
+returns c = rw (← c .before .before .record-of .ensures) (c .registers .ensures ∙ ap registerWords (c .before .features .ensures))
 
 pub pb-features-spec : {M : Type 1} → statement M
 pb-features-spec =

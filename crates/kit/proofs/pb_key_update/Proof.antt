@@ -1,6 +1,6 @@
 use mathlib.Core.Path.{_≡_, sym, ap, _∙_}
 use Rattle.features.specs.declared.Updated.{Updated}
-use Rattle.images.specs.Image.{workWords, registers as Image·registers}
+use Rattle.images.specs.Image.{workWords, registerWords}
 use borrow.Author.Needs.{needs}
 use Rattle.kit.proofs.pb_key_update.Statement.{statement}
 use Rattle.kit.proofs.pb_key_update.Tie as tie
@@ -18,7 +18,7 @@ registers-requires : tie.Need-registers-requires
 registers-requires c κs = search needs
 
 returns : tie.Need-returns
-returns c = rw (← c .before .before .before .before .record-of .ensures) (c .registers .ensures ∙ ap (λ (u : Updated). Image·registers (u .answer)) (c .before .before .before .key-update .ensures), c .before .before .work-words .ensures ∙ ap (λ (u : Updated). workWords (u .work)) (c .before .before .before .key-update .ensures))
+returns c = rw (← c .before .before .before .before .record-of .ensures) (c .registers .ensures ∙ ap (λ (u : Updated). registerWords (u .answer)) (c .before .before .before .key-update .ensures), c .before .before .work-words .ensures ∙ ap (λ (u : Updated). workWords (u .work)) (c .before .before .before .key-update .ensures))
 
 pub pb-key-update-spec : {M : Type 1} → statement M
 pb-key-update-spec =

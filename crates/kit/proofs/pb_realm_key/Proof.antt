@@ -1,6 +1,6 @@
 use mathlib.Core.Path.{_≡_, sym, ap, _∙_}
 use Rattle.attest.specs.Key.{Keyed}
-use Rattle.images.specs.Image.{registers as Image·registers}
+use Rattle.images.specs.Image.{registerWords}
 use borrow.Author.Needs.{needs}
 use Rattle.kit.proofs.pb_realm_key.Statement.{statement}
 use Rattle.kit.proofs.pb_realm_key.Tie as tie
@@ -18,7 +18,7 @@ same-length : tie.Need-same-length
 same-length c = search needs
 
 returns : tie.Need-returns
-returns c = rw (← c .before .before .before .before .before .record-of .ensures) (c .registers .ensures ∙ ap (λ (k : Keyed). Image·registers (k .answer)) (c .before .before .before .realm-key .ensures), ap (λ (k : Keyed). k .page) (c .before .before .before .realm-key .ensures))
+returns c = rw (← c .before .before .before .before .before .record-of .ensures) (c .registers .ensures ∙ ap (λ (k : Keyed). registerWords (k .answer)) (c .before .before .before .realm-key .ensures), ap (λ (k : Keyed). k .page) (c .before .before .before .realm-key .ensures))
 
 pub pb-realm-key-spec : {M : Type 1} → statement M
 pb-realm-key-spec =

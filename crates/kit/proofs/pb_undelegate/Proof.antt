@@ -1,6 +1,6 @@
 use mathlib.Core.Path.{_≡_, sym, ap, _∙_}
 use Rattle.granules.specs.Granules.{Moved}
-use Rattle.images.specs.Image.{registers as Image·registers}
+use Rattle.images.specs.Image.{registerWords}
 use borrow.Author.Needs.{needs}
 use Rattle.kit.proofs.pb_undelegate.Statement.{statement}
 use Rattle.kit.proofs.pb_undelegate.Tie as tie
@@ -18,7 +18,7 @@ same-length : tie.Need-same-length
 same-length c = search needs
 
 returns : tie.Need-returns
-returns c = rw (← c .before .before .before .before .before .record-of .ensures) (c .registers .ensures ∙ ap (λ (m : Moved). Image·registers (m .answer)) (c .before .before .before .undelegate .ensures), ap (λ (m : Moved). m .table) (c .before .before .before .undelegate .ensures))
+returns c = rw (← c .before .before .before .before .before .record-of .ensures) (c .registers .ensures ∙ ap (λ (m : Moved). registerWords (m .answer)) (c .before .before .before .undelegate .ensures), ap (λ (m : Moved). m .table) (c .before .before .before .undelegate .ensures))
 
 pub pb-undelegate-spec : {M : Type 1} → statement M
 pb-undelegate-spec =

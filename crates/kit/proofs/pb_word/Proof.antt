@@ -1,6 +1,6 @@
 use mathlib.Core.Path.{ap, _∙_}
 use Rattle.reader.specs.Answer.{wordIn}
-use Rattle.reader.specs.Reading.{answerOf}
+use Rattle.reader.specs.Reading.{readingAnswer}
 use Rattle.reader.specs.declared.View.{View}
 use Rattle.reader.specs.declared.Reading.the-variants.{Accepted}
 use borrow.Author.Needs.{needs}
@@ -18,7 +18,7 @@ word-of-requires c κs = search needs
 returns : tie.Need-returns
 returns c =
     let a = c .before .before .before .args in
-    c .word-of .ensures ∙ ap (λ (v : View). wordIn (answerOf (a .page .now) (Accepted v)) (a .section) (a .entry) (a .word)) (c .before .view-of .ensures)
+    c .word-of .ensures ∙ ap (λ (v : View). wordIn (readingAnswer (a .page .now) (Accepted v)) (a .section) (a .entry) (a .word)) (c .before .view-of .ensures)
 
 pub pb-word-spec : {M : Type 1} → statement M
 pb-word-spec = tie.close (tie.spec view-of-requires word-of-requires returns)

@@ -5,7 +5,7 @@ use lib.ListN.{getD}
 use Rattle.words.specs.Tests.{both}
 use Rattle.entries.specs.Entry.{bankOk, entriesOk}
 use Rattle.entries.specs.Gathered.{bankClear}
-use Rattle.lists.proofs.Lists.{told-none, told-bank}
+use Rattle.lists.proofs.Lists.{described-none, described-bank}
 use borrow.Author.Needs.{needs}
 use Rattle.lists.proofs.banks_ok.Statement.{statement}
 use Rattle.lists.proofs.banks_ok.Tie as tie
@@ -26,7 +26,7 @@ loop-holds : tie.Need-loop-holds Inv-loop μ-loop
 unfolding bankClear both
 loop-holds c =
     let a = c .before .before .args in
-    (search needs, search needs, rw (c .none .ensures) (sym (told-none (a .minor) (a .k) (a .words .now))))
+    (search needs, search needs, rw (c .none .ensures) (sym (described-none (a .minor) (a .k) (a .words .now))))
 
 mul-with-bank : tie.Need-mul-with-bank Inv-loop μ-loop
 mul-with-bank c = search needs
@@ -59,7 +59,7 @@ loop-again : tie.Need-loop-again Inv-loop μ-loop
 loop-again c =
     let a = c .before .before .before .before .before .before .before .args in
     let l = c .before .before .before .before .loop in
-    (search needs, search needs, told-bank (a .minor) (l .i) (a .words .now) _ (a .k) (l .at) (c .before .before .before .before .before .before .before .pre .0) (l .inv .1) (c .with-bank .ensures ∙ ap (λ x. both x (bankOk (getD (a .words .now) (l .at) 0) (getD (a .words .now) (l .at + 1) 0))) (l .inv .2)))
+    (search needs, search needs, described-bank (a .minor) (l .i) (a .words .now) _ (a .k) (l .at) (c .before .before .before .before .before .before .before .pre .0) (l .inv .1) (c .with-bank .ensures ∙ ap (λ x. both x (bankOk (getD (a .words .now) (l .at) 0) (getD (a .words .now) (l .at + 1) 0))) (l .inv .2)))
 
 banks-clear-requires : tie.Need-banks-clear-requires Inv-loop μ-loop
 banks-clear-requires c κs = search needs

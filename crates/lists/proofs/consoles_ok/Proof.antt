@@ -5,7 +5,7 @@ use lib.ListN.{getD}
 use Rattle.words.specs.Tests.{both}
 use Rattle.entries.specs.Entry.{flagsOk, consoleOk, entriesOk}
 use Rattle.entries.specs.Gathered.{consoleClear}
-use Rattle.lists.proofs.Lists.{told-none, told-console}
+use Rattle.lists.proofs.Lists.{described-none, described-console}
 use borrow.Author.Needs.{needs}
 use Rattle.lists.proofs.consoles_ok.Statement.{statement}
 use Rattle.lists.proofs.consoles_ok.Tie as tie
@@ -26,7 +26,7 @@ loop-holds : tie.Need-loop-holds Inv-loop μ-loop
 unfolding consoleClear flagsOk both
 loop-holds c =
     let a = c .before .before .args in
-    (search needs, search needs, rw (c .none .ensures) (sym (told-none (a .minor) 1 (a .words .now))))
+    (search needs, search needs, rw (c .none .ensures) (sym (described-none (a .minor) 1 (a .words .now))))
 
 mul-with-console : tie.Need-mul-with-console Inv-loop μ-loop
 mul-with-console c = search needs
@@ -68,7 +68,7 @@ loop-again : tie.Need-loop-again Inv-loop μ-loop
 loop-again c =
     let a = c .before .before .before .before .before .before .before .before .args in
     let l = c .before .before .before .before .before .loop in
-    (search needs, search needs, told-console (a .minor) (l .i) (a .words .now) _ (l .at) (l .inv .1) (c .with-console .ensures ∙ ap (λ x. both x (consoleOk (a .minor) (getD (a .words .now) (l .at) 0) (getD (a .words .now) (l .at + 1) 0) (getD (a .words .now) (l .at + 5) 0))) (l .inv .2)))
+    (search needs, search needs, described-console (a .minor) (l .i) (a .words .now) _ (l .at) (l .inv .1) (c .with-console .ensures ∙ ap (λ x. both x (consoleOk (a .minor) (getD (a .words .now) (l .at) 0) (getD (a .words .now) (l .at + 1) 0) (getD (a .words .now) (l .at + 5) 0))) (l .inv .2)))
 
 consoles-clear-requires : tie.Need-consoles-clear-requires Inv-loop μ-loop
 consoles-clear-requires c κs = search needs

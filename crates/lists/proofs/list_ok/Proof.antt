@@ -2,7 +2,7 @@ use Prim.Native.Nat.{_*_, _/_, _≤_}
 use mathlib.Core.Path.{_≡_, sym, ap, _∙_}
 use native.Mathlib.Omega.{arith}
 use lib.ListN.{length}
-use Rattle.entries.specs.Entry.{per, entriesOk}
+use Rattle.entries.specs.Entry.{wordsPerEntry, entriesOk}
 use Rattle.entries.proofs.Entries.{per-one, per-other}
 use Rattle.lists.proofs.Lists.{whole-room, list-part, list-whole}
 use borrow.Author.Needs.{needs}
@@ -30,7 +30,7 @@ consoles-ok-requires : tie.Need-consoles-ok-requires
 consoles-ok-requires c κs =
     let a = c .before .before .before .before .args in
     let n = length (a .words .now) in
-    let p : per (a .k) ≡ 6 = ap per (c .if2 .taken) ∙ per-one in
+    let p : wordsPerEntry (a .k) ≡ 6 = ap wordsPerEntry (c .if2 .taken) ∙ per-one in
     let m : n / c .before .before .entry-words .result ≡ n / 6 = ap (λ x. n / x) (c .before .before .entry-words .ensures .0 ∙ p) in
     let r : 6 * (n / 6) ≤ n = rw p at (whole-room (a .k) n) in
     omega arith
@@ -49,7 +49,7 @@ banks-ok-requires : tie.Need-banks-ok-requires
 banks-ok-requires c κs =
     let a = c .before .before .before .before .args in
     let n = length (a .words .now) in
-    let p : per (a .k) ≡ 2 = per-other (a .k) (c .if2 .left) in
+    let p : wordsPerEntry (a .k) ≡ 2 = per-other (a .k) (c .if2 .left) in
     let m : n / c .before .before .entry-words .result ≡ n / 2 = ap (λ x. n / x) (c .before .before .entry-words .ensures .0 ∙ p) in
     let r : 2 * (n / 2) ≤ n = rw p at (whole-room (a .k) n) in
     (c .if2 .left, omega arith)

@@ -2,8 +2,8 @@ use mathlib.Core.Bool.{true, false}
 use mathlib.Core.Path.{_≡_, sym, _∙_}
 use borrow.Author.Tests.{not-true, not-false}
 use Rattle.words.specs.Tests.{both}
-use Rattle.lists.specs.Told.{listOk}
-use Rattle.lists.proofs.Lists.{told-four}
+use Rattle.lists.specs.Description.{listOk}
+use Rattle.lists.proofs.Lists.{described-four}
 use borrow.Author.Needs.{needs}
 use Rattle.lists.proofs.lists_ok.Statement.{statement}
 use Rattle.lists.proofs.lists_ok.Tie as tie
@@ -16,7 +16,7 @@ unfolding both
 returns c =
     let a = c .before .before .before .before .before .before .args in
     let q0 : listOk (a .minor) 0 (a .dram .now) ≡ false = sym (c .before .list-ok .ensures) ∙ not-true _ (c .if1 .taken) in
-    sym (told-four (a .minor) (a .dram .now) (a .console .now) (a .ncoh .now) (a .coh .now) ∙ rw q0)
+    sym (described-four (a .minor) (a .dram .now) (a .console .now) (a .ncoh .now) (a .coh .now) ∙ rw q0)
 
 list-ok-requires-2 : tie.Need-list-ok-requires-2
 list-ok-requires-2 c κs = search needs
@@ -27,7 +27,7 @@ returns-2 c =
     let a = c .before .before .before .before .before .before .before .before .args in
     let q0 : listOk (a .minor) 0 (a .dram .now) ≡ true = sym (c .before .before .before .list-ok .ensures) ∙ not-false _ (c .before .before .if1 .left) in
     let q1 : listOk (a .minor) 1 (a .console .now) ≡ false = sym (c .before .list-ok2 .ensures) ∙ not-true _ (c .if2 .taken) in
-    sym (told-four (a .minor) (a .dram .now) (a .console .now) (a .ncoh .now) (a .coh .now) ∙ rw (q0, q1))
+    sym (described-four (a .minor) (a .dram .now) (a .console .now) (a .ncoh .now) (a .coh .now) ∙ rw (q0, q1))
 
 list-ok-requires-3 : tie.Need-list-ok-requires-3
 list-ok-requires-3 c κs = search needs
@@ -39,7 +39,7 @@ returns-3 c =
     let q0 : listOk (a .minor) 0 (a .dram .now) ≡ true = sym (c .before .before .before .before .before .list-ok .ensures) ∙ not-false _ (c .before .before .before .before .if1 .left) in
     let q1 : listOk (a .minor) 1 (a .console .now) ≡ true = sym (c .before .before .before .list-ok2 .ensures) ∙ not-false _ (c .before .before .if2 .left) in
     let q2 : listOk (a .minor) 2 (a .ncoh .now) ≡ false = sym (c .before .list-ok3 .ensures) ∙ not-true _ (c .if3 .taken) in
-    sym (told-four (a .minor) (a .dram .now) (a .console .now) (a .ncoh .now) (a .coh .now) ∙ rw (q0, q1, q2))
+    sym (described-four (a .minor) (a .dram .now) (a .console .now) (a .ncoh .now) (a .coh .now) ∙ rw (q0, q1, q2))
 
 list-ok-requires-4 : tie.Need-list-ok-requires-4
 list-ok-requires-4 c κs = search needs
@@ -51,7 +51,7 @@ returns-4 c =
     let q0 : listOk (a .minor) 0 (a .dram .now) ≡ true = sym (c .before .before .before .before .before .before .list-ok .ensures) ∙ not-false _ (c .before .before .before .before .before .if1 .left) in
     let q1 : listOk (a .minor) 1 (a .console .now) ≡ true = sym (c .before .before .before .before .list-ok2 .ensures) ∙ not-false _ (c .before .before .before .if2 .left) in
     let q2 : listOk (a .minor) 2 (a .ncoh .now) ≡ true = sym (c .before .before .list-ok3 .ensures) ∙ not-false _ (c .before .if3 .left) in
-    c .list-ok4 .ensures ∙ sym (told-four (a .minor) (a .dram .now) (a .console .now) (a .ncoh .now) (a .coh .now) ∙ rw (q0, q1, q2))
+    c .list-ok4 .ensures ∙ sym (described-four (a .minor) (a .dram .now) (a .console .now) (a .ncoh .now) (a .coh .now) ∙ rw (q0, q1, q2))
 
 pub lists-ok-spec : {M : Type 1} → statement M
 lists-ok-spec =

@@ -1,5 +1,5 @@
 use mathlib.Core.Path.{sym, ap}
-use Rattle.reader.specs.Reading.{codeOf}
+use Rattle.reader.specs.Reading.{refusalNumber}
 use borrow.Author.Needs.{needs}
 use Rattle.reader.proofs.number.Statement.{statement}
 use Rattle.reader.proofs.number.Tie as tie
@@ -14,13 +14,13 @@ enum-told-3 : tie.Need-enum-told-3
 enum-told-3 c = search needs
 
 returns : tie.Need-returns
-returns c = sym (ap codeOf (c .enum-told .given .1))
+returns c = sym (ap refusalNumber (c .enum-told .given .1))
 
 returns-2 : tie.Need-returns-2
-returns-2 c = sym (ap codeOf (c .enum-told2 .given .1))
+returns-2 c = sym (ap refusalNumber (c .enum-told2 .given .1))
 
 returns-3 : tie.Need-returns-3
-returns-3 c = sym (ap codeOf (c .enum-told3 .given .1))
+returns-3 c = sym (ap refusalNumber (c .enum-told3 .given .1))
 
 pub number-spec : {M : Type 1} → statement M
 number-spec = tie.close (tie.spec enum-told enum-told-2 enum-told-3 returns returns-2 returns-3)

@@ -1,6 +1,6 @@
 use mathlib.Core.Path.{_≡_, _∙_}
 use borrow.Author.Tests.{le-ltb, lt-ltb, eq-eqb, ne-eqb}
-use Rattle.versions.specs.Edition.{secs}
+use Rattle.versions.specs.Edition.{sectionCount}
 use Rattle.sections.specs.Page.{countAt, pointerAt}
 use Rattle.sections.proofs.Sections.{range-low, ok-in-range}
 use Rattle.reader.proofs.Whole.{shown-absent, shown-empty, shown-entries}
@@ -17,7 +17,7 @@ returns : tie.Need-returns
 unfolding sectionAt
 returns c =
     let a = c .before .before .before .args in
-    (shown-absent (a .minor) (a .e .minor) (a .base) (a .k) (a .page .now) (omega arith), simp (le-ltb (a .k) (secs (a .e .minor)) (omega arith)))
+    (shown-absent (a .minor) (a .e .minor) (a .base) (a .k) (a .page .now) (omega arith), simp (le-ltb (a .k) (sectionCount (a .e .minor)) (omega arith)))
 
 count-at-requires : tie.Need-count-at-requires
 count-at-requires c κs = search needs
@@ -26,7 +26,7 @@ returns-2 : tie.Need-returns-2
 unfolding sectionAt
 returns-2 c =
     let a = c .before .before .before .before .before .args in
-    (shown-empty (a .minor) (a .e .minor) (a .base) (a .k) (a .page .now) (omega arith) (omega arith), simp (lt-ltb (a .k) (secs (a .e .minor)) (omega arith), eq-eqb (countAt (a .k) (a .page .now)) 0 (omega arith)))
+    (shown-empty (a .minor) (a .e .minor) (a .base) (a .k) (a .page .now) (omega arith) (omega arith), simp (lt-ltb (a .k) (sectionCount (a .e .minor)) (omega arith), eq-eqb (countAt (a .k) (a .page .now)) 0 (omega arith)))
 
 pointer-at-requires : tie.Need-pointer-at-requires
 pointer-at-requires c κs = search needs
@@ -45,7 +45,7 @@ returns-3 c =
     let z : (countAt (a .k) (a .page .now) ≡ 0 → ⊥) = (λ e. c .before .if2 .left (c .before .before .count-at .ensures ∙ e)) in
     let o = c .before .before .before .before .before .before .pre .1 (omega arith) in
     rw (c .pointer-at .ensures, c .before .before .count-at .ensures)
-    (shown-entries (a .minor) (a .e .minor) (a .base) (a .k) (a .page .now) (c .before .before .before .before .before .before .pre .0) (omega arith) o z, simp (lt-ltb (a .k) (secs (a .e .minor)) (omega arith), ne-eqb (countAt (a .k) (a .page .now)) 0 z))
+    (shown-entries (a .minor) (a .e .minor) (a .base) (a .k) (a .page .now) (c .before .before .before .before .before .before .pre .0) (omega arith) o z, simp (lt-ltb (a .k) (sectionCount (a .e .minor)) (omega arith), ne-eqb (countAt (a .k) (a .page .now)) 0 z))
 
 pub section-at-spec : {M : Type 1} → statement M
 section-at-spec =

@@ -1,5 +1,5 @@
 use mathlib.Core.Path.{_≡_, refl, sym, ap, _∙_}
-use Rattle.runtime.specs.Step.{kindOf, callOf, callBy, codeOf, afterMove, afterKey, afterToken, afterSigning, afterUpdate}
+use Rattle.runtime.specs.Step.{kindOf, callOf, callBy, replyCode, afterMove, afterKey, afterToken, afterSigning, afterUpdate}
 use Rattle.runtime.specs.declared.Stepped.{Stepped}
 use Rattle.runtime.specs.declared.Kind.the-variants.{ForwardError, Delegate, Undelegate, RealmKey, PlatformToken, Features, TokenSigning, KeyUpdate, Unlisted}
 use borrow.Author.Needs.{needs}
@@ -91,7 +91,7 @@ returned-requires-5 : tie.Need-returned-requires-5
 returned-requires-5 c κs = search needs
 
 returns : tie.Need-returns
-unfolding callOf callBy codeOf
+unfolding callOf callBy replyCode
 returns c =
     let h : kindOf (c .before .before .before .before .before .before .before .before .before .before .args .id) ≡ ForwardError = sym (c .before .before .before .before .kind-of .ensures) ∙ c .before .before .enum-told .given .1 in
     (rw (h, c .forwarded .ensures, ← c .before .forward .ensures), λ e. ap (λ (s : Stepped). s .queue) (c .forwarded .ensures))
@@ -100,7 +100,7 @@ same-length : tie.Need-same-length
 same-length c = search needs
 
 returns-2 : tie.Need-returns-2
-unfolding callOf callBy codeOf afterMove
+unfolding callOf callBy replyCode afterMove
 returns-2 c =
     let h : kindOf (c .before .before .before .before .before .before .before .before .before .before .before .before .before .args .id) ≡ Delegate = sym (c .before .before .before .before .before .before .before .kind-of .ensures) ∙ c .before .before .before .before .before .enum-told2 .given .1 in
     (rw (h, c .returned .ensures, ← c .before .before .before .delegate .ensures), λ e. ap (λ (s : Stepped). s .queue) (c .returned .ensures))
@@ -109,7 +109,7 @@ same-length-2 : tie.Need-same-length-2
 same-length-2 c = search needs
 
 returns-3 : tie.Need-returns-3
-unfolding callOf callBy codeOf afterMove
+unfolding callOf callBy replyCode afterMove
 returns-3 c =
     let h : kindOf (c .before .before .before .before .before .before .before .before .before .before .before .before .before .args .id) ≡ Undelegate = sym (c .before .before .before .before .before .before .before .kind-of .ensures) ∙ c .before .before .before .before .before .enum-told3 .given .1 in
     (rw (h, c .returned2 .ensures, ← c .before .before .before .undelegate .ensures), λ e. ap (λ (s : Stepped). s .queue) (c .returned2 .ensures))
@@ -118,7 +118,7 @@ same-length-3 : tie.Need-same-length-3
 same-length-3 c = search needs
 
 returns-4 : tie.Need-returns-4
-unfolding callOf callBy codeOf afterKey
+unfolding callOf callBy replyCode afterKey
 returns-4 c =
     let h : kindOf (c .before .before .before .before .before .before .before .before .before .before .before .before .before .args .id) ≡ RealmKey = sym (c .before .before .before .before .before .before .before .kind-of .ensures) ∙ c .before .before .before .before .before .enum-told4 .given .1 in
     (rw (h, c .returned3 .ensures, ← c .before .before .before .realm-key .ensures), λ e. ap (λ (s : Stepped). s .queue) (c .returned3 .ensures))
@@ -127,13 +127,13 @@ same-length-4 : tie.Need-same-length-4
 same-length-4 c = search needs
 
 returns-5 : tie.Need-returns-5
-unfolding callOf callBy codeOf afterToken
+unfolding callOf callBy replyCode afterToken
 returns-5 c =
     let h : kindOf (c .before .before .before .before .before .before .before .before .before .before .before .before .before .args .id) ≡ PlatformToken = sym (c .before .before .before .before .before .before .before .kind-of .ensures) ∙ c .before .before .before .before .before .enum-told5 .given .1 in
     (rw (h, c .after-token .ensures, ← c .before .before .before .platform-token .ensures), λ e. ap (λ (s : Stepped). s .queue) (c .after-token .ensures))
 
 returns-6 : tie.Need-returns-6
-unfolding callOf callBy codeOf
+unfolding callOf callBy replyCode
 returns-6 c =
     let h : kindOf (c .before .before .before .before .before .before .before .before .before .before .args .id) ≡ Features = sym (c .before .before .before .before .kind-of .ensures) ∙ c .before .before .enum-told6 .given .1 in
     (rw (h, c .returned4 .ensures, ← c .before .features .ensures), λ e. ap (λ (s : Stepped). s .queue) (c .returned4 .ensures))
@@ -142,19 +142,19 @@ same-length-5 : tie.Need-same-length-5
 same-length-5 c = search needs
 
 returns-7 : tie.Need-returns-7
-unfolding callOf callBy codeOf afterSigning
+unfolding callOf callBy replyCode afterSigning
 returns-7 c =
     let h : kindOf (c .before .before .before .before .before .before .before .before .before .before .before .before .before .args .id) ≡ TokenSigning = sym (c .before .before .before .before .before .before .before .kind-of .ensures) ∙ c .before .before .before .before .before .enum-told7 .given .1 in
     (rw (h, c .after-signing .ensures, ← c .before .before .before .token-signing .ensures .0), λ e. ap (λ (s : Stepped). s .queue) (c .after-signing .ensures) ∙ c .before .before .before .token-signing .ensures .1 (rw (c .after-signing .ensures) at e))
 
 returns-8 : tie.Need-returns-8
-unfolding callOf callBy codeOf afterUpdate
+unfolding callOf callBy replyCode afterUpdate
 returns-8 c =
     let h : kindOf (c .before .before .before .before .before .before .before .before .before .before .args .id) ≡ KeyUpdate = sym (c .before .before .before .before .kind-of .ensures) ∙ c .before .before .enum-told8 .given .1 in
     (rw (h, c .after-update .ensures, ← c .before .key-update .ensures), λ e. ap (λ (s : Stepped). s .queue) (c .after-update .ensures))
 
 returns-9 : tie.Need-returns-9
-unfolding callOf callBy codeOf
+unfolding callOf callBy replyCode
 returns-9 c =
     let h : kindOf (c .before .before .before .before .before .before .before .before .before .before .args .id) ≡ Unlisted = sym (c .before .before .before .before .kind-of .ensures) ∙ c .before .before .enum-told9 .given .1 in
     (rw (h, c .returned5 .ensures, c .before .answered .ensures), λ e. ap (λ (s : Stepped). s .queue) (c .returned5 .ensures))

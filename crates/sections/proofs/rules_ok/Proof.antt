@@ -3,7 +3,7 @@ use mathlib.Core.Path.{_≡_, sym, _∙_}
 use Prim.Native.Nat.{_<_}
 use borrow.Author.Tests.{eq-eqb, ne-eqb, not-true, not-false}
 use Rattle.words.specs.Tests.{both}
-use Rattle.versions.specs.Edition.{secs}
+use Rattle.versions.specs.Edition.{sectionCount}
 use Rattle.sections.specs.Page.{paddingAt, platAt}
 use Rattle.sections.specs.Section.{platOk}
 use Rattle.sections.specs.Steps.{okTo}
@@ -48,19 +48,19 @@ returns-3 c =
     let a = c .before .before .before .before .before .before .before .before .before .args in
     let q : platOk (a .e .minor) (a .base) (platAt (a .base) (a .page .now)) ≡ true =
     rw (← c .before .before .before .before .before .word-at .ensures) (sym (c .before .before .before .before .plat-ok .ensures) ∙ not-false _ (c .before .before .before .if2 .left)) in
-    let o : okTo (a .minor) (a .e .minor) (a .base) (secs (a .e .minor)) (a .page .now) ≡ false =
+    let o : okTo (a .minor) (a .e .minor) (a .base) (sectionCount (a .e .minor)) (a .page .now) ≡ false =
     rw (← c .before .before .sections .ensures .0) (sym (c .before .sections-ok .ensures) ∙ not-true _ (c .if3 .taken)) in
     rw (rules-steps (a .minor) (a .e .minor) (a .base) (a .page .now)) (simp (eq-eqb (paddingAt (a .page .now)) 0 (sym (c .before .before .before .before .before .before .before .padding-at .ensures) ∙ c .before .before .before .before .before .before .if1 .left), q, o))
 
 all-apart-requires : tie.Need-all-apart-requires
 all-apart-requires c κs =
     let a = c .before .before .before .before .before .before .before .before .before .args in
-    let o : okTo (a .minor) (a .e .minor) (a .base) (secs (a .e .minor)) (a .page .now) ≡ true =
+    let o : okTo (a .minor) (a .e .minor) (a .base) (sectionCount (a .e .minor)) (a .page .now) ≡ true =
     rw (← c .before .before .sections .ensures .0) (sym (c .before .sections-ok .ensures) ∙ not-false _ (c .if3 .left)) in (
       search needs,
       λ k h.
-          let l : k < secs (a .e .minor) = omega arith in
-          omega (arith, ok-end (a .minor) (a .e .minor) (a .base) k (a .page .now) (ok-each (a .minor) (a .e .minor) (a .base) (a .page .now) (secs (a .e .minor)) k o l)),
+          let l : k < sectionCount (a .e .minor) = omega arith in
+          omega (arith, ok-end (a .minor) (a .e .minor) (a .base) k (a .page .now) (ok-each (a .minor) (a .e .minor) (a .base) (a .page .now) (sectionCount (a .e .minor)) k o l)),
     )
 
 returns-4 : tie.Need-returns-4
@@ -69,7 +69,7 @@ returns-4 c =
     let a = c .before .before .before .before .before .before .before .before .before .before .args in
     let q : platOk (a .e .minor) (a .base) (platAt (a .base) (a .page .now)) ≡ true =
     rw (← c .before .before .before .before .before .before .word-at .ensures) (sym (c .before .before .before .before .before .plat-ok .ensures) ∙ not-false _ (c .before .before .before .before .if2 .left)) in
-    let o : okTo (a .minor) (a .e .minor) (a .base) (secs (a .e .minor)) (a .page .now) ≡ true =
+    let o : okTo (a .minor) (a .e .minor) (a .base) (sectionCount (a .e .minor)) (a .page .now) ≡ true =
     rw (← c .before .before .before .sections .ensures .0) (sym (c .before .before .sections-ok .ensures) ∙ not-false _ (c .before .if3 .left)) in
     rw (rules-steps (a .minor) (a .e .minor) (a .base) (a .page .now)) (simp (eq-eqb (paddingAt (a .page .now)) 0 (sym (c .before .before .before .before .before .before .before .before .padding-at .ensures) ∙ c .before .before .before .before .before .before .before .if1 .left), q, o) (rw (← c .before .before .before .sections .ensures .0) (c .all-apart .ensures)))
 

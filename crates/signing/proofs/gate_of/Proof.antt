@@ -15,7 +15,7 @@ is-other-requires c κs = search needs
 returns : tie.Need-returns
 returns c =
     let a = c .before .before .args in
-    stops (sharedCode (a .kept) (a .opcode) (a .pa) (a .size) (a .curve)) (placeOf (a .kept) (a .pa)) Inval (shared-other (a .kept) (a .opcode) (a .pa) (a .size) (a .curve) (sym (c .before .is-other .ensures) ∙ c .if1 .taken)) refl
+    stops (sharedCode (a .params) (a .opcode) (a .pa) (a .size) (a .curve)) (placeOf (a .params) (a .pa)) Inval (shared-other (a .params) (a .opcode) (a .pa) (a .size) (a .curve) (sym (c .before .is-other .ensures) ∙ c .if1 .taken)) refl
 
 fit-of-requires : tie.Need-fit-of-requires
 fit-of-requires c κs = search needs
@@ -35,31 +35,31 @@ bad-curve-requires c κs = search needs
 returns-2 : tie.Need-returns-2
 returns-2 c =
     let a = c .before .before .before .before .before .before .before .before .args in
-    let f = fits (a .kept) (a .pa) (a .size) _ (sym (c .before .before .before .before .before .fit-of .ensures) ∙ c .before .before .before .at .given .1) in
-    stops (sharedCode (a .kept) (a .opcode) (a .pa) (a .size) (a .curve)) (placeOf (a .kept) (a .pa)) Inval (shared-curve (a .kept) (a .opcode) (a .pa) (a .size) (a .curve) (sym (c .before .before .before .before .before .before .before .is-other .ensures) ∙ c .before .before .before .before .before .before .if1 .left) (f .inside) (f .short) (sym (c .before .bad-curve .ensures) ∙ c .if2 .taken)) refl
+    let f = fits (a .params) (a .pa) (a .size) _ (sym (c .before .before .before .before .before .fit-of .ensures) ∙ c .before .before .before .at .given .1) in
+    stops (sharedCode (a .params) (a .opcode) (a .pa) (a .size) (a .curve)) (placeOf (a .params) (a .pa)) Inval (shared-curve (a .params) (a .opcode) (a .pa) (a .size) (a .curve) (sym (c .before .before .before .before .before .before .before .is-other .ensures) ∙ c .before .before .before .before .before .before .if1 .left) (f .inside) (f .short) (sym (c .before .bad-curve .ensures) ∙ c .if2 .taken)) refl
 
 returns-3 : tie.Need-returns-3
 returns-3 c =
     let a = c .before .before .before .before .before .before .before .before .before .before .args in
-    let f = fits (a .kept) (a .pa) (a .size) _ (sym (c .before .before .before .before .before .before .before .fit-of .ensures) ∙ c .before .before .before .before .before .at .given .1) in
-    stops (sharedCode (a .kept) (a .opcode) (a .pa) (a .size) (a .curve)) (placeOf (a .kept) (a .pa)) Unk (shared-minor (a .kept) (a .opcode) (a .pa) (a .size) (a .curve) (sym (c .before .before .before .before .before .before .before .before .before .is-other .ensures) ∙ c .before .before .before .before .before .before .before .before .if1 .left) (f .inside) (f .short) (sym (c .before .before .before .bad-curve .ensures) ∙ c .before .before .if2 .left) (search needs)) refl
+    let f = fits (a .params) (a .pa) (a .size) _ (sym (c .before .before .before .before .before .before .before .fit-of .ensures) ∙ c .before .before .before .before .before .at .given .1) in
+    stops (sharedCode (a .params) (a .opcode) (a .pa) (a .size) (a .curve)) (placeOf (a .params) (a .pa)) Unk (shared-minor (a .params) (a .opcode) (a .pa) (a .size) (a .curve) (sym (c .before .before .before .before .before .before .before .before .before .is-other .ensures) ∙ c .before .before .before .before .before .before .before .before .if1 .left) (f .inside) (f .short) (sym (c .before .before .before .bad-curve .ensures) ∙ c .before .before .if2 .left) (search needs)) refl
 
 returns-4 : tie.Need-returns-4
 returns-4 c =
     let a = c .before .before .before .before .before .args in
-    stops (sharedCode (a .kept) (a .opcode) (a .pa) (a .size) (a .curve)) (placeOf (a .kept) (a .pa)) Inval (shared-outside (a .kept) (a .opcode) (a .pa) (a .size) (a .curve) (sym (c .before .before .before .before .is-other .ensures) ∙ c .before .before .before .if1 .left) (is-outside (a .kept) (a .pa) (a .size) (sym (c .before .before .fit-of .ensures) ∙ c .enum-told .given .1))) refl
+    stops (sharedCode (a .params) (a .opcode) (a .pa) (a .size) (a .curve)) (placeOf (a .params) (a .pa)) Inval (shared-outside (a .params) (a .opcode) (a .pa) (a .size) (a .curve) (sym (c .before .before .before .before .is-other .ensures) ∙ c .before .before .before .if1 .left) (is-outside (a .params) (a .pa) (a .size) (sym (c .before .before .fit-of .ensures) ∙ c .enum-told .given .1))) refl
 
 returns-5 : tie.Need-returns-5
 returns-5 c =
     let a = c .before .before .before .before .before .args in
-    let l = is-long (a .kept) (a .pa) (a .size) (sym (c .before .before .fit-of .ensures) ∙ c .enum-told2 .given .1) in
-    stops (sharedCode (a .kept) (a .opcode) (a .pa) (a .size) (a .curve)) (placeOf (a .kept) (a .pa)) Inval (shared-long (a .kept) (a .opcode) (a .pa) (a .size) (a .curve) (sym (c .before .before .before .before .is-other .ensures) ∙ c .before .before .before .if1 .left) (l .inside) (l .long)) refl
+    let l = is-long (a .params) (a .pa) (a .size) (sym (c .before .before .fit-of .ensures) ∙ c .enum-told2 .given .1) in
+    stops (sharedCode (a .params) (a .opcode) (a .pa) (a .size) (a .curve)) (placeOf (a .params) (a .pa)) Inval (shared-long (a .params) (a .opcode) (a .pa) (a .size) (a .curve) (sym (c .before .before .before .before .is-other .ensures) ∙ c .before .before .before .if1 .left) (l .inside) (l .long)) refl
 
 returns-6 : tie.Need-returns-6
 returns-6 c =
     let a = c .before .before .before .before .before .before .before .before .before .before .args in
-    let f = fits (a .kept) (a .pa) (a .size) _ (sym (c .before .before .before .before .before .before .before .fit-of .ensures) ∙ c .before .before .before .before .before .at .given .1) in
-    goes (sharedCode (a .kept) (a .opcode) (a .pa) (a .size) (a .curve)) (placeOf (a .kept) (a .pa)) _ (shared-ok (a .kept) (a .opcode) (a .pa) (a .size) (a .curve) (sym (c .before .before .before .before .before .before .before .before .before .is-other .ensures) ∙ c .before .before .before .before .before .before .before .before .if1 .left) (f .inside) (f .short) (sym (c .before .before .before .bad-curve .ensures) ∙ c .before .before .if2 .left) (search needs)) (f .place)
+    let f = fits (a .params) (a .pa) (a .size) _ (sym (c .before .before .before .before .before .before .before .fit-of .ensures) ∙ c .before .before .before .before .before .at .given .1) in
+    goes (sharedCode (a .params) (a .opcode) (a .pa) (a .size) (a .curve)) (placeOf (a .params) (a .pa)) _ (shared-ok (a .params) (a .opcode) (a .pa) (a .size) (a .curve) (sym (c .before .before .before .before .before .before .before .before .before .is-other .ensures) ∙ c .before .before .before .before .before .before .before .before .if1 .left) (f .inside) (f .short) (sym (c .before .before .before .bad-curve .ensures) ∙ c .before .before .if2 .left) (search needs)) (f .place)
 
 pub gate-of-spec : {M : Type 1} → statement M
 gate-of-spec =

@@ -1,4 +1,4 @@
-use Rattle.text.specs.Text.{listingOf, refusedText, signed, dash, decimal, places, placesIn, newline}
+use Rattle.text.specs.Text.{listingOf, refusedText, signedDecimal, dash, decimal, places, placesIn, newline}
 use borrow.Author.Needs.{needs}
 use Rattle.text.proofs.put_code.Statement.{statement}
 use Rattle.text.proofs.put_code.Tie as tie
@@ -34,21 +34,21 @@ same-length : tie.Need-same-length
 same-length c = search needs
 
 returns : tie.Need-returns
-unfolding listingOf refusedText signed dash decimal places placesIn newline
+unfolding listingOf refusedText signedDecimal dash decimal places placesIn newline
 returns c = rw (c .before .before .before .before .before .enum-told .given .1) (c .before .before .put .ensures)
 
 same-length-2 : tie.Need-same-length-2
 same-length-2 c = search needs
 
 returns-2 : tie.Need-returns-2
-unfolding listingOf refusedText signed dash decimal places placesIn newline
+unfolding listingOf refusedText signedDecimal dash decimal places placesIn newline
 returns-2 c = rw (c .before .before .before .before .before .enum-told2 .given .1) (c .before .before .put2 .ensures)
 
 same-length-3 : tie.Need-same-length-3
 same-length-3 c = search needs
 
 returns-3 : tie.Need-returns-3
-unfolding listingOf refusedText signed dash decimal places placesIn newline
+unfolding listingOf refusedText signedDecimal dash decimal places placesIn newline
 returns-3 c = rw (c .before .before .before .before .before .enum-told3 .given .1) (c .before .before .put3 .ensures)
 
 pub put-code-spec : {M : Type 1} → statement M

@@ -2,7 +2,7 @@ use Prim.Native.Nat.{_-_, _≤_}
 use mathlib.Core.Path.{_≡_}
 use Rattle.text.specs.Text.{entryText}
 use Rattle.words.specs.Word.{joined}
-use Rattle.text.specs.Steps.{Wrote, seen}
+use Rattle.text.specs.Steps.{LaidOver, seen}
 use Rattle.text.proofs.Lay.{wrote-none, wrote-more}
 use borrow.Author.Needs.{needs}
 use native.Mathlib.Omega.{arith}
@@ -10,7 +10,7 @@ use Rattle.text.proofs.put_entries.Statement.{statement}
 use Rattle.text.proofs.put_entries.Tie as tie
 
 abbrev Inv-loop : tie.InvT-loop
-Inv-loop out₀ at page view k n to₀ i₀ out to i = (i ≤ n) × Wrote at (joined i (entryText k (seen view page k))) out₀ to out
+Inv-loop out₀ at page view k n to₀ i₀ out to i = (i ≤ n) × LaidOver at (joined i (entryText k (seen view page k))) out₀ to out
 
 abbrev μ-loop : tie.MeasureT-loop
 μ-loop out₀ at page view k n to₀ i₀ out to i = n - i

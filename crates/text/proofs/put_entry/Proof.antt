@@ -1,10 +1,10 @@
 use Prim.Native.Nat.{_-_, _≤_}
 use mathlib.Core.Path.{_≡_, ap, _∙_}
-use Rattle.entries.specs.Entry.{per}
+use Rattle.entries.specs.Entry.{wordsPerEntry}
 use Rattle.reader.specs.Answer.{entryWord}
 use Rattle.text.specs.Text.{wordText, partText, entryText}
 use Rattle.words.specs.Word.{joined}
-use Rattle.text.specs.Steps.{Wrote, seen}
+use Rattle.text.specs.Steps.{LaidOver, seen}
 use Rattle.text.proofs.Lay.{wrote-none, wrote-then, wrote-same, wrote-more}
 use Rattle.text.proofs.Parts.{word-seen}
 use borrow.Author.Needs.{needs}
@@ -13,7 +13,7 @@ use Rattle.text.proofs.put_entry.Statement.{statement}
 use Rattle.text.proofs.put_entry.Tie as tie
 
 abbrev Inv-loop : tie.InvT-loop
-Inv-loop out₀ at page view k i n to₀ j₀ out to j = (j ≤ n) × Wrote at (joined j (partText k (seen view page k) i)) out₀ to out
+Inv-loop out₀ at page view k i n to₀ j₀ out to j = (j ≤ n) × LaidOver at (joined j (partText k (seen view page k) i)) out₀ to out
 
 abbrev μ-loop : tie.MeasureT-loop
 μ-loop out₀ at page view k i n to₀ j₀ out to j = n - j
@@ -61,7 +61,7 @@ returns : tie.Need-returns Inv-loop μ-loop
 unfolding entryText
 returns c =
     let l = c .before .before .before .before .before .loop in
-    let e : l .j ≡ per (c .before .before .before .before .before .before .before .before .before .args .k) = omega arith in
+    let e : l .j ≡ wordsPerEntry (c .before .before .before .before .before .before .before .before .before .args .k) = omega arith in
     wrote-then (search needs) (rw e at (l .inv .1)) (c .before .before .put-end .ensures)
 
 pub put-entry-spec : {M : Type 1} → statement M

@@ -2,7 +2,7 @@ use Prim.Native.Nat.{_/_, _^_, _-_, _≤_}
 use mathlib.Core.Path.{_≡_}
 use Rattle.text.specs.Text.{nameByte, nameText}
 use Rattle.words.specs.Word.{joined}
-use Rattle.text.specs.Steps.{Wrote}
+use Rattle.text.specs.Steps.{LaidOver}
 use Rattle.text.proofs.Lay.{wrote-none, wrote-same, wrote-more}
 use Rattle.text.proofs.Numbers.{name-byte, name-rest, name-all}
 use borrow.Author.Needs.{needs}
@@ -11,7 +11,7 @@ use Rattle.text.proofs.put_name.Statement.{statement}
 use Rattle.text.proofs.put_name.Tie as tie
 
 abbrev Inv-loop : tie.InvT-loop
-Inv-loop out₀ at w to₀ rest₀ i₀ out to rest i = (i ≤ 8) × (rest ≡ w / 256 ^ i) × Wrote at (joined i (nameByte w)) out₀ to out
+Inv-loop out₀ at w to₀ rest₀ i₀ out to rest i = (i ≤ 8) × (rest ≡ w / 256 ^ i) × LaidOver at (joined i (nameByte w)) out₀ to out
 
 abbrev μ-loop : tie.MeasureT-loop
 μ-loop out₀ at w to₀ rest₀ i₀ out to rest i = 8 - i

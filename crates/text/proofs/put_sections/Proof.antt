@@ -2,7 +2,7 @@ use Prim.Native.Nat.{_-_, _≤_}
 use mathlib.Core.Path.{_≡_}
 use Rattle.text.specs.Text.{sectionText}
 use Rattle.words.specs.Word.{joined}
-use Rattle.text.specs.Steps.{Wrote, seen}
+use Rattle.text.specs.Steps.{LaidOver, seen}
 use Rattle.text.proofs.Lay.{wrote-none, wrote-more}
 use borrow.Author.Needs.{needs}
 use native.Mathlib.Omega.{arith}
@@ -10,7 +10,7 @@ use Rattle.text.proofs.put_sections.Statement.{statement}
 use Rattle.text.proofs.put_sections.Tie as tie
 
 abbrev Inv-loop : tie.InvT-loop
-Inv-loop out₀ at page view to₀ k₀ out to k = (k ≤ 4) × Wrote at (joined k (sectionText (seen view page))) out₀ to out
+Inv-loop out₀ at page view to₀ k₀ out to k = (k ≤ 4) × LaidOver at (joined k (sectionText (seen view page))) out₀ to out
 
 abbrev μ-loop : tie.MeasureT-loop
 μ-loop out₀ at page view to₀ k₀ out to k = 4 - k

@@ -1,4 +1,4 @@
-use Rattle.reader.specs.Reading.{answerOf}
+use Rattle.reader.specs.Reading.{readingAnswer}
 use Rattle.text.specs.Text.{listingOf}
 use Rattle.text.specs.Steps.{seen}
 use Rattle.text.proofs.Lay.{wrote-then}
@@ -19,7 +19,7 @@ same-length : tie.Need-same-length
 same-length c = search needs
 
 returns : tie.Need-returns
-unfolding answerOf listingOf seen
+unfolding readingAnswer listingOf seen
 returns c = wrote-then (search needs) (wrote-then (search needs) (c .before .before .before .before .before .before .before .before .before .before .put-head .ensures) (c .before .before .before .before .before .before .put-plat .ensures)) (c .before .before .put-sections .ensures)
 
 pub put-view-spec : {M : Type 1} → statement M

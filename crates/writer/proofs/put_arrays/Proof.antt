@@ -1,4 +1,4 @@
-use Rattle.lists.specs.Told.{four}
+use Rattle.lists.specs.Description.{four}
 use Rattle.writer.specs.Steps.{arraysOn}
 use borrow.Author.Needs.{needs}
 use Rattle.writer.proofs.put_arrays.Statement.{statement}

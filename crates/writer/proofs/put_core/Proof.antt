@@ -1,6 +1,6 @@
 use mathlib.Core.Path.{ap}
 use Prim.Native.Nat.{ℕ, _+_}
-use Rattle.lists.specs.Told.{four, toldBy}
+use Rattle.lists.specs.Description.{four, descriptionOf}
 use Rattle.writer.proofs.Pages.{core-law}
 use borrow.Author.Needs.{needs}
 use Rattle.writer.proofs.put_core.Statement.{statement}
@@ -34,10 +34,10 @@ same-length : tie.Need-same-length
 same-length c = search needs
 
 returns : tie.Need-returns
-unfolding toldBy four
+unfolding descriptionOf four
 returns c =
     let a = c .before .before .before .before .before .before .before .before .before .before .before .before .before .before .before .before .before .before .before .before .before .before .before .before .before .before .before .args in
-    core-law (a .base) (a .e .minor) (toldBy (a .dram .now) (a .console .now) (a .ncoh .now) (a .coh .now)) _ _ _ _ _ _ _ _ _ _
+    core-law (a .base) (a .e .minor) (descriptionOf (a .dram .now) (a .console .now) (a .ncoh .now) (a .coh .now)) _ _ _ _ _ _ _ _ _ _
     (c .before .before .before .before .before .before .before .before .before .before .before .before .before .before .before .before .before .before .before .before .before .before .before .before .before .before .before .pre .1) (c .before .before .before .before .before .before .before .before .before .before .before .before .before .before .before .before .before .before .before .put-words .ensures) (ap (λ (x : ℕ). a .base + x) (c .before .before .before .before .before .before .before .before .before .before .before .before .before .before .before .before .core-size .ensures .0))
     (c .before .before .before .before .before .before .before .before .before .before .before .before .before .before .put-section .ensures .1) (c .before .before .before .before .before .before .before .before .before .before .before .before .before .before .put-section .ensures .0) (c .before .before .before .before .before .before .before .before .before .before .put-section2 .ensures .1) (c .before .before .before .before .before .before .before .before .before .before .put-section2 .ensures .0)
     (c .before .before .before .before .before .before .put-section3 .ensures .1) (c .before .before .before .before .before .before .put-section3 .ensures .0) (c .before .before .put-section4 .ensures .1)

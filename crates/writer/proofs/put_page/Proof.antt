@@ -1,5 +1,5 @@
 use mathlib.Core.Path.{_∙_}
-use Rattle.lists.specs.Told.{toldBy}
+use Rattle.lists.specs.Description.{descriptionOf}
 use lib.ListN.{length}
 use Rattle.writer.proofs.Pages.{filled-none, arrays-law, words-room}
 use borrow.Author.Needs.{needs}
@@ -28,10 +28,10 @@ same-length : tie.Need-same-length
 same-length c = search needs
 
 returns : tie.Need-returns
-unfolding toldBy
+unfolding descriptionOf
 returns c =
     let a = c .before .before .before .before .before .before .before .before .before .before .before .before .before .before .before .before .before .before .args in
-    c .before .before .put-arrays .ensures ∙ arrays-law (a .base) (a .e .minor) (toldBy (a .dram .now) (a .console .now) (a .ncoh .now) (a .coh .now)) (c .before .before .before .before .core-size .result) _ (c .before .before .before .before .before .before .before .before .before .before .before .before .before .before .before .before .before .before .pre .2) (c .before .before .before .before .core-size .ensures .0) (c .before .before .before .before .before .before .before .put-core .ensures)
+    c .before .before .put-arrays .ensures ∙ arrays-law (a .base) (a .e .minor) (descriptionOf (a .dram .now) (a .console .now) (a .ncoh .now) (a .coh .now)) (c .before .before .before .before .core-size .result) _ (c .before .before .before .before .before .before .before .before .before .before .before .before .before .before .before .before .before .before .pre .2) (c .before .before .before .before .core-size .ensures .0) (c .before .before .before .before .before .before .before .put-core .ensures)
 
 pub put-page-spec : {M : Type 1} → statement M
 put-page-spec =

@@ -1,7 +1,7 @@
 use mathlib.Core.Path.{_≡_, _∙_}
 use Prim.Native.Nat.{_/_, _<_, _^_}
 use lib.ListN.{length}
-use Rattle.entries.specs.Entry.{per}
+use Rattle.entries.specs.Entry.{wordsPerEntry}
 use Rattle.writer.proofs.Sums.{neg-law, desc-none, desc-some}
 use borrow.Author.Needs.{needs}
 use Rattle.writer.proofs.section_words.Statement.{statement}
@@ -31,7 +31,7 @@ wrapping-sub-u64-requires c κs = search needs
 returns-2 : tie.Need-returns-2
 returns-2 c =
     let a = c .before .before .before .before .before .before .before .args in
-    let e : length (a .words .now) / c .before .before .before .before .entry-words .result ≡ length (a .words .now) / per (a .k) = rw (c .before .before .before .before .entry-words .ensures .0) in
+    let e : length (a .words .now) / c .before .before .before .before .entry-words .result ≡ length (a .words .now) / wordsPerEntry (a .k) = rw (c .before .before .before .before .entry-words .ensures .0) in
     desc-some (a .k) (a .pointer) _ _ (a .words .now) (c .before .before .before .before .before .if1 .left) e
     (neg-law _ (a .pointer) _ _ _ _ _ (c .before .before .sum-of .ensures) (c .before .before .before .wrapping-add-u64 .ensures) (c .before .wrapping-add-u642 .ensures) (c .wrapping-sub-u64 .ensures) (search needs))
 

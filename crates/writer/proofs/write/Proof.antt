@@ -2,8 +2,8 @@ use mathlib.Core.Path.{refl, sym, _∙_}
 use lib.ListN.{length}
 use borrow.Author.Tests.{leb-true, not-true, not-false}
 use Rattle.sections.proofs.Sections.{placed}
-use Rattle.lists.specs.Told.{toldBy}
-use Rattle.writer.specs.Wrote.{answerOf}
+use Rattle.lists.specs.Description.{descriptionOf}
+use Rattle.writer.specs.Wrote.{madeBy}
 use Rattle.writer.specs.declared.Wrote.the-variants.{Place, Edition, Lists, Late, Room}
 use Rattle.writer.proofs.Checks.{w-place, w-edition, w-lists, w-late, w-room, w-made, wrote-not, wrote-page}
 use borrow.Author.Needs.{needs}
@@ -15,22 +15,22 @@ place-ok-requires : tie.Need-place-ok-requires
 place-ok-requires c κs = search needs
 
 returns : tie.Need-returns
-unfolding answerOf
+unfolding madeBy
 returns c =
     let a = c .before .before .before .before .before .before .before .args in
     wrote-not Place 1 (a .page .now) _ refl
-    (w-place (a .base) (length (a .page .now)) (a .edition) (toldBy (a .dram .now) (a .console .now) (a .ncoh .now) (a .coh .now))
+    (w-place (a .base) (length (a .page .now)) (a .edition) (descriptionOf (a .dram .now) (a .console .now) (a .ncoh .now) (a .coh .now))
     (sym (c .before .place-ok .ensures) ∙ not-true _ (c .if1 .taken)))
 
 is-edition-requires : tie.Need-is-edition-requires
 is-edition-requires c κs = search needs
 
 returns-2 : tie.Need-returns-2
-unfolding answerOf
+unfolding madeBy
 returns-2 c =
     let a = c .before .before .before .before .before .before .before .before .before .args in
     wrote-not Edition 2 (a .page .now) _ refl
-    (w-edition (a .base) (length (a .page .now)) (a .edition) (toldBy (a .dram .now) (a .console .now) (a .ncoh .now) (a .coh .now))
+    (w-edition (a .base) (length (a .page .now)) (a .edition) (descriptionOf (a .dram .now) (a .console .now) (a .ncoh .now) (a .coh .now))
     (sym (c .before .before .before .place-ok .ensures) ∙ not-false _ (c .before .before .if1 .left))
     (sym (c .before .is-edition .ensures) ∙ not-true _ (c .if2 .taken)))
 
@@ -38,11 +38,11 @@ lists-ok-requires : tie.Need-lists-ok-requires
 lists-ok-requires c κs = search needs
 
 returns-3 : tie.Need-returns-3
-unfolding answerOf
+unfolding madeBy
 returns-3 c =
     let a = c .before .before .before .before .before .before .before .before .before .before .before .args in
     wrote-not Lists 3 (a .page .now) _ refl
-    (w-lists (a .base) (length (a .page .now)) (a .edition) (toldBy (a .dram .now) (a .console .now) (a .ncoh .now) (a .coh .now))
+    (w-lists (a .base) (length (a .page .now)) (a .edition) (descriptionOf (a .dram .now) (a .console .now) (a .ncoh .now) (a .coh .now))
     (sym (c .before .before .before .before .before .place-ok .ensures) ∙ not-false _ (c .before .before .before .before .if1 .left))
     (sym (c .before .before .before .is-edition .ensures) ∙ not-false _ (c .before .before .if2 .left))
     (sym (c .before .lists-ok .ensures) ∙ not-true _ (c .if3 .taken)))
@@ -51,11 +51,11 @@ none-late-requires : tie.Need-none-late-requires
 none-late-requires c κs = search needs
 
 returns-4 : tie.Need-returns-4
-unfolding answerOf
+unfolding madeBy
 returns-4 c =
     let a = c .before .before .before .before .before .before .before .before .before .before .before .before .before .args in
     wrote-not Late 4 (a .page .now) _ refl
-    (w-late (a .base) (length (a .page .now)) (a .edition) (toldBy (a .dram .now) (a .console .now) (a .ncoh .now) (a .coh .now))
+    (w-late (a .base) (length (a .page .now)) (a .edition) (descriptionOf (a .dram .now) (a .console .now) (a .ncoh .now) (a .coh .now))
     (sym (c .before .before .before .before .before .before .before .place-ok .ensures) ∙ not-false _ (c .before .before .before .before .before .before .if1 .left))
     (sym (c .before .before .before .before .before .is-edition .ensures) ∙ not-false _ (c .before .before .before .before .if2 .left))
     (sym (c .before .before .before .lists-ok .ensures) ∙ not-false _ (c .before .before .if3 .left))
@@ -65,11 +65,11 @@ room-ok-requires : tie.Need-room-ok-requires
 room-ok-requires c κs = search needs
 
 returns-5 : tie.Need-returns-5
-unfolding answerOf
+unfolding madeBy
 returns-5 c =
     let a = c .before .before .before .before .before .before .before .before .before .before .before .before .before .before .before .args in
     wrote-not Room 5 (a .page .now) _ refl
-    (w-room (a .base) (length (a .page .now)) (a .edition) (toldBy (a .dram .now) (a .console .now) (a .ncoh .now) (a .coh .now))
+    (w-room (a .base) (length (a .page .now)) (a .edition) (descriptionOf (a .dram .now) (a .console .now) (a .ncoh .now) (a .coh .now))
     (sym (c .before .before .before .before .before .before .before .before .before .place-ok .ensures) ∙ not-false _ (c .before .before .before .before .before .before .before .before .if1 .left))
     (sym (c .before .before .before .before .before .before .before .is-edition .ensures) ∙ not-false _ (c .before .before .before .before .before .before .if2 .left))
     (sym (c .before .before .before .before .before .lists-ok .ensures) ∙ not-false _ (c .before .before .before .before .if3 .left))
@@ -89,7 +89,7 @@ returns-6 : tie.Need-returns-6
 returns-6 c =
     let a = c .before .before .before .before .before .before .before .before .before .before .before .before .before .before .before .before .before .before .before .args in
     wrote-page (a .page .now) _ _ _
-    (w-made (a .base) (length (a .page .now)) (a .edition) (toldBy (a .dram .now) (a .console .now) (a .ncoh .now) (a .coh .now))
+    (w-made (a .base) (length (a .page .now)) (a .edition) (descriptionOf (a .dram .now) (a .console .now) (a .ncoh .now) (a .coh .now))
     (sym (c .before .before .before .before .before .before .before .before .before .before .before .before .before .place-ok .ensures) ∙ not-false _ (c .before .before .before .before .before .before .before .before .before .before .before .before .if1 .left))
     (sym (c .before .before .before .before .before .before .before .before .before .before .before .is-edition .ensures) ∙ not-false _ (c .before .before .before .before .before .before .before .before .before .before .if2 .left))
     (sym (c .before .before .before .before .before .before .before .before .before .lists-ok .ensures) ∙ not-false _ (c .before .before .before .before .before .before .before .before .if3 .left))

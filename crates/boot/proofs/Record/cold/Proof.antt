@@ -1,7 +1,7 @@
 use mathlib.Core.Path.{sym, ap, _∙_}
 use borrow.Author.Tests.{not-true, not-false}
-use Rattle.reader.specs.Reading.{answerOf}
-use Rattle.boot.specs.Boot.{numberOf, numberIn, kept}
+use Rattle.reader.specs.Reading.{readingAnswer}
+use Rattle.boot.specs.Boot.{bootNumber, numberIn, paramsOf}
 use Rattle.boot.proofs.Booting.{cold-state, cold-version, cold-cpus, cold-cpu, cold-refused, cold-up}
 use borrow.Author.Needs.{needs}
 use Rattle.boot.proofs.Record.cold.Statement.{statement}
@@ -17,7 +17,7 @@ returns : tie.Need-returns
 returns c =
     let a = c .before .before .before .before .args in
     let k = cold-state (a .self) (a .x0) (a .x1) (a .x2) (a .x3) (a .most) (a .page .now) (sym (c .before .before .is-fresh .ensures) ∙ not-true _ (c .before .if1 .taken)) in
-    (ap numberOf (c .failed .ensures .1) ∙ k .0, c .failed .ensures .0 ∙ k .1)
+    (ap bootNumber (c .failed .ensures .1) ∙ k .0, c .failed .ensures .0 ∙ k .1)
 
 is-accepted-requires : tie.Need-is-accepted-requires
 is-accepted-requires c κs = search needs
@@ -29,7 +29,7 @@ returns-2 : tie.Need-returns-2
 returns-2 c =
     let a = c .before .before .before .before .before .before .args in
     let k = cold-version (a .self) (a .x0) (a .x1) (a .x2) (a .x3) (a .most) (a .page .now) (sym (c .before .before .before .before .is-fresh .ensures) ∙ not-false _ (c .before .before .before .if1 .left)) (sym (c .before .before .is-accepted .ensures) ∙ not-true _ (c .before .if2 .taken)) in
-    (ap numberOf (c .failed2 .ensures .1) ∙ k .0, c .failed2 .ensures .0 ∙ k .1)
+    (ap bootNumber (c .failed2 .ensures .1) ∙ k .0, c .failed2 .ensures .0 ∙ k .1)
 
 failed-requires-3 : tie.Need-failed-requires-3
 failed-requires-3 c κs = search needs
@@ -38,7 +38,7 @@ returns-3 : tie.Need-returns-3
 returns-3 c =
     let a = c .before .before .before .before .before .before .before .args in
     let k = cold-cpus (a .self) (a .x0) (a .x1) (a .x2) (a .x3) (a .most) (a .page .now) (sym (c .before .before .before .before .before .is-fresh .ensures) ∙ not-false _ (c .before .before .before .before .if1 .left)) (sym (c .before .before .before .is-accepted .ensures) ∙ not-false _ (c .before .before .if2 .left)) (search needs) in
-    (ap numberOf (c .failed3 .ensures .1) ∙ k .0, c .failed3 .ensures .0 ∙ k .1)
+    (ap bootNumber (c .failed3 .ensures .1) ∙ k .0, c .failed3 .ensures .0 ∙ k .1)
 
 failed-requires-4 : tie.Need-failed-requires-4
 failed-requires-4 c κs = search needs
@@ -47,7 +47,7 @@ returns-4 : tie.Need-returns-4
 returns-4 c =
     let a = c .before .before .before .before .before .before .before .before .args in
     let k = cold-cpu (a .self) (a .x0) (a .x1) (a .x2) (a .x3) (a .most) (a .page .now) (sym (c .before .before .before .before .before .before .is-fresh .ensures) ∙ not-false _ (c .before .before .before .before .before .if1 .left)) (sym (c .before .before .before .before .is-accepted .ensures) ∙ not-false _ (c .before .before .before .if2 .left)) (search needs) (search needs) in
-    (ap numberOf (c .failed4 .ensures .1) ∙ k .0, c .failed4 .ensures .0 ∙ k .1)
+    (ap bootNumber (c .failed4 .ensures .1) ∙ k .0, c .failed4 .ensures .0 ∙ k .1)
 
 read-requires : tie.Need-read-requires
 read-requires c κs = search needs
@@ -69,18 +69,18 @@ unfolding numberIn
 returns-5 c =
     let a = c .before .before .before .before .before .before .before .before .before .before .before .before .args in
     let g = c .before .before .enum-told2 .given in
-    let k = cold-refused (a .self) (a .x0) (a .x1) (a .x2) (a .x3) (a .most) (a .page .now) (sym (c .before .before .before .before .before .before .before .before .before .before .is-fresh .ensures) ∙ not-false _ (c .before .before .before .before .before .before .before .before .before .if1 .left)) (sym (c .before .before .before .before .before .before .before .before .is-accepted .ensures) ∙ not-false _ (c .before .before .before .before .before .before .before .if2 .left)) (search needs) (search needs) (g .0 .0) (sym (ap (answerOf (a .page .now)) (g .1)) ∙ c .before .before .before .before .read .ensures .0) in
-    (ap numberOf (c .failed5 .ensures .1) ∙ c .before .code-of .ensures ∙ ap numberIn (g .1) ∙ k .0, c .failed5 .ensures .0 ∙ k .1)
+    let k = cold-refused (a .self) (a .x0) (a .x1) (a .x2) (a .x3) (a .most) (a .page .now) (sym (c .before .before .before .before .before .before .before .before .before .before .is-fresh .ensures) ∙ not-false _ (c .before .before .before .before .before .before .before .before .before .if1 .left)) (sym (c .before .before .before .before .before .before .before .before .is-accepted .ensures) ∙ not-false _ (c .before .before .before .before .before .before .before .if2 .left)) (search needs) (search needs) (g .0 .0) (sym (ap (readingAnswer (a .page .now)) (g .1)) ∙ c .before .before .before .before .read .ensures .0) in
+    (ap bootNumber (c .failed5 .ensures .1) ∙ c .before .code-of .ensures ∙ ap numberIn (g .1) ∙ k .0, c .failed5 .ensures .0 ∙ k .1)
 
 agreed-minor-requires : tie.Need-agreed-minor-requires
 agreed-minor-requires c κs = search needs
 
 returns-6 : tie.Need-returns-6
-unfolding kept
+unfolding paramsOf
 returns-6 c =
     let a = c .before .before .before .before .before .before .before .before .before .before .before .args in
     let g = c .before .enum-told .given in
-    let k = cold-up (a .self) (a .x0) (a .x1) (a .x2) (a .x3) (a .most) (a .page .now) (sym (c .before .before .before .before .before .before .before .before .before .is-fresh .ensures) ∙ not-false _ (c .before .before .before .before .before .before .before .before .if1 .left)) (sym (c .before .before .before .before .before .before .before .is-accepted .ensures) ∙ not-false _ (c .before .before .before .before .before .before .if2 .left)) (search needs) (search needs) (g .0 .0) (sym (ap (answerOf (a .page .now)) (g .1)) ∙ c .before .before .before .read .ensures .0) in
+    let k = cold-up (a .self) (a .x0) (a .x1) (a .x2) (a .x3) (a .most) (a .page .now) (sym (c .before .before .before .before .before .before .before .before .before .is-fresh .ensures) ∙ not-false _ (c .before .before .before .before .before .before .before .before .if1 .left)) (sym (c .before .before .before .before .before .before .before .is-accepted .ensures) ∙ not-false _ (c .before .before .before .before .before .before .if2 .left)) (search needs) (search needs) (g .0 .0) (sym (ap (readingAnswer (a .page .now)) (g .1)) ∙ c .before .before .before .read .ensures .0) in
     (k .0, rw (c .agreed-minor .ensures .0) (k .1))
 
 pub cold-spec : {M : Type 1} → statement M

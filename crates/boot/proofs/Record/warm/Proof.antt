@@ -1,5 +1,5 @@
 use mathlib.Core.Path.{sym, ap, _∙_}
-use Rattle.boot.specs.Boot.{numberOf, after, warmCode, warmNext}
+use Rattle.boot.specs.Boot.{bootNumber, after, warmCode, warmNext}
 use borrow.Author.Needs.{needs}
 use Rattle.boot.proofs.Record.warm.Statement.{statement}
 use Rattle.boot.proofs.Record.warm.Tie as tie
@@ -27,7 +27,7 @@ unfolding warmCode warmNext after
 returns c =
     let a = c .before .before .before .args in
     let t = c .before .enum-told .given .1 in
-    (ap numberOf (c .failed .ensures .1) ∙ sym (ap (λ s. warmCode s (a .x0)) t), c .failed .ensures .0 ∙ sym (ap (λ s. warmNext s (a .x0)) t))
+    (ap bootNumber (c .failed .ensures .1) ∙ sym (ap (λ s. warmCode s (a .x0)) t), c .failed .ensures .0 ∙ sym (ap (λ s. warmNext s (a .x0)) t))
 
 returns-2 : tie.Need-returns-2
 unfolding warmCode warmNext after
@@ -41,7 +41,7 @@ unfolding warmCode warmNext after
 returns-3 c =
     let a = c .before .before .before .args in
     let t = c .before .enum-told2 .given .1 in
-    (ap numberOf (c .failed2 .ensures .1) ∙ sym (ap (λ s. warmCode s (a .x0)) t), c .failed2 .ensures .0 ∙ sym (ap (λ s. warmNext s (a .x0)) t))
+    (ap bootNumber (c .failed2 .ensures .1) ∙ sym (ap (λ s. warmCode s (a .x0)) t), c .failed2 .ensures .0 ∙ sym (ap (λ s. warmNext s (a .x0)) t))
 
 pub warm-spec : {M : Type 1} → statement M
 warm-spec =
