@@ -10,18 +10,14 @@ use Rattle.words.proofs.Tests.{both-r}
 use Rattle.boot.specs.declared.Record.{Record}
 use Rattle.codes.specs.Codes.{isUp, unless, fails, whenUp, isOk, answerOf}
 use Rattle.codes.specs.declared.Code.the-variants.{Ok, Unk, BadAddr, BadPas}
-use Rattle.granules.specs.Granules.{granuleOf, falls, granuleAt, moveCode, moved, Moved, moveOf}
+use Rattle.granules.specs.Granules.{granuleOf, falls, granuleAt, GranuleTable, fromByte, toByte, granuleCode, moveCode, granuleSet, moved, movedBy, moveOf, movedTo}
 use Rattle.granules.specs.declared.Granules.{Granules}
 use Rattle.granules.specs.declared.Granule.{Granule}
 use Rattle.granules.specs.declared.Granule.the-variants.{Nothing, At}
+use Rattle.granules.specs.declared.Direction.{Direction}
 
 pick : Bool → ℕ → Granule
 pick b i = cond b (At i) Nothing
-
-pick-none : (b : Bool) (i : ℕ) → pick b i ≡ Nothing → b ≡ false
-unfolding pick
-pick-none true i h = let z : _≡_ {A = ℕ} 0 1 = cc in absurd (omega arith)
-pick-none false i h = refl
 
 pick-at : (b : Bool) (i j : ℕ) → pick b i ≡ At j → (b ≡ true) × (j ≡ i)
 unfolding pick
@@ -29,41 +25,36 @@ pick-at true i j h = (refl, cc)
 pick-at false i j h = let z : _≡_ {A = ℕ} 0 1 = cc in absurd (omega arith)
 
 module _ (g : Granules) (n addr : ℕ) where
-  -- all that the rest asks of the granule record
-  pub falls-in : falls g n addr ≡ true → granuleOf g addr < n
-  unfolding falls
-  falls-in h = ltb-true _ _ (both-r _ _ (both-r _ _ (both-r _ _ h)))
-
-  pub granule-none : granuleAt g n addr ≡ Nothing → falls g n addr ≡ false
-  unfolding granuleAt pick
-  granule-none h = pick-none (falls g n addr) (granuleOf g addr) h
-
   pub granule-at : (i : ℕ) → granuleAt g n addr ≡ At i → (falls g n addr ≡ true) × (i ≡ granuleOf g addr)
   unfolding granuleAt pick
   granule-at i h = pick-at (falls g n addr) (granuleOf g addr) i h
 
-module _ (s : Record) (g : Granules) (t : List ℕ) (addr from to : ℕ) where
-  pub move-down : isUp s ≡ false → _≡_ {A = Moved} (record { answer = answerOf Unk 0 0; table = t }) (moveOf s g t addr from to)
-  unfolding moveOf whenUp unless fails
+  -- what the rest asks of the granule record: a granule of the table is below its length
+  pub granule-in : (i : ℕ) → granuleAt g n addr ≡ At i → i < n
+  unfolding falls
+  granule-in i h = let p = granule-at i h in rw (p .1) (ltb-true _ _ (both-r _ _ (both-r _ _ (both-r _ _ (p .0)))))
+
+module _ (s : Record) (g : Granules) (d : Direction) (t : List ℕ) (addr : ℕ) where
+  pub move-down : isUp s ≡ false → movedTo (answerOf Unk 0 0) t ≡ moveOf s g d (record { bytes = t }) addr
+  unfolding movedTo moveOf movedBy whenUp unless fails
   move-down h = rw h
 
   module _ (h : isUp s ≡ true) where
-    pub move-addr : falls g (length t) addr ≡ false → _≡_ {A = Moved} (record { answer = answerOf BadAddr 0 0; table = t }) (moveOf s g t addr from to)
-    unfolding moveOf moveCode whenUp unless fails
-    move-addr f = rw (h, f)
+    pub move-addr : granuleAt g (length t) addr ≡ Nothing → movedTo (answerOf BadAddr 0 0) t ≡ moveOf s g d (record { bytes = t }) addr
+    unfolding movedTo moveOf movedBy moveCode granuleCode moved granuleSet whenUp unless fails
+    move-addr e = rw (h, e)
 
-    module _ (f : falls g (length t) addr ≡ true) where
-      pub move-pas : (getD t (granuleOf g addr) 0 ≡ from → ⊥) → _≡_ {A = Moved} (record { answer = answerOf BadPas 0 0; table = t }) (moveOf s g t addr from to)
-      unfolding moveOf moveCode whenUp unless fails
-      move-pas n = rw (h, f, ne-eqb (getD t (granuleOf g addr) 0) from n)
+    module _ (i : ℕ) (e : granuleAt g (length t) addr ≡ At i) where
+      pub move-pas : (getD t i 0 ≡ fromByte d → ⊥) → movedTo (answerOf BadPas 0 0) t ≡ moveOf s g d (record { bytes = t }) addr
+      unfolding movedTo moveOf movedBy moveCode granuleCode moved granuleSet whenUp unless fails
+      move-pas n = rw (h, e, ne-eqb (getD t i 0) (fromByte d) n)
 
-      pub move-ok : getD t (granuleOf g addr) 0 ≡ from →
-          _≡_ {A = Moved} (record { answer = answerOf Ok 0 0; table = set t (granuleOf g addr) to }) (moveOf s g t addr from to)
-      unfolding moveOf moveCode moved whenUp unless fails
-      move-ok e = rw (h, f, eq-eqb (getD t (granuleOf g addr) 0) from e)
+      pub move-ok : getD t i 0 ≡ fromByte d → movedTo (answerOf Ok 0 0) (set t i (toByte d)) ≡ moveOf s g d (record { bytes = t }) addr
+      unfolding movedTo moveOf movedBy moveCode granuleCode moved granuleSet whenUp unless fails
+      move-ok b = rw (h, e, eq-eqb (getD t i 0) (fromByte d) b)
 
 -- a refused move leaves the table as it was, with zeros in the other registers
-pub move-refused : (s : Record) (g : Granules) (t : List ℕ) (addr from to : ℕ) → isOk (moveOf s g t addr from to .answer .code) ≡ false →
-    moveOf s g t addr from to ≡ record { answer = answerOf (moveOf s g t addr from to .answer .code) 0 0; table = t }
-unfolding moveOf answerOf
-move-refused s g t addr from to h = rw h
+pub move-refused : (s : Record) (g : Granules) (d : Direction) (t : GranuleTable) (addr : ℕ) → isOk (moveOf s g d t addr .answer .code) ≡ false →
+    moveOf s g d t addr ≡ record { answer = answerOf (moveOf s g d t addr .answer .code) 0 0; table = t }
+unfolding moveOf movedBy answerOf
+move-refused s g d t addr h = rw h

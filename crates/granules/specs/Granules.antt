@@ -6,51 +6,79 @@ use mathlib.Core.List.{List}
 use lib.ListN.{length, getD, set}
 use lib.Dec.{leb, ltb, eqb}
 use Rattle.words.specs.Tests.{both}
+use Rattle.boot.specs.declared.Params.{Params}
 use Rattle.boot.specs.declared.Record.{Record}
-use Rattle.codes.specs.Codes.{unless, fails, whenUp, ifOk, answerOf}
+use Rattle.codes.specs.Codes.{unless, fails, upOf, whenUp, ifOk, answerOf}
 use Rattle.codes.specs.declared.Code.{Code}
 use Rattle.codes.specs.declared.Code.the-variants.{Ok, BadAddr, BadPas}
 use Rattle.codes.specs.declared.Answer.{Answer}
 use Rattle.granules.specs.declared.Granules.{Granules}
 use Rattle.granules.specs.declared.Granule.{Granule}
 use Rattle.granules.specs.declared.Granule.the-variants.{Nothing, At}
+use Rattle.granules.specs.declared.Direction.{Direction}
+use Rattle.granules.specs.declared.Direction.the-variants.{Delegate, Undelegate}
 
--- the granule that an address falls on, and whether it falls on one of a table of n: "G and the address are multiples of 4,096
--- and the address falls on a granule of the table"
+-- ---- the granule that an address falls on
+-- "G and the address are multiples of 4,096 and the address falls on a granule of the table", which has n
 unfoldable pub granuleOf : Granules → ℕ → ℕ
 granuleOf g addr = (addr - g .start) / 4096
 
 unfoldable pub falls : Granules → ℕ → ℕ → Bool
 falls g n addr = both (eqb (g .start % 4096) 0) (both (eqb (addr % 4096) 0) (both (leb (g .start) addr) (ltb (granuleOf g addr) n)))
 
+-- both in one: nothing else asks for either
 unfoldable pub granuleAt : Granules → ℕ → ℕ → Granule
 granuleAt g n addr = cond (falls g n addr) (At (granuleOf g addr)) Nothing
 
--- "BAD_ADDR unless .. the address falls on a granule of the table. BAD_PAS unless that byte is 0 (delegate) or 1 (undelegate)."
-unfoldable pub moveCode : Granules → List ℕ → ℕ → ℕ → Code
-moveCode g t addr from =
-    fails (unless (falls g (length t) addr)) BadAddr
-    (fails (unless (eqb (getD t (granuleOf g addr) 0) from)) BadPas
-    Ok)
+-- ---- what delegation changes: the table's bytes
+pub record GranuleTable : Type 0 where
+  pub bytes : List ℕ
+
+-- ---- a call
+-- the byte that a granule must have: "0 (delegate) or 1 (undelegate)"
+unfoldable pub fromByte : Direction → ℕ
+fromByte Delegate = 0
+fromByte Undelegate = 1
 
 -- "Then it becomes 1 or 0."
-unfoldable pub moved : Granules → List ℕ → ℕ → ℕ → List ℕ
-moved g t addr to = set t (granuleOf g addr) to
+unfoldable pub toByte : Direction → ℕ
+toByte Delegate = 1
+toByte Undelegate = 0
+
+-- "BAD_ADDR unless .. the address falls on a granule of the table. BAD_PAS unless that byte is 0 (delegate) or 1 (undelegate).", u
+-- being what the boot record keeps
+unfoldable pub granuleCode : Params → Direction → GranuleTable → ℕ → Granule → Code
+granuleCode u d t addr Nothing = BadAddr
+granuleCode u d t addr (At i) = fails (unless (eqb (getD (t .bytes) i 0) (fromByte d))) BadPas Ok
+
+unfoldable pub moveCode : Params → Granules → Direction → GranuleTable → ℕ → Code
+moveCode u g d t addr = granuleCode u d t addr (granuleAt g (length (t .bytes)) addr)
+
+-- the table with that granule's byte set
+unfoldable pub granuleSet : Direction → GranuleTable → Granule → GranuleTable
+granuleSet d t Nothing = t
+granuleSet d t (At i) = record { bytes = set (t .bytes) i (toByte d) }
+
+unfoldable pub moved : Granules → Direction → GranuleTable → ℕ → GranuleTable
+moved g d t addr = granuleSet d t (granuleAt g (length (t .bytes)) addr)
 
 -- the answer, and the table at exit
 pub record Moved : Type 0 where
   pub answer : Answer
-  pub table : List ℕ
+  pub table : GranuleTable
 
-unfoldable pub moveOf : Record → Granules → List ℕ → ℕ → ℕ → ℕ → Moved
-moveOf s g t addr from to =
-    record {
-      answer = answerOf (whenUp s (moveCode g t addr from)) 0 0;
-      table = ifOk (whenUp s (moveCode g t addr from)) (moved g t addr to) t;
-    }
+unfoldable pub movedBy : Code → GranuleTable → GranuleTable → Moved
+movedBy k new old = record { answer = answerOf k 0 0; table = ifOk k new old }
 
-abbrev pub delegateOf : Record → Granules → List ℕ → ℕ → Moved
-delegateOf s g t addr = moveOf s g t addr 0 1
+unfoldable pub moveOf : Record → Granules → Direction → GranuleTable → ℕ → Moved
+moveOf s g d t addr = movedBy (whenUp s (moveCode (upOf s) g d t addr)) (moved g d t addr) t
 
-abbrev pub undelegateOf : Record → Granules → List ℕ → ℕ → Moved
-undelegateOf s g t addr = moveOf s g t addr 1 0
+abbrev pub delegateOf : Record → Granules → GranuleTable → ℕ → Moved
+delegateOf s g t addr = moveOf s g Delegate t addr
+
+abbrev pub undelegateOf : Record → Granules → GranuleTable → ℕ → Moved
+undelegateOf s g t addr = moveOf s g Undelegate t addr
+
+-- what a call promises of the lent bytes
+unfoldable pub movedTo : Answer → List ℕ → Moved
+movedTo a bytes = record { answer = a; table = record { bytes = bytes } }

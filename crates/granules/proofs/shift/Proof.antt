@@ -1,9 +1,9 @@
 use mathlib.Core.Path.{sym, _∙_}
 use lib.ListN.{length}
 use borrow.Author.Tests.{not-true, not-false}
-use Rattle.granules.proofs.Moving.{falls-in, granule-none, granule-at, move-down, move-addr, move-pas, move-ok}
-use borrow.Author.Needs.{needs}
 use native.Mathlib.Omega.{arith}
+use Rattle.granules.proofs.Moving.{granule-in, move-down, move-addr, move-pas, move-ok}
+use borrow.Author.Needs.{needs}
 use Rattle.granules.proofs.shift.Statement.{statement}
 use Rattle.granules.proofs.shift.Tie as tie
 
@@ -14,7 +14,9 @@ answered-requires : tie.Need-answered-requires
 answered-requires c κs = search needs
 
 returns : tie.Need-returns
-returns c = let a = c .before .before .before .before .args in rw (c .answered .ensures) (move-down (a .state) (a .granules) (a .table .now) (a .address) (a .from) (a .to) (sym (c .before .before .is-up .ensures) ∙ not-true _ (c .before .if1 .taken)))
+returns c =
+    let a = c .before .before .before .before .args in
+    rw (c .answered .ensures) (move-down (a .state) (a .granules) (a .direction) (a .table .now) (a .address) (sym (c .before .before .is-up .ensures) ∙ not-true _ (c .before .if1 .taken)))
 
 granule-of-requires : tie.Need-granule-of-requires
 granule-of-requires c κs = search needs
@@ -31,28 +33,31 @@ answered-requires-2 c κs = search needs
 returns-2 : tie.Need-returns-2
 returns-2 c =
     let a = c .before .before .before .before .before .before .before .args in
-    rw (c .answered2 .ensures) (move-addr (a .state) (a .granules) (a .table .now) (a .address) (a .from) (a .to) (sym (c .before .before .before .before .before .is-up .ensures) ∙ not-false _ (c .before .before .before .before .if1 .left)) (granule-none (a .granules) (length (a .table .now)) (a .address) (sym (c .before .before .before .granule-of .ensures) ∙ c .before .enum-told .given .1)))
+    rw (c .answered2 .ensures) (move-addr (a .state) (a .granules) (a .direction) (a .table .now) (a .address) (sym (c .before .before .before .before .before .is-up .ensures) ∙ not-false _ (c .before .before .before .before .if1 .left)) (sym (c .before .before .before .granule-of .ensures) ∙ c .before .enum-told .given .1))
+
+from-byte-requires : tie.Need-from-byte-requires
+from-byte-requires c κs = search needs
+
+to-byte-requires : tie.Need-to-byte-requires
+to-byte-requires c κs = search needs
 
 slice-read-held : tie.Need-slice-read-held
 slice-read-held c =
-    let a = c .before .before .before .before .before .before .before .before .args in
-    let p = granule-at (a .granules) (length (a .table .now)) (a .address) _ (sym (c .before .before .before .before .granule-of .ensures) ∙ c .before .before .granule .given .1) in
-    omega (arith, p .1, falls-in (a .granules) (length (a .table .now)) (a .address) (p .0))
+    let a = c .before .before .before .before .before .before .before .before .before .before .args in
+    omega (arith, granule-in (a .granules) (length (a .table .now)) (a .address) _ (sym (c .before .before .before .before .before .before .granule-of .ensures) ∙ c .before .before .before .before .granule .given .1))
 
 answered-requires-3 : tie.Need-answered-requires-3
 answered-requires-3 c κs = search needs
 
 returns-3 : tie.Need-returns-3
 returns-3 c =
-    let a = c .before .before .before .before .before .before .before .before .before .before .args in
-    let p = granule-at (a .granules) (length (a .table .now)) (a .address) _ (sym (c .before .before .before .before .before .before .granule-of .ensures) ∙ c .before .before .before .before .granule .given .1) in
-    rw (c .answered3 .ensures) (move-pas (a .state) (a .granules) (a .table .now) (a .address) (a .from) (a .to) (sym (c .before .before .before .before .before .before .before .before .is-up .ensures) ∙ not-false _ (c .before .before .before .before .before .before .before .if1 .left)) (p .0) (rw (← p .1) (c .before .if2 .taken)))
+    let a = c .before .before .before .before .before .before .before .before .before .before .before .before .args in
+    rw (c .answered3 .ensures) (move-pas (a .state) (a .granules) (a .direction) (a .table .now) (a .address) (sym (c .before .before .before .before .before .before .before .before .before .before .is-up .ensures) ∙ not-false _ (c .before .before .before .before .before .before .before .before .before .if1 .left)) _ (sym (c .before .before .before .before .before .before .before .before .granule-of .ensures) ∙ c .before .before .before .before .before .before .granule .given .1) (rw (← c .before .before .before .before .from-byte .ensures) (c .before .if2 .taken)))
 
 slice-write-table : tie.Need-slice-write-table
 slice-write-table c =
-    let a = c .before .before .before .before .before .before .before .before .before .args in
-    let p = granule-at (a .granules) (length (a .table .now)) (a .address) _ (sym (c .before .before .before .before .before .granule-of .ensures) ∙ c .before .before .before .granule .given .1) in
-    omega (arith, p .1, falls-in (a .granules) (length (a .table .now)) (a .address) (p .0))
+    let a = c .before .before .before .before .before .before .before .before .before .before .before .args in
+    omega (arith, granule-in (a .granules) (length (a .table .now)) (a .address) _ (sym (c .before .before .before .before .before .before .before .granule-of .ensures) ∙ c .before .before .before .before .before .granule .given .1))
 
 answered-requires-4 : tie.Need-answered-requires-4
 answered-requires-4 c κs = search needs
@@ -62,9 +67,8 @@ same-length c = search needs
 
 returns-4 : tie.Need-returns-4
 returns-4 c =
-    let a = c .before .before .before .before .before .before .before .before .before .before .args in
-    let p = granule-at (a .granules) (length (a .table .now)) (a .address) _ (sym (c .before .before .before .before .before .before .granule-of .ensures) ∙ c .before .before .before .before .granule .given .1) in
-    rw (c .answered4 .ensures, p .1) (move-ok (a .state) (a .granules) (a .table .now) (a .address) (a .from) (a .to) (sym (c .before .before .before .before .before .before .before .before .is-up .ensures) ∙ not-false _ (c .before .before .before .before .before .before .before .if1 .left)) (p .0) (rw (← p .1) (c .before .if2 .left)))
+    let a = c .before .before .before .before .before .before .before .before .before .before .before .before .args in
+    rw (c .answered4 .ensures, c .before .before .before .to-byte .ensures) (move-ok (a .state) (a .granules) (a .direction) (a .table .now) (a .address) (sym (c .before .before .before .before .before .before .before .before .before .before .is-up .ensures) ∙ not-false _ (c .before .before .before .before .before .before .before .before .before .if1 .left)) _ (sym (c .before .before .before .before .before .before .before .before .granule-of .ensures) ∙ c .before .before .before .before .before .before .granule .given .1) (c .before .if2 .left ∙ c .before .before .before .before .from-byte .ensures))
 
 pub shift-spec : {M : Type 1} → statement M
 shift-spec =
@@ -78,6 +82,8 @@ shift-spec =
     enum-told
     answered-requires-2
     returns-2
+    from-byte-requires
+    to-byte-requires
     slice-read-held
     answered-requires-3
     returns-3
