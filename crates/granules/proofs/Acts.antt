@@ -52,7 +52,7 @@ module _ (g : Granules) (n i : ℕ) where
 pub move-passes : (s : Record) (g : Granules) (d : Direction) (t : GranuleTable) (addr i : ℕ) → isUp s ≡ true → granuleAt g (length (t .bytes)) addr ≡ At i → getD (t .bytes) i 0 ≡ fromByte d →
     moveOf s g d t addr .answer ≡ answerOf Ok 0 0
 unfolding movedTo
-move-passes s g d t addr i u e b = ap (λ (m : Moved). m .answer) (sym (move-ok s g d (t .bytes) addr u i e b))
+move-passes s g d t addr i u e b = ap (λ (m : Moved). m .answer) (sym (move-ok s g d (t .bytes) addr u i e b (toByte d) refl))
 
 -- what an OK did: the granule is the address's own, its byte was the one that it must have and is the one that it gets, and every
 -- other byte is as it was

@@ -49,9 +49,9 @@ module _ (s : Record) (g : Granules) (d : Direction) (t : List ℕ) (addr : ℕ)
       unfolding movedTo moveOf movedBy moveCode granuleCode moved granuleSet whenUp unless fails
       move-pas n = rw (h, e, ne-eqb (getD t i 0) (fromByte d) n)
 
-      pub move-ok : getD t i 0 ≡ fromByte d → movedTo (answerOf Ok 0 0) (set t i (toByte d)) ≡ moveOf s g d (record { bytes = t }) addr
+      pub move-ok : getD t i 0 ≡ fromByte d → (v : ℕ) → v ≡ toByte d → movedTo (answerOf Ok 0 0) (set t i v) ≡ moveOf s g d (record { bytes = t }) addr
       unfolding movedTo moveOf movedBy moveCode granuleCode moved granuleSet whenUp unless fails
-      move-ok b = rw (h, e, eq-eqb (getD t i 0) (fromByte d) b)
+      move-ok b v y = rw (h, e, eq-eqb (getD t i 0) (fromByte d) b, y)
 
 -- a refused move leaves the table as it was, with zeros in the other registers
 pub move-refused : (s : Record) (g : Granules) (d : Direction) (t : GranuleTable) (addr : ℕ) → isOk (moveOf s g d t addr .answer .code) ≡ false →
