@@ -68,7 +68,7 @@ same-length c = search needs
 returns-4 : tie.Need-returns-4
 returns-4 c =
     let a = c .before .before .before .before .before .before .before .before .before .before .before .before .args in
-    rw (c .answered4 .ensures, c .before .before .before .to-byte .ensures) (move-ok (a .state) (a .granules) (a .direction) (a .table .now) (a .address) (sym (c .before .before .before .before .before .before .before .before .before .before .is-up .ensures) ∙ not-false _ (c .before .before .before .before .before .before .before .before .before .if1 .left)) _ (sym (c .before .before .before .before .before .before .before .before .granule-of .ensures) ∙ c .before .before .before .before .before .before .granule .given .1) (c .before .if2 .left ∙ c .before .before .before .before .from-byte .ensures))
+    rw (c .answered4 .ensures) (move-ok (a .state) (a .granules) (a .direction) (a .table .now) (a .address) (sym (c .before .before .before .before .before .before .before .before .before .before .is-up .ensures) ∙ not-false _ (c .before .before .before .before .before .before .before .before .before .if1 .left)) _ (sym (c .before .before .before .before .before .before .before .before .granule-of .ensures) ∙ c .before .before .before .before .before .before .granule .given .1) (c .before .if2 .left ∙ c .before .before .before .before .from-byte .ensures) _ (c .before .before .before .to-byte .ensures))
 
 pub shift-spec : {M : Type 1} → statement M
 shift-spec =
