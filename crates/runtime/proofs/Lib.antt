@@ -1,3 +1,4 @@
+pub mod Plain
 pub mod Refused
 pub mod Sessions
 pub mod Order

@@ -6,7 +6,6 @@ use mathlib.Core.List.{List, [], _∷_, _++_, append-assoc, append-nil, map, map
 use lib.ListN.{length, take, drop, take-append-drop}
 use lib.Dec.{eqb}
 use Rattle.words.specs.Word.{part}
-use Rattle.boot.specs.declared.Record.{Record}
 use Rattle.range.specs.Range.{placeOf}
 use Rattle.codes.specs.Codes.{isOk, upOf, whenUp, answerOf}
 use Rattle.codes.proofs.Gates.{fails-ok}
@@ -24,7 +23,7 @@ use Rattle.signing.specs.declared.Opcode.the-variants.{Push, Pull, Key, Other}
 use Rattle.runtime.specs.declared.Kind.{Kind}
 use Rattle.runtime.specs.declared.Kind.the-variants.{ForwardError, Delegate, Undelegate, RealmKey, PlatformToken, Features, TokenSigning, KeyUpdate, Unlisted}
 use Rattle.runtime.specs.Step.{World, Call, Command, call, sign, kindOf, afterMove, afterKey, afterToken, afterSigning, afterUpdate, afterSign, callBy, callOf, stepOf, replyCode}
-use Rattle.runtime.specs.Run.{nextOf, accepted, worldAfter, gathered, ofSigning, ofPush, ofPull, pushes, pulls, signs, makes}
+use Rattle.runtime.specs.Run.{nextOf, accepted, worldAfter, gathered, ofSigning, ofPush, ofPull, pushes, pulls, signs, makes, asks, gives, names}
 
 none : {A : Type 0} (b : Bool) (l : List A) → l ++ cond b [] [] ≡ l
 none true l = append-nil l
@@ -63,32 +62,32 @@ module _ (at size : ℕ) (page : List ℕ) (q : Lists) (key : List ℕ) where
   op-responses Again o = refl
 
 -- ---- one call
-module _ (r : Record) (g : Granules) (w : World) (c : Call) where
+module _ (g : Granules) (w : World) (c : Call) where
   call-requests : (k : Kind) →
-      w .queue .requests ++ cond (isOk (replyCode (callBy k r g w c .reply))) (ofSigning k (ofPush (opcodeOf (c .x1)) (requestOf (part (placeOf (upOf r) (c .x2)) (c .x3) (w .page)) ∷ []))) [] ≡ callBy k r g w c .next .queue .requests
+      w .queue .requests ++ cond (isOk (replyCode (callBy k g w c .reply))) (ofSigning k (ofPush (opcodeOf (c .x1)) (requestOf (part (placeOf (upOf (c .state)) (c .x2)) (c .x3) (w .page)) ∷ []))) [] ≡ callBy k g w c .next .queue .requests
   unfolding callBy afterMove afterKey afterToken afterSigning afterUpdate replyCode signingOf
   call-requests ForwardError = append-nil (w .queue .requests)
-  call-requests Delegate = none (isOk (replyCode (callBy Delegate r g w c .reply))) (w .queue .requests)
-  call-requests Undelegate = none (isOk (replyCode (callBy Undelegate r g w c .reply))) (w .queue .requests)
-  call-requests RealmKey = none (isOk (replyCode (callBy RealmKey r g w c .reply))) (w .queue .requests)
-  call-requests PlatformToken = none (isOk (replyCode (callBy PlatformToken r g w c .reply))) (w .queue .requests)
-  call-requests Features = none (isOk (replyCode (callBy Features r g w c .reply))) (w .queue .requests)
-  call-requests TokenSigning = op-requests (placeOf (upOf r) (c .x2)) (c .x3) (w .page) (w .queue) (c .publicKey) _ (opcodeOf (c .x1))
-  call-requests KeyUpdate = none (isOk (replyCode (callBy KeyUpdate r g w c .reply))) (w .queue .requests)
-  call-requests Unlisted = none (isOk (replyCode (callBy Unlisted r g w c .reply))) (w .queue .requests)
+  call-requests Delegate = none (isOk (replyCode (callBy Delegate g w c .reply))) (w .queue .requests)
+  call-requests Undelegate = none (isOk (replyCode (callBy Undelegate g w c .reply))) (w .queue .requests)
+  call-requests RealmKey = none (isOk (replyCode (callBy RealmKey g w c .reply))) (w .queue .requests)
+  call-requests PlatformToken = none (isOk (replyCode (callBy PlatformToken g w c .reply))) (w .queue .requests)
+  call-requests Features = none (isOk (replyCode (callBy Features g w c .reply))) (w .queue .requests)
+  call-requests TokenSigning = op-requests (placeOf (upOf (c .state)) (c .x2)) (c .x3) (w .page) (w .queue) (c .publicKey) _ (opcodeOf (c .x1))
+  call-requests KeyUpdate = none (isOk (replyCode (callBy KeyUpdate g w c .reply))) (w .queue .requests)
+  call-requests Unlisted = none (isOk (replyCode (callBy Unlisted g w c .reply))) (w .queue .requests)
 
   call-responses : (k : Kind) →
-      w .queue .responses ≡ cond (isOk (replyCode (callBy k r g w c .reply))) (ofSigning k (ofPull (opcodeOf (c .x1)) (take 1 (w .queue .responses)))) [] ++ callBy k r g w c .next .queue .responses
+      w .queue .responses ≡ cond (isOk (replyCode (callBy k g w c .reply))) (ofSigning k (ofPull (opcodeOf (c .x1)) (take 1 (w .queue .responses)))) [] ++ callBy k g w c .next .queue .responses
   unfolding callBy afterMove afterKey afterToken afterSigning afterUpdate replyCode signingOf
   call-responses ForwardError = refl
-  call-responses Delegate = nothing (isOk (replyCode (callBy Delegate r g w c .reply))) (w .queue .responses)
-  call-responses Undelegate = nothing (isOk (replyCode (callBy Undelegate r g w c .reply))) (w .queue .responses)
-  call-responses RealmKey = nothing (isOk (replyCode (callBy RealmKey r g w c .reply))) (w .queue .responses)
-  call-responses PlatformToken = nothing (isOk (replyCode (callBy PlatformToken r g w c .reply))) (w .queue .responses)
-  call-responses Features = nothing (isOk (replyCode (callBy Features r g w c .reply))) (w .queue .responses)
-  call-responses TokenSigning = op-responses (placeOf (upOf r) (c .x2)) (c .x3) (w .page) (w .queue) (c .publicKey) _ (opcodeOf (c .x1))
-  call-responses KeyUpdate = nothing (isOk (replyCode (callBy KeyUpdate r g w c .reply))) (w .queue .responses)
-  call-responses Unlisted = nothing (isOk (replyCode (callBy Unlisted r g w c .reply))) (w .queue .responses)
+  call-responses Delegate = nothing (isOk (replyCode (callBy Delegate g w c .reply))) (w .queue .responses)
+  call-responses Undelegate = nothing (isOk (replyCode (callBy Undelegate g w c .reply))) (w .queue .responses)
+  call-responses RealmKey = nothing (isOk (replyCode (callBy RealmKey g w c .reply))) (w .queue .responses)
+  call-responses PlatformToken = nothing (isOk (replyCode (callBy PlatformToken g w c .reply))) (w .queue .responses)
+  call-responses Features = nothing (isOk (replyCode (callBy Features g w c .reply))) (w .queue .responses)
+  call-responses TokenSigning = op-responses (placeOf (upOf (c .state)) (c .x2)) (c .x3) (w .page) (w .queue) (c .publicKey) _ (opcodeOf (c .x1))
+  call-responses KeyUpdate = nothing (isOk (replyCode (callBy KeyUpdate g w c .reply))) (w .queue .responses)
+  call-responses Unlisted = nothing (isOk (replyCode (callBy Unlisted g w c .reply))) (w .queue .responses)
 
 -- ---- one step of the signer
 first : (s : List ℕ) (l : List Request) → eqb (length l) 0 ≡ false → map (λ (x : Request). signedBy x s) (take 1 l) ≡ signedBy (oldestRequest l) s ∷ []
@@ -121,69 +120,59 @@ sign-responses q Inval came n e = append-nil (q .responses)
 sign-responses q Again came n e = append-nil (q .responses)
 
 -- ---- one command
-module _ (r : Record) (g : Granules) (w : World) where
-  step-requests : (c : Command) → w .queue .requests ++ pushes r g w c ≡ signs r g w c ++ nextOf r g w c .queue .requests
+module _ (g : Granules) (w : World) where
+  step-requests : (c : Command) → w .queue .requests ++ pushes g w c ≡ signs g w c ++ nextOf g w c .queue .requests
   unfolding pushes signs stepOf callOf afterSign signOf signed answerOf replyCode
-  step-requests (call c) = call-requests r g w c (kindOf (c .id))
+  step-requests (call c) = call-requests g w c (kindOf (c .id))
   step-requests (sign s) = sign-requests (w .queue) s (signCode (w .queue) s) (signed (w .queue) s) refl
 
-  step-responses : (c : Command) → w .queue .responses ++ makes r g w c ≡ pulls r g w c ++ nextOf r g w c .queue .responses
+  step-responses : (c : Command) → w .queue .responses ++ makes g w c ≡ pulls g w c ++ nextOf g w c .queue .responses
   unfolding makes pulls stepOf callOf afterSign signOf signed answerOf replyCode
-  step-responses (call c) = append-nil (w .queue .responses) ∙ call-responses r g w c (kindOf (c .id))
+  step-responses (call c) = append-nil (w .queue .responses) ∙ call-responses g w c (kindOf (c .id))
   step-responses (sign s) =
       sign-responses (w .queue) (signCode (w .queue) s) (map (λ (x : Request). signedBy x s) (take 1 (w .queue .requests))) (signed (w .queue) s) (λ e. ap (λ l. w .queue .responses ++ l) (sym (sign-some (w .queue) s e)))
 
 -- ---- any sequence
 -- what waits at first and what came in, in order, is what went out and what waits at last
-books : {A : Type 0} (r : Record) (g : Granules) (held : World → List A) (came went : World → Command → List A) → ((w : World) (c : Command) → held w ++ came w c ≡ went w c ++ held (nextOf r g w c)) →
-    (w : World) (cs : List Command) → held w ++ gathered r g came w cs ≡ gathered r g went w cs ++ held (worldAfter r g w cs)
+books : {A : Type 0} (g : Granules) (held : World → List A) (came went : World → Command → List A) → ((w : World) (c : Command) → held w ++ came w c ≡ went w c ++ held (nextOf g w c)) →
+    (w : World) (cs : List Command) → held w ++ gathered g came w cs ≡ gathered g went w cs ++ held (worldAfter g w cs)
 unfolding gathered worldAfter
-books r g held came went one w [] = append-nil (held w)
-books r g held came went one w (c ∷ cs) =
-    sym (append-assoc (held w) (came w c) (gathered r g came (nextOf r g w c) cs))
-    ∙ ap (λ l. l ++ gathered r g came (nextOf r g w c) cs) (one w c)
-    ∙ append-assoc (went w c) (held (nextOf r g w c)) (gathered r g came (nextOf r g w c) cs)
-    ∙ ap (λ l. went w c ++ l) (books r g held came went one (nextOf r g w c) cs)
-    ∙ sym (append-assoc (went w c) (gathered r g went (nextOf r g w c) cs) (held (worldAfter r g (nextOf r g w c) cs)))
+books g held came went one w [] = append-nil (held w)
+books g held came went one w (c ∷ cs) =
+    sym (append-assoc (held w) (came w c) (gathered g came (nextOf g w c) cs))
+    ∙ ap (λ l. l ++ gathered g came (nextOf g w c) cs) (one w c)
+    ∙ append-assoc (went w c) (held (nextOf g w c)) (gathered g came (nextOf g w c) cs)
+    ∙ ap (λ l. went w c ++ l) (books g held came went one (nextOf g w c) cs)
+    ∙ sym (append-assoc (went w c) (gathered g went (nextOf g w c) cs) (held (worldAfter g (nextOf g w c) cs)))
 
-module _ (r : Record) (g : Granules) (w : World) (cs : List Command) where
+module _ (g : Granules) (w : World) (cs : List Command) where
   -- the requests that waited, then those pushed, are those signed, then those that wait
-  pub requests-in-order : w .queue .requests ++ gathered r g (pushes r g) w cs ≡ gathered r g (signs r g) w cs ++ worldAfter r g w cs .queue .requests
-  requests-in-order = books r g (λ v. v .queue .requests) (pushes r g) (signs r g) (step-requests r g) w cs
+  pub requests-in-order : w .queue .requests ++ gathered g (pushes g) w cs ≡ gathered g (signs g) w cs ++ worldAfter g w cs .queue .requests
+  requests-in-order = books g (λ v. v .queue .requests) (pushes g) (signs g) (step-requests g) w cs
 
   -- the responses that waited, then those made, are those pulled, then those that wait
-  pub responses-in-order : w .queue .responses ++ gathered r g (makes r g) w cs ≡ gathered r g (pulls r g) w cs ++ worldAfter r g w cs .queue .responses
-  responses-in-order = books r g (λ v. v .queue .responses) (makes r g) (pulls r g) (step-responses r g) w cs
+  pub responses-in-order : w .queue .responses ++ gathered g (makes g) w cs ≡ gathered g (pulls g) w cs ++ worldAfter g w cs .queue .responses
+  responses-in-order = books g (λ v. v .queue .responses) (makes g) (pulls g) (step-responses g) w cs
 
--- ---- end to end: rec_granule and req_ticket come out in the order in which they went in, and are never altered
-pub record Name : Type 0 where
-  pub granule : ℕ
-  pub ticket : ℕ
-
-abbrev pub asks : Request → Name
-asks x = record { granule = x .granule; ticket = x .ticket }
-
-abbrev pub gives : Signed → Name
-gives x = record { granule = x .granule; ticket = x .ticket }
-
+-- ---- end to end
 made-names : (s : List ℕ) (b : Bool) (l : List Request) → map gives (cond b (map (λ (x : Request). signedBy x s) (take 1 l)) []) ≡ map asks (cond b (take 1 l) [])
 unfolding signedBy
 made-names s true [] = refl
 made-names s true (x ∷ l) = refl
 made-names s false l = refl
 
-step-names : (r : Record) (g : Granules) (w : World) (c : Command) → map gives (makes r g w c) ≡ map asks (signs r g w c)
+step-names : (g : Granules) (w : World) (c : Command) → map gives (makes g w c) ≡ map asks (signs g w c)
 unfolding makes signs
-step-names r g w (call c) = refl
-step-names r g w (sign s) = made-names s (accepted r g w (sign s)) (w .queue .requests)
+step-names g w (call c) = refl
+step-names g w (sign s) = made-names s (accepted g w (sign s)) (w .queue .requests)
 
-all-names : (r : Record) (g : Granules) (w : World) (cs : List Command) → map gives (gathered r g (makes r g) w cs) ≡ map asks (gathered r g (signs r g) w cs)
+all-names : (g : Granules) (w : World) (cs : List Command) → map gives (gathered g (makes g) w cs) ≡ map asks (gathered g (signs g) w cs)
 unfolding gathered
-all-names r g w [] = refl
-all-names r g w (c ∷ cs) =
-    map-append gives (makes r g w c) (gathered r g (makes r g) (nextOf r g w c) cs)
-    ∙ ap₂ (λ x y. x ++ y) (step-names r g w c) (all-names r g (nextOf r g w c) cs)
-    ∙ sym (map-append asks (signs r g w c) (gathered r g (signs r g) (nextOf r g w c) cs))
+all-names g w [] = refl
+all-names g w (c ∷ cs) =
+    map-append gives (makes g w c) (gathered g (makes g) (nextOf g w c) cs)
+    ∙ ap₂ (λ x y. x ++ y) (step-names g w c) (all-names g (nextOf g w c) cs)
+    ∙ sym (map-append asks (signs g w c) (gathered g (signs g) (nextOf g w c) cs))
 
 -- two queues in a row are one
 end-to-end : {A B C : Type 0} (f : A → C) (h : B → C) (d made out d' : List A) (a came taken a' : List B) → a ++ came ≡ taken ++ a' → d ++ made ≡ out ++ d' → map f made ≡ map h taken →
@@ -195,12 +184,10 @@ end-to-end f h d made out d' a came taken a' p q m =
     ∙ ap (λ l. l ++ map h a') (sym (map-append f d made) ∙ ap (map f) q ∙ map-append f out d')
     ∙ append-assoc (map f out) (map f d') (map h a')
 
-abbrev pub names : Lists → List Name
-names q = map gives (q .responses) ++ map asks (q .requests)
-
-pub names-in-order : (r : Record) (g : Granules) (w : World) (cs : List Command) →
-    names (w .queue) ++ map asks (gathered r g (pushes r g) w cs) ≡ map gives (gathered r g (pulls r g) w cs) ++ names (worldAfter r g w cs .queue)
-names-in-order r g w cs =
-    end-to-end gives asks (w .queue .responses) (gathered r g (makes r g) w cs) (gathered r g (pulls r g) w cs) (worldAfter r g w cs .queue .responses)
-    (w .queue .requests) (gathered r g (pushes r g) w cs) (gathered r g (signs r g) w cs) (worldAfter r g w cs .queue .requests)
-    (requests-in-order r g w cs) (responses-in-order r g w cs) (all-names r g w cs)
+-- rec_granule and req_ticket come out in the order in which they went in, and are never altered
+pub names-in-order : (g : Granules) (w : World) (cs : List Command) →
+    names (w .queue) ++ map asks (gathered g (pushes g) w cs) ≡ map gives (gathered g (pulls g) w cs) ++ names (worldAfter g w cs .queue)
+names-in-order g w cs =
+    end-to-end gives asks (w .queue .responses) (gathered g (makes g) w cs) (gathered g (pulls g) w cs) (worldAfter g w cs .queue .responses)
+    (w .queue .requests) (gathered g (pushes g) w cs) (gathered g (signs g) w cs) (worldAfter g w cs .queue .requests)
+    (requests-in-order g w cs) (responses-in-order g w cs) (all-names g w cs)

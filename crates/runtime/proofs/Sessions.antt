@@ -2,7 +2,6 @@
 use mathlib.Core.Path.{_≡_, refl, sym, _∙_}
 use mathlib.Core.Bool.{true}
 use mathlib.Core.List.{List, [], _∷_, _++_}
-use Rattle.boot.specs.declared.Record.{Record}
 use Rattle.granules.specs.declared.Granules.{Granules}
 use Rattle.token.specs.Calls.{TokenCall, tokenStepOf as tokenStep, runOf as tokenRun, tokenAccepted, oksOf, hunksOf, leftOf, GoesOn, Calls}
 use Rattle.token.proofs.Calls.{token-calls}
@@ -12,27 +11,27 @@ use Rattle.runtime.specs.Step.{World, Call, Command, call, sign, kindOf,
 use Rattle.runtime.specs.Run.{nextOf, worldAfter, gathered, ofToken, tokenCall, tokenCalls}
 
 -- one call: only 0xC40001B3 moves the session
-one-session : (k : Kind) (r : Record) (g : Granules) (w : World) (c : Call) (ts : List TokenCall) → tokenRun (callBy k r g w c .next .session) ts ≡ tokenRun (w .session) (ofToken k (tokenCall r w c ∷ []) ++ ts)
+one-session : (k : Kind) (g : Granules) (w : World) (c : Call) (ts : List TokenCall) → tokenRun (callBy k g w c .next .session) ts ≡ tokenRun (w .session) (ofToken k (tokenCall w c ∷ []) ++ ts)
 unfolding callBy afterMove afterKey afterToken afterSigning afterUpdate tokenCall tokenRun tokenStep
-one-session ForwardError r g w c ts = refl
-one-session Delegate r g w c ts = refl
-one-session Undelegate r g w c ts = refl
-one-session RealmKey r g w c ts = refl
-one-session PlatformToken r g w c ts = refl
-one-session Features r g w c ts = refl
-one-session TokenSigning r g w c ts = refl
-one-session KeyUpdate r g w c ts = refl
-one-session Unlisted r g w c ts = refl
+one-session ForwardError g w c ts = refl
+one-session Delegate g w c ts = refl
+one-session Undelegate g w c ts = refl
+one-session RealmKey g w c ts = refl
+one-session PlatformToken g w c ts = refl
+one-session Features g w c ts = refl
+one-session TokenSigning g w c ts = refl
+one-session KeyUpdate g w c ts = refl
+one-session Unlisted g w c ts = refl
 
 -- the session after any commands is that after the token calls among them, each with the page as it then was
-pub session-run : (r : Record) (g : Granules) (w : World) (cs : List Command) → worldAfter r g w cs .session ≡ tokenRun (w .session) (gathered r g (tokenCalls r) w cs)
+pub session-run : (g : Granules) (w : World) (cs : List Command) → worldAfter g w cs .session ≡ tokenRun (w .session) (gathered g tokenCalls w cs)
 unfolding worldAfter gathered tokenCalls stepOf callOf afterSign tokenRun
-session-run r g w [] = refl
-session-run r g w (call c ∷ cs) = session-run r g (nextOf r g w (call c)) cs ∙ one-session (kindOf (c .id)) r g w c (gathered r g (tokenCalls r) (nextOf r g w (call c)) cs)
-session-run r g w (sign s ∷ cs) = session-run r g (nextOf r g w (sign s)) cs
+session-run g w [] = refl
+session-run g w (call c ∷ cs) = session-run g (nextOf g w (call c)) cs ∙ one-session (kindOf (c .id)) g w c (gathered g tokenCalls (nextOf g w (call c)) cs)
+session-run g w (sign s ∷ cs) = session-run g (nextOf g w (sign s)) cs
 
 -- "With a fixed buffer of b bytes, .. one start and the same token lent throughout, a token of L bytes takes exactly L / b calls, rounded
 -- up, refusals not counted", with any other commands in between: x is the start, xs the token calls after it
-pub token-run : (r : Record) (g : Granules) (w : World) (cs : List Command) (x : TokenCall) (xs : List TokenCall) → gathered r g (tokenCalls r) w cs ≡ x ∷ xs → (x .csize ≡ 0 → ⊥) → tokenAccepted (w .session) x ≡ true →
-    GoesOn (x .token) (x .size) (tokenStep (w .session) x .session) xs → Calls (x .token) (x .size) (oksOf (w .session) (x ∷ xs)) (hunksOf (w .session) (x ∷ xs)) (leftOf 0 (w .session) (x ∷ xs)) (worldAfter r g w cs .session)
-token-run r g w cs x xs e n h f = rw (session-run r g w cs, e) (token-calls (w .session) x xs n h f)
+pub token-run : (g : Granules) (w : World) (cs : List Command) (x : TokenCall) (xs : List TokenCall) → gathered g tokenCalls w cs ≡ x ∷ xs → (x .csize ≡ 0 → ⊥) → tokenAccepted (w .session) x ≡ true →
+    GoesOn (x .token) (x .size) (tokenStep (w .session) x .session) xs → Calls (x .token) (x .size) (oksOf (w .session) (x ∷ xs)) (hunksOf (w .session) (x ∷ xs)) (leftOf 0 (w .session) (x ∷ xs)) (worldAfter g w cs .session)
+token-run g w cs x xs e n h f = rw (session-run g w cs, e) (token-calls (w .session) x xs n h f)

@@ -1,7 +1,7 @@
 -- One step of the runtime: state, command, answer, next state. Assumes nothing.
 use Prim.Native.Nat.{ℕ}
-use mathlib.Core.Bool.{Bool, cond}
-use mathlib.Core.List.{List}
+use mathlib.Core.Bool.{Bool, true, false, cond}
+use mathlib.Core.List.{List, []}
 use lib.Dec.{eqb}
 use Rattle.boot.specs.declared.Record.{Record}
 use Rattle.codes.specs.Codes.{answerOf}
@@ -10,11 +10,12 @@ use Rattle.codes.specs.declared.Code.{Code}
 use Rattle.codes.specs.declared.Code.the-variants.{Ok, Unk}
 use Rattle.codes.specs.declared.Work.{Work}
 use Rattle.codes.specs.declared.Work.the-variants.{Nothing}
-use Rattle.granules.specs.Granules.{Moved, delegateOf, undelegateOf}
+use Rattle.granules.specs.Granules.{GranuleTable, Moved, delegateOf, undelegateOf}
 use Rattle.granules.specs.declared.Granules.{Granules}
 use Rattle.attest.specs.Key.{Keyed, realmKeyOf}
 use Rattle.token.specs.Token.{TokenStep, tokenOf}
 use Rattle.token.specs.declared.Session.{Session}
+use Rattle.token.specs.declared.Session.the-variants.{Idle}
 use Rattle.features.specs.Features.{featuresOf, updateOf, forwardOf}
 use Rattle.features.specs.declared.Updated.{Updated}
 use Rattle.queue.specs.Queue.{Lists, SigningStep}
@@ -22,18 +23,38 @@ use Rattle.responses.specs.Sign.{SignStep, signOf}
 use Rattle.signing.specs.Signing.{signingOf}
 use Rattle.runtime.specs.declared.Kind.{Kind}
 use Rattle.runtime.specs.declared.Kind.the-variants.{ForwardError, Delegate, Undelegate, RealmKey, PlatformToken, Features, TokenSigning, KeyUpdate, Unlisted}
+use Rattle.runtime.specs.declared.Needs.{Needs}
 use Rattle.runtime.specs.declared.Reply.{Reply}
 use Rattle.runtime.specs.declared.Reply.the-variants.{Forward, Back}
 
 -- all that a command may change. The boot record and the granule record are not among it.
 pub record World : Type 0 where
   pub page : List ℕ
-  pub table : List ℕ
+  pub table : GranuleTable
   pub session : Session
   pub queue : Lists
 
--- a call of the interface: the function id, the argument registers, and what the platform lends or says with it
+-- the world with one part of it changed
+abbrev pub withPage : List ℕ → World → World
+withPage p w = record { page = p; table = w .table; session = w .session; queue = w .queue }
+
+abbrev pub withTable : GranuleTable → World → World
+withTable t w = record { page = w .page; table = t; session = w .session; queue = w .queue }
+
+abbrev pub withSession : Session → World → World
+withSession s w = record { page = w .page; table = w .table; session = s; queue = w .queue }
+
+abbrev pub withQueue : Lists → World → World
+withQueue q w = record { page = w .page; table = w .table; session = w .session; queue = q }
+
+-- the world of a lent page and table, a session and a queue
+abbrev pub worldOf : List ℕ → List ℕ → Session → Lists → World
+worldOf page table s q = record { page = page; table = record { bytes = table }; session = s; queue = q }
+
+-- a call of the interface: the boot record as it then is, the function id, the argument registers, and what the platform lends or
+-- says with it
 pub record Call : Type 0 where
+  pub state : Record
   pub id : ℕ
   pub x1 : ℕ
   pub x2 : ℕ
@@ -44,6 +65,10 @@ pub record Call : Type 0 where
   pub token : List ℕ
   pub publicKey : List ℕ
   pub width : ℕ
+
+abbrev pub callWith : Record → ℕ → ℕ → ℕ → ℕ → ℕ → Bool → List ℕ → List ℕ → List ℕ → ℕ → Call
+callWith r id x1 x2 x3 x4 busy key token public width =
+    record { state = r; id = id; x1 = x1; x2 = x2; x3 = x3; x4 = x4; busy = busy; realmKey = key; token = token; publicKey = public; width = width }
 
 -- a command: a call of the interface, or the signer's own step with a signature
 pub data Command : Type 0 where
@@ -73,43 +98,78 @@ abbrev pub back : Answer → World → Step
 back a w = record { reply = Back a Nothing; next = w }
 
 unfoldable pub afterMove : Moved → World → Step
-afterMove m w = back (m .answer) (record { page = w .page; table = m .table; session = w .session; queue = w .queue })
+afterMove m w = back (m .answer) (withTable (m .table) w)
 
 unfoldable pub afterKey : Keyed → World → Step
-afterKey k w = back (k .answer) (record { page = k .page; table = w .table; session = w .session; queue = w .queue })
+afterKey k w = back (k .answer) (withPage (k .page) w)
 
 unfoldable pub afterToken : TokenStep → World → Step
-afterToken t w = back (t .answer) (record { page = t .page; table = w .table; session = t .session; queue = w .queue })
+afterToken t w = back (t .answer) (withSession (t .session) (withPage (t .page) w))
 
 unfoldable pub afterSigning : SigningStep → World → Step
-afterSigning s w = back (s .answer) (record { page = s .page; table = w .table; session = w .session; queue = s .queue })
+afterSigning s w = back (s .answer) (withQueue (s .queue) (withPage (s .page) w))
 
 unfoldable pub afterUpdate : Updated → World → Step
 afterUpdate u w = record { reply = Back (u .answer) (u .work); next = w }
 
 unfoldable pub afterSign : SignStep → World → Step
-afterSign s w = back (s .answer) (record { page = w .page; table = w .table; session = w .session; queue = s .queue })
+afterSign s w = back (s .answer) (withQueue (s .queue) w)
 
 -- ---- the step
-unfoldable pub callBy : Kind → Record → Granules → World → Call → Step
-callBy ForwardError r g w c = record { reply = Forward (forwardOf r (c .x1)); next = w }
-callBy Delegate r g w c = afterMove (delegateOf r g (w .table) (c .x1)) w
-callBy Undelegate r g w c = afterMove (undelegateOf r g (w .table) (c .x1)) w
-callBy RealmKey r g w c = afterKey (realmKeyOf r (w .page) (c .realmKey) (c .x1) (c .x2) (c .x3)) w
-callBy PlatformToken r g w c = afterToken (tokenOf r (w .page) (w .session) (c .busy) (c .token) (c .x1) (c .x2) (c .x3)) w
-callBy Features r g w c = back (featuresOf r (c .x1)) w
-callBy TokenSigning r g w c = afterSigning (signingOf r (w .page) (w .queue) (c .publicKey) (c .x1) (c .x2) (c .x3) (c .x4)) w
-callBy KeyUpdate r g w c = afterUpdate (updateOf r (c .width) (c .x1)) w
-callBy Unlisted r g w c = back (answerOf Unk 0 0) w
+unfoldable pub callBy : Kind → Granules → World → Call → Step
+callBy ForwardError g w c = record { reply = Forward (forwardOf (c .state) (c .x1)); next = w }
+callBy Delegate g w c = afterMove (delegateOf (c .state) g (w .table) (c .x1)) w
+callBy Undelegate g w c = afterMove (undelegateOf (c .state) g (w .table) (c .x1)) w
+callBy RealmKey g w c = afterKey (realmKeyOf (c .state) (w .page) (c .realmKey) (c .x1) (c .x2) (c .x3)) w
+callBy PlatformToken g w c = afterToken (tokenOf (c .state) (w .page) (w .session) (c .busy) (c .token) (c .x1) (c .x2) (c .x3)) w
+callBy Features g w c = back (featuresOf (c .state) (c .x1)) w
+callBy TokenSigning g w c = afterSigning (signingOf (c .state) (w .page) (w .queue) (c .publicKey) (c .x1) (c .x2) (c .x3) (c .x4)) w
+callBy KeyUpdate g w c = afterUpdate (updateOf (c .state) (c .width) (c .x1)) w
+callBy Unlisted g w c = back (answerOf Unk 0 0) w
 
-unfoldable pub callOf : Record → Granules → World → Call → Step
-callOf r g w c = callBy (kindOf (c .id)) r g w c
+unfoldable pub callOf : Granules → World → Call → Step
+callOf g w c = callBy (kindOf (c .id)) g w c
 
-unfoldable pub stepOf : Record → Granules → World → Command → Step
-stepOf r g w (call c) = callOf r g w c
-stepOf r g w (sign s) = afterSign (signOf (w .queue) s) w
+unfoldable pub stepOf : Granules → World → Command → Step
+stepOf g w (call c) = callOf g w c
+stepOf g w (sign s) = afterSign (signOf (w .queue) s) w
 
 -- the code that a reply shows; 0xC400018F has no result, and is never refused
 unfoldable pub replyCode : Reply → Code
 replyCode (Forward n) = Ok
 replyCode (Back a work) = a .code
+
+-- demand 1's refusal: the code, zeros in the other registers, nothing for the platform to do, and the world as it was
+abbrev pub refusal : Step → World → Step
+refusal s w = record { reply = Back (answerOf (replyCode (s .reply)) 0 0) Nothing; next = w }
+
+-- ---- the commands by the state that they use: the token its session, token signing the queue, the others neither
+unfoldable pub needsOf : Kind → Needs
+needsOf ForwardError = Needs.Nothing
+needsOf Delegate = Needs.Nothing
+needsOf Undelegate = Needs.Nothing
+needsOf RealmKey = Needs.Nothing
+needsOf PlatformToken = Needs.Session
+needsOf Features = Needs.Nothing
+needsOf TokenSigning = Needs.Queue
+needsOf KeyUpdate = Needs.Nothing
+needsOf Unlisted = Needs.Nothing
+
+-- the world of a page and a table alone, and a call that lends no token and no public key
+abbrev pub noQueue : Lists
+noQueue = record { requests = []; responses = [] }
+
+abbrev pub plainWorld : List ℕ → List ℕ → World
+plainWorld page table = worldOf page table Idle noQueue
+
+abbrev pub plainCall : Record → ℕ → ℕ → ℕ → ℕ → List ℕ → ℕ → Call
+plainCall r id x1 x2 x3 key width = callWith r id x1 x2 x3 0 false key [] [] width
+
+-- a call that uses neither session nor queue; one that uses either is not listed here
+unfoldable pub plainBy : Needs → Kind → Granules → World → Call → Step
+plainBy Needs.Nothing k g w c = callBy k g w c
+plainBy Needs.Session k g w c = back (answerOf Unk 0 0) w
+plainBy Needs.Queue k g w c = back (answerOf Unk 0 0) w
+
+unfoldable pub plainOf : Granules → World → Call → Step
+plainOf g w c = plainBy (needsOf (kindOf (c .id))) (kindOf (c .id)) g w c

@@ -13,7 +13,7 @@ ghost use mathlib.Core.Path.{_≡_};
 ghost use mathlib.Core.Bool.{false};
 ghost use Rattle.codes.specs.Codes.{isOk};
 ghost use Rattle.queue.specs.Queue.{listsOf};
-ghost use Rattle.runtime.specs.Step.{World, Call, Step, kindOf, callOf, replyCode};
+ghost use Rattle.runtime.specs.Step.{Step, worldOf, plainWorld, callWith, plainCall, kindOf, needsOf, plainOf, callOf, replyCode};
 
 // A command, by its function id.
 pub enum Kind {
@@ -26,6 +26,13 @@ pub enum Kind {
     TokenSigning,
     KeyUpdate,
     Unlisted,
+}
+
+// Which state a command uses: the token its session, token signing the queue, the others neither.
+pub enum Needs {
+    Nothing,
+    Session,
+    Queue,
 }
 
 // The answer: err_code goes to the Non-secure world, or the result registers come back, with what the platform has to do.
@@ -58,36 +65,83 @@ fn kind_of(id: u64) -> Kind
     }
 }
 
-// What a command leaves: each has its registers; the token its session, signing its queue, key update what there is to do.
-fn forwarded(err: u64, session: Session, queue: Queue) -> Stepped
-    ensures { λ r. ⌜ r ≡ record { reply = Reply.Forward err; session = session; queue = queue } ⌝ }
+// Which state the command of a function id uses.
+pub fn needs_of(id: u64) -> Needs
+    ensures { λ r. ⌜ r ≡ needsOf (kindOf id) ⌝ }
 {
-    Stepped {
-        reply: Reply::Forward(err),
-        session,
-        queue,
+    let kind = kind_of(id);
+    match kind {
+        Kind::ForwardError => Needs::Nothing,
+        Kind::Delegate => Needs::Nothing,
+        Kind::Undelegate => Needs::Nothing,
+        Kind::RealmKey => Needs::Nothing,
+        Kind::PlatformToken => Needs::Session,
+        Kind::Features => Needs::Nothing,
+        Kind::TokenSigning => Needs::Queue,
+        Kind::KeyUpdate => Needs::Nothing,
+        Kind::Unlisted => Needs::Nothing,
     }
 }
 
-fn returned(answer: Answer, session: Session, queue: Queue) -> Stepped
-    ensures { λ r. ⌜ r ≡ record { reply = Reply.Back answer Work.Nothing; session = session; queue = queue } ⌝ }
+// A reply with nothing for the platform to do.
+fn back(answer: Answer) -> Reply
+    ensures { λ r. ⌜ r ≡ Reply.Back answer Work.Nothing ⌝ }
 {
-    Stepped {
-        reply: Reply::Back {
-            answer,
-            work: Work::Nothing,
-        },
-        session,
-        queue,
+    Reply::Back {
+        answer,
+        work: Work::Nothing,
     }
 }
 
+fn updated(done: Updated) -> Reply
+    ensures { λ r. ⌜ r ≡ Reply.Back (done .answer) (done .work) ⌝ }
+{
+    let answer = done.answer;
+    let work = done.work;
+    Reply::Back { answer, work }
+}
+
+// A call that uses neither session nor queue. An id that uses either is answered as one that is not listed.
+pub fn plain_call(
+    state: Record,
+    granules: Granules,
+    id: u64,
+    x1: u64,
+    x2: u64,
+    x3: u64,
+    page: &mut [u8],
+    table: &mut [u8],
+    key: &[u8],
+    width: u64,
+) -> Reply
+    ensures { λ r. ⌜ _≡_ {A = Step} (record { reply = r; next = plainWorld (now (page .exit)) (now (table .exit)) })
+        (plainOf granules (plainWorld (now (page .entry)) (now (table .entry))) (plainCall state id x1 x2 x3 (now (key .entry)) width)) ⌝ }
+{
+    let kind = kind_of(id);
+    match kind {
+        Kind::ForwardError => Reply::Forward(features::forward(state, x1)),
+        Kind::Delegate => back(granules::delegate(state, granules, table, x1)),
+        Kind::Undelegate => back(granules::undelegate(state, granules, table, x1)),
+        Kind::RealmKey => back(attest::realm_key(state, page, key, x1, x2, x3)),
+        Kind::PlatformToken => back(codes::answered(Code::Unk, 0, 0)),
+        Kind::Features => back(features::features(state, x1)),
+        Kind::TokenSigning => back(codes::answered(Code::Unk, 0, 0)),
+        Kind::KeyUpdate => updated(features::key_update(state, width, x1)),
+        Kind::Unlisted => back(codes::answered(Code::Unk, 0, 0)),
+    }
+}
+
+// What the token leaves, and what token signing leaves.
 fn after_token(done: Tokened, queue: Queue) -> Stepped
     ensures { λ r. ⌜ r ≡ record { reply = Reply.Back (done .answer) Work.Nothing; session = done .session; queue = queue } ⌝ }
 {
     let answer = done.answer;
     let session = done.session;
-    returned(answer, session, queue)
+    Stepped {
+        reply: back(answer),
+        session,
+        queue,
+    }
 }
 
 fn after_signing(done: Queued, session: Session) -> Stepped
@@ -95,16 +149,8 @@ fn after_signing(done: Queued, session: Session) -> Stepped
 {
     let answer = done.answer;
     let queue = done.queue;
-    returned(answer, session, queue)
-}
-
-fn after_update(done: Updated, session: Session, queue: Queue) -> Stepped
-    ensures { λ r. ⌜ r ≡ record { reply = Reply.Back (done .answer) (done .work); session = session; queue = queue } ⌝ }
-{
-    let answer = done.answer;
-    let work = done.work;
     Stepped {
-        reply: Reply::Back { answer, work },
+        reply: back(answer),
         session,
         queue,
     }
@@ -131,43 +177,27 @@ pub fn call(
     public: &[u8],
     width: u64,
 ) -> Stepped
-    ensures { λ r. ⌜ _≡_ {A = Step} (record { reply = r .reply; next = record { page = now (page .exit); table = now (table .exit); session = r .session; queue = listsOf (r .queue) } })
-        (callOf state granules (record { page = now (page .entry); table = now (table .entry); session = session; queue = listsOf queue })
-        (record { id = id; x1 = x1; x2 = x2; x3 = x3; x4 = x4; busy = busy; realmKey = now (key .entry); token = now (token .entry); publicKey = now (public .entry); width = width })) ⌝ }
+    ensures { λ r. ⌜ _≡_ {A = Step} (record { reply = r .reply; next = worldOf (now (page .exit)) (now (table .exit)) (r .session) (listsOf (r .queue)) })
+        (callOf granules (worldOf (now (page .entry)) (now (table .entry)) session (listsOf queue))
+        (callWith state id x1 x2 x3 x4 busy (now (key .entry)) (now (token .entry)) (now (public .entry)) width)) ⌝ }
     ensures { λ r. ⌜ (isOk (replyCode (r .reply)) ≡ false → r .queue ≡ queue) ⌝ }
 {
-    let kind = kind_of(id);
-    match kind {
-        Kind::ForwardError => forwarded(features::forward(state, x1), session, queue),
-        Kind::Delegate => returned(
-            granules::delegate(state, granules, table, x1),
-            session,
-            queue,
-        ),
-        Kind::Undelegate => {
-            returned(
-                granules::undelegate(state, granules, table, x1),
+    match needs_of(id) {
+        Needs::Nothing => {
+            let reply = plain_call(state, granules, id, x1, x2, x3, page, table, key, width);
+            Stepped {
+                reply,
                 session,
                 queue,
-            )
+            }
         }
-        Kind::RealmKey => {
-            returned(
-                attest::realm_key(state, page, key, x1, x2, x3),
-                session,
-                queue,
-            )
+        Needs::Session => {
+            let done = token::platform_token(state, page, session, busy, token, x1, x2, x3);
+            after_token(done, queue)
         }
-        Kind::PlatformToken => after_token(
-            token::platform_token(state, page, session, busy, token, x1, x2, x3),
-            queue,
-        ),
-        Kind::Features => returned(features::features(state, x1), session, queue),
-        Kind::TokenSigning => after_signing(
-            signing::token_signing(state, page, queue, public, x1, x2, x3, x4),
-            session,
-        ),
-        Kind::KeyUpdate => after_update(features::key_update(state, width, x1), session, queue),
-        Kind::Unlisted => returned(codes::answered(Code::Unk, 0, 0), session, queue),
+        Needs::Queue => {
+            let done = signing::token_signing(state, page, queue, public, x1, x2, x3, x4);
+            after_signing(done, session)
+        }
     }
 }
