@@ -1,15 +1,17 @@
 -- States and answers as lent words, for C. An image that no state has is read as the state named here. Assumes nothing.
 use Prim.Native.Nat.{ℕ, _+_}
-use mathlib.Core.Bool.{cond}
+use mathlib.Core.Bool.{Bool, cond}
 use mathlib.Core.List.{List, [], _∷_}
 use lib.ListN.{getD, replicate}
 use lib.Dec.{eqb}
 use Rattle.words.specs.declared.Span.{Span}
 use Rattle.boot.specs.declared.Record.{Record}
 use Rattle.boot.specs.declared.Record.the-variants.{Fresh, Up, Closed}
+use Rattle.codes.specs.Codes.{unless}
 use Rattle.codes.specs.declared.Answer.{Answer}
 use Rattle.codes.specs.declared.Work.{Work}
 use Rattle.codes.specs.declared.Work.the-variants.{Nothing, Reprogram}
+use Rattle.granules.specs.declared.Granules.{Granules}
 use Rattle.reader.specs.Answer.{ReaderAnswer, refused, shows}
 use Rattle.reader.specs.Reading.{viewAt}
 use Rattle.reader.specs.declared.Reading.{Reading}
@@ -36,6 +38,14 @@ unfoldable pub recordWords : Record → List ℕ
 recordWords Fresh = 0 ∷ 0 ∷ 0 ∷ 0 ∷ []
 recordWords (Up u) = 1 ∷ u .cpus ∷ u .base ∷ u .minor ∷ []
 recordWords Closed = 2 ∷ 0 ∷ 0 ∷ 0 ∷ []
+
+-- ---- the granule record: the address of the table's first granule
+unfoldable pub granulesOf : List ℕ → Granules
+granulesOf w = record { start = getD w 0 0 }
+
+-- ---- a flag as a number: any but 0 is set
+unfoldable pub isSet : ℕ → Bool
+isSet n = unless (eqb n 0)
 
 -- ---- the token session: 0 idle, any other number sending; then the token's length at its start, and how much of it is sent
 unfoldable pub sessionOf : List ℕ → Session

@@ -5,6 +5,7 @@ use boot::Record;
 use codes::Answer;
 use codes::Code;
 use codes::Work;
+use granules::Granules;
 use reader::Reading;
 use reader::Section;
 use reader::View;
@@ -15,11 +16,10 @@ use writer::Wrote;
 ghost use mathlib.Core.Path.{_≡_};
 ghost use Prim.Native.Nat.{_+_, _≤_};
 ghost use lib.ListN.{length};
-ghost use lib.Dec.{eqb};
 ghost use Rattle.boot.specs.Boot.{numberIn};
-ghost use Rattle.codes.specs.Codes.{unless, ifOk};
+ghost use Rattle.codes.specs.Codes.{ifOk};
 ghost use Rattle.runtime.specs.Step.{replyCode};
-ghost use Rattle.images.specs.Image.{recordOf, recordWords, sessionOf, sessionWords, registerWords, workWords, sectionIn, sectionWords, viewOf, viewWords, spanWords, readingWords, wroteNumber, replyRegisters, replyWords};
+ghost use Rattle.images.specs.Image.{recordOf, recordWords, granulesOf, isSet, sessionOf, sessionWords, registerWords, workWords, sectionIn, sectionWords, viewOf, viewWords, spanWords, readingWords, wroteNumber, replyRegisters, replyWords};
 
 pub fn record_of(image: &[u64; 4]) -> Record
     ensures { λ r. ⌜ r ≡ recordOf (now (image .entry)) ⌝ }
@@ -45,6 +45,12 @@ pub fn record_words(state: Record) -> [u64; 4]
         Record::Up(params) => [1, params.cpus, params.base, params.minor],
         Record::Closed => [2, 0, 0, 0],
     }
+}
+
+pub fn granules_of(image: &[u64; 1]) -> Granules
+    ensures { λ r. ⌜ r ≡ granulesOf (now (image .entry)) ⌝ }
+{
+    Granules { start: image[0] }
 }
 
 pub fn session_of(image: &[u64; 3]) -> Session
@@ -79,7 +85,7 @@ pub fn put_session(image: &mut [u64; 3], session: Session, code: Code)
 
 // A flag as a number: any but 0 is set.
 pub fn is_set(flag: u64) -> bool
-    ensures { λ r. ⌜ r ≡ unless (eqb flag 0) ⌝ }
+    ensures { λ r. ⌜ r ≡ isSet flag ⌝ }
 {
     if flag == 0 {
         return false;

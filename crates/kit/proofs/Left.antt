@@ -1,23 +1,26 @@
 -- What a call leaves, from what its parts promise. Assumes nothing.
 use Prim.Native.Nat.{ℕ}
 use mathlib.Core.Path.{_≡_, ap, _∙_}
-use mathlib.Core.Bool.{Bool}
-use mathlib.Core.List.{List}
+use mathlib.Core.List.{List, [], _∷_}
 use lib.ListN.{getD}
-use Rattle.boot.specs.declared.Record.{Record}
 use Rattle.codes.specs.Codes.{ifOk}
 use Rattle.codes.specs.declared.Answer.{Answer}
-use Rattle.codes.specs.declared.Code.{Code}
-use Rattle.granules.specs.declared.Granules.{Granules}
+use Rattle.granules.specs.Granules.{Moved, movedTo}
 use Rattle.token.specs.Token.{TokenStep}
 use Rattle.token.specs.declared.Session.{Session}
 use Rattle.queue.specs.Queue.{Lists, SigningStep}
 use Rattle.responses.specs.Sign.{SignStep}
-use Rattle.runtime.specs.Step.{World, Call, Step, callOf, replyCode}
+use Rattle.runtime.specs.Step.{plainWorld, Step, kindOf, afterToken, afterSigning, callBy, callOf, replyCode, needsOf}
+use Rattle.runtime.specs.declared.Needs.{Needs}
 use Rattle.runtime.specs.declared.Reply.{Reply}
-use Rattle.images.specs.Image.{sessionWords, registerWords, replyRegisters, replyWords}
-use Rattle.queue_image.specs.Image.{queueWords}
-use Rattle.kit.specs.Kit.{sessionAfter, queueAfter, TokenLeft, tokenLeft, SigningLeft, signingLeft, SignLeft, signLeft, CallLeft, callLeft}
+use Rattle.runtime.proofs.Plain.{needs-session, needs-queue, plain-beside}
+use Rattle.images.specs.Image.{recordOf, granulesOf, isSet, sessionOf, sessionWords, registerWords, workWords, replyRegisters, replyWords}
+use Rattle.queue_image.specs.Image.{listsIn, queueWords}
+use Rattle.kit.specs.Kit.{sessionAfter, queueAfter, MoveLeft, moveLeft, TokenLeft, tokenLeft, tokenIn, SigningLeft, signingLeft, signingIn, SignLeft, signLeft, sessionLeft, queueLeft, CallLeft, callLeft, callLent, callIn, PlainLeft, plainLeft, plainIn}
+
+pub move-left : (a : Answer) (out table : List ℕ) (m : Moved) → out ≡ registerWords a → movedTo a table ≡ m → _≡_ {A = MoveLeft} (record { out = out; table = table }) (moveLeft m)
+unfolding moveLeft movedTo
+move-left a out table m h e = rw h (ap moveLeft e)
 
 pub token-left : (a : Answer) (s : Session) (image out page se : List ℕ) (t : TokenStep) → out ≡ registerWords a → se ≡ ifOk (a .code) (sessionWords s) image →
     record { answer = a; page = page; session = s } ≡ t → _≡_ {A = TokenLeft} (record { out = out; page = page; session = se }) (tokenLeft t image)
@@ -34,9 +37,28 @@ pub sign-left : (a : Answer) (l : Lists) (image out qe : List ℕ) (t : SignStep
 unfolding signLeft queueAfter
 sign-left a l image out qe t h i e = rw (h, i) (ap (λ (x : SignStep). signLeft x image) e)
 
-pub call-left : (reply : Reply) (code : Code) (s : Session) (l : Lists) (session queue out work page table se qe : List ℕ) (t : Step) →
-    out ≡ replyRegisters reply → work ≡ replyWords reply → code ≡ replyCode reply → se ≡ ifOk code (sessionWords s) session → qe ≡ ifOk code (queueWords l) queue →
-    _≡_ {A = Step} (record { reply = reply; next = record { page = page; table = table; session = s; queue = l } }) t →
-    _≡_ {A = CallLeft} (record { out = out; work = work; page = page; table = table; session = se; queue = qe }) (callLeft t session queue)
-unfolding callLeft sessionAfter queueAfter
-call-left reply code s l session queue out work page table se qe t o w k i j e = rw (o, w, i, j, k) (ap (λ (x : Step). callLeft x session queue) e)
+pub plain-left : (reply : Reply) (out work page table : List ℕ) (s : Step) → out ≡ replyRegisters reply → work ≡ replyWords reply → record { reply = reply; next = plainWorld page table } ≡ s →
+    _≡_ {A = PlainLeft} (record { out = out; work = work; page = page; table = table }) (plainLeft s)
+unfolding plainLeft
+plain-left reply out work page table s o w e = rw (o, w) (ap plainLeft e)
+
+-- ---- any command, by the state that it uses
+module _ (granules session queue page table state x : List ℕ) (busy : ℕ) (key token public : List ℕ) (width : ℕ) where
+  -- neither
+  pub left-plain : needsOf (kindOf (getD x 0 0)) ≡ Needs.Nothing → (l : PlainLeft) → l ≡ plainIn state granules page table x key width →
+      _≡_ {A = CallLeft} (record { out = l .out; work = l .work; page = l .page; table = l .table; session = session; queue = queue }) (callIn granules session queue page table (callLent state x busy key token public width))
+  unfolding plainIn plainLeft callIn callLent callLeft sessionLeft queueLeft
+  left-plain h l e =
+      rw (h, plain-beside (granulesOf granules) page table (sessionOf session) (listsIn queue) (recordOf state) (getD x 0 0) (getD x 1 0) (getD x 2 0) (getD x 3 0) (getD x 4 0) (isSet busy) key token public width h, e)
+
+  -- the session
+  pub left-session : needsOf (kindOf (getD x 0 0)) ≡ Needs.Session → (l : TokenLeft) → l ≡ tokenIn state session page token busy (getD x 1 0) (getD x 2 0) (getD x 3 0) →
+      _≡_ {A = CallLeft} (record { out = l .out; work = 0 ∷ 0 ∷ []; page = l .page; table = table; session = l .session; queue = queue }) (callIn granules session queue page table (callLent state x busy key token public width))
+  unfolding tokenIn tokenLeft callIn callLent callLeft sessionLeft queueLeft callOf callBy needsOf afterToken replyRegisters replyWords workWords replyCode
+  left-session h l e = rw (needs-session (kindOf (getD x 0 0)) h, e)
+
+  -- the queue
+  pub left-queue : needsOf (kindOf (getD x 0 0)) ≡ Needs.Queue → (l : SigningLeft) → l ≡ signingIn state queue page public (getD x 1 0) (getD x 2 0) (getD x 3 0) (getD x 4 0) →
+      _≡_ {A = CallLeft} (record { out = l .out; work = 0 ∷ 0 ∷ []; page = l .page; table = table; session = session; queue = l .queue }) (callIn granules session queue page table (callLent state x busy key token public width))
+  unfolding signingIn signingLeft callIn callLent callLeft sessionLeft queueLeft callOf callBy needsOf afterSigning replyRegisters replyWords workWords replyCode
+  left-queue h l e = rw (needs-queue (kindOf (getD x 0 0)) h, e)

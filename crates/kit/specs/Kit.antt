@@ -1,24 +1,21 @@
--- What the exports with a token session or a signing queue leave, as lent words and bytes. A refused call leaves the images as they
+-- What the exports of the runtime's commands leave, as lent words and bytes. A refused call leaves the images as they
 -- were, also those that no state has. Assumes nothing.
 use Prim.Native.Nat.{ℕ}
-use mathlib.Core.Bool.{Bool}
 use mathlib.Core.List.{List}
 use lib.ListN.{getD}
-use lib.Dec.{eqb}
-use Rattle.codes.specs.Codes.{unless, ifOk}
+use Rattle.codes.specs.Codes.{ifOk}
 use Rattle.codes.specs.declared.Code.{Code}
+use Rattle.granules.specs.Granules.{Moved, moveOf}
+use Rattle.granules.specs.declared.Direction.{Direction}
 use Rattle.token.specs.Token.{TokenStep, tokenOf}
 use Rattle.token.specs.declared.Session.{Session}
 use Rattle.queue.specs.Queue.{Lists, SigningStep}
 use Rattle.responses.specs.Sign.{SignStep, signOf}
 use Rattle.signing.specs.Signing.{signingOf}
-use Rattle.runtime.specs.Step.{Call, Step, callOf, replyCode}
-use Rattle.images.specs.Image.{recordOf, sessionOf, sessionWords, registerWords, replyRegisters, replyWords}
+use Rattle.runtime.specs.Step.{World, worldOf, plainWorld, Call, callWith, plainCall, Step, kindOf, callOf, replyCode, needsOf, plainOf}
+use Rattle.runtime.specs.declared.Needs.{Needs}
+use Rattle.images.specs.Image.{recordOf, granulesOf, isSet, sessionOf, sessionWords, registerWords, replyRegisters, replyWords}
 use Rattle.queue_image.specs.Image.{listsIn, queueWords}
-
--- a flag as a number: any but 0 is set
-unfoldable pub isSet : ℕ → Bool
-isSet n = unless (eqb n 0)
 
 -- ---- an image after a call: written where the call is accepted
 unfoldable pub sessionAfter : Code → Session → List ℕ → List ℕ
@@ -26,6 +23,17 @@ sessionAfter k s image = ifOk k (sessionWords s) image
 
 unfoldable pub queueAfter : Code → Lists → List ℕ → List ℕ
 queueAfter k q image = ifOk k (queueWords q) image
+
+-- ---- delegation: the result registers and the table
+pub record MoveLeft : Type 0 where
+  pub out : List ℕ
+  pub table : List ℕ
+
+unfoldable pub moveLeft : Moved → MoveLeft
+moveLeft m = record { out = registerWords (m .answer); table = m .table .bytes }
+
+unfoldable pub moveIn : Direction → List ℕ → List ℕ → List ℕ → ℕ → MoveLeft
+moveIn d state granules table address = moveLeft (moveOf (recordOf state) (granulesOf granules) d (record { bytes = table }) address)
 
 -- ---- the platform token: the result registers, the page and the session's image
 pub record TokenLeft : Type 0 where
@@ -71,33 +79,51 @@ pub record CallLeft : Type 0 where
   pub session : List ℕ
   pub queue : List ℕ
 
-unfoldable pub callLeft : Step → List ℕ → List ℕ → CallLeft
-callLeft s session queue =
+-- only the command that uses a state touches its image
+unfoldable pub sessionLeft : Needs → Code → Session → List ℕ → List ℕ
+sessionLeft Needs.Nothing k s image = image
+sessionLeft Needs.Session k s image = sessionAfter k s image
+sessionLeft Needs.Queue k s image = image
+
+unfoldable pub queueLeft : Needs → Code → Lists → List ℕ → List ℕ
+queueLeft Needs.Nothing k q image = image
+queueLeft Needs.Session k q image = image
+queueLeft Needs.Queue k q image = queueAfter k q image
+
+unfoldable pub callLeft : Needs → Step → List ℕ → List ℕ → CallLeft
+callLeft n s session queue =
     record {
       out = replyRegisters (s .reply);
       work = replyWords (s .reply);
       page = s .next .page;
-      table = s .next .table;
-      session = sessionAfter (replyCode (s .reply)) (s .next .session) session;
-      queue = queueAfter (replyCode (s .reply)) (s .next .queue) queue;
+      table = s .next .table .bytes;
+      session = sessionLeft n (replyCode (s .reply)) (s .next .session) session;
+      queue = queueLeft n (replyCode (s .reply)) (s .next .queue) queue;
     }
 
 -- what is lent to a call beside the images: x0, the function id, to x4, and what the platform says or lends
-unfoldable pub callWith : List ℕ → ℕ → List ℕ → List ℕ → List ℕ → ℕ → Call
-callWith x busy key token public width =
-    record {
-      id = getD x 0 0;
-      x1 = getD x 1 0;
-      x2 = getD x 2 0;
-      x3 = getD x 3 0;
-      x4 = getD x 4 0;
-      busy = isSet busy;
-      realmKey = key;
-      token = token;
-      publicKey = public;
-      width = width;
-    }
+unfoldable pub callLent : List ℕ → List ℕ → ℕ → List ℕ → List ℕ → List ℕ → ℕ → Call
+callLent state x busy key token public width =
+    callWith (recordOf state) (getD x 0 0) (getD x 1 0) (getD x 2 0) (getD x 3 0) (getD x 4 0) (isSet busy) key token public width
 
-unfoldable pub callIn : List ℕ → ℕ → List ℕ → List ℕ → List ℕ → List ℕ → Call → CallLeft
-callIn state start session queue page table c =
-    callLeft (callOf (recordOf state) (record { start = start }) (record { page = page; table = table; session = sessionOf session; queue = listsIn queue }) c) session queue
+-- the world that two images, a page and a table stand for
+abbrev pub worldIn : List ℕ → List ℕ → List ℕ → List ℕ → World
+worldIn session queue page table = worldOf page table (sessionOf session) (listsIn queue)
+
+unfoldable pub callIn : List ℕ → List ℕ → List ℕ → List ℕ → List ℕ → Call → CallLeft
+callIn granules session queue page table c =
+    callLeft (needsOf (kindOf (c .id))) (callOf (granulesOf granules) (worldIn session queue page table) c) session queue
+
+-- a call that uses neither image
+pub record PlainLeft : Type 0 where
+  pub out : List ℕ
+  pub work : List ℕ
+  pub page : List ℕ
+  pub table : List ℕ
+
+unfoldable pub plainLeft : Step → PlainLeft
+plainLeft s = record { out = replyRegisters (s .reply); work = replyWords (s .reply); page = s .next .page; table = s .next .table .bytes }
+
+unfoldable pub plainIn : List ℕ → List ℕ → List ℕ → List ℕ → List ℕ → List ℕ → ℕ → PlainLeft
+plainIn state granules page table x key width =
+    plainLeft (plainOf (granulesOf granules) (plainWorld page table) (plainCall (recordOf state) (getD x 0 0) (getD x 1 0) (getD x 2 0) (getD x 3 0) key width))

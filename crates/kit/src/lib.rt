@@ -1,5 +1,5 @@
 // The kit for C and Rust: every entry under one prefix. A state is a lent image of words, a result a number or lent words.
-use granules::Granules;
+use runtime::Needs;
 ghost use mathlib.Core.Path.{_≡_};
 ghost use lib.ListN.{length};
 ghost use Rattle.reader.specs.Answer.{countIn, wordIn, readOf};
@@ -10,13 +10,13 @@ ghost use Rattle.lists.specs.Description.{descriptionOf};
 ghost use Rattle.writer.specs.Write.{writeOf};
 ghost use Rattle.writer.specs.Wrote.{pageAfter};
 ghost use Rattle.boot.specs.Boot.{codeIn, coldCode, coldNext, warmCode, warmNext};
-ghost use Rattle.granules.specs.Granules.{delegateOf, undelegateOf};
+ghost use Rattle.granules.specs.declared.Direction.{Direction};
 ghost use Rattle.attest.specs.Key.{realmKeyOf};
 ghost use Rattle.token.specs.Token.{challengeSpan};
 ghost use Rattle.features.specs.Features.{featuresOf, updateOf, forwardOf};
 ghost use Rattle.images.specs.Image.{recordOf, recordWords, registerWords, workWords, viewOf, answerWords, madeNumber, spanWords};
 ghost use Rattle.queue_image.specs.Image.{listsIn, oldestWords};
-ghost use Rattle.kit.specs.Kit.{TokenLeft, tokenIn, SigningLeft, signingIn, SignLeft, signIn, CallLeft, callWith, callIn};
+ghost use Rattle.kit.specs.Kit.{MoveLeft, moveIn, TokenLeft, tokenIn, SigningLeft, signingIn, SignLeft, signIn, PlainLeft, plainIn, CallLeft, callLent, callIn};
 
 // ---- Manifest ----
 
@@ -134,18 +134,17 @@ pub extern "C" fn pb_warm_boot(image: &mut [u64; 4], x0: u64, x1: u64, x2: u64, 
 #[no_mangle]
 pub extern "C" fn pb_delegate(
     state: &[u64; 4],
-    start: u64,
+    granules: &[u64; 1],
     table: &mut [u8],
     address: u64,
     out: &mut [u64; 3],
 )
-    ensures { λ _. ⌜ now (out .exit) ≡ registerWords (delegateOf (recordOf (now (state .entry))) (record { start = start }) (now (table .entry)) address .answer) ⌝ }
-    ensures { λ _. ⌜ now (table .exit) ≡ delegateOf (recordOf (now (state .entry))) (record { start = start }) (now (table .entry)) address .table ⌝ }
+    ensures { λ _. ⌜ _≡_ {A = MoveLeft} (record { out = now (out .exit); table = now (table .exit) })
+        (moveIn Direction.Delegate (now (state .entry)) (now (granules .entry)) (now (table .entry)) address) ⌝ }
 {
-    let granules = Granules { start };
     *out = images::registers(granules::delegate(
         images::record_of(state),
-        granules,
+        images::granules_of(granules),
         table,
         address,
     ));
@@ -155,18 +154,17 @@ pub extern "C" fn pb_delegate(
 #[no_mangle]
 pub extern "C" fn pb_undelegate(
     state: &[u64; 4],
-    start: u64,
+    granules: &[u64; 1],
     table: &mut [u8],
     address: u64,
     out: &mut [u64; 3],
 )
-    ensures { λ _. ⌜ now (out .exit) ≡ registerWords (undelegateOf (recordOf (now (state .entry))) (record { start = start }) (now (table .entry)) address .answer) ⌝ }
-    ensures { λ _. ⌜ now (table .exit) ≡ undelegateOf (recordOf (now (state .entry))) (record { start = start }) (now (table .entry)) address .table ⌝ }
+    ensures { λ _. ⌜ _≡_ {A = MoveLeft} (record { out = now (out .exit); table = now (table .exit) })
+        (moveIn Direction.Undelegate (now (state .entry)) (now (granules .entry)) (now (table .entry)) address) ⌝ }
 {
-    let granules = Granules { start };
     *out = images::registers(granules::undelegate(
         images::record_of(state),
-        granules,
+        images::granules_of(granules),
         table,
         address,
     ));
@@ -348,14 +346,46 @@ pub extern "C" fn pb_oldest(queue: &[u64; 210], request: &mut [u64; 10]) -> usiz
 
 // ---- Every command ----
 
-// A call of the interface, x0 being the function id. Both images are written where the call is accepted.
+// A call that uses neither session nor queue.
+fn plain(
+    state: &[u64; 4],
+    page: &mut [u8],
+    granules: &[u64; 1],
+    table: &mut [u8],
+    key: &[u8],
+    width: u64,
+    call: &[u64; 5],
+    out: &mut [u64; 3],
+    work: &mut [u64; 2],
+)
+    ensures { λ _. ⌜ _≡_ {A = PlainLeft} (record { out = now (out .exit); work = now (work .exit); page = now (page .exit); table = now (table .exit) })
+        (plainIn (now (state .entry)) (now (granules .entry)) (now (page .entry)) (now (table .entry)) (now (call .entry)) (now (key .entry)) width) ⌝ }
+{
+    let reply = runtime::plain_call(
+        images::record_of(state),
+        images::granules_of(granules),
+        call[0],
+        call[1],
+        call[2],
+        call[3],
+        page,
+        table,
+        key,
+        width,
+    );
+    *out = images::reply_registers(reply);
+    *work = images::reply_words(reply);
+}
+
+// A call of the interface, x0 being the function id. Only the platform token reads and writes the session's image, and only token
+// signing the queue's; each is written where the call is accepted.
 #[no_mangle]
 pub extern "C" fn pb_call(
     state: &[u64; 4],
     session: &mut [u64; 3],
     queue: &mut [u64; 210],
     page: &mut [u8],
-    start: u64,
+    granules: &[u64; 1],
     table: &mut [u8],
     key: &[u8],
     token: &[u8],
@@ -367,32 +397,38 @@ pub extern "C" fn pb_call(
     work: &mut [u64; 2],
 )
     ensures { λ _. ⌜ _≡_ {A = CallLeft} (record { out = now (out .exit); work = now (work .exit); page = now (page .exit); table = now (table .exit); session = now (session .exit); queue = now (queue .exit) })
-        (callIn (now (state .entry)) start (now (session .entry)) (now (queue .entry)) (now (page .entry)) (now (table .entry)) (callWith (now (call .entry)) busy (now (key .entry)) (now (token .entry)) (now (public .entry)) width)) ⌝ }
+        (callIn (now (granules .entry)) (now (session .entry)) (now (queue .entry)) (now (page .entry)) (now (table .entry))
+        (callLent (now (state .entry)) (now (call .entry)) busy (now (key .entry)) (now (token .entry)) (now (public .entry)) width)) ⌝ }
 {
-    let done = runtime::call(
-        images::record_of(state),
-        Granules { start },
-        call[0],
-        call[1],
-        call[2],
-        call[3],
-        call[4],
-        page,
-        table,
-        key,
-        images::is_set(busy),
-        token,
-        images::session_of(session),
-        queue_image::queue_of(queue),
-        public,
-        width,
-    );
-    let reply = done.reply;
-    let next = done.session;
-    let waiting = done.queue;
-    let code = images::reply_code(reply);
-    images::put_session(session, next, code);
-    queue_image::put_queue(queue, waiting, code);
-    *out = images::reply_registers(reply);
-    *work = images::reply_words(reply);
+    match runtime::needs_of(call[0]) {
+        Needs::Nothing => plain(state, page, granules, table, key, width, call, out, work),
+        Needs::Session => {
+            *work = [0, 0];
+            pb_platform_token(
+                state,
+                session,
+                page,
+                token,
+                busy,
+                call[1],
+                call[2],
+                call[3],
+                out,
+            )
+        }
+        Needs::Queue => {
+            *work = [0, 0];
+            pb_token_signing(
+                state,
+                queue,
+                page,
+                public,
+                call[1],
+                call[2],
+                call[3],
+                call[4],
+                out,
+            )
+        }
+    }
 }

@@ -1,5 +1,6 @@
 use mathlib.Core.Path.{ap, _∙_}
-use Rattle.kit.specs.Kit.{isSet, tokenIn}
+use Rattle.images.specs.Image.{isSet}
+use Rattle.kit.specs.Kit.{tokenIn}
 use Rattle.kit.proofs.Left.{token-left}
 use borrow.Author.Needs.{needs}
 use Rattle.kit.proofs.pb_platform_token.Statement.{statement}
