@@ -34,15 +34,13 @@ use Rattle.signing.specs.declared.Opcode.the-variants.{Push, Pull, Key, Other}
 use Rattle.signing.proofs.Signings.{signing-refused}
 use Rattle.runtime.specs.declared.Kind.{Kind}
 use Rattle.runtime.specs.declared.Kind.the-variants.{ForwardError, Delegate, Undelegate, RealmKey, PlatformToken, Features, TokenSigning, KeyUpdate, Unlisted}
-use Rattle.runtime.specs.Step.{World, Call, call, Step, kindOf, afterMove, afterKey, afterToken, afterSigning, afterUpdate, callBy, callOf, stepOf, replyCode}
-use Rattle.runtime.proofs.Refused.{refused}
-use Rattle.images.specs.Image.{recordOf, sessionOf, sessionWords}
+use Rattle.runtime.specs.Step.{World, Call, Step, kindOf, afterMove, afterKey, afterToken, afterSigning, afterUpdate, callBy, callOf, replyCode, needsOf}
+use Rattle.images.specs.Image.{recordOf, granulesOf, isSet, sessionOf, sessionWords}
 use Rattle.images.proofs.Inverse.{session-back}
 use Rattle.queue_image.specs.Image.{listsIn, queueWords, each, areBytes, requestFits, responseFits, eightFit, queueFits}
 use Rattle.queue_image.proofs.Inverse.{queue-back}
 use Rattle.queue_image.proofs.Fits.{image-fits, side-joins, side-rests, part-bytes, num-below}
-use Rattle.chains.specs.Chain.{worldIn}
-use Rattle.kit.specs.Kit.{isSet, sessionAfter, queueAfter, tokenLeft, tokenIn, signingLeft, signingIn, signLeft, signIn, CallLeft, callLeft, callIn}
+use Rattle.kit.specs.Kit.{sessionAfter, queueAfter, tokenLeft, tokenIn, signingLeft, signingIn, signLeft, signIn, sessionLeft, queueLeft, worldIn, callLeft, callIn}
 
 -- ---- once for every image: one that is written reads back, and one that is left as it was stands for the state before
 chains : {A : Type 0} (of : List ℕ → A) (words : A → List ℕ) (b : Bool) (s : A) (image : List ℕ) → of (words s) ≡ s → (b ≡ false → s ≡ of image) → of (cond b (words s) image) ≡ s
@@ -50,13 +48,18 @@ chains of words true s image back same = back
 chains of words false s image back same = sym (same refl)
 
 -- ---- the platform token
+token-chain : (r : Record) (image page token : List ℕ) (busy : Bool) (pa size c : ℕ) →
+    sessionOf (tokenLeft (tokenOf r page (sessionOf image) busy token pa size c) image .session) ≡ tokenOf r page (sessionOf image) busy token pa size c .session
+unfolding tokenLeft sessionAfter
+token-chain r image page token busy pa size c =
+    let t : TokenStep = tokenOf r page (sessionOf image) busy token pa size c in
+    chains sessionOf sessionWords (isOk (t .answer .code)) (t .session) image (session-back (t .session))
+    (λ h. ap (λ (x : TokenStep). x .session) (token-refused r page (sessionOf image) busy token pa size c h))
+
 pub session-chain : (state image page token : List ℕ) (busy pa size c : ℕ) →
     sessionOf (tokenIn state image page token busy pa size c .session) ≡ tokenOf (recordOf state) page (sessionOf image) (isSet busy) token pa size c .session
-unfolding tokenIn tokenLeft sessionAfter
-session-chain state image page token busy pa size c =
-    let t : TokenStep = tokenOf (recordOf state) page (sessionOf image) (isSet busy) token pa size c in
-    chains sessionOf sessionWords (isOk (t .answer .code)) (t .session) image (session-back (t .session))
-    (λ h. ap (λ (x : TokenStep). x .session) (token-refused (recordOf state) page (sessionOf image) (isSet busy) token pa size c h))
+unfolding tokenIn
+session-chain state image page token busy pa size c = token-chain (recordOf state) image page token (isSet busy) pa size c
 
 -- ---- each call keeps that the queue fits
 -- push: the request in a buffer of at least 80 bytes, where fewer than eight wait
@@ -135,14 +138,19 @@ signed-fits q s a f = if-ok-holds queueFits (signCode q s) (signed q s) q f (sig
 
 -- ---- token signing, and the signer's own step, on an image of 210 words
 module _ (image : List ℕ) (l : length image ≡ 210) (w : Yes (areWords image)) where
+  signing-chain : (r : Record) (page key : List ℕ) (opcode pa size curve : ℕ) → Yes (areBytes page) →
+      listsIn (signingLeft (signingOf r page (listsIn image) key opcode pa size curve) image .queue) ≡ signingOf r page (listsIn image) key opcode pa size curve .queue
+  unfolding signingLeft queueAfter
+  signing-chain r page key opcode pa size curve a =
+      let s : SigningStep = signingOf r page (listsIn image) key opcode pa size curve in
+      chains listsIn queueWords (isOk (s .answer .code)) (s .queue) image
+      (queue-back (s .queue) (signing-fits r page (listsIn image) key opcode pa size curve a (image-fits image l w)))
+      (λ h. ap (λ (x : SigningStep). x .queue) (signing-refused r page (listsIn image) key opcode pa size curve h))
+
   pub queue-chain : (state page key : List ℕ) (opcode pa size curve : ℕ) → Yes (areBytes page) →
       listsIn (signingIn state image page key opcode pa size curve .queue) ≡ signingOf (recordOf state) page (listsIn image) key opcode pa size curve .queue
-  unfolding signingIn signingLeft queueAfter
-  queue-chain state page key opcode pa size curve a =
-      let s : SigningStep = signingOf (recordOf state) page (listsIn image) key opcode pa size curve in
-      chains listsIn queueWords (isOk (s .answer .code)) (s .queue) image
-      (queue-back (s .queue) (signing-fits (recordOf state) page (listsIn image) key opcode pa size curve a (image-fits image l w)))
-      (λ h. ap (λ (x : SigningStep). x .queue) (signing-refused (recordOf state) page (listsIn image) key opcode pa size curve h))
+  unfolding signingIn
+  queue-chain state page key opcode pa size curve a = signing-chain (recordOf state) page key opcode pa size curve a
 
   pub sign-chain : (signature : List ℕ) → Yes (areBytes signature) → listsIn (signIn image signature .queue) ≡ signOf (listsIn image) signature .queue
   unfolding signIn signLeft queueAfter
@@ -153,44 +161,51 @@ module _ (image : List ℕ) (l : length image ≡ 210) (w : Yes (areWords image)
       (λ h. ap (λ (x : SignStep). x .queue) (sign-refused (listsIn image) signature h))
 
 -- ---- any command: both images
-pub call-fits : (k : Kind) (r : Record) (g : Granules) (w : World) (c : Call) → Yes (areBytes (w .page)) → Yes (queueFits (w .queue)) → Yes (queueFits (callBy k r g w c .next .queue))
+pub call-fits : (k : Kind) (g : Granules) (w : World) (c : Call) → Yes (areBytes (w .page)) → Yes (queueFits (w .queue)) → Yes (queueFits (callBy k g w c .next .queue))
 unfolding callBy afterMove afterKey afterToken afterSigning afterUpdate
-call-fits ForwardError r g w c a f = f
-call-fits Delegate r g w c a f = f
-call-fits Undelegate r g w c a f = f
-call-fits RealmKey r g w c a f = f
-call-fits PlatformToken r g w c a f = f
-call-fits Features r g w c a f = f
-call-fits TokenSigning r g w c a f = signing-fits r (w .page) (w .queue) (c .publicKey) (c .x1) (c .x2) (c .x3) (c .x4) a f
-call-fits KeyUpdate r g w c a f = f
-call-fits Unlisted r g w c a f = f
+call-fits ForwardError g w c a f = f
+call-fits Delegate g w c a f = f
+call-fits Undelegate g w c a f = f
+call-fits RealmKey g w c a f = f
+call-fits PlatformToken g w c a f = f
+call-fits Features g w c a f = f
+call-fits TokenSigning g w c a f = signing-fits (c .state) (w .page) (w .queue) (c .publicKey) (c .x1) (c .x2) (c .x3) (c .x4) a f
+call-fits KeyUpdate g w c a f = f
+call-fits Unlisted g w c a f = f
 
-module _ (state : List ℕ) (start : ℕ) (session queue page table : List ℕ) (c : Call) where
-  -- the runtime's step from it, and what the export leaves
-  abbrev pub step : Step
-  step = callOf (recordOf state) (record { start = start }) (worldIn session queue page table) c
+module _ (g : Granules) (session queue page table : List ℕ) (c : Call) where
+  -- the runtime's step from the world that the images stand for
+  by : Kind → Step
+  by k = callBy k g (worldIn session queue page table) c
 
-  abbrev pub left : CallLeft
-  left = callIn state start session queue page table c
+  session-by : (k : Kind) → sessionOf (sessionLeft (needsOf k) (replyCode (by k .reply)) (by k .next .session) session) ≡ by k .next .session
+  unfolding by needsOf sessionLeft tokenLeft callBy afterMove afterKey afterToken afterSigning afterUpdate replyCode
+  session-by ForwardError = refl
+  session-by Delegate = refl
+  session-by Undelegate = refl
+  session-by RealmKey = refl
+  session-by PlatformToken = token-chain (c .state) session page (c .token) (c .busy) (c .x1) (c .x2) (c .x3)
+  session-by Features = refl
+  session-by TokenSigning = refl
+  session-by KeyUpdate = refl
+  session-by Unlisted = refl
 
-  -- a refused call changes nothing
-  stays : isOk (replyCode (step .reply)) ≡ false → step .next ≡ worldIn session queue page table
-  unfolding stepOf
-  stays h = ap (λ (x : Step). x .next) (refused (recordOf state) (record { start = start }) (worldIn session queue page table) (call c) h)
+  queue-by : length queue ≡ 210 → Yes (areWords queue) → Yes (areBytes page) → (k : Kind) → listsIn (queueLeft (needsOf k) (replyCode (by k .reply)) (by k .next .queue) queue) ≡ by k .next .queue
+  unfolding by needsOf queueLeft signingLeft callBy afterMove afterKey afterToken afterSigning afterUpdate replyCode
+  queue-by l w a ForwardError = refl
+  queue-by l w a Delegate = refl
+  queue-by l w a Undelegate = refl
+  queue-by l w a RealmKey = refl
+  queue-by l w a PlatformToken = refl
+  queue-by l w a Features = refl
+  queue-by l w a TokenSigning = signing-chain queue l w (c .state) page (c .publicKey) (c .x1) (c .x2) (c .x3) (c .x4) a
+  queue-by l w a KeyUpdate = refl
+  queue-by l w a Unlisted = refl
 
-  pub call-session-chain : sessionOf (left .session) ≡ step .next .session
-  unfolding callIn callLeft sessionAfter
-  call-session-chain = chains sessionOf sessionWords (isOk (replyCode (step .reply))) (step .next .session) session (session-back (step .next .session)) (λ h. ap (λ (x : World). x .session) (stays h))
-
-  module _ (l : length queue ≡ 210) (w : Yes (areWords queue)) (a : Yes (areBytes page)) where
-    pub call-queue-chain : listsIn (left .queue) ≡ step .next .queue
-    unfolding callIn callLeft queueAfter callOf
-    call-queue-chain =
-        chains listsIn queueWords (isOk (replyCode (step .reply))) (step .next .queue) queue
-        (queue-back (step .next .queue) (call-fits (kindOf (c .id)) (recordOf state) (record { start = start }) (worldIn session queue page table) c a (image-fits queue l w)))
-        (λ h. ap (λ (x : World). x .queue) (stays h))
-
-    -- all that is left stands for the next world
-    pub call-chain : worldIn (left .session) (left .queue) (left .page) (left .table) ≡ step .next
-    unfolding callIn callLeft
-    call-chain = rw (call-session-chain, call-queue-chain)
+-- all that a call leaves stands for the next world
+pub call-chain : (granules session queue page table : List ℕ) (c : Call) → length queue ≡ 210 → Yes (areWords queue) → Yes (areBytes page) →
+    worldIn (callIn granules session queue page table c .session) (callIn granules session queue page table c .queue) (callIn granules session queue page table c .page) (callIn granules session queue page table c .table)
+    ≡ callOf (granulesOf granules) (worldIn session queue page table) c .next
+unfolding callIn callLeft callOf by
+call-chain granules session queue page table c l w a =
+    rw (session-by (granulesOf granules) session queue page table c (kindOf (c .id)), queue-by (granulesOf granules) session queue page table c l w a (kindOf (c .id)))

@@ -26,11 +26,12 @@ use Rattle.runtime.specs.declared.Kind.{Kind}
 use Rattle.runtime.specs.declared.Kind.the-variants.{ForwardError, Delegate, Undelegate, RealmKey, PlatformToken, Features, TokenSigning, KeyUpdate, Unlisted}
 use Rattle.runtime.specs.Step.{World, Call, Command, call, sign, kindOf, afterMove, afterKey, afterToken, afterSigning, afterUpdate, afterSign, callBy, callOf, stepOf}
 use Rattle.runtime.specs.Run.{worldAfter}
-use Rattle.images.specs.Image.{recordOf}
+use Rattle.images.specs.Image.{granulesOf}
 use Rattle.queue_image.specs.Image.{listsIn, queueWords, each, areBytes, responseFits, eightFit, queueFits}
 use Rattle.queue_image.proofs.Fits.{image-fits, each-append, low-bytes, part-bytes, splice-bytes, queue-words, queue-length}
-use Rattle.chains.specs.Chain.{Lent, worldOf, lentAfter, allAfter, ofBytes}
-use Rattle.kit.specs.Kit.{queueAfter, signLeft, signIn, CallLeft, callLeft, callIn}
+use Rattle.chains.specs.Chain.{Lent, lentWorld, lentAfter, allAfter, ofBytes}
+use Rattle.runtime.specs.declared.Needs.{Needs}
+use Rattle.kit.specs.Kit.{queueAfter, signLeft, signIn, queueLeft, callLeft, callIn}
 use Rattle.chains.proofs.Chain.{if-ok-holds, signed-fits, call-fits, sign-chain, call-chain}
 
 -- ---- a page of bytes stays one
@@ -66,17 +67,17 @@ key-bytes : (r : Record) (page key : List ℕ) (pa size curve : ℕ) → Yes (ar
 unfolding realmKeyOf keyed
 key-bytes r page key pa size curve a k = if-ok-holds areBytes (whenUp r (keyCode (upOf r) page pa size curve key)) _ page a (λ h. splice-bytes _ key page k a)
 
-call-bytes : (k : Kind) (r : Record) (g : Granules) (w : World) (c : Call) → Yes (areBytes (w .page)) → Yes (queueFits (w .queue)) → Yes (ofBytes (call c)) → Yes (areBytes (callBy k r g w c .next .page))
+call-bytes : (k : Kind) (g : Granules) (w : World) (c : Call) → Yes (areBytes (w .page)) → Yes (queueFits (w .queue)) → Yes (ofBytes (call c)) → Yes (areBytes (callBy k g w c .next .page))
 unfolding callBy afterMove afterKey afterToken afterSigning afterUpdate ofBytes
-call-bytes ForwardError r g w c a f b = a
-call-bytes Delegate r g w c a f b = a
-call-bytes Undelegate r g w c a f b = a
-call-bytes RealmKey r g w c a f b = key-bytes r (w .page) (c .realmKey) (c .x1) (c .x2) (c .x3) a (both-l _ _ b)
-call-bytes PlatformToken r g w c a f b = token-bytes r (w .page) (w .session) (c .busy) (c .token) (c .x1) (c .x2) (c .x3) a (both-l _ _ (both-r _ _ b))
-call-bytes Features r g w c a f b = a
-call-bytes TokenSigning r g w c a f b = signing-bytes r (w .page) (w .queue) (c .publicKey) (c .x1) (c .x2) (c .x3) (c .x4) a f (both-r _ _ (both-r _ _ b))
-call-bytes KeyUpdate r g w c a f b = a
-call-bytes Unlisted r g w c a f b = a
+call-bytes ForwardError g w c a f b = a
+call-bytes Delegate g w c a f b = a
+call-bytes Undelegate g w c a f b = a
+call-bytes RealmKey g w c a f b = key-bytes (c .state) (w .page) (c .realmKey) (c .x1) (c .x2) (c .x3) a (both-l _ _ b)
+call-bytes PlatformToken g w c a f b = token-bytes (c .state) (w .page) (w .session) (c .busy) (c .token) (c .x1) (c .x2) (c .x3) a (both-l _ _ (both-r _ _ b))
+call-bytes Features g w c a f b = a
+call-bytes TokenSigning g w c a f b = signing-bytes (c .state) (w .page) (w .queue) (c .publicKey) (c .x1) (c .x2) (c .x3) (c .x4) a f (both-r _ _ (both-r _ _ b))
+call-bytes KeyUpdate g w c a f b = a
+call-bytes Unlisted g w c a f b = a
 
 -- ---- one command, and any sequence
 -- an image of 210 words stays one
@@ -87,10 +88,16 @@ left-whole : (k : Code) (q : Lists) (image : List ℕ) → Yes (whole image) →
 unfolding queueAfter
 left-whole k q image h f = if-ok-holds whole k (queueWords q) image h (λ e. both-of _ _ (eq-eqb (length (queueWords q)) 210 (queue-length q f)) (queue-words q f))
 
+needs-whole : (n : Needs) (k : Code) (q : Lists) (image : List ℕ) → Yes (whole image) → Yes (queueFits q) → Yes (whole (queueLeft n k q image))
+unfolding queueLeft
+needs-whole Needs.Nothing k q image h f = h
+needs-whole Needs.Session k q image h f = h
+needs-whole Needs.Queue k q image h f = left-whole k q image h f
+
 sound : Lent → Bool
 sound m = both (areBytes (m .page)) (whole (m .queue))
 
-module _ (state : List ℕ) (start : ℕ) where
+module _ (granules : List ℕ) where
   module _ (m : Lent) (h : Yes (sound m)) where
     page-bytes : Yes (areBytes (m .page))
     unfolding sound
@@ -100,27 +107,27 @@ module _ (state : List ℕ) (start : ℕ) where
     unfolding sound
     queue-fits = image-fits (m .queue) (eqb-true _ _ (both-l _ _ (both-r _ _ h))) (both-r _ _ (both-r _ _ h))
 
-    step-sound : (c : Command) → Yes (ofBytes c) → Yes (sound (lentAfter state start m c))
+    step-sound : (c : Command) → Yes (ofBytes c) → Yes (sound (lentAfter granules m c))
     unfolding sound lentAfter callIn callLeft signIn signLeft callOf ofBytes
     step-sound (call c) b =
-        both-of _ _ (call-bytes (kindOf (c .id)) (recordOf state) (record { start = start }) (worldOf m) c page-bytes queue-fits b)
-        (left-whole _ _ (m .queue) (both-r _ _ h) (call-fits (kindOf (c .id)) (recordOf state) (record { start = start }) (worldOf m) c page-bytes queue-fits))
+        both-of _ _ (call-bytes (kindOf (c .id)) (granulesOf granules) (lentWorld m) c page-bytes queue-fits b)
+        (needs-whole _ _ _ (m .queue) (both-r _ _ h) (call-fits (kindOf (c .id)) (granulesOf granules) (lentWorld m) c page-bytes queue-fits))
     step-sound (sign s) b = both-of _ _ page-bytes (left-whole _ _ (m .queue) (both-r _ _ h) (signed-fits (listsIn (m .queue)) s b queue-fits))
 
-    step-chain : (c : Command) → Yes (ofBytes c) → worldOf (lentAfter state start m c) ≡ stepOf (recordOf state) (record { start = start }) (worldOf m) c .next
+    step-chain : (c : Command) → Yes (ofBytes c) → lentWorld (lentAfter granules m c) ≡ stepOf (granulesOf granules) (lentWorld m) c .next
     unfolding sound lentAfter stepOf afterSign ofBytes
-    step-chain (call c) b = call-chain state start (m .session) (m .queue) (m .page) (m .table) c (eqb-true _ _ (both-l _ _ (both-r _ _ h))) (both-r _ _ (both-r _ _ h)) page-bytes
+    step-chain (call c) b = call-chain granules (m .session) (m .queue) (m .page) (m .table) c (eqb-true _ _ (both-l _ _ (both-r _ _ h))) (both-r _ _ (both-r _ _ h)) page-bytes
     step-chain (sign s) b = rw (sign-chain (m .queue) (eqb-true _ _ (both-l _ _ (both-r _ _ h))) (both-r _ _ (both-r _ _ h)) s b)
 
-  run-sound : (m : Lent) (cs : List Command) → Yes (sound m) → Yes (each ofBytes cs) → worldOf (allAfter state start m cs) ≡ worldAfter (recordOf state) (record { start = start }) (worldOf m) cs
+  run-sound : (m : Lent) (cs : List Command) → Yes (sound m) → Yes (each ofBytes cs) → lentWorld (allAfter granules m cs) ≡ worldAfter (granulesOf granules) (lentWorld m) cs
   unfolding allAfter worldAfter each
   run-sound m [] h b = refl
   run-sound m (c ∷ cs) h b =
-      run-sound (lentAfter state start m c) cs (step-sound m h c (both-l _ _ b)) (both-r _ _ b)
-      ∙ ap (λ (w : World). worldAfter (recordOf state) (record { start = start }) w cs) (step-chain m h c (both-l _ _ b))
+      run-sound (lentAfter granules m c) cs (step-sound m h c (both-l _ _ b)) (both-r _ _ b)
+      ∙ ap (λ (w : World). worldAfter (granulesOf granules) w cs) (step-chain m h c (both-l _ _ b))
 
   -- from an image of 210 words and a page of bytes, with bytes lent to each
   pub run-chain : (m : Lent) (cs : List Command) → length (m .queue) ≡ 210 → Yes (areWords (m .queue)) → Yes (areBytes (m .page)) → Yes (each ofBytes cs) →
-      worldOf (allAfter state start m cs) ≡ worldAfter (recordOf state) (record { start = start }) (worldOf m) cs
+      lentWorld (allAfter granules m cs) ≡ worldAfter (granulesOf granules) (lentWorld m) cs
   unfolding sound
   run-chain m cs l w a b = run-sound m cs (both-of _ _ a (both-of _ _ (eq-eqb (length (m .queue)) 210 l) w)) b
