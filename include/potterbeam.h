@@ -199,6 +199,10 @@
 #define PB_STATE_UP 1
 #define PB_STATE_CLOSED 2 /* as written; any other number is read as closed too */
 
+/* Granule record: the address G of the table's first granule. */
+#define PB_GRANULES_WORDS 1
+#define PB_GRANULES_START 0
+
 /* Token session. */
 #define PB_SESSION_WORDS 3
 #define PB_SESSION_KIND 0
@@ -208,7 +212,7 @@
 #define PB_SESSION_SENDING 1 /* as written; any other number is read as sending too */
 
 /* Signing queue: two counts, eight requests, eight responses, the oldest first. A count above 8 is read as 8, a signature's length
- * above 104 as 104. An accepted call of pb_token_signing, pb_sign or pb_call writes every word: places past the counts and signature
+ * above 104 as 104. An accepted token signing or pb_sign writes every word: places past the counts and signature
  * bytes past their length become zero. A refused one writes no word. */
 #define PB_QUEUE_WORDS 210
 #define PB_QUEUE_REQUESTS 0
@@ -384,23 +388,23 @@ int32_t pb_warm_boot(uint64_t state[PB_STATE_WORDS], uint64_t x0, uint64_t x1, u
 
 /*
  * pb_delegate (0xC40001B0): a granule goes from Non-secure to Realm.
- * Takes    the boot record, the granule table, the address `start` of its first granule, and the granule's address.
+ * Takes    the boot record, the granule record, the granule table, and the granule's address.
  * Answers  out: x0 PB_X0_OK, or by the first check that fails:
  *          PB_X0_UNK       record not up
- *          PB_X0_BAD_ADDR  start or address not a multiple of 4,096, or address on no granule of the table
+ *          PB_X0_BAD_ADDR  G or address not a multiple of 4,096, or address on no granule of the table
  *          PB_X0_BAD_PAS   the granule's byte is not PB_GRANULE_NON_SECURE
  * Leaves   on OK that byte as PB_GRANULE_REALM, and every other byte as it was. Refused, the table as it was.
  * The byte alone is changed: the change in hardware is the platform's, after an OK.
  */
-void pb_delegate(const uint64_t state[PB_STATE_WORDS], uint64_t start, uint8_t *table, size_t table_len, uint64_t address,
-                 uint64_t out[PB_OUT_WORDS]);
+void pb_delegate(const uint64_t state[PB_STATE_WORDS], const uint64_t granules[PB_GRANULES_WORDS], uint8_t *table, size_t table_len,
+                 uint64_t address, uint64_t out[PB_OUT_WORDS]);
 
 /*
  * pb_undelegate (0xC40001B1): a granule goes from Realm to Non-secure.
  * As pb_delegate, with PB_X0_BAD_PAS where the byte is not PB_GRANULE_REALM; on OK it becomes PB_GRANULE_NON_SECURE.
  */
-void pb_undelegate(const uint64_t state[PB_STATE_WORDS], uint64_t start, uint8_t *table, size_t table_len, uint64_t address,
-                   uint64_t out[PB_OUT_WORDS]);
+void pb_undelegate(const uint64_t state[PB_STATE_WORDS], const uint64_t granules[PB_GRANULES_WORDS], uint8_t *table, size_t table_len,
+                   uint64_t address, uint64_t out[PB_OUT_WORDS]);
 
 /*
  * pb_realm_key (0xC40001B2): the realm attestation key.
@@ -523,7 +527,7 @@ size_t pb_oldest(const uint64_t queue[PB_QUEUE_WORDS], uint64_t request[PB_REQUE
 
 /*
  * pb_call: every command by its function id.
- * Takes    the boot record, session, queue and page; the granule table and the address `start` of its first granule; the realm key;
+ * Takes    the boot record, session, queue and page; the granule record and the granule table; the realm key;
  *          the platform token and the busy flag; the public key of token signing; width = MECIDWidthm1; and call, the registers:
  *            PB_ID_FORWARD x1 err_code; PB_ID_DELEGATE, PB_ID_UNDELEGATE x1 address; PB_ID_REALM_KEY x1 pa, x2 size, x3 curve;
  *            PB_ID_PLATFORM_TOKEN x1 pa, x2 size, x3 c_size; PB_ID_FEATURES x1 index; PB_ID_TOKEN_SIGNING x1 opcode, x2 pa, x3 size,
@@ -531,11 +535,11 @@ size_t pb_oldest(const uint64_t queue[PB_QUEUE_WORDS], uint64_t request[PB_REQUE
  *          What a command does not need may be of any content, and a slice empty.
  * Answers  out and work as the command. PB_ID_FORWARD: out all zero, work (PB_WORK_FORWARD, err_code), for any boot record. Any
  *          other id: PB_X0_UNK. Every command but PB_ID_FORWARD: PB_X0_UNK while the record is not up.
- * Leaves   what the command leaves; all else as it was. An accepted call of any command writes session and queue whole, in the form
- *          above: that changes no word of an image that this library wrote, or of zeros.
+ * Leaves   what the command leaves; all else as it was. Only PB_ID_PLATFORM_TOKEN reads or writes the session, only
+ *          PB_ID_TOKEN_SIGNING the queue.
  */
 void pb_call(const uint64_t state[PB_STATE_WORDS], uint64_t session[PB_SESSION_WORDS], uint64_t queue[PB_QUEUE_WORDS], uint8_t *page,
-             size_t page_len, uint64_t start, uint8_t *table, size_t table_len, const uint8_t *key, size_t key_len,
+             size_t page_len, const uint64_t granules[PB_GRANULES_WORDS], uint8_t *table, size_t table_len, const uint8_t *key, size_t key_len,
              const uint8_t *token, size_t token_len, uint64_t busy, const uint8_t *public_key, size_t public_len, uint64_t width,
              const uint64_t call[PB_CALL_WORDS], uint64_t out[PB_OUT_WORDS], uint64_t work[PB_WORK_WORDS]);
 

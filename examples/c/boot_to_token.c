@@ -172,11 +172,12 @@ static void el3_make_token(const uint64_t call[PB_CALL_WORDS])
 /* One call of the monitor: the registers x0 to x4 in, x0 to x2 out. */
 static void el3_serve(const uint64_t call[PB_CALL_WORDS], uint64_t out[PB_OUT_WORDS])
 {
+    const uint64_t granules[PB_GRANULES_WORDS] = {[PB_GRANULES_START] = MEMORY};
     uint64_t work[PB_WORK_WORDS];
     if (call[PB_CALL_ID] == PB_ID_PLATFORM_TOKEN)
         el3_make_token(call);
     /* This board has no realm key and no public key: both are empty. */
-    pb_call(el3.state, el3.session, el3.queue, page, sizeof page, MEMORY, el3.table, sizeof el3.table, NULL, 0,
+    pb_call(el3.state, el3.session, el3.queue, page, sizeof page, granules, el3.table, sizeof el3.table, NULL, 0,
             el3.token, sizeof el3.token, 0, NULL, 0, PB_WIDTH_MOST, call, out, work);
     /* The platform's part comes here: after an OK of delegate or undelegate the change in hardware, and what work says. */
     if (work[PB_WORK_KIND] != PB_WORK_NOTHING)

@@ -167,9 +167,9 @@ fn compare_granules() {
         2,
         side(|| {
             let mut out = [0; 3];
-            Kit::delegate(&image, start, &mut ours, address, &mut out);
+            Kit::delegate(&image, &[start], &mut ours, address, &mut out);
             see(out[0]);
-            Kit::undelegate(&image, start, &mut ours, address, &mut out);
+            Kit::undelegate(&image, &[start], &mut ours, address, &mut out);
             see(out[0]);
         }),
         vec![(

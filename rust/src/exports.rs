@@ -3,6 +3,8 @@
 
 /// The boot record: 0 fresh, 1 up, any other number closed; then x2, B and the agreed minor when up.
 pub type RecordImage = [u64; 4];
+/// The granule record: G.
+pub type GranulesImage = [u64; 1];
 /// The token session: 0 idle, any other number sending; then the token's length at the start, and how much of it is sent.
 pub type SessionImage = [u64; 3];
 /// The signing queue: two counts, eight requests of 10 words, eight responses of 16.
@@ -22,8 +24,7 @@ pub type Work = [u64; 2];
 #[derive(Debug)]
 pub struct Lent<'a> {
     pub page: &'a mut [u8],
-    /// G.
-    pub start: u64,
+    pub granules: GranulesImage,
     pub table: &'a mut [u8],
     pub key: &'a [u8],
     pub token: &'a [u8],
@@ -45,8 +46,20 @@ pub trait Exports {
     fn cold_boot(state: &mut RecordImage, x: [u64; 4], most: u64, page: &[u8]) -> i32;
     fn warm_boot(state: &mut RecordImage, x: [u64; 4]) -> i32;
 
-    fn delegate(state: &RecordImage, start: u64, table: &mut [u8], at: u64, out: &mut Registers);
-    fn undelegate(state: &RecordImage, start: u64, table: &mut [u8], at: u64, out: &mut Registers);
+    fn delegate(
+        state: &RecordImage,
+        granules: &GranulesImage,
+        table: &mut [u8],
+        at: u64,
+        out: &mut Registers,
+    );
+    fn undelegate(
+        state: &RecordImage,
+        granules: &GranulesImage,
+        table: &mut [u8],
+        at: u64,
+        out: &mut Registers,
+    );
     /// x: pa, size, curve.
     fn realm_key(
         state: &RecordImage,

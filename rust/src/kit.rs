@@ -2,15 +2,16 @@
 //! or a length, and those come from slices and arrays here.
 
 use crate::exports::{
-    Exports, Lent, Place, QueueImage, RecordImage, Registers, RequestImage, SessionImage,
-    ViewImage, Work,
+    Exports, GranulesImage, Lent, Place, QueueImage, RecordImage, Registers, RequestImage,
+    SessionImage, ViewImage, Work,
 };
 use std::ptr::{null, null_mut};
 
 /// The C functions. Tests of the stack call them by address.
 pub mod ffi {
     use super::{
-        Place, QueueImage, RecordImage, Registers, RequestImage, SessionImage, ViewImage, Work,
+        GranulesImage, Place, QueueImage, RecordImage, Registers, RequestImage, SessionImage,
+        ViewImage, Work,
     };
 
     extern "C" {
@@ -77,7 +78,7 @@ pub mod ffi {
         pub fn pb_warm_boot(state: *mut RecordImage, x0: u64, x1: u64, x2: u64, x3: u64) -> i32;
         pub fn pb_delegate(
             state: *const RecordImage,
-            start: u64,
+            granules: *const GranulesImage,
             table: *mut u8,
             table_len: usize,
             address: u64,
@@ -85,7 +86,7 @@ pub mod ffi {
         );
         pub fn pb_undelegate(
             state: *const RecordImage,
-            start: u64,
+            granules: *const GranulesImage,
             table: *mut u8,
             table_len: usize,
             address: u64,
@@ -159,7 +160,7 @@ pub mod ffi {
             queue: *mut QueueImage,
             page: *mut u8,
             page_len: usize,
-            start: u64,
+            granules: *const GranulesImage,
             table: *mut u8,
             table_len: usize,
             key: *const u8,
@@ -272,15 +273,27 @@ impl Exports for Kit {
     }
 
     #[inline]
-    fn delegate(state: &RecordImage, start: u64, table: &mut [u8], at: u64, out: &mut Registers) {
+    fn delegate(
+        state: &RecordImage,
+        granules: &GranulesImage,
+        table: &mut [u8],
+        at: u64,
+        out: &mut Registers,
+    ) {
         let (table, table_len) = lend_mut(table);
-        unsafe { ffi::pb_delegate(state, start, table, table_len, at, out) }
+        unsafe { ffi::pb_delegate(state, granules, table, table_len, at, out) }
     }
 
     #[inline]
-    fn undelegate(state: &RecordImage, start: u64, table: &mut [u8], at: u64, out: &mut Registers) {
+    fn undelegate(
+        state: &RecordImage,
+        granules: &GranulesImage,
+        table: &mut [u8],
+        at: u64,
+        out: &mut Registers,
+    ) {
         let (table, table_len) = lend_mut(table);
-        unsafe { ffi::pb_undelegate(state, start, table, table_len, at, out) }
+        unsafe { ffi::pb_undelegate(state, granules, table, table_len, at, out) }
     }
 
     #[inline]
@@ -386,10 +399,10 @@ impl Exports for Kit {
         let (key, key_len) = lend(lent.key);
         let (token, token_len) = lend(lent.token);
         let (public, public_len) = lend(lent.public_key);
-        let (start, busy, width) = (lent.start, lent.busy, lent.width);
+        let (granules, busy, width) = (&lent.granules, lent.busy, lent.width);
         unsafe {
             ffi::pb_call(
-                state, session, queue, page, page_len, start, table, table_len, key, key_len,
+                state, session, queue, page, page_len, granules, table, table_len, key, key_len,
                 token, token_len, busy, public, public_len, width, x, out, work,
             )
         }

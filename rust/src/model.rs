@@ -2,8 +2,8 @@
 //! refused command leaves its images as they are, whatever they hold; a boot always writes the record.
 
 use crate::exports::{
-    Exports, Lent, Place, QueueImage, RecordImage, Registers, RequestImage, SessionImage,
-    ViewImage, Work,
+    Exports, GranulesImage, Lent, Place, QueueImage, RecordImage, Registers, RequestImage,
+    SessionImage, ViewImage, Work,
 };
 use crate::images::{
     part_of, queue_of, queue_words, record_of, record_words, registers, request_words, session_of,
@@ -17,7 +17,7 @@ use crate::reference::key::realm_key;
 use crate::reference::layout::{word_at, ENTRY_WORDS};
 use crate::reference::queue::Queue;
 use crate::reference::reader::{array, read};
-use crate::reference::runtime::{self, call, Call, Reply, State};
+use crate::reference::runtime::{self, call, Call, Reply, State, PLAT_TOKEN, TOKEN_SIGN};
 use crate::reference::signing::{token_sign, SignCall};
 use crate::reference::token::{challenge, TokenCall};
 use crate::reference::writer::write;
@@ -71,12 +71,24 @@ impl Exports for Model {
         boot(state, |record| record.warm(x))
     }
 
-    fn delegate(state: &RecordImage, start: u64, table: &mut [u8], at: u64, out: &mut Registers) {
-        *out = answered(delegate(record_of(state), start, table, at));
+    fn delegate(
+        state: &RecordImage,
+        granules: &GranulesImage,
+        table: &mut [u8],
+        at: u64,
+        out: &mut Registers,
+    ) {
+        *out = answered(delegate(record_of(state), granules[0], table, at));
     }
 
-    fn undelegate(state: &RecordImage, start: u64, table: &mut [u8], at: u64, out: &mut Registers) {
-        *out = answered(undelegate(record_of(state), start, table, at));
+    fn undelegate(
+        state: &RecordImage,
+        granules: &GranulesImage,
+        table: &mut [u8],
+        at: u64,
+        out: &mut Registers,
+    ) {
+        *out = answered(undelegate(record_of(state), granules[0], table, at));
     }
 
     fn realm_key(
@@ -176,8 +188,11 @@ impl Exports for Model {
         };
         let [id, x @ ..] = *x;
         (*out, *work) = replied(call(&mut next, &mut native(lent), Call { id, x }));
-        if out[0] == 0 {
+        // Only the command that uses a state touches its image.
+        if out[0] == 0 && id == PLAT_TOKEN {
             *session = session_words(next.session);
+        }
+        if out[0] == 0 && id == TOKEN_SIGN {
             *queue = queue_words(&next.queue);
         }
     }
@@ -224,7 +239,7 @@ fn native<'a>(lent: &'a mut Lent) -> runtime::Lent<'a> {
     runtime::Lent {
         page: lent.page,
         table: lent.table,
-        start: lent.start,
+        start: lent.granules[0],
         realm_key: lent.key,
         public_key: lent.public_key,
         token: lent.token,

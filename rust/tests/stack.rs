@@ -176,10 +176,10 @@ fn command_exports() {
         Kit::warm_boot(&mut state, [0; 4]);
     });
     printed("pb_delegate", || {
-        Kit::delegate(&UP, 0, &mut table, 4096, &mut out);
+        Kit::delegate(&UP, &[0], &mut table, 4096, &mut out);
     });
     printed("pb_undelegate", || {
-        Kit::undelegate(&UP, 0, &mut table, 4096, &mut out);
+        Kit::undelegate(&UP, &[0], &mut table, 4096, &mut out);
     });
     printed("pb_features", || Kit::features(&UP, 0, &mut out));
     printed("pb_key_update", || {
@@ -232,7 +232,7 @@ fn queue_exports() {
     printed("pb_call, push", || {
         let mut lent = Lent {
             page: &mut page,
-            start: 0,
+            granules: [0],
             table: &mut [],
             key: &key,
             token: &key,

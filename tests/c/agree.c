@@ -16,6 +16,7 @@
 
 #define BASE UINT64_C(0x80000000)
 #define MEMORY UINT64_C(0x90000000)
+static const uint64_t granules[PB_GRANULES_WORDS] = {[PB_GRANULES_START] = MEMORY};
 #define LEN 4096
 #define ROOM 512
 #define GUARD UINT64_C(0xA5C3A5C3A5C3A5C3)
@@ -401,9 +402,9 @@ static void check_codes(void)
     up(state, 5);
     pb_features(state, 0, out);
     SAME(PB_X0_OK, out[PB_OUT_X0]);
-    pb_delegate(state, MEMORY, table, 1, MEMORY + 1, out);
+    pb_delegate(state, granules, table, 1, MEMORY + 1, out);
     SAME(PB_X0_BAD_ADDR, out[PB_OUT_X0]);
-    pb_delegate(state, MEMORY, table, 1, MEMORY, out);
+    pb_delegate(state, granules, table, 1, MEMORY, out);
     SAME(PB_X0_BAD_PAS, out[PB_OUT_X0]);
     pb_features(state, 1, out);
     SAME(PB_X0_INVAL, out[PB_OUT_X0]);
@@ -418,9 +419,9 @@ static uint64_t delegate(const uint64_t state[ROOM], uint8_t *table, size_t i, i
 {
     uint64_t out[ROOM];
     if (back)
-        pb_undelegate(state, MEMORY, table, 4, MEMORY + i * PB_GRANULE_BYTES, out);
+        pb_undelegate(state, granules, table, 4, MEMORY + i * PB_GRANULE_BYTES, out);
     else
-        pb_delegate(state, MEMORY, table, 4, MEMORY + i * PB_GRANULE_BYTES, out);
+        pb_delegate(state, granules, table, 4, MEMORY + i * PB_GRANULE_BYTES, out);
     return out[0];
 }
 
@@ -832,7 +833,7 @@ static uint64_t dispatch(uint64_t id, uint64_t x1, uint64_t x2, uint64_t x3, uin
     board.call[PB_CALL_X2] = x2;
     board.call[PB_CALL_X3] = x3;
     board.call[PB_CALL_X4] = x4;
-    pb_call(board.state, board.session, board.queue, page, LEN, MEMORY, board.table, 2, key, sizeof key, token, sizeof token, 0,
+    pb_call(board.state, board.session, board.queue, page, LEN, granules, board.table, 2, key, sizeof key, token, sizeof token, 0,
             public_key, sizeof public_key, 15, board.call, board.out, board.work);
     SAME(PB_OUT_WORDS, written(board.out));
     SAME(PB_WORK_WORDS, written(board.work));

@@ -15,8 +15,8 @@ struct signatures {
     uint32_t (*write)(uint64_t, uint64_t, words, size_t, words, size_t, words, size_t, words, size_t, uint8_t *, size_t);
     int32_t (*cold_boot)(uint64_t *, uint64_t, uint64_t, uint64_t, uint64_t, uint64_t, bytes, size_t);
     int32_t (*warm_boot)(uint64_t *, uint64_t, uint64_t, uint64_t, uint64_t);
-    void (*delegate)(words, uint64_t, uint8_t *, size_t, uint64_t, uint64_t *);
-    void (*undelegate)(words, uint64_t, uint8_t *, size_t, uint64_t, uint64_t *);
+    void (*delegate)(words, words, uint8_t *, size_t, uint64_t, uint64_t *);
+    void (*undelegate)(words, words, uint8_t *, size_t, uint64_t, uint64_t *);
     void (*realm_key)(words, uint8_t *, size_t, bytes, size_t, uint64_t, uint64_t, uint64_t, uint64_t *);
     void (*platform_token)(words, uint64_t *, uint8_t *, size_t, bytes, size_t, uint64_t, uint64_t, uint64_t, uint64_t, uint64_t *);
     void (*challenge)(words, bytes, size_t, uint64_t, uint64_t, uint64_t, uint64_t *);
@@ -26,7 +26,7 @@ struct signatures {
     uint64_t (*forward)(words, uint64_t);
     void (*sign)(uint64_t *, bytes, size_t, uint64_t *);
     size_t (*oldest)(words, uint64_t *);
-    void (*call)(words, uint64_t *, uint64_t *, uint8_t *, size_t, uint64_t, uint8_t *, size_t, bytes, size_t, bytes, size_t, uint64_t,
+    void (*call)(words, uint64_t *, uint64_t *, uint8_t *, size_t, words, uint8_t *, size_t, bytes, size_t, bytes, size_t, uint64_t,
                  bytes, size_t, uint64_t, words, uint64_t *, uint64_t *);
 };
 

@@ -91,7 +91,7 @@ fn delegate(pair: &mut Pair, scene: &mut Scene) {
         let (images, table) = (&mut m.images, m.table.lent_mut());
         S::delegate(
             &images.record.words,
-            start,
+            &[start],
             table,
             at,
             &mut images.out.words,
@@ -106,7 +106,7 @@ fn undelegate(pair: &mut Pair, scene: &mut Scene) {
         let (images, table) = (&mut m.images, m.table.lent_mut());
         S::undelegate(
             &images.record.words,
-            start,
+            &[start],
             table,
             at,
             &mut images.out.words,
@@ -226,7 +226,7 @@ fn call(pair: &mut Pair, scene: &mut Scene) {
     check!(pair, "pb_call", (scene, busy, x), |S, m| {
         let mut lent = Lent {
             page: m.page.lent_mut(),
-            start: scene.start,
+            granules: [scene.start],
             table: m.table.lent_mut(),
             key: &scene.realm_key,
             token: &scene.token,
