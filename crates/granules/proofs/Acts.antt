@@ -14,6 +14,7 @@ use Rattle.codes.specs.Codes.{isUp, isOk, whenUp, answerOf}
 use Rattle.codes.specs.declared.Code.the-variants.{Ok}
 use Rattle.codes.proofs.Gates.{unless-ok}
 use Rattle.granules.specs.Granules.{granuleOf, falls, granuleAt, GranuleTable, fromByte, toByte, granuleCode, moveCode, granuleSet, moved, Moved, movedBy, moveOf, movedTo}
+use Rattle.granules.specs.Acts.{MoveActed}
 use Rattle.granules.specs.declared.Granules.{Granules}
 use Rattle.granules.specs.declared.Granule.{Granule}
 use Rattle.granules.specs.declared.Granule.the-variants.{Nothing, At}
@@ -54,17 +55,7 @@ pub move-passes : (s : Record) (g : Granules) (d : Direction) (t : GranuleTable)
 unfolding movedTo
 move-passes s g d t addr i u e b = ap (λ (m : Moved). m .answer) (sym (move-ok s g d (t .bytes) addr u i e b (toByte d) refl))
 
--- what an OK did: the granule is the address's own, its byte was the one that it must have and is the one that it gets, and every
--- other byte is as it was
-pub record Acted (g : Granules) (d : Direction) (t after : GranuleTable) (addr : ℕ) : Type 0 where
-  pub granule : ℕ
-  pub own : granuleAt g (length (t .bytes)) addr ≡ At granule
-  pub was : getD (t .bytes) granule 0 ≡ fromByte d
-  pub becomes : getD (after .bytes) granule 0 ≡ toByte d
-  pub others : (j : ℕ) → (j ≡ granule → ⊥) → getD (after .bytes) j 0 ≡ getD (t .bytes) j 0
-  pub whole : length (after .bytes) ≡ length (t .bytes)
-
-acted : (u : Params) (g : Granules) (d : Direction) (t : GranuleTable) (addr : ℕ) (k : Granule) → granuleAt g (length (t .bytes)) addr ≡ k → granuleCode u d t addr k ≡ Ok → Acted g d t (granuleSet d t k) addr
+acted : (u : Params) (g : Granules) (d : Direction) (t : GranuleTable) (addr : ℕ) (k : Granule) → granuleAt g (length (t .bytes)) addr ≡ k → granuleCode u d t addr k ≡ Ok → MoveActed g d t (granuleSet d t k) addr
 unfolding granuleCode granuleSet
 acted u g d t addr Nothing e h = absurd (false≢true (ap isOk h))
 acted u g d t addr (At i) e h =
@@ -78,6 +69,6 @@ acted u g d t addr (At i) e h =
     }
 
 -- "Then it becomes 1 or 0."
-pub move-acts : (s : Record) (g : Granules) (d : Direction) (t : GranuleTable) (addr : ℕ) → moveOf s g d t addr .answer .code ≡ Ok → Acted g d t (moveOf s g d t addr .table) addr
+pub move-acts : (s : Record) (g : Granules) (d : Direction) (t : GranuleTable) (addr : ℕ) → moveOf s g d t addr .answer .code ≡ Ok → MoveActed g d t (moveOf s g d t addr .table) addr
 unfolding moveOf movedBy moveCode moved whenUp answerOf
 move-acts s g d t addr h = rw h (acted _ g d t addr _ refl (unless-ok _ _ _ refl h .1))

@@ -17,6 +17,7 @@ use Rattle.sections.specs.Steps.{okAt}
 use Rattle.sections.proofs.Sections.{placed, range-low, range-high, ok-in-range, ok-each, rules-sections}
 use Rattle.reader.specs.Answer.{Shown, absent, empty, full, PlatShown, shows, shown, platShown, allShown, judge, readOf}
 use Rattle.reader.specs.Reading.{shownAs}
+use Rattle.reader.specs.Views.{PageShown}
 use Rattle.reader.specs.declared.Section.the-variants.{Entries}
 use Rattle.reader.proofs.Whole.{shown-absent, shown-empty, shown-entries}
 use Rattle.reader.proofs.Newer.{gate-shows}
@@ -34,19 +35,8 @@ entries-lie w e base k page n o z =
 shows-each : (w w' e e' : ℕ) (q q' : PlatShown) (s s' : ℕ → Shown) → shows w e q s ≡ shows w' e' q' s' → (w ≡ w') × (e ≡ e') × (q ≡ q') × (s ≡ s')
 shows-each w w' e e' q q' s s' h = (cc, cc, cc, cc)
 
--- "It shows w, e, plat_data, and for each of the four sections absent (not in e), empty, or the entries in order", with the bytes of
--- the array: all as the page has them
-pub record Shows (r base : ℕ) (page : List ℕ) (w e : ℕ) (q : PlatShown) (s : ℕ → Shown) : Type 0 where
-  pub minor : w ≡ minorOf (versionAt page)
-  pub edition : e ≡ min r w
-  pub plat : q .pointer ≡ wordAt 8 page
-  pub later : (k : ℕ) → sectionCount e ≤ k → s k ≡ absent
-  pub none : (k : ℕ) → k < sectionCount e → countAt k page ≡ 0 → s k ≡ empty
-  pub entries : (k : ℕ) → k < sectionCount e → (countAt k page ≡ 0 → ⊥) →
-      s k ≡ full (shownWords w k (wordsAt k (countAt k page) (pointerAt k page - base) page)) (part (pointerAt k page - base) (size k (countAt k page)) page)
-
 -- of a page that a reader accepts
-pub shows-page : (r base : ℕ) (page : List ℕ) (w e : ℕ) (q : PlatShown) (s : ℕ → Shown) → readOf r base page ≡ shows w e q s → Shows r base page w e q s
+pub shows-page : (r base : ℕ) (page : List ℕ) (w e : ℕ) (q : PlatShown) (s : ℕ → Shown) → readOf r base page ≡ shows w e q s → PageShown r base page w e q s
 unfolding readOf judge allShown platShown platAt mkPlat rulesAt shownAs
 shows-page r base page w e q s h =
     let g = gate-shows _ _ _ _ _ _ _ _ h in

@@ -14,24 +14,11 @@ use Rattle.versions.proofs.Editions.{edition-of}
 use Rattle.entries.specs.Entry.{wordsPerEntry, entryOk, entriesOk}
 use Rattle.sections.specs.Page.{placeOk}
 use Rattle.lists.specs.Description.{Description, listOk, descriptionOk, noneLate, platBytes, used}
+use Rattle.writer.specs.Unrefused.{Unrefused}
 use Rattle.writer.specs.Write.{pageOf, a-page, writeOf}
 use Rattle.writer.proofs.Checks.{w-made}
 
--- none of W1 to W5: the place (n is the lent page's length), the edition, the lists' lengths and entries, the sections after the
--- edition, the room
-pub record Sound (base n v : ℕ) (d : Description) : Type 0 where
-  pub whole : n ≡ 4096
-  pub positive : 0 < base
-  pub align : base % 4096 ≡ 0
-  pub top : base ≤ 2 ^ 52 - 4096
-  pub first : 1 ≤ v
-  pub last : v ≤ 4
-  pub lengths : (k : ℕ) → k < 4 → length (d .lists k) % wordsPerEntry k ≡ 0
-  pub entries : (k i : ℕ) → k < 4 → i < length (d .lists k) / wordsPerEntry k → Yes (entryOk v k (d .lists k) (wordsPerEntry k * i))
-  pub late : (k : ℕ) → k < 4 → sectionCount v ≤ k → length (d .lists k) ≡ 0
-  pub room : core v + 8 * (length (d .lists 0) + length (d .lists 1) + length (d .lists 2) + length (d .lists 3)) ≤ 4096
-
-module _ (base n v : ℕ) (d : Description) (t : Sound base n v d) where
+module _ (base n v : ℕ) (d : Description) (t : Unrefused base n v d) where
   place-is : Yes (placeOk base n)
   unfolding placeOk
   place-is = both-of _ _ (eq-eqb n 4096 (t .whole)) (both-of _ _ (lt-ltb 0 base (t .positive)) (both-of _ _ (eq-eqb (base % 4096) 0 (t .align)) (le-leb base (2 ^ 52 - 4096) (t .top))))

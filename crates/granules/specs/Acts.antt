@@ -1,0 +1,18 @@
+-- What an accepted call did. Assumes nothing.
+use Prim.Native.Nat.{ℕ}
+use mathlib.Core.Path.{_≡_}
+use lib.ListN.{length, getD}
+use Rattle.granules.specs.Granules.{granuleAt, GranuleTable, fromByte, toByte}
+use Rattle.granules.specs.declared.Granules.{Granules}
+use Rattle.granules.specs.declared.Granule.the-variants.{At}
+use Rattle.granules.specs.declared.Direction.{Direction}
+
+-- The granule is the address's own, its byte was the one that it must have and is the one that it gets, and every
+-- other byte is as it was
+pub record MoveActed (g : Granules) (d : Direction) (t after : GranuleTable) (addr : ℕ) : Type 0 where
+  pub granule : ℕ
+  pub own : granuleAt g (length (t .bytes)) addr ≡ At granule
+  pub was : getD (t .bytes) granule 0 ≡ fromByte d
+  pub becomes : getD (after .bytes) granule 0 ≡ toByte d
+  pub others : (j : ℕ) → (j ≡ granule → ⊥) → getD (after .bytes) j 0 ≡ getD (t .bytes) j 0
+  pub whole : length (after .bytes) ≡ length (t .bytes)

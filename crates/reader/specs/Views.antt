@@ -1,0 +1,22 @@
+-- What an accepted page shows, field by field. Assumes nothing.
+use Prim.Native.Nat.{ℕ, _-_, _≤_, _<_, min}
+use mathlib.Core.Path.{_≡_}
+use mathlib.Core.List.{List}
+use Rattle.words.specs.Word.{part, wordAt}
+use Rattle.versions.specs.Version.{minorOf}
+use Rattle.versions.specs.Edition.{sectionCount}
+use Rattle.entries.specs.Entry.{size, shownWords}
+use Rattle.entries.specs.Array.{wordsAt}
+use Rattle.sections.specs.Page.{versionAt, countAt, pointerAt}
+use Rattle.reader.specs.Answer.{Shown, absent, empty, full, PlatShown}
+
+-- "It shows w, e, plat_data, and for each of the four sections absent (not in e), empty, or the entries in order", with the bytes of
+-- the array: all as the page has them
+pub record PageShown (r base : ℕ) (page : List ℕ) (w e : ℕ) (q : PlatShown) (s : ℕ → Shown) : Type 0 where
+  pub minor : w ≡ minorOf (versionAt page)
+  pub edition : e ≡ min r w
+  pub plat : q .pointer ≡ wordAt 8 page
+  pub later : (k : ℕ) → sectionCount e ≤ k → s k ≡ absent
+  pub none : (k : ℕ) → k < sectionCount e → countAt k page ≡ 0 → s k ≡ empty
+  pub entries : (k : ℕ) → k < sectionCount e → (countAt k page ≡ 0 → ⊥) →
+      s k ≡ full (shownWords w k (wordsAt k (countAt k page) (pointerAt k page - base) page)) (part (pointerAt k page - base) (size k (countAt k page)) page)
