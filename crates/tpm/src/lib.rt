@@ -105,8 +105,8 @@ fn buffer_check(
 }
 
 // The checks of the request's buffer, then those of the output's.
-fn buffers_check(asked: Arguments, len: u64) -> ReturnCode
-    ensures { λ r. ⌜ r ≡ buffersChecks asked len ReturnCode.Success ⌝ }
+fn buffers_check(asked: Arguments, n: u64) -> ReturnCode
+    ensures { λ r. ⌜ r ≡ buffersChecks asked n ReturnCode.Success ⌝ }
 {
     let inbuffer = asked.inbuffer;
     let insize = asked.insize;
@@ -114,18 +114,11 @@ fn buffers_check(asked: Arguments, len: u64) -> ReturnCode
     let outsize = asked.outsize;
     let large = 4096 < insize;
     let small = outsize < 4096;
-    let input = buffer_check(ReturnCode::P2, ReturnCode::P3, large, inbuffer, insize, len);
+    let input = buffer_check(ReturnCode::P2, ReturnCode::P3, large, inbuffer, insize, n);
     if !is_success(input) {
         return input;
     }
-    buffer_check(
-        ReturnCode::P4,
-        ReturnCode::P5,
-        small,
-        outbuffer,
-        outsize,
-        len,
-    )
+    buffer_check(ReturnCode::P4, ReturnCode::P5, small, outbuffer, outsize, n)
 }
 
 // All checks before H_RESOURCE.

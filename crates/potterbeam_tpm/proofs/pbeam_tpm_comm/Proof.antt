@@ -1,13 +1,11 @@
+use mir.Val.{toZ, ofZ}
+use mir.Syntax.{w64}
+use mathlib.Core.Path.{_≡_, _∙_}
+use Rattle.potterbeam_tpm.specs.Exports.{commIn}
+use Rattle.potterbeam_tpm.proofs.Left.{left-is}
 use borrow.Author.Needs.{needs}
 use Rattle.potterbeam_tpm.proofs.pbeam_tpm_comm.Statement.{statement}
 use Rattle.potterbeam_tpm.proofs.pbeam_tpm_comm.Tie as tie
-use Rattle.potterbeam_tpm.proofs.pbeam_tpm_comm.Reads as reads
-use Rattle.potterbeam_tpm.proofs.pbeam_tpm_comm.Lts as lts
-use Rattle.potterbeam_tpm.proofs.says.Reads as says-reads
-use Rattle.potterbeam_tpm.proofs.session_of.Reads as session-of-reads
-use Rattle.potterbeam_tpm.proofs.word_after.Reads as word-after-reads
-use Rattle.tpm.proofs.comm.Reads as comm-reads
-use Rattle.tpm.proofs.hcall_number.Reads as hcall-number-reads
 
 -- src/lib.rt:77:9
 session-of-requires : tie.Need-session-of-requires
@@ -39,7 +37,13 @@ same-length c = search needs
 
 -- src/lib.rt:51:1
 returns : tie.Need-returns
-returns c = ?
+unfolding commIn
+returns c =
+    let a = c .before .before .before .before .before .before .before .before .before .before .before .before .args in
+    let r = c .before .before .before .before .comm in
+    let q : toZ w64 (ofZ w64 (c .hcall-number .result)) ≡ c .hcall-number .result = search needs in
+    left-is _ (r .result) (a .session .now) _ _ _ (q ∙ c .hcall-number .ensures) (c .before .word-after .ensures)
+    (r .ensures ∙ rw (c .before .before .before .before .before .says2 .ensures, c .before .before .before .before .before .before .says .ensures, c .before .before .before .before .before .before .before .before .session-of .ensures))
 
 pub pbeam-tpm-comm-spec : {M : Type 1} → statement M
 pbeam-tpm-comm-spec =

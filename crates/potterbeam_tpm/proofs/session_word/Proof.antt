@@ -1,8 +1,7 @@
+use Rattle.potterbeam_tpm.specs.Exports.{tpmSessionWord}
 use borrow.Author.Needs.{needs}
 use Rattle.potterbeam_tpm.proofs.session_word.Statement.{statement}
 use Rattle.potterbeam_tpm.proofs.session_word.Tie as tie
-use Rattle.potterbeam_tpm.proofs.session_word.Reads as reads
-use Rattle.potterbeam_tpm.proofs.session_word.Lts as lts
 
 -- src/lib.rt:25:29
 enum-told : tie.Need-enum-told
@@ -14,11 +13,13 @@ enum-told-2 c = search needs
 
 -- src/lib.rt:21:1
 returns : tie.Need-returns
-returns c = ?
+unfolding tpmSessionWord
+returns c = rw (c .enum-told .given .1)
 
 -- src/lib.rt:21:1
 returns-2 : tie.Need-returns-2
-returns-2 c = ?
+unfolding tpmSessionWord
+returns-2 c = rw (c .enum-told2 .given .1)
 
 pub session-word-spec : {M : Type 1} → statement M
 session-word-spec = tie.close (tie.spec enum-told enum-told-2 returns returns-2)
