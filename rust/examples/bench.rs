@@ -16,7 +16,9 @@ use potterbeam_tests::reference::queue::Queue;
 use potterbeam_tests::reference::reader::read;
 use potterbeam_tests::reference::signing::{token_sign, SignCall};
 use potterbeam_tests::reference::token::{Session, TokenCall};
+use potterbeam_tests::reference::tpm::{Platform, Refusal, Transfer};
 use potterbeam_tests::reference::writer::{write, Lists};
+use potterbeam_tests::tpm::{Told, Tpm, TpmExports};
 use std::sync::atomic::{AtomicU64, Ordering};
 use std::time::{Duration, Instant};
 
@@ -340,6 +342,76 @@ fn compare_queue(waiting: usize) {
     assert!(kit == model && pages[0].0 == pages[1].0);
 }
 
+// ---- H_TPM_COMM ----
+
+#[inline(never)]
+fn native_comm(
+    open: &mut bool,
+    asked: &Transfer,
+    memory: &mut [u8],
+    platform: Platform,
+) -> Result<u64, Refusal> {
+    asked.comm(open, memory, platform)
+}
+
+#[inline(never)]
+fn native_request<'a>(asked: &Transfer, memory: &'a [u8], forbidden: bool) -> &'a [u8] {
+    asked.request(memory, forbidden)
+}
+
+fn transfer(out_buffer: u64) -> Transfer {
+    let [operation, in_buffer, in_size, out_buffer, out_size] =
+        hidden([1, 4096, 256, out_buffer, 4096]);
+    Transfer {
+        operation,
+        in_buffer,
+        in_size,
+        out_buffer,
+        out_size,
+    }
+}
+
+/// A request looked at, and the call with a response of this length.
+fn compare_tpm(name: &str, asked: Transfer, length: u64) {
+    let [end, length, forbidden, fault] = hidden([65536, length, 0, 0]);
+    let response: Vec<u8> = (0..length).map(|i| i as u8).collect();
+    let [mut ours, mut theirs] = [(); 2].map(|()| vec![0; end as usize]);
+    let (mut word, mut open) = (0, false);
+    compare(
+        name,
+        1,
+        side(|| {
+            let (mut place, mut r4) = ([0; 2], 0);
+            let response = &response[..];
+            let told = Told {
+                forbidden,
+                fault,
+                response,
+            };
+            Tpm::request(&asked, &ours, forbidden, &mut place);
+            see(place[1]);
+            see(Tpm::comm(&mut word, &asked, &mut ours, told, &mut r4) as u64);
+            see(r4);
+        }),
+        vec![(
+            "native",
+            side(|| {
+                let platform = Platform {
+                    forbidden: forbidden != 0,
+                    fault: fault != 0,
+                    response: &response,
+                };
+                see(native_request(&asked, &theirs, forbidden != 0).len() as u64);
+                match native_comm(&mut open, &asked, &mut theirs, platform) {
+                    Ok(r4) => see(r4),
+                    Err(refusal) => see(refusal.number() as u64),
+                }
+            }),
+        )],
+    );
+    assert!(ours == theirs && (word != 0) == open);
+}
+
 fn main() {
     println!("Best of {RUNS} runs, in turn. No page, table or image is cleared before a call.");
     println!("ns a call                              library reference  ratio  reference's state");
@@ -351,4 +423,7 @@ fn main() {
     compare_token(4096);
     compare_queue(0);
     compare_queue(7);
+    compare_tpm("TPM: request, H_P4", transfer(65536), 256);
+    compare_tpm("TPM: request, response of 256", transfer(16384), 256);
+    compare_tpm("TPM: request, response of 4096", transfer(16384), 4096);
 }
