@@ -68,10 +68,10 @@
 #define PBEAM_TPM_PLACE_OFFSET 0
 #define PBEAM_TPM_PLACE_LENGTH 1
 
-/* ---- Stack of a call in bytes, with the words that it is called with. Measured on x86-64; rust/tests/stack.rs fails above it ---- */
+/* ---- Most stack of a call in bytes, with the words that it is called with: measured on x86-64; rust/tests/stack.rs fails above it ---- */
 
 #define PBEAM_TPM_COMM_STACK 192
-#define PBEAM_TPM_REQUEST_STACK 128
+#define PBEAM_TPM_REQUEST_STACK 96
 
 #ifdef __cplusplus
 extern "C" {

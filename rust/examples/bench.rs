@@ -16,9 +16,9 @@ use potterbeam_tests::reference::queue::Queue;
 use potterbeam_tests::reference::reader::read;
 use potterbeam_tests::reference::signing::{token_sign, SignCall};
 use potterbeam_tests::reference::token::{Session, TokenCall};
-use potterbeam_tests::reference::tpm::{Platform, Refusal, Transfer};
+use potterbeam_tests::reference::tpm::Transfer;
 use potterbeam_tests::reference::writer::{write, Lists};
-use potterbeam_tests::tpm::{Told, Tpm, TpmExports};
+use potterbeam_tests::tpm::{Told, Tpm, TpmExports, TpmModel};
 use std::sync::atomic::{AtomicU64, Ordering};
 use std::time::{Duration, Instant};
 
@@ -344,19 +344,57 @@ fn compare_queue(waiting: usize) {
 
 // ---- H_TPM_COMM ----
 
+/// The reference with the parameters of the C function, as a hypervisor would call either.
 #[inline(never)]
+#[allow(clippy::too_many_arguments)]
 fn native_comm(
-    open: &mut bool,
-    asked: &Transfer,
+    session: &mut u64,
+    operation: u64,
+    in_buffer: u64,
+    in_size: u64,
+    out_buffer: u64,
+    out_size: u64,
     memory: &mut [u8],
-    platform: Platform,
-) -> Result<u64, Refusal> {
-    asked.comm(open, memory, platform)
+    response: &[u8],
+    forbidden: u64,
+    fault: u64,
+    r4: &mut u64,
+) -> i64 {
+    let asked = Transfer {
+        operation,
+        in_buffer,
+        in_size,
+        out_buffer,
+        out_size,
+    };
+    let told = Told {
+        forbidden,
+        fault,
+        response,
+    };
+    TpmModel::comm(session, &asked, memory, told, r4)
 }
 
 #[inline(never)]
-fn native_request<'a>(asked: &Transfer, memory: &'a [u8], forbidden: bool) -> &'a [u8] {
-    asked.request(memory, forbidden)
+#[allow(clippy::too_many_arguments)]
+fn native_request(
+    operation: u64,
+    in_buffer: u64,
+    in_size: u64,
+    out_buffer: u64,
+    out_size: u64,
+    memory: &[u8],
+    forbidden: u64,
+    place: &mut [u64; 2],
+) {
+    let asked = Transfer {
+        operation,
+        in_buffer,
+        in_size,
+        out_buffer,
+        out_size,
+    };
+    TpmModel::request(&asked, memory, forbidden, place);
 }
 
 fn transfer(out_buffer: u64) -> Transfer {
@@ -371,45 +409,75 @@ fn transfer(out_buffer: u64) -> Transfer {
     }
 }
 
-/// A request looked at, and the call with a response of this length.
-fn compare_tpm(name: &str, asked: Transfer, length: u64) {
+fn compare_request() {
+    let (asked, [end, forbidden]) = (transfer(16384), hidden([65536, 0]));
+    let (memory, mut place) = (vec![0; end as usize], [0; 2]);
+    let mut theirs = place;
+    compare(
+        "TPM request",
+        1,
+        side(|| {
+            Tpm::request(&asked, &memory, forbidden, &mut place);
+            see(place[1]);
+        }),
+        vec![(
+            "on the image",
+            side(|| {
+                let Transfer {
+                    operation: op,
+                    in_buffer: at,
+                    in_size: size,
+                    out_buffer: to,
+                    out_size: room,
+                } = asked;
+                native_request(op, at, size, to, room, &memory, forbidden, &mut theirs);
+                see(theirs[1]);
+            }),
+        )],
+    );
+    assert_eq!(place, theirs);
+}
+
+/// A call with a response of this length.
+fn compare_comm(name: &str, asked: Transfer, length: u64) {
     let [end, length, forbidden, fault] = hidden([65536, length, 0, 0]);
     let response: Vec<u8> = (0..length).map(|i| i as u8).collect();
     let [mut ours, mut theirs] = [(); 2].map(|()| vec![0; end as usize]);
-    let (mut word, mut open) = (0, false);
+    let (mut word, mut session) = (0, 0);
     compare(
         name,
         1,
         side(|| {
-            let (mut place, mut r4) = ([0; 2], 0);
-            let response = &response[..];
+            let (response, mut r4) = (&response[..], 0);
             let told = Told {
                 forbidden,
                 fault,
                 response,
             };
-            Tpm::request(&asked, &ours, forbidden, &mut place);
-            see(place[1]);
             see(Tpm::comm(&mut word, &asked, &mut ours, told, &mut r4) as u64);
             see(r4);
         }),
         vec![(
-            "native",
+            "on the image",
             side(|| {
-                let platform = Platform {
-                    forbidden: forbidden != 0,
-                    fault: fault != 0,
-                    response: &response,
-                };
-                see(native_request(&asked, &theirs, forbidden != 0).len() as u64);
-                match native_comm(&mut open, &asked, &mut theirs, platform) {
-                    Ok(r4) => see(r4),
-                    Err(refusal) => see(refusal.number() as u64),
-                }
+                let Transfer {
+                    operation: op,
+                    in_buffer: at,
+                    in_size: size,
+                    out_buffer: to,
+                    out_size: room,
+                } = asked;
+                let (word, mut r4) = (&mut session, 0);
+                let (memory, response) = (&mut theirs[..], &response[..]);
+                let r3 = native_comm(
+                    word, op, at, size, to, room, memory, response, forbidden, fault, &mut r4,
+                );
+                see(r3 as u64);
+                see(r4);
             }),
         )],
     );
-    assert!(ours == theirs && (word != 0) == open);
+    assert!(ours == theirs && word == session);
 }
 
 fn main() {
@@ -423,7 +491,8 @@ fn main() {
     compare_token(4096);
     compare_queue(0);
     compare_queue(7);
-    compare_tpm("TPM: request, H_P4", transfer(65536), 256);
-    compare_tpm("TPM: request, response of 256", transfer(16384), 256);
-    compare_tpm("TPM: request, response of 4096", transfer(16384), 4096);
+    compare_request();
+    compare_comm("TPM call, H_P4", transfer(65536), 256);
+    compare_comm("TPM call, response of 256 bytes", transfer(16384), 256);
+    compare_comm("TPM call, response of 4,096 bytes", transfer(16384), 4096);
 }

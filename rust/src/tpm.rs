@@ -129,6 +129,7 @@ impl TpmExports for Tpm {
 pub struct TpmModel;
 
 impl TpmExports for TpmModel {
+    #[inline]
     fn comm(
         session: &mut u64,
         asked: &Transfer,
@@ -155,6 +156,7 @@ impl TpmExports for TpmModel {
         }
     }
 
+    #[inline]
     fn request(asked: &Transfer, memory: &[u8], forbidden: u64, place: &mut Place) {
         let request = asked.request(memory, forbidden != 0);
         *place = match request.len() {
