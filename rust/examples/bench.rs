@@ -18,7 +18,7 @@ use potterbeam_tests::reference::signing::{token_sign, SignCall};
 use potterbeam_tests::reference::token::{Session, TokenCall};
 use potterbeam_tests::reference::tpm::Transfer;
 use potterbeam_tests::reference::writer::{write, Lists};
-use potterbeam_tests::tpm::{Told, Tpm, TpmExports, TpmModel};
+use potterbeam_tests::tpm::{Said, Tpm, TpmExports, TpmModel};
 use std::sync::atomic::{AtomicU64, Ordering};
 use std::time::{Duration, Instant};
 
@@ -367,12 +367,12 @@ fn native_comm(
         out_buffer,
         out_size,
     };
-    let told = Told {
+    let said = Said {
         forbidden,
         fault,
         response,
     };
-    TpmModel::comm(session, &asked, memory, told, r4)
+    TpmModel::comm(session, &asked, memory, said, r4)
 }
 
 #[inline(never)]
@@ -449,12 +449,12 @@ fn compare_comm(name: &str, asked: Transfer, length: u64) {
         1,
         side(|| {
             let (response, mut r4) = (&response[..], 0);
-            let told = Told {
+            let said = Said {
                 forbidden,
                 fault,
                 response,
             };
-            see(Tpm::comm(&mut word, &asked, &mut ours, told, &mut r4) as u64);
+            see(Tpm::comm(&mut word, &asked, &mut ours, said, &mut r4) as u64);
             see(r4);
         }),
         vec![(

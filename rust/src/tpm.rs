@@ -6,7 +6,7 @@ use std::ptr::{null, null_mut};
 
 /// What the platform says and lends to a call; a flag is any number but 0.
 #[derive(Clone, Copy, Debug)]
-pub struct Told<'a> {
+pub struct Said<'a> {
     pub forbidden: u64,
     pub fault: u64,
     pub response: &'a [u8],
@@ -19,7 +19,7 @@ pub trait TpmExports {
         session: &mut u64,
         asked: &Transfer,
         memory: &mut [u8],
-        told: Told,
+        said: Said,
         r4: &mut u64,
     ) -> i64;
     fn request(asked: &Transfer, memory: &[u8], forbidden: u64, place: &mut Place);
@@ -78,7 +78,7 @@ impl TpmExports for Tpm {
         session: &mut u64,
         asked: &Transfer,
         memory: &mut [u8],
-        told: Told,
+        said: Said,
         r4: &mut u64,
     ) -> i64 {
         let from = if memory.is_empty() {
@@ -97,10 +97,10 @@ impl TpmExports for Tpm {
                 asked.out_size,
                 from,
                 memory.len(),
-                start(told.response),
-                told.response.len(),
-                told.forbidden,
-                told.fault,
+                start(said.response),
+                said.response.len(),
+                said.forbidden,
+                said.fault,
                 r4,
             )
         }
@@ -134,14 +134,14 @@ impl TpmExports for TpmModel {
         session: &mut u64,
         asked: &Transfer,
         memory: &mut [u8],
-        told: Told,
+        said: Said,
         r4: &mut u64,
     ) -> i64 {
         let mut open = *session != 0;
         let platform = Platform {
-            forbidden: told.forbidden != 0,
-            fault: told.fault != 0,
-            response: told.response,
+            forbidden: said.forbidden != 0,
+            fault: said.fault != 0,
+            response: said.response,
         };
         match asked.comm(&mut open, memory, platform) {
             Ok(written) => {

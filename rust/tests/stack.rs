@@ -8,7 +8,7 @@ use potterbeam_tests::kit::Kit;
 use potterbeam_tests::reference::layout::PAGE;
 use potterbeam_tests::reference::runtime::TOKEN_SIGN;
 use potterbeam_tests::reference::tpm::Transfer;
-use potterbeam_tests::tpm::{Told, Tpm, TpmExports};
+use potterbeam_tests::tpm::{Said, Tpm, TpmExports};
 use std::arch::asm;
 use std::io::Write;
 
@@ -274,10 +274,10 @@ fn figure(name: &str) -> usize {
     line.expect("a figure").trim().parse().expect("a number")
 }
 
-fn comm_stack(name: &str, asked: &Transfer, told: Told, expected: i64) -> usize {
+fn comm_stack(name: &str, asked: &Transfer, said: Said, expected: i64) -> usize {
     let (mut memory, mut session, mut r4, mut r3) = (vec![0; 65536], 0, 0, 1);
     let bytes = printed(name, || {
-        r3 = Tpm::comm(&mut session, asked, &mut memory, told, &mut r4);
+        r3 = Tpm::comm(&mut session, asked, &mut memory, said, &mut r4);
     });
     assert_eq!(r3, expected);
     bytes
@@ -304,12 +304,12 @@ fn tpm_takes_what_the_header_says() {
         ("pbeam_tpm_comm, H_P4", &outside, 16, 0, -57),
         ("pbeam_tpm_comm, H_RESOURCE", &SENT, 16, 1, -16),
     ] {
-        let told = Told {
+        let said = Said {
             forbidden: 0,
             fault,
             response: &vec![7; length],
         };
-        let bytes = comm_stack(name, asked, told, r3);
+        let bytes = comm_stack(name, asked, said, r3);
         assert!(
             bytes <= most,
             "{name}: {bytes} bytes, the header says {most}"

@@ -6,7 +6,7 @@
 
 use potterbeam_tests::random::{transfers, Random};
 use potterbeam_tests::reference::tpm::Transfer;
-use potterbeam_tests::tpm::{Told, Tpm, TpmExports, TpmModel};
+use potterbeam_tests::tpm::{Said, Tpm, TpmExports, TpmModel};
 use std::collections::BTreeMap;
 use std::fmt::Write as _;
 use std::io::Write as _;
@@ -52,12 +52,12 @@ impl Lent {
         }
     }
 
-    fn call<S: TpmExports>(&mut self, asked: &Transfer, told: Told) {
+    fn call<S: TpmExports>(&mut self, asked: &Transfer, said: Said) {
         let memory = &mut self.cells[self.start..self.start + self.length];
         self.r4[1] = STALE;
         self.place = [STALE; 2];
-        S::request(asked, memory, told.forbidden, &mut self.place);
-        self.r3 = S::comm(&mut self.session[1], asked, memory, told, &mut self.r4[1]);
+        S::request(asked, memory, said.forbidden, &mut self.place);
+        self.r3 = S::comm(&mut self.session[1], asked, memory, said, &mut self.r4[1]);
     }
 }
 
@@ -89,13 +89,13 @@ fn compare<S: TpmExports, T: TpmExports>(
     ours: &mut Lent,
     theirs: &mut Lent,
     asked: &Transfer,
-    told: Told,
+    said: Said,
 ) -> i64 {
-    let response = told.response.to_vec();
-    ours.call::<S>(asked, told);
-    theirs.call::<T>(asked, told);
-    if ours != theirs || told.response != response {
-        let (forbidden, fault, length) = (told.forbidden, told.fault, response.len());
+    let response = said.response.to_vec();
+    ours.call::<S>(asked, said);
+    theirs.call::<T>(asked, said);
+    if ours != theirs || said.response != response {
+        let (forbidden, fault, length) = (said.forbidden, said.fault, response.len());
         let lent = ours.length;
         panic!(
             "{asked:x?} in {lent} bytes, forbidden {forbidden:x}, fault {fault:x}, response of {length}\n{}",
@@ -116,12 +116,12 @@ fn run<S: TpmExports, T: TpmExports>(least: u64) -> BTreeMap<i64, u64> {
             let asked = transfers::transfer(&mut random, ours.length);
             let length = transfers::response_length(&mut random, &asked);
             let response = random.bytes(length);
-            let told = Told {
+            let said = Said {
                 forbidden: transfers::flag(&mut random, 12),
                 fault: transfers::flag(&mut random, 12),
                 response: &response,
             };
-            let r3 = compare::<S, T>(&mut ours, &mut theirs, &asked, told);
+            let r3 = compare::<S, T>(&mut ours, &mut theirs, &asked, said);
             *met.entry(r3).or_insert(0) += 1;
             made += 1;
         }
@@ -154,11 +154,11 @@ impl<const HOW: u8> TpmExports for Wrong<HOW> {
         session: &mut u64,
         asked: &Transfer,
         memory: &mut [u8],
-        told: Told,
+        said: Said,
         r4: &mut u64,
     ) -> i64 {
         let before = *session;
-        let mut r3 = TpmModel::comm(session, asked, memory, told, r4);
+        let mut r3 = TpmModel::comm(session, asked, memory, said, r4);
         match HOW {
             0 if r3 == -57 => r3 = -58,
             1 if r3 != 0 => *session = u64::from(before != 0),
@@ -230,7 +230,7 @@ fn print_case<S: TpmExports>(out: &mut String, case: &[u8]) {
         };
         let response = seeded(word_at(call, 40), word_at(call, 48));
         let (forbidden, fault) = (word_at(call, 56), word_at(call, 64));
-        let told = Told {
+        let said = Said {
             forbidden,
             fault,
             response: &response,
@@ -238,7 +238,7 @@ fn print_case<S: TpmExports>(out: &mut String, case: &[u8]) {
         let (mut place, mut r4) = ([STALE; 2], STALE);
         S::request(&asked, &memory, forbidden, &mut place);
         let request = digest(&memory[place[0] as usize..][..place[1] as usize]);
-        let r3 = -S::comm(&mut session, &asked, &mut memory, told, &mut r4);
+        let r3 = -S::comm(&mut session, &asked, &mut memory, said, &mut r4);
         let held = digest(&memory);
         let [at, length] = place;
         writeln!(out, "request {at:x} {length:x} {request:x} r3 -{r3} r4 {r4:x} session {session} memory {held:x}").unwrap();

@@ -17,7 +17,7 @@ success-is P3 h = absurd (false≢true h)
 success-is P4 h = absurd (false≢true h)
 success-is P5 h = absurd (false≢true h)
 
--- an answer that is no success is not Success
+-- a code that is no success is not Success
 pub not-success : (k : ReturnCode) → isSuccess k ≡ false → k ≡ Success → ⊥
 unfolding isSuccess
 not-success k n h = false≢true (sym n ∙ ap isSuccess h)

@@ -16,7 +16,7 @@ use Rattle.tpm.specs.Comm.{isExecute, isClose, bufferChecks, buffersChec
 use Rattle.tpm.specs.Claims.{Within, Placed, Accepts, Reached, BadSize, InputPlaced, Reason}
 use Rattle.tpm.proofs.Checks.{either-no}
 
--- what holds of an answer, by the checks that lead to it
+-- what holds of a code, by the checks that lead to it
 returns-by : (P : ReturnCode → Type 0) (b : Bool) (k rest : ReturnCode) → (b ≡ true → P k) → (b ≡ false → P rest) → P (returnsIf b k rest)
 unfolding returnsIf
 returns-by P true k rest f g = f refl
@@ -27,7 +27,8 @@ unfolding either
 one-of true m n h = inl refl
 one-of false m n h = inr (ltb-true m n h)
 
-buffer-by : (P : ReturnCode → Type 0) (o w : ReturnCode) (low high start size n : ℕ) (rest : ReturnCode) → (n ≤ start → P o) → (BadSize (low < high) start size n → P w) → (high ≤ low → Within start size n → P rest) →
+buffer-by : (P : ReturnCode → Type 0) (o w : ReturnCode) (low high start size n : ℕ) (rest : ReturnCode) →
+    (n ≤ start → P o) → (BadSize (low < high) start size n → P w) → (high ≤ low → Within start size n → P rest) →
     P (bufferChecks o w (ltb low high) start size n rest)
 unfolding bufferChecks
 buffer-by P o w low high start size n rest f g h =

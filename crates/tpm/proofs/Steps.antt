@@ -1,4 +1,4 @@
--- What a call does, by its answer. Assumes nothing.
+-- What a call does, by its return code. Assumes nothing.
 use Prim.Native.Nat.{ℕ, _≤_}
 use mathlib.Core.Path.{_≡_, _∙_}
 use mathlib.Core.Bool.{Bool, true, false}

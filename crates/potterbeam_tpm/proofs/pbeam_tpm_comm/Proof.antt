@@ -42,8 +42,11 @@ returns c =
     let a = c .before .before .before .before .before .before .before .before .before .before .before .before .args in
     let r = c .before .before .before .before .comm in
     let q : toZ w64 (ofZ w64 (c .hcall-number .result)) ≡ c .hcall-number .result = search needs in
+    let forbidden = c .before .before .before .before .before .before .says .ensures in
+    let fault = c .before .before .before .before .before .says2 .ensures in
+    let session = c .before .before .before .before .before .before .before .before .session-of .ensures in
     left-is _ (r .result) (a .session .now) _ _ _ (q ∙ c .hcall-number .ensures) (c .before .word-after .ensures)
-    (r .ensures ∙ rw (c .before .before .before .before .before .says2 .ensures, c .before .before .before .before .before .before .says .ensures, c .before .before .before .before .before .before .before .before .session-of .ensures))
+    (r .ensures ∙ rw (fault, forbidden, session))
 
 pub pbeam-tpm-comm-spec : {M : Type 1} → statement M
 pbeam-tpm-comm-spec =
