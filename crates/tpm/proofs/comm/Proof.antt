@@ -6,10 +6,10 @@ use native.Mathlib.Omega.{arith}
 use borrow.Author.Tests.{lt-ltb}
 use Rattle.words.specs.Tests.{either}
 use Rattle.words.proofs.Store.{bytes-in, lent-back}
-use Rattle.tpm.specs.Comm.{executedStep, closedStep, refusedStep}
+use Rattle.tpm.specs.Comm.{closedStep, refusedStep}
 use Rattle.tpm.proofs.Chains.{passed, stopped}
 use Rattle.tpm.proofs.Checks.{request-placed}
-use Rattle.tpm.proofs.Steps.{comm-stops, comm-closes, comm-faults, comm-executes}
+use Rattle.tpm.proofs.Steps.{comm-stops, comm-closes, comm-faults, comm-leaves}
 use borrow.Author.Needs.{needs}
 use Rattle.tpm.proofs.comm.Statement.{statement}
 use Rattle.tpm.proofs.comm.Tie as tie
@@ -87,7 +87,6 @@ same-length : tie.Need-same-length
 same-length c = search needs
 
 returns-5 : tie.Need-returns-5
-unfolding executedStep
 returns-5 c =
     let a = c .before .before .before .before .before .before .before .before .before .before .before .before .before .args in
     let e : a .asked .operation ≡ 1 = search needs in
@@ -96,7 +95,7 @@ returns-5 c =
     let p = request-placed _ _ _ h e in
     let m : a .asked .outbuffer + length (a .response .now) ≤ length (a .memory .now) = omega (arith, p .output .ends) in
     let w = lent-back (a .asked .outbuffer) (a .response .now) (a .memory .now) m ∙ bytes-in (a .asked .outbuffer) (a .response .now) (a .memory .now) m in
-    rw (c .outcome5 .ensures .0, c .outcome5 .ensures .1, c .outcome5 .ensures .2, c .before .before .before .copy .ensures, w) (sym (comm-executes _ _ _ _ _ _ h e (search needs) r))
+    rw (c .outcome5 .ensures .0, c .outcome5 .ensures .1, c .outcome5 .ensures .2, c .before .before .before .copy .ensures) (comm-leaves _ _ _ _ _ _ _ w h e (search needs) r)
 
 pub comm-spec : {M : Type 1} → statement M
 comm-spec =
