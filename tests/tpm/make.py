@@ -142,8 +142,8 @@ def responses():
 
 def operations():
     add = case("Operations", 65536)
-    for operation in (0, 1, 2, 3, 4, 0xEF10, 2**31, 2**32, 2**32 + 1, 2**32 + 2, 2**33 + 1, 2**63 + 2,
-                      WORD - 1, WORD - 2, 256 + 1):
+    for operation in (0, 1, 2, 3, 4, 0xEF10, 2**31, 2**32, 2**32 + 1, 2**32 + 2, 2**33 + 1,
+                      2**63 + 2, WORD - 1, WORD - 2, 256 + 1):
         add(execute(f"operation {operation:#x}", operation=operation))
     for session in (0, 1):
         add = case(f"Close and the session, at the start {'open' if session else 'none'}", 8192,
@@ -240,16 +240,18 @@ def write_all():
     for n, (heading, end, seed, session, calls) in enumerate(CASES):
         memory, held = seeded(end, seed), words(end, seed, session)
         stdout += f"case {n:03}\n"
-        table += f"\n## {n:03}: {heading}\n\n| Call | Answer | r4 | Session after |\n|---|---|---|---|\n"
+        table += f"\n## {n:03}: {heading}\n\n"
+        table += "| Call | Answer | r4 | Session after |\n|---|---|---|---|\n"
         for call in calls:
             result = run(call, session, memory)
             seen.append((call, result, failing(call, memory)))
             session, memory = result.session, result.memory
             held += words(*call[1:])
             at, request = result.request
-            stdout += (f"request {at:x} {len(request):x} {digest(request):x} r3 -{-NUMBERS[result.name]} "
-                       f"r4 {result.r4:x} session {session} memory {digest(memory):x}\n")
-            table += f"| {call.text} | `{result.name}` | {result.r4:,} | {'open' if session else 'none'} |\n"
+            name, r4 = result.name, result.r4
+            stdout += (f"request {at:x} {len(request):x} {digest(request):x} r3 -{-NUMBERS[name]} "
+                       f"r4 {r4:x} session {session} memory {digest(memory):x}\n")
+            table += f"| {call.text} | `{name}` | {r4:,} | {'open' if session else 'none'} |\n"
         (data / f"c{n:03}").write_bytes(held)
     (CRATE / "stdout").write_text(stdout)
     (HERE / "CASES.md").write_text(table)
