@@ -1,4 +1,4 @@
-//! Links the proved library. POTTERBEAM_KIT_DIR names another directory to take libkit.a from.
+//! Links the proved libraries. POTTERBEAM_KIT_DIR names another directory to take the archives from.
 
 use std::env;
 use std::path::{Path, PathBuf};
@@ -9,15 +9,20 @@ fn main() {
     let package = env::var_os("CARGO_MANIFEST_DIR").expect("set by cargo");
     let built = Path::new(&package).join("../target/staticlib");
     let place = env::var_os("POTTERBEAM_KIT_DIR").map_or(built, PathBuf::from);
-    let archive = place.join("libkit.a");
+    println!("cargo:rustc-link-search=native={}", place.display());
+    for library in ["kit", "potterbeam_tpm"] {
+        link(library, &place.join(format!("lib{library}.a")));
+    }
+}
+
+fn link(library: &str, archive: &Path) {
     if !archive.exists() {
         eprintln!(
-            "{} is missing: run `rt staticlib kit` first",
+            "{} is missing: run `rt staticlib {library}` first",
             archive.display()
         );
         std::process::exit(1);
     }
     println!("cargo:rerun-if-changed={}", archive.display());
-    println!("cargo:rustc-link-search=native={}", place.display());
-    println!("cargo:rustc-link-lib=static=kit");
+    println!("cargo:rustc-link-lib=static={library}");
 }

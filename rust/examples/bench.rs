@@ -16,7 +16,9 @@ use potterbeam_tests::reference::queue::Queue;
 use potterbeam_tests::reference::reader::read;
 use potterbeam_tests::reference::signing::{token_sign, SignCall};
 use potterbeam_tests::reference::token::{Session, TokenCall};
+use potterbeam_tests::reference::tpm::Transfer;
 use potterbeam_tests::reference::writer::{write, Lists};
+use potterbeam_tests::tpm::{Said, Tpm, TpmExports, TpmModel};
 use std::sync::atomic::{AtomicU64, Ordering};
 use std::time::{Duration, Instant};
 
@@ -340,6 +342,144 @@ fn compare_queue(waiting: usize) {
     assert!(kit == model && pages[0].0 == pages[1].0);
 }
 
+// ---- H_TPM_COMM ----
+
+/// The reference with the parameters of the C function, as a hypervisor would call either.
+#[inline(never)]
+#[allow(clippy::too_many_arguments)]
+fn native_comm(
+    session: &mut u64,
+    operation: u64,
+    in_buffer: u64,
+    in_size: u64,
+    out_buffer: u64,
+    out_size: u64,
+    memory: &mut [u8],
+    response: &[u8],
+    forbidden: u64,
+    fault: u64,
+    r4: &mut u64,
+) -> i64 {
+    let asked = Transfer {
+        operation,
+        in_buffer,
+        in_size,
+        out_buffer,
+        out_size,
+    };
+    let said = Said {
+        forbidden,
+        fault,
+        response,
+    };
+    TpmModel::comm(session, &asked, memory, said, r4)
+}
+
+#[inline(never)]
+#[allow(clippy::too_many_arguments)]
+fn native_request(
+    operation: u64,
+    in_buffer: u64,
+    in_size: u64,
+    out_buffer: u64,
+    out_size: u64,
+    memory: &[u8],
+    forbidden: u64,
+    place: &mut [u64; 2],
+) {
+    let asked = Transfer {
+        operation,
+        in_buffer,
+        in_size,
+        out_buffer,
+        out_size,
+    };
+    TpmModel::request(&asked, memory, forbidden, place);
+}
+
+fn transfer(out_buffer: u64) -> Transfer {
+    let [operation, in_buffer, in_size, out_buffer, out_size] =
+        hidden([1, 4096, 256, out_buffer, 4096]);
+    Transfer {
+        operation,
+        in_buffer,
+        in_size,
+        out_buffer,
+        out_size,
+    }
+}
+
+fn compare_request() {
+    let (asked, [end, forbidden]) = (transfer(16384), hidden([65536, 0]));
+    let (memory, mut place) = (vec![0; end as usize], [0; 2]);
+    let mut theirs = place;
+    compare(
+        "TPM request",
+        1,
+        side(|| {
+            Tpm::request(&asked, &memory, forbidden, &mut place);
+            see(place[1]);
+        }),
+        vec![(
+            "on the image",
+            side(|| {
+                let Transfer {
+                    operation: op,
+                    in_buffer: at,
+                    in_size: size,
+                    out_buffer: to,
+                    out_size: room,
+                } = asked;
+                native_request(op, at, size, to, room, &memory, forbidden, &mut theirs);
+                see(theirs[1]);
+            }),
+        )],
+    );
+    assert_eq!(place, theirs);
+}
+
+/// A call with a response of this length.
+fn compare_comm(name: &str, asked: Transfer, length: u64) {
+    let [end, length, forbidden, fault] = hidden([65536, length, 0, 0]);
+    let response: Vec<u8> = (0..length).map(|i| i as u8).collect();
+    let [mut ours, mut theirs] = [(); 2].map(|()| vec![0; end as usize]);
+    let (mut word, mut session) = (0, 0);
+    compare(
+        name,
+        1,
+        side(|| {
+            let (response, mut r4) = (&response[..], 0);
+            let said = Said {
+                forbidden,
+                fault,
+                response,
+            };
+            see(Tpm::comm(&mut word, &asked, &mut ours, said, &mut r4) as u64);
+            see(r4);
+        }),
+        vec![(
+            "on the image",
+            side(|| {
+                let Transfer {
+                    operation: op,
+                    in_buffer: at,
+                    in_size: size,
+                    out_buffer: to,
+                    out_size: room,
+                } = asked;
+                let (word, mut r4) = (&mut session, 0);
+                let (memory, response) = (&mut theirs[..], &response[..]);
+                let r3 = native_comm(
+                    word, op, at, size, to, room, memory, response, forbidden, fault, &mut r4,
+                );
+                see(r3 as u64);
+                see(r4);
+            }),
+        )],
+    );
+    assert!(ours == theirs && word == session);
+}
+
 fn main() {
     println!("Best of {RUNS} runs, in turn. No page, table or image is cleared before a call.");
     println!("ns a call                              library reference  ratio  reference's state");
@@ -351,4 +491,8 @@ fn main() {
     compare_token(4096);
     compare_queue(0);
     compare_queue(7);
+    compare_request();
+    compare_comm("TPM call, H_P4", transfer(65536), 256);
+    compare_comm("TPM call, response of 256 bytes", transfer(16384), 256);
+    compare_comm("TPM call, response of 4,096 bytes", transfer(16384), 4096);
 }

@@ -6,6 +6,7 @@ pub mod calls;
 pub mod forged;
 pub mod lists;
 pub mod pages;
+pub mod transfers;
 
 /// Splitmix64.
 #[derive(Clone, Debug)]

@@ -7,6 +7,8 @@ use potterbeam_tests::exports::{Exports, Lent};
 use potterbeam_tests::kit::Kit;
 use potterbeam_tests::reference::layout::PAGE;
 use potterbeam_tests::reference::runtime::TOKEN_SIGN;
+use potterbeam_tests::reference::tpm::Transfer;
+use potterbeam_tests::tpm::{Said, Tpm, TpmExports};
 use std::arch::asm;
 use std::io::Write;
 
@@ -252,4 +254,77 @@ fn queue_exports() {
         );
     });
     assert_eq!((out[0], queue[0]), (0, 3));
+}
+
+// ---- H_TPM_COMM ----
+
+const SENT: Transfer = Transfer {
+    operation: 1,
+    in_buffer: 16,
+    in_size: 4096,
+    out_buffer: 5000,
+    out_size: 8192,
+};
+
+/// A figure of the TPM header.
+fn figure(name: &str) -> usize {
+    let header = include_str!("../../include/potterbeam_tpm.h");
+    let start = format!("#define {name} ");
+    let line = header.lines().find_map(|line| line.strip_prefix(&start));
+    line.expect("a figure").trim().parse().expect("a number")
+}
+
+fn comm_stack(name: &str, asked: &Transfer, said: Said, expected: i64) -> usize {
+    let (mut memory, mut session, mut r4, mut r3) = (vec![0; 65536], 0, 0, 1);
+    let bytes = printed(name, || {
+        r3 = Tpm::comm(&mut session, asked, &mut memory, said, &mut r4);
+    });
+    assert_eq!(r3, expected);
+    bytes
+}
+
+/// No call takes more than the header says, whatever it answers and however long the response is.
+#[test]
+#[cfg_attr(debug_assertions, ignore = "measured in release builds")]
+fn tpm_takes_what_the_header_says() {
+    let (most, mut place) = (figure("PBEAM_TPM_COMM_STACK"), [0; 2]);
+    let close = Transfer {
+        operation: 2,
+        ..SENT
+    };
+    let outside = Transfer {
+        out_buffer: 65536,
+        ..SENT
+    };
+    for (name, asked, length, fault, r3) in [
+        ("pbeam_tpm_comm, no byte", &SENT, 0, 0, 0),
+        ("pbeam_tpm_comm, 1 byte", &SENT, 1, 0, 0),
+        ("pbeam_tpm_comm, 8,191 bytes", &SENT, 8191, 0, 0),
+        ("pbeam_tpm_comm, close", &close, 16, 0, 0),
+        ("pbeam_tpm_comm, H_P4", &outside, 16, 0, -57),
+        ("pbeam_tpm_comm, H_RESOURCE", &SENT, 16, 1, -16),
+    ] {
+        let said = Said {
+            forbidden: 0,
+            fault,
+            response: &vec![7; length],
+        };
+        let bytes = comm_stack(name, asked, said, r3);
+        assert!(
+            bytes <= most,
+            "{name}: {bytes} bytes, the header says {most}"
+        );
+    }
+    let (memory, most) = (vec![0; 65536], figure("PBEAM_TPM_REQUEST_STACK"));
+    for (name, asked, expected) in [
+        ("pbeam_tpm_request", &SENT, [16, 4096]),
+        ("pbeam_tpm_request, close", &close, [0, 0]),
+    ] {
+        let bytes = printed(name, || Tpm::request(asked, &memory, 0, &mut place));
+        assert_eq!(place, expected);
+        assert!(
+            bytes <= most,
+            "{name}: {bytes} bytes, the header says {most}"
+        );
+    }
 }

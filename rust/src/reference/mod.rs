@@ -1,4 +1,4 @@
-//! The rules of the RMM-EL3 interface in plain Rust. Nothing here shares code or definitions with the proved library.
+//! The rules of the RMM-EL3 interface, and of H_TPM_COMM, in plain Rust. Nothing here shares code or definitions with the proved library.
 
 pub mod boot;
 pub mod codes;
@@ -13,6 +13,7 @@ pub mod reader;
 pub mod runtime;
 pub mod signing;
 pub mod token;
+pub mod tpm;
 pub mod writer;
 
 #[cfg(test)]

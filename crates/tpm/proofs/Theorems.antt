@@ -1,0 +1,57 @@
+-- 02, E9, over the definitions that the promises of H_TPM_COMM cite. Assumes nothing.
+use Prim.Native.Nat.{ℕ}
+use mathlib.Core.Path.{_≡_}
+use mathlib.Core.Bool.{Bool, false}
+use mathlib.Core.List.{List, []}
+use mathlib.Core.Logic.{_⊎_}
+use lib.ListN.{length}
+use Rattle.words.specs.Word.{part, spanned}
+use Rattle.tpm.specs.declared.ReturnCode.the-variants.{Success}
+use Rattle.tpm.specs.declared.Arguments.{Arguments}
+use Rattle.tpm.specs.declared.TpmSession.{TpmSession}
+use Rattle.tpm.specs.declared.TpmSession.the-variants.{None}
+use Rattle.tpm.specs.ReturnCodes.{isSuccess}
+use Rattle.tpm.specs.Comm.{requestCode, commOf, tpmRequest, tpmRequestSpan}
+use Rattle.tpm.specs.Claims.{Placed, Accepts, Reason, Unchanged, Written}
+use Rattle.tpm.specs.Sequence.{CommCall, OpenExactly}
+use Rattle.tpm.proofs.Acts.{comm-refused, comm-reason, comm-accepted, comm-writes, comm-closed, request-is, request-none, request-spanned}
+use Rattle.tpm.proofs.Runs.{run-open}
+
+-- one call, from any session, with any arguments, memory and response, whatever the platform says
+pub record CommTheorems (s : TpmSession) (a : Arguments) (memory response : List ℕ) (forbidden fault : Bool) : Type 0 where
+  -- "A refused call changes no memory or session."
+  pub refused-changes-nothing : isSuccess (commOf s a memory response forbidden fault .code) ≡ false → Unchanged s memory (commOf s a memory response forbidden fault)
+  -- "Refusals, in order: ..": each code comes where 02 gives it and no refusal before it applies
+  pub refused-with-reason : Reason a memory response forbidden fault (commOf s a memory response forbidden fault .code)
+  -- no other call is refused
+  pub accepted-otherwise : Accepts a memory response forbidden fault → commOf s a memory response forbidden fault .code ≡ Success
+  -- "The response comes from the platform in a second slice and is written at the output address; r4 is its length": no other byte
+  -- changes. "execute opens one if none is open"
+  pub execute-writes-response-only : commOf s a memory response forbidden fault .code ≡ Success → a .operation ≡ 1 →
+      Written (a .outbuffer) memory response (commOf s a memory response forbidden fault)
+  -- r4 is "0 for close"; "A closed session closes again without complaint"
+  pub close-closes : forbidden ≡ false → a .operation ≡ 2 → (commOf s a memory response forbidden fault .code ≡ Success) × Unchanged None memory (commOf s a memory response forbidden fault)
+
+pub comm-theorems : (s : TpmSession) (a : Arguments) (memory response : List ℕ) (forbidden fault : Bool) → CommTheorems s a memory response forbidden fault
+comm-theorems s a memory response forbidden fault =
+    record {
+      refused-changes-nothing = comm-refused s a memory response forbidden fault;
+      refused-with-reason = comm-reason s a memory response forbidden fault;
+      accepted-otherwise = comm-accepted s a memory response forbidden fault;
+      execute-writes-response-only = comm-writes s a memory response forbidden fault;
+      close-closes = comm-closed s a memory response forbidden fault;
+    }
+
+-- "A closed session closes again without complaint; execute opens one if none is open." Over any sequence of calls, from any session:
+-- it is open exactly if the last operation that was accepted is execute, or none was accepted and it was open at the start.
+pub open-exactly : (s : TpmSession) (xs : List CommCall) → OpenExactly s xs
+open-exactly = run-open
+
+-- "The request can be asked for as its part of the first slice, empty for close or where a check before H_RESOURCE refuses."
+pub record RequestTheorems (a : Arguments) (memory : List ℕ) : Type 0 where
+  pub request-is-its-part : a .operation ≡ 1 → Placed a (length memory) → tpmRequest a memory false ≡ part (a .inbuffer) (a .insize) memory
+  pub request-is-empty : (forbidden : Bool) → (a .operation ≡ 1 → ⊥) ⊎ (isSuccess (requestCode a (length memory) forbidden) ≡ false) → tpmRequest a memory forbidden ≡ []
+  pub request-is-placed : (forbidden : Bool) → spanned (tpmRequestSpan a (length memory) forbidden) memory ≡ tpmRequest a memory forbidden
+
+pub request-theorems : (a : Arguments) (memory : List ℕ) → RequestTheorems a memory
+request-theorems a memory = record { request-is-its-part = request-is a memory; request-is-empty = request-none a memory; request-is-placed = request-spanned a memory }

@@ -1,0 +1,107 @@
+-- H_TPM_COMM, the hypervisor's side, as 003 has it. Quotes are from 02, E9. Assumes nothing.
+use Prim.Native.Nat.{ℕ, _+_}
+use mathlib.Core.Bool.{Bool, cond, not}
+use mathlib.Core.List.{List, []}
+use lib.ListN.{length}
+use lib.Dec.{leb, ltb, eqb}
+use Rattle.words.specs.Tests.{both, either}
+use Rattle.words.specs.Word.{part, splice, noSpan, spanAt}
+use Rattle.words.specs.declared.Span.{Span}
+use Rattle.tpm.specs.declared.ReturnCode.{ReturnCode}
+use Rattle.tpm.specs.declared.ReturnCode.the-variants.{Success, Function, Parameter, P2, P3, P4, P5, Resource}
+use Rattle.tpm.specs.declared.Arguments.{Arguments}
+use Rattle.tpm.specs.declared.Returned.{Returned}
+use Rattle.tpm.specs.declared.TpmSession.{TpmSession}
+use Rattle.tpm.specs.declared.TpmSession.the-variants.{None, Open}
+use Rattle.tpm.specs.ReturnCodes.{isSuccess, returnsIf}
+
+-- "operations 1 (execute) and 2 (close)"
+unfoldable pub isExecute : ℕ → Bool
+isExecute operation = eqb operation 1
+
+unfoldable pub isClose : ℕ → Bool
+isClose operation = eqb operation 2
+
+-- ---- the checks; the last argument is what those after them give
+-- One buffer in a memory of n bytes, "starting at guest address 0": its start lies inside; its size is not unfit by itself; its end is
+-- not past the memory's.
+unfoldable pub bufferChecks : ReturnCode → ReturnCode → Bool → ℕ → ℕ → ℕ → ReturnCode → ReturnCode
+bufferChecks outside badsize unfit start size n rest =
+    returnsIf (leb n start) outside
+    (returnsIf (either unfit (ltb n (start + size))) badsize
+    rest)
+
+-- "H_P2 (request start not inside memory), H_P3 (size above 4,096 or past memory's end)"
+abbrev pub inputChecks : Arguments → ℕ → ReturnCode → ReturnCode
+inputChecks a n rest = bufferChecks P2 P3 (ltb 4096 (a .insize)) (a .inbuffer) (a .insize) n rest
+
+-- "H_P4 and H_P5 (size below 4,096 or past the end) alike for output"
+abbrev pub outputChecks : Arguments → ℕ → ReturnCode → ReturnCode
+outputChecks a n rest = bufferChecks P4 P5 (ltb (a .outsize) 4096) (a .outbuffer) (a .outsize) n rest
+
+unfoldable pub buffersChecks : Arguments → ℕ → ReturnCode → ReturnCode
+buffersChecks a n rest = inputChecks a n (outputChecks a n rest)
+
+-- "H_RESOURCE if the platform reports a fault or a response longer than the output"
+unfoldable pub resourceCheck : Arguments → List ℕ → Bool → ReturnCode
+resourceCheck a response fault = returnsIf (either fault (ltb (a .outsize) (length response))) Resource Success
+
+-- "Refusals, in order: H_FUNCTION if the platform forbids access; H_PARAMETER for an operation other than 1 or 2; the rest for execute
+-- only"
+unfoldable pub callChecks : Arguments → Bool → ReturnCode → ReturnCode
+callChecks a forbidden execute =
+    returnsIf forbidden Function
+    (returnsIf (not (either (isExecute (a .operation)) (isClose (a .operation)))) Parameter
+    (cond (isExecute (a .operation)) execute Success))
+
+-- those before H_RESOURCE, in a memory of n bytes
+unfoldable pub requestCode : Arguments → ℕ → Bool → ReturnCode
+requestCode a n forbidden = callChecks a forbidden (buffersChecks a n Success)
+
+-- all of them
+unfoldable pub commCode : Arguments → List ℕ → List ℕ → Bool → Bool → ReturnCode
+commCode a memory response forbidden fault = callChecks a forbidden (buffersChecks a (length memory) (resourceCheck a response fault))
+
+-- ---- the call
+-- the return code, r4, the session after the call and the memory at exit
+pub record CommStep : Type 0 where
+  pub code : ReturnCode
+  pub r4 : ℕ
+  pub session : TpmSession
+  pub memory : List ℕ
+
+-- what the function returns, with the memory at exit
+abbrev pub stepLeft : Returned → List ℕ → CommStep
+stepLeft r memory = record { code = r .code; r4 = r .r4; session = r .session; memory = memory }
+
+-- "The response .. is written at the output address; r4 is its length"; "execute opens one if none is open"
+unfoldable pub executedStep : Arguments → List ℕ → List ℕ → CommStep
+executedStep a memory response = record { code = Success; r4 = length response; session = Open; memory = splice (a .outbuffer) response memory }
+
+-- r4 is "0 for close"; "A closed session closes again without complaint"
+unfoldable pub closedStep : List ℕ → CommStep
+closedStep memory = record { code = Success; r4 = 0; session = None; memory = memory }
+
+-- "A refused call changes no memory or session."
+unfoldable pub refusedStep : ReturnCode → TpmSession → List ℕ → CommStep
+refusedStep k s memory = record { code = k; r4 = 0; session = s; memory = memory }
+
+-- what follows from the code
+unfoldable pub effectOf : ReturnCode → TpmSession → Arguments → List ℕ → List ℕ → CommStep
+effectOf k s a memory response = cond (isSuccess k) (cond (isExecute (a .operation)) (executedStep a memory response) (closedStep memory)) (refusedStep k s memory)
+
+unfoldable pub commOf : TpmSession → Arguments → List ℕ → List ℕ → Bool → Bool → CommStep
+commOf s a memory response forbidden fault = effectOf (commCode a memory response forbidden fault) s a memory response
+
+-- ---- the request
+-- an execute that the checks before H_RESOURCE let pass
+unfoldable pub hasRequest : Arguments → ℕ → Bool → Bool
+hasRequest a n forbidden = both (isExecute (a .operation)) (isSuccess (requestCode a n forbidden))
+
+-- "The request can be asked for as its part of the first slice, empty for close or where a check before H_RESOURCE refuses."
+unfoldable pub tpmRequest : Arguments → List ℕ → Bool → List ℕ
+tpmRequest a memory forbidden = cond (hasRequest a (length memory) forbidden) (part (a .inbuffer) (a .insize) memory) []
+
+-- where it lies in a memory of n bytes; offset and length are 0 where it is empty
+unfoldable pub tpmRequestSpan : Arguments → ℕ → Bool → Span
+tpmRequestSpan a n forbidden = cond (hasRequest a n forbidden) (spanAt (a .inbuffer) (a .insize)) noSpan

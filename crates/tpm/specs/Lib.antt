@@ -1,0 +1,4 @@
+pub mod ReturnCodes
+pub mod Comm
+pub mod Claims
+pub mod Sequence

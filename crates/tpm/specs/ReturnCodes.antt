@@ -1,0 +1,35 @@
+-- The return codes of H_TPM_COMM. 003: "r3 : H_Success .. H_FUNCTION". 02, E9: "Answers are by name." Assumes nothing.
+use mathlib.Core.Bool.{Bool, true, false, cond}
+use lib.IntN.{ℤ, pos, negsuc}
+use Rattle.tpm.specs.declared.ReturnCode.{ReturnCode}
+use Rattle.tpm.specs.declared.ReturnCode.the-variants.{Success, Function, Parameter, P2, P3, P4, P5, Resource}
+
+-- their numbers: 003 gives none, these are PAPR's; `negsuc n` is -(n + 1)
+abbrev pub hcallNumber : ReturnCode → ℤ
+hcallNumber Success = pos 0
+hcallNumber Function = negsuc 1
+hcallNumber Parameter = negsuc 3
+hcallNumber Resource = negsuc 15
+hcallNumber P2 = negsuc 54
+hcallNumber P3 = negsuc 55
+hcallNumber P4 = negsuc 56
+hcallNumber P5 = negsuc 57
+
+unfoldable pub isSuccess : ReturnCode → Bool
+isSuccess Success = true
+isSuccess Function = false
+isSuccess Parameter = false
+isSuccess Resource = false
+isSuccess P2 = false
+isSuccess P3 = false
+isSuccess P4 = false
+isSuccess P5 = false
+
+-- a check: this code if the test holds, else what the checks after it give
+unfoldable pub returnsIf : Bool → ReturnCode → ReturnCode → ReturnCode
+returnsIf true k rest = k
+returnsIf false k rest = rest
+
+-- what some checks gave, and if that is success what the checks after them give
+unfoldable pub onSuccess : ReturnCode → ReturnCode → ReturnCode
+onSuccess k rest = cond (isSuccess k) rest k

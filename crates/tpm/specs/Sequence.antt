@@ -1,0 +1,57 @@
+-- Calls of H_TPM_COMM one after the other, and the session over them. Assumes nothing.
+use Prim.Native.Nat.{ℕ}
+use mathlib.Core.Path.{_≡_}
+use mathlib.Core.Bool.{Bool, true, false, cond}
+use mathlib.Core.List.{List, [], _∷_}
+use mathlib.Core.Logic.{_⊎_}
+use Rattle.tpm.specs.declared.Arguments.{Arguments}
+use Rattle.tpm.specs.declared.TpmSession.{TpmSession}
+use Rattle.tpm.specs.declared.TpmSession.the-variants.{None, Open}
+use Rattle.tpm.specs.ReturnCodes.{isSuccess}
+use Rattle.tpm.specs.Comm.{CommStep, commOf, isExecute}
+
+-- All that a call is given but the session. The memory is as it stands at that call: the guest may write it between two calls.
+pub record CommCall : Type 0 where
+  pub asked : Arguments
+  pub memory : List ℕ
+  pub response : List ℕ
+  pub forbidden : Bool
+  pub fault : Bool
+
+unfoldable pub commStep : TpmSession → CommCall → CommStep
+commStep s x = commOf s (x .asked) (x .memory) (x .response) (x .forbidden) (x .fault)
+
+unfoldable pub commAccepted : TpmSession → CommCall → Bool
+commAccepted s x = isSuccess (commStep s x .code)
+
+-- the session after all of them, from a session s
+unfoldable pub sessionOver : TpmSession → List CommCall → TpmSession
+sessionOver s [] = s
+sessionOver s (x ∷ xs) = sessionOver (commStep s x .session) xs
+
+-- the operation of the last call that was accepted, if one was
+pub data Latest : Type 0 where
+  no-operation : Latest
+  operation : ℕ → Latest
+
+unfoldable pub latestOr : Latest → Latest → Latest
+latestOr no-operation before = before
+latestOr (operation n) before = operation n
+
+unfoldable pub latestOf : TpmSession → List CommCall → Latest
+latestOf s [] = no-operation
+latestOf s (x ∷ xs) = latestOr (latestOf (commStep s x .session) xs) (cond (commAccepted s x) (operation (x .asked .operation)) no-operation)
+
+unfoldable pub isOpen : TpmSession → Bool
+isOpen None = false
+isOpen Open = true
+
+-- whether the session is open after that operation; as at the start if there was none
+unfoldable pub opened : Latest → Bool → Bool
+opened no-operation start = start
+opened (operation n) start = isExecute n
+
+-- the session is open exactly if the last operation that was accepted is execute, or none was accepted and it was open at the start
+pub record OpenExactly (s : TpmSession) (xs : List CommCall) : Type 0 where
+  pub opens : (latestOf s xs ≡ operation 1) ⊎ ((latestOf s xs ≡ no-operation) × (s ≡ Open)) → sessionOver s xs ≡ Open
+  pub only : sessionOver s xs ≡ Open → (latestOf s xs ≡ operation 1) ⊎ ((latestOf s xs ≡ no-operation) × (s ≡ Open))
