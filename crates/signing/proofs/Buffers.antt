@@ -41,11 +41,16 @@ module _ (at n : ℕ) (s : List ℕ) where
         let l : length (splice 0 vs (part at n s)) ≡ n = length-splice 0 vs (part at n s) (omega (arith, buffer-length)) ∙ buffer-length in
         sym (back-at (splice 0 vs (part at n s)) l) ∙ buffer-back at n vs s room h
 
--- a call on a lent buffer, which is c at exit
+-- a call on a lent buffer, which is c at exit; one that only reads it
 pub put-back : (at n : ℕ) (page : List ℕ) (a : Answer) (c : List ℕ) (q : Lists) (s : SigningStep) → length c ≡ n → _≡_ {A = SigningStep} (record { answer = a; page = c; queue = q }) s →
     _≡_ {A = SigningStep} (record { answer = a; page = take at page ++ (c ++ drop n (drop at page)); queue = q }) (putBack at page s)
 unfolding putBack
 put-back at n page a c q s e h = rw (back-at at n page c e) (ap (putBack at page) h)
+
+pub put-same : (at n : ℕ) (page : List ℕ) (a : Answer) (q : Lists) (s : SigningStep) → at + n ≤ length page → _≡_ {A = SigningStep} (record { answer = a; page = part at n page; queue = q }) s →
+    _≡_ {A = SigningStep} (record { answer = a; page = page; queue = q }) (putBack at page s)
+unfolding putBack
+put-same at n page a q s room h = ap (λ (p : List ℕ). record { answer = a; page = p; queue = q }) (sym (back-same at n page room)) ∙ ap (putBack at page) h
 
 -- ---- an OK wrote no more than the buffer holds
 response-length : (s : Signed) → length (responseBytes s) ≡ 18 + length (s .signature)

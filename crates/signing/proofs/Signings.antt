@@ -76,9 +76,9 @@ op-by : (at size : ℕ) (page : List ℕ) (q : Lists) → at + size ≤ length p
     (k : Code) (new : SigningStep) (after : List ℕ) → (k ≡ Ok → splice at (new .page) page ≡ after) → (k ≡ Ok → P (record { answer = new .answer; page = after; queue = new .queue })) →
     P (putBack at page (queued k new (part at size page) q))
 unfolding queued putBack
-op-by at size page q room P no k new after e yes =
+op-by at size page q room P f k new after e g =
     if-ok-by (λ (s : SigningStep). P (record { answer = s .answer; page = splice at (s .page) page; queue = s .queue })) k new (record { answer = answerOf k 0 0; page = part at size page; queue = q })
-    (λ h. rw (e h) (yes h)) (λ h. rw (back-same at size page room) (no k h))
+    (λ h. rw (e h) (g h)) (λ h. rw (back-same at size page room) (f k h))
 
 module _ (P : Opcode → SigningStep → Type 0) (r : Record) (page : List ℕ) (q : Lists) (key : List ℕ) (op pa size curve : ℕ) (c : Cases P r page q key pa size) where
   at : ℕ
