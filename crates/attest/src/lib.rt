@@ -38,14 +38,7 @@ pub fn realm_key(
 ) -> Answer
     ensures { λ r. ⌜ _≡_ {A = Keyed} (record { answer = r; page = now (page .exit) }) (realmKeyOf state (now (page .entry)) (now (key .entry)) pa size curve) ⌝ }
 {
-    let gate = range::page_gate(
-        state,
-        page.len(),
-        Code::Ok,
-        OutsideAs::BadAddress,
-        pa,
-        size,
-    );
+    let gate = range::page_gate(state, page.len(), Code::Ok, OutsideAs::BadAddress, pa, size);
     match gate {
         Gate::Stop(code) => codes::answered(code, 0, 0),
         Gate::Go(at) => put_key(page, key, at, size, curve),

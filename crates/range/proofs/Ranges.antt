@@ -10,7 +10,7 @@ use Rattle.boot.specs.declared.Record.{Record}
 use Rattle.codes.specs.Codes.{isUp, upOf, unless, fails, whenUp, isOk, andThen}
 use Rattle.codes.specs.declared.Code.{Code}
 use Rattle.codes.specs.declared.Code.the-variants.{Ok, Unk, Inval}
-use Rattle.codes.proofs.Gates.{fails-ok, unless-ok, first-ok, then-ok}
+use Rattle.codes.proofs.Gates.{fails-ok, unless-ok, first-ok, then-ok, then-stop}
 use Rattle.range.specs.Range.{outside, tooLong, placeOf, outsideCode, rangeCode, pageCode}
 use Rattle.range.specs.declared.OutsideAs.{OutsideAs}
 use Rattle.range.specs.declared.OutsideAs.the-variants.{BadAddress, Invalid}
@@ -72,8 +72,8 @@ module _ (r : Record) (len : ℕ) (first : Code) (out : OutsideAs) (pa size : �
 
     module _ (n : len ≡ 4096) where
       pub page-first : isOk first ≡ false → pageCode r len first out pa size ≡ first
-      unfolding pageCode whenUp fails unless andThen
-      page-first f = rw (h, eq-eqb len 4096 n, f)
+      unfolding pageCode whenUp fails unless
+      page-first f = rw (h, eq-eqb len 4096 n) (then-stop first _ first refl f)
 
       pub page-range : isOk first ≡ true → pageCode r len first out pa size ≡ rangeCode (upOf r) out pa size
       unfolding pageCode whenUp fails unless andThen

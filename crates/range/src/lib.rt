@@ -42,14 +42,7 @@ fn range_gate(params: Params, out: OutsideAs, pa: u64, size: u64) -> Gate
 
 // The gate of a command on a page of so many bytes: record up, page whole, the command's own first check, range. It goes on with the
 // buffer's offset in the page.
-pub fn page_gate(
-    state: Record,
-    len: usize,
-    first: Code,
-    out: OutsideAs,
-    pa: u64,
-    size: u64,
-) -> Gate
+pub fn page_gate(state: Record, len: usize, first: Code, out: OutsideAs, pa: u64, size: u64) -> Gate
     ensures { λ r. ⌜ r ≡ gated (pageCode state len first out pa size) (placeOf (upOf state) pa) ⌝ }
 {
     if !codes::is_up(state) {
