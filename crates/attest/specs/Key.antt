@@ -5,25 +5,21 @@ use lib.ListN.{length}
 use lib.Dec.{ltb, eqb}
 use Rattle.words.specs.Tests.{either}
 use Rattle.words.specs.Word.{splice}
-use Rattle.boot.specs.declared.Params.{Params}
 use Rattle.boot.specs.declared.Record.{Record}
-use Rattle.range.specs.Range.{outside, tooLong, placeOf}
-use Rattle.codes.specs.Codes.{unless, fails, upOf, whenUp, ifOk, answerOf}
+use Rattle.range.specs.Range.{placeOf, pageCode}
+use Rattle.range.specs.declared.OutsideAs.the-variants.{BadAddress}
+use Rattle.codes.specs.Codes.{unless, fails, upOf, ifOk, andThen, answerOf}
 use Rattle.codes.specs.declared.Code.{Code}
-use Rattle.codes.specs.declared.Code.the-variants.{Ok, Unk, BadAddr, Inval}
+use Rattle.codes.specs.declared.Code.the-variants.{Ok, Unk, Inval}
 use Rattle.codes.specs.declared.Answer.{Answer}
 
 -- ".. curve not 0 INVAL; platform key empty or longer than the buffer UNK (house rule)."
 unfoldable pub keyRest : ℕ → ℕ → List ℕ → Code
 keyRest size curve key = fails (unless (eqb curve 0)) Inval (fails (either (eqb (length key) 0) (ltb size (length key))) Unk Ok)
 
--- ".. B2, B3 and B5 do so too on a lent page not 4,096 bytes long (house rules)"; "outside BAD_ADDR; too long INVAL; .."
-unfoldable pub keyCode : Params → List ℕ → ℕ → ℕ → ℕ → List ℕ → Code
-keyCode u page pa size curve key =
-    fails (unless (eqb (length page) 4096)) Unk
-    (fails (outside u pa) BadAddr
-    (fails (tooLong u pa size) Inval
-    (keyRest size curve key)))
+-- "outside BAD_ADDR; too long INVAL;", then the others
+unfoldable pub keyCode : Record → List ℕ → ℕ → ℕ → ℕ → List ℕ → Code
+keyCode r page pa size curve key = andThen (pageCode r (length page) Ok BadAddress pa size) (keyRest size curve key)
 
 -- the answer, and the page at exit
 pub record Keyed : Type 0 where
@@ -39,4 +35,4 @@ keyed k at page key =
     }
 
 unfoldable pub realmKeyOf : Record → List ℕ → List ℕ → ℕ → ℕ → ℕ → Keyed
-realmKeyOf s page key pa size curve = keyed (whenUp s (keyCode (upOf s) page pa size curve key)) (placeOf (upOf s) pa) page key
+realmKeyOf r page key pa size curve = keyed (keyCode r page pa size curve key) (placeOf (upOf r) pa) page key

@@ -2,7 +2,8 @@
 use boot::Record;
 use codes::Answer;
 use codes::Code;
-use range::Fit;
+use codes::Gate;
+use range::OutsideAs;
 ghost use mathlib.Core.Path.{_≡_};
 ghost use Prim.Native.Nat.{_+_, _≤_};
 ghost use lib.ListN.{length};
@@ -37,16 +38,9 @@ pub fn realm_key(
 ) -> Answer
     ensures { λ r. ⌜ _≡_ {A = Keyed} (record { answer = r; page = now (page .exit) }) (realmKeyOf state (now (page .entry)) (now (key .entry)) pa size curve) ⌝ }
 {
-    if !codes::is_up(state) {
-        return codes::answered(Code::Unk, 0, 0);
-    }
-    if page.len() != 4096 {
-        return codes::answered(Code::Unk, 0, 0);
-    }
-    let fit = range::fit_of(codes::up_of(state), pa, size);
-    match fit {
-        Fit::Outside => codes::answered(Code::BadAddr, 0, 0),
-        Fit::TooLong => codes::answered(Code::Inval, 0, 0),
-        Fit::At(at) => put_key(page, key, at, size, curve),
+    let gate = range::page_gate(state, page.len(), Code::Ok, OutsideAs::BadAddress, pa, size);
+    match gate {
+        Gate::Stop(code) => codes::answered(code, 0, 0),
+        Gate::Go(at) => put_key(page, key, at, size, curve),
     }
 }

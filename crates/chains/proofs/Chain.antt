@@ -15,23 +15,22 @@ use Rattle.words.specs.Word.{part, wordAt, halfAt, areWords}
 use Rattle.words.proofs.Tests.{both-l, both-r, both-of}
 use Rattle.words.proofs.Lists.{words-cons}
 use Rattle.boot.specs.declared.Record.{Record}
-use Rattle.codes.specs.Codes.{isOk, ifOk, upOf, whenUp}
+use Rattle.codes.specs.Codes.{isOk, ifOk}
 use Rattle.codes.specs.declared.Code.{Code}
-use Rattle.codes.specs.declared.Code.the-variants.{Ok, Unk, BadAddr, BadPas, Inval, Again}
-use Rattle.codes.proofs.Gates.{fails-ok, unless-ok, then-ok}
+use Rattle.codes.specs.declared.Code.the-variants.{Ok}
+use Rattle.codes.proofs.Gates.{fails-ok, unless-ok, if-ok-by}
 use Rattle.granules.specs.declared.Granules.{Granules}
 use Rattle.token.specs.Token.{TokenStep, tokenOf}
 use Rattle.token.proofs.Tokens.{token-refused}
 use Rattle.queue.specs.declared.Request.{Request}
-use Rattle.queue.specs.Queue.{Lists, SigningStep, queued, oldestRequest}
+use Rattle.queue.specs.Queue.{Lists, SigningStep, oldestRequest}
 use Rattle.requests.specs.Push.{requestOf, pushCode, pushed}
 use Rattle.responses.specs.Pull.{pulled}
 use Rattle.responses.specs.Sign.{signCode, signedBy, signed, SignStep, signOf}
 use Rattle.responses.proofs.Signs.{sign-refused}
-use Rattle.signing.specs.Signing.{opcodeOf, opCode, opStep, signingCode, signingOf}
+use Rattle.signing.specs.Signing.{signingOf}
 use Rattle.signing.specs.declared.Opcode.{Opcode}
-use Rattle.signing.specs.declared.Opcode.the-variants.{Push, Pull, Key, Other}
-use Rattle.signing.proofs.Signings.{signing-refused}
+use Rattle.signing.proofs.Signings.{signing-by, signing-refused}
 use Rattle.runtime.specs.declared.Kind.{Kind}
 use Rattle.runtime.specs.declared.Kind.the-variants.{ForwardError, Delegate, Undelegate, RealmKey, PlatformToken, Features, TokenSigning, KeyUpdate, Unlisted}
 use Rattle.runtime.specs.Step.{World, Call, Step, kindOf, afterMove, afterKey, afterToken, afterSigning, afterUpdate, callBy, callOf, replyCode, needsOf}
@@ -88,30 +87,20 @@ pull-fits : (q : Lists) → Yes (queueFits q) → Yes (queueFits (pulled q))
 unfolding pulled queueFits
 pull-fits q f = both-of _ _ (both-l _ _ f) (side-rests responseFits (q .responses) (both-r _ _ f))
 
--- each opcode, and the command
-op-fits : (o : Opcode) (at size : ℕ) (page : List ℕ) (q : Lists) (key : List ℕ) → Yes (areBytes page) → Yes (queueFits q) → opCode o at size page q key ≡ Ok → Yes (queueFits (opStep o at size page q key .queue))
-unfolding opCode opStep
-op-fits Push at size page q key a f h = push-fits (part at size page) q (part-bytes at size page a) f h
-op-fits Pull at size page q key a f h = pull-fits q f
-op-fits Key at size page q key a f h = f
-op-fits Other at size page q key a f h = f
-
 -- a refusal leaves what was
 pub if-ok-holds : {A : Type 0} (ok : A → Bool) (k : Code) (new old : A) → Yes (ok old) → (k ≡ Ok → Yes (ok new)) → Yes (ok (ifOk k new old))
-if-ok-holds ok Ok new old f h = h refl
-if-ok-holds ok Unk new old f h = f
-if-ok-holds ok BadAddr new old f h = f
-if-ok-holds ok BadPas new old f h = f
-if-ok-holds ok Inval new old f h = f
-if-ok-holds ok Again new old f h = f
+if-ok-holds {A} ok k new old f h = if-ok-by (λ (x : A). Yes (ok x)) k new old h (λ e. f)
 
+-- the command
 signing-fits : (r : Record) (page : List ℕ) (q : Lists) (key : List ℕ) (op pa size curve : ℕ) → Yes (areBytes page) → Yes (queueFits q) → Yes (queueFits (signingOf r page q key op pa size curve .queue))
-unfolding signingOf queued whenUp signingCode
 signing-fits r page q key op pa size curve a f =
-    if-ok-holds (λ (t : SigningStep). queueFits (t .queue)) (whenUp r (signingCode (upOf r) page q key (opcodeOf op) pa size curve)) _ _ f (λ h.
-    let u = fails-ok _ _ _ refl h in
-    let n = unless-ok _ _ _ refl (u .1) in
-    op-fits (opcodeOf op) _ size page q key a f (then-ok _ _ (n .1)))
+    signing-by (λ (o : Opcode) (s : SigningStep). Yes (queueFits (s .queue))) r page q key op pa size curve
+    (record {
+      refusal = λ o k e. f;
+      push = λ p e. push-fits _ q (part-bytes _ size page a) f e;
+      pull = λ p e. pull-fits q f;
+      public = λ p e. f;
+    })
 
 -- the signer's own step: the response has the granule and the ticket of the oldest request
 oldest-words : (l : List Request) → Yes (each requestFits l) → Yes (areWords (oldestRequest l .granule ∷ oldestRequest l .ticket ∷ []))

@@ -11,17 +11,16 @@ use Rattle.words.specs.Tests.{Yes, both}
 use Rattle.words.specs.Word.{leBytes, areWords}
 use Rattle.words.proofs.Tests.{both-l, both-r, both-of}
 use Rattle.boot.specs.declared.Record.{Record}
-use Rattle.codes.specs.Codes.{upOf, whenUp}
 use Rattle.codes.specs.declared.Code.{Code}
 use Rattle.granules.specs.declared.Granules.{Granules}
 use Rattle.attest.specs.Key.{keyCode, keyed, realmKeyOf}
 use Rattle.token.specs.Token.{TokenStep, tokenCode, sendOf, keeps, settled, tokenOf}
 use Rattle.token.specs.declared.Session.{Session}
-use Rattle.queue.specs.Queue.{Signed, Lists, SigningStep, queued, oldestResponse}
+use Rattle.queue.specs.Queue.{Signed, Lists, SigningStep, oldestResponse}
 use Rattle.responses.specs.Pull.{responseBytes}
-use Rattle.signing.specs.Signing.{opcodeOf, opStep, signingCode, signingOf}
+use Rattle.signing.specs.Signing.{signingOf}
 use Rattle.signing.specs.declared.Opcode.{Opcode}
-use Rattle.signing.specs.declared.Opcode.the-variants.{Push, Pull, Key, Other}
+use Rattle.signing.proofs.Signings.{signing-by}
 use Rattle.runtime.specs.declared.Kind.{Kind}
 use Rattle.runtime.specs.declared.Kind.the-variants.{ForwardError, Delegate, Undelegate, RealmKey, PlatformToken, Features, TokenSigning, KeyUpdate, Unlisted}
 use Rattle.runtime.specs.Step.{World, Call, Command, call, sign, kindOf, afterMove, afterKey, afterToken, afterSigning, afterUpdate, afterSign, callBy, callOf, stepOf}
@@ -48,24 +47,24 @@ response-bytes r a =
     let n : List ℕ = leBytes 2 (length (r .signature)) in
     each-append _ (g ++ t ++ n) (r .signature) (each-append _ (g ++ t) n (each-append _ g t (low-bytes 8 (r .granule)) (low-bytes 8 (r .ticket))) (low-bytes 2 (length (r .signature)))) a
 
-op-bytes : (o : Opcode) (at size : ℕ) (page : List ℕ) (q : Lists) (key : List ℕ) → Yes (areBytes page) → Yes (queueFits q) → Yes (areBytes key) → Yes (areBytes (opStep o at size page q key .page))
-unfolding opStep queueFits eightFit
-op-bytes Push at size page q key a f k = a
-op-bytes Pull at size page q key a f k = splice-bytes at (responseBytes (oldestResponse (q .responses))) page (response-bytes (oldestResponse (q .responses)) (oldest-bytes (q .responses) (both-r _ _ (both-r _ _ f)))) a
-op-bytes Key at size page q key a f k = splice-bytes at key page k a
-op-bytes Other at size page q key a f k = a
-
 signing-bytes : (r : Record) (page : List ℕ) (q : Lists) (key : List ℕ) (op pa size curve : ℕ) → Yes (areBytes page) → Yes (queueFits q) → Yes (areBytes key) → Yes (areBytes (signingOf r page q key op pa size curve .page))
-unfolding signingOf queued
-signing-bytes r page q key op pa size curve a f k = if-ok-holds (λ (t : SigningStep). areBytes (t .page)) (whenUp r (signingCode (upOf r) page q key (opcodeOf op) pa size curve)) _ _ a (λ h. op-bytes (opcodeOf op) _ size page q key a f k)
+unfolding queueFits eightFit
+signing-bytes r page q key op pa size curve a f k =
+    signing-by (λ (o : Opcode) (s : SigningStep). Yes (areBytes (s .page))) r page q key op pa size curve
+    (record {
+      refusal = λ o c e. a;
+      push = λ p e. a;
+      pull = λ p e. splice-bytes _ _ page (response-bytes (oldestResponse (q .responses)) (oldest-bytes (q .responses) (both-r _ _ (both-r _ _ f)))) a;
+      public = λ p e. splice-bytes _ key page k a;
+    })
 
 token-bytes : (r : Record) (page : List ℕ) (s : Session) (busy : Bool) (token : List ℕ) (pa size c : ℕ) → Yes (areBytes page) → Yes (areBytes token) → Yes (areBytes (tokenOf r page s busy token pa size c .page))
 unfolding tokenOf settled keeps sendOf
-token-bytes r page s busy token pa size c a t = if-ok-holds (λ (x : TokenStep). areBytes (x .page)) (whenUp r (tokenCode (upOf r) page s busy token pa size c)) _ _ a (λ h. splice-bytes _ _ page (part-bytes _ _ token t) a)
+token-bytes r page s busy token pa size c a t = if-ok-holds (λ (x : TokenStep). areBytes (x .page)) (tokenCode r page s busy token pa size c) _ _ a (λ h. splice-bytes _ _ page (part-bytes _ _ token t) a)
 
 key-bytes : (r : Record) (page key : List ℕ) (pa size curve : ℕ) → Yes (areBytes page) → Yes (areBytes key) → Yes (areBytes (realmKeyOf r page key pa size curve .page))
 unfolding realmKeyOf keyed
-key-bytes r page key pa size curve a k = if-ok-holds areBytes (whenUp r (keyCode (upOf r) page pa size curve key)) _ page a (λ h. splice-bytes _ key page k a)
+key-bytes r page key pa size curve a k = if-ok-holds areBytes (keyCode r page pa size curve key) _ page a (λ h. splice-bytes _ key page k a)
 
 call-bytes : (k : Kind) (g : Granules) (w : World) (c : Call) → Yes (areBytes (w .page)) → Yes (queueFits (w .queue)) → Yes (ofBytes (call c)) → Yes (areBytes (callBy k g w c .next .page))
 unfolding callBy afterMove afterKey afterToken afterSigning afterUpdate ofBytes

@@ -40,6 +40,15 @@ then-ok BadPas next h = absurd (false≢true (ap isOk h))
 then-ok Inval next h = absurd (false≢true (ap isOk h))
 then-ok Again next h = absurd (false≢true (ap isOk h))
 
+-- checks whose front stops, and checks whose front passes
+pub then-stop : (k next j : Code) → k ≡ j → isOk j ≡ false → andThen k next ≡ j
+unfolding andThen
+then-stop k next j e h = rw (e, h)
+
+pub then-go : (k next : Code) → k ≡ Ok → andThen k next ≡ next
+unfolding andThen
+then-go k next e = rw e
+
 -- ---- what a gate tells of its code
 pub went : (k : Code) (n at : ℕ) → gated k n ≡ Go at → (k ≡ Ok) × (at ≡ n)
 unfolding gated
@@ -67,12 +76,12 @@ pub goes : (k : Code) (n at : ℕ) → k ≡ Ok → at ≡ n → Go at ≡ gated
 unfolding gated
 goes k n at e p = rw (e, p)
 
--- ---- a call that is refused: what it answers is the refusal of its own code
-pub refused-as : {A : Type 0} (code : A → Code) (k : Code) (new : A) (old : Code → A) → code new ≡ Ok → ((c : Code) → code (old c) ≡ c) → isOk (code (ifOk k new (old k))) ≡ false →
-    ifOk k new (old k) ≡ old (code (ifOk k new (old k)))
-refused-as code Ok new old e f h = absurd (false≢true (sym h ∙ ap isOk e))
-refused-as code Unk new old e f h = ap old (sym (f Unk))
-refused-as code BadAddr new old e f h = ap old (sym (f BadAddr))
-refused-as code BadPas new old e f h = ap old (sym (f BadPas))
-refused-as code Inval new old e f h = ap old (sym (f Inval))
-refused-as code Again new old e f h = ap old (sym (f Again))
+-- ---- what a call leaves
+-- what holds of the new value where the code is OK, and of the old where it is not
+pub if-ok-by : {A : Type 0} (P : A → Type 0) (k : Code) (new old : A) → (k ≡ Ok → P new) → (isOk k ≡ false → P old) → P (ifOk k new old)
+if-ok-by P Ok new old f g = f refl
+if-ok-by P Unk new old f g = g refl
+if-ok-by P BadAddr new old f g = g refl
+if-ok-by P BadPas new old f g = g refl
+if-ok-by P Inval new old f g = g refl
+if-ok-by P Again new old f g = g refl

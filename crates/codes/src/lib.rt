@@ -2,7 +2,7 @@
 use boot::Params;
 use boot::Record;
 ghost use mathlib.Core.Path.{_≡_};
-ghost use Rattle.codes.specs.Codes.{x0Of, answerOf, isOk, isUp, upOf};
+ghost use Rattle.codes.specs.Codes.{x0Of, answerOf, isOk, fails, isUp, upOf};
 
 pub enum Code {
     Ok,
@@ -71,6 +71,16 @@ pub fn is_ok(code: Code) -> bool
         Code::Inval => false,
         Code::Again => false,
     }
+}
+
+// One check: the code if the test holds, else OK.
+pub fn code_if(test: bool, code: Code) -> Code
+    ensures { λ r. ⌜ r ≡ fails test code Code.Ok ⌝ }
+{
+    if test {
+        return code;
+    }
+    Code::Ok
 }
 
 // Whether a boot record is up.

@@ -13,6 +13,7 @@ use Rattle.queue.specs.declared.Response.{Response}
 use Rattle.queue.specs.declared.Requests.{Requests}
 use Rattle.queue.specs.declared.Responses.{Responses}
 use Rattle.queue.specs.declared.Queue.{Queue}
+use Rattle.queue.specs.declared.Queued.{Queued}
 use Rattle.queue.specs.declared.Waiting.{Waiting}
 use Rattle.queue.specs.declared.Waiting.the-variants.{None, Some}
 
@@ -68,6 +69,10 @@ pub record SigningStep : Type 0 where
   pub answer : Answer
   pub page : List ℕ
   pub queue : Lists
+
+-- what a call answers, with the page at exit
+abbrev pub signingExit : Queued → List ℕ → SigningStep
+signingExit r page = record { answer = r .answer; page = page; queue = listsOf (r .queue) }
 
 -- a refusal has zeros, and leaves the page and both sides as they were
 unfoldable pub queued : Code → SigningStep → List ℕ → Lists → SigningStep

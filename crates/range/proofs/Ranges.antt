@@ -1,71 +1,105 @@
--- What each answer of the range check tells. Assumes nothing.
+-- The range check and the gate of a command on the page: each return, and what a code of OK tells. Assumes nothing.
 use Prim.Native.Nat.{ℕ, _+_, _-_, _<_, _≤_}
 use mathlib.Core.Path.{_≡_, refl}
-use mathlib.Core.Bool.{Bool, true, false, cond, true≢false}
+use mathlib.Core.Bool.{Bool, true, false, true≢false}
 use native.Mathlib.Omega.{arith}
-use borrow.Author.Tests.{ltb-false, leb-false}
+use borrow.Author.Tests.{lt-ltb, le-ltb, le-leb, lt-leb, ltb-false, leb-false, eq-eqb, ne-eqb, eqb-true}
 use Rattle.words.specs.Tests.{either}
 use Rattle.boot.specs.declared.Params.{Params}
-use Rattle.range.specs.Range.{outside, tooLong, placeOf, fitOf}
-use Rattle.range.specs.declared.Fit.{Fit}
-use Rattle.range.specs.declared.Fit.the-variants.{Outside, TooLong, At}
+use Rattle.boot.specs.declared.Record.{Record}
+use Rattle.codes.specs.Codes.{isUp, upOf, unless, fails, whenUp, isOk, andThen}
+use Rattle.codes.specs.declared.Code.{Code}
+use Rattle.codes.specs.declared.Code.the-variants.{Ok, Unk, Inval}
+use Rattle.codes.proofs.Gates.{fails-ok, unless-ok, first-ok, then-ok, then-stop}
+use Rattle.range.specs.Range.{outside, tooLong, placeOf, outsideCode, rangeCode, pageCode}
+use Rattle.range.specs.declared.OutsideAs.{OutsideAs}
+use Rattle.range.specs.declared.OutsideAs.the-variants.{BadAddress, Invalid}
 
-pick : Bool → Bool → ℕ → Fit
-pick o t n = cond o Outside (cond t TooLong (At n))
+-- ---- the range check
+pub outside-refused : (out : OutsideAs) → isOk (outsideCode out) ≡ false
+unfolding outsideCode
+outside-refused BadAddress = refl
+outside-refused Invalid = refl
 
-pick-outside : (o t : Bool) (n : ℕ) → pick o t n ≡ Outside → o ≡ true
-unfolding pick
-pick-outside true t n h = refl
-pick-outside false true n h = let z : _≡_ {A = ℕ} 0 1 = cc in absurd (omega arith)
-pick-outside false false n h = let z : _≡_ {A = ℕ} 0 1 = cc in absurd (omega arith)
+module _ (u : Params) (out : OutsideAs) (pa size : ℕ) where
+  pub range-below : pa < u .base → rangeCode u out pa size ≡ outsideCode out
+  unfolding rangeCode outside either fails
+  range-below l = rw (lt-ltb pa (u .base) l)
 
-pick-inside : (o t : Bool) (n m : ℕ) → pick o t n ≡ At m → (o ≡ false) × (t ≡ false) × (m ≡ n)
-unfolding pick
-pick-inside true t n m h = let z : _≡_ {A = ℕ} 0 1 = cc in absurd (omega arith)
-pick-inside false true n m h = let z : _≡_ {A = ℕ} 0 1 = cc in absurd (omega arith)
-pick-inside false false n m h = (refl, refl, cc)
+  module _ (l : u .base ≤ pa) where
+    pub range-above : u .base + 4096 ≤ pa → rangeCode u out pa size ≡ outsideCode out
+    unfolding rangeCode outside either fails
+    range-above h = rw (le-ltb pa (u .base) l, le-leb (u .base + 4096) pa h)
 
-pick-long : (o t : Bool) (n : ℕ) → pick o t n ≡ TooLong → (o ≡ false) × (t ≡ true)
-unfolding pick
-pick-long true t n h = let z : _≡_ {A = ℕ} 0 1 = cc in absurd (omega arith)
-pick-long false true n h = (refl, refl)
-pick-long false false n h = let z : _≡_ {A = ℕ} 0 1 = cc in absurd (omega arith)
+    module _ (h : pa < u .base + 4096) where
+      pub inside : outside u pa ≡ false
+      unfolding outside either
+      inside = rw (le-ltb pa (u .base) l, lt-leb (u .base + 4096) pa h)
 
-pub is-outside : (u : Params) (pa size : ℕ) → fitOf u pa size ≡ Outside → outside u pa ≡ true
-unfolding fitOf pick
-is-outside u pa size h = pick-outside (outside u pa) (tooLong u pa size) (placeOf u pa) h
+      pub range-long : u .base + 4096 - pa < size → rangeCode u out pa size ≡ Inval
+      unfolding rangeCode tooLong fails
+      range-long k = rw (inside, lt-ltb (u .base + 4096 - pa) size k)
 
-pub record Long (u : Params) (pa size : ℕ) : Type 0 where
-  pub inside : outside u pa ≡ false
-  pub long : tooLong u pa size ≡ true
-
-pub is-long : (u : Params) (pa size : ℕ) → fitOf u pa size ≡ TooLong → Long u pa size
-unfolding fitOf pick
-is-long u pa size h = let p = pick-long (outside u pa) (tooLong u pa size) (placeOf u pa) h in record { inside = p .0; long = p .1 }
+      pub range-ok : size ≤ u .base + 4096 - pa → rangeCode u out pa size ≡ Ok
+      unfolding rangeCode tooLong fails
+      range-ok k = rw (inside, le-ltb (u .base + 4096 - pa) size k)
 
 neither : (a b : Bool) → either a b ≡ false → (a ≡ false) × (b ≡ false)
 unfolding either
 neither true b h = absurd (true≢false h)
 neither false b h = (refl, h)
 
-pub room-of : (u : Params) (pa size at : ℕ) → outside u pa ≡ false → tooLong u pa size ≡ false → at ≡ placeOf u pa → at + size ≤ 4096
+-- a buffer that is not outside and not too long lies in the page
+room-of : (u : Params) (pa size : ℕ) → outside u pa ≡ false → tooLong u pa size ≡ false → placeOf u pa + size ≤ 4096
 unfolding outside tooLong placeOf
-room-of u pa size at h k e =
+room-of u pa size h k =
     let p = neither _ _ h in
     let a : u .base ≤ pa = ltb-false _ _ (p .0) in
     let b : pa < u .base + 4096 = leb-false _ _ (p .1) in
     let d : size ≤ u .base + 4096 - pa = ltb-false _ _ k in
     omega arith
 
--- a buffer that fits: its place, and that it lies in the page
-pub record Fits (u : Params) (pa size at : ℕ) : Type 0 where
-  pub inside : outside u pa ≡ false
-  pub short : tooLong u pa size ≡ false
-  pub place : at ≡ placeOf u pa
-  pub room : at + size ≤ 4096
+-- ---- the gate
+module _ (r : Record) (len : ℕ) (first : Code) (out : OutsideAs) (pa size : ℕ) where
+  pub page-down : isUp r ≡ false → pageCode r len first out pa size ≡ Unk
+  unfolding pageCode whenUp fails unless
+  page-down h = rw h
 
-pub fits : (u : Params) (pa size at : ℕ) → fitOf u pa size ≡ At at → Fits u pa size at
-unfolding fitOf pick
-fits u pa size at h =
-    let p = pick-inside (outside u pa) (tooLong u pa size) (placeOf u pa) at h in
-    record { inside = p .0; short = p .1; place = p .2; room = room-of u pa size at (p .0) (p .1) (p .2) }
+  module _ (h : isUp r ≡ true) where
+    pub page-length : (len ≡ 4096 → ⊥) → pageCode r len first out pa size ≡ Unk
+    unfolding pageCode whenUp fails unless
+    page-length n = rw (h, ne-eqb len 4096 n)
+
+    module _ (n : len ≡ 4096) where
+      pub page-first : isOk first ≡ false → pageCode r len first out pa size ≡ first
+      unfolding pageCode whenUp fails unless
+      page-first f = rw (h, eq-eqb len 4096 n) (then-stop first _ first refl f)
+
+      pub page-range : isOk first ≡ true → pageCode r len first out pa size ≡ rangeCode (upOf r) out pa size
+      unfolding pageCode whenUp fails unless andThen
+      page-range f = rw (h, eq-eqb len 4096 n, f)
+
+-- what a gate that goes tells: each check, and that the buffer lies in the page
+pub record Passed (r : Record) (len : ℕ) (first : Code) (pa size : ℕ) : Type 0 where
+  pub up : isUp r ≡ true
+  pub whole : len ≡ 4096
+  pub ready : first ≡ Ok
+  pub within : outside (upOf r) pa ≡ false
+  pub short : tooLong (upOf r) pa size ≡ false
+  pub room : placeOf (upOf r) pa + size ≤ 4096
+
+pub passed : (r : Record) (len : ℕ) (first : Code) (out : OutsideAs) (pa size : ℕ) → pageCode r len first out pa size ≡ Ok → Passed r len first pa size
+unfolding pageCode whenUp rangeCode
+passed r len first out pa size h =
+    let p = unless-ok _ _ _ refl h in
+    let q = unless-ok _ _ _ refl (p .1) in
+    let o = fails-ok _ _ _ (outside-refused out) (then-ok _ _ (q .1)) in
+    let s = fails-ok _ _ _ refl (o .1) in
+    record {
+      up = p .0;
+      whole = eqb-true _ _ (q .0);
+      ready = first-ok _ _ (q .1);
+      within = o .0;
+      short = s .0;
+      room = room-of (upOf r) pa size (o .0) (s .0);
+    }

@@ -1,11 +1,16 @@
--- 01, Range check: the only place that compares a buffer with the page. Assumes nothing.
+-- 01, Range check: the only place that compares a buffer with the page; and the checks that every command on the page begins with.
+-- Assumes nothing.
 use Prim.Native.Nat.{ℕ, _+_, _-_}
-use mathlib.Core.Bool.{Bool, cond}
-use lib.Dec.{leb, ltb}
+use mathlib.Core.Bool.{Bool}
+use lib.Dec.{leb, ltb, eqb}
 use Rattle.words.specs.Tests.{either}
 use Rattle.boot.specs.declared.Params.{Params}
-use Rattle.range.specs.declared.Fit.{Fit}
-use Rattle.range.specs.declared.Fit.the-variants.{Outside, TooLong, At}
+use Rattle.boot.specs.declared.Record.{Record}
+use Rattle.codes.specs.Codes.{unless, fails, upOf, whenUp, andThen}
+use Rattle.codes.specs.declared.Code.{Code}
+use Rattle.codes.specs.declared.Code.the-variants.{Ok, Unk, BadAddr, Inval}
+use Rattle.range.specs.declared.OutsideAs.{OutsideAs}
+use Rattle.range.specs.declared.OutsideAs.the-variants.{BadAddress, Invalid}
 
 -- "a buffer at pa of size s is outside when pa is below B or not below B + 4,096;"
 unfoldable pub outside : Params → ℕ → Bool
@@ -19,5 +24,20 @@ tooLong u pa size = ltb (u .base + 4096 - pa) size
 unfoldable pub placeOf : Params → ℕ → ℕ
 placeOf u pa = pa - u .base
 
-unfoldable pub fitOf : Params → ℕ → ℕ → Fit
-fitOf u pa size = cond (outside u pa) Outside (cond (tooLong u pa size) TooLong (At (placeOf u pa)))
+-- realm key and platform token: "outside BAD_ADDR"; token signing: "outside .. INVAL"
+unfoldable pub outsideCode : OutsideAs → Code
+outsideCode BadAddress = BadAddr
+outsideCode Invalid = Inval
+
+-- "too long INVAL" for every command
+unfoldable pub rangeCode : Params → OutsideAs → ℕ → ℕ → Code
+rangeCode u out pa size = fails (outside u pa) (outsideCode out) (fails (tooLong u pa size) Inval Ok)
+
+-- "while it is not up, every command but 0xC400018F answers UNK before its own checks; 0xC40001B2, B3 and B5 do so too on a lent page
+-- not 4,096 bytes long (house rules)". `first` is what a command checks before its buffer: OK where it checks nothing.
+unfoldable pub pageCode : Record → ℕ → Code → OutsideAs → ℕ → ℕ → Code
+pageCode r len first out pa size =
+    whenUp r
+    (fails (unless (eqb len 4096)) Unk
+    (andThen first
+    (rangeCode (upOf r) out pa size)))

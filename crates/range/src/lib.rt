@@ -1,29 +1,58 @@
-// The range check of every command and lookup that takes a buffer.
+// The checks that every command and lookup on the page begins with: record, page and the range of its buffer.
 use boot::Params;
+use boot::Record;
+use codes::Code;
+use codes::Gate;
 ghost use mathlib.Core.Path.{_≡_};
-ghost use Rattle.range.specs.Range.{fitOf};
+ghost use Rattle.codes.specs.Codes.{upOf, gated};
+ghost use Rattle.range.specs.Range.{outsideCode, rangeCode, placeOf, pageCode};
 
-// Where a buffer lies: outside the page, too long for it, or at an offset of the page.
-pub enum Fit {
-    Outside,
-    TooLong,
-    At(usize),
+// What a command answers to a buffer outside the page: BAD_ADDR or INVAL.
+pub enum OutsideAs {
+    BadAddress,
+    Invalid,
 }
 
-// The range check of a buffer at pa of so many bytes. No sum is made: it might wrap.
-pub fn fit_of(params: Params, pa: u64, size: u64) -> Fit
-    ensures { λ r. ⌜ r ≡ fitOf params pa size ⌝ }
+fn outside_code(out: OutsideAs) -> Code
+    ensures { λ r. ⌜ r ≡ outsideCode out ⌝ }
+{
+    match out {
+        OutsideAs::BadAddress => Code::BadAddr,
+        OutsideAs::Invalid => Code::Inval,
+    }
+}
+
+// The range check of a buffer at pa of so many bytes, and its offset in the page. No sum is made: it might wrap.
+fn range_gate(params: Params, out: OutsideAs, pa: u64, size: u64) -> Gate
+    ensures { λ r. ⌜ r ≡ gated (rangeCode params out pa size) (placeOf params pa) ⌝ }
 {
     let base = params.base;
     if pa < base {
-        return Fit::Outside;
+        return Gate::Stop(outside_code(out));
     }
     let at = pa - base;
     if 4096 <= at {
-        return Fit::Outside;
+        return Gate::Stop(outside_code(out));
     }
     if 4096 - at < size {
-        return Fit::TooLong;
+        return Gate::Stop(Code::Inval);
     }
-    Fit::At(at as usize)
+    Gate::Go(at as usize)
+}
+
+// The gate of a command on a page of so many bytes: record up, page whole, the command's own first check, range. It goes on with the
+// buffer's offset in the page.
+pub fn page_gate(state: Record, len: usize, first: Code, out: OutsideAs, pa: u64, size: u64) -> Gate
+    ensures { λ r. ⌜ r ≡ gated (pageCode state len first out pa size) (placeOf (upOf state) pa) ⌝ }
+{
+    if !codes::is_up(state) {
+        return Gate::Stop(Code::Unk);
+    }
+    if len != 4096 {
+        return Gate::Stop(Code::Unk);
+    }
+    if !codes::is_ok(first) {
+        return Gate::Stop(first);
+    }
+    range_gate(codes::up_of(state), out, pa, size)
 }

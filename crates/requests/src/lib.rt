@@ -8,7 +8,7 @@ ghost use mathlib.Core.Bool.{false};
 ghost use Prim.Native.Nat.{_≤_};
 ghost use lib.ListN.{length};
 ghost use Rattle.codes.specs.Codes.{isOk};
-ghost use Rattle.queue.specs.Queue.{SigningStep, listsOf};
+ghost use Rattle.queue.specs.Queue.{signingExit, listsOf};
 ghost use Rattle.requests.specs.Push.{requestOf, pushOf};
 
 // The request in a buffer; the bytes between its fields are not read.
@@ -29,7 +29,7 @@ fn request_of(buffer: &[u8]) -> Request
 
 // Push: the request in the buffer joins the end of those that wait.
 pub fn push(buffer: &[u8], queue: Queue) -> Queued
-    ensures { λ r. ⌜ _≡_ {A = SigningStep} (record { answer = r .answer; page = now (buffer .entry); queue = listsOf (r .queue) }) (pushOf (now (buffer .entry)) (listsOf queue)) ⌝ }
+    ensures { λ r. ⌜ signingExit r (now (buffer .entry)) ≡ pushOf (now (buffer .entry)) (listsOf queue) ⌝ }
     ensures { λ r. ⌜ (isOk (r .answer .code) ≡ false → r .queue ≡ queue) ⌝ }
 {
     if buffer.len() < 80 {

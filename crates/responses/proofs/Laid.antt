@@ -14,7 +14,7 @@ use Rattle.queue.specs.Queue.{signedIn}
 use Rattle.queue.proofs.Sides.{taken-all}
 use Rattle.responses.specs.Pull.{responseBytes}
 
-length-splice : (off : ℕ) (vs s : List ℕ) → off + length vs ≤ length s → length (splice off vs s) ≡ length s
+pub length-splice : (off : ℕ) (vs s : List ℕ) → off + length vs ≤ length s → length (splice off vs s) ≡ length s
 unfolding splice
 length-splice off vs s h =
     let t : length (take off s) ≡ off = length-take-le off s (omega arith) in

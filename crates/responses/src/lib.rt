@@ -9,7 +9,7 @@ ghost use Prim.Native.Nat.{_+_, _≤_};
 ghost use lib.ListN.{length};
 ghost use Rattle.words.specs.Word.{splice};
 ghost use Rattle.codes.specs.Codes.{isOk};
-ghost use Rattle.queue.specs.Queue.{SigningStep, signedIn, listsOf};
+ghost use Rattle.queue.specs.Queue.{signingExit, signedIn, listsOf};
 ghost use Rattle.responses.specs.Pull.{responseBytes, pullOf};
 ghost use Rattle.responses.specs.Sign.{SignStep, signOf};
 
@@ -28,7 +28,7 @@ fn put_response(buffer: &mut [u8], response: Response)
 
 // Pull: writes the oldest response into the buffer and drops it; one that does not fit is kept.
 pub fn pull(buffer: &mut [u8], queue: Queue) -> Queued
-    ensures { λ r. ⌜ _≡_ {A = SigningStep} (record { answer = r .answer; page = now (buffer .exit); queue = listsOf (r .queue) }) (pullOf (now (buffer .entry)) (listsOf queue)) ⌝ }
+    ensures { λ r. ⌜ signingExit r (now (buffer .exit)) ≡ pullOf (now (buffer .entry)) (listsOf queue) ⌝ }
     ensures { λ r. ⌜ (isOk (r .answer .code) ≡ false → r .queue ≡ queue) ⌝ }
 {
     let requests = queue.requests;

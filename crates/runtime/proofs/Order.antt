@@ -6,20 +6,21 @@ use mathlib.Core.List.{List, [], _∷_, _++_, append-assoc, append-nil, map, map
 use lib.ListN.{length, take, drop, take-append-drop}
 use lib.Dec.{eqb}
 use Rattle.words.specs.Word.{part}
+use Rattle.boot.specs.declared.Record.{Record}
 use Rattle.range.specs.Range.{placeOf}
-use Rattle.codes.specs.Codes.{isOk, upOf, whenUp, answerOf}
+use Rattle.codes.specs.Codes.{isOk, upOf, answerOf}
 use Rattle.codes.proofs.Gates.{fails-ok}
 use Rattle.codes.specs.declared.Code.{Code}
 use Rattle.codes.specs.declared.Code.the-variants.{Ok, Unk, BadAddr, BadPas, Inval, Again}
 use Rattle.granules.specs.declared.Granules.{Granules}
 use Rattle.queue.specs.declared.Request.{Request}
-use Rattle.queue.specs.Queue.{Signed, Lists, queued, oldestRequest}
+use Rattle.queue.specs.Queue.{Signed, Lists, SigningStep, oldestRequest}
 use Rattle.requests.specs.Push.{requestOf, pushed}
 use Rattle.responses.specs.Pull.{pulled}
 use Rattle.responses.specs.Sign.{signCode, signedBy, signed, signOf}
-use Rattle.signing.specs.Signing.{opcodeOf, opStep, signingCode, signingOf}
+use Rattle.signing.specs.Signing.{opcodeOf, signingOf}
 use Rattle.signing.specs.declared.Opcode.{Opcode}
-use Rattle.signing.specs.declared.Opcode.the-variants.{Push, Pull, Key, Other}
+use Rattle.signing.proofs.Signings.{signing-by}
 use Rattle.runtime.specs.declared.Kind.{Kind}
 use Rattle.runtime.specs.declared.Kind.the-variants.{ForwardError, Delegate, Undelegate, RealmKey, PlatformToken, Features, TokenSigning, KeyUpdate, Unlisted}
 use Rattle.runtime.specs.Step.{World, Call, Command, call, sign, kindOf, afterMove, afterKey, afterToken, afterSigning, afterUpdate, afterSign, callBy, callOf, stepOf, replyCode}
@@ -33,59 +34,55 @@ nothing : {A : Type 0} (b : Bool) (l : List A) → l ≡ cond b [] [] ++ l
 nothing true l = refl
 nothing false l = refl
 
--- ---- one signing call, by the code of its checks and its opcode
-module _ (at size : ℕ) (page : List ℕ) (q : Lists) (key : List ℕ) where
-  op-requests : (k : Code) (o : Opcode) →
-      q .requests ++ cond (isOk (queued k (opStep o at size page q key) page q .answer .code)) (ofPush o (requestOf (part at size page) ∷ [])) [] ≡ queued k (opStep o at size page q key) page q .queue .requests
-  unfolding queued opStep answerOf pushed pulled
-  op-requests Ok Push = refl
-  op-requests Ok Pull = append-nil (q .requests)
-  op-requests Ok Key = append-nil (q .requests)
-  op-requests Ok Other = append-nil (q .requests)
-  op-requests Unk o = append-nil (q .requests)
-  op-requests BadAddr o = append-nil (q .requests)
-  op-requests BadPas o = append-nil (q .requests)
-  op-requests Inval o = append-nil (q .requests)
-  op-requests Again o = append-nil (q .requests)
+-- ---- one signing call
+module _ (r : Record) (page : List ℕ) (q : Lists) (key : List ℕ) (op pa size curve : ℕ) where
+  signing-requests : q .requests ++ cond (isOk (signingOf r page q key op pa size curve .answer .code)) (ofPush (opcodeOf op) (requestOf (part (placeOf (upOf r) pa) size page) ∷ [])) [] ≡ signingOf r page q key op pa size curve .queue .requests
+  unfolding answerOf pushed pulled
+  signing-requests =
+      signing-by (λ (o : Opcode) (s : SigningStep). q .requests ++ cond (isOk (s .answer .code)) (ofPush o (requestOf (part (placeOf (upOf r) pa) size page) ∷ [])) [] ≡ s .queue .requests) r page q key op pa size curve
+      (record {
+        refusal = λ o k e. rw e (append-nil (q .requests));
+        push = λ p e. refl;
+        pull = λ p e. append-nil (q .requests);
+        public = λ p e. append-nil (q .requests);
+      })
 
-  op-responses : (k : Code) (o : Opcode) →
-      q .responses ≡ cond (isOk (queued k (opStep o at size page q key) page q .answer .code)) (ofPull o (take 1 (q .responses))) [] ++ queued k (opStep o at size page q key) page q .queue .responses
-  unfolding queued opStep answerOf pushed pulled
-  op-responses Ok Push = refl
-  op-responses Ok Pull = sym (take-append-drop 1 (q .responses))
-  op-responses Ok Key = refl
-  op-responses Ok Other = refl
-  op-responses Unk o = refl
-  op-responses BadAddr o = refl
-  op-responses BadPas o = refl
-  op-responses Inval o = refl
-  op-responses Again o = refl
+  signing-responses : q .responses ≡ cond (isOk (signingOf r page q key op pa size curve .answer .code)) (ofPull (opcodeOf op) (take 1 (q .responses))) [] ++ signingOf r page q key op pa size curve .queue .responses
+  unfolding answerOf pushed pulled
+  signing-responses =
+      signing-by (λ (o : Opcode) (s : SigningStep). q .responses ≡ cond (isOk (s .answer .code)) (ofPull o (take 1 (q .responses))) [] ++ s .queue .responses) r page q key op pa size curve
+      (record {
+        refusal = λ o k e. rw e;
+        push = λ p e. refl;
+        pull = λ p e. sym (take-append-drop 1 (q .responses));
+        public = λ p e. refl;
+      })
 
 -- ---- one call
 module _ (g : Granules) (w : World) (c : Call) where
   call-requests : (k : Kind) →
       w .queue .requests ++ cond (isOk (replyCode (callBy k g w c .reply))) (ofSigning k (ofPush (opcodeOf (c .x1)) (requestOf (part (placeOf (upOf (c .state)) (c .x2)) (c .x3) (w .page)) ∷ []))) [] ≡ callBy k g w c .next .queue .requests
-  unfolding callBy afterMove afterKey afterToken afterSigning afterUpdate replyCode signingOf
+  unfolding callBy afterMove afterKey afterToken afterSigning afterUpdate replyCode
   call-requests ForwardError = append-nil (w .queue .requests)
   call-requests Delegate = none (isOk (replyCode (callBy Delegate g w c .reply))) (w .queue .requests)
   call-requests Undelegate = none (isOk (replyCode (callBy Undelegate g w c .reply))) (w .queue .requests)
   call-requests RealmKey = none (isOk (replyCode (callBy RealmKey g w c .reply))) (w .queue .requests)
   call-requests PlatformToken = none (isOk (replyCode (callBy PlatformToken g w c .reply))) (w .queue .requests)
   call-requests Features = none (isOk (replyCode (callBy Features g w c .reply))) (w .queue .requests)
-  call-requests TokenSigning = op-requests (placeOf (upOf (c .state)) (c .x2)) (c .x3) (w .page) (w .queue) (c .publicKey) _ (opcodeOf (c .x1))
+  call-requests TokenSigning = signing-requests (c .state) (w .page) (w .queue) (c .publicKey) (c .x1) (c .x2) (c .x3) (c .x4)
   call-requests KeyUpdate = none (isOk (replyCode (callBy KeyUpdate g w c .reply))) (w .queue .requests)
   call-requests Unlisted = none (isOk (replyCode (callBy Unlisted g w c .reply))) (w .queue .requests)
 
   call-responses : (k : Kind) →
       w .queue .responses ≡ cond (isOk (replyCode (callBy k g w c .reply))) (ofSigning k (ofPull (opcodeOf (c .x1)) (take 1 (w .queue .responses)))) [] ++ callBy k g w c .next .queue .responses
-  unfolding callBy afterMove afterKey afterToken afterSigning afterUpdate replyCode signingOf
+  unfolding callBy afterMove afterKey afterToken afterSigning afterUpdate replyCode
   call-responses ForwardError = refl
   call-responses Delegate = nothing (isOk (replyCode (callBy Delegate g w c .reply))) (w .queue .responses)
   call-responses Undelegate = nothing (isOk (replyCode (callBy Undelegate g w c .reply))) (w .queue .responses)
   call-responses RealmKey = nothing (isOk (replyCode (callBy RealmKey g w c .reply))) (w .queue .responses)
   call-responses PlatformToken = nothing (isOk (replyCode (callBy PlatformToken g w c .reply))) (w .queue .responses)
   call-responses Features = nothing (isOk (replyCode (callBy Features g w c .reply))) (w .queue .responses)
-  call-responses TokenSigning = op-responses (placeOf (upOf (c .state)) (c .x2)) (c .x3) (w .page) (w .queue) (c .publicKey) _ (opcodeOf (c .x1))
+  call-responses TokenSigning = signing-responses (c .state) (w .page) (w .queue) (c .publicKey) (c .x1) (c .x2) (c .x3) (c .x4)
   call-responses KeyUpdate = nothing (isOk (replyCode (callBy KeyUpdate g w c .reply))) (w .queue .responses)
   call-responses Unlisted = nothing (isOk (replyCode (callBy Unlisted g w c .reply))) (w .queue .responses)
 

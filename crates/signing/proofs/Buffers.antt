@@ -1,36 +1,58 @@
 -- What is done in a buffer, said of the page that it was lent from. Assumes nothing.
 use Prim.Native.Nat.{ℕ, _+_, _≤_}
-use mathlib.Core.Path.{_≡_, refl, ap, _∙_}
-use mathlib.Core.List.{List, _++_}
+use mathlib.Core.Path.{_≡_, refl, sym, ap, _∙_}
+use mathlib.Core.List.{List, _++_, append-assoc}
 use native.Mathlib.Omega.{arith}
 use lib.ListN.{length, take, drop, length-append, length-drop}
-use lib.Seq.{length-take-le}
+use lib.Seq.{length-take-le, drop-drop}
 use borrow.Author.Tests.{ltb-false}
 use Rattle.words.specs.Word.{leBytes, part, splice}
 use Rattle.words.proofs.Read.{leBytes-length}
 use Rattle.words.proofs.Store.{part-back, buffer-back}
 use Rattle.codes.proofs.Gates.{fails-ok}
-use Rattle.codes.specs.declared.Code.{Code}
-use Rattle.codes.specs.declared.Code.the-variants.{Ok, Unk, BadAddr, BadPas, Inval, Again}
+use Rattle.codes.specs.declared.Code.the-variants.{Ok}
 use Rattle.codes.specs.declared.Answer.{Answer}
-use Rattle.queue.specs.Queue.{Signed, Lists, SigningStep, queued, oldestResponse}
-use Rattle.requests.specs.Push.{pushCode, pushOf}
-use Rattle.responses.specs.Pull.{responseBytes, pullCode, pullOf}
-use Rattle.signing.specs.Signing.{publicCode, publicOf, opCode, opStep}
-use Rattle.signing.specs.declared.Opcode.the-variants.{Push, Pull, Key}
+use Rattle.queue.specs.Queue.{Signed, Lists, SigningStep, oldestResponse}
+use Rattle.responses.specs.Pull.{responseBytes, pullCode}
+use Rattle.responses.proofs.Laid.{length-splice}
+use Rattle.signing.specs.Signing.{publicCode, putBack}
 
--- one call on the buffer b, which `back` puts into its place: the page as it was, or with what the call wrote
-on-page : (k : Code) (x : Answer) (b b' : List ℕ) (n q : Lists) (a : Answer) (c : List ℕ) (l : Lists) (page page' : List ℕ) (back : List ℕ → List ℕ) →
-    _≡_ {A = SigningStep} (record { answer = a; page = c; queue = l }) (queued k (record { answer = x; page = b'; queue = n }) b q) → back b ≡ page → (k ≡ Ok → back b' ≡ page') →
-    _≡_ {A = SigningStep} (record { answer = a; page = back c; queue = l }) (queued k (record { answer = x; page = page'; queue = n }) page q)
-unfolding queued
-on-page Ok x b b' n q a c l page page' back h old new = ap (λ (s : SigningStep). record { answer = s .answer; page = back (s .page); queue = s .queue }) h ∙ rw (new refl)
-on-page Unk x b b' n q a c l page page' back h old new = ap (λ (s : SigningStep). record { answer = s .answer; page = back (s .page); queue = s .queue }) h ∙ rw old
-on-page BadAddr x b b' n q a c l page page' back h old new = ap (λ (s : SigningStep). record { answer = s .answer; page = back (s .page); queue = s .queue }) h ∙ rw old
-on-page BadPas x b b' n q a c l page page' back h old new = ap (λ (s : SigningStep). record { answer = s .answer; page = back (s .page); queue = s .queue }) h ∙ rw old
-on-page Inval x b b' n q a c l page page' back h old new = ap (λ (s : SigningStep). record { answer = s .answer; page = back (s .page); queue = s .queue }) h ∙ rw old
-on-page Again x b b' n q a c l page page' back h old new = ap (λ (s : SigningStep). record { answer = s .answer; page = back (s .page); queue = s .queue }) h ∙ rw old
+-- ---- a buffer of n bytes at an offset of s
+module _ (at n : ℕ) (s : List ℕ) where
+  -- c in its place
+  pub back-at : (c : List ℕ) → length c ≡ n → take at s ++ (c ++ drop n (drop at s)) ≡ splice at c s
+  unfolding splice
+  back-at c e = rw (e, ← drop-drop n at s) (sym (append-assoc (take at s) c (drop n (drop at s))))
 
+  module _ (room : at + n ≤ length s) where
+    pub buffer-length : length (part at n s) ≡ n
+    unfolding part
+    buffer-length = length-take-le n (drop at s) (omega (arith, length-drop at s))
+
+    -- as it was: s is as it was
+    pub back-same : splice at (part at n s) s ≡ s
+    unfolding part
+    back-same = sym (back-at (part at n s) buffer-length) ∙ part-back at n s
+
+    -- with vs written at its start: s has vs at the offset
+    pub back-over : (vs : List ℕ) → length vs ≤ n → splice at (splice 0 vs (part at n s)) s ≡ splice at vs s
+    unfolding part
+    back-over vs h =
+        let l : length (splice 0 vs (part at n s)) ≡ n = length-splice 0 vs (part at n s) (omega (arith, buffer-length)) ∙ buffer-length in
+        sym (back-at (splice 0 vs (part at n s)) l) ∙ buffer-back at n vs s room h
+
+-- a call on a lent buffer, which is c at exit; one that only reads it
+pub put-back : (at n : ℕ) (page : List ℕ) (a : Answer) (c : List ℕ) (q : Lists) (s : SigningStep) → length c ≡ n → _≡_ {A = SigningStep} (record { answer = a; page = c; queue = q }) s →
+    _≡_ {A = SigningStep} (record { answer = a; page = take at page ++ (c ++ drop n (drop at page)); queue = q }) (putBack at page s)
+unfolding putBack
+put-back at n page a c q s e h = rw (back-at at n page c e) (ap (putBack at page) h)
+
+pub put-same : (at n : ℕ) (page : List ℕ) (a : Answer) (q : Lists) (s : SigningStep) → at + n ≤ length page → _≡_ {A = SigningStep} (record { answer = a; page = part at n page; queue = q }) s →
+    _≡_ {A = SigningStep} (record { answer = a; page = page; queue = q }) (putBack at page s)
+unfolding putBack
+put-same at n page a q s room h = ap (λ (p : List ℕ). record { answer = a; page = p; queue = q }) (sym (back-same at n page room)) ∙ ap (putBack at page) h
+
+-- ---- an OK wrote no more than the buffer holds
 response-length : (s : Signed) → length (responseBytes s) ≡ 18 + length (s .signature)
 unfolding responseBytes
 response-length s =
@@ -41,8 +63,7 @@ response-length s =
     let gtn : length (leBytes 8 (s .granule) ++ leBytes 8 (s .ticket) ++ leBytes 2 (length (s .signature))) ≡ 18 = length-append (leBytes 8 (s .granule) ++ leBytes 8 (s .ticket)) (leBytes 2 (length (s .signature))) ∙ omega arith in
     length-append (leBytes 8 (s .granule) ++ leBytes 8 (s .ticket) ++ leBytes 2 (length (s .signature))) (s .signature) ∙ omega arith
 
--- an OK wrote no more than the buffer holds
-pull-fits : (size : ℕ) (q : Lists) → pullCode size q ≡ Ok → length (responseBytes (oldestResponse (q .responses))) ≤ size
+pub pull-fits : (size : ℕ) (q : Lists) → pullCode size q ≡ Ok → length (responseBytes (oldestResponse (q .responses))) ≤ size
 unfolding pullCode
 pull-fits size q h =
     let p = fails-ok _ _ _ refl h in
@@ -52,35 +73,9 @@ pull-fits size q h =
     fit : (s : Signed) → 18 + length (s .signature) ≤ size → length (responseBytes s) ≤ size
     fit s h = omega (arith, response-length s)
 
-public-fits : (size : ℕ) (key : List ℕ) → publicCode size key ≡ Ok → length key ≤ size
+pub public-fits : (size : ℕ) (key : List ℕ) → publicCode size key ≡ Ok → length key ≤ size
 unfolding publicCode
 public-fits size key h =
     let p = fails-ok _ _ _ refl h in
     let r = fails-ok _ _ _ refl (p .1) in
     ltb-false _ _ (r .0)
-
-module _ (at size : ℕ) (page : List ℕ) (q : Lists) (key : List ℕ) (a : Answer) (l : Lists) where
-  -- push: the page stays as it was
-  pub push-page : _≡_ {A = SigningStep} (record { answer = a; page = part at size page; queue = l }) (pushOf (part at size page) q) →
-      _≡_ {A = SigningStep} (record { answer = a; page = page; queue = l }) (queued (opCode Push at size page q key) (opStep Push at size page q key) page q)
-  unfolding pushOf opCode opStep
-  push-page h = on-page (pushCode (part at size page) q) _ (part at size page) (part at size page) _ q a (part at size page) l page page (λ (c : List ℕ). page) h refl (λ e. refl)
-
-  module _ (room : at + size ≤ length page) (c : List ℕ) where
-    buffer-length : length (part at size page) ≡ size
-    unfolding part
-    buffer-length = length-take-le size (drop at page) (omega (arith, length-drop at page))
-
-    pub pull-page : _≡_ {A = SigningStep} (record { answer = a; page = c; queue = l }) (pullOf (part at size page) q) →
-        _≡_ {A = SigningStep} (record { answer = a; page = take at page ++ (c ++ drop size (drop at page)); queue = l }) (queued (opCode Pull at size page q key) (opStep Pull at size page q key) page q)
-    unfolding pullOf opCode opStep part
-    pull-page h =
-        on-page (pullCode size q) _ (part at size page) (splice 0 (responseBytes (oldestResponse (q .responses))) (part at size page)) _ q a c l page _ (λ (d : List ℕ). take at page ++ (d ++ drop size (drop at page)))
-        (rw buffer-length at h) (part-back at size page) (λ e. buffer-back at size (responseBytes (oldestResponse (q .responses))) page room (pull-fits size q e))
-
-    pub key-page : _≡_ {A = SigningStep} (record { answer = a; page = c; queue = l }) (publicOf (part at size page) q key) →
-        _≡_ {A = SigningStep} (record { answer = a; page = take at page ++ (c ++ drop size (drop at page)); queue = l }) (queued (opCode Key at size page q key) (opStep Key at size page q key) page q)
-    unfolding publicOf opCode opStep part
-    key-page h =
-        on-page (publicCode size key) _ (part at size page) (splice 0 key (part at size page)) _ q a c l page _ (λ (d : List ℕ). take at page ++ (d ++ drop size (drop at page)))
-        (rw buffer-length at h) (part-back at size page) (λ e. buffer-back at size key page room (public-fits size key e))

@@ -1,61 +1,52 @@
--- Token signing, return by return, and what a refusal leaves. Assumes nothing.
+-- Token signing: the checks, return by return, and what a call leaves, case by case. Assumes nothing.
 use Prim.Native.Nat.{ℕ, _+_, _<_, _≤_}
-use mathlib.Core.Path.{_≡_, refl, sym, ap, _∙_}
-use mathlib.Core.Bool.{true, false, false≢true}
+use mathlib.Core.Path.{_≡_, refl, sym, ap}
+use mathlib.Core.Bool.{true, false, true≢false}
 use mathlib.Core.List.{List}
+use native.Mathlib.Omega.{arith}
 use lib.ListN.{length}
 use borrow.Author.Tests.{eq-eqb, ne-eqb, lt-ltb, le-ltb}
-use Rattle.boot.specs.declared.Params.{Params}
+use Rattle.words.specs.Word.{part, splice}
 use Rattle.boot.specs.declared.Record.{Record}
-use Rattle.range.specs.Range.{outside, tooLong, placeOf}
-use Rattle.range.proofs.Ranges.{room-of}
-use Rattle.codes.specs.Codes.{isUp, upOf, unless, fails, andThen, whenUp, isOk, answerOf}
-use Rattle.codes.proofs.Gates.{fails-ok, refused-as}
+use Rattle.range.specs.Range.{placeOf, pageCode}
+use Rattle.range.specs.declared.OutsideAs.the-variants.{Invalid}
+use Rattle.range.proofs.Ranges.{Passed, passed}
+use Rattle.codes.specs.Codes.{upOf, fails, andThen, isOk, answerOf}
+use Rattle.codes.proofs.Gates.{first-ok, then-stop, if-ok-by}
 use Rattle.codes.specs.declared.Code.{Code}
-use Rattle.codes.specs.declared.Code.the-variants.{Ok, Unk, BadAddr, BadPas, Inval, Again}
-use Rattle.queue.specs.Queue.{Lists, SigningStep, queued}
-use Rattle.signing.specs.Signing.{isOther, badCurve, opcodeOf, sharedCode, publicCode, opCode, opStep, signingCode, signingOf}
+use Rattle.codes.specs.declared.Code.the-variants.{Ok, Unk, Inval, Again}
+use Rattle.queue.specs.Queue.{Lists, SigningStep, queued, oldestResponse}
+use Rattle.requests.specs.Push.{pushCode, pushed, pushOf}
+use Rattle.responses.specs.Pull.{responseBytes, pullCode, pulled, pullOf}
+use Rattle.signing.specs.Signing.{opcodeOf, isOther, badCurve, sharedCode, publicCode, publicOf, opOf, putBack, opAt, signingOf}
 use Rattle.signing.specs.declared.Opcode.{Opcode}
 use Rattle.signing.specs.declared.Opcode.the-variants.{Push, Pull, Key, Other}
+use Rattle.signing.proofs.Buffers.{buffer-length, back-same, back-over, pull-fits, public-fits}
 
 -- ---- the checks that all opcodes share
-module _ (u : Params) (o : Opcode) (pa size curve : ℕ) where
-  pub shared-other : isOther o ≡ true → sharedCode u o pa size curve ≡ Inval
-  unfolding sharedCode fails
-  shared-other h = rw h
+module _ (r : Record) (len : ℕ) (o : Opcode) (pa size curve : ℕ) where
+  pub shared-stop : (j : Code) → pageCode r len (fails (isOther o) Inval Ok) Invalid pa size ≡ j → isOk j ≡ false → sharedCode r len o pa size curve ≡ j
+  unfolding sharedCode
+  shared-stop j e h = then-stop _ _ j e h
 
-  module _ (h : isOther o ≡ false) where
-    pub shared-outside : outside u pa ≡ true → sharedCode u o pa size curve ≡ Inval
-    unfolding sharedCode fails
-    shared-outside i = rw (h, i)
+  module _ (p : pageCode r len (fails (isOther o) Inval Ok) Invalid pa size ≡ Ok) where
+    pub shared-curve : badCurve o curve ≡ true → sharedCode r len o pa size curve ≡ Inval
+    unfolding sharedCode andThen fails
+    shared-curve b = rw (p, b)
 
-    module _ (i : outside u pa ≡ false) where
-      pub shared-long : tooLong u pa size ≡ true → sharedCode u o pa size curve ≡ Inval
-      unfolding sharedCode fails
-      shared-long l = rw (h, i, l)
+    module _ (b : badCurve o curve ≡ false) where
+      pub shared-minor : upOf r .minor < 4 → sharedCode r len o pa size curve ≡ Unk
+      unfolding sharedCode andThen fails
+      shared-minor m = rw (p, b, lt-ltb (upOf r .minor) 4 m)
 
-      module _ (l : tooLong u pa size ≡ false) where
-        pub shared-curve : badCurve o curve ≡ true → sharedCode u o pa size curve ≡ Inval
-        unfolding sharedCode fails
-        shared-curve b = rw (h, i, l, b)
+      pub shared-ok : 4 ≤ upOf r .minor → sharedCode r len o pa size curve ≡ Ok
+      unfolding sharedCode andThen fails
+      shared-ok m = rw (p, b, le-ltb (upOf r .minor) 4 m)
 
-        module _ (b : badCurve o curve ≡ false) where
-          pub shared-minor : u .minor < 4 → sharedCode u o pa size curve ≡ Unk
-          unfolding sharedCode fails
-          shared-minor m = rw (h, i, l, b, lt-ltb (u .minor) 4 m)
-
-          pub shared-ok : 4 ≤ u .minor → sharedCode u o pa size curve ≡ Ok
-          unfolding sharedCode fails
-          shared-ok m = rw (h, i, l, b, le-ltb (u .minor) 4 m)
-
--- a buffer that passes lies in the page
-pub shared-room : (u : Params) (o : Opcode) (pa size curve : ℕ) → sharedCode u o pa size curve ≡ Ok → placeOf u pa + size ≤ 4096
-unfolding sharedCode
-shared-room u o pa size curve h =
-    let p = fails-ok _ _ _ refl h in
-    let i = fails-ok _ _ _ refl (p .1) in
-    let l = fails-ok _ _ _ refl (i .1) in
-    room-of u pa size (placeOf u pa) (i .0) (l .0) refl
+  -- what the page's gate tells of a call that passes them
+  pub shared-passed : sharedCode r len o pa size curve ≡ Ok → Passed r len (fails (isOther o) Inval Ok) pa size
+  unfolding sharedCode
+  shared-passed h = passed _ _ _ _ _ _ (first-ok _ _ h)
 
 -- ---- the public key
 module _ (size : ℕ) (key : List ℕ) where
@@ -72,37 +63,62 @@ module _ (size : ℕ) (key : List ℕ) where
     unfolding publicCode fails
     public-ok h = rw (ne-eqb (length key) 0 n, le-ltb size (length key) h)
 
--- ---- the command
-module _ (r : Record) (page : List ℕ) (q : Lists) (key : List ℕ) (o : Opcode) (pa size curve : ℕ) where
-  pub signing-down : isUp r ≡ false → whenUp r (signingCode (upOf r) page q key o pa size curve) ≡ Unk
-  unfolding whenUp fails unless
-  signing-down h = rw h
+-- ---- what a call leaves
+-- A property of opcode and step that holds in each case: refused, or OK by one of the opcodes, with what the page's gate then tells.
+pub record Cases (P : Opcode → SigningStep → Type 0) (r : Record) (page : List ℕ) (q : Lists) (key : List ℕ) (pa size : ℕ) : Type 0 where
+  pub refusal : (o : Opcode) (k : Code) → isOk k ≡ false → P o (record { answer = answerOf k 0 0; page = page; queue = q })
+  pub push : Passed r (length page) Ok pa size → pushCode (part (placeOf (upOf r) pa) size page) q ≡ Ok → P Push (record { answer = answerOf Ok 0 0; page = page; queue = pushed (part (placeOf (upOf r) pa) size page) q })
+  pub pull : Passed r (length page) Ok pa size → pullCode size q ≡ Ok → P Pull (record { answer = answerOf Ok 0 0; page = splice (placeOf (upOf r) pa) (responseBytes (oldestResponse (q .responses))) page; queue = pulled q })
+  pub public : Passed r (length page) Ok pa size → publicCode size key ≡ Ok → P Key (record { answer = answerOf Ok (length key) 0; page = splice (placeOf (upOf r) pa) key page; queue = q })
 
-  module _ (h : isUp r ≡ true) where
-    pub signing-page : (length page ≡ 4096 → ⊥) → whenUp r (signingCode (upOf r) page q key o pa size curve) ≡ Unk
-    unfolding whenUp signingCode fails unless
-    signing-page n = rw (h, ne-eqb (length page) 4096 n)
+-- ---- an opcode on its buffer, by the code of its own checks: what it left in the buffer, as the page shows it
+op-by : (at size : ℕ) (page : List ℕ) (q : Lists) → at + size ≤ length page → (P : SigningStep → Type 0) → ((k : Code) → isOk k ≡ false → P (record { answer = answerOf k 0 0; page = page; queue = q })) →
+    (k : Code) (new : SigningStep) (after : List ℕ) → (k ≡ Ok → splice at (new .page) page ≡ after) → (k ≡ Ok → P (record { answer = new .answer; page = after; queue = new .queue })) →
+    P (putBack at page (queued k new (part at size page) q))
+unfolding queued putBack
+op-by at size page q room P f k new after e g =
+    if-ok-by (λ (s : SigningStep). P (record { answer = s .answer; page = splice at (s .page) page; queue = s .queue })) k new (record { answer = answerOf k 0 0; page = part at size page; queue = q })
+    (λ h. rw (e h) (g h)) (λ h. rw (back-same at size page room) (f k h))
 
-    module _ (n : length page ≡ 4096) where
-      pub signing-stop : (j : Code) → sharedCode (upOf r) o pa size curve ≡ j → isOk j ≡ false → whenUp r (signingCode (upOf r) page q key o pa size curve) ≡ j
-      unfolding whenUp signingCode fails unless andThen
-      signing-stop j e f = rw (h, eq-eqb (length page) 4096 n, e, f)
+module _ (P : Opcode → SigningStep → Type 0) (r : Record) (page : List ℕ) (q : Lists) (key : List ℕ) (op pa size curve : ℕ) (c : Cases P r page q key pa size) where
+  at : ℕ
+  at = placeOf (upOf r) pa
 
-      pub signing-go : sharedCode (upOf r) o pa size curve ≡ Ok → whenUp r (signingCode (upOf r) page q key o pa size curve) ≡ opCode o (placeOf (upOf r) pa) size page q key
-      unfolding whenUp signingCode fails unless andThen
-      signing-go e = rw (h, eq-eqb (length page) 4096 n, e)
+  room : Passed r (length page) Ok pa size → at + size ≤ length page
+  unfolding at
+  room p = omega (arith, p .whole, p .room)
 
-op-ok : (o : Opcode) (at size : ℕ) (page : List ℕ) (q : Lists) (key : List ℕ) → opStep o at size page q key .answer .code ≡ Ok
-unfolding opStep answerOf
-op-ok Push at size page q key = refl
-op-ok Pull at size page q key = refl
-op-ok Key at size page q key = refl
-op-ok Other at size page q key = refl
+  op-cases : (o : Opcode) → Passed r (length page) (fails (isOther o) Inval Ok) pa size → P o (opAt o at size page q key)
+  unfolding at opAt opOf isOther fails pushOf pullOf publicOf
+  op-cases Push p = op-by at size page q (room p) (P Push) (c .refusal Push) (pushCode (part at size page) q) _ page (λ e. back-same at size page (room p)) (λ e. c .push p e)
+  op-cases Pull p =
+      op-by at size page q (room p) (P Pull) (c .refusal Pull) (pullCode (length (part at size page)) q) _ (splice at (responseBytes (oldestResponse (q .responses))) page)
+      (λ e. back-over at size page (room p) _ (pull-fits size q (rw (buffer-length at size page (room p)) at e)))
+      (λ e. c .pull p (rw (buffer-length at size page (room p)) at e))
+  op-cases Key p =
+      op-by at size page q (room p) (P Key) (c .refusal Key) (publicCode (length (part at size page)) key) _ (splice at key page)
+      (λ e. back-over at size page (room p) key (public-fits size key (rw (buffer-length at size page (room p)) at e)))
+      (λ e. c .public p (rw (buffer-length at size page (room p)) at e))
+  op-cases Other p = absurd (true≢false (ap isOk (sym (p .ready))))
+
+  signing-cases : (o : Opcode) → P o (queued (sharedCode r (length page) o pa size curve) (opAt o at size page q key) page q)
+  unfolding queued
+  signing-cases o = if-ok-by (P o) (sharedCode r (length page) o pa size curve) _ _ (λ h. op-cases o (shared-passed r (length page) o pa size curve h)) (λ h. c .refusal o _ h)
+
+  -- it holds of the call
+  pub signing-by : P (opcodeOf op) (signingOf r page q key op pa size curve)
+  unfolding signingOf at
+  signing-by = signing-cases (opcodeOf op)
 
 -- a refused call leaves the page and both sides as they were, with zeros in the other registers
 pub signing-refused : (r : Record) (page : List ℕ) (q : Lists) (key : List ℕ) (op pa size curve : ℕ) → isOk (signingOf r page q key op pa size curve .answer .code) ≡ false →
     signingOf r page q key op pa size curve ≡ record { answer = answerOf (signingOf r page q key op pa size curve .answer .code) 0 0; page = page; queue = q }
-unfolding signingOf queued answerOf
-signing-refused r page q key op pa size curve h =
-    refused-as (λ (t : SigningStep). t .answer .code) (whenUp r (signingCode (upOf r) page q key (opcodeOf op) pa size curve)) (opStep (opcodeOf op) (placeOf (upOf r) pa) size page q key)
-    (λ (k : Code). record { answer = answerOf k 0 0; page = page; queue = q }) (op-ok (opcodeOf op) (placeOf (upOf r) pa) size page q key) (λ k. refl) h
+unfolding answerOf
+signing-refused r page q key op pa size curve =
+    signing-by (λ (o : Opcode) (s : SigningStep). isOk (s .answer .code) ≡ false → s ≡ record { answer = answerOf (s .answer .code) 0 0; page = page; queue = q }) r page q key op pa size curve
+    (record {
+      refusal = λ o k e h. refl;
+      push = λ p e h. absurd (true≢false h);
+      pull = λ p e h. absurd (true≢false h);
+      public = λ p e h. absurd (true≢false h);
+    })

@@ -5,15 +5,15 @@ use mathlib.Core.List.{List}
 use lib.ListN.{length}
 use lib.Dec.{ltb, eqb}
 use Rattle.words.specs.Word.{part, splice}
-use Rattle.boot.specs.declared.Params.{Params}
 use Rattle.boot.specs.declared.Record.{Record}
-use Rattle.range.specs.Range.{outside, tooLong, placeOf}
-use Rattle.codes.specs.Codes.{unless, fails, andThen, upOf, whenUp, answerOf}
+use Rattle.range.specs.Range.{placeOf, pageCode}
+use Rattle.range.specs.declared.OutsideAs.the-variants.{Invalid}
+use Rattle.codes.specs.Codes.{unless, fails, andThen, upOf, answerOf}
 use Rattle.codes.specs.declared.Code.{Code}
 use Rattle.codes.specs.declared.Code.the-variants.{Ok, Unk, Inval, Again}
-use Rattle.queue.specs.Queue.{Lists, SigningStep, queued, oldestResponse}
-use Rattle.requests.specs.Push.{pushCode, pushed}
-use Rattle.responses.specs.Pull.{responseBytes, pullCode, pulled}
+use Rattle.queue.specs.Queue.{Lists, SigningStep, queued}
+use Rattle.requests.specs.Push.{pushOf}
+use Rattle.responses.specs.Pull.{pullOf}
 use Rattle.signing.specs.declared.Opcode.{Opcode}
 use Rattle.signing.specs.declared.Opcode.the-variants.{Push, Pull, Key, Other}
 
@@ -34,15 +34,13 @@ badCurve Pull curve = false
 badCurve Key curve = unless (eqb curve 0)
 badCurve Other curve = false
 
--- "opcode not 1 to 3, outside, too long, or opcode 3 with curve not 0: INVAL; minor below 4: UNK."
-unfoldable pub sharedCode : Params → Opcode → ℕ → ℕ → ℕ → Code
-sharedCode u o pa size curve =
-    fails (isOther o) Inval
-    (fails (outside u pa) Inval
-    (fails (tooLong u pa size) Inval
+-- "opcode not 1 to 3, outside, too long, or opcode 3 with curve not 0: INVAL; minor below 4: UNK.": the checks that all opcodes share
+unfoldable pub sharedCode : Record → ℕ → Opcode → ℕ → ℕ → ℕ → Code
+sharedCode r len o pa size curve =
+    andThen (pageCode r len (fails (isOther o) Inval Ok) Invalid pa size)
     (fails (badCurve o curve) Inval
-    (fails (ltb (u .minor) 4) Unk
-    Ok))))
+    (fails (ltb (upOf r .minor) 4) Unk
+    Ok))
 
 -- "Key (3): empty AGAIN; longer than size INVAL; else written at pa, x1 its length."
 unfoldable pub publicCode : ℕ → List ℕ → Code
@@ -52,26 +50,22 @@ publicCode size key = fails (eqb (length key) 0) Again (fails (ltb size (length 
 unfoldable pub publicOf : List ℕ → Lists → List ℕ → SigningStep
 publicOf b q key = queued (publicCode (length b) key) (record { answer = answerOf Ok (length key) 0; page = splice 0 key b; queue = q }) b q
 
--- ---- an opcode's own checks, and what it does when they pass, in a buffer at an offset of the page
-unfoldable pub opCode : Opcode → ℕ → ℕ → List ℕ → Lists → List ℕ → Code
-opCode Push at size page q key = pushCode (part at size page) q
-opCode Pull at size page q key = pullCode size q
-opCode Key at size page q key = publicCode size key
-opCode Other at size page q key = Inval
+-- ---- an opcode's own checks, and what it does when they pass, in the buffer b. The shared checks refuse any other opcode.
+unfoldable pub opOf : Opcode → List ℕ → Lists → List ℕ → SigningStep
+opOf Push b q key = pushOf b q
+opOf Pull b q key = pullOf b q
+opOf Key b q key = publicOf b q key
+opOf Other b q key = record { answer = answerOf Inval 0 0; page = b; queue = q }
 
-unfoldable pub opStep : Opcode → ℕ → ℕ → List ℕ → Lists → List ℕ → SigningStep
-opStep Push at size page q key = record { answer = answerOf Ok 0 0; page = page; queue = pushed (part at size page) q }
-opStep Pull at size page q key = record { answer = answerOf Ok 0 0; page = splice at (responseBytes (oldestResponse (q .responses))) page; queue = pulled q }
-opStep Key at size page q key = record { answer = answerOf Ok (length key) 0; page = splice at key page; queue = q }
-opStep Other at size page q key = record { answer = answerOf Ok 0 0; page = page; queue = q }
+-- what was done in a buffer, with the buffer put back at its offset of the page
+unfoldable pub putBack : ℕ → List ℕ → SigningStep → SigningStep
+putBack at page s = record { answer = s .answer; page = splice at (s .page) page; queue = s .queue }
 
--- ---- the command
--- ".. B2, B3 and B5 do so too on a lent page not 4,096 bytes long (house rules)"; then the shared checks, then the opcode's own
-unfoldable pub signingCode : Params → List ℕ → Lists → List ℕ → Opcode → ℕ → ℕ → ℕ → Code
-signingCode u page q key o pa size curve =
-    fails (unless (eqb (length page) 4096)) Unk
-    (andThen (sharedCode u o pa size curve) (opCode o (placeOf u pa) size page q key))
+-- the buffer is so many bytes at an offset of the page
+unfoldable pub opAt : Opcode → ℕ → ℕ → List ℕ → Lists → List ℕ → SigningStep
+opAt o at size page q key = putBack at page (opOf o (part at size page) q key)
 
+-- ---- the command: the shared checks, then the opcode on its buffer
 unfoldable pub signingOf : Record → List ℕ → Lists → List ℕ → ℕ → ℕ → ℕ → ℕ → SigningStep
 signingOf r page q key op pa size curve =
-    queued (whenUp r (signingCode (upOf r) page q key (opcodeOf op) pa size curve)) (opStep (opcodeOf op) (placeOf (upOf r) pa) size page q key) page q
+    queued (sharedCode r (length page) (opcodeOf op) pa size curve) (opAt (opcodeOf op) (placeOf (upOf r) pa) size page q key) page q

@@ -1,19 +1,18 @@
 // Token signing: push, pull and key by opcode, each on its buffer in the page.
-use boot::Params;
 use boot::Record;
 use codes::Code;
 use codes::Gate;
 use queue::Queue;
 use queue::Queued;
-use range::Fit;
+use range::OutsideAs;
 ghost use mathlib.Core.Path.{_≡_};
 ghost use mathlib.Core.Bool.{false};
 ghost use Prim.Native.Nat.{_+_, _≤_};
 ghost use lib.ListN.{length};
 ghost use Rattle.range.specs.Range.{placeOf};
-ghost use Rattle.codes.specs.Codes.{isOk, gated};
-ghost use Rattle.queue.specs.Queue.{SigningStep, queued, listsOf};
-ghost use Rattle.signing.specs.Signing.{opcodeOf, isOther, badCurve, sharedCode, publicOf, opCode, opStep, signingOf};
+ghost use Rattle.codes.specs.Codes.{isOk, upOf, gated};
+ghost use Rattle.queue.specs.Queue.{signingExit, listsOf};
+ghost use Rattle.signing.specs.Signing.{opcodeOf, isOther, badCurve, sharedCode, publicOf, opAt, signingOf};
 
 // What a token signing call asks for.
 pub enum Opcode {
@@ -64,30 +63,27 @@ fn bad_curve(opcode: Opcode, curve: u64) -> bool
 }
 
 // The checks that all opcodes share, and the buffer's offset in the page.
-fn gate_of(params: Params, opcode: Opcode, pa: u64, size: u64, curve: u64) -> Gate
-    ensures { λ r. ⌜ r ≡ gated (sharedCode params opcode pa size curve) (placeOf params pa) ⌝ }
+fn gate_of(state: Record, len: usize, opcode: Opcode, pa: u64, size: u64, curve: u64) -> Gate
+    ensures { λ r. ⌜ r ≡ gated (sharedCode state len opcode pa size curve) (placeOf (upOf state) pa) ⌝ }
 {
-    if is_other(opcode) {
+    let first = codes::code_if(is_other(opcode), Code::Inval);
+    let gate = range::page_gate(state, len, first, OutsideAs::Invalid, pa, size);
+    let Gate::Go(at) = gate else {
+        return gate;
+    };
+    if bad_curve(opcode, curve) {
         return Gate::Stop(Code::Inval);
     }
-    match range::fit_of(params, pa, size) {
-        Fit::Outside => Gate::Stop(Code::Inval),
-        Fit::TooLong => Gate::Stop(Code::Inval),
-        Fit::At(at) => {
-            if bad_curve(opcode, curve) {
-                return Gate::Stop(Code::Inval);
-            }
-            if params.minor < 4 {
-                return Gate::Stop(Code::Unk);
-            }
-            Gate::Go(at)
-        }
+    let params = codes::up_of(state);
+    if params.minor < 4 {
+        return Gate::Stop(Code::Unk);
     }
+    Gate::Go(at)
 }
 
 // Key: writes the public key that the platform lends into the buffer; x1 is its length.
 fn public_key(buffer: &mut [u8], queue: Queue, key: &[u8]) -> Queued
-    ensures { λ r. ⌜ _≡_ {A = SigningStep} (record { answer = r .answer; page = now (buffer .exit); queue = listsOf (r .queue) }) (publicOf (now (buffer .entry)) (listsOf queue) (now (key .entry))) ⌝ }
+    ensures { λ r. ⌜ signingExit r (now (buffer .exit)) ≡ publicOf (now (buffer .entry)) (listsOf queue) (now (key .entry)) ⌝ }
     ensures { λ r. ⌜ (isOk (r .answer .code) ≡ false → r .queue ≡ queue) ⌝ }
 {
     if key.len() == 0 {
@@ -106,7 +102,7 @@ fn public_key(buffer: &mut [u8], queue: Queue, key: &[u8]) -> Queued
 // A call whose buffer passed, at an offset of the page: the buffer is lent to what the opcode asks for.
 fn serve(page: &mut [u8], at: usize, size: u64, queue: Queue, key: &[u8], opcode: Opcode) -> Queued
     requires { ⌜ at + size ≤ length (now page) ⌝ }
-    ensures { λ r. ⌜ _≡_ {A = SigningStep} (record { answer = r .answer; page = now (page .exit); queue = listsOf (r .queue) }) (queued (opCode opcode at size (now (page .entry)) (listsOf queue) (now (key .entry))) (opStep opcode at size (now (page .entry)) (listsOf queue) (now (key .entry))) (now (page .entry)) (listsOf queue)) ⌝ }
+    ensures { λ r. ⌜ signingExit r (now (page .exit)) ≡ opAt opcode at size (now (page .entry)) (listsOf queue) (now (key .entry)) ⌝ }
     ensures { λ r. ⌜ (isOk (r .answer .code) ≡ false → r .queue ≡ queue) ⌝ }
 {
     let end = at + size as usize;
@@ -129,17 +125,11 @@ pub fn token_signing(
     size: u64,
     curve: u64,
 ) -> Queued
-    ensures { λ r. ⌜ _≡_ {A = SigningStep} (record { answer = r .answer; page = now (page .exit); queue = listsOf (r .queue) }) (signingOf state (now (page .entry)) (listsOf queue) (now (key .entry)) opcode pa size curve) ⌝ }
+    ensures { λ r. ⌜ signingExit r (now (page .exit)) ≡ signingOf state (now (page .entry)) (listsOf queue) (now (key .entry)) opcode pa size curve ⌝ }
     ensures { λ r. ⌜ (isOk (r .answer .code) ≡ false → r .queue ≡ queue) ⌝ }
 {
-    if !codes::is_up(state) {
-        return queue::refused(Code::Unk, queue);
-    }
-    if page.len() != 4096 {
-        return queue::refused(Code::Unk, queue);
-    }
     let asked = opcode_of(opcode);
-    let gate = gate_of(codes::up_of(state), asked, pa, size, curve);
+    let gate = gate_of(state, page.len(), asked, pa, size, curve);
     match gate {
         Gate::Stop(code) => queue::refused(code, queue),
         Gate::Go(at) => serve(page, at, size, queue, key, asked),

@@ -1,7 +1,7 @@
 -- How many calls a token takes, and that their hunks are the token. Assumes nothing.
 use Prim.Native.Nat.{ℕ, _+_, _-_, _*_, _≤_, _<_, min}
 use mathlib.Core.Path.{_≡_, refl, sym, ap, _∙_}
-use mathlib.Core.Bool.{Bool, true, false, cond, false≢true}
+use mathlib.Core.Bool.{Bool, true, false, cond, false≢true, true≢false}
 use mathlib.Core.List.{List, [], _∷_, _++_}
 use native.Mathlib.Decide.{decLe, decLt}
 use native.Mathlib.Omega.{arith}
@@ -10,19 +10,19 @@ use native.Mathlib.Numerals.{one-add, add-one}
 use lib.Dec.{leb}
 use lib.ListN.{length, take, drop, length-drop, length-take}
 use lib.Seq.{take-all, take-add, drop-drop}
-use borrow.Author.Tests.{le-leb, lt-leb, eq-eqb, ne-eqb, eqb-true}
+use borrow.Author.Tests.{le-leb, lt-leb, eq-eqb, ne-eqb}
 use Rattle.words.specs.Word.{part, splice}
 use Rattle.words.proofs.Store.{part-splice}
 use Rattle.range.specs.Range.{placeOf}
-use Rattle.codes.specs.Codes.{upOf, whenUp, isOk, andThen, answerOf}
+use Rattle.codes.specs.Codes.{upOf, isOk, answerOf}
 use Rattle.codes.specs.declared.Code.{Code}
-use Rattle.codes.specs.declared.Code.the-variants.{Ok, Unk, BadAddr, BadPas, Inval, Again}
-use Rattle.codes.proofs.Gates.{fails-ok, unless-ok, first-ok, then-ok}
+use Rattle.codes.specs.declared.Code.the-variants.{Ok}
+use Rattle.codes.proofs.Gates.{first-ok, then-ok, if-ok-by}
 use Rattle.token.specs.declared.Session.{Session}
 use Rattle.token.specs.declared.Session.the-variants.{Idle, Sending}
-use Rattle.token.specs.Token.{bufferCode, startCode, tokenCode, beginOf, hunkOf, restOf, nextSession, TokenStep, sendOf, keeps, settled, tokenOf}
+use Rattle.token.specs.Token.{startCode, tokenCode, beginOf, hunkOf, restOf, nextSession, TokenStep, sendOf, keeps, settled, tokenOf}
 use Rattle.token.specs.Calls.{TokenCall, tokenStepOf, tokenAccepted, shownOf, Ready, runOf, oksOf, hunksOf, leftOf, GoesOn, ceil, Calls}
-use Rattle.token.proofs.Tokens.{buffer-room, start-empty, start-again, begin-again, next-idle, next-ok, begin-next, sends, token-start, token-refused}
+use Rattle.token.proofs.Tokens.{Room, buffer-room, start-empty, start-again, begin-again, next-idle, next-ok, begin-next, sends, token-start, token-refused}
 
 -- ---- the session once k bytes of the token were asked for
 unfoldable sessionAt : List ℕ → ℕ → Session
@@ -84,15 +84,10 @@ written at n vs page e h = ap (λ (m : ℕ). part at m (splice at vs page)) (sym
 -- ---- a call that is OK
 settled-ok : (k : Code) (new : TokenStep) (page : List ℕ) (s : Session) → isOk (settled k new page s .answer .code) ≡ true → k ≡ Ok
 unfolding settled keeps answerOf
-settled-ok Ok new page s h = refl
-settled-ok Unk new page s h = absurd (false≢true h)
-settled-ok BadAddr new page s h = absurd (false≢true h)
-settled-ok BadPas new page s h = absurd (false≢true h)
-settled-ok Inval new page s h = absurd (false≢true h)
-settled-ok Again new page s h = absurd (false≢true h)
+settled-ok k new page s = if-ok-by (λ (t : TokenStep). isOk (t .answer .code) ≡ true → k ≡ Ok) k new (keeps k page s) (λ e h. e) (λ e h. absurd (true≢false (sym h ∙ e)))
 
 module _ (s : Session) (x : TokenCall) (h : tokenAccepted s x ≡ true) where
-  code-ok : whenUp (x .state) (tokenCode (upOf (x .state)) (x .page) s (x .busy) (x .token) (x .pa) (x .size) (x .csize)) ≡ Ok
+  code-ok : tokenCode (x .state) (x .page) s (x .busy) (x .token) (x .pa) (x .size) (x .csize) ≡ Ok
   unfolding tokenAccepted tokenStepOf tokenOf
   code-ok = settled-ok _ (sendOf (placeOf (upOf (x .state)) (x .pa)) (x .token) (beginOf s (x .csize)) (x .size) (x .page)) (x .page) s h
 
@@ -100,13 +95,13 @@ module _ (s : Session) (x : TokenCall) (h : tokenAccepted s x ≡ true) where
   unfolding tokenStepOf tokenOf
   step-is = sym (sends _ _ (x .page) s code-ok)
 
-  page-whole : length (x .page) ≡ 4096
-  unfolding whenUp tokenCode
-  page-whole = eqb-true _ _ (unless-ok _ _ _ refl (fails-ok _ _ _ refl code-ok .1) .0)
+  buffer-is : Room (x .state) (length (x .page)) (x .pa) (x .size) (x .csize)
+  unfolding tokenCode
+  buffer-is = buffer-room _ _ _ _ _ _ (first-ok _ _ code-ok)
 
-  checks-ok : andThen (bufferCode (upOf (x .state)) (x .pa) (x .size) (x .csize)) (startCode s (x .csize) (length (x .token))) ≡ Ok
-  unfolding whenUp tokenCode
-  checks-ok = fails-ok _ _ _ refl (fails-ok _ _ _ refl (fails-ok _ _ _ refl code-ok .1) .1) .1
+  start-is : startCode s (x .csize) (length (x .token)) ≡ Ok
+  unfolding tokenCode
+  start-is = then-ok _ _ code-ok
 
   session-is : beginOf s (x .csize) < length (x .token) → tokenStepOf s x .session ≡ sessionAt (x .token) (beginOf s (x .csize) + x .size)
   unfolding sendOf
@@ -122,8 +117,7 @@ module _ (s : Session) (x : TokenCall) (h : tokenAccepted s x ≡ true) where
       let i : ℕ = beginOf s (x .csize) in
       let n : ℕ = hunkOf (x .token) i (x .size) in
       let at : ℕ = placeOf (upOf (x .state)) (x .pa) in
-      let r = buffer-room _ _ _ _ (first-ok _ _ checks-ok) in
-      let l : at ≤ length (x .page) = omega (arith, r .room, page-whole) in
+      let l : at ≤ length (x .page) = omega (arith, buffer-is .room, buffer-is .whole) in
       rw h
       (ap (λ (t : TokenStep). part at (t .answer .x1) (t .page)) step-is
       ∙ written at n (part i n (x .token)) (x .page) (hunk-length (x .token) i (x .size)) l
@@ -138,7 +132,7 @@ record Next (t : List ℕ) (size k : ℕ) (s : Session) (x : TokenCall) : Type 0
 
 step-on : (t : List ℕ) (size : ℕ) (s : Session) (x : TokenCall) (k : ℕ) → tokenAccepted s x ≡ true → x .csize ≡ 0 → x .size ≡ size → x .token ≡ t → s ≡ sessionAt t k → Next t size k s x
 step-on t size s x k h c z e o =
-    let q = then-ok _ _ (checks-ok s x h) in
+    let q = start-is s x h in
     let l : k < length t = is-open t k (λ i. false≢true (ap isOk (sym (next-idle s (x .csize) (length (x .token)) c (o ∙ i)) ∙ q))) in
     let b : beginOf s (x .csize) ≡ k = sym (begin-next s (x .csize) (length (x .token)) c (length t) k (o ∙ at-open t k l)) in
     record {
@@ -155,8 +149,8 @@ step-off s x h = (rw h, ap (λ (t : TokenStep). t .session) (token-refused (x .s
 
 -- a call that passes the checks of session and token, and the others, is OK
 ready-ok : (s : Session) (x : TokenCall) → Ready x → startCode s (x .csize) (length (x .token)) ≡ Ok → tokenAccepted s x ≡ true
-unfolding tokenAccepted tokenStepOf tokenOf sendOf settled answerOf
-ready-ok s x a h = rw (token-start (x .state) (x .page) s (x .busy) (x .token) (x .pa) (x .size) (x .csize) (a .up) (a .whole) (a .free) (a .buffer) ∙ h)
+unfolding Ready tokenAccepted tokenStepOf tokenOf sendOf settled answerOf
+ready-ok s x a h = rw (token-start (x .state) (x .page) s (x .busy) (x .token) (x .pa) (x .size) (x .csize) a ∙ h)
 
 -- ---- any calls after the start
 -- n buffers of size were sent of t, from place k on
@@ -216,7 +210,7 @@ module _ (s : Session) (x : TokenCall) (xs : List TokenCall) (n : x .csize ≡ 0
     where
       go : Dec (0 < length (x .token)) → 0 < length (x .token)
       go (yes a) = a
-      go (no a) = absurd (false≢true (ap isOk (sym (start-empty s (x .csize) (length (x .token)) n (omega arith)) ∙ then-ok _ _ (checks-ok s x h))))
+      go (no a) = absurd (false≢true (ap isOk (sym (start-empty s (x .csize) (length (x .token)) n (omega arith)) ∙ start-is s x h)))
 
   start-sent : Sent (x .token) (x .size) 0 (oksOf s (x ∷ xs)) (hunksOf s (x ∷ xs)) (leftOf 0 s (x ∷ xs)) (runOf s (x ∷ xs))
   unfolding oksOf hunksOf leftOf runOf
@@ -235,8 +229,7 @@ module _ (s : Session) (x : TokenCall) (xs : List TokenCall) (n : x .csize ≡ 0
       let t : List ℕ = x .token in
       let b : ℕ = x .size in
       let m : ℕ = oksOf s (x ∷ xs) in
-      let r = buffer-room _ _ _ _ (first-ok _ _ (checks-ok s x h)) in
-      let z : 0 < b = omega (arith, r .holds, n) in
+      let z : 0 < b = omega (arith, buffer-is s x h .holds, n) in
       let p = start-sent in
       record {
         ended = λ e.

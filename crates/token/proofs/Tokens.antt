@@ -1,7 +1,7 @@
 -- Token and challenge, return by return, and what a refusal leaves. Assumes nothing.
 use Prim.Native.Nat.{ℕ, _+_, _-_, _≤_, _<_, min}
 use mathlib.Core.Path.{_≡_, refl, sym, ap, _∙_}
-use mathlib.Core.Bool.{Bool, true, false, false≢true}
+use mathlib.Core.Bool.{Bool, true, false, true≢false}
 use mathlib.Core.List.{List, [], _++_, append-nil}
 use native.Mathlib.Omega.{arith}
 use native.Mathlib.Nat.{min-eq-left, min-eq-right, min-zero, add-zero}
@@ -11,15 +11,14 @@ use borrow.Author.Tests.{eq-eqb, ne-eqb, lt-ltb, le-ltb, ltb-false}
 use Rattle.words.specs.Tests.{both, either}
 use Rattle.words.specs.Word.{part, splice, laid, spanAt, spanned, noSpan}
 use Rattle.words.proofs.Store.{bytes-in, lent-back, span-none, span-in}
-use Rattle.boot.specs.declared.Params.{Params}
 use Rattle.boot.specs.declared.Record.{Record}
-use Rattle.range.specs.Range.{outside, tooLong, placeOf}
-use Rattle.range.proofs.Ranges.{room-of}
-use Rattle.codes.specs.Codes.{isUp, upOf, unless, fails, whenUp, isOk, answerOf, andThen}
-use Rattle.codes.proofs.Gates.{fails-ok, refused-as}
+use Rattle.range.specs.Range.{placeOf}
+use Rattle.range.proofs.Ranges.{passed}
+use Rattle.codes.specs.Codes.{upOf, unless, fails, isOk, answerOf}
+use Rattle.codes.proofs.Gates.{fails-ok, first-ok, then-ok, then-stop, then-go, if-ok-by}
 use Rattle.codes.specs.declared.Answer.{Answer}
 use Rattle.codes.specs.declared.Code.{Code}
-use Rattle.codes.specs.declared.Code.the-variants.{Ok, Unk, BadAddr, BadPas, Inval, Again}
+use Rattle.codes.specs.declared.Code.the-variants.{Ok, Unk, Inval}
 use Rattle.token.specs.declared.Session.{Session}
 use Rattle.token.specs.declared.Session.the-variants.{Idle, Sending}
 use Rattle.token.specs.Token.{
@@ -27,6 +26,7 @@ use Rattle.token.specs.Token.{
   wholeOf,
   sentOf,
   listed,
+  csizeCode,
   bufferCode,
   startCode,
   tokenCode,
@@ -39,49 +39,38 @@ use Rattle.token.specs.Token.{
   keeps,
   settled,
   tokenOf,
-  challengeCode,
   challengeOf,
   challengeSpan,
 }
 
--- ---- the buffer
-module _ (u : Params) (pa size c : ℕ) where
-  pub buffer-outside : outside u pa ≡ true → bufferCode u pa size c ≡ BadAddr
-  unfolding bufferCode fails
-  buffer-outside o = rw o
+-- ---- c_size
+module _ (size c : ℕ) where
+  pub csize-unlisted : listed c ≡ false → csizeCode size c ≡ Inval
+  unfolding csizeCode fails unless
+  csize-unlisted i = rw i
 
-  module _ (o : outside u pa ≡ false) where
-    pub buffer-long : tooLong u pa size ≡ true → bufferCode u pa size c ≡ Inval
-    unfolding bufferCode fails
-    buffer-long l = rw (o, l)
+  module _ (i : listed c ≡ true) where
+    pub csize-small : size < c → csizeCode size c ≡ Inval
+    unfolding csizeCode fails unless
+    csize-small h = rw (i, lt-ltb size c h)
 
-    module _ (l : tooLong u pa size ≡ false) where
-      pub buffer-unlisted : listed c ≡ false → bufferCode u pa size c ≡ Inval
-      unfolding bufferCode fails unless
-      buffer-unlisted i = rw (o, l, i)
-
-      module _ (i : listed c ≡ true) where
-        pub buffer-small : size < c → bufferCode u pa size c ≡ Inval
-        unfolding bufferCode fails unless
-        buffer-small h = rw (o, l, i, lt-ltb size c h)
-
-        pub buffer-ok : c ≤ size → bufferCode u pa size c ≡ Ok
-        unfolding bufferCode fails unless
-        buffer-ok h = rw (o, l, i, le-ltb size c h)
+    pub csize-ok : c ≤ size → csizeCode size c ≡ Ok
+    unfolding csizeCode fails unless
+    csize-ok h = rw (i, le-ltb size c h)
 
 -- a buffer that passes lies in the page, and the challenge in the buffer
-pub record Room (u : Params) (pa size c : ℕ) : Type 0 where
-  pub room : placeOf u pa + size ≤ 4096
+pub record Room (r : Record) (len pa size c : ℕ) : Type 0 where
+  pub whole : len ≡ 4096
+  pub room : placeOf (upOf r) pa + size ≤ 4096
   pub holds : c ≤ size
 
-pub buffer-room : (u : Params) (pa size c : ℕ) → bufferCode u pa size c ≡ Ok → Room u pa size c
-unfolding bufferCode
-buffer-room u pa size c h =
-    let p = fails-ok _ _ _ refl h in
-    let q = fails-ok _ _ _ refl (p .1) in
-    let r = fails-ok _ _ _ refl (q .1) in
-    let t = fails-ok _ _ _ refl (r .1) in
-    record { room = room-of u pa size (placeOf u pa) (p .0) (q .0) refl; holds = ltb-false _ _ (t .0) }
+pub buffer-room : (r : Record) (len : ℕ) (busy : Bool) (pa size c : ℕ) → bufferCode r len busy pa size c ≡ Ok → Room r len pa size c
+unfolding bufferCode csizeCode
+buffer-room r len busy pa size c h =
+    let p = passed _ _ _ _ _ _ (first-ok _ _ h) in
+    let l = fails-ok _ _ _ refl (then-ok _ _ h) in
+    let t = fails-ok _ _ _ refl (l .1) in
+    record { whole = p .whole; room = p .room; holds = ltb-false _ _ (t .0) }
 
 -- ---- session and token
 module _ (s : Session) (c len : ℕ) where
@@ -164,60 +153,33 @@ pub sends : (k : Code) (new : TokenStep) (page : List ℕ) (s : Session) → k �
 unfolding settled
 sends k new page s e = rw e
 
--- the checks up to the buffer's
+-- the code of a call, by its buffer's and its start's
 module _ (r : Record) (page : List ℕ) (s : Session) (busy : Bool) (token : List ℕ) (pa size c : ℕ) where
-  pub token-down : isUp r ≡ false → whenUp r (tokenCode (upOf r) page s busy token pa size c) ≡ Unk
-  unfolding whenUp fails unless
-  token-down h = rw h
+  pub token-buffer : (j : Code) → bufferCode r (length page) busy pa size c ≡ j → isOk j ≡ false → tokenCode r page s busy token pa size c ≡ j
+  unfolding tokenCode
+  token-buffer j e o = then-stop _ _ j e o
 
-  module _ (h : isUp r ≡ true) where
-    pub token-page : (length page ≡ 4096 → ⊥) → whenUp r (tokenCode (upOf r) page s busy token pa size c) ≡ Unk
-    unfolding whenUp tokenCode fails unless
-    token-page n = rw (h, ne-eqb (length page) 4096 n)
-
-    module _ (n : length page ≡ 4096) where
-      pub token-busy : busy ≡ true → whenUp r (tokenCode (upOf r) page s busy token pa size c) ≡ Again
-      unfolding whenUp tokenCode fails unless
-      token-busy b = rw (h, eq-eqb (length page) 4096 n, b)
-
-      module _ (b : busy ≡ false) where
-        pub token-buffer : (j : Code) → bufferCode (upOf r) pa size c ≡ j → isOk j ≡ false → whenUp r (tokenCode (upOf r) page s busy token pa size c) ≡ j
-        unfolding whenUp tokenCode fails unless andThen
-        token-buffer j e o = rw (h, eq-eqb (length page) 4096 n, b, e, o)
-
-        pub token-start : bufferCode (upOf r) pa size c ≡ Ok → whenUp r (tokenCode (upOf r) page s busy token pa size c) ≡ startCode s c (length token)
-        unfolding whenUp tokenCode fails unless andThen
-        token-start e = rw (h, eq-eqb (length page) 4096 n, b, e)
+  pub token-start : bufferCode r (length page) busy pa size c ≡ Ok → tokenCode r page s busy token pa size c ≡ startCode s c (length token)
+  unfolding tokenCode
+  token-start e = then-go _ _ e
 
 -- a refused call leaves the page and the session as they were, with zeros in the other registers
 pub token-refused : (r : Record) (page : List ℕ) (s : Session) (busy : Bool) (token : List ℕ) (pa size c : ℕ) → isOk (tokenOf r page s busy token pa size c .answer .code) ≡ false →
     tokenOf r page s busy token pa size c ≡ record { answer = answerOf (tokenOf r page s busy token pa size c .answer .code) 0 0; page = page; session = s }
 unfolding tokenOf sendOf settled keeps answerOf
-token-refused r page s busy token pa size c h =
-    refused-as (λ (t : TokenStep). t .answer .code) (whenUp r (tokenCode (upOf r) page s busy token pa size c)) (sendOf (placeOf (upOf r) pa) token (beginOf s c) size page) (λ (k : Code). keeps k page s) refl (λ k. refl) h
+token-refused r page s busy token pa size c =
+    if-ok-by (λ (t : TokenStep). isOk (t .answer .code) ≡ false → t ≡ record { answer = answerOf (t .answer .code) 0 0; page = page; session = s })
+    (tokenCode r page s busy token pa size c) _ _ (λ e h. absurd (true≢false h)) (λ e h. refl)
 
 -- ---- the challenge, and where it lies
 module _ (r : Record) (page : List ℕ) (pa size c : ℕ) where
-  -- that it is empty
-  abbrev pub Nowhere : Type 0
-  Nowhere = (noSpan ≡ challengeSpan r page pa size c) × (spanned noSpan page ≡ challengeOf r page pa size c)
+  -- it is empty
+  pub challenge-none : (j : Code) → bufferCode r (length page) false pa size c ≡ j → isOk j ≡ false → (noSpan ≡ challengeSpan r page pa size c) × (spanned noSpan page ≡ challengeOf r page pa size c)
+  unfolding challengeOf challengeSpan
+  challenge-none j e o = rw (e, o) (refl, span-none page)
 
-  pub challenge-down : isUp r ≡ false → Nowhere
-  unfolding challengeOf challengeSpan whenUp fails unless
-  challenge-down h = rw h (refl, span-none page)
-
-  module _ (h : isUp r ≡ true) where
-    pub challenge-page : (length page ≡ 4096 → ⊥) → Nowhere
-    unfolding challengeOf challengeSpan whenUp challengeCode fails unless
-    challenge-page n = rw (h, ne-eqb (length page) 4096 n) (refl, span-none page)
-
-    module _ (n : length page ≡ 4096) where
-      pub challenge-none : (j : Code) → bufferCode (upOf r) pa size c ≡ j → isOk j ≡ false → Nowhere
-      unfolding challengeOf challengeSpan whenUp challengeCode fails unless
-      challenge-none j e o = rw (h, eq-eqb (length page) 4096 n, e, o) (refl, span-none page)
-
-      pub challenge-shown : bufferCode (upOf r) pa size c ≡ Ok → (at : ℕ) → at ≡ placeOf (upOf r) pa → (spanAt at c ≡ challengeSpan r page pa size c) × (spanned (spanAt at c) page ≡ challengeOf r page pa size c)
-      unfolding challengeOf challengeSpan whenUp challengeCode fails unless
-      challenge-shown e at i =
-          let m = buffer-room (upOf r) pa size c e in
-          rw (i, h, eq-eqb (length page) 4096 n, e) (refl, span-in (placeOf (upOf r) pa) c page (omega (arith, m .room, m .holds)))
+  pub challenge-shown : bufferCode r (length page) false pa size c ≡ Ok → (at : ℕ) → at ≡ placeOf (upOf r) pa → (spanAt at c ≡ challengeSpan r page pa size c) × (spanned (spanAt at c) page ≡ challengeOf r page pa size c)
+  unfolding challengeOf challengeSpan
+  challenge-shown e at i =
+      let m = buffer-room r (length page) false pa size c e in
+      rw (i, e) (refl, span-in (placeOf (upOf r) pa) c page (omega (arith, m .whole, m .room, m .holds)))

@@ -8,7 +8,7 @@ use lib.ListN.{length, take}
 use Rattle.words.specs.Word.{part}
 use Rattle.boot.specs.declared.Record.{Record}
 use Rattle.range.specs.Range.{placeOf}
-use Rattle.codes.specs.Codes.{isUp, upOf, isOk}
+use Rattle.codes.specs.Codes.{upOf, isOk}
 use Rattle.codes.specs.declared.Code.the-variants.{Ok}
 use Rattle.token.specs.declared.Session.{Session}
 use Rattle.token.specs.declared.Session.the-variants.{Idle}
@@ -37,11 +37,8 @@ unfoldable pub shownOf : Session → TokenCall → List ℕ
 shownOf s x = cond (tokenAccepted s x) (part (placeOf (upOf (x .state)) (x .pa)) (tokenStepOf s x .answer .x1) (tokenStepOf s x .page)) []
 
 -- the checks that look at neither session nor token pass
-pub record Ready (x : TokenCall) : Type 0 where
-  pub up : isUp (x .state) ≡ true
-  pub whole : length (x .page) ≡ 4096
-  pub free : x .busy ≡ false
-  pub buffer : bufferCode (upOf (x .state)) (x .pa) (x .size) (x .csize) ≡ Ok
+unfoldable pub Ready : TokenCall → Type 0
+Ready x = bufferCode (x .state) (length (x .page)) (x .busy) (x .pa) (x .size) (x .csize) ≡ Ok
 
 -- ---- calls one after the other
 -- the session after them

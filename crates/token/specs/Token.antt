@@ -7,13 +7,14 @@ use lib.Dec.{ltb, eqb}
 use Rattle.words.specs.Tests.{both, either}
 use Rattle.words.specs.Word.{part, splice, noSpan, spanAt}
 use Rattle.words.specs.declared.Span.{Span}
-use Rattle.boot.specs.declared.Params.{Params}
 use Rattle.boot.specs.declared.Record.{Record}
-use Rattle.range.specs.Range.{outside, tooLong, placeOf}
-use Rattle.codes.specs.Codes.{unless, fails, upOf, whenUp, ifOk, andThen, answerOf}
+use Rattle.range.specs.Range.{placeOf, pageCode}
+use Rattle.range.specs.declared.OutsideAs.the-variants.{BadAddress}
+use Rattle.codes.specs.Codes.{unless, fails, upOf, ifOk, andThen, answerOf}
 use Rattle.codes.specs.declared.Code.{Code}
-use Rattle.codes.specs.declared.Code.the-variants.{Ok, Unk, BadAddr, Inval, Again}
+use Rattle.codes.specs.declared.Code.the-variants.{Ok, Unk, Inval, Again}
 use Rattle.codes.specs.declared.Answer.{Answer}
+use Rattle.token.specs.declared.Tokened.{Tokened}
 use Rattle.token.specs.declared.Session.{Session}
 use Rattle.token.specs.declared.Session.the-variants.{Idle, Sending}
 
@@ -34,15 +35,13 @@ sentOf (Sending whole sent) = sent
 unfoldable pub listed : ℕ → Bool
 listed c = either (eqb c 0) (either (eqb c 32) (either (eqb c 48) (eqb c 64)))
 
--- "outside BAD_ADDR; too long INVAL; c_size not 0, 32, 48 or 64 INVAL; c_size above the buffer's size INVAL;": the checks that token
--- and challenge share
-unfoldable pub bufferCode : Params → ℕ → ℕ → ℕ → Code
-bufferCode u pa size c =
-    fails (outside u pa) BadAddr
-    (fails (tooLong u pa size) Inval
-    (fails (unless (listed c)) Inval
-    (fails (ltb size c) Inval
-    Ok)))
+-- "c_size not 0, 32, 48 or 64 INVAL; c_size above the buffer's size INVAL;"
+unfoldable pub csizeCode : ℕ → ℕ → Code
+csizeCode size c = fails (unless (listed c)) Inval (fails (ltb size c) Inval Ok)
+
+-- "platform busy AGAIN; outside BAD_ADDR; too long INVAL;", then those of c_size: the checks that token and challenge share
+unfoldable pub bufferCode : Record → ℕ → Bool → ℕ → ℕ → ℕ → Code
+bufferCode r len busy pa size c = andThen (pageCode r len (fails busy Again Ok) BadAddress pa size) (csizeCode size c)
 
 -- "c_size 0 with no session INVAL; token empty, or with c_size 0 of another length than at the session's start, UNK."
 unfoldable pub startCode : Session → ℕ → ℕ → Code
@@ -51,12 +50,9 @@ startCode s c len =
     (fails (either (eqb len 0) (both (eqb c 0) (unless (eqb len (wholeOf s))))) Unk
     Ok)
 
--- ".. B2, B3 and B5 do so too on a lent page not 4,096 bytes long (house rules)"; "platform busy AGAIN;", then the others
-unfoldable pub tokenCode : Params → List ℕ → Session → Bool → List ℕ → ℕ → ℕ → ℕ → Code
-tokenCode u page s busy token pa size c =
-    fails (unless (eqb (length page) 4096)) Unk
-    (fails busy Again
-    (andThen (bufferCode u pa size c) (startCode s c (length token))))
+-- all of them, in this order
+unfoldable pub tokenCode : Record → List ℕ → Session → Bool → List ℕ → ℕ → ℕ → ℕ → Code
+tokenCode r page s busy token pa size c = andThen (bufferCode r (length page) busy pa size c) (startCode s c (length token))
 
 -- ---- a call that passes them
 -- "A nonzero c_size always starts again, also in mid-session": where in the token a call begins
@@ -82,6 +78,10 @@ pub record TokenStep : Type 0 where
   pub page : List ℕ
   pub session : Session
 
+-- what a call answers, with the page at exit
+abbrev pub tokenExit : Tokened → List ℕ → TokenStep
+tokenExit t page = record { answer = t .answer; page = page; session = t .session }
+
 -- "Each OK writes the next hunk, the smaller of buffer and rest, at pa; x1 is the hunk, x2 the rest."
 unfoldable pub sendOf : ℕ → List ℕ → ℕ → ℕ → List ℕ → TokenStep
 sendOf at token i size page =
@@ -100,18 +100,15 @@ settled k new page s = ifOk k new (keeps k page s)
 
 unfoldable pub tokenOf : Record → List ℕ → Session → Bool → List ℕ → ℕ → ℕ → ℕ → TokenStep
 tokenOf r page s busy token pa size c =
-    settled (whenUp r (tokenCode (upOf r) page s busy token pa size c)) (sendOf (placeOf (upOf r) pa) token (beginOf s c) size page) page s
+    settled (tokenCode r page s busy token pa size c) (sendOf (placeOf (upOf r) pa) token (beginOf s c) size page) page s
 
 -- ---- the challenge
--- ".. empty if the record is not up, the page is not 4,096 bytes long, or a BAD_ADDR or INVAL check above fails." The INVAL check of
--- c_size 0 needs no case: there the part is empty.
-unfoldable pub challengeCode : Params → List ℕ → ℕ → ℕ → ℕ → Code
-challengeCode u page pa size c = fails (unless (eqb (length page) 4096)) Unk (bufferCode u pa size c)
-
--- "A lookup before a start shows the challenge, c_size bytes at pa, as that part of the page;"
+-- "A lookup before a start shows the challenge, c_size bytes at pa, as that part of the page; empty if the record is not up, the page is
+-- not 4,096 bytes long, or a BAD_ADDR or INVAL check above fails." A busy platform does not matter. The INVAL check of c_size 0 needs no
+-- case: there the part is empty.
 unfoldable pub challengeOf : Record → List ℕ → ℕ → ℕ → ℕ → List ℕ
-challengeOf r page pa size c = ifOk (whenUp r (challengeCode (upOf r) page pa size c)) (part (placeOf (upOf r) pa) c page) []
+challengeOf r page pa size c = ifOk (bufferCode r (length page) false pa size c) (part (placeOf (upOf r) pa) c page) []
 
 -- where it lies in the page; nowhere where it is empty
 unfoldable pub challengeSpan : Record → List ℕ → ℕ → ℕ → ℕ → Span
-challengeSpan r page pa size c = ifOk (whenUp r (challengeCode (upOf r) page pa size c)) (spanAt (placeOf (upOf r) pa) c) noSpan
+challengeSpan r page pa size c = ifOk (bufferCode r (length page) false pa size c) (spanAt (placeOf (upOf r) pa) c) noSpan

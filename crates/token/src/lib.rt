@@ -1,18 +1,17 @@
 // The platform token, sent hunk by hunk, and the lookup of its challenge.
-use boot::Params;
 use boot::Record;
 use codes::Answer;
 use codes::Code;
 use codes::Gate;
-use range::Fit;
+use range::OutsideAs;
 use words::Span;
 ghost use mathlib.Core.Path.{_≡_};
 ghost use Prim.Native.Nat.{_+_, _≤_};
 ghost use lib.ListN.{length};
 ghost use Rattle.words.specs.Word.{part, splice, spanned};
 ghost use Rattle.range.specs.Range.{placeOf};
-ghost use Rattle.codes.specs.Codes.{answerOf, gated};
-ghost use Rattle.token.specs.Token.{listed, bufferCode, startCode, beginOf, TokenStep, sendOf, settled, tokenOf, challengeOf, challengeSpan};
+ghost use Rattle.codes.specs.Codes.{upOf, answerOf, gated};
+ghost use Rattle.token.specs.Token.{listed, bufferCode, startCode, beginOf, tokenExit, sendOf, tokenOf, challengeOf, challengeSpan};
 
 // A session: none, or a token of which a part is sent.
 pub enum Session {
@@ -48,23 +47,22 @@ fn is_listed(csize: u64) -> bool
     }
 }
 
-// The checks of the buffer, and its offset in the page.
-fn buffer_of(params: Params, pa: u64, size: u64, csize: u64) -> Gate
-    ensures { λ r. ⌜ r ≡ gated (bufferCode params pa size csize) (placeOf params pa) ⌝ }
+// The checks of record, page, platform and buffer, and the buffer's offset in the page.
+fn buffer_of(state: Record, len: usize, busy: bool, pa: u64, size: u64, csize: u64) -> Gate
+    ensures { λ r. ⌜ r ≡ gated (bufferCode state len busy pa size csize) (placeOf (upOf state) pa) ⌝ }
 {
-    match range::fit_of(params, pa, size) {
-        Fit::Outside => Gate::Stop(Code::BadAddr),
-        Fit::TooLong => Gate::Stop(Code::Inval),
-        Fit::At(at) => {
-            if !is_listed(csize) {
-                return Gate::Stop(Code::Inval);
-            }
-            if size < csize {
-                return Gate::Stop(Code::Inval);
-            }
-            Gate::Go(at)
-        }
+    let first = codes::code_if(busy, Code::Again);
+    let gate = range::page_gate(state, len, first, OutsideAs::BadAddress, pa, size);
+    let Gate::Go(at) = gate else {
+        return gate;
+    };
+    if !is_listed(csize) {
+        return Gate::Stop(Code::Inval);
     }
+    if size < csize {
+        return Gate::Stop(Code::Inval);
+    }
+    Gate::Go(at)
 }
 
 // The checks of session and token, and where in the token the call begins.
@@ -101,13 +99,13 @@ fn put_hunk(page: &mut [u8], at: usize, token: &[u8], from: usize, n: usize)
 // The next hunk, the smaller of buffer and rest, at an offset of the page. Past the token's end there is no rest.
 fn send(page: &mut [u8], at: usize, token: &[u8], from: usize, size: u64) -> Tokened
     requires { ⌜ at + size ≤ length (now page) ⌝ }
-    ensures { λ r. ⌜ _≡_ {A = TokenStep} (record { answer = r .answer; page = now (page .exit); session = r .session }) (sendOf at (now (token .entry)) from size (now (page .entry))) ⌝ }
+    ensures { λ r. ⌜ tokenExit r (now (page .exit)) ≡ sendOf at (now (token .entry)) from size (now (page .entry)) ⌝ }
 {
     let len = token.len();
     if len <= from {
         return Tokened {
             answer: codes::answered(Code::Ok, 0, 0),
-            session: Session::Idle,
+            session: Session::idle(),
         };
     }
     let left = len - from;
@@ -115,7 +113,7 @@ fn send(page: &mut [u8], at: usize, token: &[u8], from: usize, size: u64) -> Tok
         put_hunk(page, at, token, from, left);
         return Tokened {
             answer: codes::answered(Code::Ok, left as u64, 0),
-            session: Session::Idle,
+            session: Session::idle(),
         };
     }
     let n = size as usize;
@@ -139,25 +137,6 @@ fn refused(code: Code, session: Session) -> Tokened
     }
 }
 
-// A call whose buffer passed, at an offset of the page.
-fn send_at(
-    page: &mut [u8],
-    at: usize,
-    session: Session,
-    token: &[u8],
-    size: u64,
-    csize: u64,
-) -> Tokened
-    requires { ⌜ at + size ≤ length (now page) ⌝ }
-    ensures { λ r. ⌜ _≡_ {A = TokenStep} (record { answer = r .answer; page = now (page .exit); session = r .session }) (settled (startCode session csize (length (now (token .entry)))) (sendOf at (now (token .entry)) (beginOf session csize) size (now (page .entry))) (now (page .entry)) session) ⌝ }
-{
-    let gate = start_of(session, csize, token.len());
-    match gate {
-        Gate::Stop(code) => refused(code, session),
-        Gate::Go(from) => send(page, at, token, from, size),
-    }
-}
-
 // 0xC40001B3: the next hunk of the token that the platform lends, at pa, into a buffer of so many bytes; x1 is the hunk, x2 the
 // rest. A nonzero c_size starts again.
 pub fn platform_token(
@@ -170,21 +149,18 @@ pub fn platform_token(
     size: u64,
     csize: u64,
 ) -> Tokened
-    ensures { λ r. ⌜ _≡_ {A = TokenStep} (record { answer = r .answer; page = now (page .exit); session = r .session }) (tokenOf state (now (page .entry)) session busy (now (token .entry)) pa size csize) ⌝ }
+    ensures { λ r. ⌜ tokenExit r (now (page .exit)) ≡ tokenOf state (now (page .entry)) session busy (now (token .entry)) pa size csize ⌝ }
 {
-    if !codes::is_up(state) {
-        return refused(Code::Unk, session);
-    }
-    if page.len() != 4096 {
-        return refused(Code::Unk, session);
-    }
-    if busy {
-        return refused(Code::Again, session);
-    }
-    let gate = buffer_of(codes::up_of(state), pa, size, csize);
+    let gate = buffer_of(state, page.len(), busy, pa, size, csize);
     match gate {
         Gate::Stop(code) => refused(code, session),
-        Gate::Go(at) => send_at(page, at, session, token, size, csize),
+        Gate::Go(at) => {
+            let start = start_of(session, csize, token.len());
+            match start {
+                Gate::Stop(code) => refused(code, session),
+                Gate::Go(from) => send(page, at, token, from, size),
+            }
+        }
     }
 }
 
@@ -193,13 +169,7 @@ pub fn challenge_place(state: Record, page: &[u8], pa: u64, size: u64, csize: u6
     ensures { λ r. ⌜ r ≡ challengeSpan state (now (page .entry)) pa size csize ⌝ }
     ensures { λ r. ⌜ spanned r (now (page .entry)) ≡ challengeOf state (now (page .entry)) pa size csize ⌝ }
 {
-    if !codes::is_up(state) {
-        return Span { at: 0, len: 0 };
-    }
-    if page.len() != 4096 {
-        return Span { at: 0, len: 0 };
-    }
-    let gate = buffer_of(codes::up_of(state), pa, size, csize);
+    let gate = buffer_of(state, page.len(), false, pa, size, csize);
     let Gate::Go(at) = gate else {
         return Span { at: 0, len: 0 };
     };

@@ -2,12 +2,9 @@ use mathlib.Core.Path.{_≡_, refl, sym, ap, _∙_}
 use native.Mathlib.Omega.{arith}
 use Prim.Native.Nat.{_+_, _-_}
 use Rattle.words.specs.Word.{part}
-use Rattle.codes.specs.declared.Code.the-variants.{Inval}
 use Rattle.queue.specs.Queue.{listsOf}
-use Rattle.queue.proofs.Steps.{refuses}
-use Rattle.signing.specs.Signing.{opCode, opStep}
-use Rattle.signing.specs.declared.Opcode.the-variants.{Other}
-use Rattle.signing.proofs.Buffers.{push-page, pull-page, key-page}
+use Rattle.signing.specs.Signing.{opOf, opAt}
+use Rattle.signing.proofs.Buffers.{put-back, put-same}
 use borrow.Author.Needs.{needs}
 use Rattle.signing.proofs.serve.Statement.{statement}
 use Rattle.signing.proofs.serve.Tie as tie
@@ -70,37 +67,37 @@ same-length : tie.Need-same-length
 same-length c = search needs
 
 returns : tie.Need-returns
-unfolding part
+unfolding part opAt opOf
 returns c =
     let a = c .before .before .before .before .before .before .before .args in
     let e : a .at + a .size - a .at ≡ a .size = omega arith in
-    (rw (c .before .before .before .enum-told .given .1) (push-page (a .at) (a .size) (a .page .now) (listsOf (a .queue)) (a .key .now) _ _ (rw e at (c .push .ensures .0))), c .push .ensures .1)
+    (rw (c .before .before .before .enum-told .given .1) (put-same (a .at) (a .size) (a .page .now) _ _ _ (search needs) (rw e at (c .push .ensures .0))), c .push .ensures .1)
 
 same-length-2 : tie.Need-same-length-2
 same-length-2 c = search needs
 
 returns-2 : tie.Need-returns-2
-unfolding part
+unfolding part opAt opOf
 returns-2 c =
     let a = c .before .before .before .before .before .before .before .before .args in
     let e : a .at + a .size - a .at ≡ a .size = omega arith in
-    (rw (c .before .before .before .before .enum-told2 .given .1, e) (pull-page (a .at) (a .size) (a .page .now) (listsOf (a .queue)) (a .key .now) _ _ (search needs) _ (rw e at (c .before .before .pull .ensures .0))), c .before .before .pull .ensures .1)
+    (rw (c .before .before .before .before .enum-told2 .given .1, e) (put-back (a .at) (a .size) (a .page .now) _ _ _ _ (search needs) (rw e at (c .before .before .pull .ensures .0))), c .before .before .pull .ensures .1)
 
 same-length-3 : tie.Need-same-length-3
 same-length-3 c = search needs
 
 returns-3 : tie.Need-returns-3
-unfolding part
+unfolding part opAt opOf
 returns-3 c =
     let a = c .before .before .before .before .before .before .before .before .args in
     let e : a .at + a .size - a .at ≡ a .size = omega arith in
-    (rw (c .before .before .before .before .enum-told3 .given .1, e) (key-page (a .at) (a .size) (a .page .now) (listsOf (a .queue)) (a .key .now) _ _ (search needs) _ (rw e at (c .before .before .public-key .ensures .0))), c .before .before .public-key .ensures .1)
+    (rw (c .before .before .before .before .enum-told3 .given .1, e) (put-back (a .at) (a .size) (a .page .now) _ _ _ _ (search needs) (rw e at (c .before .before .public-key .ensures .0))), c .before .before .public-key .ensures .1)
 
 returns-4 : tie.Need-returns-4
-unfolding opCode
+unfolding part opAt opOf
 returns-4 c =
     let a = c .before .before .before .before .before .args in
-    (rw (c .before .enum-told4 .given .1) (refuses Inval (opStep Other (a .at) (a .size) (a .page .now) (listsOf (a .queue)) (a .key .now)) (a .page .now) (listsOf (a .queue)) Inval _ _ (c .refused .ensures .0) (ap listsOf (c .refused .ensures .1)) refl refl), λ h. c .refused .ensures .1)
+    (rw (c .before .enum-told4 .given .1, c .refused .ensures .0, c .refused .ensures .1) (put-same (a .at) (a .size) (a .page .now) _ _ _ (search needs) refl), λ h. c .refused .ensures .1)
 
 pub serve-spec : {M : Type 1} → statement M
 serve-spec =

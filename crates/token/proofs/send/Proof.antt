@@ -7,10 +7,13 @@ use Rattle.token.proofs.send.Tie as tie
 answered-requires : tie.Need-answered-requires
 answered-requires c κs = search needs
 
+idle-requires : tie.Need-idle-requires
+idle-requires c κs = search needs
+
 returns : tie.Need-returns
 returns c =
-    let a = c .before .before .before .before .args in
-    rw (c .answered .ensures) (sym (send-none (a .at) (a .token .now) (a .from) (a .size) (a .page .now) (search needs)))
+    let a = c .before .before .before .before .before .args in
+    rw (c .before .answered .ensures, c .idle .ensures) (sym (send-none (a .at) (a .token .now) (a .from) (a .size) (a .page .now) (search needs)))
 
 sub-left : tie.Need-sub-left
 sub-left c = search needs
@@ -21,13 +24,16 @@ put-hunk-requires c κs = search needs
 answered-requires-2 : tie.Need-answered-requires-2
 answered-requires-2 c κs = search needs
 
+idle-requires-2 : tie.Need-idle-requires-2
+idle-requires-2 c κs = search needs
+
 same-length : tie.Need-same-length
 same-length c = search needs
 
 returns-2 : tie.Need-returns-2
 returns-2 c =
-    let a = c .before .before .before .before .before .before .before .before .before .args in
-    rw (c .answered2 .ensures, c .before .before .before .put-hunk .ensures) (sym (send-last (a .at) (a .token .now) (a .from) (a .size) (a .page .now) (search needs)))
+    let a = c .before .before .before .before .before .before .before .before .before .before .args in
+    rw (c .before .answered2 .ensures, c .idle2 .ensures, c .before .before .before .before .put-hunk .ensures) (sym (send-last (a .at) (a .token .now) (a .from) (a .size) (a .page .now) (search needs)))
 
 put-hunk-requires-2 : tie.Need-put-hunk-requires-2
 put-hunk-requires-2 c κs = search needs
@@ -54,10 +60,12 @@ send-spec =
     tie.close
     (tie.spec
     answered-requires
+    idle-requires
     returns
     sub-left
     put-hunk-requires
     answered-requires-2
+    idle-requires-2
     same-length
     returns-2
     put-hunk-requires-2
