@@ -144,15 +144,24 @@ def listing(answer):
     return "".join(line + "\n" for line in lines)
 
 
+PRIME, BASES = 2**32 - 5, (0x9E3779B1, 0x85EBCA77)
+
+
+def mark(part):
+    """A number that tells one run of bytes from another: the bytes as the digits of a number in
+    each of two bases, its length before them, by what it leaves modulo a prime."""
+    high = low = len(part)
+    for byte in part:
+        high, low = [(x * base + byte) % PRIME for x, base in zip((high, low), BASES)]
+    return high * 2**32 + low
+
+
 def expected(number_of_case, r, b, page):
     """What the program prints for one case."""
     answer, lookups = read(r, b, page)
     text = f"case {number_of_case:03}\n" + listing(answer)
     for k, part in enumerate(lookups + [b""]):      # there is no section 4
-        h = 0
-        for byte in part:
-            h = (h % 2**56) * 31 + byte
-        text += f"array {k} {len(part)} {h:016x}\n"
+        text += f"array {k} {len(part)} {mark(part):016x}\n"
     return text
 
 
