@@ -13,11 +13,6 @@ struct Stepped {
     at: usize,
 }
 
-fn print_word(x: u64) {
-    io::write_all(STDOUT_FILENO, b" ");
-    io::print_hex(STDOUT_FILENO, x, 16);
-}
-
 fn print_record(state: Record) {
     match state {
         Record::Fresh => {
@@ -25,9 +20,9 @@ fn print_record(state: Record) {
         }
         Record::Up(params) => {
             io::write_all(STDOUT_FILENO, b" up");
-            print_word(params.cpus);
-            print_word(params.base);
-            print_word(params.minor);
+            cases::print_word(params.cpus);
+            cases::print_word(params.base);
+            cases::print_word(params.minor);
             io::write_all(STDOUT_FILENO, b"\n");
         }
         Record::Closed => {
@@ -76,7 +71,7 @@ fn step(state: Record, input: &[u8], at: usize) -> Stepped
     requires { ⌜ at ≤ 100000 ⌝ }
     ensures { λ r. ⌜ r .at ≤ at + 4256 ⌝ }
 {
-    let n = cases::at_most(words::word_at(input, at + 48), 4200);
+    let n = cases::length_at(input, at + 48, 4200);
     let from = at + 56;
     let to = from + n;
     if input.len() < to {
@@ -92,7 +87,7 @@ fn step(state: Record, input: &[u8], at: usize) -> Stepped
 }
 
 fn print_case(input: &[u8]) {
-    let steps = cases::at_most(words::word_at(input, 32), 20);
+    let steps = cases::length_at(input, 32, 20);
     let mut state = cases::record_at(input);
     let mut at: usize = 40;
     for i in 0..steps {
