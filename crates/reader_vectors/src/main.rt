@@ -29,8 +29,7 @@ fn print_array(page: &[u8], base: u64, edition: u64, k: usize) {
     io::print_decimal(STDOUT_FILENO, k as u64);
     io::write_all(STDOUT_FILENO, b" ");
     io::print_decimal(STDOUT_FILENO, part.len() as u64);
-    io::write_all(STDOUT_FILENO, b" ");
-    io::print_hex(STDOUT_FILENO, mark(part), 16);
+    cases::print_word(mark(part));
     io::write_all(STDOUT_FILENO, b"\n");
 }
 
