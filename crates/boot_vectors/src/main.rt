@@ -5,6 +5,7 @@ use boot::Booted;
 use boot::Params;
 use boot::Record;
 use libc::STDOUT_FILENO;
+use words::Span;
 ghost use Prim.Native.Nat.{_+_, _≤_};
 
 // The record after a step, and where the next step starts.
@@ -72,18 +73,22 @@ fn step(state: Record, input: &[u8], at: usize) -> Stepped
     ensures { λ r. ⌜ r .at ≤ at + 4256 ⌝ }
 {
     let n = cases::length_at(input, at + 48, 4200);
-    let from = at + 56;
-    let to = from + n;
-    if input.len() < to {
-        io::write_all(STDOUT_FILENO, b"case cut short\n");
-        return Stepped { next: state, at };
-    }
-    let booted = boot_with(state, input, at, &input[from..to]);
+    let page = words::part_of(
+        input,
+        Span {
+            at: at + 56,
+            len: n,
+        },
+    );
+    let booted = boot_with(state, input, at, page);
     let next = booted.next;
     let code = booted.code;
     print_code(boot::number(code));
     print_record(next);
-    Stepped { next, at: to }
+    Stepped {
+        next,
+        at: at + 56 + n,
+    }
 }
 
 fn print_case(input: &[u8]) {
