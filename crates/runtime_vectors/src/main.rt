@@ -154,8 +154,8 @@ fn print_response(response: Response) {
     print_word(response.ticket);
     print_number(response.len as u64);
     let signature = response.signature;
-    let length = queue::signature_len(response);
-    print_bytes(&signature[..length]);
+    let len = queue::signature_len(response);
+    print_bytes(words::part_of(&signature, Span { at: 0, len }));
 }
 
 // Those that wait. A count above eight stands for eight.
