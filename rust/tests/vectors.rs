@@ -83,10 +83,15 @@ fn words(bytes: &[u8]) -> Vec<u64> {
 
 // ---- Reader ----
 
-/// A number that tells one run of bytes from another.
+/// A number that tells one run of bytes from another: the bytes as digits in two bases, after the run's length, by what they leave
+/// modulo a prime.
 fn mark(part: &[u8]) -> u64 {
-    part.iter()
-        .fold(0, |mark, &byte| mark % (1 << 56) * 31 + u64::from(byte))
+    let remainder = |base: u64| {
+        part.iter().fold(part.len() as u64, |left, &byte| {
+            (left * base + u64::from(byte)) % 0xFFFF_FFFB
+        })
+    };
+    remainder(0x9E37_79B1) << 32 | remainder(0x85EB_CA77)
 }
 
 fn print_reading(out: &mut String, input: &[u8]) {

@@ -6,6 +6,7 @@ It rewrites crates/boot_vectors/data/c000, c001, .. (8-byte words: the record's 
 and minor, the number of steps; then for each step its kind, x0 to x3, the monitor's maximum, the
 page's length, the page), crates/boot_vectors/stdout (what the program has to print for them in
 order) and tests/boot/CASES.md (what each case is for). The same run always gives the same bytes.
+With a folder as its argument it writes them below that folder.
 """
 
 import sys
@@ -15,12 +16,12 @@ from pathlib import Path
 from random import Random
 
 HERE = Path(__file__).resolve().parent
-CRATE = HERE.parents[1] / "crates" / "boot_vectors"
 
 sys.dont_write_bytecode = True
-sys.path.insert(0, str(HERE.parent / "reader"))
+sys.path[:0] = [str(HERE.parent), str(HERE.parent / "reader")]
 from make import (B, HEAD, JUNK, PAGE, SAMPLE, TOP, WORD, Page,
                   broken, example_14, field_pages, full, read, with_entry)
+from vectors import write_all
 
 ONES = WORD - 1
 STATES, KINDS = ("fresh", "up", "closed"), ("cold", "warm")     # a file has the index
@@ -325,26 +326,13 @@ def check():
           ", ".join(f"{kind} {code}: {n}" for (kind, code), n in sorted(tally.items())))
 
 
-def write_all():
-    """Write the data files, stdout and CASES.md."""
-    data = CRATE / "data"
-    data.mkdir(parents=True, exist_ok=True)
-    for stale in data.glob("c*"):
-        stale.unlink()
-    stdout, table, n = "", "# Boot cases\n\nWritten by make.py; do not edit.\n", 0
-    for heading, cases in GROUPS:
-        table += f"\n## {heading}\n\n| Number | What | Codes of its steps |\n|---|---|---|\n"
-        for case in cases:
-            (data / f"c{n:03}").write_bytes(file_of(case))
-            stdout += expected(n, case)
-            codes = ", ".join(str(code) for code, _ in case.answers)
-            table += f"| {n:03} | {case.text} | `{codes}` |\n"
-            n += 1
-    (CRATE / "stdout").write_text(stdout)
-    (HERE / "CASES.md").write_text(table)
+def case_of(n, case):
+    """The file of a case, what the program prints for it, and its row of CASES.md."""
+    codes = ", ".join(str(code) for code, _ in case.answers)
+    return file_of(case), expected(n, case), case.text, f"`{codes}`"
 
 
 if __name__ == "__main__":
     build_all()
     check()
-    write_all()
+    write_all("boot_vectors", "boot", "Boot", "What | Codes of its steps", GROUPS, case_of)

@@ -7,15 +7,20 @@ base and minor, of which the last three count only when it is up; function id, x
 the lengths of table, key and page; then the bytes of these three, and those of table and page at
 exit), crates/command_vectors/stdout (what the program has to print for them in order) and
 tests/commands/CASES.md (what each case is for). The same run always gives the same bytes.
+With a folder as its argument it writes them below that folder.
 """
 
+import sys
 from collections import Counter, namedtuple
 from itertools import combinations
 from pathlib import Path
 from random import Random
 
 HERE = Path(__file__).resolve().parent
-CRATE = HERE.parents[1] / "crates" / "command_vectors"
+
+sys.dont_write_bytecode = True
+sys.path.insert(0, str(HERE.parent))
+from vectors import write_all
 
 PAGE = 4096
 WORD = 2**64
@@ -396,25 +401,12 @@ def check():
     print(f"{len(cases)} cases")
 
 
-def write_all():
-    """Write the data files, stdout and CASES.md."""
-    data = CRATE / "data"
-    data.mkdir(parents=True, exist_ok=True)
-    for stale in data.glob("c*"):
-        stale.unlink()
-    stdout, table, n = "", "# Command cases\n\nWritten by make.py; do not edit.\n", 0
-    for heading, cases in GROUPS:
-        table += f"\n## {heading}\n\n| Number | What | Answer |\n|---|---|---|\n"
-        for case in cases:
-            (data / f"c{n:03}").write_bytes(file_of(case))
-            stdout += expected(n, case)
-            table += f"| {n:03} | {case.text} | `{run(case).code}` |\n"
-            n += 1
-    (CRATE / "stdout").write_text(stdout)
-    (HERE / "CASES.md").write_text(table)
+def case_of(n, case):
+    """The file of a case, what the program prints for it, and its row of CASES.md."""
+    return file_of(case), expected(n, case), case.text, f"`{run(case).code}`"
 
 
 if __name__ == "__main__":
     build_all()
     check()
-    write_all()
+    write_all("command_vectors", "commands", "Command", "What | Answer", GROUPS, case_of)

@@ -5,13 +5,18 @@ Run from the repository's root:  python3 tests/reader/make.py
 It rewrites crates/reader_vectors/data/c000, c001, .. (8 bytes of reader edition, 8 bytes of B,
 the page), crates/reader_vectors/stdout (what the program has to print for them in order) and
 tests/reader/CASES.md (what each case is for). The same run always gives the same bytes.
+With a folder as its argument it writes them below that folder.
 """
 
+import sys
 from itertools import combinations, permutations
 from pathlib import Path
 
 HERE = Path(__file__).resolve().parent
-CRATE = HERE.parents[1] / "crates" / "reader_vectors"
+
+sys.dont_write_bytecode = True
+sys.path.insert(0, str(HERE.parent))
+from vectors import write_all
 
 PAGE = 4096
 TOP = 2**52                         # no address of a manifest reaches past this
@@ -139,15 +144,24 @@ def listing(answer):
     return "".join(line + "\n" for line in lines)
 
 
+PRIME, BASES = 2**32 - 5, (0x9E3779B1, 0x85EBCA77)
+
+
+def mark(part):
+    """A number that tells one run of bytes from another: the bytes as the digits of a number in
+    each of two bases, its length before them, by what it leaves modulo a prime."""
+    high = low = len(part)
+    for byte in part:
+        high, low = [(x * base + byte) % PRIME for x, base in zip((high, low), BASES)]
+    return high * 2**32 + low
+
+
 def expected(number_of_case, r, b, page):
     """What the program prints for one case."""
     answer, lookups = read(r, b, page)
     text = f"case {number_of_case:03}\n" + listing(answer)
     for k, part in enumerate(lookups + [b""]):      # there is no section 4
-        h = 0
-        for byte in part:
-            h = (h % 2**56) * 31 + byte
-        text += f"array {k} {len(part)} {h:016x}\n"
+        text += f"array {k} {len(part)} {mark(part):016x}\n"
     return text
 
 
@@ -629,27 +643,15 @@ def check():
     print(f"{len(cases)} cases, {firsts.count([])} accepted, refused by code: {tally}")
 
 
-def write_all():
-    """Write the data files, stdout and CASES.md."""
-    data = CRATE / "data"
-    data.mkdir(parents=True, exist_ok=True)
-    for stale in data.glob("c*"):
-        stale.unlink()
-    stdout, table, n = "", "# Reader cases\n\nWritten by make.py; do not edit.\n", 0
-    for heading, cases in GROUPS:
-        table += f"\n## {heading}\n\n| Number | Broken or tested | First line |\n|---|---|---|\n"
-        for text, r, b, page in cases:
-            raw = r.to_bytes(8, "little") + b.to_bytes(8, "little") + page
-            (data / f"c{n:03}").write_bytes(raw)
-            lines = expected(n, r, b, page)
-            stdout += lines
-            table += f"| {n:03} | {text} | `{lines.splitlines()[1]}` |\n"
-            n += 1
-    (CRATE / "stdout").write_text(stdout)
-    (HERE / "CASES.md").write_text(table)
+def case_of(n, case):
+    """The file of a case, what the program prints for it, and its row of CASES.md."""
+    text, r, b, page = case
+    lines = expected(n, r, b, page)
+    raw = r.to_bytes(8, "little") + b.to_bytes(8, "little") + page
+    return raw, lines, text, f"`{lines.splitlines()[1]}`"
 
 
 if __name__ == "__main__":
     build_all()
     check()
-    write_all()
+    write_all("reader_vectors", "reader", "Reader", "Broken or tested | First line", GROUPS, case_of)

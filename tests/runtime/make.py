@@ -9,16 +9,20 @@ and minor; G, m; the session: 0 or 1, whole, sent; the places of page, table, re
 and queue, a place being an offset in the file and a length; the number of operations; then the
 operations, and the bytes that the places name), crates/runtime_vectors/stdout (what the program has
 to print for them in order) and tests/runtime/CASES.md (what each case is for). The same run always
-gives the same bytes.
+gives the same bytes. With a folder as its argument it writes them below that folder.
 """
 
+import sys
 from collections import Counter, namedtuple
 from itertools import combinations, product
 from pathlib import Path
 from random import Random
 
 HERE = Path(__file__).resolve().parent
-CRATE = HERE.parents[1] / "crates" / "runtime_vectors"
+
+sys.dont_write_bytecode = True
+sys.path.insert(0, str(HERE.parent))
+from vectors import write_all
 
 PAGE = 4096
 WORD = 2**64
@@ -1151,25 +1155,12 @@ def answers_text(case):
     return ", ".join(f"{n} `{code}`" for code, n in sorted(Counter(codes).items()))
 
 
-def write_all():
-    """Write the data files, stdout and CASES.md."""
-    data = CRATE / "data"
-    data.mkdir(parents=True, exist_ok=True)
-    for stale in data.glob("c*"):
-        stale.unlink()
-    stdout, table, n = "", "# Runtime cases\n\nWritten by make.py; do not edit.\n", 0
-    for heading, cases in GROUPS:
-        table += f"\n## {heading}\n\n| Number | What | Answers |\n|---|---|---|\n"
-        for case in cases:
-            (data / f"c{n:03}").write_bytes(file_of(case))
-            stdout += expected(n, case)
-            table += f"| {n:03} | {case.text} | {answers_text(case)} |\n"
-            n += 1
-    (CRATE / "stdout").write_text(stdout)
-    (HERE / "CASES.md").write_text(table)
+def case_of(n, case):
+    """The file of a case, what the program prints for it, and its row of CASES.md."""
+    return file_of(case), expected(n, case), case.text, answers_text(case)
 
 
 if __name__ == "__main__":
     build_all()
     check()
-    write_all()
+    write_all("runtime_vectors", "runtime", "Runtime", "What | Answers", GROUPS, case_of)

@@ -14,9 +14,12 @@ from collections import Counter, namedtuple
 from itertools import combinations
 from pathlib import Path
 from random import Random
+import sys
 
-HERE = Path(__file__).resolve().parent
-CRATE = HERE.parents[1] / "crates" / "tpm_vectors"
+# The folder that the command line names, else the repository.
+ROOT = Path(sys.argv[1]) if sys.argv[1:] else Path(__file__).resolve().parents[2]
+HERE = ROOT / "tests" / "tpm"
+CRATE = ROOT / "crates" / "tpm_vectors"
 
 EXECUTE, CLOSE = 1, 2
 WORD = 2**64
@@ -234,6 +237,7 @@ def write_all():
     """Run the cases; write the data files, stdout and CASES.md."""
     data = CRATE / "data"
     data.mkdir(parents=True, exist_ok=True)
+    HERE.mkdir(parents=True, exist_ok=True)
     for stale in data.glob("c*"):
         stale.unlink()
     stdout, table, seen = "", "# H_TPM_COMM cases\n\nWritten by make.py; do not edit.\n", []

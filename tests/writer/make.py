@@ -6,6 +6,7 @@ It rewrites crates/writer_vectors/data/c000, c001, .. (8-byte words: B, edition,
 length, the four list lengths in words, the words of the four lists; then the bytes of the page at
 exit), crates/writer_vectors/stdout (what the program has to print for them in order) and
 tests/writer/CASES.md (what each case is for). The same run always gives the same bytes.
+With a folder as its argument it writes them below that folder.
 """
 
 import sys
@@ -15,12 +16,12 @@ from pathlib import Path
 from random import Random
 
 HERE = Path(__file__).resolve().parent
-CRATE = HERE.parents[1] / "crates" / "writer_vectors"
 
 sys.dont_write_bytecode = True
-sys.path.insert(0, str(HERE.parent / "reader"))
+sys.path[:0] = [str(HERE.parent), str(HERE.parent / "reader")]
 from make import (B, CORE, ENTRY, NAMES, PAGE, PL011, SAMPLE, SINCE, TOP, WORD, Page,
                   broken, entry_holds, example_14, head, listing, read)
+from vectors import write_all
 
 REFUSALS = ("W1", "W2", "W3", "W4", "W5")
 ONES = WORD - 1
@@ -376,25 +377,12 @@ def check():
     print(f"{len(cases)} cases:", ", ".join(f"{tally[line]} {line}" for line in sorted(tally)))
 
 
-def write_all():
-    """Write the data files, stdout and CASES.md."""
-    data = CRATE / "data"
-    data.mkdir(parents=True, exist_ok=True)
-    for stale in data.glob("c*"):
-        stale.unlink()
-    stdout, table, n = "", "# Writer cases\n\nWritten by make.py; do not edit.\n", 0
-    for heading, cases in GROUPS:
-        table += f"\n## {heading}\n\n| Number | What | Answer |\n|---|---|---|\n"
-        for case in cases:
-            (data / f"c{n:03}").write_bytes(file_of(case))
-            stdout += expected(n, case)
-            table += f"| {n:03} | {case.text} | `{answer(case)[0]}` |\n"
-            n += 1
-    (CRATE / "stdout").write_text(stdout)
-    (HERE / "CASES.md").write_text(table)
+def case_of(n, case):
+    """The file of a case, what the program prints for it, and its row of CASES.md."""
+    return file_of(case), expected(n, case), case.text, f"`{answer(case)[0]}`"
 
 
 if __name__ == "__main__":
     build_all()
     check()
-    write_all()
+    write_all("writer_vectors", "writer", "Writer", "What | Answer", GROUPS, case_of)

@@ -5,17 +5,13 @@ use boot::Booted;
 use boot::Params;
 use boot::Record;
 use libc::STDOUT_FILENO;
+use words::Span;
 ghost use Prim.Native.Nat.{_+_, _≤_};
 
 // The record after a step, and where the next step starts.
 struct Stepped {
     next: Record,
     at: usize,
-}
-
-fn print_word(x: u64) {
-    io::write_all(STDOUT_FILENO, b" ");
-    io::print_hex(STDOUT_FILENO, x, 16);
 }
 
 fn print_record(state: Record) {
@@ -25,9 +21,9 @@ fn print_record(state: Record) {
         }
         Record::Up(params) => {
             io::write_all(STDOUT_FILENO, b" up");
-            print_word(params.cpus);
-            print_word(params.base);
-            print_word(params.minor);
+            cases::print_word(params.cpus);
+            cases::print_word(params.base);
+            cases::print_word(params.minor);
             io::write_all(STDOUT_FILENO, b"\n");
         }
         Record::Closed => {
@@ -76,23 +72,27 @@ fn step(state: Record, input: &[u8], at: usize) -> Stepped
     requires { ⌜ at ≤ 100000 ⌝ }
     ensures { λ r. ⌜ r .at ≤ at + 4256 ⌝ }
 {
-    let n = cases::at_most(words::word_at(input, at + 48), 4200);
-    let from = at + 56;
-    let to = from + n;
-    if input.len() < to {
-        io::write_all(STDOUT_FILENO, b"case cut short\n");
-        return Stepped { next: state, at };
-    }
-    let booted = boot_with(state, input, at, &input[from..to]);
+    let n = cases::length_at(input, at + 48, 4200);
+    let page = words::part_of(
+        input,
+        Span {
+            at: at + 56,
+            len: n,
+        },
+    );
+    let booted = boot_with(state, input, at, page);
     let next = booted.next;
     let code = booted.code;
     print_code(boot::number(code));
     print_record(next);
-    Stepped { next, at: to }
+    Stepped {
+        next,
+        at: at + 56 + n,
+    }
 }
 
 fn print_case(input: &[u8]) {
-    let steps = cases::at_most(words::word_at(input, 32), 20);
+    let steps = cases::length_at(input, 32, 20);
     let mut state = cases::record_at(input);
     let mut at: usize = 40;
     for i in 0..steps {

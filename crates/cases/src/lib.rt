@@ -5,6 +5,7 @@ use libc::STDOUT_FILENO;
 ghost use mathlib.Core.Path.{_≡_};
 ghost use Prim.Native.Nat.{min, _≤_};
 ghost use Rattle.io.specs.Counts.{Counts};
+ghost use Rattle.words.specs.Word.{wordAt};
 ghost use Rattle.cases.specs.Cases.{recordAt, sameBytes};
 
 // A digit of n, as text.
@@ -30,14 +31,11 @@ pub fn load(n: u64, input: &mut [u8]) -> usize
     length
 }
 
-// The smaller of a number and a length.
-pub fn at_most(x: u64, most: usize) -> usize
-    ensures { λ r. ⌜ (r ≡ min x most) × (r ≤ most) ⌝ }
+// The length that a word of a case gives, or the most that there is room for where it is more.
+pub fn length_at(input: &[u8], at: usize, most: usize) -> usize
+    ensures { λ r. ⌜ (r ≡ min (wordAt at (now (input .entry))) most) × (r ≤ most) ⌝ }
 {
-    if (most as u64) < x {
-        return most;
-    }
-    x as usize
+    words::smaller(words::word_at(input, at), most as u64) as usize
 }
 
 // Whether two runs of bytes are the same.
@@ -53,6 +51,22 @@ pub fn same(a: &[u8], b: &[u8]) -> bool
         }
     }
     true
+}
+
+// Prints what two runs of bytes are, and whether they are the same.
+pub fn print_same(what: &[u8], held: &[u8], expected: &[u8]) {
+    io::write_all(STDOUT_FILENO, what);
+    if same(held, expected) {
+        io::write_all(STDOUT_FILENO, b" as expected\n");
+        return;
+    }
+    io::write_all(STDOUT_FILENO, b" not as expected\n");
+}
+
+// Prints a number in 16 digits, after a space.
+pub fn print_word(x: u64) {
+    io::write_all(STDOUT_FILENO, b" ");
+    io::print_hex(STDOUT_FILENO, x, 16);
 }
 
 // The boot record that a case starts with: 1 up with what it keeps, 2 closed, else fresh.
@@ -71,5 +85,5 @@ pub fn record_at(input: &[u8]) -> Record
     if state == 2 {
         return Record::Closed;
     }
-    Record::Fresh
+    Record::fresh()
 }

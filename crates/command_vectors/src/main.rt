@@ -6,19 +6,15 @@ use codes::Answer;
 use codes::Work;
 use granules::Granules;
 use libc::STDOUT_FILENO;
+use words::Span;
 ghost use Prim.Native.Nat.{_≤_};
 ghost use lib.ListN.{length};
 
-fn print_word(x: u64) {
-    io::write_all(STDOUT_FILENO, b" ");
-    io::print_hex(STDOUT_FILENO, x, 16);
-}
-
 fn print_answer(answer: Answer) {
     io::write_all(STDOUT_FILENO, b"registers");
-    print_word(answer.x0);
-    print_word(answer.x1);
-    print_word(answer.x2);
+    cases::print_word(answer.x0);
+    cases::print_word(answer.x1);
+    cases::print_word(answer.x2);
     io::write_all(STDOUT_FILENO, b"\n");
 }
 
@@ -27,7 +23,7 @@ fn print_work(work: Work) {
         return;
     };
     io::write_all(STDOUT_FILENO, b"reprogram");
-    print_word(mecid);
+    cases::print_word(mecid);
     io::write_all(STDOUT_FILENO, b"\n");
 }
 
@@ -45,7 +41,7 @@ fn print_other(state: Record, id: u64, x1: u64, width: u64) {
         return;
     }
     io::write_all(STDOUT_FILENO, b"forward");
-    print_word(features::forward(state, x1));
+    cases::print_word(features::forward(state, x1));
     io::write_all(STDOUT_FILENO, b"\n");
 }
 
@@ -74,42 +70,49 @@ fn print_command(input: &[u8], table: &mut [u8], key: &[u8], page: &mut [u8]) {
     print_other(state, id, x1, words::word_at(input, 72));
 }
 
-fn print_same(what: &[u8], held: &[u8], expected: &[u8]) {
-    io::write_all(STDOUT_FILENO, what);
-    if cases::same(held, expected) {
-        io::write_all(STDOUT_FILENO, b" as expected\n");
-    } else {
-        io::write_all(STDOUT_FILENO, b" not as expected\n");
-    }
-}
-
-// A case with its lends at their places: table, key and page from 104 on, then table and page expected.
-fn print_lent(input: &[u8], t: usize, k: usize, n: usize, table: &mut [u8], page: &mut [u8])
-    requires { ⌜ (t ≤ 600) × (k ≤ 4200) × (n ≤ 4200) × (t ≤ length (now table)) × (n ≤ length (now page)) ⌝ }
+// A case with its lends: table, a key of k bytes and page stand from 104 on, then table and page expected.
+fn print_lent(input: &[u8], table: &mut [u8], k: usize, page: &mut [u8])
+    requires { ⌜ (length (now table) ≤ 600) × (k ≤ 4200) × (length (now page) ≤ 4200) ⌝ }
 {
-    let key = 104 + t;
-    let first = key + k;
+    let t = table.len();
+    let n = page.len();
+    let first = 104 + t + k;
     let second = first + n;
-    let third = second + t;
-    let end = third + n;
-    if input.len() < end {
-        io::write_all(STDOUT_FILENO, b"case cut short\n");
-        return;
-    }
-    words::copy(&mut table[..t], &input[104..key]);
-    words::copy(&mut page[..n], &input[first..second]);
-    print_command(input, &mut table[..t], &input[key..first], &mut page[..n]);
-    print_same(b"table", &table[..t], &input[second..third]);
-    print_same(b"page", &page[..n], &input[third..end]);
+    words::copy(table, words::part_of(input, Span { at: 104, len: t }));
+    words::copy(page, words::part_of(input, Span { at: first, len: n }));
+    let key = words::part_of(
+        input,
+        Span {
+            at: 104 + t,
+            len: k,
+        },
+    );
+    print_command(input, table, key, page);
+    cases::print_same(
+        b"table",
+        table,
+        words::part_of(input, Span { at: second, len: t }),
+    );
+    cases::print_same(
+        b"page",
+        page,
+        words::part_of(
+            input,
+            Span {
+                at: second + t,
+                len: n,
+            },
+        ),
+    );
 }
 
 fn print_case(input: &[u8]) {
     let mut table = [0u8; 600];
     let mut page = [0u8; 4200];
-    let t = cases::at_most(words::word_at(input, 80), 600);
-    let k = cases::at_most(words::word_at(input, 88), 4200);
-    let n = cases::at_most(words::word_at(input, 96), 4200);
-    print_lent(input, t, k, n, &mut table, &mut page);
+    let t = cases::length_at(input, 80, 600);
+    let k = cases::length_at(input, 88, 4200);
+    let n = cases::length_at(input, 96, 4200);
+    print_lent(input, &mut table[..t], k, &mut page[..n]);
 }
 
 fn main() {

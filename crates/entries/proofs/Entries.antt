@@ -1,15 +1,15 @@
 -- Entries by their place in the page, as the loops go, and that this is what the rules say of their words. Assumes nothing.
-use Prim.Native.Nat.{ℕ, zero, suc, _+_, _-_, _*_, _/_, _%_, _^_, _≤_, _<_}
+use Prim.Native.Nat.{ℕ, zero, suc, _+_, _-_, _*_, _%_, _^_, _≤_, _<_}
 use mathlib.Core.Path.{_≡_, refl, sym, ap, _∙_}
-use mathlib.Core.Bool.{Bool, true, false}
+use mathlib.Core.Bool.{Bool, true}
 use mathlib.Core.List.{List, [], _∷_, _++_}
 use native.Mathlib.Numerals.{add-one}
-use native.Mathlib.Nat.{mul-suc, mul-le-mul-left, le-div-iff-mul-le, div-lt-iff-lt-mul, mul-comm, mul-assoc, add-zero}
+use native.Mathlib.Nat.{mul-suc, mul-le-mul-left, add-zero}
 use native.Mathlib.Omega.{arith}
 use lib.ListN.{getD}
 use lib.Dec.{leb}
 use borrow.Author.Tests.{leb-true}
-use Rattle.words.proofs.Tests.{every-none, every-more, every-not, every-same}
+use Rattle.words.proofs.Tests.{every-none, every-same}
 use Rattle.words.specs.Word.{part, wordAt, wordsOf}
 use Rattle.words.proofs.Read.{wordsOf-at, wordsOf-suc, num-part}
 use Rattle.entries.specs.Entry.{wordsPerEntry, size, entryOk, entriesOk, sum}
@@ -50,29 +50,9 @@ fits-end k c at n w b e f g h =
     omega arith
 
 -- ---- entries in place
-pub place-none : (k at : ℕ) → entryPlace k at 0 ≡ at
-unfolding entryPlace
-place-none k at = omega arith
-
-pub place-more : (k at i : ℕ) → entryPlace k at i + 8 * wordsPerEntry k ≡ entryPlace k at (i + 1)
-unfolding entryPlace
-place-more k at i = rw (add-one, mul-suc) (omega arith)
-
-pub place-room : (k at i count : ℕ) → i < count → entryPlace k at i + 8 * wordsPerEntry k ≤ at + size k count
-unfolding entryPlace size
-place-room k at i count h = omega (arith, mul-suc (wordsPerEntry k) i, mul-le-mul-left (wordsPerEntry k) h)
-
 pub entries-none : (w k at : ℕ) (page : List ℕ) → entriesAt w k at 0 page ≡ true
 unfolding entriesAt
 entries-none w k at page = every-none (λ i. entryAt w k (entryPlace k at i) page)
-
-pub entries-more : (w k at i : ℕ) (page : List ℕ) → entriesAt w k at i page ≡ true → entryAt w k (entryPlace k at i) page ≡ true → entriesAt w k at (i + 1) page ≡ true
-unfolding entriesAt
-entries-more w k at i page p q = every-more i (λ i. entryAt w k (entryPlace k at i) page) p q
-
-pub entries-not : (w k at count i : ℕ) (page : List ℕ) → i < count → entryAt w k (entryPlace k at i) page ≡ false → entriesAt w k at count page ≡ false
-unfolding entriesAt
-entries-not w k at count i page h q = every-not count (λ i. entryAt w k (entryPlace k at i) page) i h q
 
 -- ---- a word of the array is a word of the page
 module _ (k at i count : ℕ) (page : List ℕ) (h : i < count) where

@@ -5,17 +5,17 @@ use mathlib.Core.Bool.{Bool, true, false}
 use mathlib.Core.List.{List}
 use native.Mathlib.Numerals.{add-one}
 use native.Mathlib.Omega.{arith}
-use lib.Bits.{bitOr, bitAnd, and-le-l, and-le-r, or-lt, or-add-and, or-mod, or-zero-l}
-use lib.Dec.{ltb, leb, eqb}
+use lib.Bits.{bitOr, and-le-l, and-le-r, or-lt, or-add-and, or-mod, or-zero-l}
+use lib.Dec.{ltb, eqb}
 use borrow.Author.Tests.{eq-eqb, ne-eqb, eqb-true, lt-ltb, ltb-true, le-leb, leb-true}
-use Rattle.words.specs.Tests.{Yes, both, every}
+use Rattle.words.specs.Tests.{both, every}
 use Rattle.words.specs.Word.{wordAt}
 use Rattle.words.proofs.Tests.{both-l, both-r, both-of, same-test}
 use Rattle.entries.specs.Entry.{wordsPerEntry, bankOk, flagsOk, consoleOk, entryRule}
 use Rattle.entries.specs.Array.{entryAt, entryPlace, entriesAt}
 use Rattle.entries.specs.Gathered.{bankClear, consoleClear}
 use Rattle.entries.specs.declared.Bits.{Bits}
-use Rattle.entries.proofs.Entries.{per-one, per-other}
+use Rattle.entries.proofs.Entries.{per-other}
 
 -- ---- two numbers gathered are clear where both are
 or-left : (a b : ℕ) → a ≤ bitOr a b

@@ -63,7 +63,7 @@ pub fn key_update(state: Record, width: u64, mecid: u64) -> Updated
     if 65535 < mecid {
         return refused(Code::Inval);
     }
-    if is_above(mecid, versions::smaller(width, 15) + 1) {
+    if is_above(mecid, words::smaller(width, 15) + 1) {
         return refused(Code::Inval);
     }
     if 15 < width {

@@ -71,8 +71,13 @@ module _ {A : Type 0} where
         let e : length (take n l) ≡ n = length-take-le n l (omega arith) in
         rw (lt-ltb (length (take n l)) 8 (omega arith), add-one, take-suc-set l n x (omega arith))
 
-    pub rests : (m : ℕ) → m ≡ length (take n l) → m ≤ 8 → take (m - 1) (shifted l 7) ≡ drop 1 (take n l)
-    rests m h k = shift-end l 7 m (eight) (omega arith) ∙ ap (drop 1) (ap (λ (i : ℕ). take i l) h ∙ taken-all n l)
+    -- one more moved up, and all seven
+    pub moves : (i : ℕ) (items : List A) (d : A) → items ≡ shifted l i → i < 7 → set items i (getD items (i + 1) d) ≡ shifted l (i + 1)
+    moves i items d e h = rw e (shift-more l i d (omega arith))
+
+    pub rests : (m i : ℕ) (items : List A) → m ≡ length (take n l) → m ≤ 8 → items ≡ shifted l i → i ≡ 7 → take (m - 1) items ≡ drop 1 (take n l)
+    rests m i items h k e g =
+        ap (take (m - 1)) (e ∙ ap (shifted l) g) ∙ shift-end l 7 m eight (omega arith) ∙ ap (drop 1) (ap (λ (j : ℕ). take j l) h ∙ taken-all n l)
 
     pub first-is : (d : A) → 0 < length (take n l) → getD l 0 d ≡ getD (take n l) 0 d
     first-is d h = sym (getD-take n l 0 d (omega (arith, length-take n l)))

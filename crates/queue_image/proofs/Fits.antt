@@ -1,5 +1,5 @@
--- Any image of words stands for a queue that fits: what it stands for comes back from the image that is written. One more at the end of
--- a side, and one less at its front, keep that it fits. The image of a queue that fits is 210 words. Assumes nothing.
+-- Any image of words stands for a queue that fits. One more at the end of a side, and one less at its front, keep that it fits. The
+-- image of a queue that fits is 210 words. Assumes nothing.
 use Prim.Native.Nat.{ℕ, zero, suc, _+_, _-_, _*_, _/_, _%_, _^_, _≤_, _<_}
 use mathlib.Core.Path.{_≡_, refl, _∙_}
 use mathlib.Core.Bool.{Bool}
@@ -19,7 +19,7 @@ use Rattle.queue.specs.Queue.{Signed, Lists, signedIn}
 use Rattle.queue_image.specs.Image.{rows, requestIn, heldIn, responseIn, listsIn, requestWords, responseWords, flat, padded, queueWords, each, areBytes, requestFits, responseFits, eightFit, queueFits}
 use Rattle.queue_image.proofs.Rows.{rows-length, mul-more, flat-length, padded-length}
 use Rattle.queue_image.proofs.Sides.{request-wide, response-wide}
-use Rattle.queue_image.proofs.Inverse.{each-take, each-drop, queue-back}
+use Rattle.queue_image.proofs.Inverse.{each-take, each-drop}
 
 -- ---- the bytes of words are bytes
 pub each-append : {A : Type 0} (f : A → Bool) (xs ys : List A) → Yes (each f xs) → Yes (each f ys) → Yes (each f (xs ++ ys))
@@ -98,10 +98,6 @@ image-fits w l h =
     both-of _ _
     (side-fits requestIn requestFits 10 request-fits (getD w 0 0) (drop 2 w) (omega (arith, length-drop 2 w)) (each-drop isWord 2 w e))
     (side-fits responseIn responseFits 16 response-fits (getD w 1 0) (drop 82 w) (omega (arith, length-drop 82 w)) (each-drop isWord 82 w e))
-
--- written again, any image stands for the same queue
-pub image-settles : (w : List ℕ) → length w ≡ 210 → Yes (areWords w) → listsIn (queueWords (listsIn w)) ≡ listsIn w
-image-settles w l h = queue-back (listsIn w) (image-fits w l h)
 
 -- ---- a side that fits, with one more at its end where fewer than eight wait, and without the one at its front
 module _ {A : Type 0} (f : A → Bool) (l : List A) (h : Yes (eightFit f l)) where

@@ -38,15 +38,16 @@ module _ {A : Type 0} (f : List ℕ → A) (width start : ℕ) (w : List ℕ) (i
   unfolding readTo rows
   read-none = refl
 
-  pub read-more : (i : ℕ) (d : A) → i < length items → set (readTo i) i (f (part (start + width * i) width w)) ≡ readTo (i + 1)
+  -- one row more, and all of them
+  pub read-more : (i : ℕ) (now : List A) (d x : A) → now ≡ readTo i → i < length items → x ≡ f (part (start + width * i) width w) → set now i x ≡ readTo (i + 1)
   unfolding readTo part
-  read-more i d h =
+  read-more i now d x e h g =
       let l : length (map f (rows width i (drop start w))) ≡ i = length-map (rows width i (drop start w)) f ∙ rows-length width i (drop start w) in
-      rw (drop-cons items i d h, set-at _ _ _ _ _ l, add-one, rows-suc, map-append, drop-drop, append-snoc)
+      rw (e, g, drop-cons items i d h, set-at _ _ _ _ _ l, add-one, rows-suc, map-append, drop-drop, append-snoc)
 
-  pub read-all : (i : ℕ) → length items ≤ i → readTo i ≡ map f (rows width i (drop start w))
+  pub read-all : (i n : ℕ) (now : List A) → now ≡ readTo i → length items ≡ 8 → i ≡ 8 → take n now ≡ take n (map f (rows width 8 (drop start w)))
   unfolding readTo
-  read-all i h = rw (drop-of-length-le items {i = i} h) (append-nil _)
+  read-all i n now e h g = ap (take n) (e ∙ rw (g, drop-of-length-le items {i = 8} (omega arith)) (append-nil _))
 
 -- ---- the fields of a row, where they lie
 pub row-first : (width at : ℕ) (w : List ℕ) → 0 < width → getD w at 0 ≡ getD (part at width w) 0 0

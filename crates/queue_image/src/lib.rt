@@ -55,14 +55,7 @@ fn requests_in(image: &[u64]) -> Requests
     requires { ⌜ length (now image) ≡ 210 ⌝ }
     ensures { λ r. ⌜ waiting r ≡ take (getD (now (image .entry)) 0 0) (map requestIn (rows 10 8 (drop 2 (now (image .entry))))) ⌝ }
 {
-    let none = Request {
-        algorithm: 0,
-        granule: 0,
-        ticket: 0,
-        hashid: 0,
-        hash: [0u8; 48],
-    };
-    let mut items = [none; 8];
+    let mut items = [request_in(image, 2); 8];
     for i in 0..8 {
         items[i] = request_in(image, 2 + 10 * i);
     }
@@ -76,13 +69,7 @@ fn responses_in(image: &[u64]) -> Responses
     requires { ⌜ length (now image) ≡ 210 ⌝ }
     ensures { λ r. ⌜ held r ≡ take (getD (now (image .entry)) 1 0) (map heldIn (rows 16 8 (drop 82 (now (image .entry))))) ⌝ }
 {
-    let none = Response {
-        granule: 0,
-        ticket: 0,
-        len: 0,
-        signature: [0u8; 104],
-    };
-    let mut items = [none; 8];
+    let mut items = [response_in(image, 82); 8];
     for i in 0..8 {
         items[i] = response_in(image, 82 + 16 * i);
     }

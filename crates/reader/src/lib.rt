@@ -105,7 +105,7 @@ pub fn read(page: &[u8], base: u64, edition: u64) -> Reading
     }
     let minor = versions::minor(version);
     let e = Edition {
-        minor: versions::smaller(edition, minor),
+        minor: words::smaller(edition, minor),
     };
     if !sections::page_ok(page, base, minor, e) {
         return Reading::Refused(Refusal::Rules);

@@ -9,13 +9,18 @@ fn wide(byte: u8) -> u64
     byte as u64
 }
 
-// A number that tells one run of bytes from another.
+// A number that tells one run of bytes from another: the bytes as digits in two bases, after the run's length, by what they leave
+// modulo the prime 2^32 - 5. The bases are large, and no power of either up to the 4,096th is a quotient of two differences of bytes:
+// so runs of one length up to 4,096 that differ in one byte or in two never have the same number in either base.
 fn mark(part: &[u8]) -> u64 {
-    let mut mark: u64 = 0;
+    let mut high = part.len() as u64 % 0xFFFF_FFFB;
+    let mut low = high;
     for i in 0..part.len() {
-        mark = mark % 0x100_0000_0000_0000 * 31 + wide(part[i]);
+        let byte = wide(part[i]);
+        high = (high * 0x9E37_79B1 + byte) % 0xFFFF_FFFB;
+        low = (low * 0x85EB_CA77 + byte) % 0xFFFF_FFFB;
     }
-    mark
+    high * 0x1_0000_0000 + low
 }
 
 fn print_array(page: &[u8], base: u64, edition: u64, k: usize) {
@@ -24,8 +29,7 @@ fn print_array(page: &[u8], base: u64, edition: u64, k: usize) {
     io::print_decimal(STDOUT_FILENO, k as u64);
     io::write_all(STDOUT_FILENO, b" ");
     io::print_decimal(STDOUT_FILENO, part.len() as u64);
-    io::write_all(STDOUT_FILENO, b" ");
-    io::print_hex(STDOUT_FILENO, mark(part), 16);
+    cases::print_word(mark(part));
     io::write_all(STDOUT_FILENO, b"\n");
 }
 

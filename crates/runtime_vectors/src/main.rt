@@ -16,6 +16,7 @@ use queue::Responses;
 use queue::Waiting;
 use runtime::Reply;
 use token::Session;
+use words::Span;
 ghost use Prim.Native.Nat.{_≤_};
 
 // What goes from one operation to the next.
@@ -26,74 +27,31 @@ struct State {
 
 // ---- Reading a case ----
 
-// The part of a slice that has so many bytes from an offset on; empty where they are not all there.
-fn part(s: &[u8], at: usize, n: usize) -> &[u8] {
-    if s.len() < at {
-        return &s[0..0];
-    }
-    if s.len() - at < n {
-        return &s[0..0];
-    }
-    let end = at + n;
-    &s[at..end]
-}
-
 // What stands at the place that two words of the case give.
 fn lent(input: &[u8], at: usize) -> &[u8]
     requires { ⌜ at ≤ 50000 ⌝ }
 {
-    let from = cases::at_most(words::word_at(input, at), 40000);
-    let length = cases::at_most(words::word_at(input, at + 8), 40000);
-    part(input, from, length)
+    let from = cases::length_at(input, at, 40000);
+    let length = cases::length_at(input, at + 8, 40000);
+    words::part_of(
+        input,
+        Span {
+            at: from,
+            len: length,
+        },
+    )
 }
 
-fn request_at(image: &[u8], at: usize) -> Request
-    requires { ⌜ at ≤ 2000 ⌝ }
-{
-    let mut hash = [0u8; 48];
-    words::copy(&mut hash, part(image, at + 32, 48));
-    Request {
-        algorithm: words::word_at(image, at),
-        granule: words::word_at(image, at + 8),
-        ticket: words::word_at(image, at + 16),
-        hashid: words::word_at(image, at + 24),
-        hash,
+// The queue whose image of words a case has; where it has none, the empty one.
+fn queue_at(bytes: &[u8]) -> Queue {
+    if bytes.len() == 0 {
+        return Queue::empty();
     }
-}
-
-fn response_at(image: &[u8], at: usize) -> Response
-    requires { ⌜ at ≤ 2000 ⌝ }
-{
-    let mut signature = [0u8; 104];
-    words::copy(&mut signature, part(image, at + 24, 104));
-    Response {
-        granule: words::word_at(image, at),
-        ticket: words::word_at(image, at + 8),
-        len: words::word_at(image, at + 16) as usize,
-        signature,
+    let mut image = [0u64; 210];
+    for i in 0..210usize {
+        image[i] = words::word_at(bytes, 8 * i);
     }
-}
-
-fn requests_at(image: &[u8]) -> Requests {
-    let mut items = [request_at(image, 16); 8];
-    for i in 0..8usize {
-        items[i] = request_at(image, 16 + 80 * i);
-    }
-    Requests {
-        items,
-        count: words::word_at(image, 0) as usize,
-    }
-}
-
-fn responses_at(image: &[u8]) -> Responses {
-    let mut items = [response_at(image, 656); 8];
-    for i in 0..8usize {
-        items[i] = response_at(image, 656 + 128 * i);
-    }
-    Responses {
-        items,
-        count: words::word_at(image, 8) as usize,
-    }
+    queue_image::queue_of(&image)
 }
 
 fn session_at(input: &[u8]) -> Session {
@@ -196,13 +154,14 @@ fn print_response(response: Response) {
     print_word(response.ticket);
     print_number(response.len as u64);
     let signature = response.signature;
-    let length = cases::at_most(response.len as u64, 104);
-    print_bytes(part(&signature, 0, length));
+    let len = queue::signature_len(response);
+    print_bytes(words::part_of(&signature, Span { at: 0, len }));
 }
 
 // Those that wait. A count above eight stands for eight.
-fn print_requests(items: [Request; 8], count: usize) {
-    let waiting = cases::at_most(count as u64, 8);
+fn print_requests(side: Requests) {
+    let items = side.items;
+    let waiting = queue::request_count(side);
     for i in 0..waiting {
         print(b"request");
         let request = items[i];
@@ -210,8 +169,9 @@ fn print_requests(items: [Request; 8], count: usize) {
     }
 }
 
-fn print_responses(items: [Response; 8], count: usize) {
-    let waiting = cases::at_most(count as u64, 8);
+fn print_responses(side: Responses) {
+    let items = side.items;
+    let waiting = queue::response_count(side);
     for i in 0..waiting {
         let response = items[i];
         print_response(response);
@@ -220,11 +180,9 @@ fn print_responses(items: [Response; 8], count: usize) {
 
 fn print_queue(queue: Queue) {
     let requests = queue.requests;
-    let asked = requests.items;
-    print_requests(asked, requests.count);
+    print_requests(requests);
     let responses = queue.responses;
-    let done = responses.items;
-    print_responses(done, responses.count);
+    print_responses(responses);
 }
 
 fn print_same(what: &[u8], held: &[u8], expected: &[u8]) {
@@ -338,7 +296,7 @@ fn operate(input: &[u8], at: usize, page: &mut [u8], table: &mut [u8], state: St
 fn lay(input: &[u8], at: usize, expected: &mut [u8])
     requires { ⌜ at ≤ 40000 ⌝ }
 {
-    let to = cases::at_most(words::word_at(input, at), 40000);
+    let to = cases::length_at(input, at, 40000);
     if expected.len() < to {
         return;
     }
@@ -347,13 +305,9 @@ fn lay(input: &[u8], at: usize, expected: &mut [u8])
 
 // The state that a case starts with.
 fn state_at(input: &[u8]) -> State {
-    let image = lent(input, 136);
     State {
         session: session_at(input),
-        queue: Queue {
-            requests: requests_at(image),
-            responses: responses_at(image),
-        },
+        queue: queue_at(lent(input, 136)),
     }
 }
 
@@ -373,7 +327,7 @@ fn print_operations(
     wanted: &mut [u8],
 ) -> Queue {
     let mut state = state_at(input);
-    let count = cases::at_most(words::word_at(input, 152), 250);
+    let count = cases::length_at(input, 152, 250);
     for i in 0..count {
         let at = 160 + 136 * i;
         state = operate(input, at, page, table, state);
@@ -410,8 +364,8 @@ fn print_case(input: &[u8]) {
     let mut expected = [0u8; 4200];
     let mut table = [0u8; 600];
     let mut wanted = [0u8; 600];
-    let n = cases::at_most(words::word_at(input, 80), 4200);
-    let t = cases::at_most(words::word_at(input, 96), 600);
+    let n = cases::length_at(input, 80, 4200);
+    let t = cases::length_at(input, 96, 600);
     print_lent(
         input,
         &mut page[..n],

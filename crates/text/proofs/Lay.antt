@@ -124,7 +124,3 @@ wrote-same {at} {r} {vs} {ws} {s} {t} e p = rw (← e) p
 pub wrote-more : (f : ℕ → List ℕ) (i : ℕ) {at m r : ℕ} {s t u : List ℕ} → at ≤ length s → LaidOver at (joined i f) s m t → LaidOver m (f i) t r u → LaidOver at (joined (i + 1) f) s r u
 unfolding joined
 wrote-more f i h p q = rw add-one (wrote-then h p q)
-
--- all that is put from the start on
-pub wrote-whole : {r : ℕ} {vs s t : List ℕ} → LaidOver 0 vs s r t → (t ≡ lay 0 vs s) × (r ≡ min (length vs) (length s))
-wrote-whole p = (p .bytes, omega arith)

@@ -1,4 +1,4 @@
--- What the steps of the listing promise. Assumes nothing.
+-- What the listing and its steps promise. Assumes nothing.
 use Prim.Native.Nat.{ℕ, _+_, _≤_, min}
 use mathlib.Core.Path.{_≡_}
 use mathlib.Core.List.{List, []}

@@ -4,31 +4,21 @@ use reader::Reading;
 use reader::Refusal;
 use reader::Section;
 use reader::View;
-ghost use mathlib.Core.Path.{_≡_};
-ghost use Prim.Native.Nat.{min, _<_, _≤_};
+ghost use Prim.Native.Nat.{_<_, _≤_};
 ghost use lib.ListN.{length};
 ghost use Rattle.reader.specs.Answer.{readOf, refused};
 ghost use Rattle.reader.specs.Reading.{refusalNumber, readingAnswer};
-ghost use Rattle.text.specs.Text.{lay, newline, decimal, hexText, byteText, nameText, wordText, gapText, entryText, countText, stateText, titleText, sectionText, headText, pointerText, platText, listingOf, printed};
+ghost use Rattle.text.specs.Text.{newline, decimal, hexText, byteText, nameText, wordText, gapText, entryText, countText};
+ghost use Rattle.text.specs.Text.{stateText, titleText, sectionText, headText, pointerText, platText, listingOf, printed};
 ghost use Rattle.words.specs.Word.{joined};
 ghost use Rattle.text.specs.Steps.{LaidOver, seen, refusalOf};
-
-// The smaller of two lengths.
-fn smaller(a: usize, b: usize) -> usize
-    ensures { λ r. ⌜ r ≡ min a b ⌝ }
-{
-    if a < b {
-        return a;
-    }
-    b
-}
 
 // Any bytes.
 fn put(out: &mut [u8], at: usize, text: &[u8]) -> usize
     requires { ⌜ at ≤ length (now out) ⌝ }
     ensures { λ r. ⌜ LaidOver at (now (text .entry)) (now (out .entry)) r (now (out .exit)) ⌝ }
 {
-    let n = smaller(text.len(), out.len() - at);
+    let n = words::smaller(text.len() as u64, (out.len() - at) as u64) as usize;
     for i in 0..n {
         out[at + i] = text[i];
     }
@@ -263,7 +253,7 @@ fn put_refused(out: &mut [u8], reading: Reading) -> usize
 // The listing of a page at a base, as a reader of an edition reads it: laid over out from its start as far as it fits, the rest
 // of out as it was. The answer is how many bytes of out it takes.
 pub fn list(page: &[u8], base: u64, edition: u64, out: &mut [u8]) -> usize
-    ensures { λ r. ⌜ (now (out .exit) ≡ lay 0 (listingOf (readOf edition base (now (page .entry)))) (now (out .entry))) × (r ≡ min (length (listingOf (readOf edition base (now (page .entry))))) (length (now (out .entry)))) ⌝ }
+    ensures { λ r. ⌜ LaidOver 0 (listingOf (readOf edition base (now (page .entry)))) (now (out .entry)) r (now (out .exit)) ⌝ }
 {
     let reading = reader::read(page, base, edition);
     let Reading::Accepted(view) = reading else {
@@ -274,7 +264,7 @@ pub fn list(page: &[u8], base: u64, edition: u64, out: &mut [u8]) -> usize
 
 // What the listing program prints of its input: B in 8 bytes, then the page, read as edition 4.
 pub fn list_input(input: &[u8], out: &mut [u8]) -> usize
-    ensures { λ r. ⌜ (now (out .exit) ≡ lay 0 (printed (now (input .entry))) (now (out .entry))) × (r ≡ min (length (printed (now (input .entry)))) (length (now (out .entry)))) ⌝ }
+    ensures { λ r. ⌜ LaidOver 0 (printed (now (input .entry))) (now (out .entry)) r (now (out .exit)) ⌝ }
 {
     if input.len() != 4104 {
         return put_code(out, Refusal::Place);

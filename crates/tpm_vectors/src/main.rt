@@ -103,7 +103,7 @@ fn print_call(
     requires { ⌜ at ≤ 65536 ⌝ }
 {
     let asked = arguments_at(input, at);
-    let n = cases::at_most(words::word_at(input, at + 40), response.len());
+    let n = cases::length_at(input, at + 40, response.len());
     let forbidden = words::word_at(input, at + 56) != 0;
     let fault = words::word_at(input, at + 64) != 0;
     fill(&mut response[..n], words::word_at(input, at + 48));
@@ -130,7 +130,7 @@ fn print_calls(input: &[u8], memory: &mut [u8], response: &mut [u8]) {
 }
 
 fn print_lent(input: &[u8], memory: &mut [u8], response: &mut [u8]) {
-    let n = cases::at_most(words::word_at(input, 0), memory.len());
+    let n = cases::length_at(input, 0, memory.len());
     fill(&mut memory[..n], words::word_at(input, 8));
     print_calls(input, &mut memory[..n], response);
 }

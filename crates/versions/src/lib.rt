@@ -1,6 +1,6 @@
 // Versions as numbers, and the editions of the manifest's layout.
 ghost use mathlib.Core.Path.{_≡_};
-ghost use Prim.Native.Nat.{min, _<_, _≤_};
+ghost use Prim.Native.Nat.{_<_, _≤_};
 ghost use Rattle.versions.specs.Version.{minorOf, majorOf, versionOk, later, agreed};
 ghost use Rattle.versions.specs.Edition.{sectionCount, core, editionOk};
 
@@ -42,21 +42,11 @@ pub fn is_later(a: u64, b: u64) -> bool
     b < a
 }
 
-// The smaller of two numbers.
-pub fn smaller(a: u64, b: u64) -> u64
-    ensures { λ r. ⌜ r ≡ min a b ⌝ }
-{
-    if a < b {
-        return a;
-    }
-    b
-}
-
 // The interface minor that both sides speak, where this version is offered.
 pub fn agreed_minor(version: u64) -> u64
     ensures { λ r. ⌜ (r ≡ agreed version) × (r ≤ 5) ⌝ }
 {
-    smaller(5, minor(version))
+    words::smaller(5, minor(version))
 }
 
 // Whether there is such an edition: 1 to 4.

@@ -1,7 +1,7 @@
-// Little-endian fields of a lent slice: 8-byte words and 4-byte halves, read and written at any offset; 2-byte quarters and lists
-// of words written.
+// Little-endian fields of a lent slice: 8-byte words and 4-byte halves read at any offset; words, 2-byte quarters and lists of words
+// written. The smaller of two numbers.
 ghost use mathlib.Core.Path.{_≡_};
-ghost use Prim.Native.Nat.{_+_, _<_, _≤_};
+ghost use Prim.Native.Nat.{min, _+_, _<_, _≤_};
 ghost use lib.ListN.{length, replicate};
 ghost use Rattle.words.specs.Word.{leBytes, numAt, wordAt, halfAt, wholeWord, bytesOf, splice, laid, spanAt, spanned};
 
@@ -149,19 +149,6 @@ pub fn put_word(s: &mut [u8], at: usize, w: u64)
     put_eight(s, at, w);
 }
 
-// Puts the low half of w at an offset; where it does not fit whole, no byte changes.
-pub fn put_half(s: &mut [u8], at: usize, w: u64)
-    ensures { λ _. ⌜ now (s .exit) ≡ laid at (leBytes 4 w) (now (s .entry)) ⌝ }
-{
-    if s.len() < 4 {
-        return;
-    }
-    if s.len() - 4 < at {
-        return;
-    }
-    put_quad(s, at, w);
-}
-
 // Puts the low quarter of w at an offset; where it does not fit whole, no byte changes.
 pub fn put_quarter(s: &mut [u8], at: usize, w: u64)
     ensures { λ _. ⌜ now (s .exit) ≡ laid at (leBytes 2 w) (now (s .entry)) ⌝ }
@@ -211,6 +198,16 @@ pub fn copy(to: &mut [u8], from: &[u8])
     for i in 0..from.len() {
         to[i] = from[i];
     }
+}
+
+// The smaller of two numbers.
+pub fn smaller(a: u64, b: u64) -> u64
+    ensures { λ r. ⌜ r ≡ min a b ⌝ }
+{
+    if a < b {
+        return a;
+    }
+    b
 }
 
 // The span of so many bytes at an offset; that of no bytes is at 0.

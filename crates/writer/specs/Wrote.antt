@@ -1,9 +1,15 @@
 -- What the writer's enum stands for, with the lent page at exit. Assumes nothing.
 use Prim.Native.Nat.{ℕ}
 use mathlib.Core.List.{List}
-use Rattle.writer.specs.Write.{Made, no-page, a-page}
+use lib.ListN.{length}
+use Rattle.lists.specs.Description.{descriptionOf}
+use Rattle.writer.specs.Write.{Made, no-page, a-page, writeOf}
 use Rattle.writer.specs.declared.Wrote.{Wrote}
 use Rattle.writer.specs.declared.Wrote.the-variants.{Page, Place, Edition, Lists, Late, Room}
+
+-- "The writer takes B, an edition, four lists of 64-bit words .. and a page."
+abbrev pub writeLists : ℕ → ℕ → List ℕ → List ℕ → List ℕ → List ℕ → List ℕ → Made
+writeLists base v dram console ncoh coh page = writeOf base (length page) v (descriptionOf dram console ncoh coh)
 
 -- W1 to W5, or the page that was made
 unfoldable pub madeBy : List ℕ → Wrote → Made

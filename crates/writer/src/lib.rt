@@ -7,8 +7,8 @@ ghost use lib.ListN.{length};
 ghost use Rattle.words.specs.Word.{bytesOf, laid};
 ghost use Rattle.entries.specs.Entry.{sum};
 ghost use Rattle.lists.specs.Description.{four, descriptionOf, used};
-ghost use Rattle.writer.specs.Write.{descriptor, coreWords, filled, pageOf, writeOf};
-ghost use Rattle.writer.specs.Wrote.{madeBy, pageAfter};
+ghost use Rattle.writer.specs.Write.{descriptor, coreWords, filled, pageOf};
+ghost use Rattle.writer.specs.Wrote.{writeLists, madeBy, pageAfter};
 ghost use Rattle.writer.specs.Steps.{sectionOn, arraysOn};
 
 // A page was made, or why not: W1 the place, W2 the edition, W3 a list, W4 a section after the edition, W5 no room.
@@ -133,8 +133,10 @@ pub fn write(
     coh: &[u64],
     page: &mut [u8],
 ) -> Wrote
-    ensures { λ r. ⌜ madeBy (now (page .exit)) r ≡ writeOf base (length (now (page .entry))) edition (descriptionOf (now (dram .entry)) (now (console .entry)) (now (ncoh .entry)) (now (coh .entry))) ⌝ }
-    ensures { λ r. ⌜ now (page .exit) ≡ pageAfter (now (page .entry)) (writeOf base (length (now (page .entry))) edition (descriptionOf (now (dram .entry)) (now (console .entry)) (now (ncoh .entry)) (now (coh .entry)))) ⌝ }
+    ensures { λ r. ⌜ madeBy (now (page .exit)) r
+        ≡ writeLists base edition (now (dram .entry)) (now (console .entry)) (now (ncoh .entry)) (now (coh .entry)) (now (page .entry)) ⌝ }
+    ensures { λ r. ⌜ now (page .exit) ≡ pageAfter (now (page .entry))
+        (writeLists base edition (now (dram .entry)) (now (console .entry)) (now (ncoh .entry)) (now (coh .entry)) (now (page .entry))) ⌝ }
 {
     if !sections::place_ok(base, page.len()) {
         return Wrote::Place;

@@ -2,17 +2,16 @@
 // the byte that the page is full of, the page's length, the lengths of the four lists in words, the lists; then the page
 // expected at exit. Prints the answer, whether the page is the one expected, and what the four editions show of a page made.
 use libc::STDOUT_FILENO;
+use words::Span;
 use writer::Wrote;
 ghost use Prim.Native.Nat.{_≤_};
 ghost use lib.ListN.{length};
 
-// The words of the case from an offset on.
-fn load(input: &[u8], at: usize) -> [u64; 600]
-    requires { ⌜ at ≤ 32768 ⌝ }
-{
-    let mut list = [0u64; 600];
-    for i in 0..600usize {
-        list[i] = words::word_at(input, at + 8 * i);
+// The words of a case.
+fn load(input: &[u8]) -> [u64; 4096] {
+    let mut list = [0u64; 4096];
+    for i in 0..4096usize {
+        list[i] = words::word_at(input, 8 * i);
     }
     list
 }
@@ -21,28 +20,15 @@ fn filled(byte: u8) -> [u8; 8192] {
     [byte; 8192]
 }
 
-fn print_answer(answer: Wrote) {
+// The number of a refusal; 0 for a page that was made.
+fn number(answer: Wrote) -> u64 {
     match answer {
-        Wrote::Page => io::write_all(STDOUT_FILENO, b"made\n"),
-        Wrote::Place => io::write_all(STDOUT_FILENO, b"refused W1\n"),
-        Wrote::Edition => io::write_all(STDOUT_FILENO, b"refused W2\n"),
-        Wrote::Lists => io::write_all(STDOUT_FILENO, b"refused W3\n"),
-        Wrote::Late => io::write_all(STDOUT_FILENO, b"refused W4\n"),
-        Wrote::Room => io::write_all(STDOUT_FILENO, b"refused W5\n"),
-    }
-    ;
-}
-
-// Whether the page is the one that the case has from an offset on.
-fn print_page(page: &[u8], input: &[u8], at: usize) {
-    if input.len() < at {
-        io::write_all(STDOUT_FILENO, b"case cut short\n");
-        return;
-    }
-    if cases::same(page, &input[at..]) {
-        io::write_all(STDOUT_FILENO, b"page as expected\n");
-    } else {
-        io::write_all(STDOUT_FILENO, b"page not as expected\n");
+        Wrote::Page => 0,
+        Wrote::Place => 1,
+        Wrote::Edition => 2,
+        Wrote::Lists => 3,
+        Wrote::Late => 4,
+        Wrote::Room => 5,
     }
 }
 
@@ -56,59 +42,52 @@ fn print_reading(page: &[u8], base: u64, edition: u64) {
     io::write_all(STDOUT_FILENO, &out[..n]);
 }
 
-// What the four editions show of a page that was made.
-fn print_readings(page: &[u8], base: u64, answer: Wrote) {
-    let Wrote::Page = answer else {
+// The answer, whether the page is as expected, and what the four editions show of it if it was made.
+fn print_page(refusal: u64, base: u64, page: &[u8], expected: &[u8]) {
+    if refusal != 0 {
+        io::write_all(STDOUT_FILENO, b"refused W");
+        io::print_decimal(STDOUT_FILENO, refusal);
+        io::write_all(STDOUT_FILENO, b"\n");
+        cases::print_same(b"page", page, expected);
         return;
-    };
+    }
+    io::write_all(STDOUT_FILENO, b"made\n");
+    cases::print_same(b"page", page, expected);
     for edition in 1..5u64 {
         print_reading(page, base, edition);
     }
 }
 
-// Writes the lists into the first n bytes of a room that is full of the case's byte; the page expected is at an offset.
-fn print_written(
-    input: &[u8],
-    dram: &[u64],
-    console: &[u64],
-    ncoh: &[u64],
-    coh: &[u64],
-    room: &mut [u8],
-    n: usize,
-    last: usize,
-)
-    requires { ⌜ n ≤ length (now room) ⌝ }
+// Writes the lists, which follow one another among the words of a case, into a page that is full of the case's byte.
+fn print_written(input: &[u8], list: &[u64], page: &mut [u8])
+    requires { ⌜ 4096 ≤ length (now list) ⌝ }
 {
-    let base = words::word_at(input, 0);
-    let edition = words::word_at(input, 8);
-    let answer = writer::write(base, edition, dram, console, ncoh, coh, &mut room[..n]);
-    print_answer(answer);
-    print_page(&room[..n], input, last);
-    print_readings(&room[..n], base, answer);
+    let a = 8 + cases::length_at(input, 32, 600);
+    let b = a + cases::length_at(input, 40, 600);
+    let c = b + cases::length_at(input, 48, 600);
+    let d = c + cases::length_at(input, 56, 600);
+    let base = list[0];
+    let answer = writer::write(
+        base,
+        list[1],
+        &list[8..a],
+        &list[a..b],
+        &list[b..c],
+        &list[c..d],
+        page,
+    );
+    let expected = Span {
+        at: 8 * d,
+        len: page.len(),
+    };
+    print_page(number(answer), base, page, words::part_of(input, expected));
 }
 
 fn print_case(input: &[u8]) {
-    let a = cases::at_most(words::word_at(input, 32), 600);
-    let b = cases::at_most(words::word_at(input, 40), 600);
-    let c = cases::at_most(words::word_at(input, 48), 600);
-    let d = cases::at_most(words::word_at(input, 56), 600);
-    let dram = load(input, 64);
-    let console = load(input, 64 + 8 * a);
-    let ncoh = load(input, 64 + 8 * (a + b));
-    let coh = load(input, 64 + 8 * (a + b + c));
-    let mut room = filled((words::word_at(input, 16) % 256) as u8);
-    let n = cases::at_most(words::word_at(input, 24), 8192);
-    let last = 64 + 8 * (a + b + c + d);
-    print_written(
-        input,
-        &dram[..a],
-        &console[..b],
-        &ncoh[..c],
-        &coh[..d],
-        &mut room,
-        n,
-        last,
-    );
+    let list = load(input);
+    let mut room = filled((list[2] % 256) as u8);
+    let n = cases::length_at(input, 24, 8192);
+    print_written(input, &list, &mut room[..n]);
 }
 
 fn main() {

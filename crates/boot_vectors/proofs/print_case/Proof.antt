@@ -9,11 +9,8 @@ Inv-loop input steps state₀ at₀ i₀ state at i = (i ≤ 20) × (i ≤ steps
 abbrev μ-loop : tie.MeasureT-loop
 μ-loop input steps state₀ at₀ i₀ state at i = steps - i
 
-word-at-requires : tie.Need-word-at-requires Inv-loop μ-loop
-word-at-requires c κs = search needs
-
-at-most-requires : tie.Need-at-most-requires Inv-loop μ-loop
-at-most-requires c κs = search needs
+length-at-requires : tie.Need-length-at-requires Inv-loop μ-loop
+length-at-requires c κs = search needs
 
 record-at-requires : tie.Need-record-at-requires Inv-loop μ-loop
 record-at-requires c κs = search needs
@@ -42,8 +39,7 @@ print-case-spec =
     (tie.spec
     Inv-loop
     μ-loop
-    word-at-requires
-    at-most-requires
+    length-at-requires
     record-at-requires
     loop-holds
     step-requires

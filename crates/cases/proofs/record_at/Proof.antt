@@ -26,9 +26,12 @@ returns-2 : tie.Need-returns-2
 unfolding recordAt
 returns-2 c = let a = c .before .before .before .before .before .before .before .args in rw (ne-eqb (wordAt 0 (a .input .now)) 1 (λ e. c .before .if1 .left (c .before .before .before .before .before .word-at .ensures ∙ e)), eq-eqb (wordAt 0 (a .input .now)) 2 (sym (c .before .before .before .before .before .word-at .ensures) ∙ c .if2 .taken))
 
+fresh-requires : tie.Need-fresh-requires
+fresh-requires c κs = search needs
+
 returns-3 : tie.Need-returns-3
 unfolding recordAt
-returns-3 c = let a = c .before .before .before .before .before .before .before .args in rw (ne-eqb (wordAt 0 (a .input .now)) 1 (λ e. c .before .if1 .left (c .before .before .before .before .before .word-at .ensures ∙ e)), ne-eqb (wordAt 0 (a .input .now)) 2 (λ e. c .if2 .left (c .before .before .before .before .before .word-at .ensures ∙ e)))
+returns-3 c = let a = c .before .before .before .before .before .before .before .before .args in c .fresh .ensures ∙ rw (ne-eqb (wordAt 0 (a .input .now)) 1 (λ e. c .before .before .if1 .left (c .before .before .before .before .before .before .word-at .ensures ∙ e)), ne-eqb (wordAt 0 (a .input .now)) 2 (λ e. c .before .if2 .left (c .before .before .before .before .before .before .word-at .ensures ∙ e)))
 
 pub record-at-spec : {M : Type 1} → statement M
 record-at-spec =
@@ -40,4 +43,5 @@ record-at-spec =
     word-at-requires-4
     returns
     returns-2
+    fresh-requires
     returns-3)

@@ -4,7 +4,6 @@ use native.Mathlib.Omega.{arith}
 use borrow.Author.Tests.{lt-leb, le-leb}
 use Rattle.entries.specs.Entry.{size}
 use Rattle.entries.proofs.Entries.{size-one, size-other}
-use borrow.Author.Needs.{needs}
 use Rattle.entries.proofs.fits.Statement.{statement}
 use Rattle.entries.proofs.fits.Tie as tie
 

@@ -3,7 +3,7 @@ use Prim.Native.Nat.{_-_, _*_, _<_}
 use native.Mathlib.Omega.{arith}
 use borrow.Author.Tests.{leb-false, not-true, not-false}
 use Rattle.words.specs.Word.{noSpan, spanAt}
-use Rattle.entries.specs.Entry.{wordsPerEntry, size}
+use Rattle.entries.specs.Entry.{size}
 use Rattle.entries.proofs.Entries.{fits-end}
 use Rattle.lookup.proofs.Lookups.{place-in, place-out}
 use borrow.Author.Needs.{needs}

@@ -1,7 +1,7 @@
 use Prim.Native.Nat.{_-_, _≤_}
-use mathlib.Core.Path.{_≡_, ap, _∙_}
+use mathlib.Core.Path.{_≡_}
 use native.Mathlib.Omega.{arith}
-use lib.ListN.{take, getD}
+use lib.ListN.{getD}
 use Rattle.queue.specs.Queue.{waiting, noRequest}
 use Rattle.queue_image.specs.Image.{requestIn}
 use Rattle.queue_image.proofs.Rows.{readTo, read-none, read-more, read-all}
@@ -15,6 +15,9 @@ Inv-loop image items₀ i₀ items i = (i ≤ 8) × (items ≡ readTo requestIn 
 abbrev μ-loop : tie.MeasureT-loop
 μ-loop image items₀ i₀ items i = 8 - i
 
+request-in-requires : tie.Need-request-in-requires Inv-loop μ-loop
+request-in-requires c κs = search needs
+
 loop-holds : tie.Need-loop-holds Inv-loop μ-loop
 loop-holds c = (search needs, read-none requestIn 10 2 _ _)
 
@@ -24,8 +27,8 @@ mul-request-in c = search needs
 add-request-in : tie.Need-add-request-in Inv-loop μ-loop
 add-request-in c = search needs
 
-request-in-requires : tie.Need-request-in-requires Inv-loop μ-loop
-request-in-requires c κs = search needs
+request-in-requires-2 : tie.Need-request-in-requires-2 Inv-loop μ-loop
+request-in-requires-2 c κs = search needs
 
 mul-items : tie.Need-mul-items Inv-loop μ-loop
 mul-items c = search needs
@@ -42,18 +45,17 @@ loop-less c = search needs
 loop-again : tie.Need-loop-again Inv-loop μ-loop
 loop-again c =
     let l = c .before .before .loop in
-    (search needs, rw (l .inv .1, c .request-in .ensures) (read-more requestIn 10 2 (c .before .before .before .before .args .image .now) _ (l .i) noRequest (omega arith)))
+    (search needs, read-more requestIn 10 2 (c .before .before .before .before .before .args .image .now) _ (l .i) (l .items) noRequest _ (l .inv .1) (omega arith) (c .request-in2 .ensures))
 
-shared-slice-read-t15 : tie.Need-shared-slice-read-t15 Inv-loop μ-loop
-shared-slice-read-t15 c = search needs
+shared-slice-read-t14 : tie.Need-shared-slice-read-t14 Inv-loop μ-loop
+shared-slice-read-t14 c = search needs
 
 returns : tie.Need-returns Inv-loop μ-loop
 unfolding waiting
 returns c =
     let l = c .before .before .loop in
-    let w = c .before .before .before .before .args .image .now in
-    let e : l .i ≡ 8 = omega arith in
-    ap (take (getD w 0 0)) (l .inv .1 ∙ rw e (read-all requestIn 10 2 w _ 8 (omega arith)))
+    let w = c .before .before .before .before .before .args .image .now in
+    read-all requestIn 10 2 w _ (l .i) (getD w 0 0) (l .items) (l .inv .1) (search needs) (omega arith)
 
 pub requests-in-spec : {M : Type 1} → statement M
 requests-in-spec =
@@ -61,14 +63,15 @@ requests-in-spec =
     (tie.spec
     Inv-loop
     μ-loop
+    request-in-requires
     loop-holds
     mul-request-in
     add-request-in
-    request-in-requires
+    request-in-requires-2
     mul-items
     array-set-from-items
     add-i
     loop-less
     loop-again
-    shared-slice-read-t15
+    shared-slice-read-t14
     returns)

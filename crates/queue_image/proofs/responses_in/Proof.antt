@@ -1,7 +1,7 @@
 use Prim.Native.Nat.{_-_, _≤_}
-use mathlib.Core.Path.{_≡_, ap, _∙_}
+use mathlib.Core.Path.{_≡_}
 use native.Mathlib.Omega.{arith}
-use lib.ListN.{take, getD}
+use lib.ListN.{getD}
 use Rattle.queue.specs.Queue.{held, noResponse}
 use Rattle.queue_image.specs.Image.{heldIn}
 use Rattle.queue_image.proofs.Rows.{readTo, read-none, read-more, read-all}
@@ -15,6 +15,9 @@ Inv-loop image items₀ i₀ items i = (i ≤ 8) × (items ≡ readTo heldIn 16 
 abbrev μ-loop : tie.MeasureT-loop
 μ-loop image items₀ i₀ items i = 8 - i
 
+response-in-requires : tie.Need-response-in-requires Inv-loop μ-loop
+response-in-requires c κs = search needs
+
 loop-holds : tie.Need-loop-holds Inv-loop μ-loop
 loop-holds c = (search needs, read-none heldIn 16 82 _ _)
 
@@ -24,8 +27,8 @@ mul-response-in c = search needs
 add-response-in : tie.Need-add-response-in Inv-loop μ-loop
 add-response-in c = search needs
 
-response-in-requires : tie.Need-response-in-requires Inv-loop μ-loop
-response-in-requires c κs = search needs
+response-in-requires-2 : tie.Need-response-in-requires-2 Inv-loop μ-loop
+response-in-requires-2 c κs = search needs
 
 mul-items : tie.Need-mul-items Inv-loop μ-loop
 mul-items c = search needs
@@ -42,18 +45,17 @@ loop-less c = search needs
 loop-again : tie.Need-loop-again Inv-loop μ-loop
 loop-again c =
     let l = c .before .before .loop in
-    (search needs, rw (l .inv .1, c .response-in .ensures) (read-more heldIn 16 82 (c .before .before .before .before .args .image .now) _ (l .i) noResponse (omega arith)))
+    (search needs, read-more heldIn 16 82 (c .before .before .before .before .before .args .image .now) _ (l .i) (l .items) noResponse _ (l .inv .1) (omega arith) (c .response-in2 .ensures))
 
-shared-slice-read-t15 : tie.Need-shared-slice-read-t15 Inv-loop μ-loop
-shared-slice-read-t15 c = search needs
+shared-slice-read-t14 : tie.Need-shared-slice-read-t14 Inv-loop μ-loop
+shared-slice-read-t14 c = search needs
 
 returns : tie.Need-returns Inv-loop μ-loop
 unfolding held
 returns c =
     let l = c .before .before .loop in
-    let w = c .before .before .before .before .args .image .now in
-    let e : l .i ≡ 8 = omega arith in
-    ap (take (getD w 1 0)) (l .inv .1 ∙ rw e (read-all heldIn 16 82 w _ 8 (omega arith)))
+    let w = c .before .before .before .before .before .args .image .now in
+    read-all heldIn 16 82 w _ (l .i) (getD w 1 0) (l .items) (l .inv .1) (search needs) (omega arith)
 
 pub responses-in-spec : {M : Type 1} → statement M
 responses-in-spec =
@@ -61,14 +63,15 @@ responses-in-spec =
     (tie.spec
     Inv-loop
     μ-loop
+    response-in-requires
     loop-holds
     mul-response-in
     add-response-in
-    response-in-requires
+    response-in-requires-2
     mul-items
     array-set-from-items
     add-i
     loop-less
     loop-again
-    shared-slice-read-t15
+    shared-slice-read-t14
     returns)

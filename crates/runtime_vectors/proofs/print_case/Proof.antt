@@ -4,17 +4,11 @@ use borrow.Author.Needs.{needs}
 use Rattle.runtime_vectors.proofs.print_case.Statement.{statement}
 use Rattle.runtime_vectors.proofs.print_case.Tie as tie
 
-word-at-requires : tie.Need-word-at-requires
-word-at-requires c κs = search needs
+length-at-requires : tie.Need-length-at-requires
+length-at-requires c κs = search needs
 
-at-most-requires : tie.Need-at-most-requires
-at-most-requires c κs = search needs
-
-word-at-requires-2 : tie.Need-word-at-requires-2
-word-at-requires-2 c κs = search needs
-
-at-most-requires-2 : tie.Need-at-most-requires-2
-at-most-requires-2 c κs = search needs
+length-at-requires-2 : tie.Need-length-at-requires-2
+length-at-requires-2 c κs = search needs
 
 array-borrow-prefix-page : tie.Need-array-borrow-prefix-page
 array-borrow-prefix-page c = search needs
@@ -50,10 +44,8 @@ pub print-case-spec : {M : Type 1} → statement M
 print-case-spec =
     tie.close
     (tie.spec
-    word-at-requires
-    at-most-requires
-    word-at-requires-2
-    at-most-requires-2
+    length-at-requires
+    length-at-requires-2
     array-borrow-prefix-page
     slice-aggregate-print-lent
     array-borrow-prefix-expected

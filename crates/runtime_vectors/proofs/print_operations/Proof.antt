@@ -16,11 +16,8 @@ abbrev μ-loop : tie.MeasureT-loop
 state-at-requires : tie.Need-state-at-requires Inv-loop μ-loop
 state-at-requires c κs = search needs
 
-word-at-requires : tie.Need-word-at-requires Inv-loop μ-loop
-word-at-requires c κs = search needs
-
-at-most-requires : tie.Need-at-most-requires Inv-loop μ-loop
-at-most-requires c κs = search needs
+length-at-requires : tie.Need-length-at-requires Inv-loop μ-loop
+length-at-requires c κs = search needs
 
 loop-holds : tie.Need-loop-holds Inv-loop μ-loop
 loop-holds c = search needs
@@ -92,8 +89,7 @@ print-operations-spec =
     Inv-loop
     μ-loop
     state-at-requires
-    word-at-requires
-    at-most-requires
+    length-at-requires
     loop-holds
     mul-at
     add-at

@@ -4,13 +4,13 @@ use Rattle.runtime_vectors.proofs.print_requests.Statement.{statement}
 use Rattle.runtime_vectors.proofs.print_requests.Tie as tie
 
 abbrev Inv-loop : tie.InvT-loop
-Inv-loop count items waiting i₀ t7 i = (i ≤ waiting) × (waiting ≤ 8)
+Inv-loop items waiting i₀ t6 i = (i ≤ waiting) × (waiting ≤ 8)
 
 abbrev μ-loop : tie.MeasureT-loop
-μ-loop count items waiting i₀ t7 i = waiting - i
+μ-loop items waiting i₀ t6 i = waiting - i
 
-at-most-requires : tie.Need-at-most-requires Inv-loop μ-loop
-at-most-requires c κs = search needs
+request-count-requires : tie.Need-request-count-requires Inv-loop μ-loop
+request-count-requires c κs = search needs
 
 loop-holds : tie.Need-loop-holds Inv-loop μ-loop
 loop-holds c = search needs
@@ -48,7 +48,7 @@ print-requests-spec =
     (tie.spec
     Inv-loop
     μ-loop
-    at-most-requires
+    request-count-requires
     loop-holds
     slice-aggregate-print
     print-requires

@@ -4,13 +4,13 @@ use Rattle.runtime_vectors.proofs.print_responses.Statement.{statement}
 use Rattle.runtime_vectors.proofs.print_responses.Tie as tie
 
 abbrev Inv-loop : tie.InvT-loop
-Inv-loop count items waiting i₀ i = (i ≤ waiting) × (waiting ≤ 8)
+Inv-loop items waiting i₀ i = (i ≤ waiting) × (waiting ≤ 8)
 
 abbrev μ-loop : tie.MeasureT-loop
-μ-loop count items waiting i₀ i = waiting - i
+μ-loop items waiting i₀ i = waiting - i
 
-at-most-requires : tie.Need-at-most-requires Inv-loop μ-loop
-at-most-requires c κs = search needs
+response-count-requires : tie.Need-response-count-requires Inv-loop μ-loop
+response-count-requires c κs = search needs
 
 loop-holds : tie.Need-loop-holds Inv-loop μ-loop
 loop-holds c = search needs
@@ -42,7 +42,7 @@ print-responses-spec =
     (tie.spec
     Inv-loop
     μ-loop
-    at-most-requires
+    response-count-requires
     loop-holds
     mul-response
     array-copy-out-response

@@ -1,5 +1,5 @@
 use mathlib.Core.Path.{refl}
-use Rattle.text.proofs.Lay.{wrote-same, wrote-whole}
+use Rattle.text.proofs.Lay.{wrote-same}
 use Rattle.text.proofs.Parts.{input-refused, input-read}
 use borrow.Author.Needs.{needs}
 use Rattle.text.proofs.list_input.Statement.{statement}
@@ -12,7 +12,7 @@ same-length : tie.Need-same-length
 same-length c = search needs
 
 returns : tie.Need-returns
-returns c = wrote-whole (wrote-same (input-refused (c .before .before .before .before .before .before .before .args .input .now) (search needs)) (c .before .before .put-code .ensures))
+returns c = wrote-same (input-refused (c .before .before .before .before .before .before .before .args .input .now) (search needs)) (c .before .before .put-code .ensures)
 
 sub-list : tie.Need-sub-list
 sub-list c = search needs

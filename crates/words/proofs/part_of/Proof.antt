@@ -1,5 +1,4 @@
 use Prim.Native.Nat.{_+_}
-use mathlib.Core.Path.{sym}
 use lib.ListN.{length}
 use native.Mathlib.Nat.{add-sub-cancel-left}
 use native.Mathlib.Omega.{arith}

@@ -1,5 +1,5 @@
-use mathlib.Core.Path.{_≡_, _∙_}
-use Prim.Native.Nat.{_/_, _<_, _^_}
+use mathlib.Core.Path.{_≡_}
+use Prim.Native.Nat.{_/_}
 use lib.ListN.{length}
 use Rattle.entries.specs.Entry.{wordsPerEntry}
 use Rattle.writer.proofs.Sums.{neg-law, desc-none, desc-some}

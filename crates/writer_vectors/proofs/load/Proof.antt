@@ -4,19 +4,16 @@ use Rattle.writer_vectors.proofs.load.Statement.{statement}
 use Rattle.writer_vectors.proofs.load.Tie as tie
 
 abbrev Inv-loop : tie.InvT-loop
-Inv-loop input at list₀ i₀ list i = i ≤ 600
+Inv-loop input list₀ i₀ list i = i ≤ 4096
 
 abbrev μ-loop : tie.MeasureT-loop
-μ-loop input at list₀ i₀ list i = 600 - i
+μ-loop input list₀ i₀ list i = 4096 - i
 
 loop-holds : tie.Need-loop-holds Inv-loop μ-loop
 loop-holds c = search needs
 
 mul-word-at : tie.Need-mul-word-at Inv-loop μ-loop
 mul-word-at c = search needs
-
-add-word-at : tie.Need-add-word-at Inv-loop μ-loop
-add-word-at c = search needs
 
 word-at-requires : tie.Need-word-at-requires Inv-loop μ-loop
 word-at-requires c κs = search needs
@@ -47,7 +44,6 @@ load-spec =
     μ-loop
     loop-holds
     mul-word-at
-    add-word-at
     word-at-requires
     mul-list
     array-write-list
