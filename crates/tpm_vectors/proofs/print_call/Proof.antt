@@ -7,14 +7,17 @@ use Rattle.tpm_vectors.proofs.print_call.Tie as tie
 arguments-at-requires : tie.Need-arguments-at-requires
 arguments-at-requires c κs = search needs
 
+add-length-at : tie.Need-add-length-at
+add-length-at c = search needs
+
+length-at-requires : tie.Need-length-at-requires
+length-at-requires c κs = search needs
+
 add-word-at : tie.Need-add-word-at
 add-word-at c = search needs
 
 word-at-requires : tie.Need-word-at-requires
 word-at-requires c κs = search needs
-
-at-most-requires : tie.Need-at-most-requires
-at-most-requires c κs = search needs
 
 add-word-at-2 : tie.Need-add-word-at-2
 add-word-at-2 c = search needs
@@ -22,23 +25,17 @@ add-word-at-2 c = search needs
 word-at-requires-2 : tie.Need-word-at-requires-2
 word-at-requires-2 c κs = search needs
 
-add-word-at-3 : tie.Need-add-word-at-3
-add-word-at-3 c = search needs
-
-word-at-requires-3 : tie.Need-word-at-requires-3
-word-at-requires-3 c κs = search needs
-
 slice-relend-prefix-fill : tie.Need-slice-relend-prefix-fill
 slice-relend-prefix-fill c = search needs
 
 slice-aggregate-fill : tie.Need-slice-aggregate-fill
 slice-aggregate-fill c = sym (length-take-le _ _ (search needs))
 
-add-word-at-4 : tie.Need-add-word-at-4
-add-word-at-4 c = search needs
+add-word-at-3 : tie.Need-add-word-at-3
+add-word-at-3 c = search needs
 
-word-at-requires-4 : tie.Need-word-at-requires-4
-word-at-requires-4 c κs = search needs
+word-at-requires-3 : tie.Need-word-at-requires-3
+word-at-requires-3 c κs = search needs
 
 fill-requires : tie.Need-fill-requires
 fill-requires c κs = search needs
@@ -87,17 +84,16 @@ print-call-spec =
     tie.close
     (tie.spec
     arguments-at-requires
+    add-length-at
+    length-at-requires
     add-word-at
     word-at-requires
-    at-most-requires
     add-word-at-2
     word-at-requires-2
-    add-word-at-3
-    word-at-requires-3
     slice-relend-prefix-fill
     slice-aggregate-fill
-    add-word-at-4
-    word-at-requires-4
+    add-word-at-3
+    word-at-requires-3
     fill-requires
     print-request-requires
     slice-reshare-prefix-comm

@@ -4,11 +4,8 @@ use borrow.Author.Needs.{needs}
 use Rattle.tpm_vectors.proofs.print_lent.Statement.{statement}
 use Rattle.tpm_vectors.proofs.print_lent.Tie as tie
 
-word-at-requires : tie.Need-word-at-requires
-word-at-requires c κs = search needs
-
-at-most-requires : tie.Need-at-most-requires
-at-most-requires c κs = search needs
+length-at-requires : tie.Need-length-at-requires
+length-at-requires c κs = search needs
 
 slice-relend-prefix-fill : tie.Need-slice-relend-prefix-fill
 slice-relend-prefix-fill c = search needs
@@ -16,8 +13,8 @@ slice-relend-prefix-fill c = search needs
 slice-aggregate-fill : tie.Need-slice-aggregate-fill
 slice-aggregate-fill c = sym (length-take-le _ _ (search needs))
 
-word-at-requires-2 : tie.Need-word-at-requires-2
-word-at-requires-2 c κs = search needs
+word-at-requires : tie.Need-word-at-requires
+word-at-requires c κs = search needs
 
 fill-requires : tie.Need-fill-requires
 fill-requires c κs = search needs
@@ -44,11 +41,10 @@ pub print-lent-spec : {M : Type 1} → statement M
 print-lent-spec =
     tie.close
     (tie.spec
-    word-at-requires
-    at-most-requires
+    length-at-requires
     slice-relend-prefix-fill
     slice-aggregate-fill
-    word-at-requires-2
+    word-at-requires
     fill-requires
     slice-relend-prefix-print-calls
     slice-aggregate-print-calls
