@@ -1,0 +1,4 @@
+pub mod Collects
+pub mod Blob
+pub mod Pieces
+pub mod Samples
