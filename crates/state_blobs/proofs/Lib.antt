@@ -1,4 +1,4 @@
 pub mod Collects
-pub mod Blob
+pub mod E13
 pub mod Pieces
 pub mod Samples

@@ -1,4 +1,5 @@
--- Pieces that are written and then read: each is accepted while it is the blob's afterOffer bytes, so the premise of `held-are-first` can be met. Assumes nothing.
+-- The blob's next bytes, written as a response, are accepted and appended: so the premise of `held-are-first` can be met, and a blob can be
+-- collected whole. Assumes nothing.
 use Prim.Native.Nat.{ℕ, _+_, _^_, _≤_, _<_}
 use mathlib.Core.Path.{_≡_, refl}
 use mathlib.Core.Bool.{Bool, true, false, not}
@@ -11,10 +12,9 @@ use Rattle.words.specs.Tests.{both}
 use Rattle.words.specs.Word.{part}
 use Rattle.state_messages.specs.Messages.{Fits32Response, responseMessage}
 use Rattle.state_blobs.specs.Collect.{otherTotal, decide, appended, settle, offerBytes, collectGot, collect}
-use Rattle.state_blobs.specs.Blobs.{Held, pieceOf}
+use Rattle.state_blobs.specs.Blobs.{Held, HoldsFirst, pieceOf}
 use Rattle.state_blobs.specs.declared.Verdict.the-variants as verdict
 use Rattle.state_messages.proofs.ReadBack.{response-read}
-use Rattle.state_blobs.proofs.Blob.{Front}
 
 pub piece-length : (held n : ℕ) (blob : List ℕ) → held + n ≤ length blob → length (part held n blob) ≡ n
 unfolding part
@@ -30,8 +30,8 @@ unfolding both
 some-data true n held total z d = le-ltb held total (let q : held ≡ total = d (z refl) in omega arith)
 some-data false n held total z d = refl
 
--- the afterOffer n bytes of the blob are accepted: some, or none when nothing is missing
-pub next-accepted : (blob : List ℕ) (h : Held) (n : ℕ) → Front blob h → h .collector .held + n ≤ length blob → h .collector .held + n ≤ length (h .buffer) → (n ≡ 0 → h .collector .held ≡ length blob) →
+-- the next n bytes of the blob are accepted: some, or none when nothing is missing
+pub next-accepted : (blob : List ℕ) (h : Held) (n : ℕ) → HoldsFirst blob h → h .collector .held + n ≤ length blob → h .collector .held + n ≤ length (h .buffer) → (n ≡ 0 → h .collector .held ≡ length blob) →
     decide (h .collector) (length blob) n (length (h .buffer)) ≡ verdict.Accepted
 unfolding decide otherTotal
 next-accepted blob h n f w r d =
@@ -44,7 +44,7 @@ next-accepted blob h n f w r d =
     )
 
 -- so a response that was written with them is, and they are appended
-pub piece-collected : (blob : List ℕ) (h : Held) (flags n largest : ℕ) → Front blob h → h .collector .held + n ≤ length blob → h .collector .held + n ≤ length (h .buffer) → (n ≡ 0 → h .collector .held ≡ length blob) →
+pub piece-collected : (blob : List ℕ) (h : Held) (flags n largest : ℕ) → HoldsFirst blob h → h .collector .held + n ≤ length blob → h .collector .held + n ≤ length (h .buffer) → (n ≡ 0 → h .collector .held ≡ length blob) →
     flags < 2 ^ 32 → length blob < 2 ^ 32 → n ≤ largest →
     collect largest (responseMessage (pieceOf blob flags (h .collector .held) n)) (h .collector) (h .buffer) ≡ appended (h .collector) (length blob) (part (h .collector .held) n blob) (h .buffer)
 unfolding collect collectGot offerBytes settle pieceOf

@@ -35,8 +35,9 @@ samples :
     × (readRequest 12 (replicate 17 0) ≡ asked.Refused refusal.TooLong)
     -- a response; its length not that of the message, above the largest, its result not zero, and both of these
     × (readResponse 9 (message 0 5 2 (7 ∷ 8 ∷ [])) ≡ got (record { result = 0; flags = 1; total = 5; bytes = 7 ∷ 8 ∷ [] }))
-    × (readResponse 9 (message 0 5 3 (7 ∷ 8 ∷ [])) ≡ rejected refusal.Size)
-    × (readResponse 9 (replicate 4 1) ≡ rejected refusal.Size)
+    × (readResponse 9 (message 0 5 3 (7 ∷ 8 ∷ [])) ≡ rejected refusal.CutShort)
+    × (readResponse 9 (message 0 5 1 (7 ∷ 8 ∷ [])) ≡ rejected refusal.TooLong)
+    × (readResponse 9 (replicate 4 1) ≡ rejected refusal.CutShort)
     × (readResponse 1 (message 0 5 2 (7 ∷ 8 ∷ [])) ≡ rejected refusal.AboveLargest)
     × (readResponse 9 (message 3 5 2 (7 ∷ 8 ∷ [])) ≡ rejected refusal.Failed)
     × (readResponse 1 (message 3 5 2 (7 ∷ 8 ∷ [])) ≡ rejected refusal.AboveLargest)
@@ -52,4 +53,4 @@ samples :
     × (isComplete (holds 0 0) ≡ true)
     × (isComplete newCollector ≡ false)
 unfolding beOf beBytes bigAt leOf leBytes part splice both readRequest requestParts readResponse responseParts collect collectGot offerBytes settle decide otherTotal appended unchanged newCollector isComplete small message holds
-samples = (refl, refl, refl, refl, refl, refl, refl, refl, refl, refl, refl, refl, refl, refl, refl, refl, refl, refl, refl, refl, refl)
+samples = (refl, refl, refl, refl, refl, refl, refl, refl, refl, refl, refl, refl, refl, refl, refl, refl, refl, refl, refl, refl, refl, refl)

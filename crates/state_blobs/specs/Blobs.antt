@@ -1,8 +1,9 @@
 -- Calls of one collector with one buffer throughout, and what it is for their responses to be cut from one blob. Assumes nothing.
-use Prim.Native.Nat.{ℕ}
+use Prim.Native.Nat.{ℕ, _≤_}
 use mathlib.Core.Path.{_≡_}
+use mathlib.Core.Bool.{true}
 use mathlib.Core.List.{List, [], _∷_}
-use lib.ListN.{length}
+use lib.ListN.{length, take}
 use Rattle.words.specs.Word.{part}
 use Rattle.state_messages.specs.Messages.{StateResponse, got, readResponse}
 use Rattle.state_blobs.specs.Collect.{newCollector, collect}
@@ -44,6 +45,17 @@ CutHere blob o h = (p : StateResponse) → readResponse (o .largest) (o .message
 unfoldable pub Cuts : List ℕ → List Offer → Held → Type 0
 Cuts blob [] h = Unit {0}
 Cuts blob (o ∷ os) h = CutHere blob o h × Cuts blob os (afterOffer o h)
+
+-- ---- what the theorems say
+-- "the bytes held are that blob's first ones"; once a response was accepted, the total is the blob's length
+pub record HoldsFirst (blob : List ℕ) (h : Held) : Type 0 where
+  pub within : h .collector .held ≤ length blob
+  pub bytes : take (h .collector .held) (h .buffer) ≡ take (h .collector .held) blob
+  pub whole : h .collector .accepted ≡ true → h .collector .total ≡ length blob
+
+-- the bytes held are the blob
+abbrev pub HoldsWhole : List ℕ → Held → Type 0
+HoldsWhole blob h = (h .collector .held ≡ length blob) × (take (h .collector .held) (h .buffer) ≡ blob)
 
 -- the response that carries n bytes of a blob from the bytes held on
 unfoldable pub pieceOf : List ℕ → ℕ → ℕ → ℕ → StateResponse
