@@ -1,4 +1,4 @@
-//! Links the proved library. POTTERBEAM_KIT_DIR names another directory to take libkit.a from.
+//! Links the proved libraries. POTTERBEAM_KIT_DIR names another directory to take libkit.a and libpotterbeam_swtpm.a from.
 
 use std::env;
 use std::path::{Path, PathBuf};
@@ -9,15 +9,17 @@ fn main() {
     let package = env::var_os("CARGO_MANIFEST_DIR").expect("set by cargo");
     let built = Path::new(&package).join("../target/staticlib");
     let place = env::var_os("POTTERBEAM_KIT_DIR").map_or(built, PathBuf::from);
-    let archive = place.join("libkit.a");
-    if !archive.exists() {
-        eprintln!(
-            "{} is missing: run `rt staticlib kit` first",
-            archive.display()
-        );
-        std::process::exit(1);
-    }
-    println!("cargo:rerun-if-changed={}", archive.display());
     println!("cargo:rustc-link-search=native={}", place.display());
-    println!("cargo:rustc-link-lib=static=kit");
+    for name in ["kit", "potterbeam_swtpm"] {
+        let archive = place.join(format!("lib{name}.a"));
+        if !archive.exists() {
+            eprintln!(
+                "{} is missing: run `rt staticlib {name}` first",
+                archive.display()
+            );
+            std::process::exit(1);
+        }
+        println!("cargo:rerun-if-changed={}", archive.display());
+        println!("cargo:rustc-link-lib=static={name}");
+    }
 }

@@ -259,8 +259,7 @@ def together():
             "past total": {"held": 36}, "past buffer": {"room": 24}, "no data": {"data": b""}}
 
     def call(data=DATA[:5], length=None, result=0, total=40, held=20, room=ROOM, largest=MOST):
-        first = held if held == 36 and not data else 40
-        return (forged(1, first, held, DATA),
+        return (forged(1, 40, held, DATA),
                 collecting(response(data, total=total, result=result, length=length), largest, room))
 
     for one, two in combinations(ways, 2):

@@ -1,4 +1,4 @@
-//! The rules of the RMM-EL3 interface in plain Rust. Nothing here shares code or definitions with the proved library.
+//! The rules of the RMM-EL3 interface, and those of state blobs, in plain Rust. Nothing here shares code or definitions with the proved library.
 
 pub mod boot;
 pub mod codes;
@@ -12,6 +12,7 @@ pub mod queue;
 pub mod reader;
 pub mod runtime;
 pub mod signing;
+pub mod state_blob;
 pub mod token;
 pub mod writer;
 
