@@ -90,6 +90,13 @@ pub fn read_request(message: &[u8], code: u32) -> RequestRead
     })
 }
 
+// How long a response with so much data is. The sum is of 64 bits, as in 32 it would wrap.
+fn response_length(len: u32) -> usize
+    ensures { λ r. ⌜ r ≡ 16 + len ⌝ }
+{
+    16 + len as usize
+}
+
 // Reads a response whose data must not be longer than the largest size.
 pub fn read_response(message: &[u8], largest: u32) -> ResponseRead
     ensures { λ r. ⌜ r ≡ toldOf (readResponse largest (now (message .entry))) ⌝ }
@@ -98,11 +105,11 @@ pub fn read_response(message: &[u8], largest: u32) -> ResponseRead
         return ResponseRead::Refused(Refusal::CutShort);
     }
     let len = number_at(message, 12);
-    let there = message.len() - 16;
-    if there < len as usize {
+    let whole = response_length(len);
+    if message.len() < whole {
         return ResponseRead::Refused(Refusal::CutShort);
     }
-    if (len as usize) < there {
+    if whole < message.len() {
         return ResponseRead::Refused(Refusal::TooLong);
     }
     if largest < len {

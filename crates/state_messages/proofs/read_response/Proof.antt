@@ -17,29 +17,23 @@ returns c = let m = c .before .before .args .message .now in simp (lt-ltb (lengt
 number-at-requires : tie.Need-number-at-requires
 number-at-requires c κs = search needs
 
-sub-there : tie.Need-sub-there
-sub-there c = search needs
-
-cast-if2 : tie.Need-cast-if2
-cast-if2 c = search needs
+response-length-requires : tie.Need-response-length-requires
+response-length-requires c κs = search needs
 
 returns-2 : tie.Need-returns-2
 unfolding readResponse toldOf
-returns-2 c = let m = c .before .before .before .before .args .message .now in simp (lt-ltb (length m) (16 + bigAt 4 12 m) (omega arith))
-
-cast-if3 : tie.Need-cast-if3
-cast-if3 c = search needs
+returns-2 c = let m = c .before .before .before .before .before .args .message .now in simp (lt-ltb (length m) (16 + bigAt 4 12 m) (omega arith))
 
 returns-3 : tie.Need-returns-3
 unfolding readResponse toldOf
 returns-3 c =
-    let m = c .before .before .before .before .before .args .message .now in
+    let m = c .before .before .before .before .before .before .args .message .now in
     simp (le-ltb (length m) (16 + bigAt 4 12 m) (omega arith), lt-ltb (16 + bigAt 4 12 m) (length m) (omega arith))
 
 returns-4 : tie.Need-returns-4
 unfolding readResponse toldOf
 returns-4 c =
-    let a = c .before .before .before .before .before .before .args in
+    let a = c .before .before .before .before .before .before .before .args in
     let m = a .message .now in
     simp (le-ltb (length m) (16 + bigAt 4 12 m) (omega arith), le-ltb (16 + bigAt 4 12 m) (length m) (omega arith), lt-ltb (a .largest) (bigAt 4 12 m) (omega arith))
 
@@ -49,7 +43,7 @@ number-at-requires-2 c κs = search needs
 returns-5 : tie.Need-returns-5
 unfolding readResponse toldOf
 returns-5 c =
-    let a = c .before .before .before .before .before .before .before .before .args in
+    let a = c .before .before .before .before .before .before .before .before .before .args in
     let m = a .message .now in
     simp (le-ltb (length m) (16 + bigAt 4 12 m) (omega arith), le-ltb (16 + bigAt 4 12 m) (length m) (omega arith), le-ltb (a .largest) (bigAt 4 12 m) (omega arith), ne-eqb (bigAt 4 0 m) 0 (λ e. omega arith))
 
@@ -62,7 +56,7 @@ number-at-requires-4 c κs = search needs
 returns-6 : tie.Need-returns-6
 unfolding readResponse responseParts toldOf
 returns-6 c =
-    let a = c .before .before .before .before .before .before .before .before .before .before .args in
+    let a = c .before .before .before .before .before .before .before .before .before .before .before .args in
     let m = a .message .now in
     let n : length m - 16 ≡ bigAt 4 12 m = omega arith in
     simp (le-ltb (length m) (16 + bigAt 4 12 m) (omega arith), le-ltb (16 + bigAt 4 12 m) (length m) (omega arith), le-ltb (a .largest) (bigAt 4 12 m) (omega arith), eq-eqb (bigAt 4 0 m) 0 (omega arith), length-drop, n) (cc)
@@ -73,10 +67,8 @@ read-response-spec =
     (tie.spec
     returns
     number-at-requires
-    sub-there
-    cast-if2
+    response-length-requires
     returns-2
-    cast-if3
     returns-3
     returns-4
     number-at-requires-2
