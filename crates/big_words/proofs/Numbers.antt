@@ -2,14 +2,14 @@
 use Prim.Native.Nat.{ℕ, zero, suc, _+_, _*_, _/_, _%_, _^_, _≤_, _<_}
 use mathlib.Core.Path.{_≡_, refl, sym, ap, _∙_}
 use mathlib.Core.List.{List, [], _∷_, _++_, reverse, reverse-cons, reverse-append, reverse-reverse}
-use native.Mathlib.Nat.{add-comm, add-zero, add-suc, add-assoc, mul-assoc, pow-suc}
+use native.Mathlib.Nat.{add-zero, add-suc, add-assoc, mul-assoc, pow-suc}
 use native.Mathlib.Omega.{arith}
 use borrow.Author.Tests.{le-leb, lt-leb}
-use lib.ListN.{length, take, drop, getD, set, length-drop, length-reverse}
+use lib.ListN.{length, take, drop, getD, length-drop, length-reverse}
 use lib.Seq.{take-suc, take-at, drop-at, getD-drop}
 use Rattle.words.specs.Word.{leOf, leBytes, part, splice, laid}
-use Rattle.words.proofs.Read.{leBytes-length, leOf-leBytes, leBytes-split}
-use Rattle.words.proofs.Store.{put-one, splice-splice, bytes-in, bytes-out}
+use Rattle.words.proofs.Read.{leBytes-length, leOf-leBytes}
+use Rattle.words.proofs.Store.{bytes-in, bytes-out}
 use Rattle.big_words.specs.Big.{beOf, beBytes, bigAt, wholeBig}
 
 pub be-length : (n x : ℕ) → length (beBytes n x) ≡ n
@@ -25,11 +25,6 @@ be-back n x h = ap leOf (reverse-reverse (leBytes n x)) ∙ leOf-leBytes n x h
 pub be-snoc : (bs : List ℕ) (b : ℕ) → beOf (bs ++ (b ∷ [])) ≡ b + 256 * beOf bs
 unfolding beOf leOf
 be-snoc bs b = ap leOf (reverse-append bs (b ∷ []))
-
--- high bytes, then low bytes
-pub be-split : (m n x : ℕ) → beBytes (m + n) x ≡ beBytes m (x / 256 ^ n) ++ beBytes n x
-unfolding beBytes
-be-split m n x = rw (add-comm m n, leBytes-split n m x) (reverse-append (leBytes n x) (leBytes m (x / 256 ^ n)))
 
 -- ---- a number read byte by byte
 pub big-zero : (off : ℕ) (s : List ℕ) → bigAt 0 off s ≡ 0
@@ -51,16 +46,28 @@ big-add m (suc n) off s h =
     rw (add-suc, big-suc (m + n) off s (omega arith), big-suc n (off + m) s (omega arith), pow-suc, add-assoc)
     (omega (arith, big-add m n off s (omega arith), mul-assoc (bigAt m off s) (256 ^ n) 256))
 
--- ---- a number put byte by byte
-pub be-one : (s : List ℕ) (at w : ℕ) → at < length s → set s at (w % 256) ≡ splice at (beBytes 1 w) s
-unfolding beBytes leBytes
-be-one s at w h = put-one s at w h
+-- ---- a number put: the bytes of w, the highest first, are those of the swapped number, the lowest first
+le-step : (n b x : ℕ) → b < 256 → leBytes (suc n) (b + 256 * x) ≡ b ∷ leBytes n x
+unfolding leBytes
+le-step n b x h =
+    let p : (b + 256 * x) % 256 ≡ b = omega arith in
+    let q : (b + 256 * x) / 256 ≡ x = omega arith in
+    rw (p, q)
 
-pub be-add : (m n : ℕ) (s : List ℕ) (at w : ℕ) → at ≤ length s → splice (at + m) (beBytes n w) (splice at (beBytes m (w / 256 ^ n)) s) ≡ splice at (beBytes (m + n) w) s
-be-add m n s at w h =
-    rw be-split
-    (ap (λ (k : ℕ). splice (at + k) (beBytes n w) (splice at (beBytes m (w / 256 ^ n)) s)) (sym (be-length m (w / 256 ^ n)))
-    ∙ splice-splice at (beBytes m (w / 256 ^ n)) s h (beBytes n w))
+le-four : (a b c d r : ℕ) → a < 256 → b < 256 → c < 256 → d < 256 → r ≡ a + b * 0x100 + c * 0x10000 + d * 0x1000000 → leBytes 4 r ≡ a ∷ b ∷ c ∷ d ∷ []
+unfolding leBytes
+le-four a b c d r ha hb hc hd e =
+    let q : r ≡ a + 256 * (b + 256 * (c + 256 * (d + 256 * 0))) = omega arith in
+    ap (leBytes 4) q
+    ∙ le-step 3 a (b + 256 * (c + 256 * (d + 256 * 0))) ha
+    ∙ ap (λ (l : List ℕ). a ∷ l) (le-step 2 b (c + 256 * (d + 256 * 0)) hb
+    ∙ ap (λ (l : List ℕ). b ∷ l) (le-step 1 c (d + 256 * 0) hc
+    ∙ ap (λ (l : List ℕ). c ∷ l) (le-step 0 d 0 hd)))
+
+pub swap-bytes : (w r : ℕ) → r ≡ w / 256 / 256 / 256 % 256 + w / 256 / 256 % 256 * 0x100 + w / 256 % 256 * 0x10000 + w % 256 * 0x1000000 → leBytes 4 r ≡ beBytes 4 w
+unfolding beBytes leBytes
+swap-bytes w r e =
+    le-four (w / 256 / 256 / 256 % 256) (w / 256 / 256 % 256) (w / 256 % 256) (w % 256) r (omega arith) (omega arith) (omega arith) (omega arith) e
 
 -- the usual sum: the first byte counts 256 to the number of those behind it
 le-snoc : (bs : List ℕ) (b : ℕ) → leOf (bs ++ (b ∷ [])) ≡ leOf bs + b * 256 ^ length bs

@@ -1,28 +1,22 @@
-use Rattle.big_words.proofs.Numbers.{big-in, big-out}
-use native.Mathlib.Omega.{arith}
-use mathlib.Core.Path.{sym, _∙_}
 use borrow.Author.Needs.{needs}
 use Rattle.big_words.proofs.put_big.Statement.{statement}
 use Rattle.big_words.proofs.put_big.Tie as tie
 
-returns : tie.Need-returns
-returns c = let a = c .before .before .args in sym (big-out 4 (a .at) (a .w) (a .s .now) (omega arith))
+swapped-requires : tie.Need-swapped-requires
+swapped-requires c κs = search needs
 
-sub-if2 : tie.Need-sub-if2
-sub-if2 c = search needs
+cast-put-half : tie.Need-cast-put-half
+cast-put-half c = search needs
 
-returns-2 : tie.Need-returns-2
-returns-2 c = let a = c .before .before .before .args in sym (big-out 4 (a .at) (a .w) (a .s .now) (omega arith))
-
-put-quad-requires : tie.Need-put-quad-requires
-put-quad-requires c κs = search needs
+put-half-requires : tie.Need-put-half-requires
+put-half-requires c κs = search needs
 
 same-length : tie.Need-same-length
 same-length c = search needs
 
-returns-3 : tie.Need-returns-3
-returns-3 c = let a = c .before .before .before .before .before .before .before .args in c .before .before .put-quad .ensures ∙ sym (big-in 4 (a .at) (a .w) (a .s .now) (omega arith))
+returns : tie.Need-returns
+returns c = rw (← c .before .before .before .swapped .ensures) (c .before .before .put-half .ensures)
 
 pub put-big-spec : {M : Type 1} → statement M
 put-big-spec =
-    tie.close (tie.spec returns sub-if2 returns-2 put-quad-requires same-length returns-3)
+    tie.close (tie.spec swapped-requires cast-put-half put-half-requires same-length returns)
