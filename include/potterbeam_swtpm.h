@@ -11,13 +11,14 @@
  * Of every function:
  *
  * - Any number, message, buffer and collector is taken as input. There is no condition on values; every call returns, and touches only
- *   what it is lent. The library allocates nothing and keeps nothing between calls. It needs memcpy and memset at most, and no libc.
+ *   what it is lent. The library allocates nothing and keeps nothing between calls. It needs no other library.
  * - A slice is a pointer and a count of bytes. The pointer may be NULL only where the count is 0. collector, parts and len are never NULL.
  * - Lent memory must not overlap. (What two parameters only read may.) Bytes need no alignment; words are aligned as C asks.
  * - There is no lock. One collector or buffer is used by one call at a time; different ones may be used at the same time.
  * - A call that can be refused answers PBEAM_SWTPM_OK or the number of the refusal. The first check that fails decides; the checks stand
  *   below in their order. A refused call leaves every lent byte and word as it was: buffer, collector, parts and len.
- * - "Stack" is the most that a call was seen to write, return address included, on x86-64; a test fails where a figure is exceeded.
+ * - "Stack" bounds what a call was seen to write on x86-64, with its return address and the words that it takes on the stack; the test
+ *   rust/tests/stack.rs fails where a figure is exceeded.
  */
 #ifndef POTTERBEAM_SWTPM_H
 #define POTTERBEAM_SWTPM_H
@@ -29,7 +30,7 @@
 /* ---- Answers ---- */
 
 #define PBEAM_SWTPM_OK 0
-#define PBEAM_SWTPM_CUT_SHORT 1     /* fewer bytes than the message must have; read on, or a failed answer: see docs/SWTPM.md */
+#define PBEAM_SWTPM_CUT_SHORT 1     /* fewer bytes than the message must have; so also an error answer of 4 bytes, which swtpm may give */
 #define PBEAM_SWTPM_TOO_LONG 2      /* more bytes than the message must have */
 #define PBEAM_SWTPM_WRONG_CODE 3    /* request: another command code than the caller's */
 #define PBEAM_SWTPM_ABOVE_LARGEST 4 /* response: more data than the caller's largest size */
@@ -45,13 +46,14 @@
 #define PBEAM_SWTPM_REQUEST_BYTES 16 /* a request */
 #define PBEAM_SWTPM_HEAD_BYTES 16    /* a response without its data */
 
-/* What 004 and swtpm's tpm_ioctl.h (0.7.1) name, for the caller to pass: the library compares only the code, with the one it is given. */
-#define PBEAM_SWTPM_CMD_GET_STATEBLOB 12       /* command code of the control channel */
-#define PBEAM_SWTPM_BLOB_TYPE_PERMANENT 1      /* type */
-#define PBEAM_SWTPM_BLOB_TYPE_VOLATILE 2       /* type */
-#define PBEAM_SWTPM_BLOB_TYPE_SAVESTATE 3      /* type */
-#define PBEAM_SWTPM_STATE_FLAG_DECRYPTED 1     /* state_flags of a request */
-#define PBEAM_SWTPM_STATE_FLAG_ENCRYPTED 2     /* state_flags of a response */
+/* Numbers of swtpm's own tpm_ioctl.h (0.7.1), for the caller to pass. The library knows none of them: it compares a code only with the
+ * one that it is given, and no type or flag with anything. */
+#define PBEAM_SWTPM_CMD_GET_STATEBLOB 12   /* command code of the control channel */
+#define PBEAM_SWTPM_BLOB_TYPE_PERMANENT 1  /* type */
+#define PBEAM_SWTPM_BLOB_TYPE_VOLATILE 2   /* type */
+#define PBEAM_SWTPM_BLOB_TYPE_SAVESTATE 3  /* type */
+#define PBEAM_SWTPM_STATE_FLAG_DECRYPTED 1 /* state_flags of a request */
+#define PBEAM_SWTPM_STATE_FLAG_ENCRYPTED 2 /* state_flags of a response */
 
 /* Words of `parts` after a request was read. */
 #define PBEAM_SWTPM_PARTS_WORDS 4
@@ -103,7 +105,7 @@ extern "C" {
  *          PBEAM_SWTPM_TOO_LONG    more than 16 bytes
  *          PBEAM_SWTPM_WRONG_CODE  its code is another
  * Leaves   the message as it was. On OK parts: code, state_flags, type and offset, whatever the last three are.
- * Stack    999 bytes
+ * Stack    32 bytes
  */
 uint32_t pbeam_swtpm_read_request(const uint8_t *message, size_t message_len, uint32_t code,
                                   uint32_t parts[PBEAM_SWTPM_PARTS_WORDS]);
@@ -114,7 +116,7 @@ uint32_t pbeam_swtpm_read_request(const uint8_t *message, size_t message_len, ui
  * Answers  PBEAM_SWTPM_OK, or:
  *          PBEAM_SWTPM_NO_ROOM     the buffer has fewer than 16 bytes
  * Leaves   on OK the message in the buffer's first 16 bytes, the bytes behind them as they were, and 16 in *len.
- * Stack    999 bytes
+ * Stack    64 bytes
  */
 uint32_t pbeam_swtpm_write_request(uint8_t *buffer, size_t buffer_len, uint32_t code, uint32_t flags, uint32_t type, uint32_t offset,
                                    size_t *len);
@@ -128,7 +130,7 @@ uint32_t pbeam_swtpm_write_request(uint8_t *buffer, size_t buffer_len, uint32_t 
  *          PBEAM_SWTPM_ABOVE_LARGEST  the length field is above largest
  *          PBEAM_SWTPM_FAILED         tpm_result is not zero
  * Leaves   the message as it was. On OK parts: state_flags, totlength, where the data begins in the message, and how long it is.
- * Stack    999 bytes
+ * Stack    32 bytes
  * The message is all that was received, no byte more: on a stream read 16 bytes, then as many as bytes 12 to 15 say.
  */
 uint32_t pbeam_swtpm_read_response(const uint8_t *message, size_t message_len, uint32_t largest,
@@ -141,7 +143,7 @@ uint32_t pbeam_swtpm_read_response(const uint8_t *message, size_t message_len, u
  *          PBEAM_SWTPM_ABOVE_LARGEST  data_len is above largest
  *          PBEAM_SWTPM_NO_ROOM        the buffer has fewer than 16 + data_len bytes
  * Leaves   the data as it was. On OK the message at the buffer's start, the bytes behind it as they were, and 16 + data_len in *len.
- * Stack    999 bytes
+ * Stack    64 bytes
  */
 uint32_t pbeam_swtpm_write_response(uint8_t *buffer, size_t buffer_len, uint32_t largest, uint32_t result, uint32_t flags,
                                     uint32_t total, const uint8_t *data, size_t data_len, size_t *len);
@@ -157,7 +159,7 @@ uint32_t pbeam_swtpm_write_response(uint8_t *buffer, size_t buffer_len, uint32_t
  *          PBEAM_SWTPM_NO_DATA        no new bytes, and fewer held than totlength
  * Leaves   the message as it was. On OK the data behind the bytes held, every other byte of the buffer as it was, and the collector
  *          with that many bytes more.
- * Stack    999 bytes
+ * Stack    64 bytes
  * state_flags are not looked at. If each accepted response was cut from one blob at the number of bytes then held, with that blob's length
  * as totlength, the buffer begins with the blob's first bytes: ask for offset pbeam_swtpm_held each time.
  */
@@ -168,14 +170,14 @@ uint32_t pbeam_swtpm_collect(uint32_t collector[PBEAM_SWTPM_COLLECTOR_WORDS], co
  * pbeam_swtpm_complete: whether the whole blob is held.
  * Answers  true exactly when a response was accepted and totlength bytes are held; so never for a new collector.
  * Leaves   the collector as it was.
- * Stack    999 bytes
+ * Stack    32 bytes
  */
 bool pbeam_swtpm_complete(const uint32_t collector[PBEAM_SWTPM_COLLECTOR_WORDS]);
 
 /*
  * pbeam_swtpm_held: how many bytes are held: the offset to ask for next.
  * Leaves   the collector as it was.
- * Stack    999 bytes
+ * Stack    32 bytes
  */
 uint32_t pbeam_swtpm_held(const uint32_t collector[PBEAM_SWTPM_COLLECTOR_WORDS]);
 

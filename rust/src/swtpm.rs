@@ -83,6 +83,7 @@ pub trait StateBlobs {
 }
 
 /// An empty slice goes as NULL, which the header allows.
+#[inline]
 fn pointer(bytes: &[u8]) -> *const u8 {
     if bytes.is_empty() {
         return null();
@@ -90,6 +91,7 @@ fn pointer(bytes: &[u8]) -> *const u8 {
     bytes.as_ptr()
 }
 
+#[inline]
 fn pointer_mut(bytes: &mut [u8]) -> *mut u8 {
     if bytes.is_empty() {
         return null_mut();
@@ -97,25 +99,29 @@ fn pointer_mut(bytes: &mut [u8]) -> *mut u8 {
     bytes.as_mut_ptr()
 }
 
-/// The library. Sound as all pointers and lengths come from slices and arrays.
+/// The library. Inlined, so that a benchmark times the library's calls alone. Sound as all pointers and lengths come from slices and arrays.
 #[derive(Debug)]
 pub struct Library;
 
 impl StateBlobs for Library {
+    #[inline]
     fn read_request(message: &[u8], code: u32, parts: &mut Parts) -> u32 {
         unsafe { ffi::pbeam_swtpm_read_request(pointer(message), message.len(), code, parts) }
     }
 
+    #[inline]
     fn write_request(buffer: &mut [u8], parts: Parts, len: &mut usize) -> u32 {
         let [code, flags, kind, offset] = parts;
         let (at, room) = (pointer_mut(buffer), buffer.len());
         unsafe { ffi::pbeam_swtpm_write_request(at, room, code, flags, kind, offset, len) }
     }
 
+    #[inline]
     fn read_response(message: &[u8], largest: u32, parts: &mut Parts) -> u32 {
         unsafe { ffi::pbeam_swtpm_read_response(pointer(message), message.len(), largest, parts) }
     }
 
+    #[inline]
     fn write_response(
         buffer: &mut [u8],
         largest: u32,
@@ -138,6 +144,7 @@ impl StateBlobs for Library {
         }
     }
 
+    #[inline]
     fn collect(
         collector: &mut CollectorImage,
         message: &[u8],
@@ -156,10 +163,12 @@ impl StateBlobs for Library {
         }
     }
 
+    #[inline]
     fn complete(collector: &CollectorImage) -> bool {
         unsafe { ffi::pbeam_swtpm_complete(collector) }
     }
 
+    #[inline]
     fn held(collector: &CollectorImage) -> u32 {
         unsafe { ffi::pbeam_swtpm_held(collector) }
     }

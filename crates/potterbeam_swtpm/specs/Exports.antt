@@ -77,22 +77,22 @@ abbrev pub collectLeft : Outcome → List ℕ → CollectLeft
 collectLeft o image = verdictLeft (o .verdict) (o .collector) image (o .buffer)
 
 -- ---- calls of the exported collector, one after the other, on one image and one buffer
-pub record Lent : Type 0 where
+pub record LentCollector : Type 0 where
   pub image : List ℕ
   pub buffer : List ℕ
 
 unfoldable pub newImage : List ℕ
 newImage = 0 ∷ 0 ∷ 0 ∷ []
 
-unfoldable pub lentAfter : Offer → Lent → Lent
-lentAfter o l =
+unfoldable pub collectorAfter : Offer → LentCollector → LentCollector
+collectorAfter o l =
     let r = collectLeft (collect (o .largest) (o .message) (collectorOf (l .image)) (l .buffer)) (l .image) in
     record { image = r .image; buffer = r .buffer }
 
-unfoldable pub lentAfterAll : List Offer → Lent → Lent
-lentAfterAll [] l = l
-lentAfterAll (o ∷ os) l = lentAfterAll os (lentAfter o l)
+unfoldable pub collectorAfterAll : List Offer → LentCollector → LentCollector
+collectorAfterAll [] l = l
+collectorAfterAll (o ∷ os) l = collectorAfterAll os (collectorAfter o l)
 
 -- the collector that the image stands for, and the buffer
-unfoldable pub heldBy : Lent → Held
+unfoldable pub heldBy : LentCollector → Held
 heldBy l = record { collector = collectorOf (l .image); buffer = l .buffer }
