@@ -21,7 +21,8 @@ unfolding started newCollector
 front-started blob b = record { within = omega arith; bytes = refl; whole = λ e. absurd (false≢true e) }
 
 -- the bytes behind those held are the blob's next ones
-front-join : (held : ℕ) (vs b blob : List ℕ) → held ≤ length b → take held b ≡ take held blob → vs ≡ part held (length vs) blob → take (held + length vs) (splice held vs b) ≡ take (held + length vs) blob
+front-join : (held : ℕ) (vs b blob : List ℕ) → held ≤ length b → take held b ≡ take held blob → vs ≡ part held (length vs) blob →
+    take (held + length vs) (splice held vs b) ≡ take (held + length vs) blob
 unfolding splice part
 front-join held vs b blob h e q =
     take-at (take held b ++ vs) _ (held + length vs) (length-append (take held b) vs ∙ rw (length-take-le held b h))

@@ -12,7 +12,7 @@ use Rattle.words.specs.Tests.{both}
 use Rattle.words.specs.Word.{part}
 use Rattle.state_messages.specs.Messages.{Fits32Response, responseMessage}
 use Rattle.state_blobs.specs.Collect.{otherTotal, decide, appended, settle, offerBytes, collectGot, collect}
-use Rattle.state_blobs.specs.Blobs.{Held, HoldsFirst, pieceOf}
+use Rattle.state_blobs.specs.Blobs.{Held, HoldsFirst, MayFollow, pieceOf}
 use Rattle.state_blobs.specs.declared.Verdict.the-variants as verdict
 use Rattle.state_messages.proofs.ReadBack.{response-read}
 
@@ -31,25 +31,27 @@ some-data true n held total z d = le-ltb held total (let q : held ≡ total = d 
 some-data false n held total z d = refl
 
 -- the next n bytes of the blob are accepted: some, or none when nothing is missing
-pub next-accepted : (blob : List ℕ) (h : Held) (n : ℕ) → HoldsFirst blob h → h .collector .held + n ≤ length blob → h .collector .held + n ≤ length (h .buffer) → (n ≡ 0 → h .collector .held ≡ length blob) →
+pub next-accepted : (blob : List ℕ) (h : Held) (n : ℕ) → HoldsFirst blob h → MayFollow blob h n →
     decide (h .collector) (length blob) n (length (h .buffer)) ≡ verdict.Accepted
 unfolding decide otherTotal
-next-accepted blob h n f w r d =
+next-accepted blob h n f m =
     let c = h .collector in
     rw (
       same-total (c .accepted) (c .total) (length blob) (f .whole),
-      le-ltb (length blob) (c .held + n) w,
-      le-ltb (length (h .buffer)) (c .held + n) r,
-      some-data (eqb n 0) n (c .held) (length blob) (eqb-true n 0) d,
+      le-ltb (length blob) (c .held + n) (m .0),
+      le-ltb (length (h .buffer)) (c .held + n) (m .1),
+      some-data (eqb n 0) n (c .held) (length blob) (eqb-true n 0) (m .2),
     )
 
 -- so a response that was written with them is, and they are appended
-pub piece-collected : (blob : List ℕ) (h : Held) (flags n largest : ℕ) → HoldsFirst blob h → h .collector .held + n ≤ length blob → h .collector .held + n ≤ length (h .buffer) → (n ≡ 0 → h .collector .held ≡ length blob) →
+pub piece-collected : (blob : List ℕ) (h : Held) (flags n largest : ℕ) → HoldsFirst blob h → MayFollow blob h n →
     flags < 2 ^ 32 → length blob < 2 ^ 32 → n ≤ largest →
-    collect largest (responseMessage (pieceOf blob flags (h .collector .held) n)) (h .collector) (h .buffer) ≡ appended (h .collector) (length blob) (part (h .collector .held) n blob) (h .buffer)
+    collect largest (responseMessage (pieceOf blob flags (h .collector .held) n)) (h .collector) (h .buffer)
+    ≡ appended (h .collector) (length blob) (part (h .collector .held) n blob) (h .buffer)
 unfolding collect collectGot offerBytes settle pieceOf
-piece-collected blob h flags n largest f w r d g t l =
+piece-collected blob h flags n largest f k g t l =
     let c = h .collector in
+    let w : c .held + n ≤ length blob = k .0 in
     let m : length (part (c .held) n blob) ≡ n = piece-length (c .held) n blob w in
     let s : Fits32Response (pieceOf blob flags (c .held) n) = record { result = omega arith; flags = g; total = t; bytes = omega arith } in
-    rw (response-read largest (pieceOf blob flags (c .held) n) s (omega arith), m, next-accepted blob h n f w r d)
+    rw (response-read largest (pieceOf blob flags (c .held) n) s (omega arith), m, next-accepted blob h n f k)

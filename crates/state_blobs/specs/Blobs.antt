@@ -1,5 +1,5 @@
 -- Calls of one collector with one buffer throughout, and what it is for their responses to be cut from one blob. Assumes nothing.
-use Prim.Native.Nat.{ℕ, _≤_}
+use Prim.Native.Nat.{ℕ, _+_, _≤_}
 use mathlib.Core.Path.{_≡_}
 use mathlib.Core.Bool.{true}
 use mathlib.Core.List.{List, [], _∷_}
@@ -56,6 +56,11 @@ pub record HoldsFirst (blob : List ℕ) (h : Held) : Type 0 where
 -- the bytes held are the blob
 abbrev pub HoldsWhole : List ℕ → Held → Type 0
 HoldsWhole blob h = (h .collector .held ≡ length blob) × (take (h .collector .held) (h .buffer) ≡ blob)
+
+-- n more bytes of the blob may follow: they are there and have room, and are none only when nothing is missing
+abbrev pub MayFollow : List ℕ → Held → ℕ → Type 0
+MayFollow blob h n =
+    (h .collector .held + n ≤ length blob) × (h .collector .held + n ≤ length (h .buffer)) × (n ≡ 0 → h .collector .held ≡ length blob)
 
 -- the response that carries n bytes of a blob from the bytes held on
 unfoldable pub pieceOf : List ℕ → ℕ → ℕ → ℕ → StateResponse

@@ -48,12 +48,14 @@ request-read q s =
     )
 
 -- a request that was written, read with its own code
-pub request-read-back : (q : StateRequest) (b : List ℕ) {n : ℕ} → Fits32Request q → writeRequest q b .answer ≡ wrote.Length n → readRequest (q .code) (take n (writeRequest q b .buffer)) ≡ asked.Accepted q
+pub request-read-back : (q : StateRequest) (b : List ℕ) {n : ℕ} → Fits32Request q → writeRequest q b .answer ≡ wrote.Length n →
+    readRequest (q .code) (take n (writeRequest q b .buffer)) ≡ asked.Accepted q
 unfolding writeRequest
 request-read-back q b s h = rw (written-front (requestMessage q) b h) (request-read q s)
 
 -- ---- the response
-pub response-read : (largest : ℕ) (p : StateResponse) → Fits32Response p → length (p .bytes) ≤ largest → readResponse largest (responseMessage p) ≡ cond (eqb (p .result) 0) (got p) (rejected refusal.Failed)
+pub response-read : (largest : ℕ) (p : StateResponse) → Fits32Response p → length (p .bytes) ≤ largest →
+    readResponse largest (responseMessage p) ≡ cond (eqb (p .result) 0) (got p) (rejected refusal.Failed)
 unfolding readResponse responseParts responseMessage
 response-read largest p s l =
     simp (
