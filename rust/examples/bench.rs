@@ -15,9 +15,13 @@ use potterbeam_tests::reference::layout::PAGE;
 use potterbeam_tests::reference::queue::Queue;
 use potterbeam_tests::reference::reader::read;
 use potterbeam_tests::reference::signing::{token_sign, SignCall};
+use potterbeam_tests::reference::state_blob::{
+    write_response, Collector, Piece, Refusal, Request as StateRequest,
+};
 use potterbeam_tests::reference::token::{Session, TokenCall};
 use potterbeam_tests::reference::tpm::Transfer;
 use potterbeam_tests::reference::writer::{write, Lists};
+use potterbeam_tests::swtpm::{Library, StateBlobs};
 use potterbeam_tests::tpm::{Said, Tpm, TpmExports, TpmModel};
 use std::sync::atomic::{AtomicU64, Ordering};
 use std::time::{Duration, Instant};
@@ -480,6 +484,181 @@ fn compare_comm(name: &str, asked: Transfer, length: u64) {
     assert!(ours == theirs && word == session);
 }
 
+// ---- State blobs ----
+
+#[inline(never)]
+fn native_write_request(buffer: &mut [u8], request: StateRequest) -> Result<usize, Refusal> {
+    request.write(buffer)
+}
+
+#[inline(never)]
+fn native_read_request(message: &[u8], code: u32) -> Result<StateRequest, Refusal> {
+    StateRequest::read(message, code)
+}
+
+#[inline(never)]
+fn native_write_response(
+    buffer: &mut [u8],
+    largest: u32,
+    numbers: [u32; 3],
+    data: &[u8],
+) -> Result<usize, Refusal> {
+    write_response(buffer, largest, numbers, data)
+}
+
+#[inline(never)]
+fn native_read_response(message: &[u8], largest: u32) -> Result<Piece<'_>, Refusal> {
+    Piece::read(message, largest)
+}
+
+#[inline(never)]
+fn native_collect(
+    collector: &mut Collector,
+    message: &[u8],
+    largest: u32,
+    buffer: &mut [u8],
+) -> Result<(), Refusal> {
+    collector.collect(message, largest, buffer)
+}
+
+#[inline(never)]
+fn native_state(collector: &Collector) -> (bool, u32) {
+    (collector.is_complete(), collector.held)
+}
+
+fn compare_requests() {
+    let [code, flags, kind, offset, room] = hidden([12, 0, 1, 1000, 64]).map(|word| word as u32);
+    let [mut ours, mut theirs] = [(); 2].map(|()| vec![0; room as usize]);
+    let request = StateRequest {
+        code,
+        flags,
+        kind,
+        offset,
+    };
+    let mut len = 0;
+    compare(
+        "write a state request",
+        1,
+        side(|| {
+            Library::write_request(&mut ours, [code, flags, kind, offset], &mut len);
+            see(len as u64);
+        }),
+        vec![(
+            "native",
+            side(|| see(native_write_request(&mut theirs, request).expect("room") as u64)),
+        )],
+    );
+    assert_eq!(ours, theirs);
+    let mut parts = [0; 4];
+    compare(
+        "read a state request",
+        1,
+        side(|| {
+            Library::read_request(&ours[..16], code, &mut parts);
+            see(u64::from(parts[3]));
+        }),
+        vec![(
+            "native",
+            side(|| {
+                let request = native_read_request(&theirs[..16], code).expect("request");
+                see(u64::from(request.offset));
+            }),
+        )],
+    );
+}
+
+/// A blob in three pieces of this size, as swtpm's header has it.
+fn compare_pieces(size: u64) {
+    let [size, largest, total] = hidden([size, size, 3 * size]);
+    let (largest, total) = (largest as u32, total as u32);
+    let data: Vec<u8> = (0..size).map(|i| i as u8).collect();
+    let [mut ours, mut theirs] = [(); 2].map(|()| vec![0; size as usize + 16]);
+    let mut len = 0;
+    compare(
+        &format!("write a response of {size}"),
+        1,
+        side(|| {
+            Library::write_response(&mut ours, largest, [0, 0, total], &data, &mut len);
+            see(len as u64);
+        }),
+        vec![(
+            "native",
+            side(|| {
+                let len = native_write_response(&mut theirs, largest, [0, 0, total], &data);
+                see(len.expect("room") as u64);
+            }),
+        )],
+    );
+    assert_eq!(ours, theirs);
+    let mut parts = [0; 4];
+    compare(
+        &format!("read a response of {size}"),
+        1,
+        side(|| {
+            Library::read_response(&ours, largest, &mut parts);
+            see(u64::from(parts[3]));
+        }),
+        vec![(
+            "native",
+            side(|| {
+                let piece = native_read_response(&theirs, largest).expect("response");
+                see(piece.data.len() as u64);
+            }),
+        )],
+    );
+    compare_collections(&ours, largest, total);
+}
+
+fn compare_collections(message: &[u8], largest: u32, total: u32) {
+    let [mut ours, mut theirs] = [(); 2].map(|()| vec![0; total as usize]);
+    compare(
+        &format!("collect three pieces of {largest}"),
+        3,
+        side(|| {
+            let mut collector = [0; 3];
+            for _ in 0..3 {
+                Library::collect(&mut collector, message, largest, &mut ours);
+                see(u64::from(collector[2]));
+            }
+        }),
+        vec![(
+            "native",
+            side(|| {
+                let mut collector = Collector::default();
+                for _ in 0..3 {
+                    native_collect(&mut collector, message, largest, &mut theirs).expect("piece");
+                    see(u64::from(collector.held));
+                }
+            }),
+        )],
+    );
+    assert_eq!(ours, theirs);
+    let (image, collector) = (
+        [1, total, total],
+        Collector {
+            total: Some(total),
+            held: total,
+        },
+    );
+    compare(
+        "complete and held",
+        2,
+        side(|| {
+            see(u64::from(Library::complete(&image)));
+            see(u64::from(Library::held(&image)));
+        }),
+        vec![(
+            "native",
+            side(|| {
+                let (complete, _) = native_state(&collector);
+                see(u64::from(complete));
+                let (_, held) = native_state(&collector);
+                see(u64::from(held));
+            }),
+        )],
+    );
+}
+
 fn main() {
     println!("Best of {RUNS} runs, in turn. No page, table or image is cleared before a call.");
     println!("ns a call                              library reference  ratio  reference's state");
@@ -495,4 +674,7 @@ fn main() {
     compare_comm("TPM call, H_P4", transfer(65536), 256);
     compare_comm("TPM call, response of 256 bytes", transfer(16384), 256);
     compare_comm("TPM call, response of 4,096 bytes", transfer(16384), 4096);
+    compare_requests();
+    compare_pieces(64);
+    compare_pieces(3072);
 }

@@ -1,9 +1,11 @@
-//! The proved library and the other side of its differential test and benchmark: `kit` calls the library, `reference` is a second
+//! The proved libraries and the other side of their differential tests and benchmark: `kit` calls the library, `reference` is a second
 //! implementation of the rules, written from the papers alone, `model` is that one on the library's images, and `random` makes the
-//! inputs that both sides are given. `tpm` is both sides of H_TPM_COMM, which has a library of its own.
+//! inputs that both sides are given. `tpm` and `swtpm` are both sides of H_TPM_COMM and of state blobs, which have libraries of their
+//! own.
 //!
-//! After `rt staticlib kit` and `rt staticlib potterbeam_tpm`: `cargo test --offline --release` for all tests, `cargo run --offline --release --example bench` for
-//! the times; the long run is told in `tests/differential/main.rs`. POTTERBEAM_KIT_DIR names another directory with the two archives.
+//! After `rt staticlib` of kit, potterbeam_tpm and potterbeam_swtpm: `cargo test --offline --release` for all tests, `cargo run
+//! --offline --release --example bench` for the times; the long run is told in `tests/differential/main.rs`. POTTERBEAM_KIT_DIR names
+//! another directory with the archives.
 
 // Only calls to the library need unsafe code.
 #![deny(unsafe_code)]
@@ -21,4 +23,5 @@ pub mod random;
 #[forbid(unsafe_code)]
 pub mod reference;
 #[allow(unsafe_code)]
+pub mod swtpm;
 pub mod tpm;

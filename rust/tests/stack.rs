@@ -8,6 +8,7 @@ use potterbeam_tests::kit::Kit;
 use potterbeam_tests::reference::layout::PAGE;
 use potterbeam_tests::reference::runtime::TOKEN_SIGN;
 use potterbeam_tests::reference::tpm::Transfer;
+use potterbeam_tests::swtpm::{Library, StateBlobs};
 use potterbeam_tests::tpm::{Said, Tpm, TpmExports};
 use std::arch::asm;
 use std::io::Write;
@@ -327,4 +328,49 @@ fn tpm_takes_what_the_header_says() {
             "{name}: {bytes} bytes, the header says {most}"
         );
     }
+}
+
+// ---- State blobs ----
+
+/// Stack of an export for state blobs, which must not be above the figure that its header has.
+fn within_figure(name: &str, body: impl FnMut()) {
+    let header = include_str!("../../include/potterbeam_swtpm.h");
+    let (_, text) = header.split_once(&format!(" * {name}: ")).expect(name);
+    let (_, figure) = text.split_once("* Stack    ").expect("a figure");
+    let (figure, _) = figure.split_once(" bytes").expect("a figure");
+    let most: usize = figure.parse().expect("a number");
+    let bytes = printed(name, body);
+    assert!(
+        bytes <= most,
+        "{name}: {bytes} bytes, the header has {most}"
+    );
+}
+
+#[test]
+#[cfg_attr(debug_assertions, ignore = "measured in release builds")]
+fn state_blobs_keep_the_figures_of_the_header() {
+    let (data, mut wire, mut buffer) = (vec![7; 3072], vec![0; 4096], vec![0; 10_000]);
+    let (mut parts, mut len, mut collector, mut answer) = ([0; 4], 0, [0; 3], 0);
+    within_figure("pbeam_swtpm_write_request", || {
+        answer |= Library::write_request(&mut wire, [12, 0, 1, 0], &mut len);
+    });
+    within_figure("pbeam_swtpm_read_request", || {
+        answer |= Library::read_request(&wire[..16], 12, &mut parts);
+    });
+    within_figure("pbeam_swtpm_write_response", || {
+        answer |= Library::write_response(&mut wire, 3072, [0, 0, 10_000], &data, &mut len);
+    });
+    within_figure("pbeam_swtpm_read_response", || {
+        answer |= Library::read_response(&wire[..16 + 3072], 3072, &mut parts);
+    });
+    within_figure("pbeam_swtpm_collect", || {
+        answer |= Library::collect(&mut collector, &wire[..16 + 3072], 3072, &mut buffer);
+    });
+    let (mut complete, mut held) = (true, 0);
+    within_figure("pbeam_swtpm_complete", || {
+        complete = Library::complete(&collector);
+    });
+    within_figure("pbeam_swtpm_held", || held = Library::held(&collector));
+    // Three runs of each: three pieces are held.
+    assert_eq!((answer, complete, held), (0, false, 3 * 3072));
 }

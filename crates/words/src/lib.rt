@@ -1,5 +1,5 @@
-// Little-endian fields of a lent slice: 8-byte words and 4-byte halves read at any offset; words, 2-byte quarters and lists of words
-// written. The smaller of two numbers.
+// Little-endian fields of a lent slice: 8-byte words and 4-byte halves, read and written at any offset; 2-byte quarters and lists
+// of words written. The smaller of two numbers.
 ghost use mathlib.Core.Path.{_≡_};
 ghost use Prim.Native.Nat.{min, _+_, _<_, _≤_};
 ghost use lib.ListN.{length, replicate};
@@ -147,6 +147,19 @@ pub fn put_word(s: &mut [u8], at: usize, w: u64)
         return;
     }
     put_eight(s, at, w);
+}
+
+// Puts the low half of w at an offset; where it does not fit whole, no byte changes.
+pub fn put_half(s: &mut [u8], at: usize, w: u64)
+    ensures { λ _. ⌜ now (s .exit) ≡ laid at (leBytes 4 w) (now (s .entry)) ⌝ }
+{
+    if s.len() < 4 {
+        return;
+    }
+    if s.len() - 4 < at {
+        return;
+    }
+    put_quad(s, at, w);
 }
 
 // Puts the low quarter of w at an offset; where it does not fit whole, no byte changes.

@@ -1,4 +1,5 @@
-//! The rules of the RMM-EL3 interface, and of H_TPM_COMM, in plain Rust. Nothing here shares code or definitions with the proved library.
+//! The rules of the RMM-EL3 interface, of H_TPM_COMM and of state blobs, in plain Rust. Nothing here shares code or definitions with
+//! the proved libraries.
 
 pub mod boot;
 pub mod codes;
@@ -12,6 +13,7 @@ pub mod queue;
 pub mod reader;
 pub mod runtime;
 pub mod signing;
+pub mod state_blob;
 pub mod token;
 pub mod tpm;
 pub mod writer;

@@ -1,0 +1,24 @@
+use mathlib.Core.Path.{sym, _∙_}
+use native.Mathlib.Omega.{arith}
+use Rattle.big_words.proofs.Numbers.{whole-in, whole-out}
+use borrow.Author.Needs.{needs}
+use Rattle.big_words.proofs.big_at.Statement.{statement}
+use Rattle.big_words.proofs.big_at.Tie as tie
+
+returns : tie.Need-returns
+returns c = let a = c .before .before .args in sym (whole-out (a .at) (a .s .now) (omega arith))
+
+sub-if2 : tie.Need-sub-if2
+sub-if2 c = search needs
+
+returns-2 : tie.Need-returns-2
+returns-2 c = let a = c .before .before .before .args in sym (whole-out (a .at) (a .s .now) (omega arith))
+
+quad-at-requires : tie.Need-quad-at-requires
+quad-at-requires c κs = search needs
+
+returns-3 : tie.Need-returns-3
+returns-3 c = let a = c .before .before .before .before .args in c .quad-at .ensures ∙ sym (whole-in (a .at) (a .s .now) (omega arith))
+
+pub big-at-spec : {M : Type 1} → statement M
+big-at-spec = tie.close (tie.spec returns sub-if2 returns-2 quad-at-requires returns-3)

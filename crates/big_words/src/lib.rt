@@ -1,0 +1,65 @@
+// Big-endian numbers of four bytes, read from and written to a lent slice at any offset.
+ghost use mathlib.Core.Path.{_≡_};
+ghost use Prim.Native.Nat.{_+_, _<_, _≤_};
+ghost use lib.ListN.{length};
+ghost use Rattle.words.specs.Word.{leBytes, laid};
+ghost use Rattle.big_words.specs.Big.{beBytes, bigAt, wholeBig};
+
+fn wide(x: u8) -> u32
+    ensures { λ r. ⌜ (r ≡ x) × (r < 0x100) ⌝ }
+{
+    x as u32
+}
+
+// The numbers of two and of four bytes at an offset within the slice.
+fn pair_at(s: &[u8], at: usize) -> u32
+    requires { ⌜ at + 2 ≤ length (now s) ⌝ }
+    ensures { λ r. ⌜ (r ≡ bigAt 2 at (now (s .entry))) × (r < 0x1_0000) ⌝ }
+{
+    let high = wide(s[at]);
+    let low = wide(s[at + 1]);
+    high * 0x100 + low
+}
+
+fn quad_at(s: &[u8], at: usize) -> u32
+    requires { ⌜ at + 4 ≤ length (now s) ⌝ }
+    ensures { λ r. ⌜ r ≡ bigAt 4 at (now (s .entry)) ⌝ }
+{
+    let high = pair_at(s, at);
+    let low = pair_at(s, at + 2);
+    high * 0x1_0000 + low
+}
+
+// The number at an offset; 0 where it does not lie whole within the slice.
+pub fn big_at(s: &[u8], at: usize) -> u32
+    ensures { λ r. ⌜ r ≡ wholeBig at (now (s .entry)) ⌝ }
+{
+    if s.len() < 4 {
+        return 0;
+    }
+    if s.len() - 4 < at {
+        return 0;
+    }
+    quad_at(s, at)
+}
+
+// The number whose bytes are those of w in the other order. Written so, the compiler makes one instruction of it, and one store of
+// `put_half`.
+fn swapped(w: u32) -> u32
+    ensures { λ r. ⌜ leBytes 4 r ≡ beBytes 4 w ⌝ }
+{
+    let upper = w / 0x100;
+    let high = upper / 0x100;
+    let first = high / 0x100 % 0x100;
+    let second = high % 0x100;
+    let third = upper % 0x100;
+    let fourth = w % 0x100;
+    first + second * 0x100 + third * 0x1_0000 + fourth * 0x100_0000
+}
+
+// Puts the number w at an offset; where it does not fit whole, no byte changes.
+pub fn put_big(s: &mut [u8], at: usize, w: u32)
+    ensures { λ _. ⌜ now (s .exit) ≡ laid at (beBytes 4 w) (now (s .entry)) ⌝ }
+{
+    words::put_half(s, at, swapped(w) as u64);
+}

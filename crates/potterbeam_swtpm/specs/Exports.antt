@@ -1,0 +1,98 @@
+-- Answers as numbers and the collector as three lent words, for C. A refused call leaves each lent word and byte as it was. Assumes
+-- nothing.
+use Prim.Native.Nat.{ℕ}
+use mathlib.Core.Bool.{not}
+use mathlib.Core.List.{List, [], _∷_}
+use lib.ListN.{getD}
+use lib.Dec.{eqb}
+use Rattle.state_messages.specs.Messages.{Message}
+use Rattle.state_messages.specs.declared.Refusal.{Refusal}
+use Rattle.state_messages.specs.declared.Refusal.the-variants as refusal
+use Rattle.state_messages.specs.declared.RequestRead.{RequestRead}
+use Rattle.state_messages.specs.declared.RequestRead.the-variants as asked
+use Rattle.state_messages.specs.declared.ResponseRead.{ResponseRead}
+use Rattle.state_messages.specs.declared.ResponseRead.the-variants as told
+use Rattle.state_messages.specs.declared.Written.{Written}
+use Rattle.state_messages.specs.declared.Written.the-variants as wrote
+use Rattle.state_blobs.specs.Collect.{Outcome, collect}
+use Rattle.state_blobs.specs.Blobs.{Offer, Held}
+use Rattle.state_blobs.specs.declared.Verdict.{Verdict}
+use Rattle.state_blobs.specs.declared.Verdict.the-variants as verdict
+use Rattle.state_blobs.specs.declared.Collector.{Collector}
+
+-- 0 is none of them: it is the answer of a call that is accepted
+unfoldable pub refusalNumber : Refusal → ℕ
+refusalNumber refusal.CutShort = 1
+refusalNumber refusal.TooLong = 2
+refusalNumber refusal.WrongCode = 3
+refusalNumber refusal.AboveLargest = 4
+refusalNumber refusal.Failed = 5
+refusalNumber refusal.NoRoom = 6
+refusalNumber refusal.TotalDiffers = 7
+refusalNumber refusal.PastTotal = 8
+refusalNumber refusal.PastBuffer = 9
+refusalNumber refusal.NoData = 10
+
+-- ---- reading: the answer, and the four words lent for the parts
+pub record PartsLeft : Type 0 where
+  pub answer : ℕ
+  pub parts : List ℕ
+
+unfoldable pub requestLeft : RequestRead → List ℕ → PartsLeft
+requestLeft (asked.Accepted q) ws = record { answer = 0; parts = q .code ∷ q .flags ∷ q .kind ∷ q .offset ∷ [] }
+requestLeft (asked.Refused why) ws = record { answer = refusalNumber why; parts = ws }
+
+unfoldable pub responseLeft : ResponseRead → List ℕ → PartsLeft
+responseLeft (told.Accepted p) ws = record { answer = 0; parts = p .flags ∷ p .total ∷ p .at ∷ p .len ∷ [] }
+responseLeft (told.Refused why) ws = record { answer = refusalNumber why; parts = ws }
+
+-- ---- writing: the answer, the word lent for the message's length, and the buffer
+pub record WriteLeft : Type 0 where
+  pub answer : ℕ
+  pub len : ℕ
+  pub buffer : List ℕ
+
+unfoldable pub writtenLeft : Written → ℕ → List ℕ → WriteLeft
+writtenLeft (wrote.Length n) len b = record { answer = 0; len = n; buffer = b }
+writtenLeft (wrote.Refused why) len b = record { answer = refusalNumber why; len = len; buffer = b }
+
+abbrev pub writeLeft : Message → ℕ → WriteLeft
+writeLeft m len = writtenLeft (m .answer) len (m .buffer)
+
+-- ---- the collector as three words: accepted, totlength, bytes held. Any word but 0 says that a response was accepted.
+unfoldable pub collectorOf : List ℕ → Collector
+collectorOf image = record { accepted = not (eqb (getD image 0 0) 0); total = getD image 1 0; held = getD image 2 0 }
+
+-- the answer, the collector's words and the buffer
+pub record CollectLeft : Type 0 where
+  pub answer : ℕ
+  pub image : List ℕ
+  pub buffer : List ℕ
+
+unfoldable pub verdictLeft : Verdict → Collector → List ℕ → List ℕ → CollectLeft
+verdictLeft verdict.Accepted c image b = record { answer = 0; image = 1 ∷ c .total ∷ c .held ∷ []; buffer = b }
+verdictLeft (verdict.Refused why) c image b = record { answer = refusalNumber why; image = image; buffer = b }
+
+abbrev pub collectLeft : Outcome → List ℕ → CollectLeft
+collectLeft o image = verdictLeft (o .verdict) (o .collector) image (o .buffer)
+
+-- ---- calls of the exported collector, one after the other, on one image and one buffer
+pub record LentCollector : Type 0 where
+  pub image : List ℕ
+  pub buffer : List ℕ
+
+unfoldable pub newImage : List ℕ
+newImage = 0 ∷ 0 ∷ 0 ∷ []
+
+unfoldable pub collectorAfter : Offer → LentCollector → LentCollector
+collectorAfter o l =
+    let r = collectLeft (collect (o .largest) (o .message) (collectorOf (l .image)) (l .buffer)) (l .image) in
+    record { image = r .image; buffer = r .buffer }
+
+unfoldable pub collectorAfterAll : List Offer → LentCollector → LentCollector
+collectorAfterAll [] l = l
+collectorAfterAll (o ∷ os) l = collectorAfterAll os (collectorAfter o l)
+
+-- the collector that the image stands for, and the buffer
+unfoldable pub heldBy : LentCollector → Held
+heldBy l = record { collector = collectorOf (l .image); buffer = l .buffer }

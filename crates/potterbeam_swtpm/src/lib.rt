@@ -1,0 +1,176 @@
+// State blobs for C and Rust: every entry under one prefix. A collector is a lent image of three 32-bit words; a refused call leaves
+// every lent word and byte as it was. The answer of a call that can be refused is 0, or the number of the refusal.
+use state_blobs::Collector;
+use state_blobs::Verdict;
+use state_messages::Refusal;
+use state_messages::RequestRead;
+use state_messages::ResponseHeader;
+use state_messages::ResponseRead;
+use state_messages::StateRequest;
+use state_messages::Written;
+ghost use mathlib.Core.Path.{_≡_};
+ghost use Rattle.state_messages.specs.Messages.{readRequest, readResponse, toldOf, writeRequest, writeResponse};
+ghost use Rattle.state_blobs.specs.Collect.{isComplete, collect};
+ghost use Rattle.potterbeam_swtpm.specs.Exports.{refusalNumber, PartsLeft, requestLeft, responseLeft, WriteLeft, writeLeft, CollectLeft, collectLeft, collectorOf};
+
+fn refusal_number(why: Refusal) -> u32
+    ensures { λ r. ⌜ r ≡ refusalNumber why ⌝ }
+{
+    match why {
+        Refusal::CutShort => 1,
+        Refusal::TooLong => 2,
+        Refusal::WrongCode => 3,
+        Refusal::AboveLargest => 4,
+        Refusal::Failed => 5,
+        Refusal::NoRoom => 6,
+        Refusal::TotalDiffers => 7,
+        Refusal::PastTotal => 8,
+        Refusal::PastBuffer => 9,
+        Refusal::NoData => 10,
+    }
+}
+
+// Reads a request that must have that code: its code, state_flags, type and offset.
+#[no_mangle]
+pub extern "C" fn pbeam_swtpm_read_request(message: &[u8], code: u32, parts: &mut [u32; 4]) -> u32
+    ensures { λ r. ⌜ _≡_ {A = PartsLeft} (record { answer = r; parts = now (parts .exit) })
+        (requestLeft (readRequest code (now (message .entry))) (now (parts .entry))) ⌝ }
+{
+    let read = state_messages::read_request(message, code);
+    match read {
+        RequestRead::Accepted(q) => {
+            *parts = [q.code, q.flags, q.kind, q.offset];
+            0
+        }
+        RequestRead::Refused(why) => refusal_number(why),
+    }
+}
+
+// Writes a request at the start of the buffer, and how long it is.
+#[no_mangle]
+pub extern "C" fn pbeam_swtpm_write_request(
+    buffer: &mut [u8],
+    code: u32,
+    flags: u32,
+    kind: u32,
+    offset: u32,
+    len: &mut usize,
+) -> u32
+    ensures { λ r. ⌜ _≡_ {A = WriteLeft} (record { answer = r; len = now (len .exit); buffer = now (buffer .exit) })
+        (writeLeft (writeRequest (record { code = code; flags = flags; kind = kind; offset = offset }) (now (buffer .entry))) (now (len .entry))) ⌝ }
+{
+    let written = state_messages::write_request(
+        buffer,
+        StateRequest {
+            code,
+            flags,
+            kind,
+            offset,
+        },
+    );
+    match written {
+        Written::Length(n) => {
+            *len = n;
+            0
+        }
+        Written::Refused(why) => refusal_number(why),
+    }
+}
+
+// Reads a response: its state_flags and totlength, and where its data begins in the message and how long it is.
+#[no_mangle]
+pub extern "C" fn pbeam_swtpm_read_response(
+    message: &[u8],
+    largest: u32,
+    parts: &mut [u32; 4],
+) -> u32
+    ensures { λ r. ⌜ _≡_ {A = PartsLeft} (record { answer = r; parts = now (parts .exit) })
+        (responseLeft (toldOf (readResponse largest (now (message .entry)))) (now (parts .entry))) ⌝ }
+{
+    let read = state_messages::read_response(message, largest);
+    match read {
+        ResponseRead::Accepted(piece) => {
+            *parts = [piece.flags, piece.total, piece.at, piece.len];
+            0
+        }
+        ResponseRead::Refused(why) => refusal_number(why),
+    }
+}
+
+// Writes a response with that data at the start of the buffer, and how long it is.
+#[no_mangle]
+pub extern "C" fn pbeam_swtpm_write_response(
+    buffer: &mut [u8],
+    largest: u32,
+    result: u32,
+    flags: u32,
+    total: u32,
+    bytes: &[u8],
+    len: &mut usize,
+) -> u32
+    ensures { λ r. ⌜ _≡_ {A = WriteLeft} (record { answer = r; len = now (len .exit); buffer = now (buffer .exit) })
+        (writeLeft (writeResponse largest (record { result = result; flags = flags; total = total; bytes = now (bytes .entry) }) (now (buffer .entry))) (now (len .entry))) ⌝ }
+{
+    let header = ResponseHeader {
+        result,
+        flags,
+        total,
+    };
+    let written = state_messages::write_response(buffer, largest, header, bytes);
+    match written {
+        Written::Length(n) => {
+            *len = n;
+            0
+        }
+        Written::Refused(why) => refusal_number(why),
+    }
+}
+
+fn collector_of(image: &[u32; 3]) -> Collector
+    ensures { λ r. ⌜ r ≡ collectorOf (now (image .entry)) ⌝ }
+{
+    Collector {
+        accepted: image[0] != 0,
+        total: image[1],
+        held: image[2],
+    }
+}
+
+// Adds a response's data to the bytes held in the buffer.
+#[no_mangle]
+pub extern "C" fn pbeam_swtpm_collect(
+    image: &mut [u32; 3],
+    message: &[u8],
+    largest: u32,
+    buffer: &mut [u8],
+) -> u32
+    ensures { λ r. ⌜ _≡_ {A = CollectLeft} (record { answer = r; image = now (image .exit); buffer = now (buffer .exit) })
+        (collectLeft (collect largest (now (message .entry)) (collectorOf (now (image .entry))) (now (buffer .entry))) (now (image .entry))) ⌝ }
+{
+    let collected = collector_of(image).collect(message, largest, buffer);
+    let verdict = collected.verdict;
+    let next = collected.collector;
+    match verdict {
+        Verdict::Accepted => {
+            *image = [1, next.total, next.held];
+            0
+        }
+        Verdict::Refused(why) => refusal_number(why),
+    }
+}
+
+// Whether the whole blob is held.
+#[no_mangle]
+pub extern "C" fn pbeam_swtpm_complete(image: &[u32; 3]) -> bool
+    ensures { λ r. ⌜ r ≡ isComplete (collectorOf (now (image .entry))) ⌝ }
+{
+    collector_of(image).is_complete()
+}
+
+// How many bytes are held: the offset to ask for next.
+#[no_mangle]
+pub extern "C" fn pbeam_swtpm_held(image: &[u32; 3]) -> u32
+    ensures { λ r. ⌜ r ≡ collectorOf (now (image .entry)) .held ⌝ }
+{
+    collector_of(image).held
+}

@@ -1,0 +1,4 @@
+pub mod Collects
+pub mod E13
+pub mod Pieces
+pub mod Samples

@@ -1,0 +1,67 @@
+-- Calls of one collector with one buffer throughout, and what it is for their responses to be cut from one blob. Assumes nothing.
+use Prim.Native.Nat.{ℕ, _+_, _≤_}
+use mathlib.Core.Path.{_≡_}
+use mathlib.Core.Bool.{true}
+use mathlib.Core.List.{List, [], _∷_}
+use lib.ListN.{length, take}
+use Rattle.words.specs.Word.{part}
+use Rattle.state_messages.specs.Messages.{StateResponse, got, readResponse}
+use Rattle.state_blobs.specs.Collect.{newCollector, collect}
+use Rattle.state_blobs.specs.declared.Verdict.the-variants as verdict
+use Rattle.state_blobs.specs.declared.Collector.{Collector}
+
+-- a message given to the collector, with the largest size of data for it
+pub record Offer : Type 0 where
+  pub largest : ℕ
+  pub message : List ℕ
+
+pub record Held : Type 0 where
+  pub collector : Collector
+  pub buffer : List ℕ
+
+-- "From a new collector with one buffer throughout": any buffer
+unfoldable pub started : List ℕ → Held
+started b = record { collector = newCollector; buffer = b }
+
+unfoldable pub afterOffer : Offer → Held → Held
+afterOffer o h =
+    let r = collect (o .largest) (o .message) (h .collector) (h .buffer) in
+    record { collector = r .collector; buffer = r .buffer }
+
+unfoldable pub afterOffers : List Offer → Held → Held
+afterOffers [] h = h
+afterOffers (o ∷ os) h = afterOffers os (afterOffer o h)
+
+-- 02, E13: "cut from one blob at the number of bytes then held, with that blob's length as totlength"
+abbrev pub CutFrom : List ℕ → ℕ → StateResponse → Type 0
+CutFrom blob held p = (p .total ≡ length blob) × (p .bytes ≡ part held (length (p .bytes)) blob)
+
+-- "if each response accepted was cut": this one, if it is accepted
+abbrev pub CutHere : List ℕ → Offer → Held → Type 0
+CutHere blob o h = (p : StateResponse) → readResponse (o .largest) (o .message) ≡ got p →
+    collect (o .largest) (o .message) (h .collector) (h .buffer) .verdict ≡ verdict.Accepted → CutFrom blob (h .collector .held) p
+
+-- each of a list of messages
+unfoldable pub Cuts : List ℕ → List Offer → Held → Type 0
+Cuts blob [] h = Unit {0}
+Cuts blob (o ∷ os) h = CutHere blob o h × Cuts blob os (afterOffer o h)
+
+-- ---- what the theorems say
+-- "the bytes held are that blob's first ones"; once a response was accepted, the total is the blob's length
+pub record HoldsFirst (blob : List ℕ) (h : Held) : Type 0 where
+  pub within : h .collector .held ≤ length blob
+  pub bytes : take (h .collector .held) (h .buffer) ≡ take (h .collector .held) blob
+  pub whole : h .collector .accepted ≡ true → h .collector .total ≡ length blob
+
+-- the bytes held are the blob
+abbrev pub HoldsWhole : List ℕ → Held → Type 0
+HoldsWhole blob h = (h .collector .held ≡ length blob) × (take (h .collector .held) (h .buffer) ≡ blob)
+
+-- n more bytes of the blob may follow: they are there and have room, and are none only when nothing is missing
+abbrev pub MayFollow : List ℕ → Held → ℕ → Type 0
+MayFollow blob h n =
+    (h .collector .held + n ≤ length blob) × (h .collector .held + n ≤ length (h .buffer)) × (n ≡ 0 → h .collector .held ≡ length blob)
+
+-- the response that carries n bytes of a blob from the bytes held on
+unfoldable pub pieceOf : List ℕ → ℕ → ℕ → ℕ → StateResponse
+pieceOf blob flags held n = record { result = 0; flags = flags; total = length blob; bytes = part held n blob }

@@ -1,0 +1,73 @@
+-- The collector. 02, E13: "A collector joins responses into a lent buffer, each after the bytes held." Assumes nothing.
+use Prim.Native.Nat.{ℕ, _+_}
+use mathlib.Core.Bool.{Bool, true, false, cond, not}
+use mathlib.Core.List.{List}
+use lib.ListN.{length}
+use lib.Dec.{ltb, eqb}
+use Rattle.words.specs.Tests.{both}
+use Rattle.words.specs.Word.{splice}
+use Rattle.state_messages.specs.Messages.{Got, got, rejected, readResponse}
+use Rattle.state_messages.specs.declared.Refusal.{Refusal}
+use Rattle.state_messages.specs.declared.Refusal.the-variants as refusal
+use Rattle.state_blobs.specs.declared.Verdict.{Verdict}
+use Rattle.state_blobs.specs.declared.Verdict.the-variants as verdict
+use Rattle.state_blobs.specs.declared.Collector.{Collector}
+use Rattle.state_blobs.specs.declared.Collected.{Collected}
+
+unfoldable pub newCollector : Collector
+newCollector = record { accepted = false; total = 0; held = 0 }
+
+-- 02, E13: "It is complete exactly when a response was accepted and it holds totlength bytes."
+unfoldable pub isComplete : Collector → Bool
+isComplete c = both (c .accepted) (eqb (c .held) (c .total))
+
+-- "totlength differs from the first": from that of the first accepted response
+unfoldable pub otherTotal : Collector → ℕ → Bool
+otherTotal c total = both (c .accepted) (not (eqb (c .total) total))
+
+-- 02, E13: "in the collector then: totlength differs from the first; held and new bytes past totlength; past the buffer; no data while
+-- bytes are missing": for n new bytes of a blob of that total, and a buffer of so much room
+unfoldable pub decide : Collector → ℕ → ℕ → ℕ → Verdict
+decide c total n room =
+    cond (otherTotal c total) (verdict.Refused refusal.TotalDiffers)
+    (cond (ltb total (c .held + n)) (verdict.Refused refusal.PastTotal)
+    (cond (ltb room (c .held + n)) (verdict.Refused refusal.PastBuffer)
+    (cond (both (eqb n 0) (ltb (c .held) total)) (verdict.Refused refusal.NoData)
+    verdict.Accepted)))
+
+-- what a call answers, and the collector and the buffer that it leaves
+pub record Outcome : Type 0 where
+  pub verdict : Verdict
+  pub collector : Collector
+  pub buffer : List ℕ
+
+unfoldable pub outcome : Collected → List ℕ → Outcome
+outcome r b = record { verdict = r .verdict; collector = r .collector; buffer = b }
+
+-- 02, E13: "On refusal collector and lent buffers stay unchanged."
+unfoldable pub unchanged : Refusal → Collector → List ℕ → Outcome
+unchanged why c b = record { verdict = verdict.Refused why; collector = c; buffer = b }
+
+-- "each after the bytes held": new bytes vs of a blob of that total
+unfoldable pub appended : Collector → ℕ → List ℕ → List ℕ → Outcome
+appended c total vs b =
+    record {
+      verdict = verdict.Accepted;
+      collector = record { accepted = true; total = total; held = c .held + length vs };
+      buffer = splice (c .held) vs b;
+    }
+
+unfoldable pub settle : Verdict → Collector → ℕ → List ℕ → List ℕ → Outcome
+settle verdict.Accepted c total vs b = appended c total vs b
+settle (verdict.Refused why) c total vs b = unchanged why c b
+
+unfoldable pub offerBytes : Collector → ℕ → List ℕ → List ℕ → Outcome
+offerBytes c total vs b = settle (decide c total (length vs) (length b)) c total vs b
+
+unfoldable pub collectGot : Got → Collector → List ℕ → Outcome
+collectGot (got p) c b = offerBytes c (p .total) (p .bytes) b
+collectGot (rejected why) c b = unchanged why c b
+
+-- a message given to the collector, with the largest size of data: first what the reader refuses
+unfoldable pub collect : ℕ → List ℕ → Collector → List ℕ → Outcome
+collect largest m c b = collectGot (readResponse largest m) c b

@@ -1,0 +1,141 @@
+// The collector: joins the pieces of a state blob, each after the bytes held, in a buffer that the caller lends.
+use state_messages::Refusal;
+use state_messages::ResponseRead;
+ghost use mathlib.Core.Path.{_≡_};
+ghost use Prim.Native.Nat.{_+_, _<_, _≤_};
+ghost use lib.ListN.{length};
+ghost use Rattle.state_blobs.specs.Collect.{newCollector, isComplete, otherTotal, decide, outcome, appended, offerBytes, collect};
+
+pub enum Verdict {
+    Accepted,
+    Refused(Refusal),
+}
+
+// How much of a blob is held: whether a response was accepted, the blob's length as the first accepted one told it, and the bytes held.
+pub struct Collector {
+    pub accepted: bool,
+    pub total: u32,
+    pub held: u32,
+}
+
+pub struct Collected {
+    pub verdict: Verdict,
+    pub collector: Collector,
+}
+
+impl Collector {
+    // A collector that holds nothing.
+    pub fn new() -> Collector
+        ensures { λ r. ⌜ r ≡ newCollector ⌝ }
+    {
+        Collector {
+            accepted: false,
+            total: 0,
+            held: 0,
+        }
+    }
+
+    // Whether the whole blob is held.
+    pub fn is_complete(self) -> bool
+        ensures { λ r. ⌜ r ≡ isComplete self ⌝ }
+    {
+        if !self.accepted {
+            return false;
+        }
+        self.held == self.total
+    }
+
+    // How many bytes are held: the offset to ask for next.
+    pub fn bytes_held(self) -> usize
+        ensures { λ r. ⌜ (r ≡ self .held) × (r < 0x1_0000_0000) ⌝ }
+    {
+        self.held as usize
+    }
+
+    // Whether the first accepted response told another total.
+    fn other_total(self, total: u32) -> bool
+        ensures { λ r. ⌜ r ≡ otherTotal self total ⌝ }
+    {
+        if self.accepted {
+            return self.total != total;
+        }
+        false
+    }
+
+    // Whether so many new bytes of a blob may follow those held, in a buffer of so much room. The sum is of 64 bits, so it never wraps.
+    fn decide(self, total: u32, len: usize, room: usize) -> Verdict
+        requires { ⌜ len < 0x1_0000_0000 ⌝ }
+        ensures { λ r. ⌜ r ≡ decide self total len room ⌝ }
+    {
+        let held = self.bytes_held();
+        let end = held + len;
+        if self.other_total(total) {
+            return Verdict::Refused(Refusal::TotalDiffers);
+        }
+        if (total as usize) < end {
+            return Verdict::Refused(Refusal::PastTotal);
+        }
+        if room < end {
+            return Verdict::Refused(Refusal::PastBuffer);
+        }
+        if len != 0 {
+            return Verdict::Accepted;
+        }
+        if held < total as usize {
+            return Verdict::Refused(Refusal::NoData);
+        }
+        Verdict::Accepted
+    }
+
+    // Puts new bytes that fit behind those held.
+    fn append(self, total: u32, bytes: &[u8], buffer: &mut [u8]) -> Collected
+        requires { ⌜ (self .held + length (now bytes) ≤ total) × (self .held + length (now bytes) ≤ length (now buffer)) ⌝ }
+        ensures { λ r. ⌜ outcome r (now (buffer .exit)) ≡ appended self total (now (bytes .entry)) (now (buffer .entry)) ⌝ }
+    {
+        let held = self.bytes_held();
+        let end = held + bytes.len();
+        let held_after = end as u32;
+        words::copy(&mut buffer[held..], bytes);
+        Collected {
+            verdict: Verdict::Accepted,
+            collector: Collector {
+                accepted: true,
+                total,
+                held: held_after,
+            },
+        }
+    }
+
+    // Puts new bytes of a blob behind those held, where they may follow.
+    fn offer(self, total: u32, bytes: &[u8], buffer: &mut [u8]) -> Collected
+        requires { ⌜ length (now bytes) < 0x1_0000_0000 ⌝ }
+        ensures { λ r. ⌜ outcome r (now (buffer .exit)) ≡ offerBytes self total (now (bytes .entry)) (now (buffer .entry)) ⌝ }
+    {
+        let verdict = self.decide(total, bytes.len(), buffer.len());
+        match verdict {
+            Verdict::Accepted => self.append(total, bytes, buffer),
+            Verdict::Refused(why) => Collected {
+                verdict: Verdict::Refused(why),
+                collector: self,
+            },
+        }
+    }
+
+    // Adds a response's data to the bytes held in the buffer; on a refusal, collector and buffer are as they were.
+    pub fn collect(self, message: &[u8], largest: u32, buffer: &mut [u8]) -> Collected
+        ensures { λ r. ⌜ outcome r (now (buffer .exit)) ≡ collect largest (now (message .entry)) self (now (buffer .entry)) ⌝ }
+    {
+        let read = state_messages::read_response(message, largest);
+        match read {
+            ResponseRead::Accepted(piece) => self.offer(
+                piece.total,
+                state_messages::data_of(message),
+                buffer,
+            ),
+            ResponseRead::Refused(why) => Collected {
+                verdict: Verdict::Refused(why),
+                collector: self,
+            },
+        }
+    }
+}

@@ -1,0 +1,4 @@
+pub mod Heads
+pub mod Readings
+pub mod Writes
+pub mod ReadBack

@@ -1,0 +1,204 @@
+// GET_STATEBLOB of swtpm's control channel: the request for a piece of a state blob and the response that carries one, read from and
+// written to lent slices. Every number is of four bytes, big-endian. The type of a blob is called `kind` here.
+ghost use mathlib.Core.Path.{_≡_};
+ghost use Prim.Native.Nat.{_+_, _≤_};
+ghost use lib.ListN.{length, drop};
+ghost use Rattle.words.specs.Word.{splice};
+ghost use Rattle.big_words.specs.Big.{beBytes, bigAt};
+ghost use Rattle.state_messages.specs.Messages.{headBytes, readRequest, readResponse, toldOf, Message, writeRequest, responseOf, writeResponse};
+
+// A request: the command code, state_flags, the type of blob, and the offset of the piece in it.
+pub struct StateRequest {
+    pub code: u32,
+    pub flags: u32,
+    pub kind: u32,
+    pub offset: u32,
+}
+
+// The numbers of a response to write: tpm_result, state_flags and totlength. Its length field is the length of its data.
+pub struct ResponseHeader {
+    pub result: u32,
+    pub flags: u32,
+    pub total: u32,
+}
+
+// What an accepted response holds: state_flags, totlength, and where its data begins in the message and how long it is.
+pub struct Piece {
+    pub flags: u32,
+    pub total: u32,
+    pub at: u32,
+    pub len: u32,
+}
+
+// Why a message, a buffer or a piece is refused: the reader's reasons in their order, the writer's second one, then the collector's.
+// A message that is cut short is never too long, so these two share one place in the order.
+pub enum Refusal {
+    CutShort,
+    TooLong,
+    WrongCode,
+    AboveLargest,
+    Failed,
+    NoRoom,
+    TotalDiffers,
+    PastTotal,
+    PastBuffer,
+    NoData,
+}
+
+pub enum RequestRead {
+    Accepted(StateRequest),
+    Refused(Refusal),
+}
+
+pub enum ResponseRead {
+    Accepted(Piece),
+    Refused(Refusal),
+}
+
+// The length of the message that was written, or why none was.
+pub enum Written {
+    Length(usize),
+    Refused(Refusal),
+}
+
+fn number_at(s: &[u8], at: usize) -> u32
+    requires { ⌜ at + 4 ≤ length (now s) ⌝ }
+    ensures { λ r. ⌜ r ≡ bigAt 4 at (now (s .entry)) ⌝ }
+{
+    big_words::big_at(s, at)
+}
+
+// Reads a request that must have that code.
+pub fn read_request(message: &[u8], code: u32) -> RequestRead
+    ensures { λ r. ⌜ r ≡ readRequest code (now (message .entry)) ⌝ }
+{
+    if message.len() < 16 {
+        return RequestRead::Refused(Refusal::CutShort);
+    }
+    if 16 < message.len() {
+        return RequestRead::Refused(Refusal::TooLong);
+    }
+    let own = number_at(message, 0);
+    if own != code {
+        return RequestRead::Refused(Refusal::WrongCode);
+    }
+    RequestRead::Accepted(StateRequest {
+        code: own,
+        flags: number_at(message, 4),
+        kind: number_at(message, 8),
+        offset: number_at(message, 12),
+    })
+}
+
+// How long a response with so much data is. The sum is of 64 bits, as in 32 it would wrap.
+fn response_length(len: u32) -> usize
+    ensures { λ r. ⌜ r ≡ 16 + len ⌝ }
+{
+    16 + len as usize
+}
+
+// Reads a response whose data must not be longer than the largest size.
+pub fn read_response(message: &[u8], largest: u32) -> ResponseRead
+    ensures { λ r. ⌜ r ≡ toldOf (readResponse largest (now (message .entry))) ⌝ }
+{
+    if message.len() < 16 {
+        return ResponseRead::Refused(Refusal::CutShort);
+    }
+    let len = number_at(message, 12);
+    let whole = response_length(len);
+    if message.len() < whole {
+        return ResponseRead::Refused(Refusal::CutShort);
+    }
+    if whole < message.len() {
+        return ResponseRead::Refused(Refusal::TooLong);
+    }
+    if largest < len {
+        return ResponseRead::Refused(Refusal::AboveLargest);
+    }
+    if number_at(message, 0) != 0 {
+        return ResponseRead::Refused(Refusal::Failed);
+    }
+    ResponseRead::Accepted(Piece {
+        flags: number_at(message, 4),
+        total: number_at(message, 8),
+        at: 16,
+        len,
+    })
+}
+
+// The data of an accepted response, as the part of the message that holds it: what follows the four numbers.
+pub fn data_of(message: &[u8]) -> &[u8]
+    ensures { λ r. ⌜ now r ≡ drop 16 (now (message .entry)) ⌝ }
+{
+    if message.len() < 16 {
+        return &message[0..0];
+    }
+    &message[16..]
+}
+
+fn put_number(s: &mut [u8], at: usize, w: u32)
+    requires { ⌜ at + 4 ≤ length (now s) ⌝ }
+    ensures { λ _. ⌜ now (s .exit) ≡ splice at (beBytes 4 w) (now (s .entry)) ⌝ }
+{
+    big_words::put_big(s, at, w);
+}
+
+// The four numbers that a message begins with.
+fn put_head(s: &mut [u8], a: u32, b: u32, c: u32, d: u32)
+    requires { ⌜ 16 ≤ length (now s) ⌝ }
+    ensures { λ _. ⌜ now (s .exit) ≡ splice 0 (headBytes a b c d) (now (s .entry)) ⌝ }
+{
+    put_number(s, 0, a);
+    put_number(s, 4, b);
+    put_number(s, 8, c);
+    put_number(s, 12, d);
+}
+
+// Writes a request at the start of a buffer.
+pub fn write_request(buffer: &mut [u8], request: StateRequest) -> Written
+    ensures { λ r. ⌜ _≡_ {A = Message} (record { answer = r; buffer = now (buffer .exit) }) (writeRequest request (now (buffer .entry))) ⌝ }
+{
+    if buffer.len() < 16 {
+        return Written::Refused(Refusal::NoRoom);
+    }
+    put_head(
+        buffer,
+        request.code,
+        request.flags,
+        request.kind,
+        request.offset,
+    );
+    Written::Length(16)
+}
+
+// Writes a response with that data at the start of a buffer; data longer than the largest size is refused.
+pub fn write_response(
+    buffer: &mut [u8],
+    largest: u32,
+    header: ResponseHeader,
+    bytes: &[u8],
+) -> Written
+    ensures { λ r. ⌜ _≡_ {A = Message} (record { answer = r; buffer = now (buffer .exit) })
+        (writeResponse largest (responseOf header (now (bytes .entry))) (now (buffer .entry))) ⌝ }
+{
+    let len = bytes.len();
+    if (largest as usize) < len {
+        return Written::Refused(Refusal::AboveLargest);
+    }
+    if buffer.len() < 16 {
+        return Written::Refused(Refusal::NoRoom);
+    }
+    if buffer.len() - 16 < len {
+        return Written::Refused(Refusal::NoRoom);
+    }
+    put_head(
+        buffer,
+        header.result,
+        header.flags,
+        header.total,
+        len as u32,
+    );
+    words::copy(&mut buffer[16..], bytes);
+    let end = 16 + len;
+    Written::Length(end)
+}
