@@ -1,4 +1,4 @@
-use mathlib.Core.Path.{_≡_, refl, sym, ap, _∙_}
+use mathlib.Core.Path.{refl, sym, ap, _∙_}
 use Prim.Native.Nat.{_<_, _≤_}
 use Rattle.codes.specs.Codes.{upOf, fails, gated}
 use Rattle.codes.specs.declared.Code.the-variants.{Ok, Unk, Inval}

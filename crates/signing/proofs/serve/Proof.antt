@@ -1,8 +1,7 @@
-use mathlib.Core.Path.{_≡_, refl, sym, ap, _∙_}
+use mathlib.Core.Path.{_≡_, refl}
 use native.Mathlib.Omega.{arith}
 use Prim.Native.Nat.{_+_, _-_}
 use Rattle.words.specs.Word.{part}
-use Rattle.queue.specs.Queue.{listsOf}
 use Rattle.signing.specs.Signing.{opOf, opAt}
 use Rattle.signing.proofs.Buffers.{put-back, put-same}
 use borrow.Author.Needs.{needs}
