@@ -1,5 +1,5 @@
 /*
- * Potterbeam RMM-EL3 kit, for C11 and C++11 or later. Link with libkit.a.
+ * Potterbeam RMM-EL3 kit, for C11 and C++11 or later. Link with libpotterbeam.a.
  *
  * EL3 firmware writes the boot manifest and serves the runtime commands; the monitor (RMM) reads the manifest and checks its boots.
  * "002" below is the public RMM-EL3 interface document. "Page" is the shared buffer of 4,096 bytes at physical address B. All fields
@@ -28,257 +28,257 @@
 
 /* ---- Function ids: x0 of a call, compared as 64 bits; 002's name behind each ---- */
 
-#define PB_ID_FORWARD UINT64_C(0xC400018F)        /* RMM_RMI_REQ_COMPLETE */
-#define PB_ID_DELEGATE UINT64_C(0xC40001B0)       /* RMM_GTSI_DELEGATE */
-#define PB_ID_UNDELEGATE UINT64_C(0xC40001B1)     /* RMM_GTSI_UNDELEGATE */
-#define PB_ID_REALM_KEY UINT64_C(0xC40001B2)      /* RMM_ATTEST_GET_REALM_KEY */
-#define PB_ID_PLATFORM_TOKEN UINT64_C(0xC40001B3) /* RMM_ATTEST_GET_PLAT_TOKEN */
-#define PB_ID_FEATURES UINT64_C(0xC40001B4)       /* RMM_EL3_FEATURES */
-#define PB_ID_TOKEN_SIGNING UINT64_C(0xC40001B5)  /* RMM_EL3_TOKEN_SIGN */
-#define PB_ID_KEY_UPDATE UINT64_C(0xC40001B6)     /* RMM_MECID_KEY_UPDATE */
+#define PBEAM_ID_FORWARD UINT64_C(0xC400018F)        /* RMM_RMI_REQ_COMPLETE */
+#define PBEAM_ID_DELEGATE UINT64_C(0xC40001B0)       /* RMM_GTSI_DELEGATE */
+#define PBEAM_ID_UNDELEGATE UINT64_C(0xC40001B1)     /* RMM_GTSI_UNDELEGATE */
+#define PBEAM_ID_REALM_KEY UINT64_C(0xC40001B2)      /* RMM_ATTEST_GET_REALM_KEY */
+#define PBEAM_ID_PLATFORM_TOKEN UINT64_C(0xC40001B3) /* RMM_ATTEST_GET_PLAT_TOKEN */
+#define PBEAM_ID_FEATURES UINT64_C(0xC40001B4)       /* RMM_EL3_FEATURES */
+#define PBEAM_ID_TOKEN_SIGNING UINT64_C(0xC40001B5)  /* RMM_EL3_TOKEN_SIGN */
+#define PBEAM_ID_KEY_UPDATE UINT64_C(0xC40001B6)     /* RMM_MECID_KEY_UPDATE */
 
 /* ---- Codes ---- */
 
 /* Boot (all) and reader (0 and the manifest's three), int32_t. 002 hands a boot's code to EL3 in x1 of RMM_BOOT_COMPLETE. */
-#define PB_BOOT_DONE 0           /* the record is up */
-#define PB_READ_ACCEPTED 0       /* the view shows the page */
-#define PB_BOOT_STATE (-1)       /* cold: record not fresh; warm: record not up */
-#define PB_BOOT_VERSION (-2)     /* cold: x1 above 32 bits, or the version not accepted */
-#define PB_BOOT_CPUS (-3)        /* cold: x2 above the monitor's maximum */
-#define PB_BOOT_CPU (-4)         /* x0 not below x2; warm: not below the cold boot's x2 */
-#define PB_MANIFEST_PLACE (-5)   /* page not 4,096 bytes long; B zero, not a multiple of 4,096, or above PB_BASE_MOST */
-#define PB_MANIFEST_VERSION (-6) /* reader's edition not 1 to 4; the manifest's version not accepted */
-#define PB_MANIFEST_RULES (-7)   /* any other rule of the manifest broken */
+#define PBEAM_BOOT_DONE 0           /* the record is up */
+#define PBEAM_READ_ACCEPTED 0       /* the view shows the page */
+#define PBEAM_BOOT_STATE (-1)       /* cold: record not fresh; warm: record not up */
+#define PBEAM_BOOT_VERSION (-2)     /* cold: x1 above 32 bits, or the version not accepted */
+#define PBEAM_BOOT_CPUS (-3)        /* cold: x2 above the monitor's maximum */
+#define PBEAM_BOOT_CPU (-4)         /* x0 not below x2; warm: not below the cold boot's x2 */
+#define PBEAM_MANIFEST_PLACE (-5)   /* page not 4,096 bytes long; B zero, not a multiple of 4,096, or above PBEAM_BASE_MOST */
+#define PBEAM_MANIFEST_VERSION (-6) /* reader's edition not 1 to 4; the manifest's version not accepted */
+#define PBEAM_MANIFEST_RULES (-7)   /* any other rule of the manifest broken */
 
 /* Writer, uint32_t: 0, or the number of the refusal W1 to W5. */
-#define PB_WRITE_PAGE 0       /* the page was made */
-#define PB_WRITE_W1_PLACE 1   /* as PB_MANIFEST_PLACE */
-#define PB_WRITE_W2_EDITION 2 /* edition not 1 to 4 */
-#define PB_WRITE_W3_LISTS 3   /* a list is not whole entries, or an entry breaks its rule */
-#define PB_WRITE_W4_LATE 4    /* a list for a section after the edition is not empty */
-#define PB_WRITE_W5_ROOM 5    /* core and arrays exceed 4,096 bytes */
+#define PBEAM_WRITE_PAGE 0       /* the page was made */
+#define PBEAM_WRITE_W1_PLACE 1   /* as PBEAM_MANIFEST_PLACE */
+#define PBEAM_WRITE_W2_EDITION 2 /* edition not 1 to 4 */
+#define PBEAM_WRITE_W3_LISTS 3   /* a list is not whole entries, or an entry breaks its rule */
+#define PBEAM_WRITE_W4_LATE 4    /* a list for a section after the edition is not empty */
+#define PBEAM_WRITE_W5_ROOM 5    /* core and arrays exceed 4,096 bytes */
 
 /* Runtime commands: the number. 002's NOMEM (-4) is never answered, so it has no name here. */
-#define PB_OK 0
-#define PB_UNK (-1)
-#define PB_BAD_ADDR (-2)
-#define PB_BAD_PAS (-3)
-#define PB_INVAL (-5)
-#define PB_AGAIN (-6)
+#define PBEAM_OK 0
+#define PBEAM_UNK (-1)
+#define PBEAM_BAD_ADDR (-2)
+#define PBEAM_BAD_PAS (-3)
+#define PBEAM_INVAL (-5)
+#define PBEAM_AGAIN (-6)
 
-/* The same codes as x0 holds them: sign-extended to 64 bits. Compare out[PB_OUT_X0] with these. */
-#define PB_X0_OK UINT64_C(0x0000000000000000)
-#define PB_X0_UNK UINT64_C(0xFFFFFFFFFFFFFFFF)
-#define PB_X0_BAD_ADDR UINT64_C(0xFFFFFFFFFFFFFFFE)
-#define PB_X0_BAD_PAS UINT64_C(0xFFFFFFFFFFFFFFFD)
-#define PB_X0_INVAL UINT64_C(0xFFFFFFFFFFFFFFFB)
-#define PB_X0_AGAIN UINT64_C(0xFFFFFFFFFFFFFFFA)
+/* The same codes as x0 holds them: sign-extended to 64 bits. Compare out[PBEAM_OUT_X0] with these. */
+#define PBEAM_X0_OK UINT64_C(0x0000000000000000)
+#define PBEAM_X0_UNK UINT64_C(0xFFFFFFFFFFFFFFFF)
+#define PBEAM_X0_BAD_ADDR UINT64_C(0xFFFFFFFFFFFFFFFE)
+#define PBEAM_X0_BAD_PAS UINT64_C(0xFFFFFFFFFFFFFFFD)
+#define PBEAM_X0_INVAL UINT64_C(0xFFFFFFFFFFFFFFFB)
+#define PBEAM_X0_AGAIN UINT64_C(0xFFFFFFFFFFFFFFFA)
 
 /* ---- Page and versions ---- */
 
-#define PB_PAGE_BYTES 4096
-#define PB_ADDRESS_LIMIT UINT64_C(0x10000000000000) /* 2^52: no bank, region or console ends above it */
-#define PB_BASE_MOST UINT64_C(0xFFFFFFFFFF000)      /* 2^52 - 4,096: the highest B */
+#define PBEAM_PAGE_BYTES 4096
+#define PBEAM_ADDRESS_LIMIT UINT64_C(0x10000000000000) /* 2^52: no bank, region or console ends above it */
+#define PBEAM_BASE_MOST UINT64_C(0xFFFFFFFFFF000)      /* 2^52 - 4,096: the highest B */
 
 /* A version is minor in bits 0 to 15, major in bits 16 to 30, bit 31 zero. Accepted: major 0, minor 1 or more. So 0.5 is 5, and a
  * version is compared as a number: 0.10 is later than 0.9. */
-#define PB_INTERFACE_MINOR 5  /* the agreed minor is the smaller of this and the offered one */
-#define PB_SIGNING_MINOR 4    /* features and token signing need this agreed minor */
-#define PB_KEY_UPDATE_MINOR 5 /* key update needs this agreed minor */
+#define PBEAM_INTERFACE_MINOR 5  /* the agreed minor is the smaller of this and the offered one */
+#define PBEAM_SIGNING_MINOR 4    /* features and token signing need this agreed minor */
+#define PBEAM_KEY_UPDATE_MINOR 5 /* key update needs this agreed minor */
 
 /* ---- Manifest: byte offsets and sizes ---- */
 
 /* An edition is a minor of the manifest's layout. Cold boot reads as the last one. */
-#define PB_EDITION_FIRST 1
-#define PB_EDITION_LAST 4
+#define PBEAM_EDITION_FIRST 1
+#define PBEAM_EDITION_LAST 4
 
 /* Core size by edition: arrays lie behind it. A section belongs to an edition when the core reaches over it. */
-#define PB_CORE_BYTES_1 16
-#define PB_CORE_BYTES_2 40
-#define PB_CORE_BYTES_3 64
-#define PB_CORE_BYTES_4 112
+#define PBEAM_CORE_BYTES_1 16
+#define PBEAM_CORE_BYTES_2 40
+#define PBEAM_CORE_BYTES_3 64
+#define PBEAM_CORE_BYTES_4 112
 
 /* Offsets in the page. */
-#define PB_CORE_VERSION 0   /* 4 bytes */
-#define PB_CORE_PADDING 4   /* 4 bytes, zero */
-#define PB_CORE_PLAT_DATA 8 /* 8 bytes: 0, or an address in the page behind the core */
-#define PB_CORE_DRAM 16     /* section, since edition 2 */
-#define PB_CORE_CONSOLE 40  /* section, since edition 3 */
-#define PB_CORE_NCOH 64     /* section, since edition 4 */
-#define PB_CORE_COH 88      /* section, since edition 4 */
+#define PBEAM_CORE_VERSION 0   /* 4 bytes */
+#define PBEAM_CORE_PADDING 4   /* 4 bytes, zero */
+#define PBEAM_CORE_PLAT_DATA 8 /* 8 bytes: 0, or an address in the page behind the core */
+#define PBEAM_CORE_DRAM 16     /* section, since edition 2 */
+#define PBEAM_CORE_CONSOLE 40  /* section, since edition 3 */
+#define PBEAM_CORE_NCOH 64     /* section, since edition 4 */
+#define PBEAM_CORE_COH 88      /* section, since edition 4 */
 
 /* A section, and offsets in it. 24 zero bytes are an empty section. Count, pointer, all words of the array and checksum sum to 0
  * modulo 2^64. */
-#define PB_SECTION_BYTES 24
-#define PB_SECTION_COUNT 0    /* number of entries */
-#define PB_SECTION_POINTER 8  /* physical address of the array, a multiple of 8 */
-#define PB_SECTION_CHECKSUM 16
+#define PBEAM_SECTION_BYTES 24
+#define PBEAM_SECTION_COUNT 0    /* number of entries */
+#define PBEAM_SECTION_POINTER 8  /* physical address of the array, a multiple of 8 */
+#define PBEAM_SECTION_CHECKSUM 16
 
 /* Numbers of the sections, as the lookups take them. */
-#define PB_DRAM 0
-#define PB_CONSOLE 1
-#define PB_NCOH 2
-#define PB_COH 3
-#define PB_SECTIONS 4
+#define PBEAM_DRAM 0
+#define PBEAM_CONSOLE 1
+#define PBEAM_NCOH 2
+#define PBEAM_COH 3
+#define PBEAM_SECTIONS 4
 
 /* An entry of dram, ncoh or coh (a bank or region), and word numbers in it. Base and size are multiples of 4,096, size is not 0,
- * base + size is at most PB_ADDRESS_LIMIT. */
-#define PB_BANK_BYTES 16
-#define PB_BANK_WORDS 2
-#define PB_BANK_BASE 0
-#define PB_BANK_SIZE 1
+ * base + size is at most PBEAM_ADDRESS_LIMIT. */
+#define PBEAM_BANK_BYTES 16
+#define PBEAM_BANK_WORDS 2
+#define PBEAM_BANK_BASE 0
+#define PBEAM_BANK_SIZE 1
 
 /* A console, and word numbers in it. Base is a multiple of 4,096, map_pages is not 0, base + 4,096 x map_pages is at most
- * PB_ADDRESS_LIMIT, flags are 0. Name, clock and baud rate may be anything. */
-#define PB_CONSOLE_BYTES 48
-#define PB_CONSOLE_WORDS 6
-#define PB_CONSOLE_BASE 0
-#define PB_CONSOLE_MAP_PAGES 1
-#define PB_CONSOLE_NAME 2 /* 8 characters; the first is the lowest byte of the word */
-#define PB_CONSOLE_CLK_IN_HZ 3
-#define PB_CONSOLE_BAUD_RATE 4
-#define PB_CONSOLE_FLAGS 5
+ * PBEAM_ADDRESS_LIMIT, flags are 0. Name, clock and baud rate may be anything. */
+#define PBEAM_CONSOLE_BYTES 48
+#define PBEAM_CONSOLE_WORDS 6
+#define PBEAM_CONSOLE_BASE 0
+#define PBEAM_CONSOLE_MAP_PAGES 1
+#define PBEAM_CONSOLE_NAME 2 /* 8 characters; the first is the lowest byte of the word */
+#define PBEAM_CONSOLE_CLK_IN_HZ 3
+#define PBEAM_CONSOLE_BAUD_RATE 4
+#define PBEAM_CONSOLE_FLAGS 5
 
 /* ---- Runtime commands: arguments ---- */
 
 /* Granule table: one byte a granule. Any other byte is none of these. */
-#define PB_GRANULE_BYTES 4096
-#define PB_GRANULE_NON_SECURE 0
-#define PB_GRANULE_REALM 1
-#define PB_GRANULE_ROOT 2
-#define PB_GRANULE_SECURE 3
+#define PBEAM_GRANULE_BYTES 4096
+#define PBEAM_GRANULE_NON_SECURE 0
+#define PBEAM_GRANULE_REALM 1
+#define PBEAM_GRANULE_ROOT 2
+#define PBEAM_GRANULE_SECURE 3
 
-#define PB_CURVE_SECP384R1 0 /* the one curve, of realm key and public key */
+#define PBEAM_CURVE_SECP384R1 0 /* the one curve, of realm key and public key */
 
 /* c_size of the platform token: 0 goes on with a session, the others start one. */
-#define PB_CHALLENGE_NONE 0
-#define PB_CHALLENGE_SHA256 32
-#define PB_CHALLENGE_SHA384 48
-#define PB_CHALLENGE_SHA512 64
+#define PBEAM_CHALLENGE_NONE 0
+#define PBEAM_CHALLENGE_SHA256 32
+#define PBEAM_CHALLENGE_SHA384 48
+#define PBEAM_CHALLENGE_SHA512 64
 
-#define PB_FEATURES_INDEX 0        /* the one feature register */
-#define PB_FEATURE_TOKEN_SIGNING 1 /* its value: bit 0, token signing is present */
+#define PBEAM_FEATURES_INDEX 0        /* the one feature register */
+#define PBEAM_FEATURE_TOKEN_SIGNING 1 /* its value: bit 0, token signing is present */
 
 /* Opcodes of token signing. */
-#define PB_OPCODE_PUSH 1 /* a request joins the queue */
-#define PB_OPCODE_PULL 2 /* the oldest response leaves it */
-#define PB_OPCODE_KEY 3  /* the public key */
+#define PBEAM_OPCODE_PUSH 1 /* a request joins the queue */
+#define PBEAM_OPCODE_PULL 2 /* the oldest response leaves it */
+#define PBEAM_OPCODE_KEY 3  /* the public key */
 
 /* A request in the buffer of a push: byte offsets. Bytes 4 to 7 and 28 to 31 are not read. */
-#define PB_REQUEST_BYTES 80
-#define PB_REQUEST_ALGORITHM 0 /* 4 bytes: PB_ALGORITHM_SECP384R1 */
-#define PB_REQUEST_GRANULE 8   /* 8 bytes: rec_granule, any number */
-#define PB_REQUEST_TICKET 16   /* 8 bytes: req_ticket, any number */
-#define PB_REQUEST_HASH_ID 24  /* 4 bytes: PB_HASH_SHA2_384 */
-#define PB_REQUEST_HASH 32     /* PB_HASH_BYTES bytes */
-#define PB_HASH_BYTES 48
-#define PB_ALGORITHM_SECP384R1 0
-#define PB_HASH_SHA2_384 1
+#define PBEAM_REQUEST_BYTES 80
+#define PBEAM_REQUEST_ALGORITHM 0 /* 4 bytes: PBEAM_ALGORITHM_SECP384R1 */
+#define PBEAM_REQUEST_GRANULE 8   /* 8 bytes: rec_granule, any number */
+#define PBEAM_REQUEST_TICKET 16   /* 8 bytes: req_ticket, any number */
+#define PBEAM_REQUEST_HASH_ID 24  /* 4 bytes: PBEAM_HASH_SHA2_384 */
+#define PBEAM_REQUEST_HASH 32     /* PBEAM_HASH_BYTES bytes */
+#define PBEAM_HASH_BYTES 48
+#define PBEAM_ALGORITHM_SECP384R1 0
+#define PBEAM_HASH_SHA2_384 1
 
-/* A response as a pull writes it: byte offsets. A buffer of PB_RESPONSE_BYTES_MOST holds any response. */
-#define PB_RESPONSE_GRANULE 0    /* 8 bytes: rec_granule of the request */
-#define PB_RESPONSE_TICKET 8     /* 8 bytes: req_ticket of the request */
-#define PB_RESPONSE_LENGTH 16    /* 2 bytes: length of the signature */
-#define PB_RESPONSE_SIGNATURE 18 /* so many bytes */
-#define PB_RESPONSE_BYTES_MOST 122
-#define PB_SIGNATURE_BYTES_MOST 104
+/* A response as a pull writes it: byte offsets. A buffer of PBEAM_RESPONSE_BYTES_MOST holds any response. */
+#define PBEAM_RESPONSE_GRANULE 0    /* 8 bytes: rec_granule of the request */
+#define PBEAM_RESPONSE_TICKET 8     /* 8 bytes: req_ticket of the request */
+#define PBEAM_RESPONSE_LENGTH 16    /* 2 bytes: length of the signature */
+#define PBEAM_RESPONSE_SIGNATURE 18 /* so many bytes */
+#define PBEAM_RESPONSE_BYTES_MOST 122
+#define PBEAM_SIGNATURE_BYTES_MOST 104
 
 /* Key update: the highest mecid, and the highest MECIDWidthm1. */
-#define PB_MECID_MOST 65535
-#define PB_WIDTH_MOST 15
+#define PBEAM_MECID_MOST 65535
+#define PBEAM_WIDTH_MOST 15
 
 /* ---- Images: sizes in words, and word numbers. All zero: fresh record, idle session, empty queue. ---- */
 
 /* Boot record. Only boot writes it. */
-#define PB_STATE_WORDS 4
-#define PB_STATE_KIND 0
-#define PB_STATE_CPUS 1  /* x2 of the cold boot; 0 when not up */
-#define PB_STATE_BASE 2  /* B; 0 when not up */
-#define PB_STATE_MINOR 3 /* agreed minor; 0 when not up */
-#define PB_STATE_FRESH 0
-#define PB_STATE_UP 1
-#define PB_STATE_CLOSED 2 /* as written; any other number is read as closed too */
+#define PBEAM_STATE_WORDS 4
+#define PBEAM_STATE_KIND 0
+#define PBEAM_STATE_CPUS 1  /* x2 of the cold boot; 0 when not up */
+#define PBEAM_STATE_BASE 2  /* B; 0 when not up */
+#define PBEAM_STATE_MINOR 3 /* agreed minor; 0 when not up */
+#define PBEAM_STATE_FRESH 0
+#define PBEAM_STATE_UP 1
+#define PBEAM_STATE_CLOSED 2 /* as written; any other number is read as closed too */
 
 /* Granule record: the address G of the table's first granule. */
-#define PB_GRANULES_WORDS 1
-#define PB_GRANULES_START 0
+#define PBEAM_GRANULES_WORDS 1
+#define PBEAM_GRANULES_START 0
 
 /* Token session. */
-#define PB_SESSION_WORDS 3
-#define PB_SESSION_KIND 0
-#define PB_SESSION_WHOLE 1 /* length of the token at the start; 0 when idle */
-#define PB_SESSION_SENT 2  /* how many bytes of it are sent; 0 when idle */
-#define PB_SESSION_IDLE 0
-#define PB_SESSION_SENDING 1 /* as written; any other number is read as sending too */
+#define PBEAM_SESSION_WORDS 3
+#define PBEAM_SESSION_KIND 0
+#define PBEAM_SESSION_WHOLE 1 /* length of the token at the start; 0 when idle */
+#define PBEAM_SESSION_SENT 2  /* how many bytes of it are sent; 0 when idle */
+#define PBEAM_SESSION_IDLE 0
+#define PBEAM_SESSION_SENDING 1 /* as written; any other number is read as sending too */
 
 /* Signing queue: two counts, eight requests, eight responses, the oldest first. A count above 8 is read as 8, a signature's length
- * above 104 as 104. An accepted token signing or pb_sign writes every word: places past the counts and signature
+ * above 104 as 104. An accepted token signing or pbeam_sign writes every word: places past the counts and signature
  * bytes past their length become zero. A refused one writes no word. */
-#define PB_QUEUE_WORDS 210
-#define PB_QUEUE_REQUESTS 0
-#define PB_QUEUE_RESPONSES 1
-#define PB_QUEUE_FIRST_REQUEST 2
-#define PB_QUEUE_FIRST_RESPONSE 82
-#define PB_REQUESTS_MOST 8
-#define PB_RESPONSES_MOST 8
+#define PBEAM_QUEUE_WORDS 210
+#define PBEAM_QUEUE_REQUESTS 0
+#define PBEAM_QUEUE_RESPONSES 1
+#define PBEAM_QUEUE_FIRST_REQUEST 2
+#define PBEAM_QUEUE_FIRST_RESPONSE 82
+#define PBEAM_REQUESTS_MOST 8
+#define PBEAM_RESPONSES_MOST 8
 
-/* One request, in the queue and from pb_oldest. */
-#define PB_REQUEST_WORDS 10
-#define PB_REQUEST_WORD_ALGORITHM 0
-#define PB_REQUEST_WORD_GRANULE 1
-#define PB_REQUEST_WORD_TICKET 2
-#define PB_REQUEST_WORD_HASH_ID 3
-#define PB_REQUEST_WORD_HASH 4 /* PB_HASH_WORDS words; the first byte is the lowest of the first word */
-#define PB_HASH_WORDS 6
+/* One request, in the queue and from pbeam_oldest. */
+#define PBEAM_REQUEST_WORDS 10
+#define PBEAM_REQUEST_WORD_ALGORITHM 0
+#define PBEAM_REQUEST_WORD_GRANULE 1
+#define PBEAM_REQUEST_WORD_TICKET 2
+#define PBEAM_REQUEST_WORD_HASH_ID 3
+#define PBEAM_REQUEST_WORD_HASH 4 /* PBEAM_HASH_WORDS words; the first byte is the lowest of the first word */
+#define PBEAM_HASH_WORDS 6
 
 /* One response in the queue. */
-#define PB_RESPONSE_WORDS 16
-#define PB_RESPONSE_WORD_GRANULE 0
-#define PB_RESPONSE_WORD_TICKET 1
-#define PB_RESPONSE_WORD_LENGTH 2
-#define PB_RESPONSE_WORD_SIGNATURE 3 /* PB_SIGNATURE_WORDS words, as the hash */
-#define PB_SIGNATURE_WORDS 13
+#define PBEAM_RESPONSE_WORDS 16
+#define PBEAM_RESPONSE_WORD_GRANULE 0
+#define PBEAM_RESPONSE_WORD_TICKET 1
+#define PBEAM_RESPONSE_WORD_LENGTH 2
+#define PBEAM_RESPONSE_WORD_SIGNATURE 3 /* PBEAM_SIGNATURE_WORDS words, as the hash */
+#define PBEAM_SIGNATURE_WORDS 13
 
-/* View of a page. Section k starts at word PB_VIEW_SECTIONS + PB_VIEW_SECTION_WORDS * k. */
-#define PB_VIEW_WORDS 15
-#define PB_VIEW_MINOR 0     /* w, the page's minor */
-#define PB_VIEW_EDITION 1   /* e, the smaller of w and the reader's edition */
-#define PB_VIEW_PLAT_DATA 2 /* plat_data as it stands */
-#define PB_VIEW_SECTIONS 3
-#define PB_VIEW_SECTION_WORDS 3
-#define PB_VIEW_SECTION_KIND 0
-#define PB_VIEW_SECTION_OFFSET 1 /* offset of the array in the page; 0 without entries */
-#define PB_VIEW_SECTION_COUNT 2  /* number of entries; 0 without entries */
-#define PB_VIEW_ABSENT 0         /* not in edition e */
-#define PB_VIEW_EMPTY 1
-#define PB_VIEW_ENTRIES 2 /* as written; any other number is read as entries too */
+/* View of a page. Section k starts at word PBEAM_VIEW_SECTIONS + PBEAM_VIEW_SECTION_WORDS * k. */
+#define PBEAM_VIEW_WORDS 15
+#define PBEAM_VIEW_MINOR 0     /* w, the page's minor */
+#define PBEAM_VIEW_EDITION 1   /* e, the smaller of w and the reader's edition */
+#define PBEAM_VIEW_PLAT_DATA 2 /* plat_data as it stands */
+#define PBEAM_VIEW_SECTIONS 3
+#define PBEAM_VIEW_SECTION_WORDS 3
+#define PBEAM_VIEW_SECTION_KIND 0
+#define PBEAM_VIEW_SECTION_OFFSET 1 /* offset of the array in the page; 0 without entries */
+#define PBEAM_VIEW_SECTION_COUNT 2  /* number of entries; 0 without entries */
+#define PBEAM_VIEW_ABSENT 0         /* not in edition e */
+#define PBEAM_VIEW_EMPTY 1
+#define PBEAM_VIEW_ENTRIES 2 /* as written; any other number is read as entries too */
 
 /* A part of the page. (0, 0) where it is empty. */
-#define PB_PLACE_WORDS 2
-#define PB_PLACE_OFFSET 0
-#define PB_PLACE_LENGTH 1
+#define PBEAM_PLACE_WORDS 2
+#define PBEAM_PLACE_OFFSET 0
+#define PBEAM_PLACE_LENGTH 1
 
 /* Result registers. Always written whole. */
-#define PB_OUT_WORDS 3
-#define PB_OUT_X0 0
-#define PB_OUT_X1 1
-#define PB_OUT_X2 2
+#define PBEAM_OUT_WORDS 3
+#define PBEAM_OUT_X0 0
+#define PBEAM_OUT_X1 1
+#define PBEAM_OUT_X2 2
 
 /* What the platform has to do after a command. Always written whole. */
-#define PB_WORK_WORDS 2
-#define PB_WORK_KIND 0
-#define PB_WORK_VALUE 1
-#define PB_WORK_NOTHING 0   /* value 0 */
-#define PB_WORK_REPROGRAM 1 /* value: the mecid whose key is to be made anew */
-#define PB_WORK_FORWARD 2   /* value: err_code for the Non-secure world */
+#define PBEAM_WORK_WORDS 2
+#define PBEAM_WORK_KIND 0
+#define PBEAM_WORK_VALUE 1
+#define PBEAM_WORK_NOTHING 0   /* value 0 */
+#define PBEAM_WORK_REPROGRAM 1 /* value: the mecid whose key is to be made anew */
+#define PBEAM_WORK_FORWARD 2   /* value: err_code for the Non-secure world */
 
 /* Registers of a call, x0 to x4. */
-#define PB_CALL_WORDS 5
-#define PB_CALL_ID 0
-#define PB_CALL_X1 1
-#define PB_CALL_X2 2
-#define PB_CALL_X3 3
-#define PB_CALL_X4 4
+#define PBEAM_CALL_WORDS 5
+#define PBEAM_CALL_ID 0
+#define PBEAM_CALL_X1 1
+#define PBEAM_CALL_X2 2
+#define PBEAM_CALL_X3 3
+#define PBEAM_CALL_X4 4
 
 #ifdef __cplusplus
 extern "C" {
@@ -287,261 +287,261 @@ extern "C" {
 /* ---- Manifest ---- */
 
 /*
- * pb_read: read a manifest page.
+ * pbeam_read: read a manifest page.
  * Takes    the page at B = base, and the reader's edition. With w the page's minor, e is the smaller of edition and w.
- * Answers  PB_READ_ACCEPTED, or by the first check that fails:
- *          PB_MANIFEST_PLACE    page not 4,096 bytes long; B zero, not a multiple of 4,096, or above PB_BASE_MOST
- *          PB_MANIFEST_VERSION  edition not 1 to 4; the manifest's version has bit 31 set, major not 0, or minor 0
- *          PB_MANIFEST_RULES    padding not zero; plat_data neither 0 nor from B + core size of e to B + 4,095; a section of e
+ * Answers  PBEAM_READ_ACCEPTED, or by the first check that fails:
+ *          PBEAM_MANIFEST_PLACE    page not 4,096 bytes long; B zero, not a multiple of 4,096, or above PBEAM_BASE_MOST
+ *          PBEAM_MANIFEST_VERSION  edition not 1 to 4; the manifest's version has bit 31 set, major not 0, or minor 0
+ *          PBEAM_MANIFEST_RULES    padding not zero; plat_data neither 0 nor from B + core size of e to B + 4,095; a section of e
  *                               neither 24 zero bytes nor sound (count, pointer, array between core and page's end, checksum, each
  *                               entry's rule); two arrays overlap
  * Leaves   the page as it was. view: what the page shows; refused: all zero.
  * A later minor is never refused. Sections after e are not read, nor what plat_data points at.
  */
-int32_t pb_read(const uint8_t *page, size_t page_len, uint64_t base, uint64_t edition, uint64_t view[PB_VIEW_WORDS]);
+int32_t pbeam_read(const uint8_t *page, size_t page_len, uint64_t base, uint64_t edition, uint64_t view[PBEAM_VIEW_WORDS]);
 
 /*
- * pb_array: read a page, and find the array of one section.
- * Takes    the page, base and edition as pb_read, and the section's number.
+ * pbeam_array: read a page, and find the array of one section.
+ * Takes    the page, base and edition as pbeam_read, and the section's number.
  * Answers  nothing. place: the part of the page that holds the array; (0, 0) where the page is refused, the section absent or empty,
- *          or its number above 3. pb_read says why a page is refused.
+ *          or its number above 3. pbeam_read says why a page is refused.
  * Leaves   the page as it was.
  */
-void pb_array(const uint8_t *page, size_t page_len, uint64_t base, uint64_t edition, size_t section,
-              uint64_t place[PB_PLACE_WORDS]);
+void pbeam_array(const uint8_t *page, size_t page_len, uint64_t base, uint64_t edition, size_t section,
+              uint64_t place[PBEAM_PLACE_WORDS]);
 
 /*
- * pb_array_of: find the array of one section by a view.
- * Takes    a page, the view that pb_read made of it, and the section's number.
+ * pbeam_array_of: find the array of one section by a view.
+ * Takes    a page, the view that pbeam_read made of it, and the section's number.
  * Answers  nothing. place: the part of the page that holds the array; (0, 0) where the section is absent or empty, its number above
  *          3, or its entries do not lie within the lent page.
  * Leaves   page and view as they were.
  * With another page, or one written since, the answer is by the view's places: a view that no reading made cannot lead outside the
  * page.
  */
-void pb_array_of(const uint8_t *page, size_t page_len, const uint64_t view[PB_VIEW_WORDS], size_t section,
-                 uint64_t place[PB_PLACE_WORDS]);
+void pbeam_array_of(const uint8_t *page, size_t page_len, const uint64_t view[PBEAM_VIEW_WORDS], size_t section,
+                 uint64_t place[PBEAM_PLACE_WORDS]);
 
 /*
- * pb_count: how many entries a section has.
- * Takes    page, view and section as pb_array_of.
- * Answers  the number of entries; 0 where pb_array_of gives (0, 0).
+ * pbeam_count: how many entries a section has.
+ * Takes    page, view and section as pbeam_array_of.
+ * Answers  the number of entries; 0 where pbeam_array_of gives (0, 0).
  * Leaves   page and view as they were.
  */
-size_t pb_count(const uint8_t *page, size_t page_len, const uint64_t view[PB_VIEW_WORDS], size_t section);
+size_t pbeam_count(const uint8_t *page, size_t page_len, const uint64_t view[PBEAM_VIEW_WORDS], size_t section);
 
 /*
- * pb_word: one word of an entry.
- * Takes    page, view and section as pb_array_of; entry and word, both counted from 0 (PB_BANK_BASE .., PB_CONSOLE_BASE ..).
+ * pbeam_word: one word of an entry.
+ * Takes    page, view and section as pbeam_array_of; entry and word, both counted from 0 (PBEAM_BANK_BASE .., PBEAM_CONSOLE_BASE ..).
  * Answers  the word; 0 where there is no such entry or word.
  * Leaves   page and view as they were.
  */
-uint64_t pb_word(const uint8_t *page, size_t page_len, const uint64_t view[PB_VIEW_WORDS], size_t section, size_t entry, size_t word);
+uint64_t pbeam_word(const uint8_t *page, size_t page_len, const uint64_t view[PBEAM_VIEW_WORDS], size_t section, size_t entry, size_t word);
 
 /*
- * pb_write: write a manifest page.
- * Takes    B = base, the edition, four lists of words in the order of their entries (PB_BANK_WORDS an entry, PB_CONSOLE_WORDS for a
+ * pbeam_write: write a manifest page.
+ * Takes    B = base, the edition, four lists of words in the order of their entries (PBEAM_BANK_WORDS an entry, PBEAM_CONSOLE_WORDS for a
  *          console; each length counts words), and the page.
- * Answers  PB_WRITE_PAGE, or by the first check that fails:
- *          PB_WRITE_W1_PLACE    page not 4,096 bytes long; B zero, not a multiple of 4,096, or above PB_BASE_MOST
- *          PB_WRITE_W2_EDITION  edition not 1 to 4
- *          PB_WRITE_W3_LISTS    a list's length is not a whole number of entries, or an entry breaks its rule; all four count
- *          PB_WRITE_W4_LATE     a list for a section after the edition is not empty
- *          PB_WRITE_W5_ROOM     core and arrays exceed 4,096 bytes
+ * Answers  PBEAM_WRITE_PAGE, or by the first check that fails:
+ *          PBEAM_WRITE_W1_PLACE    page not 4,096 bytes long; B zero, not a multiple of 4,096, or above PBEAM_BASE_MOST
+ *          PBEAM_WRITE_W2_EDITION  edition not 1 to 4
+ *          PBEAM_WRITE_W3_LISTS    a list's length is not a whole number of entries, or an entry breaks its rule; all four count
+ *          PBEAM_WRITE_W4_LATE     a list for a section after the edition is not empty
+ *          PBEAM_WRITE_W5_ROOM     core and arrays exceed 4,096 bytes
  * Leaves   the whole page written: version, plat_data 0, the sections, the arrays at once after the core in section order, zero
  *          everywhere else; an empty list gives 24 zero bytes. Refused, the page stays as it was. The lists stay as they were.
  */
-uint32_t pb_write(uint64_t base, uint64_t edition, const uint64_t *dram, size_t dram_len, const uint64_t *console,
+uint32_t pbeam_write(uint64_t base, uint64_t edition, const uint64_t *dram, size_t dram_len, const uint64_t *console,
                   size_t console_len, const uint64_t *ncoh, size_t ncoh_len, const uint64_t *coh, size_t coh_len, uint8_t *page,
                   size_t page_len);
 
 /* ---- Boot ---- */
 
 /*
- * pb_cold_boot: the first boot after a reset.
+ * pbeam_cold_boot: the first boot after a reset.
  * Takes    the boot record; x0 the CPU, x1 the version offered, x2 the number of CPUs, x3 = B; the monitor's maximum of CPUs; the
- *          page at B, which is read as PB_EDITION_LAST.
- * Answers  PB_BOOT_DONE, or by the first check that fails:
- *          PB_BOOT_STATE        record not fresh
- *          PB_BOOT_VERSION      x1 above 32 bits; bit 31 set, major not 0, or minor 0
- *          PB_BOOT_CPUS         x2 above most
- *          PB_BOOT_CPU          x0 not below x2; so with x2 = 0 always
- *          PB_MANIFEST_PLACE, PB_MANIFEST_VERSION, PB_MANIFEST_RULES  as pb_read
+ *          page at B, which is read as PBEAM_EDITION_LAST.
+ * Answers  PBEAM_BOOT_DONE, or by the first check that fails:
+ *          PBEAM_BOOT_STATE        record not fresh
+ *          PBEAM_BOOT_VERSION      x1 above 32 bits; bit 31 set, major not 0, or minor 0
+ *          PBEAM_BOOT_CPUS         x2 above most
+ *          PBEAM_BOOT_CPU          x0 not below x2; so with x2 = 0 always
+ *          PBEAM_MANIFEST_PLACE, PBEAM_MANIFEST_VERSION, PBEAM_MANIFEST_RULES  as pbeam_read
  * Leaves   the page as it was. state: up, with x2, B and the agreed minor; refused: closed, for good.
- * The view is not kept: read the page with pb_read before a command writes into it.
+ * The view is not kept: read the page with pbeam_read before a command writes into it.
  */
-int32_t pb_cold_boot(uint64_t state[PB_STATE_WORDS], uint64_t x0, uint64_t x1, uint64_t x2, uint64_t x3, uint64_t most,
+int32_t pbeam_cold_boot(uint64_t state[PBEAM_STATE_WORDS], uint64_t x0, uint64_t x1, uint64_t x2, uint64_t x3, uint64_t most,
                      const uint8_t *page, size_t page_len);
 
 /*
- * pb_warm_boot: a CPU's boot after the cold boot.
+ * pbeam_warm_boot: a CPU's boot after the cold boot.
  * Takes    the boot record; x0 the CPU. x1 to x3 are ignored.
- * Answers  PB_BOOT_DONE, or by the first check that fails:
- *          PB_BOOT_STATE        record not up
- *          PB_BOOT_CPU          x0 not below the cold boot's x2
+ * Answers  PBEAM_BOOT_DONE, or by the first check that fails:
+ *          PBEAM_BOOT_STATE        record not up
+ *          PBEAM_BOOT_CPU          x0 not below the cold boot's x2
  * Leaves   state: up, as it was; refused: closed, for good. A CPU may warm boot twice.
  */
-int32_t pb_warm_boot(uint64_t state[PB_STATE_WORDS], uint64_t x0, uint64_t x1, uint64_t x2, uint64_t x3);
+int32_t pbeam_warm_boot(uint64_t state[PBEAM_STATE_WORDS], uint64_t x0, uint64_t x1, uint64_t x2, uint64_t x3);
 
 /* ---- Runtime commands. A buffer is `size` bytes at physical address pa. It is outside when pa is below B or not below B + 4,096,
  * and too long when size exceeds B + 4,096 - pa. B and the agreed minor are those of the boot record. ---- */
 
 /*
- * pb_delegate (0xC40001B0): a granule goes from Non-secure to Realm.
+ * pbeam_delegate (0xC40001B0): a granule goes from Non-secure to Realm.
  * Takes    the boot record, the granule record, the granule table, and the granule's address.
- * Answers  out: x0 PB_X0_OK, or by the first check that fails:
- *          PB_X0_UNK       record not up
- *          PB_X0_BAD_ADDR  G or address not a multiple of 4,096, or address on no granule of the table
- *          PB_X0_BAD_PAS   the granule's byte is not PB_GRANULE_NON_SECURE
- * Leaves   on OK that byte as PB_GRANULE_REALM, and every other byte as it was. Refused, the table as it was.
+ * Answers  out: x0 PBEAM_X0_OK, or by the first check that fails:
+ *          PBEAM_X0_UNK       record not up
+ *          PBEAM_X0_BAD_ADDR  G or address not a multiple of 4,096, or address on no granule of the table
+ *          PBEAM_X0_BAD_PAS   the granule's byte is not PBEAM_GRANULE_NON_SECURE
+ * Leaves   on OK that byte as PBEAM_GRANULE_REALM, and every other byte as it was. Refused, the table as it was.
  * The byte alone is changed: the change in hardware is the platform's, after an OK.
  */
-void pb_delegate(const uint64_t state[PB_STATE_WORDS], const uint64_t granules[PB_GRANULES_WORDS], uint8_t *table, size_t table_len,
-                 uint64_t address, uint64_t out[PB_OUT_WORDS]);
+void pbeam_delegate(const uint64_t state[PBEAM_STATE_WORDS], const uint64_t granules[PBEAM_GRANULES_WORDS], uint8_t *table, size_t table_len,
+                 uint64_t address, uint64_t out[PBEAM_OUT_WORDS]);
 
 /*
- * pb_undelegate (0xC40001B1): a granule goes from Realm to Non-secure.
- * As pb_delegate, with PB_X0_BAD_PAS where the byte is not PB_GRANULE_REALM; on OK it becomes PB_GRANULE_NON_SECURE.
+ * pbeam_undelegate (0xC40001B1): a granule goes from Realm to Non-secure.
+ * As pbeam_delegate, with PBEAM_X0_BAD_PAS where the byte is not PBEAM_GRANULE_REALM; on OK it becomes PBEAM_GRANULE_NON_SECURE.
  */
-void pb_undelegate(const uint64_t state[PB_STATE_WORDS], const uint64_t granules[PB_GRANULES_WORDS], uint8_t *table, size_t table_len,
-                   uint64_t address, uint64_t out[PB_OUT_WORDS]);
+void pbeam_undelegate(const uint64_t state[PBEAM_STATE_WORDS], const uint64_t granules[PBEAM_GRANULES_WORDS], uint8_t *table, size_t table_len,
+                   uint64_t address, uint64_t out[PBEAM_OUT_WORDS]);
 
 /*
- * pb_realm_key (0xC40001B2): the realm attestation key.
+ * pbeam_realm_key (0xC40001B2): the realm attestation key.
  * Takes    the boot record, the page, the platform's key (empty when there is none), pa, size and curve.
- * Answers  out: x0 PB_X0_OK with x1 the key's length, or by the first check that fails:
- *          PB_X0_UNK       record not up; page not 4,096 bytes long
- *          PB_X0_BAD_ADDR  outside
- *          PB_X0_INVAL     too long; curve not PB_CURVE_SECP384R1
- *          PB_X0_UNK       key empty, or longer than size
+ * Answers  out: x0 PBEAM_X0_OK with x1 the key's length, or by the first check that fails:
+ *          PBEAM_X0_UNK       record not up; page not 4,096 bytes long
+ *          PBEAM_X0_BAD_ADDR  outside
+ *          PBEAM_X0_INVAL     too long; curve not PBEAM_CURVE_SECP384R1
+ *          PBEAM_X0_UNK       key empty, or longer than size
  * Leaves   on OK the key's bytes at pa, and every other byte of the page as it was. Refused, the page as it was.
  */
-void pb_realm_key(const uint64_t state[PB_STATE_WORDS], uint8_t *page, size_t page_len, const uint8_t *key, size_t key_len,
-                  uint64_t pa, uint64_t size, uint64_t curve, uint64_t out[PB_OUT_WORDS]);
+void pbeam_realm_key(const uint64_t state[PBEAM_STATE_WORDS], uint8_t *page, size_t page_len, const uint8_t *key, size_t key_len,
+                  uint64_t pa, uint64_t size, uint64_t curve, uint64_t out[PBEAM_OUT_WORDS]);
 
 /*
- * pb_platform_token (0xC40001B3): the next hunk of the platform token.
+ * pbeam_platform_token (0xC40001B3): the next hunk of the platform token.
  * Takes    the boot record, the session, the page, the token (the same at each call from a start to the session's end; empty when
  *          there is none), busy (not 0 while the platform cannot serve), pa, size, and c_size: the challenge's size starts a
- *          session, also in mid-session; PB_CHALLENGE_NONE goes on.
- * Answers  out: x0 PB_X0_OK with x1 the hunk (the smaller of size and what is left) and x2 the rest after it, or by the first check
+ *          session, also in mid-session; PBEAM_CHALLENGE_NONE goes on.
+ * Answers  out: x0 PBEAM_X0_OK with x1 the hunk (the smaller of size and what is left) and x2 the rest after it, or by the first check
  *          that fails:
- *          PB_X0_UNK       record not up; page not 4,096 bytes long
- *          PB_X0_AGAIN     busy
- *          PB_X0_BAD_ADDR  outside
- *          PB_X0_INVAL     too long; c_size not 0, 32, 48 or 64; c_size above size; c_size 0 with no session
- *          PB_X0_UNK       token empty, or with c_size 0 of another length than at the start
+ *          PBEAM_X0_UNK       record not up; page not 4,096 bytes long
+ *          PBEAM_X0_AGAIN     busy
+ *          PBEAM_X0_BAD_ADDR  outside
+ *          PBEAM_X0_INVAL     too long; c_size not 0, 32, 48 or 64; c_size above size; c_size 0 with no session
+ *          PBEAM_X0_UNK       token empty, or with c_size 0 of another length than at the start
  * Leaves   on OK the hunk, the token's next bytes, at pa, and every other byte of the page as it was. session: idle after rest 0,
  *          else sending. Refused, page and session as they were.
- * The hunk is written over the challenge: call pb_challenge first. Size 0 with c_size 0 in a session is OK and moves nothing.
+ * The hunk is written over the challenge: call pbeam_challenge first. Size 0 with c_size 0 in a session is OK and moves nothing.
  */
-void pb_platform_token(const uint64_t state[PB_STATE_WORDS], uint64_t session[PB_SESSION_WORDS], uint8_t *page, size_t page_len,
+void pbeam_platform_token(const uint64_t state[PBEAM_STATE_WORDS], uint64_t session[PBEAM_SESSION_WORDS], uint8_t *page, size_t page_len,
                        const uint8_t *token, size_t token_len, uint64_t busy, uint64_t pa, uint64_t size, uint64_t csize,
-                       uint64_t out[PB_OUT_WORDS]);
+                       uint64_t out[PBEAM_OUT_WORDS]);
 
 /*
- * pb_challenge: the challenge of a start, for the platform to make its token.
+ * pbeam_challenge: the challenge of a start, for the platform to make its token.
  * Takes    the boot record, the page, and pa, size and c_size of the start.
  * Answers  nothing. place: c_size bytes at pa, as that part of the page; (0, 0) where the record is not up, the page is not 4,096
  *          bytes long, the buffer is outside or too long, c_size is not 32, 48 or 64, or c_size is above size.
  * Leaves   the page as it was.
  * (0, 0) says that the call is no start or will be refused: make no token.
  */
-void pb_challenge(const uint64_t state[PB_STATE_WORDS], const uint8_t *page, size_t page_len, uint64_t pa, uint64_t size,
-                  uint64_t csize, uint64_t place[PB_PLACE_WORDS]);
+void pbeam_challenge(const uint64_t state[PBEAM_STATE_WORDS], const uint8_t *page, size_t page_len, uint64_t pa, uint64_t size,
+                  uint64_t csize, uint64_t place[PBEAM_PLACE_WORDS]);
 
 /*
- * pb_features (0xC40001B4): the feature register.
+ * pbeam_features (0xC40001B4): the feature register.
  * Takes    the boot record and the register's index.
- * Answers  out: x0 PB_X0_OK with x1 = PB_FEATURE_TOKEN_SIGNING, or by the first check that fails:
- *          PB_X0_UNK       record not up
- *          PB_X0_INVAL     index not PB_FEATURES_INDEX
- *          PB_X0_UNK       agreed minor below PB_SIGNING_MINOR
+ * Answers  out: x0 PBEAM_X0_OK with x1 = PBEAM_FEATURE_TOKEN_SIGNING, or by the first check that fails:
+ *          PBEAM_X0_UNK       record not up
+ *          PBEAM_X0_INVAL     index not PBEAM_FEATURES_INDEX
+ *          PBEAM_X0_UNK       agreed minor below PBEAM_SIGNING_MINOR
  */
-void pb_features(const uint64_t state[PB_STATE_WORDS], uint64_t index, uint64_t out[PB_OUT_WORDS]);
+void pbeam_features(const uint64_t state[PBEAM_STATE_WORDS], uint64_t index, uint64_t out[PBEAM_OUT_WORDS]);
 
 /*
- * pb_token_signing (0xC40001B5): push a request, pull a response, or get the public key.
+ * pbeam_token_signing (0xC40001B5): push a request, pull a response, or get the public key.
  * Takes    the boot record, the queue, the page, the public key (empty while it is not ready), opcode, pa, size and curve.
- * Answers  out: x0 PB_X0_OK, with x1 the key's length for PB_OPCODE_KEY, or by the first check that fails:
- *          PB_X0_UNK       record not up; page not 4,096 bytes long
- *          PB_X0_INVAL     opcode not 1 to 3; outside (here no BAD_ADDR); too long; PB_OPCODE_KEY with curve not PB_CURVE_SECP384R1
- *          PB_X0_UNK       agreed minor below PB_SIGNING_MINOR
- *          push: PB_X0_INVAL  size below PB_REQUEST_BYTES; algorithm id not PB_ALGORITHM_SECP384R1; hash id not PB_HASH_SHA2_384
- *          push: PB_X0_AGAIN  eight requests waiting
- *          pull: PB_X0_AGAIN  no response
- *          pull: PB_X0_INVAL  the response is longer than size; it is kept
- *          key:  PB_X0_AGAIN  key empty
- *          key:  PB_X0_INVAL  key longer than size
+ * Answers  out: x0 PBEAM_X0_OK, with x1 the key's length for PBEAM_OPCODE_KEY, or by the first check that fails:
+ *          PBEAM_X0_UNK       record not up; page not 4,096 bytes long
+ *          PBEAM_X0_INVAL     opcode not 1 to 3; outside (here no BAD_ADDR); too long; PBEAM_OPCODE_KEY with curve not PBEAM_CURVE_SECP384R1
+ *          PBEAM_X0_UNK       agreed minor below PBEAM_SIGNING_MINOR
+ *          push: PBEAM_X0_INVAL  size below PBEAM_REQUEST_BYTES; algorithm id not PBEAM_ALGORITHM_SECP384R1; hash id not PBEAM_HASH_SHA2_384
+ *          push: PBEAM_X0_AGAIN  eight requests waiting
+ *          pull: PBEAM_X0_AGAIN  no response
+ *          pull: PBEAM_X0_INVAL  the response is longer than size; it is kept
+ *          key:  PBEAM_X0_AGAIN  key empty
+ *          key:  PBEAM_X0_INVAL  key longer than size
  * Leaves   on OK: push: the request at the end of those that wait, the page as it was; pull: the oldest response at pa, and dropped
  *          from the queue; key: the key at pa, the queue with the same requests and responses. Bytes of the page behind what is
  *          written stay as they were. Refused, page and queue as they were.
  */
-void pb_token_signing(const uint64_t state[PB_STATE_WORDS], uint64_t queue[PB_QUEUE_WORDS], uint8_t *page, size_t page_len,
+void pbeam_token_signing(const uint64_t state[PBEAM_STATE_WORDS], uint64_t queue[PBEAM_QUEUE_WORDS], uint8_t *page, size_t page_len,
                       const uint8_t *key, size_t key_len, uint64_t opcode, uint64_t pa, uint64_t size, uint64_t curve,
-                      uint64_t out[PB_OUT_WORDS]);
+                      uint64_t out[PBEAM_OUT_WORDS]);
 
 /*
- * pb_key_update (0xC40001B6): a new key for a mecid.
+ * pbeam_key_update (0xC40001B6): a new key for a mecid.
  * Takes    the boot record, width = MECIDR_EL2.MECIDWidthm1 (m), and the mecid.
- * Answers  out: x0 PB_X0_OK with work (PB_WORK_REPROGRAM, mecid), or by the first check that fails:
- *          PB_X0_UNK       record not up
- *          PB_X0_INVAL     mecid above PB_MECID_MOST, or above 2^(m+1) - 1, m taken as 15 if larger
- *          PB_X0_UNK       m above PB_WIDTH_MOST; agreed minor below PB_KEY_UPDATE_MINOR
- *          Refused, work is (PB_WORK_NOTHING, 0).
+ * Answers  out: x0 PBEAM_X0_OK with work (PBEAM_WORK_REPROGRAM, mecid), or by the first check that fails:
+ *          PBEAM_X0_UNK       record not up
+ *          PBEAM_X0_INVAL     mecid above PBEAM_MECID_MOST, or above 2^(m+1) - 1, m taken as 15 if larger
+ *          PBEAM_X0_UNK       m above PBEAM_WIDTH_MOST; agreed minor below PBEAM_KEY_UPDATE_MINOR
+ *          Refused, work is (PBEAM_WORK_NOTHING, 0).
  * The library makes no key: the platform does, when work says so.
  */
-void pb_key_update(const uint64_t state[PB_STATE_WORDS], uint64_t width, uint64_t mecid, uint64_t out[PB_OUT_WORDS],
-                   uint64_t work[PB_WORK_WORDS]);
+void pbeam_key_update(const uint64_t state[PBEAM_STATE_WORDS], uint64_t width, uint64_t mecid, uint64_t out[PBEAM_OUT_WORDS],
+                   uint64_t work[PBEAM_WORK_WORDS]);
 
 /*
- * pb_forward (0xC400018F): the error code of an RMI call, for the Non-secure world.
+ * pbeam_forward (0xC400018F): the error code of an RMI call, for the Non-secure world.
  * Takes    the boot record, which may be in any state, and x1.
  * Answers  err_code, which is x1. It is never refused.
  */
-uint64_t pb_forward(const uint64_t state[PB_STATE_WORDS], uint64_t x1);
+uint64_t pbeam_forward(const uint64_t state[PBEAM_STATE_WORDS], uint64_t x1);
 
 /* ---- The signer's side: no commands of the interface; they look at no boot record ---- */
 
 /*
- * pb_sign: the oldest request becomes the newest response.
+ * pbeam_sign: the oldest request becomes the newest response.
  * Takes    the queue, and the signature of its oldest request.
- * Answers  out: x0 PB_X0_OK, or by the first check that fails:
- *          PB_X0_INVAL     signature not 1 to PB_SIGNATURE_BYTES_MOST bytes long
- *          PB_X0_AGAIN     no request
- *          PB_X0_AGAIN     eight responses waiting; the request is kept
+ * Answers  out: x0 PBEAM_X0_OK, or by the first check that fails:
+ *          PBEAM_X0_INVAL     signature not 1 to PBEAM_SIGNATURE_BYTES_MOST bytes long
+ *          PBEAM_X0_AGAIN     no request
+ *          PBEAM_X0_AGAIN     eight responses waiting; the request is kept
  * Leaves   on OK the queue with one request less and one response more: its rec_granule and req_ticket, and the signature. Refused,
  *          the queue as it was.
  */
-void pb_sign(uint64_t queue[PB_QUEUE_WORDS], const uint8_t *signature, size_t signature_len, uint64_t out[PB_OUT_WORDS]);
+void pbeam_sign(uint64_t queue[PBEAM_QUEUE_WORDS], const uint8_t *signature, size_t signature_len, uint64_t out[PBEAM_OUT_WORDS]);
 
 /*
- * pb_oldest: the oldest request.
+ * pbeam_oldest: the oldest request.
  * Takes    the queue.
  * Answers  how many requests wait, with all fields of the oldest in request; 0 where none does, with request all zero.
- * Leaves   the queue as it was: the request waits until pb_sign takes it.
+ * Leaves   the queue as it was: the request waits until pbeam_sign takes it.
  */
-size_t pb_oldest(const uint64_t queue[PB_QUEUE_WORDS], uint64_t request[PB_REQUEST_WORDS]);
+size_t pbeam_oldest(const uint64_t queue[PBEAM_QUEUE_WORDS], uint64_t request[PBEAM_REQUEST_WORDS]);
 
 /* ---- Dispatcher ---- */
 
 /*
- * pb_call: every command by its function id.
+ * pbeam_call: every command by its function id.
  * Takes    the boot record, session, queue and page; the granule record and the granule table; the realm key;
  *          the platform token and the busy flag; the public key of token signing; width = MECIDWidthm1; and call, the registers:
- *            PB_ID_FORWARD x1 err_code; PB_ID_DELEGATE, PB_ID_UNDELEGATE x1 address; PB_ID_REALM_KEY x1 pa, x2 size, x3 curve;
- *            PB_ID_PLATFORM_TOKEN x1 pa, x2 size, x3 c_size; PB_ID_FEATURES x1 index; PB_ID_TOKEN_SIGNING x1 opcode, x2 pa, x3 size,
- *            x4 curve; PB_ID_KEY_UPDATE x1 mecid.
+ *            PBEAM_ID_FORWARD x1 err_code; PBEAM_ID_DELEGATE, PBEAM_ID_UNDELEGATE x1 address; PBEAM_ID_REALM_KEY x1 pa, x2 size, x3 curve;
+ *            PBEAM_ID_PLATFORM_TOKEN x1 pa, x2 size, x3 c_size; PBEAM_ID_FEATURES x1 index; PBEAM_ID_TOKEN_SIGNING x1 opcode, x2 pa, x3 size,
+ *            x4 curve; PBEAM_ID_KEY_UPDATE x1 mecid.
  *          What a command does not need may be of any content, and a slice empty.
- * Answers  out and work as the command. PB_ID_FORWARD: out all zero, work (PB_WORK_FORWARD, err_code), for any boot record. Any
- *          other id: PB_X0_UNK. Every command but PB_ID_FORWARD: PB_X0_UNK while the record is not up.
- * Leaves   what the command leaves; all else as it was. Only PB_ID_PLATFORM_TOKEN reads or writes the session, only
- *          PB_ID_TOKEN_SIGNING the queue.
+ * Answers  out and work as the command. PBEAM_ID_FORWARD: out all zero, work (PBEAM_WORK_FORWARD, err_code), for any boot record. Any
+ *          other id: PBEAM_X0_UNK. Every command but PBEAM_ID_FORWARD: PBEAM_X0_UNK while the record is not up.
+ * Leaves   what the command leaves; all else as it was. Only PBEAM_ID_PLATFORM_TOKEN reads or writes the session, only
+ *          PBEAM_ID_TOKEN_SIGNING the queue.
  */
-void pb_call(const uint64_t state[PB_STATE_WORDS], uint64_t session[PB_SESSION_WORDS], uint64_t queue[PB_QUEUE_WORDS], uint8_t *page,
-             size_t page_len, const uint64_t granules[PB_GRANULES_WORDS], uint8_t *table, size_t table_len, const uint8_t *key, size_t key_len,
+void pbeam_call(const uint64_t state[PBEAM_STATE_WORDS], uint64_t session[PBEAM_SESSION_WORDS], uint64_t queue[PBEAM_QUEUE_WORDS], uint8_t *page,
+             size_t page_len, const uint64_t granules[PBEAM_GRANULES_WORDS], uint8_t *table, size_t table_len, const uint8_t *key, size_t key_len,
              const uint8_t *token, size_t token_len, uint64_t busy, const uint8_t *public_key, size_t public_len, uint64_t width,
-             const uint64_t call[PB_CALL_WORDS], uint64_t out[PB_OUT_WORDS], uint64_t work[PB_WORK_WORDS]);
+             const uint64_t call[PBEAM_CALL_WORDS], uint64_t out[PBEAM_OUT_WORDS], uint64_t work[PBEAM_WORK_WORDS]);
 
 #ifdef __cplusplus
 }

@@ -15,14 +15,14 @@ pub mod ffi {
     };
 
     extern "C" {
-        pub fn pb_read(
+        pub fn pbeam_read(
             page: *const u8,
             page_len: usize,
             base: u64,
             edition: u64,
             view: *mut ViewImage,
         ) -> i32;
-        pub fn pb_array(
+        pub fn pbeam_array(
             page: *const u8,
             page_len: usize,
             base: u64,
@@ -30,20 +30,20 @@ pub mod ffi {
             section: usize,
             place: *mut Place,
         );
-        pub fn pb_array_of(
+        pub fn pbeam_array_of(
             page: *const u8,
             page_len: usize,
             view: *const ViewImage,
             section: usize,
             place: *mut Place,
         );
-        pub fn pb_count(
+        pub fn pbeam_count(
             page: *const u8,
             page_len: usize,
             view: *const ViewImage,
             section: usize,
         ) -> usize;
-        pub fn pb_word(
+        pub fn pbeam_word(
             page: *const u8,
             page_len: usize,
             view: *const ViewImage,
@@ -51,7 +51,7 @@ pub mod ffi {
             entry: usize,
             word: usize,
         ) -> u64;
-        pub fn pb_write(
+        pub fn pbeam_write(
             base: u64,
             edition: u64,
             dram: *const u64,
@@ -65,7 +65,7 @@ pub mod ffi {
             page: *mut u8,
             page_len: usize,
         ) -> u32;
-        pub fn pb_cold_boot(
+        pub fn pbeam_cold_boot(
             state: *mut RecordImage,
             x0: u64,
             x1: u64,
@@ -75,8 +75,8 @@ pub mod ffi {
             page: *const u8,
             page_len: usize,
         ) -> i32;
-        pub fn pb_warm_boot(state: *mut RecordImage, x0: u64, x1: u64, x2: u64, x3: u64) -> i32;
-        pub fn pb_delegate(
+        pub fn pbeam_warm_boot(state: *mut RecordImage, x0: u64, x1: u64, x2: u64, x3: u64) -> i32;
+        pub fn pbeam_delegate(
             state: *const RecordImage,
             granules: *const GranulesImage,
             table: *mut u8,
@@ -84,7 +84,7 @@ pub mod ffi {
             address: u64,
             out: *mut Registers,
         );
-        pub fn pb_undelegate(
+        pub fn pbeam_undelegate(
             state: *const RecordImage,
             granules: *const GranulesImage,
             table: *mut u8,
@@ -92,7 +92,7 @@ pub mod ffi {
             address: u64,
             out: *mut Registers,
         );
-        pub fn pb_realm_key(
+        pub fn pbeam_realm_key(
             state: *const RecordImage,
             page: *mut u8,
             page_len: usize,
@@ -103,7 +103,7 @@ pub mod ffi {
             curve: u64,
             out: *mut Registers,
         );
-        pub fn pb_platform_token(
+        pub fn pbeam_platform_token(
             state: *const RecordImage,
             session: *mut SessionImage,
             page: *mut u8,
@@ -116,7 +116,7 @@ pub mod ffi {
             csize: u64,
             out: *mut Registers,
         );
-        pub fn pb_challenge(
+        pub fn pbeam_challenge(
             state: *const RecordImage,
             page: *const u8,
             page_len: usize,
@@ -125,8 +125,8 @@ pub mod ffi {
             csize: u64,
             place: *mut Place,
         );
-        pub fn pb_features(state: *const RecordImage, index: u64, out: *mut Registers);
-        pub fn pb_token_signing(
+        pub fn pbeam_features(state: *const RecordImage, index: u64, out: *mut Registers);
+        pub fn pbeam_token_signing(
             state: *const RecordImage,
             queue: *mut QueueImage,
             page: *mut u8,
@@ -139,22 +139,22 @@ pub mod ffi {
             curve: u64,
             out: *mut Registers,
         );
-        pub fn pb_key_update(
+        pub fn pbeam_key_update(
             state: *const RecordImage,
             width: u64,
             mecid: u64,
             out: *mut Registers,
             work: *mut Work,
         );
-        pub fn pb_forward(state: *const RecordImage, x1: u64) -> u64;
-        pub fn pb_sign(
+        pub fn pbeam_forward(state: *const RecordImage, x1: u64) -> u64;
+        pub fn pbeam_sign(
             queue: *mut QueueImage,
             signature: *const u8,
             signature_len: usize,
             out: *mut Registers,
         );
-        pub fn pb_oldest(queue: *const QueueImage, request: *mut RequestImage) -> usize;
-        pub fn pb_call(
+        pub fn pbeam_oldest(queue: *const QueueImage, request: *mut RequestImage) -> usize;
+        pub fn pbeam_call(
             state: *const RecordImage,
             session: *mut SessionImage,
             queue: *mut QueueImage,
@@ -207,31 +207,31 @@ impl Exports for Kit {
     #[inline]
     fn read(page: &[u8], base: u64, edition: u64, view: &mut ViewImage) -> i32 {
         let (page, page_len) = lend(page);
-        unsafe { ffi::pb_read(page, page_len, base, edition, view) }
+        unsafe { ffi::pbeam_read(page, page_len, base, edition, view) }
     }
 
     #[inline]
     fn array(page: &[u8], base: u64, edition: u64, section: usize, place: &mut Place) {
         let (page, page_len) = lend(page);
-        unsafe { ffi::pb_array(page, page_len, base, edition, section, place) }
+        unsafe { ffi::pbeam_array(page, page_len, base, edition, section, place) }
     }
 
     #[inline]
     fn array_of(page: &[u8], view: &ViewImage, section: usize, place: &mut Place) {
         let (page, page_len) = lend(page);
-        unsafe { ffi::pb_array_of(page, page_len, view, section, place) }
+        unsafe { ffi::pbeam_array_of(page, page_len, view, section, place) }
     }
 
     #[inline]
     fn count(page: &[u8], view: &ViewImage, section: usize) -> usize {
         let (page, page_len) = lend(page);
-        unsafe { ffi::pb_count(page, page_len, view, section) }
+        unsafe { ffi::pbeam_count(page, page_len, view, section) }
     }
 
     #[inline]
     fn word(page: &[u8], view: &ViewImage, section: usize, entry: usize, word: usize) -> u64 {
         let (page, page_len) = lend(page);
-        unsafe { ffi::pb_word(page, page_len, view, section, entry, word) }
+        unsafe { ffi::pbeam_word(page, page_len, view, section, entry, word) }
     }
 
     #[inline]
@@ -243,7 +243,7 @@ impl Exports for Kit {
         let (coh, coh_len) = lend(coh);
         let (page, page_len) = lend_mut(page);
         unsafe {
-            ffi::pb_write(
+            ffi::pbeam_write(
                 base,
                 edition,
                 dram,
@@ -264,12 +264,12 @@ impl Exports for Kit {
     fn cold_boot(state: &mut RecordImage, x: [u64; 4], most: u64, page: &[u8]) -> i32 {
         let [x0, x1, x2, x3] = x;
         let (page, page_len) = lend(page);
-        unsafe { ffi::pb_cold_boot(state, x0, x1, x2, x3, most, page, page_len) }
+        unsafe { ffi::pbeam_cold_boot(state, x0, x1, x2, x3, most, page, page_len) }
     }
 
     #[inline]
     fn warm_boot(state: &mut RecordImage, [x0, x1, x2, x3]: [u64; 4]) -> i32 {
-        unsafe { ffi::pb_warm_boot(state, x0, x1, x2, x3) }
+        unsafe { ffi::pbeam_warm_boot(state, x0, x1, x2, x3) }
     }
 
     #[inline]
@@ -281,7 +281,7 @@ impl Exports for Kit {
         out: &mut Registers,
     ) {
         let (table, table_len) = lend_mut(table);
-        unsafe { ffi::pb_delegate(state, granules, table, table_len, at, out) }
+        unsafe { ffi::pbeam_delegate(state, granules, table, table_len, at, out) }
     }
 
     #[inline]
@@ -293,7 +293,7 @@ impl Exports for Kit {
         out: &mut Registers,
     ) {
         let (table, table_len) = lend_mut(table);
-        unsafe { ffi::pb_undelegate(state, granules, table, table_len, at, out) }
+        unsafe { ffi::pbeam_undelegate(state, granules, table, table_len, at, out) }
     }
 
     #[inline]
@@ -306,7 +306,7 @@ impl Exports for Kit {
     ) {
         let (page, page_len) = lend_mut(page);
         let (key, key_len) = lend(key);
-        unsafe { ffi::pb_realm_key(state, page, page_len, key, key_len, pa, size, curve, out) }
+        unsafe { ffi::pbeam_realm_key(state, page, page_len, key, key_len, pa, size, curve, out) }
     }
 
     #[inline]
@@ -322,7 +322,7 @@ impl Exports for Kit {
         let (page, page_len) = lend_mut(page);
         let (token, token_len) = lend(token);
         unsafe {
-            ffi::pb_platform_token(
+            ffi::pbeam_platform_token(
                 state, session, page, page_len, token, token_len, busy, pa, size, csize, out,
             )
         }
@@ -331,12 +331,12 @@ impl Exports for Kit {
     #[inline]
     fn challenge(state: &RecordImage, page: &[u8], [pa, size, csize]: [u64; 3], place: &mut Place) {
         let (page, page_len) = lend(page);
-        unsafe { ffi::pb_challenge(state, page, page_len, pa, size, csize, place) }
+        unsafe { ffi::pbeam_challenge(state, page, page_len, pa, size, csize, place) }
     }
 
     #[inline]
     fn features(state: &RecordImage, index: u64, out: &mut Registers) {
-        unsafe { ffi::pb_features(state, index, out) }
+        unsafe { ffi::pbeam_features(state, index, out) }
     }
 
     #[inline]
@@ -351,7 +351,7 @@ impl Exports for Kit {
         let (page, page_len) = lend_mut(page);
         let (key, key_len) = lend(key);
         unsafe {
-            ffi::pb_token_signing(
+            ffi::pbeam_token_signing(
                 state, queue, page, page_len, key, key_len, opcode, pa, size, curve, out,
             )
         }
@@ -365,23 +365,23 @@ impl Exports for Kit {
         out: &mut Registers,
         work: &mut Work,
     ) {
-        unsafe { ffi::pb_key_update(state, width, mecid, out, work) }
+        unsafe { ffi::pbeam_key_update(state, width, mecid, out, work) }
     }
 
     #[inline]
     fn forward(state: &RecordImage, x1: u64) -> u64 {
-        unsafe { ffi::pb_forward(state, x1) }
+        unsafe { ffi::pbeam_forward(state, x1) }
     }
 
     #[inline]
     fn sign(queue: &mut QueueImage, signature: &[u8], out: &mut Registers) {
         let (signature, signature_len) = lend(signature);
-        unsafe { ffi::pb_sign(queue, signature, signature_len, out) }
+        unsafe { ffi::pbeam_sign(queue, signature, signature_len, out) }
     }
 
     #[inline]
     fn oldest(queue: &QueueImage, request: &mut RequestImage) -> usize {
-        unsafe { ffi::pb_oldest(queue, request) }
+        unsafe { ffi::pbeam_oldest(queue, request) }
     }
 
     #[inline]
@@ -401,7 +401,7 @@ impl Exports for Kit {
         let (public, public_len) = lend(lent.public_key);
         let (granules, busy, width) = (&lent.granules, lent.busy, lent.width);
         unsafe {
-            ffi::pb_call(
+            ffi::pbeam_call(
                 state, session, queue, page, page_len, granules, table, table_len, key, key_len,
                 token, token_len, busy, public, public_len, width, x, out, work,
             )

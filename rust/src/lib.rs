@@ -3,7 +3,7 @@
 //! inputs that both sides are given. `tpm` and `swtpm` are both sides of H_TPM_COMM and of state blobs, which have libraries of their
 //! own.
 //!
-//! After `rt staticlib` of kit, potterbeam_tpm and potterbeam_swtpm: `cargo test --offline --release` for all tests, `cargo run
+//! After `rt staticlib` of potterbeam, potterbeam_tpm and potterbeam_swtpm: `cargo test --offline --release` for all tests, `cargo run
 //! --offline --release --example bench` for the times; the long run is told in `tests/differential/main.rs`. POTTERBEAM_KIT_DIR names
 //! another directory with the archives.
 

@@ -121,10 +121,10 @@ fn measure_sees_stack() {
 #[test]
 #[cfg_attr(debug_assertions, ignore = "measured in release builds")]
 fn checksum_takes_no_more_for_more_consoles() {
-    let one = read_stack("pb_read, 1 console", &consoles(1));
-    let most = read_stack("pb_read, 83 consoles", &consoles(83));
+    let one = read_stack("pbeam_read, 1 console", &consoles(1));
+    let most = read_stack("pbeam_read, 83 consoles", &consoles(83));
     read_stack(
-        "pb_read, 249 banks",
+        "pbeam_read, 249 banks",
         &page_of([&BANK.repeat(249), &[], &[], &[]]),
     );
     assert!(most <= one, "{most} bytes for 83, {one} for 1");
@@ -136,8 +136,8 @@ fn checksum_takes_no_more_for_more_consoles() {
 fn cold_boot_takes_little() {
     let four = page_of([&BANK, &CONSOLE, &BANK, &BANK]);
     for (name, page) in [
-        ("pb_cold_boot, 83 consoles", &consoles(83)),
-        ("pb_cold_boot, all four sections", &four),
+        ("pbeam_cold_boot, 83 consoles", &consoles(83)),
+        ("pbeam_cold_boot, all four sections", &four),
     ] {
         let bytes = cold_stack(name, page);
         assert!(bytes <= 2048, "{bytes} bytes");
@@ -158,15 +158,15 @@ fn manifest_exports() {
     let mut page = consoles(83);
     let (mut view, mut place) = ([0; 15], [0; 2]);
     assert_eq!(Kit::read(&page, BASE, 4, &mut view), 0);
-    printed("pb_array", || Kit::array(&page, BASE, 4, 1, &mut place));
-    printed("pb_array_of", || Kit::array_of(&page, &view, 1, &mut place));
+    printed("pbeam_array", || Kit::array(&page, BASE, 4, 1, &mut place));
+    printed("pbeam_array_of", || Kit::array_of(&page, &view, 1, &mut place));
     let (mut count, mut word) = (0, 0);
-    printed("pb_count", || count = Kit::count(&page, &view, 1));
+    printed("pbeam_count", || count = Kit::count(&page, &view, 1));
     assert_eq!(count, 83);
-    printed("pb_word", || word = Kit::word(&page, &view, 1, 82, 4));
+    printed("pbeam_word", || word = Kit::word(&page, &view, 1, 82, 4));
     assert_eq!(word, CONSOLE[4]);
     let (list, mut code) = (CONSOLE.repeat(83), 1);
-    printed("pb_write", || {
+    printed("pbeam_write", || {
         code = Kit::write(BASE, 4, [&[], &list, &[], &[]], &mut page);
     });
     assert_eq!(code, 0);
@@ -175,36 +175,36 @@ fn manifest_exports() {
 fn command_exports() {
     let (mut out, mut work, mut state) = ([0; 3], [0; 2], UP);
     let mut table = [0; 16];
-    printed("pb_warm_boot", || {
+    printed("pbeam_warm_boot", || {
         Kit::warm_boot(&mut state, [0; 4]);
     });
-    printed("pb_delegate", || {
+    printed("pbeam_delegate", || {
         Kit::delegate(&UP, &[0], &mut table, 4096, &mut out);
     });
-    printed("pb_undelegate", || {
+    printed("pbeam_undelegate", || {
         Kit::undelegate(&UP, &[0], &mut table, 4096, &mut out);
     });
-    printed("pb_features", || Kit::features(&UP, 0, &mut out));
-    printed("pb_key_update", || {
+    printed("pbeam_features", || Kit::features(&UP, 0, &mut out));
+    printed("pbeam_key_update", || {
         Kit::key_update(&UP, 15, 7, &mut out, &mut work);
     });
-    printed("pb_forward", || work[0] = Kit::forward(&UP, 7));
+    printed("pbeam_forward", || work[0] = Kit::forward(&UP, 7));
     assert_eq!((out, work), ([0; 3], [7, 7]));
 }
 
 fn buffer_exports() {
     let (mut page, token) = (vec![0; PAGE], vec![7; PAGE]);
     let (mut out, mut place, mut session) = ([0; 3], [0; 2], [0; 3]);
-    printed("pb_realm_key", || {
+    printed("pbeam_realm_key", || {
         Kit::realm_key(&UP, &mut page, &token, [BASE, 4096, 0], &mut out);
     });
     assert_eq!(out, [0, 4096, 0]);
-    printed("pb_platform_token", || {
+    printed("pbeam_platform_token", || {
         let x = [BASE, 64, 64];
         Kit::platform_token(&UP, &mut session, &mut page, &token, 0, x, &mut out);
     });
     assert_eq!(out, [0, 64, 4032]);
-    printed("pb_challenge", || {
+    printed("pbeam_challenge", || {
         Kit::challenge(&UP, &page, [BASE, 64, 64], &mut place);
     });
     assert_eq!(place, [0, 64]);
@@ -216,23 +216,23 @@ fn queue_exports() {
     let (mut queue, mut request, mut out) = ([0; 210], [0; 10], [1; 3]);
     // Three runs of each: of as many pushes, steps of the signer and pulls none is refused.
     for (name, x) in [("push", [1, BASE, 80, 0]), ("key", [3, BASE + 80, 96, 0])] {
-        printed(&format!("pb_token_signing, {name}"), || {
+        printed(&format!("pbeam_token_signing, {name}"), || {
             Kit::token_signing(&UP, &mut queue, &mut page, &key, x, &mut out);
         });
         assert_eq!(out[0], 0);
     }
-    printed("pb_oldest", || {
+    printed("pbeam_oldest", || {
         Kit::oldest(&queue, &mut request);
     });
-    printed("pb_sign", || Kit::sign(&mut queue, &key, &mut out));
+    printed("pbeam_sign", || Kit::sign(&mut queue, &key, &mut out));
     assert_eq!(out[0], 0);
-    printed("pb_token_signing, pull", || {
+    printed("pbeam_token_signing, pull", || {
         let x = [2, BASE + 1024, 122, 0];
         Kit::token_signing(&UP, &mut queue, &mut page, &key, x, &mut out);
     });
     assert_eq!((out[0], queue[0], queue[1]), (0, 0, 0));
     let (mut session, mut work) = ([0; 3], [0; 2]);
-    printed("pb_call, push", || {
+    printed("pbeam_call, push", || {
         let mut lent = Lent {
             page: &mut page,
             granules: [0],

@@ -16,7 +16,7 @@
 
 #define BASE UINT64_C(0x80000000)
 #define MEMORY UINT64_C(0x90000000)
-static const uint64_t granules[PB_GRANULES_WORDS] = {[PB_GRANULES_START] = MEMORY};
+static const uint64_t granules[PBEAM_GRANULES_WORDS] = {[PBEAM_GRANULES_START] = MEMORY};
 #define LEN 4096
 #define ROOM 512
 #define GUARD UINT64_C(0xA5C3A5C3A5C3A5C3)
@@ -82,7 +82,7 @@ static uint8_t page[2 * LEN];
 static uint32_t make(uint64_t edition)
 {
     memset(page, 0xEE, sizeof page);
-    return pb_write(BASE, edition, dram, edition < 2 ? 0 : 4, console, edition < 3 ? 0 : 6, ncoh, edition < 4 ? 0 : 6, coh,
+    return pbeam_write(BASE, edition, dram, edition < 2 ? 0 : 4, console, edition < 3 ? 0 : 6, ncoh, edition < 4 ? 0 : 6, coh,
                     edition < 4 ? 0 : 8, page, LEN);
 }
 
@@ -91,10 +91,10 @@ static size_t core_of(uint64_t edition)
 {
     uint64_t view[ROOM];
     size_t at = 1;
-    pb_write(BASE, edition, NULL, 0, NULL, 0, NULL, 0, NULL, 0, page, LEN);
+    pbeam_write(BASE, edition, NULL, 0, NULL, 0, NULL, 0, NULL, 0, page, LEN);
     for (; at < LEN; at++) {
         put(page + 8, BASE + at, 8);
-        if (pb_read(page, LEN, BASE, edition, view) == 0)
+        if (pbeam_read(page, LEN, BASE, edition, view) == 0)
             break;
     }
     return at;
@@ -102,10 +102,10 @@ static size_t core_of(uint64_t edition)
 
 static void check_core_sizes(void)
 {
-    SAME(PB_CORE_BYTES_1, core_of(1));
-    SAME(PB_CORE_BYTES_2, core_of(2));
-    SAME(PB_CORE_BYTES_3, core_of(3));
-    SAME(PB_CORE_BYTES_4, core_of(4));
+    SAME(PBEAM_CORE_BYTES_1, core_of(1));
+    SAME(PBEAM_CORE_BYTES_2, core_of(2));
+    SAME(PBEAM_CORE_BYTES_3, core_of(3));
+    SAME(PBEAM_CORE_BYTES_4, core_of(4));
 }
 
 /* A section at its offset in the page: count, pointer, and the checksum over these and the array. */
@@ -116,32 +116,32 @@ static void section_at(size_t at, uint64_t count, uint64_t pointer, const uint64
         SAME(get(page + (pointer - BASE) + 8 * i, 8), list[i]);
         sum += list[i];
     }
-    SAME(get(page + at + PB_SECTION_COUNT, 8), count);
-    SAME(get(page + at + PB_SECTION_POINTER, 8), pointer);
-    SAME(get(page + at + PB_SECTION_CHECKSUM, 8), 0 - sum);
+    SAME(get(page + at + PBEAM_SECTION_COUNT, 8), count);
+    SAME(get(page + at + PBEAM_SECTION_POINTER, 8), pointer);
+    SAME(get(page + at + PBEAM_SECTION_CHECKSUM, 8), 0 - sum);
 }
 
 static void check_page_bytes(void)
 {
-    SAME(PB_WRITE_PAGE, make(1));
-    SAME(get(page + PB_CORE_VERSION, 4), 1);
+    SAME(PBEAM_WRITE_PAGE, make(1));
+    SAME(get(page + PBEAM_CORE_VERSION, 4), 1);
     for (size_t i = 16; i < LEN; i++)
         SAME(page[i], 0);
     SAME(page[LEN], 0xEE);
-    SAME(PB_WRITE_PAGE, make(2));
-    SAME(get(page + PB_CORE_VERSION, 4), 2);
-    section_at(PB_CORE_DRAM, 2, BASE + PB_CORE_BYTES_2, dram, 4);
-    SAME(PB_WRITE_PAGE, make(3));
-    SAME(get(page + PB_CORE_VERSION, 4), 3);
-    section_at(PB_CORE_DRAM, 2, BASE + PB_CORE_BYTES_3, dram, 4);
-    section_at(PB_CORE_CONSOLE, 1, BASE + PB_CORE_BYTES_3 + 32, console, 6);
-    SAME(PB_WRITE_PAGE, make(4));
-    SAME(get(page + PB_CORE_VERSION, 4), 4);
-    section_at(PB_CORE_DRAM, 2, BASE + PB_CORE_BYTES_4, dram, 4);
-    section_at(PB_CORE_CONSOLE, 1, BASE + PB_CORE_BYTES_4 + 32, console, 6);
-    section_at(PB_CORE_NCOH, 3, BASE + PB_CORE_BYTES_4 + 80, ncoh, 6);
-    section_at(PB_CORE_COH, 4, BASE + PB_CORE_BYTES_4 + 128, coh, 8);
-    SAME(PB_SECTION_BYTES, PB_CORE_CONSOLE - PB_CORE_DRAM);
+    SAME(PBEAM_WRITE_PAGE, make(2));
+    SAME(get(page + PBEAM_CORE_VERSION, 4), 2);
+    section_at(PBEAM_CORE_DRAM, 2, BASE + PBEAM_CORE_BYTES_2, dram, 4);
+    SAME(PBEAM_WRITE_PAGE, make(3));
+    SAME(get(page + PBEAM_CORE_VERSION, 4), 3);
+    section_at(PBEAM_CORE_DRAM, 2, BASE + PBEAM_CORE_BYTES_3, dram, 4);
+    section_at(PBEAM_CORE_CONSOLE, 1, BASE + PBEAM_CORE_BYTES_3 + 32, console, 6);
+    SAME(PBEAM_WRITE_PAGE, make(4));
+    SAME(get(page + PBEAM_CORE_VERSION, 4), 4);
+    section_at(PBEAM_CORE_DRAM, 2, BASE + PBEAM_CORE_BYTES_4, dram, 4);
+    section_at(PBEAM_CORE_CONSOLE, 1, BASE + PBEAM_CORE_BYTES_4 + 32, console, 6);
+    section_at(PBEAM_CORE_NCOH, 3, BASE + PBEAM_CORE_BYTES_4 + 80, ncoh, 6);
+    section_at(PBEAM_CORE_COH, 4, BASE + PBEAM_CORE_BYTES_4 + 128, coh, 8);
+    SAME(PBEAM_SECTION_BYTES, PBEAM_CORE_CONSOLE - PBEAM_CORE_DRAM);
 }
 
 /* The first byte of the padding is refused as padding, the byte before it as a version. */
@@ -149,24 +149,24 @@ static void check_padding_and_plat_data(void)
 {
     uint64_t view[ROOM];
     make(1);
-    page[PB_CORE_PADDING] ^= 1;
-    SAME(PB_MANIFEST_RULES, pb_read(page, LEN, BASE, 4, view));
+    page[PBEAM_CORE_PADDING] ^= 1;
+    SAME(PBEAM_MANIFEST_RULES, pbeam_read(page, LEN, BASE, 4, view));
     make(1);
-    page[PB_CORE_PADDING - 1] ^= 1;
-    SAME(PB_MANIFEST_VERSION, pb_read(page, LEN, BASE, 4, view));
+    page[PBEAM_CORE_PADDING - 1] ^= 1;
+    SAME(PBEAM_MANIFEST_VERSION, pbeam_read(page, LEN, BASE, 4, view));
     make(1);
-    put(page + PB_CORE_PLAT_DATA, BASE + 0x123, 8);
-    SAME(PB_READ_ACCEPTED, pb_read(page, LEN, BASE, 4, view));
-    SAME(view[PB_VIEW_PLAT_DATA], BASE + 0x123);
+    put(page + PBEAM_CORE_PLAT_DATA, BASE + 0x123, 8);
+    SAME(PBEAM_READ_ACCEPTED, pbeam_read(page, LEN, BASE, 4, view));
+    SAME(view[PBEAM_VIEW_PLAT_DATA], BASE + 0x123);
 }
 
 static void section_shown(const uint64_t view[ROOM], size_t k, uint64_t kind, uint64_t offset, uint64_t count)
 {
-    const uint64_t *section = view + PB_VIEW_SECTIONS + PB_VIEW_SECTION_WORDS * k;
-    SAME(section[PB_VIEW_SECTION_KIND], kind);
-    SAME(section[PB_VIEW_SECTION_OFFSET], offset);
-    SAME(section[PB_VIEW_SECTION_COUNT], count);
-    SAME(pb_count(page, LEN, view, k), count);
+    const uint64_t *section = view + PBEAM_VIEW_SECTIONS + PBEAM_VIEW_SECTION_WORDS * k;
+    SAME(section[PBEAM_VIEW_SECTION_KIND], kind);
+    SAME(section[PBEAM_VIEW_SECTION_OFFSET], offset);
+    SAME(section[PBEAM_VIEW_SECTION_COUNT], count);
+    SAME(pbeam_count(page, LEN, view, k), count);
 }
 
 static void check_view(void)
@@ -174,53 +174,53 @@ static void check_view(void)
     uint64_t view[ROOM];
     make(4);
     guard(view);
-    SAME(PB_READ_ACCEPTED, pb_read(page, LEN, BASE, 4, view));
-    SAME(PB_VIEW_WORDS, written(view));
-    section_shown(view, PB_DRAM, PB_VIEW_ENTRIES, 112, 2);
-    section_shown(view, PB_CONSOLE, PB_VIEW_ENTRIES, 112 + 32, 1);
-    section_shown(view, PB_NCOH, PB_VIEW_ENTRIES, 112 + 80, 3);
-    section_shown(view, PB_COH, PB_VIEW_ENTRIES, 112 + 128, 4);
-    SAME(pb_count(page, LEN, view, PB_SECTIONS), 0);
-    SAME(pb_count(page, LEN, view, PB_SECTIONS - 1), 4);
+    SAME(PBEAM_READ_ACCEPTED, pbeam_read(page, LEN, BASE, 4, view));
+    SAME(PBEAM_VIEW_WORDS, written(view));
+    section_shown(view, PBEAM_DRAM, PBEAM_VIEW_ENTRIES, 112, 2);
+    section_shown(view, PBEAM_CONSOLE, PBEAM_VIEW_ENTRIES, 112 + 32, 1);
+    section_shown(view, PBEAM_NCOH, PBEAM_VIEW_ENTRIES, 112 + 80, 3);
+    section_shown(view, PBEAM_COH, PBEAM_VIEW_ENTRIES, 112 + 128, 4);
+    SAME(pbeam_count(page, LEN, view, PBEAM_SECTIONS), 0);
+    SAME(pbeam_count(page, LEN, view, PBEAM_SECTIONS - 1), 4);
     /* w and e differ when the reader is older than the page. */
-    SAME(PB_READ_ACCEPTED, pb_read(page, LEN, BASE, 2, view));
-    SAME(view[PB_VIEW_MINOR], 4);
-    SAME(view[PB_VIEW_EDITION], 2);
-    section_shown(view, PB_CONSOLE, PB_VIEW_ABSENT, 0, 0);
-    pb_write(BASE, 4, dram, 4, NULL, 0, NULL, 0, NULL, 0, page, LEN);
-    pb_read(page, LEN, BASE, 4, view);
-    section_shown(view, PB_CONSOLE, PB_VIEW_EMPTY, 0, 0);
+    SAME(PBEAM_READ_ACCEPTED, pbeam_read(page, LEN, BASE, 2, view));
+    SAME(view[PBEAM_VIEW_MINOR], 4);
+    SAME(view[PBEAM_VIEW_EDITION], 2);
+    section_shown(view, PBEAM_CONSOLE, PBEAM_VIEW_ABSENT, 0, 0);
+    pbeam_write(BASE, 4, dram, 4, NULL, 0, NULL, 0, NULL, 0, page, LEN);
+    pbeam_read(page, LEN, BASE, 4, view);
+    section_shown(view, PBEAM_CONSOLE, PBEAM_VIEW_EMPTY, 0, 0);
     /* A refused page shows zeros. */
     guard(view);
-    SAME(PB_MANIFEST_PLACE, pb_read(page, LEN, 0, 4, view));
+    SAME(PBEAM_MANIFEST_PLACE, pbeam_read(page, LEN, 0, 4, view));
     for (size_t i = 0; i < 15; i++)
         SAME(view[i], 0);
-    SAME(PB_VIEW_WORDS, written(view));
+    SAME(PBEAM_VIEW_WORDS, written(view));
 }
 
 static void check_lookups(void)
 {
     uint64_t view[ROOM], place[ROOM];
     make(4);
-    pb_read(page, LEN, BASE, 4, view);
+    pbeam_read(page, LEN, BASE, 4, view);
     guard(place);
-    pb_array(page, LEN, BASE, 4, PB_DRAM, place);
-    SAME(PB_PLACE_WORDS, written(place));
-    SAME(place[PB_PLACE_OFFSET], 112);
-    SAME(place[PB_PLACE_LENGTH], 2 * PB_BANK_BYTES);
+    pbeam_array(page, LEN, BASE, 4, PBEAM_DRAM, place);
+    SAME(PBEAM_PLACE_WORDS, written(place));
+    SAME(place[PBEAM_PLACE_OFFSET], 112);
+    SAME(place[PBEAM_PLACE_LENGTH], 2 * PBEAM_BANK_BYTES);
     guard(place);
-    pb_array_of(page, LEN, view, PB_CONSOLE, place);
-    SAME(PB_PLACE_WORDS, written(place));
-    SAME(place[PB_PLACE_OFFSET], 112 + 32);
-    SAME(place[PB_PLACE_LENGTH], PB_CONSOLE_BYTES);
-    pb_array(page, LEN, BASE, 2, PB_CONSOLE, place);
-    SAME(place[PB_PLACE_OFFSET], 0);
-    SAME(place[PB_PLACE_LENGTH], 0);
-    SAME(pb_word(page, LEN, view, PB_DRAM, 1, PB_BANK_BASE), 0x880000000);
-    SAME(pb_word(page, LEN, view, PB_DRAM, 1, PB_BANK_SIZE), 0x2000);
-    SAME(pb_word(page, LEN, view, PB_CONSOLE, 0, PB_CONSOLE_BASE), 0x1C0C0000);
-    SAME(pb_word(page, LEN, view, PB_CONSOLE, 0, PB_CONSOLE_MAP_PAGES), 3);
-    SAME(pb_word(page, LEN, view, PB_CONSOLE, 0, PB_CONSOLE_FLAGS - 1), 115200);
+    pbeam_array_of(page, LEN, view, PBEAM_CONSOLE, place);
+    SAME(PBEAM_PLACE_WORDS, written(place));
+    SAME(place[PBEAM_PLACE_OFFSET], 112 + 32);
+    SAME(place[PBEAM_PLACE_LENGTH], PBEAM_CONSOLE_BYTES);
+    pbeam_array(page, LEN, BASE, 2, PBEAM_CONSOLE, place);
+    SAME(place[PBEAM_PLACE_OFFSET], 0);
+    SAME(place[PBEAM_PLACE_LENGTH], 0);
+    SAME(pbeam_word(page, LEN, view, PBEAM_DRAM, 1, PBEAM_BANK_BASE), 0x880000000);
+    SAME(pbeam_word(page, LEN, view, PBEAM_DRAM, 1, PBEAM_BANK_SIZE), 0x2000);
+    SAME(pbeam_word(page, LEN, view, PBEAM_CONSOLE, 0, PBEAM_CONSOLE_BASE), 0x1C0C0000);
+    SAME(pbeam_word(page, LEN, view, PBEAM_CONSOLE, 0, PBEAM_CONSOLE_MAP_PAGES), 3);
+    SAME(pbeam_word(page, LEN, view, PBEAM_CONSOLE, 0, PBEAM_CONSOLE_FLAGS - 1), 115200);
 }
 
 /* Name, clock and baud rate are alike to the library: a page that real firmware wrote tells which is which. */
@@ -236,11 +236,11 @@ static void check_real_page(const char *path)
     }
     fclose(file);
     base = get(input, 8);
-    SAME(PB_READ_ACCEPTED, pb_read(input + 8, LEN, base, 4, view));
-    put(name, pb_word(input + 8, LEN, view, PB_CONSOLE, 0, PB_CONSOLE_NAME), 8);
+    SAME(PBEAM_READ_ACCEPTED, pbeam_read(input + 8, LEN, base, 4, view));
+    put(name, pbeam_word(input + 8, LEN, view, PBEAM_CONSOLE, 0, PBEAM_CONSOLE_NAME), 8);
     SAME(memcmp(name, "pl011\0\0", 8), 0);
-    SAME(pb_word(input + 8, LEN, view, PB_CONSOLE, 0, PB_CONSOLE_CLK_IN_HZ), 14745600);
-    SAME(pb_word(input + 8, LEN, view, PB_CONSOLE, 0, PB_CONSOLE_BAUD_RATE), 115200);
+    SAME(pbeam_word(input + 8, LEN, view, PBEAM_CONSOLE, 0, PBEAM_CONSOLE_CLK_IN_HZ), 14745600);
+    SAME(pbeam_word(input + 8, LEN, view, PBEAM_CONSOLE, 0, PBEAM_CONSOLE_BAUD_RATE), 115200);
 }
 
 /* ---- Writer and reader: refusals and limits ---- */
@@ -250,7 +250,7 @@ static size_t entry_words(int of_console)
 {
     size_t n = 1;
     for (; n < 6; n++)
-        if (pb_write(BASE, 4, dram, of_console ? 0 : n, console, of_console ? n : 0, NULL, 0, NULL, 0, page, LEN) != 3)
+        if (pbeam_write(BASE, 4, dram, of_console ? 0 : n, console, of_console ? n : 0, NULL, 0, NULL, 0, page, LEN) != 3)
             break;
     return n;
 }
@@ -260,25 +260,25 @@ static uint32_t write_console(size_t word, uint64_t value)
     uint64_t one[16];
     memcpy(one, console, sizeof console);
     one[word] = value;
-    return pb_write(BASE, 3, NULL, 0, one, 6, NULL, 0, NULL, 0, page, LEN);
+    return pbeam_write(BASE, 3, NULL, 0, one, 6, NULL, 0, NULL, 0, page, LEN);
 }
 
 static void check_entries(void)
 {
-    SAME(PB_BANK_WORDS, entry_words(0));
-    SAME(PB_CONSOLE_WORDS, entry_words(1));
-    SAME(write_console(PB_CONSOLE_BASE, 1), PB_WRITE_W3_LISTS);
-    SAME(write_console(PB_CONSOLE_MAP_PAGES, 0), PB_WRITE_W3_LISTS);
-    SAME(write_console(PB_CONSOLE_FLAGS, 1), PB_WRITE_W3_LISTS);
-    SAME(write_console(PB_CONSOLE_NAME, 0), PB_WRITE_PAGE);
-    SAME(write_console(PB_CONSOLE_CLK_IN_HZ, 0), PB_WRITE_PAGE);
-    SAME(write_console(PB_CONSOLE_BAUD_RATE, 0), PB_WRITE_PAGE);
+    SAME(PBEAM_BANK_WORDS, entry_words(0));
+    SAME(PBEAM_CONSOLE_WORDS, entry_words(1));
+    SAME(write_console(PBEAM_CONSOLE_BASE, 1), PBEAM_WRITE_W3_LISTS);
+    SAME(write_console(PBEAM_CONSOLE_MAP_PAGES, 0), PBEAM_WRITE_W3_LISTS);
+    SAME(write_console(PBEAM_CONSOLE_FLAGS, 1), PBEAM_WRITE_W3_LISTS);
+    SAME(write_console(PBEAM_CONSOLE_NAME, 0), PBEAM_WRITE_PAGE);
+    SAME(write_console(PBEAM_CONSOLE_CLK_IN_HZ, 0), PBEAM_WRITE_PAGE);
+    SAME(write_console(PBEAM_CONSOLE_BAUD_RATE, 0), PBEAM_WRITE_PAGE);
 }
 
 static uint32_t write_bank(uint64_t bank, uint64_t size)
 {
     uint64_t one[2] = {bank, size};
-    return pb_write(BASE, 2, one, 2, NULL, 0, NULL, 0, NULL, 0, page, LEN);
+    return pbeam_write(BASE, 2, one, 2, NULL, 0, NULL, 0, NULL, 0, page, LEN);
 }
 
 static void check_writer(void)
@@ -286,19 +286,19 @@ static void check_writer(void)
     static uint64_t banks[500];
     for (size_t i = 0; i < 500; i++)
         banks[i] = 4096 * (i + 1);
-    SAME(PB_WRITE_W1_PLACE, pb_write(0, 4, NULL, 0, NULL, 0, NULL, 0, NULL, 0, page, LEN));
-    SAME(PB_WRITE_W2_EDITION, pb_write(BASE, 0, NULL, 0, NULL, 0, NULL, 0, NULL, 0, page, LEN));
-    SAME(PB_WRITE_W3_LISTS, pb_write(BASE, 1, NULL, 0, NULL, 0, NULL, 0, coh, 1, page, LEN));
-    SAME(PB_WRITE_W4_LATE, pb_write(BASE, 3, NULL, 0, NULL, 0, NULL, 0, coh, 2, page, LEN));
+    SAME(PBEAM_WRITE_W1_PLACE, pbeam_write(0, 4, NULL, 0, NULL, 0, NULL, 0, NULL, 0, page, LEN));
+    SAME(PBEAM_WRITE_W2_EDITION, pbeam_write(BASE, 0, NULL, 0, NULL, 0, NULL, 0, NULL, 0, page, LEN));
+    SAME(PBEAM_WRITE_W3_LISTS, pbeam_write(BASE, 1, NULL, 0, NULL, 0, NULL, 0, coh, 1, page, LEN));
+    SAME(PBEAM_WRITE_W4_LATE, pbeam_write(BASE, 3, NULL, 0, NULL, 0, NULL, 0, coh, 2, page, LEN));
     memset(page, 0xEE, LEN);
-    SAME(PB_WRITE_W5_ROOM, pb_write(BASE, 4, banks, 500, NULL, 0, NULL, 0, NULL, 0, page, LEN));
+    SAME(PBEAM_WRITE_W5_ROOM, pbeam_write(BASE, 4, banks, 500, NULL, 0, NULL, 0, NULL, 0, page, LEN));
     for (size_t i = 0; i < LEN; i++)
         SAME(page[i], 0xEE);
-    SAME(PB_WRITE_PAGE, pb_write(BASE, 4, banks, 498, NULL, 0, NULL, 0, NULL, 0, page, LEN));
-    SAME(write_bank(PB_ADDRESS_LIMIT - 4096, 4096), PB_WRITE_PAGE);
-    SAME(write_bank(PB_ADDRESS_LIMIT - 4096, 8192), PB_WRITE_W3_LISTS);
-    SAME(PB_WRITE_PAGE, pb_write(PB_BASE_MOST, 4, NULL, 0, NULL, 0, NULL, 0, NULL, 0, page, LEN));
-    SAME(PB_WRITE_W1_PLACE, pb_write(PB_BASE_MOST + 4096, 4, NULL, 0, NULL, 0, NULL, 0, NULL, 0, page, LEN));
+    SAME(PBEAM_WRITE_PAGE, pbeam_write(BASE, 4, banks, 498, NULL, 0, NULL, 0, NULL, 0, page, LEN));
+    SAME(write_bank(PBEAM_ADDRESS_LIMIT - 4096, 4096), PBEAM_WRITE_PAGE);
+    SAME(write_bank(PBEAM_ADDRESS_LIMIT - 4096, 8192), PBEAM_WRITE_W3_LISTS);
+    SAME(PBEAM_WRITE_PAGE, pbeam_write(PBEAM_BASE_MOST, 4, NULL, 0, NULL, 0, NULL, 0, NULL, 0, page, LEN));
+    SAME(PBEAM_WRITE_W1_PLACE, pbeam_write(PBEAM_BASE_MOST + 4096, 4, NULL, 0, NULL, 0, NULL, 0, NULL, 0, page, LEN));
 }
 
 static void check_editions_and_length(void)
@@ -307,18 +307,18 @@ static void check_editions_and_length(void)
     uint64_t first = 0, last = 0;
     size_t length = 0;
     for (uint64_t edition = 100; edition > 0; edition--)
-        if (make(edition > 4 ? 4 : edition) == 0 && pb_read(page, LEN, BASE, edition, view) == 0) {
+        if (make(edition > 4 ? 4 : edition) == 0 && pbeam_read(page, LEN, BASE, edition, view) == 0) {
             first = edition;
             last = last == 0 ? edition : last;
         }
-    SAME(PB_EDITION_FIRST, first);
-    SAME(PB_EDITION_LAST, last);
-    SAME(PB_MANIFEST_VERSION, pb_read(page, LEN, BASE, PB_EDITION_LAST + 1, view));
+    SAME(PBEAM_EDITION_FIRST, first);
+    SAME(PBEAM_EDITION_LAST, last);
+    SAME(PBEAM_MANIFEST_VERSION, pbeam_read(page, LEN, BASE, PBEAM_EDITION_LAST + 1, view));
     make(4);
     for (size_t n = 0; n < sizeof page; n++)
-        if (pb_read(page, n, BASE, 4, view) == 0)
+        if (pbeam_read(page, n, BASE, 4, view) == 0)
             length += n; /* there is one such length */
-    SAME(PB_PAGE_BYTES, length);
+    SAME(PBEAM_PAGE_BYTES, length);
 }
 
 /* ---- Boot ---- */
@@ -328,7 +328,7 @@ static void up(uint64_t state[ROOM], uint64_t minor)
 {
     make(4);
     memset(state, 0, ROOM * sizeof state[0]);
-    SAME(pb_cold_boot(state, 0, minor, 3, BASE, 8, page, LEN), 0);
+    SAME(pbeam_cold_boot(state, 0, minor, 3, BASE, 8, page, LEN), 0);
 }
 
 static void check_state(void)
@@ -336,50 +336,50 @@ static void check_state(void)
     uint64_t state[ROOM];
     make(4);
     guard(state);
-    SAME(PB_BOOT_STATE, pb_cold_boot(state, 0, 4, 3, BASE, 8, page, LEN));
-    SAME(PB_STATE_WORDS, written(state));
-    SAME(state[PB_STATE_KIND], PB_STATE_CLOSED);
+    SAME(PBEAM_BOOT_STATE, pbeam_cold_boot(state, 0, 4, 3, BASE, 8, page, LEN));
+    SAME(PBEAM_STATE_WORDS, written(state));
+    SAME(state[PBEAM_STATE_KIND], PBEAM_STATE_CLOSED);
     guard(state);
-    state[PB_STATE_KIND] = PB_STATE_FRESH;
-    SAME(PB_BOOT_DONE, pb_cold_boot(state, 0, 4, 3, BASE, 8, page, LEN));
-    SAME(PB_STATE_WORDS, written(state));
-    SAME(state[PB_STATE_KIND], PB_STATE_UP);
-    SAME(state[PB_STATE_CPUS], 3);
-    SAME(state[PB_STATE_BASE], BASE);
-    SAME(state[PB_STATE_MINOR], 4);
-    SAME(PB_BOOT_DONE, pb_warm_boot(state, 2, 9, 9, 9));
-    SAME(state[PB_STATE_KIND], PB_STATE_UP);
-    SAME(PB_BOOT_CPU, pb_warm_boot(state, 3, 0, 0, 0));
-    SAME(state[PB_STATE_KIND], PB_STATE_CLOSED);
-    SAME(PB_BOOT_STATE, pb_warm_boot(state, 0, 0, 0, 0));
+    state[PBEAM_STATE_KIND] = PBEAM_STATE_FRESH;
+    SAME(PBEAM_BOOT_DONE, pbeam_cold_boot(state, 0, 4, 3, BASE, 8, page, LEN));
+    SAME(PBEAM_STATE_WORDS, written(state));
+    SAME(state[PBEAM_STATE_KIND], PBEAM_STATE_UP);
+    SAME(state[PBEAM_STATE_CPUS], 3);
+    SAME(state[PBEAM_STATE_BASE], BASE);
+    SAME(state[PBEAM_STATE_MINOR], 4);
+    SAME(PBEAM_BOOT_DONE, pbeam_warm_boot(state, 2, 9, 9, 9));
+    SAME(state[PBEAM_STATE_KIND], PBEAM_STATE_UP);
+    SAME(PBEAM_BOOT_CPU, pbeam_warm_boot(state, 3, 0, 0, 0));
+    SAME(state[PBEAM_STATE_KIND], PBEAM_STATE_CLOSED);
+    SAME(PBEAM_BOOT_STATE, pbeam_warm_boot(state, 0, 0, 0, 0));
     memset(state, 0, sizeof state);
-    SAME(PB_BOOT_DONE, pb_cold_boot(state, 0, 0xFFFF, 3, BASE, 8, page, LEN));
-    SAME(PB_INTERFACE_MINOR, state[PB_STATE_MINOR]);
+    SAME(PBEAM_BOOT_DONE, pbeam_cold_boot(state, 0, 0xFFFF, 3, BASE, 8, page, LEN));
+    SAME(PBEAM_INTERFACE_MINOR, state[PBEAM_STATE_MINOR]);
 }
 
 /* A cold boot of a fresh record that is refused: it closes the record. */
 static int32_t refused_boot(uint64_t x0, uint64_t x1, uint64_t x2, uint64_t x3)
 {
     uint64_t state[ROOM] = {0};
-    int32_t code = pb_cold_boot(state, x0, x1, x2, x3, 8, page, LEN);
-    SAME(state[PB_STATE_KIND], PB_STATE_CLOSED);
-    SAME(state[PB_STATE_CPUS] | state[PB_STATE_BASE] | state[PB_STATE_MINOR], 0);
+    int32_t code = pbeam_cold_boot(state, x0, x1, x2, x3, 8, page, LEN);
+    SAME(state[PBEAM_STATE_KIND], PBEAM_STATE_CLOSED);
+    SAME(state[PBEAM_STATE_CPUS] | state[PBEAM_STATE_BASE] | state[PBEAM_STATE_MINOR], 0);
     return code;
 }
 
 static void check_boot_codes(void)
 {
     make(4);
-    SAME(PB_BOOT_VERSION, refused_boot(0, 0, 3, BASE));
-    SAME(PB_BOOT_VERSION, refused_boot(0, UINT64_C(0x100000005), 3, BASE));
-    SAME(PB_BOOT_CPUS, refused_boot(0, 5, 9, BASE));
-    SAME(PB_BOOT_CPU, refused_boot(3, 5, 3, BASE));
-    SAME(PB_MANIFEST_PLACE, refused_boot(0, 5, 3, 0));
+    SAME(PBEAM_BOOT_VERSION, refused_boot(0, 0, 3, BASE));
+    SAME(PBEAM_BOOT_VERSION, refused_boot(0, UINT64_C(0x100000005), 3, BASE));
+    SAME(PBEAM_BOOT_CPUS, refused_boot(0, 5, 9, BASE));
+    SAME(PBEAM_BOOT_CPU, refused_boot(3, 5, 3, BASE));
+    SAME(PBEAM_MANIFEST_PLACE, refused_boot(0, 5, 3, 0));
     put(page, 0, 4);
-    SAME(PB_MANIFEST_VERSION, refused_boot(0, 5, 3, BASE));
+    SAME(PBEAM_MANIFEST_VERSION, refused_boot(0, 5, 3, BASE));
     put(page, 4, 8);
     page[4] = 1;
-    SAME(PB_MANIFEST_RULES, refused_boot(0, 5, 3, BASE));
+    SAME(PBEAM_MANIFEST_RULES, refused_boot(0, 5, 3, BASE));
 }
 
 /* ---- Runtime commands ---- */
@@ -388,30 +388,30 @@ static void check_codes(void)
 {
     uint64_t state[ROOM], session[ROOM] = {0}, out[ROOM];
     uint8_t table[1] = {1};
-    SAME(PB_X0_OK, (int64_t)PB_OK);
-    SAME(PB_X0_UNK, (int64_t)PB_UNK);
-    SAME(PB_X0_BAD_ADDR, (int64_t)PB_BAD_ADDR);
-    SAME(PB_X0_BAD_PAS, (int64_t)PB_BAD_PAS);
-    SAME(PB_X0_INVAL, (int64_t)PB_INVAL);
-    SAME(PB_X0_AGAIN, (int64_t)PB_AGAIN);
+    SAME(PBEAM_X0_OK, (int64_t)PBEAM_OK);
+    SAME(PBEAM_X0_UNK, (int64_t)PBEAM_UNK);
+    SAME(PBEAM_X0_BAD_ADDR, (int64_t)PBEAM_BAD_ADDR);
+    SAME(PBEAM_X0_BAD_PAS, (int64_t)PBEAM_BAD_PAS);
+    SAME(PBEAM_X0_INVAL, (int64_t)PBEAM_INVAL);
+    SAME(PBEAM_X0_AGAIN, (int64_t)PBEAM_AGAIN);
     memset(state, 0, sizeof state);
     guard(out);
-    pb_features(state, 0, out);
-    SAME(PB_OUT_WORDS, written(out));
-    SAME(PB_X0_UNK, out[PB_OUT_X0]);
+    pbeam_features(state, 0, out);
+    SAME(PBEAM_OUT_WORDS, written(out));
+    SAME(PBEAM_X0_UNK, out[PBEAM_OUT_X0]);
     up(state, 5);
-    pb_features(state, 0, out);
-    SAME(PB_X0_OK, out[PB_OUT_X0]);
-    pb_delegate(state, granules, table, 1, MEMORY + 1, out);
-    SAME(PB_X0_BAD_ADDR, out[PB_OUT_X0]);
-    pb_delegate(state, granules, table, 1, MEMORY, out);
-    SAME(PB_X0_BAD_PAS, out[PB_OUT_X0]);
-    pb_features(state, 1, out);
-    SAME(PB_X0_INVAL, out[PB_OUT_X0]);
+    pbeam_features(state, 0, out);
+    SAME(PBEAM_X0_OK, out[PBEAM_OUT_X0]);
+    pbeam_delegate(state, granules, table, 1, MEMORY + 1, out);
+    SAME(PBEAM_X0_BAD_ADDR, out[PBEAM_OUT_X0]);
+    pbeam_delegate(state, granules, table, 1, MEMORY, out);
+    SAME(PBEAM_X0_BAD_PAS, out[PBEAM_OUT_X0]);
+    pbeam_features(state, 1, out);
+    SAME(PBEAM_X0_INVAL, out[PBEAM_OUT_X0]);
     guard(session);
-    pb_platform_token(state, session, page, LEN, table, 1, 1, BASE, 64, 48, out);
-    SAME(PB_X0_AGAIN, out[PB_OUT_X0]);
-    SAME(out[PB_OUT_X1] | out[PB_OUT_X2], 0);
+    pbeam_platform_token(state, session, page, LEN, table, 1, 1, BASE, 64, 48, out);
+    SAME(PBEAM_X0_AGAIN, out[PBEAM_OUT_X0]);
+    SAME(out[PBEAM_OUT_X1] | out[PBEAM_OUT_X2], 0);
     SAME(written(session), 0);
 }
 
@@ -419,28 +419,28 @@ static uint64_t delegate(const uint64_t state[ROOM], uint8_t *table, size_t i, i
 {
     uint64_t out[ROOM];
     if (back)
-        pb_undelegate(state, granules, table, 4, MEMORY + i * PB_GRANULE_BYTES, out);
+        pbeam_undelegate(state, granules, table, 4, MEMORY + i * PBEAM_GRANULE_BYTES, out);
     else
-        pb_delegate(state, granules, table, 4, MEMORY + i * PB_GRANULE_BYTES, out);
+        pbeam_delegate(state, granules, table, 4, MEMORY + i * PBEAM_GRANULE_BYTES, out);
     return out[0];
 }
 
 static void check_granules(void)
 {
     uint64_t state[ROOM];
-    uint8_t table[4] = {PB_GRANULE_NON_SECURE, PB_GRANULE_REALM, PB_GRANULE_ROOT, PB_GRANULE_SECURE};
+    uint8_t table[4] = {PBEAM_GRANULE_NON_SECURE, PBEAM_GRANULE_REALM, PBEAM_GRANULE_ROOT, PBEAM_GRANULE_SECURE};
     up(state, 5);
-    SAME(delegate(state, table, 0, 0), PB_X0_OK);
-    SAME(table[0], PB_GRANULE_REALM);
-    SAME(delegate(state, table, 1, 1), PB_X0_OK);
-    SAME(table[1], PB_GRANULE_NON_SECURE);
+    SAME(delegate(state, table, 0, 0), PBEAM_X0_OK);
+    SAME(table[0], PBEAM_GRANULE_REALM);
+    SAME(delegate(state, table, 1, 1), PBEAM_X0_OK);
+    SAME(table[1], PBEAM_GRANULE_NON_SECURE);
     for (size_t i = 2; i < 4; i++) {
-        SAME(delegate(state, table, i, 0), PB_X0_BAD_PAS);
-        SAME(delegate(state, table, i, 1), PB_X0_BAD_PAS);
+        SAME(delegate(state, table, i, 0), PBEAM_X0_BAD_PAS);
+        SAME(delegate(state, table, i, 1), PBEAM_X0_BAD_PAS);
     }
     /* Root and Secure are alike to the library: 01 gives them these numbers. */
-    SAME(PB_GRANULE_ROOT, 2);
-    SAME(PB_GRANULE_SECURE, 3);
+    SAME(PBEAM_GRANULE_ROOT, 2);
+    SAME(PBEAM_GRANULE_SECURE, 3);
 }
 
 static void check_realm_key(void)
@@ -450,19 +450,19 @@ static void check_realm_key(void)
     up(state, 5);
     for (uint64_t curve = 0; curve < 100; curve++) {
         guard(out);
-        pb_realm_key(state, page, LEN, key, 3, BASE + 7, 3, curve, out);
-        SAME(PB_OUT_WORDS, written(out));
+        pbeam_realm_key(state, page, LEN, key, 3, BASE + 7, 3, curve, out);
+        SAME(PBEAM_OUT_WORDS, written(out));
         if (out[0] == 0) {
             accepted++;
             curves += curve;
         }
     }
     SAME(accepted, 1);
-    SAME(PB_CURVE_SECP384R1, curves);
+    SAME(PBEAM_CURVE_SECP384R1, curves);
     SAME(memcmp(page + 7, key, 3), 0);
-    pb_realm_key(state, page, LEN, key, 3, BASE, 3, PB_CURVE_SECP384R1, out);
-    SAME(out[PB_OUT_X0], PB_X0_OK);
-    SAME(out[PB_OUT_X1], 3);
+    pbeam_realm_key(state, page, LEN, key, 3, BASE, 3, PBEAM_CURVE_SECP384R1, out);
+    SAME(out[PBEAM_OUT_X0], PBEAM_X0_OK);
+    SAME(out[PBEAM_OUT_X1], 3);
 }
 
 static void check_challenge_sizes(void)
@@ -472,18 +472,18 @@ static void check_challenge_sizes(void)
     up(state, 5);
     for (uint64_t size = 0; size <= LEN; size++) {
         guard(place);
-        pb_challenge(state, page, LEN, BASE, LEN, size, place);
-        SAME(PB_PLACE_WORDS, written(place));
+        pbeam_challenge(state, page, LEN, BASE, LEN, size, place);
+        SAME(PBEAM_PLACE_WORDS, written(place));
         if (place[1] != 0)
             found[n++ % ROOM] = size;
     }
     SAME(n, 3);
-    SAME(PB_CHALLENGE_SHA256, found[0]);
-    SAME(PB_CHALLENGE_SHA384, found[1]);
-    SAME(PB_CHALLENGE_SHA512, found[2]);
-    pb_challenge(state, page, LEN, BASE + 1000, 100, 48, place);
-    SAME(place[PB_PLACE_OFFSET], 1000);
-    SAME(place[PB_PLACE_LENGTH], 48);
+    SAME(PBEAM_CHALLENGE_SHA256, found[0]);
+    SAME(PBEAM_CHALLENGE_SHA384, found[1]);
+    SAME(PBEAM_CHALLENGE_SHA512, found[2]);
+    pbeam_challenge(state, page, LEN, BASE + 1000, 100, 48, place);
+    SAME(place[PBEAM_PLACE_OFFSET], 1000);
+    SAME(place[PBEAM_PLACE_LENGTH], 48);
 }
 
 /* Example 12 of 01: a token of 100 bytes, buffer 64, c_size 48. */
@@ -495,27 +495,27 @@ static void check_session(void)
         token[i] = (uint8_t)(i + 1);
     up(state, 5);
     guard(session);
-    pb_platform_token(state, session, page, LEN, token, 100, 0, BASE + 8, 64, 48, out);
-    SAME(PB_SESSION_WORDS, written(session));
-    SAME(session[PB_SESSION_KIND], PB_SESSION_SENDING);
-    SAME(session[PB_SESSION_WHOLE], 100);
-    SAME(session[PB_SESSION_SENT], 64);
-    SAME(out[PB_OUT_X0], PB_X0_OK);
-    SAME(out[PB_OUT_X1], 64);
-    SAME(out[PB_OUT_X2], 36);
+    pbeam_platform_token(state, session, page, LEN, token, 100, 0, BASE + 8, 64, 48, out);
+    SAME(PBEAM_SESSION_WORDS, written(session));
+    SAME(session[PBEAM_SESSION_KIND], PBEAM_SESSION_SENDING);
+    SAME(session[PBEAM_SESSION_WHOLE], 100);
+    SAME(session[PBEAM_SESSION_SENT], 64);
+    SAME(out[PBEAM_OUT_X0], PBEAM_X0_OK);
+    SAME(out[PBEAM_OUT_X1], 64);
+    SAME(out[PBEAM_OUT_X2], 36);
     SAME(memcmp(page + 8, token, 64), 0);
-    pb_platform_token(state, session, page, LEN, token, 100, 0, BASE + 8, 64, PB_CHALLENGE_NONE, out);
-    SAME(out[PB_OUT_X1], 36);
+    pbeam_platform_token(state, session, page, LEN, token, 100, 0, BASE + 8, 64, PBEAM_CHALLENGE_NONE, out);
+    SAME(out[PBEAM_OUT_X1], 36);
     SAME(memcmp(page + 8, token + 64, 36), 0);
-    SAME(session[PB_SESSION_KIND], PB_SESSION_IDLE);
-    SAME(session[PB_SESSION_WHOLE] | session[PB_SESSION_SENT], 0);
-    pb_platform_token(state, session, page, LEN, token, 100, 0, BASE + 8, 64, PB_CHALLENGE_NONE, out);
-    SAME(out[PB_OUT_X0], PB_X0_INVAL);
-    session[PB_SESSION_KIND] = PB_SESSION_SENDING;
-    session[PB_SESSION_WHOLE] = 100;
-    session[PB_SESSION_SENT] = 99;
-    pb_platform_token(state, session, page, LEN, token, 100, 0, BASE + 8, 64, PB_CHALLENGE_NONE, out);
-    SAME(out[PB_OUT_X1], 1);
+    SAME(session[PBEAM_SESSION_KIND], PBEAM_SESSION_IDLE);
+    SAME(session[PBEAM_SESSION_WHOLE] | session[PBEAM_SESSION_SENT], 0);
+    pbeam_platform_token(state, session, page, LEN, token, 100, 0, BASE + 8, 64, PBEAM_CHALLENGE_NONE, out);
+    SAME(out[PBEAM_OUT_X0], PBEAM_X0_INVAL);
+    session[PBEAM_SESSION_KIND] = PBEAM_SESSION_SENDING;
+    session[PBEAM_SESSION_WHOLE] = 100;
+    session[PBEAM_SESSION_SENT] = 99;
+    pbeam_platform_token(state, session, page, LEN, token, 100, 0, BASE + 8, 64, PBEAM_CHALLENGE_NONE, out);
+    SAME(out[PBEAM_OUT_X1], 1);
 }
 
 static void check_features(void)
@@ -523,22 +523,22 @@ static void check_features(void)
     uint64_t state[ROOM], out[ROOM], minor = 5, index = 0, accepted = 0;
     up(state, 5);
     for (uint64_t i = 0; i < 100; i++) {
-        pb_features(state, i, out);
+        pbeam_features(state, i, out);
         if (out[0] == 0) {
             accepted++;
             index += i;
         }
     }
     SAME(accepted, 1);
-    SAME(PB_FEATURES_INDEX, index);
-    pb_features(state, PB_FEATURES_INDEX, out);
-    SAME(PB_FEATURE_TOKEN_SIGNING, out[PB_OUT_X1]);
+    SAME(PBEAM_FEATURES_INDEX, index);
+    pbeam_features(state, PBEAM_FEATURES_INDEX, out);
+    SAME(PBEAM_FEATURE_TOKEN_SIGNING, out[PBEAM_OUT_X1]);
     for (uint64_t offered = 5; offered > 0; offered--) {
         up(state, offered);
-        pb_features(state, 0, out);
+        pbeam_features(state, 0, out);
         minor = out[0] == 0 ? offered : minor;
     }
-    SAME(PB_SIGNING_MINOR, minor);
+    SAME(PBEAM_SIGNING_MINOR, minor);
 }
 
 static void check_key_update(void)
@@ -546,32 +546,32 @@ static void check_key_update(void)
     uint64_t state[ROOM], out[ROOM], work[ROOM], most = 0, width = 0, minor = 6;
     up(state, 5);
     for (uint64_t mecid = 0; mecid < 70000; mecid++) {
-        pb_key_update(state, 15, mecid, out, work);
+        pbeam_key_update(state, 15, mecid, out, work);
         most = out[0] == 0 ? mecid : most;
     }
-    SAME(PB_MECID_MOST, most);
+    SAME(PBEAM_MECID_MOST, most);
     for (uint64_t m = 0; m < 100; m++) {
-        pb_key_update(state, m, 0, out, work);
+        pbeam_key_update(state, m, 0, out, work);
         width = out[0] == 0 ? m : width;
     }
-    SAME(PB_WIDTH_MOST, width);
+    SAME(PBEAM_WIDTH_MOST, width);
     guard(out);
     guard(work);
-    pb_key_update(state, 15, 0x1234, out, work);
-    SAME(PB_OUT_WORDS, written(out));
-    SAME(PB_WORK_WORDS, written(work));
-    SAME(work[PB_WORK_KIND], PB_WORK_REPROGRAM);
-    SAME(work[PB_WORK_VALUE], 0x1234);
-    pb_key_update(state, 15, 65536, out, work);
-    SAME(work[PB_WORK_KIND], PB_WORK_NOTHING);
-    SAME(work[PB_WORK_VALUE], 0);
+    pbeam_key_update(state, 15, 0x1234, out, work);
+    SAME(PBEAM_OUT_WORDS, written(out));
+    SAME(PBEAM_WORK_WORDS, written(work));
+    SAME(work[PBEAM_WORK_KIND], PBEAM_WORK_REPROGRAM);
+    SAME(work[PBEAM_WORK_VALUE], 0x1234);
+    pbeam_key_update(state, 15, 65536, out, work);
+    SAME(work[PBEAM_WORK_KIND], PBEAM_WORK_NOTHING);
+    SAME(work[PBEAM_WORK_VALUE], 0);
     for (uint64_t offered = 5; offered > 0; offered--) {
         up(state, offered);
-        pb_key_update(state, 15, 0, out, work);
+        pbeam_key_update(state, 15, 0, out, work);
         minor = out[0] == 0 ? offered : minor;
     }
-    SAME(PB_KEY_UPDATE_MINOR, minor);
-    SAME(pb_forward(state, 0x77), 0x77);
+    SAME(PBEAM_KEY_UPDATE_MINOR, minor);
+    SAME(pbeam_forward(state, 0x77), 0x77);
 }
 
 /* ---- Token signing ---- */
@@ -592,9 +592,9 @@ static uint64_t signing(const uint64_t state[ROOM], uint64_t queue[ROOM], uint64
     static const uint8_t key[] = {0x61, 0x62, 0x63, 0x64, 0x65};
     uint64_t out[ROOM];
     guard(out);
-    pb_token_signing(state, queue, page, LEN, key, sizeof key, opcode, BASE + HERE, size, 0, out);
-    SAME(PB_OUT_WORDS, written(out));
-    SAME(out[PB_OUT_X1], out[0] == 0 && opcode == 3 ? sizeof key : 0);
+    pbeam_token_signing(state, queue, page, LEN, key, sizeof key, opcode, BASE + HERE, size, 0, out);
+    SAME(PBEAM_OUT_WORDS, written(out));
+    SAME(out[PBEAM_OUT_X1], out[0] == 0 && opcode == 3 ? sizeof key : 0);
     return out[0];
 }
 
@@ -604,7 +604,7 @@ static uint64_t sign(uint64_t queue[ROOM], uint8_t from, size_t len)
     uint64_t out[ROOM];
     for (size_t i = 0; i < sizeof signature; i++)
         signature[i] = (uint8_t)(from + i);
-    pb_sign(queue, signature, len, out);
+    pbeam_sign(queue, signature, len, out);
     return out[0];
 }
 
@@ -621,33 +621,33 @@ static size_t run_of(const uint64_t *words, const uint8_t *at)
 static void check_request_layout(void)
 {
     uint64_t state[ROOM], queue[ROOM], request[ROOM];
-    const uint64_t *first = queue + PB_QUEUE_FIRST_REQUEST;
+    const uint64_t *first = queue + PBEAM_QUEUE_FIRST_REQUEST;
     up(state, 5);
     guard(queue);
     queue[0] = queue[1] = 0;
     lay_request(1);
-    SAME(signing(state, queue, PB_OPCODE_PUSH, 80), PB_X0_OK);
-    SAME(PB_QUEUE_WORDS, written(queue));
-    SAME(queue[PB_QUEUE_REQUESTS], 1);
-    SAME(sign(queue, 1, 1), PB_X0_OK);
-    SAME(queue[PB_QUEUE_REQUESTS], 0);
-    SAME(queue[PB_QUEUE_RESPONSES], 1);
-    SAME(signing(state, queue, PB_OPCODE_PUSH, 80), PB_X0_OK);
-    SAME(first[PB_REQUEST_WORD_ALGORITHM], PB_ALGORITHM_SECP384R1);
-    SAME(first[PB_REQUEST_WORD_GRANULE], get(page + HERE + PB_REQUEST_GRANULE, 8));
-    SAME(first[PB_REQUEST_WORD_TICKET], get(page + HERE + PB_REQUEST_TICKET, 8));
-    SAME(first[PB_REQUEST_WORD_HASH_ID], PB_HASH_SHA2_384);
-    SAME(first[PB_REQUEST_WORD_GRANULE], UINT64_C(0x100F0E0D0C0B0A09));
-    SAME(first[PB_REQUEST_WORD_TICKET], UINT64_C(0x1817161514131211));
-    SAME(PB_HASH_BYTES, run_of(first + PB_REQUEST_WORD_HASH, page + HERE + PB_REQUEST_HASH));
-    SAME(8 * PB_HASH_WORDS, run_of(first + PB_REQUEST_WORD_HASH, page + HERE + 32));
+    SAME(signing(state, queue, PBEAM_OPCODE_PUSH, 80), PBEAM_X0_OK);
+    SAME(PBEAM_QUEUE_WORDS, written(queue));
+    SAME(queue[PBEAM_QUEUE_REQUESTS], 1);
+    SAME(sign(queue, 1, 1), PBEAM_X0_OK);
+    SAME(queue[PBEAM_QUEUE_REQUESTS], 0);
+    SAME(queue[PBEAM_QUEUE_RESPONSES], 1);
+    SAME(signing(state, queue, PBEAM_OPCODE_PUSH, 80), PBEAM_X0_OK);
+    SAME(first[PBEAM_REQUEST_WORD_ALGORITHM], PBEAM_ALGORITHM_SECP384R1);
+    SAME(first[PBEAM_REQUEST_WORD_GRANULE], get(page + HERE + PBEAM_REQUEST_GRANULE, 8));
+    SAME(first[PBEAM_REQUEST_WORD_TICKET], get(page + HERE + PBEAM_REQUEST_TICKET, 8));
+    SAME(first[PBEAM_REQUEST_WORD_HASH_ID], PBEAM_HASH_SHA2_384);
+    SAME(first[PBEAM_REQUEST_WORD_GRANULE], UINT64_C(0x100F0E0D0C0B0A09));
+    SAME(first[PBEAM_REQUEST_WORD_TICKET], UINT64_C(0x1817161514131211));
+    SAME(PBEAM_HASH_BYTES, run_of(first + PBEAM_REQUEST_WORD_HASH, page + HERE + PBEAM_REQUEST_HASH));
+    SAME(8 * PBEAM_HASH_WORDS, run_of(first + PBEAM_REQUEST_WORD_HASH, page + HERE + 32));
     lay_request(101);
-    SAME(signing(state, queue, PB_OPCODE_PUSH, 80), PB_X0_OK);
-    SAME(first[PB_REQUEST_WORDS + PB_REQUEST_WORD_GRANULE], get(page + HERE + PB_REQUEST_GRANULE, 8));
+    SAME(signing(state, queue, PBEAM_OPCODE_PUSH, 80), PBEAM_X0_OK);
+    SAME(first[PBEAM_REQUEST_WORDS + PBEAM_REQUEST_WORD_GRANULE], get(page + HERE + PBEAM_REQUEST_GRANULE, 8));
     guard(request);
-    SAME(pb_oldest(queue, request), 2);
-    SAME(PB_REQUEST_WORDS, written(request));
-    for (size_t i = 0; i < PB_REQUEST_WORDS; i++)
+    SAME(pbeam_oldest(queue, request), 2);
+    SAME(PBEAM_REQUEST_WORDS, written(request));
+    for (size_t i = 0; i < PBEAM_REQUEST_WORDS; i++)
         SAME(request[i], first[i]);
 }
 
@@ -665,23 +665,23 @@ static uint64_t push_with(size_t at, uint8_t byte)
 static void check_request_ids(void)
 {
     uint64_t algorithms = 0, hashes = 0;
-    SAME(push_with(PB_REQUEST_ALGORITHM + 3, 9), PB_X0_INVAL);
-    SAME(push_with(PB_REQUEST_ALGORITHM + 4, 9), PB_X0_OK);
-    SAME(push_with(PB_REQUEST_HASH_ID + 3, 9), PB_X0_INVAL);
-    SAME(push_with(PB_REQUEST_HASH_ID + 4, 9), PB_X0_OK);
+    SAME(push_with(PBEAM_REQUEST_ALGORITHM + 3, 9), PBEAM_X0_INVAL);
+    SAME(push_with(PBEAM_REQUEST_ALGORITHM + 4, 9), PBEAM_X0_OK);
+    SAME(push_with(PBEAM_REQUEST_HASH_ID + 3, 9), PBEAM_X0_INVAL);
+    SAME(push_with(PBEAM_REQUEST_HASH_ID + 4, 9), PBEAM_X0_OK);
     for (unsigned id = 0; id < 256; id++) {
         algorithms += push_with(0, (uint8_t)id) == 0 ? id + 1000 : 0;
         hashes += push_with(24, (uint8_t)id) == 0 ? id + 1000 : 0;
     }
-    SAME(PB_ALGORITHM_SECP384R1 + 1000, algorithms);
-    SAME(PB_HASH_SHA2_384 + 1000, hashes);
+    SAME(PBEAM_ALGORITHM_SECP384R1 + 1000, algorithms);
+    SAME(PBEAM_HASH_SHA2_384 + 1000, hashes);
 }
 
 static void check_response_layout(void)
 {
     uint64_t state[ROOM], queue[ROOM] = {0};
-    const uint64_t *first = queue + PB_QUEUE_FIRST_RESPONSE;
-    uint8_t signature[PB_SIGNATURE_BYTES_MOST];
+    const uint64_t *first = queue + PBEAM_QUEUE_FIRST_RESPONSE;
+    uint8_t signature[PBEAM_SIGNATURE_BYTES_MOST];
     for (size_t i = 0; i < sizeof signature; i++)
         signature[i] = (uint8_t)(i + 50);
     up(state, 5);
@@ -689,24 +689,24 @@ static void check_response_layout(void)
     signing(state, queue, 1, 80);
     lay_request(101);
     signing(state, queue, 1, 80);
-    SAME(sign(queue, 50, sizeof signature), PB_X0_OK);
-    SAME(sign(queue, 90, 1), PB_X0_OK);
-    SAME(first[PB_RESPONSE_WORD_GRANULE], UINT64_C(0x100F0E0D0C0B0A09));
-    SAME(first[PB_RESPONSE_WORD_TICKET], UINT64_C(0x1817161514131211));
-    SAME(first[PB_RESPONSE_WORD_LENGTH], 104);
+    SAME(sign(queue, 50, sizeof signature), PBEAM_X0_OK);
+    SAME(sign(queue, 90, 1), PBEAM_X0_OK);
+    SAME(first[PBEAM_RESPONSE_WORD_GRANULE], UINT64_C(0x100F0E0D0C0B0A09));
+    SAME(first[PBEAM_RESPONSE_WORD_TICKET], UINT64_C(0x1817161514131211));
+    SAME(first[PBEAM_RESPONSE_WORD_LENGTH], 104);
     for (size_t i = 0; i < sizeof signature; i++)
-        SAME(byte_of(first + PB_RESPONSE_WORD_SIGNATURE, i), signature[i]);
-    SAME(8 * PB_SIGNATURE_WORDS, sizeof signature);
-    SAME(first[PB_RESPONSE_WORDS + PB_RESPONSE_WORD_GRANULE], UINT64_C(0x74737271706F6E6D));
+        SAME(byte_of(first + PBEAM_RESPONSE_WORD_SIGNATURE, i), signature[i]);
+    SAME(8 * PBEAM_SIGNATURE_WORDS, sizeof signature);
+    SAME(first[PBEAM_RESPONSE_WORDS + PBEAM_RESPONSE_WORD_GRANULE], UINT64_C(0x74737271706F6E6D));
     memset(page + HERE, 0xEE, 200);
-    SAME(signing(state, queue, PB_OPCODE_PULL, 200), PB_X0_OK);
-    SAME(get(page + HERE + PB_RESPONSE_GRANULE, 8), UINT64_C(0x100F0E0D0C0B0A09));
-    SAME(get(page + HERE + PB_RESPONSE_TICKET, 8), UINT64_C(0x1817161514131211));
-    SAME(get(page + HERE + PB_RESPONSE_LENGTH, 2), 104);
-    SAME(memcmp(page + HERE + PB_RESPONSE_SIGNATURE, signature, sizeof signature), 0);
-    SAME(page[HERE + PB_RESPONSE_BYTES_MOST], 0xEE);
-    SAME(queue[PB_QUEUE_RESPONSES], 1);
-    SAME(first[PB_RESPONSE_WORD_LENGTH], 1);
+    SAME(signing(state, queue, PBEAM_OPCODE_PULL, 200), PBEAM_X0_OK);
+    SAME(get(page + HERE + PBEAM_RESPONSE_GRANULE, 8), UINT64_C(0x100F0E0D0C0B0A09));
+    SAME(get(page + HERE + PBEAM_RESPONSE_TICKET, 8), UINT64_C(0x1817161514131211));
+    SAME(get(page + HERE + PBEAM_RESPONSE_LENGTH, 2), 104);
+    SAME(memcmp(page + HERE + PBEAM_RESPONSE_SIGNATURE, signature, sizeof signature), 0);
+    SAME(page[HERE + PBEAM_RESPONSE_BYTES_MOST], 0xEE);
+    SAME(queue[PBEAM_QUEUE_RESPONSES], 1);
+    SAME(first[PBEAM_RESPONSE_WORD_LENGTH], 1);
 }
 
 /* The least size of a push, the longest signature, the least size that holds the longest response. */
@@ -719,23 +719,23 @@ static void check_signing_sizes(void)
     lay_request(1);
     while (request < 500 && signing(state, queue, 1, request) != 0)
         request++;
-    SAME(PB_REQUEST_BYTES, request);
+    SAME(PBEAM_REQUEST_BYTES, request);
     for (size_t n = 0; n < 200; n++) {
         uint64_t copy[ROOM];
         memcpy(copy, queue, sizeof copy);
         longest = sign(copy, 1, n) == 0 ? n : longest;
     }
-    SAME(PB_SIGNATURE_BYTES_MOST, longest);
-    SAME(sign(queue, 1, longest), PB_X0_OK);
+    SAME(PBEAM_SIGNATURE_BYTES_MOST, longest);
+    SAME(sign(queue, 1, longest), PBEAM_X0_OK);
     while (size < 500 && signing(state, queue, 2, size) != 0)
         size++;
     response = size;
-    SAME(PB_RESPONSE_BYTES_MOST, response);
-    SAME(signing(state, queue, 2, size), PB_X0_AGAIN);
-    SAME(signing(state, queue, PB_OPCODE_KEY, 4), PB_X0_INVAL);
-    SAME(signing(state, queue, PB_OPCODE_KEY, 5), PB_X0_OK);
+    SAME(PBEAM_RESPONSE_BYTES_MOST, response);
+    SAME(signing(state, queue, 2, size), PBEAM_X0_AGAIN);
+    SAME(signing(state, queue, PBEAM_OPCODE_KEY, 4), PBEAM_X0_INVAL);
+    SAME(signing(state, queue, PBEAM_OPCODE_KEY, 5), PBEAM_X0_OK);
     SAME(get(page + HERE, 5), UINT64_C(0x6564636261));
-    SAME(signing(state, queue, PB_OPCODE_KEY + 1, 5), PB_X0_INVAL);
+    SAME(signing(state, queue, PBEAM_OPCODE_KEY + 1, 5), PBEAM_X0_INVAL);
 }
 
 /* Push until the requests are full, sign until the responses are. */
@@ -747,18 +747,18 @@ static void check_queue_limits(void)
     lay_request(1);
     while (requests < 100 && signing(state, queue, 1, 80) == 0)
         requests++;
-    SAME(PB_REQUESTS_MOST, requests);
-    SAME(queue[PB_QUEUE_REQUESTS], requests);
-    SAME(signing(state, queue, 1, 80), PB_X0_AGAIN);
+    SAME(PBEAM_REQUESTS_MOST, requests);
+    SAME(queue[PBEAM_QUEUE_REQUESTS], requests);
+    SAME(signing(state, queue, 1, 80), PBEAM_X0_AGAIN);
     while (responses < 100 && sign(queue, 1, 104) == 0) {
         responses++;
         signing(state, queue, 1, 80);
     }
-    SAME(PB_RESPONSES_MOST, responses);
-    SAME(queue[PB_QUEUE_RESPONSES], responses);
-    SAME(sign(queue, 1, 1), PB_X0_AGAIN);
-    SAME(PB_QUEUE_FIRST_RESPONSE, PB_QUEUE_FIRST_REQUEST + PB_REQUESTS_MOST * PB_REQUEST_WORDS);
-    SAME(PB_QUEUE_WORDS, PB_QUEUE_FIRST_RESPONSE + PB_RESPONSES_MOST * PB_RESPONSE_WORDS);
+    SAME(PBEAM_RESPONSES_MOST, responses);
+    SAME(queue[PBEAM_QUEUE_RESPONSES], responses);
+    SAME(sign(queue, 1, 1), PBEAM_X0_AGAIN);
+    SAME(PBEAM_QUEUE_FIRST_RESPONSE, PBEAM_QUEUE_FIRST_REQUEST + PBEAM_REQUESTS_MOST * PBEAM_REQUEST_WORDS);
+    SAME(PBEAM_QUEUE_WORDS, PBEAM_QUEUE_FIRST_RESPONSE + PBEAM_RESPONSES_MOST * PBEAM_RESPONSE_WORDS);
 }
 
 /* A refused call writes no word of an image, whatever it holds; an all-zero queue is empty. */
@@ -768,20 +768,20 @@ static void check_refused_images(void)
     up(state, 5);
     lay_request(1);
     guard(queue);
-    SAME(signing(state, queue, PB_OPCODE_PUSH, 80), PB_X0_AGAIN);
-    SAME(sign(queue, 1, 105), PB_X0_INVAL);
-    SAME(sign(queue, 1, 1), PB_X0_AGAIN);
+    SAME(signing(state, queue, PBEAM_OPCODE_PUSH, 80), PBEAM_X0_AGAIN);
+    SAME(sign(queue, 1, 105), PBEAM_X0_INVAL);
+    SAME(sign(queue, 1, 1), PBEAM_X0_AGAIN);
     SAME(written(queue), 0);
     memset(queue, 0, sizeof queue);
     guard(request);
-    SAME(pb_oldest(queue, request), 0);
-    SAME(PB_REQUEST_WORDS, written(request));
+    SAME(pbeam_oldest(queue, request), 0);
+    SAME(PBEAM_REQUEST_WORDS, written(request));
     for (size_t i = 0; i < 10; i++)
         SAME(request[i], 0);
-    SAME(sign(queue, 1, 1), PB_X0_AGAIN);
-    SAME(signing(state, queue, PB_OPCODE_PULL, 200), PB_X0_AGAIN);
-    pb_platform_token(state, session, page, LEN, page + LEN, 9, 0, BASE, 64, 0, out);
-    SAME(out[PB_OUT_X0], PB_X0_INVAL);
+    SAME(sign(queue, 1, 1), PBEAM_X0_AGAIN);
+    SAME(signing(state, queue, PBEAM_OPCODE_PULL, 200), PBEAM_X0_AGAIN);
+    pbeam_platform_token(state, session, page, LEN, page + LEN, 9, 0, BASE, 64, 0, out);
+    SAME(out[PBEAM_OUT_X0], PBEAM_X0_INVAL);
 }
 
 /* An accepted call writes every word of the queue and none behind it; places past the counts become zero. */
@@ -790,28 +790,28 @@ static void check_accepted_images(void)
     uint64_t state[ROOM], queue[ROOM];
     up(state, 5);
     guard(queue);
-    queue[PB_QUEUE_REQUESTS] = queue[PB_QUEUE_RESPONSES] = 0;
-    SAME(signing(state, queue, PB_OPCODE_KEY, 5), PB_X0_OK);
-    SAME(PB_QUEUE_WORDS, written(queue));
-    for (size_t i = 0; i < PB_QUEUE_WORDS; i++)
+    queue[PBEAM_QUEUE_REQUESTS] = queue[PBEAM_QUEUE_RESPONSES] = 0;
+    SAME(signing(state, queue, PBEAM_OPCODE_KEY, 5), PBEAM_X0_OK);
+    SAME(PBEAM_QUEUE_WORDS, written(queue));
+    for (size_t i = 0; i < PBEAM_QUEUE_WORDS; i++)
         SAME(queue[i], 0);
     guard(queue);
-    queue[PB_QUEUE_REQUESTS] = 0;
-    queue[PB_QUEUE_RESPONSES] = 1;
-    SAME(signing(state, queue, PB_OPCODE_PULL, 200), PB_X0_OK);
-    SAME(get(page + HERE + PB_RESPONSE_LENGTH, 2), PB_SIGNATURE_BYTES_MOST);
-    SAME(PB_QUEUE_WORDS, written(queue));
-    for (size_t i = 0; i < PB_QUEUE_WORDS; i++)
+    queue[PBEAM_QUEUE_REQUESTS] = 0;
+    queue[PBEAM_QUEUE_RESPONSES] = 1;
+    SAME(signing(state, queue, PBEAM_OPCODE_PULL, 200), PBEAM_X0_OK);
+    SAME(get(page + HERE + PBEAM_RESPONSE_LENGTH, 2), PBEAM_SIGNATURE_BYTES_MOST);
+    SAME(PBEAM_QUEUE_WORDS, written(queue));
+    for (size_t i = 0; i < PBEAM_QUEUE_WORDS; i++)
         SAME(queue[i], 0);
     guard(queue);
-    queue[PB_QUEUE_REQUESTS] = 1;
-    queue[PB_QUEUE_RESPONSES] = 0;
-    SAME(sign(queue, 1, 1), PB_X0_OK);
-    SAME(PB_QUEUE_WORDS, written(queue));
-    SAME(queue[PB_QUEUE_REQUESTS], 0);
-    SAME(queue[PB_QUEUE_FIRST_RESPONSE + PB_RESPONSE_WORD_GRANULE], GUARD);
-    SAME(queue[PB_QUEUE_FIRST_RESPONSE + PB_RESPONSE_WORD_SIGNATURE], 1);
-    for (size_t i = PB_QUEUE_FIRST_RESPONSE + PB_RESPONSE_WORD_SIGNATURE + 1; i < PB_QUEUE_WORDS; i++)
+    queue[PBEAM_QUEUE_REQUESTS] = 1;
+    queue[PBEAM_QUEUE_RESPONSES] = 0;
+    SAME(sign(queue, 1, 1), PBEAM_X0_OK);
+    SAME(PBEAM_QUEUE_WORDS, written(queue));
+    SAME(queue[PBEAM_QUEUE_REQUESTS], 0);
+    SAME(queue[PBEAM_QUEUE_FIRST_RESPONSE + PBEAM_RESPONSE_WORD_GRANULE], GUARD);
+    SAME(queue[PBEAM_QUEUE_FIRST_RESPONSE + PBEAM_RESPONSE_WORD_SIGNATURE], 1);
+    for (size_t i = PBEAM_QUEUE_FIRST_RESPONSE + PBEAM_RESPONSE_WORD_SIGNATURE + 1; i < PBEAM_QUEUE_WORDS; i++)
         SAME(queue[i], 0);
 }
 
@@ -828,44 +828,44 @@ static uint64_t dispatch(uint64_t id, uint64_t x1, uint64_t x2, uint64_t x3, uin
     guard(board.call);
     guard(board.out);
     guard(board.work);
-    board.call[PB_CALL_ID] = id;
-    board.call[PB_CALL_X1] = x1;
-    board.call[PB_CALL_X2] = x2;
-    board.call[PB_CALL_X3] = x3;
-    board.call[PB_CALL_X4] = x4;
-    pb_call(board.state, board.session, board.queue, page, LEN, granules, board.table, 2, key, sizeof key, token, sizeof token, 0,
+    board.call[PBEAM_CALL_ID] = id;
+    board.call[PBEAM_CALL_X1] = x1;
+    board.call[PBEAM_CALL_X2] = x2;
+    board.call[PBEAM_CALL_X3] = x3;
+    board.call[PBEAM_CALL_X4] = x4;
+    pbeam_call(board.state, board.session, board.queue, page, LEN, granules, board.table, 2, key, sizeof key, token, sizeof token, 0,
             public_key, sizeof public_key, 15, board.call, board.out, board.work);
-    SAME(PB_OUT_WORDS, written(board.out));
-    SAME(PB_WORK_WORDS, written(board.work));
-    return board.out[PB_OUT_X0];
+    SAME(PBEAM_OUT_WORDS, written(board.out));
+    SAME(PBEAM_WORK_WORDS, written(board.work));
+    return board.out[PBEAM_OUT_X0];
 }
 
 /* Each id does what only its command does. */
 static void check_ids(void)
 {
     up(board.state, 5);
-    SAME(dispatch(PB_ID_DELEGATE, MEMORY + 4096, 0, 0, 0), PB_X0_OK);
+    SAME(dispatch(PBEAM_ID_DELEGATE, MEMORY + 4096, 0, 0, 0), PBEAM_X0_OK);
     SAME(get(board.table, 2), 0x100);
-    SAME(dispatch(PB_ID_UNDELEGATE, MEMORY + 4096, 0, 0, 0), PB_X0_OK);
+    SAME(dispatch(PBEAM_ID_UNDELEGATE, MEMORY + 4096, 0, 0, 0), PBEAM_X0_OK);
     SAME(get(board.table, 2), 0);
-    SAME(dispatch(PB_ID_REALM_KEY, BASE, 32, 0, 0), PB_X0_OK);
-    SAME(board.out[PB_OUT_X1], 3);
-    SAME(dispatch(PB_ID_PLATFORM_TOKEN, BASE, 32, 32, 0), PB_X0_OK);
-    SAME(board.out[PB_OUT_X1], 7);
-    SAME(dispatch(PB_ID_FEATURES, 0, 1, 1, 1), PB_X0_OK);
-    SAME(board.out[PB_OUT_X1], 1);
-    SAME(dispatch(PB_ID_TOKEN_SIGNING, PB_OPCODE_KEY, BASE, 32, 0), PB_X0_OK);
-    SAME(board.out[PB_OUT_X1], 4);
-    SAME(dispatch(PB_ID_TOKEN_SIGNING, PB_OPCODE_KEY, BASE, 32, 1), PB_X0_INVAL);
-    SAME(PB_CALL_WORDS, PB_CALL_X4 + 1);
-    SAME(dispatch(PB_ID_KEY_UPDATE, 0x4321, 0, 0, 0), PB_X0_OK);
-    SAME(board.work[PB_WORK_KIND], PB_WORK_REPROGRAM);
-    SAME(board.work[PB_WORK_VALUE], 0x4321);
-    SAME(dispatch(PB_ID_FORWARD, 0x99, 0, 0, 0), 0);
-    SAME(board.work[PB_WORK_KIND], PB_WORK_FORWARD);
-    SAME(board.work[PB_WORK_VALUE], 0x99);
-    SAME(dispatch(PB_ID_KEY_UPDATE + 1, 0, 0, 0, 0), PB_X0_UNK);
-    SAME(board.work[PB_WORK_KIND], PB_WORK_NOTHING);
+    SAME(dispatch(PBEAM_ID_REALM_KEY, BASE, 32, 0, 0), PBEAM_X0_OK);
+    SAME(board.out[PBEAM_OUT_X1], 3);
+    SAME(dispatch(PBEAM_ID_PLATFORM_TOKEN, BASE, 32, 32, 0), PBEAM_X0_OK);
+    SAME(board.out[PBEAM_OUT_X1], 7);
+    SAME(dispatch(PBEAM_ID_FEATURES, 0, 1, 1, 1), PBEAM_X0_OK);
+    SAME(board.out[PBEAM_OUT_X1], 1);
+    SAME(dispatch(PBEAM_ID_TOKEN_SIGNING, PBEAM_OPCODE_KEY, BASE, 32, 0), PBEAM_X0_OK);
+    SAME(board.out[PBEAM_OUT_X1], 4);
+    SAME(dispatch(PBEAM_ID_TOKEN_SIGNING, PBEAM_OPCODE_KEY, BASE, 32, 1), PBEAM_X0_INVAL);
+    SAME(PBEAM_CALL_WORDS, PBEAM_CALL_X4 + 1);
+    SAME(dispatch(PBEAM_ID_KEY_UPDATE, 0x4321, 0, 0, 0), PBEAM_X0_OK);
+    SAME(board.work[PBEAM_WORK_KIND], PBEAM_WORK_REPROGRAM);
+    SAME(board.work[PBEAM_WORK_VALUE], 0x4321);
+    SAME(dispatch(PBEAM_ID_FORWARD, 0x99, 0, 0, 0), 0);
+    SAME(board.work[PBEAM_WORK_KIND], PBEAM_WORK_FORWARD);
+    SAME(board.work[PBEAM_WORK_VALUE], 0x99);
+    SAME(dispatch(PBEAM_ID_KEY_UPDATE + 1, 0, 0, 0, 0), PBEAM_X0_UNK);
+    SAME(board.work[PBEAM_WORK_KIND], PBEAM_WORK_NOTHING);
 }
 
 int main(int argc, char **argv)

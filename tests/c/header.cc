@@ -8,4 +8,4 @@
 extern const signatures every_function;
 const signatures every_function = SIGNATURES;
 
-static_assert(PB_X0_AGAIN == static_cast<uint64_t>(static_cast<int64_t>(PB_AGAIN)), "a code as x0 holds it");
+static_assert(PBEAM_X0_AGAIN == static_cast<uint64_t>(static_cast<int64_t>(PBEAM_AGAIN)), "a code as x0 holds it");

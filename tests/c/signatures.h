@@ -32,9 +32,9 @@ struct signatures {
 
 #define SIGNATURES                                                                                                              \
     {                                                                                                                           \
-        pb_read, pb_array, pb_array_of, pb_count, pb_word, pb_write, pb_cold_boot, pb_warm_boot, pb_delegate, pb_undelegate,    \
-            pb_realm_key, pb_platform_token, pb_challenge, pb_features, pb_token_signing, pb_key_update, pb_forward, pb_sign,   \
-            pb_oldest, pb_call                                                                                                  \
+        pbeam_read, pbeam_array, pbeam_array_of, pbeam_count, pbeam_word, pbeam_write, pbeam_cold_boot, pbeam_warm_boot, pbeam_delegate, pbeam_undelegate,    \
+            pbeam_realm_key, pbeam_platform_token, pbeam_challenge, pbeam_features, pbeam_token_signing, pbeam_key_update, pbeam_forward, pbeam_sign,   \
+            pbeam_oldest, pbeam_call                                                                                                  \
     }
 
 #endif

@@ -39,7 +39,7 @@ use Rattle.images.proofs.Inverse.{session-back}
 use Rattle.queue_image.specs.Image.{listsIn, queueWords, each, areBytes, requestFits, responseFits, eightFit, queueFits}
 use Rattle.queue_image.proofs.Inverse.{queue-back}
 use Rattle.queue_image.proofs.Fits.{image-fits, side-joins, side-rests, part-bytes, num-below}
-use Rattle.kit.specs.Kit.{sessionAfter, queueAfter, tokenLeft, tokenIn, signingLeft, signingIn, signLeft, signIn, sessionLeft, queueLeft, worldIn, callLeft, callIn}
+use Rattle.potterbeam.specs.Exports.{sessionAfter, queueAfter, tokenLeft, tokenIn, signingLeft, signingIn, signLeft, signIn, sessionLeft, queueLeft, worldIn, callLeft, callIn}
 
 -- ---- once for every image: one that is written reads back, and one that is left as it was stands for the state before
 chains : {A : Type 0} (of : List ℕ → A) (words : A → List ℕ) (b : Bool) (s : A) (image : List ℕ) → of (words s) ≡ s → (b ≡ false → s ≡ of image) → of (cond b (words s) image) ≡ s

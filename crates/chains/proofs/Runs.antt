@@ -30,7 +30,7 @@ use Rattle.queue_image.specs.Image.{listsIn, queueWords, each, areBytes, respon
 use Rattle.queue_image.proofs.Fits.{image-fits, each-append, low-bytes, part-bytes, splice-bytes, queue-words, queue-length}
 use Rattle.chains.specs.Chain.{Lent, lentWorld, lentAfter, allAfter, ofBytes}
 use Rattle.runtime.specs.declared.Needs.{Needs}
-use Rattle.kit.specs.Kit.{queueAfter, signLeft, signIn, queueLeft, callLeft, callIn}
+use Rattle.potterbeam.specs.Exports.{queueAfter, signLeft, signIn, queueLeft, callLeft, callIn}
 use Rattle.chains.proofs.Chain.{if-ok-holds, signed-fits, call-fits, sign-chain, call-chain}
 
 -- ---- a page of bytes stays one

@@ -5,7 +5,7 @@ use mathlib.Core.List.{List, [], _∷_}
 use Rattle.words.specs.Tests.{both}
 use Rattle.runtime.specs.Step.{World, Command, call, sign}
 use Rattle.queue_image.specs.Image.{areBytes}
-use Rattle.kit.specs.Kit.{signIn, CallLeft, worldIn, callIn}
+use Rattle.potterbeam.specs.Exports.{signIn, CallLeft, worldIn, callIn}
 
 -- what is lent from call to call
 pub record Lent : Type 0 where

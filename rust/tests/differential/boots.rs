@@ -10,7 +10,7 @@ use potterbeam_tests::reference::boot::Record;
 #[test]
 fn boots() {
     let mut pair = Pair::new(23);
-    while pair.calls("pb_cold_boot").min(pair.calls("pb_warm_boot")) < calls() {
+    while pair.calls("pbeam_cold_boot").min(pair.calls("pbeam_warm_boot")) < calls() {
         pair.load(|random, m| {
             m.images.record.words = match random.below(4) {
                 0 => random.record_image(),
@@ -28,8 +28,8 @@ fn boots() {
     }
     pair.print_counts();
     pair.expect(&[
-        ("pb_cold_boot", 0, &[0, -1, -2, -3, -4, -5, -6, -7]),
-        ("pb_warm_boot", 0, &[0, -1, -4]),
+        ("pbeam_cold_boot", 0, &[0, -1, -2, -3, -4, -5, -6, -7]),
+        ("pbeam_warm_boot", 0, &[0, -1, -4]),
     ]);
 }
 
@@ -37,16 +37,16 @@ fn one(pair: &mut Pair, boot: &Boot) {
     let &Boot { x, most, .. } = boot;
     pair.load(|random, m| m.page.load(&boot.page, random.index(8)));
     let name = if boot.cold {
-        check!(pair, "pb_cold_boot", (x, most), |S, m| {
+        check!(pair, "pbeam_cold_boot", (x, most), |S, m| {
             let record = &mut m.images.record.words;
             m.returned = S::cold_boot(record, x, most, m.page.lent()).into();
         });
-        "pb_cold_boot"
+        "pbeam_cold_boot"
     } else {
-        check!(pair, "pb_warm_boot", (x), |S, m| {
+        check!(pair, "pbeam_warm_boot", (x), |S, m| {
             m.returned = S::warm_boot(&mut m.images.record.words, x).into();
         });
-        "pb_warm_boot"
+        "pbeam_warm_boot"
     };
     pair.meet(name, 0, pair.model.returned);
 }

@@ -87,7 +87,7 @@ fn note(pair: &mut Pair, scene: &mut Scene, name: &'static str, case: u64) {
 
 fn delegate(pair: &mut Pair, scene: &mut Scene) {
     let (start, [at, ..]) = (scene.start, registers(pair, scene, DELEGATE));
-    check!(pair, "pb_delegate", (start, at), |S, m| {
+    check!(pair, "pbeam_delegate", (start, at), |S, m| {
         let (images, table) = (&mut m.images, m.table.lent_mut());
         S::delegate(
             &images.record.words,
@@ -97,12 +97,12 @@ fn delegate(pair: &mut Pair, scene: &mut Scene) {
             &mut images.out.words,
         );
     });
-    note(pair, scene, "pb_delegate", 0);
+    note(pair, scene, "pbeam_delegate", 0);
 }
 
 fn undelegate(pair: &mut Pair, scene: &mut Scene) {
     let (start, [at, ..]) = (scene.start, registers(pair, scene, UNDELEGATE));
-    check!(pair, "pb_undelegate", (start, at), |S, m| {
+    check!(pair, "pbeam_undelegate", (start, at), |S, m| {
         let (images, table) = (&mut m.images, m.table.lent_mut());
         S::undelegate(
             &images.record.words,
@@ -112,24 +112,24 @@ fn undelegate(pair: &mut Pair, scene: &mut Scene) {
             &mut images.out.words,
         );
     });
-    note(pair, scene, "pb_undelegate", 0);
+    note(pair, scene, "pbeam_undelegate", 0);
 }
 
 fn realm_key(pair: &mut Pair, scene: &mut Scene) {
     let [pa, size, curve, _] = registers(pair, scene, REALM_KEY);
     let (key, x) = (&scene.realm_key, [pa, size, curve]);
-    check!(pair, "pb_realm_key", (key, x), |S, m| {
+    check!(pair, "pbeam_realm_key", (key, x), |S, m| {
         let (images, page) = (&mut m.images, m.page.lent_mut());
         S::realm_key(&images.record.words, page, key, x, &mut images.out.words);
     });
-    note(pair, scene, "pb_realm_key", 0);
+    note(pair, scene, "pbeam_realm_key", 0);
 }
 
 fn platform_token(pair: &mut Pair, scene: &mut Scene) {
     let [pa, size, csize, _] = registers(pair, scene, PLAT_TOKEN);
     let busy = busy(pair, scene);
     let (token, x) = (&scene.token, [pa, size, csize]);
-    check!(pair, "pb_platform_token", (token, busy, x), |S, m| {
+    check!(pair, "pbeam_platform_token", (token, busy, x), |S, m| {
         let page = m.page.lent_mut();
         let Images {
             record,
@@ -140,35 +140,35 @@ fn platform_token(pair: &mut Pair, scene: &mut Scene) {
         let (session, out) = (&mut session.words, &mut out.words);
         S::platform_token(&record.words, session, page, token, busy, x, out);
     });
-    note(pair, scene, "pb_platform_token", 0);
-    note_forged_session(pair, "pb_platform_token");
+    note(pair, scene, "pbeam_platform_token", 0);
+    note_forged_session(pair, "pbeam_platform_token");
 }
 
 fn challenge(pair: &mut Pair, scene: &mut Scene) {
     let [pa, size, csize, _] = registers(pair, scene, PLAT_TOKEN);
     let x = [pa, size, csize];
-    check!(pair, "pb_challenge", (x), |S, m| {
+    check!(pair, "pbeam_challenge", (x), |S, m| {
         let images = &mut m.images;
         let place = &mut images.place.words;
         S::challenge(&images.record.words, m.page.lent(), x, place);
     });
     let [_, length] = pair.model.images.place.words;
-    pair.meet("pb_challenge", 0, length as i64);
+    pair.meet("pbeam_challenge", 0, length as i64);
 }
 
 fn features(pair: &mut Pair, scene: &mut Scene) {
     let [index, ..] = registers(pair, scene, FEATURES);
-    check!(pair, "pb_features", (index), |S, m| {
+    check!(pair, "pbeam_features", (index), |S, m| {
         let images = &mut m.images;
         S::features(&images.record.words, index, &mut images.out.words);
     });
-    note(pair, scene, "pb_features", 0);
+    note(pair, scene, "pbeam_features", 0);
 }
 
 fn token_signing(pair: &mut Pair, scene: &mut Scene) {
     let x = registers(pair, scene, TOKEN_SIGN);
     let key = &scene.public_key;
-    check!(pair, "pb_token_signing", (key, x), |S, m| {
+    check!(pair, "pbeam_token_signing", (key, x), |S, m| {
         let page = m.page.lent_mut();
         let Images {
             record, queue, out, ..
@@ -176,46 +176,46 @@ fn token_signing(pair: &mut Pair, scene: &mut Scene) {
         let (queue, out) = (&mut queue.words, &mut out.words);
         S::token_signing(&record.words, queue, page, key, x, out);
     });
-    note(pair, scene, "pb_token_signing", x[0].min(4));
-    note_forged_queue(pair, "pb_token_signing");
+    note(pair, scene, "pbeam_token_signing", x[0].min(4));
+    note_forged_queue(pair, "pbeam_token_signing");
 }
 
 fn key_update(pair: &mut Pair, scene: &mut Scene) {
     let (width, [mecid, ..]) = (scene.width, registers(pair, scene, KEY_UPDATE));
-    check!(pair, "pb_key_update", (width, mecid), |S, m| {
+    check!(pair, "pbeam_key_update", (width, mecid), |S, m| {
         let Images {
             record, out, work, ..
         } = &mut m.images;
         S::key_update(&record.words, width, mecid, &mut out.words, &mut work.words);
     });
-    note(pair, scene, "pb_key_update", 0);
+    note(pair, scene, "pbeam_key_update", 0);
 }
 
 fn forward(pair: &mut Pair, scene: &mut Scene) {
     let [x1, ..] = registers(pair, scene, REQ_COMPLETE);
-    check!(pair, "pb_forward", (x1), |S, m| {
+    check!(pair, "pbeam_forward", (x1), |S, m| {
         m.returned = S::forward(&m.images.record.words, x1) as i64;
     });
-    pair.meet("pb_forward", 0, i64::from(pair.model.returned != 0));
+    pair.meet("pbeam_forward", 0, i64::from(pair.model.returned != 0));
 }
 
 fn sign(pair: &mut Pair, _: &mut Scene) {
     let signature = pair.random.signature();
-    check!(pair, "pb_sign", (signature), |S, m| {
+    check!(pair, "pbeam_sign", (signature), |S, m| {
         let images = &mut m.images;
         S::sign(&mut images.queue.words, &signature, &mut images.out.words);
     });
     let [x0, ..] = pair.model.images.out.words;
-    pair.meet("pb_sign", 0, x0 as i64);
-    note_forged_queue(pair, "pb_sign");
+    pair.meet("pbeam_sign", 0, x0 as i64);
+    note_forged_queue(pair, "pbeam_sign");
 }
 
 fn oldest(pair: &mut Pair, _: &mut Scene) {
-    check!(pair, "pb_oldest", (), |S, m| {
+    check!(pair, "pbeam_oldest", (), |S, m| {
         let images = &mut m.images;
         m.returned = S::oldest(&images.queue.words, &mut images.request.words) as i64;
     });
-    pair.meet("pb_oldest", 0, pair.model.returned);
+    pair.meet("pbeam_oldest", 0, pair.model.returned);
 }
 
 fn call(pair: &mut Pair, scene: &mut Scene) {
@@ -223,7 +223,7 @@ fn call(pair: &mut Pair, scene: &mut Scene) {
     load_page(pair, scene);
     let (busy, [x1, x2, x3, x4]) = (busy(pair, scene), x);
     let x = [id, x1, x2, x3, x4];
-    check!(pair, "pb_call", (scene, busy, x), |S, m| {
+    check!(pair, "pbeam_call", (scene, busy, x), |S, m| {
         let mut lent = Lent {
             page: m.page.lent_mut(),
             granules: [scene.start],
@@ -248,10 +248,10 @@ fn call(pair: &mut Pair, scene: &mut Scene) {
         );
     });
     let listed = (DELEGATE..=KEY_UPDATE).contains(&id) || id == REQ_COMPLETE;
-    note(pair, scene, "pb_call", if listed { id } else { 0 });
+    note(pair, scene, "pbeam_call", if listed { id } else { 0 });
     match id {
-        PLAT_TOKEN => note_forged_session(pair, "pb_call"),
-        TOKEN_SIGN => note_forged_queue(pair, "pb_call"),
+        PLAT_TOKEN => note_forged_session(pair, "pbeam_call"),
+        TOKEN_SIGN => note_forged_queue(pair, "pbeam_call"),
         _ => {}
     }
 }
@@ -283,12 +283,12 @@ fn accepted(pair: &Pair) -> i64 {
 fn token_sessions() {
     let mut pair = Pair::new(24);
     let token: Step = platform_token;
-    let names = ["pb_platform_token", "pb_challenge"];
+    let names = ["pbeam_platform_token", "pbeam_challenge"];
     run(&mut pair, &[token, token, token, challenge], &names);
     pair.expect(&[
-        ("pb_platform_token", 0, &[0, -1, -2, -5, -6]),
-        ("pb_platform_token", FORGED_SESSION, &[0, 1]),
-        ("pb_challenge", 0, &[0, 32, 48, 64]),
+        ("pbeam_platform_token", 0, &[0, -1, -2, -5, -6]),
+        ("pbeam_platform_token", FORGED_SESSION, &[0, 1]),
+        ("pbeam_challenge", 0, &[0, 32, 48, 64]),
     ]);
 }
 
@@ -296,22 +296,22 @@ fn token_sessions() {
 fn signing_queues() {
     let mut pair = Pair::new(25);
     let signing: Step = token_signing;
-    let names = ["pb_token_signing", "pb_sign", "pb_oldest"];
+    let names = ["pbeam_token_signing", "pbeam_sign", "pbeam_oldest"];
     run(
         &mut pair,
         &[signing, signing, signing, sign, oldest],
         &names,
     );
     pair.expect(&[
-        ("pb_token_signing", 0, &[-1, -5]),
-        ("pb_token_signing", 1, &[0, -1, -5, -6]),
-        ("pb_token_signing", 2, &[0, -1, -5, -6]),
-        ("pb_token_signing", 3, &[0, -1, -5, -6]),
-        ("pb_token_signing", 4, &[-1, -5]),
-        ("pb_token_signing", FORGED_QUEUE, &[0, 1]),
-        ("pb_sign", 0, &[0, -5, -6]),
-        ("pb_sign", FORGED_QUEUE, &[0, 1]),
-        ("pb_oldest", 0, &[0, 1, 2, 3, 4, 5, 6, 7, 8]),
+        ("pbeam_token_signing", 0, &[-1, -5]),
+        ("pbeam_token_signing", 1, &[0, -1, -5, -6]),
+        ("pbeam_token_signing", 2, &[0, -1, -5, -6]),
+        ("pbeam_token_signing", 3, &[0, -1, -5, -6]),
+        ("pbeam_token_signing", 4, &[-1, -5]),
+        ("pbeam_token_signing", FORGED_QUEUE, &[0, 1]),
+        ("pbeam_sign", 0, &[0, -5, -6]),
+        ("pbeam_sign", FORGED_QUEUE, &[0, 1]),
+        ("pbeam_oldest", 0, &[0, 1, 2, 3, 4, 5, 6, 7, 8]),
     ]);
 }
 
@@ -322,21 +322,21 @@ fn single_commands() {
         delegate, undelegate, realm_key, features, key_update, forward,
     ];
     let names = [
-        "pb_delegate",
-        "pb_undelegate",
-        "pb_realm_key",
-        "pb_features",
-        "pb_key_update",
-        "pb_forward",
+        "pbeam_delegate",
+        "pbeam_undelegate",
+        "pbeam_realm_key",
+        "pbeam_features",
+        "pbeam_key_update",
+        "pbeam_forward",
     ];
     run(&mut pair, &steps, &names);
     pair.expect(&[
-        ("pb_delegate", 0, &[0, -1, -2, -3]),
-        ("pb_undelegate", 0, &[0, -1, -2, -3]),
-        ("pb_realm_key", 0, &[0, -1, -2, -5]),
-        ("pb_features", 0, &[0, -1, -5]),
-        ("pb_key_update", 0, &[0, -1, -5]),
-        ("pb_forward", 0, &[0, 1]),
+        ("pbeam_delegate", 0, &[0, -1, -2, -3]),
+        ("pbeam_undelegate", 0, &[0, -1, -2, -3]),
+        ("pbeam_realm_key", 0, &[0, -1, -2, -5]),
+        ("pbeam_features", 0, &[0, -1, -5]),
+        ("pbeam_key_update", 0, &[0, -1, -5]),
+        ("pbeam_forward", 0, &[0, 1]),
     ]);
 }
 
@@ -345,19 +345,19 @@ fn calls_by_id() {
     let mut pair = Pair::new(27);
     let by_id: Step = call;
     // Without the signer no queue would have a response.
-    run(&mut pair, &[by_id, by_id, by_id, sign], &["pb_call"]);
-    pair.met.retain(|&(name, ..), _| name == "pb_call");
+    run(&mut pair, &[by_id, by_id, by_id, sign], &["pbeam_call"]);
+    pair.met.retain(|&(name, ..), _| name == "pbeam_call");
     pair.expect(&[
-        ("pb_call", 0, &[-1]),
-        ("pb_call", REQ_COMPLETE, &[0]),
-        ("pb_call", DELEGATE, &[0, -1, -2, -3]),
-        ("pb_call", UNDELEGATE, &[0, -1, -2, -3]),
-        ("pb_call", REALM_KEY, &[0, -1, -2, -5]),
-        ("pb_call", PLAT_TOKEN, &[0, -1, -2, -5, -6]),
-        ("pb_call", FEATURES, &[0, -1, -5]),
-        ("pb_call", TOKEN_SIGN, &[0, -1, -5, -6]),
-        ("pb_call", KEY_UPDATE, &[0, -1, -5]),
-        ("pb_call", FORGED_SESSION, &[0, 1]),
-        ("pb_call", FORGED_QUEUE, &[0, 1]),
+        ("pbeam_call", 0, &[-1]),
+        ("pbeam_call", REQ_COMPLETE, &[0]),
+        ("pbeam_call", DELEGATE, &[0, -1, -2, -3]),
+        ("pbeam_call", UNDELEGATE, &[0, -1, -2, -3]),
+        ("pbeam_call", REALM_KEY, &[0, -1, -2, -5]),
+        ("pbeam_call", PLAT_TOKEN, &[0, -1, -2, -5, -6]),
+        ("pbeam_call", FEATURES, &[0, -1, -5]),
+        ("pbeam_call", TOKEN_SIGN, &[0, -1, -5, -6]),
+        ("pbeam_call", KEY_UPDATE, &[0, -1, -5]),
+        ("pbeam_call", FORGED_SESSION, &[0, 1]),
+        ("pbeam_call", FORGED_QUEUE, &[0, 1]),
     ]);
 }

@@ -1,7 +1,7 @@
 //! Every export of the library against the reference, on valid, damaged and random input: each result, each lent byte and each word
 //! of every image is compared, and the guards around them. The seeds are fixed. A difference is reported with the whole case.
 //!
-//! POTTERBEAM_CALLS is how many calls each export gets at least (pb_read ten times as many); the long run is
+//! POTTERBEAM_CALLS is how many calls each export gets at least (pbeam_read ten times as many); the long run is
 //! `POTTERBEAM_CALLS=1000000 cargo test --offline --release --test differential`. With fewer than the default, some answer may not
 //! be met often enough, which fails as well.
 

@@ -22,11 +22,11 @@ fn reader_and_lookups() {
     pair.print_counts();
     // Of a lookup the answer noted is whether there was anything.
     pair.expect(&[
-        ("pb_read", 0, &[0, -5, -6, -7]),
-        ("pb_array", 0, &[0, 1]),
-        ("pb_array_of", 0, &[0, 1]),
-        ("pb_count", 0, &[0, 1]),
-        ("pb_word", 0, &[0, 1]),
+        ("pbeam_read", 0, &[0, -5, -6, -7]),
+        ("pbeam_array", 0, &[0, 1]),
+        ("pbeam_array_of", 0, &[0, 1]),
+        ("pbeam_count", 0, &[0, 1]),
+        ("pbeam_word", 0, &[0, 1]),
     ]);
 }
 
@@ -36,10 +36,10 @@ fn read(pair: &mut Pair, reading: &Reading) {
         m.page.load(&reading.page, random.index(8));
         m.images.view = Image::default();
     });
-    check!(pair, "pb_read", (base, edition), |S, m| {
+    check!(pair, "pbeam_read", (base, edition), |S, m| {
         m.returned = S::read(m.page.lent(), base, edition, &mut m.images.view.words).into();
     });
-    pair.meet("pb_read", 0, pair.model.returned);
+    pair.meet("pbeam_read", 0, pair.model.returned);
 }
 
 /// Mostly one of the four.
@@ -54,11 +54,11 @@ fn section(pair: &mut Pair) -> usize {
 fn array(pair: &mut Pair, reading: &Reading) {
     let &Reading { base, edition, .. } = reading;
     let section = section(pair);
-    check!(pair, "pb_array", (base, edition, section), |S, m| {
+    check!(pair, "pbeam_array", (base, edition, section), |S, m| {
         let place = &mut m.images.place.words;
         S::array(m.page.lent(), base, edition, section, place);
     });
-    meet_place(pair, "pb_array");
+    meet_place(pair, "pbeam_array");
 }
 
 /// The lookups in a view: the one that was read, or a forged one.
@@ -67,16 +67,16 @@ fn look(pair: &mut Pair) {
         pair.load(|random, m| random.forge_view(&mut m.images.view.words));
     }
     let section = section(pair);
-    check!(pair, "pb_array_of", (section), |S, m| {
+    check!(pair, "pbeam_array_of", (section), |S, m| {
         let view = &m.images.view.words;
         S::array_of(m.page.lent(), view, section, &mut m.images.place.words);
     });
-    meet_place(pair, "pb_array_of");
-    check!(pair, "pb_count", (section), |S, m| {
+    meet_place(pair, "pbeam_array_of");
+    check!(pair, "pbeam_count", (section), |S, m| {
         m.returned = S::count(m.page.lent(), &m.images.view.words, section) as i64;
     });
     let count = pair.model.returned;
-    pair.meet("pb_count", 0, i64::from(count != 0));
+    pair.meet("pbeam_count", 0, i64::from(count != 0));
     let entry = match pair.random.below(8) {
         0 => pair.random.edge() as usize,
         1 => count as usize,
@@ -86,10 +86,10 @@ fn look(pair: &mut Pair) {
         0 => pair.random.edge() as usize,
         _ => pair.random.index(7),
     };
-    check!(pair, "pb_word", (section, entry, word), |S, m| {
+    check!(pair, "pbeam_word", (section, entry, word), |S, m| {
         m.returned = S::word(m.page.lent(), &m.images.view.words, section, entry, word) as i64;
     });
-    pair.meet("pb_word", 0, i64::from(pair.model.returned != 0));
+    pair.meet("pbeam_word", 0, i64::from(pair.model.returned != 0));
 }
 
 fn meet_place(pair: &mut Pair, name: &'static str) {
@@ -104,11 +104,11 @@ fn writer() {
         let writing = pair.random.any_writing();
         let (base, edition, lists) = (writing.base, writing.edition, writing.lists());
         pair.load(|random, m| m.page.load(&writing.page, random.index(8)));
-        check!(pair, "pb_write", (base, edition, lists), |S, m| {
+        check!(pair, "pbeam_write", (base, edition, lists), |S, m| {
             m.returned = S::write(base, edition, lists, m.page.lent_mut()).into();
         });
-        pair.meet("pb_write", 0, pair.model.returned);
+        pair.meet("pbeam_write", 0, pair.model.returned);
     }
     pair.print_counts();
-    pair.expect(&[("pb_write", 0, &[0, 1, 2, 3, 4, 5])]);
+    pair.expect(&[("pbeam_write", 0, &[0, 1, 2, 3, 4, 5])]);
 }

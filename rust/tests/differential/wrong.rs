@@ -44,24 +44,24 @@ fn every_bit_counts() {
 
 /// A call whose result depends on the side that makes it.
 #[test]
-#[should_panic(expected = "pb_none, call 1\nbase: 1000\nbefore the call:")]
+#[should_panic(expected = "pbeam_none, call 1\nbase: 1000\nbefore the call:")]
 fn wrong_answer_is_reported() {
     let mut pair = Pair::new(1);
     let base = 4096;
-    check!(pair, "pb_none", (base), |S, m| m.returned =
+    check!(pair, "pbeam_none", (base), |S, m| m.returned =
         base + type_name::<S>().len() as i64);
 }
 
 #[test]
-#[should_panic(expected = "pb_read 0 with -5: 0 times")]
+#[should_panic(expected = "pbeam_read 0 with -5: 0 times")]
 fn answer_never_met_is_reported() {
-    Pair::new(1).expect(&[("pb_read", 0, &[-5])]);
+    Pair::new(1).expect(&[("pbeam_read", 0, &[-5])]);
 }
 
 #[test]
 #[should_panic(expected = "no such answers")]
 fn unknown_answer_is_reported() {
     let mut pair = Pair::new(1);
-    pair.meet("pb_read", 0, -8);
+    pair.meet("pbeam_read", 0, -8);
     pair.expect(&[]);
 }

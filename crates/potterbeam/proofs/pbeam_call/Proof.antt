@@ -1,0 +1,104 @@
+use mathlib.Core.Path.{sym, _∙_}
+use Rattle.potterbeam.proofs.Left.{left-plain, left-session, left-queue}
+use borrow.Author.Needs.{needs}
+use Rattle.potterbeam.proofs.pbeam_call.Statement.{statement}
+use Rattle.potterbeam.proofs.pbeam_call.Tie as tie
+
+element-copy-out-needs-of : tie.Need-element-copy-out-needs-of
+element-copy-out-needs-of c = search needs
+
+needs-of-requires : tie.Need-needs-of-requires
+needs-of-requires c κs = search needs
+
+enum-told : tie.Need-enum-told
+enum-told c = search needs
+
+plain-requires : tie.Need-plain-requires
+plain-requires c κs = search needs
+
+enum-told-2 : tie.Need-enum-told-2
+enum-told-2 c = search needs
+
+element-copy-out-pb-platform-token : tie.Need-element-copy-out-pb-platform-token
+element-copy-out-pb-platform-token c = search needs
+
+element-copy-out-pb-platform-token-2 : tie.Need-element-copy-out-pb-platform-token-2
+element-copy-out-pb-platform-token-2 c = search needs
+
+element-copy-out-pb-platform-token-3 : tie.Need-element-copy-out-pb-platform-token-3
+element-copy-out-pb-platform-token-3 c = search needs
+
+pbeam-platform-token-requires : tie.Need-pb-platform-token-requires
+pbeam-platform-token-requires c κs = search needs
+
+enum-told-3 : tie.Need-enum-told-3
+enum-told-3 c = search needs
+
+element-copy-out-pb-token-signing : tie.Need-element-copy-out-pb-token-signing
+element-copy-out-pb-token-signing c = search needs
+
+element-copy-out-pb-token-signing-2 : tie.Need-element-copy-out-pb-token-signing-2
+element-copy-out-pb-token-signing-2 c = search needs
+
+element-copy-out-pb-token-signing-3 : tie.Need-element-copy-out-pb-token-signing-3
+element-copy-out-pb-token-signing-3 c = search needs
+
+element-copy-out-pb-token-signing-4 : tie.Need-element-copy-out-pb-token-signing-4
+element-copy-out-pb-token-signing-4 c = search needs
+
+pbeam-token-signing-requires : tie.Need-pb-token-signing-requires
+pbeam-token-signing-requires c κs = search needs
+
+same-length : tie.Need-same-length
+same-length c = search needs
+
+same-length-2 : tie.Need-same-length-2
+same-length-2 c = search needs
+
+returns : tie.Need-returns
+returns c =
+    let a = c .before .before .before .before .before .before .before .before .before .before .before .before .before .before .before .before .before .before .args in
+    left-plain (a .granules .now) (a .session .now) (a .queue .now) (a .page .now) (a .table .now) (a .state .now) (a .call .now) (a .busy) (a .key .now) (a .token .now) (a .public .now) (a .width) (sym (c .before .before .before .before .before .before .before .before .before .before .before .needs-of .ensures) ∙ c .before .before .before .before .before .before .before .before .before .enum-told .given .1) _ (c .before .before .before .before .plain .ensures)
+
+same-length-3 : tie.Need-same-length-3
+same-length-3 c = search needs
+
+returns-2 : tie.Need-returns-2
+returns-2 c =
+    let a = c .before .before .before .before .before .before .before .before .before .before .before .before .before .before .before .before .before .before .before .args in
+    left-session (a .granules .now) (a .session .now) (a .queue .now) (a .page .now) (a .table .now) (a .state .now) (a .call .now) (a .busy) (a .key .now) (a .token .now) (a .public .now) (a .width) (sym (c .before .before .before .before .before .before .before .before .before .before .before .before .needs-of .ensures) ∙ c .before .before .before .before .before .before .before .before .before .before .enum-told2 .given .1) _ (c .before .before .pbeam-platform-token .ensures)
+
+same-length-4 : tie.Need-same-length-4
+same-length-4 c = search needs
+
+returns-3 : tie.Need-returns-3
+returns-3 c =
+    let a = c .before .before .before .before .before .before .before .before .before .before .before .before .before .before .before .before .before .before .before .before .args in
+    left-queue (a .granules .now) (a .session .now) (a .queue .now) (a .page .now) (a .table .now) (a .state .now) (a .call .now) (a .busy) (a .key .now) (a .token .now) (a .public .now) (a .width) (sym (c .before .before .before .before .before .before .before .before .before .before .before .before .before .needs-of .ensures) ∙ c .before .before .before .before .before .before .before .before .before .before .before .enum-told3 .given .1) _ (c .before .before .pbeam-token-signing .ensures)
+
+pub pbeam-call-spec : {M : Type 1} → statement M
+pbeam-call-spec =
+    tie.close
+    (tie.spec
+    element-copy-out-needs-of
+    needs-of-requires
+    enum-told
+    plain-requires
+    enum-told-2
+    element-copy-out-pb-platform-token
+    element-copy-out-pb-platform-token-2
+    element-copy-out-pb-platform-token-3
+    pbeam-platform-token-requires
+    enum-told-3
+    element-copy-out-pb-token-signing
+    element-copy-out-pb-token-signing-2
+    element-copy-out-pb-token-signing-3
+    element-copy-out-pb-token-signing-4
+    pbeam-token-signing-requires
+    same-length
+    same-length-2
+    returns
+    same-length-3
+    returns-2
+    same-length-4
+    returns-3)

@@ -1,0 +1,434 @@
+// The kit for C and Rust: every entry under one prefix. A state is a lent image of words, a result a number or lent words.
+use runtime::Needs;
+ghost use mathlib.Core.Path.{_≡_};
+ghost use lib.ListN.{length};
+ghost use Rattle.reader.specs.Answer.{countIn, wordIn, readOf};
+ghost use Rattle.reader.specs.Reading.{sectionOf, readingAnswer};
+ghost use Rattle.reader.specs.declared.Reading.the-variants.{Accepted};
+ghost use Rattle.lookup.specs.Lookup.{spanOf, spanIn};
+ghost use Rattle.lists.specs.Description.{descriptionOf};
+ghost use Rattle.writer.specs.Write.{writeOf};
+ghost use Rattle.writer.specs.Wrote.{pageAfter};
+ghost use Rattle.boot.specs.Boot.{codeIn, coldCode, coldNext, warmCode, warmNext};
+ghost use Rattle.granules.specs.declared.Direction.{Direction};
+ghost use Rattle.attest.specs.Key.{realmKeyOf};
+ghost use Rattle.token.specs.Token.{challengeSpan};
+ghost use Rattle.features.specs.Features.{featuresOf, updateOf, forwardOf};
+ghost use Rattle.images.specs.Image.{recordOf, recordWords, registerWords, workWords, viewOf, answerWords, madeNumber, spanWords};
+ghost use Rattle.queue_image.specs.Image.{listsIn, oldestWords};
+ghost use Rattle.potterbeam.specs.Exports.{MoveLeft, moveIn, TokenLeft, tokenIn, SigningLeft, signingIn, SignLeft, signIn, PlainLeft, plainIn, CallLeft, callLent, callIn};
+
+// ---- Manifest ----
+
+// Reads a page at a base as a reader of an edition. Answers 0 and what the page shows, or the code and a view of zeros.
+#[no_mangle]
+pub extern "C" fn pbeam_read(page: &[u8], base: u64, edition: u64, view: &mut [u64; 15]) -> i32
+    ensures { λ r. ⌜ r ≡ codeIn (readOf edition base (now (page .entry))) ⌝ }
+    ensures { λ r. ⌜ now (view .exit) ≡ answerWords base (now (page .entry)) (readOf edition base (now (page .entry))) ⌝ }
+{
+    let reading = reader::read(page, base, edition);
+    *view = images::reading_words(reading);
+    images::reading_number(reading)
+}
+
+// The array lookup: where a section's array lies in a page at a base, as a reader of an edition finds it.
+#[no_mangle]
+pub extern "C" fn pbeam_array(
+    page: &[u8],
+    base: u64,
+    edition: u64,
+    section: usize,
+    place: &mut [u64; 2],
+)
+    ensures { λ _. ⌜ now (place .exit) ≡ spanWords (spanIn base (now (page .entry)) (readOf edition base (now (page .entry))) section) ⌝ }
+{
+    *place = images::span_words(lookup::place(page, base, edition, section));
+}
+
+// Where the array of a view's section lies in the page.
+#[no_mangle]
+pub extern "C" fn pbeam_array_of(page: &[u8], view: &[u64; 15], section: usize, place: &mut [u64; 2])
+    ensures { λ _. ⌜ now (place .exit) ≡ spanWords (spanOf section (sectionOf (viewOf (now (view .entry))) section) (length (now (page .entry)))) ⌝ }
+{
+    *place = images::span_words(lookup::place_of(page, images::view_of(view), section));
+}
+
+// How many entries a view's section has.
+#[no_mangle]
+pub extern "C" fn pbeam_count(page: &[u8], view: &[u64; 15], section: usize) -> usize
+    ensures { λ r. ⌜ r ≡ countIn (readingAnswer (now (page .entry)) (Accepted (viewOf (now (view .entry))))) section ⌝ }
+{
+    lookup::count_of(page, images::view_of(view), section)
+}
+
+// A word of an entry of a view's section.
+#[no_mangle]
+pub extern "C" fn pbeam_word(
+    page: &[u8],
+    view: &[u64; 15],
+    section: usize,
+    entry: usize,
+    word: usize,
+) -> u64
+    ensures { λ r. ⌜ r ≡ wordIn (readingAnswer (now (page .entry)) (Accepted (viewOf (now (view .entry))))) section entry word ⌝ }
+{
+    lookup::word_of(page, images::view_of(view), section, entry, word)
+}
+
+// Writes a manifest of an edition for a base into the page. Answers 0, or 1 to 5 for W1 to W5.
+#[no_mangle]
+pub extern "C" fn pbeam_write(
+    base: u64,
+    edition: u64,
+    dram: &[u64],
+    console: &[u64],
+    ncoh: &[u64],
+    coh: &[u64],
+    page: &mut [u8],
+) -> u32
+    ensures { λ r. ⌜ r ≡ madeNumber (writeOf base (length (now (page .entry))) edition (descriptionOf (now (dram .entry)) (now (console .entry)) (now (ncoh .entry)) (now (coh .entry)))) ⌝ }
+    ensures { λ r. ⌜ now (page .exit) ≡ pageAfter (now (page .entry)) (writeOf base (length (now (page .entry))) edition (descriptionOf (now (dram .entry)) (now (console .entry)) (now (ncoh .entry)) (now (coh .entry)))) ⌝ }
+{
+    images::wrote_number(writer::write(base, edition, dram, console, ncoh, coh, page))
+}
+
+// ---- Boot ----
+
+// Cold boot with x0 to x3 on a monitor of at most so many CPUs, and the manifest's page at x3. Answers 0 or the code.
+#[no_mangle]
+pub extern "C" fn pbeam_cold_boot(
+    image: &mut [u64; 4],
+    x0: u64,
+    x1: u64,
+    x2: u64,
+    x3: u64,
+    most: u64,
+    page: &[u8],
+) -> i32
+    ensures { λ r. ⌜ r ≡ coldCode (recordOf (now (image .entry))) x0 x1 x2 x3 most (now (page .entry)) ⌝ }
+    ensures { λ r. ⌜ now (image .exit) ≡ recordWords (coldNext (recordOf (now (image .entry))) x0 x1 x2 x3 most (now (page .entry))) ⌝ }
+{
+    let booted = images::record_of(image).cold(x0, x1, x2, x3, most, page);
+    let next = booted.next;
+    *image = images::record_words(next);
+    let code = booted.code;
+    boot::number(code)
+}
+
+// Warm boot with x0 to x3, of which only x0 counts. Answers 0 or the code.
+#[no_mangle]
+pub extern "C" fn pbeam_warm_boot(image: &mut [u64; 4], x0: u64, x1: u64, x2: u64, x3: u64) -> i32
+    ensures { λ r. ⌜ r ≡ warmCode (recordOf (now (image .entry))) x0 ⌝ }
+    ensures { λ r. ⌜ now (image .exit) ≡ recordWords (warmNext (recordOf (now (image .entry))) x0) ⌝ }
+{
+    let booted = images::record_of(image).warm(x0, x1, x2, x3);
+    let next = booted.next;
+    *image = images::record_words(next);
+    let code = booted.code;
+    boot::number(code)
+}
+
+// ---- Runtime commands ----
+
+// 0xC40001B0: the granule at an address becomes Realm.
+#[no_mangle]
+pub extern "C" fn pbeam_delegate(
+    state: &[u64; 4],
+    granules: &[u64; 1],
+    table: &mut [u8],
+    address: u64,
+    out: &mut [u64; 3],
+)
+    ensures { λ _. ⌜ _≡_ {A = MoveLeft} (record { out = now (out .exit); table = now (table .exit) })
+        (moveIn Direction.Delegate (now (state .entry)) (now (granules .entry)) (now (table .entry)) address) ⌝ }
+{
+    *out = images::registers(granules::delegate(
+        images::record_of(state),
+        images::granules_of(granules),
+        table,
+        address,
+    ));
+}
+
+// 0xC40001B1: the granule at an address becomes Non-secure.
+#[no_mangle]
+pub extern "C" fn pbeam_undelegate(
+    state: &[u64; 4],
+    granules: &[u64; 1],
+    table: &mut [u8],
+    address: u64,
+    out: &mut [u64; 3],
+)
+    ensures { λ _. ⌜ _≡_ {A = MoveLeft} (record { out = now (out .exit); table = now (table .exit) })
+        (moveIn Direction.Undelegate (now (state .entry)) (now (granules .entry)) (now (table .entry)) address) ⌝ }
+{
+    *out = images::registers(granules::undelegate(
+        images::record_of(state),
+        images::granules_of(granules),
+        table,
+        address,
+    ));
+}
+
+// 0xC40001B2: the realm key at pa.
+#[no_mangle]
+pub extern "C" fn pbeam_realm_key(
+    state: &[u64; 4],
+    page: &mut [u8],
+    key: &[u8],
+    pa: u64,
+    size: u64,
+    curve: u64,
+    out: &mut [u64; 3],
+)
+    ensures { λ _. ⌜ now (out .exit) ≡ registerWords (realmKeyOf (recordOf (now (state .entry))) (now (page .entry)) (now (key .entry)) pa size curve .answer) ⌝ }
+    ensures { λ _. ⌜ now (page .exit) ≡ realmKeyOf (recordOf (now (state .entry))) (now (page .entry)) (now (key .entry)) pa size curve .page ⌝ }
+{
+    *out = images::registers(attest::realm_key(
+        images::record_of(state),
+        page,
+        key,
+        pa,
+        size,
+        curve,
+    ));
+}
+
+// 0xC40001B3: the next hunk of the token at pa. The session's image is written where the call is accepted.
+#[no_mangle]
+pub extern "C" fn pbeam_platform_token(
+    state: &[u64; 4],
+    session: &mut [u64; 3],
+    page: &mut [u8],
+    token: &[u8],
+    busy: u64,
+    pa: u64,
+    size: u64,
+    csize: u64,
+    out: &mut [u64; 3],
+)
+    ensures { λ _. ⌜ _≡_ {A = TokenLeft} (record { out = now (out .exit); page = now (page .exit); session = now (session .exit) })
+        (tokenIn (now (state .entry)) (now (session .entry)) (now (page .entry)) (now (token .entry)) busy pa size csize) ⌝ }
+{
+    let done = token::platform_token(
+        images::record_of(state),
+        page,
+        images::session_of(session),
+        images::is_set(busy),
+        token,
+        pa,
+        size,
+        csize,
+    );
+    let answer = done.answer;
+    let next = done.session;
+    let code = answer.code;
+    images::put_session(session, next, code);
+    *out = images::registers(answer);
+}
+
+// Where the challenge of a start lies in the page.
+#[no_mangle]
+pub extern "C" fn pbeam_challenge(
+    state: &[u64; 4],
+    page: &[u8],
+    pa: u64,
+    size: u64,
+    csize: u64,
+    place: &mut [u64; 2],
+)
+    ensures { λ _. ⌜ now (place .exit) ≡ spanWords (challengeSpan (recordOf (now (state .entry))) (now (page .entry)) pa size csize) ⌝ }
+{
+    *place = images::span_words(token::challenge_place(
+        images::record_of(state),
+        page,
+        pa,
+        size,
+        csize,
+    ));
+}
+
+// 0xC40001B4: the features at an index.
+#[no_mangle]
+pub extern "C" fn pbeam_features(state: &[u64; 4], index: u64, out: &mut [u64; 3])
+    ensures { λ _. ⌜ now (out .exit) ≡ registerWords (featuresOf (recordOf (now (state .entry))) index) ⌝ }
+{
+    *out = images::registers(features::features(images::record_of(state), index));
+}
+
+// 0xC40001B5: push, pull or key, by opcode. The queue's image is written where the call is accepted.
+#[no_mangle]
+pub extern "C" fn pbeam_token_signing(
+    state: &[u64; 4],
+    queue: &mut [u64; 210],
+    page: &mut [u8],
+    key: &[u8],
+    opcode: u64,
+    pa: u64,
+    size: u64,
+    curve: u64,
+    out: &mut [u64; 3],
+)
+    ensures { λ _. ⌜ _≡_ {A = SigningLeft} (record { out = now (out .exit); page = now (page .exit); queue = now (queue .exit) })
+        (signingIn (now (state .entry)) (now (queue .entry)) (now (page .entry)) (now (key .entry)) opcode pa size curve) ⌝ }
+{
+    let done = signing::token_signing(
+        images::record_of(state),
+        page,
+        queue_image::queue_of(queue),
+        key,
+        opcode,
+        pa,
+        size,
+        curve,
+    );
+    let answer = done.answer;
+    let next = done.queue;
+    let code = answer.code;
+    queue_image::put_queue(queue, next, code);
+    *out = images::registers(answer);
+}
+
+// 0xC40001B6: what the platform has to do goes into work.
+#[no_mangle]
+pub extern "C" fn pbeam_key_update(
+    state: &[u64; 4],
+    width: u64,
+    mecid: u64,
+    out: &mut [u64; 3],
+    work: &mut [u64; 2],
+)
+    ensures { λ _. ⌜ now (out .exit) ≡ registerWords (updateOf (recordOf (now (state .entry))) width mecid .answer) ⌝ }
+    ensures { λ _. ⌜ now (work .exit) ≡ workWords (updateOf (recordOf (now (state .entry))) width mecid .work) ⌝ }
+{
+    let updated = features::key_update(images::record_of(state), width, mecid);
+    let todo = updated.work;
+    *work = images::work_words(todo);
+    let answer = updated.answer;
+    *out = images::registers(answer);
+}
+
+// 0xC400018F: the error code that goes to the Non-secure world.
+#[no_mangle]
+pub extern "C" fn pbeam_forward(state: &[u64; 4], x1: u64) -> u64
+    ensures { λ r. ⌜ r ≡ forwardOf (recordOf (now (state .entry))) x1 ⌝ }
+{
+    features::forward(images::record_of(state), x1)
+}
+
+// ---- The signer ----
+
+// The signer's own step: the oldest request becomes the newest response, with the signature that the signer lends. The queue's image
+// is written where the step is accepted.
+#[no_mangle]
+pub extern "C" fn pbeam_sign(queue: &mut [u64; 210], signature: &[u8], out: &mut [u64; 3])
+    ensures { λ _. ⌜ _≡_ {A = SignLeft} (record { out = now (out .exit); queue = now (queue .exit) }) (signIn (now (queue .entry)) (now (signature .entry))) ⌝ }
+{
+    let done = responses::sign(queue_image::queue_of(queue), signature);
+    let answer = done.answer;
+    let next = done.queue;
+    let code = answer.code;
+    queue_image::put_queue(queue, next, code);
+    *out = images::registers(answer);
+}
+
+// The oldest request. Answers how many wait; where none does, the request is zeros.
+#[no_mangle]
+pub extern "C" fn pbeam_oldest(queue: &[u64; 210], request: &mut [u64; 10]) -> usize
+    ensures { λ r. ⌜ r ≡ length (listsIn (now (queue .entry)) .requests) ⌝ }
+    ensures { λ _. ⌜ now (request .exit) ≡ oldestWords (listsIn (now (queue .entry)) .requests) ⌝ }
+{
+    let waiting = queue_image::queue_of(queue);
+    *request = queue_image::oldest_words(waiting);
+    let requests = waiting.requests;
+    queue::request_count(requests)
+}
+
+// ---- Every command ----
+
+// A call that uses neither session nor queue.
+fn plain(
+    state: &[u64; 4],
+    page: &mut [u8],
+    granules: &[u64; 1],
+    table: &mut [u8],
+    key: &[u8],
+    width: u64,
+    call: &[u64; 5],
+    out: &mut [u64; 3],
+    work: &mut [u64; 2],
+)
+    ensures { λ _. ⌜ _≡_ {A = PlainLeft} (record { out = now (out .exit); work = now (work .exit); page = now (page .exit); table = now (table .exit) })
+        (plainIn (now (state .entry)) (now (granules .entry)) (now (page .entry)) (now (table .entry)) (now (call .entry)) (now (key .entry)) width) ⌝ }
+{
+    let reply = runtime::plain_call(
+        images::record_of(state),
+        images::granules_of(granules),
+        call[0],
+        call[1],
+        call[2],
+        call[3],
+        page,
+        table,
+        key,
+        width,
+    );
+    *out = images::reply_registers(reply);
+    *work = images::reply_words(reply);
+}
+
+// A call of the interface, x0 being the function id. Only the platform token reads and writes the session's image, and only token
+// signing the queue's; each is written where the call is accepted.
+#[no_mangle]
+pub extern "C" fn pbeam_call(
+    state: &[u64; 4],
+    session: &mut [u64; 3],
+    queue: &mut [u64; 210],
+    page: &mut [u8],
+    granules: &[u64; 1],
+    table: &mut [u8],
+    key: &[u8],
+    token: &[u8],
+    busy: u64,
+    public: &[u8],
+    width: u64,
+    call: &[u64; 5],
+    out: &mut [u64; 3],
+    work: &mut [u64; 2],
+)
+    ensures { λ _. ⌜ _≡_ {A = CallLeft} (record { out = now (out .exit); work = now (work .exit); page = now (page .exit); table = now (table .exit); session = now (session .exit); queue = now (queue .exit) })
+        (callIn (now (granules .entry)) (now (session .entry)) (now (queue .entry)) (now (page .entry)) (now (table .entry))
+        (callLent (now (state .entry)) (now (call .entry)) busy (now (key .entry)) (now (token .entry)) (now (public .entry)) width)) ⌝ }
+{
+    match runtime::needs_of(call[0]) {
+        Needs::Nothing => plain(state, page, granules, table, key, width, call, out, work),
+        Needs::Session => {
+            *work = [0, 0];
+            pbeam_platform_token(
+                state,
+                session,
+                page,
+                token,
+                busy,
+                call[1],
+                call[2],
+                call[3],
+                out,
+            )
+        }
+        Needs::Queue => {
+            *work = [0, 0];
+            pbeam_token_signing(
+                state,
+                queue,
+                page,
+                public,
+                call[1],
+                call[2],
+                call[3],
+                call[4],
+                out,
+            )
+        }
+    }
+}
