@@ -4,8 +4,7 @@ use mathlib.Core.Path.{_≡_, refl, _∙_}
 use mathlib.Core.Bool.{true}
 use mathlib.Core.List.{List}
 use native.Mathlib.Omega.{arith}
-use lib.ListN.{length, take, drop}
-use Rattle.words.specs.Word.{part}
+use lib.ListN.{length}
 use Rattle.words.proofs.Store.{front-splice, drop-splice, part-splice}
 use Rattle.boot.specs.declared.Record.{Record}
 use Rattle.range.specs.Range.{placeOf}
@@ -13,19 +12,13 @@ use Rattle.range.proofs.Ranges.{passed, page-range, range-ok}
 use Rattle.codes.specs.Codes.{isUp, upOf, answerOf}
 use Rattle.codes.specs.declared.Code.the-variants.{Ok}
 use Rattle.codes.proofs.Gates.{first-ok, then-go}
+use Rattle.attest.specs.Acts.{KeyActed}
 use Rattle.attest.specs.Key.{keyCode, keyed, realmKeyOf}
 use Rattle.attest.proofs.Keys.{rest-ok}
 
--- what an OK did to the page: the key stands at an offset, and every byte before and behind it is as it was; x1 is its length
-pub record Acted (at : ℕ) (key page after : List ℕ) (x1 : ℕ) : Type 0 where
-  pub told : x1 ≡ length key
-  pub there : part at (length key) after ≡ key
-  pub before : take at after ≡ take at page
-  pub behind : drop (at + length key) after ≡ drop (at + length key) page
-
 -- "Writes the key at pa; x1 is its length."
 pub key-acts : (r : Record) (page key : List ℕ) (pa size curve : ℕ) → realmKeyOf r page key pa size curve .answer .code ≡ Ok →
-    Acted (placeOf (upOf r) pa) key page (realmKeyOf r page key pa size curve .page) (realmKeyOf r page key pa size curve .answer .x1)
+    KeyActed (placeOf (upOf r) pa) key page (realmKeyOf r page key pa size curve .page) (realmKeyOf r page key pa size curve .answer .x1)
 unfolding realmKeyOf keyed keyCode answerOf
 key-acts r page key pa size curve h =
     let p = passed _ _ _ _ _ _ (first-ok _ _ h) in

@@ -25,7 +25,7 @@ pub fn record_of(image: &[u64; 4]) -> Record
     ensures { λ r. ⌜ r ≡ recordOf (now (image .entry)) ⌝ }
 {
     if image[0] == 0 {
-        return Record::Fresh;
+        return Record::fresh();
     }
     if image[0] == 1 {
         return Record::Up(Params {
@@ -57,7 +57,7 @@ pub fn session_of(image: &[u64; 3]) -> Session
     ensures { λ r. ⌜ r ≡ sessionOf (now (image .entry)) ⌝ }
 {
     if image[0] == 0 {
-        return Session::Idle;
+        return Session::idle();
     }
     Session::Sending {
         whole: image[1],

@@ -5,6 +5,8 @@ use mathlib.Core.List.{List}
 use lib.ListN.{getD}
 use Rattle.codes.specs.Codes.{ifOk}
 use Rattle.codes.specs.declared.Code.{Code}
+use Rattle.lists.specs.Description.{descriptionOf}
+use Rattle.writer.specs.Write.{Made, writeOf}
 use Rattle.granules.specs.Granules.{Moved, moveOf}
 use Rattle.granules.specs.declared.Direction.{Direction}
 use Rattle.token.specs.Token.{TokenStep, tokenOf}
@@ -16,6 +18,10 @@ use Rattle.runtime.specs.Step.{World, worldOf, plainWorld, Call, callWith, plai
 use Rattle.runtime.specs.declared.Needs.{Needs}
 use Rattle.images.specs.Image.{recordOf, granulesOf, isSet, sessionOf, sessionWords, registerWords, replyRegisters, replyWords}
 use Rattle.queue_image.specs.Image.{listsIn, queueWords}
+
+-- ---- the writer, of its four lists
+abbrev pub writeIn : ℕ → ℕ → ℕ → List ℕ → List ℕ → List ℕ → List ℕ → Made
+writeIn base n edition dram console ncoh coh = writeOf base n edition (descriptionOf dram console ncoh coh)
 
 -- ---- an image after a call: written where the call is accepted
 unfoldable pub sessionAfter : Code → Session → List ℕ → List ℕ

@@ -6,8 +6,6 @@ ghost use Rattle.reader.specs.Answer.{countIn, wordIn, readOf};
 ghost use Rattle.reader.specs.Reading.{sectionOf, readingAnswer};
 ghost use Rattle.reader.specs.declared.Reading.the-variants.{Accepted};
 ghost use Rattle.lookup.specs.Lookup.{spanOf, spanIn};
-ghost use Rattle.lists.specs.Description.{descriptionOf};
-ghost use Rattle.writer.specs.Write.{writeOf};
 ghost use Rattle.writer.specs.Wrote.{pageAfter};
 ghost use Rattle.boot.specs.Boot.{codeIn, coldCode, coldNext, warmCode, warmNext};
 ghost use Rattle.granules.specs.declared.Direction.{Direction};
@@ -16,7 +14,7 @@ ghost use Rattle.token.specs.Token.{challengeSpan};
 ghost use Rattle.features.specs.Features.{featuresOf, updateOf, forwardOf};
 ghost use Rattle.images.specs.Image.{recordOf, recordWords, registerWords, workWords, viewOf, answerWords, madeNumber, spanWords};
 ghost use Rattle.queue_image.specs.Image.{listsIn, oldestWords};
-ghost use Rattle.potterbeam.specs.Exports.{MoveLeft, moveIn, TokenLeft, tokenIn, SigningLeft, signingIn, SignLeft, signIn, PlainLeft, plainIn, CallLeft, callLent, callIn};
+ghost use Rattle.potterbeam.specs.Exports.{writeIn, MoveLeft, moveIn, TokenLeft, tokenIn, SigningLeft, signingIn, SignLeft, signIn, PlainLeft, plainIn, CallLeft, callLent, callIn};
 
 // ---- Manifest ----
 
@@ -86,8 +84,9 @@ pub extern "C" fn pbeam_write(
     coh: &[u64],
     page: &mut [u8],
 ) -> u32
-    ensures { λ r. ⌜ r ≡ madeNumber (writeOf base (length (now (page .entry))) edition (descriptionOf (now (dram .entry)) (now (console .entry)) (now (ncoh .entry)) (now (coh .entry)))) ⌝ }
-    ensures { λ r. ⌜ now (page .exit) ≡ pageAfter (now (page .entry)) (writeOf base (length (now (page .entry))) edition (descriptionOf (now (dram .entry)) (now (console .entry)) (now (ncoh .entry)) (now (coh .entry)))) ⌝ }
+    ensures { λ r. ⌜ r ≡ madeNumber (writeIn base (length (now (page .entry))) edition (now (dram .entry)) (now (console .entry)) (now (ncoh .entry)) (now (coh .entry))) ⌝ }
+    ensures { λ r. ⌜ now (page .exit) ≡ pageAfter (now (page .entry))
+        (writeIn base (length (now (page .entry))) edition (now (dram .entry)) (now (console .entry)) (now (ncoh .entry)) (now (coh .entry))) ⌝ }
 {
     images::wrote_number(writer::write(base, edition, dram, console, ncoh, coh, page))
 }
@@ -396,7 +395,8 @@ pub extern "C" fn pbeam_call(
     out: &mut [u64; 3],
     work: &mut [u64; 2],
 )
-    ensures { λ _. ⌜ _≡_ {A = CallLeft} (record { out = now (out .exit); work = now (work .exit); page = now (page .exit); table = now (table .exit); session = now (session .exit); queue = now (queue .exit) })
+    ensures { λ _. ⌜ _≡_ {A = CallLeft} (record { out = now (out .exit); work = now (work .exit); page = now (page .exit); table = now (table .exit);
+        session = now (session .exit); queue = now (queue .exit) })
         (callIn (now (granules .entry)) (now (session .entry)) (now (queue .entry)) (now (page .entry)) (now (table .entry))
         (callLent (now (state .entry)) (now (call .entry)) busy (now (key .entry)) (now (token .entry)) (now (public .entry)) width)) ⌝ }
 {

@@ -1,8 +1,9 @@
 use mathlib.Core.Path.{_≡_, refl, sym, ap, _∙_}
-use Rattle.queue.specs.Queue.{listsOf}
+use Rattle.queue.specs.Queue.{SigningStep, listsOf}
+use Rattle.token.specs.Token.{TokenStep}
+use Rattle.runtime.specs.Step.{worldOf, kindOf, callOf, callBy, replyCode, afterToken, afterSigning}
 use Rattle.runtime.specs.declared.Kind.the-variants.{PlatformToken, TokenSigning}
 use Rattle.runtime.specs.declared.Stepped.{Stepped}
-use Rattle.runtime.specs.Step.{kindOf, callOf, callBy, replyCode, afterToken, afterSigning}
 use Rattle.runtime.proofs.Plain.{needs-session, needs-queue, beside, plain-beside}
 use borrow.Author.Needs.{needs}
 use Rattle.runtime.proofs.call.Statement.{statement}
@@ -52,8 +53,9 @@ same-length-3 c = search needs
 returns-2 : tie.Need-returns-2
 unfolding callOf callBy replyCode afterToken
 returns-2 c =
-    let h : kindOf (c .before .before .before .before .before .before .before .before .before .before .before .before .before .args .id) ≡ PlatformToken = needs-session _ (sym (c .before .before .before .before .before .before .before .needs-of .ensures) ∙ c .before .before .before .before .before .enum-told2 .given .1) in
-    (rw (h, c .after-token .ensures, ← c .before .before .before .platform-token .ensures), λ e. ap (λ (s : Stepped). s .queue) (c .after-token .ensures))
+    let a = c .before .before .before .before .before .before .before .before .before .before .before .before .before .args in
+    let h : kindOf (a .id) ≡ PlatformToken = needs-session _ (sym (c .before .before .before .before .before .before .before .needs-of .ensures) ∙ c .before .before .before .before .before .enum-told2 .given .1) in
+    (rw (h, c .after-token .ensures) (ap (λ (t : TokenStep). afterToken t (worldOf (a .page .now) (a .table .now) (a .session) (listsOf (a .queue)))) (c .before .before .before .platform-token .ensures)), λ e. ap (λ (s : Stepped). s .queue) (c .after-token .ensures))
 
 same-length-4 : tie.Need-same-length-4
 same-length-4 c = search needs
@@ -61,8 +63,9 @@ same-length-4 c = search needs
 returns-3 : tie.Need-returns-3
 unfolding callOf callBy replyCode afterSigning
 returns-3 c =
-    let h : kindOf (c .before .before .before .before .before .before .before .before .before .before .before .before .before .args .id) ≡ TokenSigning = needs-queue _ (sym (c .before .before .before .before .before .before .before .needs-of .ensures) ∙ c .before .before .before .before .before .enum-told3 .given .1) in
-    (rw (h, c .after-signing .ensures, ← c .before .before .before .token-signing .ensures .0), λ e. ap (λ (s : Stepped). s .queue) (c .after-signing .ensures) ∙ c .before .before .before .token-signing .ensures .1 (rw (c .after-signing .ensures) at e))
+    let a = c .before .before .before .before .before .before .before .before .before .before .before .before .before .args in
+    let h : kindOf (a .id) ≡ TokenSigning = needs-queue _ (sym (c .before .before .before .before .before .before .before .needs-of .ensures) ∙ c .before .before .before .before .before .enum-told3 .given .1) in
+    (rw (h, c .after-signing .ensures) (ap (λ (s : SigningStep). afterSigning s (worldOf (a .page .now) (a .table .now) (a .session) (listsOf (a .queue)))) (c .before .before .before .token-signing .ensures .0)), λ e. ap (λ (s : Stepped). s .queue) (c .after-signing .ensures) ∙ c .before .before .before .token-signing .ensures .1 (rw (c .after-signing .ensures) at e))
 
 pub call-spec : {M : Type 1} → statement M
 call-spec =
