@@ -45,7 +45,12 @@ pub extern "C" fn pbeam_array(
 
 // Where the array of a view's section lies in the page.
 #[no_mangle]
-pub extern "C" fn pbeam_array_of(page: &[u8], view: &[u64; 15], section: usize, place: &mut [u64; 2])
+pub extern "C" fn pbeam_array_of(
+    page: &[u8],
+    view: &[u64; 15],
+    section: usize,
+    place: &mut [u64; 2],
+)
     ensures { λ _. ⌜ now (place .exit) ≡ spanWords (spanOf section (sectionOf (viewOf (now (view .entry))) section) (length (now (page .entry)))) ⌝ }
 {
     *place = images::span_words(lookup::place_of(page, images::view_of(view), section));
@@ -395,8 +400,14 @@ pub extern "C" fn pbeam_call(
     out: &mut [u64; 3],
     work: &mut [u64; 2],
 )
-    ensures { λ _. ⌜ _≡_ {A = CallLeft} (record { out = now (out .exit); work = now (work .exit); page = now (page .exit); table = now (table .exit);
-        session = now (session .exit); queue = now (queue .exit) })
+    ensures { λ _. ⌜ _≡_ {A = CallLeft} (record {
+      out = now (out .exit);
+      work = now (work .exit);
+      page = now (page .exit);
+      table = now (table .exit);
+      session = now (session .exit);
+      queue = now (queue .exit);
+    })
         (callIn (now (granules .entry)) (now (session .entry)) (now (queue .entry)) (now (page .entry)) (now (table .entry))
         (callLent (now (state .entry)) (now (call .entry)) busy (now (key .entry)) (now (token .entry)) (now (public .entry)) width)) ⌝ }
 {
