@@ -1,4 +1,5 @@
 // The kit for C and Rust: every entry under one prefix. A state is a lent image of words, a result a number or lent words.
+use boot::Record;
 use runtime::Needs;
 ghost use mathlib.Core.Path.{_≡_};
 ghost use lib.ListN.{length};
@@ -7,10 +8,14 @@ ghost use Rattle.reader.specs.Reading.{sectionOf, readingAnswer};
 ghost use Rattle.reader.specs.declared.Reading.the-variants.{Accepted};
 ghost use Rattle.lookup.specs.Lookup.{spanOf, spanIn};
 ghost use Rattle.writer.specs.Wrote.{pageAfter};
+ghost use Rattle.versions.specs.Version.{versionOk, later, agreed};
+ghost use Rattle.boot.specs.declared.Record.the-variants.{Closed};
 ghost use Rattle.boot.specs.Boot.{codeIn, coldCode, coldNext, warmCode, warmNext};
 ghost use Rattle.granules.specs.declared.Direction.{Direction};
 ghost use Rattle.attest.specs.Key.{realmKeyOf};
-ghost use Rattle.token.specs.Token.{challengeSpan};
+ghost use mathlib.Core.Bool.{false};
+ghost use Rattle.codes.specs.Codes.{x0Of};
+ghost use Rattle.token.specs.Token.{bufferCode, challengeSpan};
 ghost use Rattle.features.specs.Features.{featuresOf, updateOf, forwardOf};
 ghost use Rattle.images.specs.Image.{recordOf, recordWords, registerWords, workWords, viewOf, answerWords, madeNumber, spanWords};
 ghost use Rattle.queue_image.specs.Image.{listsIn, oldestWords};
@@ -96,6 +101,32 @@ pub extern "C" fn pbeam_write(
     images::wrote_number(writer::write(base, edition, dram, console, ncoh, coh, page))
 }
 
+// ---- Versions ----
+
+// Whether a version is accepted, for boot interface and manifest alike.
+#[no_mangle]
+pub extern "C" fn pbeam_version_accepted(version: u64) -> bool
+    ensures { λ r. ⌜ r ≡ versionOk version ⌝ }
+{
+    versions::is_accepted(version)
+}
+
+// The agreed interface minor, by the version offered.
+#[no_mangle]
+pub extern "C" fn pbeam_agreed_minor(version: u64) -> u64
+    ensures { λ r. ⌜ r ≡ agreed version ⌝ }
+{
+    versions::agreed_minor(version)
+}
+
+// Whether version a is later than version b.
+#[no_mangle]
+pub extern "C" fn pbeam_is_later(a: u64, b: u64) -> bool
+    ensures { λ r. ⌜ r ≡ later a b ⌝ }
+{
+    versions::is_later(a, b)
+}
+
 // ---- Boot ----
 
 // Cold boot with x0 to x3 on a monitor of at most so many CPUs, and the manifest's page at x3. Answers 0 or the code.
@@ -130,6 +161,14 @@ pub extern "C" fn pbeam_warm_boot(image: &mut [u64; 4], x0: u64, x1: u64, x2: u6
     *image = images::record_words(next);
     let code = booted.code;
     boot::number(code)
+}
+
+// Closes the record for good, whatever it was: for EL3, when the monitor reports that its boot failed.
+#[no_mangle]
+pub extern "C" fn pbeam_close(image: &mut [u64; 4])
+    ensures { λ _. ⌜ now (image .exit) ≡ recordWords Closed ⌝ }
+{
+    *image = images::record_words(Record::Closed);
 }
 
 // ---- Runtime commands ----
@@ -231,7 +270,7 @@ pub extern "C" fn pbeam_platform_token(
     *out = images::registers(answer);
 }
 
-// Where the challenge of a start lies in the page.
+// Where the challenge of a start lies in the page. Answers x0 of the first check that the call fails, or OK.
 #[no_mangle]
 pub extern "C" fn pbeam_challenge(
     state: &[u64; 4],
@@ -240,16 +279,13 @@ pub extern "C" fn pbeam_challenge(
     size: u64,
     csize: u64,
     place: &mut [u64; 2],
-)
+) -> u64
+    ensures { λ r. ⌜ r ≡ x0Of (bufferCode (recordOf (now (state .entry))) (length (now (page .entry))) false pa size csize) ⌝ }
     ensures { λ _. ⌜ now (place .exit) ≡ spanWords (challengeSpan (recordOf (now (state .entry))) (now (page .entry)) pa size csize) ⌝ }
 {
-    *place = images::span_words(token::challenge_place(
-        images::record_of(state),
-        page,
-        pa,
-        size,
-        csize,
-    ));
+    let record = images::record_of(state);
+    *place = images::span_words(token::challenge_place(record, page, pa, size, csize));
+    codes::x0(token::challenge_code(record, page, pa, size, csize))
 }
 
 // 0xC40001B4: the features at an index.
@@ -342,10 +378,16 @@ pub extern "C" fn pbeam_oldest(queue: &[u64; 210], request: &mut [u64; 10]) -> u
     ensures { λ r. ⌜ r ≡ length (listsIn (now (queue .entry)) .requests) ⌝ }
     ensures { λ _. ⌜ now (request .exit) ≡ oldestWords (listsIn (now (queue .entry)) .requests) ⌝ }
 {
-    let waiting = queue_image::queue_of(queue);
-    *request = queue_image::oldest_words(waiting);
-    let requests = waiting.requests;
-    queue::request_count(requests)
+    *request = queue_image::oldest_words(queue);
+    queue_image::requests_waiting(queue)
+}
+
+// How many responses wait to be pulled.
+#[no_mangle]
+pub extern "C" fn pbeam_responses(queue: &[u64; 210]) -> usize
+    ensures { λ r. ⌜ r ≡ length (listsIn (now (queue .entry)) .responses) ⌝ }
+{
+    queue_image::responses_waiting(queue)
 }
 
 // ---- Every command ----

@@ -3,17 +3,18 @@ use Prim.Native.Nat.{ℕ, zero, suc, _<_, _≤_}
 use mathlib.Core.Path.{_≡_, refl, sym, ap, _∙_}
 use mathlib.Core.List.{List, [], _∷_, map}
 use native.Mathlib.Omega.{arith}
-use lib.ListN.{length, take, replicate, length-map}
-use Rattle.words.specs.Word.{splice}
+use lib.ListN.{length, take, drop, getD, replicate, length-map}
+use Rattle.words.specs.Word.{part, splice}
 use Rattle.words.proofs.Read.{wordsOf-length}
 use Rattle.words.proofs.Store.{bytes-in, laid-all}
 use Rattle.queue.specs.declared.Request.{Request}
 use Rattle.queue.specs.declared.Response.{Response}
 use Rattle.queue.specs.declared.Responses.{Responses}
 use Rattle.queue.specs.declared.Queue.{Queue}
+use Rattle.queue.proofs.Sides.{count-over, count-within}
 use Rattle.queue.specs.Queue.{Signed, waiting, held, ready, signedIn, listsOf, oldestRequest}
-use Rattle.queue_image.specs.Image.{heldIn, responseIn, requestWords, responseWords, flat, queueWords, oldestWords}
-use Rattle.queue_image.proofs.Rows.{flat-map, flat-length, sides-in}
+use Rattle.queue_image.specs.Image.{rows, requestIn, heldIn, responseIn, listsIn, requestWords, responseWords, flat, queueWords, oldestWords}
+use Rattle.queue_image.proofs.Rows.{rows-length, flat-map, flat-length, sides-in}
 
 pub request-wide : (r : Request) → length (requestWords r) ≡ 10
 unfolding requestWords
@@ -64,3 +65,28 @@ oldest-first [] r h e = absurd (omega arith)
 oldest-first (x ∷ l) r h e =
     let n : length (requestWords r) ≡ 10 = request-wide r in
     sym (bytes-in 0 (requestWords r) (replicate 10 0) (omega arith)) ∙ laid-all (requestWords r) (replicate 10 0) n ∙ ap requestWords e
+
+-- ---- of an image
+module _ (w : List ℕ) where
+  module _ {A : Type 0} (f : List ℕ → A) (width n at : ℕ) where
+    eight-rows : length (map f (rows width 8 (drop at w))) ≡ 8
+    eight-rows = simp (length-map, rows-length)
+
+    pub says-more : 8 < n → 8 ≡ length (take n (map f (rows width 8 (drop at w))))
+    says-more h = sym (count-over n (map f (rows width 8 (drop at w))) eight-rows h)
+
+    pub says-all : n ≤ 8 → n ≡ length (take n (map f (rows width 8 (drop at w))))
+    says-all h = sym (count-within n (map f (rows width 8 (drop at w))) eight-rows h)
+
+  pub no-request : getD w 0 0 ≡ 0 → replicate 10 0 ≡ oldestWords (listsIn w .requests)
+  unfolding listsIn oldestWords
+  no-request h = rw h
+
+  first-row : (n : ℕ) → (n ≡ 0 → ⊥) → splice 0 (requestWords (requestIn (part 2 10 w))) (replicate 10 0) ≡ oldestWords (take n (map requestIn (rows 10 8 (drop 2 w))))
+  unfolding rows part oldestRequest
+  first-row zero h = absurd (h refl)
+  first-row (suc n) h = oldest-first (take (suc n) (map requestIn (rows 10 8 (drop 2 w)))) (requestIn (part 2 10 w)) (omega arith) refl
+
+  pub a-request : (getD w 0 0 ≡ 0 → ⊥) → splice 0 (requestWords (requestIn (part 2 10 w))) (replicate 10 0) ≡ oldestWords (listsIn w .requests)
+  unfolding listsIn
+  a-request h = first-row (getD w 0 0) h

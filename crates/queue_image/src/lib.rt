@@ -166,15 +166,35 @@ pub fn put_queue(image: &mut [u64; 210], queue: Queue, code: Code)
     put_responses(image, responses);
 }
 
-// The words of the oldest request; zeros where none waits.
-pub fn oldest_words(queue: Queue) -> [u64; 10]
-    ensures { λ r. ⌜ r ≡ oldestWords (listsOf queue .requests) ⌝ }
+// How many wait on either side of an image; a number above eight stands for eight.
+pub fn requests_waiting(image: &[u64; 210]) -> usize
+    ensures { λ r. ⌜ r ≡ length (listsIn (now (image .entry)) .requests) ⌝ }
 {
-    let requests = queue.requests;
+    let n = image[0];
+    if 8 < n {
+        return 8;
+    }
+    n as usize
+}
+
+pub fn responses_waiting(image: &[u64; 210]) -> usize
+    ensures { λ r. ⌜ r ≡ length (listsIn (now (image .entry)) .responses) ⌝ }
+{
+    let n = image[1];
+    if 8 < n {
+        return 8;
+    }
+    n as usize
+}
+
+// The words of the oldest request, of its row alone; zeros where none waits.
+pub fn oldest_words(image: &[u64; 210]) -> [u64; 10]
+    ensures { λ r. ⌜ r ≡ oldestWords (listsIn (now (image .entry)) .requests) ⌝ }
+{
     let mut row = [0u64; 10];
-    if queue::request_count(requests) == 0 {
+    if image[0] == 0 {
         return row;
     }
-    put_request(&mut row, 0, queue::first_request(requests));
+    put_request(&mut row, 0, request_in(image, 2));
     row
 }

@@ -6,6 +6,7 @@ use codes::Gate;
 use range::OutsideAs;
 use words::Span;
 ghost use mathlib.Core.Path.{_≡_};
+ghost use mathlib.Core.Bool.{false};
 ghost use Prim.Native.Nat.{_+_, _≤_};
 ghost use lib.ListN.{length};
 ghost use Rattle.words.specs.Word.{part, splice, spanned};
@@ -174,6 +175,17 @@ pub fn challenge_place(state: Record, page: &[u8], pa: u64, size: u64, csize: u6
         return Span { at: 0, len: 0 };
     };
     words::span_at(at, csize as usize)
+}
+
+// Why there is no challenge: the code of the first check that the call fails, or OK. With OK and c_size 0 the call is no start.
+pub fn challenge_code(state: Record, page: &[u8], pa: u64, size: u64, csize: u64) -> Code
+    ensures { λ r. ⌜ r ≡ bufferCode state (length (now (page .entry))) false pa size csize ⌝ }
+{
+    let gate = buffer_of(state, page.len(), false, pa, size, csize);
+    match gate {
+        Gate::Stop(code) => code,
+        Gate::Go(_) => Code::Ok,
+    }
 }
 
 // The challenge of a start, as that part of the page; empty where there is none.

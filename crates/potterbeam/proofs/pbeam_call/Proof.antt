@@ -19,34 +19,34 @@ plain-requires c κs = search needs
 enum-told-2 : tie.Need-enum-told-2
 enum-told-2 c = search needs
 
-element-copy-out-pb-platform-token : tie.Need-element-copy-out-pb-platform-token
-element-copy-out-pb-platform-token c = search needs
+element-copy-out-pbeam-platform-token : tie.Need-element-copy-out-pbeam-platform-token
+element-copy-out-pbeam-platform-token c = search needs
 
-element-copy-out-pb-platform-token-2 : tie.Need-element-copy-out-pb-platform-token-2
-element-copy-out-pb-platform-token-2 c = search needs
+element-copy-out-pbeam-platform-token-2 : tie.Need-element-copy-out-pbeam-platform-token-2
+element-copy-out-pbeam-platform-token-2 c = search needs
 
-element-copy-out-pb-platform-token-3 : tie.Need-element-copy-out-pb-platform-token-3
-element-copy-out-pb-platform-token-3 c = search needs
+element-copy-out-pbeam-platform-token-3 : tie.Need-element-copy-out-pbeam-platform-token-3
+element-copy-out-pbeam-platform-token-3 c = search needs
 
-pbeam-platform-token-requires : tie.Need-pb-platform-token-requires
+pbeam-platform-token-requires : tie.Need-pbeam-platform-token-requires
 pbeam-platform-token-requires c κs = search needs
 
 enum-told-3 : tie.Need-enum-told-3
 enum-told-3 c = search needs
 
-element-copy-out-pb-token-signing : tie.Need-element-copy-out-pb-token-signing
-element-copy-out-pb-token-signing c = search needs
+element-copy-out-pbeam-token-signing : tie.Need-element-copy-out-pbeam-token-signing
+element-copy-out-pbeam-token-signing c = search needs
 
-element-copy-out-pb-token-signing-2 : tie.Need-element-copy-out-pb-token-signing-2
-element-copy-out-pb-token-signing-2 c = search needs
+element-copy-out-pbeam-token-signing-2 : tie.Need-element-copy-out-pbeam-token-signing-2
+element-copy-out-pbeam-token-signing-2 c = search needs
 
-element-copy-out-pb-token-signing-3 : tie.Need-element-copy-out-pb-token-signing-3
-element-copy-out-pb-token-signing-3 c = search needs
+element-copy-out-pbeam-token-signing-3 : tie.Need-element-copy-out-pbeam-token-signing-3
+element-copy-out-pbeam-token-signing-3 c = search needs
 
-element-copy-out-pb-token-signing-4 : tie.Need-element-copy-out-pb-token-signing-4
-element-copy-out-pb-token-signing-4 c = search needs
+element-copy-out-pbeam-token-signing-4 : tie.Need-element-copy-out-pbeam-token-signing-4
+element-copy-out-pbeam-token-signing-4 c = search needs
 
-pbeam-token-signing-requires : tie.Need-pb-token-signing-requires
+pbeam-token-signing-requires : tie.Need-pbeam-token-signing-requires
 pbeam-token-signing-requires c κs = search needs
 
 same-length : tie.Need-same-length
@@ -85,15 +85,15 @@ pbeam-call-spec =
     enum-told
     plain-requires
     enum-told-2
-    element-copy-out-pb-platform-token
-    element-copy-out-pb-platform-token-2
-    element-copy-out-pb-platform-token-3
+    element-copy-out-pbeam-platform-token
+    element-copy-out-pbeam-platform-token-2
+    element-copy-out-pbeam-platform-token-3
     pbeam-platform-token-requires
     enum-told-3
-    element-copy-out-pb-token-signing
-    element-copy-out-pb-token-signing-2
-    element-copy-out-pb-token-signing-3
-    element-copy-out-pb-token-signing-4
+    element-copy-out-pbeam-token-signing
+    element-copy-out-pbeam-token-signing-2
+    element-copy-out-pbeam-token-signing-3
+    element-copy-out-pbeam-token-signing-4
     pbeam-token-signing-requires
     same-length
     same-length-2
