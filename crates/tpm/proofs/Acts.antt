@@ -1,15 +1,14 @@
 -- What a refusal leaves, and what an accepted call did. Assumes nothing.
 use Prim.Native.Nat.{ℕ, _≤_}
 use mathlib.Core.Path.{_≡_, refl, sym, ap, subst, _∙_}
-use mathlib.Core.Bool.{Bool, true, false, cond, false≢true}
+use mathlib.Core.Bool.{Bool, true, false, cond}
 use mathlib.Core.List.{List, []}
 use mathlib.Core.Logic.{_⊎_, inl, inr}
 use native.Mathlib.Omega.{arith}
 use lib.ListN.{length}
-use borrow.Author.Tests.{eqb-true, eq-eqb}
+use borrow.Author.Tests.{eq-eqb}
 use Rattle.words.specs.Tests.{both, either}
 use Rattle.words.specs.Word.{part, noSpan, spanAt, spanned}
-use Rattle.words.proofs.Tests.{both-l, both-r}
 use Rattle.words.proofs.Store.{front-splice, drop-splice, part-splice, span-none, span-in}
 use Rattle.tpm.specs.declared.ReturnCode.{ReturnCode}
 use Rattle.tpm.specs.declared.ReturnCode.the-variants.{Success}
@@ -18,9 +17,9 @@ use Rattle.tpm.specs.declared.TpmSession.{TpmSession}
 use Rattle.tpm.specs.declared.TpmSession.the-variants.{None}
 use Rattle.tpm.specs.ReturnCodes.{isSuccess, returnsIf}
 use Rattle.tpm.specs.Comm.{isExecute, callChecks, requestCode, commCode, executedStep, closedStep, refusedStep, effectOf, commOf, hasRequest, tpmRequest, tpmRequestSpan}
-use Rattle.tpm.specs.Claims.{Placed, Executes, Accepts, Reason, Unchanged, Written}
+use Rattle.tpm.specs.Claims.{Placed, Executes, Accepts, Reached, Reason, Unchanged, Written}
 use Rattle.tpm.proofs.Chains.{success-is}
-use Rattle.tpm.proofs.Checks.{buffers-in, has-placed, accepted-if}
+use Rattle.tpm.proofs.Checks.{buffers-in, has-placed, has-reached, accepted-if}
 use Rattle.tpm.proofs.Reasons.{comm-why, accepts}
 
 effect-code : (k : ReturnCode) (s : TpmSession) (a : Arguments) (memory response : List ℕ) → effectOf k s a memory response .code ≡ k
@@ -79,20 +78,18 @@ module _ (s : TpmSession) (a : Arguments) (memory response : List ℕ) (forbidde
 
 -- ---- the request
 -- "as its part of the first slice": whatever the platform's fault and response are
-pub request-is : (a : Arguments) (memory : List ℕ) → a .operation ≡ 1 → Placed a (length memory) → tpmRequest a memory false ≡ part (a .inbuffer) (a .insize) memory
+pub request-is : (a : Arguments) (memory : List ℕ) (forbidden : Bool) → Reached a forbidden → Placed a (length memory) → tpmRequest a memory forbidden ≡ part (a .inbuffer) (a .insize) memory
 unfolding tpmRequest hasRequest requestCode callChecks returnsIf isExecute isSuccess both either
-request-is a memory e p = rw (eq-eqb (a .operation) 1 e, buffers-in a (length memory) Success p)
+request-is a memory forbidden r p = rw (r .allowed, eq-eqb (a .operation) 1 (r .execute), buffers-in a (length memory) Success p)
 
 -- "empty for close or where a check before H_RESOURCE refuses"
-pub request-none : (a : Arguments) (memory : List ℕ) (forbidden : Bool) → (a .operation ≡ 1 → ⊥) ⊎ (isSuccess (requestCode a (length memory) forbidden) ≡ false) → tpmRequest a memory forbidden ≡ []
-unfolding tpmRequest hasRequest isExecute
-request-none a memory forbidden n = go (hasRequest a (length memory) forbidden) refl n
+pub request-none : (a : Arguments) (memory : List ℕ) (forbidden : Bool) → (Reached a forbidden → Placed a (length memory) → ⊥) → tpmRequest a memory forbidden ≡ []
+unfolding tpmRequest
+request-none a memory forbidden n = go (hasRequest a (length memory) forbidden) refl
   where
-    go : (b : Bool) → hasRequest a (length memory) forbidden ≡ b → (a .operation ≡ 1 → ⊥) ⊎ (isSuccess (requestCode a (length memory) forbidden) ≡ false) →
-        cond b (part (a .inbuffer) (a .insize) memory) [] ≡ []
-    go true h (inl e) = absurd (e (eqb-true _ _ (both-l _ _ h)))
-    go true h (inr e) = absurd (false≢true (sym e ∙ both-r _ _ h))
-    go false h e = refl
+    go : (b : Bool) → hasRequest a (length memory) forbidden ≡ b → cond b (part (a .inbuffer) (a .insize) memory) [] ≡ []
+    go true h = absurd (n (has-reached a (length memory) forbidden h) (has-placed a (length memory) forbidden h))
+    go false h = refl
 
 -- what the place names is the request
 pub request-spanned : (a : Arguments) (memory : List ℕ) (forbidden : Bool) → spanned (tpmRequestSpan a (length memory) forbidden) memory ≡ tpmRequest a memory forbidden

@@ -14,7 +14,7 @@ use Rattle.tpm.specs.declared.ReturnCode.the-variants.{Success, Function
 use Rattle.tpm.specs.declared.Arguments.{Arguments}
 use Rattle.tpm.specs.ReturnCodes.{isSuccess, returnsIf, onSuccess}
 use Rattle.tpm.specs.Comm.{isExecute, isClose, bufferChecks, inputChecks, outputChecks, buffersChecks, resourceCheck, callChecks, requestCode, commCode, hasRequest}
-use Rattle.tpm.specs.Claims.{Within, Placed, Executes, Accepts}
+use Rattle.tpm.specs.Claims.{Within, Placed, Executes, Accepts, Reached}
 use Rattle.tpm.proofs.Chains.{success-is, returns-ok, Continues, returns-on, both-on, on-stops, on-goes}
 
 -- ---- one buffer
@@ -108,6 +108,10 @@ request-placed a n forbidden h e =
 pub has-placed : (a : Arguments) (n : ℕ) (forbidden : Bool) → hasRequest a n forbidden ≡ true → Placed a n
 unfolding hasRequest isExecute
 has-placed a n forbidden h = request-placed a n forbidden (both-r _ _ h) (eqb-true _ _ (both-l _ _ h))
+
+pub has-reached : (a : Arguments) (n : ℕ) (forbidden : Bool) → hasRequest a n forbidden ≡ true → Reached a forbidden
+unfolding hasRequest requestCode callChecks isExecute isSuccess
+has-reached a n forbidden h = record { allowed = returns-ok _ _ _ refl (success-is _ (both-r _ _ h)) .0; execute = eqb-true _ _ (both-l _ _ h) }
 
 -- ---- when a call is accepted
 pub accepted-if : (a : Arguments) (memory response : List ℕ) (forbidden fault : Bool) → Accepts a memory response forbidden fault → commCode a memory response forbidden fault ≡ Success

@@ -4,5 +4,6 @@ pub mod Reasons
 pub mod Steps
 pub mod Acts
 pub mod Runs
+pub mod Numbers
 pub mod Samples
 pub mod Theorems

@@ -1,21 +1,22 @@
 -- 02, E9, over the definitions that the promises of H_TPM_COMM cite. Assumes nothing.
 use Prim.Native.Nat.{ℕ}
-use mathlib.Core.Path.{_≡_}
+use mathlib.Core.Path.{_≡_, sym, ap, _∙_}
 use mathlib.Core.Bool.{Bool, false}
 use mathlib.Core.List.{List, []}
-use mathlib.Core.Logic.{_⊎_}
 use lib.ListN.{length}
 use Rattle.words.specs.Word.{part, spanned}
+use Rattle.tpm.specs.declared.ReturnCode.{ReturnCode}
 use Rattle.tpm.specs.declared.ReturnCode.the-variants.{Success}
 use Rattle.tpm.specs.declared.Arguments.{Arguments}
 use Rattle.tpm.specs.declared.TpmSession.{TpmSession}
 use Rattle.tpm.specs.declared.TpmSession.the-variants.{None}
-use Rattle.tpm.specs.ReturnCodes.{isSuccess}
-use Rattle.tpm.specs.Comm.{requestCode, commOf, tpmRequest, tpmRequestSpan}
-use Rattle.tpm.specs.Claims.{Placed, Accepts, Reason, Unchanged, Written}
+use Rattle.tpm.specs.ReturnCodes.{hcallNumber, isSuccess}
+use Rattle.tpm.specs.Comm.{commOf, tpmRequest, tpmRequestSpan}
+use Rattle.tpm.specs.Claims.{Placed, Accepts, Reached, Reason, Unchanged, Written}
 use Rattle.tpm.specs.Sequence.{CommCall, OpenExactly}
 use Rattle.tpm.proofs.Acts.{comm-refused, comm-reason, comm-accepted, comm-writes, comm-closed, request-is, request-none, request-spanned}
 use Rattle.tpm.proofs.Runs.{run-open}
+use Rattle.tpm.proofs.Numbers.{codeNumbered, numbered-named}
 
 -- one call, from any session, with any arguments, memory and response, whatever the platform says
 pub record CommTheorems (s : TpmSession) (a : Arguments) (memory response : List ℕ) (forbidden fault : Bool) : Type 0 where
@@ -47,11 +48,17 @@ comm-theorems s a memory response forbidden fault =
 pub open-exactly : (s : TpmSession) (xs : List CommCall) → OpenExactly s xs
 open-exactly = run-open
 
--- "The request can be asked for as its part of the first slice, empty for close or where a check before H_RESOURCE refuses."
-pub record RequestTheorems (a : Arguments) (memory : List ℕ) : Type 0 where
-  pub request-is-its-part : a .operation ≡ 1 → Placed a (length memory) → tpmRequest a memory false ≡ part (a .inbuffer) (a .insize) memory
-  pub request-is-empty : (forbidden : Bool) → (a .operation ≡ 1 → ⊥) ⊎ (isSuccess (requestCode a (length memory) forbidden) ≡ false) → tpmRequest a memory forbidden ≡ []
-  pub request-is-placed : (forbidden : Bool) → spanned (tpmRequestSpan a (length memory) forbidden) memory ≡ tpmRequest a memory forbidden
+-- "The request can be asked for as its part of the first slice, empty for close or where a check before H_RESOURCE refuses.": its part
+-- for an execute that the platform allows with both buffers in place, empty for any other call
+pub record RequestTheorems (a : Arguments) (memory : List ℕ) (forbidden : Bool) : Type 0 where
+  pub request-is-its-part : Reached a forbidden → Placed a (length memory) → tpmRequest a memory forbidden ≡ part (a .inbuffer) (a .insize) memory
+  pub request-is-empty : (Reached a forbidden → Placed a (length memory) → ⊥) → tpmRequest a memory forbidden ≡ []
+  pub request-is-placed : spanned (tpmRequestSpan a (length memory) forbidden) memory ≡ tpmRequest a memory forbidden
 
-pub request-theorems : (a : Arguments) (memory : List ℕ) → RequestTheorems a memory
-request-theorems a memory = record { request-is-its-part = request-is a memory; request-is-empty = request-none a memory; request-is-placed = request-spanned a memory }
+pub request-theorems : (a : Arguments) (memory : List ℕ) (forbidden : Bool) → RequestTheorems a memory forbidden
+request-theorems a memory forbidden =
+    record { request-is-its-part = request-is a memory forbidden; request-is-empty = request-none a memory forbidden; request-is-placed = request-spanned a memory forbidden }
+
+-- "Answers are by name": each has a number of its own, so r3 names it, and 0 is H_SUCCESS alone
+pub numbers-differ : (j k : ReturnCode) → hcallNumber j ≡ hcallNumber k → j ≡ k
+numbers-differ j k e = sym (numbered-named j) ∙ ap codeNumbered e ∙ numbered-named k

@@ -51,7 +51,11 @@ unfoldable pub opened : Latest → Bool → Bool
 opened no-operation start = start
 opened (operation n) start = isExecute n
 
+-- the last operation that was accepted is execute, or none was accepted and it was so at the start
+abbrev pub OpenBy : Latest → Type 0 → Type 0
+OpenBy l start = (l ≡ operation 1) ⊎ ((l ≡ no-operation) × start)
+
 -- the session is open exactly if the last operation that was accepted is execute, or none was accepted and it was open at the start
 pub record OpenExactly (s : TpmSession) (xs : List CommCall) : Type 0 where
-  pub opens : (latestOf s xs ≡ operation 1) ⊎ ((latestOf s xs ≡ no-operation) × (s ≡ Open)) → sessionOver s xs ≡ Open
-  pub only : sessionOver s xs ≡ Open → (latestOf s xs ≡ operation 1) ⊎ ((latestOf s xs ≡ no-operation) × (s ≡ Open))
+  pub opens : OpenBy (latestOf s xs) (s ≡ Open) → sessionOver s xs ≡ Open
+  pub only : sessionOver s xs ≡ Open → OpenBy (latestOf s xs) (s ≡ Open)
