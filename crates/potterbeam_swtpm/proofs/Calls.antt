@@ -3,7 +3,7 @@ use Prim.Native.Nat.{ℕ}
 use mathlib.Core.Path.{_≡_, refl, ap, _∙_}
 use mathlib.Core.Bool.{true}
 use mathlib.Core.List.{List, [], _∷_}
-use Rattle.state_blobs.specs.Collect.{newCollector, isComplete, unchanged, appended}
+use Rattle.state_blobs.specs.Collect.{newCollector, isComplete, unchanged, pieceAppended}
 use Rattle.state_blobs.specs.Blobs.{Offer, Held, started, afterOffer, afterOffers, Cuts, HoldsFirst, HoldsWhole}
 use Rattle.state_blobs.proofs.Collects.{collect-cases}
 use Rattle.state_blobs.proofs.E13.{held-are-first, complete-holds-blob}
@@ -16,7 +16,7 @@ zeros-new b = refl
 
 -- any image, a forged one too
 pub call-step : (o : Offer) (l : LentCollector) → heldBy (collectorAfter o l) ≡ afterOffer o (heldBy l)
-unfolding heldBy collectorAfter afterOffer collectorOf verdictLeft unchanged appended
+unfolding heldBy collectorAfter afterOffer collectorOf verdictLeft unchanged pieceAppended
 call-step o l = collect-cases (collectorOf (l .image)) (l .buffer) (o .largest) (o .message) (λ why q. rw q) (λ p e a q. rw q)
 
 pub call-steps : (os : List Offer) (l : LentCollector) → heldBy (collectorAfterAll os l) ≡ afterOffers os (heldBy l)

@@ -8,8 +8,8 @@ use Rattle.words.specs.Tests.{both}
 use Rattle.words.specs.Word.{leOf, leBytes, part, splice}
 use Rattle.big_words.specs.Big.{beOf, beBytes, bigAt}
 use Rattle.state_messages.specs.Messages.{got, rejected, requestParts, readRequest, responseParts, readResponse}
-use Rattle.state_blobs.specs.Collect.{newCollector, isComplete, otherTotal, decide, unchanged, appended, settle, offerBytes, collectGot, collect}
-use Rattle.state_messages.specs.declared.Refusal.the-variants as refusal
+use Rattle.state_blobs.specs.Collect.{newCollector, isComplete, otherTotal, decide, unchanged, pieceAppended, settle, offerBytes, collectGot, collect}
+use Rattle.state_messages.specs.declared.StateRefusal.the-variants as refusal
 use Rattle.state_messages.specs.declared.RequestRead.the-variants as asked
 use Rattle.state_blobs.specs.declared.Verdict.the-variants as verdict
 use Rattle.state_blobs.specs.declared.Collector.{Collector}
@@ -52,5 +52,5 @@ samples :
     × (collect 9 (message 0 0 0 []) newCollector [] ≡ record { verdict = verdict.Accepted; collector = holds 0 0; buffer = [] })
     × (isComplete (holds 0 0) ≡ true)
     × (isComplete newCollector ≡ false)
-unfolding beOf beBytes bigAt leOf leBytes part splice both readRequest requestParts readResponse responseParts collect collectGot offerBytes settle decide otherTotal appended unchanged newCollector isComplete small message holds
+unfolding beOf beBytes bigAt leOf leBytes part splice both readRequest requestParts readResponse responseParts collect collectGot offerBytes settle decide otherTotal pieceAppended unchanged newCollector isComplete small message holds
 samples = (refl, refl, refl, refl, refl, refl, refl, refl, refl, refl, refl, refl, refl, refl, refl, refl, refl, refl, refl, refl, refl, refl)
