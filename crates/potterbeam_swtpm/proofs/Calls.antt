@@ -4,9 +4,10 @@ use mathlib.Core.Path.{_≡_, refl, ap, _∙_}
 use mathlib.Core.Bool.{true}
 use mathlib.Core.List.{List, [], _∷_}
 use Rattle.state_blobs.specs.Collect.{newCollector, isComplete, unchanged, pieceAppended}
-use Rattle.state_blobs.specs.Blobs.{Offer, Held, started, afterOffer, afterOffers, Cuts, HoldsFirst, HoldsWhole}
+use Rattle.state_blobs.specs.Blobs.{Offer, Held, started, afterOffer, afterOffers, acceptedOf, completeOver, Cuts, HoldsFirst, HoldsJoined, HoldsWhole}
 use Rattle.state_blobs.proofs.Collects.{collect-cases}
 use Rattle.state_blobs.proofs.E13.{held-are-first, complete-holds-blob}
+use Rattle.state_blobs.proofs.Joined.{holds-accepted, complete-exactly}
 use Rattle.potterbeam_swtpm.specs.Exports.{collectorOf, verdictLeft, LentCollector, newImage, collectorAfter, collectorAfterAll, heldBy}
 
 -- all zeros are a new collector
@@ -26,6 +27,14 @@ call-steps (o ∷ os) l = call-steps os (collectorAfter o l) ∙ ap (afterOffers
 
 from-zeros : (os : List Offer) (b : List ℕ) → heldBy (collectorAfterAll os (record { image = newImage; buffer = b })) ≡ afterOffers os (started b)
 from-zeros os b = call-steps os (record { image = newImage; buffer = b }) ∙ ap (afterOffers os) (zeros-new b)
+
+-- for calls from C: the collector is that of the responses accepted, and complete exactly when 02 says so
+pub exported-holds-accepted : (os : List Offer) (b : List ℕ) → HoldsJoined (acceptedOf os (started b)) (heldBy (collectorAfterAll os (record { image = newImage; buffer = b })))
+exported-holds-accepted os b = rw (from-zeros os b) (holds-accepted os b)
+
+pub exported-complete-exactly : (os : List Offer) (b : List ℕ) →
+    isComplete (heldBy (collectorAfterAll os (record { image = newImage; buffer = b })) .collector) ≡ completeOver (acceptedOf os (started b))
+exported-complete-exactly os b = rw (from-zeros os b) (complete-exactly os b)
 
 -- 02, E13: "the bytes held are that blob's first ones", for calls from C
 pub exported-held-are-first : (blob : List ℕ) (os : List Offer) (b : List ℕ) → Cuts blob os (started b) →
