@@ -161,7 +161,8 @@ uint32_t pbeam_swtpm_write_response(uint8_t *buffer, size_t buffer_len, uint32_t
  *          with that many bytes more.
  * Stack    64 bytes
  * state_flags are not looked at. If each accepted response was cut from one blob at the number of bytes then held, with that blob's length
- * as totlength, the buffer begins with the blob's first bytes: ask for offset pbeam_swtpm_held each time.
+ * as totlength, the buffer begins with the blob's first bytes: ask for offset pbeam_swtpm_held each time. (swtpm 0.7.1 differs: it sends
+ * all that is left at once, and its totlength counts from the offset on. Ask it once, from offset 0. See docs/SWTPM.md.)
  */
 uint32_t pbeam_swtpm_collect(uint32_t collector[PBEAM_SWTPM_COLLECTOR_WORDS], const uint8_t *message, size_t message_len,
                              uint32_t largest, uint8_t *buffer, size_t buffer_len);

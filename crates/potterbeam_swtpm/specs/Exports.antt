@@ -6,14 +6,14 @@ use mathlib.Core.List.{List, [], _∷_}
 use lib.ListN.{getD}
 use lib.Dec.{eqb}
 use Rattle.state_messages.specs.Messages.{Message}
-use Rattle.state_messages.specs.declared.Refusal.{Refusal}
-use Rattle.state_messages.specs.declared.Refusal.the-variants as refusal
+use Rattle.state_messages.specs.declared.StateRefusal.{StateRefusal}
+use Rattle.state_messages.specs.declared.StateRefusal.the-variants as refusal
 use Rattle.state_messages.specs.declared.RequestRead.{RequestRead}
 use Rattle.state_messages.specs.declared.RequestRead.the-variants as asked
 use Rattle.state_messages.specs.declared.ResponseRead.{ResponseRead}
 use Rattle.state_messages.specs.declared.ResponseRead.the-variants as told
-use Rattle.state_messages.specs.declared.Written.{Written}
-use Rattle.state_messages.specs.declared.Written.the-variants as wrote
+use Rattle.state_messages.specs.declared.MessageWritten.{MessageWritten}
+use Rattle.state_messages.specs.declared.MessageWritten.the-variants as wrote
 use Rattle.state_blobs.specs.Collect.{Outcome, collect}
 use Rattle.state_blobs.specs.Blobs.{Offer, Held}
 use Rattle.state_blobs.specs.declared.Verdict.{Verdict}
@@ -21,17 +21,17 @@ use Rattle.state_blobs.specs.declared.Verdict.the-variants as verdict
 use Rattle.state_blobs.specs.declared.Collector.{Collector}
 
 -- 0 is none of them: it is the answer of a call that is accepted
-unfoldable pub refusalNumber : Refusal → ℕ
-refusalNumber refusal.CutShort = 1
-refusalNumber refusal.TooLong = 2
-refusalNumber refusal.WrongCode = 3
-refusalNumber refusal.AboveLargest = 4
-refusalNumber refusal.Failed = 5
-refusalNumber refusal.NoRoom = 6
-refusalNumber refusal.TotalDiffers = 7
-refusalNumber refusal.PastTotal = 8
-refusalNumber refusal.PastBuffer = 9
-refusalNumber refusal.NoData = 10
+unfoldable pub stateRefusalNumber : StateRefusal → ℕ
+stateRefusalNumber refusal.CutShort = 1
+stateRefusalNumber refusal.TooLong = 2
+stateRefusalNumber refusal.WrongCode = 3
+stateRefusalNumber refusal.AboveLargest = 4
+stateRefusalNumber refusal.Failed = 5
+stateRefusalNumber refusal.NoRoom = 6
+stateRefusalNumber refusal.TotalDiffers = 7
+stateRefusalNumber refusal.PastTotal = 8
+stateRefusalNumber refusal.PastBuffer = 9
+stateRefusalNumber refusal.NoData = 10
 
 -- ---- reading: the answer, and the four words lent for the parts
 pub record PartsLeft : Type 0 where
@@ -40,11 +40,11 @@ pub record PartsLeft : Type 0 where
 
 unfoldable pub requestLeft : RequestRead → List ℕ → PartsLeft
 requestLeft (asked.Accepted q) ws = record { answer = 0; parts = q .code ∷ q .flags ∷ q .kind ∷ q .offset ∷ [] }
-requestLeft (asked.Refused why) ws = record { answer = refusalNumber why; parts = ws }
+requestLeft (asked.Refused why) ws = record { answer = stateRefusalNumber why; parts = ws }
 
 unfoldable pub responseLeft : ResponseRead → List ℕ → PartsLeft
 responseLeft (told.Accepted p) ws = record { answer = 0; parts = p .flags ∷ p .total ∷ p .at ∷ p .len ∷ [] }
-responseLeft (told.Refused why) ws = record { answer = refusalNumber why; parts = ws }
+responseLeft (told.Refused why) ws = record { answer = stateRefusalNumber why; parts = ws }
 
 -- ---- writing: the answer, the word lent for the message's length, and the buffer
 pub record WriteLeft : Type 0 where
@@ -52,9 +52,9 @@ pub record WriteLeft : Type 0 where
   pub len : ℕ
   pub buffer : List ℕ
 
-unfoldable pub writtenLeft : Written → ℕ → List ℕ → WriteLeft
+unfoldable pub writtenLeft : MessageWritten → ℕ → List ℕ → WriteLeft
 writtenLeft (wrote.Length n) len b = record { answer = 0; len = n; buffer = b }
-writtenLeft (wrote.Refused why) len b = record { answer = refusalNumber why; len = len; buffer = b }
+writtenLeft (wrote.Refused why) len b = record { answer = stateRefusalNumber why; len = len; buffer = b }
 
 abbrev pub writeLeft : Message → ℕ → WriteLeft
 writeLeft m len = writtenLeft (m .answer) len (m .buffer)
@@ -71,7 +71,7 @@ pub record CollectLeft : Type 0 where
 
 unfoldable pub verdictLeft : Verdict → Collector → List ℕ → List ℕ → CollectLeft
 verdictLeft verdict.Accepted c image b = record { answer = 0; image = 1 ∷ c .total ∷ c .held ∷ []; buffer = b }
-verdictLeft (verdict.Refused why) c image b = record { answer = refusalNumber why; image = image; buffer = b }
+verdictLeft (verdict.Refused why) c image b = record { answer = stateRefusalNumber why; image = image; buffer = b }
 
 abbrev pub collectLeft : Outcome → List ℕ → CollectLeft
 collectLeft o image = verdictLeft (o .verdict) (o .collector) image (o .buffer)

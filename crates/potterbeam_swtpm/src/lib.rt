@@ -2,31 +2,31 @@
 // every lent word and byte as it was. The answer of a call that can be refused is 0, or the number of the refusal.
 use state_blobs::Collector;
 use state_blobs::Verdict;
-use state_messages::Refusal;
+use state_messages::MessageWritten;
 use state_messages::RequestRead;
 use state_messages::ResponseHeader;
 use state_messages::ResponseRead;
+use state_messages::StateRefusal;
 use state_messages::StateRequest;
-use state_messages::Written;
 ghost use mathlib.Core.Path.{_≡_};
 ghost use Rattle.state_messages.specs.Messages.{readRequest, readResponse, toldOf, writeRequest, writeResponse};
 ghost use Rattle.state_blobs.specs.Collect.{isComplete, collect};
-ghost use Rattle.potterbeam_swtpm.specs.Exports.{refusalNumber, PartsLeft, requestLeft, responseLeft, WriteLeft, writeLeft, CollectLeft, collectLeft, collectorOf};
+ghost use Rattle.potterbeam_swtpm.specs.Exports.{stateRefusalNumber, PartsLeft, requestLeft, responseLeft, WriteLeft, writeLeft, CollectLeft, collectLeft, collectorOf};
 
-fn refusal_number(why: Refusal) -> u32
-    ensures { λ r. ⌜ r ≡ refusalNumber why ⌝ }
+fn refusal_number(why: StateRefusal) -> u32
+    ensures { λ r. ⌜ r ≡ stateRefusalNumber why ⌝ }
 {
     match why {
-        Refusal::CutShort => 1,
-        Refusal::TooLong => 2,
-        Refusal::WrongCode => 3,
-        Refusal::AboveLargest => 4,
-        Refusal::Failed => 5,
-        Refusal::NoRoom => 6,
-        Refusal::TotalDiffers => 7,
-        Refusal::PastTotal => 8,
-        Refusal::PastBuffer => 9,
-        Refusal::NoData => 10,
+        StateRefusal::CutShort => 1,
+        StateRefusal::TooLong => 2,
+        StateRefusal::WrongCode => 3,
+        StateRefusal::AboveLargest => 4,
+        StateRefusal::Failed => 5,
+        StateRefusal::NoRoom => 6,
+        StateRefusal::TotalDiffers => 7,
+        StateRefusal::PastTotal => 8,
+        StateRefusal::PastBuffer => 9,
+        StateRefusal::NoData => 10,
     }
 }
 
@@ -69,11 +69,11 @@ pub extern "C" fn pbeam_swtpm_write_request(
         },
     );
     match written {
-        Written::Length(n) => {
+        MessageWritten::Length(n) => {
             *len = n;
             0
         }
-        Written::Refused(why) => refusal_number(why),
+        MessageWritten::Refused(why) => refusal_number(why),
     }
 }
 
@@ -118,11 +118,11 @@ pub extern "C" fn pbeam_swtpm_write_response(
     };
     let written = state_messages::write_response(buffer, largest, header, bytes);
     match written {
-        Written::Length(n) => {
+        MessageWritten::Length(n) => {
             *len = n;
             0
         }
-        Written::Refused(why) => refusal_number(why),
+        MessageWritten::Refused(why) => refusal_number(why),
     }
 }
 

@@ -10,9 +10,9 @@ use borrow.Author.Tests.{ltb-false}
 use Rattle.words.specs.Tests.{both}
 use Rattle.words.specs.Word.{splice}
 use Rattle.state_messages.specs.Messages.{StateResponse, Got, got, rejected, readResponse, toldOf}
-use Rattle.state_blobs.specs.Collect.{otherTotal, decide, Outcome, unchanged, appended, settle, offerBytes, collectGot, collect}
-use Rattle.state_messages.specs.declared.Refusal.{Refusal}
-use Rattle.state_messages.specs.declared.Refusal.the-variants as refusal
+use Rattle.state_blobs.specs.Collect.{otherTotal, decide, Outcome, unchanged, pieceAppended, settle, offerBytes, collectGot, collect}
+use Rattle.state_messages.specs.declared.StateRefusal.{StateRefusal}
+use Rattle.state_messages.specs.declared.StateRefusal.the-variants as refusal
 use Rattle.state_blobs.specs.declared.Verdict.{Verdict}
 use Rattle.state_blobs.specs.declared.Verdict.the-variants as verdict
 use Rattle.state_messages.specs.declared.Piece.{Piece}
@@ -38,7 +38,7 @@ decide-fits c total n room h =
     (f .0, ltb-false _ _ (f .1), ltb-false _ _ (f .2))
 
 -- ---- the collector's step by what the reader told
-pub collect-rejected : (largest : ℕ) (m : List ℕ) (c : Collector) (b : List ℕ) {why : Refusal} → toldOf (readResponse largest m) ≡ told.Refused why → collect largest m c b ≡ unchanged why c b
+pub collect-rejected : (largest : ℕ) (m : List ℕ) (c : Collector) (b : List ℕ) {why : StateRefusal} → toldOf (readResponse largest m) ≡ told.Refused why → collect largest m c b ≡ unchanged why c b
 unfolding collect collectGot
 collect-rejected largest m c b h = rw (told-rejected (readResponse largest m) h)
 
@@ -54,8 +54,8 @@ collect-got largest m c b {v} h =
 
 -- ---- a message is refused and changes nothing, or its response is accepted and appended
 module _ (c : Collector) (b : List ℕ) {P : Type 0} where
-  offer-cases : (total : ℕ) (vs : List ℕ) → ((why : Refusal) → offerBytes c total vs b ≡ unchanged why c b → P) →
-      (decide c total (length vs) (length b) ≡ verdict.Accepted → offerBytes c total vs b ≡ appended c total vs b → P) → P
+  offer-cases : (total : ℕ) (vs : List ℕ) → ((why : StateRefusal) → offerBytes c total vs b ≡ unchanged why c b → P) →
+      (decide c total (length vs) (length b) ≡ verdict.Accepted → offerBytes c total vs b ≡ pieceAppended c total vs b → P) → P
   unfolding offerBytes settle
   offer-cases total vs left done = go (decide c total (length vs) (length b)) refl
     where
@@ -63,8 +63,8 @@ module _ (c : Collector) (b : List ℕ) {P : Type 0} where
       go verdict.Accepted e = done e (rw e)
       go (verdict.Refused why) e = left why (rw e)
 
-  pub collect-cases : (largest : ℕ) (m : List ℕ) → ((why : Refusal) → collect largest m c b ≡ unchanged why c b → P) →
-      ((p : StateResponse) → readResponse largest m ≡ got p → decide c (p .total) (length (p .bytes)) (length b) ≡ verdict.Accepted → collect largest m c b ≡ appended c (p .total) (p .bytes) b → P) → P
+  pub collect-cases : (largest : ℕ) (m : List ℕ) → ((why : StateRefusal) → collect largest m c b ≡ unchanged why c b → P) →
+      ((p : StateResponse) → readResponse largest m ≡ got p → decide c (p .total) (length (p .bytes)) (length b) ≡ verdict.Accepted → collect largest m c b ≡ pieceAppended c (p .total) (p .bytes) b → P) → P
   unfolding collect collectGot
   collect-cases largest m left done = go (readResponse largest m) refl
     where
@@ -72,9 +72,9 @@ module _ (c : Collector) (b : List ℕ) {P : Type 0} where
       go (rejected why) e = left why (rw e)
       go (got p) e = offer-cases (p .total) (p .bytes) (λ why q. left why (rw e q)) (λ a q. done p e a (rw e q))
 
-pub refused-same : (largest : ℕ) (m : List ℕ) (c : Collector) (b : List ℕ) {why : Refusal} → collect largest m c b .verdict ≡ verdict.Refused why →
+pub refused-same : (largest : ℕ) (m : List ℕ) (c : Collector) (b : List ℕ) {why : StateRefusal} → collect largest m c b .verdict ≡ verdict.Refused why →
     (collect largest m c b .collector ≡ c) × (collect largest m c b .buffer ≡ b)
-unfolding unchanged appended
+unfolding unchanged pieceAppended
 refused-same largest m c b h =
     collect-cases c b largest m (λ why q. (rw q, rw q)) (λ p e a q. never (cc (ap (λ (o : Outcome). o .verdict) q)))
 
@@ -84,6 +84,6 @@ unfolding splice
 splice-length at vs s h = simp (length-append, length-take, length-drop) (omega arith)
 
 pub collect-length : (largest : ℕ) (m : List ℕ) (c : Collector) (b : List ℕ) → length (collect largest m c b .buffer) ≡ length b
-unfolding unchanged appended
+unfolding unchanged pieceAppended
 collect-length largest m c b =
     collect-cases c b largest m (λ why q. rw q) (λ p e a q. rw q (splice-length (c .held) (p .bytes) b (decide-fits c (p .total) (length (p .bytes)) (length b) a .2)))

@@ -10,9 +10,9 @@ use borrow.Author.Tests.{eqb-true}
 use Rattle.words.specs.Word.{part, splice}
 use Rattle.words.specs.Tests.{both}
 use Rattle.words.proofs.Tests.{both-l, both-r}
-use Rattle.state_blobs.specs.Collect.{newCollector, isComplete, Outcome, unchanged, appended, collect}
+use Rattle.state_blobs.specs.Collect.{newCollector, isComplete, Outcome, unchanged, pieceAppended, collect}
 use Rattle.state_blobs.specs.Blobs.{Offer, Held, started, afterOffer, afterOffers, CutHere, Cuts, HoldsFirst, HoldsWhole}
-use Rattle.state_messages.specs.declared.Refusal.{Refusal}
+use Rattle.state_messages.specs.declared.StateRefusal.{StateRefusal}
 use Rattle.state_blobs.specs.declared.Verdict.the-variants as verdict
 use Rattle.state_blobs.proofs.Collects.{decide-fits, collect-cases, refused-same}
 
@@ -29,7 +29,7 @@ front-join held vs b blob h e q =
     ∙ rw (take-add held (length vs) blob, e) (ap (λ (l : List ℕ). take held blob ++ l) q)
 
 pub front-after : (blob : List ℕ) (o : Offer) (h : Held) → CutHere blob o h → HoldsFirst blob h → HoldsFirst blob (afterOffer o h)
-unfolding afterOffer unchanged appended
+unfolding afterOffer unchanged pieceAppended
 front-after blob o h cut f =
     let c = h .collector in
     collect-cases c (h .buffer) (o .largest) (o .message)
@@ -70,12 +70,12 @@ unfolding isComplete newCollector both
 new-not-complete = refl
 
 -- ---- 02, E13: "On refusal collector and lent buffers stay unchanged.": a refused message, of any kind, from any state
-pub refused-changes-nothing : (o : Offer) (h : Held) {why : Refusal} → collect (o .largest) (o .message) (h .collector) (h .buffer) .verdict ≡ verdict.Refused why → afterOffer o h ≡ h
+pub refused-changes-nothing : (o : Offer) (h : Held) {why : StateRefusal} → collect (o .largest) (o .message) (h .collector) (h .buffer) .verdict ≡ verdict.Refused why → afterOffer o h ≡ h
 unfolding afterOffer
 refused-changes-nothing o h r = let s = refused-same (o .largest) (o .message) (h .collector) (h .buffer) r in rw (s .0, s .1)
 
 -- so refused messages may be left out of any sequence
-pub refused-skipped : (xs ys : List Offer) (o : Offer) (h : Held) {why : Refusal} →
+pub refused-skipped : (xs ys : List Offer) (o : Offer) (h : Held) {why : StateRefusal} →
     collect (o .largest) (o .message) (afterOffers xs h .collector) (afterOffers xs h .buffer) .verdict ≡ verdict.Refused why → afterOffers (xs ++ (o ∷ ys)) h ≡ afterOffers (xs ++ ys) h
 unfolding afterOffers
 refused-skipped [] ys o h r = ap (afterOffers ys) (refused-changes-nothing o h r)

@@ -2,3 +2,4 @@ pub mod Collects
 pub mod E13
 pub mod Pieces
 pub mod Samples
+pub mod Joined

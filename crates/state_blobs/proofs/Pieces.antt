@@ -11,7 +11,7 @@ use borrow.Author.Tests.{le-ltb, eq-eqb, eqb-true}
 use Rattle.words.specs.Tests.{both}
 use Rattle.words.specs.Word.{part}
 use Rattle.state_messages.specs.Messages.{Fits32Response, responseMessage}
-use Rattle.state_blobs.specs.Collect.{otherTotal, decide, appended, settle, offerBytes, collectGot, collect}
+use Rattle.state_blobs.specs.Collect.{otherTotal, decide, pieceAppended, settle, offerBytes, collectGot, collect}
 use Rattle.state_blobs.specs.Blobs.{Held, HoldsFirst, MayFollow, pieceOf}
 use Rattle.state_blobs.specs.declared.Verdict.the-variants as verdict
 use Rattle.state_messages.proofs.ReadBack.{response-read}
@@ -47,7 +47,7 @@ next-accepted blob h n f m =
 pub piece-collected : (blob : List ℕ) (h : Held) (flags n largest : ℕ) → HoldsFirst blob h → MayFollow blob h n →
     flags < 2 ^ 32 → length blob < 2 ^ 32 → n ≤ largest →
     collect largest (responseMessage (pieceOf blob flags (h .collector .held) n)) (h .collector) (h .buffer)
-    ≡ appended (h .collector) (length blob) (part (h .collector .held) n blob) (h .buffer)
+    ≡ pieceAppended (h .collector) (length blob) (part (h .collector .held) n blob) (h .buffer)
 unfolding collect collectGot offerBytes settle pieceOf
 piece-collected blob h flags n largest f k g t l =
     let c = h .collector in

@@ -7,10 +7,11 @@ use lib.ListN.{replicate}
 use Rattle.words.specs.Tests.{both}
 use Rattle.words.specs.Word.{leOf, leBytes, part, splice}
 use Rattle.big_words.specs.Big.{beOf, beBytes, bigAt}
-use Rattle.state_messages.specs.Messages.{got, rejected, requestParts, readRequest, responseParts, readResponse}
-use Rattle.state_blobs.specs.Collect.{newCollector, isComplete, otherTotal, decide, unchanged, appended, settle, offerBytes, collectGot, collect}
-use Rattle.state_messages.specs.declared.Refusal.the-variants as refusal
+use Rattle.state_messages.specs.Messages.{StateResponse, got, rejected, headBytes, requestMessage, responseMessage, requestParts, readRequest, responseParts, readResponse, notWritten, writeMessage, writeRequest, writeResponse}
+use Rattle.state_blobs.specs.Collect.{newCollector, isComplete, otherTotal, decide, unchanged, pieceAppended, settle, offerBytes, collectGot, collect}
+use Rattle.state_messages.specs.declared.StateRefusal.the-variants as refusal
 use Rattle.state_messages.specs.declared.RequestRead.the-variants as asked
+use Rattle.state_messages.specs.declared.MessageWritten.the-variants as wrote
 use Rattle.state_blobs.specs.declared.Verdict.the-variants as verdict
 use Rattle.state_blobs.specs.declared.Collector.{Collector}
 
@@ -24,6 +25,9 @@ message result total n bytes = small result ++ (small 1 ++ (small total ++ (smal
 
 unfoldable holds : ℕ → ℕ → Collector
 holds total held = record { accepted = true; total = total; held = held }
+
+unfoldable twoBytes : StateResponse
+twoBytes = record { result = 3; flags = 1; total = 5; bytes = 7 ∷ 8 ∷ [] }
 
 samples :
     (beOf (1 ∷ 2 ∷ 3 ∷ 4 ∷ []) ≡ 0x01020304)
@@ -41,6 +45,12 @@ samples :
     × (readResponse 1 (message 0 5 2 (7 ∷ 8 ∷ [])) ≡ rejected refusal.AboveLargest)
     × (readResponse 9 (message 3 5 2 (7 ∷ 8 ∷ [])) ≡ rejected refusal.Failed)
     × (readResponse 1 (message 3 5 2 (7 ∷ 8 ∷ [])) ≡ rejected refusal.AboveLargest)
+    -- both messages written, with bytes behind them; above the largest and no room, then no room alone
+    × (writeRequest (record { code = 12; flags = 1; kind = 2; offset = 3 }) (replicate 17 9) ≡ record { answer = wrote.Length 16; buffer = small 12 ++ (small 1 ++ (small 2 ++ (small 3 ++ (9 ∷ [])))) })
+    × (writeRequest (record { code = 12; flags = 1; kind = 2; offset = 3 }) (replicate 15 9) ≡ notWritten refusal.NoRoom (replicate 15 9))
+    × (writeResponse 2 twoBytes (replicate 19 9) ≡ record { answer = wrote.Length 18; buffer = message 3 5 2 (7 ∷ 8 ∷ 9 ∷ []) })
+    × (writeResponse 1 twoBytes (replicate 17 9) ≡ notWritten refusal.AboveLargest (replicate 17 9))
+    × (writeResponse 2 twoBytes (replicate 17 9) ≡ notWritten refusal.NoRoom (replicate 17 9))
     -- a first piece, the last one, and each refusal of the collector
     × (collect 9 (message 0 3 2 (7 ∷ 8 ∷ [])) newCollector (replicate 3 0) ≡ record { verdict = verdict.Accepted; collector = holds 3 2; buffer = 7 ∷ 8 ∷ 0 ∷ [] })
     × (collect 9 (message 0 3 1 (9 ∷ [])) (holds 3 2) (7 ∷ 8 ∷ 0 ∷ []) ≡ record { verdict = verdict.Accepted; collector = holds 3 3; buffer = 7 ∷ 8 ∷ 9 ∷ [] })
@@ -48,9 +58,13 @@ samples :
     × (collect 9 (message 0 3 2 (9 ∷ 9 ∷ [])) (holds 3 2) (replicate 3 0) ≡ unchanged refusal.PastTotal (holds 3 2) (replicate 3 0))
     × (collect 9 (message 0 3 1 (9 ∷ [])) (holds 3 2) (replicate 2 0) ≡ unchanged refusal.PastBuffer (holds 3 2) (replicate 2 0))
     × (collect 9 (message 0 3 0 []) (holds 3 2) (replicate 3 0) ≡ unchanged refusal.NoData (holds 3 2) (replicate 3 0))
+    -- two refusals at once: the first in order; a totlength below the first one's differs too
+    × (collect 9 (message 0 2 1 (9 ∷ [])) (holds 3 2) (replicate 2 0) ≡ unchanged refusal.TotalDiffers (holds 3 2) (replicate 2 0))
+    × (collect 9 (message 0 3 2 (9 ∷ 9 ∷ [])) (holds 3 2) (replicate 2 0) ≡ unchanged refusal.PastTotal (holds 3 2) (replicate 2 0))
+    × (collect 9 (message 0 3 0 []) (holds 3 2) (replicate 1 0) ≡ unchanged refusal.PastBuffer (holds 3 2) (replicate 1 0))
     -- a blob of no bytes
     × (collect 9 (message 0 0 0 []) newCollector [] ≡ record { verdict = verdict.Accepted; collector = holds 0 0; buffer = [] })
     × (isComplete (holds 0 0) ≡ true)
     × (isComplete newCollector ≡ false)
-unfolding beOf beBytes bigAt leOf leBytes part splice both readRequest requestParts readResponse responseParts collect collectGot offerBytes settle decide otherTotal appended unchanged newCollector isComplete small message holds
-samples = (refl, refl, refl, refl, refl, refl, refl, refl, refl, refl, refl, refl, refl, refl, refl, refl, refl, refl, refl, refl, refl, refl)
+unfolding beOf beBytes bigAt leOf leBytes part splice both headBytes requestMessage responseMessage readRequest requestParts readResponse responseParts writeMessage writeRequest writeResponse collect collectGot offerBytes settle decide otherTotal pieceAppended unchanged newCollector isComplete small message holds twoBytes
+samples = (refl, refl, refl, refl, refl, refl, refl, refl, refl, refl, refl, refl, refl, refl, refl, refl, refl, refl, refl, refl, refl, refl, refl, refl, refl, refl, refl, refl, refl, refl)

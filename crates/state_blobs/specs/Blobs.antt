@@ -1,12 +1,14 @@
 -- Calls of one collector with one buffer throughout, and what it is for their responses to be cut from one blob. Assumes nothing.
 use Prim.Native.Nat.{ℕ, _+_, _≤_}
 use mathlib.Core.Path.{_≡_}
-use mathlib.Core.Bool.{true}
-use mathlib.Core.List.{List, [], _∷_}
+use mathlib.Core.Bool.{Bool, true, false}
+use mathlib.Core.List.{List, [], _∷_, _++_}
 use lib.ListN.{length, take}
+use lib.Dec.{eqb}
 use Rattle.words.specs.Word.{part}
-use Rattle.state_messages.specs.Messages.{StateResponse, got, readResponse}
+use Rattle.state_messages.specs.Messages.{StateResponse, Got, got, rejected, readResponse}
 use Rattle.state_blobs.specs.Collect.{newCollector, collect}
+use Rattle.state_blobs.specs.declared.Verdict.{Verdict}
 use Rattle.state_blobs.specs.declared.Verdict.the-variants as verdict
 use Rattle.state_blobs.specs.declared.Collector.{Collector}
 
@@ -32,6 +34,33 @@ unfoldable pub afterOffers : List Offer → Held → Held
 afterOffers [] h = h
 afterOffers (o ∷ os) h = afterOffers os (afterOffer o h)
 
+-- the responses accepted of a list of messages, in their order
+unfoldable pub acceptedIf : Verdict → Got → List StateResponse
+acceptedIf verdict.Accepted (got p) = p ∷ []
+acceptedIf verdict.Accepted (rejected why) = []
+acceptedIf (verdict.Refused why) g = []
+
+unfoldable pub acceptedOf : List Offer → Held → List StateResponse
+acceptedOf [] h = []
+acceptedOf (o ∷ os) h =
+    acceptedIf (collect (o .largest) (o .message) (h .collector) (h .buffer) .verdict) (readResponse (o .largest) (o .message))
+    ++ acceptedOf os (afterOffer o h)
+
+-- their data, joined
+unfoldable pub joinedData : List StateResponse → List ℕ
+joinedData [] = []
+joinedData (p ∷ ps) = p .bytes ++ joinedData ps
+
+-- the collector that they leave: whether there are any, the totlength of the first, and the number of their bytes
+unfoldable pub collectorOver : List StateResponse → Collector
+collectorOver [] = newCollector
+collectorOver (p ∷ ps) = record { accepted = true; total = p .total; held = length (joinedData (p ∷ ps)) }
+
+-- whether there are any, and their bytes are as many as the first one's totlength
+unfoldable pub completeOver : List StateResponse → Bool
+completeOver [] = false
+completeOver (p ∷ ps) = eqb (length (joinedData (p ∷ ps))) (p .total)
+
 -- 02, E13: "cut from one blob at the number of bytes then held, with that blob's length as totlength"
 abbrev pub CutFrom : List ℕ → ℕ → StateResponse → Type 0
 CutFrom blob held p = (p .total ≡ length blob) × (p .bytes ≡ part held (length (p .bytes)) blob)
@@ -52,6 +81,10 @@ pub record HoldsFirst (blob : List ℕ) (h : Held) : Type 0 where
   pub within : h .collector .held ≤ length blob
   pub bytes : take (h .collector .held) (h .buffer) ≡ take (h .collector .held) blob
   pub whole : h .collector .accepted ≡ true → h .collector .total ≡ length blob
+
+-- "A collector joins responses into a lent buffer": these ones
+abbrev pub HoldsJoined : List StateResponse → Held → Type 0
+HoldsJoined ps h = (h .collector ≡ collectorOver ps) × (take (h .collector .held) (h .buffer) ≡ joinedData ps)
 
 -- the bytes held are the blob
 abbrev pub HoldsWhole : List ℕ → Held → Type 0

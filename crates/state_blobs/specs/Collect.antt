@@ -7,8 +7,8 @@ use lib.Dec.{ltb, eqb}
 use Rattle.words.specs.Tests.{both}
 use Rattle.words.specs.Word.{splice}
 use Rattle.state_messages.specs.Messages.{Got, got, rejected, readResponse}
-use Rattle.state_messages.specs.declared.Refusal.{Refusal}
-use Rattle.state_messages.specs.declared.Refusal.the-variants as refusal
+use Rattle.state_messages.specs.declared.StateRefusal.{StateRefusal}
+use Rattle.state_messages.specs.declared.StateRefusal.the-variants as refusal
 use Rattle.state_blobs.specs.declared.Verdict.{Verdict}
 use Rattle.state_blobs.specs.declared.Verdict.the-variants as verdict
 use Rattle.state_blobs.specs.declared.Collector.{Collector}
@@ -45,12 +45,12 @@ unfoldable pub outcome : Collected → List ℕ → Outcome
 outcome r b = record { verdict = r .verdict; collector = r .collector; buffer = b }
 
 -- 02, E13: "On refusal collector and lent buffers stay unchanged."
-unfoldable pub unchanged : Refusal → Collector → List ℕ → Outcome
+unfoldable pub unchanged : StateRefusal → Collector → List ℕ → Outcome
 unchanged why c b = record { verdict = verdict.Refused why; collector = c; buffer = b }
 
 -- "each after the bytes held": new bytes vs of a blob of that total
-unfoldable pub appended : Collector → ℕ → List ℕ → List ℕ → Outcome
-appended c total vs b =
+unfoldable pub pieceAppended : Collector → ℕ → List ℕ → List ℕ → Outcome
+pieceAppended c total vs b =
     record {
       verdict = verdict.Accepted;
       collector = record { accepted = true; total = total; held = c .held + length vs };
@@ -58,7 +58,7 @@ appended c total vs b =
     }
 
 unfoldable pub settle : Verdict → Collector → ℕ → List ℕ → List ℕ → Outcome
-settle verdict.Accepted c total vs b = appended c total vs b
+settle verdict.Accepted c total vs b = pieceAppended c total vs b
 settle (verdict.Refused why) c total vs b = unchanged why c b
 
 unfoldable pub offerBytes : Collector → ℕ → List ℕ → List ℕ → Outcome

@@ -1,14 +1,14 @@
 // The collector: joins the pieces of a state blob, each after the bytes held, in a buffer that the caller lends.
-use state_messages::Refusal;
 use state_messages::ResponseRead;
+use state_messages::StateRefusal;
 ghost use mathlib.Core.Path.{_≡_};
 ghost use Prim.Native.Nat.{_+_, _<_, _≤_};
 ghost use lib.ListN.{length};
-ghost use Rattle.state_blobs.specs.Collect.{newCollector, isComplete, otherTotal, decide, outcome, appended, offerBytes, collect};
+ghost use Rattle.state_blobs.specs.Collect.{newCollector, isComplete, otherTotal, decide, outcome, pieceAppended, offerBytes, collect};
 
 pub enum Verdict {
     Accepted,
-    Refused(Refusal),
+    Refused(StateRefusal),
 }
 
 // How much of a blob is held: whether a response was accepted, the blob's length as the first accepted one told it, and the bytes held.
@@ -70,19 +70,19 @@ impl Collector {
         let held = self.bytes_held();
         let end = held + len;
         if self.other_total(total) {
-            return Verdict::Refused(Refusal::TotalDiffers);
+            return Verdict::Refused(StateRefusal::TotalDiffers);
         }
         if (total as usize) < end {
-            return Verdict::Refused(Refusal::PastTotal);
+            return Verdict::Refused(StateRefusal::PastTotal);
         }
         if room < end {
-            return Verdict::Refused(Refusal::PastBuffer);
+            return Verdict::Refused(StateRefusal::PastBuffer);
         }
         if len != 0 {
             return Verdict::Accepted;
         }
         if held < total as usize {
-            return Verdict::Refused(Refusal::NoData);
+            return Verdict::Refused(StateRefusal::NoData);
         }
         Verdict::Accepted
     }
@@ -90,7 +90,7 @@ impl Collector {
     // Puts new bytes that fit behind those held.
     fn append(self, total: u32, bytes: &[u8], buffer: &mut [u8]) -> Collected
         requires { ⌜ (self .held + length (now bytes) ≤ total) × (self .held + length (now bytes) ≤ length (now buffer)) ⌝ }
-        ensures { λ r. ⌜ outcome r (now (buffer .exit)) ≡ appended self total (now (bytes .entry)) (now (buffer .entry)) ⌝ }
+        ensures { λ r. ⌜ outcome r (now (buffer .exit)) ≡ pieceAppended self total (now (bytes .entry)) (now (buffer .entry)) ⌝ }
     {
         let held = self.bytes_held();
         let end = held + bytes.len();

@@ -12,9 +12,9 @@ use Rattle.words.specs.Word.{splice}
 use Rattle.big_words.specs.Big.{bigAt}
 use Rattle.state_messages.specs.Messages.{StateResponse, Fits32Request, Fits32Response, got, rejected, headBytes, requestMessage, responseMessage, requestParts, readRequest, responseParts, readResponse, Message, notWritten, writeMessage, writeRequest, writeResponse}
 use Rattle.state_messages.specs.declared.StateRequest.{StateRequest}
-use Rattle.state_messages.specs.declared.Refusal.the-variants as refusal
+use Rattle.state_messages.specs.declared.StateRefusal.the-variants as refusal
 use Rattle.state_messages.specs.declared.RequestRead.the-variants as asked
-use Rattle.state_messages.specs.declared.Written.the-variants as wrote
+use Rattle.state_messages.specs.declared.MessageWritten.the-variants as wrote
 use Rattle.state_messages.proofs.Readings.{never}
 use Rattle.state_messages.proofs.Heads.{head-first, head-second, head-third, head-fourth, head-rest}
 use Rattle.state_messages.proofs.Writes.{request-length, response-length}

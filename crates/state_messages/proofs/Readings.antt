@@ -11,8 +11,8 @@ use borrow.Author.Tests.{ltb-false, eqb-true}
 use Rattle.words.specs.Word.{part}
 use Rattle.big_words.specs.Big.{bigAt}
 use Rattle.state_messages.specs.Messages.{StateResponse, Got, got, rejected, responseParts, readResponse, toldOf}
-use Rattle.state_messages.specs.declared.Refusal.{Refusal}
-use Rattle.state_messages.specs.declared.Refusal.the-variants as refusal
+use Rattle.state_messages.specs.declared.StateRefusal.{StateRefusal}
+use Rattle.state_messages.specs.declared.StateRefusal.the-variants as refusal
 use Rattle.state_messages.specs.declared.Piece.{Piece}
 use Rattle.state_messages.specs.declared.ResponseRead.the-variants as told
 
@@ -40,7 +40,7 @@ read-got largest m {p} h =
     (omega arith, ltb-false _ _ (f .2), eqb-true _ _ (f .3), f .4)
 
 -- what was told is what was read
-pub told-rejected : (g : Got) {why : Refusal} → toldOf g ≡ told.Refused why → g ≡ rejected why
+pub told-rejected : (g : Got) {why : StateRefusal} → toldOf g ≡ told.Refused why → g ≡ rejected why
 unfolding toldOf
 told-rejected (got p) h = never (cc)
 told-rejected (rejected why) h = cc

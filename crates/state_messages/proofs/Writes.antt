@@ -10,8 +10,8 @@ use Rattle.words.specs.Word.{splice, laid}
 use Rattle.words.proofs.Store.{splice-splice, lent-back, bytes-in}
 use Rattle.state_messages.specs.Messages.{StateResponse, headBytes, requestMessage, responseMessage, notWritten, writeMessage, writeResponse}
 use Rattle.state_messages.specs.declared.StateRequest.{StateRequest}
-use Rattle.state_messages.specs.declared.Refusal.the-variants as refusal
-use Rattle.state_messages.specs.declared.Written.the-variants as wrote
+use Rattle.state_messages.specs.declared.StateRefusal.the-variants as refusal
+use Rattle.state_messages.specs.declared.MessageWritten.the-variants as wrote
 use Rattle.state_messages.proofs.Heads.{head-length}
 
 pub request-length : (q : StateRequest) → length (requestMessage q) ≡ 16

@@ -10,14 +10,14 @@ use Rattle.words.specs.Word.{splice}
 use Rattle.big_words.specs.Big.{beBytes, bigAt}
 use Rattle.state_messages.specs.declared.StateRequest.{StateRequest}
 use Rattle.state_messages.specs.declared.ResponseHeader.{ResponseHeader}
-use Rattle.state_messages.specs.declared.Refusal.{Refusal}
-use Rattle.state_messages.specs.declared.Refusal.the-variants as refusal
+use Rattle.state_messages.specs.declared.StateRefusal.{StateRefusal}
+use Rattle.state_messages.specs.declared.StateRefusal.the-variants as refusal
 use Rattle.state_messages.specs.declared.RequestRead.{RequestRead}
 use Rattle.state_messages.specs.declared.RequestRead.the-variants as asked
 use Rattle.state_messages.specs.declared.ResponseRead.{ResponseRead}
 use Rattle.state_messages.specs.declared.ResponseRead.the-variants as told
-use Rattle.state_messages.specs.declared.Written.{Written}
-use Rattle.state_messages.specs.declared.Written.the-variants as wrote
+use Rattle.state_messages.specs.declared.MessageWritten.{MessageWritten}
+use Rattle.state_messages.specs.declared.MessageWritten.the-variants as wrote
 
 -- a response; its length field is the number of its bytes of data
 pub record StateResponse : Type 0 where
@@ -71,7 +71,7 @@ responseParts m = record { result = bigAt 4 0 m; flags = bigAt 4 4 m; total = bi
 
 pub data Got : Type 0 where
   got : StateResponse → Got
-  rejected : Refusal → Got
+  rejected : StateRefusal → Got
 
 -- the length field is compared with the message first; a message of fewer than 16 bytes is cut short, whatever its length field would be
 unfoldable pub readResponse : ℕ → List ℕ → Got
@@ -91,10 +91,10 @@ toldOf (rejected why) = told.Refused why
 -- ---- writing, at the start of a buffer. 02, E13: "Writing refuses a length above the largest, then no room." and "On refusal ..
 -- lent buffers stay unchanged." A request has no length to refuse.
 pub record Message : Type 0 where
-  pub answer : Written
+  pub answer : MessageWritten
   pub buffer : List ℕ
 
-abbrev pub notWritten : Refusal → List ℕ → Message
+abbrev pub notWritten : StateRefusal → List ℕ → Message
 notWritten why b = record { answer = wrote.Refused why; buffer = b }
 
 unfoldable pub writeMessage : List ℕ → List ℕ → Message

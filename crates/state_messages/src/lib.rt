@@ -32,7 +32,7 @@ pub struct Piece {
 
 // Why a message, a buffer or a piece is refused: the reader's reasons in their order, the writer's second one, then the collector's.
 // A message that is cut short is never too long, so these two share one place in the order.
-pub enum Refusal {
+pub enum StateRefusal {
     CutShort,
     TooLong,
     WrongCode,
@@ -47,18 +47,18 @@ pub enum Refusal {
 
 pub enum RequestRead {
     Accepted(StateRequest),
-    Refused(Refusal),
+    Refused(StateRefusal),
 }
 
 pub enum ResponseRead {
     Accepted(Piece),
-    Refused(Refusal),
+    Refused(StateRefusal),
 }
 
 // The length of the message that was written, or why none was.
-pub enum Written {
+pub enum MessageWritten {
     Length(usize),
-    Refused(Refusal),
+    Refused(StateRefusal),
 }
 
 fn number_at(s: &[u8], at: usize) -> u32
@@ -73,14 +73,14 @@ pub fn read_request(message: &[u8], code: u32) -> RequestRead
     ensures { λ r. ⌜ r ≡ readRequest code (now (message .entry)) ⌝ }
 {
     if message.len() < 16 {
-        return RequestRead::Refused(Refusal::CutShort);
+        return RequestRead::Refused(StateRefusal::CutShort);
     }
     if 16 < message.len() {
-        return RequestRead::Refused(Refusal::TooLong);
+        return RequestRead::Refused(StateRefusal::TooLong);
     }
     let own = number_at(message, 0);
     if own != code {
-        return RequestRead::Refused(Refusal::WrongCode);
+        return RequestRead::Refused(StateRefusal::WrongCode);
     }
     RequestRead::Accepted(StateRequest {
         code: own,
@@ -102,21 +102,21 @@ pub fn read_response(message: &[u8], largest: u32) -> ResponseRead
     ensures { λ r. ⌜ r ≡ toldOf (readResponse largest (now (message .entry))) ⌝ }
 {
     if message.len() < 16 {
-        return ResponseRead::Refused(Refusal::CutShort);
+        return ResponseRead::Refused(StateRefusal::CutShort);
     }
     let len = number_at(message, 12);
     let whole = response_length(len);
     if message.len() < whole {
-        return ResponseRead::Refused(Refusal::CutShort);
+        return ResponseRead::Refused(StateRefusal::CutShort);
     }
     if whole < message.len() {
-        return ResponseRead::Refused(Refusal::TooLong);
+        return ResponseRead::Refused(StateRefusal::TooLong);
     }
     if largest < len {
-        return ResponseRead::Refused(Refusal::AboveLargest);
+        return ResponseRead::Refused(StateRefusal::AboveLargest);
     }
     if number_at(message, 0) != 0 {
-        return ResponseRead::Refused(Refusal::Failed);
+        return ResponseRead::Refused(StateRefusal::Failed);
     }
     ResponseRead::Accepted(Piece {
         flags: number_at(message, 4),
@@ -155,11 +155,11 @@ fn put_head(s: &mut [u8], a: u32, b: u32, c: u32, d: u32)
 }
 
 // Writes a request at the start of a buffer.
-pub fn write_request(buffer: &mut [u8], request: StateRequest) -> Written
+pub fn write_request(buffer: &mut [u8], request: StateRequest) -> MessageWritten
     ensures { λ r. ⌜ _≡_ {A = Message} (record { answer = r; buffer = now (buffer .exit) }) (writeRequest request (now (buffer .entry))) ⌝ }
 {
     if buffer.len() < 16 {
-        return Written::Refused(Refusal::NoRoom);
+        return MessageWritten::Refused(StateRefusal::NoRoom);
     }
     put_head(
         buffer,
@@ -168,7 +168,7 @@ pub fn write_request(buffer: &mut [u8], request: StateRequest) -> Written
         request.kind,
         request.offset,
     );
-    Written::Length(16)
+    MessageWritten::Length(16)
 }
 
 // Writes a response with that data at the start of a buffer; data longer than the largest size is refused.
@@ -177,19 +177,19 @@ pub fn write_response(
     largest: u32,
     header: ResponseHeader,
     bytes: &[u8],
-) -> Written
+) -> MessageWritten
     ensures { λ r. ⌜ _≡_ {A = Message} (record { answer = r; buffer = now (buffer .exit) })
         (writeResponse largest (responseOf header (now (bytes .entry))) (now (buffer .entry))) ⌝ }
 {
     let len = bytes.len();
     if (largest as usize) < len {
-        return Written::Refused(Refusal::AboveLargest);
+        return MessageWritten::Refused(StateRefusal::AboveLargest);
     }
     if buffer.len() < 16 {
-        return Written::Refused(Refusal::NoRoom);
+        return MessageWritten::Refused(StateRefusal::NoRoom);
     }
     if buffer.len() - 16 < len {
-        return Written::Refused(Refusal::NoRoom);
+        return MessageWritten::Refused(StateRefusal::NoRoom);
     }
     put_head(
         buffer,
@@ -200,5 +200,5 @@ pub fn write_response(
     );
     words::copy(&mut buffer[16..], bytes);
     let end = 16 + len;
-    Written::Length(end)
+    MessageWritten::Length(end)
 }

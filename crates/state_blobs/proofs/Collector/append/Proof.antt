@@ -1,4 +1,4 @@
-use Rattle.state_blobs.specs.Collect.{outcome, appended}
+use Rattle.state_blobs.specs.Collect.{outcome, pieceAppended}
 use Rattle.state_messages.proofs.Writes.{lent-splice}
 use borrow.Author.Needs.{needs}
 use Rattle.state_blobs.proofs.Collector.append.Statement.{statement}
@@ -29,7 +29,7 @@ same-length : tie.Need-same-length
 same-length c = search needs
 
 returns : tie.Need-returns
-unfolding outcome appended
+unfolding outcome pieceAppended
 returns c =
     let a = c .before .before .before .before .before .before .before .args in
     rw (c .before .before .copy .ensures, c .before .before .before .before .bytes-held .ensures .0, lent-splice (a .self .held) (a .bytes .now) (a .buffer .now) (search needs))
