@@ -46,6 +46,12 @@ pub trait Exports {
     fn cold_boot(state: &mut RecordImage, x: [u64; 4], most: u64, page: &[u8]) -> i32;
     fn warm_boot(state: &mut RecordImage, x: [u64; 4]) -> i32;
 
+    fn close(state: &mut RecordImage);
+
+    fn version_accepted(version: u64) -> bool;
+    fn agreed_minor(version: u64) -> u64;
+    fn is_later(a: u64, b: u64) -> bool;
+
     fn delegate(
         state: &RecordImage,
         granules: &GranulesImage,
@@ -78,8 +84,8 @@ pub trait Exports {
         x: [u64; 3],
         out: &mut Registers,
     );
-    /// x as for the platform token.
-    fn challenge(state: &RecordImage, page: &[u8], x: [u64; 3], place: &mut Place);
+    /// x as for the platform token. Answers x0 of the checks.
+    fn challenge(state: &RecordImage, page: &[u8], x: [u64; 3], place: &mut Place) -> u64;
     fn features(state: &RecordImage, index: u64, out: &mut Registers);
     /// x: opcode, pa, size, curve.
     fn token_signing(
@@ -102,6 +108,8 @@ pub trait Exports {
     fn sign(queue: &mut QueueImage, signature: &[u8], out: &mut Registers);
     /// How many requests wait.
     fn oldest(queue: &QueueImage, request: &mut RequestImage) -> usize;
+    /// How many responses wait.
+    fn responses(queue: &QueueImage) -> usize;
 
     /// x: the function id, then x1 to x4.
     fn call(

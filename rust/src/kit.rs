@@ -76,6 +76,10 @@ pub mod ffi {
             page_len: usize,
         ) -> i32;
         pub fn pbeam_warm_boot(state: *mut RecordImage, x0: u64, x1: u64, x2: u64, x3: u64) -> i32;
+        pub fn pbeam_close(state: *mut RecordImage);
+        pub fn pbeam_version_accepted(version: u64) -> bool;
+        pub fn pbeam_agreed_minor(version: u64) -> u64;
+        pub fn pbeam_is_later(a: u64, b: u64) -> bool;
         pub fn pbeam_delegate(
             state: *const RecordImage,
             granules: *const GranulesImage,
@@ -124,7 +128,7 @@ pub mod ffi {
             size: u64,
             csize: u64,
             place: *mut Place,
-        );
+        ) -> u64;
         pub fn pbeam_features(state: *const RecordImage, index: u64, out: *mut Registers);
         pub fn pbeam_token_signing(
             state: *const RecordImage,
@@ -154,6 +158,7 @@ pub mod ffi {
             out: *mut Registers,
         );
         pub fn pbeam_oldest(queue: *const QueueImage, request: *mut RequestImage) -> usize;
+        pub fn pbeam_responses(queue: *const QueueImage) -> usize;
         pub fn pbeam_call(
             state: *const RecordImage,
             session: *mut SessionImage,
@@ -273,6 +278,26 @@ impl Exports for Kit {
     }
 
     #[inline]
+    fn close(state: &mut RecordImage) {
+        unsafe { ffi::pbeam_close(state) }
+    }
+
+    #[inline]
+    fn version_accepted(version: u64) -> bool {
+        unsafe { ffi::pbeam_version_accepted(version) }
+    }
+
+    #[inline]
+    fn agreed_minor(version: u64) -> u64 {
+        unsafe { ffi::pbeam_agreed_minor(version) }
+    }
+
+    #[inline]
+    fn is_later(a: u64, b: u64) -> bool {
+        unsafe { ffi::pbeam_is_later(a, b) }
+    }
+
+    #[inline]
     fn delegate(
         state: &RecordImage,
         granules: &GranulesImage,
@@ -329,7 +354,12 @@ impl Exports for Kit {
     }
 
     #[inline]
-    fn challenge(state: &RecordImage, page: &[u8], [pa, size, csize]: [u64; 3], place: &mut Place) {
+    fn challenge(
+        state: &RecordImage,
+        page: &[u8],
+        [pa, size, csize]: [u64; 3],
+        place: &mut Place,
+    ) -> u64 {
         let (page, page_len) = lend(page);
         unsafe { ffi::pbeam_challenge(state, page, page_len, pa, size, csize, place) }
     }
@@ -382,6 +412,11 @@ impl Exports for Kit {
     #[inline]
     fn oldest(queue: &QueueImage, request: &mut RequestImage) -> usize {
         unsafe { ffi::pbeam_oldest(queue, request) }
+    }
+
+    #[inline]
+    fn responses(queue: &QueueImage) -> usize {
+        unsafe { ffi::pbeam_responses(queue) }
     }
 
     #[inline]

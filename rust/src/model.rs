@@ -14,12 +14,12 @@ use crate::reference::codes::{Answer, Outcome};
 use crate::reference::features::{features, forward, key_update};
 use crate::reference::granules::{delegate, undelegate};
 use crate::reference::key::realm_key;
-use crate::reference::layout::{word_at, ENTRY_WORDS};
+use crate::reference::layout::{accepted_minor, word_at, ENTRY_WORDS};
 use crate::reference::queue::Queue;
 use crate::reference::reader::{array, read};
 use crate::reference::runtime::{self, call, Call, Reply, State, PLAT_TOKEN, TOKEN_SIGN};
 use crate::reference::signing::{token_sign, SignCall};
-use crate::reference::token::{challenge, TokenCall};
+use crate::reference::token::{challenge, challenge_checks, TokenCall};
 use crate::reference::writer::write;
 
 /// The reference in the library's place.
@@ -71,6 +71,22 @@ impl Exports for Model {
         boot(state, |record| record.warm(x))
     }
 
+    fn close(state: &mut RecordImage) {
+        *state = record_words(Record::Closed);
+    }
+
+    fn version_accepted(version: u64) -> bool {
+        u32::try_from(version).is_ok_and(|version| accepted_minor(version).is_some())
+    }
+
+    fn agreed_minor(version: u64) -> u64 {
+        (version & 0xFFFF).min(5)
+    }
+
+    fn is_later(a: u64, b: u64) -> bool {
+        a > b
+    }
+
     fn delegate(
         state: &RecordImage,
         granules: &GranulesImage,
@@ -118,8 +134,11 @@ impl Exports for Model {
         }
     }
 
-    fn challenge(state: &RecordImage, page: &[u8], x: [u64; 3], place: &mut Place) {
-        *place = place_in(page, challenge(record_of(state), page, token_call(x)));
+    fn challenge(state: &RecordImage, page: &[u8], x: [u64; 3], place: &mut Place) -> u64 {
+        let (record, call) = (record_of(state), token_call(x));
+        *place = place_in(page, challenge(record, page, call));
+        let [x0, ..] = answered(challenge_checks(record, page, call));
+        x0
     }
 
     fn features(state: &RecordImage, index: u64, out: &mut Registers) {
@@ -163,6 +182,10 @@ impl Exports for Model {
 
     fn sign(queue: &mut QueueImage, signature: &[u8], out: &mut Registers) {
         *out = on_queue(queue, |queue| queue.sign(signature));
+    }
+
+    fn responses(queue: &QueueImage) -> usize {
+        queue[1].min(8) as usize
     }
 
     fn oldest(queue: &QueueImage, request: &mut RequestImage) -> usize {

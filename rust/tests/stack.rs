@@ -159,7 +159,9 @@ fn manifest_exports() {
     let (mut view, mut place) = ([0; 15], [0; 2]);
     assert_eq!(Kit::read(&page, BASE, 4, &mut view), 0);
     printed("pbeam_array", || Kit::array(&page, BASE, 4, 1, &mut place));
-    printed("pbeam_array_of", || Kit::array_of(&page, &view, 1, &mut place));
+    printed("pbeam_array_of", || {
+        Kit::array_of(&page, &view, 1, &mut place)
+    });
     let (mut count, mut word) = (0, 0);
     printed("pbeam_count", || count = Kit::count(&page, &view, 1));
     assert_eq!(count, 83);

@@ -80,6 +80,16 @@ impl Session {
     }
 }
 
+/// The first check of record, page and buffer that a call fails, for who looks for its challenge.
+#[inline]
+pub fn challenge_checks(record: Record, page: &[u8], call: TokenCall) -> Outcome {
+    let kept = need_up(record)?;
+    if page.len() != PAGE {
+        return Err(Error::Unk);
+    }
+    call.buffer(kept.base).map(|_| [0; 2])
+}
+
 /// The challenge of a start, as the part of the page that holds it; empty where the call's arguments would be refused.
 #[inline]
 pub fn challenge(record: Record, page: &[u8], call: TokenCall) -> &[u8] {

@@ -10,17 +10,25 @@ use potterbeam_tests::reference::boot::Record;
 #[test]
 fn boots() {
     let mut pair = Pair::new(23);
-    while pair.calls("pbeam_cold_boot").min(pair.calls("pbeam_warm_boot")) < calls() {
+    while pair
+        .calls("pbeam_cold_boot")
+        .min(pair.calls("pbeam_warm_boot"))
+        < calls()
+    {
         pair.load(|random, m| {
             m.images.record.words = match random.below(4) {
                 0 => random.record_image(),
                 _ => [0; 4],
             };
         });
+        if pair.random.one_in(8) {
+            close(&mut pair);
+        }
         for _ in 0..6 {
             let record = record_of(&pair.model.images.record.words);
             let boot = pair.random.boot(record);
             one(&mut pair, &boot);
+            versions(&mut pair, boot.x[1]);
             if record == Record::Closed && !pair.random.one_in(4) {
                 break;
             }
@@ -28,6 +36,10 @@ fn boots() {
     }
     pair.print_counts();
     pair.expect(&[
+        ("pbeam_close", 0, &[0, 1, 2]),
+        ("pbeam_version_accepted", 0, &[0, 1]),
+        ("pbeam_agreed_minor", 0, &[0, 1, 2, 3, 4, 5]),
+        ("pbeam_is_later", 0, &[0, 1]),
         ("pbeam_cold_boot", 0, &[0, -1, -2, -3, -4, -5, -6, -7]),
         ("pbeam_warm_boot", 0, &[0, -1, -4]),
     ]);
@@ -49,4 +61,35 @@ fn one(pair: &mut Pair, boot: &Boot) {
         "pbeam_warm_boot"
     };
     pair.meet(name, 0, pair.model.returned);
+}
+
+/// Closes the record, whatever it is.
+fn close(pair: &mut Pair) {
+    let [kind, ..] = pair.model.images.record.words;
+    check!(pair, "pbeam_close", (kind), |S, m| {
+        S::close(&mut m.images.record.words);
+    });
+    pair.meet("pbeam_close", 0, kind.min(2) as i64);
+}
+
+/// A version as it was offered, and one beside it.
+fn versions(pair: &mut Pair, version: u64) {
+    let other = match pair.random.below(4) {
+        0 => version,
+        1 => version.wrapping_add(1),
+        2 => pair.random.below(12),
+        _ => pair.random.below(1 << 33),
+    };
+    check!(pair, "pbeam_version_accepted", (other), |S, m| {
+        m.returned = S::version_accepted(other).into();
+    });
+    pair.meet("pbeam_version_accepted", 0, pair.model.returned);
+    check!(pair, "pbeam_agreed_minor", (other), |S, m| {
+        m.returned = S::agreed_minor(other) as i64;
+    });
+    pair.meet("pbeam_agreed_minor", 0, pair.model.returned);
+    check!(pair, "pbeam_is_later", (version, other), |S, m| {
+        m.returned = S::is_later(version, other).into();
+    });
+    pair.meet("pbeam_is_later", 0, pair.model.returned);
 }

@@ -150,10 +150,11 @@ fn challenge(pair: &mut Pair, scene: &mut Scene) {
     check!(pair, "pbeam_challenge", (x), |S, m| {
         let images = &mut m.images;
         let place = &mut images.place.words;
-        S::challenge(&images.record.words, m.page.lent(), x, place);
+        m.returned = S::challenge(&images.record.words, m.page.lent(), x, place) as i64;
     });
     let [_, length] = pair.model.images.place.words;
     pair.meet("pbeam_challenge", 0, length as i64);
+    pair.meet("pbeam_challenge", CHECKS, pair.model.returned);
 }
 
 fn features(pair: &mut Pair, scene: &mut Scene) {
@@ -210,6 +211,13 @@ fn sign(pair: &mut Pair, _: &mut Scene) {
     note_forged_queue(pair, "pbeam_sign");
 }
 
+fn responses(pair: &mut Pair, _: &mut Scene) {
+    check!(pair, "pbeam_responses", (), |S, m| {
+        m.returned = S::responses(&m.images.queue.words) as i64;
+    });
+    pair.meet("pbeam_responses", 0, pair.model.returned);
+}
+
 fn oldest(pair: &mut Pair, _: &mut Scene) {
     check!(pair, "pbeam_oldest", (), |S, m| {
         let images = &mut m.images;
@@ -260,6 +268,8 @@ fn call(pair: &mut Pair, scene: &mut Scene) {
 /// accepted.
 const FORGED_SESSION: u64 = u64::MAX;
 const FORGED_QUEUE: u64 = u64::MAX - 1;
+/// Case of a lookup: the checks that its call fails.
+const CHECKS: u64 = u64::MAX - 2;
 
 fn note_forged_session(pair: &mut Pair, name: &'static str) {
     let session = &pair.before.images.session.words;
@@ -289,6 +299,7 @@ fn token_sessions() {
         ("pbeam_platform_token", 0, &[0, -1, -2, -5, -6]),
         ("pbeam_platform_token", FORGED_SESSION, &[0, 1]),
         ("pbeam_challenge", 0, &[0, 32, 48, 64]),
+        ("pbeam_challenge", CHECKS, &[0, -1, -2, -5]),
     ]);
 }
 
@@ -296,10 +307,15 @@ fn token_sessions() {
 fn signing_queues() {
     let mut pair = Pair::new(25);
     let signing: Step = token_signing;
-    let names = ["pbeam_token_signing", "pbeam_sign", "pbeam_oldest"];
+    let names = [
+        "pbeam_token_signing",
+        "pbeam_sign",
+        "pbeam_oldest",
+        "pbeam_responses",
+    ];
     run(
         &mut pair,
-        &[signing, signing, signing, sign, oldest],
+        &[signing, signing, signing, sign, oldest, responses],
         &names,
     );
     pair.expect(&[
@@ -312,6 +328,7 @@ fn signing_queues() {
         ("pbeam_sign", 0, &[0, -5, -6]),
         ("pbeam_sign", FORGED_QUEUE, &[0, 1]),
         ("pbeam_oldest", 0, &[0, 1, 2, 3, 4, 5, 6, 7, 8]),
+        ("pbeam_responses", 0, &[0, 1, 2, 3, 4, 5, 6, 7, 8]),
     ]);
 }
 
