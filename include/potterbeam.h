@@ -19,12 +19,55 @@
  * - The first check that fails decides the answer. The checks stand below in their order.
  * - A refused runtime command puts its code into x0 and 0 into x1 and x2, and leaves page, table, session and queue as they were,
  *   whatever they hold.
+ * - "Stack" is the most that a call takes, measured on x86-64 over accepted and refused calls, with the words that the function is
+ *   called with on the stack. rust/tests/stack.rs fails above it. It is not proved, and not measured on AArch64.
+ *
+ * potterbeam_types.h has a struct for each image, lists that are counted in entries, and one struct for all that pbeam_call takes. The
+ * functions here take plain words and count them: two banks are 4.
+ *
+ * What the library cannot check, and EL3 has to do:
+ *
+ * The boot record. EL3 keeps one of its own, apart from the monitor's: every command takes B and the agreed minor from it. EL3 gets it
+ *   up with pbeam_cold_boot, over the registers and the page that it is about to hand to the monitor, before it enters the monitor,
+ *   since the monitor may call EL3 while it boots. Before each warm boot it calls pbeam_warm_boot. Both sides check the same, so both
+ *   records hold the same. A record that EL3 finds closed means: do not enter the monitor.
+ * Boot errors. The monitor ends each boot with RMM_BOOT_COMPLETE (0xC40001CF, the code in x1). That call is the platform's: pbeam_call
+ *   answers PBEAM_X0_UNK. If x1 is not 0, EL3 closes its record with pbeam_close, tells no CPU to enter the monitor again, and
+ *   serves nothing but 0xC400018F from then on.
+ * The page. During a call no other CPU and no other world may write it. 002 gives it to the Realm world and leaves it to the monitor that
+ *   one CPU uses it at a time; EL3 holds a lock of its own around each call all the same, since session, queue and table need one.
+ *   What is promised of a call holds only of a page that stays still.
+ * The platform token. From an accepted start to the session's end the same bytes must be lent at each call. A new length is noticed
+ *   (PBEAM_X0_UNK), other bytes of the same length are not: the monitor then gets the start of one token and the rest of another, each
+ *   hunk answered OK. So a start that is answered PBEAM_X0_AGAIN must not touch the token that is lent: the session before it may still go
+ *   on. Make a new token in a second buffer, lend that one in the call that starts with it, and keep the first until that call is OK.
+ * Result registers. After a command the monitor's x0 to x2 are those of `out`. No command has a result in x3 or x4: leave the monitor's
+ *   own values there, and in x5 to x17 (SMCCC).
+ * 0xC400018F does not return to the monitor, so `out` goes nowhere. The Non-secure caller gets err_code (the value of `work`) in x0, and
+ *   in x1 to x4 the further results of its RMI call, which the monitor has in x2 to x5.
+ * Hand-made images. Any words are taken, and no call leaves what it is lent; but the answers are only as true as the words.
+ *   - A record that is up is believed: B says which addresses are in the page, the minor which commands there are. Neither is checked.
+ *   - A session that has sent as much as its token or more: the next call that goes on is OK with hunk 0 and rest 0, and ends it.
+ *   - A request in the queue with ids above 32 bits, or with any ids: pbeam_oldest shows them as they stand, and pbeam_sign takes it. A
+ *     push never puts one there.
  */
 #ifndef POTTERBEAM_H
 #define POTTERBEAM_H
 
 #include <stddef.h>
 #include <stdint.h>
+
+/* Version of the kit. */
+#define PBEAM_VERSION_MAJOR 0
+#define PBEAM_VERSION_MINOR 2
+#define PBEAM_VERSION_PATCH 0
+
+/* Arguments that are never NULL, by their numbers, where the compiler can warn of it. */
+#if defined(__GNUC__) || defined(__clang__)
+#define PBEAM_NONNULL(...) __attribute__((nonnull(__VA_ARGS__)))
+#else
+#define PBEAM_NONNULL(...)
+#endif
 
 /* ---- Function ids: x0 of a call, compared as 64 bits; 002's name behind each ---- */
 
@@ -298,6 +341,7 @@ extern "C" {
  * Leaves   the page as it was. view: what the page shows; refused: all zero.
  * A later minor is never refused. Sections after e are not read, nor what plat_data points at.
  */
+PBEAM_NONNULL(5)
 int32_t pbeam_read(const uint8_t *page, size_t page_len, uint64_t base, uint64_t edition, uint64_t view[PBEAM_VIEW_WORDS]);
 
 /*
@@ -307,6 +351,7 @@ int32_t pbeam_read(const uint8_t *page, size_t page_len, uint64_t base, uint64_t
  *          or its number above 3. pbeam_read says why a page is refused.
  * Leaves   the page as it was.
  */
+PBEAM_NONNULL(6)
 void pbeam_array(const uint8_t *page, size_t page_len, uint64_t base, uint64_t edition, size_t section,
               uint64_t place[PBEAM_PLACE_WORDS]);
 
@@ -319,6 +364,7 @@ void pbeam_array(const uint8_t *page, size_t page_len, uint64_t base, uint64_t e
  * With another page, or one written since, the answer is by the view's places: a view that no reading made cannot lead outside the
  * page.
  */
+PBEAM_NONNULL(3, 5)
 void pbeam_array_of(const uint8_t *page, size_t page_len, const uint64_t view[PBEAM_VIEW_WORDS], size_t section,
                  uint64_t place[PBEAM_PLACE_WORDS]);
 
@@ -328,6 +374,7 @@ void pbeam_array_of(const uint8_t *page, size_t page_len, const uint64_t view[PB
  * Answers  the number of entries; 0 where pbeam_array_of gives (0, 0).
  * Leaves   page and view as they were.
  */
+PBEAM_NONNULL(3)
 size_t pbeam_count(const uint8_t *page, size_t page_len, const uint64_t view[PBEAM_VIEW_WORDS], size_t section);
 
 /*
@@ -336,6 +383,7 @@ size_t pbeam_count(const uint8_t *page, size_t page_len, const uint64_t view[PBE
  * Answers  the word; 0 where there is no such entry or word.
  * Leaves   page and view as they were.
  */
+PBEAM_NONNULL(3)
 uint64_t pbeam_word(const uint8_t *page, size_t page_len, const uint64_t view[PBEAM_VIEW_WORDS], size_t section, size_t entry, size_t word);
 
 /*
@@ -370,6 +418,7 @@ uint32_t pbeam_write(uint64_t base, uint64_t edition, const uint64_t *dram, size
  * Leaves   the page as it was. state: up, with x2, B and the agreed minor; refused: closed, for good.
  * The view is not kept: read the page with pbeam_read before a command writes into it.
  */
+PBEAM_NONNULL(1)
 int32_t pbeam_cold_boot(uint64_t state[PBEAM_STATE_WORDS], uint64_t x0, uint64_t x1, uint64_t x2, uint64_t x3, uint64_t most,
                      const uint8_t *page, size_t page_len);
 
@@ -381,6 +430,7 @@ int32_t pbeam_cold_boot(uint64_t state[PBEAM_STATE_WORDS], uint64_t x0, uint64_t
  *          PBEAM_BOOT_CPU          x0 not below the cold boot's x2
  * Leaves   state: up, as it was; refused: closed, for good. A CPU may warm boot twice.
  */
+PBEAM_NONNULL(1)
 int32_t pbeam_warm_boot(uint64_t state[PBEAM_STATE_WORDS], uint64_t x0, uint64_t x1, uint64_t x2, uint64_t x3);
 
 /* ---- Runtime commands. A buffer is `size` bytes at physical address pa. It is outside when pa is below B or not below B + 4,096,
@@ -396,6 +446,7 @@ int32_t pbeam_warm_boot(uint64_t state[PBEAM_STATE_WORDS], uint64_t x0, uint64_t
  * Leaves   on OK that byte as PBEAM_GRANULE_REALM, and every other byte as it was. Refused, the table as it was.
  * The byte alone is changed: the change in hardware is the platform's, after an OK.
  */
+PBEAM_NONNULL(1, 2, 6)
 void pbeam_delegate(const uint64_t state[PBEAM_STATE_WORDS], const uint64_t granules[PBEAM_GRANULES_WORDS], uint8_t *table, size_t table_len,
                  uint64_t address, uint64_t out[PBEAM_OUT_WORDS]);
 
@@ -403,6 +454,7 @@ void pbeam_delegate(const uint64_t state[PBEAM_STATE_WORDS], const uint64_t gran
  * pbeam_undelegate (0xC40001B1): a granule goes from Realm to Non-secure.
  * As pbeam_delegate, with PBEAM_X0_BAD_PAS where the byte is not PBEAM_GRANULE_REALM; on OK it becomes PBEAM_GRANULE_NON_SECURE.
  */
+PBEAM_NONNULL(1, 2, 6)
 void pbeam_undelegate(const uint64_t state[PBEAM_STATE_WORDS], const uint64_t granules[PBEAM_GRANULES_WORDS], uint8_t *table, size_t table_len,
                    uint64_t address, uint64_t out[PBEAM_OUT_WORDS]);
 
@@ -416,6 +468,7 @@ void pbeam_undelegate(const uint64_t state[PBEAM_STATE_WORDS], const uint64_t gr
  *          PBEAM_X0_UNK       key empty, or longer than size
  * Leaves   on OK the key's bytes at pa, and every other byte of the page as it was. Refused, the page as it was.
  */
+PBEAM_NONNULL(1, 9)
 void pbeam_realm_key(const uint64_t state[PBEAM_STATE_WORDS], uint8_t *page, size_t page_len, const uint8_t *key, size_t key_len,
                   uint64_t pa, uint64_t size, uint64_t curve, uint64_t out[PBEAM_OUT_WORDS]);
 
@@ -435,6 +488,7 @@ void pbeam_realm_key(const uint64_t state[PBEAM_STATE_WORDS], uint8_t *page, siz
  *          else sending. Refused, page and session as they were.
  * The hunk is written over the challenge: call pbeam_challenge first. Size 0 with c_size 0 in a session is OK and moves nothing.
  */
+PBEAM_NONNULL(1, 2, 11)
 void pbeam_platform_token(const uint64_t state[PBEAM_STATE_WORDS], uint64_t session[PBEAM_SESSION_WORDS], uint8_t *page, size_t page_len,
                        const uint8_t *token, size_t token_len, uint64_t busy, uint64_t pa, uint64_t size, uint64_t csize,
                        uint64_t out[PBEAM_OUT_WORDS]);
@@ -447,6 +501,7 @@ void pbeam_platform_token(const uint64_t state[PBEAM_STATE_WORDS], uint64_t sess
  * Leaves   the page as it was.
  * (0, 0) says that the call is no start or will be refused: make no token.
  */
+PBEAM_NONNULL(1, 7)
 void pbeam_challenge(const uint64_t state[PBEAM_STATE_WORDS], const uint8_t *page, size_t page_len, uint64_t pa, uint64_t size,
                   uint64_t csize, uint64_t place[PBEAM_PLACE_WORDS]);
 
@@ -458,6 +513,7 @@ void pbeam_challenge(const uint64_t state[PBEAM_STATE_WORDS], const uint8_t *pag
  *          PBEAM_X0_INVAL     index not PBEAM_FEATURES_INDEX
  *          PBEAM_X0_UNK       agreed minor below PBEAM_SIGNING_MINOR
  */
+PBEAM_NONNULL(1, 3)
 void pbeam_features(const uint64_t state[PBEAM_STATE_WORDS], uint64_t index, uint64_t out[PBEAM_OUT_WORDS]);
 
 /*
@@ -477,6 +533,7 @@ void pbeam_features(const uint64_t state[PBEAM_STATE_WORDS], uint64_t index, uin
  *          from the queue; key: the key at pa, the queue with the same requests and responses. Bytes of the page behind what is
  *          written stay as they were. Refused, page and queue as they were.
  */
+PBEAM_NONNULL(1, 2, 11)
 void pbeam_token_signing(const uint64_t state[PBEAM_STATE_WORDS], uint64_t queue[PBEAM_QUEUE_WORDS], uint8_t *page, size_t page_len,
                       const uint8_t *key, size_t key_len, uint64_t opcode, uint64_t pa, uint64_t size, uint64_t curve,
                       uint64_t out[PBEAM_OUT_WORDS]);
@@ -491,6 +548,7 @@ void pbeam_token_signing(const uint64_t state[PBEAM_STATE_WORDS], uint64_t queue
  *          Refused, work is (PBEAM_WORK_NOTHING, 0).
  * The library makes no key: the platform does, when work says so.
  */
+PBEAM_NONNULL(1, 4, 5)
 void pbeam_key_update(const uint64_t state[PBEAM_STATE_WORDS], uint64_t width, uint64_t mecid, uint64_t out[PBEAM_OUT_WORDS],
                    uint64_t work[PBEAM_WORK_WORDS]);
 
@@ -499,6 +557,7 @@ void pbeam_key_update(const uint64_t state[PBEAM_STATE_WORDS], uint64_t width, u
  * Takes    the boot record, which may be in any state, and x1.
  * Answers  err_code, which is x1. It is never refused.
  */
+PBEAM_NONNULL(1)
 uint64_t pbeam_forward(const uint64_t state[PBEAM_STATE_WORDS], uint64_t x1);
 
 /* ---- The signer's side: no commands of the interface; they look at no boot record ---- */
@@ -513,6 +572,7 @@ uint64_t pbeam_forward(const uint64_t state[PBEAM_STATE_WORDS], uint64_t x1);
  * Leaves   on OK the queue with one request less and one response more: its rec_granule and req_ticket, and the signature. Refused,
  *          the queue as it was.
  */
+PBEAM_NONNULL(1, 4)
 void pbeam_sign(uint64_t queue[PBEAM_QUEUE_WORDS], const uint8_t *signature, size_t signature_len, uint64_t out[PBEAM_OUT_WORDS]);
 
 /*
@@ -521,6 +581,7 @@ void pbeam_sign(uint64_t queue[PBEAM_QUEUE_WORDS], const uint8_t *signature, siz
  * Answers  how many requests wait, with all fields of the oldest in request; 0 where none does, with request all zero.
  * Leaves   the queue as it was: the request waits until pbeam_sign takes it.
  */
+PBEAM_NONNULL(1, 2)
 size_t pbeam_oldest(const uint64_t queue[PBEAM_QUEUE_WORDS], uint64_t request[PBEAM_REQUEST_WORDS]);
 
 /* ---- Dispatcher ---- */
@@ -538,6 +599,7 @@ size_t pbeam_oldest(const uint64_t queue[PBEAM_QUEUE_WORDS], uint64_t request[PB
  * Leaves   what the command leaves; all else as it was. Only PBEAM_ID_PLATFORM_TOKEN reads or writes the session, only
  *          PBEAM_ID_TOKEN_SIGNING the queue.
  */
+PBEAM_NONNULL(1, 2, 3, 6, 17, 18, 19)
 void pbeam_call(const uint64_t state[PBEAM_STATE_WORDS], uint64_t session[PBEAM_SESSION_WORDS], uint64_t queue[PBEAM_QUEUE_WORDS], uint8_t *page,
              size_t page_len, const uint64_t granules[PBEAM_GRANULES_WORDS], uint8_t *table, size_t table_len, const uint8_t *key, size_t key_len,
              const uint8_t *token, size_t token_len, uint64_t busy, const uint8_t *public_key, size_t public_len, uint64_t width,

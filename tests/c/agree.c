@@ -321,6 +321,14 @@ static void check_editions_and_length(void)
     SAME(PBEAM_PAGE_BYTES, length);
 }
 
+/* Of the header alone: 0.2.0, as docs/REFERENCE.md has it. */
+static void check_version(void)
+{
+    SAME(PBEAM_VERSION_MAJOR, 0);
+    SAME(PBEAM_VERSION_MINOR, 2);
+    SAME(PBEAM_VERSION_PATCH, 0);
+}
+
 /* ---- Boot ---- */
 
 /* A record that is up, with this agreed minor. */
@@ -874,6 +882,7 @@ int main(int argc, char **argv)
         printf("usage: agree PAGE\n");
         return 2;
     }
+    check_version();
     check_core_sizes();
     check_page_bytes();
     check_padding_and_plat_data();
