@@ -10,7 +10,11 @@ use potterbeam_tests::reference::boot::Record;
 #[test]
 fn boots() {
     let mut pair = Pair::new(23);
-    while pair.calls("pbeam_cold_boot").min(pair.calls("pbeam_warm_boot")) < calls() {
+    while pair
+        .calls("pbeam_cold_boot")
+        .min(pair.calls("pbeam_warm_boot"))
+        < calls()
+    {
         pair.load(|random, m| {
             m.images.record.words = match random.below(4) {
                 0 => random.record_image(),
