@@ -253,7 +253,7 @@ static inline const char *pbeam_boot_text(int32_t code)
 {
     switch (code) {
     case PBEAM_BOOT_DONE: return "done";
-    case PBEAM_BOOT_STATE: return "the record is not fresh for a cold boot, or not up for a warm boot";
+    case PBEAM_BOOT_STATE: return "unknown error, or the record is not in the state that the boot needs";
     case PBEAM_BOOT_VERSION: return "the version of the boot interface is not accepted";
     case PBEAM_BOOT_CPUS: return "more CPUs than the monitor supports";
     case PBEAM_BOOT_CPU: return "the CPU's index is not below the number of CPUs";
