@@ -19,12 +19,56 @@
  * - The first check that fails decides the answer. The checks stand below in their order.
  * - A refused runtime command puts its code into x0 and 0 into x1 and x2, and leaves page, table, session and queue as they were,
  *   whatever they hold.
+ * - "Stack" bounds what a call was seen to write on x86-64, accepted or refused, with its return address and the words that it takes on the
+ *   stack; the test rust/tests/stack.rs fails where a figure is exceeded. It is measured, not proved, and not on AArch64. The functions
+ *   that take the queue do not fit the stack of 2 or 4 KiB that EL3 firmware often has: give them one of their own.
+ *
+ * potterbeam_types.h has a struct for each image, lists that are counted in entries, and one struct for all that pbeam_call takes. The
+ * functions here take plain words and count them: two banks are 4.
+ *
+ * What the library cannot check, and EL3 has to do:
+ *
+ * The boot record. EL3 keeps one of its own, apart from the monitor's: every command takes B and the agreed minor from it. EL3 gets it
+ *   up with pbeam_cold_boot, over the registers and the page that it is about to hand to the monitor, before it enters the monitor,
+ *   since the monitor may call EL3 while it boots. Before each warm boot it calls pbeam_warm_boot. Both sides check the same, so both
+ *   records hold the same. A record that EL3 finds closed means: do not enter the monitor.
+ * Boot errors. The monitor ends each boot with RMM_BOOT_COMPLETE (0xC40001CF, the code in x1). That call is the platform's: pbeam_call
+ *   answers PBEAM_X0_UNK. If x1 is not 0, EL3 closes its record with pbeam_close, tells no CPU to enter the monitor again, and
+ *   serves nothing but 0xC400018F from then on.
+ * The page. During a call no other CPU and no other world may write it. 002 gives it to the Realm world and leaves it to the monitor that
+ *   one CPU uses it at a time; EL3 holds a lock of its own around each call all the same, since session, queue and table need one.
+ *   What is promised of a call holds only of a page that stays still.
+ * The platform token. From an accepted start to the session's end the same bytes must be lent at each call. A new length is noticed
+ *   (PBEAM_X0_UNK), other bytes of the same length are not: the monitor then gets the start of one token and the rest of another, each
+ *   hunk answered OK. So a start that is answered PBEAM_X0_AGAIN must not touch the token that is lent: the session before it may still go
+ *   on. Make a new token in a second buffer, lend that one in the call that starts with it, and keep the first until that call is OK.
+ * Result registers. After a command the monitor's x0 to x2 are those of `out`. No command has a result in x3 or x4: leave the monitor's
+ *   own values there, and in x5 to x17 (SMCCC).
+ * 0xC400018F does not return to the monitor, so `out` goes nowhere. The Non-secure caller gets err_code (the value of `work`) in x0, and
+ *   in x1 to x4 the further results of its RMI call, which the monitor has in x2 to x5.
+ * Hand-made images. Any words are taken, and no call leaves what it is lent; but the answers are only as true as the words.
+ *   - A record that is up is believed: B says which addresses are in the page, the minor which commands there are. Neither is checked.
+ *   - A session that has sent as much as its token or more: the next call that goes on is OK with hunk 0 and rest 0, and ends it.
+ *   - A request in the queue with ids above 32 bits, or with any ids: pbeam_oldest shows them as they stand, and pbeam_sign takes it. A
+ *     push never puts one there.
  */
 #ifndef POTTERBEAM_H
 #define POTTERBEAM_H
 
 #include <stddef.h>
 #include <stdint.h>
+
+/* Version of the kit. */
+#define PBEAM_VERSION_MAJOR 0
+#define PBEAM_VERSION_MINOR 2
+#define PBEAM_VERSION_PATCH 0
+
+/* Arguments that are never NULL, by their numbers, where the compiler can warn of it. */
+#if defined(__GNUC__) || defined(__clang__)
+#define PBEAM_NONNULL(...) __attribute__((nonnull(__VA_ARGS__)))
+#else
+#define PBEAM_NONNULL(...)
+#endif
 
 /* ---- Function ids: x0 of a call, compared as 64 bits; 002's name behind each ---- */
 
@@ -296,8 +340,10 @@ extern "C" {
  *                               neither 24 zero bytes nor sound (count, pointer, array between core and page's end, checksum, each
  *                               entry's rule); two arrays overlap
  * Leaves   the page as it was. view: what the page shows; refused: all zero.
+ * Stack    352 bytes
  * A later minor is never refused. Sections after e are not read, nor what plat_data points at.
  */
+PBEAM_NONNULL(5)
 int32_t pbeam_read(const uint8_t *page, size_t page_len, uint64_t base, uint64_t edition, uint64_t view[PBEAM_VIEW_WORDS]);
 
 /*
@@ -306,7 +352,9 @@ int32_t pbeam_read(const uint8_t *page, size_t page_len, uint64_t base, uint64_t
  * Answers  nothing. place: the part of the page that holds the array; (0, 0) where the page is refused, the section absent or empty,
  *          or its number above 3. pbeam_read says why a page is refused.
  * Leaves   the page as it was.
+ * Stack    512 bytes
  */
+PBEAM_NONNULL(6)
 void pbeam_array(const uint8_t *page, size_t page_len, uint64_t base, uint64_t edition, size_t section,
               uint64_t place[PBEAM_PLACE_WORDS]);
 
@@ -316,9 +364,11 @@ void pbeam_array(const uint8_t *page, size_t page_len, uint64_t base, uint64_t e
  * Answers  nothing. place: the part of the page that holds the array; (0, 0) where the section is absent or empty, its number above
  *          3, or its entries do not lie within the lent page.
  * Leaves   page and view as they were.
+ * Stack    160 bytes
  * With another page, or one written since, the answer is by the view's places: a view that no reading made cannot lead outside the
  * page.
  */
+PBEAM_NONNULL(3, 5)
 void pbeam_array_of(const uint8_t *page, size_t page_len, const uint64_t view[PBEAM_VIEW_WORDS], size_t section,
                  uint64_t place[PBEAM_PLACE_WORDS]);
 
@@ -327,7 +377,9 @@ void pbeam_array_of(const uint8_t *page, size_t page_len, const uint64_t view[PB
  * Takes    page, view and section as pbeam_array_of.
  * Answers  the number of entries; 0 where pbeam_array_of gives (0, 0).
  * Leaves   page and view as they were.
+ * Stack    160 bytes
  */
+PBEAM_NONNULL(3)
 size_t pbeam_count(const uint8_t *page, size_t page_len, const uint64_t view[PBEAM_VIEW_WORDS], size_t section);
 
 /*
@@ -335,7 +387,9 @@ size_t pbeam_count(const uint8_t *page, size_t page_len, const uint64_t view[PBE
  * Takes    page, view and section as pbeam_array_of; entry and word, both counted from 0 (PBEAM_BANK_BASE .., PBEAM_CONSOLE_BASE ..).
  * Answers  the word; 0 where there is no such entry or word.
  * Leaves   page and view as they were.
+ * Stack    192 bytes
  */
+PBEAM_NONNULL(3)
 uint64_t pbeam_word(const uint8_t *page, size_t page_len, const uint64_t view[PBEAM_VIEW_WORDS], size_t section, size_t entry, size_t word);
 
 /*
@@ -350,6 +404,7 @@ uint64_t pbeam_word(const uint8_t *page, size_t page_len, const uint64_t view[PB
  *          PBEAM_WRITE_W5_ROOM     core and arrays exceed 4,096 bytes
  * Leaves   the whole page written: version, plat_data 0, the sections, the arrays at once after the core in section order, zero
  *          everywhere else; an empty list gives 24 zero bytes. Refused, the page stays as it was. The lists stay as they were.
+ * Stack    288 bytes
  */
 uint32_t pbeam_write(uint64_t base, uint64_t edition, const uint64_t *dram, size_t dram_len, const uint64_t *console,
                   size_t console_len, const uint64_t *ncoh, size_t ncoh_len, const uint64_t *coh, size_t coh_len, uint8_t *page,
@@ -368,8 +423,10 @@ uint32_t pbeam_write(uint64_t base, uint64_t edition, const uint64_t *dram, size
  *          PBEAM_BOOT_CPU          x0 not below x2; so with x2 = 0 always
  *          PBEAM_MANIFEST_PLACE, PBEAM_MANIFEST_VERSION, PBEAM_MANIFEST_RULES  as pbeam_read
  * Leaves   the page as it was. state: up, with x2, B and the agreed minor; refused: closed, for good.
+ * Stack    416 bytes
  * The view is not kept: read the page with pbeam_read before a command writes into it.
  */
+PBEAM_NONNULL(1)
 int32_t pbeam_cold_boot(uint64_t state[PBEAM_STATE_WORDS], uint64_t x0, uint64_t x1, uint64_t x2, uint64_t x3, uint64_t most,
                      const uint8_t *page, size_t page_len);
 
@@ -380,7 +437,9 @@ int32_t pbeam_cold_boot(uint64_t state[PBEAM_STATE_WORDS], uint64_t x0, uint64_t
  *          PBEAM_BOOT_STATE        record not up
  *          PBEAM_BOOT_CPU          x0 not below the cold boot's x2
  * Leaves   state: up, as it was; refused: closed, for good. A CPU may warm boot twice.
+ * Stack    32 bytes
  */
+PBEAM_NONNULL(1)
 int32_t pbeam_warm_boot(uint64_t state[PBEAM_STATE_WORDS], uint64_t x0, uint64_t x1, uint64_t x2, uint64_t x3);
 
 /* ---- Runtime commands. A buffer is `size` bytes at physical address pa. It is outside when pa is below B or not below B + 4,096,
@@ -394,15 +453,19 @@ int32_t pbeam_warm_boot(uint64_t state[PBEAM_STATE_WORDS], uint64_t x0, uint64_t
  *          PBEAM_X0_BAD_ADDR  G or address not a multiple of 4,096, or address on no granule of the table
  *          PBEAM_X0_BAD_PAS   the granule's byte is not PBEAM_GRANULE_NON_SECURE
  * Leaves   on OK that byte as PBEAM_GRANULE_REALM, and every other byte as it was. Refused, the table as it was.
+ * Stack    64 bytes
  * The byte alone is changed: the change in hardware is the platform's, after an OK.
  */
+PBEAM_NONNULL(1, 2, 6)
 void pbeam_delegate(const uint64_t state[PBEAM_STATE_WORDS], const uint64_t granules[PBEAM_GRANULES_WORDS], uint8_t *table, size_t table_len,
                  uint64_t address, uint64_t out[PBEAM_OUT_WORDS]);
 
 /*
  * pbeam_undelegate (0xC40001B1): a granule goes from Realm to Non-secure.
  * As pbeam_delegate, with PBEAM_X0_BAD_PAS where the byte is not PBEAM_GRANULE_REALM; on OK it becomes PBEAM_GRANULE_NON_SECURE.
+ * Stack    64 bytes
  */
+PBEAM_NONNULL(1, 2, 6)
 void pbeam_undelegate(const uint64_t state[PBEAM_STATE_WORDS], const uint64_t granules[PBEAM_GRANULES_WORDS], uint8_t *table, size_t table_len,
                    uint64_t address, uint64_t out[PBEAM_OUT_WORDS]);
 
@@ -415,7 +478,9 @@ void pbeam_undelegate(const uint64_t state[PBEAM_STATE_WORDS], const uint64_t gr
  *          PBEAM_X0_INVAL     too long; curve not PBEAM_CURVE_SECP384R1
  *          PBEAM_X0_UNK       key empty, or longer than size
  * Leaves   on OK the key's bytes at pa, and every other byte of the page as it was. Refused, the page as it was.
+ * Stack    128 bytes
  */
+PBEAM_NONNULL(1, 9)
 void pbeam_realm_key(const uint64_t state[PBEAM_STATE_WORDS], uint8_t *page, size_t page_len, const uint8_t *key, size_t key_len,
                   uint64_t pa, uint64_t size, uint64_t curve, uint64_t out[PBEAM_OUT_WORDS]);
 
@@ -433,8 +498,10 @@ void pbeam_realm_key(const uint64_t state[PBEAM_STATE_WORDS], uint8_t *page, siz
  *          PBEAM_X0_UNK       token empty, or with c_size 0 of another length than at the start
  * Leaves   on OK the hunk, the token's next bytes, at pa, and every other byte of the page as it was. session: idle after rest 0,
  *          else sending. Refused, page and session as they were.
+ * Stack    256 bytes
  * The hunk is written over the challenge: call pbeam_challenge first. Size 0 with c_size 0 in a session is OK and moves nothing.
  */
+PBEAM_NONNULL(1, 2, 11)
 void pbeam_platform_token(const uint64_t state[PBEAM_STATE_WORDS], uint64_t session[PBEAM_SESSION_WORDS], uint8_t *page, size_t page_len,
                        const uint8_t *token, size_t token_len, uint64_t busy, uint64_t pa, uint64_t size, uint64_t csize,
                        uint64_t out[PBEAM_OUT_WORDS]);
@@ -445,8 +512,10 @@ void pbeam_platform_token(const uint64_t state[PBEAM_STATE_WORDS], uint64_t sess
  * Answers  nothing. place: c_size bytes at pa, as that part of the page; (0, 0) where the record is not up, the page is not 4,096
  *          bytes long, the buffer is outside or too long, c_size is not 32, 48 or 64, or c_size is above size.
  * Leaves   the page as it was.
+ * Stack    96 bytes
  * (0, 0) says that the call is no start or will be refused: make no token.
  */
+PBEAM_NONNULL(1, 7)
 void pbeam_challenge(const uint64_t state[PBEAM_STATE_WORDS], const uint8_t *page, size_t page_len, uint64_t pa, uint64_t size,
                   uint64_t csize, uint64_t place[PBEAM_PLACE_WORDS]);
 
@@ -457,7 +526,9 @@ void pbeam_challenge(const uint64_t state[PBEAM_STATE_WORDS], const uint8_t *pag
  *          PBEAM_X0_UNK       record not up
  *          PBEAM_X0_INVAL     index not PBEAM_FEATURES_INDEX
  *          PBEAM_X0_UNK       agreed minor below PBEAM_SIGNING_MINOR
+ * Stack    64 bytes
  */
+PBEAM_NONNULL(1, 3)
 void pbeam_features(const uint64_t state[PBEAM_STATE_WORDS], uint64_t index, uint64_t out[PBEAM_OUT_WORDS]);
 
 /*
@@ -476,7 +547,9 @@ void pbeam_features(const uint64_t state[PBEAM_STATE_WORDS], uint64_t index, uin
  * Leaves   on OK: push: the request at the end of those that wait, the page as it was; pull: the oldest response at pa, and dropped
  *          from the queue; key: the key at pa, the queue with the same requests and responses. Bytes of the page behind what is
  *          written stay as they were. Refused, page and queue as they were.
+ * Stack    11,264 bytes
  */
+PBEAM_NONNULL(1, 2, 11)
 void pbeam_token_signing(const uint64_t state[PBEAM_STATE_WORDS], uint64_t queue[PBEAM_QUEUE_WORDS], uint8_t *page, size_t page_len,
                       const uint8_t *key, size_t key_len, uint64_t opcode, uint64_t pa, uint64_t size, uint64_t curve,
                       uint64_t out[PBEAM_OUT_WORDS]);
@@ -489,8 +562,10 @@ void pbeam_token_signing(const uint64_t state[PBEAM_STATE_WORDS], uint64_t queue
  *          PBEAM_X0_INVAL     mecid above PBEAM_MECID_MOST, or above 2^(m+1) - 1, m taken as 15 if larger
  *          PBEAM_X0_UNK       m above PBEAM_WIDTH_MOST; agreed minor below PBEAM_KEY_UPDATE_MINOR
  *          Refused, work is (PBEAM_WORK_NOTHING, 0).
+ * Stack    64 bytes
  * The library makes no key: the platform does, when work says so.
  */
+PBEAM_NONNULL(1, 4, 5)
 void pbeam_key_update(const uint64_t state[PBEAM_STATE_WORDS], uint64_t width, uint64_t mecid, uint64_t out[PBEAM_OUT_WORDS],
                    uint64_t work[PBEAM_WORK_WORDS]);
 
@@ -498,7 +573,9 @@ void pbeam_key_update(const uint64_t state[PBEAM_STATE_WORDS], uint64_t width, u
  * pbeam_forward (0xC400018F): the error code of an RMI call, for the Non-secure world.
  * Takes    the boot record, which may be in any state, and x1.
  * Answers  err_code, which is x1. It is never refused.
+ * Stack    64 bytes
  */
+PBEAM_NONNULL(1)
 uint64_t pbeam_forward(const uint64_t state[PBEAM_STATE_WORDS], uint64_t x1);
 
 /* ---- The signer's side: no commands of the interface; they look at no boot record ---- */
@@ -512,7 +589,9 @@ uint64_t pbeam_forward(const uint64_t state[PBEAM_STATE_WORDS], uint64_t x1);
  *          PBEAM_X0_AGAIN     eight responses waiting; the request is kept
  * Leaves   on OK the queue with one request less and one response more: its rec_granule and req_ticket, and the signature. Refused,
  *          the queue as it was.
+ * Stack    7,072 bytes
  */
+PBEAM_NONNULL(1, 4)
 void pbeam_sign(uint64_t queue[PBEAM_QUEUE_WORDS], const uint8_t *signature, size_t signature_len, uint64_t out[PBEAM_OUT_WORDS]);
 
 /*
@@ -520,7 +599,9 @@ void pbeam_sign(uint64_t queue[PBEAM_QUEUE_WORDS], const uint8_t *signature, siz
  * Takes    the queue.
  * Answers  how many requests wait, with all fields of the oldest in request; 0 where none does, with request all zero.
  * Leaves   the queue as it was: the request waits until pbeam_sign takes it.
+ * Stack    3,200 bytes
  */
+PBEAM_NONNULL(1, 2)
 size_t pbeam_oldest(const uint64_t queue[PBEAM_QUEUE_WORDS], uint64_t request[PBEAM_REQUEST_WORDS]);
 
 /* ---- Dispatcher ---- */
@@ -537,7 +618,9 @@ size_t pbeam_oldest(const uint64_t queue[PBEAM_QUEUE_WORDS], uint64_t request[PB
  *          other id: PBEAM_X0_UNK. Every command but PBEAM_ID_FORWARD: PBEAM_X0_UNK while the record is not up.
  * Leaves   what the command leaves; all else as it was. Only PBEAM_ID_PLATFORM_TOKEN reads or writes the session, only
  *          PBEAM_ID_TOKEN_SIGNING the queue.
+ * Stack    11,488 bytes with PBEAM_ID_TOKEN_SIGNING, 512 bytes with any other id
  */
+PBEAM_NONNULL(1, 2, 3, 6, 17, 18, 19)
 void pbeam_call(const uint64_t state[PBEAM_STATE_WORDS], uint64_t session[PBEAM_SESSION_WORDS], uint64_t queue[PBEAM_QUEUE_WORDS], uint8_t *page,
              size_t page_len, const uint64_t granules[PBEAM_GRANULES_WORDS], uint8_t *table, size_t table_len, const uint8_t *key, size_t key_len,
              const uint8_t *token, size_t token_len, uint64_t busy, const uint8_t *public_key, size_t public_len, uint64_t width,

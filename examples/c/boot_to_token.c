@@ -2,331 +2,383 @@
  * From boot to a signed token: EL3 firmware on one side, the monitor (RMM) on the other, the page between them.
  *
  *   1  EL3 writes a manifest with two banks and a console.
- *   2  EL3 enters the monitor: cold boot on CPU 0. The monitor lists what the manifest shows.
+ *   2  EL3 enters the monitor: cold boot on CPU 0. The monitor lists what the manifest shows, and reports with RMM_BOOT_COMPLETE.
  *   3  Warm boot on CPU 1.
  *   4  The monitor delegates a granule, and tries the same one again: a refusal.
- *   5  It draws the platform token, 100 bytes through a buffer of 64.
- *   6  It has a token signed: push, the signer's step, pull.
+ *   5  It draws the platform token, 100 bytes through a buffer of 64. The platform takes its time: AGAIN, and the monitor asks again. In
+ *      mid-session the monitor starts anew, is told AGAIN, and goes on: it still gets the rest of the first token. Then it gets the new one.
+ *   6  It completes an RMI call of the Non-secure world.
+ *   7  It has a token signed: push, the signer's step, pull.
+ *   8  A warm boot that the monitor reports as failed: EL3 closes its record and serves nothing more.
  *
- * On a board the two sides are two programs. Here the entry to the monitor and its calls to EL3 are plain C calls, and what would be
- * cryptography is a fill of bytes.
+ * On a board the two sides are two programs. Here the entry to the monitor and its SMCs are plain C calls, and what would be cryptography
+ * is a fill of bytes. el3_smc is the handler to take over; el3_choose_token is its part for a platform that can be busy.
  */
 #include <inttypes.h>
 #include <stdio.h>
 #include <string.h>
 
-#include "potterbeam.h"
+#include "potterbeam_types.h"
 
 #define BASE UINT64_C(0x80000000)       /* B: the page's physical address */
 #define MEMORY UINT64_C(0x90000000)     /* the first granule of the granule table */
 #define GRANULES 4
-#define CPUS 2
+#define CPUS 3
 #define CPUS_MOST 8                     /* what the monitor is built for */
 #define TOKEN_BYTES 100
 #define BUFFER_BYTES 64                 /* the monitor's buffer for the token, at the page's start */
 #define SIGNATURE_BYTES 96              /* an ECDSA signature on SECP384R1 */
 
-/* ---- The codes in words. Boot, writer and runtime commands count apart, so each has its own. ---- */
+static pbeam_page_t page; /* the shared page; on a board both sides map it */
 
-static const char *boot_words(int32_t code)
-{
-    switch (code) {
-    case PBEAM_BOOT_DONE: return "done";
-    case PBEAM_BOOT_STATE: return "refused: cold boot on a record that is not fresh, or warm boot on one that is not up";
-    case PBEAM_BOOT_VERSION: return "refused: the boot interface's version is not accepted";
-    case PBEAM_BOOT_CPUS: return "refused: more CPUs than the monitor supports";
-    case PBEAM_BOOT_CPU: return "refused: the CPU's index is not below the number of CPUs";
-    case PBEAM_MANIFEST_PLACE: return "refused: the page's length or base is wrong";
-    case PBEAM_MANIFEST_VERSION: return "refused: the manifest's version is not accepted";
-    case PBEAM_MANIFEST_RULES: return "refused: the manifest breaks a rule";
-    default: return "no boot code";
-    }
-}
+/* ---- EL3: what it keeps. All zero at reset: record fresh, session idle, queue empty. ---- */
 
-static const char *write_words(uint32_t refusal)
-{
-    switch (refusal) {
-    case PBEAM_WRITE_PAGE: return "done";
-    case PBEAM_WRITE_W1_PLACE: return "W1: the page's length or base is wrong";
-    case PBEAM_WRITE_W2_EDITION: return "W2: the edition is not 1 to 4";
-    case PBEAM_WRITE_W3_LISTS: return "W3: a list is not whole entries, or an entry breaks its rule";
-    case PBEAM_WRITE_W4_LATE: return "W4: a list for a section that the edition does not have";
-    case PBEAM_WRITE_W5_ROOM: return "W5: the entries do not fit into the page";
-    default: return "no writer's answer";
-    }
-}
+struct token {
+    uint8_t bytes[TOKEN_BYTES];
+    size_t length; /* 0: there is none */
+};
 
-static const char *command_words(uint64_t x0)
-{
-    switch (x0) {
-    case PBEAM_X0_OK: return "OK";
-    case PBEAM_X0_UNK: return "UNK: not served, or the platform has nothing to give";
-    case PBEAM_X0_BAD_ADDR: return "BAD_ADDR: the address is outside the page, or on no granule of the table";
-    case PBEAM_X0_BAD_PAS: return "BAD_PAS: the granule is in another state than the command needs";
-    case PBEAM_X0_INVAL: return "INVAL: an argument is not allowed";
-    case PBEAM_X0_AGAIN: return "AGAIN: busy, full or nothing there yet; call again later";
-    default: return "no runtime code";
-    }
-}
-
-/* ---- What each side keeps. An all-zero image is the fresh record, the idle session, the empty queue. ---- */
-
-static uint8_t page[PBEAM_PAGE_BYTES]; /* the shared page; on a board both sides map it */
-
-/* EL3 keeps a boot record of its own: B and the agreed minor of every command come from it. */
 static struct {
-    uint64_t state[PBEAM_STATE_WORDS];
-    uint64_t session[PBEAM_SESSION_WORDS];
-    uint64_t queue[PBEAM_QUEUE_WORDS];
+    pbeam_context_t context; /* EL3's own record is in it: B and the agreed minor of every command come from there */
     uint8_t table[GRANULES];
-    uint8_t token[TOKEN_BYTES];
+    struct token tokens[2];  /* the one that a session is lent, and one to make the next */
+    size_t lent;             /* which of them is lent */
+    uint64_t non_secure[5];  /* x0 to x4 of the Non-secure world */
 } el3;
 
-static struct {
-    uint64_t state[PBEAM_STATE_WORDS];
-} monitor;
+/* A spin lock on a board: session, queue, table and page are used by one call at a time. */
+static void el3_lock(void) {}
+static void el3_unlock(void) {}
 
-/* Little-endian fields of the page. */
-static void put(uint8_t *at, uint64_t number, size_t bytes)
+/* ---- EL3: the part that makes tokens, as slow as a security processor. It answers at the second asking. ---- */
+
+static struct {
+    uint8_t challenge[PBEAM_CHALLENGE_SHA512];
+    size_t length; /* 0: it has nothing to do */
+} maker;
+
+/* Whether the token for this challenge is made, into `into`. It is asked again until it is. */
+static bool maker_has(const uint8_t *challenge, size_t length, struct token *into)
 {
-    for (size_t i = 0; i < bytes; i++)
-        at[i] = (uint8_t)(number >> (8 * i));
+    if (maker.length != length || memcmp(maker.challenge, challenge, length) != 0) {
+        memcpy(maker.challenge, challenge, length); /* a copy: the page is the monitor's after the call */
+        maker.length = length;
+        printf("EL3: begins a token for a challenge of %zu bytes\n", length);
+        return false;
+    }
+    for (size_t i = 0; i < TOKEN_BYTES; i++)
+        into->bytes[i] = (uint8_t)(maker.challenge[i % length] + i);
+    into->length = TOKEN_BYTES;
+    maker.length = 0;
+    return true;
 }
 
-static uint64_t get(const uint8_t *at, size_t bytes)
+/* ---- EL3: SMCs of the monitor ---- */
+
+/* Which token the call is lent, and whether the platform is busy; the answer is whether it is a new token. The token of a session that is
+ * under way is never written: a start that is told AGAIN leaves that session as it was, and it may go on. */
+static bool el3_choose_token(const pbeam_call_t *call)
 {
-    uint64_t number = 0;
-    for (size_t i = 0; i < bytes; i++)
-        number |= (uint64_t)at[i] << (8 * i);
-    return number;
+    pbeam_place_t place;
+    const struct token *lent = &el3.tokens[el3.lent];
+    struct token *next = &el3.tokens[1 - el3.lent];
+    el3.context.busy = false;
+    el3.context.token = pbeam_bytes(lent->bytes, lent->length);
+    /* The challenge stands where the first hunk will be written, so it is looked at before the call. */
+    pbeam_context_challenge(&el3.context, call, &place);
+    if (pbeam_place_length(&place) == 0)
+        return false; /* the call goes on, or will be refused */
+    if (!maker_has(page.bytes + pbeam_place_offset(&place), pbeam_place_length(&place), next)) {
+        el3.context.busy = true;
+        return false;
+    }
+    el3.context.token = pbeam_bytes(next->bytes, next->length);
+    return true;
+}
+
+/* What the hardware has to do after a command. */
+static void el3_act(const pbeam_call_t *call, const pbeam_registers_t *out, const pbeam_work_t *work)
+{
+    const uint64_t id = call->words[PBEAM_CALL_ID];
+    if (pbeam_registers_code(out) == E_RMM_OK && (id == RMM_GTSI_DELEGATE || id == RMM_GTSI_UNDELEGATE))
+        printf("EL3: hardware: granule 0x%" PRIx64 " to %s\n", call->words[PBEAM_CALL_X1], id == RMM_GTSI_DELEGATE ? "Realm" : "Non-secure");
+    if (pbeam_work_is(work, PBEAM_WORK_REPROGRAM))
+        printf("EL3: hardware: a new key for mecid %" PRIu64 "\n", pbeam_work_value(work));
+}
+
+/* RMM_BOOT_COMPLETE is EL3's own, no command of the library. After an error on any CPU no CPU enters the monitor again. */
+static void el3_boot_complete(int32_t code)
+{
+    printf("EL3: boot complete: %s\n", pbeam_boot_text(code));
+    if (code != E_RMM_BOOT_SUCCESS)
+        pbeam_record_close(&el3.context.record);
+}
+
+/* RMM_RMI_REQ_COMPLETE: the Non-secure world goes on, with err_code and what the monitor has in x2 to x5. */
+static void el3_return_to_non_secure(const pbeam_work_t *work, const uint64_t x[6])
+{
+    el3.non_secure[0] = pbeam_work_value(work);
+    memcpy(el3.non_secure + 1, x + 2, 4 * sizeof x[0]);
+}
+
+/* An SMC of the monitor: x0 to x5 as it made it. Afterwards x0 to x2 are the answer; x3 to x5 stay the monitor's. */
+static void el3_smc(uint64_t x[6])
+{
+    const pbeam_call_t call = pbeam_call_of(x[0], x[1], x[2], x[3], x[4]);
+    pbeam_registers_t out;
+    pbeam_work_t work;
+    bool is_new;
+
+    if (x[0] == RMM_BOOT_COMPLETE) {
+        el3_boot_complete((int32_t)(uint32_t)x[1]);
+        return; /* on a board: to where EL3 entered the monitor */
+    }
+    el3_lock();
+    is_new = x[0] == RMM_ATTEST_GET_PLAT_TOKEN && el3_choose_token(&call);
+    pbeam_context_call(&el3.context, &call, &out, &work);
+    if (is_new && pbeam_registers_code(&out) == E_RMM_OK)
+        el3.lent = 1 - el3.lent; /* the new session's token; the other is free from now on */
+    el3_act(&call, &out, &work);
+    el3_unlock();
+    if (pbeam_work_is(&work, PBEAM_WORK_FORWARD)) {
+        el3_return_to_non_secure(&work, x);
+        return; /* on a board: to the Non-secure world */
+    }
+    memcpy(x, out.words, sizeof out.words);
+}
+
+/* The signer runs when it has time. It signs the oldest request; the library carries rec_granule and req_ticket over. */
+static void el3_sign_oldest(void)
+{
+    pbeam_request_t request;
+    pbeam_registers_t out;
+    uint8_t hash[PBEAM_HASH_BYTES], signature[SIGNATURE_BYTES];
+    el3_lock();
+    if (pbeam_queue_oldest(&el3.context.queue, &request) != 0) {
+        pbeam_request_hash_buf(&request, hash);
+        printf("EL3: oldest request: granule 0x%" PRIx64 ", ticket %" PRIu64 ", hash starts 0x%02x\n",
+               pbeam_request_rec_granule(&request), pbeam_request_req_ticket(&request), hash[0]);
+        memset(signature, 0x5A, sizeof signature);
+        pbeam_queue_sign(&el3.context.queue, pbeam_bytes(signature, sizeof signature), &out);
+        printf("EL3: sign it with %d bytes: %s\n", SIGNATURE_BYTES, pbeam_x0_text(pbeam_registers_x0(&out)));
+    }
+    el3_unlock();
 }
 
 /* ---- EL3: boot ---- */
 
-static int el3_write_manifest(void)
+static bool el3_write_manifest(void)
 {
-    static const uint64_t dram[] = {
-        UINT64_C(0x90000000), UINT64_C(0x10000000),  /* base, size */
-        UINT64_C(0x880000000), UINT64_C(0x80000000),
+    static const pbeam_bank_t banks[] = {
+        {.base = UINT64_C(0x90000000), .size = UINT64_C(0x10000000)},
+        {.base = UINT64_C(0x880000000), .size = UINT64_C(0x80000000)},
     };
-    uint64_t console[PBEAM_CONSOLE_WORDS] = {0};
-    console[PBEAM_CONSOLE_BASE] = UINT64_C(0x1C0C0000);
-    console[PBEAM_CONSOLE_MAP_PAGES] = 1;
-    console[PBEAM_CONSOLE_NAME] = get((const uint8_t *)"pl011\0\0", 8);
-    console[PBEAM_CONSOLE_CLK_IN_HZ] = 24000000;
-    console[PBEAM_CONSOLE_BAUD_RATE] = 115200;
-
-    /* A length counts words, not entries. Without device regions the last two lists are empty. */
-    uint32_t refusal = pbeam_write(BASE, PBEAM_EDITION_LAST, dram, sizeof dram / sizeof dram[0], console, PBEAM_CONSOLE_WORDS,
-                                NULL, 0, NULL, 0, page, sizeof page);
-    printf("EL3: write a manifest of edition %d: %s\n", PBEAM_EDITION_LAST, write_words(refusal));
-    return refusal == PBEAM_WRITE_PAGE;
+    pbeam_console_t console = {.base = UINT64_C(0x1C0C0000), .map_pages = 1, .clk_in_hz = 24000000, .baud_rate = 115200};
+    /* Counts are entries. Without device regions the last two lists are empty. */
+    const pbeam_lists_t lists = {
+        .dram = banks, .dram_count = sizeof banks / sizeof banks[0], .console = &console, .console_count = 1};
+    uint32_t refusal;
+    if (!pbeam_console_set_name(&console, "pl011"))
+        return false;
+    refusal = pbeam_manifest_write(BASE, PBEAM_EDITION_LAST, &lists, &page);
+    printf("EL3: write a manifest of edition %d: %s\n", PBEAM_EDITION_LAST, pbeam_write_text(refusal));
+    return refusal == PBEAM_WRITE_PAGE; /* on a board: clean the cache, the monitor may read it with its MMU off */
 }
 
-static int32_t monitor_cold_boot(uint64_t x0, uint64_t x1, uint64_t x2, uint64_t x3);
-static int32_t monitor_warm_boot(uint64_t x0);
-
-/* After a boot error on any CPU EL3 serves the monitor no longer, and never enters it again: a closed record says so. */
-static int el3_booted(int32_t code)
-{
-    if (code == PBEAM_BOOT_DONE)
-        return 1;
-    printf("EL3: boot ended with code %" PRId32 ": %s\n", code, boot_words(code));
-    el3.state[PBEAM_STATE_KIND] = PBEAM_STATE_CLOSED;
-    return 0;
-}
+static void monitor_cold_boot(const pbeam_cold_t *x);
+static void monitor_warm_boot(uint64_t cpu);
 
 /* EL3's record goes up before the monitor is entered, since the monitor may call EL3 while it boots. Both sides check the same
- * registers and the same page, so both records hold the same. */
-static int el3_boot_first_cpu(void)
+ * registers and the same page, so both records hold the same. A closed record says: do not enter. */
+static bool el3_boot_first_cpu(void)
 {
-    uint64_t version = PBEAM_INTERFACE_MINOR; /* 0.5 */
-    int32_t code = pbeam_cold_boot(el3.state, 0, version, CPUS, BASE, CPUS, page, sizeof page);
-    if (code == PBEAM_BOOT_DONE)
-        code = monitor_cold_boot(0, version, CPUS, BASE);
-    return el3_booted(code);
+    const pbeam_cold_t x = {.cpu = 0, .version = PBEAM_INTERFACE_MINOR, .cpus = CPUS, .base = BASE}; /* version 0.5 */
+    int32_t code = pbeam_record_cold_boot(&el3.context.record, &x, CPUS, &page);
+    if (code == E_RMM_BOOT_SUCCESS)
+        monitor_cold_boot(&x);
+    else
+        printf("EL3: does not enter the monitor: %s\n", pbeam_boot_text(code));
+    return pbeam_record_is_up(&el3.context.record);
 }
 
-static int el3_boot_next_cpu(uint64_t cpu)
+static bool el3_boot_next_cpu(uint64_t cpu)
 {
-    int32_t code = pbeam_warm_boot(el3.state, cpu, 0, 0, 0);
-    if (code == PBEAM_BOOT_DONE)
-        code = monitor_warm_boot(cpu);
-    return el3_booted(code);
+    int32_t code = pbeam_record_warm_boot(&el3.context.record, cpu);
+    if (code == E_RMM_BOOT_SUCCESS)
+        monitor_warm_boot(cpu);
+    else
+        printf("EL3: does not enter the monitor: %s\n", pbeam_boot_text(code));
+    return pbeam_record_is_up(&el3.context.record);
 }
 
-/* ---- EL3: runtime ---- */
+/* ---- Monitor ---- */
 
-/* The token is made for its challenge. The challenge stands where the first hunk will be written, so it is looked at before. */
-static void el3_make_token(const uint64_t call[PBEAM_CALL_WORDS])
+static struct {
+    pbeam_record_t record; /* the monitor's own */
+    bool out_of_memory;    /* an error that the library knows nothing of */
+} monitor;
+
+/* An SMC: the registers of a call, and its result registers. */
+static pbeam_registers_t monitor_smc(pbeam_call_t call, uint64_t x5)
 {
-    uint64_t place[PBEAM_PLACE_WORDS];
-    pbeam_challenge(el3.state, page, sizeof page, call[PBEAM_CALL_X1], call[PBEAM_CALL_X2], call[PBEAM_CALL_X3], place);
-    if (place[PBEAM_PLACE_LENGTH] == 0)
-        return; /* no start, or a call that will be refused */
-    printf("EL3: make a token for a challenge of %" PRIu64 " bytes\n", place[PBEAM_PLACE_LENGTH]);
-    for (size_t i = 0; i < TOKEN_BYTES; i++)
-        el3.token[i] = page[place[PBEAM_PLACE_OFFSET] + i % place[PBEAM_PLACE_LENGTH]];
+    pbeam_registers_t out;
+    uint64_t x[6];
+    memcpy(x, call.words, sizeof call.words);
+    x[5] = x5;
+    el3_smc(x);
+    memcpy(out.words, x, sizeof out.words);
+    return out;
 }
 
-/* One call of the monitor: the registers x0 to x4 in, x0 to x2 out. */
-static void el3_serve(const uint64_t call[PBEAM_CALL_WORDS], uint64_t out[PBEAM_OUT_WORDS])
+static void monitor_boot_complete(int32_t code)
 {
-    const uint64_t granules[PBEAM_GRANULES_WORDS] = {[PBEAM_GRANULES_START] = MEMORY};
-    uint64_t work[PBEAM_WORK_WORDS];
-    if (call[PBEAM_CALL_ID] == PBEAM_ID_PLATFORM_TOKEN)
-        el3_make_token(call);
-    /* This board has no realm key and no public key: both are empty. */
-    pbeam_call(el3.state, el3.session, el3.queue, page, sizeof page, granules, el3.table, sizeof el3.table, NULL, 0,
-            el3.token, sizeof el3.token, 0, NULL, 0, PBEAM_WIDTH_MOST, call, out, work);
-    /* The platform's part comes here: after an OK of delegate or undelegate the change in hardware, and what work says. */
-    if (work[PBEAM_WORK_KIND] != PBEAM_WORK_NOTHING)
-        printf("EL3: work %" PRIu64 " with 0x%" PRIx64 "\n", work[PBEAM_WORK_KIND], work[PBEAM_WORK_VALUE]);
+    monitor_smc(pbeam_call_of(RMM_BOOT_COMPLETE, (uint64_t)(int64_t)code, 0, 0, 0), 0);
 }
 
-/* The signer runs when it has time. It signs the oldest request; the library carries ticket and rec_granule over. */
-static void el3_sign_oldest(void)
+static void monitor_list(const pbeam_view_t *view)
 {
-    uint64_t request[PBEAM_REQUEST_WORDS];
-    uint64_t out[PBEAM_OUT_WORDS];
-    uint8_t signature[SIGNATURE_BYTES];
-    if (pbeam_oldest(el3.queue, request) == 0) {
-        printf("EL3: no request waits\n");
-        return;
+    printf("monitor: manifest 0.%" PRIu64 " read as edition %" PRIu64 "\n", pbeam_view_minor(view), pbeam_view_edition(view));
+    for (size_t i = 0; i < pbeam_view_count(&page, view, PBEAM_DRAM); i++) {
+        const pbeam_bank_t bank = pbeam_view_dram(&page, view, i);
+        printf("monitor: bank at 0x%" PRIx64 ", 0x%" PRIx64 " bytes\n", bank.base, bank.size);
     }
-    printf("EL3: oldest request: granule 0x%" PRIx64 ", ticket %" PRIu64 ", hash starts 0x%016" PRIx64 "\n",
-           request[PBEAM_REQUEST_WORD_GRANULE], request[PBEAM_REQUEST_WORD_TICKET], request[PBEAM_REQUEST_WORD_HASH]);
-    memset(signature, 0x5A, sizeof signature);
-    pbeam_sign(el3.queue, signature, sizeof signature, out);
-    printf("EL3: sign it with %d bytes: %s\n", SIGNATURE_BYTES, command_words(out[PBEAM_OUT_X0]));
-}
-
-/* ---- Monitor: boot ---- */
-
-static void monitor_list_banks(const uint64_t view[PBEAM_VIEW_WORDS])
-{
-    size_t count = pbeam_count(page, sizeof page, view, PBEAM_DRAM);
-    for (size_t i = 0; i < count; i++)
-        printf("monitor: bank at 0x%" PRIx64 ", 0x%" PRIx64 " bytes\n", pbeam_word(page, sizeof page, view, PBEAM_DRAM, i, PBEAM_BANK_BASE),
-               pbeam_word(page, sizeof page, view, PBEAM_DRAM, i, PBEAM_BANK_SIZE));
-}
-
-static void monitor_list_consoles(const uint64_t view[PBEAM_VIEW_WORDS])
-{
-    size_t count = pbeam_count(page, sizeof page, view, PBEAM_CONSOLE);
-    for (size_t i = 0; i < count; i++) {
-        char name[9] = {0}; /* a name of 8 characters has no end mark */
-        put((uint8_t *)name, pbeam_word(page, sizeof page, view, PBEAM_CONSOLE, i, PBEAM_CONSOLE_NAME), 8);
-        printf("monitor: console %s at 0x%" PRIx64 ", %" PRIu64 " Hz, %" PRIu64 " baud\n", name,
-               pbeam_word(page, sizeof page, view, PBEAM_CONSOLE, i, PBEAM_CONSOLE_BASE),
-               pbeam_word(page, sizeof page, view, PBEAM_CONSOLE, i, PBEAM_CONSOLE_CLK_IN_HZ),
-               pbeam_word(page, sizeof page, view, PBEAM_CONSOLE, i, PBEAM_CONSOLE_BAUD_RATE));
+    for (size_t i = 0; i < pbeam_view_count(&page, view, PBEAM_CONSOLE); i++) {
+        const pbeam_console_t console = pbeam_view_console(&page, view, i);
+        char name[9];
+        pbeam_console_text(&console, name);
+        printf("monitor: console %s at 0x%" PRIx64 ", %" PRIu64 " Hz, %" PRIu64 " baud\n", name, console.base, console.clk_in_hz,
+               console.baud_rate);
     }
 }
 
-static int32_t monitor_cold_boot(uint64_t x0, uint64_t x1, uint64_t x2, uint64_t x3)
+static void monitor_cold_boot(const pbeam_cold_t *x)
 {
-    uint64_t view[PBEAM_VIEW_WORDS];
-    int32_t code = pbeam_cold_boot(monitor.state, x0, x1, x2, x3, CPUS_MOST, page, sizeof page);
-    printf("monitor: cold boot of CPU %" PRIu64 ": %s\n", x0, boot_words(code));
-    if (code != PBEAM_BOOT_DONE)
-        return code;
-    printf("monitor: %" PRIu64 " CPUs, page at 0x%" PRIx64 ", agreed minor %" PRIu64 "\n", monitor.state[PBEAM_STATE_CPUS],
-           monitor.state[PBEAM_STATE_BASE], monitor.state[PBEAM_STATE_MINOR]);
-    /* The record does not keep the manifest, and the first command may overwrite it: read it now. */
-    code = pbeam_read(page, sizeof page, x3, PBEAM_EDITION_LAST, view);
-    printf("monitor: manifest 0.%" PRIu64 " read as edition %" PRIu64 "\n", view[PBEAM_VIEW_MINOR], view[PBEAM_VIEW_EDITION]);
-    monitor_list_banks(view);
-    monitor_list_consoles(view);
-    return code;
-}
-
-static int32_t monitor_warm_boot(uint64_t x0)
-{
-    int32_t code = pbeam_warm_boot(monitor.state, x0, 0, 0, 0);
-    printf("monitor: warm boot of CPU %" PRIu64 ": %s\n", x0, boot_words(code));
-    return code;
-}
-
-/* ---- Monitor: runtime ---- */
-
-static uint64_t monitor_delegate(uint64_t address)
-{
-    uint64_t out[PBEAM_OUT_WORDS];
-    const uint64_t call[PBEAM_CALL_WORDS] = {PBEAM_ID_DELEGATE, address, 0, 0, 0};
-    el3_serve(call, out);
-    printf("monitor: delegate 0x%" PRIx64 ": %s\n", address, command_words(out[PBEAM_OUT_X0]));
-    return out[PBEAM_OUT_X0];
-}
-
-/* The first call carries the challenge in the buffer and its size; the others carry size 0, until nothing is left. */
-static int monitor_draw_token(uint8_t token[TOKEN_BYTES])
-{
-    uint64_t out[PBEAM_OUT_WORDS] = {0, 0, 1};
-    uint64_t challenge = PBEAM_CHALLENGE_SHA384;
-    size_t have = 0;
-    memset(page, 0xC4, PBEAM_CHALLENGE_SHA384);
-    while (out[PBEAM_OUT_X2] != 0) {
-        const uint64_t call[PBEAM_CALL_WORDS] = {PBEAM_ID_PLATFORM_TOKEN, BASE, BUFFER_BYTES, challenge, 0};
-        el3_serve(call, out);
-        printf("monitor: token, c_size %" PRIu64 ": %s, hunk %" PRIu64 ", rest %" PRIu64 "\n", challenge,
-               command_words(out[PBEAM_OUT_X0]), out[PBEAM_OUT_X1], out[PBEAM_OUT_X2]);
-        if (out[PBEAM_OUT_X0] != PBEAM_X0_OK || have + out[PBEAM_OUT_X1] > TOKEN_BYTES)
-            return 0;
-        memcpy(token + have, page, out[PBEAM_OUT_X1]);
-        have += out[PBEAM_OUT_X1];
-        challenge = PBEAM_CHALLENGE_NONE;
+    pbeam_view_t view;
+    int32_t code = pbeam_record_cold_boot(&monitor.record, x, CPUS_MOST, &page);
+    printf("monitor: cold boot of CPU %" PRIu64 ": %s\n", x->cpu, pbeam_boot_text(code));
+    if (code == E_RMM_BOOT_SUCCESS) {
+        printf("monitor: %" PRIu64 " CPUs, page at 0x%" PRIx64 ", agreed minor %" PRIu64 "\n", pbeam_record_cpus(&monitor.record),
+               pbeam_record_base(&monitor.record), pbeam_record_minor(&monitor.record));
+        /* The record does not keep the manifest, and the first command may overwrite it: read it now. */
+        code = pbeam_manifest_read(&page, x->base, PBEAM_EDITION_LAST, &view);
+        monitor_list(&view);
     }
-    return have == TOKEN_BYTES;
+    monitor_boot_complete(code);
 }
 
-static int monitor_push(uint64_t granule, uint64_t ticket)
+static void monitor_warm_boot(uint64_t cpu)
 {
-    uint64_t out[PBEAM_OUT_WORDS];
-    const uint64_t call[PBEAM_CALL_WORDS] = {PBEAM_ID_TOKEN_SIGNING, PBEAM_OPCODE_PUSH, BASE, PBEAM_REQUEST_BYTES, 0};
-    put(page + PBEAM_REQUEST_ALGORITHM, PBEAM_ALGORITHM_SECP384R1, 4);
-    put(page + PBEAM_REQUEST_GRANULE, granule, 8);
-    put(page + PBEAM_REQUEST_TICKET, ticket, 8);
-    put(page + PBEAM_REQUEST_HASH_ID, PBEAM_HASH_SHA2_384, 4);
-    memset(page + PBEAM_REQUEST_HASH, 0x3D, PBEAM_HASH_BYTES);
-    el3_serve(call, out);
-    printf("monitor: push a request: %s\n", command_words(out[PBEAM_OUT_X0]));
-    return out[PBEAM_OUT_X0] == PBEAM_X0_OK;
+    int32_t code = pbeam_record_warm_boot(&monitor.record, cpu);
+    if (code == E_RMM_BOOT_SUCCESS && monitor.out_of_memory)
+        code = E_RMM_BOOT_ERR_UNKNOWN;
+    printf("monitor: warm boot of CPU %" PRIu64 ": %s\n", cpu, code == E_RMM_BOOT_SUCCESS ? "done" : "failed");
+    monitor_boot_complete(code);
 }
 
-static uint64_t monitor_pull(void)
+static int32_t monitor_delegate(uint64_t address)
 {
-    uint64_t out[PBEAM_OUT_WORDS];
-    const uint64_t call[PBEAM_CALL_WORDS] = {PBEAM_ID_TOKEN_SIGNING, PBEAM_OPCODE_PULL, BASE, PBEAM_RESPONSE_BYTES_MOST, 0};
-    el3_serve(call, out);
-    printf("monitor: pull a response: %s\n", command_words(out[PBEAM_OUT_X0]));
-    if (out[PBEAM_OUT_X0] == PBEAM_X0_OK)
-        printf("monitor: response: granule 0x%" PRIx64 ", ticket %" PRIu64 ", signature of %" PRIu64 " bytes, the first 0x%02x\n",
-               get(page + PBEAM_RESPONSE_GRANULE, 8), get(page + PBEAM_RESPONSE_TICKET, 8), get(page + PBEAM_RESPONSE_LENGTH, 2),
-               page[PBEAM_RESPONSE_SIGNATURE]);
-    return out[PBEAM_OUT_X0];
+    const pbeam_registers_t out = monitor_smc(pbeam_call_delegate(address), 0);
+    printf("monitor: delegate 0x%" PRIx64 ": %s\n", address, pbeam_x0_text(pbeam_registers_x0(&out)));
+    return pbeam_registers_code(&out);
+}
+
+/* One call for the token. A start has its challenge in the buffer, here so many bytes of `fill`. */
+static pbeam_registers_t monitor_token(uint64_t c_size, int fill)
+{
+    pbeam_registers_t out;
+    memset(page.bytes, fill, (size_t)c_size);
+    out = monitor_smc(pbeam_call_platform_token(BASE, BUFFER_BYTES, c_size), 0);
+    printf("monitor: token, c_size %" PRIu64 ": %s", c_size, pbeam_x0_text(pbeam_registers_x0(&out)));
+    if (pbeam_registers_code(&out) == E_RMM_OK)
+        printf(", hunk %" PRIu64 ", rest %" PRIu64, pbeam_registers_x1(&out), pbeam_registers_x2(&out));
+    printf("\n");
+    return out;
+}
+
+/* Draws a whole token for a challenge of bytes `fill`; in between it tries to start for `other`, if that is not 0. Answers whether each byte
+ * is of the one token. */
+static bool monitor_draw_token(int fill, int other)
+{
+    pbeam_registers_t out = monitor_token(PBEAM_CHALLENGE_SHA384, fill);
+    size_t have = 0, wrong = 0;
+    while (pbeam_registers_code(&out) == E_RMM_AGAIN)
+        out = monitor_token(PBEAM_CHALLENGE_SHA384, fill);
+    while (pbeam_registers_code(&out) == E_RMM_OK) {
+        const size_t hunk = (size_t)pbeam_registers_x1(&out);
+        for (size_t i = 0; i < hunk; i++)
+            wrong += page.bytes[i] != (uint8_t)((size_t)fill + have + i);
+        have += hunk;
+        if (pbeam_registers_x2(&out) == 0)
+            break;
+        if (other != 0)
+            monitor_token(PBEAM_CHALLENGE_SHA384, other);
+        out = monitor_token(PBEAM_CHALLENGE_NONE, 0);
+    }
+    printf("monitor: a token of %zu bytes, %zu of them wrong\n", have, wrong);
+    return have == TOKEN_BYTES && wrong == 0;
+}
+
+/* The RMI call of the Non-secure world ends with RMI_SUCCESS (0) and two results. */
+static bool monitor_complete_rmi(void)
+{
+    monitor_smc(pbeam_call_of(RMM_RMI_REQ_COMPLETE, 0, 0x1111, 0x2222, 0), 0);
+    printf("Non-secure: x0 %" PRIu64 ", x1 0x%" PRIx64 ", x2 0x%" PRIx64 "\n", el3.non_secure[0], el3.non_secure[1], el3.non_secure[2]);
+    return el3.non_secure[1] == 0x1111 && el3.non_secure[2] == 0x2222;
+}
+
+static bool monitor_push(uint64_t granule, uint64_t ticket)
+{
+    uint8_t hash[PBEAM_HASH_BYTES];
+    pbeam_registers_t out;
+    memset(hash, 0x3D, sizeof hash);
+    pbeam_put_request(page.bytes, granule, ticket, hash);
+    out = monitor_smc(pbeam_call_push(BASE, PBEAM_REQUEST_BYTES), 0);
+    printf("monitor: push a request: %s\n", pbeam_x0_text(pbeam_registers_x0(&out)));
+    return pbeam_registers_code(&out) == E_RMM_OK;
+}
+
+static int32_t monitor_pull(void)
+{
+    const pbeam_registers_t out = monitor_smc(pbeam_call_pull(BASE, PBEAM_RESPONSE_BYTES_MOST), 0);
+    pbeam_response_t response;
+    printf("monitor: pull a response: %s\n", pbeam_x0_text(pbeam_registers_x0(&out)));
+    if (pbeam_registers_code(&out) == E_RMM_OK && pbeam_get_response(page.bytes, PBEAM_RESPONSE_BYTES_MOST, &response))
+        printf("monitor: response: granule 0x%" PRIx64 ", ticket %" PRIu64 ", signature of %d bytes, the first 0x%02x\n",
+               response.rec_granule, response.req_ticket, response.sig_len, response.signature_buf[0]);
+    return pbeam_registers_code(&out);
+}
+
+/* ---- The run ---- */
+
+static bool boot(void)
+{
+    el3.context.page = &page;
+    el3.context.granules = pbeam_granules_from(MEMORY);
+    el3.context.table = el3.table;
+    el3.context.table_count = GRANULES;
+    el3.context.mecid_width = PBEAM_WIDTH_MOST;
+    /* This board has no realm key and no public key: both stay empty. */
+    return el3_write_manifest() && el3_boot_first_cpu() && el3_boot_next_cpu(1);
 }
 
 int main(void)
 {
     const uint64_t granule = MEMORY + 2 * PBEAM_GRANULE_BYTES;
-    uint8_t token[TOKEN_BYTES];
-
-    if (!el3_write_manifest() || !el3_boot_first_cpu() || !el3_boot_next_cpu(1))
+    if (!boot())
         return 1;
-
-    if (monitor_delegate(granule) != PBEAM_X0_OK)
+    if (monitor_delegate(granule) != E_RMM_OK || monitor_delegate(granule) != E_RMM_BAD_PAS) /* it is Realm already */
         return 1;
-    printf("EL3: granule 2 of the table is %s\n", el3.table[2] == PBEAM_GRANULE_REALM ? "Realm" : "not Realm");
-    if (monitor_delegate(granule) != PBEAM_X0_BAD_PAS) /* it is Realm already */
+    if (!monitor_draw_token(0x41, 0x91) || !monitor_draw_token(0x91, 0))
         return 1;
-
-    if (!monitor_draw_token(token) || memcmp(token, el3.token, TOKEN_BYTES) != 0)
+    if (!monitor_complete_rmi())
         return 1;
-    printf("monitor: the token is whole, %d bytes\n", TOKEN_BYTES);
-
-    if (!monitor_push(granule, 7) || monitor_pull() != PBEAM_X0_AGAIN) /* nothing is signed yet */
+    if (!monitor_push(granule, 7) || monitor_pull() != E_RMM_AGAIN) /* nothing is signed yet */
         return 1;
     el3_sign_oldest();
-    return monitor_pull() == PBEAM_X0_OK ? 0 : 1;
+    if (monitor_pull() != E_RMM_OK)
+        return 1;
+    monitor.out_of_memory = true;
+    if (el3_boot_next_cpu(2) || el3_boot_next_cpu(1)) /* after the first error no CPU enters the monitor */
+        return 1;
+    return monitor_delegate(granule) == E_RMM_UNK ? 0 : 1;
 }

@@ -1,20 +1,24 @@
 //! How much stack a call takes. It runs on a painted stack of its own; what is no longer paint afterwards was written. Bytes that
 //! are reserved and never written do not show.
+//!
+//! Each header of include/ has a line "Stack    N bytes" with each function. A call that takes more fails, and so does a function that
+//! has no such line or is not measured here.
 
 #![cfg(target_arch = "x86_64")]
 
-use potterbeam_tests::exports::{Exports, Lent};
+use potterbeam_tests::exports::{Exports, Lent, QueueImage, RecordImage};
 use potterbeam_tests::kit::Kit;
 use potterbeam_tests::reference::layout::PAGE;
-use potterbeam_tests::reference::runtime::TOKEN_SIGN;
 use potterbeam_tests::reference::tpm::Transfer;
 use potterbeam_tests::swtpm::{Library, StateBlobs};
 use potterbeam_tests::tpm::{Said, Tpm, TpmExports};
 use std::arch::asm;
+use std::collections::{BTreeMap, BTreeSet};
 use std::io::Write;
 
 const STACK: usize = 1 << 16;
 const BASE: u64 = 0x8000_0000;
+const MEMORY: u64 = 0x9000_0000;
 const BANK: [u64; 2] = [0x9000_0000, 0x1000_0000];
 const CONSOLE: [u64; 6] = [0x1c0c_0000, 1, 0x7061_7274, 24_000_000, 115_200, 0];
 const UP: [u64; 4] = [1, 8, BASE, 5];
@@ -56,25 +60,116 @@ fn painted_over<F: FnMut()>(room: &mut Room, paint: u8, body: &mut F) -> usize {
     STACK - low
 }
 
-/// Stack of a body, with two paints, so that a byte which happens to be one of them is not missed.
-fn stack_of(mut body: impl FnMut()) -> usize {
+/// Stack of a call on a copy of what it is lent, and its answer. Two paints, so that a byte which happens to be one of them is not
+/// missed, and a first run for what the dynamic linker may still have to do.
+fn stack_of<L: Clone, A>(lent: &L, call: impl Fn(&mut L) -> A) -> (usize, A) {
     let mut room = Box::new(Room([0; STACK]));
-    // A first run for what the dynamic linker may still have to do.
-    let [_, first, second] = [0, 0xA5, 0x5A].map(|paint| painted_over(&mut room, paint, &mut body));
-    first.max(second)
+    let mut most = 0;
+    let mut answer = None;
+    for (run, paint) in [0, 0xA5, 0x5A].into_iter().enumerate() {
+        let mut lent = lent.clone();
+        let bytes = painted_over(&mut room, paint, &mut || answer = Some(call(&mut lent)));
+        most = most.max(if run == 0 { 0 } else { bytes });
+    }
+    (most, answer.expect("an answer"))
 }
 
-/// Stack of a body, printed past the test's capture, a whole line at once.
-fn printed(name: &str, body: impl FnMut()) -> usize {
-    let bytes = stack_of(body);
-    let line = format!("stack of {name:<34} {bytes:>5} bytes\n");
-    std::io::stderr()
-        .write_all(line.as_bytes())
-        .expect("stderr");
-    bytes
+/// A header, and the functions of it that were measured.
+struct Header {
+    text: &'static str,
+    /// The most that each took.
+    measured: BTreeMap<&'static str, usize>,
 }
 
-// ---- What is measured ----
+impl Header {
+    fn of(text: &'static str) -> Header {
+        let measured = BTreeMap::new();
+        Header { text, measured }
+    }
+
+    /// Names of the functions that it declares.
+    fn functions(&self) -> BTreeSet<&'static str> {
+        let lines = self.text.lines();
+        let outside = lines.filter(|line| line.starts_with(|c: char| c.is_ascii_lowercase()));
+        let declared = outside.filter(|line| !line.starts_with("static inline"));
+        let named = declared.filter_map(|line| line.split('(').next()?.split(' ').nth(1));
+        named.filter(|name| name.starts_with("pbeam_")).collect()
+    }
+
+    /// The figures of a function, the most first: numbers before "bytes" in a line of its comment.
+    fn figures(&self, name: &str) -> Vec<usize> {
+        let start = [format!("\n * {name}: "), format!("\n * {name} (0x")];
+        let at = start.iter().find_map(|start| self.text.find(start));
+        let text = &self.text[at.expect(name) + 3..];
+        let (text, _) = text.split_once("*/").expect("the comment's end");
+        let (_, line) = text.split_once("\n * Stack    ").expect(name);
+        let line = line.lines().next().expect("a line");
+        let before = line
+            .split(" bytes")
+            .filter_map(|part| part.rsplit(' ').next());
+        let numbers = before.map(|number| number.replace(',', "").parse());
+        numbers.filter_map(Result::ok).collect()
+    }
+
+    /// A call, which has to give this answer and must not take more than the header says.
+    fn within<L: Clone, A: PartialEq + std::fmt::Debug>(
+        &mut self,
+        (name, what): (&'static str, &str),
+        lent: &L,
+        expected: A,
+        call: impl Fn(&mut L) -> A,
+    ) -> usize {
+        let (bytes, answer) = stack_of(lent, call);
+        assert_eq!(answer, expected, "{name}, {what}");
+        println!("stack of {name:<26} {what:<34} {bytes:>5} bytes");
+        let most = self.figures(name)[0];
+        assert!(
+            bytes <= most,
+            "{name}, {what}: {bytes} bytes, the header has {most}"
+        );
+        let before = self.measured.entry(name).or_default();
+        *before = bytes.max(*before);
+        bytes
+    }
+
+    /// Every function was measured. The most of each is printed past the test's capture, all lines at once.
+    fn is_measured(&self) {
+        let names: BTreeSet<_> = self.measured.keys().copied().collect();
+        assert_eq!(self.functions(), names);
+        let line = |(name, bytes)| format!("most stack of {name:<26} {bytes:>5} bytes\n");
+        let lines: String = self.measured.iter().map(line).collect();
+        let written = std::io::stderr().write_all(lines.as_bytes());
+        written.expect("stderr");
+    }
+}
+
+/// The measure sees what is there: a return address alone, and a kilobyte more.
+#[test]
+#[cfg_attr(debug_assertions, ignore = "measured in release builds")]
+fn measure_sees_stack() {
+    let (nothing, ()) = stack_of(&(), |()| ());
+    assert!(nothing <= 64, "{nothing} bytes");
+    let (kilobyte, ()) = stack_of(&(), |()| {
+        let room = [0u64; 128];
+        // The address is taken where no compiler sees what becomes of it.
+        unsafe { asm!("/* {room} */", room = in(reg) &room) }
+    });
+    assert!((1024..1200).contains(&kilobyte), "{kilobyte} bytes");
+}
+
+/// A figure that is exceeded is noticed.
+#[test]
+#[cfg_attr(debug_assertions, ignore = "measured in release builds")]
+#[should_panic(expected = "the header has 16")]
+fn figure_that_is_exceeded_fails() {
+    let mut header = Header::of("/*\n * pbeam_count: too little\n * Stack    16 bytes\n */");
+    let page = consoles(83);
+    header.within(("pbeam_count", "83 consoles"), &page, 0, |page| {
+        Kit::count(page, &[0; 15], 1)
+    });
+}
+
+// ---- Manifest and boot ----
 
 fn page_of(lists: [&[u64]; 4]) -> Vec<u8> {
     let mut page = vec![0; PAGE];
@@ -86,177 +181,496 @@ fn consoles(count: usize) -> Vec<u8> {
     page_of([&[], &CONSOLE.repeat(count), &[], &[]])
 }
 
-/// Stack of reading a page that has to be accepted.
-fn read_stack(name: &str, page: &[u8]) -> usize {
-    let (mut view, mut code) = ([0; 15], 1);
-    let bytes = printed(name, || code = Kit::read(page, BASE, 4, &mut view));
-    assert_eq!(code, 0);
-    bytes
+/// A page with one byte changed.
+fn spoilt(mut page: Vec<u8>, at: usize) -> Vec<u8> {
+    page[at] ^= 0x80;
+    page
 }
 
-fn cold_stack(name: &str, page: &[u8]) -> usize {
-    let (mut state, mut code) = ([0; 4], 1);
-    let bytes = printed(name, || {
-        state = [0; 4];
-        code = Kit::cold_boot(&mut state, [0, 5, 8, BASE], 8, page);
-    });
-    assert_eq!((code, state), (0, UP));
-    bytes
+/// Pages with what a reader of edition 4 says of each.
+fn pages() -> Vec<(&'static str, Vec<u8>, i32)> {
+    let four = || page_of([&BANK, &CONSOLE, &BANK, &BANK]);
+    vec![
+        ("no entry", page_of([&[], &[], &[], &[]]), 0),
+        ("1 console", consoles(1), 0),
+        ("83 consoles", consoles(83), 0),
+        ("249 banks", page_of([&BANK.repeat(249), &[], &[], &[]]), 0),
+        ("all four sections", four(), 0),
+        ("page too short", vec![0; PAGE - 1], -5),
+        ("no version", vec![0; PAGE], -6),
+        ("padding", spoilt(four(), 4), -7),
+        ("plat_data", spoilt(four(), 8), -7),
+        ("count of dram", spoilt(four(), 16), -7),
+        ("checksum of coh", spoilt(four(), 104), -7),
+        ("last console", spoilt(consoles(83), 4095), -7),
+    ]
 }
 
-/// The measure sees what is there: a return address alone, and a kilobyte more.
 #[test]
 #[cfg_attr(debug_assertions, ignore = "measured in release builds")]
-fn measure_sees_stack() {
-    let nothing = stack_of(|| {});
-    assert_eq!(nothing, 8);
-    let kilobyte = stack_of(|| {
-        let room = [0u64; 128];
-        // The address is taken where no compiler sees what becomes of it.
-        unsafe { asm!("/* {room} */", room = in(reg) &room) }
-    });
-    assert!((1024..1200).contains(&kilobyte), "{kilobyte} bytes");
+fn exports_keep_the_figures_of_the_header() {
+    let mut header = Header::of(include_str!("../../include/potterbeam.h"));
+    for (what, page, code) in pages() {
+        reading(&mut header, what, &page, code);
+        cold_booting(&mut header, what, &page, code);
+    }
+    looking_up(&mut header);
+    writing(&mut header);
+    refused_boots(&mut header);
+    for (what, board, x, x0) in calls() {
+        direct(&mut header, what, &board, &x, x0);
+        dispatched(&mut header, what, &board, &x, x0);
+    }
+    challenges(&mut header);
+    signer(&mut header);
+    header.is_measured();
 }
 
+fn reading(header: &mut Header, what: &str, page: &[u8], code: i32) {
+    header.within(("pbeam_read", what), &[0; 15], code, |view| {
+        Kit::read(page, BASE, 4, view)
+    });
+    for section in 0..5 {
+        header.within(("pbeam_array", what), &[0; 2], (), |place| {
+            Kit::array(page, BASE, 4, section, place)
+        });
+    }
+}
+
+fn cold_booting(header: &mut Header, what: &str, page: &[u8], code: i32) {
+    header.within(("pbeam_cold_boot", what), &[0; 4], code, |state| {
+        Kit::cold_boot(state, [0, 5, 8, BASE], 8, page)
+    });
+}
+
+/// By a view of the page, and by views that no reading made.
+fn looking_up(header: &mut Header) {
+    let (page, mut view) = (consoles(83), [0; 15]);
+    assert_eq!(Kit::read(&page, BASE, 4, &mut view), 0);
+    for (what, view, count) in [
+        ("83 consoles", view, 83),
+        ("no view", [0; 15], 0),
+        ("any words", [u64::MAX; 15], 0),
+    ] {
+        header.within(("pbeam_array_of", what), &[0; 2], (), |place| {
+            Kit::array_of(&page, &view, 1, place)
+        });
+        header.within(("pbeam_count", what), &(), count, |()| {
+            Kit::count(&page, &view, 1)
+        });
+        let word = if count == 0 { 0 } else { CONSOLE[4] };
+        header.within(("pbeam_word", what), &(), word, |()| {
+            Kit::word(&page, &view, 1, 82, 4)
+        });
+    }
+}
+
+fn writing(header: &mut Header) {
+    let (consoles, banks) = (CONSOLE.repeat(83), BANK.repeat(249));
+    let (more, page) = (BANK.repeat(250), vec![0; PAGE]);
+    let none: [&[u64]; 4] = [&[]; 4];
+    for (what, base, edition, lists, made) in [
+        ("83 consoles", BASE, 4, [&[], &consoles[..], &[], &[]], 0),
+        ("249 banks", BASE, 4, [&banks[..], &[], &[], &[]], 0),
+        ("four lists", BASE, 4, [&BANK, &CONSOLE, &BANK, &BANK], 0),
+        ("W1", 0, 4, none, 1),
+        ("W2", BASE, 5, none, 2),
+        ("W3", BASE, 4, [&BANK, &CONSOLE, &BANK, &BANK[..1]], 3),
+        ("W4", BASE, 3, [&BANK, &CONSOLE, &[], &BANK], 4),
+        ("W5", BASE, 4, [&more[..], &[], &[], &[]], 5),
+    ] {
+        header.within(("pbeam_write", what), &page, made, |page| {
+            Kit::write(base, edition, lists, page)
+        });
+    }
+}
+
+/// The boots that no page decides.
+fn refused_boots(header: &mut Header) {
+    let page = consoles(1);
+    for (what, state, x, code) in [
+        ("record not fresh", UP, [0, 5, 8, BASE], -1),
+        ("version", [0; 4], [0, 0, 8, BASE], -2),
+        ("number of CPUs", [0; 4], [0, 5, 9, BASE], -3),
+        ("CPU", [0; 4], [8, 5, 8, BASE], -4),
+        ("B", [0; 4], [0, 5, 8, 1], -5),
+    ] {
+        header.within(("pbeam_cold_boot", what), &state, code, |state| {
+            Kit::cold_boot(state, x, 8, &page)
+        });
+    }
+    for (what, state, cpu, code) in [
+        ("accepted", UP, 7, 0),
+        ("record not up", [0; 4], 0, -1),
+        ("CPU", UP, 8, -4),
+    ] {
+        header.within(("pbeam_warm_boot", what), &state, code, |state| {
+            Kit::warm_boot(state, [cpu, 0, 0, 0])
+        });
+    }
+}
+
+/// However many entries the page has, and far below what EL3 firmware has.
 #[test]
 #[cfg_attr(debug_assertions, ignore = "measured in release builds")]
 fn checksum_takes_no_more_for_more_consoles() {
-    let one = read_stack("pbeam_read, 1 console", &consoles(1));
-    let most = read_stack("pbeam_read, 83 consoles", &consoles(83));
-    read_stack(
-        "pbeam_read, 249 banks",
-        &page_of([&BANK.repeat(249), &[], &[], &[]]),
-    );
-    assert!(most <= one, "{most} bytes for 83, {one} for 1");
-    assert!(most <= 1024, "{most} bytes");
-}
-
-#[test]
-#[cfg_attr(debug_assertions, ignore = "measured in release builds")]
-fn cold_boot_takes_little() {
-    let four = page_of([&BANK, &CONSOLE, &BANK, &BANK]);
-    for (name, page) in [
-        ("pbeam_cold_boot, 83 consoles", &consoles(83)),
-        ("pbeam_cold_boot, all four sections", &four),
-    ] {
-        let bytes = cold_stack(name, page);
-        assert!(bytes <= 2048, "{bytes} bytes");
-    }
-}
-
-/// For information: one accepted call of each other export.
-#[test]
-#[cfg_attr(debug_assertions, ignore = "measured in release builds")]
-fn other_exports() {
-    manifest_exports();
-    command_exports();
-    buffer_exports();
-    queue_exports();
-}
-
-fn manifest_exports() {
-    let mut page = consoles(83);
-    let (mut view, mut place) = ([0; 15], [0; 2]);
-    assert_eq!(Kit::read(&page, BASE, 4, &mut view), 0);
-    printed("pbeam_array", || Kit::array(&page, BASE, 4, 1, &mut place));
-    printed("pbeam_array_of", || {
-        Kit::array_of(&page, &view, 1, &mut place)
-    });
-    let (mut count, mut word) = (0, 0);
-    printed("pbeam_count", || count = Kit::count(&page, &view, 1));
-    assert_eq!(count, 83);
-    printed("pbeam_word", || word = Kit::word(&page, &view, 1, 82, 4));
-    assert_eq!(word, CONSOLE[4]);
-    let (list, mut code) = (CONSOLE.repeat(83), 1);
-    printed("pbeam_write", || {
-        code = Kit::write(BASE, 4, [&[], &list, &[], &[]], &mut page);
-    });
+    let read = |page: &[u8]| stack_of(&[0; 15], |view| Kit::read(page, BASE, 4, view));
+    let ((one, _), (most, code)) = (read(&consoles(1)), read(&consoles(83)));
     assert_eq!(code, 0);
+    assert!(most <= one, "{most} bytes for 83, {one} for 1");
+    let header = Header::of(include_str!("../../include/potterbeam.h"));
+    let (read, cold) = (
+        header.figures("pbeam_read")[0],
+        header.figures("pbeam_cold_boot")[0],
+    );
+    assert!(read <= 1024 && cold <= 2048, "{read} and {cold} bytes");
 }
 
-fn command_exports() {
-    let (mut out, mut work, mut state) = ([0; 3], [0; 2], UP);
-    let mut table = [0; 16];
-    printed("pbeam_warm_boot", || {
-        Kit::warm_boot(&mut state, [0; 4]);
-    });
-    printed("pbeam_delegate", || {
-        Kit::delegate(&UP, &[0], &mut table, 4096, &mut out);
-    });
-    printed("pbeam_undelegate", || {
-        Kit::undelegate(&UP, &[0], &mut table, 4096, &mut out);
-    });
-    printed("pbeam_features", || Kit::features(&UP, 0, &mut out));
-    printed("pbeam_key_update", || {
-        Kit::key_update(&UP, 15, 7, &mut out, &mut work);
-    });
-    printed("pbeam_forward", || work[0] = Kit::forward(&UP, 7));
-    assert_eq!((out, work), ([0; 3], [7, 7]));
+// ---- Runtime commands ----
+
+const OK: i64 = 0;
+const UNK: i64 = -1;
+const BAD_ADDR: i64 = -2;
+const BAD_PAS: i64 = -3;
+const INVAL: i64 = -5;
+const AGAIN: i64 = -6;
+
+const FORWARD: u64 = 0xC400_018F;
+const DELEGATE: u64 = 0xC400_01B0;
+const UNDELEGATE: u64 = 0xC400_01B1;
+const REALM_KEY: u64 = 0xC400_01B2;
+const TOKEN: u64 = 0xC400_01B3;
+const FEATURES: u64 = 0xC400_01B4;
+const SIGNING: u64 = 0xC400_01B5;
+const KEY_UPDATE: u64 = 0xC400_01B6;
+
+/// What the commands are lent.
+#[derive(Clone)]
+struct Board {
+    state: RecordImage,
+    session: [u64; 3],
+    queue: QueueImage,
+    page: Vec<u8>,
+    table: [u8; 2],
+    secret: Vec<u8>,
+    busy: u64,
+    out: [u64; 3],
+    work: [u64; 2],
 }
 
-fn buffer_exports() {
-    let (mut page, token) = (vec![0; PAGE], vec![7; PAGE]);
-    let (mut out, mut place, mut session) = ([0; 3], [0; 2], [0; 3]);
-    printed("pbeam_realm_key", || {
-        Kit::realm_key(&UP, &mut page, &token, [BASE, 4096, 0], &mut out);
-    });
-    assert_eq!(out, [0, 4096, 0]);
-    printed("pbeam_platform_token", || {
-        let x = [BASE, 64, 64];
-        Kit::platform_token(&UP, &mut session, &mut page, &token, 0, x, &mut out);
-    });
-    assert_eq!(out, [0, 64, 4032]);
-    printed("pbeam_challenge", || {
-        Kit::challenge(&UP, &page, [BASE, 64, 64], &mut place);
-    });
-    assert_eq!(place, [0, 64]);
-}
-
-fn queue_exports() {
-    let (mut page, key) = (vec![0; PAGE], [7; 96]);
-    page[24] = 1;
-    let (mut queue, mut request, mut out) = ([0; 210], [0; 10], [1; 3]);
-    // Three runs of each: of as many pushes, steps of the signer and pulls none is refused.
-    for (name, x) in [("push", [1, BASE, 80, 0]), ("key", [3, BASE + 80, 96, 0])] {
-        printed(&format!("pbeam_token_signing, {name}"), || {
-            Kit::token_signing(&UP, &mut queue, &mut page, &key, x, &mut out);
-        });
-        assert_eq!(out[0], 0);
-    }
-    printed("pbeam_oldest", || {
-        Kit::oldest(&queue, &mut request);
-    });
-    printed("pbeam_sign", || Kit::sign(&mut queue, &key, &mut out));
-    assert_eq!(out[0], 0);
-    printed("pbeam_token_signing, pull", || {
-        let x = [2, BASE + 1024, 122, 0];
-        Kit::token_signing(&UP, &mut queue, &mut page, &key, x, &mut out);
-    });
-    assert_eq!((out[0], queue[0], queue[1]), (0, 0, 0));
-    let (mut session, mut work) = ([0; 3], [0; 2]);
-    printed("pbeam_call, push", || {
-        let mut lent = Lent {
-            page: &mut page,
-            granules: [0],
-            table: &mut [],
-            key: &key,
-            token: &key,
+impl Board {
+    /// Up, in a session, with this many requests and responses, a request laid at the page's start.
+    fn new(requests: u64, responses: u64) -> Board {
+        let mut page = vec![0; PAGE];
+        page[24] = 1;
+        let mut queue = [7; 210];
+        queue[0] = requests;
+        queue[1] = responses;
+        Board {
+            state: UP,
+            session: [1, 100, 64],
+            queue,
+            page,
+            table: [0, 1],
+            secret: vec![7; 100],
             busy: 0,
-            public_key: &key,
+            out: [0; 3],
+            work: [0; 2],
+        }
+    }
+
+    fn with(change: impl Fn(&mut Board)) -> Board {
+        let mut board = Board::new(1, 1);
+        change(&mut board);
+        board
+    }
+}
+
+/// Calls with their code: each command accepted and refused at each kind of check, and with queues from empty to full.
+fn calls() -> Vec<(&'static str, Board, [u64; 5], i64)> {
+    let board = || Board::new(1, 1);
+    let fresh = || Board::with(|board| board.state = [0; 4]);
+    let old = || Board::with(|board| board.state[3] = 3);
+    let short = || Board::with(|board| board.page.truncate(PAGE - 1));
+    let bare = || Board::with(|board| board.secret.clear());
+    let busy = || Board::with(|board| board.busy = 1);
+    let (end, push, pull) = (
+        BASE + 4096,
+        [SIGNING, 1, BASE, 80, 0],
+        [SIGNING, 2, BASE, 122, 0],
+    );
+    let key = [SIGNING, 3, BASE, 100, 0];
+    vec![
+        ("delegate", board(), [DELEGATE, MEMORY, 0, 0, 0], OK),
+        (
+            "delegate, record",
+            fresh(),
+            [DELEGATE, MEMORY, 0, 0, 0],
+            UNK,
+        ),
+        (
+            "delegate, address",
+            board(),
+            [DELEGATE, 1, 0, 0, 0],
+            BAD_ADDR,
+        ),
+        (
+            "delegate, Realm",
+            board(),
+            [DELEGATE, MEMORY + 4096, 0, 0, 0],
+            BAD_PAS,
+        ),
+        (
+            "undelegate",
+            board(),
+            [UNDELEGATE, MEMORY + 4096, 0, 0, 0],
+            OK,
+        ),
+        (
+            "undelegate, record",
+            fresh(),
+            [UNDELEGATE, MEMORY, 0, 0, 0],
+            UNK,
+        ),
+        (
+            "undelegate, address",
+            board(),
+            [UNDELEGATE, end, 0, 0, 0],
+            BAD_ADDR,
+        ),
+        (
+            "undelegate, Non-secure",
+            board(),
+            [UNDELEGATE, MEMORY, 0, 0, 0],
+            BAD_PAS,
+        ),
+        ("realm key", board(), [REALM_KEY, BASE, 4096, 0, 0], OK),
+        (
+            "realm key, record",
+            fresh(),
+            [REALM_KEY, BASE, 4096, 0, 0],
+            UNK,
+        ),
+        (
+            "realm key, page",
+            short(),
+            [REALM_KEY, BASE, 4096, 0, 0],
+            UNK,
+        ),
+        (
+            "realm key, outside",
+            board(),
+            [REALM_KEY, end, 0, 0, 0],
+            BAD_ADDR,
+        ),
+        (
+            "realm key, too long",
+            board(),
+            [REALM_KEY, BASE, 4097, 0, 0],
+            INVAL,
+        ),
+        (
+            "realm key, curve",
+            board(),
+            [REALM_KEY, BASE, 4096, 1, 0],
+            INVAL,
+        ),
+        (
+            "realm key, none",
+            bare(),
+            [REALM_KEY, BASE, 4096, 0, 0],
+            UNK,
+        ),
+        ("token, start", board(), [TOKEN, BASE, 64, 64, 0], OK),
+        ("token, whole", board(), [TOKEN, BASE, 4096, 64, 0], OK),
+        ("token, rest", board(), [TOKEN, BASE, 64, 0, 0], OK),
+        ("token, no byte", board(), [TOKEN, BASE, 0, 0, 0], OK),
+        ("token, record", fresh(), [TOKEN, BASE, 64, 64, 0], UNK),
+        ("token, busy", busy(), [TOKEN, BASE, 64, 64, 0], AGAIN),
+        (
+            "token, outside",
+            board(),
+            [TOKEN, BASE - 1, 64, 64, 0],
+            BAD_ADDR,
+        ),
+        ("token, c_size", board(), [TOKEN, BASE, 64, 33, 0], INVAL),
+        ("token, none", bare(), [TOKEN, BASE, 64, 64, 0], UNK),
+        ("features", board(), [FEATURES, 0, 0, 0, 0], OK),
+        ("features, index", board(), [FEATURES, 1, 0, 0, 0], INVAL),
+        ("features, minor", old(), [FEATURES, 0, 0, 0, 0], UNK),
+        ("push", board(), push, OK),
+        ("push, empty queue", Board::new(0, 0), push, OK),
+        ("push, seven requests", Board::new(7, 8), push, OK),
+        ("push, full", Board::new(8, 8), push, AGAIN),
+        (
+            "push, any counts",
+            Board::new(u64::MAX, u64::MAX),
+            push,
+            AGAIN,
+        ),
+        ("push, too short", board(), [SIGNING, 1, BASE, 79, 0], INVAL),
+        (
+            "push, algorithm",
+            board(),
+            [SIGNING, 1, BASE + 24, 80, 0],
+            INVAL,
+        ),
+        ("pull", board(), pull, OK),
+        ("pull, full", Board::new(8, 8), pull, OK),
+        ("pull, none", Board::new(8, 0), pull, AGAIN),
+        ("pull, too short", board(), [SIGNING, 2, BASE, 17, 0], INVAL),
+        ("public key", board(), key, OK),
+        ("public key, full queue", Board::new(8, 8), key, OK),
+        ("public key, none", bare(), key, AGAIN),
+        (
+            "public key, too long",
+            board(),
+            [SIGNING, 3, BASE, 99, 0],
+            INVAL,
+        ),
+        (
+            "public key, curve",
+            board(),
+            [SIGNING, 3, BASE, 100, 1],
+            INVAL,
+        ),
+        (
+            "signing, opcode",
+            board(),
+            [SIGNING, 4, BASE, 100, 0],
+            INVAL,
+        ),
+        ("signing, outside", board(), [SIGNING, 1, end, 80, 0], INVAL),
+        ("signing, record", fresh(), push, UNK),
+        ("signing, minor", old(), push, UNK),
+        ("key update", board(), [KEY_UPDATE, 7, 0, 0, 0], OK),
+        (
+            "key update, mecid",
+            board(),
+            [KEY_UPDATE, 65536, 0, 0, 0],
+            INVAL,
+        ),
+        ("key update, minor", old(), [KEY_UPDATE, 7, 0, 0, 0], UNK),
+        ("forward", board(), [FORWARD, 7, 0, 0, 0], OK),
+        ("forward, record", fresh(), [FORWARD, 7, 0, 0, 0], OK),
+        ("another id", board(), [KEY_UPDATE + 1, 0, 0, 0, 0], UNK),
+        (
+            "id above 32 bits",
+            board(),
+            [DELEGATE | 1 << 32, MEMORY, 0, 0, 0],
+            UNK,
+        ),
+    ]
+}
+
+/// The command's own function.
+fn direct(header: &mut Header, what: &str, board: &Board, x: &[u64; 5], x0: i64) {
+    let &[id, x1, x2, x3, x4] = x;
+    let mut measure = |name, call: &dyn Fn(&mut Board)| {
+        header.within((name, what), board, x0, |board| {
+            call(board);
+            board.out[0] as i64
+        });
+    };
+    match id {
+        DELEGATE => measure("pbeam_delegate", &|b| {
+            Kit::delegate(&b.state, &[MEMORY], &mut b.table, x1, &mut b.out)
+        }),
+        UNDELEGATE => measure("pbeam_undelegate", &|b| {
+            Kit::undelegate(&b.state, &[MEMORY], &mut b.table, x1, &mut b.out)
+        }),
+        REALM_KEY => measure("pbeam_realm_key", &|b| {
+            Kit::realm_key(&b.state, &mut b.page, &b.secret, [x1, x2, x3], &mut b.out)
+        }),
+        TOKEN => measure("pbeam_platform_token", &|b| {
+            let (session, x) = (&mut b.session, [x1, x2, x3]);
+            Kit::platform_token(
+                &b.state,
+                session,
+                &mut b.page,
+                &b.secret,
+                b.busy,
+                x,
+                &mut b.out,
+            )
+        }),
+        FEATURES => measure("pbeam_features", &|b| {
+            Kit::features(&b.state, x1, &mut b.out)
+        }),
+        SIGNING => measure("pbeam_token_signing", &|b| {
+            let (queue, x) = (&mut b.queue, [x1, x2, x3, x4]);
+            Kit::token_signing(&b.state, queue, &mut b.page, &b.secret, x, &mut b.out)
+        }),
+        KEY_UPDATE => measure("pbeam_key_update", &|b| {
+            Kit::key_update(&b.state, 15, x1, &mut b.out, &mut b.work)
+        }),
+        FORWARD => measure("pbeam_forward", &|b| {
+            b.work[1] = Kit::forward(&b.state, x1);
+        }),
+        _ => (),
+    }
+}
+
+/// The same by its id. The second figure is that of every id but token signing.
+fn dispatched(header: &mut Header, what: &str, board: &Board, x: &[u64; 5], x0: i64) {
+    let bytes = header.within(("pbeam_call", what), board, x0, |board| {
+        let mut lent = Lent {
+            page: &mut board.page,
+            granules: [MEMORY],
+            table: &mut board.table,
+            key: &board.secret,
+            token: &board.secret,
+            busy: board.busy,
+            public_key: &board.secret,
             width: 15,
         };
-        let x = [TOKEN_SIGN, 1, BASE, 80, 0];
-        Kit::call(
-            &UP,
-            &mut session,
-            &mut queue,
-            &mut lent,
-            &x,
-            &mut out,
-            &mut work,
-        );
+        let (session, queue) = (&mut board.session, &mut board.queue);
+        let (out, work) = (&mut board.out, &mut board.work);
+        Kit::call(&board.state, session, queue, &mut lent, x, out, work);
+        board.out[0] as i64
     });
-    assert_eq!((out[0], queue[0]), (0, 3));
+    let most = header.figures("pbeam_call")[1];
+    assert!(
+        x[0] == SIGNING || bytes <= most,
+        "pbeam_call, {what}: {bytes} bytes, the header has {most}"
+    );
+}
+
+fn challenges(header: &mut Header) {
+    let page = vec![0; PAGE];
+    for (what, state, x, place) in [
+        ("a start", UP, [BASE + 8, 64, 48], [8, 48]),
+        ("no start", UP, [BASE, 64, 0], [0, 0]),
+        ("record", [0; 4], [BASE, 64, 48], [0, 0]),
+        ("outside", UP, [BASE + 4096, 64, 48], [0, 0]),
+    ] {
+        header.within(("pbeam_challenge", what), &[1; 2], place, |place| {
+            Kit::challenge(&state, &page, x, place);
+            *place
+        });
+    }
+}
+
+fn signer(header: &mut Header) {
+    for (what, requests, responses, length, x0) in [
+        ("accepted", 1, 0, 96, OK),
+        ("eight requests, seven responses", 8, 7, 104, OK),
+        ("no request", 0, 0, 96, AGAIN),
+        ("eight responses", 1, 8, 96, AGAIN),
+        ("any counts", u64::MAX, u64::MAX, 96, AGAIN),
+        ("signature too long", 8, 8, 105, INVAL),
+        ("no signature", 8, 8, 0, INVAL),
+    ] {
+        let (board, signature) = (Board::new(requests, responses), vec![7; length]);
+        header.within(("pbeam_sign", what), &board, x0, |board| {
+            Kit::sign(&mut board.queue, &signature, &mut board.out);
+            board.out[0] as i64
+        });
+        let waiting = requests.min(8) as usize;
+        header.within(("pbeam_oldest", what), &[0; 10], waiting, |request| {
+            Kit::oldest(&board.queue, request)
+        });
+    }
 }
 
 // ---- H_TPM_COMM ----
@@ -269,28 +683,12 @@ const SENT: Transfer = Transfer {
     out_size: 8192,
 };
 
-/// A figure of the TPM header.
-fn figure(name: &str) -> usize {
-    let header = include_str!("../../include/potterbeam_tpm.h");
-    let start = format!("#define {name} ");
-    let line = header.lines().find_map(|line| line.strip_prefix(&start));
-    line.expect("a figure").trim().parse().expect("a number")
-}
-
-fn comm_stack(name: &str, asked: &Transfer, said: Said, expected: i64) -> usize {
-    let (mut memory, mut session, mut r4, mut r3) = (vec![0; 65536], 0, 0, 1);
-    let bytes = printed(name, || {
-        r3 = Tpm::comm(&mut session, asked, &mut memory, said, &mut r4);
-    });
-    assert_eq!(r3, expected);
-    bytes
-}
-
 /// No call takes more than the header says, whatever it answers and however long the response is.
 #[test]
 #[cfg_attr(debug_assertions, ignore = "measured in release builds")]
-fn tpm_takes_what_the_header_says() {
-    let (most, mut place) = (figure("PBEAM_TPM_COMM_STACK"), [0; 2]);
+fn tpm_keeps_the_figures_of_the_header() {
+    let mut header = Header::of(include_str!("../../include/potterbeam_tpm.h"));
+    let memory = vec![0; 65536];
     let close = Transfer {
         operation: 2,
         ..SENT
@@ -299,80 +697,96 @@ fn tpm_takes_what_the_header_says() {
         out_buffer: 65536,
         ..SENT
     };
-    for (name, asked, length, fault, r3) in [
-        ("pbeam_tpm_comm, no byte", &SENT, 0, 0, 0),
-        ("pbeam_tpm_comm, 1 byte", &SENT, 1, 0, 0),
-        ("pbeam_tpm_comm, 8,191 bytes", &SENT, 8191, 0, 0),
-        ("pbeam_tpm_comm, close", &close, 16, 0, 0),
-        ("pbeam_tpm_comm, H_P4", &outside, 16, 0, -57),
-        ("pbeam_tpm_comm, H_RESOURCE", &SENT, 16, 1, -16),
+    for (what, asked, length, fault, r3) in [
+        ("no byte", &SENT, 0, 0, 0),
+        ("1 byte", &SENT, 1, 0, 0),
+        ("8,191 bytes", &SENT, 8191, 0, 0),
+        ("close", &close, 16, 0, 0),
+        ("H_P4", &outside, 16, 0, -57),
+        ("H_RESOURCE", &SENT, 16, 1, -16),
     ] {
-        let said = Said {
-            forbidden: 0,
-            fault,
-            response: &vec![7; length],
-        };
-        let bytes = comm_stack(name, asked, said, r3);
-        assert!(
-            bytes <= most,
-            "{name}: {bytes} bytes, the header says {most}"
-        );
+        let response = &vec![7; length][..];
+        let lent = (memory.clone(), 0, 0);
+        header.within(("pbeam_tpm_comm", what), &lent, r3, |lent| {
+            let (memory, session, r4) = lent;
+            let said = Said {
+                forbidden: 0,
+                fault,
+                response,
+            };
+            Tpm::comm(session, asked, memory, said, r4)
+        });
     }
-    let (memory, most) = (vec![0; 65536], figure("PBEAM_TPM_REQUEST_STACK"));
-    for (name, asked, expected) in [
-        ("pbeam_tpm_request", &SENT, [16, 4096]),
-        ("pbeam_tpm_request, close", &close, [0, 0]),
-    ] {
-        let bytes = printed(name, || Tpm::request(asked, &memory, 0, &mut place));
-        assert_eq!(place, expected);
-        assert!(
-            bytes <= most,
-            "{name}: {bytes} bytes, the header says {most}"
-        );
+    for (what, asked, expected) in [("execute", &SENT, [16, 4096]), ("close", &close, [0, 0])] {
+        header.within(("pbeam_tpm_request", what), &[0; 2], expected, |place| {
+            Tpm::request(asked, &memory, 0, place);
+            *place
+        });
     }
+    header.is_measured();
 }
 
 // ---- State blobs ----
 
-/// Stack of an export for state blobs, which must not be above the figure that its header has.
-fn within_figure(name: &str, body: impl FnMut()) {
-    let header = include_str!("../../include/potterbeam_swtpm.h");
-    let (_, text) = header.split_once(&format!(" * {name}: ")).expect(name);
-    let (_, figure) = text.split_once("* Stack    ").expect("a figure");
-    let (figure, _) = figure.split_once(" bytes").expect("a figure");
-    let most: usize = figure.parse().expect("a number");
-    let bytes = printed(name, body);
-    assert!(
-        bytes <= most,
-        "{name}: {bytes} bytes, the header has {most}"
-    );
-}
+const LARGEST: u32 = 3072;
 
 #[test]
 #[cfg_attr(debug_assertions, ignore = "measured in release builds")]
 fn state_blobs_keep_the_figures_of_the_header() {
-    let (data, mut wire, mut buffer) = (vec![7; 3072], vec![0; 4096], vec![0; 10_000]);
-    let (mut parts, mut len, mut collector, mut answer) = ([0; 4], 0, [0; 3], 0);
-    within_figure("pbeam_swtpm_write_request", || {
-        answer |= Library::write_request(&mut wire, [12, 0, 1, 0], &mut len);
-    });
-    within_figure("pbeam_swtpm_read_request", || {
-        answer |= Library::read_request(&wire[..16], 12, &mut parts);
-    });
-    within_figure("pbeam_swtpm_write_response", || {
-        answer |= Library::write_response(&mut wire, 3072, [0, 0, 10_000], &data, &mut len);
-    });
-    within_figure("pbeam_swtpm_read_response", || {
-        answer |= Library::read_response(&wire[..16 + 3072], 3072, &mut parts);
-    });
-    within_figure("pbeam_swtpm_collect", || {
-        answer |= Library::collect(&mut collector, &wire[..16 + 3072], 3072, &mut buffer);
-    });
-    let (mut complete, mut held) = (true, 0);
-    within_figure("pbeam_swtpm_complete", || {
-        complete = Library::complete(&collector);
-    });
-    within_figure("pbeam_swtpm_held", || held = Library::held(&collector));
-    // Three runs of each: three pieces are held.
-    assert_eq!((answer, complete, held), (0, false, 3 * 3072));
+    let mut header = Header::of(include_str!("../../include/potterbeam_swtpm.h"));
+    let (data, mut response, mut request) = (vec![7; 3072], vec![0; 4096], vec![0; 16]);
+    let mut len = 0;
+    assert_eq!(
+        Library::write_request(&mut request, [12, 0, 1, 0], &mut len),
+        0
+    );
+    let numbers = [0, 0, 10_000];
+    let made = Library::write_response(&mut response, LARGEST, numbers, &data, &mut len);
+    assert_eq!(made, 0);
+    response.truncate(len);
+    for (what, room, accepted) in [("accepted", 4096, true), ("no room", 8, false)] {
+        let lent = (vec![0; room], 0);
+        header.within(
+            ("pbeam_swtpm_write_request", what),
+            &lent,
+            accepted,
+            |lent| Library::write_request(&mut lent.0, [12, 0, 1, 0], &mut lent.1) == 0,
+        );
+        header.within(
+            ("pbeam_swtpm_write_response", what),
+            &lent,
+            accepted,
+            |lent| Library::write_response(&mut lent.0, LARGEST, numbers, &data, &mut lent.1) == 0,
+        );
+    }
+    for (what, cut, accepted) in [("accepted", 0, true), ("cut short", 1, false)] {
+        let (request, response) = (&request[cut..], &response[..response.len() - cut]);
+        header.within(
+            ("pbeam_swtpm_read_request", what),
+            &[0; 4],
+            accepted,
+            |parts| Library::read_request(request, 12, parts) == 0,
+        );
+        header.within(
+            ("pbeam_swtpm_read_response", what),
+            &[0; 4],
+            accepted,
+            |parts| Library::read_response(response, LARGEST, parts) == 0,
+        );
+        let lent = (vec![0; 10_000], [0; 3]);
+        header.within(("pbeam_swtpm_collect", what), &lent, accepted, |lent| {
+            Library::collect(&mut lent.1, response, LARGEST, &mut lent.0) == 0
+        });
+    }
+    for (what, collector) in [("new", [0, 0, 0]), ("complete", [1, 9, 9])] {
+        let complete = collector[0] == 1;
+        header.within(("pbeam_swtpm_complete", what), &collector, complete, |c| {
+            Library::complete(c)
+        });
+        let held = collector[2];
+        header.within(("pbeam_swtpm_held", what), &collector, held, |c| {
+            Library::held(c)
+        });
+    }
+    header.is_measured();
 }

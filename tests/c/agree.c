@@ -16,11 +16,11 @@
 
 #define BASE UINT64_C(0x80000000)
 #define MEMORY UINT64_C(0x90000000)
-static const uint64_t granules[PBEAM_GRANULES_WORDS] = {[PBEAM_GRANULES_START] = MEMORY};
 #define LEN 4096
 #define ROOM 512
 #define GUARD UINT64_C(0xA5C3A5C3A5C3A5C3)
 
+static const uint64_t granules[ROOM] = {MEMORY};
 static unsigned long checks;
 
 static void same(int line, const char *what, uint64_t is, const char *beside, uint64_t want)
@@ -321,6 +321,14 @@ static void check_editions_and_length(void)
     SAME(PBEAM_PAGE_BYTES, length);
 }
 
+/* Of the header alone: 0.2.0, as docs/REFERENCE.md has it. */
+static void check_version(void)
+{
+    SAME(PBEAM_VERSION_MAJOR, 0);
+    SAME(PBEAM_VERSION_MINOR, 2);
+    SAME(PBEAM_VERSION_PATCH, 0);
+}
+
 /* ---- Boot ---- */
 
 /* A record that is up, with this agreed minor. */
@@ -425,6 +433,20 @@ static uint64_t delegate(const uint64_t state[ROOM], uint8_t *table, size_t i, i
     return out[0];
 }
 
+/* G is taken from its word, whatever stands around it. */
+static void check_granule_record(const uint64_t state[ROOM])
+{
+    uint64_t words[2 * ROOM], out[ROOM];
+    uint64_t *record = words + ROOM;
+    uint8_t table[1] = {0};
+    guard(words);
+    guard(record);
+    record[PBEAM_GRANULES_START] = MEMORY;
+    pbeam_delegate(state, record, table, 1, MEMORY, out);
+    SAME(out[0], PBEAM_X0_OK);
+    SAME(PBEAM_GRANULES_WORDS, PBEAM_GRANULES_START + 1);
+}
+
 static void check_granules(void)
 {
     uint64_t state[ROOM];
@@ -438,6 +460,7 @@ static void check_granules(void)
         SAME(delegate(state, table, i, 0), PBEAM_X0_BAD_PAS);
         SAME(delegate(state, table, i, 1), PBEAM_X0_BAD_PAS);
     }
+    check_granule_record(state);
     /* Root and Secure are alike to the library: 01 gives them these numbers. */
     SAME(PBEAM_GRANULE_ROOT, 2);
     SAME(PBEAM_GRANULE_SECURE, 3);
@@ -874,6 +897,7 @@ int main(int argc, char **argv)
         printf("usage: agree PAGE\n");
         return 2;
     }
+    check_version();
     check_core_sizes();
     check_page_bytes();
     check_padding_and_plat_data();

@@ -1,5 +1,6 @@
-/* The header alone, as C11: it needs no other header before it, and may come twice. */
-#include "potterbeam.h"
+/* The headers alone, as C11: they need no other header before them, and may come twice. */
+#include "potterbeam_types.h"
+#include "potterbeam_types.h"
 #include "potterbeam.h"
 
 #include "signatures.h"

@@ -1,6 +1,7 @@
-// The header alone, as C++11 and later: it needs no other header before it, may come twice, and gives its functions C linkage (tests/c/run
-// looks at the names in the object file).
-#include "potterbeam.h"
+// The headers alone, as C++11 and later: they need no other header before them, may come twice, and the functions of potterbeam.h have C
+// linkage (tests/c/run looks at the names in the object file).
+#include "potterbeam_types.h"
+#include "potterbeam_types.h"
 #include "potterbeam.h"
 
 #include "signatures.h"

@@ -158,13 +158,6 @@ static void names(void)
     SAME(strncmp(pbeam_tpm_name(4294967294), "H_", 2) != 0, 1);
 }
 
-/* The stack figures are held by rust/tests/stack.rs; here they are only numbers that a board can use. */
-static void stacks(void)
-{
-    SAME(PBEAM_TPM_COMM_STACK > 64 && PBEAM_TPM_COMM_STACK < 1024, 1);
-    SAME(PBEAM_TPM_REQUEST_STACK > 16 && PBEAM_TPM_REQUEST_STACK < 1024, 1);
-}
-
 int main(void)
 {
     for (size_t i = 0; i < MEMORY; i++) {
@@ -176,7 +169,6 @@ int main(void)
     sizes();
     places();
     names();
-    stacks();
     printf("%lu checks, all right\n", checks);
     return 0;
 }

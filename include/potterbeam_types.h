@@ -1,0 +1,769 @@
+/*
+ * Potterbeam RMM-EL3 kit: types over the words of potterbeam.h, for C11 and C++11 or later. Nothing here is exported by the library:
+ * each function is `static inline` and calls one of potterbeam.h, or reads and writes what it is lent.
+ *
+ * Each image has a type of its own, so that a session given for a queue does not compile. Banks, regions and consoles are structs, and
+ * lists of them are counted in entries. What pbeam_call takes stands in one struct, pbeam_context_t.
+ *
+ * A pointer to an image, a page or a struct is never NULL, unless it says so. All else is as in potterbeam.h: any value is taken.
+ */
+#ifndef POTTERBEAM_TYPES_H
+#define POTTERBEAM_TYPES_H
+
+#include <stdbool.h>
+#include <stddef.h>
+#include <stdint.h>
+
+#include "potterbeam.h"
+
+#ifdef __cplusplus
+#define PBEAM_ASSERT(holds, text) static_assert(holds, text)
+#else
+#define PBEAM_ASSERT(holds, text) _Static_assert(holds, text)
+#endif
+
+/* ---- 002's own names. Define PBEAM_NO_002_NAMES before this header where the firmware has them already. ---- */
+
+#define PBEAM_ID_BOOT_COMPLETE UINT64_C(0xC40001CF) /* RMM_BOOT_COMPLETE: the platform's; pbeam_call answers PBEAM_X0_UNK */
+
+#ifndef PBEAM_NO_002_NAMES
+
+/* Codes of RMM_BOOT_COMPLETE. 002's unknown error is a boot on a record in the wrong state here. */
+#define E_RMM_BOOT_SUCCESS PBEAM_BOOT_DONE
+#define E_RMM_BOOT_ERR_UNKNOWN PBEAM_BOOT_STATE
+#define E_RMM_BOOT_VERSION_NOT_VALID PBEAM_BOOT_VERSION
+#define E_RMM_BOOT_CPUS_OUT_OF_RANGE PBEAM_BOOT_CPUS
+#define E_RMM_BOOT_CPU_ID_OUT_OF_RANGE PBEAM_BOOT_CPU
+#define E_RMM_BOOT_INVALID_SHARED_BUFFER PBEAM_MANIFEST_PLACE
+#define E_RMM_BOOT_MANIFEST_VERSION_NOT_SUPPORTED PBEAM_MANIFEST_VERSION
+#define E_RMM_BOOT_MANIFEST_DATA_ERROR PBEAM_MANIFEST_RULES
+
+/* Codes of the runtime commands, as pbeam_registers_code gives them. */
+#define E_RMM_OK PBEAM_OK
+#define E_RMM_UNK PBEAM_UNK
+#define E_RMM_BAD_ADDR PBEAM_BAD_ADDR
+#define E_RMM_BAD_PAS PBEAM_BAD_PAS
+#define E_RMM_NOMEM (-4) /* never answered */
+#define E_RMM_INVAL PBEAM_INVAL
+#define E_RMM_AGAIN PBEAM_AGAIN
+
+/* Function ids. */
+#define RMM_RMI_REQ_COMPLETE PBEAM_ID_FORWARD
+#define RMM_GTSI_DELEGATE PBEAM_ID_DELEGATE
+#define RMM_GTSI_UNDELEGATE PBEAM_ID_UNDELEGATE
+#define RMM_ATTEST_GET_REALM_KEY PBEAM_ID_REALM_KEY
+#define RMM_ATTEST_GET_PLAT_TOKEN PBEAM_ID_PLATFORM_TOKEN
+#define RMM_EL3_FEATURES PBEAM_ID_FEATURES
+#define RMM_EL3_TOKEN_SIGN PBEAM_ID_TOKEN_SIGNING
+#define RMM_MECID_KEY_UPDATE PBEAM_ID_KEY_UPDATE
+#define RMM_BOOT_COMPLETE PBEAM_ID_BOOT_COMPLETE
+
+/* Opcodes of RMM_EL3_TOKEN_SIGN. */
+#define RMM_EL3_TOKEN_SIGN_PUSH_REQ_OP PBEAM_OPCODE_PUSH
+#define RMM_EL3_TOKEN_SIGN_PULL_RESP_OP PBEAM_OPCODE_PULL
+#define RMM_EL3_TOKEN_SIGN_GET_RAK_PUB_OP PBEAM_OPCODE_KEY
+
+#endif
+
+/* ---- Types ---- */
+
+/* The shared page, where the caller sees it. */
+typedef struct {
+    uint8_t bytes[PBEAM_PAGE_BYTES];
+} pbeam_page_t;
+
+/* Images: the words of potterbeam.h. */
+typedef struct {
+    uint64_t words[PBEAM_STATE_WORDS];
+} pbeam_record_t;
+
+typedef struct {
+    uint64_t words[PBEAM_GRANULES_WORDS];
+} pbeam_granules_t;
+
+typedef struct {
+    uint64_t words[PBEAM_SESSION_WORDS];
+} pbeam_session_t;
+
+typedef struct {
+    uint64_t words[PBEAM_QUEUE_WORDS];
+} pbeam_queue_t;
+
+typedef struct {
+    uint64_t words[PBEAM_REQUEST_WORDS];
+} pbeam_request_t;
+
+typedef struct {
+    uint64_t words[PBEAM_VIEW_WORDS];
+} pbeam_view_t;
+
+typedef struct {
+    uint64_t words[PBEAM_PLACE_WORDS];
+} pbeam_place_t;
+
+typedef struct {
+    uint64_t words[PBEAM_OUT_WORDS];
+} pbeam_registers_t;
+
+typedef struct {
+    uint64_t words[PBEAM_WORK_WORDS];
+} pbeam_work_t;
+
+typedef struct {
+    uint64_t words[PBEAM_CALL_WORDS];
+} pbeam_call_t;
+
+/* Entries of the manifest: 64-bit words in their order, with 002's names. */
+typedef struct {
+    uint64_t base;
+    uint64_t size;
+} pbeam_bank_t;
+
+typedef struct {
+    uint64_t base;
+    uint64_t size;
+} pbeam_region_t;
+
+typedef struct {
+    uint64_t base;
+    uint64_t map_pages;
+    uint64_t name; /* pbeam_console_set_name, pbeam_console_text */
+    uint64_t clk_in_hz;
+    uint64_t baud_rate;
+    uint64_t flags; /* 0 */
+} pbeam_console_t;
+
+/* Bytes that a call only reads. A NULL pointer is no byte, whatever the length. */
+typedef struct {
+    const uint8_t *at;
+    size_t length;
+} pbeam_bytes_t;
+
+/* The four lists of a manifest. A count is a number of entries; a pointer may be NULL where it is 0. */
+typedef struct {
+    const pbeam_bank_t *dram;
+    size_t dram_count;
+    const pbeam_console_t *console;
+    size_t console_count;
+    const pbeam_region_t *ncoh;
+    size_t ncoh_count;
+    const pbeam_region_t *coh;
+    size_t coh_count;
+} pbeam_lists_t;
+
+/* x0 to x3 of a cold boot. */
+typedef struct {
+    uint64_t cpu;     /* x0: index of this CPU */
+    uint64_t version; /* x1: version of the boot interface that EL3 offers */
+    uint64_t cpus;    /* x2: number of CPUs */
+    uint64_t base;    /* x3: B */
+} pbeam_cold_t;
+
+/* All that a runtime command takes beside its registers. All zero: nothing is served. */
+typedef struct {
+    pbeam_record_t record;   /* EL3's own */
+    pbeam_session_t session;
+    pbeam_queue_t queue;
+    pbeam_page_t *page;      /* NULL: no page, so the commands that need it answer PBEAM_X0_UNK */
+    pbeam_granules_t granules;
+    uint8_t *table;          /* a byte a granule; NULL: no granule */
+    size_t table_count;
+    pbeam_bytes_t realm_key;
+    pbeam_bytes_t token;     /* see "The platform token" in potterbeam.h */
+    pbeam_bytes_t public_key;
+    bool busy;               /* the platform token cannot be served now */
+    uint64_t mecid_width;    /* MECIDR_EL2.MECIDWidthm1 */
+} pbeam_context_t;
+
+/* A response as the monitor finds it in its buffer. */
+typedef struct {
+    uint64_t rec_granule;
+    uint64_t req_ticket;
+    uint16_t sig_len;
+    const uint8_t *signature_buf; /* in the buffer */
+} pbeam_response_t;
+
+PBEAM_ASSERT(sizeof(pbeam_page_t) == 4096, "a page");
+PBEAM_ASSERT(sizeof(pbeam_record_t) == 32, "a boot record");
+PBEAM_ASSERT(sizeof(pbeam_granules_t) == 8, "a granule record");
+PBEAM_ASSERT(sizeof(pbeam_session_t) == 24, "a session");
+PBEAM_ASSERT(sizeof(pbeam_queue_t) == 1680, "a queue");
+PBEAM_ASSERT(sizeof(pbeam_request_t) == 80, "a request");
+PBEAM_ASSERT(sizeof(pbeam_view_t) == 120, "a view");
+PBEAM_ASSERT(sizeof(pbeam_place_t) == 16, "a place");
+PBEAM_ASSERT(sizeof(pbeam_registers_t) == 24, "result registers");
+PBEAM_ASSERT(sizeof(pbeam_work_t) == 16, "work");
+PBEAM_ASSERT(sizeof(pbeam_call_t) == 40, "registers of a call");
+PBEAM_ASSERT(sizeof(pbeam_bank_t) == PBEAM_BANK_BYTES, "a bank is its words");
+PBEAM_ASSERT(offsetof(pbeam_bank_t, size) == 8 * PBEAM_BANK_SIZE, "words of a bank");
+PBEAM_ASSERT(sizeof(pbeam_region_t) == PBEAM_BANK_BYTES, "a region is its words");
+PBEAM_ASSERT(offsetof(pbeam_region_t, size) == 8 * PBEAM_BANK_SIZE, "words of a region");
+PBEAM_ASSERT(sizeof(pbeam_console_t) == PBEAM_CONSOLE_BYTES, "a console is its words");
+PBEAM_ASSERT(offsetof(pbeam_console_t, map_pages) == 8 * PBEAM_CONSOLE_MAP_PAGES, "words of a console");
+PBEAM_ASSERT(offsetof(pbeam_console_t, name) == 8 * PBEAM_CONSOLE_NAME, "words of a console");
+PBEAM_ASSERT(offsetof(pbeam_console_t, clk_in_hz) == 8 * PBEAM_CONSOLE_CLK_IN_HZ, "words of a console");
+PBEAM_ASSERT(offsetof(pbeam_console_t, baud_rate) == 8 * PBEAM_CONSOLE_BAUD_RATE, "words of a console");
+PBEAM_ASSERT(offsetof(pbeam_console_t, flags) == 8 * PBEAM_CONSOLE_FLAGS, "words of a console");
+
+/* ---- Little-endian fields, at any address ---- */
+
+PBEAM_NONNULL(1)
+static inline uint16_t pbeam_get16(const uint8_t *at)
+{
+    return (uint16_t)(at[0] | (unsigned)at[1] << 8);
+}
+
+PBEAM_NONNULL(1)
+static inline uint32_t pbeam_get32(const uint8_t *at)
+{
+    return pbeam_get16(at) | (uint32_t)pbeam_get16(at + 2) << 16;
+}
+
+PBEAM_NONNULL(1)
+static inline uint64_t pbeam_get64(const uint8_t *at)
+{
+    return pbeam_get32(at) | (uint64_t)pbeam_get32(at + 4) << 32;
+}
+
+PBEAM_NONNULL(1)
+static inline void pbeam_put16(uint8_t *at, uint16_t number)
+{
+    at[0] = (uint8_t)(number & 0xFF);
+    at[1] = (uint8_t)(number >> 8);
+}
+
+PBEAM_NONNULL(1)
+static inline void pbeam_put32(uint8_t *at, uint32_t number)
+{
+    pbeam_put16(at, (uint16_t)(number & 0xFFFF));
+    pbeam_put16(at + 2, (uint16_t)(number >> 16));
+}
+
+PBEAM_NONNULL(1)
+static inline void pbeam_put64(uint8_t *at, uint64_t number)
+{
+    pbeam_put32(at, (uint32_t)(number & 0xFFFFFFFF));
+    pbeam_put32(at + 4, (uint32_t)(number >> 32));
+}
+
+/* ---- Codes in words, for a log ---- */
+
+/* A boot's code. */
+static inline const char *pbeam_boot_text(int32_t code)
+{
+    switch (code) {
+    case PBEAM_BOOT_DONE: return "done";
+    case PBEAM_BOOT_STATE: return "unknown error, or the record is not in the state that the boot needs";
+    case PBEAM_BOOT_VERSION: return "the version of the boot interface is not accepted";
+    case PBEAM_BOOT_CPUS: return "more CPUs than the monitor supports";
+    case PBEAM_BOOT_CPU: return "the CPU's index is not below the number of CPUs";
+    case PBEAM_MANIFEST_PLACE: return "the page's length or base is wrong";
+    case PBEAM_MANIFEST_VERSION: return "the version of the manifest is not accepted";
+    case PBEAM_MANIFEST_RULES: return "the manifest breaks a rule";
+    default: return "no boot code";
+    }
+}
+
+/* A reader's code. */
+static inline const char *pbeam_read_text(int32_t code)
+{
+    switch (code) {
+    case PBEAM_READ_ACCEPTED: return "accepted";
+    case PBEAM_MANIFEST_PLACE: return "the page's length or base is wrong";
+    case PBEAM_MANIFEST_VERSION: return "the reader's edition is not 1 to 4, or the version of the manifest is not accepted";
+    case PBEAM_MANIFEST_RULES: return "the manifest breaks a rule";
+    default: return "no reader's code";
+    }
+}
+
+/* A writer's refusal. */
+static inline const char *pbeam_write_text(uint32_t refusal)
+{
+    switch (refusal) {
+    case PBEAM_WRITE_PAGE: return "done";
+    case PBEAM_WRITE_W1_PLACE: return "W1: the page's length or base is wrong";
+    case PBEAM_WRITE_W2_EDITION: return "W2: the edition is not 1 to 4";
+    case PBEAM_WRITE_W3_LISTS: return "W3: a list is not whole entries, or an entry breaks its rule";
+    case PBEAM_WRITE_W4_LATE: return "W4: a list for a section that the edition does not have";
+    case PBEAM_WRITE_W5_ROOM: return "W5: the entries do not fit into the page";
+    default: return "no writer's answer";
+    }
+}
+
+/* A runtime command's code, as x0 holds it. */
+static inline const char *pbeam_x0_text(uint64_t x0)
+{
+    switch (x0) {
+    case PBEAM_X0_OK: return "OK";
+    case PBEAM_X0_UNK: return "UNK: not served, or the platform has nothing to give";
+    case PBEAM_X0_BAD_ADDR: return "BAD_ADDR: outside the page, or on no granule of the table";
+    case PBEAM_X0_BAD_PAS: return "BAD_PAS: the granule is in another state than the command needs";
+    case PBEAM_X0_INVAL: return "INVAL: an argument is not allowed";
+    case PBEAM_X0_AGAIN: return "AGAIN: busy, full or nothing there yet; call again later";
+    default: return "no runtime code";
+    }
+}
+
+/* ---- Entries ---- */
+
+/* The bytes of a slice. */
+static inline pbeam_bytes_t pbeam_bytes(const uint8_t *at, size_t length)
+{
+    pbeam_bytes_t bytes;
+    bytes.at = at;
+    bytes.length = at == NULL ? 0 : length;
+    return bytes;
+}
+
+/* The name of a console from a C string. false, and no change, where it has more than 8 characters. */
+PBEAM_NONNULL(1, 2)
+static inline bool pbeam_console_set_name(pbeam_console_t *console, const char *name)
+{
+    uint64_t word = 0;
+    unsigned i = 0;
+    for (; name[i] != '\0'; i++) {
+        if (i == 8)
+            return false;
+        word |= (uint64_t)(unsigned char)name[i] << (8 * i);
+    }
+    console->name = word;
+    return true;
+}
+
+/* The name of a console as a C string. One of 8 characters has no end mark in the manifest; here it has. */
+PBEAM_NONNULL(1, 2)
+static inline void pbeam_console_text(const pbeam_console_t *console, char text[9])
+{
+    for (unsigned i = 0; i < 8; i++)
+        text[i] = (char)(unsigned char)(console->name >> (8 * i) & 0xFF);
+    text[8] = '\0';
+}
+
+/* ---- Manifest ---- */
+
+/*
+ * pbeam_write with lists that are counted in entries. A count that no memory holds (above SIZE_MAX / the size of an entry) is
+ * PBEAM_WRITE_W3_LISTS before all other checks: in words it would wrap around to a short list.
+ */
+PBEAM_NONNULL(3, 4)
+static inline uint32_t pbeam_manifest_write(uint64_t base, uint64_t edition, const pbeam_lists_t *lists, pbeam_page_t *page)
+{
+    const size_t banks_most = SIZE_MAX / PBEAM_BANK_BYTES, consoles_most = SIZE_MAX / PBEAM_CONSOLE_BYTES;
+    if (lists->dram_count > banks_most || lists->console_count > consoles_most || lists->ncoh_count > banks_most ||
+        lists->coh_count > banks_most)
+        return PBEAM_WRITE_W3_LISTS;
+    return pbeam_write(base, edition, (const uint64_t *)(const void *)lists->dram, lists->dram_count * PBEAM_BANK_WORDS,
+                       (const uint64_t *)(const void *)lists->console, lists->console_count * PBEAM_CONSOLE_WORDS,
+                       (const uint64_t *)(const void *)lists->ncoh, lists->ncoh_count * PBEAM_BANK_WORDS,
+                       (const uint64_t *)(const void *)lists->coh, lists->coh_count * PBEAM_BANK_WORDS, page->bytes,
+                       sizeof page->bytes);
+}
+
+/* pbeam_read. */
+PBEAM_NONNULL(1, 4)
+static inline int32_t pbeam_manifest_read(const pbeam_page_t *page, uint64_t base, uint64_t edition, pbeam_view_t *view)
+{
+    return pbeam_read(page->bytes, sizeof page->bytes, base, edition, view->words);
+}
+
+/* The page's minor, w. */
+PBEAM_NONNULL(1)
+static inline uint64_t pbeam_view_minor(const pbeam_view_t *view)
+{
+    return view->words[PBEAM_VIEW_MINOR];
+}
+
+/* The edition that it was read as, e. */
+PBEAM_NONNULL(1)
+static inline uint64_t pbeam_view_edition(const pbeam_view_t *view)
+{
+    return view->words[PBEAM_VIEW_EDITION];
+}
+
+/* plat_data: 0, or a physical address in the page. */
+PBEAM_NONNULL(1)
+static inline uint64_t pbeam_view_plat_data(const pbeam_view_t *view)
+{
+    return view->words[PBEAM_VIEW_PLAT_DATA];
+}
+
+/* PBEAM_VIEW_ABSENT, PBEAM_VIEW_EMPTY or PBEAM_VIEW_ENTRIES; a section's number above 3 is absent. */
+PBEAM_NONNULL(1)
+static inline uint64_t pbeam_view_section(const pbeam_view_t *view, size_t section)
+{
+    uint64_t kind;
+    if (section >= PBEAM_SECTIONS)
+        return PBEAM_VIEW_ABSENT;
+    kind = view->words[PBEAM_VIEW_SECTIONS + PBEAM_VIEW_SECTION_WORDS * section + PBEAM_VIEW_SECTION_KIND];
+    return kind <= PBEAM_VIEW_EMPTY ? kind : PBEAM_VIEW_ENTRIES;
+}
+
+/* pbeam_array_of: the part of the page that holds a section's array. */
+PBEAM_NONNULL(1, 2, 4)
+static inline void pbeam_view_array(const pbeam_page_t *page, const pbeam_view_t *view, size_t section, pbeam_place_t *place)
+{
+    pbeam_array_of(page->bytes, sizeof page->bytes, view->words, section, place->words);
+}
+
+/* pbeam_count: the number of entries of a section. */
+PBEAM_NONNULL(1, 2)
+static inline size_t pbeam_view_count(const pbeam_page_t *page, const pbeam_view_t *view, size_t section)
+{
+    return pbeam_count(page->bytes, sizeof page->bytes, view->words, section);
+}
+
+/* One word of an entry, as pbeam_word. The functions behind it give whole entries. */
+PBEAM_NONNULL(1, 2)
+static inline uint64_t pbeam_view_word(const pbeam_page_t *page, const pbeam_view_t *view, size_t section, size_t entry, size_t word)
+{
+    return pbeam_word(page->bytes, sizeof page->bytes, view->words, section, entry, word);
+}
+
+/* A bank of dram; all zero where there is no such entry. No bank that was accepted has size 0. */
+PBEAM_NONNULL(1, 2)
+static inline pbeam_bank_t pbeam_view_dram(const pbeam_page_t *page, const pbeam_view_t *view, size_t entry)
+{
+    pbeam_bank_t bank;
+    bank.base = pbeam_view_word(page, view, PBEAM_DRAM, entry, PBEAM_BANK_BASE);
+    bank.size = pbeam_view_word(page, view, PBEAM_DRAM, entry, PBEAM_BANK_SIZE);
+    return bank;
+}
+
+/* A region of ncoh or coh; all zero where there is no such entry, and for another section. */
+PBEAM_NONNULL(1, 2)
+static inline pbeam_region_t pbeam_view_region(const pbeam_page_t *page, const pbeam_view_t *view, size_t section, size_t entry)
+{
+    const bool has_regions = section == PBEAM_NCOH || section == PBEAM_COH;
+    pbeam_region_t region;
+    region.base = has_regions ? pbeam_view_word(page, view, section, entry, PBEAM_BANK_BASE) : 0;
+    region.size = has_regions ? pbeam_view_word(page, view, section, entry, PBEAM_BANK_SIZE) : 0;
+    return region;
+}
+
+/* A console; all zero where there is no such entry. No console that was accepted has map_pages 0. */
+PBEAM_NONNULL(1, 2)
+static inline pbeam_console_t pbeam_view_console(const pbeam_page_t *page, const pbeam_view_t *view, size_t entry)
+{
+    pbeam_console_t console;
+    console.base = pbeam_view_word(page, view, PBEAM_CONSOLE, entry, PBEAM_CONSOLE_BASE);
+    console.map_pages = pbeam_view_word(page, view, PBEAM_CONSOLE, entry, PBEAM_CONSOLE_MAP_PAGES);
+    console.name = pbeam_view_word(page, view, PBEAM_CONSOLE, entry, PBEAM_CONSOLE_NAME);
+    console.clk_in_hz = pbeam_view_word(page, view, PBEAM_CONSOLE, entry, PBEAM_CONSOLE_CLK_IN_HZ);
+    console.baud_rate = pbeam_view_word(page, view, PBEAM_CONSOLE, entry, PBEAM_CONSOLE_BAUD_RATE);
+    console.flags = pbeam_view_word(page, view, PBEAM_CONSOLE, entry, PBEAM_CONSOLE_FLAGS);
+    return console;
+}
+
+/* Offset and length of a place. */
+PBEAM_NONNULL(1)
+static inline size_t pbeam_place_offset(const pbeam_place_t *place)
+{
+    return (size_t)place->words[PBEAM_PLACE_OFFSET];
+}
+
+PBEAM_NONNULL(1)
+static inline size_t pbeam_place_length(const pbeam_place_t *place)
+{
+    return (size_t)place->words[PBEAM_PLACE_LENGTH];
+}
+
+/* ---- Boot record ---- */
+
+/* A version from major and minor. false, and no change, where major is above 32,767 or minor above 65,535. */
+PBEAM_NONNULL(3)
+static inline bool pbeam_version(uint64_t major, uint64_t minor, uint64_t *version)
+{
+    if (major > 0x7FFF || minor > 0xFFFF)
+        return false;
+    *version = major << 16 | minor;
+    return true;
+}
+
+/* The record after a reset. */
+PBEAM_NONNULL(1)
+static inline void pbeam_record_reset(pbeam_record_t *record)
+{
+    for (size_t i = 0; i < PBEAM_STATE_WORDS; i++)
+        record->words[i] = 0;
+}
+
+/* Closes the record for good, whatever it was: for a boot error that the other side reports. */
+PBEAM_NONNULL(1)
+static inline void pbeam_record_close(pbeam_record_t *record)
+{
+    pbeam_record_reset(record);
+    record->words[PBEAM_STATE_KIND] = PBEAM_STATE_CLOSED;
+}
+
+/* pbeam_cold_boot. */
+PBEAM_NONNULL(1, 2, 4)
+static inline int32_t pbeam_record_cold_boot(pbeam_record_t *record, const pbeam_cold_t *x, uint64_t most, const pbeam_page_t *page)
+{
+    return pbeam_cold_boot(record->words, x->cpu, x->version, x->cpus, x->base, most, page->bytes, sizeof page->bytes);
+}
+
+/* pbeam_warm_boot. */
+PBEAM_NONNULL(1)
+static inline int32_t pbeam_record_warm_boot(pbeam_record_t *record, uint64_t cpu)
+{
+    return pbeam_warm_boot(record->words, cpu, 0, 0, 0);
+}
+
+/* Whether the record is up: the words below count only then. */
+PBEAM_NONNULL(1)
+static inline bool pbeam_record_is_up(const pbeam_record_t *record)
+{
+    return record->words[PBEAM_STATE_KIND] == PBEAM_STATE_UP;
+}
+
+PBEAM_NONNULL(1)
+static inline uint64_t pbeam_record_cpus(const pbeam_record_t *record)
+{
+    return record->words[PBEAM_STATE_CPUS];
+}
+
+PBEAM_NONNULL(1)
+static inline uint64_t pbeam_record_base(const pbeam_record_t *record)
+{
+    return record->words[PBEAM_STATE_BASE];
+}
+
+PBEAM_NONNULL(1)
+static inline uint64_t pbeam_record_minor(const pbeam_record_t *record)
+{
+    return record->words[PBEAM_STATE_MINOR];
+}
+
+/* ---- Registers of a call ---- */
+
+static inline pbeam_call_t pbeam_call_of(uint64_t x0, uint64_t x1, uint64_t x2, uint64_t x3, uint64_t x4)
+{
+    pbeam_call_t call;
+    call.words[PBEAM_CALL_ID] = x0;
+    call.words[PBEAM_CALL_X1] = x1;
+    call.words[PBEAM_CALL_X2] = x2;
+    call.words[PBEAM_CALL_X3] = x3;
+    call.words[PBEAM_CALL_X4] = x4;
+    return call;
+}
+
+static inline pbeam_call_t pbeam_call_forward(uint64_t err_code)
+{
+    return pbeam_call_of(PBEAM_ID_FORWARD, err_code, 0, 0, 0);
+}
+
+static inline pbeam_call_t pbeam_call_delegate(uint64_t address)
+{
+    return pbeam_call_of(PBEAM_ID_DELEGATE, address, 0, 0, 0);
+}
+
+static inline pbeam_call_t pbeam_call_undelegate(uint64_t address)
+{
+    return pbeam_call_of(PBEAM_ID_UNDELEGATE, address, 0, 0, 0);
+}
+
+static inline pbeam_call_t pbeam_call_realm_key(uint64_t pa, uint64_t size)
+{
+    return pbeam_call_of(PBEAM_ID_REALM_KEY, pa, size, PBEAM_CURVE_SECP384R1, 0);
+}
+
+static inline pbeam_call_t pbeam_call_platform_token(uint64_t pa, uint64_t size, uint64_t c_size)
+{
+    return pbeam_call_of(PBEAM_ID_PLATFORM_TOKEN, pa, size, c_size, 0);
+}
+
+static inline pbeam_call_t pbeam_call_features(void)
+{
+    return pbeam_call_of(PBEAM_ID_FEATURES, PBEAM_FEATURES_INDEX, 0, 0, 0);
+}
+
+static inline pbeam_call_t pbeam_call_push(uint64_t pa, uint64_t size)
+{
+    return pbeam_call_of(PBEAM_ID_TOKEN_SIGNING, PBEAM_OPCODE_PUSH, pa, size, 0);
+}
+
+static inline pbeam_call_t pbeam_call_pull(uint64_t pa, uint64_t size)
+{
+    return pbeam_call_of(PBEAM_ID_TOKEN_SIGNING, PBEAM_OPCODE_PULL, pa, size, 0);
+}
+
+static inline pbeam_call_t pbeam_call_public_key(uint64_t pa, uint64_t size)
+{
+    return pbeam_call_of(PBEAM_ID_TOKEN_SIGNING, PBEAM_OPCODE_KEY, pa, size, PBEAM_CURVE_SECP384R1);
+}
+
+static inline pbeam_call_t pbeam_call_key_update(uint64_t mecid)
+{
+    return pbeam_call_of(PBEAM_ID_KEY_UPDATE, mecid, 0, 0, 0);
+}
+
+/* Result registers. */
+PBEAM_NONNULL(1)
+static inline uint64_t pbeam_registers_x0(const pbeam_registers_t *out)
+{
+    return out->words[PBEAM_OUT_X0];
+}
+
+PBEAM_NONNULL(1)
+static inline uint64_t pbeam_registers_x1(const pbeam_registers_t *out)
+{
+    return out->words[PBEAM_OUT_X1];
+}
+
+PBEAM_NONNULL(1)
+static inline uint64_t pbeam_registers_x2(const pbeam_registers_t *out)
+{
+    return out->words[PBEAM_OUT_X2];
+}
+
+/* x0 as a code: PBEAM_OK .., E_RMM_OK .. */
+PBEAM_NONNULL(1)
+static inline int32_t pbeam_registers_code(const pbeam_registers_t *out)
+{
+    return (int32_t)(uint32_t)(out->words[PBEAM_OUT_X0] & 0xFFFFFFFF);
+}
+
+/* Whether work is of this kind: PBEAM_WORK_REPROGRAM or PBEAM_WORK_FORWARD; and its value. */
+PBEAM_NONNULL(1)
+static inline bool pbeam_work_is(const pbeam_work_t *work, uint64_t kind)
+{
+    return work->words[PBEAM_WORK_KIND] == kind;
+}
+
+PBEAM_NONNULL(1)
+static inline uint64_t pbeam_work_value(const pbeam_work_t *work)
+{
+    return work->words[PBEAM_WORK_VALUE];
+}
+
+/* ---- Runtime commands, EL3's side ---- */
+
+/* Session and queue as they are after a reset. */
+PBEAM_NONNULL(1)
+static inline void pbeam_session_reset(pbeam_session_t *session)
+{
+    for (size_t i = 0; i < PBEAM_SESSION_WORDS; i++)
+        session->words[i] = 0;
+}
+
+PBEAM_NONNULL(1)
+static inline void pbeam_queue_reset(pbeam_queue_t *queue)
+{
+    for (size_t i = 0; i < PBEAM_QUEUE_WORDS; i++)
+        queue->words[i] = 0;
+}
+
+/* Whether a session is under way: the token must stay as it is then. */
+PBEAM_NONNULL(1)
+static inline bool pbeam_session_is_sending(const pbeam_session_t *session)
+{
+    return session->words[PBEAM_SESSION_KIND] != PBEAM_SESSION_IDLE;
+}
+
+/* Where the granule table starts: G. */
+static inline pbeam_granules_t pbeam_granules_from(uint64_t start)
+{
+    pbeam_granules_t granules;
+    granules.words[PBEAM_GRANULES_START] = start;
+    return granules;
+}
+
+/* pbeam_call: one command. */
+PBEAM_NONNULL(1, 2, 3, 4)
+static inline void pbeam_context_call(pbeam_context_t *context, const pbeam_call_t *call, pbeam_registers_t *out, pbeam_work_t *work)
+{
+    const pbeam_bytes_t realm_key = pbeam_bytes(context->realm_key.at, context->realm_key.length);
+    const pbeam_bytes_t token = pbeam_bytes(context->token.at, context->token.length);
+    const pbeam_bytes_t public_key = pbeam_bytes(context->public_key.at, context->public_key.length);
+    pbeam_call(context->record.words, context->session.words, context->queue.words,
+               context->page == NULL ? NULL : context->page->bytes, context->page == NULL ? 0 : PBEAM_PAGE_BYTES,
+               context->granules.words, context->table, context->table == NULL ? 0 : context->table_count, realm_key.at,
+               realm_key.length, token.at, token.length, context->busy, public_key.at, public_key.length, context->mecid_width,
+               call->words, out->words, work->words);
+}
+
+/* pbeam_challenge: the challenge of a call that starts a token session; (0, 0) for any other call. */
+PBEAM_NONNULL(1, 2, 3)
+static inline void pbeam_context_challenge(const pbeam_context_t *context, const pbeam_call_t *call, pbeam_place_t *place)
+{
+    const bool is_token = call->words[PBEAM_CALL_ID] == PBEAM_ID_PLATFORM_TOKEN;
+    pbeam_challenge(context->record.words, context->page == NULL ? NULL : context->page->bytes,
+                    context->page == NULL ? 0 : PBEAM_PAGE_BYTES, call->words[PBEAM_CALL_X1], call->words[PBEAM_CALL_X2],
+                    is_token ? call->words[PBEAM_CALL_X3] : PBEAM_CHALLENGE_NONE, place->words);
+}
+
+/* pbeam_oldest: how many requests wait, and the oldest. */
+PBEAM_NONNULL(1, 2)
+static inline size_t pbeam_queue_oldest(const pbeam_queue_t *queue, pbeam_request_t *request)
+{
+    return pbeam_oldest(queue->words, request->words);
+}
+
+/* pbeam_sign: the signature of the oldest request. */
+PBEAM_NONNULL(1, 3)
+static inline void pbeam_queue_sign(pbeam_queue_t *queue, pbeam_bytes_t signature, pbeam_registers_t *out)
+{
+    const pbeam_bytes_t bytes = pbeam_bytes(signature.at, signature.length);
+    pbeam_sign(queue->words, bytes.at, bytes.length, out->words);
+}
+
+/* Fields of a request. */
+PBEAM_NONNULL(1)
+static inline uint64_t pbeam_request_sig_alg_id(const pbeam_request_t *request)
+{
+    return request->words[PBEAM_REQUEST_WORD_ALGORITHM];
+}
+
+PBEAM_NONNULL(1)
+static inline uint64_t pbeam_request_rec_granule(const pbeam_request_t *request)
+{
+    return request->words[PBEAM_REQUEST_WORD_GRANULE];
+}
+
+PBEAM_NONNULL(1)
+static inline uint64_t pbeam_request_req_ticket(const pbeam_request_t *request)
+{
+    return request->words[PBEAM_REQUEST_WORD_TICKET];
+}
+
+PBEAM_NONNULL(1)
+static inline uint64_t pbeam_request_hash_alg_id(const pbeam_request_t *request)
+{
+    return request->words[PBEAM_REQUEST_WORD_HASH_ID];
+}
+
+PBEAM_NONNULL(1, 2)
+static inline void pbeam_request_hash_buf(const pbeam_request_t *request, uint8_t hash[PBEAM_HASH_BYTES])
+{
+    for (size_t i = 0; i < PBEAM_HASH_WORDS; i++)
+        pbeam_put64(hash + 8 * i, request->words[PBEAM_REQUEST_WORD_HASH + i]);
+}
+
+/* ---- Runtime commands, the monitor's side ---- */
+
+/* Lays a request into the buffer of a push, which has PBEAM_REQUEST_BYTES. Bytes that are not read become zero. */
+PBEAM_NONNULL(1, 4)
+static inline void pbeam_put_request(uint8_t *at, uint64_t rec_granule, uint64_t req_ticket, const uint8_t hash[PBEAM_HASH_BYTES])
+{
+    pbeam_put64(at + PBEAM_REQUEST_ALGORITHM, PBEAM_ALGORITHM_SECP384R1);
+    pbeam_put64(at + PBEAM_REQUEST_GRANULE, rec_granule);
+    pbeam_put64(at + PBEAM_REQUEST_TICKET, req_ticket);
+    pbeam_put64(at + PBEAM_REQUEST_HASH_ID, PBEAM_HASH_SHA2_384);
+    for (size_t i = 0; i < PBEAM_HASH_BYTES; i++)
+        at[PBEAM_REQUEST_HASH + i] = hash[i];
+}
+
+/* The response that a pull left in a buffer of `size` bytes. false where its signature goes past the buffer, or size is below 18. */
+PBEAM_NONNULL(1, 3)
+static inline bool pbeam_get_response(const uint8_t *at, size_t size, pbeam_response_t *response)
+{
+    if (size < PBEAM_RESPONSE_SIGNATURE)
+        return false;
+    response->rec_granule = pbeam_get64(at + PBEAM_RESPONSE_GRANULE);
+    response->req_ticket = pbeam_get64(at + PBEAM_RESPONSE_TICKET);
+    response->sig_len = pbeam_get16(at + PBEAM_RESPONSE_LENGTH);
+    response->signature_buf = at + PBEAM_RESPONSE_SIGNATURE;
+    return response->sig_len <= size - PBEAM_RESPONSE_SIGNATURE;
+}
+
+#endif

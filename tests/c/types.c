@@ -1,0 +1,487 @@
+/*
+ * Does each function of include/potterbeam_types.h do what it says? It is compared with the words underneath, with another function of
+ * the header, or with the library's answer. tests/c/run refuses a function or a name of the header that is not named here.
+ *
+ * The first check that fails ends the program with its line.
+ */
+#include <inttypes.h>
+#include <stdio.h>
+#include <stdlib.h>
+#include <string.h>
+
+#include "potterbeam_types.h"
+
+#define BASE UINT64_C(0x80000000)
+#define MEMORY UINT64_C(0x90000000)
+
+static unsigned long checks;
+
+static void same(int line, const char *what, uint64_t is, const char *beside, uint64_t want)
+{
+    checks++;
+    if (is == want)
+        return;
+    printf("tests/c/types.c:%d: wrong: %s is 0x%" PRIx64 ", but %s is 0x%" PRIx64 "\n", line, what, is, beside, want);
+    exit(1);
+}
+
+static void same_text(int line, const char *is, const char *want)
+{
+    checks++;
+    if (strcmp(is, want) == 0)
+        return;
+    printf("tests/c/types.c:%d: wrong: \"%s\", not \"%s\"\n", line, is, want);
+    exit(1);
+}
+
+#define SAME(a, b) same(__LINE__, #a, (uint64_t)(a), #b, (uint64_t)(b))
+#define TEXT(a, b) same_text(__LINE__, a, b)
+
+/* ---- 002's names: the numbers of 002's tables ---- */
+
+static void check_names_of_002(void)
+{
+    SAME(E_RMM_BOOT_SUCCESS, 0);
+    SAME(E_RMM_BOOT_ERR_UNKNOWN, -1);
+    SAME(E_RMM_BOOT_VERSION_NOT_VALID, -2);
+    SAME(E_RMM_BOOT_CPUS_OUT_OF_RANGE, -3);
+    SAME(E_RMM_BOOT_CPU_ID_OUT_OF_RANGE, -4);
+    SAME(E_RMM_BOOT_INVALID_SHARED_BUFFER, -5);
+    SAME(E_RMM_BOOT_MANIFEST_VERSION_NOT_SUPPORTED, -6);
+    SAME(E_RMM_BOOT_MANIFEST_DATA_ERROR, -7);
+    SAME(E_RMM_OK, 0);
+    SAME(E_RMM_UNK, -1);
+    SAME(E_RMM_BAD_ADDR, -2);
+    SAME(E_RMM_BAD_PAS, -3);
+    SAME(E_RMM_NOMEM, -4);
+    SAME(E_RMM_INVAL, -5);
+    SAME(E_RMM_AGAIN, -6);
+    SAME(RMM_RMI_REQ_COMPLETE, 0xC400018F);
+    SAME(RMM_GTSI_DELEGATE, 0xC40001B0);
+    SAME(RMM_GTSI_UNDELEGATE, 0xC40001B1);
+    SAME(RMM_ATTEST_GET_REALM_KEY, 0xC40001B2);
+    SAME(RMM_ATTEST_GET_PLAT_TOKEN, 0xC40001B3);
+    SAME(RMM_EL3_FEATURES, 0xC40001B4);
+    SAME(RMM_EL3_TOKEN_SIGN, 0xC40001B5);
+    SAME(RMM_MECID_KEY_UPDATE, 0xC40001B6);
+    SAME(RMM_BOOT_COMPLETE, 0xC40001CF);
+    SAME(RMM_EL3_TOKEN_SIGN_PUSH_REQ_OP, 1);
+    SAME(RMM_EL3_TOKEN_SIGN_PULL_RESP_OP, 2);
+    SAME(RMM_EL3_TOKEN_SIGN_GET_RAK_PUB_OP, 3);
+}
+
+/* ---- Bytes and texts ---- */
+
+static void check_little_endian(void)
+{
+    uint8_t b[12] = {0xEE, 1, 2, 3, 4, 5, 6, 7, 0xF8, 0xEE, 0xEE, 0xEE};
+    SAME(pbeam_get16(b + 1), 0x0201);
+    SAME(pbeam_get32(b + 1), 0x04030201);
+    SAME(pbeam_get64(b + 1), UINT64_C(0xF807060504030201));
+    pbeam_put16(b + 1, 0xA1B2);
+    SAME(pbeam_get64(b + 1), UINT64_C(0xF80706050403A1B2));
+    pbeam_put32(b + 1, 0xC3D4E5F6);
+    SAME(pbeam_get64(b + 1), UINT64_C(0xF8070605C3D4E5F6));
+    pbeam_put64(b + 1, UINT64_C(0x8899AABBCCDDEEFF));
+    SAME(pbeam_get64(b + 1), UINT64_C(0x8899AABBCCDDEEFF));
+    SAME(b[0], 0xEE);
+    SAME(b[9], 0xEE);
+}
+
+/* Each code has a text of its own, and no other number has one. */
+static void check_texts(void)
+{
+    for (int32_t a = 0; a > -8; a--) {
+        SAME(strcmp(pbeam_boot_text(a), "no boot code") == 0, 0);
+        SAME(strcmp(pbeam_read_text(a), "no reader's code") == 0, a < 0 && a > -5);
+        for (int32_t b = 0; b > a; b--)
+            SAME(strcmp(pbeam_boot_text(a), pbeam_boot_text(b)) == 0, 0);
+    }
+    TEXT(pbeam_boot_text(0), "done");
+    TEXT(pbeam_boot_text(-8), "no boot code");
+    TEXT(pbeam_boot_text(1), "no boot code");
+    TEXT(pbeam_read_text(0), "accepted");
+    TEXT(pbeam_read_text(-8), "no reader's code");
+    TEXT(pbeam_write_text(0), "done");
+    for (uint32_t w = 1; w <= 5; w++) {
+        SAME(pbeam_write_text(w)[0], 'W');
+        SAME(pbeam_write_text(w)[1], '0' + w);
+    }
+    TEXT(pbeam_write_text(6), "no writer's answer");
+    TEXT(pbeam_x0_text(PBEAM_X0_OK), "OK");
+    SAME(strncmp(pbeam_x0_text((uint64_t)INT64_C(-1)), "UNK:", 4), 0);
+    SAME(strncmp(pbeam_x0_text((uint64_t)INT64_C(-2)), "BAD_ADDR:", 9), 0);
+    SAME(strncmp(pbeam_x0_text((uint64_t)INT64_C(-3)), "BAD_PAS:", 8), 0);
+    TEXT(pbeam_x0_text((uint64_t)INT64_C(-4)), "no runtime code");
+    SAME(strncmp(pbeam_x0_text((uint64_t)INT64_C(-5)), "INVAL:", 6), 0);
+    SAME(strncmp(pbeam_x0_text((uint64_t)INT64_C(-6)), "AGAIN:", 6), 0);
+    TEXT(pbeam_x0_text(UINT64_C(0xFFFFFFFA)), "no runtime code"); /* 32 bits are not what x0 holds */
+}
+
+static void check_console_name(void)
+{
+    pbeam_console_t console = {0, 0, 7, 0, 0, 0};
+    char text[10] = "#########";
+    SAME(pbeam_console_set_name(&console, "ninechars"), false);
+    SAME(console.name, 7);
+    SAME(pbeam_console_set_name(&console, "pl011"), true);
+    SAME(console.name, 0x3131306C70);
+    pbeam_console_text(&console, text);
+    TEXT(text, "pl011");
+    SAME(pbeam_console_set_name(&console, "uart-\xFF-8"), true);
+    pbeam_console_text(&console, text);
+    TEXT(text, "uart-\xFF-8");
+    SAME(text[8], 0);
+    SAME(pbeam_console_set_name(&console, ""), true);
+    SAME(console.name, 0);
+}
+
+static void check_bytes(void)
+{
+    static const uint8_t b[3] = {1, 2, 3};
+    SAME(pbeam_bytes(b, 3).at == b, 1);
+    SAME(pbeam_bytes(b, 3).length, 3);
+    SAME(pbeam_bytes(NULL, 3).length, 0);
+}
+
+/* ---- Manifest ---- */
+
+static pbeam_page_t page;
+
+static const pbeam_bank_t dram[] = {{0x90000000, 0x10000000}, {0x880000000, 0x2000}};
+static const pbeam_console_t console[] = {{0x1C0C0000, 3, 0x3131306C70, 24000000, 115200, 0}};
+static const pbeam_region_t ncoh[] = {{0x1000, 0x1000}, {0x3000, 0x1000}, {0x5000, 0x1000}};
+static const pbeam_region_t coh[] = {{0x11000, 0x1000}, {0x13000, 0x1000}, {0x15000, 0x1000}, {0x17000, 0x1000}};
+static const pbeam_lists_t lists = {dram, 2, console, 1, ncoh, 3, coh, 4};
+
+/* Counts are entries: the page has each of them, and is the one that the same words give. */
+static void check_writer(void)
+{
+    static const uint64_t dram_words[] = {0x90000000, 0x10000000, 0x880000000, 0x2000};
+    static const uint64_t console_words[] = {0x1C0C0000, 3, 0x3131306C70, 24000000, 115200, 0};
+    static const uint64_t ncoh_words[] = {0x1000, 0x1000, 0x3000, 0x1000, 0x5000, 0x1000};
+    static const uint64_t coh_words[] = {0x11000, 0x1000, 0x13000, 0x1000, 0x15000, 0x1000, 0x17000, 0x1000};
+    static pbeam_page_t other;
+    SAME(pbeam_manifest_write(BASE, 4, &lists, &page), PBEAM_WRITE_PAGE);
+    SAME(pbeam_write(BASE, 4, dram_words, 4, console_words, 6, ncoh_words, 6, coh_words, 8, other.bytes, 4096), PBEAM_WRITE_PAGE);
+    SAME(memcmp(&page, &other, sizeof page), 0);
+    SAME(pbeam_manifest_write(0, 4, &lists, &page), PBEAM_WRITE_W1_PLACE);
+    SAME(pbeam_manifest_write(BASE, 3, &lists, &page), PBEAM_WRITE_W4_LATE);
+    SAME(memcmp(&page, &other, sizeof page), 0);
+}
+
+/* In words each of these counts is 0 or 2: a list that would be taken. */
+static void check_counts_that_wrap(void)
+{
+    pbeam_lists_t long_dram = lists, long_console = lists, long_ncoh = lists, long_coh = lists;
+    long_dram.dram_count = SIZE_MAX / 2 + 2;
+    long_console.console_count = SIZE_MAX / 2 + 1;
+    long_ncoh.ncoh_count = SIZE_MAX / 2 + 2;
+    long_coh.coh_count = SIZE_MAX / 2 + 2;
+    SAME(pbeam_manifest_write(BASE, 4, &long_dram, &page), PBEAM_WRITE_W3_LISTS);
+    SAME(pbeam_manifest_write(BASE, 4, &long_console, &page), PBEAM_WRITE_W3_LISTS);
+    SAME(pbeam_manifest_write(BASE, 4, &long_ncoh, &page), PBEAM_WRITE_W3_LISTS);
+    SAME(pbeam_manifest_write(BASE, 4, &long_coh, &page), PBEAM_WRITE_W3_LISTS);
+}
+
+static void check_entries(const pbeam_view_t *view)
+{
+    for (size_t i = 0; i < 3; i++) {
+        const pbeam_bank_t bank = pbeam_view_dram(&page, view, i);
+        SAME(bank.base, i < 2 ? dram[i].base : 0);
+        SAME(bank.size, i < 2 ? dram[i].size : 0);
+    }
+    for (size_t i = 0; i < 5; i++) {
+        const pbeam_region_t a = pbeam_view_region(&page, view, PBEAM_NCOH, i), b = pbeam_view_region(&page, view, PBEAM_COH, i);
+        SAME(a.base, i < 3 ? ncoh[i].base : 0);
+        SAME(a.size, i < 3 ? ncoh[i].size : 0);
+        SAME(b.base, i < 4 ? coh[i].base : 0);
+        SAME(b.size, i < 4 ? coh[i].size : 0);
+    }
+    SAME(pbeam_view_region(&page, view, PBEAM_DRAM, 0).size, 0);
+    SAME(pbeam_view_region(&page, view, PBEAM_CONSOLE, 0).base, 0);
+    const pbeam_console_t found = pbeam_view_console(&page, view, 0), none = pbeam_view_console(&page, view, 1);
+    SAME(memcmp(&found, console, sizeof found), 0);
+    SAME(none.base | none.map_pages | none.name | none.clk_in_hz | none.baud_rate | none.flags, 0);
+    SAME(pbeam_view_word(&page, view, PBEAM_CONSOLE, 0, PBEAM_CONSOLE_BAUD_RATE), 115200);
+    SAME(pbeam_view_word(&page, view, PBEAM_CONSOLE, 0, PBEAM_CONSOLE_WORDS), 0);
+}
+
+static void check_view(void)
+{
+    pbeam_view_t view;
+    pbeam_place_t place;
+    const pbeam_lists_t banks = {dram, 2, NULL, 0, NULL, 0, NULL, 0};
+    SAME(pbeam_manifest_write(BASE, 4, &lists, &page), PBEAM_WRITE_PAGE);
+    SAME(pbeam_manifest_read(&page, BASE, 4, &view), PBEAM_READ_ACCEPTED);
+    for (size_t k = 0; k < 5; k++) {
+        static const size_t count[] = {2, 1, 3, 4, 0};
+        SAME(pbeam_view_count(&page, &view, k), count[k]);
+        SAME(pbeam_view_section(&view, k), k < 4 ? PBEAM_VIEW_ENTRIES : PBEAM_VIEW_ABSENT);
+    }
+    check_entries(&view);
+    pbeam_view_array(&page, &view, PBEAM_CONSOLE, &place);
+    SAME(pbeam_place_offset(&place), 112 + 32);
+    SAME(pbeam_place_length(&place), 48);
+    view.words[PBEAM_VIEW_SECTIONS] = 77; /* read as entries */
+    SAME(pbeam_view_section(&view, PBEAM_DRAM), PBEAM_VIEW_ENTRIES);
+    SAME(pbeam_manifest_write(BASE, 4, &banks, &page), PBEAM_WRITE_PAGE);
+    pbeam_put64(page.bytes + PBEAM_CORE_PLAT_DATA, BASE + 2048);
+    SAME(pbeam_manifest_read(&page, BASE, 3, &view), PBEAM_READ_ACCEPTED);
+    SAME(pbeam_view_minor(&view), 4);
+    SAME(pbeam_view_edition(&view), 3);
+    SAME(pbeam_view_plat_data(&view), BASE + 2048);
+    SAME(pbeam_view_section(&view, PBEAM_CONSOLE), PBEAM_VIEW_EMPTY);
+    SAME(pbeam_view_section(&view, PBEAM_NCOH), PBEAM_VIEW_ABSENT);
+    SAME(pbeam_manifest_read(&page, 0, 4, &view), PBEAM_MANIFEST_PLACE);
+}
+
+/* ---- Boot ---- */
+
+static void check_version(void)
+{
+    uint64_t version = 9;
+    SAME(pbeam_version(0x8000, 0, &version), false);
+    SAME(pbeam_version(0, 0x10000, &version), false);
+    SAME(version, 9);
+    SAME(pbeam_version(3, 5, &version), true);
+    SAME(version, 0x30005);
+    SAME(pbeam_version(0, PBEAM_INTERFACE_MINOR, &version), true);
+    SAME(version, 5);
+}
+
+static void check_record(void)
+{
+    pbeam_record_t record;
+    const pbeam_cold_t x = {2, 4, 3, BASE};
+    memset(&record, 0xA5, sizeof record);
+    SAME(pbeam_record_is_up(&record), false);
+    pbeam_record_reset(&record);
+    SAME(pbeam_manifest_write(BASE, 4, &lists, &page), PBEAM_WRITE_PAGE);
+    SAME(pbeam_record_cold_boot(&record, &x, 3, &page), PBEAM_BOOT_DONE);
+    SAME(pbeam_record_is_up(&record), true);
+    SAME(pbeam_record_cpus(&record), 3);
+    SAME(pbeam_record_base(&record), BASE);
+    SAME(pbeam_record_minor(&record), 4);
+    SAME(pbeam_record_warm_boot(&record, 1), PBEAM_BOOT_DONE);
+    SAME(pbeam_record_is_up(&record), true);
+    pbeam_record_close(&record);
+    SAME(record.words[PBEAM_STATE_KIND], PBEAM_STATE_CLOSED);
+    SAME(record.words[1] | record.words[2] | record.words[3], 0);
+    SAME(pbeam_record_warm_boot(&record, 1), PBEAM_BOOT_STATE);
+    pbeam_record_reset(&record);
+    SAME(pbeam_record_cold_boot(&record, &x, 2, &page), PBEAM_BOOT_CPUS);
+}
+
+/* ---- Registers ---- */
+
+static void registers(int line, pbeam_call_t call, uint64_t x0, uint64_t x1, uint64_t x2, uint64_t x3, uint64_t x4)
+{
+    const uint64_t want[5] = {x0, x1, x2, x3, x4};
+    for (size_t i = 0; i < 5; i++)
+        same(line, "a register of the call", call.words[i], "the argument", want[i]);
+}
+
+static void check_calls(void)
+{
+    registers(__LINE__, pbeam_call_of(1, 2, 3, 4, 5), 1, 2, 3, 4, 5);
+    registers(__LINE__, pbeam_call_forward(7), 0xC400018F, 7, 0, 0, 0);
+    registers(__LINE__, pbeam_call_delegate(7), 0xC40001B0, 7, 0, 0, 0);
+    registers(__LINE__, pbeam_call_undelegate(7), 0xC40001B1, 7, 0, 0, 0);
+    registers(__LINE__, pbeam_call_realm_key(7, 8), 0xC40001B2, 7, 8, 0, 0);
+    registers(__LINE__, pbeam_call_platform_token(7, 8, 9), 0xC40001B3, 7, 8, 9, 0);
+    registers(__LINE__, pbeam_call_features(), 0xC40001B4, 0, 0, 0, 0);
+    registers(__LINE__, pbeam_call_push(7, 8), 0xC40001B5, 1, 7, 8, 0);
+    registers(__LINE__, pbeam_call_pull(7, 8), 0xC40001B5, 2, 7, 8, 0);
+    registers(__LINE__, pbeam_call_public_key(7, 8), 0xC40001B5, 3, 7, 8, 0);
+    registers(__LINE__, pbeam_call_key_update(7), 0xC40001B6, 7, 0, 0, 0);
+}
+
+static void check_answers(void)
+{
+    const pbeam_registers_t ok = {{0, 8, 9}};
+    const pbeam_work_t work = {{PBEAM_WORK_REPROGRAM, 12}};
+    SAME(pbeam_registers_x0(&ok), 0);
+    SAME(pbeam_registers_x1(&ok), 8);
+    SAME(pbeam_registers_x2(&ok), 9);
+    SAME(pbeam_registers_code(&ok), E_RMM_OK);
+    for (int32_t code = 0; code > -7; code--) {
+        const pbeam_registers_t out = {{(uint64_t)(int64_t)code, 0, 0}};
+        SAME(pbeam_registers_code(&out), code);
+        SAME(pbeam_registers_x0(&out), (int64_t)code);
+    }
+    SAME(pbeam_work_is(&work, PBEAM_WORK_REPROGRAM), true);
+    SAME(pbeam_work_is(&work, PBEAM_WORK_FORWARD), false);
+    SAME(pbeam_work_value(&work), 12);
+}
+
+/* ---- Runtime commands ---- */
+
+static pbeam_context_t context;
+static pbeam_registers_t out;
+static pbeam_work_t work;
+
+static int32_t called(pbeam_call_t call)
+{
+    memset(&out, 0xEE, sizeof out);
+    memset(&work, 0xEE, sizeof work);
+    pbeam_context_call(&context, &call, &out, &work);
+    return pbeam_registers_code(&out);
+}
+
+/* Each thing that is lent differs, so that one in another's place shows. */
+static void set_up(void)
+{
+    static uint8_t table[3];
+    static const uint8_t realm_key[] = {0x11, 0x12, 0x13}, token[] = {0x21, 0x22, 0x23, 0x24}, public_key[] = {0x31, 0x32};
+    const pbeam_cold_t x = {0, 5, 1, BASE};
+    memset(&context, 0, sizeof context);
+    pbeam_manifest_write(BASE, 4, &lists, &page);
+    SAME(pbeam_record_cold_boot(&context.record, &x, 1, &page), PBEAM_BOOT_DONE);
+    memset(table, 0, sizeof table);
+    context.page = &page;
+    context.granules = pbeam_granules_from(MEMORY);
+    context.table = table;
+    context.table_count = sizeof table;
+    context.realm_key = pbeam_bytes(realm_key, sizeof realm_key);
+    context.token = pbeam_bytes(token, sizeof token);
+    context.public_key = pbeam_bytes(public_key, sizeof public_key);
+    context.mecid_width = 3;
+}
+
+/* A context of zeros serves nothing, and is no error. */
+static void check_empty_context(void)
+{
+    pbeam_place_t place;
+    const pbeam_call_t start = pbeam_call_platform_token(BASE, 64, 48);
+    memset(&context, 0, sizeof context);
+    SAME(called(pbeam_call_delegate(0)), E_RMM_UNK);
+    SAME(called(pbeam_call_platform_token(BASE, 64, 48)), E_RMM_UNK);
+    set_up();
+    context.page = NULL;
+    context.table = NULL;
+    context.realm_key.at = NULL;
+    SAME(called(pbeam_call_realm_key(BASE, 8)), E_RMM_UNK);
+    SAME(called(pbeam_call_delegate(MEMORY)), E_RMM_BAD_ADDR);
+    pbeam_context_challenge(&context, &start, &place);
+    SAME(pbeam_place_length(&place), 0);
+    context.page = &page;
+    SAME(called(pbeam_call_realm_key(BASE, 8)), E_RMM_UNK); /* no key */
+}
+
+static void check_commands(void)
+{
+    set_up();
+    SAME(called(pbeam_call_delegate(MEMORY + 4096)), E_RMM_OK);
+    SAME(pbeam_get16(context.table), 0x0100);
+    SAME(called(pbeam_call_delegate(MEMORY + 3 * 4096)), E_RMM_BAD_ADDR);
+    SAME(called(pbeam_call_undelegate(MEMORY + 4096)), E_RMM_OK);
+    SAME(called(pbeam_call_realm_key(BASE + 64, 8)), E_RMM_OK);
+    SAME(pbeam_registers_x1(&out), 3);
+    SAME(page.bytes[64], 0x11);
+    SAME(called(pbeam_call_public_key(BASE + 64, 8)), E_RMM_OK);
+    SAME(pbeam_registers_x1(&out), 2);
+    SAME(page.bytes[64], 0x31);
+    SAME(called(pbeam_call_features()), E_RMM_OK);
+    SAME(pbeam_registers_x1(&out), PBEAM_FEATURE_TOKEN_SIGNING);
+    SAME(called(pbeam_call_key_update(15)), E_RMM_OK);
+    SAME(pbeam_work_is(&work, PBEAM_WORK_REPROGRAM), true);
+    SAME(pbeam_work_value(&work), 15);
+    SAME(called(pbeam_call_key_update(16)), E_RMM_INVAL); /* the width is 4 bits */
+    SAME(called(pbeam_call_forward(42)), E_RMM_OK);
+    SAME(pbeam_work_is(&work, PBEAM_WORK_FORWARD), true);
+    SAME(pbeam_work_value(&work), 42);
+    SAME(called(pbeam_call_of(PBEAM_ID_BOOT_COMPLETE, 0, 0, 0, 0)), E_RMM_UNK);
+}
+
+static void check_token(void)
+{
+    pbeam_place_t place;
+    pbeam_call_t call = pbeam_call_platform_token(BASE + 8, 64, 48);
+    set_up();
+    pbeam_context_challenge(&context, &call, &place);
+    SAME(pbeam_place_offset(&place), 8);
+    SAME(pbeam_place_length(&place), 48);
+    call.words[PBEAM_CALL_ID] = PBEAM_ID_REALM_KEY; /* 48 is no c_size here */
+    pbeam_context_challenge(&context, &call, &place);
+    SAME(pbeam_place_length(&place), 0);
+    context.busy = true;
+    SAME(called(pbeam_call_platform_token(BASE + 8, 64, 48)), E_RMM_AGAIN);
+    context.busy = false;
+    SAME(called(pbeam_call_platform_token(BASE + 8, 64, 48)), E_RMM_OK);
+    SAME(pbeam_registers_x1(&out), 4);
+    SAME(page.bytes[8], 0x21);
+    SAME(pbeam_session_is_sending(&context.session), false);
+    context.session.words[PBEAM_SESSION_KIND] = 3; /* read as sending */
+    SAME(pbeam_session_is_sending(&context.session), true);
+    pbeam_session_reset(&context.session);
+    SAME(context.session.words[0] | context.session.words[1] | context.session.words[2], 0);
+    SAME(pbeam_session_is_sending(&context.session), false);
+}
+
+static void check_requests(const uint8_t hash[PBEAM_HASH_BYTES])
+{
+    pbeam_request_t request;
+    uint8_t found[PBEAM_HASH_BYTES];
+    SAME(pbeam_queue_oldest(&context.queue, &request), 1);
+    SAME(pbeam_request_sig_alg_id(&request), 0);
+    SAME(pbeam_request_rec_granule(&request), UINT64_C(0x1122334455667788));
+    SAME(pbeam_request_req_ticket(&request), 99);
+    SAME(pbeam_request_hash_alg_id(&request), 1);
+    pbeam_request_hash_buf(&request, found);
+    SAME(memcmp(found, hash, sizeof found), 0);
+}
+
+static void check_signing(void)
+{
+    static const uint8_t signature[] = {0xD1, 0xD2, 0xD3, 0xD4, 0xD5};
+    uint8_t hash[PBEAM_HASH_BYTES];
+    pbeam_response_t response;
+    set_up();
+    for (size_t i = 0; i < sizeof hash; i++)
+        hash[i] = (uint8_t)(i + 1);
+    memset(&page, 0xEE, sizeof page);
+    pbeam_put_request(page.bytes + 16, UINT64_C(0x1122334455667788), 99, hash);
+    SAME(page.bytes[16 + PBEAM_REQUEST_BYTES], 0xEE);
+    SAME(called(pbeam_call_push(BASE + 16, PBEAM_REQUEST_BYTES)), E_RMM_OK);
+    check_requests(hash);
+    pbeam_queue_sign(&context.queue, pbeam_bytes(NULL, 5), &out);
+    SAME(pbeam_registers_code(&out), E_RMM_INVAL);
+    pbeam_queue_sign(&context.queue, pbeam_bytes(signature, sizeof signature), &out);
+    SAME(pbeam_registers_code(&out), E_RMM_OK);
+    SAME(called(pbeam_call_pull(BASE + 16, 64)), E_RMM_OK);
+    SAME(pbeam_get_response(page.bytes + 16, 17, &response), false);
+    SAME(pbeam_get_response(page.bytes + 16, 18 + 4, &response), false);
+    SAME(pbeam_get_response(page.bytes + 16, 18 + 5, &response), true);
+    SAME(response.rec_granule, UINT64_C(0x1122334455667788));
+    SAME(response.req_ticket, 99);
+    SAME(response.sig_len, 5);
+    SAME(memcmp(response.signature_buf, signature, 5), 0);
+    SAME(called(pbeam_call_push(BASE + 16, PBEAM_REQUEST_BYTES)), E_RMM_INVAL); /* a response is no request */
+    memset(&context.queue, 0xEE, sizeof context.queue);
+    pbeam_queue_reset(&context.queue);
+    for (size_t i = 0; i < PBEAM_QUEUE_WORDS; i++)
+        SAME(context.queue.words[i], 0);
+}
+
+int main(void)
+{
+    check_names_of_002();
+    check_little_endian();
+    check_texts();
+    check_console_name();
+    check_bytes();
+    check_writer();
+    check_counts_that_wrap();
+    check_view();
+    check_version();
+    check_record();
+    check_calls();
+    check_answers();
+    check_empty_context();
+    check_commands();
+    check_token();
+    check_signing();
+    printf("%lu checks\n", checks);
+    return 0;
+}
