@@ -55,6 +55,7 @@
 #ifndef POTTERBEAM_H
 #define POTTERBEAM_H
 
+#include <stdbool.h>
 #include <stddef.h>
 #include <stdint.h>
 
@@ -442,6 +443,35 @@ int32_t pbeam_cold_boot(uint64_t state[PBEAM_STATE_WORDS], uint64_t x0, uint64_t
 PBEAM_NONNULL(1)
 int32_t pbeam_warm_boot(uint64_t state[PBEAM_STATE_WORDS], uint64_t x0, uint64_t x1, uint64_t x2, uint64_t x3);
 
+/*
+ * pbeam_close: closes the record for good, whatever it was. For EL3, when the monitor reports that its boot failed.
+ * Leaves   state: closed.
+ * Stack    64 bytes
+ */
+PBEAM_NONNULL(1)
+void pbeam_close(uint64_t state[PBEAM_STATE_WORDS]);
+
+/* ---- Versions. A version is a number: minor in bits 0 to 15, major in bits 16 to 30, so 0.10 (0x0A) is later than 0.9. ---- */
+
+/*
+ * pbeam_version_accepted: whether a version is accepted, for boot interface and manifest alike: major 0, minor 1 or more, and no bit
+ *          above bit 30 set.
+ * Stack    32 bytes
+ */
+bool pbeam_version_accepted(uint64_t version);
+
+/*
+ * pbeam_agreed_minor: the agreed interface minor, by the version that was offered: the smaller of 5 and its minor.
+ * Stack    32 bytes
+ */
+uint64_t pbeam_agreed_minor(uint64_t version);
+
+/*
+ * pbeam_is_later: whether version a is later than version b.
+ * Stack    32 bytes
+ */
+bool pbeam_is_later(uint64_t a, uint64_t b);
+
 /* ---- Runtime commands. A buffer is `size` bytes at physical address pa. It is outside when pa is below B or not below B + 4,096,
  * and too long when size exceeds B + 4,096 - pa. B and the agreed minor are those of the boot record. ---- */
 
@@ -509,14 +539,18 @@ void pbeam_platform_token(const uint64_t state[PBEAM_STATE_WORDS], uint64_t sess
 /*
  * pbeam_challenge: the challenge of a start, for the platform to make its token.
  * Takes    the boot record, the page, and pa, size and c_size of the start.
- * Answers  nothing. place: c_size bytes at pa, as that part of the page; (0, 0) where the record is not up, the page is not 4,096
- *          bytes long, the buffer is outside or too long, c_size is not 32, 48 or 64, or c_size is above size.
+ * Answers  PBEAM_X0_OK with place: c_size bytes at pa, as that part of the page; (0, 0) with c_size 0, which is no start. Or place (0, 0)
+ *          and, by the first check that fails:
+ *          PBEAM_X0_UNK       record not up; page not 4,096 bytes long
+ *          PBEAM_X0_BAD_ADDR  outside
+ *          PBEAM_X0_INVAL     too long; c_size not 0, 32, 48 or 64, or above size
  * Leaves   the page as it was.
- * Stack    96 bytes
- * (0, 0) says that the call is no start or will be refused: make no token.
+ * Stack    128 bytes
+ * Make a token where the answer is PBEAM_X0_OK and place is not (0, 0): any other call is no start, or will be refused with that code
+ * (a busy platform apart, which this does not look at).
  */
 PBEAM_NONNULL(1, 7)
-void pbeam_challenge(const uint64_t state[PBEAM_STATE_WORDS], const uint8_t *page, size_t page_len, uint64_t pa, uint64_t size,
+uint64_t pbeam_challenge(const uint64_t state[PBEAM_STATE_WORDS], const uint8_t *page, size_t page_len, uint64_t pa, uint64_t size,
                   uint64_t csize, uint64_t place[PBEAM_PLACE_WORDS]);
 
 /*
@@ -599,10 +633,18 @@ void pbeam_sign(uint64_t queue[PBEAM_QUEUE_WORDS], const uint8_t *signature, siz
  * Takes    the queue.
  * Answers  how many requests wait, with all fields of the oldest in request; 0 where none does, with request all zero.
  * Leaves   the queue as it was: the request waits until pbeam_sign takes it.
- * Stack    3,200 bytes
+ * Stack    256 bytes
  */
 PBEAM_NONNULL(1, 2)
 size_t pbeam_oldest(const uint64_t queue[PBEAM_QUEUE_WORDS], uint64_t request[PBEAM_REQUEST_WORDS]);
+
+/*
+ * pbeam_responses: how many responses wait to be pulled.
+ * Leaves   the queue as it was.
+ * Stack    32 bytes
+ */
+PBEAM_NONNULL(1)
+size_t pbeam_responses(const uint64_t queue[PBEAM_QUEUE_WORDS]);
 
 /* ---- Dispatcher ---- */
 

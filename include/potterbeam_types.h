@@ -491,8 +491,7 @@ static inline void pbeam_record_reset(pbeam_record_t *record)
 PBEAM_NONNULL(1)
 static inline void pbeam_record_close(pbeam_record_t *record)
 {
-    pbeam_record_reset(record);
-    record->words[PBEAM_STATE_KIND] = PBEAM_STATE_CLOSED;
+    pbeam_close(record->words);
 }
 
 /* pbeam_cold_boot. */
@@ -682,14 +681,21 @@ static inline void pbeam_context_call(pbeam_context_t *context, const pbeam_call
                call->words, out->words, work->words);
 }
 
-/* pbeam_challenge: the challenge of a call that starts a token session; (0, 0) for any other call. */
+/* pbeam_challenge: the challenge of a call that starts a token session; (0, 0) for any other call. Answers as pbeam_challenge. */
 PBEAM_NONNULL(1, 2, 3)
-static inline void pbeam_context_challenge(const pbeam_context_t *context, const pbeam_call_t *call, pbeam_place_t *place)
+static inline uint64_t pbeam_context_challenge(const pbeam_context_t *context, const pbeam_call_t *call, pbeam_place_t *place)
 {
     const bool is_token = call->words[PBEAM_CALL_ID] == PBEAM_ID_PLATFORM_TOKEN;
-    pbeam_challenge(context->record.words, context->page == NULL ? NULL : context->page->bytes,
-                    context->page == NULL ? 0 : PBEAM_PAGE_BYTES, call->words[PBEAM_CALL_X1], call->words[PBEAM_CALL_X2],
-                    is_token ? call->words[PBEAM_CALL_X3] : PBEAM_CHALLENGE_NONE, place->words);
+    return pbeam_challenge(context->record.words, context->page == NULL ? NULL : context->page->bytes,
+                           context->page == NULL ? 0 : PBEAM_PAGE_BYTES, call->words[PBEAM_CALL_X1], call->words[PBEAM_CALL_X2],
+                           is_token ? call->words[PBEAM_CALL_X3] : PBEAM_CHALLENGE_NONE, place->words);
+}
+
+/* pbeam_responses: how many responses wait to be pulled. */
+PBEAM_NONNULL(1)
+static inline size_t pbeam_queue_responses(const pbeam_queue_t *queue)
+{
+    return pbeam_responses(queue->words);
 }
 
 /* pbeam_oldest: how many requests wait, and the oldest. */

@@ -85,7 +85,7 @@ static bool el3_choose_token(const pbeam_call_t *call)
     el3.context.busy = false;
     el3.context.token = pbeam_bytes(lent->bytes, lent->length);
     /* The challenge stands where the first hunk will be written, so it is looked at before the call. */
-    pbeam_context_challenge(&el3.context, call, &place);
+    (void)pbeam_context_challenge(&el3.context, call, &place);
     if (pbeam_place_length(&place) == 0)
         return false; /* the call goes on, or will be refused */
     if (!maker_has(page.bytes + pbeam_place_offset(&place), pbeam_place_length(&place), next)) {

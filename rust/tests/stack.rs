@@ -307,6 +307,22 @@ fn refused_boots(header: &mut Header) {
         header.within(("pbeam_warm_boot", what), &state, code, |state| {
             Kit::warm_boot(state, [cpu, 0, 0, 0])
         });
+        header.within(("pbeam_close", what), &state, 2, |state| {
+            Kit::close(state);
+            state[0]
+        });
+    }
+    for (what, version, accepted) in [("accepted", 5, true), ("refused", 1 << 31, false)] {
+        let minor = version & 0xFFFF;
+        header.within(("pbeam_version_accepted", what), &(), accepted, |()| {
+            Kit::version_accepted(version)
+        });
+        header.within(("pbeam_agreed_minor", what), &(), minor, |()| {
+            Kit::agreed_minor(version)
+        });
+        header.within(("pbeam_is_later", what), &(), !accepted, |()| {
+            Kit::is_later(version, 9)
+        });
     }
 }
 
@@ -645,7 +661,7 @@ fn challenges(header: &mut Header) {
         ("outside", UP, [BASE + 4096, 64, 48], [0, 0]),
     ] {
         header.within(("pbeam_challenge", what), &[1; 2], place, |place| {
-            Kit::challenge(&state, &page, x, place);
+            let _ = Kit::challenge(&state, &page, x, place);
             *place
         });
     }
@@ -669,6 +685,10 @@ fn signer(header: &mut Header) {
         let waiting = requests.min(8) as usize;
         header.within(("pbeam_oldest", what), &[0; 10], waiting, |request| {
             Kit::oldest(&board.queue, request)
+        });
+        let waiting = responses.min(8) as usize;
+        header.within(("pbeam_responses", what), &(), waiting, |()| {
+            Kit::responses(&board.queue)
         });
     }
 }

@@ -488,6 +488,24 @@ static void check_realm_key(void)
     SAME(out[PBEAM_OUT_X1], 3);
 }
 
+static void check_versions_and_close(void)
+{
+    uint64_t state[ROOM];
+    SAME(pbeam_version_accepted(0x5), true);
+    SAME(pbeam_version_accepted(0x80000005), false);
+    SAME(pbeam_version_accepted(0x10000), false);
+    SAME(pbeam_version_accepted(UINT64_C(0x100000005)), false);
+    SAME(pbeam_agreed_minor(0xA), 5);
+    SAME(pbeam_agreed_minor(0x3), 3);
+    SAME(pbeam_is_later(0xA, 0x9), true);
+    SAME(pbeam_is_later(0x9, 0xA), false);
+    guard(state);
+    up(state, 5);
+    pbeam_close(state);
+    SAME(state[PBEAM_STATE_KIND], PBEAM_STATE_CLOSED);
+    SAME(state[PBEAM_STATE_KIND + 1] | state[PBEAM_STATE_KIND + 2] | state[PBEAM_STATE_KIND + 3], 0);
+}
+
 static void check_challenge_sizes(void)
 {
     uint64_t state[ROOM], place[ROOM], found[ROOM];
@@ -495,7 +513,8 @@ static void check_challenge_sizes(void)
     up(state, 5);
     for (uint64_t size = 0; size <= LEN; size++) {
         guard(place);
-        pbeam_challenge(state, page, LEN, BASE, LEN, size, place);
+        SAME(pbeam_challenge(state, page, LEN, BASE, LEN, size, place),
+             size == 0 || size == 32 || size == 48 || size == 64 ? PBEAM_X0_OK : PBEAM_X0_INVAL);
         SAME(PBEAM_PLACE_WORDS, written(place));
         if (place[1] != 0)
             found[n++ % ROOM] = size;
@@ -504,7 +523,8 @@ static void check_challenge_sizes(void)
     SAME(PBEAM_CHALLENGE_SHA256, found[0]);
     SAME(PBEAM_CHALLENGE_SHA384, found[1]);
     SAME(PBEAM_CHALLENGE_SHA512, found[2]);
-    pbeam_challenge(state, page, LEN, BASE + 1000, 100, 48, place);
+    SAME(pbeam_challenge(state, page, LEN, BASE + LEN, 100, 48, place), PBEAM_X0_BAD_ADDR);
+    SAME(pbeam_challenge(state, page, LEN, BASE + 1000, 100, 48, place), PBEAM_X0_OK);
     SAME(place[PBEAM_PLACE_OFFSET], 1000);
     SAME(place[PBEAM_PLACE_LENGTH], 48);
 }
@@ -669,6 +689,7 @@ static void check_request_layout(void)
     SAME(first[PBEAM_REQUEST_WORDS + PBEAM_REQUEST_WORD_GRANULE], get(page + HERE + PBEAM_REQUEST_GRANULE, 8));
     guard(request);
     SAME(pbeam_oldest(queue, request), 2);
+    SAME(pbeam_responses(queue), queue[PBEAM_QUEUE_RESPONSES]);
     SAME(PBEAM_REQUEST_WORDS, written(request));
     for (size_t i = 0; i < PBEAM_REQUEST_WORDS; i++)
         SAME(request[i], first[i]);
@@ -912,6 +933,7 @@ int main(int argc, char **argv)
     check_codes();
     check_granules();
     check_realm_key();
+    check_versions_and_close();
     check_challenge_sizes();
     check_session();
     check_features();

@@ -1,40 +1,13 @@
 /* Every function of the header with its type, written out once more: a changed type or a lost declaration does not compile.
  * Included by header.c and header.cc. */
 #ifndef SIGNATURES_H
-#define SIGNATURES_H
-
-typedef const uint8_t *bytes;
-typedef const uint64_t *words;
-
-struct signatures {
-    int32_t (*read)(bytes, size_t, uint64_t, uint64_t, uint64_t *);
-    void (*array)(bytes, size_t, uint64_t, uint64_t, size_t, uint64_t *);
-    void (*array_of)(bytes, size_t, words, size_t, uint64_t *);
-    size_t (*count)(bytes, size_t, words, size_t);
-    uint64_t (*word)(bytes, size_t, words, size_t, size_t, size_t);
-    uint32_t (*write)(uint64_t, uint64_t, words, size_t, words, size_t, words, size_t, words, size_t, uint8_t *, size_t);
-    int32_t (*cold_boot)(uint64_t *, uint64_t, uint64_t, uint64_t, uint64_t, uint64_t, bytes, size_t);
-    int32_t (*warm_boot)(uint64_t *, uint64_t, uint64_t, uint64_t, uint64_t);
-    void (*delegate)(words, words, uint8_t *, size_t, uint64_t, uint64_t *);
-    void (*undelegate)(words, words, uint8_t *, size_t, uint64_t, uint64_t *);
-    void (*realm_key)(words, uint8_t *, size_t, bytes, size_t, uint64_t, uint64_t, uint64_t, uint64_t *);
-    void (*platform_token)(words, uint64_t *, uint8_t *, size_t, bytes, size_t, uint64_t, uint64_t, uint64_t, uint64_t, uint64_t *);
-    void (*challenge)(words, bytes, size_t, uint64_t, uint64_t, uint64_t, uint64_t *);
-    void (*features)(words, uint64_t, uint64_t *);
-    void (*token_signing)(words, uint64_t *, uint8_t *, size_t, bytes, size_t, uint64_t, uint64_t, uint64_t, uint64_t, uint64_t *);
-    void (*key_update)(words, uint64_t, uint64_t, uint64_t *, uint64_t *);
-    uint64_t (*forward)(words, uint64_t);
-    void (*sign)(uint64_t *, bytes, size_t, uint64_t *);
-    size_t (*oldest)(words, uint64_t *);
-    void (*call)(words, uint64_t *, uint64_t *, uint8_t *, size_t, words, uint8_t *, size_t, bytes, size_t, bytes, size_t, uint64_t,
-                 bytes, size_t, uint64_t, words, uint64_t *, uint64_t *);
-};
-
-#define SIGNATURES                                                                                                              \
-    {                                                                                                                           \
-        pbeam_read, pbeam_array, pbeam_array_of, pbeam_count, pbeam_word, pbeam_write, pbeam_cold_boot, pbeam_warm_boot, pbeam_delegate, pbeam_undelegate,    \
-            pbeam_realm_key, pbeam_platform_token, pbeam_challenge, pbeam_features, pbeam_token_signing, pbeam_key_update, pbeam_forward, pbeam_sign,   \
-            pbeam_oldest, pbeam_call                                                                                                  \
+#define SIGNATURES                                                                                                             \
+    {                                                                                                                          \
+        pbeam_read, pbeam_array, pbeam_array_of, pbeam_count, pbeam_word, pbeam_write, pbeam_cold_boot,                        \
+            pbeam_warm_boot, pbeam_close, pbeam_version_accepted, pbeam_agreed_minor, pbeam_is_later, pbeam_delegate,          \
+            pbeam_undelegate, pbeam_realm_key, pbeam_platform_token, pbeam_challenge, pbeam_features,                          \
+            pbeam_token_signing, pbeam_key_update, pbeam_forward, pbeam_sign, pbeam_oldest, pbeam_responses,                   \
+            pbeam_call                                                                                                         \
     }
 
 #endif

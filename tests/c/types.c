@@ -363,7 +363,7 @@ static void check_empty_context(void)
     context.realm_key.at = NULL;
     SAME(called(pbeam_call_realm_key(BASE, 8)), E_RMM_UNK);
     SAME(called(pbeam_call_delegate(MEMORY)), E_RMM_BAD_ADDR);
-    pbeam_context_challenge(&context, &start, &place);
+    SAME(pbeam_context_challenge(&context, &start, &place), PBEAM_X0_UNK);
     SAME(pbeam_place_length(&place), 0);
     context.page = &page;
     SAME(called(pbeam_call_realm_key(BASE, 8)), E_RMM_UNK); /* no key */
@@ -399,11 +399,11 @@ static void check_token(void)
     pbeam_place_t place;
     pbeam_call_t call = pbeam_call_platform_token(BASE + 8, 64, 48);
     set_up();
-    pbeam_context_challenge(&context, &call, &place);
+    SAME(pbeam_context_challenge(&context, &call, &place), PBEAM_X0_OK);
     SAME(pbeam_place_offset(&place), 8);
     SAME(pbeam_place_length(&place), 48);
     call.words[PBEAM_CALL_ID] = PBEAM_ID_REALM_KEY; /* 48 is no c_size here */
-    pbeam_context_challenge(&context, &call, &place);
+    SAME(pbeam_context_challenge(&context, &call, &place), PBEAM_X0_OK);
     SAME(pbeam_place_length(&place), 0);
     context.busy = true;
     SAME(called(pbeam_call_platform_token(BASE + 8, 64, 48)), E_RMM_AGAIN);
@@ -424,6 +424,7 @@ static void check_requests(const uint8_t hash[PBEAM_HASH_BYTES])
     pbeam_request_t request;
     uint8_t found[PBEAM_HASH_BYTES];
     SAME(pbeam_queue_oldest(&context.queue, &request), 1);
+    SAME(pbeam_queue_responses(&context.queue), 0);
     SAME(pbeam_request_sig_alg_id(&request), 0);
     SAME(pbeam_request_rec_granule(&request), UINT64_C(0x1122334455667788));
     SAME(pbeam_request_req_ticket(&request), 99);
