@@ -545,7 +545,7 @@ void pbeam_platform_token(const uint64_t state[PBEAM_STATE_WORDS], uint64_t sess
  *          PBEAM_X0_BAD_ADDR  outside
  *          PBEAM_X0_INVAL     too long; c_size not 0, 32, 48 or 64, or above size
  * Leaves   the page as it was.
- * Stack    128 bytes
+ * Stack    96 bytes
  * Make a token where the answer is PBEAM_X0_OK and place is not (0, 0): any other call is no start, or will be refused with that code
  * (a busy platform apart, which this does not look at).
  */
@@ -633,7 +633,7 @@ void pbeam_sign(uint64_t queue[PBEAM_QUEUE_WORDS], const uint8_t *signature, siz
  * Takes    the queue.
  * Answers  how many requests wait, with all fields of the oldest in request; 0 where none does, with request all zero.
  * Leaves   the queue as it was: the request waits until pbeam_sign takes it.
- * Stack    256 bytes
+ * Stack    32 bytes
  */
 PBEAM_NONNULL(1, 2)
 size_t pbeam_oldest(const uint64_t queue[PBEAM_QUEUE_WORDS], uint64_t request[PBEAM_REQUEST_WORDS]);

@@ -1,6 +1,40 @@
 /* Every function of the header with its type, written out once more: a changed type or a lost declaration does not compile.
  * Included by header.c and header.cc. */
 #ifndef SIGNATURES_H
+#define SIGNATURES_H
+
+typedef const uint8_t *bytes;
+typedef const uint64_t *words;
+
+struct signatures {
+    int32_t (*read)(bytes, size_t, uint64_t, uint64_t, uint64_t *);
+    void (*array)(bytes, size_t, uint64_t, uint64_t, size_t, uint64_t *);
+    void (*array_of)(bytes, size_t, words, size_t, uint64_t *);
+    size_t (*count)(bytes, size_t, words, size_t);
+    uint64_t (*word)(bytes, size_t, words, size_t, size_t, size_t);
+    uint32_t (*write)(uint64_t, uint64_t, words, size_t, words, size_t, words, size_t, words, size_t, uint8_t *, size_t);
+    int32_t (*cold_boot)(uint64_t *, uint64_t, uint64_t, uint64_t, uint64_t, uint64_t, bytes, size_t);
+    int32_t (*warm_boot)(uint64_t *, uint64_t, uint64_t, uint64_t, uint64_t);
+    void (*close)(uint64_t *);
+    bool (*version_accepted)(uint64_t);
+    uint64_t (*agreed_minor)(uint64_t);
+    bool (*is_later)(uint64_t, uint64_t);
+    void (*delegate)(words, words, uint8_t *, size_t, uint64_t, uint64_t *);
+    void (*undelegate)(words, words, uint8_t *, size_t, uint64_t, uint64_t *);
+    void (*realm_key)(words, uint8_t *, size_t, bytes, size_t, uint64_t, uint64_t, uint64_t, uint64_t *);
+    void (*platform_token)(words, uint64_t *, uint8_t *, size_t, bytes, size_t, uint64_t, uint64_t, uint64_t, uint64_t, uint64_t *);
+    uint64_t (*challenge)(words, bytes, size_t, uint64_t, uint64_t, uint64_t, uint64_t *);
+    void (*features)(words, uint64_t, uint64_t *);
+    void (*token_signing)(words, uint64_t *, uint8_t *, size_t, bytes, size_t, uint64_t, uint64_t, uint64_t, uint64_t, uint64_t *);
+    void (*key_update)(words, uint64_t, uint64_t, uint64_t *, uint64_t *);
+    uint64_t (*forward)(words, uint64_t);
+    void (*sign)(uint64_t *, bytes, size_t, uint64_t *);
+    size_t (*oldest)(words, uint64_t *);
+    size_t (*responses)(words);
+    void (*call)(words, uint64_t *, uint64_t *, uint8_t *, size_t, words, uint8_t *, size_t, bytes, size_t, bytes, size_t, uint64_t,
+                 bytes, size_t, uint64_t, words, uint64_t *, uint64_t *);
+};
+
 #define SIGNATURES                                                                                                             \
     {                                                                                                                          \
         pbeam_read, pbeam_array, pbeam_array_of, pbeam_count, pbeam_word, pbeam_write, pbeam_cold_boot,                        \
