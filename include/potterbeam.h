@@ -337,8 +337,8 @@ extern "C" {
  *          PBEAM_MANIFEST_PLACE    page not 4,096 bytes long; B zero, not a multiple of 4,096, or above PBEAM_BASE_MOST
  *          PBEAM_MANIFEST_VERSION  edition not 1 to 4; the manifest's version has bit 31 set, major not 0, or minor 0
  *          PBEAM_MANIFEST_RULES    padding not zero; plat_data neither 0 nor from B + core size of e to B + 4,095; a section of e
- *                               neither 24 zero bytes nor sound (count, pointer, array between core and page's end, checksum, each
- *                               entry's rule); two arrays overlap
+ *                                  neither 24 zero bytes nor sound (count, pointer, array between core and page's end,
+ *                                  checksum, each entry's rule); two arrays overlap
  * Leaves   the page as it was. view: what the page shows; refused: all zero.
  * Stack    352 bytes
  * A later minor is never refused. Sections after e are not read, nor what plat_data points at.
@@ -356,7 +356,7 @@ int32_t pbeam_read(const uint8_t *page, size_t page_len, uint64_t base, uint64_t
  */
 PBEAM_NONNULL(6)
 void pbeam_array(const uint8_t *page, size_t page_len, uint64_t base, uint64_t edition, size_t section,
-              uint64_t place[PBEAM_PLACE_WORDS]);
+                 uint64_t place[PBEAM_PLACE_WORDS]);
 
 /*
  * pbeam_array_of: find the array of one section by a view.
@@ -370,7 +370,7 @@ void pbeam_array(const uint8_t *page, size_t page_len, uint64_t base, uint64_t e
  */
 PBEAM_NONNULL(3, 5)
 void pbeam_array_of(const uint8_t *page, size_t page_len, const uint64_t view[PBEAM_VIEW_WORDS], size_t section,
-                 uint64_t place[PBEAM_PLACE_WORDS]);
+                    uint64_t place[PBEAM_PLACE_WORDS]);
 
 /*
  * pbeam_count: how many entries a section has.
@@ -390,7 +390,8 @@ size_t pbeam_count(const uint8_t *page, size_t page_len, const uint64_t view[PBE
  * Stack    192 bytes
  */
 PBEAM_NONNULL(3)
-uint64_t pbeam_word(const uint8_t *page, size_t page_len, const uint64_t view[PBEAM_VIEW_WORDS], size_t section, size_t entry, size_t word);
+uint64_t pbeam_word(const uint8_t *page, size_t page_len, const uint64_t view[PBEAM_VIEW_WORDS], size_t section, size_t entry,
+                    size_t word);
 
 /*
  * pbeam_write: write a manifest page.
@@ -407,8 +408,8 @@ uint64_t pbeam_word(const uint8_t *page, size_t page_len, const uint64_t view[PB
  * Stack    288 bytes
  */
 uint32_t pbeam_write(uint64_t base, uint64_t edition, const uint64_t *dram, size_t dram_len, const uint64_t *console,
-                  size_t console_len, const uint64_t *ncoh, size_t ncoh_len, const uint64_t *coh, size_t coh_len, uint8_t *page,
-                  size_t page_len);
+                     size_t console_len, const uint64_t *ncoh, size_t ncoh_len, const uint64_t *coh, size_t coh_len, uint8_t *page,
+                     size_t page_len);
 
 /* ---- Boot ---- */
 
@@ -428,7 +429,7 @@ uint32_t pbeam_write(uint64_t base, uint64_t edition, const uint64_t *dram, size
  */
 PBEAM_NONNULL(1)
 int32_t pbeam_cold_boot(uint64_t state[PBEAM_STATE_WORDS], uint64_t x0, uint64_t x1, uint64_t x2, uint64_t x3, uint64_t most,
-                     const uint8_t *page, size_t page_len);
+                        const uint8_t *page, size_t page_len);
 
 /*
  * pbeam_warm_boot: a CPU's boot after the cold boot.
@@ -457,8 +458,8 @@ int32_t pbeam_warm_boot(uint64_t state[PBEAM_STATE_WORDS], uint64_t x0, uint64_t
  * The byte alone is changed: the change in hardware is the platform's, after an OK.
  */
 PBEAM_NONNULL(1, 2, 6)
-void pbeam_delegate(const uint64_t state[PBEAM_STATE_WORDS], const uint64_t granules[PBEAM_GRANULES_WORDS], uint8_t *table, size_t table_len,
-                 uint64_t address, uint64_t out[PBEAM_OUT_WORDS]);
+void pbeam_delegate(const uint64_t state[PBEAM_STATE_WORDS], const uint64_t granules[PBEAM_GRANULES_WORDS], uint8_t *table,
+                    size_t table_len, uint64_t address, uint64_t out[PBEAM_OUT_WORDS]);
 
 /*
  * pbeam_undelegate (0xC40001B1): a granule goes from Realm to Non-secure.
@@ -466,8 +467,8 @@ void pbeam_delegate(const uint64_t state[PBEAM_STATE_WORDS], const uint64_t gran
  * Stack    64 bytes
  */
 PBEAM_NONNULL(1, 2, 6)
-void pbeam_undelegate(const uint64_t state[PBEAM_STATE_WORDS], const uint64_t granules[PBEAM_GRANULES_WORDS], uint8_t *table, size_t table_len,
-                   uint64_t address, uint64_t out[PBEAM_OUT_WORDS]);
+void pbeam_undelegate(const uint64_t state[PBEAM_STATE_WORDS], const uint64_t granules[PBEAM_GRANULES_WORDS], uint8_t *table,
+                      size_t table_len, uint64_t address, uint64_t out[PBEAM_OUT_WORDS]);
 
 /*
  * pbeam_realm_key (0xC40001B2): the realm attestation key.
@@ -482,7 +483,7 @@ void pbeam_undelegate(const uint64_t state[PBEAM_STATE_WORDS], const uint64_t gr
  */
 PBEAM_NONNULL(1, 9)
 void pbeam_realm_key(const uint64_t state[PBEAM_STATE_WORDS], uint8_t *page, size_t page_len, const uint8_t *key, size_t key_len,
-                  uint64_t pa, uint64_t size, uint64_t curve, uint64_t out[PBEAM_OUT_WORDS]);
+                     uint64_t pa, uint64_t size, uint64_t curve, uint64_t out[PBEAM_OUT_WORDS]);
 
 /*
  * pbeam_platform_token (0xC40001B3): the next hunk of the platform token.
@@ -502,9 +503,9 @@ void pbeam_realm_key(const uint64_t state[PBEAM_STATE_WORDS], uint8_t *page, siz
  * The hunk is written over the challenge: call pbeam_challenge first. Size 0 with c_size 0 in a session is OK and moves nothing.
  */
 PBEAM_NONNULL(1, 2, 11)
-void pbeam_platform_token(const uint64_t state[PBEAM_STATE_WORDS], uint64_t session[PBEAM_SESSION_WORDS], uint8_t *page, size_t page_len,
-                       const uint8_t *token, size_t token_len, uint64_t busy, uint64_t pa, uint64_t size, uint64_t csize,
-                       uint64_t out[PBEAM_OUT_WORDS]);
+void pbeam_platform_token(const uint64_t state[PBEAM_STATE_WORDS], uint64_t session[PBEAM_SESSION_WORDS], uint8_t *page,
+                          size_t page_len, const uint8_t *token, size_t token_len, uint64_t busy, uint64_t pa, uint64_t size,
+                          uint64_t csize, uint64_t out[PBEAM_OUT_WORDS]);
 
 /*
  * pbeam_challenge: the challenge of a start, for the platform to make its token.
@@ -517,7 +518,7 @@ void pbeam_platform_token(const uint64_t state[PBEAM_STATE_WORDS], uint64_t sess
  */
 PBEAM_NONNULL(1, 7)
 void pbeam_challenge(const uint64_t state[PBEAM_STATE_WORDS], const uint8_t *page, size_t page_len, uint64_t pa, uint64_t size,
-                  uint64_t csize, uint64_t place[PBEAM_PLACE_WORDS]);
+                     uint64_t csize, uint64_t place[PBEAM_PLACE_WORDS]);
 
 /*
  * pbeam_features (0xC40001B4): the feature register.
@@ -551,8 +552,8 @@ void pbeam_features(const uint64_t state[PBEAM_STATE_WORDS], uint64_t index, uin
  */
 PBEAM_NONNULL(1, 2, 11)
 void pbeam_token_signing(const uint64_t state[PBEAM_STATE_WORDS], uint64_t queue[PBEAM_QUEUE_WORDS], uint8_t *page, size_t page_len,
-                      const uint8_t *key, size_t key_len, uint64_t opcode, uint64_t pa, uint64_t size, uint64_t curve,
-                      uint64_t out[PBEAM_OUT_WORDS]);
+                         const uint8_t *key, size_t key_len, uint64_t opcode, uint64_t pa, uint64_t size, uint64_t curve,
+                         uint64_t out[PBEAM_OUT_WORDS]);
 
 /*
  * pbeam_key_update (0xC40001B6): a new key for a mecid.
@@ -567,7 +568,7 @@ void pbeam_token_signing(const uint64_t state[PBEAM_STATE_WORDS], uint64_t queue
  */
 PBEAM_NONNULL(1, 4, 5)
 void pbeam_key_update(const uint64_t state[PBEAM_STATE_WORDS], uint64_t width, uint64_t mecid, uint64_t out[PBEAM_OUT_WORDS],
-                   uint64_t work[PBEAM_WORK_WORDS]);
+                      uint64_t work[PBEAM_WORK_WORDS]);
 
 /*
  * pbeam_forward (0xC400018F): the error code of an RMI call, for the Non-secure world.
@@ -621,10 +622,11 @@ size_t pbeam_oldest(const uint64_t queue[PBEAM_QUEUE_WORDS], uint64_t request[PB
  * Stack    11,488 bytes with PBEAM_ID_TOKEN_SIGNING, 512 bytes with any other id
  */
 PBEAM_NONNULL(1, 2, 3, 6, 17, 18, 19)
-void pbeam_call(const uint64_t state[PBEAM_STATE_WORDS], uint64_t session[PBEAM_SESSION_WORDS], uint64_t queue[PBEAM_QUEUE_WORDS], uint8_t *page,
-             size_t page_len, const uint64_t granules[PBEAM_GRANULES_WORDS], uint8_t *table, size_t table_len, const uint8_t *key, size_t key_len,
-             const uint8_t *token, size_t token_len, uint64_t busy, const uint8_t *public_key, size_t public_len, uint64_t width,
-             const uint64_t call[PBEAM_CALL_WORDS], uint64_t out[PBEAM_OUT_WORDS], uint64_t work[PBEAM_WORK_WORDS]);
+void pbeam_call(const uint64_t state[PBEAM_STATE_WORDS], uint64_t session[PBEAM_SESSION_WORDS], uint64_t queue[PBEAM_QUEUE_WORDS],
+                uint8_t *page, size_t page_len, const uint64_t granules[PBEAM_GRANULES_WORDS], uint8_t *table, size_t table_len,
+                const uint8_t *key, size_t key_len, const uint8_t *token, size_t token_len, uint64_t busy, const uint8_t *public_key,
+                size_t public_len, uint64_t width, const uint64_t call[PBEAM_CALL_WORDS], uint64_t out[PBEAM_OUT_WORDS],
+                uint64_t work[PBEAM_WORK_WORDS]);
 
 #ifdef __cplusplus
 }
