@@ -33,8 +33,8 @@
  *   since the monitor may call EL3 while it boots. Before each warm boot it calls pbeam_warm_boot. Both sides check the same, so both
  *   records hold the same. A record that EL3 finds closed means: do not enter the monitor.
  * Boot errors. The monitor ends each boot with RMM_BOOT_COMPLETE (0xC40001CF, the code in x1). That call is the platform's: pbeam_call
- *   answers PBEAM_X0_UNK. If x1 is not 0, EL3 closes its record with pbeam_close, tells no CPU to enter the monitor again, and
- *   serves nothing but 0xC400018F from then on.
+ *   answers PBEAM_X0_UNK. If x1 is not 0, EL3 closes its record with pbeam_close and lets no CPU enter the monitor again. Every
+ *   command but 0xC400018F is PBEAM_X0_UNK from then on.
  * The page. During a call no other CPU and no other world may write it. 002 gives it to the Realm world and leaves it to the monitor that
  *   one CPU uses it at a time; EL3 holds a lock of its own around each call all the same, since session, queue and table need one.
  *   What is promised of a call holds only of a page that stays still.
@@ -44,9 +44,9 @@
  *   on. Make a new token in a second buffer, lend that one in the call that starts with it, and keep the first until that call is OK.
  * Result registers. After a command the monitor's x0 to x2 are those of `out`. No command has a result in x3 or x4: leave the monitor's
  *   own values there, and in x5 to x17 (SMCCC).
- * 0xC400018F does not return to the monitor, so `out` goes nowhere. The Non-secure caller gets err_code (the value of `work`) in x0, and
- *   in x1 to x4 the further results of its RMI call, which the monitor has in x2 to x5.
- * Hand-made images. Any words are taken, and no call leaves what it is lent; but the answers are only as true as the words.
+ * 0xC400018F does not return to the monitor, so `out` goes nowhere. 002 hands x0 to x4 to the Non-secure world and names err_code alone: it
+ *   (the value of `work`) goes into x0, and what the monitor has in x2 to x5, the further results of the RMI call, into x1 to x4.
+ * Hand-made images. Any words are taken, and no call touches more than it is lent; but an answer is only as true as the words.
  *   - A record that is up is believed: B says which addresses are in the page, the minor which commands there are. Neither is checked.
  *   - A session that has sent as much as its token or more: the next call that goes on is OK with hunk 0 and rest 0, and ends it.
  *   - A request in the queue with ids above 32 bits, or with any ids: pbeam_oldest shows them as they stand, and pbeam_sign takes it. A
