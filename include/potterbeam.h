@@ -33,8 +33,8 @@
  *   since the monitor may call EL3 while it boots. Before each warm boot it calls pbeam_warm_boot. Both sides check the same, so both
  *   records hold the same. A record that EL3 finds closed means: do not enter the monitor.
  * Boot errors. The monitor ends each boot with RMM_BOOT_COMPLETE (0xC40001CF, the code in x1). That call is the platform's: pbeam_call
- *   answers PBEAM_X0_UNK. If x1 is not 0, EL3 closes its record with pbeam_close, tells no CPU to enter the monitor again, and
- *   serves nothing but 0xC400018F from then on.
+ *   answers PBEAM_X0_UNK. If x1 is not 0, EL3 closes its record with pbeam_close and lets no CPU enter the monitor again. Every
+ *   command but 0xC400018F is PBEAM_X0_UNK from then on.
  * The page. During a call no other CPU and no other world may write it. 002 gives it to the Realm world and leaves it to the monitor that
  *   one CPU uses it at a time; EL3 holds a lock of its own around each call all the same, since session, queue and table need one.
  *   What is promised of a call holds only of a page that stays still.
@@ -44,9 +44,9 @@
  *   on. Make a new token in a second buffer, lend that one in the call that starts with it, and keep the first until that call is OK.
  * Result registers. After a command the monitor's x0 to x2 are those of `out`. No command has a result in x3 or x4: leave the monitor's
  *   own values there, and in x5 to x17 (SMCCC).
- * 0xC400018F does not return to the monitor, so `out` goes nowhere. The Non-secure caller gets err_code (the value of `work`) in x0, and
- *   in x1 to x4 the further results of its RMI call, which the monitor has in x2 to x5.
- * Hand-made images. Any words are taken, and no call leaves what it is lent; but the answers are only as true as the words.
+ * 0xC400018F does not return to the monitor, so `out` goes nowhere. 002 hands x0 to x4 to the Non-secure world and names err_code alone: it
+ *   (the value of `work`) goes into x0, and what the monitor has in x2 to x5, the further results of the RMI call, into x1 to x4.
+ * Hand-made images. Any words are taken, and no call touches more than it is lent; but an answer is only as true as the words.
  *   - A record that is up is believed: B says which addresses are in the page, the minor which commands there are. Neither is checked.
  *   - A session that has sent as much as its token or more: the next call that goes on is OK with hunk 0 and rest 0, and ends it.
  *   - A request in the queue with ids above 32 bits, or with any ids: pbeam_oldest shows them as they stand, and pbeam_sign takes it. A
@@ -338,8 +338,8 @@ extern "C" {
  *          PBEAM_MANIFEST_PLACE    page not 4,096 bytes long; B zero, not a multiple of 4,096, or above PBEAM_BASE_MOST
  *          PBEAM_MANIFEST_VERSION  edition not 1 to 4; the manifest's version has bit 31 set, major not 0, or minor 0
  *          PBEAM_MANIFEST_RULES    padding not zero; plat_data neither 0 nor from B + core size of e to B + 4,095; a section of e
- *                               neither 24 zero bytes nor sound (count, pointer, array between core and page's end, checksum, each
- *                               entry's rule); two arrays overlap
+ *                                  neither 24 zero bytes nor sound (count, pointer, array between core and page's end,
+ *                                  checksum, each entry's rule); two arrays overlap
  * Leaves   the page as it was. view: what the page shows; refused: all zero.
  * Stack    352 bytes
  * A later minor is never refused. Sections after e are not read, nor what plat_data points at.
@@ -357,7 +357,7 @@ int32_t pbeam_read(const uint8_t *page, size_t page_len, uint64_t base, uint64_t
  */
 PBEAM_NONNULL(6)
 void pbeam_array(const uint8_t *page, size_t page_len, uint64_t base, uint64_t edition, size_t section,
-              uint64_t place[PBEAM_PLACE_WORDS]);
+                 uint64_t place[PBEAM_PLACE_WORDS]);
 
 /*
  * pbeam_array_of: find the array of one section by a view.
@@ -371,7 +371,7 @@ void pbeam_array(const uint8_t *page, size_t page_len, uint64_t base, uint64_t e
  */
 PBEAM_NONNULL(3, 5)
 void pbeam_array_of(const uint8_t *page, size_t page_len, const uint64_t view[PBEAM_VIEW_WORDS], size_t section,
-                 uint64_t place[PBEAM_PLACE_WORDS]);
+                    uint64_t place[PBEAM_PLACE_WORDS]);
 
 /*
  * pbeam_count: how many entries a section has.
@@ -391,7 +391,8 @@ size_t pbeam_count(const uint8_t *page, size_t page_len, const uint64_t view[PBE
  * Stack    192 bytes
  */
 PBEAM_NONNULL(3)
-uint64_t pbeam_word(const uint8_t *page, size_t page_len, const uint64_t view[PBEAM_VIEW_WORDS], size_t section, size_t entry, size_t word);
+uint64_t pbeam_word(const uint8_t *page, size_t page_len, const uint64_t view[PBEAM_VIEW_WORDS], size_t section, size_t entry,
+                    size_t word);
 
 /*
  * pbeam_write: write a manifest page.
@@ -408,8 +409,8 @@ uint64_t pbeam_word(const uint8_t *page, size_t page_len, const uint64_t view[PB
  * Stack    288 bytes
  */
 uint32_t pbeam_write(uint64_t base, uint64_t edition, const uint64_t *dram, size_t dram_len, const uint64_t *console,
-                  size_t console_len, const uint64_t *ncoh, size_t ncoh_len, const uint64_t *coh, size_t coh_len, uint8_t *page,
-                  size_t page_len);
+                     size_t console_len, const uint64_t *ncoh, size_t ncoh_len, const uint64_t *coh, size_t coh_len, uint8_t *page,
+                     size_t page_len);
 
 /* ---- Boot ---- */
 
@@ -429,7 +430,7 @@ uint32_t pbeam_write(uint64_t base, uint64_t edition, const uint64_t *dram, size
  */
 PBEAM_NONNULL(1)
 int32_t pbeam_cold_boot(uint64_t state[PBEAM_STATE_WORDS], uint64_t x0, uint64_t x1, uint64_t x2, uint64_t x3, uint64_t most,
-                     const uint8_t *page, size_t page_len);
+                        const uint8_t *page, size_t page_len);
 
 /*
  * pbeam_warm_boot: a CPU's boot after the cold boot.
@@ -487,8 +488,8 @@ bool pbeam_is_later(uint64_t a, uint64_t b);
  * The byte alone is changed: the change in hardware is the platform's, after an OK.
  */
 PBEAM_NONNULL(1, 2, 6)
-void pbeam_delegate(const uint64_t state[PBEAM_STATE_WORDS], const uint64_t granules[PBEAM_GRANULES_WORDS], uint8_t *table, size_t table_len,
-                 uint64_t address, uint64_t out[PBEAM_OUT_WORDS]);
+void pbeam_delegate(const uint64_t state[PBEAM_STATE_WORDS], const uint64_t granules[PBEAM_GRANULES_WORDS], uint8_t *table,
+                    size_t table_len, uint64_t address, uint64_t out[PBEAM_OUT_WORDS]);
 
 /*
  * pbeam_undelegate (0xC40001B1): a granule goes from Realm to Non-secure.
@@ -496,8 +497,8 @@ void pbeam_delegate(const uint64_t state[PBEAM_STATE_WORDS], const uint64_t gran
  * Stack    64 bytes
  */
 PBEAM_NONNULL(1, 2, 6)
-void pbeam_undelegate(const uint64_t state[PBEAM_STATE_WORDS], const uint64_t granules[PBEAM_GRANULES_WORDS], uint8_t *table, size_t table_len,
-                   uint64_t address, uint64_t out[PBEAM_OUT_WORDS]);
+void pbeam_undelegate(const uint64_t state[PBEAM_STATE_WORDS], const uint64_t granules[PBEAM_GRANULES_WORDS], uint8_t *table,
+                      size_t table_len, uint64_t address, uint64_t out[PBEAM_OUT_WORDS]);
 
 /*
  * pbeam_realm_key (0xC40001B2): the realm attestation key.
@@ -512,7 +513,7 @@ void pbeam_undelegate(const uint64_t state[PBEAM_STATE_WORDS], const uint64_t gr
  */
 PBEAM_NONNULL(1, 9)
 void pbeam_realm_key(const uint64_t state[PBEAM_STATE_WORDS], uint8_t *page, size_t page_len, const uint8_t *key, size_t key_len,
-                  uint64_t pa, uint64_t size, uint64_t curve, uint64_t out[PBEAM_OUT_WORDS]);
+                     uint64_t pa, uint64_t size, uint64_t curve, uint64_t out[PBEAM_OUT_WORDS]);
 
 /*
  * pbeam_platform_token (0xC40001B3): the next hunk of the platform token.
@@ -532,9 +533,9 @@ void pbeam_realm_key(const uint64_t state[PBEAM_STATE_WORDS], uint8_t *page, siz
  * The hunk is written over the challenge: call pbeam_challenge first. Size 0 with c_size 0 in a session is OK and moves nothing.
  */
 PBEAM_NONNULL(1, 2, 11)
-void pbeam_platform_token(const uint64_t state[PBEAM_STATE_WORDS], uint64_t session[PBEAM_SESSION_WORDS], uint8_t *page, size_t page_len,
-                       const uint8_t *token, size_t token_len, uint64_t busy, uint64_t pa, uint64_t size, uint64_t csize,
-                       uint64_t out[PBEAM_OUT_WORDS]);
+void pbeam_platform_token(const uint64_t state[PBEAM_STATE_WORDS], uint64_t session[PBEAM_SESSION_WORDS], uint8_t *page,
+                          size_t page_len, const uint8_t *token, size_t token_len, uint64_t busy, uint64_t pa, uint64_t size,
+                          uint64_t csize, uint64_t out[PBEAM_OUT_WORDS]);
 
 /*
  * pbeam_challenge: the challenge of a start, for the platform to make its token.
@@ -551,7 +552,7 @@ void pbeam_platform_token(const uint64_t state[PBEAM_STATE_WORDS], uint64_t sess
  */
 PBEAM_NONNULL(1, 7)
 uint64_t pbeam_challenge(const uint64_t state[PBEAM_STATE_WORDS], const uint8_t *page, size_t page_len, uint64_t pa, uint64_t size,
-                  uint64_t csize, uint64_t place[PBEAM_PLACE_WORDS]);
+                         uint64_t csize, uint64_t place[PBEAM_PLACE_WORDS]);
 
 /*
  * pbeam_features (0xC40001B4): the feature register.
@@ -585,8 +586,8 @@ void pbeam_features(const uint64_t state[PBEAM_STATE_WORDS], uint64_t index, uin
  */
 PBEAM_NONNULL(1, 2, 11)
 void pbeam_token_signing(const uint64_t state[PBEAM_STATE_WORDS], uint64_t queue[PBEAM_QUEUE_WORDS], uint8_t *page, size_t page_len,
-                      const uint8_t *key, size_t key_len, uint64_t opcode, uint64_t pa, uint64_t size, uint64_t curve,
-                      uint64_t out[PBEAM_OUT_WORDS]);
+                         const uint8_t *key, size_t key_len, uint64_t opcode, uint64_t pa, uint64_t size, uint64_t curve,
+                         uint64_t out[PBEAM_OUT_WORDS]);
 
 /*
  * pbeam_key_update (0xC40001B6): a new key for a mecid.
@@ -601,7 +602,7 @@ void pbeam_token_signing(const uint64_t state[PBEAM_STATE_WORDS], uint64_t queue
  */
 PBEAM_NONNULL(1, 4, 5)
 void pbeam_key_update(const uint64_t state[PBEAM_STATE_WORDS], uint64_t width, uint64_t mecid, uint64_t out[PBEAM_OUT_WORDS],
-                   uint64_t work[PBEAM_WORK_WORDS]);
+                      uint64_t work[PBEAM_WORK_WORDS]);
 
 /*
  * pbeam_forward (0xC400018F): the error code of an RMI call, for the Non-secure world.
@@ -663,10 +664,11 @@ size_t pbeam_responses(const uint64_t queue[PBEAM_QUEUE_WORDS]);
  * Stack    11,488 bytes with PBEAM_ID_TOKEN_SIGNING, 512 bytes with any other id
  */
 PBEAM_NONNULL(1, 2, 3, 6, 17, 18, 19)
-void pbeam_call(const uint64_t state[PBEAM_STATE_WORDS], uint64_t session[PBEAM_SESSION_WORDS], uint64_t queue[PBEAM_QUEUE_WORDS], uint8_t *page,
-             size_t page_len, const uint64_t granules[PBEAM_GRANULES_WORDS], uint8_t *table, size_t table_len, const uint8_t *key, size_t key_len,
-             const uint8_t *token, size_t token_len, uint64_t busy, const uint8_t *public_key, size_t public_len, uint64_t width,
-             const uint64_t call[PBEAM_CALL_WORDS], uint64_t out[PBEAM_OUT_WORDS], uint64_t work[PBEAM_WORK_WORDS]);
+void pbeam_call(const uint64_t state[PBEAM_STATE_WORDS], uint64_t session[PBEAM_SESSION_WORDS], uint64_t queue[PBEAM_QUEUE_WORDS],
+                uint8_t *page, size_t page_len, const uint64_t granules[PBEAM_GRANULES_WORDS], uint8_t *table, size_t table_len,
+                const uint8_t *key, size_t key_len, const uint8_t *token, size_t token_len, uint64_t busy, const uint8_t *public_key,
+                size_t public_len, uint64_t width, const uint64_t call[PBEAM_CALL_WORDS], uint64_t out[PBEAM_OUT_WORDS],
+                uint64_t work[PBEAM_WORK_WORDS]);
 
 #ifdef __cplusplus
 }

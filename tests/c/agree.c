@@ -859,6 +859,29 @@ static void check_accepted_images(void)
         SAME(queue[i], 0);
 }
 
+/* What the header says of hand-made images, and of a token that is exchanged in mid-session. */
+static void check_hand_made_images(void)
+{
+    uint64_t state[ROOM] = {PBEAM_STATE_UP, 0, 1, 99}, session[ROOM] = {PBEAM_SESSION_SENDING, 100, 200}, queue[ROOM] = {1, 0};
+    uint64_t out[ROOM], request[ROOM];
+    uint8_t one[100], other[100];
+    memset(one, 1, sizeof one);
+    memset(other, 2, sizeof other);
+    pbeam_platform_token(state, session, page, LEN, one, 100, 0, 1 + 8, 64, 0, out); /* B is 1 */
+    SAME(out[0] | out[1] | out[2] | session[0], 0);
+    pbeam_platform_token(state, session, page, LEN, one, 100, 0, 1 + 8, 64, 32, out);
+    SAME(page[8], 1);
+    pbeam_platform_token(state, session, page, LEN, other, 99, 0, 1 + 8, 64, 0, out);
+    SAME(out[0], PBEAM_X0_UNK);
+    pbeam_platform_token(state, session, page, LEN, other, 100, 0, 1 + 8, 64, 0, out);
+    SAME(out[0], PBEAM_X0_OK);
+    SAME(page[8], 2);
+    queue[PBEAM_QUEUE_FIRST_REQUEST + PBEAM_REQUEST_WORD_ALGORITHM] = UINT64_C(0x123456789A);
+    SAME(pbeam_oldest(queue, request), 1);
+    SAME(request[PBEAM_REQUEST_WORD_ALGORITHM], UINT64_C(0x123456789A));
+    SAME(sign(queue, 1, 1), PBEAM_X0_OK);
+}
+
 /* ---- Dispatcher ---- */
 
 static struct {
@@ -945,6 +968,7 @@ int main(int argc, char **argv)
     check_queue_limits();
     check_refused_images();
     check_accepted_images();
+    check_hand_made_images();
     check_ids();
     printf("%lu checks\n", checks);
     return 0;

@@ -223,6 +223,8 @@ static void check_view(void)
     pbeam_view_array(&page, &view, PBEAM_CONSOLE, &place);
     SAME(pbeam_place_offset(&place), 112 + 32);
     SAME(pbeam_place_length(&place), 48);
+    pbeam_put64(page.bytes + 112 + 32 + 8 * PBEAM_CONSOLE_FLAGS, 0xF1); /* behind the reader's back */
+    SAME(pbeam_view_console(&page, &view, 0).flags, 0xF1);
     view.words[PBEAM_VIEW_SECTIONS] = 77; /* read as entries */
     SAME(pbeam_view_section(&view, PBEAM_DRAM), PBEAM_VIEW_ENTRIES);
     SAME(pbeam_manifest_write(BASE, 4, &banks, &page), PBEAM_WRITE_PAGE);
@@ -237,6 +239,32 @@ static void check_view(void)
 }
 
 /* ---- Boot ---- */
+
+/* A reset writes its image, and no word behind it. */
+static void check_resets(void)
+{
+    struct {
+        pbeam_record_t record;
+        uint64_t behind_record;
+        pbeam_session_t session;
+        uint64_t behind_session;
+        pbeam_queue_t queue;
+        uint64_t behind_queue;
+    } all;
+    memset(&all, 0xEE, sizeof all);
+    pbeam_record_reset(&all.record);
+    pbeam_session_reset(&all.session);
+    pbeam_queue_reset(&all.queue);
+    for (size_t i = 0; i < PBEAM_STATE_WORDS; i++)
+        SAME(all.record.words[i], 0);
+    for (size_t i = 0; i < PBEAM_SESSION_WORDS; i++)
+        SAME(all.session.words[i], 0);
+    for (size_t i = 0; i < PBEAM_QUEUE_WORDS; i++)
+        SAME(all.queue.words[i], 0);
+    SAME(all.behind_record, UINT64_C(0xEEEEEEEEEEEEEEEE));
+    SAME(all.behind_session, UINT64_C(0xEEEEEEEEEEEEEEEE));
+    SAME(all.behind_queue, UINT64_C(0xEEEEEEEEEEEEEEEE));
+}
 
 static void check_version(void)
 {
@@ -402,7 +430,10 @@ static void check_token(void)
     SAME(pbeam_context_challenge(&context, &call, &place), PBEAM_X0_OK);
     SAME(pbeam_place_offset(&place), 8);
     SAME(pbeam_place_length(&place), 48);
-    call.words[PBEAM_CALL_ID] = PBEAM_ID_REALM_KEY; /* 48 is no c_size here */
+    call.words[PBEAM_CALL_X2] = 47; /* a buffer shorter than the challenge */
+    SAME(pbeam_context_challenge(&context, &call, &place), PBEAM_X0_INVAL);
+    SAME(pbeam_place_length(&place), 0);
+    call = pbeam_call_of(PBEAM_ID_REALM_KEY, BASE + 8, 64, 48, 0); /* 48 is no c_size here */
     SAME(pbeam_context_challenge(&context, &call, &place), PBEAM_X0_OK);
     SAME(pbeam_place_length(&place), 0);
     context.busy = true;
@@ -415,14 +446,14 @@ static void check_token(void)
     context.session.words[PBEAM_SESSION_KIND] = 3; /* read as sending */
     SAME(pbeam_session_is_sending(&context.session), true);
     pbeam_session_reset(&context.session);
-    SAME(context.session.words[0] | context.session.words[1] | context.session.words[2], 0);
     SAME(pbeam_session_is_sending(&context.session), false);
 }
 
 static void check_requests(const uint8_t hash[PBEAM_HASH_BYTES])
 {
     pbeam_request_t request;
-    uint8_t found[PBEAM_HASH_BYTES];
+    uint8_t found[PBEAM_HASH_BYTES + 8];
+    memset(found, 0xEE, sizeof found);
     SAME(pbeam_queue_oldest(&context.queue, &request), 1);
     SAME(pbeam_queue_responses(&context.queue), 0);
     SAME(pbeam_request_sig_alg_id(&request), 0);
@@ -430,7 +461,8 @@ static void check_requests(const uint8_t hash[PBEAM_HASH_BYTES])
     SAME(pbeam_request_req_ticket(&request), 99);
     SAME(pbeam_request_hash_alg_id(&request), 1);
     pbeam_request_hash_buf(&request, found);
-    SAME(memcmp(found, hash, sizeof found), 0);
+    SAME(memcmp(found, hash, PBEAM_HASH_BYTES), 0);
+    SAME(found[PBEAM_HASH_BYTES], 0xEE);
 }
 
 static void check_signing(void)
@@ -459,10 +491,9 @@ static void check_signing(void)
     SAME(response.sig_len, 5);
     SAME(memcmp(response.signature_buf, signature, 5), 0);
     SAME(called(pbeam_call_push(BASE + 16, PBEAM_REQUEST_BYTES)), E_RMM_INVAL); /* a response is no request */
-    memset(&context.queue, 0xEE, sizeof context.queue);
-    pbeam_queue_reset(&context.queue);
-    for (size_t i = 0; i < PBEAM_QUEUE_WORDS; i++)
-        SAME(context.queue.words[i], 0);
+    memset(&page, 0, sizeof page);
+    SAME(pbeam_get_response(page.bytes, 18, &response), true); /* no signature */
+    SAME(response.sig_len, 0);
 }
 
 int main(void)
@@ -476,6 +507,7 @@ int main(void)
     check_counts_that_wrap();
     check_view();
     check_version();
+    check_resets();
     check_record();
     check_calls();
     check_answers();
