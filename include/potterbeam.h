@@ -44,8 +44,8 @@
  *   on. Make a new token in a second buffer, lend that one in the call that starts with it, and keep the first until that call is OK.
  * Result registers. After a command the monitor's x0 to x2 are those of `out`. No command has a result in x3 or x4: leave the monitor's
  *   own values there, and in x5 to x17 (SMCCC).
- * 0xC400018F does not return to the monitor, so `out` goes nowhere. 002 hands x0 to x4 to the Non-secure world and names err_code alone: it
- *   (the value of `work`) goes into x0, and what the monitor has in x2 to x5, the further results of the RMI call, into x1 to x4.
+ * 0xC400018F does not return to the monitor, so `out` goes nowhere. The Non-secure world gets x0 to x4 (002). 002 names err_code alone, which
+ *   is the value of `work`: it goes into x0. Which of the monitor's registers go into x1 to x4 is the platform's; we suggest x2 to x5.
  * Hand-made images. Any words are taken, and no call touches more than it is lent; but an answer is only as true as the words.
  *   - A record that is up is believed: B says which addresses are in the page, the minor which commands there are. Neither is checked.
  *   - A session that has sent as much as its token or more: the next call that goes on is OK with hunk 0 and rest 0, and ends it.
