@@ -3,6 +3,9 @@
 //!
 //! Each header of include/ has a line "Stack    N bytes" with each function. A call that takes more fails, and so does a function that
 //! has no such line or is not measured here.
+//!
+//! docs/STACK.md has the most of each. POTTERBEAM_WRITE_STACK=1 writes its tables anew; otherwise a table that lacks an export, or has
+//! less than was measured, fails.
 
 #![cfg(target_arch = "x86_64")]
 
@@ -22,6 +25,9 @@ const MEMORY: u64 = 0x9000_0000;
 const BANK: [u64; 2] = [0x9000_0000, 0x1000_0000];
 const CONSOLE: [u64; 6] = [0x1c0c_0000, 1, 0x7061_7274, 24_000_000, 115_200, 0];
 const UP: [u64; 4] = [1, 8, BASE, 5];
+
+/// The most that a call on a boot path may take: half of a boot stack of 2 KiB.
+const BOOT: usize = 1024;
 
 // ---- Measuring ----
 
@@ -74,17 +80,47 @@ fn stack_of<L: Clone, A>(lent: &L, call: impl Fn(&mut L) -> A) -> (usize, A) {
     (most, answer.expect("an answer"))
 }
 
+/// Runs a body under so many words of stack that are written.
+#[inline(never)]
+fn under_words<const N: usize, A>(body: impl FnOnce() -> A) -> A {
+    let room = [0u64; N];
+    // The address is taken where no compiler sees what becomes of it; after the body too, so that the words stay until then.
+    unsafe { asm!("/* {room} */", room = in(reg) &room) }
+    let answer = body();
+    unsafe { asm!("/* {room} */", room = in(reg) &room) }
+    answer
+}
+
+/// Bytes of stack by name.
+type Figures = BTreeMap<String, usize>;
+
 /// A header, and the functions of it that were measured.
 struct Header {
+    /// Its file in include/.
+    file: &'static str,
     text: &'static str,
-    /// The most that each took.
-    measured: BTreeMap<&'static str, usize>,
+    /// The most that each took; behind a comma, the most of some of its calls.
+    measured: Figures,
 }
 
 impl Header {
-    fn of(text: &'static str) -> Header {
-        let measured = BTreeMap::new();
-        Header { text, measured }
+    fn of(file: &'static str, text: &'static str) -> Header {
+        let measured = Figures::new();
+        Header {
+            file,
+            text,
+            measured,
+        }
+    }
+
+    fn kit() -> Header {
+        Header::of("potterbeam.h", include_str!("../../include/potterbeam.h"))
+    }
+
+    /// Keeps the most of a function, or of some of its calls.
+    fn keep(&mut self, name: &str, bytes: usize) {
+        let before = self.measured.entry(name.to_string()).or_default();
+        *before = bytes.max(*before);
     }
 
     /// Names of the functions that it declares.
@@ -127,16 +163,22 @@ impl Header {
             bytes <= most,
             "{name}, {what}: {bytes} bytes, the header has {most}"
         );
-        let before = self.measured.entry(name).or_default();
-        *before = bytes.max(*before);
+        self.keep(name, bytes);
         bytes
     }
 
-    /// Every function was measured. The most of each is printed past the test's capture, all lines at once.
+    /// Every function was measured.
     fn is_measured(&self) {
-        let names: BTreeSet<_> = self.measured.keys().copied().collect();
+        let rows = self.measured.keys();
+        let names: BTreeSet<_> = rows.filter_map(|row| row.split(',').next()).collect();
         assert_eq!(self.functions(), names);
-        let line = |(name, bytes)| format!("most stack of {name:<26} {bytes:>5} bytes\n");
+    }
+
+    /// The most of each is printed past the test's capture, all lines at once.
+    fn print(&self) {
+        let line = |(name, bytes): (&String, &usize)| {
+            format!("most stack of {name:<26} {bytes:>5} bytes\n")
+        };
         let lines: String = self.measured.iter().map(line).collect();
         let written = std::io::stderr().write_all(lines.as_bytes());
         written.expect("stderr");
@@ -149,11 +191,7 @@ impl Header {
 fn measure_sees_stack() {
     let (nothing, ()) = stack_of(&(), |()| ());
     assert!(nothing <= 64, "{nothing} bytes");
-    let (kilobyte, ()) = stack_of(&(), |()| {
-        let room = [0u64; 128];
-        // The address is taken where no compiler sees what becomes of it.
-        unsafe { asm!("/* {room} */", room = in(reg) &room) }
-    });
+    let (kilobyte, ()) = stack_of(&(), |()| under_words::<128, _>(|| ()));
     assert!((1024..1200).contains(&kilobyte), "{kilobyte} bytes");
 }
 
@@ -162,7 +200,8 @@ fn measure_sees_stack() {
 #[cfg_attr(debug_assertions, ignore = "measured in release builds")]
 #[should_panic(expected = "the header has 16")]
 fn figure_that_is_exceeded_fails() {
-    let mut header = Header::of("/*\n * pbeam_count: too little\n * Stack    16 bytes\n */");
+    let text = "/*\n * pbeam_count: too little\n * Stack    16 bytes\n */";
+    let mut header = Header::of("none", text);
     let page = consoles(83);
     header.within(("pbeam_count", "83 consoles"), &page, 0, |page| {
         Kit::count(page, &[0; 15], 1)
@@ -209,7 +248,11 @@ fn pages() -> Vec<(&'static str, Vec<u8>, i32)> {
 #[test]
 #[cfg_attr(debug_assertions, ignore = "measured in release builds")]
 fn exports_keep_the_figures_of_the_header() {
-    let mut header = Header::of(include_str!("../../include/potterbeam.h"));
+    kit_measured().print();
+}
+
+fn kit_measured() -> Header {
+    let mut header = Header::kit();
     for (what, page, code) in pages() {
         reading(&mut header, what, &page, code);
         cold_booting(&mut header, what, &page, code);
@@ -224,6 +267,7 @@ fn exports_keep_the_figures_of_the_header() {
     challenges(&mut header);
     signer(&mut header);
     header.is_measured();
+    header
 }
 
 fn reading(header: &mut Header, what: &str, page: &[u8], code: i32) {
@@ -326,20 +370,109 @@ fn refused_boots(header: &mut Header) {
     }
 }
 
-/// However many entries the page has, and far below what EL3 firmware has.
+// ---- A boot stack (02, E4) ----
+
+/// Stack of a call, which has to be accepted and to fit a boot stack.
+fn boot_stack<L: Clone>(what: &str, lent: &L, call: impl Fn(&mut L) -> i32) -> usize {
+    let (bytes, code) = stack_of(lent, call);
+    assert_eq!(code, 0, "{what}");
+    assert!(bytes <= BOOT, "{what}: {bytes} bytes, at most {BOOT} fit");
+    println!("boot stack of {what:<30} {bytes:>5} bytes");
+    bytes
+}
+
+/// A call for many entries takes no more than the same call for one.
+fn no_more_for_more<L: Clone>(what: &str, [one, many]: [&L; 2], call: impl Fn(&mut L) -> i32) {
+    let one = boot_stack(&format!("{what}, one"), one, &call);
+    let many = boot_stack(&format!("{what}, many"), many, &call);
+    assert!(many <= one, "{what}: {many} bytes for many, {one} for one");
+}
+
+fn banks(count: usize) -> Vec<u8> {
+    page_of([&BANK.repeat(count), &[], &[], &[]])
+}
+
+/// A page and a view to be written.
+fn unread(page: Vec<u8>) -> (Vec<u8>, [u64; 15]) {
+    (page, [0; 15])
+}
+
+fn read((page, view): &mut (Vec<u8>, [u64; 15])) -> i32 {
+    Kit::read(page, BASE, 4, view)
+}
+
+/// The reader's checksum.
 #[test]
 #[cfg_attr(debug_assertions, ignore = "measured in release builds")]
-fn checksum_takes_no_more_for_more_consoles() {
-    let read = |page: &[u8]| stack_of(&[0; 15], |view| Kit::read(page, BASE, 4, view));
-    let ((one, _), (most, code)) = (read(&consoles(1)), read(&consoles(83)));
-    assert_eq!(code, 0);
-    assert!(most <= one, "{most} bytes for 83, {one} for 1");
-    let header = Header::of(include_str!("../../include/potterbeam.h"));
-    let (read, cold) = (
-        header.figures("pbeam_read")[0],
-        header.figures("pbeam_cold_boot")[0],
-    );
-    assert!(read <= 1024 && cold <= 2048, "{read} and {cold} bytes");
+fn reading_takes_no_more_for_more_entries() {
+    let pages = [&unread(consoles(1)), &unread(consoles(83))];
+    no_more_for_more("read, 83 consoles", pages, read);
+    let pages = [&unread(banks(1)), &unread(banks(249))];
+    no_more_for_more("read, 249 banks", pages, read);
+}
+
+/// The writer's checksum.
+#[test]
+#[cfg_attr(debug_assertions, ignore = "measured in release builds")]
+fn writing_takes_no_more_for_more_entries() {
+    let of = |entry: &[u64], count| (entry.repeat(count), vec![0; PAGE]);
+    let lent = [&of(&CONSOLE, 1), &of(&CONSOLE, 83)];
+    no_more_for_more("write, 83 consoles", lent, |(list, page)| {
+        Kit::write(BASE, 4, [&[], list, &[], &[]], page) as i32
+    });
+    let lent = [&of(&BANK, 1), &of(&BANK, 249)];
+    no_more_for_more("write, 249 banks", lent, |(list, page)| {
+        Kit::write(BASE, 4, [list, &[], &[], &[]], page) as i32
+    });
+}
+
+/// The whole of it, as measured and as the header says.
+#[test]
+#[cfg_attr(debug_assertions, ignore = "measured in release builds")]
+fn cold_boot_fits_a_boot_stack() {
+    for (what, page) in [
+        ("cold boot, 1 console", consoles(1)),
+        ("cold boot, 83 consoles", consoles(83)),
+        ("cold boot, 249 banks", banks(249)),
+        (
+            "cold boot, all four sections",
+            page_of([&BANK, &CONSOLE, &BANK, &BANK]),
+        ),
+    ] {
+        boot_stack(what, &[0; 4], |state| {
+            Kit::cold_boot(state, [0, 5, 8, BASE], 8, &page)
+        });
+    }
+    for name in ["pbeam_read", "pbeam_write", "pbeam_cold_boot"] {
+        let most = Header::kit().figures(name)[0];
+        assert!(most <= BOOT, "{name}: the header has {most} bytes");
+    }
+}
+
+/// The check can fail: 2 KiB in the caller are noticed.
+#[test]
+#[cfg_attr(debug_assertions, ignore = "measured in release builds")]
+#[should_panic(expected = "at most 1024 fit")]
+fn two_kilobytes_more_fail() {
+    let pages = [&unread(consoles(1)), &unread(consoles(83))];
+    no_more_for_more("read under 2 KiB", pages, |lent| {
+        under_words::<256, _>(|| read(lent))
+    });
+}
+
+/// So are 256 bytes that only the page of 83 consoles costs, though they fit.
+#[test]
+#[cfg_attr(debug_assertions, ignore = "measured in release builds")]
+#[should_panic(expected = "bytes for many")]
+fn more_for_more_entries_fails() {
+    let pages = [&unread(consoles(1)), &unread(consoles(83))];
+    no_more_for_more("read, many under 256 bytes", pages, |lent| {
+        if lent.0[PAGE - 48..] == [0; 48] {
+            read(lent)
+        } else {
+            under_words::<32, _>(|| read(lent))
+        }
+    });
 }
 
 // ---- Runtime commands ----
@@ -645,11 +778,14 @@ fn dispatched(header: &mut Header, what: &str, board: &Board, x: &[u64; 5], x0: 
         Kit::call(&board.state, session, queue, &mut lent, x, out, work);
         board.out[0] as i64
     });
-    let most = header.figures("pbeam_call")[1];
-    assert!(
-        x[0] == SIGNING || bytes <= most,
-        "pbeam_call, {what}: {bytes} bytes, the header has {most}"
-    );
+    if x[0] != SIGNING {
+        let most = header.figures("pbeam_call")[1];
+        assert!(
+            bytes <= most,
+            "pbeam_call, {what}: {bytes} bytes, the header has {most}"
+        );
+        header.keep("pbeam_call, any id but token signing", bytes);
+    }
 }
 
 fn challenges(header: &mut Header) {
@@ -707,7 +843,12 @@ const SENT: Transfer = Transfer {
 #[test]
 #[cfg_attr(debug_assertions, ignore = "measured in release builds")]
 fn tpm_keeps_the_figures_of_the_header() {
-    let mut header = Header::of(include_str!("../../include/potterbeam_tpm.h"));
+    tpm_measured().print();
+}
+
+fn tpm_measured() -> Header {
+    let text = include_str!("../../include/potterbeam_tpm.h");
+    let mut header = Header::of("potterbeam_tpm.h", text);
     let memory = vec![0; 65536];
     let close = Transfer {
         operation: 2,
@@ -744,6 +885,7 @@ fn tpm_keeps_the_figures_of_the_header() {
         });
     }
     header.is_measured();
+    header
 }
 
 // ---- State blobs ----
@@ -753,7 +895,12 @@ const LARGEST: u32 = 3072;
 #[test]
 #[cfg_attr(debug_assertions, ignore = "measured in release builds")]
 fn state_blobs_keep_the_figures_of_the_header() {
-    let mut header = Header::of(include_str!("../../include/potterbeam_swtpm.h"));
+    state_blobs_measured().print();
+}
+
+fn state_blobs_measured() -> Header {
+    let text = include_str!("../../include/potterbeam_swtpm.h");
+    let mut header = Header::of("potterbeam_swtpm.h", text);
     let (data, mut response, mut request) = (vec![7; 3072], vec![0; 4096], vec![0; 16]);
     let mut len = 0;
     assert_eq!(
@@ -809,4 +956,122 @@ fn state_blobs_keep_the_figures_of_the_header() {
         });
     }
     header.is_measured();
+    header
+}
+
+// ---- The table of docs/STACK.md ----
+
+const TABLE: &str = concat!(env!("CARGO_MANIFEST_DIR"), "/../docs/STACK.md");
+
+/// A header's part of the file, from its figures.
+fn section(file: &str, figures: &Figures) -> String {
+    let row = |(name, &bytes): (&String, &usize)| {
+        let boots = if bytes <= BOOT { "yes" } else { "no" };
+        let number = match (bytes / 1000, bytes % 1000) {
+            (0, ones) => ones.to_string(),
+            (thousands, ones) => format!("{thousands},{ones:03}"),
+        };
+        format!("| {name} | {number} | {boots} |\n")
+    };
+    let rows: String = figures.iter().map(row).collect();
+    format!("## {file}\n\n| Export | Bytes | Boot stack |\n|---|---|---|\n{rows}")
+}
+
+/// The figures of a section's rows.
+fn figures_in(section: &str) -> Figures {
+    let rows = section.lines().filter_map(|line| {
+        let mut cells = line.strip_prefix("| ")?.split(" | ");
+        let name = cells.next()?.to_string();
+        Some((name, cells.next()?.replace(',', "").parse().ok()?))
+    });
+    rows.collect()
+}
+
+/// A figure as the table has it. The frame of the test's own call is in it, 8 to 48 bytes depending on the Rust compiler: rounding
+/// up to a multiple of 32 leaves some room for another compiler.
+fn rounded(measured: &Figures) -> Figures {
+    let up = |(name, bytes): (&String, &usize)| (name.clone(), (bytes + 31) / 32 * 32);
+    measured.iter().map(up).collect()
+}
+
+/// What is wrong with the file's text, given what was measured.
+fn fault(text: &str, headers: &[Header]) -> Option<String> {
+    let sections: Vec<_> = text.split("\n## ").skip(1).collect();
+    if sections.len() != headers.len() {
+        return Some(format!("{} sections", sections.len()));
+    }
+    sections.iter().zip(headers).find_map(|(text, header)| {
+        let (file, figures) = (header.file, figures_in(text));
+        if section(file, &figures).trim_end() != format!("## {}", text.trim_end()) {
+            return Some(format!("the section of {file} is not as it is written"));
+        }
+        if !figures.keys().eq(header.measured.keys()) {
+            return Some(format!(
+                "{file}: exports without a row, or rows without one"
+            ));
+        }
+        let above = header
+            .measured
+            .iter()
+            .find(|(name, bytes)| **bytes > figures[*name]);
+        above.map(|(name, bytes)| format!("{name}: {bytes} bytes, the table has {}", figures[name]))
+    })
+}
+
+/// The text before the tables stays.
+fn write_table(headers: &[Header]) {
+    let text = std::fs::read_to_string(TABLE).expect(TABLE);
+    let head = text.split("\n## ").next().expect("a head").trim_end();
+    let sections = headers
+        .iter()
+        .map(|header| section(header.file, &rounded(&header.measured)));
+    let sections: Vec<_> = sections.collect();
+    let written = std::fs::write(TABLE, format!("{head}\n\n{}", sections.join("\n")));
+    written.expect(TABLE);
+}
+
+#[test]
+#[cfg_attr(debug_assertions, ignore = "measured in release builds")]
+fn table_is_what_was_measured() {
+    let headers = [kit_measured(), tpm_measured(), state_blobs_measured()];
+    if std::env::var_os("POTTERBEAM_WRITE_STACK").map_or(false, |set| set == "1") {
+        write_table(&headers);
+    }
+    let text = std::fs::read_to_string(TABLE).expect(TABLE);
+    let wrong = fault(&text, &headers);
+    assert_eq!(wrong, None, "POTTERBEAM_WRITE_STACK=1 writes it anew");
+    stale_tables_fail(&text, &headers);
+}
+
+/// Without tables, without a row, with a row too many, with a figure too low, with a wrong answer on boot.
+fn stale_tables_fail(text: &str, headers: &[Header]) {
+    let row = |name: &str| {
+        let start = format!("| {name} | ");
+        text.lines()
+            .find(|line| line.starts_with(&start))
+            .expect(name)
+    };
+    let (read, held) = (row("pbeam_read"), row("pbeam_swtpm_held"));
+    for (stale, said) in [
+        (text.replace("\n## ", "\n"), "0 sections"),
+        (text.replace(&format!("{held}\n"), ""), "without a row"),
+        (
+            text.replace(
+                held,
+                &format!("{held}\n| pbeam_swtpm_held, empty | 32 | yes |"),
+            ),
+            "rows without",
+        ),
+        (
+            text.replace(read, "| pbeam_read | 32 | yes |"),
+            "the table has 32",
+        ),
+        (
+            text.replace(read, &read.replace("yes", "no")),
+            "as it is written",
+        ),
+    ] {
+        let wrong = fault(&stale, headers).expect(said);
+        assert!(wrong.contains(said), "{wrong}");
+    }
 }
