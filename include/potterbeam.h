@@ -21,7 +21,8 @@
  *   whatever they hold.
  * - "Stack" bounds what a call was seen to write on x86-64, accepted or refused, with its return address and the words that it takes on the
  *   stack; the test rust/tests/stack.rs fails where a figure is exceeded. It is measured, not proved, and not on AArch64. The functions
- *   that take the queue do not fit the stack of 2 or 4 KiB that EL3 firmware often has: give them one of their own.
+ *   that change the queue (pbeam_token_signing, pbeam_sign, pbeam_call with PBEAM_ID_TOKEN_SIGNING) do not fit the stack of 2 or 4 KiB that
+ *   EL3 firmware often has: give them one of their own. All others fit 1 KiB.
  *
  * potterbeam_types.h has a struct for each image, lists that are counted in entries, and one struct for all that pbeam_call takes. The
  * functions here take plain words and count them: two banks are 4.
