@@ -1,11 +1,14 @@
 //! The proved library against the reference, nanoseconds a call: `cargo run --offline --release --example bench`
 //!
 //! Both are timed in turn, on pages of the same content and alignment, and the best of many short runs counts. The reference keeps
-//! its states as Rust values, as code written by hand would. For the queue a second line has the reference on the same image as the
-//! library, so that what the image itself costs can be told apart.
+//! its states as Rust values ("native"). Calls by id and the queue are timed against hand-written code that works in place on the same
+//! image as the library, by the same rules ("in place"); `tests/inplace.rs` holds it to them.
 
-use potterbeam_tests::exports::{Exports, QueueImage, RecordImage};
+use potterbeam_tests::exports::{
+    Exports, Lent, QueueImage, RecordImage, Registers, SessionImage, Work,
+};
 use potterbeam_tests::images::record_of;
+use potterbeam_tests::inplace;
 use potterbeam_tests::kit::Kit;
 use potterbeam_tests::model::Model;
 use potterbeam_tests::reference::boot::Record;
@@ -14,6 +17,9 @@ use potterbeam_tests::reference::granules::{delegate, undelegate};
 use potterbeam_tests::reference::layout::PAGE;
 use potterbeam_tests::reference::queue::Queue;
 use potterbeam_tests::reference::reader::read;
+use potterbeam_tests::reference::runtime::{
+    DELEGATE, FEATURES, KEY_UPDATE, PLAT_TOKEN, REALM_KEY, REQ_COMPLETE, TOKEN_SIGN, UNDELEGATE,
+};
 use potterbeam_tests::reference::signing::{token_sign, SignCall};
 use potterbeam_tests::reference::state_blob::{
     write_response, Collector, Piece, Refusal, Request as StateRequest,
@@ -290,15 +296,20 @@ impl Way {
         see(native_sign(queue, &self.signature).expect("signed")[0]);
     }
 
-    fn image<S: Exports>(&self, queue: &mut QueueImage, page: &mut [u8], x: [u64; 4]) {
+    /// A command on the image, on either side.
+    fn image(&self, signing: impl Signing, queue: &mut QueueImage, page: &mut [u8], x: [u64; 4]) {
         let mut out = [0; 3];
-        S::token_signing(&self.up.image, queue, page, &self.signature, x, &mut out);
+        signing(&self.up.image, queue, page, &self.signature, x, &mut out);
         see(out[0]);
     }
 
-    fn image_sign<S: Exports>(&self, queue: &mut QueueImage) {
+    fn image_sign(
+        &self,
+        sign: impl Fn(&mut QueueImage, &[u8], &mut Registers),
+        queue: &mut QueueImage,
+    ) {
         let mut out = [0; 3];
-        S::sign(queue, &self.signature, &mut out);
+        sign(queue, &self.signature, &mut out);
         see(out[0]);
     }
 
@@ -306,13 +317,21 @@ impl Way {
     fn waiting(&self, responses: usize, page: &mut [u8]) -> (QueueImage, Queue) {
         let (mut image, mut queue) = ([0; 210], Queue::EMPTY);
         for _ in 0..responses {
-            self.image::<Model>(&mut image, page, self.push);
-            self.image_sign::<Model>(&mut image);
+            self.image(Model::token_signing, &mut image, page, self.push);
+            self.image_sign(Model::sign, &mut image);
             self.native(&mut queue, page, self.push);
             self.native_sign(&mut queue);
         }
         (image, queue)
     }
+}
+
+/// Token signing with the library's signature.
+trait Signing: Fn(&RecordImage, &mut QueueImage, &mut [u8], &[u8], [u64; 4], &mut Registers) {}
+
+impl<F> Signing for F where
+    F: Fn(&RecordImage, &mut QueueImage, &mut [u8], &[u8], [u64; 4], &mut Registers)
+{
 }
 
 /// A request goes all the way through, while so many responses wait.
@@ -321,29 +340,253 @@ fn compare_queue(waiting: usize) {
     let mut pages = [(); 3].map(|()| Page([0; PAGE]));
     // The hash id that is asked for.
     pages.iter_mut().for_each(|page| page.0[24] = 1);
-    let [ours, theirs, modelled] = &mut pages;
-    let (ours, theirs, modelled) = (ours.lent(), theirs.lent(), modelled.lent());
+    let [ours, theirs, placed] = &mut pages;
+    let (ours, theirs, placed) = (ours.lent(), theirs.lent(), placed.lent());
     let (mut kit, mut native) = way.waiting(waiting, ours);
-    let mut model = kit;
+    let mut image = kit;
     let kit_side = side(|| {
-        way.image::<Kit>(&mut kit, ours, way.push);
-        way.image_sign::<Kit>(&mut kit);
-        way.image::<Kit>(&mut kit, ours, way.pull);
+        way.image(Kit::token_signing, &mut kit, ours, way.push);
+        way.image_sign(Kit::sign, &mut kit);
+        way.image(Kit::token_signing, &mut kit, ours, way.pull);
     });
     let native_side = side(|| {
         way.native(&mut native, theirs, way.push);
         way.native_sign(&mut native);
         way.native(&mut native, theirs, way.pull);
     });
-    let model_side = side(|| {
-        way.image::<Model>(&mut model, modelled, way.push);
-        way.image_sign::<Model>(&mut model);
-        way.image::<Model>(&mut model, modelled, way.pull);
+    let in_place_side = side(|| {
+        way.image(inplace::token_signing, &mut image, placed, way.push);
+        way.image_sign(inplace::sign, &mut image);
+        way.image(inplace::token_signing, &mut image, placed, way.pull);
     });
-    let others = vec![("native", native_side), ("on the image", model_side)];
+    let others = vec![("in place", in_place_side), ("native", native_side)];
     let name = format!("push, sign, pull, {waiting} waiting");
     compare(&name, 3, kit_side, others);
-    assert!(kit == model && pages[0].0 == pages[1].0);
+    assert!(kit == image && pages[0].0 == pages[1].0 && pages[0].0 == pages[2].0);
+}
+
+/// The oldest of eight requests.
+fn compare_oldest() {
+    let way = Way::new();
+    let (mut page, mut image) = (Page([0; PAGE]), [0; 210]);
+    page.0[24] = 1;
+    for _ in 0..8 {
+        way.image(Model::token_signing, &mut image, &mut page.0, way.push);
+    }
+    let [mut ours, mut theirs] = [[0; 10]; 2];
+    compare(
+        "oldest request, 8 waiting",
+        1,
+        side(|| {
+            see(Kit::oldest(&image, &mut ours) as u64);
+            see(ours[9]);
+        }),
+        vec![(
+            "in place",
+            side(|| {
+                see(inplace::oldest(&image, &mut theirs) as u64);
+                see(theirs[9]);
+            }),
+        )],
+    );
+    assert_eq!(ours, theirs);
+}
+
+// ---- Calls by id ----
+
+/// All that a call works on: one for each side.
+struct Desk {
+    record: RecordImage,
+    session: SessionImage,
+    queue: QueueImage,
+    page: Box<Page>,
+    start: u64,
+    table: Vec<u8>,
+    key: Vec<u8>,
+    token: Vec<u8>,
+    busy: u64,
+    width: u64,
+    out: Registers,
+    work: Work,
+}
+
+impl Desk {
+    fn new() -> Desk {
+        let [start, table, key, token, busy, width] = hidden([0, 512, 97, 4096, 0, 15]);
+        let mut page = Box::new(Page([0; PAGE]));
+        page.0[24] = 1;
+        Desk {
+            record: Up::new().image,
+            session: [0; 3],
+            queue: [0; 210],
+            page,
+            start,
+            table: vec![0; table as usize],
+            key: vec![0x5A; key as usize],
+            token: vec![0xA5; token as usize],
+            busy,
+            width,
+            out: [0; 3],
+            work: [0; 2],
+        }
+    }
+
+    fn kit(&mut self, x: &[u64; 5]) {
+        let mut lent = Lent {
+            page: &mut self.page.0,
+            granules: [self.start],
+            table: &mut self.table,
+            key: &self.key,
+            token: &self.token,
+            busy: self.busy,
+            public_key: &self.key,
+            width: self.width,
+        };
+        let (session, queue) = (&mut self.session, &mut self.queue);
+        let (out, work) = (&mut self.out, &mut self.work);
+        Kit::call(&self.record, session, queue, &mut lent, x, out, work);
+        see(self.out[0]);
+    }
+
+    fn in_place(&mut self, x: &[u64; 5]) {
+        inplace::call(
+            &self.record,
+            &mut self.session,
+            &mut self.queue,
+            &mut self.page.0,
+            &[self.start],
+            &mut self.table,
+            &self.key,
+            &self.token,
+            self.busy,
+            &self.key,
+            self.width,
+            x,
+            &mut self.out,
+            &mut self.work,
+        );
+        see(self.out[0]);
+    }
+
+    /// What a call may write.
+    fn written(&self) -> (&SessionImage, &QueueImage, &[u8], &[u8], &Registers, &Work) {
+        let (page, table) = (&self.page.0[..], &self.table[..]);
+        (
+            &self.session,
+            &self.queue,
+            page,
+            table,
+            &self.out,
+            &self.work,
+        )
+    }
+}
+
+/// A call by id with this answer. What `set` does to a desk goes before each call, on both sides.
+fn compare_call(name: &str, x0: i64, x: [u64; 5], set: impl Fn(&mut Desk)) {
+    let x = hidden(x);
+    let [mut ours, mut theirs] = [(); 2].map(|()| Desk::new());
+    compare(
+        &format!("call: {name}"),
+        1,
+        side(|| {
+            set(&mut ours);
+            ours.kit(&x);
+        }),
+        vec![(
+            "in place",
+            side(|| {
+                set(&mut theirs);
+                theirs.in_place(&x);
+            }),
+        )],
+    );
+    assert_eq!(ours.out[0] as i64, x0, "{name}");
+    assert!(ours.written() == theirs.written(), "{name}");
+}
+
+fn compare_calls() {
+    let at = 77 * 4096;
+    let none = |_: &mut Desk| {};
+    let one_response = |desk: &mut Desk| {
+        desk.queue[1] = 1;
+        desk.queue[82..98].copy_from_slice(&[3, 4, 96, 5, 5, 5, 5, 5, 5, 5, 5, 5, 5, 5, 5, 0]);
+    };
+    let closed = |desk: &mut Desk| desk.record[0] = 2;
+    compare_call("delegate", 0, [DELEGATE, at, 0, 0, 0], |desk| {
+        desk.table[77] = 0
+    });
+    compare_call("delegate, BAD_PAS", -3, [DELEGATE, at, 0, 0, 0], |desk| {
+        desk.table[77] = 1
+    });
+    compare_call("undelegate", 0, [UNDELEGATE, at, 0, 0, 0], |desk| {
+        desk.table[77] = 1
+    });
+    compare_call("undelegate, BAD_ADDR", -2, [UNDELEGATE, 1, 0, 0, 0], none);
+    compare_call("realm key", 0, [REALM_KEY, BASE, 97, 0, 0], none);
+    compare_call("realm key, INVAL", -5, [REALM_KEY, BASE, 97, 1, 0], none);
+    // A challenge starts the token again, so that each call is the same.
+    let start = [PLAT_TOKEN, BASE, 64, 64, 0];
+    compare_call("platform token, 64 bytes", 0, start, none);
+    compare_call("platform token, AGAIN", -6, start, |desk| desk.busy = 1);
+    compare_call("features", 0, [FEATURES, 0, 0, 0, 0], none);
+    compare_call("features, INVAL", -5, [FEATURES, 1, 0, 0, 0], none);
+    compare_call("push", 0, [TOKEN_SIGN, 1, BASE, 80, 0], |desk| {
+        desk.queue[0] = 0
+    });
+    compare_call(
+        "pull",
+        0,
+        [TOKEN_SIGN, 2, BASE + 1024, 122, 0],
+        one_response,
+    );
+    compare_call("pull, AGAIN", -6, [TOKEN_SIGN, 2, BASE, 122, 0], none);
+    compare_call("public key", 0, [TOKEN_SIGN, 3, BASE, 97, 0], none);
+    compare_call("opcode 4, INVAL", -5, [TOKEN_SIGN, 4, BASE, 97, 0], none);
+    compare_call("key update", 0, [KEY_UPDATE, 255, 0, 0, 0], none);
+    compare_call("key update, INVAL", -5, [KEY_UPDATE, 65536, 0, 0, 0], none);
+    compare_call("request complete", 0, [REQ_COMPLETE, 7, 0, 0, 0], none);
+    compare_call("unlisted id, UNK", -1, [0xC400_01B7, 0, 0, 0, 0], none);
+    compare_call("delegate, not up, UNK", -1, [DELEGATE, at, 0, 0, 0], closed);
+    compare_call(
+        "push, not up, UNK",
+        -1,
+        [TOKEN_SIGN, 1, BASE, 80, 0],
+        closed,
+    );
+}
+
+// ---- Cold boot ----
+
+#[inline(never)]
+fn in_place_cold_boot(state: &mut RecordImage, x: [u64; 4], most: u64, page: &[u8]) -> i32 {
+    Model::cold_boot(state, x, most, page)
+}
+
+fn compare_cold_boot() {
+    let mut page = Page([0; PAGE]);
+    write(BASE, 2, [&BANK, &[], &[], &[]], &mut page.0).expect("written");
+    let (x, [most]) = (hidden([0, 5, 8, BASE]), hidden([8]));
+    let page = &*page.lent();
+    let [mut ours, mut theirs] = [[0; 4]; 2];
+    compare(
+        "cold boot with example 14's page",
+        1,
+        side(|| {
+            ours = [0; 4];
+            assert_eq!(Kit::cold_boot(&mut ours, x, most, page), 0);
+            see(ours[3]);
+        }),
+        vec![(
+            "in place",
+            side(|| {
+                theirs = [0; 4];
+                assert_eq!(in_place_cold_boot(&mut theirs, x, most, page), 0);
+                see(theirs[3]);
+            }),
+        )],
+    );
+    assert_eq!(ours, theirs);
 }
 
 // ---- H_TPM_COMM ----
@@ -425,7 +668,7 @@ fn compare_request() {
             see(place[1]);
         }),
         vec![(
-            "on the image",
+            "in place",
             side(|| {
                 let Transfer {
                     operation: op,
@@ -462,7 +705,7 @@ fn compare_comm(name: &str, asked: Transfer, length: u64) {
             see(r4);
         }),
         vec![(
-            "on the image",
+            "in place",
             side(|| {
                 let Transfer {
                     operation: op,
@@ -665,11 +908,14 @@ fn main() {
     compare_manifest("example 14's page", 2, [&BANK, &[], &[], &[]]);
     compare_manifest("249 banks", 4, [&BANK.repeat(249), &[], &[], &[]]);
     compare_manifest("83 consoles", 4, [&[], &CONSOLE.repeat(83), &[], &[]]);
+    compare_cold_boot();
+    compare_calls();
     compare_granules();
     compare_token(64);
     compare_token(4096);
     compare_queue(0);
     compare_queue(7);
+    compare_oldest();
     compare_request();
     compare_comm("TPM call, H_P4", transfer(65536), 256);
     compare_comm("TPM call, response of 256 bytes", transfer(16384), 256);

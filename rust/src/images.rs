@@ -17,6 +17,7 @@ const RESPONSE: usize = 16;
 const REQUESTS: usize = 2;
 const RESPONSES: usize = REQUESTS + PLACES * REQUEST;
 
+#[inline]
 pub fn record_of(image: &RecordImage) -> Record {
     let [tag, cpus, base, minor] = *image;
     match tag {
@@ -26,6 +27,7 @@ pub fn record_of(image: &RecordImage) -> Record {
     }
 }
 
+#[inline]
 pub fn record_words(record: Record) -> RecordImage {
     match record {
         Record::Fresh => [0; 4],
@@ -34,6 +36,7 @@ pub fn record_words(record: Record) -> RecordImage {
     }
 }
 
+#[inline]
 pub fn session_of(image: &SessionImage) -> Session {
     let [tag, whole, sent] = *image;
     match tag {
@@ -42,6 +45,7 @@ pub fn session_of(image: &SessionImage) -> Session {
     }
 }
 
+#[inline]
 pub fn session_words(session: Session) -> SessionImage {
     match session {
         Session::Idle => [0; 3],
@@ -49,6 +53,7 @@ pub fn session_words(session: Session) -> SessionImage {
     }
 }
 
+#[inline]
 pub fn registers(answer: Answer) -> Registers {
     [answer.x0, answer.x1, answer.x2]
 }

@@ -1,0 +1,273 @@
+//! The other side of the benchmark: commands by hand on the library's images, where they lie. Nothing of the queue is converted or
+//! copied whole; the record and the session are a few words, and the reference's commands work on those. The rules are the library's:
+//! a refused call leaves its images as they are, an accepted one leaves a canonical queue, whatever was lent.
+//!
+//! No function here is inlined, as no call of the library is.
+
+use crate::exports::{
+    GranulesImage, QueueImage, RecordImage, Registers, RequestImage, SessionImage, Work,
+};
+use crate::images::{record_of, registers, session_of, session_words};
+use crate::reference::codes::{buffer, need_page, need_up, Answer, Error, Outcome};
+use crate::reference::features::{features, forward, key_update};
+use crate::reference::granules::{delegate, undelegate};
+use crate::reference::key::realm_key;
+use crate::reference::layout::{half_at, word_at};
+use crate::reference::queue::{PLACES, SIGNATURE};
+use crate::reference::runtime::{
+    DELEGATE, FEATURES, KEY_UPDATE, PLAT_TOKEN, REALM_KEY, REQ_COMPLETE, TOKEN_SIGN, UNDELEGATE,
+};
+use crate::reference::token::TokenCall;
+
+/// Words of a request, and of a response.
+const REQUEST: usize = 10;
+const RESPONSE: usize = 16;
+/// Where the requests begin, and the responses.
+const REQUESTS: usize = 2;
+const RESPONSES: usize = REQUESTS + PLACES * REQUEST;
+/// Words of a response before its signature, and its bytes in the page before it.
+const HEAD: usize = 3;
+const HEAD_BYTES: usize = 18;
+/// Bytes of a request in the page.
+const REQUEST_BYTES: usize = 80;
+
+/// A call by id, with the parameters of the C function.
+#[inline(never)]
+#[allow(clippy::too_many_arguments)]
+pub fn call(
+    state: &RecordImage,
+    session: &mut SessionImage,
+    queue: &mut QueueImage,
+    page: &mut [u8],
+    granules: &GranulesImage,
+    table: &mut [u8],
+    key: &[u8],
+    token: &[u8],
+    busy: u64,
+    public_key: &[u8],
+    width: u64,
+    x: &[u64; 5],
+    out: &mut Registers,
+    work: &mut Work,
+) {
+    let (record, [id, x1, x2, x3, x4]) = (record_of(state), *x);
+    *work = [0; 2];
+    let outcome = match id {
+        REQ_COMPLETE => {
+            *work = [2, forward(x1)];
+            Ok([0; 2])
+        }
+        KEY_UPDATE => key_update(record, width, x1).map(|mecid| {
+            *work = [1, mecid];
+            [0; 2]
+        }),
+        DELEGATE => delegate(record, granules[0], table, x1),
+        UNDELEGATE => undelegate(record, granules[0], table, x1),
+        REALM_KEY => realm_key(record, page, key, x1, x2, x3),
+        PLAT_TOKEN => send(state, session, page, token, busy, [x1, x2, x3]),
+        FEATURES => features(record, x1),
+        TOKEN_SIGN => signing(state, queue, page, public_key, [x1, x2, x3, x4]),
+        _ => Err(Error::Unk),
+    };
+    *out = registers(Answer::from(outcome));
+}
+
+#[inline(never)]
+pub fn token_signing(
+    state: &RecordImage,
+    queue: &mut QueueImage,
+    page: &mut [u8],
+    key: &[u8],
+    x: [u64; 4],
+    out: &mut Registers,
+) {
+    *out = registers(Answer::from(signing(state, queue, page, key, x)));
+}
+
+/// The signer's step.
+#[inline(never)]
+pub fn sign(queue: &mut QueueImage, signature: &[u8], out: &mut Registers) {
+    *out = registers(Answer::from(signed(queue, signature)));
+}
+
+/// The oldest request, and how many wait.
+#[inline(never)]
+pub fn oldest(queue: &QueueImage, request: &mut RequestImage) -> usize {
+    match count(queue[0]) {
+        0 => {
+            *request = [0; REQUEST];
+            0
+        }
+        waiting => {
+            request.copy_from_slice(&queue[REQUESTS..REQUESTS + REQUEST]);
+            waiting
+        }
+    }
+}
+
+// ---- Platform token ----
+
+#[inline]
+fn send(
+    state: &RecordImage,
+    session: &mut SessionImage,
+    page: &mut [u8],
+    token: &[u8],
+    busy: u64,
+    [pa, size, c_size]: [u64; 3],
+) -> Outcome {
+    let mut next = session_of(session);
+    let call = TokenCall { pa, size, c_size };
+    let outcome = next.send(record_of(state), page, busy != 0, token, call)?;
+    *session = session_words(next);
+    Ok(outcome)
+}
+
+// ---- Queue ----
+
+/// A count stands for eight at most.
+#[inline]
+fn count(word: u64) -> usize {
+    word.min(PLACES as u64) as usize
+}
+
+#[inline]
+fn signing(
+    state: &RecordImage,
+    queue: &mut QueueImage,
+    page: &mut [u8],
+    public_key: &[u8],
+    [opcode, pa, size, curve]: [u64; 4],
+) -> Outcome {
+    let kept = need_up(record_of(state))?;
+    let page = need_page(page)?;
+    if !(1..=3).contains(&opcode) {
+        return Err(Error::Inval);
+    }
+    let room = buffer(kept.base, pa, size).map_err(|_| Error::Inval)?;
+    if opcode == 3 && curve != 0 {
+        return Err(Error::Inval);
+    }
+    if kept.minor < 4 {
+        return Err(Error::Unk);
+    }
+    let buffer = &mut page[room];
+    match opcode {
+        1 => push(queue, buffer),
+        2 => pull(queue, buffer),
+        _ => public(queue, public_key, buffer),
+    }
+}
+
+#[inline]
+fn push(queue: &mut QueueImage, buffer: &[u8]) -> Outcome {
+    let bytes = buffer.get(..REQUEST_BYTES).ok_or(Error::Inval)?;
+    let (algorithm, hash_id) = (half_at(bytes, 0), half_at(bytes, 24));
+    if algorithm != 0 || hash_id != 1 {
+        return Err(Error::Inval);
+    }
+    let (requests, responses) = (count(queue[0]), count(queue[1]));
+    if requests == PLACES {
+        return Err(Error::Again);
+    }
+    let place = &mut queue[REQUESTS + REQUEST * requests..][..REQUEST];
+    for (word, cell) in place.iter_mut().zip(bytes.chunks_exact(8)) {
+        *word = word_at(cell, 0);
+    }
+    // The upper halves of these words are holes in the page.
+    place[0] = u64::from(algorithm);
+    place[3] = u64::from(hash_id);
+    settle(queue, requests + 1, responses);
+    Ok([0; 2])
+}
+
+#[inline]
+fn pull(queue: &mut QueueImage, buffer: &mut [u8]) -> Outcome {
+    let (requests, responses) = (count(queue[0]), count(queue[1]));
+    if responses == 0 {
+        return Err(Error::Again);
+    }
+    let oldest = &queue[RESPONSES..RESPONSES + RESPONSE];
+    let length = signature_length(oldest[2]);
+    let place = buffer.get_mut(..HEAD_BYTES + length).ok_or(Error::Inval)?;
+    let (head, tail) = place.split_at_mut(HEAD_BYTES);
+    head[..8].copy_from_slice(&oldest[0].to_le_bytes());
+    head[8..16].copy_from_slice(&oldest[1].to_le_bytes());
+    head[16..].copy_from_slice(&(length as u16).to_le_bytes());
+    let mut bytes = [0; SIGNATURE];
+    for (cell, word) in bytes.chunks_exact_mut(8).zip(&oldest[HEAD..]) {
+        cell.copy_from_slice(&word.to_le_bytes());
+    }
+    tail.copy_from_slice(&bytes[..length]);
+    let end = RESPONSES + RESPONSE * responses;
+    queue.copy_within(RESPONSES + RESPONSE..end, RESPONSES);
+    settle(queue, requests, responses - 1);
+    Ok([0; 2])
+}
+
+#[inline]
+fn public(queue: &mut QueueImage, key: &[u8], buffer: &mut [u8]) -> Outcome {
+    if key.is_empty() {
+        return Err(Error::Again);
+    }
+    let place = buffer.get_mut(..key.len()).ok_or(Error::Inval)?;
+    place.copy_from_slice(key);
+    settle(queue, count(queue[0]), count(queue[1]));
+    Ok([key.len() as u64, 0])
+}
+
+#[inline]
+fn signed(queue: &mut QueueImage, signature: &[u8]) -> Outcome {
+    let length = signature.len();
+    if !(1..=SIGNATURE).contains(&length) {
+        return Err(Error::Inval);
+    }
+    let (requests, responses) = (count(queue[0]), count(queue[1]));
+    if requests == 0 || responses == PLACES {
+        return Err(Error::Again);
+    }
+    let (granule, ticket) = (queue[REQUESTS + 1], queue[REQUESTS + 2]);
+    let mut bytes = [0; SIGNATURE];
+    bytes[..length].copy_from_slice(signature);
+    let place = &mut queue[RESPONSES + RESPONSE * responses..][..RESPONSE];
+    place[..HEAD].copy_from_slice(&[granule, ticket, length as u64]);
+    for (word, cell) in place[HEAD..].iter_mut().zip(bytes.chunks_exact(8)) {
+        *word = word_at(cell, 0);
+    }
+    let end = REQUESTS + REQUEST * requests;
+    queue.copy_within(REQUESTS + REQUEST..end, REQUESTS);
+    settle(queue, requests - 1, responses + 1);
+    Ok([0; 2])
+}
+
+/// A length stands for 104 at most.
+#[inline]
+fn signature_length(word: u64) -> usize {
+    word.min(SIGNATURE as u64) as usize
+}
+
+/// Writes the counts, and zeros past them and past each signature: the image may be one that no call has left.
+#[inline]
+fn settle(queue: &mut QueueImage, requests: usize, responses: usize) {
+    queue[0] = requests as u64;
+    queue[1] = responses as u64;
+    let (left, right) = queue[REQUESTS..].split_at_mut(RESPONSES - REQUESTS);
+    left[REQUEST * requests..].fill(0);
+    let (used, free) = right.split_at_mut(RESPONSE * responses);
+    free.fill(0);
+    for response in used.chunks_exact_mut(RESPONSE) {
+        settle_response(response);
+    }
+}
+
+#[inline]
+fn settle_response(response: &mut [u64]) {
+    let length = signature_length(response[2]);
+    response[2] = length as u64;
+    // Part of a word, then whole words.
+    let (whole, rest) = (length / 8, length % 8);
+    if let Some((first, others)) = response[HEAD + whole..].split_first_mut() {
+        *first &= (1 << (8 * rest)) - 1;
+        others.iter_mut().for_each(|word| *word = 0);
+    }
+}

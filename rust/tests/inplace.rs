@@ -1,0 +1,194 @@
+//! The hand-written side of the benchmark against the reference on the same images: every word and byte after each call, over random
+//! sequences with forged images between.
+
+use potterbeam_tests::exports::{
+    Exports, Lent, QueueImage, RecordImage, Registers, RequestImage, SessionImage, Work,
+};
+use potterbeam_tests::images::{record_of, record_words, session_of};
+use potterbeam_tests::inplace;
+use potterbeam_tests::model::Model;
+use potterbeam_tests::random::calls::Scene;
+use potterbeam_tests::random::Random;
+use potterbeam_tests::reference::runtime::{Call, TOKEN_SIGN};
+use std::collections::BTreeMap;
+
+const SCENES: usize = 4_000;
+const STEPS: usize = 40;
+
+/// What a call may write.
+#[derive(Clone, Debug, PartialEq)]
+struct Memory {
+    record: RecordImage,
+    session: SessionImage,
+    queue: QueueImage,
+    page: Vec<u8>,
+    table: Vec<u8>,
+    out: Registers,
+    work: Work,
+    request: RequestImage,
+    returned: usize,
+}
+
+/// How often each answer was met, by the id or the name of the step.
+type Met = BTreeMap<(u64, i64), u64>;
+
+const SIGN: u64 = 1;
+const SIGNING: u64 = 2;
+const OLDEST: u64 = 3;
+
+impl Memory {
+    fn new(random: &mut Random, scene: &Scene) -> Memory {
+        Memory {
+            record: random.record_image(),
+            session: random.session_image(scene.token.len() as u64),
+            queue: random.queue_image(),
+            page: scene.page.clone(),
+            table: scene.table.clone(),
+            // Stale, so that a word that is not written shows.
+            out: [7; 3],
+            work: [7; 2],
+            request: [7; 10],
+            returned: 7,
+        }
+    }
+
+    /// What may happen between two calls.
+    fn change(&mut self, random: &mut Random, scene: &mut Scene) {
+        random.change_lent(scene);
+        if scene.state.record != record_of(&self.record) {
+            self.record = record_words(scene.state.record);
+        }
+        match random.below(32) {
+            0 => self.record = random.record_image(),
+            1 => self.session = random.session_image(scene.token.len() as u64),
+            2 | 3 => self.queue = random.queue_image(),
+            _ => {}
+        }
+        scene.state.record = record_of(&self.record);
+        scene.state.session = session_of(&self.session);
+        (self.out, self.work, self.request, self.returned) = ([7; 3], [7; 2], [7; 10], 7);
+    }
+}
+
+fn model_call(m: &mut Memory, scene: &Scene, busy: u64, x: &[u64; 5]) {
+    let mut lent = Lent {
+        page: &mut m.page,
+        granules: [scene.start],
+        table: &mut m.table,
+        key: &scene.realm_key,
+        token: &scene.token,
+        busy,
+        public_key: &scene.public_key,
+        width: scene.width,
+    };
+    let (session, queue) = (&mut m.session, &mut m.queue);
+    let (out, work) = (&mut m.out, &mut m.work);
+    Model::call(&m.record, session, queue, &mut lent, x, out, work);
+}
+
+fn in_place_call(m: &mut Memory, scene: &Scene, busy: u64, x: &[u64; 5]) {
+    inplace::call(
+        &m.record,
+        &mut m.session,
+        &mut m.queue,
+        &mut m.page,
+        &[scene.start],
+        &mut m.table,
+        &scene.realm_key,
+        &scene.token,
+        busy,
+        &scene.public_key,
+        scene.width,
+        x,
+        &mut m.out,
+        &mut m.work,
+    );
+}
+
+/// One call on each side; answers which.
+fn step(random: &mut Random, scene: &mut Scene, model: &mut Memory, ours: &mut Memory) -> u64 {
+    match random.below(6) {
+        0 => {
+            let signature = random.signature();
+            Model::sign(&mut model.queue, &signature, &mut model.out);
+            inplace::sign(&mut ours.queue, &signature, &mut ours.out);
+            SIGN
+        }
+        1 => {
+            model.returned = Model::oldest(&model.queue, &mut model.request);
+            ours.returned = inplace::oldest(&ours.queue, &mut ours.request);
+            OLDEST
+        }
+        2 => {
+            let (x, key) = (random.registers(TOKEN_SIGN, scene), &scene.public_key);
+            load_page(scene, model, ours);
+            let Memory { page, out, .. } = model;
+            Model::token_signing(&model.record, &mut model.queue, page, key, x, out);
+            let Memory { page, out, .. } = ours;
+            inplace::token_signing(&ours.record, &mut ours.queue, page, key, x, out);
+            SIGNING
+        }
+        _ => {
+            let Call { id, x } = random.call(scene);
+            let ([x1, x2, x3, x4], busy) = (x, u64::from(scene.busy) << random.below(64));
+            load_page(scene, model, ours);
+            let x = [id, x1, x2, x3, x4];
+            model_call(model, scene, busy, &x);
+            in_place_call(ours, scene, busy, &x);
+            id
+        }
+    }
+}
+
+/// A push finds a request where the scene has put one.
+fn load_page(scene: &Scene, model: &mut Memory, ours: &mut Memory) {
+    model.page.copy_from_slice(&scene.page);
+    ours.page.copy_from_slice(&scene.page);
+}
+
+#[test]
+fn the_same_as_the_model() {
+    let (mut random, mut met) = (Random::new(31), Met::new());
+    for _ in 0..SCENES {
+        let mut scene = random.scene();
+        let mut model = Memory::new(&mut random, &scene);
+        scene.state.record = record_of(&model.record);
+        for _ in 0..STEPS {
+            model.change(&mut random, &mut scene);
+            let (before, mut ours) = (model.clone(), model.clone());
+            let id = step(&mut random, &mut scene, &mut model, &mut ours);
+            assert!(ours == model, "{id:x}\n{before:x?}\n{ours:x?}\n{model:x?}");
+            scene.page.copy_from_slice(&model.page);
+            let answer = if id == OLDEST {
+                model.returned as u64
+            } else {
+                model.out[0]
+            };
+            *met.entry((id, answer as i64)).or_insert(0) += 1;
+        }
+    }
+    expect(&met);
+}
+
+/// Every answer of every command was met often.
+fn expect(met: &Met) {
+    let expected: [(u64, &[i64]); 11] = [
+        (SIGN, &[0, -5, -6]),
+        (SIGNING, &[0, -1, -5, -6]),
+        (OLDEST, &[0, 1, 2, 3, 4, 5, 6, 7, 8]),
+        (0xC400_018F, &[0]),
+        (0xC400_01B0, &[0, -1, -2, -3]),
+        (0xC400_01B1, &[0, -1, -2, -3]),
+        (0xC400_01B2, &[0, -1, -2, -5]),
+        (0xC400_01B3, &[0, -1, -2, -5, -6]),
+        (0xC400_01B4, &[0, -1, -5]),
+        (0xC400_01B5, &[0, -1, -5, -6]),
+        (0xC400_01B6, &[0, -1, -5]),
+    ];
+    for (id, answers) in expected {
+        for &answer in answers {
+            let n = met.get(&(id, answer)).copied().unwrap_or(0);
+            assert!(n >= 50, "{id:x} with {answer}: {n} times");
+        }
+    }
+}
