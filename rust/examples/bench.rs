@@ -4,12 +4,10 @@
 //! its states as Rust values ("native"). Calls by id and the queue are timed against hand-written code that works in place on the same
 //! image as the library, by the same rules ("in place"); `tests/inplace.rs` holds it to them.
 
-use potterbeam_tests::exports::{
-    Exports, Lent, QueueImage, RecordImage, Registers, SessionImage, Work,
-};
+use potterbeam_tests::exports::{Exports, QueueImage, RecordImage, Registers, SessionImage, Work};
 use potterbeam_tests::images::record_of;
 use potterbeam_tests::inplace;
-use potterbeam_tests::kit::Kit;
+use potterbeam_tests::kit::{ffi, Kit};
 use potterbeam_tests::model::Model;
 use potterbeam_tests::reference::boot::Record;
 use potterbeam_tests::reference::codes::Outcome;
@@ -431,20 +429,31 @@ impl Desk {
         }
     }
 
+    /// As a C caller has it, without the wrapper's look at empty slices. Every pointer is of a live borrow of the length with it.
     fn kit(&mut self, x: &[u64; 5]) {
-        let mut lent = Lent {
-            page: &mut self.page.0,
-            granules: [self.start],
-            table: &mut self.table,
-            key: &self.key,
-            token: &self.token,
-            busy: self.busy,
-            public_key: &self.key,
-            width: self.width,
-        };
-        let (session, queue) = (&mut self.session, &mut self.queue);
-        let (out, work) = (&mut self.out, &mut self.work);
-        Kit::call(&self.record, session, queue, &mut lent, x, out, work);
+        unsafe {
+            ffi::pbeam_call(
+                &self.record,
+                &mut self.session,
+                &mut self.queue,
+                self.page.0.as_mut_ptr(),
+                PAGE,
+                &[self.start],
+                self.table.as_mut_ptr(),
+                self.table.len(),
+                self.key.as_ptr(),
+                self.key.len(),
+                self.token.as_ptr(),
+                self.token.len(),
+                self.busy,
+                self.key.as_ptr(),
+                self.key.len(),
+                self.width,
+                x,
+                &mut self.out,
+                &mut self.work,
+            );
+        }
         see(self.out[0]);
     }
 
