@@ -9,8 +9,8 @@
  *
  * - Any number, page, list, table and image is taken as input. There is no condition on values; every call returns, and touches only
  *   what it is lent. The library allocates nothing and keeps nothing between calls.
- * - A slice is a pointer and a count of elements. The pointer may be NULL only where the count is 0. An image (state, session, queue,
- *   view, place, out, work, request, call) is a pointer to a fixed number of 64-bit words and is never NULL, also where the call does
+ * - A slice is a pointer and a count of elements. The pointer may be NULL only where the count is 0. An image (state, granules, session,
+ *   queue, view, place, out, work, request, call) is a pointer to a fixed number of 64-bit words and is never NULL, also where the call does
  *   not need it.
  * - A page is lent by the address at which the caller sees it; B is only a number to the library. So a page needs no alignment in
  *   memory, and a caller that maps it elsewhere passes both. Words (uint64_t) are aligned as C asks.
