@@ -1,6 +1,6 @@
 -- The laws of a number in bytes, the highest first, once for every width. Assumes nothing.
 use Prim.Native.Nat.{ℕ, zero, suc, _+_, _*_, _/_, _%_, _^_, _≤_, _<_}
-use mathlib.Core.Path.{_≡_, refl, sym, ap, _∙_}
+use mathlib.Core.Path.{_≡_, refl, ap, _∙_}
 use mathlib.Core.List.{List, [], _∷_, _++_, reverse, reverse-cons, reverse-append, reverse-reverse}
 use native.Mathlib.Nat.{add-zero, add-suc, add-assoc, mul-assoc, pow-suc}
 use native.Mathlib.Omega.{arith}
@@ -9,7 +9,7 @@ use lib.ListN.{length, take, drop, getD, length-drop, length-reverse}
 use lib.Seq.{take-suc, take-at, drop-at, getD-drop}
 use Rattle.words.specs.Word.{leOf, leBytes, part, splice, laid}
 use Rattle.words.proofs.Read.{leBytes-length, leOf-leBytes}
-use Rattle.words.proofs.Store.{bytes-in, bytes-out}
+use Rattle.words.proofs.Store.{bytes-in}
 use Rattle.big_words.specs.Big.{beOf, beBytes, bigAt, wholeBig}
 
 pub be-length : (n x : ℕ) → length (beBytes n x) ≡ n
@@ -95,6 +95,3 @@ whole-out off s h = rw (lt-leb (off + 4) (length s) h)
 
 pub big-in : (n at w : ℕ) (s : List ℕ) → at + n ≤ length s → laid at (beBytes n w) s ≡ splice at (beBytes n w) s
 big-in n at w s h = bytes-in at (beBytes n w) s (rw (be-length n w) h)
-
-pub big-out : (n at w : ℕ) (s : List ℕ) → length s < at + n → laid at (beBytes n w) s ≡ s
-big-out n at w s h = bytes-out at (beBytes n w) s (rw (be-length n w) h)

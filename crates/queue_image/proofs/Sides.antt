@@ -54,11 +54,6 @@ queue-laid q n m e h f k s z =
     ∙ rw (e, g))
 
 -- ---- the oldest request
-pub oldest-none : (l : List Request) → length l ≡ 0 → replicate 10 0 ≡ oldestWords l
-unfolding oldestWords
-oldest-none [] h = refl
-oldest-none (r ∷ l) h = absurd (omega arith)
-
 pub oldest-first : (l : List Request) (r : Request) → 0 < length l → r ≡ oldestRequest l → splice 0 (requestWords r) (replicate 10 0) ≡ oldestWords l
 unfolding oldestWords oldestRequest
 oldest-first [] r h e = absurd (omega arith)

@@ -4,11 +4,10 @@ use mathlib.Core.Path.{_≡_, refl, sym, ap, _∙_}
 use mathlib.Core.Bool.{Bool, true, false, cond}
 use mathlib.Core.List.{List}
 use native.Mathlib.Omega.{arith}
-use lib.ListN.{length, take, drop, length-append, length-take, length-drop}
+use lib.ListN.{length, drop}
 use lib.Dec.{ltb, eqb}
 use borrow.Author.Tests.{ltb-false}
 use Rattle.words.specs.Tests.{both}
-use Rattle.words.specs.Word.{splice}
 use Rattle.state_messages.specs.Messages.{StateResponse, Got, got, rejected, readResponse, toldOf}
 use Rattle.state_blobs.specs.Collect.{otherTotal, decide, Outcome, unchanged, pieceAppended, settle, offerBytes, collectGot, collect}
 use Rattle.state_messages.specs.declared.StateRefusal.{StateRefusal}
@@ -77,13 +76,3 @@ pub refused-same : (largest : ℕ) (m : List ℕ) (c : Collector) (b : List ℕ)
 unfolding unchanged pieceAppended
 refused-same largest m c b h =
     collect-cases c b largest m (λ why q. (rw q, rw q)) (λ p e a q. never (cc (ap (λ (o : Outcome). o .verdict) q)))
-
--- one buffer throughout: its length unchanged
-splice-length : (at : ℕ) (vs s : List ℕ) → at + length vs ≤ length s → length (splice at vs s) ≡ length s
-unfolding splice
-splice-length at vs s h = simp (length-append, length-take, length-drop) (omega arith)
-
-pub collect-length : (largest : ℕ) (m : List ℕ) (c : Collector) (b : List ℕ) → length (collect largest m c b .buffer) ≡ length b
-unfolding unchanged pieceAppended
-collect-length largest m c b =
-    collect-cases c b largest m (λ why q. rw q) (λ p e a q. rw q (splice-length (c .held) (p .bytes) b (decide-fits c (p .total) (length (p .bytes)) (length b) a .2)))
