@@ -76,7 +76,7 @@ impl Exports for Model {
     }
 
     fn version_accepted(version: u64) -> bool {
-        u32::try_from(version).is_ok_and(|version| accepted_minor(version).is_some())
+        u32::try_from(version).map_or(false, |version| accepted_minor(version).is_some())
     }
 
     fn agreed_minor(version: u64) -> u64 {

@@ -94,9 +94,12 @@ impl Transfer {
         memory: &mut [u8],
         platform: Platform,
     ) -> Result<u64, Refusal> {
-        let Some((_, output)) = self.buffers(platform.forbidden, memory.len())? else {
-            *open = false;
-            return Ok(0);
+        let output = match self.buffers(platform.forbidden, memory.len())? {
+            Some((_, output)) => output,
+            None => {
+                *open = false;
+                return Ok(0);
+            }
         };
         if platform.fault {
             return Err(Refusal::Resource);
