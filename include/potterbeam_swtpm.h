@@ -143,7 +143,7 @@ uint32_t pbeam_swtpm_read_response(const uint8_t *message, size_t message_len, u
  *          PBEAM_SWTPM_ABOVE_LARGEST  data_len is above largest
  *          PBEAM_SWTPM_NO_ROOM        the buffer has fewer than 16 + data_len bytes
  * Leaves   the data as it was. On OK the message at the buffer's start, the bytes behind it as they were, and 16 + data_len in *len.
- * Stack    96 bytes
+ * Stack    64 bytes
  */
 uint32_t pbeam_swtpm_write_response(uint8_t *buffer, size_t buffer_len, uint32_t largest, uint32_t result, uint32_t flags,
                                     uint32_t total, const uint8_t *data, size_t data_len, size_t *len);
