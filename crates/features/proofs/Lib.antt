@@ -1,1 +1,2 @@
 pub mod Feature
+pub mod Acts
