@@ -1,7 +1,7 @@
 -- When features and key update are OK, and what they then do. Each statement lists the conditions of 01 as they stand there, and none of
 -- the definitions of the checks. Assumes nothing.
 use Prim.Native.Nat.{ℕ, _+_, _-_, _^_, min, _≤_, _<_}
-use mathlib.Core.Path.{_≡_, refl, sym, _∙_}
+use mathlib.Core.Path.{_≡_, refl, sym}
 use native.Mathlib.Omega.{arith}
 use native.Mathlib.Nat.{pow-le-pow-right}
 use lib.Dec.{lit≤}
