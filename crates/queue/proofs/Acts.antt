@@ -1,0 +1,29 @@
+-- What the lookup of the oldest request tells, by the array and its count. Assumes nothing.
+use Prim.Native.Nat.{ℕ, zero, suc, _≤_}
+use mathlib.Core.Path.{_≡_, refl, ap}
+use mathlib.Core.Bool.{Bool, cond}
+use mathlib.Core.List.{List, _∷_}
+use native.Mathlib.Omega.{arith}
+use lib.ListN.{length, take}
+use borrow.Author.Tests.{ne-eqb}
+use Rattle.queue.specs.declared.Request.{Request}
+use Rattle.queue.specs.declared.Queue.{Queue}
+use Rattle.queue.specs.declared.Waiting.the-variants.{None, Some}
+use Rattle.queue.specs.Queue.{waiting, listsOf, oldestRequest, waitingOf}
+
+first-of : (n : ℕ) (r : Request) (rest : List Request) → 1 ≤ n → (waitingOf (take n (r ∷ rest)) ≡ Some) × (oldestRequest (take n (r ∷ rest)) ≡ r)
+unfolding waitingOf oldestRequest
+first-of zero r rest h = absurd (omega arith)
+first-of (suc n) r rest h = (ap (λ (b : Bool). cond b None Some) (ne-eqb (length (take (suc n) (r ∷ rest))) 0 (λ e. omega arith)), refl)
+
+module _ (q : Queue) where
+  -- "The oldest request, all its fields, can be asked for": with a count of 1 or more it is the first of the array
+  pub oldest-acts : (r : Request) (rest : List Request) → q .requests .items ≡ r ∷ rest → 1 ≤ q .requests .count →
+      (waitingOf (listsOf q .requests) ≡ Some) × (oldestRequest (listsOf q .requests) ≡ r)
+  unfolding listsOf waiting
+  oldest-acts r rest e h = rw e (first-of (q .requests .count) r rest h)
+
+  -- "none is a named answer": with a count of 0
+  pub oldest-none : q .requests .count ≡ 0 → waitingOf (listsOf q .requests) ≡ None
+  unfolding listsOf waiting waitingOf
+  oldest-none h = rw h

@@ -1,0 +1,30 @@
+-- A buffer in the page: the checks of record, page and range pass, and what is written there. Assumes nothing.
+use Prim.Native.Nat.{ℕ, _+_, _-_, _≤_}
+use mathlib.Core.Path.{_≡_, refl, ap, _∙_}
+use mathlib.Core.List.{List}
+use native.Mathlib.Omega.{arith}
+use lib.ListN.{length}
+use Rattle.words.specs.Word.{splice}
+use Rattle.words.proofs.Store.{front-splice, drop-splice, part-splice}
+use Rattle.boot.specs.declared.Params.{Params}
+use Rattle.boot.specs.declared.Record.the-variants.{Up}
+use Rattle.codes.specs.Codes.{isUp, upOf, isOk}
+use Rattle.codes.specs.declared.Code.{Code}
+use Rattle.codes.specs.declared.Code.the-variants.{Ok}
+use Rattle.range.specs.Range.{pageCode}
+use Rattle.range.specs.Buffers.{BufferIn, WrittenAt}
+use Rattle.range.specs.declared.OutsideAs.{OutsideAs}
+use Rattle.range.proofs.Ranges.{page-range, range-ok}
+
+module _ (u : Params) (page : List ℕ) (pa size : ℕ) (i : BufferIn u page pa size) where
+  -- with the record up, the gate of a command on the page goes
+  pub in-passes : (first : Code) (out : OutsideAs) → first ≡ Ok → pageCode (Up u) (length page) first out pa size ≡ Ok
+  unfolding isUp upOf
+  in-passes first out f = page-range (Up u) (length page) first out pa size refl (i .whole) (ap isOk f) ∙ range-ok u out pa size (i .from) (i .below) (i .fits)
+
+  pub in-room : pa - u .base + size ≤ length page
+  in-room = omega (arith, i .whole, i .from, i .below, i .fits)
+
+-- bytes laid over the page
+pub written-at : (at : ℕ) (vs page : List ℕ) → at ≤ length page → WrittenAt at vs page (splice at vs page)
+written-at at vs page h = record { there = part-splice at vs page h; before = front-splice at vs page h; behind = drop-splice at vs page h }

@@ -1,0 +1,27 @@
+-- When a push is OK, and what it then does. The statement lists the conditions of 01 as they stand there, and none of the definitions of the
+-- checks. Assumes nothing.
+use Prim.Native.Nat.{ℕ, _≤_, _<_}
+use mathlib.Core.Path.{_≡_, refl, sym, _∙_}
+use mathlib.Core.List.{List, [], _∷_, _++_}
+use lib.ListN.{length}
+use Rattle.words.specs.Word.{part, wordAt, halfAt}
+use Rattle.codes.specs.Codes.{extended, x0Of, answerOf}
+use Rattle.codes.specs.declared.Code.the-variants.{Ok}
+use Rattle.queue.specs.Queue.{Lists}
+use Rattle.queue.proofs.Steps.{accepts}
+use Rattle.requests.specs.Push.{requestOf, pushCode, pushed, pushOf}
+use Rattle.requests.proofs.Pushes.{push-ok}
+
+-- A buffer of 80 bytes or more with algorithm id 0 and hash id 1, and fewer than eight requests waiting: OK, "the request joins the end", the
+-- buffer and the responses are as they were.
+pub push-acts : (b : List ℕ) (q : Lists) → 80 ≤ length b → halfAt 0 b ≡ 0 → halfAt 24 b ≡ 1 → length (q .requests) < 8 →
+    pushOf b q ≡ record {
+      answer = record { code = Ok; x0 = 0; x1 = 0; x2 = 0 };
+      page = b;
+      queue = record {
+        requests = q .requests ++ (record { algorithm = 0; granule = wordAt 8 b; ticket = wordAt 16 b; hashid = 1; hash = part 32 48 b } ∷ []);
+        responses = q .responses;
+      };
+    }
+unfolding pushOf pushed requestOf answerOf x0Of extended
+push-acts b q l a h n = sym (accepts (pushCode b q) _ b q (push-ok b q l (requestOf b) refl a h n)) ∙ rw (a, h)
