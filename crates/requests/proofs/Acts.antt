@@ -14,7 +14,7 @@ use Rattle.requests.proofs.Pushes.{push-ok}
 
 -- A buffer of 80 bytes or more with algorithm id 0 and hash id 1, and fewer than eight requests waiting: OK, "the request joins the end", the
 -- buffer and the responses are as they were.
-pub push-acts : (b : List ℕ) (q : Lists) → 80 ≤ length b → halfAt 0 b ≡ 0 → halfAt 24 b ≡ 1 → length (q .requests) < 8 →
+pub buffer-push-acts : (b : List ℕ) (q : Lists) → 80 ≤ length b → halfAt 0 b ≡ 0 → halfAt 24 b ≡ 1 → length (q .requests) < 8 →
     pushOf b q ≡ record {
       answer = record { code = Ok; x0 = 0; x1 = 0; x2 = 0 };
       page = b;
@@ -24,4 +24,4 @@ pub push-acts : (b : List ℕ) (q : Lists) → 80 ≤ length b → halfAt 0 b �
       };
     }
 unfolding pushOf pushed requestOf answerOf x0Of extended
-push-acts b q l a h n = sym (accepts (pushCode b q) _ b q (push-ok b q l (requestOf b) refl a h n)) ∙ rw (a, h)
+buffer-push-acts b q l a h n = sym (accepts (pushCode b q) _ b q (push-ok b q l (requestOf b) refl a h n)) ∙ rw (a, h)

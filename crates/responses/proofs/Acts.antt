@@ -1,0 +1,58 @@
+-- When a pull and the signer's own step are OK, and what they then do. Each statement lists the conditions of 01 as they stand there, and none
+-- of the definitions of the checks. Assumes nothing.
+use Prim.Native.Nat.{ℕ, _+_, _≤_, _<_}
+use mathlib.Core.Path.{_≡_, refl, sym, ap, _∙_}
+use mathlib.Core.List.{List, [], _∷_, _++_}
+use native.Mathlib.Omega.{arith}
+use native.Mathlib.Nat.{zero-add}
+use lib.ListN.{length, drop, length-append}
+use Rattle.words.specs.Word.{leBytes, splice}
+use Rattle.words.proofs.Read.{leBytes-length}
+use Rattle.codes.specs.Codes.{extended, x0Of, answerOf}
+use Rattle.codes.specs.declared.Code.the-variants.{Ok}
+use Rattle.queue.specs.declared.Request.{Request}
+use Rattle.queue.specs.Queue.{Signed, oldestRequest, oldestResponse}
+use Rattle.queue.proofs.Steps.{accepts}
+use Rattle.responses.specs.Pull.{responseBytes, pullCode, pulled, pullOf}
+use Rattle.responses.specs.Sign.{signedBy, signed, signOf}
+use Rattle.responses.proofs.Pulls.{pull-ok}
+use Rattle.responses.proofs.Signs.{sign-ok, sign-accepts}
+
+pub response-length : (s : Signed) → length (responseBytes s) ≡ 18 + length (s .signature)
+unfolding responseBytes
+response-length s =
+    let g : length (leBytes 8 (s .granule)) ≡ 8 = leBytes-length 8 (s .granule) in
+    let t : length (leBytes 8 (s .ticket)) ≡ 8 = leBytes-length 8 (s .ticket) in
+    let n : length (leBytes 2 (length (s .signature))) ≡ 2 = leBytes-length 2 (length (s .signature)) in
+    let gt : length (leBytes 8 (s .granule) ++ leBytes 8 (s .ticket)) ≡ 16 = length-append (leBytes 8 (s .granule)) (leBytes 8 (s .ticket)) ∙ omega arith in
+    let gtn : length (leBytes 8 (s .granule) ++ leBytes 8 (s .ticket) ++ leBytes 2 (length (s .signature))) ≡ 18 = length-append (leBytes 8 (s .granule) ++ leBytes 8 (s .ticket)) (leBytes 2 (length (s .signature))) ∙ omega arith in
+    length-append (leBytes 8 (s .granule) ++ leBytes 8 (s .ticket) ++ leBytes 2 (length (s .signature))) (s .signature) ∙ omega arith
+
+-- laid over the start of a buffer
+front-over : (b vs : List ℕ) (n : ℕ) → length vs ≡ n → splice 0 vs b ≡ vs ++ drop n b
+unfolding splice
+front-over b vs n e = rw (e, zero-add)
+
+-- A response waits, and 18 + its signature's length is at most the buffer's size: OK; the buffer has at its start "rec_granule, req_ticket,
+-- 2-byte length, signature", and is as it was behind them; the response is dropped, the requests are as they were.
+pub buffer-pull-acts : (b : List ℕ) (asked : List Request) (r : Signed) (rest : List Signed) → 18 + length (r .signature) ≤ length b →
+    pullOf b (record { requests = asked; responses = r ∷ rest }) ≡ record {
+      answer = record { code = Ok; x0 = 0; x1 = 0; x2 = 0 };
+      page = leBytes 8 (r .granule) ++ leBytes 8 (r .ticket) ++ leBytes 2 (length (r .signature)) ++ r .signature ++ drop (18 + length (r .signature)) b;
+      queue = record { requests = asked; responses = rest };
+    }
+unfolding pullOf pulled responseBytes oldestResponse answerOf x0Of extended
+buffer-pull-acts b asked r rest l =
+    sym (accepts (pullCode (length b) _) _ b _ (pull-ok (length b) (record { requests = asked; responses = r ∷ rest }) (λ e. omega arith) r refl l))
+    ∙ rw (front-over b (responseBytes r) (18 + length (r .signature)) (response-length r))
+
+-- A signature of 1 to 104 bytes, a request waits, and fewer than eight responses: OK, "the oldest request becomes the newest response", with its
+-- rec_granule, its req_ticket and the signature.
+pub sign-acts : (s : List ℕ) (r : Request) (rest : List Request) (done : List Signed) → 1 ≤ length s → length s ≤ 104 → length done < 8 →
+    signOf (record { requests = r ∷ rest; responses = done }) s ≡ record {
+      answer = record { code = Ok; x0 = 0; x1 = 0; x2 = 0 };
+      queue = record { requests = rest; responses = done ++ (record { granule = r .granule; ticket = r .ticket; signature = s } ∷ []) };
+    }
+unfolding signed signedBy oldestRequest answerOf x0Of extended
+sign-acts s r rest done lo hi m =
+    sym (sign-accepts (record { requests = r ∷ rest; responses = done }) s _ _ refl refl (sign-ok (record { requests = r ∷ rest; responses = done }) s (λ e. omega arith) hi (λ e. omega arith) m))
