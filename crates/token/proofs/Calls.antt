@@ -14,6 +14,8 @@ use borrow.Author.Tests.{le-leb, lt-leb, eq-eqb, ne-eqb}
 use Rattle.words.specs.Word.{part, splice}
 use Rattle.words.proofs.Store.{part-splice}
 use Rattle.range.specs.Range.{placeOf}
+use Rattle.range.specs.Buffers.{WrittenAt}
+use Rattle.range.proofs.Buffers.{written-at}
 use Rattle.codes.specs.Codes.{upOf, isOk, answerOf}
 use Rattle.codes.specs.declared.Code.{Code}
 use Rattle.codes.specs.declared.Code.the-variants.{Ok}
@@ -122,6 +124,17 @@ module _ (s : Session) (x : TokenCall) (h : tokenAccepted s x ≡ true) where
       (ap (λ (t : TokenStep). part at (t .answer .x1) (t .page)) step-is
       ∙ written at n (part i n (x .token)) (x .page) (hunk-length (x .token) i (x .size)) l
       ∙ hunk-bytes (x .token) i (x .size))
+
+  -- those bytes stand at pa, and no other byte of the page changes
+  pub token-writes : WrittenAt (placeOf (upOf (x .state)) (x .pa)) (shownOf s x) (x .page) (tokenStepOf s x .page)
+  unfolding sendOf
+  token-writes =
+      let i : ℕ = beginOf s (x .csize) in
+      let at : ℕ = placeOf (upOf (x .state)) (x .pa) in
+      let l : at ≤ length (x .page) = omega (arith, buffer-is .room, buffer-is .whole) in
+      let e : shownOf s x ≡ part i (hunkOf (x .token) i (x .size)) (x .token) = shown-is ∙ sym (hunk-bytes (x .token) i (x .size)) in
+      let f : tokenStepOf s x .page ≡ splice at (part i (hunkOf (x .token) i (x .size)) (x .token)) (x .page) = ap (λ (t : TokenStep). t .page) step-is in
+      rw (e, f) (written-at at _ (x .page) l)
 
 -- a further call that is OK: the session is open, and the next bytes are sent
 record Next (t : List ℕ) (size k : ℕ) (s : Session) (x : TokenCall) : Type 0 where
