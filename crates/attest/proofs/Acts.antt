@@ -1,15 +1,18 @@
 -- When the realm key call is OK, and what an OK did. Assumes nothing.
-use Prim.Native.Nat.{ℕ, _+_, _-_, _≤_, _<_}
+use Prim.Native.Nat.{ℕ, _≤_}
 use mathlib.Core.Path.{_≡_, refl, _∙_}
-use mathlib.Core.Bool.{true}
 use mathlib.Core.List.{List}
 use native.Mathlib.Omega.{arith}
 use lib.ListN.{length}
-use Rattle.words.proofs.Store.{front-splice, drop-splice, part-splice}
+use Rattle.boot.specs.declared.Params.{Params}
 use Rattle.boot.specs.declared.Record.{Record}
+use Rattle.boot.specs.declared.Record.the-variants.{Up}
 use Rattle.range.specs.Range.{placeOf}
-use Rattle.range.proofs.Ranges.{passed, page-range, range-ok}
-use Rattle.codes.specs.Codes.{isUp, upOf, answerOf}
+use Rattle.range.specs.Buffers.{BufferIn}
+use Rattle.range.specs.declared.OutsideAs.the-variants.{BadAddress}
+use Rattle.range.proofs.Ranges.{passed}
+use Rattle.range.proofs.Buffers.{in-passes, written-at}
+use Rattle.codes.specs.Codes.{upOf, answerOf}
 use Rattle.codes.specs.declared.Code.the-variants.{Ok}
 use Rattle.codes.proofs.Gates.{first-ok, then-go}
 use Rattle.attest.specs.Acts.{KeyActed}
@@ -24,12 +27,11 @@ key-acts r page key pa size curve h =
     let p = passed _ _ _ _ _ _ (first-ok _ _ h) in
     let at : ℕ = placeOf (upOf r) pa in
     let l : at ≤ length page = omega (arith, p .whole, p .room) in
-    rw h (record { told = refl; there = part-splice at key page l; before = front-splice at key page l; behind = drop-splice at key page l })
+    rw h (record { told = refl; written = written-at at key page l })
 
 -- A refusal comes only where 01 gives it: with the record up, a page of 4,096 bytes, a buffer within it, curve 0 and a key that is not
 -- empty nor longer than the buffer, the answer is OK.
-pub key-passes : (r : Record) (page key : List ℕ) (pa size curve : ℕ) → isUp r ≡ true → length page ≡ 4096 → upOf r .base ≤ pa → pa < upOf r .base + 4096 →
-    size ≤ upOf r .base + 4096 - pa → curve ≡ 0 → (length key ≡ 0 → ⊥) → length key ≤ size → realmKeyOf r page key pa size curve .answer .code ≡ Ok
+pub key-passes : (u : Params) (page key : List ℕ) (pa size curve : ℕ) → BufferIn u page pa size → curve ≡ 0 → (length key ≡ 0 → ⊥) → length key ≤ size →
+    realmKeyOf (Up u) page key pa size curve .answer .code ≡ Ok
 unfolding realmKeyOf keyed keyCode answerOf
-key-passes r page key pa size curve u n lo hi m z k l =
-    then-go _ _ (page-range r (length page) Ok _ pa size u n refl ∙ range-ok (upOf r) _ pa size lo hi m) ∙ rest-ok size curve key z k l
+key-passes u page key pa size curve i z k l = then-go _ _ (in-passes u page pa size i Ok BadAddress refl) ∙ rest-ok size curve key z k l
