@@ -1,52 +1,109 @@
--- What an accepted call did, as its caller sees it. Assumes nothing.
-use Prim.Native.Nat.{ℕ, _≤_}
+-- When token signing is OK, and what an OK did. The conditions are listed as they stand in 01, by none of the definitions of the checks.
+-- Assumes nothing.
+use Prim.Native.Nat.{ℕ, _+_, _-_, _≤_, _<_}
 use mathlib.Core.Path.{_≡_, refl, sym, ap, _∙_}
-use mathlib.Core.Bool.{true≢false}
-use mathlib.Core.List.{List}
+use mathlib.Core.Bool.{false, true≢false}
+use mathlib.Core.List.{List, _∷_}
 use native.Mathlib.Omega.{arith}
 use lib.ListN.{length}
-use Rattle.words.specs.Word.{part}
-use Rattle.words.proofs.Store.{part-splice}
+use Rattle.words.specs.Word.{part, halfAt}
+use Rattle.boot.specs.declared.Params.{Params}
 use Rattle.boot.specs.declared.Record.{Record}
+use Rattle.boot.specs.declared.Record.the-variants.{Up}
 use Rattle.range.specs.Range.{placeOf}
+use Rattle.range.specs.Buffers.{BufferIn}
+use Rattle.range.specs.declared.OutsideAs.the-variants.{Invalid}
 use Rattle.range.proofs.Ranges.{Passed}
-use Rattle.codes.specs.Codes.{upOf, isOk, answerOf}
-use Rattle.codes.specs.declared.Code.the-variants.{Ok}
-use Rattle.queue.specs.Queue.{Lists, SigningStep, oldestResponse}
-use Rattle.responses.specs.Pull.{responseBytes}
-use Rattle.signing.specs.Signing.{opcodeOf, signingOf}
+use Rattle.range.proofs.Buffers.{in-passes, in-room, written-at}
+use Rattle.codes.specs.Codes.{unless, upOf, isOk, fails, extended, x0Of, answerOf}
+use Rattle.codes.specs.declared.Code.the-variants.{Ok, Inval}
+use Rattle.codes.specs.declared.Answer.{Answer}
+use Rattle.queue.specs.declared.Request.{Request}
+use Rattle.queue.specs.Queue.{Signed, Lists, SigningStep, queued, oldestResponse}
+use Rattle.requests.specs.Push.{requestOf, pushed}
+use Rattle.requests.proofs.Acts.{buffer-push-acts}
+use Rattle.responses.specs.Pull.{responseBytes, pulled}
+use Rattle.responses.proofs.Acts.{buffer-pull-acts}
+use Rattle.signing.specs.Signing.{opcodeOf, isOther, badCurve, sharedCode, publicOf, opOf, putBack, opAt, signingOf}
+use Rattle.signing.specs.Acts.{PushActed, PullActed, PublicActed}
 use Rattle.signing.specs.declared.Opcode.{Opcode}
-use Rattle.signing.specs.declared.Opcode.the-variants.{Pull, Key}
-use Rattle.signing.proofs.Signings.{signing-by}
+use Rattle.signing.specs.declared.Opcode.the-variants.{Push, Pull, Key, Other}
+use Rattle.signing.proofs.Buffers.{buffer-length}
+use Rattle.signing.proofs.Signings.{shared-ok, public-ok, signing-by}
 
-module _ (r : Record) (page : List ℕ) (q : Lists) (key : List ℕ) (op pa size curve : ℕ) where
-  within : Passed r (length page) Ok pa size → placeOf (upOf r) pa ≤ length page
+-- ---- when it is OK: with the record up at minor 4 or more, a page of 4,096 bytes and a buffer within it
+module _ (u : Params) (page : List ℕ) (key : List ℕ) (pa size : ℕ) (i : BufferIn u page pa size) (m : 4 ≤ u .minor) where
+  buffer : List ℕ
+  buffer = part (pa - u .base) size page
+
+  buffer-size : length buffer ≡ size
+  unfolding buffer
+  buffer-size = buffer-length (pa - u .base) size page (in-room u page pa size i)
+
+  -- the checks that all opcodes share pass, and the answer is that of the opcode on its buffer
+  shared-passes : (o : Opcode) (curve : ℕ) → isOther o ≡ false → badCurve o curve ≡ false → sharedCode (Up u) (length page) o pa size curve ≡ Ok
+  unfolding upOf fails
+  shared-passes o curve n b = shared-ok (Up u) (length page) o pa size curve (in-passes u page pa size i (fails (isOther o) Inval Ok) Invalid (rw n)) b m
+
+  op-answer : (q : Lists) (op curve : ℕ) → isOther (opcodeOf op) ≡ false → badCurve (opcodeOf op) curve ≡ false →
+      signingOf (Up u) page q key op pa size curve .answer ≡ opOf (opcodeOf op) buffer q key .answer
+  unfolding signingOf queued opAt putBack placeOf upOf buffer
+  op-answer q op curve n b = rw (shared-passes (opcodeOf op) curve n b)
+
+  -- push: a size of 80 or more, algorithm id 0, hash id 1, and fewer than eight requests waiting
+  pub push-passes : (q : Lists) (curve : ℕ) → 80 ≤ size → halfAt 0 (part (pa - u .base) size page) ≡ 0 → halfAt 24 (part (pa - u .base) size page) ≡ 1 → length (q .requests) < 8 →
+      signingOf (Up u) page q key 1 pa size curve .answer .code ≡ Ok
+  unfolding opcodeOf isOther badCurve opOf buffer
+  push-passes q curve l a h n =
+      ap (λ (a : Answer). a .code) (op-answer q 1 curve refl refl) ∙ ap (λ (s : SigningStep). s .answer .code) (buffer-push-acts buffer q (omega (arith, buffer-size)) a h n)
+
+  -- pull: a response waits, and 18 + its signature's length is at most the size
+  pub pull-passes : (asked : List Request) (r : Signed) (rest : List Signed) (curve : ℕ) → 18 + length (r .signature) ≤ size →
+      signingOf (Up u) page (record { requests = asked; responses = r ∷ rest }) key 2 pa size curve .answer .code ≡ Ok
+  unfolding opcodeOf isOther badCurve opOf
+  pull-passes asked r rest curve l =
+      ap (λ (a : Answer). a .code) (op-answer (record { requests = asked; responses = r ∷ rest }) 2 curve refl refl)
+      ∙ ap (λ (s : SigningStep). s .answer .code) (buffer-pull-acts buffer asked r rest (omega (arith, buffer-size)))
+
+  -- key: curve 0, and a public key that is not empty nor longer than the size
+  pub public-passes : (q : Lists) → (length key ≡ 0 → ⊥) → length key ≤ size → signingOf (Up u) page q key 3 pa size 0 .answer .code ≡ Ok
+  unfolding opcodeOf isOther badCurve opOf publicOf queued unless answerOf
+  public-passes q n l = ap (λ (a : Answer). a .code) (op-answer q 3 0 refl refl) ∙ rw (public-ok (length buffer) key n (omega (arith, buffer-size)))
+
+-- ---- what an OK did
+module _ (r : Record) (page : List ℕ) (q : Lists) (key : List ℕ) (pa size curve : ℕ) where
+  at : ℕ
+  at = placeOf (upOf r) pa
+
+  within : Passed r (length page) Ok pa size → at ≤ length page
+  unfolding at
   within p = omega (arith, p .whole, p .room)
 
-  -- "else written at pa, x1 its length": x1 is the public key's length, and that many bytes at pa are the key
-  pub public-acts : signingOf r page q key op pa size curve .answer .code ≡ Ok → opcodeOf op ≡ Key →
-      (signingOf r page q key op pa size curve .answer .x1 ≡ length key) × (part (placeOf (upOf r) pa) (length key) (signingOf r page q key op pa size curve .page) ≡ key)
-  unfolding answerOf
-  public-acts =
-      signing-by (λ (o : Opcode) (s : SigningStep). s .answer .code ≡ Ok → o ≡ Key → (s .answer .x1 ≡ length key) × (part (placeOf (upOf r) pa) (length key) (s .page) ≡ key)) r page q key op pa size curve
+  abbrev Acted : Opcode → SigningStep → Type 0
+  Acted Push s = PushActed (part at size page) page q s
+  Acted Pull s = PullActed at page q s
+  Acted Key s = PublicActed at page q key s
+  Acted Other s = Unit {0}
+
+  acts : (op : ℕ) → signingOf r page q key op pa size curve .answer .code ≡ Ok → Acted (opcodeOf op) (signingOf r page q key op pa size curve)
+  unfolding at answerOf x0Of extended pushed requestOf pulled oldestResponse responseBytes
+  acts op =
+      signing-by (λ (o : Opcode) (s : SigningStep). s .answer .code ≡ Ok → Acted o s) r page q key op pa size curve
       (record {
-        refusal = λ o k e h i. absurd (true≢false (ap isOk (sym h) ∙ e));
-        push = λ p e h i. let z : _≡_ {A = ℕ} 0 1 = cc in absurd (omega arith);
-        pull = λ p e h i. let z : _≡_ {A = ℕ} 0 1 = cc in absurd (omega arith);
-        public = λ p e h i. (refl, part-splice (placeOf (upOf r) pa) key page (within p));
+        refusal = λ o k e h. absurd (true≢false (ap isOk (sym h) ∙ e));
+        push = λ p e h. refl;
+        pull = λ p e h x rest d. rw d (record { told = refl; left = refl; written = written-at at _ page (within p) });
+        public = λ p e h. record { told = refl; left = refl; written = written-at at key page (within p) };
       })
 
-  -- "writes rec_granule, req_ticket, 2-byte length, signature": the oldest response stands at pa
-  pub pull-acts : signingOf r page q key op pa size curve .answer .code ≡ Ok → opcodeOf op ≡ Pull →
-      part (placeOf (upOf r) pa) (length (responseBytes (oldestResponse (q .responses)))) (signingOf r page q key op pa size curve .page) ≡ responseBytes (oldestResponse (q .responses))
-  unfolding answerOf
-  pull-acts =
-      signing-by
-      (λ (o : Opcode) (s : SigningStep). s .answer .code ≡ Ok → o ≡ Pull → part (placeOf (upOf r) pa) (length (responseBytes (oldestResponse (q .responses)))) (s .page) ≡ responseBytes (oldestResponse (q .responses)))
-      r page q key op pa size curve
-      (record {
-        refusal = λ o k e h i. absurd (true≢false (ap isOk (sym h) ∙ e));
-        push = λ p e h i. let z : _≡_ {A = ℕ} 0 1 = cc in absurd (omega arith);
-        pull = λ p e h i. part-splice (placeOf (upOf r) pa) _ page (within p);
-        public = λ p e h i. let z : _≡_ {A = ℕ} 0 1 = cc in absurd (omega arith);
-      })
+  pub push-acts : signingOf r page q key 1 pa size curve .answer .code ≡ Ok → PushActed (part (placeOf (upOf r) pa) size page) page q (signingOf r page q key 1 pa size curve)
+  unfolding at opcodeOf
+  push-acts = acts 1
+
+  pub pull-acts : signingOf r page q key 2 pa size curve .answer .code ≡ Ok → PullActed (placeOf (upOf r) pa) page q (signingOf r page q key 2 pa size curve)
+  unfolding at opcodeOf
+  pull-acts = acts 2
+
+  pub public-acts : signingOf r page q key 3 pa size curve .answer .code ≡ Ok → PublicActed (placeOf (upOf r) pa) page q key (signingOf r page q key 3 pa size curve)
+  unfolding at opcodeOf
+  public-acts = acts 3

@@ -3,11 +3,10 @@ use Prim.Native.Nat.{ℕ, _+_, _≤_}
 use mathlib.Core.Path.{_≡_, refl, sym, ap, _∙_}
 use mathlib.Core.List.{List, _++_, append-assoc}
 use native.Mathlib.Omega.{arith}
-use lib.ListN.{length, take, drop, length-append, length-drop}
+use lib.ListN.{length, take, drop, length-drop}
 use lib.Seq.{length-take-le, drop-drop}
 use borrow.Author.Tests.{ltb-false}
-use Rattle.words.specs.Word.{leBytes, part, splice}
-use Rattle.words.proofs.Read.{leBytes-length}
+use Rattle.words.specs.Word.{part, splice}
 use Rattle.words.proofs.Store.{part-back, buffer-back}
 use Rattle.codes.proofs.Gates.{fails-ok}
 use Rattle.codes.specs.declared.Code.the-variants.{Ok}
@@ -15,6 +14,7 @@ use Rattle.codes.specs.declared.Answer.{Answer}
 use Rattle.queue.specs.Queue.{Signed, Lists, SigningStep, oldestResponse}
 use Rattle.responses.specs.Pull.{responseBytes, pullCode}
 use Rattle.responses.proofs.Laid.{length-splice}
+use Rattle.responses.proofs.Acts.{response-length}
 use Rattle.signing.specs.Signing.{publicCode, putBack}
 
 -- ---- a buffer of n bytes at an offset of s
@@ -53,16 +53,6 @@ unfolding putBack
 put-same at n page a q s room h = ap (λ (p : List ℕ). record { answer = a; page = p; queue = q }) (sym (back-same at n page room)) ∙ ap (putBack at page) h
 
 -- ---- an OK wrote no more than the buffer holds
-response-length : (s : Signed) → length (responseBytes s) ≡ 18 + length (s .signature)
-unfolding responseBytes
-response-length s =
-    let g : length (leBytes 8 (s .granule)) ≡ 8 = leBytes-length 8 (s .granule) in
-    let t : length (leBytes 8 (s .ticket)) ≡ 8 = leBytes-length 8 (s .ticket) in
-    let n : length (leBytes 2 (length (s .signature))) ≡ 2 = leBytes-length 2 (length (s .signature)) in
-    let gt : length (leBytes 8 (s .granule) ++ leBytes 8 (s .ticket)) ≡ 16 = length-append (leBytes 8 (s .granule)) (leBytes 8 (s .ticket)) ∙ omega arith in
-    let gtn : length (leBytes 8 (s .granule) ++ leBytes 8 (s .ticket) ++ leBytes 2 (length (s .signature))) ≡ 18 = length-append (leBytes 8 (s .granule) ++ leBytes 8 (s .ticket)) (leBytes 2 (length (s .signature))) ∙ omega arith in
-    length-append (leBytes 8 (s .granule) ++ leBytes 8 (s .ticket) ++ leBytes 2 (length (s .signature))) (s .signature) ∙ omega arith
-
 pub pull-fits : (size : ℕ) (q : Lists) → pullCode size q ≡ Ok → length (responseBytes (oldestResponse (q .responses))) ≤ size
 unfolding pullCode
 pull-fits size q h =

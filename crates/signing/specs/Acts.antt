@@ -1,0 +1,37 @@
+-- What an accepted call did, opcode by opcode. Assumes nothing.
+use Prim.Native.Nat.{ℕ}
+use mathlib.Core.Path.{_≡_}
+use mathlib.Core.List.{List, [], _∷_, _++_}
+use lib.ListN.{length}
+use Rattle.words.specs.Word.{leBytes, part, wordAt, halfAt}
+use Rattle.range.specs.Buffers.{WrittenAt}
+use Rattle.codes.specs.declared.Code.the-variants.{Ok}
+use Rattle.queue.specs.Queue.{Signed, Lists, SigningStep}
+
+-- The registers of an OK, what waits then, and the bytes that stand at an offset of the page, every other byte being as it was
+pub record SigningActed (x1 : ℕ) (waits : Lists) (at : ℕ) (bytes page : List ℕ) (s : SigningStep) : Type 0 where
+  pub told : s .answer ≡ record { code = Ok; x0 = 0; x1 = x1; x2 = 0 }
+  pub left : s .queue ≡ waits
+  pub written : WrittenAt at bytes page (s .page)
+
+-- "the request joins the end", b being the buffer: nothing else changes
+abbrev pub PushActed : List ℕ → List ℕ → Lists → SigningStep → Type 0
+PushActed b page q s =
+    s ≡ record {
+      answer = record { code = Ok; x0 = 0; x1 = 0; x2 = 0 };
+      page = page;
+      queue = record {
+        requests = q .requests ++ (record { algorithm = halfAt 0 b; granule = wordAt 8 b; ticket = wordAt 16 b; hashid = halfAt 24 b; hash = part 32 48 b } ∷ []);
+        responses = q .responses;
+      };
+    }
+
+-- "writes rec_granule, req_ticket, 2-byte length, signature, and drops it": of the response r that came first, before the rest
+abbrev pub PullActed : ℕ → List ℕ → Lists → SigningStep → Type 0
+PullActed at page q s =
+    (r : Signed) (rest : List Signed) → q .responses ≡ r ∷ rest →
+    SigningActed 0 (record { requests = q .requests; responses = rest }) at (leBytes 8 (r .granule) ++ leBytes 8 (r .ticket) ++ leBytes 2 (length (r .signature)) ++ r .signature) page s
+
+-- "written at pa, x1 its length": of the public key
+abbrev pub PublicActed : ℕ → List ℕ → Lists → List ℕ → SigningStep → Type 0
+PublicActed at page q key s = SigningActed (length key) q at key page s
