@@ -11,7 +11,7 @@ use Rattle.range.specs.Range.{placeOf}
 use Rattle.range.specs.Buffers.{BufferIn}
 use Rattle.range.specs.declared.OutsideAs.the-variants.{BadAddress}
 use Rattle.range.proofs.Ranges.{passed}
-use Rattle.range.proofs.Buffers.{in-passes, written-at}
+use Rattle.range.proofs.Buffers.{in-passes, splice-written}
 use Rattle.codes.specs.Codes.{upOf, answerOf}
 use Rattle.codes.specs.declared.Code.the-variants.{Ok}
 use Rattle.codes.proofs.Gates.{first-ok, then-go}
@@ -27,7 +27,7 @@ key-acts r page key pa size curve h =
     let p = passed _ _ _ _ _ _ (first-ok _ _ h) in
     let at : ℕ = placeOf (upOf r) pa in
     let l : at ≤ length page = omega (arith, p .whole, p .room) in
-    rw h (record { told = refl; written = written-at at key page l })
+    rw h (record { told = refl; written = splice-written at key page l })
 
 -- A refusal comes only where 01 gives it: with the record up, a page of 4,096 bytes, a buffer within it, curve 0 and a key that is not
 -- empty nor longer than the buffer, the answer is OK.

@@ -26,5 +26,5 @@ module _ (u : Params) (page : List ℕ) (pa size : ℕ) (i : BufferIn u page pa 
   in-room = omega (arith, i .whole, i .from, i .below, i .fits)
 
 -- bytes laid over the page
-pub written-at : (at : ℕ) (vs page : List ℕ) → at ≤ length page → WrittenAt at vs page (splice at vs page)
-written-at at vs page h = record { there = part-splice at vs page h; before = front-splice at vs page h; behind = drop-splice at vs page h }
+pub splice-written : (at : ℕ) (vs page : List ℕ) → at ≤ length page → WrittenAt at vs page (splice at vs page)
+splice-written at vs page h = record { there = part-splice at vs page h; before = front-splice at vs page h; behind = drop-splice at vs page h }

@@ -18,9 +18,9 @@ use Rattle.responses.specs.Sign.{signedBy, signed, signOf}
 use Rattle.responses.proofs.Pulls.{pull-ok}
 use Rattle.responses.proofs.Signs.{sign-ok, sign-accepts}
 
-pub response-length : (s : Signed) → length (responseBytes s) ≡ 18 + length (s .signature)
+pub signed-length : (s : Signed) → length (responseBytes s) ≡ 18 + length (s .signature)
 unfolding responseBytes
-response-length s =
+signed-length s =
     let g : length (leBytes 8 (s .granule)) ≡ 8 = leBytes-length 8 (s .granule) in
     let t : length (leBytes 8 (s .ticket)) ≡ 8 = leBytes-length 8 (s .ticket) in
     let n : length (leBytes 2 (length (s .signature))) ≡ 2 = leBytes-length 2 (length (s .signature)) in
@@ -44,7 +44,7 @@ pub buffer-pull-acts : (b : List ℕ) (asked : List Request) (r : Signed) (rest 
 unfolding pullOf pulled responseBytes oldestResponse answerOf x0Of extended
 buffer-pull-acts b asked r rest l =
     sym (accepts (pullCode (length b) _) _ b _ (pull-ok (length b) (record { requests = asked; responses = r ∷ rest }) (λ e. omega arith) r refl l))
-    ∙ rw (front-over b (responseBytes r) (18 + length (r .signature)) (response-length r))
+    ∙ rw (front-over b (responseBytes r) (18 + length (r .signature)) (signed-length r))
 
 -- A signature of 1 to 104 bytes, a request waits, and fewer than eight responses: OK, "the oldest request becomes the newest response", with its
 -- rec_granule, its req_ticket and the signature.

@@ -14,7 +14,7 @@ use Rattle.range.specs.Range.{placeOf}
 use Rattle.range.specs.Buffers.{BufferIn}
 use Rattle.range.specs.declared.OutsideAs.the-variants.{Invalid}
 use Rattle.range.proofs.Ranges.{Passed}
-use Rattle.range.proofs.Buffers.{in-passes, in-room, written-at}
+use Rattle.range.proofs.Buffers.{in-passes, in-room, splice-written}
 use Rattle.codes.specs.Codes.{unless, upOf, isOk, fails, extended, x0Of, answerOf}
 use Rattle.codes.specs.declared.Code.the-variants.{Ok, Inval}
 use Rattle.codes.specs.declared.Answer.{Answer}
@@ -92,8 +92,8 @@ module _ (r : Record) (page : List ℕ) (q : Lists) (key : List ℕ) (pa size cu
       (record {
         refusal = λ o k e h. absurd (true≢false (ap isOk (sym h) ∙ e));
         push = λ p e h. refl;
-        pull = λ p e h x rest d. rw d (record { told = refl; left = refl; written = written-at at _ page (within p) });
-        public = λ p e h. record { told = refl; left = refl; written = written-at at key page (within p) };
+        pull = λ p e h x rest d. rw d (record { told = refl; left = refl; written = splice-written at _ page (within p) });
+        public = λ p e h. record { told = refl; left = refl; written = splice-written at key page (within p) };
       })
 
   pub push-acts : signingOf r page q key 1 pa size curve .answer .code ≡ Ok → PushActed (part (placeOf (upOf r) pa) size page) page q (signingOf r page q key 1 pa size curve)

@@ -14,7 +14,7 @@ use Rattle.codes.specs.declared.Answer.{Answer}
 use Rattle.queue.specs.Queue.{Signed, Lists, SigningStep, oldestResponse}
 use Rattle.responses.specs.Pull.{responseBytes, pullCode}
 use Rattle.responses.proofs.Laid.{length-splice}
-use Rattle.responses.proofs.Acts.{response-length}
+use Rattle.responses.proofs.Acts.{signed-length}
 use Rattle.signing.specs.Signing.{publicCode, putBack}
 
 -- ---- a buffer of n bytes at an offset of s
@@ -61,7 +61,7 @@ pull-fits size q h =
     fit (oldestResponse (q .responses)) (ltb-false _ _ (r .0))
   where
     fit : (s : Signed) → 18 + length (s .signature) ≤ size → length (responseBytes s) ≤ size
-    fit s h = omega (arith, response-length s)
+    fit s h = omega (arith, signed-length s)
 
 pub public-fits : (size : ℕ) (key : List ℕ) → publicCode size key ≡ Ok → length key ≤ size
 unfolding publicCode

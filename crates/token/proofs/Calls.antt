@@ -15,7 +15,7 @@ use Rattle.words.specs.Word.{part, splice}
 use Rattle.words.proofs.Store.{part-splice}
 use Rattle.range.specs.Range.{placeOf}
 use Rattle.range.specs.Buffers.{WrittenAt}
-use Rattle.range.proofs.Buffers.{written-at}
+use Rattle.range.proofs.Buffers.{splice-written}
 use Rattle.codes.specs.Codes.{upOf, isOk, answerOf}
 use Rattle.codes.specs.declared.Code.{Code}
 use Rattle.codes.specs.declared.Code.the-variants.{Ok}
@@ -134,7 +134,7 @@ module _ (s : Session) (x : TokenCall) (h : tokenAccepted s x ≡ true) where
       let l : at ≤ length (x .page) = omega (arith, buffer-is .room, buffer-is .whole) in
       let e : shownOf s x ≡ part i (hunkOf (x .token) i (x .size)) (x .token) = shown-is ∙ sym (hunk-bytes (x .token) i (x .size)) in
       let f : tokenStepOf s x .page ≡ splice at (part i (hunkOf (x .token) i (x .size)) (x .token)) (x .page) = ap (λ (t : TokenStep). t .page) step-is in
-      rw (e, f) (written-at at _ (x .page) l)
+      rw (e, f) (splice-written at _ (x .page) l)
 
 -- a further call that is OK: the session is open, and the next bytes are sent
 record Next (t : List ℕ) (size k : ℕ) (s : Session) (x : TokenCall) : Type 0 where
