@@ -1,0 +1,26 @@
+-- Each command is reached by its id, with its registers. Assumes nothing.
+use Prim.Native.Nat.{ℕ}
+use mathlib.Core.Path.{_≡_, ap}
+use Rattle.granules.specs.declared.Granules.{Granules}
+use Rattle.features.specs.Features.{forwardOf}
+use Rattle.runtime.specs.Step.{World, Call, kindOf, afterMove, afterKey, afterToken, afterSigning, afterUpdate, callBy, callOf}
+use Rattle.runtime.specs.Acts.{CallActed}
+
+module _ (g : Granules) (w : World) (c : Call) where
+  reached : (id : ℕ) → c .id ≡ id → callOf g w c ≡ callBy (kindOf id) g w c
+  unfolding callOf
+  reached id e = ap (λ (i : ℕ). callBy (kindOf i) g w c) e
+
+  pub call-acts : CallActed g w c
+  unfolding callBy kindOf forwardOf afterMove afterKey afterToken afterSigning afterUpdate
+  call-acts =
+      record {
+        forwards = λ e. reached 0xC400018F e;
+        delegates = λ e m d. rw d (reached 0xC40001B0 e);
+        undelegates = λ e m d. rw d (reached 0xC40001B1 e);
+        attests = λ e k d. rw d (reached 0xC40001B2 e);
+        sends = λ e t d. rw d (reached 0xC40001B3 e);
+        tells = λ e. reached 0xC40001B4 e;
+        queues = λ e s d. rw d (reached 0xC40001B5 e);
+        updates = λ e u d. rw d (reached 0xC40001B6 e);
+      }

@@ -1,0 +1,31 @@
+-- What a call does, by its function id. Assumes nothing.
+use Prim.Native.Nat.{ℕ}
+use mathlib.Core.Path.{_≡_}
+use Rattle.codes.specs.declared.Work.the-variants.{Nothing}
+use Rattle.granules.specs.Granules.{Moved, delegateOf, undelegateOf}
+use Rattle.granules.specs.declared.Granules.{Granules}
+use Rattle.attest.specs.Key.{Keyed, realmKeyOf}
+use Rattle.token.specs.Token.{TokenStep, tokenOf}
+use Rattle.features.specs.Features.{featuresOf, updateOf}
+use Rattle.features.specs.declared.Updated.{Updated}
+use Rattle.queue.specs.Queue.{SigningStep}
+use Rattle.signing.specs.Signing.{signingOf}
+use Rattle.runtime.specs.Step.{World, withPage, withTable, withSession, withQueue, Call, callOf}
+use Rattle.runtime.specs.declared.Reply.the-variants.{Forward, Back}
+
+-- Each command of 01 under its id: the answer of its own entry, with the registers in 01's order, and the part of the world that the entry
+-- changes, and no other.
+pub record CallActed (g : Granules) (w : World) (c : Call) : Type 0 where
+  pub forwards : c .id ≡ 0xC400018F → callOf g w c ≡ record { reply = Forward (c .x1); next = w }
+  pub delegates : c .id ≡ 0xC40001B0 → (m : Moved) → m ≡ delegateOf (c .state) g (w .table) (c .x1) →
+      callOf g w c ≡ record { reply = Back (m .answer) Nothing; next = withTable (m .table) w }
+  pub undelegates : c .id ≡ 0xC40001B1 → (m : Moved) → m ≡ undelegateOf (c .state) g (w .table) (c .x1) →
+      callOf g w c ≡ record { reply = Back (m .answer) Nothing; next = withTable (m .table) w }
+  pub attests : c .id ≡ 0xC40001B2 → (k : Keyed) → k ≡ realmKeyOf (c .state) (w .page) (c .realmKey) (c .x1) (c .x2) (c .x3) →
+      callOf g w c ≡ record { reply = Back (k .answer) Nothing; next = withPage (k .page) w }
+  pub sends : c .id ≡ 0xC40001B3 → (t : TokenStep) → t ≡ tokenOf (c .state) (w .page) (w .session) (c .busy) (c .token) (c .x1) (c .x2) (c .x3) →
+      callOf g w c ≡ record { reply = Back (t .answer) Nothing; next = withSession (t .session) (withPage (t .page) w) }
+  pub tells : c .id ≡ 0xC40001B4 → callOf g w c ≡ record { reply = Back (featuresOf (c .state) (c .x1)) Nothing; next = w }
+  pub queues : c .id ≡ 0xC40001B5 → (s : SigningStep) → s ≡ signingOf (c .state) (w .page) (w .queue) (c .publicKey) (c .x1) (c .x2) (c .x3) (c .x4) →
+      callOf g w c ≡ record { reply = Back (s .answer) Nothing; next = withQueue (s .queue) (withPage (s .page) w) }
+  pub updates : c .id ≡ 0xC40001B6 → (u : Updated) → u ≡ updateOf (c .state) (c .width) (c .x1) → callOf g w c ≡ record { reply = Back (u .answer) (u .work); next = w }
