@@ -53,7 +53,7 @@ token-ready x u e b i k h = rw e (buffer-passes u (x .page) (x .busy) (x .pa) (x
 -- "A lookup before a start shows the challenge": with the record up, a page of 4,096 bytes, a buffer within it, and a challenge's size that is at
 -- most the buffer's
 pub challenge-acts : (u : Params) (page : List ℕ) (pa size c : ℕ) → BufferIn u page pa size → ChallengeSize c → c ≤ size →
-    ChallengeActed u page pa c (challengeOf (Up u) page pa size c) (challengeSpan (Up u) page pa size c)
+    ChallengeActed u page pa c (challengeOf (Up u) page pa size c) (challengeSpan (Up u) page pa size c) (bufferCode (Up u) (length page) false pa size c)
 unfolding challengeOf challengeSpan part spanAt placeOf upOf
 challenge-acts u page pa size c i k h =
     let p = buffer-passes u page false pa size c refl i (inr k) h in
@@ -62,4 +62,5 @@ challenge-acts u page pa size c i k h =
       there = e;
       whole = ap length e ∙ length-take-le c (drop (pa - u .base) page) (omega (arith, length-drop (pa - u .base) page, in-room u page pa size i));
       named = rw (p, ne-eqb c 0 (size-there c k));
+      passes = p;
     }
