@@ -1,5 +1,4 @@
 -- What a call does, by its function id. Assumes nothing.
-use Prim.Native.Nat.{ℕ}
 use mathlib.Core.Path.{_≡_}
 use Rattle.codes.specs.declared.Work.the-variants.{Nothing}
 use Rattle.granules.specs.Granules.{Moved, delegateOf, undelegateOf}
