@@ -2,16 +2,19 @@
 -- of the boot's own checks. Assumes nothing.
 use Prim.Native.Nat.{ℕ, _^_, min, _≤_, _<_}
 use mathlib.Core.Path.{_≡_, refl, sym, ap, _∙_}
-use mathlib.Core.Bool.{Bool, true}
+use mathlib.Core.Bool.{Bool, true, false, false≢true, cond}
+use native.Mathlib.Omega.{arith}
 use mathlib.Core.List.{List}
 use lib.IntN.{ℤ, pos}
-use borrow.Author.Tests.{le-leb, lt-ltb}
-use Rattle.versions.specs.Version.{agreed}
+use borrow.Author.Tests.{le-leb, lt-ltb, leb-true, ltb-true}
+use Rattle.versions.specs.Version.{minorOf, agreed}
 use Rattle.versions.proofs.Versions.{version-minor, version-of}
-use Rattle.reader.specs.Answer.{Shown, PlatShown, shows, readOf}
-use Rattle.boot.specs.Boot.{codeIn, isFresh, coldGate, coldCode, after, paramsOf, coldNext, warmCode, warmNext}
+use Rattle.reader.specs.Answer.{Shown, PlatShown, shows, minus, readOf}
+use Rattle.boot.specs.Boot.{codeIn, isFresh, coldGate, coldCode, after, paramsOf, coldNext, cpuCode, warmCode, warmNext}
+use Rattle.boot.specs.Acts.{WarmPassed}
 use Rattle.boot.specs.declared.Params.{Params}
-use Rattle.boot.specs.declared.Record.the-variants.{Fresh, Up}
+use Rattle.boot.specs.declared.Record.{Record}
+use Rattle.boot.specs.declared.Record.the-variants.{Fresh, Up, Closed}
 use Rattle.boot.proofs.Booting.{kept-up}
 
 -- the checks of a cold boot that pass hand on the page's code
@@ -30,7 +33,41 @@ cold-acts x0 x1 x2 x3 most page w e q s a b m n r =
     let k : coldCode Fresh x0 x1 x2 x3 most page ≡ pos 0 = cold-passes _ _ _ _ _ refl v (le-leb x2 most m) (lt-ltb x0 x2 n) ∙ ap codeIn r in
     (k, ap (λ (c : ℤ). after c (Up (paramsOf x1 x2 x3))) k ∙ rw (version-minor x1 v .0))
 
+-- and only then
+cold-passed : (f v m n : Bool) (c : ℤ) → coldGate f v m n c ≡ pos 0 → (f ≡ true) × (v ≡ true) × (m ≡ true) × (n ≡ true) × (c ≡ pos 0)
+unfolding coldGate
+cold-passed true true true true c h = (refl, refl, refl, refl, h)
+cold-passed true true true false c h = let z : _≡_ {A = ℕ} 0 1 = cc in absurd (omega arith)
+cold-passed true true false n c h = let z : _≡_ {A = ℕ} 0 1 = cc in absurd (omega arith)
+cold-passed true false m n c h = let z : _≡_ {A = ℕ} 0 1 = cc in absurd (omega arith)
+cold-passed false v m n c h = let z : _≡_ {A = ℕ} 0 1 = cc in absurd (omega arith)
+
+fresh-is : (s : Record) → isFresh s ≡ true → s ≡ Fresh
+unfolding isFresh
+fresh-is Fresh h = refl
+fresh-is (Up u) h = absurd (false≢true h)
+fresh-is Closed h = absurd (false≢true h)
+
+pub cold-only : (s : Record) (x0 x1 x2 x3 most : ℕ) (page : List ℕ) → coldCode s x0 x1 x2 x3 most page ≡ pos 0 →
+    (s ≡ Fresh) × (1 ≤ x1) × (x1 < 2 ^ 16) × (x2 ≤ most) × (x0 < x2) × (codeIn (readOf 4 x3 page) ≡ pos 0)
+unfolding coldCode minorOf
+cold-only s x0 x1 x2 x3 most page h =
+    let p = cold-passed _ _ _ _ _ h in
+    let v = version-minor x1 (p .1) in
+    (fresh-is s (p .0), v .1, omega (arith, v .0), leb-true _ _ (p .2), ltb-true _ _ (p .3), p .4)
+
 -- Warm boot of a record that is up, x0 below the cold boot's x2: 0, and the record as it was. So "A CPU may warm boot twice."
 pub warm-acts : (u : Params) (x0 : ℕ) → x0 < u .cpus → (warmCode (Up u) x0 ≡ pos 0) × (warmNext (Up u) x0 ≡ Up u)
 unfolding warmCode warmNext
 warm-acts u x0 h = let k = kept-up (u .cpus) x0 (Up u) h in (sym (k .0), sym (k .1))
+
+-- and only then
+cpu-passed : (b : Bool) → cond b (pos 0) (minus 4) ≡ pos 0 → b ≡ true
+cpu-passed true h = refl
+cpu-passed false h = let z : _≡_ {A = ℕ} 0 1 = cc in absurd (omega arith)
+
+pub warm-only : (s : Record) (x0 : ℕ) → warmCode s x0 ≡ pos 0 → WarmPassed s x0
+unfolding warmCode cpuCode
+warm-only Fresh x0 h = let z : _≡_ {A = ℕ} 0 1 = cc in absurd (omega arith)
+warm-only (Up u) x0 h = record { params = u; up = refl; below = ltb-true _ _ (cpu-passed _ h) }
+warm-only Closed x0 h = let z : _≡_ {A = ℕ} 0 1 = cc in absurd (omega arith)

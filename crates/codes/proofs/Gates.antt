@@ -3,6 +3,7 @@ use Prim.Native.Nat.{ℕ}
 use mathlib.Core.Path.{_≡_, refl, sym, ap, _∙_}
 use mathlib.Core.Bool.{Bool, true, false, false≢true}
 use native.Mathlib.Omega.{arith}
+use Rattle.words.specs.Tests.{either}
 use Rattle.codes.specs.Codes.{unless, fails, isOk, ifOk, andThen, gated}
 use Rattle.codes.specs.declared.Code.{Code}
 use Rattle.codes.specs.declared.Code.the-variants.{Ok, Unk, BadAddr, BadPas, Inval, Again}
@@ -19,6 +20,12 @@ pub unless-ok : (b : Bool) (c next : Code) → isOk c ≡ false → fails (unles
 unfolding unless
 unless-ok true c next n h = (refl, fails-ok false c next n h .1)
 unless-ok false c next n h = absurd (false≢true (sym (fails-ok true c next n h .0)))
+
+-- what an OK tells of a check that fails if either of two tests holds
+pub either-ok : (a b : Bool) (c next : Code) → isOk c ≡ false → fails (either a b) c next ≡ Ok → (a ≡ false) × (b ≡ false) × (next ≡ Ok)
+unfolding either
+either-ok true b c next n h = absurd (false≢true (sym (fails-ok true c next n h .0)))
+either-ok false b c next n h = let p = fails-ok b c next n h in (refl, p .0, p .1)
 
 -- what an OK tells of the checks at the front
 pub first-ok : (k next : Code) → andThen k next ≡ Ok → k ≡ Ok

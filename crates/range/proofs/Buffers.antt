@@ -4,17 +4,19 @@ use mathlib.Core.Path.{_≡_, refl, ap, _∙_}
 use mathlib.Core.List.{List}
 use native.Mathlib.Omega.{arith}
 use lib.ListN.{length}
+use borrow.Author.Tests.{ltb-false, leb-false}
 use Rattle.words.specs.Word.{splice}
 use Rattle.words.proofs.Store.{front-splice, drop-splice, part-splice}
 use Rattle.boot.specs.declared.Params.{Params}
+use Rattle.boot.specs.declared.Record.{Record}
 use Rattle.boot.specs.declared.Record.the-variants.{Up}
 use Rattle.codes.specs.Codes.{isUp, upOf, isOk}
 use Rattle.codes.specs.declared.Code.{Code}
 use Rattle.codes.specs.declared.Code.the-variants.{Ok}
-use Rattle.range.specs.Range.{pageCode}
+use Rattle.range.specs.Range.{outside, tooLong, pageCode}
 use Rattle.range.specs.Buffers.{BufferIn, WrittenAt}
 use Rattle.range.specs.declared.OutsideAs.{OutsideAs}
-use Rattle.range.proofs.Ranges.{page-range, range-ok}
+use Rattle.range.proofs.Ranges.{neither, page-range, range-ok, Passed}
 
 module _ (u : Params) (page : List ℕ) (pa size : ℕ) (i : BufferIn u page pa size) where
   -- with the record up, the gate of a command on the page goes
@@ -24,6 +26,13 @@ module _ (u : Params) (page : List ℕ) (pa size : ℕ) (i : BufferIn u page pa 
 
   pub in-room : pa - u .base + size ≤ length page
   in-room = omega (arith, i .whole, i .from, i .below, i .fits)
+
+-- and if it goes, the buffer lies in the page
+pub passed-in : (r : Record) (page : List ℕ) (first : Code) (pa size : ℕ) → Passed r (length page) first pa size → BufferIn (upOf r) page pa size
+unfolding outside tooLong
+passed-in r page first pa size p =
+    let o = neither _ _ (p .within) in
+    record { whole = p .whole; from = ltb-false _ _ (o .0); below = leb-false _ _ (o .1); fits = ltb-false _ _ (p .short) }
 
 -- bytes laid over the page
 pub splice-written : (at : ℕ) (vs page : List ℕ) → at ≤ length page → WrittenAt at vs page (splice at vs page)

@@ -44,7 +44,7 @@ module _ (u : Params) (out : OutsideAs) (pa size : ℕ) where
       unfolding rangeCode tooLong fails
       range-ok k = rw (inside, le-ltb (u .base + 4096 - pa) size k)
 
-neither : (a b : Bool) → either a b ≡ false → (a ≡ false) × (b ≡ false)
+pub neither : (a b : Bool) → either a b ≡ false → (a ≡ false) × (b ≡ false)
 unfolding either
 neither true b h = absurd (true≢false h)
 neither false b h = (refl, h)
