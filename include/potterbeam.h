@@ -502,6 +502,29 @@ void pbeam_undelegate(const uint64_t state[PBEAM_STATE_WORDS], const uint64_t gr
                       size_t table_len, uint64_t address, uint64_t out[PBEAM_OUT_WORDS]);
 
 /*
+ * pbeam_delegate_list: the granules at a list of addresses go from Non-secure to Realm, one by one in the list's order, up to the first
+ *          that is refused. It has no function id: which call of the monitor's brings a list is the platform's.
+ * Takes    what pbeam_delegate takes, with a list of addresses (any number, none too) in place of one.
+ * Answers  out: x0 PBEAM_X0_OK, or the code that pbeam_delegate gives for the address that is refused; x1 the number of granules done,
+ *          also when x0 is a refusal: so x1 is the index of the refused address. x2 0. An empty list is OK with 0, up or not.
+ * Leaves   as x1 single calls would: the granules before the refused address are Realm and stay so; no other byte changes. An address
+ *          that comes twice is refused with PBEAM_X0_BAD_PAS the second time.
+ * Stack    64 bytes
+ * The bytes alone are changed: the change in hardware is the platform's, for the first x1 addresses, on a refusal too.
+ */
+PBEAM_NONNULL(1, 2, 7)
+void pbeam_delegate_list(const uint64_t state[PBEAM_STATE_WORDS], const uint64_t granules[PBEAM_GRANULES_WORDS], uint8_t *table,
+                         size_t table_len, const uint64_t *addresses, size_t addresses_len, uint64_t out[PBEAM_OUT_WORDS]);
+
+/*
+ * pbeam_undelegate_list: the same from Realm to Non-secure, each address as pbeam_undelegate takes it.
+ * Stack    64 bytes
+ */
+PBEAM_NONNULL(1, 2, 7)
+void pbeam_undelegate_list(const uint64_t state[PBEAM_STATE_WORDS], const uint64_t granules[PBEAM_GRANULES_WORDS], uint8_t *table,
+                           size_t table_len, const uint64_t *addresses, size_t addresses_len, uint64_t out[PBEAM_OUT_WORDS]);
+
+/*
  * pbeam_realm_key (0xC40001B2): the realm attestation key.
  * Takes    the boot record, the page, the platform's key (empty when there is none), pa, size and curve.
  * Answers  out: x0 PBEAM_X0_OK with x1 the key's length, or by the first check that fails:

@@ -681,6 +681,24 @@ static inline void pbeam_context_call(pbeam_context_t *context, const pbeam_call
                call->words, out->words, work->words);
 }
 
+/* pbeam_delegate_list, pbeam_undelegate_list: so many addresses at once. On a refusal too, pbeam_registers_x1 of out is how many were
+ * done, and these stay so. */
+PBEAM_NONNULL(1, 4)
+static inline void pbeam_context_delegate_list(pbeam_context_t *context, const uint64_t *addresses, size_t count,
+                                               pbeam_registers_t *out)
+{
+    pbeam_delegate_list(context->record.words, context->granules.words, context->table,
+                        context->table == NULL ? 0 : context->table_count, addresses, addresses == NULL ? 0 : count, out->words);
+}
+
+PBEAM_NONNULL(1, 4)
+static inline void pbeam_context_undelegate_list(pbeam_context_t *context, const uint64_t *addresses, size_t count,
+                                                 pbeam_registers_t *out)
+{
+    pbeam_undelegate_list(context->record.words, context->granules.words, context->table,
+                          context->table == NULL ? 0 : context->table_count, addresses, addresses == NULL ? 0 : count, out->words);
+}
+
 /* pbeam_challenge: the challenge of a call that starts a token session; (0, 0) for any other call. Answers as pbeam_challenge. */
 PBEAM_NONNULL(1, 2, 3)
 static inline uint64_t pbeam_context_challenge(const pbeam_context_t *context, const pbeam_call_t *call, pbeam_place_t *place)

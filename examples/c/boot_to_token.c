@@ -4,7 +4,8 @@
  *   1  EL3 writes a manifest with two banks and a console.
  *   2  EL3 enters the monitor: cold boot on CPU 0. The monitor lists what the manifest shows, and reports with RMM_BOOT_COMPLETE.
  *   3  Warm boot on CPU 1.
- *   4  The monitor delegates a granule, and tries the same one again: a refusal.
+ *   4  The monitor delegates a granule, and tries the same one again: a refusal. EL3 hands over 200 granules of guest memory in one call; a
+ *      second list runs into the granule that is Realm already, and says how many it did before.
  *   5  It draws the platform token, 100 bytes through a buffer of 64. The platform takes its time: AGAIN, and the monitor asks again. In
  *      mid-session the monitor starts anew, is told AGAIN, and goes on: it still gets the rest of the first token. Then it gets the new one.
  *   6  It completes an RMI call of the Non-secure world.
@@ -22,7 +23,8 @@
 
 #define BASE UINT64_C(0x80000000)       /* B: the page's physical address */
 #define MEMORY UINT64_C(0x90000000)     /* the first granule of the granule table */
-#define GRANULES 4
+#define GRANULES 512
+#define GUEST_GRANULES 200
 #define CPUS 3
 #define CPUS_MOST 8                     /* what the monitor is built for */
 #define TOKEN_BYTES 100
@@ -183,6 +185,23 @@ static bool el3_write_manifest(void)
     refusal = pbeam_manifest_write(BASE, PBEAM_EDITION_LAST, &lists, &page);
     printf("EL3: write a manifest of edition %d: %s\n", PBEAM_EDITION_LAST, pbeam_write_text(refusal));
     return refusal == PBEAM_WRITE_PAGE; /* on a board: clean the cache, the monitor may read it with its MMU off */
+}
+
+/* Guest memory goes to Realm, so many granules from one on, in one call. It has no function id of its own: a board gives it one of the
+ * platform's. What was done before a refusal stays done, so x1 says where to go on; the change in hardware is for these granules. */
+static bool el3_hand_over(size_t first, uint64_t *done)
+{
+    uint64_t addresses[GUEST_GRANULES];
+    pbeam_registers_t out;
+    for (size_t i = 0; i < GUEST_GRANULES; i++)
+        addresses[i] = MEMORY + (first + i) * PBEAM_GRANULE_BYTES;
+    el3_lock();
+    pbeam_context_delegate_list(&el3.context, addresses, GUEST_GRANULES, &out);
+    el3_unlock();
+    *done = pbeam_registers_x1(&out);
+    printf("EL3: hand over %d granules from 0x%" PRIx64 ": %s, %" PRIu64 " done\n", GUEST_GRANULES, addresses[0],
+           pbeam_x0_text(pbeam_registers_x0(&out)), *done);
+    return pbeam_registers_code(&out) == E_RMM_OK;
 }
 
 static void monitor_cold_boot(const pbeam_cold_t *x);
@@ -364,9 +383,12 @@ static bool boot(void)
 int main(void)
 {
     const uint64_t granule = MEMORY + 2 * PBEAM_GRANULE_BYTES;
+    uint64_t done;
     if (!boot())
         return 1;
     if (monitor_delegate(granule) != E_RMM_OK || monitor_delegate(granule) != E_RMM_BAD_PAS) /* it is Realm already */
+        return 1;
+    if (!el3_hand_over(300, &done) || el3_hand_over(0, &done) || done != 2) /* granule 2 is Realm already */
         return 1;
     if (!monitor_draw_token(0x41, 0x91) || !monitor_draw_token(0x91, 0))
         return 1;

@@ -193,6 +193,83 @@ fn compare_granules() {
     assert_eq!(ours, theirs);
 }
 
+/// A list by hand: what does not depend on the address is looked at once, and the rest where it lies.
+#[inline(never)]
+fn native_delegate_list(
+    state: &[u64; 4],
+    start: u64,
+    table: &mut [u8],
+    list: &[u64],
+    out: &mut [u64; 3],
+) {
+    *out = [0; 3];
+    if list.is_empty() {
+        return;
+    }
+    if state[0] != 1 {
+        out[0] = -1i64 as u64;
+        return;
+    }
+    for (done, &address) in list.iter().enumerate() {
+        let index = address.wrapping_sub(start) / 4096;
+        let code =
+            if (start | address) % 4096 != 0 || address < start || index >= table.len() as u64 {
+                -2i64
+            } else if table[index as usize] != 0 {
+                -3
+            } else {
+                table[index as usize] = 1;
+                continue;
+            };
+        *out = [code as u64, done as u64, 0];
+        return;
+    }
+    out[1] = list.len() as u64;
+}
+
+/// 200 granules handed over in one call, against a list by hand and against 200 single calls.
+fn compare_lists() {
+    let Up { image, .. } = Up::new();
+    let [start, length] = hidden([0x8_8000_0000, 512]);
+    let list: Vec<u64> = (0..200).map(|i| start + 4096 * (2 * i + 1)).collect();
+    let [mut ours, mut theirs, mut singly] = [(); 3].map(|()| vec![0; length as usize]);
+    compare(
+        "delegate a list of 200",
+        1,
+        side(|| {
+            let mut out = [0; 3];
+            ours.fill(0);
+            Kit::delegate_list(&image, &[start], &mut ours, &list, &mut out);
+            see(out[1]);
+        }),
+        vec![
+            (
+                "in place",
+                side(|| {
+                    let mut out = [0; 3];
+                    theirs.fill(0);
+                    native_delegate_list(&image, start, &mut theirs, &list, &mut out);
+                    see(out[1]);
+                }),
+            ),
+            (
+                "200 single calls",
+                side(|| {
+                    let mut out = [0; 3];
+                    singly.fill(0);
+                    for &address in &list {
+                        Kit::delegate(&image, &[start], &mut singly, address, &mut out);
+                        see(out[0]);
+                    }
+                }),
+            ),
+        ],
+    );
+    assert_eq!(ours, theirs);
+    assert_eq!(ours, singly);
+    assert_eq!(ours.iter().filter(|&&byte| byte == 1).count(), 200);
+}
+
 // ---- Token ----
 
 #[inline(never)]
@@ -920,6 +997,7 @@ fn main() {
     compare_cold_boot();
     compare_calls();
     compare_granules();
+    compare_lists();
     compare_token(64);
     compare_token(4096);
     compare_queue(0);

@@ -66,6 +66,20 @@ pub trait Exports {
         at: u64,
         out: &mut Registers,
     );
+    fn delegate_list(
+        state: &RecordImage,
+        granules: &GranulesImage,
+        table: &mut [u8],
+        addresses: &[u64],
+        out: &mut Registers,
+    );
+    fn undelegate_list(
+        state: &RecordImage,
+        granules: &GranulesImage,
+        table: &mut [u8],
+        addresses: &[u64],
+        out: &mut Registers,
+    );
     /// x: pa, size, curve.
     fn realm_key(
         state: &RecordImage,

@@ -96,6 +96,24 @@ pub mod ffi {
             address: u64,
             out: *mut Registers,
         );
+        pub fn pbeam_delegate_list(
+            state: *const RecordImage,
+            granules: *const GranulesImage,
+            table: *mut u8,
+            table_len: usize,
+            addresses: *const u64,
+            addresses_len: usize,
+            out: *mut Registers,
+        );
+        pub fn pbeam_undelegate_list(
+            state: *const RecordImage,
+            granules: *const GranulesImage,
+            table: *mut u8,
+            table_len: usize,
+            addresses: *const u64,
+            addresses_len: usize,
+            out: *mut Registers,
+        );
         pub fn pbeam_realm_key(
             state: *const RecordImage,
             page: *mut u8,
@@ -319,6 +337,36 @@ impl Exports for Kit {
     ) {
         let (table, table_len) = lend_mut(table);
         unsafe { ffi::pbeam_undelegate(state, granules, table, table_len, at, out) }
+    }
+
+    #[inline]
+    fn delegate_list(
+        state: &RecordImage,
+        granules: &GranulesImage,
+        table: &mut [u8],
+        addresses: &[u64],
+        out: &mut Registers,
+    ) {
+        let (table, table_len) = lend_mut(table);
+        let (addresses, length) = lend(addresses);
+        unsafe {
+            ffi::pbeam_delegate_list(state, granules, table, table_len, addresses, length, out)
+        }
+    }
+
+    #[inline]
+    fn undelegate_list(
+        state: &RecordImage,
+        granules: &GranulesImage,
+        table: &mut [u8],
+        addresses: &[u64],
+        out: &mut Registers,
+    ) {
+        let (table, table_len) = lend_mut(table);
+        let (addresses, length) = lend(addresses);
+        unsafe {
+            ffi::pbeam_undelegate_list(state, granules, table, table_len, addresses, length, out)
+        }
     }
 
     #[inline]

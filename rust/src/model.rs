@@ -12,7 +12,7 @@ use crate::images::{
 use crate::reference::boot::{boot_code, BootError, Record};
 use crate::reference::codes::{Answer, Outcome};
 use crate::reference::features::{features, forward, key_update};
-use crate::reference::granules::{delegate, undelegate};
+use crate::reference::granules::{delegate, delegate_list, undelegate, undelegate_list};
 use crate::reference::key::realm_key;
 use crate::reference::layout::{accepted_minor, word_at, ENTRY_WORDS};
 use crate::reference::queue::Queue;
@@ -105,6 +105,28 @@ impl Exports for Model {
         out: &mut Registers,
     ) {
         *out = answered(undelegate(record_of(state), granules[0], table, at));
+    }
+
+    fn delegate_list(
+        state: &RecordImage,
+        granules: &GranulesImage,
+        table: &mut [u8],
+        addresses: &[u64],
+        out: &mut Registers,
+    ) {
+        let listed = delegate_list(record_of(state), granules[0], table, addresses);
+        *out = registers(Answer::from(listed));
+    }
+
+    fn undelegate_list(
+        state: &RecordImage,
+        granules: &GranulesImage,
+        table: &mut [u8],
+        addresses: &[u64],
+        out: &mut Registers,
+    ) {
+        let listed = undelegate_list(record_of(state), granules[0], table, addresses);
+        *out = registers(Answer::from(listed));
     }
 
     fn realm_key(

@@ -264,6 +264,7 @@ fn kit_measured() -> Header {
         direct(&mut header, what, &board, &x, x0);
         dispatched(&mut header, what, &board, &x, x0);
     }
+    granule_lists(&mut header);
     challenges(&mut header);
     signer(&mut header);
     header.is_measured();
@@ -799,6 +800,35 @@ fn challenges(header: &mut Header) {
         header.within(("pbeam_challenge", what), &[1; 2], place, |place| {
             let _ = Kit::challenge(&state, &page, x, place);
             *place
+        });
+    }
+}
+
+fn granule_lists(header: &mut Header) {
+    let fresh = [0; 4];
+    let up = Board::new(0, 0).state;
+    for (what, state, count, spoilt, x0) in [
+        ("empty", up, 0, 0, OK),
+        ("200 granules", up, 200, 256, OK),
+        ("the last refused", up, 200, 199, BAD_PAS),
+        ("past the table", up, 257, 256, BAD_ADDR),
+        ("record", fresh, 200, 256, UNK),
+    ] {
+        let list: Vec<u64> = (0..count).map(|i| MEMORY + 4096 * i).collect();
+        let lent = |byte| {
+            let mut table = vec![byte; 256];
+            table.iter_mut().skip(spoilt).take(1).for_each(|b| *b = 2);
+            (table, [0; 3])
+        };
+        let name = "pbeam_delegate_list";
+        header.within((name, what), &lent(0), x0, |(table, out)| {
+            Kit::delegate_list(&state, &[MEMORY], table, &list, out);
+            out[0] as i64
+        });
+        let name = "pbeam_undelegate_list";
+        header.within((name, what), &lent(1), x0, |(table, out)| {
+            Kit::undelegate_list(&state, &[MEMORY], table, &list, out);
+            out[0] as i64
         });
     }
 }

@@ -5,7 +5,7 @@
 use potterbeam_tests::reference::boot::{boot_code, Kept, Record};
 use potterbeam_tests::reference::codes::{Answer, Outcome};
 use potterbeam_tests::reference::features::{features, forward, key_update};
-use potterbeam_tests::reference::granules::{delegate, undelegate};
+use potterbeam_tests::reference::granules::{delegate, delegate_list, undelegate, undelegate_list};
 use potterbeam_tests::reference::key::realm_key;
 use potterbeam_tests::reference::layout::word_at;
 use potterbeam_tests::reference::listing::{list, list_input};
@@ -204,6 +204,32 @@ fn print_boots(out: &mut String, input: &[u8]) {
 #[test]
 fn boot_vectors() {
     compare("boot_vectors", 246, print_boots);
+}
+
+// ---- Lists of granules ----
+
+fn print_list(out: &mut String, input: &[u8]) {
+    let record = record_at(input);
+    let [direction, start] = [32, 40].map(|at| word_at(input, at));
+    let [in_table, length] = [48, 56].map(|at| size_at(input, at));
+    let mut rest = &input[64..];
+    let mut table = take(&mut rest, in_table).to_vec();
+    let list: Vec<u64> = (0..length)
+        .map(|_| word_at(take(&mut rest, 8), 0))
+        .collect();
+    let listed = match direction {
+        0 => delegate_list(record, start, &mut table, &list),
+        _ => undelegate_list(record, start, &mut table, &list),
+    };
+    let Answer { x0, x1, x2 } = Answer::from(listed);
+    writeln!(out, "registers {x0:016x} {x1:016x} {x2:016x}").unwrap();
+    let differs = table != take(&mut rest, in_table);
+    writeln!(out, "table {}as expected", not_if(differs)).unwrap();
+}
+
+#[test]
+fn granule_vectors() {
+    compare("granule_vectors", 166, print_list);
 }
 
 // ---- Single commands ----

@@ -447,6 +447,27 @@ static void check_granule_record(const uint64_t state[ROOM])
     SAME(PBEAM_GRANULES_WORDS, PBEAM_GRANULES_START + 1);
 }
 
+/* A list: its addresses are whole words, x1 counts those done, and nothing past the three registers is written. */
+static void check_granule_lists(const uint64_t state[ROOM])
+{
+    const uint64_t list[3] = {MEMORY + PBEAM_GRANULE_BYTES, MEMORY, MEMORY + 2 * PBEAM_GRANULE_BYTES};
+    uint64_t out[ROOM];
+    uint8_t table[3] = {PBEAM_GRANULE_NON_SECURE, PBEAM_GRANULE_NON_SECURE, PBEAM_GRANULE_REALM};
+    guard(out);
+    pbeam_delegate_list(state, granules, table, 3, list, 3, out);
+    SAME(PBEAM_OUT_WORDS, written(out));
+    SAME(out[PBEAM_OUT_X0], PBEAM_X0_BAD_PAS);
+    SAME(out[PBEAM_OUT_X1], 2);
+    SAME(table[0] + table[1] + table[2], 3 * PBEAM_GRANULE_REALM);
+    pbeam_undelegate_list(state, granules, table, 3, list, 3, out);
+    SAME(out[PBEAM_OUT_X0], PBEAM_X0_OK);
+    SAME(out[PBEAM_OUT_X1], 3);
+    SAME(table[0] + table[1] + table[2], PBEAM_GRANULE_NON_SECURE);
+    pbeam_delegate_list(state, granules, table, 3, NULL, 0, out);
+    SAME(out[PBEAM_OUT_X0], PBEAM_X0_OK);
+    SAME(out[PBEAM_OUT_X1], 0);
+}
+
 static void check_granules(void)
 {
     uint64_t state[ROOM];
@@ -461,6 +482,7 @@ static void check_granules(void)
         SAME(delegate(state, table, i, 1), PBEAM_X0_BAD_PAS);
     }
     check_granule_record(state);
+    check_granule_lists(state);
     /* Root and Secure are alike to the library: 01 gives them these numbers. */
     SAME(PBEAM_GRANULE_ROOT, 2);
     SAME(PBEAM_GRANULE_SECURE, 3);

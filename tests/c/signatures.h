@@ -21,6 +21,8 @@ struct signatures {
     bool (*is_later)(uint64_t, uint64_t);
     void (*delegate)(words, words, uint8_t *, size_t, uint64_t, uint64_t *);
     void (*undelegate)(words, words, uint8_t *, size_t, uint64_t, uint64_t *);
+    void (*delegate_list)(words, words, uint8_t *, size_t, words, size_t, uint64_t *);
+    void (*undelegate_list)(words, words, uint8_t *, size_t, words, size_t, uint64_t *);
     void (*realm_key)(words, uint8_t *, size_t, bytes, size_t, uint64_t, uint64_t, uint64_t, uint64_t *);
     void (*platform_token)(words, uint64_t *, uint8_t *, size_t, bytes, size_t, uint64_t, uint64_t, uint64_t, uint64_t, uint64_t *);
     uint64_t (*challenge)(words, bytes, size_t, uint64_t, uint64_t, uint64_t, uint64_t *);
@@ -39,7 +41,8 @@ struct signatures {
     {                                                                                                                          \
         pbeam_read, pbeam_array, pbeam_array_of, pbeam_count, pbeam_word, pbeam_write, pbeam_cold_boot,                        \
             pbeam_warm_boot, pbeam_close, pbeam_version_accepted, pbeam_agreed_minor, pbeam_is_later, pbeam_delegate,          \
-            pbeam_undelegate, pbeam_realm_key, pbeam_platform_token, pbeam_challenge, pbeam_features,                          \
+            pbeam_undelegate, pbeam_delegate_list, pbeam_undelegate_list, pbeam_realm_key, pbeam_platform_token,               \
+            pbeam_challenge, pbeam_features,                                                                                   \
             pbeam_token_signing, pbeam_key_update, pbeam_forward, pbeam_sign, pbeam_oldest, pbeam_responses,                   \
             pbeam_call                                                                                                         \
     }

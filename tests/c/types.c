@@ -397,6 +397,30 @@ static void check_empty_context(void)
     SAME(called(pbeam_call_realm_key(BASE, 8)), E_RMM_UNK); /* no key */
 }
 
+/* A list counts what was done before its refusal, and needs a table. */
+static void check_lists(void)
+{
+    const uint64_t list[3] = {MEMORY, MEMORY + 4096, MEMORY};
+    uint8_t *table = context.table;
+    pbeam_context_delegate_list(&context, list, 3, &out);
+    SAME(pbeam_registers_code(&out), E_RMM_BAD_PAS);
+    SAME(pbeam_registers_x1(&out), 2);
+    SAME(pbeam_get16(table), 0x0101);
+    pbeam_context_undelegate_list(&context, list, 2, &out);
+    SAME(pbeam_registers_code(&out), E_RMM_OK);
+    SAME(pbeam_registers_x1(&out), 2);
+    SAME(pbeam_get16(table), 0);
+    pbeam_context_delegate_list(&context, NULL, 7, &out); /* no list: an empty one */
+    SAME(pbeam_registers_code(&out), E_RMM_OK);
+    SAME(pbeam_registers_x1(&out), 0);
+    context.table = NULL;
+    pbeam_context_delegate_list(&context, list, 2, &out);
+    SAME(pbeam_registers_code(&out), E_RMM_BAD_ADDR);
+    pbeam_context_undelegate_list(&context, list, 2, &out);
+    SAME(pbeam_registers_code(&out), E_RMM_BAD_ADDR);
+    context.table = table;
+}
+
 static void check_commands(void)
 {
     set_up();
@@ -404,6 +428,7 @@ static void check_commands(void)
     SAME(pbeam_get16(context.table), 0x0100);
     SAME(called(pbeam_call_delegate(MEMORY + 3 * 4096)), E_RMM_BAD_ADDR);
     SAME(called(pbeam_call_undelegate(MEMORY + 4096)), E_RMM_OK);
+    check_lists();
     SAME(called(pbeam_call_realm_key(BASE + 64, 8)), E_RMM_OK);
     SAME(pbeam_registers_x1(&out), 3);
     SAME(page.bytes[64], 0x11);

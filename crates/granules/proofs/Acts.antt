@@ -1,6 +1,6 @@
 -- When delegation is OK, and what an OK did. Assumes nothing.
 use Prim.Native.Nat.{ℕ, _+_, _*_, _%_, _≤_, _<_}
-use mathlib.Core.Path.{_≡_, refl, sym, ap}
+use mathlib.Core.Path.{_≡_, refl, sym, ap, _∙_}
 use mathlib.Core.Bool.{true, false≢true}
 use mathlib.Core.List.{List}
 use native.Mathlib.Omega.{arith}
@@ -10,7 +10,7 @@ use borrow.Author.Tests.{leb-true, eqb-true, eq-eqb, le-leb, lt-ltb}
 use Rattle.words.proofs.Tests.{both-l, both-r, both-of}
 use Rattle.boot.specs.declared.Params.{Params}
 use Rattle.boot.specs.declared.Record.{Record}
-use Rattle.codes.specs.Codes.{isUp, isOk, whenUp, answerOf}
+use Rattle.codes.specs.Codes.{isUp, upOf, isOk, whenUp, answerOf}
 use Rattle.codes.specs.declared.Code.the-variants.{Ok}
 use Rattle.codes.proofs.Gates.{unless-ok}
 use Rattle.granules.specs.Granules.{granuleOf, falls, granuleAt, GranuleTable, fromByte, toByte, granuleCode, moveCode, granuleSet, moved, Moved, movedBy, moveOf, movedTo}
@@ -19,7 +19,7 @@ use Rattle.granules.specs.declared.Granules.{Granules}
 use Rattle.granules.specs.declared.Granule.{Granule}
 use Rattle.granules.specs.declared.Granule.the-variants.{Nothing, At}
 use Rattle.granules.specs.declared.Direction.{Direction}
-use Rattle.granules.proofs.Moving.{granule-at, granule-in, move-ok}
+use Rattle.granules.proofs.Moving.{granule-at, granule-in, move-ok, move-up}
 
 -- ---- granule i of a table of n: its address is G + 4,096 i
 module _ (g : Granules) (n i : ℕ) where
@@ -53,7 +53,7 @@ module _ (g : Granules) (n i : ℕ) where
 pub move-passes : (s : Record) (g : Granules) (d : Direction) (t : GranuleTable) (addr i : ℕ) → isUp s ≡ true → granuleAt g (length (t .bytes)) addr ≡ At i → getD (t .bytes) i 0 ≡ fromByte d →
     moveOf s g d t addr .answer ≡ answerOf Ok 0 0
 unfolding movedTo
-move-passes s g d t addr i u e b = ap (λ (m : Moved). m .answer) (sym (move-ok s g d (t .bytes) addr u i e b (toByte d) refl))
+move-passes s g d t addr i u e b = ap (λ (m : Moved). m .answer) (sym (move-ok (upOf s) g d (t .bytes) addr i e b (toByte d) refl ∙ move-up s g d t addr u))
 
 acted : (u : Params) (g : Granules) (d : Direction) (t : GranuleTable) (addr : ℕ) (k : Granule) → granuleAt g (length (t .bytes)) addr ≡ k → granuleCode u d t addr k ≡ Ok → MoveActed g d t (granuleSet d t k) addr
 unfolding granuleCode granuleSet

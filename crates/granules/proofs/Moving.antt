@@ -4,13 +4,15 @@ use mathlib.Core.Path.{_≡_, refl}
 use mathlib.Core.Bool.{Bool, true, false, cond}
 use mathlib.Core.List.{List}
 use native.Mathlib.Omega.{arith}
-use lib.ListN.{length, getD, set}
+use lib.ListN.{length, getD, set, length-set}
 use borrow.Author.Tests.{ltb-true, eq-eqb, ne-eqb}
 use Rattle.words.proofs.Tests.{both-r}
+use Rattle.boot.specs.declared.Params.{Params}
 use Rattle.boot.specs.declared.Record.{Record}
-use Rattle.codes.specs.Codes.{isUp, unless, fails, whenUp, isOk, answerOf}
+use Rattle.codes.specs.Codes.{isUp, unless, fails, upOf, whenUp, isOk, answerOf}
 use Rattle.codes.specs.declared.Code.the-variants.{Ok, Unk, BadAddr, BadPas}
-use Rattle.granules.specs.Granules.{granuleOf, falls, granuleAt, GranuleTable, fromByte, toByte, granuleCode, moveCode, granuleSet, moved, movedBy, moveOf, movedTo}
+use Rattle.codes.proofs.Gates.{if-ok-by}
+use Rattle.granules.specs.Granules.{granuleOf, falls, granuleAt, GranuleTable, fromByte, toByte, granuleCode, moveCode, granuleSet, moved, movedBy, moveAt, moveOf, movedTo}
 use Rattle.granules.specs.declared.Granules.{Granules}
 use Rattle.granules.specs.declared.Granule.{Granule}
 use Rattle.granules.specs.declared.Granule.the-variants.{Nothing, At}
@@ -34,24 +36,40 @@ module _ (g : Granules) (n addr : ℕ) where
   unfolding falls
   granule-in i h = let p = granule-at i h in rw (p .1) (ltb-true _ _ (both-r _ _ (both-r _ _ (both-r _ _ (p .0)))))
 
-module _ (s : Record) (g : Granules) (d : Direction) (t : List ℕ) (addr : ℕ) where
-  pub move-down : isUp s ≡ false → movedTo (answerOf Unk 0 0) t ≡ moveOf s g d (record { bytes = t }) addr
-  unfolding movedTo moveOf movedBy whenUp unless fails
+-- ---- a record that is up
+module _ (u : Params) (g : Granules) (d : Direction) (t : List ℕ) (addr : ℕ) where
+  pub move-addr : granuleAt g (length t) addr ≡ Nothing → movedTo (answerOf BadAddr 0 0) t ≡ moveAt u g d (record { bytes = t }) addr
+  unfolding movedTo moveAt movedBy moveCode granuleCode moved granuleSet
+  move-addr e = rw e
+
+  module _ (i : ℕ) (e : granuleAt g (length t) addr ≡ At i) where
+    pub move-pas : (getD t i 0 ≡ fromByte d → ⊥) → movedTo (answerOf BadPas 0 0) t ≡ moveAt u g d (record { bytes = t }) addr
+    unfolding movedTo moveAt movedBy moveCode granuleCode moved granuleSet unless fails
+    move-pas n = rw (e, ne-eqb (getD t i 0) (fromByte d) n)
+
+    pub move-ok : getD t i 0 ≡ fromByte d → (v : ℕ) → v ≡ toByte d → movedTo (answerOf Ok 0 0) (set t i v) ≡ moveAt u g d (record { bytes = t }) addr
+    unfolding movedTo moveAt movedBy moveCode granuleCode moved granuleSet unless fails
+    move-ok b v y = rw (e, eq-eqb (getD t i 0) (fromByte d) b, y)
+
+-- no call changes how many granules there are
+set-length : (d : Direction) (t : GranuleTable) (k : Granule) → length (granuleSet d t k .bytes) ≡ length (t .bytes)
+unfolding granuleSet
+set-length d t Nothing = refl
+set-length d t (At i) = length-set (t .bytes) i _
+
+pub move-length : (u : Params) (g : Granules) (d : Direction) (t : GranuleTable) (addr : ℕ) → length (moveAt u g d t addr .table .bytes) ≡ length (t .bytes)
+unfolding moveAt movedBy moved
+move-length u g d t addr = if-ok-by (λ (x : GranuleTable). length (x .bytes) ≡ length (t .bytes)) (moveCode u g d t addr) _ t (λ e. set-length d t _) (λ e. refl)
+
+-- ---- any record
+module _ (s : Record) (g : Granules) (d : Direction) (t : GranuleTable) (addr : ℕ) where
+  pub move-down : isUp s ≡ false → movedBy Unk t t ≡ moveOf s g d t addr
+  unfolding moveOf movedBy whenUp unless fails
   move-down h = rw h
 
-  module _ (h : isUp s ≡ true) where
-    pub move-addr : granuleAt g (length t) addr ≡ Nothing → movedTo (answerOf BadAddr 0 0) t ≡ moveOf s g d (record { bytes = t }) addr
-    unfolding movedTo moveOf movedBy moveCode granuleCode moved granuleSet whenUp unless fails
-    move-addr e = rw (h, e)
-
-    module _ (i : ℕ) (e : granuleAt g (length t) addr ≡ At i) where
-      pub move-pas : (getD t i 0 ≡ fromByte d → ⊥) → movedTo (answerOf BadPas 0 0) t ≡ moveOf s g d (record { bytes = t }) addr
-      unfolding movedTo moveOf movedBy moveCode granuleCode moved granuleSet whenUp unless fails
-      move-pas n = rw (h, e, ne-eqb (getD t i 0) (fromByte d) n)
-
-      pub move-ok : getD t i 0 ≡ fromByte d → (v : ℕ) → v ≡ toByte d → movedTo (answerOf Ok 0 0) (set t i v) ≡ moveOf s g d (record { bytes = t }) addr
-      unfolding movedTo moveOf movedBy moveCode granuleCode moved granuleSet whenUp unless fails
-      move-ok b v y = rw (h, e, eq-eqb (getD t i 0) (fromByte d) b, y)
+  pub move-up : isUp s ≡ true → moveAt (upOf s) g d t addr ≡ moveOf s g d t addr
+  unfolding moveOf moveAt whenUp unless fails
+  move-up h = rw h
 
 -- a refused move leaves the table as it was, with zeros in the other registers
 pub move-refused : (s : Record) (g : Granules) (d : Direction) (t : GranuleTable) (addr : ℕ) → isOk (moveOf s g d t addr .answer .code) ≡ false →

@@ -70,6 +70,10 @@ pub record Moved : Type 0 where
 unfoldable pub movedBy : Code → GranuleTable → GranuleTable → Moved
 movedBy k new old = record { answer = answerOf k 0 0; table = ifOk k new old }
 
+-- with a boot record that is up and keeps u
+unfoldable pub moveAt : Params → Granules → Direction → GranuleTable → ℕ → Moved
+moveAt u g d t addr = movedBy (moveCode u g d t addr) (moved g d t addr) t
+
 unfoldable pub moveOf : Record → Granules → Direction → GranuleTable → ℕ → Moved
 moveOf s g d t addr = movedBy (whenUp s (moveCode (upOf s) g d t addr)) (moved g d t addr) t
 

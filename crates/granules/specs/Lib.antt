@@ -1,2 +1,3 @@
 pub mod Granules
 pub mod Acts
+pub mod Lists

@@ -1,9 +1,12 @@
 // Delegation: the granule table is one byte a granule from address G: 0 Non-secure, 1 Realm, 2 Root, 3 Secure.
+use boot::Params;
 use boot::Record;
 use codes::Answer;
 use codes::Code;
 ghost use mathlib.Core.Path.{_≡_};
-ghost use Rattle.granules.specs.Granules.{granuleAt, fromByte, toByte, moveOf, delegateOf, undelegateOf, movedTo};
+ghost use Rattle.codes.specs.Codes.{answerOf};
+ghost use Rattle.granules.specs.Granules.{granuleAt, fromByte, toByte, moveAt, moveOf, delegateOf, undelegateOf, movedTo};
+ghost use Rattle.granules.specs.Lists.{moveListOf, delegateListOf, undelegateListOf};
 
 // The granule record: the address of the table's first granule.
 pub struct Granules {
@@ -62,6 +65,30 @@ fn to_byte(direction: Direction) -> u8
     }
 }
 
+// Moves the granule at an address, with a boot record that is up and keeps these parameters.
+fn shift_at(
+    params: Params,
+    granules: Granules,
+    direction: Direction,
+    table: &mut [u8],
+    address: u64,
+) -> Code
+    ensures { λ r. ⌜ movedTo (answerOf r 0 0) (now (table .exit)) ≡ moveAt params granules direction (record { bytes = now (table .entry) }) address ⌝ }
+{
+    let granule = granule_of(granules, table.len(), address);
+    let Granule::At(at) = granule else {
+        return Code::BadAddr;
+    };
+    let from = from_byte(direction);
+    let to = to_byte(direction);
+    let held = table[at];
+    if held != from {
+        return Code::BadPas;
+    }
+    table[at] = to;
+    Code::Ok
+}
+
 // Moves the granule at an address.
 fn shift(
     state: Record,
@@ -75,18 +102,38 @@ fn shift(
     if !codes::is_up(state) {
         return codes::answered(Code::Unk, 0, 0);
     }
-    let granule = granule_of(granules, table.len(), address);
-    let Granule::At(at) = granule else {
-        return codes::answered(Code::BadAddr, 0, 0);
-    };
-    let from = from_byte(direction);
-    let to = to_byte(direction);
-    let held = table[at];
-    if held != from {
-        return codes::answered(Code::BadPas, 0, 0);
+    let params = codes::up_of(state);
+    let code = shift_at(params, granules, direction, table, address);
+    codes::answered(code, 0, 0)
+}
+
+// Moves the granules at a list of addresses, in its order, up to the first that is refused; x1 is how many were moved. Whether the
+// record is up is looked at once. An empty list is OK, up or not.
+fn shift_list(
+    state: Record,
+    granules: Granules,
+    direction: Direction,
+    table: &mut [u8],
+    addresses: &[u64],
+) -> Answer
+    ensures { λ r. ⌜ movedTo r (now (table .exit)) ≡ moveListOf state granules direction (record { bytes = now (table .entry) }) (now (addresses .entry)) ⌝ }
+{
+    let n = addresses.len();
+    if n == 0 {
+        return codes::answered(Code::Ok, 0, 0);
     }
-    table[at] = to;
-    codes::answered(Code::Ok, 0, 0)
+    let up = codes::is_up(state);
+    if !up {
+        return codes::answered(Code::Unk, 0, 0);
+    }
+    let params = codes::up_of(state);
+    for i in 0..n {
+        let code = shift_at(params, granules, direction, table, addresses[i]);
+        if !codes::is_ok(code) {
+            return codes::answered(code, i as u64, 0);
+        }
+    }
+    codes::answered(Code::Ok, n as u64, 0)
 }
 
 // 0xC40001B0: the granule at an address becomes Realm, if it is Non-secure.
@@ -101,4 +148,28 @@ pub fn undelegate(state: Record, granules: Granules, table: &mut [u8], address: 
     ensures { λ r. ⌜ movedTo r (now (table .exit)) ≡ undelegateOf state granules (record { bytes = now (table .entry) }) address ⌝ }
 {
     shift(state, granules, Direction::Undelegate, table, address)
+}
+
+// The granules at a list of addresses become Realm, one by one; x1 is how many did.
+pub fn delegate_list(
+    state: Record,
+    granules: Granules,
+    table: &mut [u8],
+    addresses: &[u64],
+) -> Answer
+    ensures { λ r. ⌜ movedTo r (now (table .exit)) ≡ delegateListOf state granules (record { bytes = now (table .entry) }) (now (addresses .entry)) ⌝ }
+{
+    shift_list(state, granules, Direction::Delegate, table, addresses)
+}
+
+// The granules at a list of addresses become Non-secure, one by one; x1 is how many did.
+pub fn undelegate_list(
+    state: Record,
+    granules: Granules,
+    table: &mut [u8],
+    addresses: &[u64],
+) -> Answer
+    ensures { λ r. ⌜ movedTo r (now (table .exit)) ≡ undelegateListOf state granules (record { bytes = now (table .entry) }) (now (addresses .entry)) ⌝ }
+{
+    shift_list(state, granules, Direction::Undelegate, table, addresses)
 }

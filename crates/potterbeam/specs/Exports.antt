@@ -8,6 +8,7 @@ use Rattle.codes.specs.declared.Code.{Code}
 use Rattle.lists.specs.Description.{descriptionOf}
 use Rattle.writer.specs.Write.{Made, writeOf}
 use Rattle.granules.specs.Granules.{Moved, moveOf}
+use Rattle.granules.specs.Lists.{moveListOf}
 use Rattle.granules.specs.declared.Direction.{Direction}
 use Rattle.token.specs.Token.{TokenStep, tokenOf}
 use Rattle.token.specs.declared.Session.{Session}
@@ -40,6 +41,10 @@ moveLeft m = record { out = registerWords (m .answer); table = m .table .bytes }
 
 unfoldable pub moveIn : Direction → List ℕ → List ℕ → List ℕ → ℕ → MoveLeft
 moveIn d state granules table address = moveLeft (moveOf (recordOf state) (granulesOf granules) d (record { bytes = table }) address)
+
+-- over a list of addresses
+unfoldable pub moveListIn : Direction → List ℕ → List ℕ → List ℕ → List ℕ → MoveLeft
+moveListIn d state granules table addresses = moveLeft (moveListOf (recordOf state) (granulesOf granules) d (record { bytes = table }) addresses)
 
 -- ---- the platform token: the result registers, the page and the session's image
 pub record TokenLeft : Type 0 where

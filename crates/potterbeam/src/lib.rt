@@ -19,7 +19,7 @@ ghost use Rattle.token.specs.Token.{bufferCode, challengeSpan};
 ghost use Rattle.features.specs.Features.{featuresOf, updateOf, forwardOf};
 ghost use Rattle.images.specs.Image.{recordOf, recordWords, registerWords, workWords, viewOf, answerWords, madeNumber, spanWords};
 ghost use Rattle.queue_image.specs.Image.{listsIn, oldestWords};
-ghost use Rattle.potterbeam.specs.Exports.{writeIn, MoveLeft, moveIn, TokenLeft, tokenIn, SigningLeft, signingIn, SignLeft, signIn, PlainLeft, plainIn, CallLeft, callLent, callIn};
+ghost use Rattle.potterbeam.specs.Exports.{writeIn, MoveLeft, moveIn, moveListIn, TokenLeft, tokenIn, SigningLeft, signingIn, SignLeft, signIn, PlainLeft, plainIn, CallLeft, callLent, callIn};
 
 // ---- Manifest ----
 
@@ -210,6 +210,46 @@ pub extern "C" fn pbeam_undelegate(
         images::granules_of(granules),
         table,
         address,
+    ));
+}
+
+// The granules at a list of addresses become Realm, one by one up to the first that is refused; x1 is how many did.
+#[no_mangle]
+pub extern "C" fn pbeam_delegate_list(
+    state: &[u64; 4],
+    granules: &[u64; 1],
+    table: &mut [u8],
+    addresses: &[u64],
+    out: &mut [u64; 3],
+)
+    ensures { λ _. ⌜ _≡_ {A = MoveLeft} (record { out = now (out .exit); table = now (table .exit) })
+        (moveListIn Direction.Delegate (now (state .entry)) (now (granules .entry)) (now (table .entry)) (now (addresses .entry))) ⌝ }
+{
+    *out = images::registers(granules::delegate_list(
+        images::record_of(state),
+        images::granules_of(granules),
+        table,
+        addresses,
+    ));
+}
+
+// The granules at a list of addresses become Non-secure, one by one up to the first that is refused; x1 is how many did.
+#[no_mangle]
+pub extern "C" fn pbeam_undelegate_list(
+    state: &[u64; 4],
+    granules: &[u64; 1],
+    table: &mut [u8],
+    addresses: &[u64],
+    out: &mut [u64; 3],
+)
+    ensures { λ _. ⌜ _≡_ {A = MoveLeft} (record { out = now (out .exit); table = now (table .exit) })
+        (moveListIn Direction.Undelegate (now (state .entry)) (now (granules .entry)) (now (table .entry)) (now (addresses .entry))) ⌝ }
+{
+    *out = images::registers(granules::undelegate_list(
+        images::record_of(state),
+        images::granules_of(granules),
+        table,
+        addresses,
     ));
 }
 

@@ -1,4 +1,5 @@
 pub mod Plain
+pub mod Lists
 pub mod Refused
 pub mod Sessions
 pub mod Order

@@ -23,7 +23,7 @@ use Rattle.signing.specs.declared.Opcode.{Opcode}
 use Rattle.signing.proofs.Signings.{signing-by}
 use Rattle.runtime.specs.declared.Kind.{Kind}
 use Rattle.runtime.specs.declared.Kind.the-variants.{ForwardError, Delegate, Undelegate, RealmKey, PlatformToken, Features, TokenSigning, KeyUpdate, Unlisted}
-use Rattle.runtime.specs.Step.{World, Call, Command, call, sign, kindOf, afterMove, afterKey, afterToken, afterSigning, afterUpdate, afterSign, callBy, callOf, stepOf, replyCode}
+use Rattle.runtime.specs.Step.{World, Call, Command, call, sign, list, kindOf, afterMove, afterKey, afterToken, afterSigning, afterUpdate, afterSign, callBy, callOf, stepOf, replyCode}
 use Rattle.runtime.specs.Run.{nextOf, accepted, worldAfter, gathered, ofSigning, ofPush, ofPull, pushes, pulls, signs, makes, asks, gives, names}
 
 none : {A : Type 0} (b : Bool) (l : List A) → l ++ cond b [] [] ≡ l
@@ -119,15 +119,17 @@ sign-responses q Again came n e = append-nil (q .responses)
 -- ---- one command
 module _ (g : Granules) (w : World) where
   step-requests : (c : Command) → w .queue .requests ++ pushes g w c ≡ signs g w c ++ nextOf g w c .queue .requests
-  unfolding pushes signs stepOf callOf afterSign signOf signed answerOf replyCode
+  unfolding pushes signs stepOf callOf afterMove afterSign signOf signed answerOf replyCode
   step-requests (call c) = call-requests g w c (kindOf (c .id))
   step-requests (sign s) = sign-requests (w .queue) s (signCode (w .queue) s) (signed (w .queue) s) refl
+  step-requests (list r d l) = append-nil (w .queue .requests)
 
   step-responses : (c : Command) → w .queue .responses ++ makes g w c ≡ pulls g w c ++ nextOf g w c .queue .responses
-  unfolding makes pulls stepOf callOf afterSign signOf signed answerOf replyCode
+  unfolding makes pulls stepOf callOf afterMove afterSign signOf signed answerOf replyCode
   step-responses (call c) = append-nil (w .queue .responses) ∙ call-responses g w c (kindOf (c .id))
   step-responses (sign s) =
       sign-responses (w .queue) (signCode (w .queue) s) (map (λ (x : Request). signedBy x s) (take 1 (w .queue .requests))) (signed (w .queue) s) (λ e. ap (λ l. w .queue .responses ++ l) (sym (sign-some (w .queue) s e)))
+  step-responses (list r d l) = append-nil (w .queue .responses)
 
 -- ---- any sequence
 -- what waits at first and what came in, in order, is what went out and what waits at last
@@ -161,6 +163,7 @@ made-names s false l = refl
 step-names : (g : Granules) (w : World) (c : Command) → map gives (makes g w c) ≡ map asks (signs g w c)
 unfolding makes signs
 step-names g w (call c) = refl
+step-names g w (list r d l) = refl
 step-names g w (sign s) = made-names s (accepted g w (sign s)) (w .queue .requests)
 
 all-names : (g : Granules) (w : World) (cs : List Command) → map gives (gathered g (makes g) w cs) ≡ map asks (gathered g (signs g) w cs)

@@ -1,6 +1,7 @@
 -- Demand 1: a refused command changes nothing, and returns zeros. Assumes nothing.
 use mathlib.Core.Path.{_≡_, refl, sym, ap}
 use mathlib.Core.Bool.{false, true≢false}
+use lib.ListN.{length}
 use Rattle.codes.specs.Codes.{isOk, answerOf}
 use Rattle.codes.specs.declared.Answer.{Answer}
 use Rattle.codes.specs.declared.Work.the-variants.{Nothing}
@@ -21,9 +22,11 @@ use Rattle.signing.proofs.Signings.{signing-refused}
 use Rattle.runtime.specs.declared.Kind.{Kind}
 use Rattle.runtime.specs.declared.Kind.the-variants.{ForwardError, Delegate, Undelegate, RealmKey, PlatformToken, Features, TokenSigning, KeyUpdate, Unlisted}
 use Rattle.runtime.specs.declared.Reply.the-variants.{Back}
-use Rattle.runtime.specs.Step.{World, Call, Command, call, sign, Step, kindOf, back, afterMove, afterKey, afterToken, afterSigning, afterUpdate, afterSign, callBy, callOf, stepOf, replyCode, refusal}
+use Rattle.runtime.specs.Step.{World, Call, Command, call, sign, list, Step, kindOf, back, afterMove, afterKey, afterToken, afterSigning, afterUpdate, afterSign, callBy, callOf, stepOf, replyCode, refusal}
+use Rattle.runtime.specs.Run.{worldAfter, doneCalls}
+use Rattle.runtime.proofs.Lists.{list-run}
 
-refused-by : (k : Kind) (g : Granules) (w : World) (c : Call) → isOk (replyCode (callBy k g w c .reply)) ≡ false → callBy k g w c ≡ refusal (callBy k g w c) w
+refused-by : (k : Kind) (g : Granules) (w : World) (c : Call) → isOk (replyCode (callBy k g w c .reply)) ≡ false → callBy k g w c ≡ refusal 0 (callBy k g w c) w
 unfolding callBy afterMove afterKey afterToken afterSigning afterUpdate replyCode answerOf
 refused-by ForwardError g w c h = absurd (true≢false h)
 refused-by Delegate g w c h = ap (λ (m : Moved). afterMove m w) (move-refused (c .state) g Direction.Delegate (w .table) (c .x1) h)
@@ -36,8 +39,10 @@ refused-by KeyUpdate g w c h = ap (λ (u : Updated). afterUpdate u w) (update-re
 refused-by Unlisted g w c h = refl
 
 -- "a refused call returns zero in the other result registers and changes no page, table, session or queue": whatever the records,
--- the world and the command, the signer's own step too
-pub refused : (g : Granules) (w : World) (c : Command) → isOk (replyCode (stepOf g w c .reply)) ≡ false → stepOf g w c ≡ refusal (stepOf g w c) w
-unfolding stepOf callOf afterSign replyCode
+-- the world and the command, the signer's own step too. 02, E1: "Demand 1 counts each granule of a list as a call of its own, and x1
+-- holds the number done on refusal too."
+pub refused : (g : Granules) (w : World) (c : Command) → isOk (replyCode (stepOf g w c .reply)) ≡ false → stepOf g w c ≡ refusal (length (doneCalls g w c)) (stepOf g w c) (worldAfter g w (doneCalls g w c))
+unfolding stepOf callOf afterSign afterMove replyCode doneCalls worldAfter
 refused g w (call c) h = refused-by (kindOf (c .id)) g w c h
 refused g w (sign s) h = ap (λ (t : SignStep). afterSign t w) (sign-refused (w .queue) s h)
+refused g w (list r d l) h = list-run g r d w l

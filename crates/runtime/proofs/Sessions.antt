@@ -7,7 +7,7 @@ use Rattle.token.specs.Calls.{TokenCall, tokenStepOf as tokenStep, runOf as tok
 use Rattle.token.proofs.Calls.{token-calls}
 use Rattle.runtime.specs.declared.Kind.{Kind}
 use Rattle.runtime.specs.declared.Kind.the-variants.{ForwardError, Delegate, Undelegate, RealmKey, PlatformToken, Features, TokenSigning, KeyUpdate, Unlisted}
-use Rattle.runtime.specs.Step.{World, Call, Command, call, sign, kindOf, afterMove, afterKey, afterToken, afterSigning, afterUpdate, afterSign, callBy, callOf, stepOf}
+use Rattle.runtime.specs.Step.{World, Call, Command, call, sign, list, kindOf, afterMove, afterKey, afterToken, afterSigning, afterUpdate, afterSign, callBy, callOf, stepOf}
 use Rattle.runtime.specs.Run.{nextOf, worldAfter, gathered, ofToken, tokenCall, tokenCalls}
 
 -- one call: only 0xC40001B3 moves the session
@@ -25,10 +25,11 @@ one-session Unlisted g w c ts = refl
 
 -- the session after any commands is that after the token calls among them, each with the page as it then was
 pub session-run : (g : Granules) (w : World) (cs : List Command) → worldAfter g w cs .session ≡ tokenRun (w .session) (gathered g tokenCalls w cs)
-unfolding worldAfter gathered tokenCalls stepOf callOf afterSign tokenRun
+unfolding worldAfter gathered tokenCalls stepOf callOf afterMove afterSign tokenRun
 session-run g w [] = refl
 session-run g w (call c ∷ cs) = session-run g (nextOf g w (call c)) cs ∙ one-session (kindOf (c .id)) g w c (gathered g tokenCalls (nextOf g w (call c)) cs)
 session-run g w (sign s ∷ cs) = session-run g (nextOf g w (sign s)) cs
+session-run g w (list r d l ∷ cs) = session-run g (nextOf g w (list r d l)) cs
 
 -- "With a fixed buffer of b bytes, .. one start and the same token lent throughout, a token of L bytes takes exactly L / b calls, rounded
 -- up, refusals not counted", with any other commands in between: x is the start, xs the token calls after it

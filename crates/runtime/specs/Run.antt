@@ -6,7 +6,10 @@ use lib.ListN.{take}
 use Rattle.words.specs.Word.{part}
 use Rattle.range.specs.Range.{placeOf}
 use Rattle.codes.specs.Codes.{isOk, upOf}
+use Rattle.boot.specs.declared.Record.{Record}
+use Rattle.granules.specs.Lists.{doneOf}
 use Rattle.granules.specs.declared.Granules.{Granules}
+use Rattle.granules.specs.declared.Direction.{Direction}
 use Rattle.token.specs.Calls.{TokenCall}
 use Rattle.queue.specs.declared.Request.{Request}
 use Rattle.queue.specs.Queue.{Signed, Lists}
@@ -17,7 +20,7 @@ use Rattle.signing.specs.declared.Opcode.{Opcode}
 use Rattle.signing.specs.declared.Opcode.the-variants.{Push, Pull, Key, Other}
 use Rattle.runtime.specs.declared.Kind.{Kind}
 use Rattle.runtime.specs.declared.Kind.the-variants.{ForwardError, Delegate, Undelegate, RealmKey, PlatformToken, Features, TokenSigning, KeyUpdate, Unlisted}
-use Rattle.runtime.specs.Step.{World, Call, Command, call, sign, Step, kindOf, stepOf, replyCode}
+use Rattle.runtime.specs.Step.{World, Call, callWith, Command, call, sign, list, Step, kindOf, stepOf, replyCode}
 
 abbrev pub nextOf : Granules → World → Command → World
 nextOf g w c = stepOf g w c .next
@@ -37,6 +40,18 @@ module _ (g : Granules) where
   gathered f w [] = []
   gathered f w (c ∷ cs) = f w c ++ gathered f (nextOf g w c) cs
 
+-- ---- a list and its single calls
+-- the call of one granule of a list; what is lent to other commands does not matter
+unfoldable pub single : Record → Direction → ℕ → Command
+single r Direction.Delegate a = call (callWith r 0xC40001B0 a 0 0 0 false [] [] [] 0)
+single r Direction.Undelegate a = call (callWith r 0xC40001B1 a 0 0 0 false [] [] [] 0)
+
+-- 02, E1: "Demand 1 counts each granule of a list as a call of its own": the calls that a command has done where it is refused
+unfoldable pub doneCalls : Granules → World → Command → List Command
+doneCalls g w (call c) = []
+doneCalls g w (sign s) = []
+doneCalls g w (list r d l) = map (single r d) (take (doneOf r g d (w .table) l) l)
+
 -- ---- the token calls of a sequence
 abbrev pub ofToken : {A : Type 0} → Kind → List A → List A
 ofToken ForwardError l = []
@@ -55,6 +70,7 @@ tokenCall w c = record { state = c .state; page = w .page; busy = c .busy; token
 unfoldable pub tokenCalls : World → Command → List TokenCall
 tokenCalls w (call c) = ofToken (kindOf (c .id)) (tokenCall w c ∷ [])
 tokenCalls w (sign s) = []
+tokenCalls w (list r d l) = []
 
 -- ---- what moves through the signing queue, whole and in order: requests pushed and signed, responses made and pulled
 abbrev pub ofSigning : {A : Type 0} → Kind → List A → List A
@@ -85,20 +101,24 @@ unfoldable pub pushes : Granules → World → Command → List Request
 pushes g w (call c) =
     cond (accepted g w (call c)) (ofSigning (kindOf (c .id)) (ofPush (opcodeOf (c .x1)) (requestOf (part (placeOf (upOf (c .state)) (c .x2)) (c .x3) (w .page)) ∷ []))) []
 pushes g w (sign s) = []
+pushes g w (list r d l) = []
 
 -- the oldest response, of an accepted pull
 unfoldable pub pulls : Granules → World → Command → List Signed
 pulls g w (call c) = cond (accepted g w (call c)) (ofSigning (kindOf (c .id)) (ofPull (opcodeOf (c .x1)) (take 1 (w .queue .responses)))) []
 pulls g w (sign s) = []
+pulls g w (list r d l) = []
 
 -- the oldest request, of an accepted step of the signer, and the response that it becomes
 unfoldable pub signs : Granules → World → Command → List Request
 signs g w (call c) = []
 signs g w (sign s) = cond (accepted g w (sign s)) (take 1 (w .queue .requests)) []
+signs g w (list r d l) = []
 
 unfoldable pub makes : Granules → World → Command → List Signed
 makes g w (call c) = []
 makes g w (sign s) = cond (accepted g w (sign s)) (map (λ (q : Request). signedBy q s) (take 1 (w .queue .requests))) []
+makes g w (list r d l) = []
 
 -- what is never altered from push to pull: rec_granule and req_ticket
 pub record Name : Type 0 where

@@ -11,7 +11,9 @@ use Rattle.codes.specs.declared.Code.the-variants.{Ok, Unk}
 use Rattle.codes.specs.declared.Work.{Work}
 use Rattle.codes.specs.declared.Work.the-variants.{Nothing}
 use Rattle.granules.specs.Granules.{GranuleTable, Moved, delegateOf, undelegateOf}
+use Rattle.granules.specs.Lists.{moveListOf}
 use Rattle.granules.specs.declared.Granules.{Granules}
+use Rattle.granules.specs.declared.Direction.{Direction}
 use Rattle.attest.specs.Key.{Keyed, realmKeyOf}
 use Rattle.token.specs.Token.{TokenStep, tokenOf}
 use Rattle.token.specs.declared.Session.{Session}
@@ -70,10 +72,12 @@ abbrev pub callWith : Record → ℕ → ℕ → ℕ → ℕ → ℕ → Bool �
 callWith r id x1 x2 x3 x4 busy key token public width =
     record { state = r; id = id; x1 = x1; x2 = x2; x3 = x3; x4 = x4; busy = busy; realmKey = key; token = token; publicKey = public; width = width }
 
--- a command: a call of the interface, or the signer's own step with a signature
+-- a command: a call of the interface, the signer's own step with a signature, or delegation of a list of granules (02, E1), which has
+-- no function id
 pub data Command : Type 0 where
   call : Call → Command
   sign : List ℕ → Command
+  list : Record → Direction → List ℕ → Command
 
 -- the answer, and the next state
 pub record Step : Type 0 where
@@ -133,15 +137,17 @@ callOf g w c = callBy (kindOf (c .id)) g w c
 unfoldable pub stepOf : Granules → World → Command → Step
 stepOf g w (call c) = callOf g w c
 stepOf g w (sign s) = afterSign (signOf (w .queue) s) w
+stepOf g w (list r d l) = afterMove (moveListOf r g d (w .table) l) w
 
 -- the code that a reply shows; 0xC400018F has no result, and is never refused
 unfoldable pub replyCode : Reply → Code
 replyCode (Forward n) = Ok
 replyCode (Back a work) = a .code
 
--- demand 1's refusal: the code, zeros in the other registers, nothing for the platform to do, and the world as it was
-abbrev pub refusal : Step → World → Step
-refusal s w = record { reply = Back (answerOf (replyCode (s .reply)) 0 0) Nothing; next = w }
+-- demand 1's refusal: the code, zeros in the other registers, nothing for the platform to do, and the world as it was. Of a list x1 is
+-- the number done.
+abbrev pub refusal : ℕ → Step → World → Step
+refusal x1 s w = record { reply = Back (answerOf (replyCode (s .reply)) x1 0) Nothing; next = w }
 
 -- ---- the commands by the state that they use: the token its session, token signing the queue, the others neither
 unfoldable pub needsOf : Kind → Needs

@@ -226,6 +226,24 @@ impl Random {
         }
     }
 
+    /// A list of granules' addresses: neighbours, often with one among them changed, or any.
+    pub fn granules(&mut self, scene: &Scene) -> Vec<u64> {
+        let count = scene.table.len() as u64;
+        let length = self.pick(&[0, 1, 2, 3, 5, 8, 20]);
+        if self.below(3) == 0 {
+            return (0..length).map(|_| self.granule(scene)).collect();
+        }
+        let first = self.below(count + 1);
+        let mut list: Vec<u64> = (first..first + length)
+            .map(|i| scene.start.wrapping_add(4096 * (i % (count + 1))))
+            .collect();
+        if length > 0 && self.below(2) == 0 {
+            let at = self.index(list.len());
+            list[at] = self.granule(scene);
+        }
+        list
+    }
+
     /// An address and a size, mostly in the page.
     fn buffer(&mut self, scene: &Scene) -> (u64, u64) {
         let base = scene.base();

@@ -1,6 +1,7 @@
 //! The runtime codes, a command's answer, and the checks that several commands share.
 
 use super::boot::{Kept, Record};
+use super::granules::Listed;
 use super::layout::PAGE;
 use std::ops::Range;
 
@@ -37,6 +38,16 @@ impl From<Outcome> for Answer {
                 x1: 0,
                 x2: 0,
             },
+        }
+    }
+}
+
+impl From<Listed> for Answer {
+    /// x1 holds the number done, on refusal too.
+    fn from((done, ended): Listed) -> Answer {
+        Answer {
+            x1: done,
+            ..Answer::from(ended.map(|()| [0, 0]))
         }
     }
 }

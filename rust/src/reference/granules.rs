@@ -1,4 +1,4 @@
-//! Delegate and undelegate, over a table of one byte a granule.
+//! Delegate and undelegate, of one granule and over lists, with a table of one byte a granule.
 
 use super::boot::Record;
 use super::codes::{need_up, Error, Outcome};
@@ -17,6 +17,32 @@ pub fn delegate(record: Record, start: u64, table: &mut [u8], address: u64) -> O
 #[inline]
 pub fn undelegate(record: Record, start: u64, table: &mut [u8], address: u64) -> Outcome {
     change(record, start, table, address, REALM, NON_SECURE)
+}
+
+/// How a list ended: the number of granules done, and the code of the one that was refused.
+pub type Listed = (u64, Result<(), Error>);
+
+/// From Non-secure to Realm, each address in its turn, up to the first that is refused.
+pub fn delegate_list(record: Record, start: u64, table: &mut [u8], addresses: &[u64]) -> Listed {
+    in_turn(addresses, |address| delegate(record, start, table, address))
+}
+
+/// From Realm to Non-secure, in the same way.
+pub fn undelegate_list(record: Record, start: u64, table: &mut [u8], addresses: &[u64]) -> Listed {
+    in_turn(addresses, |address| {
+        undelegate(record, start, table, address)
+    })
+}
+
+fn in_turn(addresses: &[u64], mut one: impl FnMut(u64) -> Outcome) -> Listed {
+    let mut done = 0;
+    for &address in addresses {
+        if let Err(error) = one(address) {
+            return (done, Err(error));
+        }
+        done += 1;
+    }
+    (done, Ok(()))
 }
 
 #[inline]

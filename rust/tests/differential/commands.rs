@@ -115,6 +115,43 @@ fn undelegate(pair: &mut Pair, scene: &mut Scene) {
     note(pair, scene, "pbeam_undelegate", 0);
 }
 
+/// Notes the code of a list, and apart from it whether granules before the refused one were done.
+fn note_list(pair: &mut Pair, name: &'static str) {
+    let [x0, done, _] = pair.model.images.out.words;
+    pair.meet(name, 0, x0 as i64);
+    pair.meet(name, 1 + u64::from(x0 != 0), i64::from(done != 0));
+}
+
+fn delegate_list(pair: &mut Pair, scene: &mut Scene) {
+    let (start, list) = (scene.start, pair.random.granules(scene));
+    check!(pair, "pbeam_delegate_list", (start, list), |S, m| {
+        let (images, table) = (&mut m.images, m.table.lent_mut());
+        S::delegate_list(
+            &images.record.words,
+            &[start],
+            table,
+            &list,
+            &mut images.out.words,
+        );
+    });
+    note_list(pair, "pbeam_delegate_list");
+}
+
+fn undelegate_list(pair: &mut Pair, scene: &mut Scene) {
+    let (start, list) = (scene.start, pair.random.granules(scene));
+    check!(pair, "pbeam_undelegate_list", (start, list), |S, m| {
+        let (images, table) = (&mut m.images, m.table.lent_mut());
+        S::undelegate_list(
+            &images.record.words,
+            &[start],
+            table,
+            &list,
+            &mut images.out.words,
+        );
+    });
+    note_list(pair, "pbeam_undelegate_list");
+}
+
 fn realm_key(pair: &mut Pair, scene: &mut Scene) {
     let [pa, size, curve, _] = registers(pair, scene, REALM_KEY);
     let (key, x) = (&scene.realm_key, [pa, size, curve]);
@@ -335,12 +372,21 @@ fn signing_queues() {
 #[test]
 fn single_commands() {
     let mut pair = Pair::new(26);
-    let steps: [Step; 6] = [
-        delegate, undelegate, realm_key, features, key_update, forward,
+    let steps: [Step; 8] = [
+        delegate,
+        undelegate,
+        delegate_list,
+        undelegate_list,
+        realm_key,
+        features,
+        key_update,
+        forward,
     ];
     let names = [
         "pbeam_delegate",
         "pbeam_undelegate",
+        "pbeam_delegate_list",
+        "pbeam_undelegate_list",
         "pbeam_realm_key",
         "pbeam_features",
         "pbeam_key_update",
@@ -350,6 +396,12 @@ fn single_commands() {
     pair.expect(&[
         ("pbeam_delegate", 0, &[0, -1, -2, -3]),
         ("pbeam_undelegate", 0, &[0, -1, -2, -3]),
+        ("pbeam_delegate_list", 0, &[0, -1, -2, -3]),
+        ("pbeam_delegate_list", 1, &[0, 1]),
+        ("pbeam_delegate_list", 2, &[0, 1]),
+        ("pbeam_undelegate_list", 0, &[0, -1, -2, -3]),
+        ("pbeam_undelegate_list", 1, &[0, 1]),
+        ("pbeam_undelegate_list", 2, &[0, 1]),
         ("pbeam_realm_key", 0, &[0, -1, -2, -5]),
         ("pbeam_features", 0, &[0, -1, -5]),
         ("pbeam_key_update", 0, &[0, -1, -5]),

@@ -1,0 +1,44 @@
+use mathlib.Core.Path.{sym}
+use native.Mathlib.Omega.{arith}
+use lib.ListN.{length-take}
+use lib.Seq.{length-take-le}
+use borrow.Author.Needs.{needs}
+use Rattle.granule_vectors.proofs.print_case.Statement.{statement}
+use Rattle.granule_vectors.proofs.print_case.Tie as tie
+
+length-at-requires : tie.Need-length-at-requires
+length-at-requires c κs = search needs
+
+length-at-requires-2 : tie.Need-length-at-requires-2
+length-at-requires-2 c κs = search needs
+
+array-borrow-prefix-table : tie.Need-array-borrow-prefix-table
+array-borrow-prefix-table c = search needs
+
+slice-aggregate-print-lent : tie.Need-slice-aggregate-print-lent
+slice-aggregate-print-lent c = sym (length-take-le _ _ (search needs))
+
+array-borrow-prefix-list : tie.Need-array-borrow-prefix-list
+array-borrow-prefix-list c = search needs
+
+slice-aggregate-print-lent-2 : tie.Need-slice-aggregate-print-lent-2
+slice-aggregate-print-lent-2 c = sym (length-take-le _ _ (search needs))
+
+print-lent-requires : tie.Need-print-lent-requires
+print-lent-requires c κs = (simp length-take (omega arith), simp length-take (omega arith))
+
+returns : tie.Need-returns
+returns c = search needs
+
+pub print-case-spec : {M : Type 1} → statement M
+print-case-spec =
+    tie.close
+    (tie.spec
+    length-at-requires
+    length-at-requires-2
+    array-borrow-prefix-table
+    slice-aggregate-print-lent
+    array-borrow-prefix-list
+    slice-aggregate-print-lent-2
+    print-lent-requires
+    returns)

@@ -1,0 +1,70 @@
+-- A list of granules, as its loop goes, and what it is of its single calls. Assumes nothing.
+use Prim.Native.Nat.{ℕ, zero, suc, _+_, _<_}
+use mathlib.Core.Path.{_≡_, refl, sym, ap, _∙_}
+use mathlib.Core.Bool.{Bool, true, false, cond}
+use mathlib.Core.List.{List, [], _∷_}
+use native.Mathlib.Numerals.{add-one}
+use native.Mathlib.Omega.{arith}
+use lib.ListN.{length, getD, drop}
+use lib.Seq.{drop-cons, drop-length}
+use Rattle.boot.specs.declared.Record.{Record}
+use Rattle.codes.specs.Codes.{isUp, upOf, isOk, answerOf}
+use Rattle.codes.specs.declared.Code.the-variants.{Ok, Unk}
+use Rattle.granules.specs.Granules.{GranuleTable, Moved, movedBy, moveAt, moveOf}
+use Rattle.granules.specs.Lists.{onward, listBy, moveListOf}
+use Rattle.granules.specs.declared.Granules.{Granules}
+use Rattle.granules.specs.declared.Direction.{Direction}
+use Rattle.granules.proofs.Moving.{move-down, move-up}
+
+-- ---- one more call
+onward-ok : (m : Moved) (k : ℕ) (rest : Moved) → isOk (m .answer .code) ≡ true → onward m k rest ≡ rest
+unfolding onward
+onward-ok m k rest h = ap (λ b. cond b rest (record { answer = answerOf (m .answer .code) k 0; table = m .table })) h
+
+onward-stop : (m : Moved) (k : ℕ) (rest : Moved) → isOk (m .answer .code) ≡ false → onward m k rest ≡ record { answer = answerOf (m .answer .code) k 0; table = m .table }
+unfolding onward
+onward-stop m k rest h = ap (λ b. cond b rest (record { answer = answerOf (m .answer .code) k 0; table = m .table })) h
+
+-- ---- the list from its i-th address on, as the loop goes
+module _ (f : GranuleTable → ℕ → Moved) (l : List ℕ) (i : ℕ) (t : GranuleTable) where
+  pub list-last : i ≡ length l → _≡_ {A = Moved} (record { answer = answerOf Ok (length l) 0; table = t }) (listBy f i t (drop i l))
+  unfolding listBy
+  list-last e = rw (e, drop-length)
+
+  module _ (h : i < length l) (m : Moved) (e : m ≡ f t (getD l i 0)) where
+    here : listBy f i t (drop i l) ≡ onward m i (listBy f (i + 1) (m .table) (drop (i + 1) l))
+    unfolding listBy
+    here =
+        ap (λ x. listBy f i t x) (drop-cons l i 0 h)
+        ∙ ap (λ x. onward (f t (getD l i 0)) i (listBy f x (f t (getD l i 0) .table) (drop x l))) (sym (add-one i))
+        ∙ ap (λ (x : Moved). onward x i (listBy f (i + 1) (x .table) (drop (i + 1) l))) (sym e)
+
+    pub list-more : isOk (m .answer .code) ≡ true → listBy f i t (drop i l) ≡ listBy f (i + 1) (m .table) (drop (i + 1) l)
+    list-more k = here ∙ onward-ok m i _ k
+
+    pub list-stop : isOk (m .answer .code) ≡ false → record { answer = answerOf (m .answer .code) i 0; table = m .table } ≡ listBy f i t (drop i l)
+    list-stop k = sym (here ∙ onward-stop m i _ k)
+
+-- ---- the record is looked at once
+same-list : (f h : GranuleTable → ℕ → Moved) → ((t : GranuleTable) (a : ℕ) → f t a ≡ h t a) → (k : ℕ) (t : GranuleTable) (l : List ℕ) → listBy f k t l ≡ listBy h k t l
+unfolding listBy
+same-list f h e k t [] = refl
+same-list f h e k t (a ∷ l) = ap (λ (m : Moved). onward m k (listBy f (suc k) (m .table) l)) (e t a) ∙ ap (onward (h t a) k) (same-list f h e (suc k) (h t a .table) l)
+
+module _ (s : Record) (g : Granules) (d : Direction) (t : GranuleTable) where
+  pub list-up : isUp s ≡ true → (l : List ℕ) → listBy (moveAt (upOf s) g d) 0 t l ≡ moveListOf s g d t l
+  unfolding moveListOf
+  list-up h l = same-list (moveAt (upOf s) g d) (moveOf s g d) (λ t a. move-up s g d t a h) 0 t l
+
+  pub list-none : (l : List ℕ) → length l ≡ 0 → _≡_ {A = Moved} (record { answer = answerOf Ok 0 0; table = t }) (moveListOf s g d t l)
+  unfolding moveListOf listBy
+  list-none l h = go l h
+    where
+      go : (l : List ℕ) → length l ≡ 0 → _≡_ {A = Moved} (record { answer = answerOf Ok 0 0; table = t }) (listBy (moveOf s g d) 0 t l)
+      go [] h = refl
+      go (a ∷ l) h = absurd (omega arith)
+
+  pub list-down : isUp s ≡ false → (l : List ℕ) → (length l ≡ 0 → ⊥) → _≡_ {A = Moved} (record { answer = answerOf Unk 0 0; table = t }) (moveListOf s g d t l)
+  unfolding moveListOf listBy onward movedBy answerOf
+  list-down h [] n = absurd (n refl)
+  list-down h (a ∷ l) n = rw (← move-down s g d t a h)

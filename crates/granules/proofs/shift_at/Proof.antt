@@ -1,0 +1,66 @@
+use mathlib.Core.Path.{sym, _∙_}
+use native.Mathlib.Omega.{arith}
+use lib.ListN.{length}
+use Rattle.granules.proofs.Moving.{granule-in, move-addr, move-pas, move-ok}
+use borrow.Author.Needs.{needs}
+use Rattle.granules.proofs.shift_at.Statement.{statement}
+use Rattle.granules.proofs.shift_at.Tie as tie
+
+granule-of-requires : tie.Need-granule-of-requires
+granule-of-requires c κs = search needs
+
+enum-known-granule : tie.Need-enum-known-granule
+enum-known-granule c = search needs
+
+enum-told : tie.Need-enum-told
+enum-told c = search needs
+
+returns : tie.Need-returns
+returns c =
+    let a = c .before .before .before .before .args in
+    move-addr (a .params) (a .granules) (a .direction) (a .table .now) (a .address) (sym (c .before .before .granule-of .ensures) ∙ c .enum-told .given .1)
+
+from-byte-requires : tie.Need-from-byte-requires
+from-byte-requires c κs = search needs
+
+to-byte-requires : tie.Need-to-byte-requires
+to-byte-requires c κs = search needs
+
+slice-read-held : tie.Need-slice-read-held
+slice-read-held c =
+    let a = c .before .before .before .before .before .before .before .before .args in
+    omega (arith, granule-in (a .granules) (length (a .table .now)) (a .address) _ (sym (c .before .before .before .before .before .before .granule-of .ensures) ∙ c .before .before .before .before .granule .given .1))
+
+returns-2 : tie.Need-returns-2
+returns-2 c =
+    let a = c .before .before .before .before .before .before .before .before .before .args in
+    move-pas (a .params) (a .granules) (a .direction) (a .table .now) (a .address) _ (sym (c .before .before .before .before .before .before .before .granule-of .ensures) ∙ c .before .before .before .before .before .granule .given .1) (rw (← c .before .before .before .from-byte .ensures) (c .if1 .taken))
+
+slice-write-table : tie.Need-slice-write-table
+slice-write-table c =
+    let a = c .before .before .before .before .before .before .before .before .before .args in
+    omega (arith, granule-in (a .granules) (length (a .table .now)) (a .address) _ (sym (c .before .before .before .before .before .before .before .granule-of .ensures) ∙ c .before .before .before .before .before .granule .given .1))
+
+same-length : tie.Need-same-length
+same-length c = search needs
+
+returns-3 : tie.Need-returns-3
+returns-3 c =
+    let a = c .before .before .before .before .before .before .before .before .before .args in
+    move-ok (a .params) (a .granules) (a .direction) (a .table .now) (a .address) _ (sym (c .before .before .before .before .before .before .before .granule-of .ensures) ∙ c .before .before .before .before .before .granule .given .1) (c .if1 .left ∙ c .before .before .before .from-byte .ensures) _ (c .before .before .to-byte .ensures)
+
+pub shift-at-spec : {M : Type 1} → statement M
+shift-at-spec =
+    tie.close
+    (tie.spec
+    granule-of-requires
+    enum-known-granule
+    enum-told
+    returns
+    from-byte-requires
+    to-byte-requires
+    slice-read-held
+    returns-2
+    slice-write-table
+    same-length
+    returns-3)

@@ -1,0 +1,45 @@
+-- 02, E1: a list of granules among the commands. Assumes nothing.
+use Prim.Native.Nat.{ℕ, _≤_}
+use mathlib.Core.Path.{_≡_, refl, sym, ap, _∙_}
+use mathlib.Core.List.{List, [], _∷_, map}
+use native.Mathlib.Omega.{arith}
+use lib.ListN.{length, take, length-map, length-take}
+use lib.Seq.{length-take-le}
+use Rattle.boot.specs.declared.Record.{Record}
+use Rattle.codes.specs.Codes.{answerOf}
+use Rattle.codes.specs.declared.Work.the-variants.{Nothing}
+use Rattle.granules.specs.Granules.{GranuleTable, Moved, moveOf}
+use Rattle.granules.specs.Lists.{moveListOf, doneBy, tableBy, doneOf, codeBy}
+use Rattle.granules.specs.declared.Granules.{Granules}
+use Rattle.granules.specs.declared.Direction.{Direction}
+use Rattle.granules.proofs.Done.{list-is, longest}
+use Rattle.runtime.specs.declared.Reply.the-variants.{Back}
+use Rattle.runtime.specs.Step.{World, withTable, Command, list, Step, kindOf, afterMove, callBy, callOf, stepOf, replyCode, refusal}
+use Rattle.runtime.specs.Run.{nextOf, worldAfter, single, doneCalls}
+
+module _ (g : Granules) (r : Record) where
+  -- a single call moves the table alone, as the command's definition says
+  pub single-next : (d : Direction) (w : World) (a : ℕ) → nextOf g w (single r d a) ≡ withTable (moveOf r g d (w .table) a .table) w
+  unfolding single stepOf callOf kindOf callBy afterMove
+  single-next Direction.Delegate w a = refl
+  single-next Direction.Undelegate w a = refl
+
+  singles-after : (d : Direction) (w : World) (l : List ℕ) → worldAfter g w (map (single r d) l) ≡ withTable (tableBy (moveOf r g d) (w .table) l) w
+  unfolding worldAfter tableBy
+  singles-after d w [] = refl
+  singles-after d w (a ∷ l) = ap (λ v. worldAfter g v (map (single r d) l)) (single-next d w a) ∙ singles-after d (withTable (moveOf r g d (w .table) a .table) w) l
+
+  -- how many are done is how many single calls that is
+  done-length : (d : Direction) (w : World) (l : List ℕ) → length (doneCalls g w (list r d l)) ≡ doneOf r g d (w .table) l
+  unfolding doneCalls
+  done-length d w l = length-map (take (doneOf r g d (w .table) l) l) (single r d) ∙ length-take-le (doneOf r g d (w .table) l) l (longest (moveOf r g d) (w .table) l .within)
+
+  -- those done, one by one
+  done-after : (d : Direction) (w : World) (l : List ℕ) → worldAfter g w (doneCalls g w (list r d l)) ≡ withTable (tableBy (moveOf r g d) (w .table) (take (doneOf r g d (w .table) l) l)) w
+  unfolding doneCalls
+  done-after d w l = singles-after d w (take (doneOf r g d (w .table) l) l)
+
+  -- the world after a list is the world after its single calls, those that were done; x1 is their number
+  pub list-run : (d : Direction) (w : World) (l : List ℕ) → stepOf g w (list r d l) ≡ refusal (length (doneCalls g w (list r d l))) (stepOf g w (list r d l)) (worldAfter g w (doneCalls g w (list r d l)))
+  unfolding stepOf afterMove replyCode answerOf
+  list-run d w l = rw (done-length d w l, done-after d w l, list-is r g d (w .table) l)
