@@ -1,9 +1,11 @@
 -- When the realm key call is OK, and what an OK did. Assumes nothing.
 use Prim.Native.Nat.{ℕ, _≤_}
 use mathlib.Core.Path.{_≡_, refl, _∙_}
+use mathlib.Core.Bool.{true}
 use mathlib.Core.List.{List}
 use native.Mathlib.Omega.{arith}
 use lib.ListN.{length}
+use borrow.Author.Tests.{ltb-false, eqb-true, eqb-false}
 use Rattle.boot.specs.declared.Params.{Params}
 use Rattle.boot.specs.declared.Record.{Record}
 use Rattle.boot.specs.declared.Record.the-variants.{Up}
@@ -11,12 +13,12 @@ use Rattle.range.specs.Range.{placeOf}
 use Rattle.range.specs.Buffers.{BufferIn}
 use Rattle.range.specs.declared.OutsideAs.the-variants.{BadAddress}
 use Rattle.range.proofs.Ranges.{passed}
-use Rattle.range.proofs.Buffers.{in-passes, splice-written}
-use Rattle.codes.specs.Codes.{upOf, answerOf}
+use Rattle.range.proofs.Buffers.{in-passes, passed-in, splice-written}
+use Rattle.codes.specs.Codes.{isUp, upOf, answerOf}
 use Rattle.codes.specs.declared.Code.the-variants.{Ok}
-use Rattle.codes.proofs.Gates.{first-ok, then-go}
+use Rattle.codes.proofs.Gates.{unless-ok, either-ok, first-ok, then-ok, then-go}
 use Rattle.attest.specs.Acts.{KeyActed}
-use Rattle.attest.specs.Key.{keyCode, keyed, realmKeyOf}
+use Rattle.attest.specs.Key.{keyRest, keyCode, keyed, realmKeyOf}
 use Rattle.attest.proofs.Keys.{rest-ok}
 
 -- "Writes the key at pa; x1 is its length."
@@ -35,3 +37,13 @@ pub key-passes : (u : Params) (page key : List ℕ) (pa size curve : ℕ) → Bu
     realmKeyOf (Up u) page key pa size curve .answer .code ≡ Ok
 unfolding realmKeyOf keyed keyCode answerOf
 key-passes u page key pa size curve i z k l = then-go _ _ (in-passes u page pa size i Ok BadAddress refl) ∙ rest-ok size curve key z k l
+
+-- and only then
+pub key-only : (r : Record) (page key : List ℕ) (pa size curve : ℕ) → realmKeyOf r page key pa size curve .answer .code ≡ Ok →
+    (isUp r ≡ true) × BufferIn (upOf r) page pa size × (curve ≡ 0) × (1 ≤ length key) × (length key ≤ size)
+unfolding realmKeyOf keyed keyCode keyRest answerOf
+key-only r page key pa size curve h =
+    let p = passed _ _ _ _ _ _ (first-ok _ _ h) in
+    let c = unless-ok _ _ _ refl (then-ok _ _ h) in
+    let k = either-ok _ _ _ _ refl (c .1) in
+    (p .up, passed-in r page Ok pa size p, eqb-true _ _ (c .0), omega (arith, eqb-false (length key) 0 (k .0)), ltb-false _ _ (k .1))

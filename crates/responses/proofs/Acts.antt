@@ -6,15 +6,17 @@ use mathlib.Core.List.{List, [], _∷_, _++_}
 use native.Mathlib.Omega.{arith}
 use native.Mathlib.Nat.{zero-add}
 use lib.ListN.{length, drop, length-append}
+use borrow.Author.Tests.{ltb-false, leb-false, eqb-false}
 use Rattle.words.specs.Word.{leBytes, splice}
 use Rattle.words.proofs.Read.{leBytes-length}
 use Rattle.codes.specs.Codes.{extended, x0Of, answerOf}
 use Rattle.codes.specs.declared.Code.the-variants.{Ok}
+use Rattle.codes.proofs.Gates.{fails-ok}
 use Rattle.queue.specs.declared.Request.{Request}
-use Rattle.queue.specs.Queue.{Signed, oldestRequest, oldestResponse}
-use Rattle.queue.proofs.Steps.{accepts}
+use Rattle.queue.specs.Queue.{Signed, Lists, oldestRequest, oldestResponse}
+use Rattle.queue.proofs.Steps.{accepts, queued-ok}
 use Rattle.responses.specs.Pull.{responseBytes, pullCode, pulled, pullOf}
-use Rattle.responses.specs.Sign.{signedBy, signed, signOf}
+use Rattle.responses.specs.Sign.{signCode, signedBy, signed, signOf}
 use Rattle.responses.proofs.Pulls.{pull-ok}
 use Rattle.responses.proofs.Signs.{sign-ok, sign-accepts}
 
@@ -46,6 +48,18 @@ buffer-pull-acts b asked r rest l =
     sym (accepts (pullCode (length b) _) _ b _ (pull-ok (length b) (record { requests = asked; responses = r ∷ rest }) (λ e. omega arith) r refl l))
     ∙ rw (front-over b (responseBytes r) (18 + length (r .signature)) (signed-length r))
 
+-- and only then: by the code of the checks, and by the answer
+pub pull-told : (size : ℕ) (q : Lists) → pullCode size q ≡ Ok → (1 ≤ length (q .responses)) × (18 + length (oldestResponse (q .responses) .signature) ≤ size)
+unfolding pullCode
+pull-told size q h =
+    let n = fails-ok _ _ _ refl h in
+    let l = fails-ok _ _ _ refl (n .1) in
+    (omega (arith, eqb-false (length (q .responses)) 0 (n .0)), ltb-false _ _ (l .0))
+
+pub buffer-pull-only : (b : List ℕ) (q : Lists) → pullOf b q .answer .code ≡ Ok → (1 ≤ length (q .responses)) × (18 + length (oldestResponse (q .responses) .signature) ≤ length b)
+unfolding pullOf
+buffer-pull-only b q h = pull-told (length b) q (queued-ok (pullCode (length b) q) _ b q h)
+
 -- A signature of 1 to 104 bytes, a request waits, and fewer than eight responses: OK, "the oldest request becomes the newest response", with its
 -- rec_granule, its req_ticket and the signature.
 pub sign-acts : (s : List ℕ) (r : Request) (rest : List Request) (done : List Signed) → 1 ≤ length s → length s ≤ 104 → length done < 8 →
@@ -56,3 +70,13 @@ pub sign-acts : (s : List ℕ) (r : Request) (rest : List Request) (done : List 
 unfolding signed signedBy oldestRequest answerOf x0Of extended
 sign-acts s r rest done lo hi m =
     sym (sign-accepts (record { requests = r ∷ rest; responses = done }) s _ _ refl refl (sign-ok (record { requests = r ∷ rest; responses = done }) s (λ e. omega arith) hi (λ e. omega arith) m))
+
+-- and only then
+pub sign-only : (q : Lists) (s : List ℕ) → signOf q s .answer .code ≡ Ok → (1 ≤ length s) × (length s ≤ 104) × (1 ≤ length (q .requests)) × (length (q .responses) < 8)
+unfolding signOf signCode answerOf
+sign-only q s h =
+    let e = fails-ok _ _ _ refl h in
+    let l = fails-ok _ _ _ refl (e .1) in
+    let n = fails-ok _ _ _ refl (l .1) in
+    let f = fails-ok _ _ _ refl (n .1) in
+    (omega (arith, eqb-false (length s) 0 (e .0)), ltb-false _ _ (l .0), omega (arith, eqb-false (length (q .requests)) 0 (n .0)), leb-false _ _ (f .0))
