@@ -2,3 +2,4 @@ pub mod Laid
 pub mod Pulls
 pub mod Signs
 pub mod Acts
+pub mod OnImages

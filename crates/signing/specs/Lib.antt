@@ -1,2 +1,3 @@
 pub mod Signing
 pub mod Acts
+pub mod OnImage
