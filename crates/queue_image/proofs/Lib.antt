@@ -2,3 +2,6 @@ pub mod Rows
 pub mod Sides
 pub mod Inverse
 pub mod Fits
+pub mod Blocks
+pub mod Moves
+pub mod Waits
