@@ -10,28 +10,28 @@ use lib.Seq.{length-take-le, take-at, drop-at, take-append-le, drop-append-le, t
 use Rattle.words.specs.Word.{part, splice}
 use Rattle.queue_image.specs.Image.{rows}
 use Rattle.queue_image.specs.Sides.{Side, rowsWaiting, rowsIn, rowJoined, rowDropped}
-use Rattle.queue_image.specs.Waits.{Beside, front, back, waitingRows, sideIn, Stays}
+use Rattle.queue_image.specs.Waits.{Beside, ofRequests, ofResponses, waitingRows, sideIn, Stays}
 use Rattle.queue_image.proofs.Rows.{mul-more}
 use Rattle.queue_image.proofs.Blocks.{rows-same, rows-taken, rows-within, blockJoined, blockDropped, joined-rows, dropped-rows, joined-length, dropped-fits, dropped-length}
 
 -- ---- an image of a side's number n and places p, and the other side's m and q
-unfoldable pub image : {s o : Side} → Beside s o → ℕ → List ℕ → ℕ → List ℕ → List ℕ
-image front n p m q = n ∷ m ∷ (p ++ q)
-image back n p m q = m ∷ n ∷ (q ++ p)
+unfoldable pub sidesLaid : {s o : Side} → Beside s o → ℕ → List ℕ → ℕ → List ℕ → List ℕ
+sidesLaid ofRequests n p m q = n ∷ m ∷ (p ++ q)
+sidesLaid ofResponses n p m q = m ∷ n ∷ (q ++ p)
 
-beside : {s o : Side} → Beside s o → Beside o s
-beside front = back
-beside back = front
+turned : {s o : Side} → Beside s o → Beside o s
+turned ofRequests = ofResponses
+turned ofResponses = ofRequests
 
-image-beside : {s o : Side} (b : Beside s o) (n : ℕ) (p : List ℕ) (m : ℕ) (q : List ℕ) → image b n p m q ≡ image (beside b) m q n p
-unfolding image beside
-image-beside front n p m q = refl
-image-beside back n p m q = refl
+image-turned : {s o : Side} (b : Beside s o) (n : ℕ) (p : List ℕ) (m : ℕ) (q : List ℕ) → sidesLaid b n p m q ≡ sidesLaid (turned b) m q n p
+unfolding sidesLaid turned
+image-turned ofRequests n p m q = refl
+image-turned ofResponses n p m q = refl
 
 -- what lies behind a side's places
 behind : {s o : Side} → Beside s o → List ℕ → List ℕ
-behind front q = q
-behind back q = []
+behind ofRequests q = q
+behind ofResponses q = []
 
 splice-at : (at i : ℕ) (vs a p c : List ℕ) → length a ≡ at → i + length vs ≤ length p → splice (at + i) vs (a ++ (p ++ c)) ≡ a ++ (splice i vs p ++ c)
 unfolding splice
@@ -40,76 +40,76 @@ splice-at at i vs a p c e h =
     rw (← e, take-append-add a (p ++ c) i, take-append-le i p c k, add-assoc, drop-append-add a (p ++ c) (i + length vs), drop-append-le (i + length vs) p c h) (simp append-assoc)
 
 module _ (n : ℕ) (p : List ℕ) (m : ℕ) (q : List ℕ) where
-  number-in : {s o : Side} (b : Beside s o) → getD (image b n p m q) (s .number) 0 ≡ n
-  unfolding image
-  number-in front = refl
-  number-in back = refl
+  number-in : {s o : Side} (b : Beside s o) → getD (sidesLaid b n p m q) (s .number) 0 ≡ n
+  unfolding sidesLaid
+  number-in ofRequests = refl
+  number-in ofResponses = refl
 
-  places-in : {s o : Side} (b : Beside s o) → length q ≡ o .width * 8 → drop (s .start) (image b n p m q) ≡ p ++ behind b q
-  unfolding image behind
-  places-in front k = refl
-  places-in back k = drop-at q p 80 k ∙ sym (append-nil p)
+  places-in : {s o : Side} (b : Beside s o) → length q ≡ o .width * 8 → drop (s .start) (sidesLaid b n p m q) ≡ p ++ behind b q
+  unfolding sidesLaid behind
+  places-in ofRequests k = refl
+  places-in ofResponses k = drop-at q p 80 k ∙ sym (append-nil p)
 
   -- words over a side's places, and its number
   over-in : {s o : Side} (b : Beside s o) → length q ≡ o .width * 8 → (x i : ℕ) (vs : List ℕ) → i + length vs ≤ length p →
-      splice (s .number) (x ∷ []) (splice (s .start + i) vs (image b n p m q)) ≡ image b x (splice i vs p) m q
-  unfolding image splice
-  over-in front k x i vs h = ap (splice 0 (x ∷ [])) (splice-at 2 i vs (n ∷ m ∷ []) p q refl h)
-  over-in back k x i vs h =
+      splice (s .number) (x ∷ []) (splice (s .start + i) vs (sidesLaid b n p m q)) ≡ sidesLaid b x (splice i vs p) m q
+  unfolding sidesLaid splice
+  over-in ofRequests k x i vs h = ap (splice 0 (x ∷ [])) (splice-at 2 i vs (n ∷ m ∷ []) p q refl h)
+  over-in ofResponses k x i vs h =
       let e : length (m ∷ n ∷ q) ≡ 82 = omega arith in
       ap (λ (l : List ℕ). splice 1 (x ∷ []) (splice (82 + i) vs (m ∷ n ∷ (q ++ l)))) (sym (append-nil p))
       ∙ ap (splice 1 (x ∷ [])) (splice-at 82 i vs (m ∷ n ∷ q) p [] e h)
       ∙ ap (λ (l : List ℕ). m ∷ x ∷ (q ++ l)) (append-nil (splice i vs p))
 
 module _ {s o : Side} (b : Beside s o) (n : ℕ) (p : List ℕ) (m : ℕ) (q : List ℕ) (k : length p ≡ s .width * 8) (j : length q ≡ o .width * 8) where
-  waiting-in : rowsWaiting s (image b n p m q) ≡ min 8 n
+  waiting-in : rowsWaiting s (sidesLaid b n p m q) ≡ min 8 n
   unfolding rowsWaiting
   waiting-in = ap (min 8) (number-in n p m q b)
 
-  side-in : sideIn s (image b n p m q) ≡ n ∷ p
+  side-in : sideIn s (sidesLaid b n p m q) ≡ n ∷ p
   unfolding sideIn part
   side-in = rw (number-in n p m q b, places-in n p m q b j, take-at p (behind b q) (s .width * 8) k)
 
   first-in : (i : ℕ) → i ≤ 8 → take (s .width * i) (p ++ behind b q) ≡ take (s .width * i) p
   first-in i h = take-append-le (s .width * i) p (behind b q) (omega (arith, rows-within (s .width) i h))
 
-  rows-in : waitingRows s (image b n p m q) ≡ rows (s .width) (min 8 n) p
+  rows-in : waitingRows s (sidesLaid b n p m q) ≡ rows (s .width) (min 8 n) p
   unfolding waitingRows
   rows-in = rw (number-in n p m q b, places-in n p m q b j) (rows-taken (s .width) n 8 (p ++ behind b q) ∙ rows-same (s .width) (min 8 n) (p ++ behind b q) p (first-in (min 8 n) (omega arith)))
 
   -- the moves
-  pub joined-in : (row : List ℕ) → length row ≡ s .width → min 8 n < 8 → rowJoined s row (image b n p m q) ≡ image b (suc (min 8 n)) (blockJoined (s .width) (min 8 n) row p) m q
+  pub joined-in : (row : List ℕ) → length row ≡ s .width → min 8 n < 8 → rowJoined s row (sidesLaid b n p m q) ≡ sidesLaid b (suc (min 8 n)) (blockJoined (s .width) (min 8 n) row p) m q
   unfolding rowJoined blockJoined
   joined-in row e h =
       rw waiting-in (over-in n p m q b j (suc (min 8 n)) (s .width * min 8 n) row (omega (arith, rows-within (s .width) (suc (min 8 n)) h, mul-more (s .width) (min 8 n))))
 
-  pub dropped-in : rowDropped s (image b n p m q) ≡ image b (min 8 n - 1) (blockDropped (s .width) (min 8 n) p) m q
+  pub dropped-in : rowDropped s (sidesLaid b n p m q) ≡ sidesLaid b (min 8 n - 1) (blockDropped (s .width) (min 8 n) p) m q
   unfolding rowDropped blockDropped rowsIn part
   dropped-in =
       let t : List ℕ = take (s .width * min 8 n) p in
       let z : List ℕ = replicate (s .width) 0 in
-      let e : take (s .width * min 8 n) (drop (s .start) (image b n p m q)) ≡ t = rw (places-in n p m q b j) (first-in (min 8 n) (omega arith)) in
+      let e : take (s .width * min 8 n) (drop (s .start) (sidesLaid b n p m q)) ≡ t = rw (places-in n p m q b j) (first-in (min 8 n) (omega arith)) in
       let h : 0 + length (drop (s .width) t ++ z) ≤ length p = rw zero-add (dropped-fits (s .width) p k (min 8 n) (omega arith)) in
       rw (waiting-in, e)
-      (ap (λ (at : ℕ). splice (s .number) ((min 8 n - 1) ∷ []) (splice at (drop (s .width) t ++ z) (image b n p m q))) (sym (add-zero (s .start)))
+      (ap (λ (at : ℕ). splice (s .number) ((min 8 n - 1) ∷ []) (splice at (drop (s .width) t ++ z) (sidesLaid b n p m q))) (sym (add-zero (s .start)))
       ∙ over-in n p m q b j (min 8 n - 1) 0 (drop (s .width) t ++ z) h)
 
 -- ---- any image of 210 words is one
 by-image : {s o : Side} (b : Beside s o) (P : List ℕ → Type 0) →
-    ((n : ℕ) (p : List ℕ) (m : ℕ) (q : List ℕ) → length p ≡ s .width * 8 → length q ≡ o .width * 8 → P (image b n p m q)) → (w : List ℕ) → length w ≡ 210 → P w
-unfolding image
+    ((n : ℕ) (p : List ℕ) (m : ℕ) (q : List ℕ) → length p ≡ s .width * 8 → length q ≡ o .width * 8 → P (sidesLaid b n p m q)) → (w : List ℕ) → length w ≡ 210 → P w
+unfolding sidesLaid
 by-image b P h [] l = absurd (omega arith)
 by-image b P h (x ∷ []) l = absurd (omega arith)
-by-image front P h (x ∷ y ∷ v) l =
+by-image ofRequests P h (x ∷ y ∷ v) l =
     subst (λ (u : List ℕ). P (x ∷ y ∷ u)) (take-append-drop 80 v) (h x (take 80 v) y (drop 80 v) (length-take-le 80 v (omega arith)) (omega (arith, length-drop 80 v)))
-by-image back P h (x ∷ y ∷ v) l =
+by-image ofResponses P h (x ∷ y ∷ v) l =
     subst (λ (u : List ℕ). P (x ∷ y ∷ u)) (take-append-drop 80 v) (h y (drop 80 v) x (take 80 v) (omega (arith, length-drop 80 v)) (length-take-le 80 v (omega arith)))
 
 -- ---- an image stays one of 210 words
-image-length : {s o : Side} (b : Beside s o) (n : ℕ) (p : List ℕ) (m : ℕ) (q : List ℕ) → length p ≡ s .width * 8 → length q ≡ o .width * 8 → length (image b n p m q) ≡ 210
-unfolding image
-image-length front n p m q k j = omega (arith, length-append p q)
-image-length back n p m q k j = omega (arith, length-append q p)
+image-length : {s o : Side} (b : Beside s o) (n : ℕ) (p : List ℕ) (m : ℕ) (q : List ℕ) → length p ≡ s .width * 8 → length q ≡ o .width * 8 → length (sidesLaid b n p m q) ≡ 210
+unfolding sidesLaid
+image-length ofRequests n p m q k j = omega (arith, length-append p q)
+image-length ofResponses n p m q k j = omega (arith, length-append q p)
 
 module _ {s o : Side} (b : Beside s o) (w : List ℕ) (l : length w ≡ 210) where
   pub joined-210 : (row : List ℕ) → length row ≡ s .width → rowsWaiting s w < 8 → length (rowJoined s row w) ≡ 210
@@ -163,14 +163,14 @@ module _ {s o : Side} (b : Beside s o) (w : List ℕ) (l : length w ≡ 210) whe
 -- ---- the other side is as it was
 -- wherever a number and places are put on a side
 module _ {s o : Side} (b : Beside s o) (n : ℕ) (p : List ℕ) (m : ℕ) (q : List ℕ) (k : length p ≡ s .width * 8) (j : length q ≡ o .width * 8) where
-  side-beside : sideIn o (image b n p m q) ≡ m ∷ q
-  side-beside = rw (image-beside b n p m q) (side-in (beside b) m q n p j k)
+  side-beside : sideIn o (sidesLaid b n p m q) ≡ m ∷ q
+  side-beside = rw (image-turned b n p m q) (side-in (turned b) m q n p j k)
 
-  rows-beside : waitingRows o (image b n p m q) ≡ rows (o .width) (min 8 m) q
-  rows-beside = rw (image-beside b n p m q) (rows-in (beside b) m q n p j k)
+  rows-beside : waitingRows o (sidesLaid b n p m q) ≡ rows (o .width) (min 8 m) q
+  rows-beside = rw (image-turned b n p m q) (rows-in (turned b) m q n p j k)
 
 stays-beside : {s o : Side} (b : Beside s o) (n : ℕ) (p : List ℕ) (m : ℕ) (q : List ℕ) → length p ≡ s .width * 8 → length q ≡ o .width * 8 →
-    (x : ℕ) (r : List ℕ) → length r ≡ s .width * 8 → Stays o (image b n p m q) (image b x r m q)
+    (x : ℕ) (r : List ℕ) → length r ≡ s .width * 8 → Stays o (sidesLaid b n p m q) (sidesLaid b x r m q)
 stays-beside b n p m q k j x r i =
     record {
       everyWord = side-beside b x r m q i j ∙ sym (side-beside b n p m q k j);

@@ -10,12 +10,12 @@ use Rattle.queue.specs.declared.Request.{Request}
 use Rattle.queue.specs.Queue.{Signed, Lists}
 use Rattle.queue_image.specs.Image.{rows, requestIn, responseIn, listsIn, requestWords, responseWords, flat, padded, queueWords, requestFits, responseFits, Exact}
 use Rattle.queue_image.specs.Sides.{Side, requestSide, responseSide, rowsWaiting, rowJoined, rowDropped}
-use Rattle.queue_image.specs.Waits.{Beside, front, back, waitingRows, Stays}
+use Rattle.queue_image.specs.Waits.{Beside, ofRequests, ofResponses, waitingRows, Stays}
 use Rattle.queue_image.proofs.Rows.{rows-length, flat-length, padded-length}
 use Rattle.queue_image.proofs.Sides.{request-wide, response-wide}
 use Rattle.queue_image.proofs.Inverse.{request-back, response-back, zeros-in, zeros-out}
 use Rattle.queue_image.proofs.Blocks.{rows-within, joined-padded, dropped-padded}
-use Rattle.queue_image.proofs.Moves.{image, joined-in, dropped-in, joined-waits, dropped-waits, joined-beside, dropped-beside}
+use Rattle.queue_image.proofs.Moves.{sidesLaid, joined-in, dropped-in, joined-waits, dropped-waits, joined-beside, dropped-beside}
 
 -- ---- a side as it is read: each row that waits
 module _ {A : Type 0} (f : List ℕ → A) where
@@ -71,9 +71,9 @@ module _ (w : List ℕ) (l : length w ≡ 210) where
   request-joined r y h =
       let n : rowsWaiting requestSide w < 8 = omega (arith, requests-number w) in
       rw (
-        read-joined requestIn front w l (requestWords r) (request-wide r) h,
+        read-joined requestIn ofRequests w l (requestWords r) (request-wide r) h,
         request-back r y,
-        read-beside responseIn responseSide w _ (joined-beside front w l (requestWords r) (request-wide r) n),
+        read-beside responseIn responseSide w _ (joined-beside ofRequests w l (requestWords r) (request-wide r) n),
       )
 
   pub response-joined : (r : Signed) → Yes (responseFits r) → length (listsIn w .responses) < 8 →
@@ -82,18 +82,18 @@ module _ (w : List ℕ) (l : length w ≡ 210) where
   response-joined r y h =
       let n : rowsWaiting responseSide w < 8 = omega (arith, responses-number w) in
       rw (
-        read-beside requestIn requestSide w _ (joined-beside back w l (responseWords r) (response-wide r) n),
-        read-joined responseIn back w l (responseWords r) (response-wide r) h,
+        read-beside requestIn requestSide w _ (joined-beside ofResponses w l (responseWords r) (response-wide r) n),
+        read-joined responseIn ofResponses w l (responseWords r) (response-wide r) h,
         response-back r y,
       )
 
   pub request-dropped : listsIn (rowDropped requestSide w) ≡ record { requests = drop 1 (listsIn w .requests); responses = listsIn w .responses }
   unfolding listsIn
-  request-dropped = rw (read-dropped requestIn front w l, read-beside responseIn responseSide w _ (dropped-beside front w l))
+  request-dropped = rw (read-dropped requestIn ofRequests w l, read-beside responseIn responseSide w _ (dropped-beside ofRequests w l))
 
   pub response-dropped : listsIn (rowDropped responseSide w) ≡ record { requests = listsIn w .requests; responses = drop 1 (listsIn w .responses) }
   unfolding listsIn
-  response-dropped = rw (read-beside requestIn requestSide w _ (dropped-beside back w l), read-dropped responseIn back w l)
+  response-dropped = rw (read-beside requestIn requestSide w _ (dropped-beside ofResponses w l), read-dropped responseIn ofResponses w l)
 
 -- ---- the image of a queue, after each move: that of the lists after it
 module _ {A : Type 0} (f : A → List ℕ) (width : ℕ) (wide : (x : A) → length (f x) ≡ width) where
@@ -103,7 +103,7 @@ module _ {A : Type 0} (f : A → List ℕ) (width : ℕ) (wide : (x : A) → len
 -- a side of what waits and zeros, beside anything
 module _ {A : Type 0} (f : A → List ℕ) {s o : Side} (b : Beside s o) (wide : (x : A) → length (f x) ≡ s .width) (l : List A) (m : ℕ) (q : List ℕ) (j : length q ≡ o .width * 8) where
   abbrev laidOut : List A → List ℕ
-  laidOut t = image b (length t) (padded (s .width * 8) (flat f t)) m q
+  laidOut t = sidesLaid b (length t) (padded (s .width * 8) (flat f t)) m q
 
   laid-joined : (x : A) → length l < 8 → rowJoined s (f x) (laidOut l) ≡ laidOut (l ++ (x ∷ []))
   laid-joined x h =
@@ -122,20 +122,20 @@ module _ (a : List Request) (c : List Signed) (h : length a ≤ 8) (k : length c
   queueOf x y = queueWords (record { requests = x; responses = y })
 
   requests-join : (r : Request) → length a < 8 → rowJoined requestSide (requestWords r) (queueOf a c) ≡ queueOf (a ++ (r ∷ [])) c
-  unfolding queueWords image
-  requests-join r n = laid-joined requestWords front request-wide a (length c) (padded 128 (flat responseWords c)) (places-length responseWords 16 response-wide c k) r n
+  unfolding queueWords sidesLaid
+  requests-join r n = laid-joined requestWords ofRequests request-wide a (length c) (padded 128 (flat responseWords c)) (places-length responseWords 16 response-wide c k) r n
 
   requests-drop : rowDropped requestSide (queueOf a c) ≡ queueOf (drop 1 a) c
-  unfolding queueWords image
-  requests-drop = laid-dropped requestWords front request-wide a (length c) (padded 128 (flat responseWords c)) (places-length responseWords 16 response-wide c k) h
+  unfolding queueWords sidesLaid
+  requests-drop = laid-dropped requestWords ofRequests request-wide a (length c) (padded 128 (flat responseWords c)) (places-length responseWords 16 response-wide c k) h
 
   responses-join : (r : Signed) → length c < 8 → rowJoined responseSide (responseWords r) (queueOf a c) ≡ queueOf a (c ++ (r ∷ []))
-  unfolding queueWords image
-  responses-join r n = laid-joined responseWords back response-wide c (length a) (padded 80 (flat requestWords a)) (places-length requestWords 10 request-wide a h) r n
+  unfolding queueWords sidesLaid
+  responses-join r n = laid-joined responseWords ofResponses response-wide c (length a) (padded 80 (flat requestWords a)) (places-length requestWords 10 request-wide a h) r n
 
   responses-drop : rowDropped responseSide (queueOf a c) ≡ queueOf a (drop 1 c)
-  unfolding queueWords image
-  responses-drop = laid-dropped responseWords back response-wide c (length a) (padded 80 (flat requestWords a)) (places-length requestWords 10 request-wide a h) k
+  unfolding queueWords sidesLaid
+  responses-drop = laid-dropped responseWords ofResponses response-wide c (length a) (padded 80 (flat requestWords a)) (places-length requestWords 10 request-wide a h) k
 
 -- ---- an exact image stays one
 pub zeros-exact : Exact (replicate 210 0)

@@ -9,8 +9,8 @@ use Rattle.queue_image.specs.Sides.{Side, requestSide, responseSide}
 
 -- either side with the other one
 pub data Beside : Side → Side → Type 0 where
-  front : Beside requestSide responseSide
-  back : Beside responseSide requestSide
+  ofRequests : Beside requestSide responseSide
+  ofResponses : Beside responseSide requestSide
 
 -- the rows that wait on a side: those that `listsIn` reads
 unfoldable pub waitingRows : Side → List ℕ → List (List ℕ)
