@@ -5,3 +5,4 @@ pub mod Fits
 pub mod Blocks
 pub mod Moves
 pub mod Waits
+pub mod Becomes
