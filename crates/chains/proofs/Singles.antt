@@ -3,14 +3,19 @@
 use Prim.Native.Nat.{ℕ}
 use mathlib.Core.Path.{_≡_, refl, sym, ap, _∙_}
 use mathlib.Core.List.{List, [], _∷_, map}
-use lib.ListN.{getD}
+use lib.ListN.{length, getD}
+use Rattle.words.specs.Tests.{Yes}
+use Rattle.words.specs.Word.{areWords}
 use Rattle.runtime.specs.declared.Kind.{Kind}
 use Rattle.runtime.specs.declared.Kind.the-variants.{ForwardError, Delegate, Undelegate, RealmKey, PlatformToken, Features, TokenSigning, KeyUpdate, Unlisted}
 use Rattle.runtime.specs.Step.{kindOf, afterMove, afterKey, afterToken, afterSigning, afterUpdate, callBy, callOf, replyCode, needsOf}
-use Rattle.images.specs.Image.{workWords, replyRegisters, replyWords}
+use Rattle.runtime.specs.Run.{worldAfter}
+use Rattle.images.specs.Image.{granulesOf, workWords, replyRegisters, replyWords}
+use Rattle.queue_image.specs.Image.{each, areBytes}
 use Rattle.potterbeam.specs.Exports.{moveLeft, moveIn, tokenLeft, tokenIn, signingLeft, signingIn, sessionLeft, queueLeft, CallLeft, callLeft, callLent, callIn}
-use Rattle.chains.specs.Chain.{Lent, lentOn, commandLeft, lentAfter, allAfter}
+use Rattle.chains.specs.Chain.{Lent, lentWorld, lentOn, commandLeft, allAfter, ofBytes}
 use Rattle.chains.specs.Exported.{Exported, pbeam-delegate, pbeam-undelegate, pbeam-realm-key, pbeam-platform-token, pbeam-features, pbeam-token-signing, pbeam-key-update, pbeam-forward, pbeam-call, pbeam-sign, exportLeft, commandOf, exportFor, allExported}
+use Rattle.chains.proofs.Runs.{run-chain}
 
 module _ (granules : List ℕ) (m : Lent) where
   -- a call by the kind of its id
@@ -48,8 +53,13 @@ module _ (granules : List ℕ) (m : Lent) where
   single (pbeam-sign signature) = refl
 
 -- any sequence of exports leaves what the sequence of their commands leaves
-pub exports-commands : (granules : List ℕ) (m : Lent) (es : List Exported) → allExported granules m es ≡ allAfter granules m (map commandOf es)
+exports-commands : (granules : List ℕ) (m : Lent) (es : List Exported) → allExported granules m es ≡ allAfter granules m (map commandOf es)
 unfolding allExported allAfter
 exports-commands granules m [] = refl
 exports-commands granules m (e ∷ es) =
     exports-commands granules (lentOn (exportLeft granules m e)) es ∙ ap (λ (l : CallLeft). allAfter granules (lentOn l) (map commandOf es)) (single granules m e)
+
+-- from an image of 210 words and a page of bytes, with bytes lent to each
+module _ (granules : List ℕ) (m : Lent) (es : List Exported) (l : length (m .queue) ≡ 210) (w : Yes (areWords (m .queue))) (a : Yes (areBytes (m .page))) (b : Yes (each ofBytes (map commandOf es))) where
+  pub exports-chain : lentWorld (allExported granules m es) ≡ worldAfter (granulesOf granules) (lentWorld m) (map commandOf es)
+  exports-chain = ap lentWorld (exports-commands granules m es) ∙ run-chain granules m (map commandOf es) l w a b
