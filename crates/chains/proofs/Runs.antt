@@ -28,7 +28,7 @@ use Rattle.runtime.specs.Run.{worldAfter}
 use Rattle.images.specs.Image.{granulesOf}
 use Rattle.queue_image.specs.Image.{listsIn, queueWords, each, areBytes, responseFits, eightFit, queueFits}
 use Rattle.queue_image.proofs.Fits.{image-fits, each-append, low-bytes, part-bytes, splice-bytes, queue-words, queue-length}
-use Rattle.chains.specs.Chain.{Lent, lentWorld, lentAfter, allAfter, ofBytes}
+use Rattle.chains.specs.Chain.{Lent, lentWorld, commandLeft, lentAfter, allAfter, ofBytes}
 use Rattle.runtime.specs.declared.Needs.{Needs}
 use Rattle.potterbeam.specs.Exports.{queueAfter, signLeft, signIn, queueLeft, callLeft, callIn}
 use Rattle.chains.proofs.Chain.{if-ok-holds, signed-fits, call-fits, sign-chain, call-chain}
@@ -107,14 +107,14 @@ module _ (granules : List ℕ) where
     queue-fits = image-fits (m .queue) (eqb-true _ _ (both-l _ _ (both-r _ _ h))) (both-r _ _ (both-r _ _ h))
 
     step-sound : (c : Command) → Yes (ofBytes c) → Yes (sound (lentAfter granules m c))
-    unfolding sound lentAfter callIn callLeft signIn signLeft callOf ofBytes
+    unfolding sound commandLeft callIn callLeft signIn signLeft callOf ofBytes
     step-sound (call c) b =
         both-of _ _ (call-bytes (kindOf (c .id)) (granulesOf granules) (lentWorld m) c page-bytes queue-fits b)
         (needs-whole _ _ _ (m .queue) (both-r _ _ h) (call-fits (kindOf (c .id)) (granulesOf granules) (lentWorld m) c page-bytes queue-fits))
     step-sound (sign s) b = both-of _ _ page-bytes (left-whole _ _ (m .queue) (both-r _ _ h) (signed-fits (listsIn (m .queue)) s b queue-fits))
 
     step-chain : (c : Command) → Yes (ofBytes c) → lentWorld (lentAfter granules m c) ≡ stepOf (granulesOf granules) (lentWorld m) c .next
-    unfolding sound lentAfter stepOf afterSign ofBytes
+    unfolding sound commandLeft stepOf afterSign ofBytes
     step-chain (call c) b = call-chain granules (m .session) (m .queue) (m .page) (m .table) c (eqb-true _ _ (both-l _ _ (both-r _ _ h))) (both-r _ _ (both-r _ _ h)) page-bytes
     step-chain (sign s) b = rw (sign-chain (m .queue) (eqb-true _ _ (both-l _ _ (both-r _ _ h))) (both-r _ _ (both-r _ _ h)) s b)
 

@@ -4,3 +4,7 @@ pub mod Inverse
 pub mod Fits
 pub mod InPlace
 pub mod Steps
+pub mod Blocks
+pub mod Moves
+pub mod Waits
+pub mod Becomes
