@@ -8,7 +8,7 @@ use native.Mathlib.Omega.{arith}
 use lib.Bits.{bitOr, and-le-l, and-le-r, or-lt, or-add-and, or-mod, or-zero-l}
 use lib.Dec.{ltb, eqb}
 use borrow.Author.Tests.{eq-eqb, ne-eqb, eqb-true, lt-ltb, ltb-true, le-leb, leb-true}
-use Rattle.words.specs.Tests.{both, every}
+use Rattle.words.specs.Tests.{both, either, every}
 use Rattle.words.specs.Word.{wordAt}
 use Rattle.words.proofs.Tests.{both-l, both-r, both-of, same-test}
 use Rattle.entries.specs.Entry.{wordsPerEntry, bankOk, flagsOk, consoleOk, entryRule}
@@ -69,11 +69,23 @@ bank-more b d f =
     rw (or-low (b .low) (d .low), or-below 53 (b .low) (d .low), or-below 52 (b .high) (d .high))
     (mix (eqb (b .low % 4096) 0) (eqb (d .low % 4096) 0) (ltb (b .low) (2 ^ 53)) (ltb (d .low) (2 ^ 53)) (ltb (b .high) (2 ^ 52)) (ltb (d .high) (2 ^ 52)))
 
+-- flags that pass, of some consoles and of one more
+pass-more : (x y z : Bool) → either (both x y) z ≡ both (either x z) (either y z)
+unfolding either both
+pass-more true y z = refl
+pass-more false y false = refl
+pass-more false true true = refl
+pass-more false false true = refl
+
+flags-more : (w a c : ℕ) → flagsOk w (bitOr a c) ≡ both (flagsOk w a) (flagsOk w c)
+unfolding flagsOk
+flags-more w a c = rw (or-none a c) (pass-more (eqb a 0) (eqb c 0) (ltb 4 w))
+
 console-more : (w : ℕ) (b d : Bits) → consoleClear w (more b d) ≡ both (consoleClear w b) (consoleClear w d)
-unfolding consoleClear flagsOk
+unfolding consoleClear
 console-more w b d =
-    rw (or-low (b .low) (d .low), or-below 40 (b .high) (d .high), or-none (b .flags) (d .flags))
-    (mix (eqb (b .low % 4096) 0) (eqb (d .low % 4096) 0) (ltb (b .high) (2 ^ 40)) (ltb (d .high) (2 ^ 40)) (eqb (b .flags) 0) (eqb (d .flags) 0))
+    rw (or-low (b .low) (d .low), or-below 40 (b .high) (d .high), flags-more w (b .flags) (d .flags))
+    (mix (eqb (b .low % 4096) 0) (eqb (d .low % 4096) 0) (ltb (b .high) (2 ^ 40)) (ltb (d .high) (2 ^ 40)) (flagsOk w (b .flags)) (flagsOk w (d .flags)))
 
 -- ---- one entry
 bank-one : (base size span last f : ℕ) → base < 2 ^ 64 → size < 2 ^ 64 → span < 2 ^ 64 → (span + 1) % 2 ^ 64 ≡ size → last ≡ (base + span) % 2 ^ 64 →
@@ -149,3 +161,13 @@ module _ (w at i : ℕ) (page : List ℕ) (r : Bool) where
       let o : at + 8 * (6 * i) ≡ at + 48 * i = omega arith in
       let g : entryAt w 1 (entryPlace 1 at i) page ≡ consoleOk w base pages f = rw (o, ← p, ← q, ← z) in
       e ∙ ap (both (entriesAt w 1 at i page)) (sym g) ∙ entries-step w 1 at i page
+
+-- from minor 5 on any flags pass
+either-late : (b : Bool) → either b true ≡ true
+unfolding either
+either-late true = refl
+either-late false = refl
+
+pub clear-later : (w : ℕ) (b : Bits) → b .low % 4096 ≡ 0 → b .high < 2 ^ 40 → 4 < w → true ≡ consoleClear w b
+unfolding consoleClear flagsOk both
+clear-later w b l h m = rw (eq-eqb (b .low % 4096) 0 l, lt-ltb (b .high) (2 ^ 40) h, lt-ltb 4 w m) (sym (either-late (eqb (b .flags) 0)))

@@ -5,7 +5,7 @@ use mathlib.Core.Bool.{Bool, cond}
 use mathlib.Core.List.{List, [], _∷_}
 use lib.ListN.{getD}
 use lib.Dec.{leb, ltb, eqb}
-use Rattle.words.specs.Tests.{both, every}
+use Rattle.words.specs.Tests.{both, either, every}
 
 -- words in an entry of section k: "A bank or region entry is 16 bytes: base, size. A console entry is 48 bytes: base,
 -- map_pages, name (8 bytes), clk_in_hz, baud_rate, flags."
@@ -22,9 +22,9 @@ size k c = 8 * (wordsPerEntry k * c)
 unfoldable pub bankOk : ℕ → ℕ → Bool
 bankOk b s = both (eqb (b % 4096) 0) (both (eqb (s % 4096) 0) (both (ltb 0 s) (leb (b + s) (2 ^ 52))))
 
--- "flags 0". The rule may look at the page's minor w; at present it is the same for each.
+-- "flags 0", as 02, E3 amends it: "flags must be zero only when the page's minor is 4 or less", w being the page's minor
 unfoldable pub flagsOk : ℕ → ℕ → Bool
-flagsOk w f = eqb f 0
+flagsOk w f = either (eqb f 0) (ltb 4 w)
 
 -- "console: base a multiple of 4,096, map_pages not 0, base + 4,096 x map_pages at most 2^52, flags 0"
 unfoldable pub consoleOk : ℕ → ℕ → ℕ → ℕ → Bool
@@ -42,9 +42,22 @@ entryOk w k ws j = entryRule w k (getD ws j 0) (getD ws (j + 1) 0) (getD ws (j +
 unfoldable pub entriesOk : ℕ → ℕ → ℕ → List ℕ → Bool
 entriesOk w k c ws = every c (λ i. entryOk w k ws (wordsPerEntry k * i))
 
--- the entries of section k as they are shown on a page of minor w: at present as they stand
+-- words with zero for the one at place n, and for each sixth one from there
+unfoldable pub sixthCleared : ℕ → List ℕ → List ℕ
+sixthCleared n [] = []
+sixthCleared zero (w ∷ ws) = 0 ∷ sixthCleared 5 ws
+sixthCleared (suc n) (w ∷ ws) = w ∷ sixthCleared n ws
+
+-- the entries of section k as they are shown on a page of minor w. 02, E3: "For minor 5 and above .. any value passes, and the console
+-- is shown and listed with flags 0, while the array lookup gives the page's bytes."
 unfoldable pub shownWords : ℕ → ℕ → List ℕ → List ℕ
-shownWords w k ws = ws
+shownWords w zero ws = ws
+shownWords w (suc zero) ws = cond (ltb 4 w) (sixthCleared 5 ws) ws
+shownWords w (suc (suc k)) ws = ws
+
+-- whether word j of an entry is one that is shown as 0
+unfoldable pub isHidden : ℕ → ℕ → ℕ → Bool
+isHidden w k j = both (eqb k 1) (both (eqb j 5) (ltb 4 w))
 
 unfoldable pub sum : List ℕ → ℕ
 sum [] = 0

@@ -109,6 +109,9 @@ pub fn consoles_clear(bits: Bits, minor: u64) -> bool
     if 0x100_0000_0000 <= bits.high {
         return false;
     }
+    if 4 < minor {
+        return true;
+    }
     if bits.flags != 0 {
         return false;
     }
