@@ -6,15 +6,16 @@ use mathlib.Core.List.{List}
 use native.Mathlib.Omega.{arith}
 use lib.ListN.{length}
 use lib.ListN.{getD, List·getD-eq-default}
-use lib.Dec.{leb, ltb}
+use lib.Dec.{leb, ltb, lit≤}
 use native.Mathlib.Nat.{mul-suc, mul-le-mul-left}
-use borrow.Author.Tests.{leb-true, le-leb, lt-leb, le-ltb, lt-ltb}
+use borrow.Author.Tests.{leb-true, ltb-true, le-leb, lt-leb, le-ltb, lt-ltb}
 use Rattle.words.specs.Word.{part, wordAt, wordsOf, spanAt, spanned, noSpan}
 use Rattle.words.proofs.Read.{wordsOf-length}
 use Rattle.words.proofs.Store.{span-none, span-in}
-use Rattle.entries.specs.Entry.{wordsPerEntry, size, shownWords}
+use Rattle.entries.specs.Entry.{wordsPerEntry, size, shownWords, isHidden}
 use Rattle.entries.specs.Array.{wordsAt, entryPlace}
 use Rattle.entries.proofs.Entries.{word-in}
+use Rattle.entries.proofs.Flags.{shown-plain, shown-word}
 use Rattle.reader.specs.Answer.{empty, full, bytesIn, lookIn, lookOf, countIn, entryCount, entryWord, wordIn, readOf}
 use Rattle.reader.specs.Reading.{sectionOf, shownAs, readingAnswer, readingOf}
 use Rattle.reader.specs.declared.Section.{Section}
@@ -67,12 +68,32 @@ cond-none : (b : Bool) → _≡_ {A = ℕ} (cond b 0 0) 0
 cond-none true = refl
 cond-none false = refl
 
-module _ (w k at count i j : ℕ) (page : List ℕ) where
-  by-tests : wordOf w k i j (Entries at count) page ≡ cond (leb (at + size k count) (length page)) (cond (ltb j (wordsPerEntry k)) (getD (wordsAt k count at page) (wordsPerEntry k * i + j) 0) 0) 0
-  unfolding wordOf shownAs shownWords
-  by-tests = word-cond k i j (leb (at + size k count) (length page)) (wordsAt k count at page) (part at (size k count) page)
+swap : (b c : Bool) (x : ℕ) → cond c (cond b 0 x) 0 ≡ cond b 0 (cond c x 0)
+swap true true x = refl
+swap true false x = refl
+swap false c x = refl
 
-  pub word-narrow : wordsPerEntry k ≤ j → 0 ≡ wordOf w k i j (Entries at count) page
+none : (b c : Bool) → _≡_ {A = ℕ} (cond c 0 0) (cond b 0 (cond c 0 0))
+none true c = cond-none c
+none false c = refl
+
+module _ (k at count i j : ℕ) (page : List ℕ) where
+  by-shown : (w : ℕ) → wordOf w k i j (Entries at count) page ≡ cond (leb (at + size k count) (length page)) (cond (ltb j (wordsPerEntry k)) (getD (shownWords w k (wordsAt k count at page)) (wordsPerEntry k * i + j) 0) 0) 0
+  unfolding wordOf shownAs
+  by-shown w = word-cond k i j (leb (at + size k count) (length page)) (shownWords w k (wordsAt k count at page)) (part at (size k count) page)
+
+  by-tests : wordOf 0 k i j (Entries at count) page ≡ cond (leb (at + size k count) (length page)) (cond (ltb j (wordsPerEntry k)) (getD (wordsAt k count at page) (wordsPerEntry k * i + j) 0) 0) 0
+  by-tests = by-shown 0 ∙ rw (shown-plain 0 k (lit≤ tt) (wordsAt k count at page))
+
+  -- a word that is shown as 0, and one that is shown as it stands
+  hidden-tests : (b : Bool) (w : ℕ) → isHidden w k j ≡ b → wordOf w k i j (Entries at count) page ≡ cond b 0 (wordOf 0 k i j (Entries at count) page)
+  hidden-tests b w h = go (ltb j (wordsPerEntry k)) refl
+    where
+      go : (c : Bool) → ltb j (wordsPerEntry k) ≡ c → wordOf w k i j (Entries at count) page ≡ cond b 0 (wordOf 0 k i j (Entries at count) page)
+      go true e = by-shown w ∙ rw (e, shown-word w k i j (wordsAt k count at page) (ltb-true j (wordsPerEntry k) e), h, by-tests, e) (swap b (leb (at + size k count) (length page)) _)
+      go false e = by-shown w ∙ rw (e, by-tests, e) (none b (leb (at + size k count) (length page)))
+
+  pub word-narrow : wordsPerEntry k ≤ j → 0 ≡ wordOf 0 k i j (Entries at count) page
   word-narrow h = sym (by-tests ∙ rw (le-ltb j (wordsPerEntry k) h) (cond-none (leb (at + size k count) (length page))))
 
   past : count ≤ i → getD (wordsAt k count at page) (wordsPerEntry k * i + j) 0 ≡ 0
@@ -81,17 +102,30 @@ module _ (w k at count i j : ℕ) (page : List ℕ) where
       List·getD-eq-default (wordsOf (wordsPerEntry k * count) (part at (size k count) page)) 0
       (rw wordsOf-length (omega (arith, mul-le-mul-left (wordsPerEntry k) h)))
 
-  pub word-past : count ≤ i → 0 ≡ wordOf w k i j (Entries at count) page
+  pub word-past : count ≤ i → 0 ≡ wordOf 0 k i j (Entries at count) page
   word-past h = sym (by-tests ∙ rw (past h, cond-none (ltb j (wordsPerEntry k))) (cond-none (leb (at + size k count) (length page))))
 
-  pub word-out : length page < at + size k count → 0 ≡ wordOf w k i j (Entries at count) page
+  pub word-out : length page < at + size k count → 0 ≡ wordOf 0 k i j (Entries at count) page
   word-out h = sym (by-tests ∙ rw (lt-leb (at + size k count) (length page) h))
 
-  pub word-there : at + size k count ≤ length page → i < count → j < wordsPerEntry k → wordAt (at + 8 * (wordsPerEntry k * i + j)) page ≡ wordOf w k i j (Entries at count) page
+  pub word-there : at + size k count ≤ length page → i < count → j < wordsPerEntry k → wordAt (at + 8 * (wordsPerEntry k * i + j)) page ≡ wordOf 0 k i j (Entries at count) page
   unfolding entryPlace
   word-there h l m =
       sym (by-tests ∙ rw (le-leb (at + size k count) (length page) h, lt-ltb j (wordsPerEntry k) m, word-in k at i count page l j m)
       (ap (λ x. wordAt x page) (let e : at + 8 * (wordsPerEntry k * i) + 8 * j ≡ at + 8 * (wordsPerEntry k * i + j) = omega arith in e)))
+
+-- any section
+pub word-shown : (w k i j : ℕ) (s : Section) (page : List ℕ) → isHidden w k j ≡ false → wordOf 0 k i j s page ≡ wordOf w k i j s page
+unfolding wordOf shownAs entryWord
+word-shown w k i j Absent page h = refl
+word-shown w k i j Empty page h = refl
+word-shown w k i j (Entries at count) page h = sym (hidden-tests k at count i j page false w h)
+
+pub word-hidden : (w k i j : ℕ) (s : Section) (page : List ℕ) → isHidden w k j ≡ true → 0 ≡ wordOf w k i j s page
+unfolding wordOf shownAs entryWord
+word-hidden w k i j Absent page h = refl
+word-hidden w k i j Empty page h = refl
+word-hidden w k i j (Entries at count) page h = sym (hidden-tests k at count i j page true w h)
 
 -- word j of entry i, below count, lies in the array's words
 pub word-place : (i count j w : ℕ) → i < count → j < w → w * i + j < w * count

@@ -9,6 +9,7 @@ ghost use lib.ListN.{length};
 ghost use Rattle.words.specs.Word.{spanned};
 ghost use Rattle.reader.specs.Answer.{lookIn, lookOf, countIn, wordIn, readOf};
 ghost use Rattle.reader.specs.Reading.{sectionOf, readingAnswer};
+ghost use Rattle.entries.specs.Entry.{isHidden};
 ghost use Rattle.lookup.specs.Lookup.{spanOf, spanIn, wordOf};
 
 // Where count entries of section k at an offset lie in a page of so many bytes; nowhere where they do not lie within it.
@@ -59,9 +60,22 @@ pub fn count_of(page: &[u8], view: View, k: usize) -> usize
     array.len() / (8 * entries::entry_words(k))
 }
 
-// Word j of entry i of count entries of section k at an offset, on a page of that minor; 0 where there is no such word.
-fn word_at(page: &[u8], minor: u64, k: usize, at: usize, count: usize, i: usize, j: usize) -> u64
-    ensures { λ r. ⌜ r ≡ wordOf minor k i j (Section.Entries at count) (now (page .entry)) ⌝ }
+// Whether word j of an entry is shown as 0: a console's flags, from minor 5 on.
+fn is_hidden(minor: u64, k: usize, j: usize) -> bool
+    ensures { λ r. ⌜ r ≡ isHidden minor k j ⌝ }
+{
+    if k != 1 {
+        return false;
+    }
+    if j != 5 {
+        return false;
+    }
+    4 < minor
+}
+
+// Word j of entry i of count entries of section k at an offset, as it stands: as a page of minor 0 shows it. 0 where there is no such word.
+fn word_at(page: &[u8], k: usize, at: usize, count: usize, i: usize, j: usize) -> u64
+    ensures { λ r. ⌜ r ≡ wordOf 0 k i j (Section.Entries at count) (now (page .entry)) ⌝ }
 {
     let step = entries::entry_words(k);
     if step <= j {
@@ -83,10 +97,13 @@ fn word_at(page: &[u8], minor: u64, k: usize, at: usize, count: usize, i: usize,
 fn word_in(page: &[u8], minor: u64, section: Section, k: usize, i: usize, j: usize) -> u64
     ensures { λ r. ⌜ r ≡ wordOf minor k i j section (now (page .entry)) ⌝ }
 {
+    if is_hidden(minor, k, j) {
+        return 0;
+    }
     match section {
         Section::Absent => 0,
         Section::Empty => 0,
-        Section::Entries { at, count } => word_at(page, minor, k, at, count, i, j),
+        Section::Entries { at, count } => word_at(page, k, at, count, i, j),
     }
 }
 
