@@ -3,3 +3,4 @@ pub mod Newer
 pub mod Named
 pub mod Views
 pub mod Sample
+pub mod FlagsSample

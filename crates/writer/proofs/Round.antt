@@ -18,7 +18,8 @@ use Rattle.versions.specs.Version.{versionOk}
 use Rattle.versions.specs.Edition.{sectionCount, core, editionOk}
 use Rattle.versions.proofs.Versions.{version-of, version-minor}
 use Rattle.versions.proofs.Editions.{section-count-most, section-count-mono, edition-range}
-use Rattle.entries.specs.Entry.{wordsPerEntry, size, entriesOk, shownWords, sum, checkOk}
+use Rattle.entries.specs.Entry.{wordsPerEntry, size, entriesOk, sum, checkOk}
+use Rattle.entries.proofs.Flags.{shown-plain}
 use Rattle.entries.specs.Array.{soundOf}
 use Rattle.sections.specs.Page.{placeOk, versionAt, paddingAt, inPage, arrayAt, Sec, mkSec, secAt, Plat, mkPlat, platAt}
 use Rattle.sections.specs.Section.{platOk, wordsIn, nothing, inRange, secOk, extent, apart, clearBefore, rules}
@@ -40,11 +41,6 @@ given k p (w ∷ ws) =
 -- and of the platform data
 unfoldable platGiven : ℕ → ℕ → Description → Plat
 platGiven base v d = mkPlat (platWord base v d)
-
--- up to minor 4 the entries are shown as they stand
-pub shown-plain : (v k : ℕ) → v ≤ 4 → (ws : List ℕ) → shownWords v k ws ≡ ws
-unfolding shownWords
-shown-plain v k h ws = refl
 
 -- the checksum holds, and is a word
 neg-zero : (x : ℕ) → (x + neg x) % 2 ^ 64 ≡ 0
