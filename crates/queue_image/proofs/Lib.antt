@@ -6,3 +6,5 @@ pub mod Blocks
 pub mod Moves
 pub mod Waits
 pub mod Becomes
+pub mod InPlace
+pub mod Steps

@@ -72,7 +72,7 @@ row-bytes k m at w z n e h l =
     rw (t, e) (laid-all (bytesOf (take m (drop (at + k) w))) z (bytesOf-length (take m (drop (at + k) w)) ∙ rw j (sym l)))
 
 -- ---- rows laid
-splice-none : (at : ℕ) (s : List ℕ) → s ≡ splice at [] s
+pub splice-none : (at : ℕ) (s : List ℕ) → s ≡ splice at [] s
 unfolding splice
 splice-none at s = paste-zero s at []
 
@@ -84,7 +84,7 @@ put-next at vs s x h =
     let e : at + length (vs ++ (x ∷ [])) ≡ suc (at + length vs) = omega (arith, length-append vs (x ∷ [])) in
     rw (drop-cons s (at + length vs) 0 h, set-at _ _ _ x _ l, e) (simp append-assoc)
 
-put-first : (at : ℕ) (s : List ℕ) (x : ℕ) → at < length s → set s at x ≡ splice at (x ∷ []) s
+pub put-first : (at : ℕ) (s : List ℕ) (x : ℕ) → at < length s → set s at x ≡ splice at (x ∷ []) s
 put-first at s x h = ap (λ (k : ℕ). set s k x) (sym (add-zero at)) ∙ ap (λ l. set l (at + 0) x) (splice-none at s) ∙ put-next at [] s x (omega arith)
 
 -- bytes as words

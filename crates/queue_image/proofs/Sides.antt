@@ -1,9 +1,9 @@
 -- Requests and responses as rows of words. Assumes nothing.
-use Prim.Native.Nat.{ℕ, zero, suc, _<_, _≤_}
+use Prim.Native.Nat.{ℕ, zero, suc, min, _<_, _≤_}
 use mathlib.Core.Path.{_≡_, refl, sym, ap, _∙_}
 use mathlib.Core.List.{List, [], _∷_, map}
 use native.Mathlib.Omega.{arith}
-use lib.ListN.{length, take, drop, getD, replicate, length-map}
+use lib.ListN.{length, take, drop, getD, replicate, length-map, length-take}
 use Rattle.words.specs.Word.{part, splice}
 use Rattle.words.proofs.Read.{wordsOf-length}
 use Rattle.words.proofs.Store.{bytes-in, laid-all}
@@ -11,7 +11,6 @@ use Rattle.queue.specs.declared.Request.{Request}
 use Rattle.queue.specs.declared.Response.{Response}
 use Rattle.queue.specs.declared.Responses.{Responses}
 use Rattle.queue.specs.declared.Queue.{Queue}
-use Rattle.queue.proofs.Sides.{count-over, count-within}
 use Rattle.queue.specs.Queue.{Signed, waiting, held, ready, signedIn, listsOf, oldestRequest}
 use Rattle.queue_image.specs.Image.{rows, requestIn, heldIn, responseIn, listsIn, requestWords, responseWords, flat, queueWords, oldestWords}
 use Rattle.queue_image.proofs.Rows.{rows-length, flat-map, flat-length, sides-in}
@@ -67,11 +66,9 @@ module _ (w : List ℕ) where
     eight-rows : length (map f (rows width 8 (drop at w))) ≡ 8
     eight-rows = simp (length-map, rows-length)
 
-    pub says-more : 8 < n → 8 ≡ length (take n (map f (rows width 8 (drop at w))))
-    says-more h = sym (count-over n (map f (rows width 8 (drop at w))) eight-rows h)
-
-    pub says-all : n ≤ 8 → n ≡ length (take n (map f (rows width 8 (drop at w))))
-    says-all h = sym (count-within n (map f (rows width 8 (drop at w))) eight-rows h)
+    -- as many as the number says, at most eight
+    pub waits : min 8 n ≡ length (take n (map f (rows width 8 (drop at w))))
+    waits = omega (arith, length-take n (map f (rows width 8 (drop at w))), eight-rows)
 
   pub no-request : getD w 0 0 ≡ 0 → replicate 10 0 ≡ oldestWords (listsIn w .requests)
   unfolding listsIn oldestWords
