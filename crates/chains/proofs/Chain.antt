@@ -23,7 +23,7 @@ use Rattle.granules.specs.declared.Granules.{Granules}
 use Rattle.token.specs.Token.{TokenStep, tokenOf}
 use Rattle.token.proofs.Tokens.{token-refused}
 use Rattle.queue.specs.declared.Request.{Request}
-use Rattle.queue.specs.Queue.{Lists, SigningStep, oldestRequest}
+use Rattle.queue.specs.Queue.{Lists, SigningStep, noRequest, oldestRequest}
 use Rattle.requests.specs.Push.{requestOf, pushCode, pushed}
 use Rattle.responses.specs.Pull.{pulled}
 use Rattle.responses.specs.Sign.{signCode, signedBy, signed, SignStep, signOf}
@@ -104,7 +104,7 @@ signing-fits r page q key op pa size curve a f =
 
 -- the signer's own step: the response has the granule and the ticket of the oldest request
 oldest-words : (l : List Request) → Yes (each requestFits l) → Yes (areWords (oldestRequest l .granule ∷ oldestRequest l .ticket ∷ []))
-unfolding oldestRequest each requestFits areWords
+unfolding oldestRequest noRequest each requestFits areWords
 oldest-words [] h = words-cons 0 (0 ∷ []) (lit≤ tt) (words-cons 0 [] (lit≤ tt) refl)
 oldest-words (r ∷ l) h =
     let w = both-r _ _ (both-l _ _ (both-l _ _ h)) in

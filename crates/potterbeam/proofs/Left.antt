@@ -1,15 +1,20 @@
 -- What a call leaves, from what its parts promise. Assumes nothing.
 use Prim.Native.Nat.{ℕ}
-use mathlib.Core.Path.{_≡_, ap, _∙_}
+use mathlib.Core.Path.{_≡_, refl, ap, _∙_}
 use mathlib.Core.List.{List, [], _∷_}
 use lib.ListN.{getD}
 use Rattle.codes.specs.Codes.{ifOk}
 use Rattle.codes.specs.declared.Answer.{Answer}
+use Rattle.codes.specs.declared.Code.{Code}
+use Rattle.codes.proofs.Gates.{if-ok-by}
 use Rattle.granules.specs.Granules.{Moved, movedTo}
 use Rattle.token.specs.Token.{TokenStep}
 use Rattle.token.specs.declared.Session.{Session}
-use Rattle.queue.specs.Queue.{Lists, SigningStep}
-use Rattle.responses.specs.Sign.{SignStep}
+use Rattle.queue.specs.declared.Queue.{Queue}
+use Rattle.queue.specs.declared.Queued.{Queued}
+use Rattle.queue.specs.Queue.{Lists, SigningStep, SigningExit, listsOf, queueNext, signingExit, exitOf}
+use Rattle.queue.proofs.Holding.{next-lists}
+use Rattle.responses.specs.Sign.{SignStep, signExit}
 use Rattle.runtime.specs.Step.{plainWorld, Step, kindOf, afterToken, afterSigning, callBy, callOf, replyCode, needsOf}
 use Rattle.runtime.specs.declared.Needs.{Needs}
 use Rattle.runtime.specs.declared.Reply.{Reply}
@@ -27,15 +32,24 @@ pub token-left : (a : Answer) (s : Session) (image out page se : List ℕ) (t : 
 unfolding tokenLeft sessionAfter
 token-left a s image out page se t h i e = rw (h, i) (ap (λ (x : TokenStep). tokenLeft x image) e)
 
-pub signing-left : (a : Answer) (l : Lists) (image out page qe : List ℕ) (t : SigningStep) → out ≡ registerWords a → qe ≡ ifOk (a .code) (queueWords l) image →
-    record { answer = a; page = page; queue = l } ≡ t → _≡_ {A = SigningLeft} (record { out = out; page = page; queue = qe }) (signingLeft t image)
-unfolding signingLeft queueAfter
-signing-left a l image out page qe t h i e = rw (h, i) (ap (λ (x : SigningStep). signingLeft x image) e)
+-- what is written is the image of what then waits
+next-image : (k : Code) (new : Lists) (old : Queue) (image : List ℕ) → ifOk k (queueWords (listsOf (queueNext k new old))) image ≡ queueAfter k new image
+unfolding queueAfter
+next-image k new old image = rw next-lists (if-ok-by (λ (l : Lists). ifOk k (queueWords l) image ≡ ifOk k (queueWords new) image) k new (listsOf old) (λ h. refl) (λ h. rw h))
 
-pub sign-left : (a : Answer) (l : Lists) (image out qe : List ℕ) (t : SignStep) → out ≡ registerWords a → qe ≡ ifOk (a .code) (queueWords l) image →
-    record { answer = a; queue = l } ≡ t → _≡_ {A = SignLeft} (record { out = out; queue = qe }) (signLeft t image)
-unfolding signLeft queueAfter
-sign-left a l image out qe t h i e = rw (h, i) (ap (λ (x : SignStep). signLeft x image) e)
+pub signing-left : (r : Queued) (old : Queue) (image out page qe : List ℕ) (t : SigningStep) → out ≡ registerWords (r .answer) → qe ≡ ifOk (r .answer .code) (queueWords (listsOf (r .queue))) image →
+    signingExit r page ≡ exitOf old t → _≡_ {A = SigningLeft} (record { out = out; page = page; queue = qe }) (signingLeft t image)
+unfolding signingLeft exitOf
+signing-left r old image out page qe t h i e =
+    rw (h, i, ← next-image (t .answer .code) (t .queue) old image)
+    (ap (λ (x : SigningExit). record { out = registerWords (x .answer); page = x .page; queue = ifOk (x .answer .code) (queueWords (listsOf (x .queue))) image }) e)
+
+pub sign-left : (r : Queued) (old : Queue) (image out qe : List ℕ) (t : SignStep) → out ≡ registerWords (r .answer) → qe ≡ ifOk (r .answer .code) (queueWords (listsOf (r .queue))) image →
+    r ≡ signExit old t → _≡_ {A = SignLeft} (record { out = out; queue = qe }) (signLeft t image)
+unfolding signLeft signExit
+sign-left r old image out qe t h i e =
+    rw (h, i, ← next-image (t .answer .code) (t .queue) old image)
+    (ap (λ (x : Queued). record { out = registerWords (x .answer); queue = ifOk (x .answer .code) (queueWords (listsOf (x .queue))) image }) e)
 
 pub plain-left : (reply : Reply) (out work page table : List ℕ) (s : Step) → out ≡ replyRegisters reply → work ≡ replyWords reply → record { reply = reply; next = plainWorld page table } ≡ s →
     _≡_ {A = PlainLeft} (record { out = out; work = work; page = page; table = table }) (plainLeft s)

@@ -1,6 +1,6 @@
 use mathlib.Core.Path.{ap, _∙_}
 use Rattle.queue.specs.Queue.{Lists}
-use Rattle.responses.specs.Sign.{signOf}
+use Rattle.responses.specs.Sign.{signOf, signExit}
 use Rattle.potterbeam.specs.Exports.{signIn}
 use Rattle.potterbeam.proofs.Left.{sign-left}
 use borrow.Author.Needs.{needs}
@@ -28,7 +28,8 @@ unfolding signIn
 returns c =
     let a = c .before .before .before .before .before .before .before .before .before .args in
     let r = c .before .before .before .before .before .sign in
-    sign-left (r .result .answer) _ (a .queue .now) _ _ _ (c .registers .ensures) (c .before .put-queue .ensures) (r .ensures .0 ∙ ap (λ (l : Lists). signOf l (a .signature .now)) (c .before .before .before .before .before .before .queue-of .ensures))
+    let q = c .before .before .before .before .before .before .queue-of in
+    sign-left (r .result) (q .result) (a .queue .now) _ _ _ (c .registers .ensures) (c .before .put-queue .ensures) (r .ensures ∙ ap (λ (l : Lists). signExit (q .result) (signOf l (a .signature .now))) (q .ensures))
 
 pub pbeam-sign-spec : {M : Type 1} → statement M
 pbeam-sign-spec =

@@ -36,8 +36,9 @@ unfolding signingIn
 returns c =
     let a = c .before .before .before .before .before .before .before .before .before .before .before .before .before .before .args in
     let r = c .before .before .before .before .before .before .before .token-signing in
-    signing-left (r .result .answer) _ (a .queue .now) _ _ _ _ (c .registers .ensures) (c .before .put-queue .ensures)
-    (r .ensures .0 ∙ rw (c .before .before .before .before .before .before .before .before .queue-of .ensures, c .before .before .before .before .before .before .before .before .before .before .before .record-of .ensures))
+    let q = c .before .before .before .before .before .before .before .before .queue-of in
+    signing-left (r .result) (q .result) (a .queue .now) _ _ _ _ (c .registers .ensures) (c .before .put-queue .ensures)
+    (r .ensures ∙ rw (q .ensures, c .before .before .before .before .before .before .before .before .before .before .before .record-of .ensures))
 
 pub pbeam-token-signing-spec : {M : Type 1} → statement M
 pbeam-token-signing-spec =
