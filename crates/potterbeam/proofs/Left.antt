@@ -13,7 +13,7 @@ use Rattle.token.specs.declared.Session.{Session}
 use Rattle.queue.specs.declared.Queue.{Queue}
 use Rattle.queue.specs.declared.Queued.{Queued}
 use Rattle.queue.specs.Queue.{Lists, SigningStep, SigningExit, listsOf, queueNext, signingExit, exitOf}
-use Rattle.queue.proofs.Holding.{next-lists}
+use Rattle.queue.proofs.Steps.{next-lists}
 use Rattle.responses.specs.Sign.{SignStep, signExit}
 use Rattle.runtime.specs.Step.{plainWorld, Step, kindOf, afterToken, afterSigning, callBy, callOf, replyCode, needsOf}
 use Rattle.runtime.specs.declared.Needs.{Needs}

@@ -5,19 +5,15 @@ use mathlib.Core.List.{List, [], _∷_, _++_, map, map-append}
 use native.Mathlib.Nat.{zero-add, zero-sub, sub-zero, suc-sub-suc}
 use native.Mathlib.Numerals.{add-one}
 use native.Mathlib.Omega.{arith}
-use lib.ListN.{length, take, drop, getD, set, replicate, length-append, length-take, length-drop, length-replicate, length-map, drop-of-length-le, List·getD-map}
+use lib.ListN.{length, take, drop, getD, set, replicate, length-append, length-take, length-drop, length-replicate, length-map, List·getD-map}
 use lib.Seq.{take-at, take-length, length-take-le, take-suc, set-append-seam, append-snoc, getD-take, getD-drop}
 use Rattle.words.specs.Word.{splice, laid}
 use Rattle.words.proofs.Store.{bytes-in}
-use Rattle.codes.specs.Codes.{ifOk}
-use Rattle.codes.specs.declared.Code.{Code}
-use Rattle.codes.proofs.Gates.{if-ok-by}
 use Rattle.queue.specs.declared.Request.{Request}
 use Rattle.queue.specs.declared.Response.{Response}
 use Rattle.queue.specs.declared.Requests.{Requests}
 use Rattle.queue.specs.declared.Responses.{Responses}
-use Rattle.queue.specs.declared.Queue.{Queue}
-use Rattle.queue.specs.Queue.{Signed, Lists, waiting, held, ready, signedIn, listsOf, appended, noRequest, noResponse, padTo, requestsHolding, responseHolding, responsesHolding, queueHolding, queueNext}
+use Rattle.queue.specs.Queue.{Signed, Lists, waiting, held, ready, signedIn, listsOf, appended, noRequest, noResponse, padTo, requestsHolding, responseHolding, responsesHolding, queueHolding}
 use Rattle.queue.proofs.Sides.{taken-all, joined-room, joined-full}
 
 module _ {A : Type 0} where
@@ -35,6 +31,10 @@ module _ {A : Type 0} where
   drop-replicate (suc k) (suc n) z = drop-replicate k n z ∙ ap (λ (m : ℕ). replicate m z) (sym (suc-sub-suc n k))
 
   -- ---- filled one by one
+  pub fill-none : (z x : A) (items : List A) → items ≡ replicate 8 x → x ≡ z → items ≡ padTo 8 z []
+  unfolding padTo
+  fill-none z x items e h = e ∙ rw h
+
   module _ (z : A) (l : List A) where
     pub fill-more : length l ≤ 8 → (i : ℕ) (items : List A) (x d : A) → items ≡ padTo 8 z (take i l) → i < length l → x ≡ getD l i d → set items i x ≡ padTo 8 z (take (i + 1) l)
     fill-more room i items x d e h g =
@@ -71,10 +71,6 @@ module _ (s : Requests) (eight : length (s .items) ≡ 8) (n g : ℕ) (counted :
   unfolding waiting
   moved-waiting = ap (drop g) (ap (λ (k : ℕ). take k (s .items)) counted ∙ taken-all (s .count) (s .items))
 
-  pub requests-none : n ≤ g → record { items = replicate 8 noRequest; count = 0 } ≡ requestsHolding (drop g (waiting s))
-  unfolding requestsHolding padTo
-  requests-none h = rw (drop-of-length-le (waiting s) {i = g} (omega arith))
-
   pub requests-more : (i : ℕ) (items : List Request) (d : Request) → items ≡ padTo 8 noRequest (take i moved) → i < n - g →
       set items i (getD (s .items) (g + i) d) ≡ padTo 8 noRequest (take (i + 1) moved)
   requests-more i items d e h =
@@ -84,6 +80,11 @@ module _ (s : Requests) (eight : length (s .items) ≡ 8) (n g : ℕ) (counted :
   pub requests-all : (i : ℕ) (items : List Request) → items ≡ padTo 8 noRequest (take i moved) → i ≡ n - g → record { items = items; count = n - g } ≡ requestsHolding (drop g (waiting s))
   unfolding requestsHolding
   requests-all i items e h = rw (fill-all noRequest moved i items e (h ∙ sym moved-length), ← moved-length, moved-waiting)
+
+  pub requests-none : (items : List Request) → items ≡ padTo 8 noRequest [] → n ≤ g → record { items = items; count = 0 } ≡ requestsHolding (drop g (waiting s))
+  requests-none items e h =
+      let k : 0 ≡ n - g = omega arith in
+      ap (λ (j : ℕ). record { items = items; count = j }) k ∙ requests-all 0 items e k
 
 -- ---- the side of responses, each with zeros behind its signature
 module _ (s : Responses) (eight : length (s .items) ≡ 8) (n g : ℕ) (counted : n ≡ length (held s)) (within : n ≤ 8) where
@@ -100,10 +101,6 @@ module _ (s : Responses) (eight : length (s .items) ≡ 8) (n g : ℕ) (counted 
   unfolding ready held
   behind-ready = ap (λ (l : List Response). drop g (map signedIn l)) (ap (λ (k : ℕ). take k (s .items)) counted ∙ taken-all (s .count) (s .items))
 
-  pub responses-none : n ≤ g → record { items = replicate 8 noResponse; count = 0 } ≡ responsesHolding (drop g (ready s))
-  unfolding responsesHolding padTo ready
-  responses-none h = rw (drop-of-length-le (map signedIn (held s)) {i = g} (omega (arith, length-map (held s) signedIn)))
-
   pub responses-more : (i : ℕ) (items : List Response) (x d : Response) → x ≡ responseHolding (signedIn (getD (s .items) (g + i) d)) →
       items ≡ padTo 8 noResponse (take i (map responseHolding behind)) → i < n - g → set items i x ≡ padTo 8 noResponse (take (i + 1) (map responseHolding behind))
   responses-more i items x d y e h =
@@ -118,6 +115,11 @@ module _ (s : Responses) (eight : length (s .items) ≡ 8) (n g : ℕ) (counted 
       record { items = items; count = n - g } ≡ responsesHolding (drop g (ready s))
   unfolding responsesHolding
   responses-all i items e h = rw (fill-all noResponse (map responseHolding behind) i items e (h ∙ sym held-length), ← behind-length, behind-ready)
+
+  pub responses-none : (items : List Response) → items ≡ padTo 8 noResponse [] → n ≤ g → record { items = items; count = 0 } ≡ responsesHolding (drop g (ready s))
+  responses-none items e h =
+      let k : 0 ≡ n - g = omega arith in
+      ap (λ (j : ℕ). record { items = items; count = j }) k ∙ responses-all 0 items e k
 
 -- ---- one more at the end, where fewer than eight wait
 module _ (k : Requests) (l : List Request) (x : Request) (e : k ≡ requestsHolding l) where
@@ -171,8 +173,3 @@ lists-back q =
       pad-back 8 (length (q .responses)) noResponse (map responseHolding (q .responses)) (sym (length-map (q .responses) responseHolding)),
       signed-back,
     )
-
--- so does what a call leaves
-pub next-lists : (k : Code) (new : Lists) (old : Queue) → listsOf (queueNext k new old) ≡ ifOk k new (listsOf old)
-unfolding queueNext
-next-lists k new old = if-ok-by (λ (q : Queue). listsOf q ≡ ifOk k new (listsOf old)) k (queueHolding new) old (λ h. rw h (lists-back new)) (λ h. rw h)

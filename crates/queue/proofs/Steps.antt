@@ -3,12 +3,14 @@ use Prim.Native.Nat.{ℕ}
 use mathlib.Core.Path.{_≡_}
 use mathlib.Core.Bool.{false}
 use mathlib.Core.List.{List}
-use Rattle.codes.specs.Codes.{isOk, answerOf}
+use Rattle.codes.specs.Codes.{isOk, ifOk, answerOf}
 use Rattle.codes.specs.declared.Code.{Code}
 use Rattle.codes.specs.declared.Code.the-variants.{Ok}
+use Rattle.codes.proofs.Gates.{if-ok-by}
 use Rattle.queue.specs.declared.Queue.{Queue}
 use Rattle.queue.specs.declared.Queued.{Queued}
-use Rattle.queue.specs.Queue.{Lists, SigningStep, SigningExit, queueHolding, queued, queueNext, signingExit, exitOf}
+use Rattle.queue.specs.Queue.{Lists, SigningStep, SigningExit, listsOf, queueHolding, queued, queueNext, signingExit, exitOf}
+use Rattle.queue.proofs.Holding.{lists-back}
 
 module _ (k : Code) (page : List ℕ) (lists : Lists) where
   -- checks that pass hand on to what comes after them
@@ -28,3 +30,8 @@ module _ (k : Code) (page : List ℕ) (lists : Lists) (old : Queue) where
       (exitOf old (queued k (record { answer = answerOf Ok x1 x2; page = after; queue = next }) page lists))
   unfolding queued exitOf queueNext answerOf
   accepts x1 x2 after next e = rw e
+
+-- what the queue stands for then
+pub next-lists : (k : Code) (new : Lists) (old : Queue) → listsOf (queueNext k new old) ≡ ifOk k new (listsOf old)
+unfolding queueNext
+next-lists k new old = if-ok-by (λ (q : Queue). listsOf q ≡ ifOk k new (listsOf old)) k (queueHolding new) old (λ h. rw h (lists-back new)) (λ h. rw h)

@@ -166,7 +166,8 @@ pub fn requests_from(side: Requests, gone: usize) -> Requests
 {
     let n = request_count(side);
     let from = side.items;
-    let mut items = [no_request(); 8];
+    let request = no_request();
+    let mut items = [request; 8];
     if n <= gone {
         return Requests { items, count: 0 };
     }
@@ -183,7 +184,8 @@ pub fn responses_from(side: Responses, gone: usize) -> Responses
 {
     let n = response_count(side);
     let from = side.items;
-    let mut items = [no_response(); 8];
+    let response = no_response();
+    let mut items = [response; 8];
     if n <= gone {
         return Responses { items, count: 0 };
     }

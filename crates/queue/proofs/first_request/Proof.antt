@@ -1,4 +1,5 @@
-use mathlib.Core.Path.{sym, _∙_}
+use mathlib.Core.Path.{_∙_}
+use native.Mathlib.Omega.{arith}
 use Rattle.queue.specs.Queue.{waiting, noRequest, oldestRequest}
 use Rattle.queue.proofs.Sides.{none-first, first-is}
 use borrow.Author.Needs.{needs}
@@ -13,7 +14,7 @@ no-request-requires c κs = search needs
 
 returns : tie.Need-returns
 unfolding waiting oldestRequest
-returns c = c .no-request .ensures ∙ none-first (waiting (c .before .before .before .args .side)) noRequest (sym (c .before .before .request-count .ensures .0) ∙ c .before .if1 .taken)
+returns c = c .no-request .ensures ∙ none-first (waiting (c .before .before .before .args .side)) noRequest (omega (arith, c .before .before .request-count .ensures .0))
 
 array-copy-out-result : tie.Need-array-copy-out-result
 array-copy-out-result c = search needs

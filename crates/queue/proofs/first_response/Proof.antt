@@ -1,4 +1,5 @@
-use mathlib.Core.Path.{sym, _∙_}
+use mathlib.Core.Path.{_∙_}
+use native.Mathlib.Omega.{arith}
 use Rattle.queue.specs.Queue.{held, noResponse}
 use Rattle.queue.proofs.Sides.{none-first, first-is}
 use borrow.Author.Needs.{needs}
@@ -13,7 +14,7 @@ no-response-requires c κs = search needs
 
 returns : tie.Need-returns
 unfolding held
-returns c = c .no-response .ensures ∙ none-first (held (c .before .before .before .args .side)) noResponse (sym (c .before .before .response-count .ensures .0) ∙ c .before .if1 .taken)
+returns c = c .no-response .ensures ∙ none-first (held (c .before .before .before .args .side)) noResponse (omega (arith, c .before .before .response-count .ensures .0))
 
 array-copy-out-result : tie.Need-array-copy-out-result
 array-copy-out-result c = search needs

@@ -1,9 +1,9 @@
 use Prim.Native.Nat.{_-_, _≤_}
-use mathlib.Core.Path.{_≡_}
+use mathlib.Core.Path.{_≡_, refl}
 use native.Mathlib.Omega.{arith}
 use lib.ListN.{take, drop, length-map}
 use Rattle.queue.specs.Queue.{noRequest, padTo}
-use Rattle.queue.proofs.Holding.{requests-none, requests-more, requests-all}
+use Rattle.queue.proofs.Holding.{fill-none, requests-none, requests-more, requests-all}
 use borrow.Author.Needs.{needs}
 use Rattle.queue.proofs.requests_from.Statement.{statement}
 use Rattle.queue.proofs.requests_from.Tie as tie
@@ -25,14 +25,13 @@ returns c =
     let a = c .before .before .before .before .args in
     let m = c .before .before .before .request-count in
     let z = simp length-map at (c .before .before .before .before .good .0 .1 .1 .0 .1 .0 .1) in
-    rw (c .before .no-request .ensures) (requests-none (a .side) z (m .result) (a .gone) (m .ensures .0) (m .ensures .1) (search needs))
+    requests-none (a .side) z (m .result) (a .gone) (m .ensures .0) (m .ensures .1) _ (fill-none noRequest (c .before .no-request .result) _ refl (c .before .no-request .ensures)) (search needs)
 
 sub-count : tie.Need-sub-count Inv-loop μ-loop
 sub-count c = search needs
 
 loop-holds : tie.Need-loop-holds Inv-loop μ-loop
-unfolding padTo
-loop-holds c = (search needs, rw (c .before .no-request .ensures))
+loop-holds c = (search needs, fill-none noRequest (c .before .no-request .result) _ refl (c .before .no-request .ensures))
 
 add-next : tie.Need-add-next Inv-loop μ-loop
 add-next c = search needs

@@ -1,10 +1,10 @@
 use Prim.Native.Nat.{_-_, _≤_}
-use mathlib.Core.Path.{_≡_}
+use mathlib.Core.Path.{_≡_, refl}
 use mathlib.Core.List.{map}
 use native.Mathlib.Omega.{arith}
 use lib.ListN.{take, drop, length-map}
 use Rattle.queue.specs.Queue.{noResponse, padTo, signedIn, responseHolding}
-use Rattle.queue.proofs.Holding.{responses-none, responses-more, responses-all}
+use Rattle.queue.proofs.Holding.{fill-none, responses-none, responses-more, responses-all}
 use borrow.Author.Needs.{needs}
 use Rattle.queue.proofs.responses_from.Statement.{statement}
 use Rattle.queue.proofs.responses_from.Tie as tie
@@ -26,14 +26,13 @@ returns c =
     let a = c .before .before .before .before .args in
     let m = c .before .before .before .response-count in
     let z = simp length-map at (c .before .before .before .before .good .0 .1 .1 .0 .1 .0 .1) in
-    rw (c .before .no-response .ensures) (responses-none (a .side) z (m .result) (a .gone) (m .ensures .0) (m .ensures .1) (search needs))
+    responses-none (a .side) z (m .result) (a .gone) (m .ensures .0) (m .ensures .1) _ (fill-none noResponse (c .before .no-response .result) _ refl (c .before .no-response .ensures)) (search needs)
 
 sub-count : tie.Need-sub-count Inv-loop μ-loop
 sub-count c = search needs
 
 loop-holds : tie.Need-loop-holds Inv-loop μ-loop
-unfolding padTo
-loop-holds c = (search needs, rw (c .before .no-response .ensures))
+loop-holds c = (search needs, fill-none noResponse (c .before .no-response .result) _ refl (c .before .no-response .ensures))
 
 add-next : tie.Need-add-next Inv-loop μ-loop
 add-next c = search needs
