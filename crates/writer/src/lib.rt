@@ -4,10 +4,11 @@ ghost use mathlib.Core.Path.{_≡_};
 ghost use mathlib.Core.List.{[]};
 ghost use Prim.Native.Nat.{_+_, _*_, _%_, _^_, _≤_, _<_};
 ghost use lib.ListN.{length};
+ghost use Rattle.words.specs.Tests.{Yes};
 ghost use Rattle.words.specs.Word.{bytesOf, laid};
 ghost use Rattle.entries.specs.Entry.{sum};
 ghost use Rattle.lists.specs.Description.{four, descriptionOf, used};
-ghost use Rattle.writer.specs.Write.{descriptor, coreWords, filled, pageOf};
+ghost use Rattle.writer.specs.Write.{descriptor, coreWords, filled, pageOf, descriptionFits};
 ghost use Rattle.writer.specs.Wrote.{writeLists, madeBy, pageAfter};
 ghost use Rattle.writer.specs.Steps.{sectionOn, arraysOn};
 
@@ -123,7 +124,8 @@ fn put_page(
 }
 
 // Writes a manifest of an edition for a base into the lent page: exactly core and arrays, and zero everywhere else. Refused by
-// the first check in 01's order, it leaves the page as it was.
+// the first check in 01's order, it leaves the page as it was. That the lists are of 64-bit words is promised for what is said of the
+// pages made (`written` in demand 3).
 pub fn write(
     base: u64,
     edition: u64,
@@ -137,6 +139,7 @@ pub fn write(
         ≡ writeLists base edition (now (dram .entry)) (now (console .entry)) (now (ncoh .entry)) (now (coh .entry)) (now (page .entry)) ⌝ }
     ensures { λ r. ⌜ now (page .exit) ≡ pageAfter (now (page .entry))
         (writeLists base edition (now (dram .entry)) (now (console .entry)) (now (ncoh .entry)) (now (coh .entry)) (now (page .entry))) ⌝ }
+    ensures { λ _. ⌜ Yes (descriptionFits (descriptionOf (now (dram .entry)) (now (console .entry)) (now (ncoh .entry)) (now (coh .entry)))) ⌝ }
 {
     if !sections::place_ok(base, page.len()) {
         return Wrote::Place;
