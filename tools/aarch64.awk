@@ -1,9 +1,9 @@
 # Static stack of each export on AArch64: awk -f aarch64.awk NAME.su NAME.s HEADER.h
 #
-# An export's figure is its own frame (-fstack-usage) and the deepest chain of calls below it, by the branches in the text that the object is
-# assembled from. It leaves out what memcpy, memmove and memset take, which are the platform's, and the words that a caller passes on the
-# stack. Prints each figure beside that of the header, and fails where the header has less or none, or where no bound can be told: a frame
-# of variable size, a call through a register, recursion, a function without a frame.
+# An export's figure is its own frame (-fstack-usage) and the deepest chain of calls below it, by the branches in the text that the object
+# is assembled from. It leaves out what memcpy, memmove and memset take, which are the platform's, and the words that a caller passes on
+# the stack. Prints each figure beside that of the header, and fails where the header has less or none, or where no bound can be told: a
+# frame of variable size, a call through a register, recursion, a function without a frame.
 
 function wrong(text) {
     print "stack: " text

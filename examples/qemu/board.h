@@ -27,6 +27,7 @@
 #define CONTEXT_STACK 272
 
 #define PAINT 0x5AFE5AFE5AFE5AFE
+#define RELEASED 0x52454C4541534544 /* no word that secure RAM holds by chance */
 
 /* SCTLR of EL3 and EL2, and of EL1: MMU and caches off, alignment checked (A), stack alignment checked (SA), reserved ones. */
 #define SCTLR_ABOVE 0x30C5083A

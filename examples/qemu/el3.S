@@ -51,7 +51,7 @@ _start:                                 /* every CPU, at reset: MMU and caches o
     str xzr, [x1], #8
     b 1b
 2:  ldr x1, =el3_released               /* the other CPUs wait until EL3 wants them */
-    ldr x2, =PAINT                      /* no word that secure RAM holds by chance */
+    ldr x2, =RELEASED
 4:  wfe
     ldr x3, [x1]
     cmp x3, x2

@@ -1,9 +1,9 @@
 /*
  * The EL3 firmware of the board: it boots the monitor, serves its SMCs with the library, and passes calls between host and monitor.
  *
- * Without RME the monitor is at Non-secure EL2, with it at Realm EL2. The host, which stands for the Non-secure world, is at Non-secure EL1.
- * The second CPU boots while the first waits for it, so one CPU at a time is in the library and no lock is needed. Firmware whose CPUs call
- * at the same time holds one around pbeam_context_call and what belongs to it.
+ * Without RME the monitor is at Non-secure EL2, with it at Realm EL2. The host, which stands for the Non-secure world, is at Non-secure
+ * EL1. The second CPU boots while the first waits for it, so one CPU at a time is in the library and no lock is needed. Firmware whose CPUs
+ * call at the same time holds one around pbeam_context_call and what belongs to it.
  */
 #include "board.h"
 #include "console.h"
@@ -32,7 +32,7 @@ _Static_assert(offsetof(struct context, scr) == CONTEXT_SCR && offsetof(struct c
 enum world { WORLD_MONITOR, WORLD_HOST, WORLDS };
 
 __attribute__((section(".stacks"), aligned(16))) uint8_t stacks[CPUS][AREA];
-volatile uint64_t el3_released;      /* PAINT: the second CPU may start */
+volatile uint64_t el3_released;       /* RELEASED: the second CPU may start */
 static volatile uint64_t second_done; /* it has booted */
 
 static struct {
@@ -149,7 +149,7 @@ static struct context *first_cpu(void)
     el3.kit.table = el3.table;
     el3.kit.table_count = GRANULES;
     el3.kit.mecid_width = PBEAM_WIDTH_MOST;
-    platform_keys(&el3.kit);
+    platform_realm_key(&el3.kit);
     if (!write_manifest())
         end(EXIT_NO_BOOT);
     return cold_boot();
@@ -184,7 +184,7 @@ _Noreturn static void park(uint64_t cpu)
 
 static void start_second_cpu(void)
 {
-    el3_released = PAINT;
+    el3_released = RELEASED;
     __asm__ volatile("dsb sy; sev" ::: "memory");
     while (!second_done)
         ;
@@ -225,7 +225,7 @@ static struct context *forward(uint64_t cpu, const struct context *from, const p
     struct context *host = &el3.worlds[cpu][WORLD_HOST];
     host->x[0] = pbeam_work_value(work);
     memcpy(&host->x[1], &from->x[2], 4 * sizeof host->x[0]);
-    platform_sign(&el3.kit.queue);
+    platform_sign(&el3.kit);
     return host;
 }
 

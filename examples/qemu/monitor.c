@@ -1,9 +1,9 @@
 /*
- * A stand-in for the monitor (RMM), at EL2. It boots from x0 to x3, draws a token while it boots, as 002 lets it, and then serves the host's
- * calls. Every answer of EL3 is compared with what the interface wants; what differs is printed and counted.
+ * A stand-in for the monitor (RMM), at EL2. It boots from x0 to x3, draws a token while it boots, as 002 lets it, and then serves the
+ * host's calls. Every answer of EL3 is compared with what the interface wants; what differs is printed and counted.
  *
- * The buffers lie at odd addresses in the upper half of the page, so that no word in them is aligned, and so that the manifest in the lower half
- * can be read again at the end.
+ * The buffers lie at odd addresses in the upper half of the page, so that no word in them is aligned, and so that the manifest in the lower
+ * half can be read again at the end.
  */
 #include "potterbeam_types.h"
 
@@ -103,6 +103,7 @@ static void prepare(void)
     static const struct step steps[] = {
         {"features", {RMM_EL3_FEATURES}, {PBEAM_X0_OK, PBEAM_FEATURE_TOKEN_SIGNING}},
         {"realm key", {RMM_ATTEST_GET_REALM_KEY, PAGE + KEY_AT, 200}, {PBEAM_X0_OK, REALM_KEY_BYTES}},
+        {"public key, too early", {RMM_EL3_TOKEN_SIGN, PBEAM_OPCODE_KEY, PAGE + SIGN_AT, PUBLIC_KEY_BYTES}, {PBEAM_X0_AGAIN}},
     };
     take_all(steps, sizeof steps / sizeof steps[0]);
     bytes_are("realm key's byte", page->bytes + KEY_AT, REALM_KEY_BYTES, 0x21, 0);

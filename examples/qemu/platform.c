@@ -3,18 +3,16 @@
 #include "console.h"
 
 #define TOKEN_BYTES 100
-#define KEY_BYTES 97       /* a public point of SECP384R1 */
-#define REALM_KEY_BYTES 48 /* a private one */
+#define REALM_KEY_BYTES 48  /* a private key of SECP384R1 */
+#define PUBLIC_KEY_BYTES 97 /* a public one */
 #define SIGNATURE_BYTES 96
 
-static uint8_t realm_key[REALM_KEY_BYTES], public_key[KEY_BYTES];
+static uint8_t realm_key[REALM_KEY_BYTES], public_key[PUBLIC_KEY_BYTES];
 
-void platform_keys(pbeam_context_t *kit)
+void platform_realm_key(pbeam_context_t *kit)
 {
     memset(realm_key, 0x21, sizeof realm_key);
-    memset(public_key, 0x04, sizeof public_key);
     kit->realm_key = pbeam_bytes(realm_key, sizeof realm_key);
-    kit->public_key = pbeam_bytes(public_key, sizeof public_key);
 }
 
 /* The part that makes tokens is slow: it answers at the second asking. */
@@ -75,17 +73,23 @@ void platform_token_is_lent(void)
 }
 
 /* The signature begins with the first byte of the hash, so that the monitor can tell whose it is. */
-void platform_sign(pbeam_queue_t *queue)
+static void sign_oldest(pbeam_queue_t *queue, const pbeam_request_t *request)
 {
-    pbeam_request_t request;
     pbeam_registers_t out;
     uint8_t hash[PBEAM_HASH_BYTES], signature[SIGNATURE_BYTES];
-    while (pbeam_queue_oldest(queue, &request) != 0 && pbeam_queue_responses(queue) < PBEAM_RESPONSES_MOST) {
-        pbeam_request_hash_buf(&request, hash);
-        memset(signature, 0x5A, sizeof signature);
-        signature[0] = hash[0];
-        pbeam_queue_sign(queue, pbeam_bytes(signature, sizeof signature), &out);
-        say("EL3: signs for granule 0x%x, ticket %d: %s\n", pbeam_request_rec_granule(&request), pbeam_request_req_ticket(&request),
-            pbeam_x0_text(pbeam_registers_x0(&out)));
-    }
+    pbeam_request_hash_buf(request, hash);
+    memset(signature, 0x5A, sizeof signature);
+    signature[0] = hash[0];
+    pbeam_queue_sign(queue, pbeam_bytes(signature, sizeof signature), &out);
+    say("EL3: signs for granule 0x%x, ticket %d: %s\n", pbeam_request_rec_granule(request), pbeam_request_req_ticket(request),
+        pbeam_x0_text(pbeam_registers_x0(&out)));
+}
+
+void platform_sign(pbeam_context_t *kit)
+{
+    pbeam_request_t request;
+    memset(public_key, 0x04, sizeof public_key);
+    kit->public_key = pbeam_bytes(public_key, sizeof public_key);
+    while (pbeam_queue_oldest(&kit->queue, &request) != 0 && pbeam_queue_responses(&kit->queue) < PBEAM_RESPONSES_MOST)
+        sign_oldest(&kit->queue, &request);
 }

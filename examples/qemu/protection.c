@@ -46,7 +46,8 @@ void protection_on(uint64_t cpu)
         return;
     if (cpu == 0)
         make_tables();
-    __asm__ volatile("msr s3_6_c2_c1_4, %0; msr s3_6_c2_c1_6, %1; isb" ::"r"((uint64_t)level0 >> 12), "r"(CONTROL) : "memory"); /* GPTBR, GPCCR */
+    /* GPTBR_EL3 and GPCCR_EL3, by their numbers: assemblers of today know no names for them. */
+    __asm__ volatile("msr s3_6_c2_c1_4, %0; msr s3_6_c2_c1_6, %1; isb" ::"r"((uint64_t)level0 >> 12), "r"(CONTROL) : "memory");
     forget_all();
 }
 
