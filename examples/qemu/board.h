@@ -1,4 +1,5 @@
-/* Numbers that C and assembly of all three programs share: the memory map of QEMU's machine "virt" and what stands where in it. */
+/* Numbers that C and assembly of all three programs share, and the script that runs them: the memory map of QEMU's machine "virt", what
+ * stands where in it, and what the platform gives. */
 #ifndef BOARD_H
 #define BOARD_H
 
@@ -15,6 +16,14 @@
 #define MEMORY_BYTES 0x0C000000
 #define GRANULES 16
 #define CPUS 2
+
+#define SYSTEM_OFF 0x84000008 /* PSCI; here x1 is the number of wrong results */
+
+/* Lengths of what the platform gives: keys and signatures as those of SECP384R1 are. */
+#define TOKEN_BYTES 100
+#define REALM_KEY_BYTES 48
+#define PUBLIC_KEY_BYTES 97
+#define SIGNATURE_BYTES 96
 
 /* Stacks. An area is painted whole, so that a stack that outgrows its part of it is seen, not suffered. */
 #define AREA 0x4000

@@ -10,8 +10,7 @@
 #include "platform.h"
 #include "protection.h"
 
-/* SMCs that are no commands of the library. */
-#define SYSTEM_OFF UINT64_C(0x84000008) /* PSCI; here x1 is the number of wrong results */
+/* Calls of the host that go to the monitor. */
 #define RMI_FIRST UINT64_C(0xC4000150)
 #define RMI_LAST UINT64_C(0xC400018F)
 

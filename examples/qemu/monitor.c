@@ -18,9 +18,6 @@
 #define KEY_AT 0x903
 #define SIGN_AT 0xA05
 #define TOKEN_BUFFER 64
-#define TOKEN_BYTES 100
-#define REALM_KEY_BYTES 48
-#define PUBLIC_KEY_BYTES 97
 #define OUTSIDE (PAGE + PBEAM_PAGE_BYTES)
 #define ROOM (PBEAM_PAGE_BYTES - SIGN_AT) /* from the signing buffer to the page's end */
 
@@ -192,9 +189,9 @@ static void pull_ticket(uint64_t ticket)
     expect("response", pbeam_get_response(page->bytes + SIGN_AT, PBEAM_RESPONSE_BYTES_MOST, &response), true);
     expect("granule", response.rec_granule, MEMORY);
     expect("ticket", response.req_ticket, ticket);
-    expect("signature's length", response.sig_len, 96);
+    expect("signature's length", response.sig_len, SIGNATURE_BYTES);
     expect("signature's first byte", response.signature_buf[0], 0x30 + ticket);
-    bytes_are("signature's byte", response.signature_buf + 1, 95, 0x5A, 0);
+    bytes_are("signature's byte", response.signature_buf + 1, SIGNATURE_BYTES - 1, 0x5A, 0);
 }
 
 /* A realm asks for a token: the request at its first entry, the response at the next. */
@@ -216,8 +213,10 @@ static uint64_t refusals(void);
 
 static uint64_t drain(void)
 {
-    static const struct step small = {
-        "pull into too small a buffer", {RMM_EL3_TOKEN_SIGN, PBEAM_OPCODE_PULL, PAGE + SIGN_AT, 113}, {PBEAM_X0_INVAL}};
+    struct step small = pull;
+    small.what = "pull into too small a buffer";
+    small.x[3] = PBEAM_RESPONSE_SIGNATURE + SIGNATURE_BYTES - 1;
+    small.out[0] = PBEAM_X0_INVAL;
     take(&small);
     for (uint64_t ticket = 0; ticket < PBEAM_RESPONSES_MOST; ticket++)
         pull_ticket(ticket);
@@ -272,7 +271,7 @@ static const struct step refused[] = {
     {"realm key outside the page", {RMM_ATTEST_GET_REALM_KEY, OUTSIDE, 96}, {PBEAM_X0_BAD_ADDR}},
     {"realm key past the page", {RMM_ATTEST_GET_REALM_KEY, AT(4095), 2}, {PBEAM_X0_INVAL}},
     {"realm key of another curve", {RMM_ATTEST_GET_REALM_KEY, AT(KEY_AT), 96, 1}, {PBEAM_X0_INVAL}},
-    {"realm key into too small a buffer", {RMM_ATTEST_GET_REALM_KEY, AT(KEY_AT), 47}, {PBEAM_X0_UNK}},
+    {"realm key into too small a buffer", {RMM_ATTEST_GET_REALM_KEY, AT(KEY_AT), REALM_KEY_BYTES - 1}, {PBEAM_X0_UNK}},
     {"token outside the page", TOKEN(PAGE - 1, 64, 48), {PBEAM_X0_BAD_ADDR}},
     {"token past the page", TOKEN(AT(4033), 64, 48), {PBEAM_X0_INVAL}},
     {"token for 33 bytes of challenge", TOKEN(AT(TOKEN_AT), 64, 33), {PBEAM_X0_INVAL}},
@@ -283,9 +282,9 @@ static const struct step refused[] = {
     {"push outside the page", SIGN(PBEAM_OPCODE_PUSH, OUTSIDE, 80, 0), {PBEAM_X0_INVAL}},
     {"push past the page", SIGN(PBEAM_OPCODE_PUSH, AT(SIGN_AT), ROOM + 1, 0), {PBEAM_X0_INVAL}},
     {"push of 79 bytes", SIGN(PBEAM_OPCODE_PUSH, AT(SIGN_AT), 79, 0), {PBEAM_X0_INVAL}},
-    {"public key of another curve", SIGN(PBEAM_OPCODE_KEY, AT(SIGN_AT), 97, 1), {PBEAM_X0_INVAL}},
-    {"public key into too small a buffer", SIGN(PBEAM_OPCODE_KEY, AT(SIGN_AT), 96, 0), {PBEAM_X0_INVAL}},
-    {"public key", SIGN(PBEAM_OPCODE_KEY, AT(SIGN_AT), 97, 0), {PBEAM_X0_OK, PUBLIC_KEY_BYTES}},
+    {"public key of another curve", SIGN(PBEAM_OPCODE_KEY, AT(SIGN_AT), PUBLIC_KEY_BYTES, 1), {PBEAM_X0_INVAL}},
+    {"public key into too small a buffer", SIGN(PBEAM_OPCODE_KEY, AT(SIGN_AT), PUBLIC_KEY_BYTES - 1, 0), {PBEAM_X0_INVAL}},
+    {"public key", SIGN(PBEAM_OPCODE_KEY, AT(SIGN_AT), PUBLIC_KEY_BYTES, 0), {PBEAM_X0_OK, PUBLIC_KEY_BYTES}},
     {"key update of mecid 65,536", {RMM_MECID_KEY_UPDATE, 65536}, {PBEAM_X0_INVAL}},
     {"key update of mecid 9", {RMM_MECID_KEY_UPDATE, 9}, {PBEAM_X0_OK}},
     {"a call that no one knows", {UINT64_C(0xC40001B7), 1, 2, 3, 4}, {PBEAM_X0_UNK}},

@@ -1,11 +1,7 @@
 #include "platform.h"
 
+#include "board.h"
 #include "console.h"
-
-#define TOKEN_BYTES 100
-#define REALM_KEY_BYTES 48  /* a private key of SECP384R1 */
-#define PUBLIC_KEY_BYTES 97 /* a public one */
-#define SIGNATURE_BYTES 96
 
 static uint8_t realm_key[REALM_KEY_BYTES], public_key[PUBLIC_KEY_BYTES];
 

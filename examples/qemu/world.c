@@ -3,8 +3,6 @@
 #include "board.h"
 #include "console.h"
 
-#define SYSTEM_OFF UINT64_C(0x84000008) /* PSCI; here x1 is the number of wrong results */
-
 __attribute__((section(".stacks"), aligned(16))) uint8_t stacks[CPUS][AREA];
 uint64_t wrong;
 
