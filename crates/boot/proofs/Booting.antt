@@ -6,12 +6,13 @@ use mathlib.Core.List.{List}
 use lib.IntN.{pos}
 use borrow.Author.Tests.{lt-leb, le-leb, lt-ltb, le-ltb}
 use Rattle.versions.specs.Version.{versionOk}
-use Rattle.reader.specs.Answer.{minus, readOf}
-use Rattle.reader.specs.Reading.{refusalNumber, readingAnswer}
+use Rattle.reader.specs.Answer.{minus}
+use Rattle.reader.specs.Reading.{refusalNumber, readingAnswer, readingOf}
 use Rattle.reader.specs.declared.View.{View}
 use Rattle.reader.specs.declared.Refusal.{Refusal}
 use Rattle.reader.specs.declared.Refusal.the-variants.{Place, Version as BadVersion, Rules}
 use Rattle.reader.specs.declared.Reading.the-variants.{Accepted, Refused}
+use Rattle.reader.proofs.Whole.{reading-answer}
 use Rattle.boot.specs.Boot.{codeIn, isFresh, coldGate, coldCode, after, paramsOf, coldNext, cpuCode}
 use Rattle.boot.specs.declared.Record.{Record}
 use Rattle.boot.specs.declared.Record.the-variants.{Up, Closed}
@@ -44,15 +45,15 @@ module _ (s : Record) (x0 x1 x2 x3 most : ℕ) (page : List ℕ) where
         cold-cpu n = rw (h, v, le-leb x2 most m, le-ltb x0 x2 n) (refl, refl)
 
         module _ (n : x0 < x2) where
-          pub cold-refused : (c : Refusal) → readingAnswer page (Refused c) ≡ readOf 4 x3 page →
+          pub cold-refused : (c : Refusal) → Refused c ≡ readingOf 4 x3 page →
               (refusalNumber c ≡ coldCode s x0 x1 x2 x3 most page) × (Closed ≡ coldNext s x0 x1 x2 x3 most page)
           unfolding coldNext coldCode coldGate codeIn readingAnswer
-          cold-refused c e = rw (h, v, le-leb x2 most m, lt-ltb x0 x2 n, ← e) (refl, closes c (Up (paramsOf x1 x2 x3)))
+          cold-refused c e = rw (h, v, le-leb x2 most m, lt-ltb x0 x2 n, ← reading-answer 4 x3 page, ← e) (refl, closes c (Up (paramsOf x1 x2 x3)))
 
-          pub cold-up : (w : View) → readingAnswer page (Accepted w) ≡ readOf 4 x3 page →
+          pub cold-up : (w : View) → Accepted w ≡ readingOf 4 x3 page →
               (pos 0 ≡ coldCode s x0 x1 x2 x3 most page) × (Up (paramsOf x1 x2 x3) ≡ coldNext s x0 x1 x2 x3 most page)
           unfolding coldNext coldCode coldGate codeIn readingAnswer after
-          cold-up w e = rw (h, v, le-leb x2 most m, lt-ltb x0 x2 n, ← e) (refl, refl)
+          cold-up w e = rw (h, v, le-leb x2 most m, lt-ltb x0 x2 n, ← reading-answer 4 x3 page, ← e) (refl, refl)
 
 module _ (cpus x0 : ℕ) (s : Record) where
   pub kept-not : cpus ≤ x0 → (minus 4 ≡ cpuCode cpus x0) × (Closed ≡ after (cpuCode cpus x0) s)

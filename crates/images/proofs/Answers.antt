@@ -3,9 +3,10 @@ use Prim.Native.Nat.{ℕ}
 use mathlib.Core.Path.{_≡_, refl, sym, ap, _∙_}
 use mathlib.Core.List.{List}
 use Rattle.reader.specs.Answer.{readOf}
-use Rattle.reader.specs.Reading.{readingAnswer, placedAs, viewAt}
+use Rattle.reader.specs.Reading.{readingAnswer, readingOf}
 use Rattle.reader.specs.declared.Reading.{Reading}
 use Rattle.reader.specs.declared.Reading.the-variants.{Accepted, Refused}
+use Rattle.reader.proofs.Whole.{reading-answer, reading-placed}
 use Rattle.boot.specs.Boot.{codeIn, numberIn}
 use Rattle.writer.specs.Write.{Made}
 use Rattle.writer.specs.Wrote.{madeBy as madeOf}
@@ -19,17 +20,21 @@ unfolding numberIn codeIn readingAnswer
 number-in page (Accepted v) = refl
 number-in page (Refused c) = refl
 
-words-in : (base : ℕ) (page : List ℕ) (r : Reading) → readingWords (placedAs base page r) ≡ answerWords base page (readingAnswer page r)
-unfolding readingWords placedAs answerWords readingAnswer
-words-in base page (Accepted v) = refl
-words-in base page (Refused c) = refl
+module _ (e base : ℕ) (page : List ℕ) where
+  words-in : (r : Reading) → r ≡ readingOf e base page → readingWords r ≡ answerWords base page (readingAnswer page r)
+  unfolding readingWords answerWords readingAnswer
+  words-in (Accepted v) h = ap viewWords (reading-placed e base page v h)
+  words-in (Refused c) h = refl
 
-module _ (e base : ℕ) (page : List ℕ) (r : Reading) (h : readingAnswer page r ≡ readOf e base page) where
-  pub reading-code : numberIn r ≡ codeIn (readOf e base page)
-  reading-code = number-in page r ∙ ap codeIn h
+  module _ (r : Reading) (h : r ≡ readingOf e base page) where
+    answer : readingAnswer page r ≡ readOf e base page
+    answer = ap (readingAnswer page) h ∙ reading-answer e base page
 
-  pub reading-words : r ≡ placedAs base page r → readingWords r ≡ answerWords base page (readOf e base page)
-  reading-words p = ap readingWords p ∙ words-in base page r ∙ ap (answerWords base page) h
+    pub reading-code : numberIn r ≡ codeIn (readOf e base page)
+    reading-code = number-in page r ∙ ap codeIn answer
+
+    pub reading-words : readingWords r ≡ answerWords base page (readOf e base page)
+    reading-words = words-in r h ∙ ap (answerWords base page) answer
 
 -- ---- the writer's answer
 made-number : (page : List ℕ) (x : Wrote) → wroteNumber x ≡ madeNumber (madeOf page x)

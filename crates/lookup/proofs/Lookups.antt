@@ -16,13 +16,14 @@ use Rattle.entries.specs.Entry.{wordsPerEntry, size, shownWords}
 use Rattle.entries.specs.Array.{wordsAt, entryPlace}
 use Rattle.entries.proofs.Entries.{word-in}
 use Rattle.reader.specs.Answer.{empty, full, bytesIn, lookIn, lookOf, countIn, entryCount, entryWord, wordIn, readOf}
-use Rattle.reader.specs.Reading.{sectionOf, shownAs, readingAnswer, viewAt, placedAs}
+use Rattle.reader.specs.Reading.{sectionOf, shownAs, readingAnswer, readingOf}
 use Rattle.reader.specs.declared.Section.{Section}
 use Rattle.reader.specs.declared.Section.the-variants.{Absent, Empty, Entries}
 use Rattle.reader.specs.declared.View.{View}
 use Rattle.reader.specs.declared.Refusal.{Refusal}
 use Rattle.reader.specs.declared.Reading.{Reading}
 use Rattle.reader.specs.declared.Reading.the-variants.{Accepted, Refused}
+use Rattle.reader.proofs.Whole.{reading-answer, reading-placed}
 use Rattle.lookup.specs.Lookup.{spanOf, spanIn, wordOf}
 
 -- ---- where the array lies
@@ -101,22 +102,17 @@ unfolding wordOf wordIn readingAnswer
 word-view page v k i j = refl
 
 -- ---- the lookup of a page
-viewIn : Reading → View → View
-viewIn (Accepted v) u = v
-viewIn (Refused c) u = u
-
-accepted-same : (u v : View) → Accepted u ≡ Accepted v → u ≡ v
-unfolding viewIn
-accepted-same u v h = ap (λ r. viewIn r u) h
-
 module _ (r base k : ℕ) (page : List ℕ) where
-  pub place-accepted : (v : View) → readingAnswer page (Accepted v) ≡ readOf r base page → Accepted v ≡ placedAs base page (Accepted v) →
-      (spanOf k (sectionOf v k) (length page) ≡ spanIn base page (readOf r base page) k) × (lookIn (readingAnswer page (Accepted v)) k ≡ lookOf r base page k)
-  unfolding lookOf spanIn readingAnswer placedAs
-  place-accepted v h p =
-      let u = viewAt (v .minor) (v .edition) base page in
-      (ap (λ x. spanOf k (sectionOf x k) (length page)) (accepted-same v u p) ∙ ap (λ x. spanIn base page x k) h, rw h)
+  answer-of : (x : Reading) → x ≡ readingOf r base page → readingAnswer page x ≡ readOf r base page
+  answer-of x h = ap (readingAnswer page) h ∙ reading-answer r base page
 
-  pub place-refused : (c : Refusal) → readingAnswer page (Refused c) ≡ readOf r base page → (noSpan ≡ spanIn base page (readOf r base page) k) × (spanned noSpan page ≡ lookOf r base page k)
+  pub place-accepted : (v : View) → Accepted v ≡ readingOf r base page →
+      (spanOf k (sectionOf v k) (length page) ≡ spanIn base page (readOf r base page) k) × (lookIn (readingAnswer page (Accepted v)) k ≡ lookOf r base page k)
+  unfolding lookOf spanIn readingAnswer
+  place-accepted v h =
+      let g = answer-of (Accepted v) h in
+      (ap (λ x. spanOf k (sectionOf x k) (length page)) (reading-placed r base page v h) ∙ ap (λ x. spanIn base page x k) g, rw g)
+
+  pub place-refused : (c : Refusal) → Refused c ≡ readingOf r base page → (noSpan ≡ spanIn base page (readOf r base page) k) × (spanned noSpan page ≡ lookOf r base page k)
   unfolding lookOf lookIn spanIn readingAnswer
-  place-refused c h = rw (← h) (refl, span-none page)
+  place-refused c h = rw (← answer-of (Refused c) h) (refl, span-none page)

@@ -1,12 +1,13 @@
 -- The whole answer, return by return. Assumes nothing.
 use Prim.Native.Nat.{ℕ, zero, suc, _+_, _-_, _≤_, _<_, min}
 use mathlib.Core.Path.{_≡_, refl, sym, ap, fun-ext, _∙_}
-use mathlib.Core.Bool.{true, false}
+use mathlib.Core.Bool.{Bool, true, false}
 use mathlib.Core.List.{List}
 use native.Mathlib.Omega.{arith}
+use native.Mathlib.Decide.{decLt}
 use lib.ListN.{length}
 use borrow.Author.Tests.{le-leb, lt-ltb, le-ltb, eq-eqb, ne-eqb}
-use Rattle.words.specs.Tests.{both}
+use Rattle.words.specs.Tests.{Yes, both}
 use Rattle.words.specs.Word.{wordAt}
 use Rattle.versions.specs.Version.{minorOf, versionOk}
 use Rattle.versions.specs.Edition.{sectionCount, core, editionOk}
@@ -15,14 +16,15 @@ use Rattle.entries.specs.Entry.{size}
 use Rattle.entries.specs.Array.{wordsAt}
 use Rattle.sections.specs.Page.{placeOk, versionAt, countAt, pointerAt, mkSec, secAt, mkPlat, platAt}
 use Rattle.sections.specs.Section.{wordsIn, inRange, rulesAt}
-use Rattle.sections.specs.Steps.{okAt}
-use Rattle.sections.proofs.Sections.{range-low, range-high, array-in, ok-in-range}
+use Rattle.sections.specs.Steps.{okAt, okTo}
+use Rattle.sections.proofs.Sections.{placed, range-low, range-high, array-in, ok-in-range, ok-each, rules-sections}
 use Rattle.reader.specs.Answer.{Shown, ReaderAnswer, shows, shown, shownSec, platShown, allShown, readerGate, judge, readOf}
-use Rattle.reader.specs.Reading.{sectionOf, shownAs, readingAnswer, viewAt, placedAs}
+use Rattle.reader.specs.Reading.{sectionOf, shownAs, readingAnswer, sectionAt, viewAt, readingGate, readingOf}
+use Rattle.reader.specs.declared.Section.{Section}
 use Rattle.reader.specs.declared.Section.the-variants.{Absent, Empty, Entries}
 use Rattle.reader.specs.declared.View.{View}
-use Rattle.reader.specs.declared.Refusal.{Refusal}
 use Rattle.reader.specs.declared.Refusal.the-variants.{Place, Version, Rules}
+use Rattle.reader.specs.declared.Reading.{Reading}
 use Rattle.reader.specs.declared.Reading.the-variants.{Accepted, Refused}
 
 -- ---- what is shown of one section
@@ -49,60 +51,105 @@ module _ (w e base k : ℕ) (page : List ℕ) where
         le-leb (pointerAt k page - base + size k (countAt k page)) (length page) (omega arith),
       )
 
+-- ---- what the code gives of one section
+module _ (e base k : ℕ) (page : List ℕ) where
+  pub section-absent : sectionCount e ≤ k → Absent ≡ sectionAt e base page k
+  unfolding sectionAt
+  section-absent h = rw (le-ltb k (sectionCount e) h)
+
+  pub section-empty : k < sectionCount e → countAt k page ≡ 0 → Empty ≡ sectionAt e base page k
+  unfolding sectionAt
+  section-empty h z = rw (lt-ltb k (sectionCount e) h, eq-eqb (countAt k page) 0 z)
+
+  pub section-entries : k < sectionCount e → (countAt k page ≡ 0 → ⊥) → Entries (pointerAt k page - base) (countAt k page) ≡ sectionAt e base page k
+  unfolding sectionAt
+  section-entries h z = rw (lt-ltb k (sectionCount e) h, ne-eqb (countAt k page) 0 z)
+
+shown-at : (w e base k : ℕ) (page : List ℕ) → length page ≡ 4096 → (k < sectionCount e → okAt w e base k page ≡ true) →
+    shownAs w k (sectionAt e base page k) page ≡ shown w e k (secAt base page k)
+shown-at w e base k page n o = go (decLt k (sectionCount e)) (decLt 0 (countAt k page))
+  where
+    seenAs : Section → Shown
+    seenAs s = shownAs w k s page
+
+    go : Dec (k < sectionCount e) → Dec (0 < countAt k page) → shownAs w k (sectionAt e base page k) page ≡ shown w e k (secAt base page k)
+    go (no l) d = ap seenAs (sym (section-absent e base k page (omega arith))) ∙ shown-absent w e base k page (omega arith)
+    go (yes l) (no z) = ap seenAs (sym (section-empty e base k page l (omega arith))) ∙ shown-empty w e base k page l (omega arith)
+    go (yes l) (yes z) =
+        let y : (countAt k page ≡ 0 → ⊥) = λ q. omega arith in
+        ap seenAs (sym (section-entries e base k page l y)) ∙ shown-entries w e base k page n l (o l) y
+
 -- ---- the four
-pub shown-all : (w e base : ℕ) (page : List ℕ) (v : View) →
-    shownAs w 0 (v .dram) page ≡ shown w e 0 (secAt base page 0) → shownAs w 1 (v .console) page ≡ shown w e 1 (secAt base page 1) →
-    shownAs w 2 (v .ncoh) page ≡ shown w e 2 (secAt base page 2) → shownAs w 3 (v .coh) page ≡ shown w e 3 (secAt base page 3) →
-    (k : ℕ) → shownAs w k (sectionOf v k) page ≡ shown w e k (secAt base page k)
-unfolding sectionOf
-shown-all w e base page v a b c d zero = a
-shown-all w e base page v a b c d (suc zero) = b
-shown-all w e base page v a b c d (suc (suc zero)) = c
-shown-all w e base page v a b c d (suc (suc (suc zero))) = d
-shown-all w e base page v a b c d (suc (suc (suc (suc k)))) = shown-absent w e base (suc (suc (suc (suc k)))) page (omega (arith, section-count-most e))
+section-view : (w e base : ℕ) (page : List ℕ) (k : ℕ) → sectionOf (viewAt w e base page) k ≡ sectionAt e base page k
+unfolding sectionOf viewAt
+section-view w e base page zero = refl
+section-view w e base page (suc zero) = refl
+section-view w e base page (suc (suc zero)) = refl
+section-view w e base page (suc (suc (suc zero))) = refl
+section-view w e base page (suc (suc (suc (suc k)))) = section-absent e base (suc (suc (suc (suc k)))) page (omega (arith, section-count-most e))
 
-shows-same : (w w' e e' q q' : ℕ) (s t : ℕ → Shown) → w ≡ w' → e ≡ e' → q ≡ q' → ((k : ℕ) → s k ≡ t k) →
-    shows w e (record { pointer = q }) s ≡ shows w' e' (record { pointer = q' }) t
-shows-same w w' e e' q q' s t a b c h = rw (a, b, c) (ap {B = ReaderAnswer} (λ f. shows w' e' (record { pointer = q' }) f) (fun-ext h))
+view-shows : (w e base : ℕ) (page : List ℕ) → length page ≡ 4096 → okTo w e base (sectionCount e) page ≡ true →
+    readingAnswer page (Accepted (viewAt w e base page)) ≡ allShown w e (platAt base page) (secAt base page)
+unfolding readingAnswer allShown platShown platAt mkPlat viewAt
+view-shows w e base page n o = ap {B = ReaderAnswer} (λ f. shows w e (record { pointer = wordAt 8 page }) f) (fun-ext (λ k.
+    ap (λ s. shownAs w k s page) (section-view w e base page k) ∙ shown-at w e base k page n (ok-each w e base page (sectionCount e) k o)))
 
-pub view-shows : (w e base : ℕ) (page : List ℕ) (v : View) → v .minor ≡ w → v .edition ≡ e → v .plat ≡ wordAt 8 page →
-    ((k : ℕ) → shownAs (v .minor) k (sectionOf v k) page ≡ shown w e k (secAt base page k)) → readingAnswer page (Accepted v) ≡ allShown w e (platAt base page) (secAt base page)
-unfolding readingAnswer allShown platShown platAt mkPlat
-view-shows w e base page v a b c h =
-    shows-same (v .minor) w (v .edition) e (v .plat) (wordAt 8 page) (λ k. shownAs (v .minor) k (sectionOf v k) page) (λ k. shown w e k (secAt base page k)) a b c h
+-- ---- what the enum stands for
+gate-answer : (page : List ℕ) (p v o : Bool) (u : View) (a : ReaderAnswer) → (Yes p → Yes o → readingAnswer page (Accepted u) ≡ a) →
+    readingAnswer page (readingGate p v o u) ≡ readerGate p v o a
+unfolding readingAnswer readingGate readerGate
+gate-answer page true true true u a h = h refl refl
+gate-answer page true true false u a h = refl
+gate-answer page true false o u a h = refl
+gate-answer page false v o u a h = refl
 
-pub view-placed : (w e base : ℕ) (page : List ℕ) (v : View) → v ≡ viewAt w e base page → Accepted v ≡ placedAs base page (Accepted v)
-unfolding viewAt placedAs
-view-placed w e base page v h = ap Accepted (h ∙ sym (ap (λ u. viewAt (u .minor) (u .edition) base page) h))
+viewIn : Reading → View → View
+viewIn (Accepted v) u = v
+viewIn (Refused c) u = u
 
-pub refused-placed : (base : ℕ) (page : List ℕ) (c : Refusal) → Refused c ≡ placedAs base page (Refused c)
-unfolding placedAs
-refused-placed base page c = refl
+gate-view : (p q o : Bool) (u v : View) → Accepted v ≡ readingGate p q o u → v ≡ u
+unfolding readingGate viewIn
+gate-view true true true u v h = ap (λ x. viewIn x u) h
+gate-view true true false u v h = ap (λ x. viewIn x u) h
+gate-view true false o u v h = ap (λ x. viewIn x u) h
+gate-view false q o u v h = ap (λ x. viewIn x u) h
 
--- ---- the answer
 module _ (r base : ℕ) (page : List ℕ) where
-  pub read-place : placeOk base (length page) ≡ false → readingAnswer page (Refused Place) ≡ readOf r base page
-  unfolding readOf judge readerGate readingAnswer
+  pub reading-answer : readingAnswer page (readingOf r base page) ≡ readOf r base page
+  unfolding readingOf readOf judge rulesAt
+  reading-answer = gate-answer page _ _ _ _ _ (λ p o. view-shows _ _ base page (placed base (length page) p .0) (rules-sections _ _ base page o))
+
+  -- the view of an accepted page has the places that the page's own pointers name
+  pub reading-placed : (v : View) → Accepted v ≡ readingOf r base page → v ≡ viewAt (v .minor) (v .edition) base page
+  unfolding readingOf viewAt
+  reading-placed v h =
+      let e = gate-view _ _ _ _ v h in
+      e ∙ sym (ap (λ u. viewAt (u .minor) (u .edition) base page) e)
+
+-- ---- the reader's enum, return by return
+module _ (r base : ℕ) (page : List ℕ) where
+  pub read-place : placeOk base (length page) ≡ false → Refused Place ≡ readingOf r base page
+  unfolding readingOf readingGate
   read-place h = rw h
 
   module _ (h : placeOk base (length page) ≡ true) where
-    pub read-edition : editionOk r ≡ false → readingAnswer page (Refused Version) ≡ readOf r base page
-    unfolding readOf judge readerGate both readingAnswer
+    pub read-edition : editionOk r ≡ false → Refused Version ≡ readingOf r base page
+    unfolding readingOf readingGate both
     read-edition g = rw (h, g)
 
     module _ (g : editionOk r ≡ true) where
-      pub read-version : versionOk (versionAt page) ≡ false → readingAnswer page (Refused Version) ≡ readOf r base page
-      unfolding readOf judge readerGate both readingAnswer
+      pub read-version : versionOk (versionAt page) ≡ false → Refused Version ≡ readingOf r base page
+      unfolding readingOf readingGate both
       read-version v = rw (h, g, v)
 
       module _ (v : versionOk (versionAt page) ≡ true) where
-        pub read-rules : rulesAt (minorOf (versionAt page)) (min r (minorOf (versionAt page))) base page ≡ false → readingAnswer page (Refused Rules) ≡ readOf r base page
-        unfolding readOf judge readerGate both readingAnswer rulesAt
+        pub read-rules : rulesAt (minorOf (versionAt page)) (min r (minorOf (versionAt page))) base page ≡ false → Refused Rules ≡ readingOf r base page
+        unfolding readingOf readingGate both
         read-rules o = rw (h, g, v, o)
 
         pub read-shows : rulesAt (minorOf (versionAt page)) (min r (minorOf (versionAt page))) base page ≡ true →
-            allShown (minorOf (versionAt page)) (min r (minorOf (versionAt page))) (platAt base page) (secAt base page) ≡ readOf r base page
-        unfolding readOf judge readerGate both rulesAt
+            Accepted (viewAt (minorOf (versionAt page)) (min r (minorOf (versionAt page))) base page) ≡ readingOf r base page
+        unfolding readingOf readingGate both
         read-shows o = rw (h, g, v, o)
 
 pub section-none : (v : View) (k : ℕ) → 3 < k → sectionOf v k ≡ Absent

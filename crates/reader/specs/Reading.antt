@@ -1,15 +1,18 @@
 -- What the reader's enum stands for: 01's numbers and values, with the page that it was read from. Assumes nothing.
-use Prim.Native.Nat.{ℕ, zero, suc, _+_, _-_}
-use mathlib.Core.Bool.{cond}
+use Prim.Native.Nat.{ℕ, zero, suc, _+_, _-_, min}
+use mathlib.Core.Bool.{Bool, true, false, cond}
 use mathlib.Core.List.{List}
 use lib.ListN.{length}
 use lib.Dec.{leb, ltb, eqb}
 use lib.IntN.{ℤ}
+use Rattle.words.specs.Tests.{both}
 use Rattle.words.specs.Word.{part, wordAt}
-use Rattle.versions.specs.Edition.{sectionCount}
+use Rattle.versions.specs.Version.{minorOf, versionOk}
+use Rattle.versions.specs.Edition.{sectionCount, editionOk}
 use Rattle.entries.specs.Entry.{size, shownWords}
 use Rattle.entries.specs.Array.{wordsAt}
-use Rattle.sections.specs.Page.{countAt, pointerAt}
+use Rattle.sections.specs.Page.{placeOk, versionAt, countAt, pointerAt}
+use Rattle.sections.specs.Section.{rulesAt}
 use Rattle.reader.specs.Answer.{Shown, absent, empty, full, ReaderAnswer, refused, shows, minus}
 use Rattle.reader.specs.declared.Section.{Section}
 use Rattle.reader.specs.declared.Section.the-variants.{Absent, Empty, Entries}
@@ -63,7 +66,17 @@ viewAt w e base page =
       coh = sectionAt e base page 3;
     }
 
--- a reading whose view is that of the page
-unfoldable pub placedAs : ℕ → List ℕ → Reading → Reading
-placedAs base page (Refused c) = Refused c
-placedAs base page (Accepted v) = Accepted (viewAt (v .minor) (v .edition) base page)
+-- ---- what the reader gives
+-- the checks in 01's order, as in `readerGate`
+unfoldable pub readingGate : Bool → Bool → Bool → View → Reading
+readingGate true true true v = Accepted v
+readingGate true true false v = Refused Rules
+readingGate true false o v = Refused Version
+readingGate false a o v = Refused Place
+
+-- of a reader of edition r at base B; that it stands for `readOf` is law `reading-answer`
+unfoldable pub readingOf : ℕ → ℕ → List ℕ → Reading
+readingOf r base page =
+    readingGate (placeOk base (length page)) (both (editionOk r) (versionOk (versionAt page)))
+    (rulesAt (minorOf (versionAt page)) (min r (minorOf (versionAt page))) base page)
+    (viewAt (minorOf (versionAt page)) (min r (minorOf (versionAt page))) base page)

@@ -5,10 +5,8 @@ ghost use mathlib.Core.Bool.{true};
 ghost use Prim.Native.Nat.{_<_};
 ghost use lib.ListN.{length};
 ghost use Rattle.versions.specs.Edition.{sectionCount};
-ghost use Rattle.sections.specs.Page.{secAt, platAt};
 ghost use Rattle.sections.specs.Steps.{okAt, okTo};
-ghost use Rattle.reader.specs.Answer.{shown, allShown, readOf};
-ghost use Rattle.reader.specs.Reading.{refusalNumber, sectionOf, shownAs, readingAnswer, sectionAt, viewAt, placedAs};
+ghost use Rattle.reader.specs.Reading.{refusalNumber, sectionOf, sectionAt, viewAt, readingOf};
 
 // What is shown of a section: not in the edition, 24 zero bytes, or so many entries at an offset of the page.
 pub enum Section {
@@ -54,7 +52,6 @@ pub fn number(code: Refusal) -> i32
 // What is shown of section k, whose rule holds if it is in edition e.
 fn section_at(page: &[u8], base: u64, minor: u64, e: Edition, k: u8) -> Section
     requires { ⌜ (length (now page) ≡ 4096) × (k < sectionCount (e .minor) → okAt minor (e .minor) base k (now page) ≡ true) ⌝ }
-    ensures { λ r. ⌜ shownAs minor k r (now (page .entry)) ≡ shown minor (e .minor) k (secAt base (now (page .entry)) k) ⌝ }
     ensures { λ r. ⌜ r ≡ sectionAt (e .minor) base (now (page .entry)) k ⌝ }
 {
     if e.sections() <= k {
@@ -73,7 +70,6 @@ fn section_at(page: &[u8], base: u64, minor: u64, e: Edition, k: u8) -> Section
 // The view of a page whose rules hold.
 fn view_at(page: &[u8], base: u64, minor: u64, e: Edition) -> View
     requires { ⌜ (length (now page) ≡ 4096) × (okTo minor (e .minor) base (sectionCount (e .minor)) (now page) ≡ true) ⌝ }
-    ensures { λ r. ⌜ readingAnswer (now (page .entry)) (Reading.Accepted r) ≡ allShown minor (e .minor) (platAt base (now (page .entry))) (secAt base (now (page .entry))) ⌝ }
     ensures { λ r. ⌜ r ≡ viewAt minor (e .minor) base (now (page .entry)) ⌝ }
 {
     View {
@@ -90,8 +86,7 @@ fn view_at(page: &[u8], base: u64, minor: u64, e: Edition) -> View
 // Reads a lent page at a base, as a reader of an edition: all that it shows, or the first code in the order of the checks. The
 // view's places are those that the page's own pointers name.
 pub fn read(page: &[u8], base: u64, edition: u64) -> Reading
-    ensures { λ r. ⌜ readingAnswer (now (page .entry)) r ≡ readOf edition base (now (page .entry)) ⌝ }
-    ensures { λ r. ⌜ r ≡ placedAs base (now (page .entry)) r ⌝ }
+    ensures { λ r. ⌜ r ≡ readingOf edition base (now (page .entry)) ⌝ }
 {
     if !sections::place_ok(base, page.len()) {
         return Reading::Refused(Refusal::Place);

@@ -14,8 +14,8 @@ use borrow.Author.Tests.{eq-eqb, ne-eqb}
 use Rattle.words.specs.Tests.{both}
 use Rattle.words.specs.Word.{wordAt}
 use Rattle.entries.specs.Entry.{size}
-use Rattle.reader.specs.Answer.{ReaderAnswer, refused, readOf, empty, full, wordIn, entryWord, countIn, entryCount}
-use Rattle.reader.specs.Reading.{refusalNumber, sectionOf, shownAs, readingAnswer}
+use Rattle.reader.specs.Answer.{refused, readOf, empty, full, wordIn, entryWord, countIn, entryCount}
+use Rattle.reader.specs.Reading.{refusalNumber, sectionOf, shownAs, readingAnswer, readingOf}
 use Rattle.reader.specs.declared.Section.{Section}
 use Rattle.reader.specs.declared.Section.the-variants.{Absent, Empty, Entries}
 use Rattle.reader.proofs.Section.{the-type}
@@ -24,6 +24,7 @@ use Rattle.reader.specs.declared.Refusal.{Refusal}
 use Rattle.reader.specs.declared.Refusal.the-variants.{Place}
 use Rattle.reader.specs.declared.Reading.{Reading}
 use Rattle.reader.specs.declared.Reading.the-variants.{Accepted, Refused}
+use Rattle.reader.proofs.Whole.{reading-answer}
 use Rattle.text.specs.Text.{newline, space, noneText, absentText, titleText, hexText, nameText, wordText, gapText, countText, stateText, pointerText, listingOf, printed}
 use Rattle.text.specs.Steps.{seen, refusalOf}
 
@@ -99,12 +100,13 @@ module _ (v : View) (page : List ℕ) (k : ℕ) (s : Section) (e : s ≡ section
   state-other h = rw (← e) (count-other (v .minor) k s page h)
 
 -- ---- the answer of a reading
-pub list-refused : (page : List ℕ) (r : Reading) (c : Refusal) (a : ReaderAnswer) → r ≡ Refused c → readingAnswer page r ≡ a → refusalOf r ≡ listingOf a
+pub list-refused : (e base : ℕ) (page : List ℕ) (r : Reading) (c : Refusal) → r ≡ Refused c → r ≡ readingOf e base page → refusalOf r ≡ listingOf (readOf e base page)
 unfolding refusalOf readingAnswer
-list-refused page r c a e f = rw (← f, e)
+list-refused e base page r c h f = rw (← reading-answer e base page, ← f, h)
 
-pub list-accepted : (page : List ℕ) (r : Reading) (v : View) (a : ReaderAnswer) → r ≡ Accepted v → readingAnswer page r ≡ a → listingOf (readingAnswer page (Accepted v)) ≡ listingOf a
-list-accepted page r v a e f = rw (← f, e)
+pub list-accepted : (e base : ℕ) (page : List ℕ) (r : Reading) (v : View) → r ≡ Accepted v → r ≡ readingOf e base page →
+    listingOf (readingAnswer page (Accepted v)) ≡ listingOf (readOf e base page)
+list-accepted e base page r v h f = rw (← reading-answer e base page, ← f, h)
 
 -- ---- the input of the program
 pub input-refused : (input : List ℕ) → (length input ≡ 4104 → ⊥) → listingOf (refused (refusalNumber Place)) ≡ printed input

@@ -1,6 +1,5 @@
-use mathlib.Core.Path.{sym, ap, _∙_}
+use mathlib.Core.Path.{sym, _∙_}
 use Rattle.words.specs.Word.{noSpan}
-use Rattle.reader.specs.Reading.{readingAnswer, placedAs}
 use Rattle.lookup.proofs.Lookups.{place-accepted, place-refused}
 use borrow.Author.Needs.{needs}
 use Rattle.lookup.proofs.place.Statement.{statement}
@@ -22,7 +21,7 @@ unfolding noSpan
 returns c =
     let a = c .before .before .before .before .args in
     let g = c .enum-told .given in
-    place-refused (a .edition) (a .base) (a .k) (a .page .now) (g .0 .0) (sym (ap (readingAnswer (a .page .now)) (g .1)) ∙ c .before .before .read .ensures .0)
+    place-refused (a .edition) (a .base) (a .k) (a .page .now) (g .0 .0) (sym (g .1) ∙ c .before .before .read .ensures)
 
 place-of-requires : tie.Need-place-of-requires
 place-of-requires c κs = search needs
@@ -31,8 +30,7 @@ returns-2 : tie.Need-returns-2
 returns-2 c =
     let a = c .before .before .before .before .before .before .args in
     let g = c .before .before .reading .given in
-    let r = c .before .before .before .before .read .ensures in
-    let q = place-accepted (a .edition) (a .base) (a .k) (a .page .now) (g .0 .0) (sym (ap (readingAnswer (a .page .now)) (g .1)) ∙ r .0) (sym (g .1) ∙ r .1 ∙ ap (placedAs (a .base) (a .page .now)) (g .1)) in
+    let q = place-accepted (a .edition) (a .base) (a .k) (a .page .now) (g .0 .0) (sym (g .1) ∙ c .before .before .before .before .read .ensures) in
     (c .place-of .ensures .0 ∙ q .0, c .place-of .ensures .1 ∙ q .1)
 
 pub place-spec : {M : Type 1} → statement M

@@ -23,7 +23,7 @@ returns c =
     let a = c .before .before .before .before .args in
     let e = c .before .before .read .ensures in
     let q : toZ w32 (ofZ w32 (c .reading-number .result)) ≡ c .reading-number .result = search needs in
-    (q ∙ c .reading-number .ensures ∙ reading-code (a .edition) (a .base) (a .page .now) _ (e .0), c .before .reading-words .ensures ∙ reading-words (a .edition) (a .base) (a .page .now) _ (e .0) (e .1))
+    (q ∙ c .reading-number .ensures ∙ reading-code (a .edition) (a .base) (a .page .now) _ e, c .before .reading-words .ensures ∙ reading-words (a .edition) (a .base) (a .page .now) _ e)
 
 pub pbeam-read-spec : {M : Type 1} → statement M
 pbeam-read-spec =

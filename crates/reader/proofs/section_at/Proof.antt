@@ -1,10 +1,7 @@
 use mathlib.Core.Path.{_≡_, _∙_}
-use borrow.Author.Tests.{le-ltb, lt-ltb, eq-eqb, ne-eqb}
-use Rattle.versions.specs.Edition.{sectionCount}
 use Rattle.sections.specs.Page.{countAt, pointerAt}
 use Rattle.sections.proofs.Sections.{range-low, ok-in-range}
-use Rattle.reader.proofs.Whole.{shown-absent, shown-empty, shown-entries}
-use Rattle.reader.specs.Reading.{sectionAt}
+use Rattle.reader.proofs.Whole.{section-absent, section-empty, section-entries}
 use borrow.Author.Needs.{needs}
 use native.Mathlib.Omega.{arith}
 use Rattle.reader.proofs.section_at.Statement.{statement}
@@ -14,19 +11,17 @@ sections-requires : tie.Need-sections-requires
 sections-requires c κs = search needs
 
 returns : tie.Need-returns
-unfolding sectionAt
 returns c =
     let a = c .before .before .before .args in
-    (shown-absent (a .minor) (a .e .minor) (a .base) (a .k) (a .page .now) (omega arith), simp (le-ltb (a .k) (sectionCount (a .e .minor)) (omega arith)))
+    section-absent (a .e .minor) (a .base) (a .k) (a .page .now) (omega arith)
 
 count-at-requires : tie.Need-count-at-requires
 count-at-requires c κs = search needs
 
 returns-2 : tie.Need-returns-2
-unfolding sectionAt
 returns-2 c =
     let a = c .before .before .before .before .before .args in
-    (shown-empty (a .minor) (a .e .minor) (a .base) (a .k) (a .page .now) (omega arith) (omega arith), simp (lt-ltb (a .k) (sectionCount (a .e .minor)) (omega arith), eq-eqb (countAt (a .k) (a .page .now)) 0 (omega arith)))
+    section-empty (a .e .minor) (a .base) (a .k) (a .page .now) (omega arith) (omega arith)
 
 pointer-at-requires : tie.Need-pointer-at-requires
 pointer-at-requires c κs = search needs
@@ -39,13 +34,10 @@ sub-at c =
     omega (arith, range-low (a .e .minor) (a .base) (a .k) (countAt (a .k) (a .page .now)) (pointerAt (a .k) (a .page .now)) (ok-in-range (a .minor) (a .e .minor) (a .base) (a .k) (a .page .now) o z))
 
 returns-3 : tie.Need-returns-3
-unfolding sectionAt
 returns-3 c =
     let a = c .before .before .before .before .before .before .args in
     let z : (countAt (a .k) (a .page .now) ≡ 0 → ⊥) = (λ e. c .before .if2 .left (c .before .before .count-at .ensures ∙ e)) in
-    let o = c .before .before .before .before .before .before .pre .1 (omega arith) in
-    rw (c .pointer-at .ensures, c .before .before .count-at .ensures)
-    (shown-entries (a .minor) (a .e .minor) (a .base) (a .k) (a .page .now) (c .before .before .before .before .before .before .pre .0) (omega arith) o z, simp (lt-ltb (a .k) (sectionCount (a .e .minor)) (omega arith), ne-eqb (countAt (a .k) (a .page .now)) 0 z))
+    rw (c .pointer-at .ensures, c .before .before .count-at .ensures) (section-entries (a .e .minor) (a .base) (a .k) (a .page .now) (omega arith) z)
 
 pub section-at-spec : {M : Type 1} → statement M
 section-at-spec =

@@ -1,7 +1,5 @@
-use mathlib.Core.Path.{refl}
 use Rattle.versions.specs.Edition.{sectionCount}
 use Rattle.sections.proofs.Sections.{ok-each}
-use Rattle.reader.proofs.Whole.{shown-all, view-shows}
 use Rattle.reader.specs.Reading.{viewAt}
 use borrow.Author.Needs.{needs}
 use Rattle.reader.proofs.view_at.Statement.{statement}
@@ -36,12 +34,7 @@ section-at-requires-4 c κs =
 
 returns : tie.Need-returns
 unfolding viewAt
-returns c =
-    let a = c .before .before .before .before .before .before .args in (
-      view-shows (a .minor) (a .e .minor) (a .base) (a .page .now) _ refl refl (c .before .before .before .before .word-at .ensures)
-          (shown-all (a .minor) (a .e .minor) (a .base) (a .page .now) _ (c .before .before .before .section-at .ensures .0) (c .before .before .section-at2 .ensures .0) (c .before .section-at3 .ensures .0) (c .section-at4 .ensures .0)),
-      rw (c .before .before .before .before .word-at .ensures, c .before .before .before .section-at .ensures .1, c .before .before .section-at2 .ensures .1, c .before .section-at3 .ensures .1, c .section-at4 .ensures .1),
-    )
+returns c = rw (c .before .before .before .before .word-at .ensures, c .before .before .before .section-at .ensures, c .before .before .section-at2 .ensures, c .before .section-at3 .ensures, c .section-at4 .ensures)
 
 pub view-at-spec : {M : Type 1} → statement M
 view-at-spec =

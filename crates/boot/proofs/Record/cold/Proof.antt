@@ -1,6 +1,5 @@
 use mathlib.Core.Path.{sym, ap, _∙_}
 use borrow.Author.Tests.{not-true, not-false}
-use Rattle.reader.specs.Reading.{readingAnswer}
 use Rattle.boot.specs.Boot.{bootNumber, numberIn, paramsOf}
 use Rattle.boot.proofs.Booting.{cold-state, cold-version, cold-cpus, cold-cpu, cold-refused, cold-up}
 use borrow.Author.Needs.{needs}
@@ -69,7 +68,7 @@ unfolding numberIn
 returns-5 c =
     let a = c .before .before .before .before .before .before .before .before .before .before .before .before .args in
     let g = c .before .before .enum-told2 .given in
-    let k = cold-refused (a .self) (a .x0) (a .x1) (a .x2) (a .x3) (a .most) (a .page .now) (sym (c .before .before .before .before .before .before .before .before .before .before .is-fresh .ensures) ∙ not-false _ (c .before .before .before .before .before .before .before .before .before .if1 .left)) (sym (c .before .before .before .before .before .before .before .before .is-accepted .ensures) ∙ not-false _ (c .before .before .before .before .before .before .before .if2 .left)) (search needs) (search needs) (g .0 .0) (sym (ap (readingAnswer (a .page .now)) (g .1)) ∙ c .before .before .before .before .read .ensures .0) in
+    let k = cold-refused (a .self) (a .x0) (a .x1) (a .x2) (a .x3) (a .most) (a .page .now) (sym (c .before .before .before .before .before .before .before .before .before .before .is-fresh .ensures) ∙ not-false _ (c .before .before .before .before .before .before .before .before .before .if1 .left)) (sym (c .before .before .before .before .before .before .before .before .is-accepted .ensures) ∙ not-false _ (c .before .before .before .before .before .before .before .if2 .left)) (search needs) (search needs) (g .0 .0) (sym (g .1) ∙ c .before .before .before .before .read .ensures) in
     (ap bootNumber (c .failed5 .ensures .1) ∙ c .before .code-of .ensures ∙ ap numberIn (g .1) ∙ k .0, c .failed5 .ensures .0 ∙ k .1)
 
 agreed-minor-requires : tie.Need-agreed-minor-requires
@@ -80,7 +79,7 @@ unfolding paramsOf
 returns-6 c =
     let a = c .before .before .before .before .before .before .before .before .before .before .before .args in
     let g = c .before .enum-told .given in
-    let k = cold-up (a .self) (a .x0) (a .x1) (a .x2) (a .x3) (a .most) (a .page .now) (sym (c .before .before .before .before .before .before .before .before .before .is-fresh .ensures) ∙ not-false _ (c .before .before .before .before .before .before .before .before .if1 .left)) (sym (c .before .before .before .before .before .before .before .is-accepted .ensures) ∙ not-false _ (c .before .before .before .before .before .before .if2 .left)) (search needs) (search needs) (g .0 .0) (sym (ap (readingAnswer (a .page .now)) (g .1)) ∙ c .before .before .before .read .ensures .0) in
+    let k = cold-up (a .self) (a .x0) (a .x1) (a .x2) (a .x3) (a .most) (a .page .now) (sym (c .before .before .before .before .before .before .before .before .before .is-fresh .ensures) ∙ not-false _ (c .before .before .before .before .before .before .before .before .if1 .left)) (sym (c .before .before .before .before .before .before .before .is-accepted .ensures) ∙ not-false _ (c .before .before .before .before .before .before .if2 .left)) (search needs) (search needs) (g .0 .0) (sym (g .1) ∙ c .before .before .before .read .ensures) in
     (k .0, rw (c .agreed-minor .ensures .0) (k .1))
 
 pub cold-spec : {M : Type 1} → statement M
