@@ -1,5 +1,6 @@
 pub mod Whole
 pub mod Newer
 pub mod Named
+pub mod Gaps
 pub mod Views
 pub mod Sample

@@ -5,10 +5,11 @@ use versions::Edition;
 ghost use mathlib.Core.Path.{_≡_};
 ghost use Prim.Native.Nat.{_+_, _*_, _%_, _^_, _≤_, _<_};
 ghost use lib.ListN.{length};
+ghost use Rattle.words.specs.Tests.{Yes};
 ghost use Rattle.words.specs.Word.{bytesOf, splice, laid};
 ghost use Rattle.entries.specs.Entry.{sum};
 ghost use Rattle.lists.specs.Description.{four, descriptionOf, totalsOf, used};
-ghost use Rattle.writer.specs.Write.{descriptor, coreWords, pageOf};
+ghost use Rattle.writer.specs.Write.{descriptor, coreWords, pageOf, descriptionFits};
 ghost use Rattle.writer.specs.Wrote.{writeLists, madeBy, pageAfter};
 ghost use Rattle.writer.specs.Steps.{sectionOn, arraysOn};
 
@@ -126,7 +127,8 @@ fn put_page(
 }
 
 // Writes a manifest of an edition for a base into the lent page: exactly core and arrays, and zero everywhere else. Refused by
-// the first check in 01's order, it leaves the page as it was.
+// the first check in 01's order, it leaves the page as it was. That the lists are of 64-bit words is promised for what is said of the
+// pages made (`written` in demand 3).
 pub fn write(
     base: u64,
     edition: u64,
@@ -140,6 +142,7 @@ pub fn write(
         ≡ writeLists base edition (now (dram .entry)) (now (console .entry)) (now (ncoh .entry)) (now (coh .entry)) (now (page .entry)) ⌝ }
     ensures { λ r. ⌜ now (page .exit) ≡ pageAfter (now (page .entry))
         (writeLists base edition (now (dram .entry)) (now (console .entry)) (now (ncoh .entry)) (now (coh .entry)) (now (page .entry))) ⌝ }
+    ensures { λ _. ⌜ Yes (descriptionFits (descriptionOf (now (dram .entry)) (now (console .entry)) (now (ncoh .entry)) (now (coh .entry)))) ⌝ }
 {
     if !sections::place_ok(base, page.len()) {
         return Wrote::Place;

@@ -6,7 +6,7 @@ use Rattle.sections.proofs.Sections.{placed}
 use Rattle.lists.specs.Description.{descriptionOf}
 use Rattle.writer.specs.Wrote.{madeBy}
 use Rattle.writer.specs.declared.Wrote.the-variants.{Place, Edition, Lists, Late, Room}
-use Rattle.writer.proofs.Checks.{w-place, w-edition, w-lists, w-late, w-room, w-made, wrote-not, wrote-page}
+use Rattle.writer.proofs.Checks.{w-place, w-edition, w-lists, w-late, w-room, w-made, lists-fit, wrote-not, wrote-page}
 use borrow.Author.Needs.{needs}
 use native.Mathlib.Omega.{arith}
 use Rattle.writer.proofs.write.Statement.{statement}
@@ -19,9 +19,11 @@ returns : tie.Need-returns
 unfolding madeBy
 returns c =
     let a = c .before .before .before .before .before .before .before .args in
+    let k = c .before .before .before in
     wrote-not Place 1 (a .page .now) _ refl
     (w-place (a .base) (length (a .page .now)) (a .edition) (descriptionOf (a .dram .now) (a .console .now) (a .ncoh .now) (a .coh .now))
     (sym (c .before .place-ok .ensures) ∙ not-true _ (c .if1 .taken)))
+    (lists-fit (a .dram .now) (a .console .now) (a .ncoh .now) (a .coh .now) (k .before .before .before .shared-slice-known .given) (k .before .before .shared-slice-known2 .given) (k .before .shared-slice-known3 .given) (k .shared-slice-known4 .given))
 
 is-edition-requires : tie.Need-is-edition-requires
 is-edition-requires c κs = search needs
@@ -30,10 +32,12 @@ returns-2 : tie.Need-returns-2
 unfolding madeBy
 returns-2 c =
     let a = c .before .before .before .before .before .before .before .before .before .args in
+    let k = c .before .before .before .before .before in
     wrote-not Edition 2 (a .page .now) _ refl
     (w-edition (a .base) (length (a .page .now)) (a .edition) (descriptionOf (a .dram .now) (a .console .now) (a .ncoh .now) (a .coh .now))
     (sym (c .before .before .before .place-ok .ensures) ∙ not-false _ (c .before .before .if1 .left))
     (sym (c .before .is-edition .ensures) ∙ not-true _ (c .if2 .taken)))
+    (lists-fit (a .dram .now) (a .console .now) (a .ncoh .now) (a .coh .now) (k .before .before .before .shared-slice-known .given) (k .before .before .shared-slice-known2 .given) (k .before .shared-slice-known3 .given) (k .shared-slice-known4 .given))
 
 sum-lists-requires : tie.Need-sum-lists-requires
 sum-lists-requires c κs = search needs
@@ -48,11 +52,13 @@ returns-3 : tie.Need-returns-3
 unfolding madeBy
 returns-3 c =
     let a = c .before .before .before .before .before .before .before .before .before .before .before .before .args in
+    let k = c .before .before .before .before .before .before .before .before in
     wrote-not Lists 3 (a .page .now) _ refl
     (w-lists (a .base) (length (a .page .now)) (a .edition) (descriptionOf (a .dram .now) (a .console .now) (a .ncoh .now) (a .coh .now))
     (sym (c .before .before .before .before .before .before .place-ok .ensures) ∙ not-false _ (c .before .before .before .before .before .if1 .left))
     (sym (c .before .before .before .before .is-edition .ensures) ∙ not-false _ (c .before .before .before .if2 .left))
     (unsound-lists (a .edition) (a .dram .now) (a .console .now) (a .ncoh .now) (a .coh .now) (sym (c .before .before .sum-lists .ensures) ∙ c .enum-told .given .1)))
+    (lists-fit (a .dram .now) (a .console .now) (a .ncoh .now) (a .coh .now) (k .before .before .before .shared-slice-known .given) (k .before .before .shared-slice-known2 .given) (k .before .shared-slice-known3 .given) (k .shared-slice-known4 .given))
 
 none-late-requires : tie.Need-none-late-requires
 none-late-requires c κs = search needs
@@ -61,12 +67,14 @@ returns-4 : tie.Need-returns-4
 unfolding madeBy
 returns-4 c =
     let a = c .before .before .before .before .before .before .before .before .before .before .before .before .before .before .before .args in
+    let k = c .before .before .before .before .before .before .before .before .before .before .before in
     wrote-not Late 4 (a .page .now) _ refl
     (w-late (a .base) (length (a .page .now)) (a .edition) (descriptionOf (a .dram .now) (a .console .now) (a .ncoh .now) (a .coh .now))
     (sym (c .before .before .before .before .before .before .before .before .before .place-ok .ensures) ∙ not-false _ (c .before .before .before .before .before .before .before .before .if1 .left))
     (sym (c .before .before .before .before .before .before .before .is-edition .ensures) ∙ not-false _ (c .before .before .before .before .before .before .if2 .left))
     (sound-lists (a .edition) (a .dram .now) (a .console .now) (a .ncoh .now) (a .coh .now) _ (sym (c .before .before .before .before .before .sum-lists .ensures) ∙ c .before .before .before .totals .given .1))
     (sym (c .before .none-late .ensures) ∙ not-true _ (c .if3 .taken)))
+    (lists-fit (a .dram .now) (a .console .now) (a .ncoh .now) (a .coh .now) (k .before .before .before .shared-slice-known .given) (k .before .before .shared-slice-known2 .given) (k .before .shared-slice-known3 .given) (k .shared-slice-known4 .given))
 
 room-ok-requires : tie.Need-room-ok-requires
 room-ok-requires c κs = search needs
@@ -75,6 +83,7 @@ returns-5 : tie.Need-returns-5
 unfolding madeBy
 returns-5 c =
     let a = c .before .before .before .before .before .before .before .before .before .before .before .before .before .before .before .before .before .args in
+    let k = c .before .before .before .before .before .before .before .before .before .before .before .before .before in
     wrote-not Room 5 (a .page .now) _ refl
     (w-room (a .base) (length (a .page .now)) (a .edition) (descriptionOf (a .dram .now) (a .console .now) (a .ncoh .now) (a .coh .now))
     (sym (c .before .before .before .before .before .before .before .before .before .before .before .place-ok .ensures) ∙ not-false _ (c .before .before .before .before .before .before .before .before .before .before .if1 .left))
@@ -82,6 +91,7 @@ returns-5 c =
     (sound-lists (a .edition) (a .dram .now) (a .console .now) (a .ncoh .now) (a .coh .now) _ (sym (c .before .before .before .before .before .before .before .sum-lists .ensures) ∙ c .before .before .before .before .before .totals .given .1))
     (sym (c .before .before .before .none-late .ensures) ∙ not-false _ (c .before .before .if3 .left))
     (sym (c .before .room-ok .ensures) ∙ not-true _ (c .if4 .taken)))
+    (lists-fit (a .dram .now) (a .console .now) (a .ncoh .now) (a .coh .now) (k .before .before .before .shared-slice-known .given) (k .before .before .shared-slice-known2 .given) (k .before .shared-slice-known3 .given) (k .shared-slice-known4 .given))
 
 put-page-requires : tie.Need-put-page-requires
 put-page-requires c κs =
@@ -95,6 +105,7 @@ same-length c = search needs
 returns-6 : tie.Need-returns-6
 returns-6 c =
     let a = c .before .before .before .before .before .before .before .before .before .before .before .before .before .before .before .before .before .before .before .before .before .args in
+    let k = c .before .before .before .before .before .before .before .before .before .before .before .before .before .before .before .before .before in
     wrote-page (a .page .now) _ _ _
     (w-made (a .base) (length (a .page .now)) (a .edition) (descriptionOf (a .dram .now) (a .console .now) (a .ncoh .now) (a .coh .now))
     (sym (c .before .before .before .before .before .before .before .before .before .before .before .before .before .before .before .place-ok .ensures) ∙ not-false _ (c .before .before .before .before .before .before .before .before .before .before .before .before .before .before .if1 .left))
@@ -103,6 +114,7 @@ returns-6 c =
     (sym (c .before .before .before .before .before .before .before .none-late .ensures) ∙ not-false _ (c .before .before .before .before .before .before .if3 .left))
     (sym (c .before .before .before .before .before .room-ok .ensures) ∙ not-false _ (c .before .before .before .before .if4 .left)))
     (c .before .before .put-page .ensures)
+    (lists-fit (a .dram .now) (a .console .now) (a .ncoh .now) (a .coh .now) (k .before .before .before .shared-slice-known .given) (k .before .before .shared-slice-known2 .given) (k .before .shared-slice-known3 .given) (k .shared-slice-known4 .given))
 
 pub write-spec : {M : Type 1} → statement M
 write-spec =
