@@ -2,11 +2,11 @@ use mathlib.Core.Path.{_≡_, _∙_}
 use Prim.Native.Nat.{_-_, _%_, _^_, _≤_}
 use lib.ListN.{length, take}
 use Rattle.entries.specs.Entry.{sum}
-use Rattle.writer.proofs.Sums.{sum-none, sum-more, sum-all}
+use Rattle.lists.proofs.Lists.{sum-none, sum-more, sum-all}
 use borrow.Author.Needs.{needs}
 use native.Mathlib.Omega.{arith}
-use Rattle.writer.proofs.sum_of.Statement.{statement}
-use Rattle.writer.proofs.sum_of.Tie as tie
+use Rattle.lists.proofs.sum_of.Statement.{statement}
+use Rattle.lists.proofs.sum_of.Tie as tie
 
 abbrev Inv-loop : tie.InvT-loop
 Inv-loop words total₀ i₀ i-end total i = (i ≤ length words) × (total ≡ sum (take i words) % 2 ^ 64)
