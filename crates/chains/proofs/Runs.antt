@@ -26,14 +26,14 @@ use Rattle.signing.specs.declared.Opcode.{Opcode}
 use Rattle.signing.proofs.Signings.{signing-by}
 use Rattle.runtime.specs.declared.Kind.{Kind}
 use Rattle.runtime.specs.declared.Kind.the-variants.{ForwardError, Delegate, Undelegate, RealmKey, PlatformToken, Features, TokenSigning, KeyUpdate, Unlisted}
-use Rattle.runtime.specs.Step.{World, Call, Command, call, sign, kindOf, afterMove, afterKey, afterToken, afterSigning, afterUpdate, afterSign, callBy, callOf, stepOf}
+use Rattle.runtime.specs.Step.{World, Call, Command, call, sign, list, kindOf, afterMove, afterKey, afterToken, afterSigning, afterUpdate, afterSign, callBy, callOf, stepOf}
 use Rattle.runtime.specs.Run.{worldAfter}
 use Rattle.images.specs.Image.{granulesOf}
 use Rattle.queue_image.specs.Image.{each, areBytes, responseFits, eightFit, queueFits, Exact}
 use Rattle.queue_image.proofs.Fits.{image-fits, each-append, low-bytes, part-bytes, splice-bytes}
-use Rattle.queue_image.proofs.Becomes.{Becomes}
+use Rattle.queue_image.proofs.Becomes.{Becomes, as-it-was}
 use Rattle.chains.specs.Chain.{Lent, lentWorld, commandLeft, lentAfter, allAfter, ofBytes}
-use Rattle.potterbeam.specs.Exports.{callLeft, callIn}
+use Rattle.potterbeam.specs.Exports.{moveLeft, callLeft, callIn}
 use Rattle.chains.proofs.Chain.{signer-becomes, sign-chain, call-becomes, call-chain}
 
 -- ---- a page of bytes stays one
@@ -105,23 +105,26 @@ module _ (granules : List ℕ) where
     queue-words = both-r _ _ (both-r _ _ h)
 
     step-becomes : (c : Command) → Yes (ofBytes c) → Becomes (m .queue) (lentAfter granules m c .queue) (stepOf (granulesOf granules) (lentWorld m) c .next .queue)
-    unfolding commandLeft stepOf afterSign ofBytes
+    unfolding commandLeft stepOf afterMove afterSign ofBytes
     step-becomes (call c) b = call-becomes granules (m .session) (m .queue) (m .page) (m .table) c queue-whole queue-words page-bytes
     step-becomes (sign s) b = signer-becomes (m .queue) queue-whole queue-words s b
+    step-becomes (list r d l) b = as-it-was (m .queue) queue-whole queue-words
 
     step-bytes : (c : Command) → Yes (ofBytes c) → Yes (areBytes (lentAfter granules m c .page))
     unfolding commandLeft callIn callLeft callOf
     step-bytes (call c) b = call-bytes (kindOf (c .id)) (granulesOf granules) (lentWorld m) c page-bytes (image-fits (m .queue) queue-whole queue-words) b
     step-bytes (sign s) b = page-bytes
+    step-bytes (list r d l) b = page-bytes
 
     step-sound : (c : Command) → Yes (ofBytes c) → Yes (sound (lentAfter granules m c))
     unfolding sound
     step-sound c b = let n = step-becomes c b in both-of _ _ (step-bytes c b) (both-of _ _ (eq-eqb (length (lentAfter granules m c .queue)) 210 (n .whole)) (n .words))
 
     step-chain : (c : Command) → Yes (ofBytes c) → lentWorld (lentAfter granules m c) ≡ stepOf (granulesOf granules) (lentWorld m) c .next
-    unfolding commandLeft stepOf afterSign ofBytes
+    unfolding commandLeft moveLeft stepOf afterMove afterSign ofBytes
     step-chain (call c) b = call-chain granules (m .session) (m .queue) (m .page) (m .table) c queue-whole queue-words page-bytes
     step-chain (sign s) b = rw (sign-chain (m .queue) queue-whole queue-words s b)
+    step-chain (list r d l) b = refl
 
   run-sound : (m : Lent) (cs : List Command) → Yes (sound m) → Yes (each ofBytes cs) → lentWorld (allAfter granules m cs) ≡ worldAfter (granulesOf granules) (lentWorld m) cs
   unfolding allAfter worldAfter each

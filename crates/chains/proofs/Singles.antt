@@ -14,9 +14,9 @@ use Rattle.images.specs.Image.{granulesOf, workWords, replyRegisters, replyWord
 use Rattle.signing.specs.OnImage.{signingOn}
 use Rattle.queue_image.specs.Image.{each, areBytes, Exact}
 use Rattle.queue_image.specs.Steps.{imageStep}
-use Rattle.potterbeam.specs.Exports.{moveLeft, moveIn, tokenLeft, tokenIn, signingLeft, signingIn, sessionLeft, queueLeft, CallLeft, callLeft, callLent, callIn}
+use Rattle.potterbeam.specs.Exports.{moveLeft, moveIn, moveListIn, tokenLeft, tokenIn, signingLeft, signingIn, sessionLeft, queueLeft, CallLeft, callLeft, callLent, callIn}
 use Rattle.chains.specs.Chain.{Lent, lentWorld, lentOn, commandLeft, allAfter, ofBytes}
-use Rattle.chains.specs.Exported.{Exported, pbeam-delegate, pbeam-undelegate, pbeam-realm-key, pbeam-platform-token, pbeam-features, pbeam-token-signing, pbeam-key-update, pbeam-forward, pbeam-call, pbeam-sign, exportLeft, commandOf, exportFor, allExported}
+use Rattle.chains.specs.Exported.{Exported, pbeam-delegate, pbeam-undelegate, pbeam-delegate-list, pbeam-undelegate-list, pbeam-realm-key, pbeam-platform-token, pbeam-features, pbeam-token-signing, pbeam-key-update, pbeam-forward, pbeam-call, pbeam-sign, exportLeft, commandOf, exportFor, allExported}
 use Rattle.chains.proofs.Runs.{run-chain, run-exact}
 
 module _ (granules : List ℕ) (m : Lent) where
@@ -42,9 +42,11 @@ module _ (granules : List ℕ) (m : Lent) where
 
   -- and each export is the command with its id
   pub single : (e : Exported) → exportLeft granules m e ≡ commandLeft granules m (commandOf e)
-  unfolding exportLeft commandLeft commandOf exportFor kindOf
+  unfolding exportLeft commandLeft commandOf exportFor kindOf moveListIn
   single (pbeam-delegate state address) = sym (dispatched-by Delegate state (0xC40001B0 ∷ address ∷ []) 0 [] [] [] 0 refl)
   single (pbeam-undelegate state address) = sym (dispatched-by Undelegate state (0xC40001B1 ∷ address ∷ []) 0 [] [] [] 0 refl)
+  single (pbeam-delegate-list state addresses) = refl
+  single (pbeam-undelegate-list state addresses) = refl
   single (pbeam-realm-key state key pa size curve) = sym (dispatched-by RealmKey state (0xC40001B2 ∷ pa ∷ size ∷ curve ∷ []) 0 key [] [] 0 refl)
   single (pbeam-platform-token state token busy pa size csize) = sym (dispatched-by PlatformToken state (0xC40001B3 ∷ pa ∷ size ∷ csize ∷ []) busy [] token [] 0 refl)
   single (pbeam-features state index) = sym (dispatched-by Features state (0xC40001B4 ∷ index ∷ []) 0 [] [] [] 0 refl)

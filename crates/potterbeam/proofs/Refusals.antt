@@ -3,7 +3,7 @@ use Prim.Native.Nat.{ℕ}
 use mathlib.Core.Path.{_≡_, refl, sym, ap, _∙_}
 use mathlib.Core.Bool.{Bool, false}
 use mathlib.Core.List.{List, [], _∷_}
-use lib.ListN.{getD}
+use lib.ListN.{take, getD}
 use Rattle.codes.specs.Codes.{isOk, ifOk, x0Of, extended, answerOf}
 use Rattle.codes.specs.declared.Answer.{Answer}
 use Rattle.codes.specs.declared.Code.{Code}
@@ -11,9 +11,11 @@ use Rattle.codes.specs.declared.Code.the-variants.{Ok, Unk, BadAddr, BadPas, In
 use Rattle.codes.specs.declared.Work.the-variants.{Nothing}
 use Rattle.codes.proofs.Gates.{if-ok-by}
 use Rattle.granules.specs.Granules.{Moved, movedBy, moveOf}
+use Rattle.granules.specs.Lists.{doneBy, tableBy}
 use Rattle.granules.specs.declared.Direction.{Direction}
 use Rattle.granules.specs.declared.Granules.{Granules}
 use Rattle.granules.proofs.Moving.{move-refused}
+use Rattle.granules.proofs.Done.{list-is}
 use Rattle.boot.specs.declared.Record.{Record}
 use Rattle.attest.specs.Key.{Keyed, keyed, realmKeyOf}
 use Rattle.attest.proofs.Keys.{key-refused}
@@ -34,11 +36,12 @@ use Rattle.runtime.specs.declared.Kind.{Kind}
 use Rattle.runtime.specs.declared.Kind.the-variants.{ForwardError, Delegate, Undelegate, RealmKey, PlatformToken, Features, TokenSigning, KeyUpdate, Unlisted}
 use Rattle.runtime.specs.declared.Needs.{Needs}
 use Rattle.runtime.specs.Step.{World, Call, call, Step, kindOf, afterMove, afterKey, afterToken, afterSigning, afterUpdate, callBy, callOf, stepOf, replyCode, refusal, needsOf}
+use Rattle.runtime.specs.Run.{worldAfter, doneCalls}
 use Rattle.runtime.proofs.Refused.{refused}
 use Rattle.images.specs.Image.{recordOf, granulesOf, isSet, sessionOf, sessionWords, registerWords, workWords, replyRegisters, replyWords}
 use Rattle.queue_image.specs.Image.{listsIn}
 use Rattle.queue_image.specs.Steps.{imageStep}
-use Rattle.potterbeam.specs.Exports.{sessionAfter, moveLeft, moveIn, tokenLeft, tokenIn, signingLeft, signingIn, signLeft, signIn, sessionLeft, queueLeft, CallLeft, callLeft, worldIn, callIn}
+use Rattle.potterbeam.specs.Exports.{sessionAfter, moveLeft, moveIn, moveListIn, tokenLeft, tokenIn, signingLeft, signingIn, signLeft, signIn, sessionLeft, queueLeft, CallLeft, callLeft, worldIn, callIn}
 use Rattle.potterbeam.specs.Refusals.{Refuses, x0Alone, ExportsRefuse}
 
 -- ---- x0 is not 0: the code is not OK
@@ -183,7 +186,7 @@ queue-kept Needs.Queue k new image f = left-old k new image f
 abbrev kept : List ℕ → List ℕ → List ℕ → List ℕ → ℕ → CallLeft
 kept session queue page table x0 = record { out = x0 ∷ 0 ∷ 0 ∷ []; work = 0 ∷ 0 ∷ []; page = page; table = table; session = session; queue = queue }
 
-step-kept : (n : Needs) (st : Step) (w : World) (session new queue : List ℕ) → isOk (replyCode (st .reply)) ≡ false → st ≡ refusal st w →
+step-kept : (n : Needs) (st : Step) (w : World) (session new queue : List ℕ) → isOk (replyCode (st .reply)) ≡ false → st ≡ refusal 0 st w →
     callLeft n st session new queue ≡ kept session queue (w .page) (w .table .bytes) (x0Of (replyCode (st .reply)))
 unfolding callLeft replyRegisters replyWords registerWords workWords answerOf replyCode
 step-kept n st w session new queue f e =
@@ -192,7 +195,7 @@ step-kept n st w session new queue f e =
 
 dispatched : (granules session queue page table : List ℕ) (c : Call) → Refuses (callIn granules session queue page table c .out) →
     callIn granules session queue page table c ≡ kept session queue page table (getD (callIn granules session queue page table c .out) 0 0)
-unfolding callIn callLeft callOf stepOf
+unfolding callIn callLeft callOf stepOf doneCalls worldAfter
 dispatched granules session queue page table c h =
     let g : Granules = granulesOf granules in
     let w : World = worldIn session queue page table in
@@ -201,10 +204,20 @@ dispatched granules session queue page table c h =
     let q = step-kept (needsOf (kindOf (c .id))) st w session (signingDone (c .state) page queue (c .x1) (c .x2) (c .x3)) queue f (refused g w (call c) f) in
     q ∙ ap (kept session queue page table) (sym (ap (λ (l : CallLeft). getD (l .out) 0 0) q))
 
+-- a list, whatever its code
+lists : (d : Direction) (state granules table addresses : List ℕ) →
+    let l = moveListIn d state granules table addresses in
+    let f = moveOf (recordOf state) (granulesOf granules) d in
+    let done = doneBy f (record { bytes = table }) addresses in
+    l ≡ record { out = getD (l .out) 0 0 ∷ done ∷ 0 ∷ []; table = tableBy f (record { bytes = table }) (take done addresses) .bytes }
+unfolding moveListIn moveLeft registerWords answerOf
+lists d state granules table addresses = rw (list-is (recordOf state) (granulesOf granules) d (record { bytes = table }) addresses)
+
 pub exports-refuse : ExportsRefuse
 exports-refuse =
     record {
       delegation = delegation;
+      lists = lists;
       realmKey = realm-key;
       token = platform-token;
       features = feature-registers;
