@@ -20,9 +20,12 @@
  * - A refused runtime command puts its code into x0 and 0 into x1 and x2, and leaves page, table, session and queue as they were,
  *   whatever they hold.
  * - "Stack" bounds what a call was seen to write on x86-64, accepted or refused, with its return address and the words that it takes on the
- *   stack; the test rust/tests/stack.rs fails where a figure is exceeded. It is measured, not proved, and not on AArch64. The functions
+ *   stack; the test rust/tests/stack.rs fails where a figure is exceeded. It is measured, not proved. The functions
  *   that change the queue (pbeam_token_signing, pbeam_sign, pbeam_call with PBEAM_ID_TOKEN_SIGNING) do not fit the stack of 2 or 4 KiB that
  *   EL3 firmware often has: give them one of their own. All others fit 1 KiB.
+ * - The figure behind "AArch64" is static: the frame of the function and of all that it calls, in the archive that tools/aarch64 builds and
+ *   that fails to build where a figure is exceeded. It is without the words that a call takes on the stack (pbeam_call 88 bytes) and
+ *   without what the platform's memcpy and memset take.
  *
  * potterbeam_types.h has a struct for each image, lists that are counted in entries, and one struct for all that pbeam_call takes. The
  * functions here take plain words and count them: two banks are 4.
@@ -342,7 +345,7 @@ extern "C" {
  *                                  neither 24 zero bytes nor sound (count, pointer, array between core and page's end,
  *                                  checksum, each entry's rule); two arrays overlap
  * Leaves   the page as it was. view: what the page shows; refused: all zero.
- * Stack    352 bytes
+ * Stack    352 bytes; AArch64 400
  * A later minor is never refused. Sections after e are not read, nor what plat_data points at.
  */
 PBEAM_NONNULL(5)
@@ -354,7 +357,7 @@ int32_t pbeam_read(const uint8_t *page, size_t page_len, uint64_t base, uint64_t
  * Answers  nothing. place: the part of the page that holds the array; (0, 0) where the page is refused, the section absent or empty,
  *          or its number above 3. pbeam_read says why a page is refused.
  * Leaves   the page as it was.
- * Stack    512 bytes
+ * Stack    512 bytes; AArch64 560
  */
 PBEAM_NONNULL(6)
 void pbeam_array(const uint8_t *page, size_t page_len, uint64_t base, uint64_t edition, size_t section,
@@ -366,7 +369,7 @@ void pbeam_array(const uint8_t *page, size_t page_len, uint64_t base, uint64_t e
  * Answers  nothing. place: the part of the page that holds the array; (0, 0) where the section is absent or empty, its number above
  *          3, or its entries do not lie within the lent page.
  * Leaves   page and view as they were.
- * Stack    160 bytes
+ * Stack    160 bytes; AArch64 128
  * With another page, or one written since, the answer is by the view's places: a view that no reading made cannot lead outside the
  * page.
  */
@@ -379,7 +382,7 @@ void pbeam_array_of(const uint8_t *page, size_t page_len, const uint64_t view[PB
  * Takes    page, view and section as pbeam_array_of.
  * Answers  the number of entries; 0 where pbeam_array_of gives (0, 0).
  * Leaves   page and view as they were.
- * Stack    160 bytes
+ * Stack    160 bytes; AArch64 128
  */
 PBEAM_NONNULL(3)
 size_t pbeam_count(const uint8_t *page, size_t page_len, const uint64_t view[PBEAM_VIEW_WORDS], size_t section);
@@ -389,7 +392,7 @@ size_t pbeam_count(const uint8_t *page, size_t page_len, const uint64_t view[PBE
  * Takes    page, view and section as pbeam_array_of; entry and word, both counted from 0 (PBEAM_BANK_BASE .., PBEAM_CONSOLE_BASE ..).
  * Answers  the word; 0 where there is no such entry or word.
  * Leaves   page and view as they were.
- * Stack    192 bytes
+ * Stack    192 bytes; AArch64 144
  */
 PBEAM_NONNULL(3)
 uint64_t pbeam_word(const uint8_t *page, size_t page_len, const uint64_t view[PBEAM_VIEW_WORDS], size_t section, size_t entry,
@@ -407,7 +410,7 @@ uint64_t pbeam_word(const uint8_t *page, size_t page_len, const uint64_t view[PB
  *          PBEAM_WRITE_W5_ROOM     core and arrays exceed 4,096 bytes
  * Leaves   the whole page written: version, plat_data 0, the sections, the arrays at once after the core in section order, zero
  *          everywhere else; an empty list gives 24 zero bytes. Refused, the page stays as it was. The lists stay as they were.
- * Stack    288 bytes
+ * Stack    288 bytes; AArch64 192
  */
 uint32_t pbeam_write(uint64_t base, uint64_t edition, const uint64_t *dram, size_t dram_len, const uint64_t *console,
                      size_t console_len, const uint64_t *ncoh, size_t ncoh_len, const uint64_t *coh, size_t coh_len, uint8_t *page,
@@ -426,7 +429,7 @@ uint32_t pbeam_write(uint64_t base, uint64_t edition, const uint64_t *dram, size
  *          PBEAM_BOOT_CPU          x0 not below x2; so with x2 = 0 always
  *          PBEAM_MANIFEST_PLACE, PBEAM_MANIFEST_VERSION, PBEAM_MANIFEST_RULES  as pbeam_read
  * Leaves   the page as it was. state: up, with x2, B and the agreed minor; refused: closed, for good.
- * Stack    416 bytes
+ * Stack    416 bytes; AArch64 432
  * The view is not kept: read the page with pbeam_read before a command writes into it.
  */
 PBEAM_NONNULL(1)
@@ -440,7 +443,7 @@ int32_t pbeam_cold_boot(uint64_t state[PBEAM_STATE_WORDS], uint64_t x0, uint64_t
  *          PBEAM_BOOT_STATE        record not up
  *          PBEAM_BOOT_CPU          x0 not below the cold boot's x2
  * Leaves   state: up, as it was; refused: closed, for good. A CPU may warm boot twice.
- * Stack    32 bytes
+ * Stack    32 bytes; AArch64 16
  */
 PBEAM_NONNULL(1)
 int32_t pbeam_warm_boot(uint64_t state[PBEAM_STATE_WORDS], uint64_t x0, uint64_t x1, uint64_t x2, uint64_t x3);
@@ -448,7 +451,7 @@ int32_t pbeam_warm_boot(uint64_t state[PBEAM_STATE_WORDS], uint64_t x0, uint64_t
 /*
  * pbeam_close: closes the record for good, whatever it was. For EL3, when the monitor reports that its boot failed.
  * Leaves   state: closed.
- * Stack    64 bytes
+ * Stack    64 bytes; AArch64 0
  */
 PBEAM_NONNULL(1)
 void pbeam_close(uint64_t state[PBEAM_STATE_WORDS]);
@@ -458,19 +461,19 @@ void pbeam_close(uint64_t state[PBEAM_STATE_WORDS]);
 /*
  * pbeam_version_accepted: whether a version is accepted, for boot interface and manifest alike: major 0, minor 1 or more, and no bit
  *          above bit 30 set.
- * Stack    32 bytes
+ * Stack    32 bytes; AArch64 0
  */
 bool pbeam_version_accepted(uint64_t version);
 
 /*
  * pbeam_agreed_minor: the agreed interface minor, by the version that was offered: the smaller of 5 and its minor.
- * Stack    32 bytes
+ * Stack    32 bytes; AArch64 0
  */
 uint64_t pbeam_agreed_minor(uint64_t version);
 
 /*
  * pbeam_is_later: whether version a is later than version b.
- * Stack    32 bytes
+ * Stack    32 bytes; AArch64 0
  */
 bool pbeam_is_later(uint64_t a, uint64_t b);
 
@@ -485,7 +488,7 @@ bool pbeam_is_later(uint64_t a, uint64_t b);
  *          PBEAM_X0_BAD_ADDR  G or address not a multiple of 4,096, or address on no granule of the table
  *          PBEAM_X0_BAD_PAS   the granule's byte is not PBEAM_GRANULE_NON_SECURE
  * Leaves   on OK that byte as PBEAM_GRANULE_REALM, and every other byte as it was. Refused, the table as it was.
- * Stack    64 bytes
+ * Stack    64 bytes; AArch64 0
  * The byte alone is changed: the change in hardware is the platform's, after an OK.
  */
 PBEAM_NONNULL(1, 2, 6)
@@ -495,7 +498,7 @@ void pbeam_delegate(const uint64_t state[PBEAM_STATE_WORDS], const uint64_t gran
 /*
  * pbeam_undelegate (0xC40001B1): a granule goes from Realm to Non-secure.
  * As pbeam_delegate, with PBEAM_X0_BAD_PAS where the byte is not PBEAM_GRANULE_REALM; on OK it becomes PBEAM_GRANULE_NON_SECURE.
- * Stack    64 bytes
+ * Stack    64 bytes; AArch64 0
  */
 PBEAM_NONNULL(1, 2, 6)
 void pbeam_undelegate(const uint64_t state[PBEAM_STATE_WORDS], const uint64_t granules[PBEAM_GRANULES_WORDS], uint8_t *table,
@@ -533,7 +536,7 @@ void pbeam_undelegate_list(const uint64_t state[PBEAM_STATE_WORDS], const uint64
  *          PBEAM_X0_INVAL     too long; curve not PBEAM_CURVE_SECP384R1
  *          PBEAM_X0_UNK       key empty, or longer than size
  * Leaves   on OK the key's bytes at pa, and every other byte of the page as it was. Refused, the page as it was.
- * Stack    128 bytes
+ * Stack    128 bytes; AArch64 0
  */
 PBEAM_NONNULL(1, 9)
 void pbeam_realm_key(const uint64_t state[PBEAM_STATE_WORDS], uint8_t *page, size_t page_len, const uint8_t *key, size_t key_len,
@@ -553,7 +556,7 @@ void pbeam_realm_key(const uint64_t state[PBEAM_STATE_WORDS], uint8_t *page, siz
  *          PBEAM_X0_UNK       token empty, or with c_size 0 of another length than at the start
  * Leaves   on OK the hunk, the token's next bytes, at pa, and every other byte of the page as it was. session: idle after rest 0,
  *          else sending. Refused, page and session as they were.
- * Stack    256 bytes
+ * Stack    256 bytes; AArch64 64
  * The hunk is written over the challenge: call pbeam_challenge first. Size 0 with c_size 0 in a session is OK and moves nothing.
  */
 PBEAM_NONNULL(1, 2, 11)
@@ -570,7 +573,7 @@ void pbeam_platform_token(const uint64_t state[PBEAM_STATE_WORDS], uint64_t sess
  *          PBEAM_X0_BAD_ADDR  outside
  *          PBEAM_X0_INVAL     too long; c_size not 0, 32, 48 or 64, or above size
  * Leaves   the page as it was.
- * Stack    96 bytes
+ * Stack    96 bytes; AArch64 32
  * Make a token where the answer is PBEAM_X0_OK and place is not (0, 0): any other call is no start, or will be refused with that code
  * (a busy platform apart, which this does not look at).
  */
@@ -585,7 +588,7 @@ uint64_t pbeam_challenge(const uint64_t state[PBEAM_STATE_WORDS], const uint8_t 
  *          PBEAM_X0_UNK       record not up
  *          PBEAM_X0_INVAL     index not PBEAM_FEATURES_INDEX
  *          PBEAM_X0_UNK       agreed minor below PBEAM_SIGNING_MINOR
- * Stack    64 bytes
+ * Stack    64 bytes; AArch64 0
  */
 PBEAM_NONNULL(1, 3)
 void pbeam_features(const uint64_t state[PBEAM_STATE_WORDS], uint64_t index, uint64_t out[PBEAM_OUT_WORDS]);
@@ -606,7 +609,7 @@ void pbeam_features(const uint64_t state[PBEAM_STATE_WORDS], uint64_t index, uin
  * Leaves   on OK: push: the request at the end of those that wait, the page as it was; pull: the oldest response at pa, and dropped
  *          from the queue; key: the key at pa, the queue with the same requests and responses. Bytes of the page behind what is
  *          written stay as they were. Refused, page and queue as they were.
- * Stack    11,264 bytes
+ * Stack    11,264 bytes; AArch64 11,600
  */
 PBEAM_NONNULL(1, 2, 11)
 void pbeam_token_signing(const uint64_t state[PBEAM_STATE_WORDS], uint64_t queue[PBEAM_QUEUE_WORDS], uint8_t *page, size_t page_len,
@@ -621,7 +624,7 @@ void pbeam_token_signing(const uint64_t state[PBEAM_STATE_WORDS], uint64_t queue
  *          PBEAM_X0_INVAL     mecid above PBEAM_MECID_MOST, or above 2^(m+1) - 1, m taken as 15 if larger
  *          PBEAM_X0_UNK       m above PBEAM_WIDTH_MOST; agreed minor below PBEAM_KEY_UPDATE_MINOR
  *          Refused, work is (PBEAM_WORK_NOTHING, 0).
- * Stack    64 bytes
+ * Stack    64 bytes; AArch64 0
  * The library makes no key: the platform does, when work says so.
  */
 PBEAM_NONNULL(1, 4, 5)
@@ -632,7 +635,7 @@ void pbeam_key_update(const uint64_t state[PBEAM_STATE_WORDS], uint64_t width, u
  * pbeam_forward (0xC400018F): the error code of an RMI call, for the Non-secure world.
  * Takes    the boot record, which may be in any state, and x1.
  * Answers  err_code, which is x1. It is never refused.
- * Stack    64 bytes
+ * Stack    64 bytes; AArch64 0
  */
 PBEAM_NONNULL(1)
 uint64_t pbeam_forward(const uint64_t state[PBEAM_STATE_WORDS], uint64_t x1);
@@ -648,7 +651,7 @@ uint64_t pbeam_forward(const uint64_t state[PBEAM_STATE_WORDS], uint64_t x1);
  *          PBEAM_X0_AGAIN     eight responses waiting; the request is kept
  * Leaves   on OK the queue with one request less and one response more: its rec_granule and req_ticket, and the signature. Refused,
  *          the queue as it was.
- * Stack    7,072 bytes
+ * Stack    7,072 bytes; AArch64 7,488
  */
 PBEAM_NONNULL(1, 4)
 void pbeam_sign(uint64_t queue[PBEAM_QUEUE_WORDS], const uint8_t *signature, size_t signature_len, uint64_t out[PBEAM_OUT_WORDS]);
@@ -658,7 +661,7 @@ void pbeam_sign(uint64_t queue[PBEAM_QUEUE_WORDS], const uint8_t *signature, siz
  * Takes    the queue.
  * Answers  how many requests wait, with all fields of the oldest in request; 0 where none does, with request all zero.
  * Leaves   the queue as it was: the request waits until pbeam_sign takes it.
- * Stack    32 bytes
+ * Stack    32 bytes; AArch64 0
  */
 PBEAM_NONNULL(1, 2)
 size_t pbeam_oldest(const uint64_t queue[PBEAM_QUEUE_WORDS], uint64_t request[PBEAM_REQUEST_WORDS]);
@@ -666,7 +669,7 @@ size_t pbeam_oldest(const uint64_t queue[PBEAM_QUEUE_WORDS], uint64_t request[PB
 /*
  * pbeam_responses: how many responses wait to be pulled.
  * Leaves   the queue as it was.
- * Stack    32 bytes
+ * Stack    32 bytes; AArch64 0
  */
 PBEAM_NONNULL(1)
 size_t pbeam_responses(const uint64_t queue[PBEAM_QUEUE_WORDS]);
@@ -685,7 +688,7 @@ size_t pbeam_responses(const uint64_t queue[PBEAM_QUEUE_WORDS]);
  *          other id: PBEAM_X0_UNK. Every command but PBEAM_ID_FORWARD: PBEAM_X0_UNK while the record is not up.
  * Leaves   what the command leaves; all else as it was. Only PBEAM_ID_PLATFORM_TOKEN reads or writes the session, only
  *          PBEAM_ID_TOKEN_SIGNING the queue.
- * Stack    11,488 bytes with PBEAM_ID_TOKEN_SIGNING, 512 bytes with any other id
+ * Stack    11,488 bytes with PBEAM_ID_TOKEN_SIGNING, 512 bytes with any other id; AArch64 11,632
  */
 PBEAM_NONNULL(1, 2, 3, 6, 17, 18, 19)
 void pbeam_call(const uint64_t state[PBEAM_STATE_WORDS], uint64_t session[PBEAM_SESSION_WORDS], uint64_t queue[PBEAM_QUEUE_WORDS],

@@ -2,9 +2,13 @@
 //!
 //! Both are timed in turn, on pages of the same content and alignment, and the best of many short runs counts. The reference keeps
 //! its states as Rust values ("native"). Calls by id and the queue are timed against hand-written code that works in place on the same
-//! image as the library, by the same rules ("in place"); `tests/inplace.rs` holds it to them.
+//! image as the library, by the same rules ("in place"); `tests/inplace.rs` holds it to them. Reader and writer are timed against the
+//! reference and against a second reader and writer, written for speed ("by hand"); `tests/fast.rs` holds it to the reference.
+//!
+//! With the argument `manifest` only these are timed.
 
 use potterbeam_tests::exports::{Exports, QueueImage, RecordImage, Registers, SessionImage, Work};
+use potterbeam_tests::fast;
 use potterbeam_tests::images::record_of;
 use potterbeam_tests::inplace;
 use potterbeam_tests::kit::{ffi, Kit};
@@ -121,39 +125,89 @@ fn compare(name: &str, calls: u32, kit: Side, others: Vec<(&str, Side)>) {
 
 // ---- Manifest ----
 
-fn compare_manifest(name: &str, edition: u64, lists: Lists) {
-    let [mut page, mut ours, mut theirs] = [(); 3].map(|()| Page([0; PAGE]));
-    write(BASE, edition, lists, &mut page.0).expect("written");
-    let page = &page.0;
-    let mut view = [0; 15];
+/// A reading against the reference and against code written by hand for speed, with the library's parameters.
+fn compare_reading(name: &str, base: u64, edition: u64, lists: Lists) {
+    let mut page = Page([0; PAGE]);
+    write(base, edition, lists, &mut page.0).expect("written");
+    let (page, [base]) = (&*page.lent(), hidden([base]));
+    let [mut view, mut theirs] = [[0; 15]; 2];
     // Neither `read` nor `write` can be inlined from another crate, so they need no wrapper to be calls.
     compare(
         &format!("read {name}"),
         1,
         side(|| {
-            assert_eq!(Kit::read(page, BASE, 4, &mut view), 0);
+            assert_eq!(Kit::read(page, base, 4, &mut view), 0);
             see(view[2]);
         }),
-        vec![(
-            "native",
-            side(|| see(read(page, BASE, 4).expect("accepted").plat_data)),
-        )],
+        vec![
+            (
+                "native",
+                side(|| see(read(page, base, 4).expect("accepted").plat_data)),
+            ),
+            (
+                "by hand",
+                side(|| {
+                    assert_eq!(fast::read(page, base, 4, &mut theirs), 0);
+                    see(theirs[2]);
+                }),
+            ),
+        ],
     );
+    assert_eq!(view, theirs);
+}
+
+/// A writing, and the answer that all sides give.
+fn compare_writing(name: &str, base: u64, edition: u64, lists: Lists, answer: u32) {
+    let [mut first, mut second, mut third] = [(); 3].map(|()| Page([0; PAGE]));
+    let (ours, theirs, native) = (first.lent(), second.lent(), third.lent());
+    let [base, edition] = hidden([base, edition]);
     compare(
-        &format!("write {name}"),
+        name,
         1,
         side(|| {
-            assert_eq!(Kit::write(BASE, edition, lists, &mut ours.0), 0);
-            see(u64::from(ours.0[0]));
+            assert_eq!(Kit::write(base, edition, lists, ours), answer);
+            see(u64::from(ours[0]));
         }),
-        vec![(
-            "native",
-            side(|| {
-                write(BASE, edition, lists, &mut theirs.0).expect("written");
-                see(u64::from(theirs.0[0]));
-            }),
-        )],
+        vec![
+            (
+                "native",
+                side(|| {
+                    let wrote = write(base, edition, lists, native);
+                    assert_eq!(wrote.map_or_else(|refusal| refusal as u32, |()| 0), answer);
+                    see(u64::from(native[0]));
+                }),
+            ),
+            (
+                "by hand",
+                side(|| {
+                    assert_eq!(fast::write(base, edition, lists, theirs), answer);
+                    see(u64::from(theirs[0]));
+                }),
+            ),
+        ],
     );
+    assert!(ours == theirs && ours == native);
+}
+
+fn compare_manifests() {
+    // As TF-A writes it on Arm's Base platform model: tests/reader/field has the page.
+    let fvp = [0x8000_0000, 0x7c00_0000, 0x8_8000_0000, 0x8000_0000];
+    let uart = [0x1c0c_0000, 1, 0x31_3130_6c70, 0xe1_0000, 0x1_c200, 0];
+    let (banks, consoles) = (BANK.repeat(249), CONSOLE.repeat(83));
+    let pages: [(_, _, _, Lists); 4] = [
+        ("example 14's page", BASE, 2, [&BANK, &[], &[], &[]]),
+        ("an FVP page", 0xffbf_f000, 3, [&fvp, &uart, &[], &[]]),
+        ("249 banks", BASE, 4, [&banks, &[], &[], &[]]),
+        ("83 consoles", BASE, 4, [&[], &consoles, &[], &[]]),
+    ];
+    for (name, base, edition, lists) in pages {
+        compare_reading(name, base, edition, lists);
+        compare_writing(&format!("write {name}"), base, edition, lists, 0);
+    }
+    let (mut unsound, many) = (banks.clone(), BANK.repeat(250));
+    unsound[497] = 1;
+    compare_writing("write 249 banks, W3", BASE, 4, [&unsound, &[], &[], &[]], 3);
+    compare_writing("write 250 banks, W5", BASE, 4, [&many, &[], &[], &[]], 5);
 }
 
 // ---- Granules ----
@@ -991,9 +1045,10 @@ fn compare_collections(message: &[u8], largest: u32, total: u32) {
 fn main() {
     println!("Best of {RUNS} runs, in turn. No page, table or image is cleared before a call.");
     println!("ns a call                              library reference  ratio  reference's state");
-    compare_manifest("example 14's page", 2, [&BANK, &[], &[], &[]]);
-    compare_manifest("249 banks", 4, [&BANK.repeat(249), &[], &[], &[]]);
-    compare_manifest("83 consoles", 4, [&[], &CONSOLE.repeat(83), &[], &[]]);
+    compare_manifests();
+    if std::env::args().nth(1).as_deref() == Some("manifest") {
+        return;
+    }
     compare_cold_boot();
     compare_calls();
     compare_granules();

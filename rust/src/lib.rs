@@ -1,6 +1,6 @@
 //! The proved libraries and the other side of their differential tests and benchmark: `kit` calls the library, `reference` is a second
-//! implementation of the rules, written from the papers alone, `model` is that one on the library's images, `inplace` is hand-written code
-//! that works in place on them, for the benchmark, and `random` makes the
+//! implementation of the rules, written from the papers alone, `model` is that one on the library's images, `inplace` and `fast` are
+//! hand-written code for the benchmark, the first in place on these images, the second a reader and a writer, and `random` makes the
 //! inputs that both sides are given. `tpm` and `swtpm` are both sides of H_TPM_COMM and of state blobs, which have libraries of their
 //! own.
 //!
@@ -13,6 +13,8 @@
 
 #[forbid(unsafe_code)]
 pub mod exports;
+#[forbid(unsafe_code)]
+pub mod fast;
 #[forbid(unsafe_code)]
 pub mod images;
 #[forbid(unsafe_code)]

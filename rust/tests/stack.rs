@@ -132,7 +132,7 @@ impl Header {
         named.filter(|name| name.starts_with("pbeam_")).collect()
     }
 
-    /// The figures of a function, the most first: numbers before "bytes" in a line of its comment.
+    /// The figures of a function, the most first: numbers before "bytes" in a line of its comment. That of AArch64 stands behind them.
     fn figures(&self, name: &str) -> Vec<usize> {
         let start = [format!("\n * {name}: "), format!("\n * {name} (0x")];
         let at = start.iter().find_map(|start| self.text.find(start));
@@ -140,7 +140,8 @@ impl Header {
         let (text, _) = text.split_once("*/").expect("the comment's end");
         let (_, line) = text.split_once("\n * Stack    ").expect(name);
         let line = line.lines().next().expect("a line");
-        let before = line
+        let (measured, _) = line.rsplit_once(" bytes").expect(name);
+        let before = measured
             .split(" bytes")
             .filter_map(|part| part.rsplit(' ').next());
         let numbers = before.map(|number| number.replace(',', "").parse());

@@ -52,12 +52,13 @@ def entries(page, k, offset, count):
     return [tuple(words_at(page, offset + i * size, size)) for i in range(count)]
 
 
-def entry_holds(k, entry):
-    """The rules for one entry: a console in section 1, else a bank or region."""
+def entry_holds(minor, k, entry):
+    """The rules for one entry: a console in section 1, else a bank or region. 02, E3: flags are
+    held to 0 by the page's minor, not by the reader's edition."""
     if k == 1:
         base, map_pages, _name, _clk_in_hz, _baud_rate, flags = entry
         return (base % 4096 == 0 and map_pages != 0
-                and base + 4096 * map_pages <= TOP and flags == 0)
+                and base + 4096 * map_pages <= TOP and (flags == 0 or minor >= 5))
     base, size = entry
     return base % 4096 == 0 and size % 4096 == 0 and size != 0 and base + size <= TOP
 
@@ -106,7 +107,7 @@ def broken(r, b, page):
         rule(-7, "checksum", total % WORD == 0)
     for k, offset, length in arrays:
         for entry in entries(page, k, offset, length // ENTRY[k]):
-            rule(-7, "entry", entry_holds(k, entry))
+            rule(-7, "entry", entry_holds(minor, k, entry))
     return found
 
 
@@ -122,7 +123,10 @@ def read(r, b, page):
     for k in range(4):
         count, pointer, _ = head(page, k) if SINCE[k] <= e else (0, b, 0)
         offset = pointer - b if count else 0
-        sections.append(entries(page, k, offset, count) if SINCE[k] <= e else None)
+        shown = entries(page, k, offset, count) if SINCE[k] <= e else None
+        if k == 1 and w >= 5 and shown:     # 02, E3: shown with flags 0
+            shown = [(*entry[:5], 0) for entry in shown]
+        sections.append(shown)
         lookups.append(bytes(page[offset:offset + count * ENTRY[k]]))
     return (w, e, number(page[8:16]), sections), lookups
 
@@ -536,6 +540,34 @@ def console_entries():
         good(f"console: name, clock and baud {text}", with_entry(1, 0, (0, 1, *fields, 0)))
 
 
+def console_flags():
+    """02, E3: flags of consoles by the page's minor, for readers of each edition"""
+    def page(minor, *flags):
+        listed = [(0x1C090000 + 0x1000 * i, 1, PL011, 24000000, 115200, f)
+                  for i, f in enumerate(flags)]
+        return full(minor=minor, console=listed)
+
+    for minor in (3, 4, 5, 6, 65535):
+        for text, flags in (("0", 0), ("1", 1), ("2^63", 2**63), ("2^64 - 1", WORD - 1)):
+            for r in range(1, 5):
+                where = f"minor {minor:,}, flags {text}, edition {r}"
+                if flags and minor <= 4 and r >= 3:
+                    bad("entry", where, page(minor, flags), r)
+                else:
+                    good(where, page(minor, flags), r)
+    for minor in (5, 65535):
+        good(f"minor {minor:,}, the first of two with flags", page(minor, 7, 0))
+        good(f"minor {minor:,}, the last of three with flags", page(minor, 0, 0, 2**32))
+    bad("entry", "minor 4, the last of three with flags", page(4, 0, 0, 2**32))
+    late = page(5, 9)
+    _, _, right = head(late.data, 1)
+    for r in (3, 4):
+        bad("checksum", f"minor 5, the checksum leaves the flags out, edition {r}",
+            page(5, 9).checksum(1, right + 9), r)
+    bad("entry", "minor 5, flags set and map_pages 0",
+        full(minor=5, console=[(0x1C090000, 0, PL011, 0, 0, 1)]))
+
+
 def holes_and_order():
     """Bytes that are not named, and the order of arrays"""
     for w in (1, 2, 3):
@@ -621,7 +653,8 @@ def two_at_once():
 def build_all():
     for group in (known_pages, lengths_and_bases, editions, versions, padding_and_platform,
                   section_heads, pointers, wrapping, overlaps, checksums, bank_entries,
-                  console_entries, holes_and_order, fullest, later_sections, two_at_once):
+                  console_entries, holes_and_order, fullest, later_sections, two_at_once,
+                  console_flags):
         GROUPS.append((group.__doc__, []))
         group()
 
@@ -639,7 +672,7 @@ def check():
     cases = [case for _, group in GROUPS for case in group]
     firsts = [broken(r, b, page)[:1] for _, r, b, page in cases]
     tally = {code: sum(first[0][0] == code for first in firsts if first) for code in (-5, -6, -7)}
-    assert len(cases) <= 450 and min(tally.values()) > 0
+    assert len(cases) <= 1000 and min(tally.values()) > 0
     print(f"{len(cases)} cases, {firsts.count([])} accepted, refused by code: {tally}")
 
 

@@ -1,11 +1,13 @@
 -- Sequences of exported calls, each on the images, the page and the table that the one before it left. Assumes nothing.
 use Prim.Native.Nat.{ℕ}
-use mathlib.Core.Bool.{Bool}
+use mathlib.Core.Bool.{Bool, true}
 use mathlib.Core.List.{List, [], _∷_}
 use Rattle.words.specs.Tests.{both}
-use Rattle.runtime.specs.Step.{World, Command, call, sign}
+use Rattle.granules.specs.Lists.{moveListOf}
+use Rattle.runtime.specs.Step.{World, Command, call, sign, list}
+use Rattle.images.specs.Image.{granulesOf}
 use Rattle.queue_image.specs.Image.{areBytes}
-use Rattle.potterbeam.specs.Exports.{signIn, CallLeft, worldIn, callIn}
+use Rattle.potterbeam.specs.Exports.{MoveLeft, moveLeft, signIn, CallLeft, worldIn, callIn}
 
 -- what is lent from call to call
 pub record Lent : Type 0 where
@@ -18,11 +20,16 @@ pub record Lent : Type 0 where
 abbrev pub lentWorld : Lent → World
 lentWorld m = worldIn (m .session) (m .queue) (m .page) (m .table)
 
--- what a call of the dispatcher, or the signer's own step, leaves; the granule record's image is one for all
+-- what delegation leaves: all but the registers and the table is as it was
+abbrev pub movesLeft : MoveLeft → Lent → CallLeft
+movesLeft l m = record { out = l .out; work = 0 ∷ 0 ∷ []; page = m .page; table = l .table; session = m .session; queue = m .queue }
+
+-- what a call of the dispatcher, the signer's own step, or a list of granules leaves; the granule record's image is one for all
 unfoldable pub commandLeft : List ℕ → Lent → Command → CallLeft
 commandLeft granules m (call c) = callIn granules (m .session) (m .queue) (m .page) (m .table) c
 commandLeft granules m (sign s) =
     record { out = signIn (m .queue) s .out; work = 0 ∷ 0 ∷ []; page = m .page; table = m .table; session = m .session; queue = signIn (m .queue) s .queue }
+commandLeft granules m (list r d l) = movesLeft (moveLeft (moveListOf r (granulesOf granules) d (record { bytes = m .table }) l)) m
 
 -- so much of it is lent to the next
 abbrev pub lentOn : CallLeft → Lent
@@ -40,3 +47,4 @@ allAfter granules m (c ∷ cs) = allAfter granules (lentAfter granules m c) cs
 unfoldable pub ofBytes : Command → Bool
 ofBytes (call c) = both (areBytes (c .realmKey)) (both (areBytes (c .token)) (areBytes (c .publicKey)))
 ofBytes (sign s) = areBytes s
+ofBytes (list r d l) = true

@@ -5,17 +5,19 @@ use lib.ListN.{getD}
 use Rattle.granules.specs.declared.Direction.{Direction}
 use Rattle.attest.specs.Key.{realmKeyOf}
 use Rattle.features.specs.Features.{featuresOf, updateOf, forwardOf}
-use Rattle.runtime.specs.Step.{Command, call, sign}
+use Rattle.runtime.specs.Step.{Command, call, sign, list}
 use Rattle.runtime.specs.declared.Kind.{Kind}
 use Rattle.runtime.specs.declared.Kind.the-variants.{ForwardError, Delegate, Undelegate, RealmKey, PlatformToken, Features, TokenSigning, KeyUpdate, Unlisted}
 use Rattle.images.specs.Image.{recordOf, registerWords, workWords}
-use Rattle.potterbeam.specs.Exports.{MoveLeft, moveIn, TokenLeft, tokenIn, SigningLeft, signingIn, SignLeft, signIn, CallLeft, callLent, callIn}
-use Rattle.chains.specs.Chain.{Lent, lentOn}
+use Rattle.potterbeam.specs.Exports.{moveIn, moveListIn, TokenLeft, tokenIn, SigningLeft, signingIn, SignLeft, signIn, CallLeft, callLent, callIn}
+use Rattle.chains.specs.Chain.{Lent, movesLeft, lentOn}
 
 -- a call of an export, with what is lent to it alone: the boot record's image, numbers and bytes
 pub data Exported : Type 0 where
   pbeam-delegate : (state : List ℕ) (address : ℕ) → Exported
   pbeam-undelegate : (state : List ℕ) (address : ℕ) → Exported
+  pbeam-delegate-list : (state addresses : List ℕ) → Exported
+  pbeam-undelegate-list : (state addresses : List ℕ) → Exported
   pbeam-realm-key : (state key : List ℕ) (pa size curve : ℕ) → Exported
   pbeam-platform-token : (state token : List ℕ) (busy pa size csize : ℕ) → Exported
   pbeam-features : (state : List ℕ) (index : ℕ) → Exported
@@ -26,9 +28,6 @@ pub data Exported : Type 0 where
   pbeam-sign : (signature : List ℕ) → Exported
 
 -- ---- what it leaves: what is not lent to it is as it was, and counts as zeros where it is an answer
-abbrev movesLeft : MoveLeft → Lent → CallLeft
-movesLeft l m = record { out = l .out; work = 0 ∷ 0 ∷ []; page = m .page; table = l .table; session = m .session; queue = m .queue }
-
 abbrev tokensLeft : TokenLeft → Lent → CallLeft
 tokensLeft l m = record { out = l .out; work = 0 ∷ 0 ∷ []; page = l .page; table = m .table; session = l .session; queue = m .queue }
 
@@ -46,6 +45,8 @@ answersLeft out work page m = record { out = out; work = work; page = page; tabl
 unfoldable pub exportLeft : List ℕ → Lent → Exported → CallLeft
 exportLeft granules m (pbeam-delegate state address) = movesLeft (moveIn Direction.Delegate state granules (m .table) address) m
 exportLeft granules m (pbeam-undelegate state address) = movesLeft (moveIn Direction.Undelegate state granules (m .table) address) m
+exportLeft granules m (pbeam-delegate-list state addresses) = movesLeft (moveListIn Direction.Delegate state granules (m .table) addresses) m
+exportLeft granules m (pbeam-undelegate-list state addresses) = movesLeft (moveListIn Direction.Undelegate state granules (m .table) addresses) m
 exportLeft granules m (pbeam-realm-key state key pa size curve) =
     answersLeft (registerWords (realmKeyOf (recordOf state) (m .page) key pa size curve .answer)) (0 ∷ 0 ∷ []) (realmKeyOf (recordOf state) (m .page) key pa size curve .page) m
 exportLeft granules m (pbeam-platform-token state token busy pa size csize) = tokensLeft (tokenIn state (m .session) (m .page) token busy pa size csize) m
@@ -57,13 +58,15 @@ exportLeft granules m (pbeam-forward state x1) = answersLeft (0 ∷ 0 ∷ 0 ∷ 
 exportLeft granules m (pbeam-call state x busy key token public width) = callIn granules (m .session) (m .queue) (m .page) (m .table) (callLent state x busy key token public width)
 exportLeft granules m (pbeam-sign signature) = signsLeft (signIn (m .queue) signature) m
 
--- ---- the command that it is: a call with the id and the registers, nothing else being lent; or the signer's own step
+-- ---- the command that it is: a call with the id and the registers, nothing else being lent; the signer's own step; or a list of granules
 abbrev callFor : List ℕ → List ℕ → ℕ → List ℕ → List ℕ → List ℕ → ℕ → Command
 callFor state x busy key token public width = call (callLent state x busy key token public width)
 
 unfoldable pub commandOf : Exported → Command
 commandOf (pbeam-delegate state address) = callFor state (0xC40001B0 ∷ address ∷ []) 0 [] [] [] 0
 commandOf (pbeam-undelegate state address) = callFor state (0xC40001B1 ∷ address ∷ []) 0 [] [] [] 0
+commandOf (pbeam-delegate-list state addresses) = list (recordOf state) Direction.Delegate addresses
+commandOf (pbeam-undelegate-list state addresses) = list (recordOf state) Direction.Undelegate addresses
 commandOf (pbeam-realm-key state key pa size curve) = callFor state (0xC40001B2 ∷ pa ∷ size ∷ curve ∷ []) 0 key [] [] 0
 commandOf (pbeam-platform-token state token busy pa size csize) = callFor state (0xC40001B3 ∷ pa ∷ size ∷ csize ∷ []) busy [] token [] 0
 commandOf (pbeam-features state index) = callFor state (0xC40001B4 ∷ index ∷ []) 0 [] [] [] 0

@@ -2,16 +2,18 @@
 use Prim.Native.Nat.{ℕ, _+_, _-_, _%_, _^_, _≤_, _<_}
 use mathlib.Core.Bool.{Bool, true, false}
 use mathlib.Core.Path.{_≡_, refl}
-use mathlib.Core.List.{List, [], _∷_}
+use mathlib.Core.List.{List, [], _∷_, _++_}
 use native.Mathlib.Omega.{arith}
-use lib.ListN.{length, getD}
+use lib.ListN.{length, getD, replicate}
 use borrow.Author.Tests.{eqb-true, le-ltb, lt-ltb, le-leb, lt-leb}
 use Rattle.words.specs.Tests.{both, either, every}
-use Rattle.versions.specs.Version.{minorOf, majorOf, aboveOf, versionOk, later}
-use Rattle.words.specs.Word.{joined}
+use Rattle.versions.specs.Version.{minorOf, majorOf, aboveOf, versionOk, later, agreed}
+use Rattle.words.specs.Word.{leOf, leBytes, part, numAt, joined}
 use Rattle.versions.specs.Edition.{sectionCount, core, editionOk}
-use Rattle.entries.specs.Entry.{wordsPerEntry, bankOk, flagsOk, consoleOk, entryRule, entryOk, entriesOk, sum, checkOk}
-use Rattle.sections.specs.Page.{placeOk}
+use Rattle.entries.specs.Entry.{wordsPerEntry, size, bankOk, flagsOk, consoleOk, entryRule, entryOk, entriesOk, sum, checkOk}
+use Rattle.sections.specs.Page.{placeOk, mkSec, secAt, mkPlat, platAt}
+use Rattle.sections.specs.Section.{platOk, nothing, secOk, extent, apart, clearBefore, rules}
+use Rattle.reader.specs.Answer.{ReaderAnswer, refused, shows, allShown, readerGate, judge, readOf}
 use Rattle.lists.specs.Description.{four, descriptionOf, listOk, descriptionOk, noneLate, platBytes, used}
 use Rattle.boot.specs.declared.Params.{Params}
 use Rattle.boot.specs.declared.Record.the-variants.{Up}
@@ -35,17 +37,25 @@ banks n = joined n (λ i. bank)
 abbrev consoles : ℕ → List ℕ
 consoles n = joined n (λ i. 0x90000000 ∷ 1 ∷ 0 ∷ 0 ∷ 0 ∷ 0 ∷ [])
 
--- whether the writer makes a page of these banks and consoles: any refusal is no page
-unfoldable pub made : Made → Bool
-made (no-page n) = false
-made (a-page p) = true
+-- what the writer of edition v makes of these banks and consoles
+abbrev making : ℕ → List ℕ → List ℕ → Made
+making v a b = writeOf 0x80000000 4096 v (descriptionOf a b [] [])
 
-abbrev fits : ℕ → List ℕ → List ℕ → Bool
-fits v a b = made (writeOf 0x80000000 4096 v (descriptionOf a b [] []))
+unfoldable pub isPage : Made → Bool
+isPage (no-page n) = false
+isPage (a-page p) = true
+
+-- the minor and the edition that an accepted page is read with
+unfoldable pub readWith : ReaderAnswer → List ℕ
+readWith (refused c) = []
+readWith (shows w e q s) = w ∷ e ∷ []
 
 pub record Examples : Type 0 where
   -- "1* Version 0x0000000A is later than 0x00000009."
   pub e1 : later 0xA 0x9 ≡ true
+  -- As a number it is above the editions too: a page of that version is read as edition 4, and 5 is agreed on where it is offered.
+  pub e1-read : readWith (readOf 4 0x80000000 (leBytes 4 0xA ++ replicate 4092 0)) ≡ 10 ∷ 4 ∷ []
+  pub e1-agreed : agreed 0xA ≡ 5
   -- "2* 0x80000005 refused."
   pub e2 : versionOk 0x80000005 ≡ false
   -- "3* 0x00010000 refused."
@@ -53,10 +63,10 @@ pub record Examples : Type 0 where
   -- "4* Count 1, pointer 0x80000028, bank 0x90000000 of 0x10000000 bytes: checksum 0xFFFFFFFEDFFFFFD7." No other word holds.
   pub e4 : (s : ℕ) → s < 2 ^ 64 → checkOk 1 0x80000028 bank s ≡ true → s ≡ 0xFFFFFFFEDFFFFFD7
   pub e4-holds : checkOk 1 0x80000028 bank 0xFFFFFFFEDFFFFFD7 ≡ true
-  -- "5* Edition 4: 249 banks fit, 250 do not."
-  pub e5 : (fits 4 (banks 249) [] ≡ true) × (fits 4 (banks 250) [] ≡ false)
+  -- "5* Edition 4: 249 banks fit, 250 do not." What does not fit is refused by W5, the room.
+  pub e5 : (isPage (making 4 (banks 249) []) ≡ true) × (making 4 (banks 250) [] ≡ no-page 5)
   -- "6* Edition 4: 83 consoles fit, 84 do not; edition 3 holds 84."
-  pub e6 : (fits 4 [] (consoles 83) ≡ true) × (fits 4 [] (consoles 84) ≡ false) × (fits 3 [] (consoles 84) ≡ true)
+  pub e6 : (isPage (making 4 [] (consoles 83)) ≡ true) × (making 4 [] (consoles 84) ≡ no-page 5) × (isPage (making 3 [] (consoles 84)) ≡ true)
   -- "7* pa = B + 4,095, size 1 is inside; size 2 too long."
   pub e7 : (u : Params) → (outside u (u .base + 4095) ≡ false) × (tooLong u (u .base + 4095) 1 ≡ false) × (tooLong u (u .base + 4095) 2 ≡ true)
   -- "8* pa = B + 4,096, size 0 is outside."
@@ -79,9 +89,11 @@ unfolding moveOf movedBy moveCode granuleCode fromByte whenUp isUp unless fails
 granted u g t addr i f b = rw (f, b)
 
 pub examples : Examples
-unfolding later versionOk aboveOf majorOf minorOf checkOk sum both either every joined made writeOf writerGate placeOk editionOk descriptionOk listOk noneLate used platBytes descriptionOf four core sectionCount wordsPerEntry entriesOk entryOk entryRule bankOk consoleOk flagsOk outside tooLong x0Of extended updateCode fails unless
+unfolding later agreed readWith readOf judge readerGate allShown rules clearBefore apart extent secOk nothing platOk platAt mkPlat secAt mkSec size numAt part leBytes leOf versionOk aboveOf majorOf minorOf checkOk sum both either every joined isPage writeOf writerGate placeOk editionOk descriptionOk listOk noneLate used platBytes descriptionOf four core sectionCount wordsPerEntry entriesOk entryOk entryRule bankOk consoleOk flagsOk outside tooLong x0Of extended updateCode fails unless
 examples = record {
   e1 = refl;
+  e1-read = refl;
+  e1-agreed = refl;
   e2 = refl;
   e3 = refl;
   e4 = check-one;

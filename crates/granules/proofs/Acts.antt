@@ -2,7 +2,6 @@
 use Prim.Native.Nat.{ℕ, _+_, _*_, _%_, _≤_, _<_}
 use mathlib.Core.Path.{_≡_, refl, sym, ap, _∙_}
 use mathlib.Core.Bool.{true, false≢true}
-use mathlib.Core.List.{List}
 use native.Mathlib.Omega.{arith}
 use lib.ListN.{length, getD, length-set}
 use lib.Seq.{getD-set-same, getD-set-other}
@@ -67,6 +66,11 @@ acted u g d t addr (At i) e h =
       others = λ j n. getD-set-other (t .bytes) i j _ 0 n;
       whole = length-set (t .bytes) i _;
     }
+
+-- and only with the record up; what else an OK tells is part of what it did
+pub move-only : (s : Record) (g : Granules) (d : Direction) (t : GranuleTable) (addr : ℕ) → moveOf s g d t addr .answer .code ≡ Ok → isUp s ≡ true
+unfolding moveOf movedBy whenUp answerOf
+move-only s g d t addr h = unless-ok _ _ _ refl h .0
 
 -- "Then it becomes 1 or 0."
 pub move-acts : (s : Record) (g : Granules) (d : Direction) (t : GranuleTable) (addr : ℕ) → moveOf s g d t addr .answer .code ≡ Ok → MoveActed g d t (moveOf s g d t addr .table) addr

@@ -1,12 +1,13 @@
 -- Laws of the checks of four lists. Assumes nothing.
-use Prim.Native.Nat.{ℕ, zero, suc, _+_, _-_, _*_, _/_, _%_, _≤_, _<_}
+use Prim.Native.Nat.{ℕ, zero, suc, _+_, _-_, _*_, _/_, _%_, _^_, _≤_, _<_}
 use mathlib.Core.Path.{_≡_, refl, sym, ap, _∙_}
-use mathlib.Core.Bool.{Bool, true, false}
+use mathlib.Core.Bool.{Bool, true, false, cond}
 use mathlib.Core.List.{List, [], _∷_}
 use native.Mathlib.Numerals.{add-one}
 use native.Mathlib.Nat.{div-add-mod, add-zero}
 use native.Mathlib.Omega.{arith}
-use lib.ListN.{length, getD, length-append}
+use lib.ListN.{length, take, getD, length-append}
+use lib.Seq.{take-suc, take-length}
 use lib.Dec.{leb, ltb, eqb}
 use borrow.Author.Tests.{eq-eqb, ne-eqb, lt-ltb, le-ltb, le-leb, leb-true}
 use Rattle.words.specs.Tests.{both, either, every}
@@ -14,9 +15,13 @@ use Rattle.words.proofs.Tests.{either-l, every-of, every-at, every-none, every-
 use Rattle.words.specs.Word.{joined}
 use Rattle.versions.specs.Edition.{sectionCount, core}
 use Rattle.versions.proofs.Editions.{section-count-most}
-use Rattle.entries.specs.Entry.{wordsPerEntry, bankOk, consoleOk, entryRule, entryOk, entriesOk}
-use Rattle.entries.proofs.Entries.{per-other}
-use Rattle.lists.specs.Description.{four, descriptionOf, listOk, descriptionOk, noneLate, platBytes, used}
+use Rattle.entries.specs.Entry.{wordsPerEntry, bankOk, consoleOk, entryRule, entryOk, entriesOk, sum}
+use Rattle.entries.specs.Gathered.{lastOf}
+use Rattle.entries.proofs.Entries.{per-other, sum-snoc, last-law}
+use Rattle.lists.specs.Description.{four, descriptionOf, listOk, descriptionOk, sumsOf, totalsOf, noneLate, platBytes, used}
+use Rattle.lists.specs.declared.Totals.{Totals}
+use Rattle.lists.specs.declared.Sums.{Sums}
+use Rattle.lists.specs.declared.Sums.the-variants.{Unsound, Sound}
 use Rattle.lists.specs.Lengths.{sumTo, lateTo}
 
 -- ---- one list, entry by entry
@@ -41,6 +46,29 @@ module _ (w i : ℕ) (ws : List ℕ) (r : Bool) where
       let f : entryOk w 1 ws (wordsPerEntry 1 * i) ≡ consoleOk w (getD ws at 0) (getD ws (at + 1) 0) (getD ws (at + 5) 0) = rw (← o) in
       e ∙ ap (both (entriesOk w 1 i ws)) (sym f) ∙ described-step w 1 i ws
 
+-- ---- the sum of a list's words
+pub sum-none : (ws : List ℕ) → 0 ≡ sum (take 0 ws) % 2 ^ 64
+unfolding sum
+sum-none ws = refl
+
+pub sum-more : (ws : List ℕ) (i s r : ℕ) → i < length ws → s ≡ sum (take i ws) % 2 ^ 64 → r ≡ (s + getD ws i 0) % 2 ^ 64 → r ≡ sum (take (i + 1) ws) % 2 ^ 64
+sum-more ws i s r h e f = rw (add-one, take-suc ws i 0 h, sum-snoc) (omega arith)
+
+pub sum-all : (ws : List ℕ) (i : ℕ) → i ≡ length ws → sum (take i ws) ≡ sum ws
+sum-all ws i e = rw (e, take-length)
+
+-- one bank more, added by its last address
+pub sum-bank : (ws : List ℕ) (i at acc t r : ℕ) → 2 * (i + 1) ≤ length ws → at ≡ 2 * i → (acc + i) % 2 ^ 64 ≡ sum (take (2 * i) ws) % 2 ^ 64 →
+    t ≡ lastOf (getD ws at 0) (getD ws (at + 1) 0) → r ≡ (acc + t) % 2 ^ 64 → (r + (i + 1)) % 2 ^ 64 ≡ sum (take (2 * (i + 1)) ws) % 2 ^ 64
+sum-bank ws i at acc t r h o e u v =
+    let x = getD ws at 0 in
+    let y = getD ws (at + 1) 0 in
+    let a : (acc + i) % 2 ^ 64 ≡ sum (take at ws) % 2 ^ 64 = rw o e in
+    let one : ((acc + i) % 2 ^ 64 + x) % 2 ^ 64 ≡ sum (take (at + 1) ws) % 2 ^ 64 = sum-more ws at ((acc + i) % 2 ^ 64) _ (omega arith) a refl in
+    let two : ((acc + i) % 2 ^ 64 + (x + y) % 2 ^ 64) % 2 ^ 64 ≡ sum (take (at + 1 + 1) ws) % 2 ^ 64 =
+    sum-more ws (at + 1) (((acc + i) % 2 ^ 64 + x) % 2 ^ 64) _ (omega arith) one (omega arith) in
+    last-law acc i x y t r u v ∙ two ∙ ap (λ n. sum (take n ws) % 2 ^ 64) (let z : at + 1 + 1 ≡ 2 * (i + 1) = omega arith in z)
+
 -- as many whole entries as the length says
 pub whole-room : (k n : ℕ) → wordsPerEntry k * (n / wordsPerEntry k) ≤ n
 whole-room k n = omega (arith, div-add-mod n (wordsPerEntry k))
@@ -55,9 +83,47 @@ module _ (w k : ℕ) (ws : List ℕ) where
   list-whole h = rw (eq-eqb (length ws % wordsPerEntry k) 0 h)
 
 -- ---- all four
-pub described-four : (w : ℕ) (a b c d : List ℕ) → descriptionOk w (descriptionOf a b c d) ≡ both (both (both (listOk w 0 a) (listOk w 1 b)) (listOk w 2 c)) (listOk w 3 d)
+described-four : (w : ℕ) (a b c d : List ℕ) → descriptionOk w (descriptionOf a b c d) ≡ both (both (both (listOk w 0 a) (listOk w 1 b)) (listOk w 2 c)) (listOk w 3 d)
 unfolding descriptionOk descriptionOf every both four
 described-four w a b c d = refl
+
+-- the totals of sums that there are
+abbrev totalsIn : Sums → Totals
+totalsIn Unsound = record { dram = 0; console = 0; ncoh = 0; coh = 0 }
+totalsIn (Sound t) = t
+
+abbrev isSound : Sums → Bool
+isSound Unsound = false
+isSound (Sound t) = true
+
+module _ (w : ℕ) (a b c d : List ℕ) where
+  pub sums-not : both (both (both (listOk w 0 a) (listOk w 1 b)) (listOk w 2 c)) (listOk w 3 d) ≡ false → Unsound ≡ sumsOf w a b c d
+  unfolding sumsOf
+  sums-not e = rw (described-four w a b c d, e)
+
+  pub sums-are : (p q r s : ℕ) → both (both (both (listOk w 0 a) (listOk w 1 b)) (listOk w 2 c)) (listOk w 3 d) ≡ true →
+      p ≡ sum a % 2 ^ 64 → q ≡ sum b % 2 ^ 64 → r ≡ sum c % 2 ^ 64 → s ≡ sum d % 2 ^ 64 → Sound (record { dram = p; console = q; ncoh = r; coh = s }) ≡ sumsOf w a b c d
+  unfolding sumsOf totalsOf
+  sums-are p q r s e f g h i = rw (described-four w a b c d, e, f, g, h, i)
+
+  sums-sound : isSound (sumsOf w a b c d) ≡ descriptionOk w (descriptionOf a b c d)
+  unfolding sumsOf
+  sums-sound = go (descriptionOk w (descriptionOf a b c d))
+    where
+      go : (t : Bool) → isSound (cond t (Sound (totalsOf a b c d)) Unsound) ≡ t
+      go true = refl
+      go false = refl
+
+  -- what is learnt from the answer
+  pub unsound-lists : sumsOf w a b c d ≡ Unsound → descriptionOk w (descriptionOf a b c d) ≡ false
+  unsound-lists e = sym sums-sound ∙ ap isSound e
+
+  pub sound-lists : (t : Totals) → sumsOf w a b c d ≡ Sound t → descriptionOk w (descriptionOf a b c d) ≡ true
+  sound-lists t e = sym sums-sound ∙ ap isSound e
+
+  pub sound-totals : (t : Totals) → sumsOf w a b c d ≡ Sound t → t ≡ totalsOf a b c d
+  unfolding sumsOf
+  sound-totals t e = let s : Sound (totalsOf a b c d) ≡ Sound t = rw (sound-lists t e) at e in sym (ap totalsIn s)
 
 -- ---- the four lengths
 abbrev pub lens : List ℕ → List ℕ → List ℕ → List ℕ → List ℕ

@@ -2,25 +2,63 @@
 use entries::Bits;
 use versions::Edition;
 ghost use mathlib.Core.Path.{_≡_};
-ghost use Prim.Native.Nat.{_*_, _≤_};
-ghost use lib.ListN.{length};
+ghost use mathlib.Core.Bool.{true};
+ghost use Prim.Native.Nat.{_*_, _%_, _^_, _≤_};
+ghost use lib.ListN.{length, take};
 ghost use lib.Dec.{leb};
-ghost use Rattle.entries.specs.Entry.{entriesOk};
-ghost use Rattle.lists.specs.Description.{descriptionOf, listOk, descriptionOk, noneLate, used};
+ghost use Rattle.entries.specs.Entry.{entriesOk, sum};
+ghost use Rattle.lists.specs.Description.{descriptionOf, listOk, sumsOf, noneLate, used};
 ghost use Rattle.lists.specs.Lengths.{sumTo, lateTo};
 
-// The rule of each of count banks or regions of a list; k is their section.
-fn banks_ok(words: &[u64], minor: u64, k: usize, count: usize) -> bool
+// The sums of the four lists' words, modulo 2^64.
+pub struct Totals {
+    pub dram: u64,
+    pub console: u64,
+    pub ncoh: u64,
+    pub coh: u64,
+}
+
+// The same; or that one list is not whole entries, each within its rule.
+pub enum Sums {
+    Unsound,
+    Sound(Totals),
+}
+
+// What a list was found to be: the sum of its words modulo 2^64, and whether the rule holds of each entry.
+struct Summed {
+    sum: u64,
+    ok: bool,
+}
+
+// Count banks or regions of a list, added by their last addresses and judged in one loop; k is their section.
+fn sum_banks(words: &[u64], minor: u64, k: usize, count: usize) -> Summed
     requires { ⌜ (k ≡ 1 → ⊥) × (2 * count ≤ length (now words)) ⌝ }
-    ensures { λ r. ⌜ r ≡ entriesOk minor k count (now (words .entry)) ⌝ }
+    ensures { λ r. ⌜ (r .sum ≡ sum (take (2 * count) (now (words .entry))) % 2 ^ 64) × (r .ok ≡ entriesOk minor k count (now (words .entry))) ⌝ }
 {
     let mut bits = Bits::none();
+    let mut sum: u64 = 0;
     let mut at = 0;
     for i in 0..count {
-        bits = entries::with_bank(bits, words[at], words[at + 1]);
+        let base = words[at];
+        let size = words[at + 1];
+        sum = std::num::wrapping_add_u64(sum, entries::last_of(base, size));
+        bits = entries::with_bank(bits, base, size);
         at += 2;
     }
-    entries::banks_clear(bits)
+    let ok = entries::banks_clear(bits);
+    let sum = std::num::wrapping_add_u64(sum, count as u64);
+    Summed { sum, ok }
+}
+
+// The sum of a list's words, modulo 2^64.
+fn sum_of(words: &[u64]) -> u64
+    ensures { λ r. ⌜ r ≡ sum (now (words .entry)) % 2 ^ 64 ⌝ }
+{
+    let mut total: u64 = 0;
+    for i in 0..words.len() {
+        total = std::num::wrapping_add_u64(total, words[i]);
+    }
+    total
 }
 
 // The rule of each of count consoles of a list, for a page of that minor.
@@ -37,35 +75,49 @@ fn consoles_ok(words: &[u64], minor: u64, count: usize) -> bool
     entries::consoles_clear(bits, minor)
 }
 
-// Whether a list is whole entries of section k, each within its rule.
-pub fn list_ok(words: &[u64], minor: u64, k: usize) -> bool
-    ensures { λ r. ⌜ r ≡ listOk minor k (now (words .entry)) ⌝ }
+// Whether a list is whole entries of section k, each within its rule, and the sum of its words if it is.
+fn sum_list(words: &[u64], minor: u64, k: usize) -> Summed
+    ensures { λ r. ⌜ (r .ok ≡ listOk minor k (now (words .entry))) × (r .ok ≡ true → r .sum ≡ sum (now (words .entry)) % 2 ^ 64) ⌝ }
 {
     let step = entries::entry_words(k);
     if words.len() % step != 0 {
-        return false;
+        return Summed { sum: 0, ok: false };
     }
     let count = words.len() / step;
     if k == 1 {
-        return consoles_ok(words, minor, count);
+        let sum = sum_of(words);
+        let ok = consoles_ok(words, minor, count);
+        return Summed { sum, ok };
     }
-    banks_ok(words, minor, k, count)
+    sum_banks(words, minor, k, count)
 }
 
-// W3: whether all four lists are, also those of sections after the edition.
-pub fn lists_ok(minor: u64, dram: &[u64], console: &[u64], ncoh: &[u64], coh: &[u64]) -> bool
-    ensures { λ r. ⌜ r ≡ descriptionOk minor (descriptionOf (now (dram .entry)) (now (console .entry)) (now (ncoh .entry)) (now (coh .entry))) ⌝ }
+// W3: the sums of all four lists, also of those of sections after the edition.
+pub fn sum_lists(minor: u64, dram: &[u64], console: &[u64], ncoh: &[u64], coh: &[u64]) -> Sums
+    ensures { λ r. ⌜ r ≡ sumsOf minor (now (dram .entry)) (now (console .entry)) (now (ncoh .entry)) (now (coh .entry)) ⌝ }
 {
-    if !list_ok(dram, minor, 0) {
-        return false;
+    let first = sum_list(dram, minor, 0);
+    if !first.ok {
+        return Sums::Unsound;
     }
-    if !list_ok(console, minor, 1) {
-        return false;
+    let second = sum_list(console, minor, 1);
+    if !second.ok {
+        return Sums::Unsound;
     }
-    if !list_ok(ncoh, minor, 2) {
-        return false;
+    let third = sum_list(ncoh, minor, 2);
+    if !third.ok {
+        return Sums::Unsound;
     }
-    list_ok(coh, minor, 3)
+    let fourth = sum_list(coh, minor, 3);
+    if !fourth.ok {
+        return Sums::Unsound;
+    }
+    Sums::Sound(Totals {
+        dram: first.sum,
+        console: second.sum,
+        ncoh: third.sum,
+        coh: fourth.sum,
+    })
 }
 
 // Whether each list from a section on is empty, by the four lengths.

@@ -9,15 +9,15 @@ use lib.ListN.{getD, List·getD-eq-default}
 use lib.Dec.{leb, ltb, lit≤}
 use native.Mathlib.Nat.{mul-suc, mul-le-mul-left}
 use borrow.Author.Tests.{leb-true, ltb-true, le-leb, lt-leb, le-ltb, lt-ltb}
-use Rattle.words.specs.Word.{part, wordAt, wordsOf, spanAt, spanned, noSpan}
+use Rattle.words.specs.Word.{part, wordAt, wordsOf, spanAt, spanned, spanStart, noSpan}
 use Rattle.words.proofs.Read.{wordsOf-length}
-use Rattle.words.proofs.Store.{span-none, span-in}
+use Rattle.words.proofs.Store.{span-none, span-in, start-none, start-in}
 use Rattle.entries.specs.Entry.{wordsPerEntry, size, shownWords, isHidden}
 use Rattle.entries.specs.Array.{wordsAt, entryPlace}
 use Rattle.entries.proofs.Entries.{word-in}
 use Rattle.entries.proofs.Flags.{shown-plain, shown-word}
-use Rattle.reader.specs.Answer.{empty, full, bytesIn, lookIn, lookOf, countIn, entryCount, entryWord, wordIn, readOf}
-use Rattle.reader.specs.Reading.{sectionOf, shownAs, readingAnswer, readingOf}
+use Rattle.reader.specs.Answer.{empty, full, ReaderAnswer, refused, shows, bytesIn, lookIn, lookOf, countIn, entryCount, entryWord, wordIn, readOf}
+use Rattle.reader.specs.Reading.{sectionOf, shownAs, readingAnswer, viewAt, readingOf}
 use Rattle.reader.specs.declared.Section.{Section}
 use Rattle.reader.specs.declared.Section.the-variants.{Absent, Empty, Entries}
 use Rattle.reader.specs.declared.View.{View}
@@ -57,6 +57,22 @@ place-view page v k = span-shown (v .minor) k (sectionOf v k) page
 pub count-view : (page : List ℕ) (v : View) (k : ℕ) → length (lookIn (readingAnswer page (Accepted v)) k) / (8 * wordsPerEntry k) ≡ countIn (readingAnswer page (Accepted v)) k
 unfolding lookIn countIn entryCount readingAnswer
 count-view page v k = refl
+
+-- ---- where the part begins
+some-starts : (b : Bool) (at n : ℕ) (page : List ℕ) → leb (at + n) (length page) ≡ b → spanStart (cond b (spanAt at n) noSpan) page ≡ cond b (spanAt at n) noSpan .at
+some-starts true at n page h = start-in at n page (leb-true (at + n) (length page) h)
+some-starts false at n page h = start-none page
+
+pub section-starts : (k : ℕ) (s : Section) (page : List ℕ) → spanStart (spanOf k s (length page)) page ≡ spanOf k s (length page) .at
+unfolding spanOf
+section-starts k Absent page = start-none page
+section-starts k Empty page = start-none page
+section-starts k (Entries at count) page = some-starts (leb (at + size k count) (length page)) at (size k count) page refl
+
+pub answer-starts : (base : ℕ) (page : List ℕ) (a : ReaderAnswer) (k : ℕ) → spanStart (spanIn base page a k) page ≡ spanIn base page a k .at
+unfolding spanIn
+answer-starts base page (refused c) k = start-none page
+answer-starts base page (shows w e q s) k = section-starts k (sectionOf (viewAt w e base page) k) page
 
 -- ---- a word of an entry
 word-cond : (k i j : ℕ) (b : Bool) (ws bs : List ℕ) → entryWord k i j (cond b (full ws bs) empty) ≡ cond b (cond (ltb j (wordsPerEntry k)) (getD ws (wordsPerEntry k * i + j) 0) 0) 0

@@ -6,7 +6,7 @@ use reader::View;
 use words::Span;
 ghost use mathlib.Core.Path.{_≡_};
 ghost use lib.ListN.{length};
-ghost use Rattle.words.specs.Word.{spanned};
+ghost use Rattle.words.specs.Word.{spanned, onFrom};
 ghost use Rattle.reader.specs.Answer.{lookIn, lookOf, countIn, wordIn, readOf};
 ghost use Rattle.reader.specs.Reading.{sectionOf, readingAnswer};
 ghost use Rattle.entries.specs.Entry.{isHidden};
@@ -48,6 +48,7 @@ pub fn place_of(page: &[u8], view: View, k: usize) -> Span
 // The array of section k of a view, as the part of the page that holds it; empty where it lies nowhere.
 pub fn array_of(page: &[u8], view: View, k: usize) -> &[u8]
     ensures { λ r. ⌜ now r ≡ lookIn (readingAnswer (now (page .entry)) (Reading.Accepted view)) k ⌝ }
+    ensures { λ r. ⌜ r .ptr ≡ onFrom (page .entry .ptr) (spanOf k (sectionOf view k) (length (now (page .entry))) .at) ⌝ }
 {
     words::part_of(page, place_of(page, view, k))
 }
@@ -131,6 +132,7 @@ pub fn place(page: &[u8], base: u64, edition: u64, k: usize) -> Span
 // The array lookup: the array of section k as the part of the page that holds it.
 pub fn array(page: &[u8], base: u64, edition: u64, k: usize) -> &[u8]
     ensures { λ r. ⌜ now r ≡ lookOf edition base (now (page .entry)) k ⌝ }
+    ensures { λ r. ⌜ r .ptr ≡ onFrom (page .entry .ptr) (spanIn base (now (page .entry)) (readOf edition base (now (page .entry))) k .at) ⌝ }
 {
     words::part_of(page, place(page, base, edition, k))
 }

@@ -3,7 +3,7 @@ use Prim.Native.Nat.{ℕ}
 use mathlib.Core.Path.{_≡_, refl, sym, ap, _∙_}
 use mathlib.Core.Bool.{Bool, false}
 use mathlib.Core.List.{List, [], _∷_}
-use lib.ListN.{getD}
+use lib.ListN.{take, getD}
 use Rattle.codes.specs.Codes.{isOk, ifOk, x0Of, extended, answerOf}
 use Rattle.codes.specs.declared.Answer.{Answer}
 use Rattle.codes.specs.declared.Code.{Code}
@@ -11,9 +11,11 @@ use Rattle.codes.specs.declared.Code.the-variants.{Ok, Unk, BadAddr, BadPas, In
 use Rattle.codes.specs.declared.Work.the-variants.{Nothing}
 use Rattle.codes.proofs.Gates.{if-ok-by}
 use Rattle.granules.specs.Granules.{Moved, movedBy, moveOf}
+use Rattle.granules.specs.Lists.{doneBy, tableBy}
 use Rattle.granules.specs.declared.Direction.{Direction}
 use Rattle.granules.specs.declared.Granules.{Granules}
 use Rattle.granules.proofs.Moving.{move-refused}
+use Rattle.granules.proofs.Done.{list-is}
 use Rattle.boot.specs.declared.Record.{Record}
 use Rattle.attest.specs.Key.{Keyed, keyed, realmKeyOf}
 use Rattle.attest.proofs.Keys.{key-refused}
@@ -25,17 +27,21 @@ use Rattle.features.specs.declared.Updated.{Updated}
 use Rattle.features.proofs.Feature.{features-refused, update-refused}
 use Rattle.queue.specs.Queue.{Lists, SigningStep}
 use Rattle.responses.specs.Sign.{SignStep, signOf}
+use Rattle.responses.specs.OnImage.{signDone, signOn}
 use Rattle.signing.specs.Signing.{signingOf}
+use Rattle.signing.specs.OnImage.{signingDone, signingOn}
 use Rattle.signing.specs.declared.Opcode.{Opcode}
 use Rattle.signing.proofs.Signings.{signing-by, signing-refused}
 use Rattle.runtime.specs.declared.Kind.{Kind}
 use Rattle.runtime.specs.declared.Kind.the-variants.{ForwardError, Delegate, Undelegate, RealmKey, PlatformToken, Features, TokenSigning, KeyUpdate, Unlisted}
 use Rattle.runtime.specs.declared.Needs.{Needs}
 use Rattle.runtime.specs.Step.{World, Call, call, Step, kindOf, afterMove, afterKey, afterToken, afterSigning, afterUpdate, callBy, callOf, stepOf, replyCode, refusal, needsOf}
+use Rattle.runtime.specs.Run.{worldAfter, doneCalls}
 use Rattle.runtime.proofs.Refused.{refused}
 use Rattle.images.specs.Image.{recordOf, granulesOf, isSet, sessionOf, sessionWords, registerWords, workWords, replyRegisters, replyWords}
-use Rattle.queue_image.specs.Image.{listsIn, queueWords}
-use Rattle.potterbeam.specs.Exports.{sessionAfter, queueAfter, moveLeft, moveIn, tokenLeft, tokenIn, signingLeft, signingIn, signLeft, signIn, sessionLeft, queueLeft, CallLeft, callLeft, worldIn, callIn}
+use Rattle.queue_image.specs.Image.{listsIn}
+use Rattle.queue_image.specs.Steps.{imageStep}
+use Rattle.potterbeam.specs.Exports.{sessionAfter, moveLeft, moveIn, moveListIn, tokenLeft, tokenIn, signingLeft, signingIn, signLeft, signIn, sessionLeft, queueLeft, CallLeft, callLeft, worldIn, callIn}
 use Rattle.potterbeam.specs.Refusals.{Refuses, x0Alone, ExportsRefuse}
 
 -- ---- x0 is not 0: the code is not OK
@@ -99,10 +105,6 @@ session-stays : (k : Code) (s : Session) (image : List ℕ) → isOk k ≡ false
 unfolding sessionAfter
 session-stays k s image f = left-old k (sessionWords s) image f
 
-queue-stays : (k : Code) (q : Lists) (image : List ℕ) → isOk k ≡ false → queueAfter k q image ≡ image
-unfolding queueAfter
-queue-stays k q image f = left-old k (queueWords q) image f
-
 -- a step that is refused, with an image beside it
 token-kept : (t : TokenStep) (image page : List ℕ) (s : Session) → Tells (t .answer) → Refuses (registerWords (t .answer)) →
     (isOk (t .answer .code) ≡ false → t ≡ record { answer = answerOf (t .answer .code) 0 0; page = page; session = s }) →
@@ -119,27 +121,27 @@ platform-token state session page token busy pa size csize h =
     token-kept _ session page (sessionOf session) (token-tells (recordOf state) page (sessionOf session) (isSet busy) token pa size csize) h
     (token-refused (recordOf state) page (sessionOf session) (isSet busy) token pa size csize)
 
-signing-kept : (t : SigningStep) (image page : List ℕ) (q : Lists) → Tells (t .answer) → Refuses (registerWords (t .answer)) →
+signing-kept : (t : SigningStep) (new image page : List ℕ) (q : Lists) → Tells (t .answer) → Refuses (registerWords (t .answer)) →
     (isOk (t .answer .code) ≡ false → t ≡ record { answer = answerOf (t .answer .code) 0 0; page = page; queue = q }) →
-    signingLeft t image ≡ record { out = x0Alone (registerWords (t .answer)); page = page; queue = image }
-unfolding signingLeft registerWords answerOf
-signing-kept t image page q told h kept =
+    signingLeft (imageStep t new image) ≡ record { out = x0Alone (registerWords (t .answer)); page = page; queue = image }
+unfolding signingLeft imageStep registerWords answerOf
+signing-kept t new image page q told h kept =
     let f : isOk (t .answer .code) ≡ false = refuses (t .answer) told h in
-    ap (λ (x : SigningStep). signingLeft x image) (kept f) ∙ rw (← told, queue-stays (t .answer .code) q image f)
+    ap (λ (x : SigningStep). signingLeft (imageStep x new image)) (kept f) ∙ rw (← told, left-old (t .answer .code) new image f)
 
 token-signing : (state queue page key : List ℕ) (opcode pa size curve : ℕ) → Refuses (signingIn state queue page key opcode pa size curve .out) →
     signingIn state queue page key opcode pa size curve ≡ record { out = x0Alone (signingIn state queue page key opcode pa size curve .out); page = page; queue = queue }
-unfolding signingIn signingLeft
+unfolding signingIn signingOn signingLeft imageStep
 token-signing state queue page key opcode pa size curve h =
-    signing-kept _ queue page (listsIn queue) (signing-tells (recordOf state) page (listsIn queue) key opcode pa size curve) h
+    signing-kept _ _ queue page (listsIn queue) (signing-tells (recordOf state) page (listsIn queue) key opcode pa size curve) h
     (signing-refused (recordOf state) page (listsIn queue) key opcode pa size curve)
 
 signer : (queue signature : List ℕ) → Refuses (signIn queue signature .out) → signIn queue signature ≡ record { out = x0Alone (signIn queue signature .out); queue = queue }
-unfolding signIn signLeft signOf registerWords answerOf
+unfolding signIn signLeft signOn signOf registerWords answerOf
 signer queue signature h =
     let t : SignStep = signOf (listsIn queue) signature in
     let f : isOk (t .answer .code) ≡ false = refuses (t .answer) refl h in
-    rw (queue-stays (t .answer .code) (t .queue) queue f)
+    rw (left-old (t .answer .code) (signDone queue signature) queue f)
 
 feature-registers : (state : List ℕ) (index : ℕ) → Refuses (registerWords (featuresOf (recordOf state) index)) →
     registerWords (featuresOf (recordOf state) index) ≡ x0Alone (registerWords (featuresOf (recordOf state) index))
@@ -174,38 +176,48 @@ session-kept Needs.Nothing k s image f = refl
 session-kept Needs.Session k s image f = session-stays k s image f
 session-kept Needs.Queue k s image f = refl
 
-queue-kept : (n : Needs) (k : Code) (q : Lists) (image : List ℕ) → isOk k ≡ false → queueLeft n k q image ≡ image
+queue-kept : (n : Needs) (k : Code) (new image : List ℕ) → isOk k ≡ false → queueLeft n k new image ≡ image
 unfolding queueLeft
-queue-kept Needs.Nothing k q image f = refl
-queue-kept Needs.Session k q image f = refl
-queue-kept Needs.Queue k q image f = queue-stays k q image f
+queue-kept Needs.Nothing k new image f = refl
+queue-kept Needs.Session k new image f = refl
+queue-kept Needs.Queue k new image f = left-old k new image f
 
 -- what a refusal leaves: x0, and zeros in what is written
 abbrev kept : List ℕ → List ℕ → List ℕ → List ℕ → ℕ → CallLeft
 kept session queue page table x0 = record { out = x0 ∷ 0 ∷ 0 ∷ []; work = 0 ∷ 0 ∷ []; page = page; table = table; session = session; queue = queue }
 
-step-kept : (n : Needs) (st : Step) (w : World) (session queue : List ℕ) → isOk (replyCode (st .reply)) ≡ false → st ≡ refusal st w →
-    callLeft n st session queue ≡ kept session queue (w .page) (w .table .bytes) (x0Of (replyCode (st .reply)))
+step-kept : (n : Needs) (st : Step) (w : World) (session new queue : List ℕ) → isOk (replyCode (st .reply)) ≡ false → st ≡ refusal 0 st w →
+    callLeft n st session new queue ≡ kept session queue (w .page) (w .table .bytes) (x0Of (replyCode (st .reply)))
 unfolding callLeft replyRegisters replyWords registerWords workWords answerOf replyCode
-step-kept n st w session queue f e =
+step-kept n st w session new queue f e =
     let k : Code = replyCode (st .reply) in
-    ap (λ (x : Step). callLeft n x session queue) e ∙ rw (session-kept n k (w .session) session f, queue-kept n k (w .queue) queue f)
+    ap (λ (x : Step). callLeft n x session new queue) e ∙ rw (session-kept n k (w .session) session f, queue-kept n k new queue f)
 
 dispatched : (granules session queue page table : List ℕ) (c : Call) → Refuses (callIn granules session queue page table c .out) →
     callIn granules session queue page table c ≡ kept session queue page table (getD (callIn granules session queue page table c .out) 0 0)
-unfolding callIn callLeft callOf stepOf
+unfolding callIn callLeft callOf stepOf doneCalls worldAfter
 dispatched granules session queue page table c h =
     let g : Granules = granulesOf granules in
     let w : World = worldIn session queue page table in
     let st : Step = callOf g w c in
     let f : isOk (replyCode (st .reply)) ≡ false = reply-tells (kindOf (c .id)) g w c h in
-    let q = step-kept (needsOf (kindOf (c .id))) st w session queue f (refused g w (call c) f) in
+    let q = step-kept (needsOf (kindOf (c .id))) st w session (signingDone (c .state) page queue (c .x1) (c .x2) (c .x3)) queue f (refused g w (call c) f) in
     q ∙ ap (kept session queue page table) (sym (ap (λ (l : CallLeft). getD (l .out) 0 0) q))
+
+-- a list, whatever its code
+lists : (d : Direction) (state granules table addresses : List ℕ) →
+    let l = moveListIn d state granules table addresses in
+    let f = moveOf (recordOf state) (granulesOf granules) d in
+    let done = doneBy f (record { bytes = table }) addresses in
+    l ≡ record { out = getD (l .out) 0 0 ∷ done ∷ 0 ∷ []; table = tableBy f (record { bytes = table }) (take done addresses) .bytes }
+unfolding moveListIn moveLeft registerWords answerOf
+lists d state granules table addresses = rw (list-is (recordOf state) (granulesOf granules) d (record { bytes = table }) addresses)
 
 pub exports-refuse : ExportsRefuse
 exports-refuse =
     record {
       delegation = delegation;
+      lists = lists;
       realmKey = realm-key;
       token = platform-token;
       features = feature-registers;

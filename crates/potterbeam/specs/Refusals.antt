@@ -3,13 +3,15 @@
 use Prim.Native.Nat.{ℕ}
 use mathlib.Core.Path.{_≡_}
 use mathlib.Core.List.{List, [], _∷_}
-use lib.ListN.{getD}
+use lib.ListN.{take, getD}
+use Rattle.granules.specs.Granules.{moveOf}
+use Rattle.granules.specs.Lists.{doneBy, tableBy}
 use Rattle.granules.specs.declared.Direction.{Direction}
 use Rattle.attest.specs.Key.{realmKeyOf}
 use Rattle.features.specs.Features.{featuresOf, updateOf}
 use Rattle.runtime.specs.Step.{Call}
-use Rattle.images.specs.Image.{recordOf, registerWords, workWords}
-use Rattle.potterbeam.specs.Exports.{moveIn, tokenIn, signingIn, signIn, callIn}
+use Rattle.images.specs.Image.{recordOf, granulesOf, registerWords, workWords}
+use Rattle.potterbeam.specs.Exports.{moveIn, moveListIn, tokenIn, signingIn, signIn, callIn}
 
 -- the registers show a refusal
 abbrev pub Refuses : List ℕ → Type 0
@@ -24,6 +26,13 @@ pub record ExportsRefuse : Type 0 where
   pub delegation : (d : Direction) (state granules table : List ℕ) (address : ℕ) →
       let l = moveIn d state granules table address in
       Refuses (l .out) → l ≡ record { out = x0Alone (l .out); table = table }
+  -- pbeam_delegate_list, pbeam_undelegate_list. 02, E1: each granule counts as a call of its own, so x1 is the number done, and the table is
+  -- that after the single calls of these; of an accepted list too
+  pub lists : (d : Direction) (state granules table addresses : List ℕ) →
+      let l = moveListIn d state granules table addresses in
+      let f = moveOf (recordOf state) (granulesOf granules) d in
+      let done = doneBy f (record { bytes = table }) addresses in
+      l ≡ record { out = getD (l .out) 0 0 ∷ done ∷ 0 ∷ []; table = tableBy f (record { bytes = table }) (take done addresses) .bytes }
   -- pbeam_realm_key
   pub realmKey : (state page key : List ℕ) (pa size curve : ℕ) →
       let k = realmKeyOf (recordOf state) page key pa size curve in

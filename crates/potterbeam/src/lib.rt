@@ -3,10 +3,13 @@ use boot::Record;
 use runtime::Needs;
 ghost use mathlib.Core.Path.{_≡_};
 ghost use lib.ListN.{length};
+ghost use Rattle.words.specs.Tests.{Yes};
 ghost use Rattle.reader.specs.Answer.{countIn, wordIn, readOf};
 ghost use Rattle.reader.specs.Reading.{sectionOf, readingAnswer};
 ghost use Rattle.reader.specs.declared.Reading.the-variants.{Accepted};
 ghost use Rattle.lookup.specs.Lookup.{spanOf, spanIn};
+ghost use Rattle.lists.specs.Description.{descriptionOf};
+ghost use Rattle.writer.specs.Write.{descriptionFits};
 ghost use Rattle.writer.specs.Wrote.{pageAfter};
 ghost use Rattle.versions.specs.Version.{versionOk, later, agreed};
 ghost use Rattle.boot.specs.declared.Record.the-variants.{Closed};
@@ -97,6 +100,7 @@ pub extern "C" fn pbeam_write(
     ensures { λ r. ⌜ r ≡ madeNumber (writeIn base (length (now (page .entry))) edition (now (dram .entry)) (now (console .entry)) (now (ncoh .entry)) (now (coh .entry))) ⌝ }
     ensures { λ r. ⌜ now (page .exit) ≡ pageAfter (now (page .entry))
         (writeIn base (length (now (page .entry))) edition (now (dram .entry)) (now (console .entry)) (now (ncoh .entry)) (now (coh .entry))) ⌝ }
+    ensures { λ _. ⌜ Yes (descriptionFits (descriptionOf (now (dram .entry)) (now (console .entry)) (now (ncoh .entry)) (now (coh .entry)))) ⌝ }
 {
     images::wrote_number(writer::write(base, edition, dram, console, ncoh, coh, page))
 }

@@ -1,3 +1,4 @@
 pub mod Sides
+pub mod Holding
 pub mod Steps
 pub mod Acts

@@ -13,8 +13,9 @@ use Rattle.queue_image.specs.Sides.{requestSide, responseSide, rowJoined
 use Rattle.queue_image.specs.Waits.{ofRequests, ofResponses}
 use Rattle.queue_image.proofs.Sides.{request-wide, response-wide}
 use Rattle.queue_image.proofs.Fits.{request-words, response-words, joined-words, dropped-words}
+use Rattle.queue_image.proofs.InPlace.{requests-wait, responses-wait}
 use Rattle.queue_image.proofs.Moves.{joined-210, dropped-210}
-use Rattle.queue_image.proofs.Waits.{requests-number, responses-number, request-joined, response-joined, request-dropped, response-dropped, request-joined-exact, response-joined-exact, request-dropped-exact, response-dropped-exact}
+use Rattle.queue_image.proofs.Waits.{request-joined, response-joined, request-dropped, response-dropped, request-joined-exact, response-joined-exact, request-dropped-exact, response-dropped-exact}
 
 pub record Becomes (before after : List ℕ) (q : Lists) : Type 0 where
   pub lists : listsIn after ≡ q
@@ -31,7 +32,7 @@ module _ (w : List ℕ) (l : length w ≡ 210) (h : Yes (areWords w)) where
   joins-requests r y n =
       record {
         lists = request-joined w l r y n;
-        whole = joined-210 ofRequests w l (requestWords r) (request-wide r) (omega (arith, requests-number w));
+        whole = joined-210 ofRequests w l (requestWords r) (request-wide r) (omega (arith, requests-wait w));
         words = joined-words requestSide w h (requestWords r) (request-words r y);
         exact = λ e. request-joined-exact w l e r y n;
       }
@@ -41,7 +42,7 @@ module _ (w : List ℕ) (l : length w ≡ 210) (h : Yes (areWords w)) where
   joins-responses r y n =
       record {
         lists = response-joined w l r y n;
-        whole = joined-210 ofResponses w l (responseWords r) (response-wide r) (omega (arith, responses-number w));
+        whole = joined-210 ofResponses w l (responseWords r) (response-wide r) (omega (arith, responses-wait w));
         words = joined-words responseSide w h (responseWords r) (response-words r y);
         exact = λ e. response-joined-exact w l e r y n;
       }

@@ -14,6 +14,7 @@ use Rattle.queue_image.specs.Waits.{Beside, ofRequests, ofResponses, wai
 use Rattle.queue_image.proofs.Rows.{rows-length, flat-length, padded-length}
 use Rattle.queue_image.proofs.Sides.{request-wide, response-wide}
 use Rattle.queue_image.proofs.Inverse.{request-back, response-back, zeros-in, zeros-out}
+use Rattle.queue_image.proofs.InPlace.{requests-wait, responses-wait}
 use Rattle.queue_image.proofs.Blocks.{rows-within, joined-padded, dropped-padded}
 use Rattle.queue_image.proofs.Moves.{sidesLaid, joined-in, dropped-in, joined-waits, dropped-waits, joined-beside, dropped-beside}
 
@@ -53,23 +54,13 @@ module _ {A : Type 0} (f : List ℕ → A) where
   read-beside : (o : Side) (w v : List ℕ) → Stays o w v → readIn o v ≡ readIn o w
   read-beside o w v h = read-rows o v ∙ ap (map f) (h .everyRow) ∙ sym (read-rows o w)
 
--- ---- how many wait
-module _ (w : List ℕ) where
-  pub requests-number : rowsWaiting requestSide w ≡ length (listsIn w .requests)
-  unfolding listsIn
-  requests-number = read-number requestIn requestSide w
-
-  pub responses-number : rowsWaiting responseSide w ≡ length (listsIn w .responses)
-  unfolding listsIn
-  responses-number = read-number responseIn responseSide w
-
 -- ---- the lists after each move
 module _ (w : List ℕ) (l : length w ≡ 210) where
   pub request-joined : (r : Request) → Yes (requestFits r) → length (listsIn w .requests) < 8 →
       listsIn (rowJoined requestSide (requestWords r) w) ≡ record { requests = listsIn w .requests ++ (r ∷ []); responses = listsIn w .responses }
   unfolding listsIn
   request-joined r y h =
-      let n : rowsWaiting requestSide w < 8 = omega (arith, requests-number w) in
+      let n : rowsWaiting requestSide w < 8 = omega (arith, requests-wait w) in
       rw (
         read-joined requestIn ofRequests w l (requestWords r) (request-wide r) h,
         request-back r y,
@@ -80,7 +71,7 @@ module _ (w : List ℕ) (l : length w ≡ 210) where
       listsIn (rowJoined responseSide (responseWords r) w) ≡ record { requests = listsIn w .requests; responses = listsIn w .responses ++ (r ∷ []) }
   unfolding listsIn
   response-joined r y h =
-      let n : rowsWaiting responseSide w < 8 = omega (arith, responses-number w) in
+      let n : rowsWaiting responseSide w < 8 = omega (arith, responses-wait w) in
       rw (
         read-beside requestIn requestSide w _ (joined-beside ofResponses w l (responseWords r) (response-wide r) n),
         read-joined responseIn ofResponses w l (responseWords r) (response-wide r) h,
@@ -149,11 +140,11 @@ exact-by move w q e i r = ap move e ∙ i ∙ ap queueWords (sym r)
 module _ (w : List ℕ) (l : length w ≡ 210) (e : Exact w) where
   few-requests : length (listsIn w .requests) ≤ 8
   unfolding rowsWaiting
-  few-requests = omega (arith, requests-number w)
+  few-requests = omega (arith, requests-wait w)
 
   few-responses : length (listsIn w .responses) ≤ 8
   unfolding rowsWaiting
-  few-responses = omega (arith, responses-number w)
+  few-responses = omega (arith, responses-wait w)
 
   pub request-joined-exact : (r : Request) → Yes (requestFits r) → length (listsIn w .requests) < 8 → Exact (rowJoined requestSide (requestWords r) w)
   request-joined-exact r y h = exact-by (rowJoined requestSide (requestWords r)) w _ e (requests-join _ _ few-requests few-responses r h) (request-joined w l r y h)

@@ -1,18 +1,19 @@
 -- Example 14's page, read: the reader accepts it and shows its bank. What refuses everything, or shows every page alike, fails
 -- here. Assumes nothing.
 use Prim.Native.Nat.{ℕ}
+use mathlib.Core.Bool.{true, false}
 use mathlib.Core.Path.{_≡_, refl}
 use mathlib.Core.List.{List, [], _++_}
-use lib.ListN.{replicate}
-use Rattle.words.specs.Tests.{both, either, every}
-use Rattle.words.specs.Word.{leOf, leBytes, part, numAt, wordsOf}
+use lib.ListN.{take, replicate}
+use Rattle.words.specs.Tests.{both, either, every, some}
+use Rattle.words.specs.Word.{leOf, leBytes, part, numAt, wordsOf, splice}
 use Rattle.versions.specs.Version.{minorOf, majorOf, aboveOf, versionOk}
 use Rattle.versions.specs.Edition.{sectionCount, core, editionOk}
 use Rattle.entries.specs.Entry.{wordsPerEntry, size, bankOk, entryRule, entryOk, entriesOk, shownWords, sum, checkOk}
 use Rattle.entries.specs.Array.{soundOf}
 use Rattle.sections.specs.Page.{placeOk, inPage, arrayAt, mkSec, secAt, mkPlat, platAt}
 use Rattle.sections.specs.Section.{platOk, wordsIn, nothing, inRange, secOk, extent, apart, clearBefore, rules}
-use Rattle.reader.specs.Answer.{shown, shownSec, platShown, allShown, readerGate, judge, readOf, bytesIn, lookIn, entryWord, wordIn, entryCount, countIn}
+use Rattle.reader.specs.Answer.{shown, shownSec, platShown, allShown, readerGate, judge, readOf, bytesIn, lookIn, entryWord, wordIn, entryCount, countIn, inArray, namedBy, named}
 
 unfoldable pub bank : List ℕ
 bank = leBytes 8 0x90000000 ++ leBytes 8 0x10000000
@@ -30,3 +31,15 @@ pub sample : (countIn (readOf 4 0x80000000 page) 0 ≡ 1)
     × (lookIn (readOf 4 0x80000000 page) 1 ≡ [])
 unfolding bank page countIn entryCount wordIn entryWord lookIn bytesIn readOf judge readerGate allShown platShown shown shownSec rules clearBefore apart extent secOk inRange nothing wordsIn platOk platAt mkPlat secAt mkSec arrayAt inPage placeOk soundOf checkOk sum shownWords entriesOk entryOk entryRule bankOk size wordsPerEntry editionOk core sectionCount versionOk aboveOf majorOf minorOf wordsOf numAt part leBytes leOf every either both
 sample = (refl, refl, refl, refl, refl)
+
+-- the bytes that are named there: the core and the bank up to byte 55; by edition 1 the first 16, and so if the version is refused;
+-- of a page that is a byte short none
+pub sample-named : (named 4 0x80000000 page 55 ≡ true)
+    × (named 4 0x80000000 page 56 ≡ false)
+    × (named 1 0x80000000 page 15 ≡ true)
+    × (named 1 0x80000000 page 16 ≡ false)
+    × (named 4 0x80000000 (splice 0 (leBytes 4 0) page) 15 ≡ true)
+    × (named 4 0x80000000 (splice 0 (leBytes 4 0) page) 16 ≡ false)
+    × (named 4 0x80000000 (take 4095 page) 0 ≡ false)
+unfolding bank page named namedBy inArray splice some inPage size wordsPerEntry core sectionCount versionOk aboveOf majorOf minorOf numAt part leBytes leOf either both
+sample-named = (refl, refl, refl, refl, refl, refl, refl)

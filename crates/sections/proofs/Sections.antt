@@ -4,8 +4,10 @@ use mathlib.Core.Path.{_≡_, refl}
 use mathlib.Core.Bool.{true, false}
 use mathlib.Core.List.{List}
 use native.Mathlib.Omega.{arith}
+use native.Mathlib.Decide.{decLe}
 use lib.Dec.{leb, eqb}
-use borrow.Author.Tests.{leb-true, ltb-true, eqb-true, le-leb}
+use lib.ListN.{length}
+use borrow.Author.Tests.{leb-true, ltb-true, eqb-true, le-leb, lt-leb}
 use Rattle.words.specs.Tests.{Yes, both, either}
 use Rattle.words.specs.Word.{part}
 use Rattle.words.proofs.Tests.{both-l, both-r, both-of, either-cases, every-at, every-none, every-more, every-not}
@@ -51,16 +53,37 @@ module _ (w e base k : ℕ) (page : List ℕ) where
   unfolding okAt secOk secAt mkSec either
   ok-nothing h = rw h
 
-  pub ok-range : nothing (countAt k page) (pointerAt k page) (checkAt k page) ≡ false →
+  ok-range : nothing (countAt k page) (pointerAt k page) (checkAt k page) ≡ false →
       inRange e base k (countAt k page) (pointerAt k page) ≡ false → okAt w e base k page ≡ false
   unfolding okAt secOk secAt mkSec either both
   ok-range h g = rw (h, g)
 
-  pub ok-sound : nothing (countAt k page) (pointerAt k page) (checkAt k page) ≡ false →
+  ok-sound : nothing (countAt k page) (pointerAt k page) (checkAt k page) ≡ false →
       inRange e base k (countAt k page) (pointerAt k page) ≡ true →
       okAt w e base k page ≡ soundOf w k (countAt k page) (pointerAt k page) (checkAt k page) (wordsAt k (countAt k page) (pointerAt k page - base) page)
   unfolding okAt secOk secAt mkSec either both wordsIn wordsAt
   ok-sound h g = rw (h, g, array-in e base k (countAt k page) (pointerAt k page) g page)
+
+  -- an array that begins behind the core: whether it is in range is whether it ends within the page
+  pub ok-placed : nothing (countAt k page) (pointerAt k page) (checkAt k page) ≡ false → base + core e ≤ pointerAt k page → length page ≡ 4096 →
+      okAt w e base k page ≡ both (leb (pointerAt k page - base + size k (countAt k page)) (length page))
+      (soundOf w k (countAt k page) (pointerAt k page) (checkAt k page) (wordsAt k (countAt k page) (pointerAt k page - base) page))
+  unfolding inRange both
+  ok-placed h g n = go (decLe (pointerAt k page - base + size k (countAt k page)) (length page))
+    where
+      go : Dec (pointerAt k page - base + size k (countAt k page) ≤ length page) → okAt w e base k page ≡ both (leb (pointerAt k page - base + size k (countAt k page)) (length page))
+          (soundOf w k (countAt k page) (pointerAt k page) (checkAt k page) (wordsAt k (countAt k page) (pointerAt k page - base) page))
+      go (yes m) =
+          rw (le-leb (pointerAt k page - base + size k (countAt k page)) (length page) m)
+          (ok-sound h (both-of _ _ (le-leb (base + core e) (pointerAt k page) g) (le-leb (pointerAt k page + size k (countAt k page)) (base + 4096) (omega arith))))
+      go (no m) =
+          rw (lt-leb (pointerAt k page - base + size k (countAt k page)) (length page) (omega arith))
+          (ok-range h (rw (le-leb (base + core e) (pointerAt k page) g, lt-leb (pointerAt k page + size k (countAt k page)) (base + 4096) (omega arith))))
+
+  -- one that begins before it
+  pub ok-low : nothing (countAt k page) (pointerAt k page) (checkAt k page) ≡ false → pointerAt k page < base + core e → okAt w e base k page ≡ false
+  unfolding inRange both
+  ok-low h g = ok-range h (rw (lt-leb (base + core e) (pointerAt k page) g))
 
   -- a good section that is not empty has its array in range
   pub ok-in-range : okAt w e base k page ≡ true → (countAt k page ≡ 0 → ⊥) → inRange e base k (countAt k page) (pointerAt k page) ≡ true

@@ -6,7 +6,7 @@ ghost use Prim.Native.Nat.{ℕ, _+_, _≤_, _<_};
 ghost use lib.ListN.{length};
 ghost use Rattle.words.specs.Tests.{both};
 ghost use Rattle.sections.specs.Page.{placeOk, versionAt, paddingAt, countAt, pointerAt, checkAt, mkPlat};
-ghost use Rattle.sections.specs.Section.{platOk, nothing, inRange, rulesAt};
+ghost use Rattle.sections.specs.Section.{platOk, nothing, rulesAt};
 ghost use Rattle.sections.specs.Steps.{okAt, okTo, endOf, apartAt, apartTo};
 
 // Whether a page of n bytes at this base is a place for a manifest.
@@ -93,24 +93,7 @@ fn is_nothing(count: u64, pointer: u64, check: u64) -> bool
     true
 }
 
-// Whether an array lies wholly between the core of e and the page's end.
-fn in_range(base: u64, e: Edition, k: usize, count: u64, pointer: u64) -> bool
-    requires { ⌜ base ≤ 0x10_0000_0000_0000 ⌝ }
-    ensures { λ r. ⌜ r ≡ inRange (e .minor) base k count pointer ⌝ }
-{
-    if pointer < base + e.core_size() {
-        return false;
-    }
-    if base + 4096 < pointer {
-        return false;
-    }
-    if !entries::fits(k, count, base + 4096 - pointer) {
-        return false;
-    }
-    true
-}
-
-// The rule of section k by itself, on a page of that minor read as edition e.
+// The rule of section k by itself, on a page of that minor read as edition e. That the array ends within the page is for `sound_at` to say.
 fn section_ok(page: &[u8], base: u64, minor: u64, e: Edition, k: u8) -> bool
     requires { ⌜ (length (now page) ≡ 4096) × (base ≤ 0x10_0000_0000_0000) ⌝ }
     ensures { λ r. ⌜ r ≡ okAt minor (e .minor) base k (now (page .entry)) ⌝ }
@@ -121,7 +104,7 @@ fn section_ok(page: &[u8], base: u64, minor: u64, e: Edition, k: u8) -> bool
     if is_nothing(count, pointer, check) {
         return true;
     }
-    if !in_range(base, e, k as usize, count, pointer) {
+    if pointer < base + e.core_size() {
         return false;
     }
     let at = (pointer - base) as usize;

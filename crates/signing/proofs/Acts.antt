@@ -6,6 +6,8 @@ use mathlib.Core.Bool.{false, true≢false}
 use mathlib.Core.List.{List, _∷_}
 use native.Mathlib.Omega.{arith}
 use lib.ListN.{length}
+use lib.Dec.{ltb}
+use borrow.Author.Tests.{ltb-false, eqb-true, eqb-false, ne-eqb}
 use Rattle.words.specs.Word.{part, halfAt}
 use Rattle.boot.specs.declared.Params.{Params}
 use Rattle.boot.specs.declared.Record.{Record}
@@ -14,22 +16,24 @@ use Rattle.range.specs.Range.{placeOf}
 use Rattle.range.specs.Buffers.{BufferIn}
 use Rattle.range.specs.declared.OutsideAs.the-variants.{Invalid}
 use Rattle.range.proofs.Ranges.{Passed}
-use Rattle.range.proofs.Buffers.{in-passes, in-room, splice-written}
+use Rattle.range.proofs.Buffers.{in-passes, in-room, passed-in, splice-written}
 use Rattle.codes.specs.Codes.{unless, upOf, isOk, fails, extended, x0Of, answerOf}
-use Rattle.codes.specs.declared.Code.the-variants.{Ok, Inval}
+use Rattle.codes.specs.declared.Code.the-variants.{Ok, Unk, Inval}
 use Rattle.codes.specs.declared.Answer.{Answer}
+use Rattle.codes.proofs.Gates.{fails-ok, unless-ok, then-ok}
 use Rattle.queue.specs.declared.Request.{Request}
 use Rattle.queue.specs.Queue.{Signed, Lists, SigningStep, queued, oldestResponse}
+use Rattle.queue.proofs.Steps.{queued-ok}
 use Rattle.requests.specs.Push.{requestOf, pushed}
-use Rattle.requests.proofs.Acts.{buffer-push-acts}
+use Rattle.requests.proofs.Acts.{buffer-push-acts, push-told}
 use Rattle.responses.specs.Pull.{responseBytes, pulled}
-use Rattle.responses.proofs.Acts.{buffer-pull-acts}
-use Rattle.signing.specs.Signing.{opcodeOf, isOther, badCurve, sharedCode, publicOf, opOf, putBack, opAt, signingOf}
-use Rattle.signing.specs.Acts.{PushActed, PullActed, PublicActed}
+use Rattle.responses.proofs.Acts.{buffer-pull-acts, pull-told}
+use Rattle.signing.specs.Signing.{opcodeOf, isOther, badCurve, sharedCode, publicCode, publicOf, opOf, putBack, opAt, signingOf}
+use Rattle.signing.specs.Acts.{SigningPassed, PushActed, PullActed, PublicActed}
 use Rattle.signing.specs.declared.Opcode.{Opcode}
 use Rattle.signing.specs.declared.Opcode.the-variants.{Push, Pull, Key, Other}
 use Rattle.signing.proofs.Buffers.{buffer-length}
-use Rattle.signing.proofs.Signings.{shared-ok, public-ok, signing-by}
+use Rattle.signing.proofs.Signings.{shared-ok, shared-passed, public-ok, signing-by}
 
 -- ---- when it is OK: with the record up at minor 4 or more, a page of 4,096 bytes and a buffer within it
 module _ (u : Params) (page : List ℕ) (key : List ℕ) (pa size : ℕ) (i : BufferIn u page pa size) (m : 4 ≤ u .minor) where
@@ -107,3 +111,61 @@ module _ (r : Record) (page : List ℕ) (q : Lists) (key : List ℕ) (pa size cu
   pub public-acts : signingOf r page q key 3 pa size curve .answer .code ≡ Ok → PublicActed (placeOf (upOf r) pa) page q key (signingOf r page q key 3 pa size curve)
   unfolding at opcodeOf
   public-acts = acts 3
+
+  -- ---- and only then
+  shared-told : (op : ℕ) → signingOf r page q key op pa size curve .answer .code ≡ Ok → SigningPassed r page pa size × (fails (badCurve (opcodeOf op) curve) Inval (fails (ltb (upOf r .minor) 4) Unk Ok) ≡ Ok)
+  unfolding signingOf sharedCode
+  shared-told op h =
+      let k = queued-ok (sharedCode r (length page) (opcodeOf op) pa size curve) _ page q h in
+      let p = shared-passed r (length page) (opcodeOf op) pa size curve k in
+      let b = fails-ok _ _ _ refl (then-ok _ _ k) in
+      let m = fails-ok _ _ _ refl (b .1) in
+      (record { up = p .up; minor = ltb-false _ _ (m .0); buffer = passed-in r page _ pa size p }, then-ok _ _ k)
+
+  abbrev Told : Opcode → Type 0
+  Told Push = (80 ≤ size) × (halfAt 0 (part at size page) ≡ 0) × (halfAt 24 (part at size page) ≡ 1) × (length (q .requests) < 8)
+  Told Pull = (1 ≤ length (q .responses)) × (18 + length (oldestResponse (q .responses) .signature) ≤ size)
+  Told Key = (1 ≤ length key) × (length key ≤ size)
+  Told Other = ⊥
+
+  public-told : publicCode size key ≡ Ok → (1 ≤ length key) × (length key ≤ size)
+  unfolding publicCode
+  public-told h =
+      let n = fails-ok _ _ _ refl h in
+      let l = fails-ok _ _ _ refl (n .1) in
+      (omega (arith, eqb-false (length key) 0 (n .0)), ltb-false _ _ (l .0))
+
+  tells : (op : ℕ) → signingOf r page q key op pa size curve .answer .code ≡ Ok → Told (opcodeOf op)
+  unfolding at answerOf
+  tells op =
+      signing-by (λ (o : Opcode) (s : SigningStep). s .answer .code ≡ Ok → Told o) r page q key op pa size curve
+      (record {
+        refusal = λ o k e h. absurd (true≢false (ap isOk (sym h) ∙ e));
+        push = λ p e h.
+            let t = push-told _ q e in
+            (rw (buffer-length at size page (omega (arith, p .whole, p .room))) at (t .0), t .1, t .2, t .3);
+        pull = λ p e h. pull-told size q e;
+        public = λ p e h. public-told e;
+      })
+
+  pub push-only : signingOf r page q key 1 pa size curve .answer .code ≡ Ok →
+      SigningPassed r page pa size × (80 ≤ size) × (halfAt 0 (part (placeOf (upOf r) pa) size page) ≡ 0) × (halfAt 24 (part (placeOf (upOf r) pa) size page) ≡ 1) × (length (q .requests) < 8)
+  unfolding at opcodeOf
+  push-only h = let t = tells 1 h in (shared-told 1 h .0, t .0, t .1, t .2, t .3)
+
+  pub pull-only : signingOf r page q key 2 pa size curve .answer .code ≡ Ok →
+      SigningPassed r page pa size × (1 ≤ length (q .responses)) × (18 + length (oldestResponse (q .responses) .signature) ≤ size)
+  unfolding opcodeOf
+  pull-only h = let t = tells 2 h in (shared-told 2 h .0, t .0, t .1)
+
+  pub public-only : signingOf r page q key 3 pa size curve .answer .code ≡ Ok → SigningPassed r page pa size × (curve ≡ 0) × (1 ≤ length key) × (length key ≤ size)
+  unfolding opcodeOf badCurve
+  public-only h =
+      let s = shared-told 3 h in
+      let t = tells 3 h in
+      (s .0, eqb-true _ _ (unless-ok _ _ _ refl (s .1) .0), t .0, t .1)
+
+  -- "opcode not 1 to 3 .. INVAL": no other is OK
+  pub no-other : (op : ℕ) → (op ≡ 1 → ⊥) → (op ≡ 2 → ⊥) → (op ≡ 3 → ⊥) → signingOf r page q key op pa size curve .answer .code ≡ Ok → ⊥
+  unfolding opcodeOf
+  no-other op a b c h = let t = tells op h in rw (ne-eqb op 1 a, ne-eqb op 2 b, ne-eqb op 3 c) at t

@@ -1,12 +1,21 @@
--- What an accepted call did, opcode by opcode. Assumes nothing.
-use Prim.Native.Nat.{ℕ}
+-- When token signing is accepted, and what an accepted call did, opcode by opcode. Assumes nothing.
+use Prim.Native.Nat.{ℕ, _≤_}
 use mathlib.Core.Path.{_≡_}
+use mathlib.Core.Bool.{true}
 use mathlib.Core.List.{List, [], _∷_, _++_}
 use lib.ListN.{length}
 use Rattle.words.specs.Word.{leBytes, part, wordAt, halfAt}
-use Rattle.range.specs.Buffers.{WrittenAt}
+use Rattle.boot.specs.declared.Record.{Record}
+use Rattle.range.specs.Buffers.{BufferIn, WrittenAt}
+use Rattle.codes.specs.Codes.{isUp, upOf}
 use Rattle.codes.specs.declared.Code.the-variants.{Ok}
 use Rattle.queue.specs.Queue.{Signed, Lists, SigningStep}
+
+-- The record is up with minor 4 or more, and the buffer lies in the page
+pub record SigningPassed (r : Record) (page : List ℕ) (pa size : ℕ) : Type 0 where
+  pub up : isUp r ≡ true
+  pub minor : 4 ≤ upOf r .minor
+  pub buffer : BufferIn (upOf r) page pa size
 
 -- The registers of an OK, what waits then, and the bytes that stand at an offset of the page, every other byte being as it was
 pub record SigningActed (x1 : ℕ) (waits : Lists) (at : ℕ) (bytes page : List ℕ) (s : SigningStep) : Type 0 where

@@ -3,7 +3,7 @@
 ghost use mathlib.Core.Path.{_≡_};
 ghost use Prim.Native.Nat.{_+_, _≤_};
 ghost use lib.ListN.{length, drop};
-ghost use Rattle.words.specs.Word.{splice};
+ghost use Rattle.words.specs.Word.{splice, onFrom};
 ghost use Rattle.big_words.specs.Big.{beBytes, bigAt};
 ghost use Rattle.state_messages.specs.Messages.{headBytes, readRequest, readResponse, toldOf, Message, writeRequest, responseOf, writeResponse};
 
@@ -129,6 +129,7 @@ pub fn read_response(message: &[u8], largest: u32) -> ResponseRead
 // The data of an accepted response, as the part of the message that holds it: what follows the four numbers.
 pub fn data_of(message: &[u8]) -> &[u8]
     ensures { λ r. ⌜ now r ≡ drop 16 (now (message .entry)) ⌝ }
+    ensures { λ r. ⌜ (16 ≤ length (now (message .entry)) → r .ptr ≡ onFrom (message .entry .ptr) 16) ⌝ }
 {
     if message.len() < 16 {
         return &message[0..0];

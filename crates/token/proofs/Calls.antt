@@ -89,7 +89,7 @@ unfolding settled keeps answerOf
 settled-ok k new page s = if-ok-by (λ (t : TokenStep). isOk (t .answer .code) ≡ true → k ≡ Ok) k new (keeps k page s) (λ e h. e) (λ e h. absurd (true≢false (sym h ∙ e)))
 
 module _ (s : Session) (x : TokenCall) (h : tokenAccepted s x ≡ true) where
-  code-ok : tokenCode (x .state) (x .page) s (x .busy) (x .token) (x .pa) (x .size) (x .csize) ≡ Ok
+  pub code-ok : tokenCode (x .state) (x .page) s (x .busy) (x .token) (x .pa) (x .size) (x .csize) ≡ Ok
   unfolding tokenAccepted tokenStepOf tokenOf
   code-ok = settled-ok _ (sendOf (placeOf (upOf (x .state)) (x .pa)) (x .token) (beginOf s (x .csize)) (x .size) (x .page)) (x .page) s h
 

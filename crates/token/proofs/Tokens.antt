@@ -9,8 +9,9 @@ use lib.ListN.{length, take, drop, take-append-drop, length-drop}
 use lib.Seq.{length-take-le}
 use borrow.Author.Tests.{eq-eqb, ne-eqb, lt-ltb, le-ltb, ltb-false}
 use Rattle.words.specs.Tests.{both, either}
-use Rattle.words.specs.Word.{part, splice, laid, spanAt, spanned, noSpan}
-use Rattle.words.proofs.Store.{bytes-in, lent-back, span-none, span-in}
+use Rattle.words.specs.Word.{part, splice, laid, spanAt, spanned, spanStart, noSpan}
+use Rattle.words.specs.declared.Span.{Span}
+use Rattle.words.proofs.Store.{bytes-in, lent-back, span-none, span-in, start-none, start-in}
 use Rattle.boot.specs.declared.Record.{Record}
 use Rattle.range.specs.Range.{placeOf}
 use Rattle.range.proofs.Ranges.{passed}
@@ -183,3 +184,13 @@ module _ (r : Record) (page : List ℕ) (pa size c : ℕ) where
   challenge-shown e at i =
       let m = buffer-room r (length page) false pa size c e in
       rw (i, e) (refl, span-in (placeOf (upOf r) pa) c page (omega (arith, m .whole, m .room, m .holds)))
+
+  -- the part begins at its own place
+  pub challenge-starts : spanStart (challengeSpan r page pa size c) page ≡ challengeSpan r page pa size c .at
+  unfolding challengeSpan
+  challenge-starts =
+      if-ok-by (λ (p : Span). spanStart p page ≡ p .at) (bufferCode r (length page) false pa size c) (spanAt (placeOf (upOf r) pa) c) noSpan
+      (λ e.
+      let m = buffer-room r (length page) false pa size c e in
+      start-in (placeOf (upOf r) pa) c page (omega (arith, m .whole, m .room, m .holds)))
+      (λ e. start-none page)

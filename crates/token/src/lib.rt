@@ -9,7 +9,7 @@ ghost use mathlib.Core.Path.{_≡_};
 ghost use mathlib.Core.Bool.{false};
 ghost use Prim.Native.Nat.{_+_, _≤_};
 ghost use lib.ListN.{length};
-ghost use Rattle.words.specs.Word.{part, splice, spanned};
+ghost use Rattle.words.specs.Word.{part, splice, spanned, onFrom};
 ghost use Rattle.range.specs.Range.{placeOf};
 ghost use Rattle.codes.specs.Codes.{upOf, answerOf, gated};
 ghost use Rattle.token.specs.Token.{listed, bufferCode, startCode, beginOf, tokenExit, sendOf, tokenOf, challengeOf, challengeSpan};
@@ -191,6 +191,7 @@ pub fn challenge_code(state: Record, page: &[u8], pa: u64, size: u64, csize: u64
 // The challenge of a start, as that part of the page; empty where there is none.
 pub fn challenge(state: Record, page: &[u8], pa: u64, size: u64, csize: u64) -> &[u8]
     ensures { λ r. ⌜ now r ≡ challengeOf state (now (page .entry)) pa size csize ⌝ }
+    ensures { λ r. ⌜ r .ptr ≡ onFrom (page .entry .ptr) (challengeSpan state (now (page .entry)) pa size csize .at) ⌝ }
 {
     words::part_of(page, challenge_place(state, page, pa, size, csize))
 }

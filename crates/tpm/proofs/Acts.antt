@@ -8,8 +8,8 @@ use native.Mathlib.Omega.{arith}
 use lib.ListN.{length}
 use borrow.Author.Tests.{eq-eqb}
 use Rattle.words.specs.Tests.{both, either}
-use Rattle.words.specs.Word.{part, noSpan, spanAt, spanned}
-use Rattle.words.proofs.Store.{front-splice, drop-splice, part-splice, span-none, span-in}
+use Rattle.words.specs.Word.{part, noSpan, spanAt, spanned, spanStart}
+use Rattle.words.proofs.Store.{front-splice, drop-splice, part-splice, span-none, span-in, start-none, start-in}
 use Rattle.tpm.specs.declared.ReturnCode.{ReturnCode}
 use Rattle.tpm.specs.declared.ReturnCode.the-variants.{Success}
 use Rattle.tpm.specs.declared.Arguments.{Arguments}
@@ -99,3 +99,12 @@ request-spanned a memory forbidden = go (hasRequest a (length memory) forbidden)
     go : (b : Bool) → hasRequest a (length memory) forbidden ≡ b → spanned (cond b (spanAt (a .inbuffer) (a .insize)) noSpan) memory ≡ cond b (part (a .inbuffer) (a .insize) memory) []
     go true h = span-in (a .inbuffer) (a .insize) memory (has-placed a (length memory) forbidden h .input .ends)
     go false h = span-none memory
+
+-- the request begins at its own place
+pub request-starts : (a : Arguments) (memory : List ℕ) (forbidden : Bool) → spanStart (tpmRequestSpan a (length memory) forbidden) memory ≡ tpmRequestSpan a (length memory) forbidden .at
+unfolding tpmRequestSpan
+request-starts a memory forbidden = go (hasRequest a (length memory) forbidden) refl
+  where
+    go : (b : Bool) → hasRequest a (length memory) forbidden ≡ b → spanStart (cond b (spanAt (a .inbuffer) (a .insize)) noSpan) memory ≡ cond b (spanAt (a .inbuffer) (a .insize)) noSpan .at
+    go true h = start-in (a .inbuffer) (a .insize) memory (has-placed a (length memory) forbidden h .input .ends)
+    go false h = start-none memory

@@ -3,6 +3,7 @@
 use words::Span;
 ghost use mathlib.Core.Path.{_≡_};
 ghost use lib.ListN.{length};
+ghost use Rattle.words.specs.Word.{onFrom};
 ghost use Rattle.tpm.specs.declared.TpmSession.the-variants.{None};
 ghost use Rattle.tpm.specs.ReturnCodes.{hcallNumber, isSuccess};
 ghost use Rattle.tpm.specs.Comm.{bufferChecks, buffersChecks, requestCode, stepLeft, commOf, tpmRequest, tpmRequestSpan};
@@ -196,6 +197,7 @@ pub fn request_place(asked: Arguments, memory: &[u8], forbidden: bool) -> Span
 // The request of an execute, as its part of the memory; empty where there is none.
 pub fn request(asked: Arguments, memory: &[u8], forbidden: bool) -> &[u8]
     ensures { λ r. ⌜ now r ≡ tpmRequest asked (now (memory .entry)) forbidden ⌝ }
+    ensures { λ r. ⌜ r .ptr ≡ onFrom (memory .entry .ptr) (tpmRequestSpan asked (length (now (memory .entry))) forbidden .at) ⌝ }
 {
     let place = request_place(asked, memory, forbidden);
     words::part_of(memory, place)

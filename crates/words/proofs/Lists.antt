@@ -107,6 +107,11 @@ pub words-cons : (x : ℕ) (xs : List ℕ) → x < 2 ^ 64 → Yes (areWords xs) 
 unfolding areWords
 words-cons x xs h a = both-of _ _ (lt-ltb x (2 ^ 64) h) a
 
+pub words-below : (ws : List ℕ) → ((i : ℕ) → getD ws i 0 < 2 ^ 64) → Yes (areWords ws)
+unfolding areWords
+words-below [] h = refl
+words-below (w ∷ ws) h = words-cons w ws (h 0) (words-below ws (λ i. h (suc i)))
+
 pub words-append : (xs ys : List ℕ) → Yes (areWords xs) → Yes (areWords ys) → Yes (areWords (xs ++ ys))
 unfolding areWords
 words-append [] ys a b = b

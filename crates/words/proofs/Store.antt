@@ -11,7 +11,7 @@ use lib.Seq.{length-take-le, take-at, drop-at, drop-drop, drop-append-le, set-sp
 use lib.Dec.{eqb}
 use borrow.Author.Tests.{le-leb, lt-leb, eqb-true}
 use Rattle.words.specs.Tests.{Yes}
-use Rattle.words.specs.Word.{leOf, leBytes, part, numAt, bytesOf, splice, laid, spanAt, spanned, noSpan}
+use Rattle.words.specs.Word.{leOf, leBytes, part, numAt, bytesOf, splice, laid, spanAt, spanned, spanStart, noSpan}
 use Rattle.words.proofs.Lists.{bytesOf-length, bytesOf-append}
 use Rattle.words.proofs.Read.{leBytes-length, leBytes-split, leOf-leBytes}
 
@@ -192,3 +192,17 @@ span-by false at n s z h = rw (le-leb (at + n) (length s) h)
 pub span-in : (at n : ℕ) (s : List ℕ) → at + n ≤ length s → spanned (spanAt at n) s ≡ part at n s
 unfolding spanAt
 span-in at n s h = span-by (eqb n 0) at n s (eqb-true n 0) h
+
+-- and where it begins: a span that lies within s begins at its own place
+pub start-none : (s : List ℕ) → spanStart noSpan s ≡ noSpan .at
+unfolding spanStart noSpan
+start-none s = rw (le-leb 0 (length s) (omega arith))
+
+start-by : (b : Bool) (at n : ℕ) (s : List ℕ) → at + n ≤ length s → spanStart (cond b noSpan (record { at = at; len = n })) s ≡ cond b noSpan (record { at = at; len = n }) .at
+unfolding spanStart
+start-by true at n s h = start-none s
+start-by false at n s h = rw (le-leb (at + n) (length s) h)
+
+pub start-in : (at n : ℕ) (s : List ℕ) → at + n ≤ length s → spanStart (spanAt at n) s ≡ spanAt at n .at
+unfolding spanAt
+start-in at n s h = start-by (eqb n 0) at n s h

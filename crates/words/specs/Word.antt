@@ -74,3 +74,11 @@ spanAt at n = cond (eqb n 0) noSpan (record { at = at; len = n })
 -- the part of s that a span names; none where it does not lie within s
 unfoldable pub spanned : Span → List ℕ → List ℕ
 spanned p s = cond (leb (p .at + p .len) (length s)) (part (p .at) (p .len) s) []
+
+-- where that part begins, in bytes from the start of s; 0 where the span does not lie within s
+unfoldable pub spanStart : Span → List ℕ → ℕ
+spanStart p s = cond (leb (p .at + p .len) (length s)) (p .at) 0
+
+-- the address n bytes on from an address, which is a block of memory and an offset in it
+unfoldable pub onFrom : ℕ × ℕ → ℕ → ℕ × ℕ
+onFrom a n = (a .0, a .1 + n)

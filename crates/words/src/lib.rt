@@ -3,7 +3,7 @@
 ghost use mathlib.Core.Path.{_≡_};
 ghost use Prim.Native.Nat.{min, _+_, _<_, _≤_};
 ghost use lib.ListN.{length, replicate};
-ghost use Rattle.words.specs.Word.{leBytes, numAt, wordAt, halfAt, wholeWord, bytesOf, splice, laid, spanAt, spanned};
+ghost use Rattle.words.specs.Word.{leBytes, numAt, wordAt, halfAt, wholeWord, bytesOf, splice, laid, spanAt, spanned, spanStart, onFrom};
 
 // Where a part of a slice begins, and how many bytes it has.
 pub struct Span {
@@ -233,9 +233,10 @@ pub fn span_at(at: usize, len: usize) -> Span
     Span { at, len }
 }
 
-// The part of a slice that a span names; empty where it does not lie within the slice.
+// The part of a slice that a span names, at its place in the slice; empty, at the slice's start, where it does not lie within it.
 pub fn part_of(s: &[u8], span: Span) -> &[u8]
     ensures { λ r. ⌜ now r ≡ spanned span (now (s .entry)) ⌝ }
+    ensures { λ r. ⌜ r .ptr ≡ onFrom (s .entry .ptr) (spanStart span (now (s .entry))) ⌝ }
 {
     let at = span.at;
     let len = span.len;

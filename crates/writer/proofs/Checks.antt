@@ -1,13 +1,19 @@
 -- The writer's answer, return by return. Assumes nothing.
+use mir.Val.{Fits}
+use mir.Syntax.{w64}
 use Prim.Native.Nat.{ℕ}
 use mathlib.Core.Path.{_≡_, refl, ap}
 use mathlib.Core.Bool.{true, false}
 use mathlib.Core.List.{List}
+use native.Mathlib.Omega.{arith}
+use lib.ListN.{getD}
 use lib.Dec.{leb}
+use Rattle.words.specs.Tests.{Yes, both, every}
+use Rattle.words.proofs.Lists.{words-below}
 use Rattle.versions.specs.Edition.{editionOk}
 use Rattle.sections.specs.Page.{placeOk}
-use Rattle.lists.specs.Description.{Description, descriptionOk, noneLate, used}
-use Rattle.writer.specs.Write.{pageOf, Made, no-page, a-page, writerGate, writeOf}
+use Rattle.lists.specs.Description.{Description, four, descriptionOf, descriptionOk, noneLate, used}
+use Rattle.writer.specs.Write.{pageOf, Made, no-page, a-page, writerGate, writeOf, descriptionFits}
 use Rattle.writer.specs.Wrote.{madeBy, pageAfter}
 use Rattle.writer.specs.declared.Wrote.{Wrote}
 use Rattle.writer.specs.declared.Wrote.the-variants.{Page}
@@ -41,11 +47,19 @@ module _ (base n v : ℕ) (d : Description) where
           unfolding writeOf writerGate
           w-made c = rw (h, g, a, b, c)
 
--- a refusal leaves the page as it was; else it is the page made
-pub wrote-not : (r : Wrote) (n : ℕ) (page : List ℕ) (m : Made) → madeBy page r ≡ no-page n → m ≡ no-page n → (madeBy page r ≡ m) × (page ≡ pageAfter page m)
-unfolding pageAfter
-wrote-not r n page m h e = rw e (h, refl)
+-- lent lists are of 64-bit words
+pub lists-fit : (a b c d : List ℕ) → ((i : ℕ) → Fits w64 (getD a i 0)) → ((i : ℕ) → Fits w64 (getD b i 0)) → ((i : ℕ) → Fits w64 (getD c i 0)) → ((i : ℕ) → Fits w64 (getD d i 0)) →
+    Yes (descriptionFits (descriptionOf a b c d))
+unfolding descriptionFits descriptionOf four every both
+lists-fit a b c d e f g h =
+    rw (words-below a (λ i. omega (arith, e i)), words-below b (λ i. omega (arith, f i)), words-below c (λ i. omega (arith, g i)), words-below d (λ i. omega (arith, h i)))
 
-pub wrote-page : (before after p : List ℕ) (m : Made) → m ≡ a-page p → after ≡ p → (madeBy after Page ≡ m) × (after ≡ pageAfter before m)
+-- a refusal leaves the page as it was; else it is the page made; f is what holds in each case
+pub wrote-not : {F : Type 0} (r : Wrote) (n : ℕ) (page : List ℕ) (m : Made) → madeBy page r ≡ no-page n → m ≡ no-page n → F →
+    (madeBy page r ≡ m) × ((page ≡ pageAfter page m) × F)
+unfolding pageAfter
+wrote-not r n page m h e f = rw e (h, (refl, f))
+
+pub wrote-page : {F : Type 0} (before after p : List ℕ) (m : Made) → m ≡ a-page p → after ≡ p → F → (madeBy after Page ≡ m) × ((after ≡ pageAfter before m) × F)
 unfolding pageAfter madeBy
-wrote-page before after p m e f = rw e (ap a-page f, f)
+wrote-page before after p m e g f = rw e (ap a-page g, (g, f))

@@ -1,6 +1,17 @@
 -- Demand 3, proved. Assumes nothing.
+use Prim.Native.Nat.{ℕ, min}
+use mathlib.Core.Path.{_≡_, sym}
+use mathlib.Core.List.{List}
+use lib.ListN.{length}
+use Rattle.words.specs.Tests.{Yes}
+use Rattle.versions.specs.Edition.{editionOk}
+use Rattle.reader.specs.Answer.{shows, readOf}
 use Rattle.reader.proofs.Newer.{newer-accepts, older-refuses}
 use Rattle.reader.proofs.Named.{unnamed}
+use Rattle.lists.specs.Description.{descriptionOf}
+use Rattle.writer.specs.Write.{descriptionFits, described, platDescribed}
+use Rattle.writer.specs.Wrote.{writeLists, madeBy}
+use Rattle.writer.specs.declared.Wrote.the-variants.{Page}
 use Rattle.writer.specs.Demand.{Demand3}
 use Rattle.writer.proofs.Round.{round}
 
@@ -11,3 +22,11 @@ demand3 = record {
   written = round;
   unread = unnamed;
 }
+
+-- The third statement, of a call of `write` that made a page: its premises are what `write` promises, of the answer and of the lists lent.
+pub written-lent : (base v : ℕ) (dram console ncoh coh before after : List ℕ) →
+    madeBy after Page ≡ writeLists base v dram console ncoh coh before → Yes (descriptionFits (descriptionOf dram console ncoh coh)) →
+    (r : ℕ) → Yes (editionOk r) →
+    readOf r base after ≡ shows v (min r v) (platDescribed base v (descriptionOf dram console ncoh coh)) (described (min r v) (descriptionOf dram console ncoh coh))
+unfolding madeBy
+written-lent base v dram console ncoh coh before after h f = round base (length before) v (descriptionOf dram console ncoh coh) after f (sym h)

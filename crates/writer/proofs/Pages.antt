@@ -1,13 +1,15 @@
--- The page made in the order of its addresses: these bytes, then zero. Assumes nothing.
+-- The page made in the order of its addresses: these bytes, then what was there, and zero at the end. Assumes nothing.
 use Prim.Native.Nat.{ℕ, suc, _+_, _-_, _*_, min, _≤_, _<_}
 use mathlib.Core.Path.{_≡_, sym, ap, _∙_}
 use mathlib.Core.List.{List, [], _∷_, _++_, append-assoc, append-nil}
 use native.Mathlib.Omega.{arith}
+use native.Mathlib.Nat.{zero-add}
 use native.Mathlib.Decide.{decLt}
-use lib.ListN.{length, drop, replicate, length-append, length-replicate, replicate-append-replicate}
-use lib.Seq.{take-append-seam, drop-append-add, drop-at}
-use borrow.Author.Tests.{lt-ltb, le-ltb, le-leb}
+use lib.ListN.{length, take, drop, replicate, length-append, length-drop, drop-of-length-le}
+use lib.Seq.{take-append-seam, take-all}
+use borrow.Author.Tests.{lt-ltb, le-ltb}
 use Rattle.words.specs.Word.{bytesOf, joined, splice, laid}
+use Rattle.words.proofs.Store.{splice-splice, bytes-in, words-in}
 use Rattle.words.proofs.Lists.{bytesOf-length, bytesOf-append, joined-length, joined-mono}
 use Rattle.versions.specs.Edition.{sectionCount, core}
 use Rattle.versions.proofs.Editions.{section-count-most}
@@ -16,38 +18,35 @@ use Rattle.writer.specs.Write.{platWord, descriptor, arrayAddress, descr
 use Rattle.writer.specs.Steps.{sectionOn, arraysOn}
 use Rattle.writer.proofs.Round.{desc-length}
 
--- ---- these bytes, then zero
-pub filled-none : (n : ℕ) → n ≡ 4096 → replicate n 0 ≡ filled []
-unfolding filled
-filled-none n e = rw e
+-- ---- these bytes, then the page as it was
+over-length : (bs p : List ℕ) → length bs ≤ length p → length (splice 0 bs p) ≡ length p
+unfolding splice
+over-length bs p h = simp (length-append, length-drop) (omega arith)
 
-filled-length : (bs : List ℕ) → length bs ≤ 4096 → length (filled bs) ≡ 4096
-unfolding filled
-filled-length bs h = simp (length-append, length-replicate) (omega arith)
+-- words laid at once after those that are there
+words-more : (xs ws p : List ℕ) → length p ≡ 4096 → 8 * (length xs + length ws) ≤ 4096 →
+    laid (8 * length xs) (bytesOf ws) (splice 0 (bytesOf xs) p) ≡ splice 0 (bytesOf (xs ++ ws)) p
+words-more xs ws p e h =
+    let m = bytesOf-length xs in
+    let n = bytesOf-length ws in
+    let l : length (splice 0 (bytesOf xs) p) ≡ length p = over-length (bytesOf xs) p (omega arith) in
+    rw (bytesOf-append, ← m)
+    (bytes-in (length (bytesOf xs)) (bytesOf ws) (splice 0 (bytesOf xs) p) (omega arith)
+    ∙ rw zero-add at (splice-splice 0 (bytesOf xs) p (omega arith) (bytesOf ws)))
 
-drop-more : (n k : ℕ) → drop {A = ℕ} n (replicate (n + k) 0) ≡ replicate k 0
-drop-more n k = rw (← replicate-append-replicate) (simp (drop-at, length-replicate))
+-- ---- zero behind them
+-- a part lent from an offset on, and cleared
+cleared : (at : ℕ) (s : List ℕ) → at ≤ length s → take at s ++ (replicate (length (take (length s - at) (drop at s))) 0 ++ drop (length s - at) (drop at s)) ≡ take at s ++ replicate (length s - at) 0
+cleared at s h =
+    let p : length (drop at s) ≤ length s - at = omega (arith, length-drop at s) in
+    rw (take-all (length s - at) (drop at s) p, drop-of-length-le (drop at s) p, append-nil, length-drop)
 
-drop-zeros : (n m : ℕ) → n ≤ m → drop {A = ℕ} n (replicate m 0) ≡ replicate (m - n) 0
-drop-zeros n m h = ap (λ (j : ℕ). drop {A = ℕ} n (replicate j 0)) (let e : m ≡ n + (m - n) = omega arith in e) ∙ drop-more n (m - n)
-
--- bytes laid at once after those that are there
-filled-splice : (bs cs : List ℕ) → length bs + length cs ≤ 4096 → splice (length bs) cs (filled bs) ≡ filled (bs ++ cs)
-unfolding splice filled
-filled-splice bs cs h =
-    rw (take-append-seam, drop-append-add, drop-zeros (length cs) (4096 - length bs) (omega arith))
-    (ap (λ (n : ℕ). (bs ++ cs) ++ replicate n 0) (let e : 4096 - length bs - length cs ≡ 4096 - length (bs ++ cs) = rw length-append (omega arith) in e))
-
-filled-more : (bs cs : List ℕ) → length bs + length cs ≤ 4096 → laid (length bs) cs (filled bs) ≡ filled (bs ++ cs)
-unfolding laid
-filled-more bs cs h =
-    rw (le-leb (length bs + length cs) (length (filled bs)) (rw (filled-length bs (omega arith)) h)) (filled-splice bs cs h)
-
--- the same for words
-words-more : (xs ws : List ℕ) → 8 * (length xs + length ws) ≤ 4096 → laid (8 * length xs) (bytesOf ws) (filled (bytesOf xs)) ≡ filled (bytesOf (xs ++ ws))
-words-more xs ws h =
-    rw (bytesOf-append, ← bytesOf-length xs)
-    (filled-more (bytesOf xs) (bytesOf ws) (rw (bytesOf-length xs, bytesOf-length ws) (omega arith)))
+pub filled-back : (at : ℕ) (bs p s : List ℕ) → length p ≡ 4096 → length bs ≤ 4096 → at ≡ length bs → s ≡ splice 0 bs p →
+    take at s ++ (replicate (length (take (length s - at) (drop at s))) 0 ++ drop (length s - at) (drop at s)) ≡ filled bs
+unfolding filled splice
+filled-back at bs p s e h f g =
+    let l : length s ≡ 4096 = ap length g ∙ over-length bs p (omega arith) ∙ e in
+    cleared at s (omega arith) ∙ rw (l, g, f, take-append-seam)
 
 -- ---- the core
 pub section-in : (v k p : ℕ) (ws page : List ℕ) → k < sectionCount v → sectionOn v k p ws page ≡ laid (16 + 24 * k) (bytesOf (descriptor k p ws)) page
@@ -66,7 +65,8 @@ headTo base v d k = v ∷ platWord base v d ∷ joined (min k (sectionCount v)) 
 unfoldable offset : ℕ → Description → ℕ → ℕ
 offset v d k = core v + 8 * length (joined k (d .lists))
 
-module _ (base v : ℕ) (d : Description) where
+-- p is the page that is written over
+module _ (base v : ℕ) (d : Description) (p : List ℕ) (whole : length p ≡ 4096) where
   head-length : (k : ℕ) → length (headTo base v d k) ≡ 2 + 3 * min k (sectionCount v)
   unfolding headTo descriptorAt
   head-length k = let e = joined-length (min k (sectionCount v)) 3 (descriptorAt base v (d .lists)) (λ j. desc-length j (arrayAddress base v (d .lists) j) (d .lists j)) in omega arith
@@ -75,9 +75,8 @@ module _ (base v : ℕ) (d : Description) where
   unfolding headTo joined platWord
   head-start = ap (λ (n : ℕ). v ∷ 0 ∷ joined n (descriptorAt base v (d .lists))) (let e : 0 ≡ min 0 (sectionCount v) = omega arith in e)
 
-  head-none : (page : List ℕ) → page ≡ filled [] → laid 0 (bytesOf (v ∷ 0 ∷ [])) page ≡ filled (bytesOf (headTo base v d 0))
-  unfolding bytesOf
-  head-none page e = rw e (words-more [] (v ∷ 0 ∷ []) (omega arith)) ∙ ap (λ (ws : List ℕ). filled (bytesOf ws)) head-start
+  head-none : laid 0 (bytesOf (v ∷ 0 ∷ [])) p ≡ splice 0 (bytesOf (headTo base v d 0)) p
+  head-none = words-in 0 (v ∷ 0 ∷ []) p (omega arith) ∙ ap (λ (ws : List ℕ). splice 0 (bytesOf ws) p) head-start
 
   head-in : (k : ℕ) → k < sectionCount v → headTo base v d (suc k) ≡ headTo base v d k ++ descriptor k (arrayAddress base v (d .lists) k) (d .lists k)
   unfolding headTo joined descriptorAt
@@ -87,18 +86,18 @@ module _ (base v : ℕ) (d : Description) where
   unfolding headTo
   head-out k h = ap (λ (n : ℕ). v ∷ platWord base v d ∷ joined n (descriptorAt base v (d .lists))) (let e : min (suc k) (sectionCount v) ≡ min k (sectionCount v) = omega arith in e)
 
-  head-more : (k p : ℕ) (page : List ℕ) → k < 4 → p ≡ arrayAddress base v (d .lists) k → page ≡ filled (bytesOf (headTo base v d k)) →
-      sectionOn v k p (d .lists k) page ≡ filled (bytesOf (headTo base v d (suc k)))
-  head-more k p page h e f = go (decLt k (sectionCount v))
+  head-more : (k q : ℕ) (page : List ℕ) → k < 4 → q ≡ arrayAddress base v (d .lists) k → page ≡ splice 0 (bytesOf (headTo base v d k)) p →
+      sectionOn v k q (d .lists k) page ≡ splice 0 (bytesOf (headTo base v d (suc k))) p
+  head-more k q page h e f = go (decLt k (sectionCount v))
     where
-      go : Dec (k < sectionCount v) → sectionOn v k p (d .lists k) page ≡ filled (bytesOf (headTo base v d (suc k)))
+      go : Dec (k < sectionCount v) → sectionOn v k q (d .lists k) page ≡ splice 0 (bytesOf (headTo base v d (suc k))) p
       go (yes m) =
           let n : length (headTo base v d k) ≡ 2 + 3 * min k (sectionCount v) = head-length k in
           let i : 16 + 24 * k ≡ 8 * length (headTo base v d k) = omega arith in
-          section-in v k p (d .lists k) page m
-          ∙ rw (f, e, i) (words-more (headTo base v d k) (descriptor k (arrayAddress base v (d .lists) k) (d .lists k)) (omega (arith, section-count-most v, desc-length k (arrayAddress base v (d .lists) k) (d .lists k))))
-          ∙ ap (λ (ws : List ℕ). filled (bytesOf ws)) (sym (head-in k m))
-      go (no m) = section-out v k p (d .lists k) page (omega arith) ∙ f ∙ ap (λ (ws : List ℕ). filled (bytesOf ws)) (sym (head-out k (omega arith)))
+          section-in v k q (d .lists k) page m
+          ∙ rw (f, e, i) (words-more (headTo base v d k) (descriptor k (arrayAddress base v (d .lists) k) (d .lists k)) p whole (omega (arith, section-count-most v, desc-length k (arrayAddress base v (d .lists) k) (d .lists k))))
+          ∙ ap (λ (ws : List ℕ). splice 0 (bytesOf ws) p) (sym (head-in k m))
+      go (no m) = section-out v k q (d .lists k) page (omega arith) ∙ f ∙ ap (λ (ws : List ℕ). splice 0 (bytesOf ws) p) (sym (head-out k (omega arith)))
 
   head-all : headTo base v d 4 ≡ coreWords base v d
   unfolding headTo coreWords
@@ -113,19 +112,19 @@ module _ (base v : ℕ) (d : Description) where
   place-more k = rw length-append (omega arith)
 
   -- by the steps of the code
-  pub core-law : (p0 p1 p2 p3 p4 p5 : List ℕ) (a b c e : ℕ) → p0 ≡ filled [] → p1 ≡ laid 0 (bytesOf (v ∷ 0 ∷ [])) p0 → a ≡ base + core v →
+  pub core-law : (p1 p2 p3 p4 p5 : List ℕ) (a b c e : ℕ) → p1 ≡ laid 0 (bytesOf (v ∷ 0 ∷ [])) p → a ≡ base + core v →
       p2 ≡ sectionOn v 0 a (d .lists 0) p1 → b ≡ a + 8 * length (d .lists 0) → p3 ≡ sectionOn v 1 b (d .lists 1) p2 → c ≡ b + 8 * length (d .lists 1) →
-      p4 ≡ sectionOn v 2 c (d .lists 2) p3 → e ≡ c + 8 * length (d .lists 2) → p5 ≡ sectionOn v 3 e (d .lists 3) p4 → p5 ≡ filled (bytesOf (coreWords base v d))
-  core-law p0 p1 p2 p3 p4 p5 a b c e e0 e1 f0 e2 f1 e3 f2 e4 f3 e5 =
+      p4 ≡ sectionOn v 2 c (d .lists 2) p3 → e ≡ c + 8 * length (d .lists 2) → p5 ≡ sectionOn v 3 e (d .lists 3) p4 → p5 ≡ splice 0 (bytesOf (coreWords base v d)) p
+  core-law p1 p2 p3 p4 p5 a b c e e1 f0 e2 f1 e3 f2 e4 f3 e5 =
       let g0 : a ≡ arrayAddress base v (d .lists) 0 = omega (arith, place-none) in
       let g1 : b ≡ arrayAddress base v (d .lists) 1 = omega (arith, place-more 0) in
       let g2 : c ≡ arrayAddress base v (d .lists) 2 = omega (arith, place-more 1) in
       let g3 : e ≡ arrayAddress base v (d .lists) 3 = omega (arith, place-more 2) in
-      let h1 : p1 ≡ filled (bytesOf (headTo base v d 0)) = e1 ∙ head-none p0 e0 in
-      let h2 : p2 ≡ filled (bytesOf (headTo base v d 1)) = e2 ∙ head-more 0 a p1 (omega arith) g0 h1 in
-      let h3 : p3 ≡ filled (bytesOf (headTo base v d 2)) = e3 ∙ head-more 1 b p2 (omega arith) g1 h2 in
-      let h4 : p4 ≡ filled (bytesOf (headTo base v d 3)) = e4 ∙ head-more 2 c p3 (omega arith) g2 h3 in
-      e5 ∙ head-more 3 e p4 (omega arith) g3 h4 ∙ ap (λ (ws : List ℕ). filled (bytesOf ws)) head-all
+      let h1 : p1 ≡ splice 0 (bytesOf (headTo base v d 0)) p = e1 ∙ head-none in
+      let h2 : p2 ≡ splice 0 (bytesOf (headTo base v d 1)) p = e2 ∙ head-more 0 a p1 (omega arith) g0 h1 in
+      let h3 : p3 ≡ splice 0 (bytesOf (headTo base v d 2)) p = e3 ∙ head-more 1 b p2 (omega arith) g1 h2 in
+      let h4 : p4 ≡ splice 0 (bytesOf (headTo base v d 3)) p = e4 ∙ head-more 2 c p3 (omega arith) g2 h3 in
+      e5 ∙ head-more 3 e p4 (omega arith) g3 h4 ∙ ap (λ (ws : List ℕ). splice 0 (bytesOf ws) p) head-all
 
   -- ---- the arrays behind it
   core-bytes : 8 * length (coreWords base v d) ≡ core v
@@ -140,17 +139,17 @@ module _ (base v : ℕ) (d : Description) where
   unfolding offset joined
   offset-more k = rw length-append (omega arith)
 
-  body-more : (k at : ℕ) (page : List ℕ) → k < 4 → used v d ≤ 4096 → at ≡ offset v d k → page ≡ filled (bytesOf (coreWords base v d ++ joined k (d .lists))) →
-      laid at (bytesOf (d .lists k)) page ≡ filled (bytesOf (coreWords base v d ++ joined (suc k) (d .lists)))
+  body-more : (k at : ℕ) (page : List ℕ) → k < 4 → used v d ≤ 4096 → at ≡ offset v d k → page ≡ splice 0 (bytesOf (coreWords base v d ++ joined k (d .lists))) p →
+      laid at (bytesOf (d .lists k)) page ≡ splice 0 (bytesOf (coreWords base v d ++ joined (suc k) (d .lists))) p
   unfolding offset joined used
   body-more k at page h fit e f =
       let c = core-bytes in
       let n : length (coreWords base v d ++ joined k (d .lists)) ≡ length (coreWords base v d) + length (joined k (d .lists)) = length-append (coreWords base v d) (joined k (d .lists)) in
       let i : at ≡ 8 * length (coreWords base v d ++ joined k (d .lists)) = omega arith in
-      rw (f, i) (words-more (coreWords base v d ++ joined k (d .lists)) (d .lists k) (omega (arith, joined-mono 4 (d .lists) k h)))
-      ∙ ap (λ (ws : List ℕ). filled (bytesOf ws)) (append-assoc (coreWords base v d) (joined k (d .lists)) (d .lists k))
+      rw (f, i) (words-more (coreWords base v d ++ joined k (d .lists)) (d .lists k) p whole (omega (arith, joined-mono 4 (d .lists) k h)))
+      ∙ ap (λ (ws : List ℕ). splice 0 (bytesOf ws) p) (append-assoc (coreWords base v d) (joined k (d .lists)) (d .lists k))
 
-  body-none : filled (bytesOf (coreWords base v d)) ≡ filled (bytesOf (coreWords base v d ++ joined 0 (d .lists)))
+  body-none : splice 0 (bytesOf (coreWords base v d)) p ≡ splice 0 (bytesOf (coreWords base v d ++ joined 0 (d .lists))) p
   unfolding joined
   body-none = rw append-nil
 
@@ -158,7 +157,8 @@ module _ (base v : ℕ) (d : Description) where
   unfolding pageOf platBytes
   body-all = rw append-nil
 
-  pub arrays-law : (at : ℕ) (page : List ℕ) → used v d ≤ 4096 → at ≡ core v → page ≡ filled (bytesOf (coreWords base v d)) → arraysOn at (d .lists) page ≡ pageOf base v d
+  pub arrays-law : (at : ℕ) (page : List ℕ) → used v d ≤ 4096 → at ≡ core v → page ≡ splice 0 (bytesOf (coreWords base v d)) p →
+      arraysOn at (d .lists) page ≡ splice 0 (bytesOf (coreWords base v d ++ joined 4 (d .lists))) p
   unfolding arraysOn
   arrays-law at page fit e f =
       let g0 : at ≡ offset v d 0 = omega (arith, offset-none) in
@@ -166,7 +166,27 @@ module _ (base v : ℕ) (d : Description) where
       let h1 = body-more 1 (at + 8 * length (d .lists 0)) _ (omega arith) fit (omega (arith, offset-more 0)) h0 in
       let h2 = body-more 2 (at + 8 * length (d .lists 0) + 8 * length (d .lists 1)) _ (omega arith) fit (omega (arith, offset-more 0, offset-more 1)) h1 in
       let h3 = body-more 3 (at + 8 * length (d .lists 0) + 8 * length (d .lists 1) + 8 * length (d .lists 2)) _ (omega arith) fit (omega (arith, offset-more 0, offset-more 1, offset-more 2)) h2 in
-      h3 ∙ body-all
+      h3
+
+  -- where they end
+  body-bytes : length (bytesOf (coreWords base v d ++ joined 4 (d .lists))) ≡ offset v d 4
+  unfolding offset
+  body-bytes = rw (bytesOf-length, length-append) (omega (arith, core-bytes))
+
+  module _ (at end : ℕ) (fit : used v d ≤ 4096) (e : at ≡ core v) (f : end ≡ at + 8 * length (d .lists 0) + 8 * length (d .lists 1) + 8 * length (d .lists 2) + 8 * length (d .lists 3)) where
+    end-at : end ≡ offset v d 4
+    end-at = omega (arith, offset-none, offset-more 0, offset-more 1, offset-more 2, offset-more 3)
+
+    pub end-in : end ≤ 4096
+    unfolding used offset
+    end-in = let o = end-at in omega arith
+
+    pub page-law : (s : List ℕ) → s ≡ splice 0 (bytesOf (coreWords base v d ++ joined 4 (d .lists))) p →
+        take end s ++ (replicate (length (take (length s - end) (drop end s))) 0 ++ drop (length s - end) (drop end s)) ≡ pageOf base v d
+    page-law s g =
+        let o = end-at in
+        let n = end-in in
+        filled-back end (bytesOf (coreWords base v d ++ joined 4 (d .lists))) p s whole (omega (arith, body-bytes)) (omega (arith, body-bytes)) g ∙ body-all
 
 -- what there is room for
 pub words-room : (v : ℕ) (a b c d : List ℕ) → used v (descriptionOf a b c d) ≤ 4096 → length a + length b + length c + length d ≤ 512

@@ -1,24 +1,12 @@
--- The checksum of a list: its words added with wrapping, the total negated with wrapping. Assumes nothing.
+-- The checksum of a list, its total negated with wrapping. Assumes nothing.
 use Prim.Native.Nat.{ℕ, _+_, _-_, _/_, _%_, _^_, _<_}
 use mathlib.Core.Path.{_≡_, refl, _∙_}
 use mathlib.Core.List.{List, [], _∷_}
-use native.Mathlib.Numerals.{add-one}
 use native.Mathlib.Omega.{arith}
-use lib.ListN.{length, take, getD}
-use lib.Seq.{take-suc, take-length}
+use lib.ListN.{length}
 use Rattle.entries.specs.Entry.{wordsPerEntry, sum}
-use Rattle.entries.proofs.Entries.{sum-snoc, mod-left, mod-right}
+use Rattle.entries.proofs.Entries.{mod-left, mod-right}
 use Rattle.writer.specs.Write.{neg, descriptor}
-
-pub sum-none : (ws : List ℕ) → 0 ≡ sum (take 0 ws) % 2 ^ 64
-unfolding sum
-sum-none ws = refl
-
-pub sum-more : (ws : List ℕ) (i s r : ℕ) → i < length ws → s ≡ sum (take i ws) % 2 ^ 64 → r ≡ (s + getD ws i 0) % 2 ^ 64 → r ≡ sum (take (i + 1) ws) % 2 ^ 64
-sum-more ws i s r h e f = rw (add-one, take-suc ws i 0 h, sum-snoc) (omega arith)
-
-pub sum-all : (ws : List ℕ) (i : ℕ) → i ≡ length ws → sum (take i ws) ≡ sum ws
-sum-all ws i e = rw (e, take-length)
 
 neg-of : (x t r : ℕ) → t ≡ x % 2 ^ 64 → (r + t) % 2 ^ 64 ≡ 0 → r < 2 ^ 64 → r ≡ (2 ^ 64 - x % 2 ^ 64) % 2 ^ 64
 neg-of x t r m e f = omega arith

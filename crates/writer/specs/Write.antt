@@ -66,7 +66,7 @@ unfoldable pub writeOf : ℕ → ℕ → ℕ → Description → Made
 writeOf base n v d = writerGate (placeOk base n) (editionOk v) (descriptionOk v d) (noneLate v d) (leb (used v d) 4096) (pageOf base v d)
 
 -- ---- what a reader shows of a page that was written from a description
--- each word of the lists is below 2^64: what a lent list of 64-bit words always obeys
+-- each word of the lists is below 2^64: what a lent list of 64-bit words always obeys, and `write` promises
 unfoldable pub descriptionFits : Description → Bool
 descriptionFits d = every 4 (λ k. areWords (d .lists k))
 

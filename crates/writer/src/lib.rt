@@ -1,13 +1,15 @@
 // The manifest writer: it judges the description, then makes the page.
+use lists::Sums;
+use lists::Totals;
 use versions::Edition;
 ghost use mathlib.Core.Path.{_≡_};
-ghost use mathlib.Core.List.{[]};
 ghost use Prim.Native.Nat.{_+_, _*_, _%_, _^_, _≤_, _<_};
 ghost use lib.ListN.{length};
-ghost use Rattle.words.specs.Word.{bytesOf, laid};
+ghost use Rattle.words.specs.Tests.{Yes};
+ghost use Rattle.words.specs.Word.{bytesOf, splice, laid};
 ghost use Rattle.entries.specs.Entry.{sum};
-ghost use Rattle.lists.specs.Description.{four, descriptionOf, used};
-ghost use Rattle.writer.specs.Write.{descriptor, coreWords, filled, pageOf};
+ghost use Rattle.lists.specs.Description.{four, descriptionOf, totalsOf, used};
+ghost use Rattle.writer.specs.Write.{descriptor, coreWords, pageOf, descriptionFits};
 ghost use Rattle.writer.specs.Wrote.{writeLists, madeBy, pageAfter};
 ghost use Rattle.writer.specs.Steps.{sectionOn, arraysOn};
 
@@ -21,19 +23,9 @@ pub enum Wrote {
     Room,
 }
 
-// The sum of a list's words, modulo 2^64.
-fn sum_of(words: &[u64]) -> u64
-    ensures { λ r. ⌜ r ≡ sum (now (words .entry)) % 2 ^ 64 ⌝ }
-{
-    let mut total: u64 = 0;
-    for i in 0..words.len() {
-        total = std::num::wrapping_add_u64(total, words[i]);
-    }
-    total
-}
-
-// Count, pointer and checksum of section k with a list at an address; zeros for an empty list.
-fn section_words(k: usize, pointer: u64, words: &[u64]) -> [u64; 3]
+// Count, pointer and checksum of section k with a list at an address, given the sum of its words; zeros for an empty list.
+fn section_words(k: usize, pointer: u64, words: &[u64], total: u64) -> [u64; 3]
+    requires { ⌜ total ≡ sum (now words) % 2 ^ 64 ⌝ }
     ensures { λ r. ⌜ r ≡ descriptor k pointer (now (words .entry)) ⌝ }
 {
     if words.len() == 0 {
@@ -41,20 +33,20 @@ fn section_words(k: usize, pointer: u64, words: &[u64]) -> [u64; 3]
     }
     let count = (words.len() / entries::entry_words(k)) as u64;
     let head = std::num::wrapping_add_u64(count, pointer);
-    let total = std::num::wrapping_add_u64(head, sum_of(words));
-    [count, pointer, std::num::wrapping_sub_u64(0, total)]
+    let all = std::num::wrapping_add_u64(head, total);
+    [count, pointer, std::num::wrapping_sub_u64(0, all)]
 }
 
 // Puts the words of section k where the edition has it, and answers the address behind its array.
-fn put_section(page: &mut [u8], e: Edition, k: u8, pointer: u64, words: &[u64]) -> u64
-    requires { ⌜ pointer + 8 * length (now words) < 0x1_0000_0000_0000_0000 ⌝ }
+fn put_section(page: &mut [u8], e: Edition, k: u8, pointer: u64, words: &[u64], total: u64) -> u64
+    requires { ⌜ (pointer + 8 * length (now words) < 0x1_0000_0000_0000_0000) × (total ≡ sum (now words) % 2 ^ 64) ⌝ }
     ensures { λ r. ⌜ (r ≡ pointer + 8 * length (now (words .entry))) × (now (page .exit) ≡ sectionOn (e .minor) k pointer (now (words .entry)) (now (page .entry))) ⌝ }
 {
     let next = pointer + 8 * (words.len() as u64);
     if e.sections() <= k {
         return next;
     }
-    let three = section_words(k as usize, pointer, words);
+    let three = section_words(k as usize, pointer, words, total);
     words::put_words(page, 16 + 24 * (k as usize), &three);
     next
 }
@@ -68,44 +60,11 @@ fn put_array(page: &mut [u8], at: usize, words: &[u64]) -> usize
     at + 8 * words.len()
 }
 
-// Puts the core over a page of zeros: version, padding, plat_data 0, the sections' words.
+// Puts the core over the page's start: version, padding, plat_data 0, the sections' words.
 fn put_core(
     base: u64,
     e: Edition,
-    dram: &[u64],
-    console: &[u64],
-    ncoh: &[u64],
-    coh: &[u64],
-    page: &mut [u8],
-)
-    requires { ⌜ (base ≤ 0x10_0000_0000_0000) × (now page ≡ filled [])
-        × (length (now dram) + length (now console) + length (now ncoh) + length (now coh) ≤ 512) ⌝ }
-    ensures { λ _. ⌜ now (page .exit) ≡ filled (bytesOf (coreWords base (e .minor) (descriptionOf (now (dram .entry)) (now (console .entry)) (now (ncoh .entry)) (now (coh .entry))))) ⌝ }
-{
-    let head = [e.minor, 0];
-    words::put_words(page, 0, &head);
-    let first = base + e.core_size();
-    let second = put_section(page, e, 0, first, dram);
-    let third = put_section(page, e, 1, second, console);
-    let fourth = put_section(page, e, 2, third, ncoh);
-    put_section(page, e, 3, fourth, coh);
-}
-
-// Puts the arrays behind the core, in section order.
-fn put_arrays(at: usize, dram: &[u64], console: &[u64], ncoh: &[u64], coh: &[u64], page: &mut [u8])
-    requires { ⌜ (at ≤ 112) × (length (now dram) + length (now console) + length (now ncoh) + length (now coh) ≤ 512) ⌝ }
-    ensures { λ _. ⌜ now (page .exit) ≡ arraysOn at (four (now (dram .entry)) (now (console .entry)) (now (ncoh .entry)) (now (coh .entry))) (now (page .entry)) ⌝ }
-{
-    let second = put_array(page, at, dram);
-    let third = put_array(page, second, console);
-    let fourth = put_array(page, third, ncoh);
-    put_array(page, fourth, coh);
-}
-
-// Makes the whole page: cleared, then core and arrays in the order of their addresses.
-fn put_page(
-    base: u64,
-    e: Edition,
+    totals: Totals,
     dram: &[u64],
     console: &[u64],
     ncoh: &[u64],
@@ -113,17 +72,63 @@ fn put_page(
     page: &mut [u8],
 )
     requires { ⌜ (base ≤ 0x10_0000_0000_0000) × (length (now page) ≡ 4096)
-        × (used (e .minor) (descriptionOf (now dram) (now console) (now ncoh) (now coh)) ≤ 4096) ⌝ }
+        × (length (now dram) + length (now console) + length (now ncoh) + length (now coh) ≤ 512)
+        × (totals ≡ totalsOf (now dram) (now console) (now ncoh) (now coh)) ⌝ }
+    ensures { λ _. ⌜ now (page .exit) ≡ splice 0 (bytesOf (coreWords base (e .minor) (descriptionOf (now (dram .entry)) (now (console .entry)) (now (ncoh .entry)) (now (coh .entry))))) (now (page .entry)) ⌝ }
+{
+    let head = [e.minor, 0];
+    words::put_words(page, 0, &head);
+    let first = base + e.core_size();
+    let second = put_section(page, e, 0, first, dram, totals.dram);
+    let third = put_section(page, e, 1, second, console, totals.console);
+    let fourth = put_section(page, e, 2, third, ncoh, totals.ncoh);
+    put_section(page, e, 3, fourth, coh, totals.coh);
+}
+
+// Puts the arrays behind the core, in section order, and answers the offset behind them.
+fn put_arrays(
+    at: usize,
+    dram: &[u64],
+    console: &[u64],
+    ncoh: &[u64],
+    coh: &[u64],
+    page: &mut [u8],
+) -> usize
+    requires { ⌜ (at ≤ 112) × (length (now dram) + length (now console) + length (now ncoh) + length (now coh) ≤ 512) ⌝ }
+    ensures { λ r. ⌜ (r ≡ at + 8 * length (now (dram .entry)) + 8 * length (now (console .entry)) + 8 * length (now (ncoh .entry)) + 8 * length (now (coh .entry)))
+        × (now (page .exit) ≡ arraysOn at (four (now (dram .entry)) (now (console .entry)) (now (ncoh .entry)) (now (coh .entry))) (now (page .entry))) ⌝ }
+{
+    let second = put_array(page, at, dram);
+    let third = put_array(page, second, console);
+    let fourth = put_array(page, third, ncoh);
+    put_array(page, fourth, coh)
+}
+
+// Makes the whole page in the order of addresses: core, arrays, zero behind them.
+fn put_page(
+    base: u64,
+    e: Edition,
+    totals: Totals,
+    dram: &[u64],
+    console: &[u64],
+    ncoh: &[u64],
+    coh: &[u64],
+    page: &mut [u8],
+)
+    requires { ⌜ (base ≤ 0x10_0000_0000_0000) × (length (now page) ≡ 4096)
+        × (used (e .minor) (descriptionOf (now dram) (now console) (now ncoh) (now coh)) ≤ 4096)
+        × (totals ≡ totalsOf (now dram) (now console) (now ncoh) (now coh)) ⌝ }
     ensures { λ _. ⌜ now (page .exit) ≡ pageOf base (e .minor) (descriptionOf (now (dram .entry)) (now (console .entry)) (now (ncoh .entry)) (now (coh .entry))) ⌝ }
 {
-    words::clear(page);
-    put_core(base, e, dram, console, ncoh, coh, page);
+    put_core(base, e, totals, dram, console, ncoh, coh, page);
     let at = e.core_size() as usize;
-    put_arrays(at, dram, console, ncoh, coh, page);
+    let end = put_arrays(at, dram, console, ncoh, coh, page);
+    words::clear(&mut page[end..]);
 }
 
 // Writes a manifest of an edition for a base into the lent page: exactly core and arrays, and zero everywhere else. Refused by
-// the first check in 01's order, it leaves the page as it was.
+// the first check in 01's order, it leaves the page as it was. That the lists are of 64-bit words is promised for what is said of the
+// pages made (`written` in demand 3).
 pub fn write(
     base: u64,
     edition: u64,
@@ -137,6 +142,7 @@ pub fn write(
         ≡ writeLists base edition (now (dram .entry)) (now (console .entry)) (now (ncoh .entry)) (now (coh .entry)) (now (page .entry)) ⌝ }
     ensures { λ r. ⌜ now (page .exit) ≡ pageAfter (now (page .entry))
         (writeLists base edition (now (dram .entry)) (now (console .entry)) (now (ncoh .entry)) (now (coh .entry)) (now (page .entry))) ⌝ }
+    ensures { λ _. ⌜ Yes (descriptionFits (descriptionOf (now (dram .entry)) (now (console .entry)) (now (ncoh .entry)) (now (coh .entry)))) ⌝ }
 {
     if !sections::place_ok(base, page.len()) {
         return Wrote::Place;
@@ -144,9 +150,9 @@ pub fn write(
     if !versions::is_edition(edition) {
         return Wrote::Edition;
     }
-    if !lists::lists_ok(edition, dram, console, ncoh, coh) {
+    let Sums::Sound(totals) = lists::sum_lists(edition, dram, console, ncoh, coh) else {
         return Wrote::Lists;
-    }
+    };
     let e = Edition { minor: edition };
     if !lists::none_late(e, dram, console, ncoh, coh) {
         return Wrote::Late;
@@ -154,6 +160,6 @@ pub fn write(
     if !lists::room_ok(e, dram, console, ncoh, coh) {
         return Wrote::Room;
     }
-    put_page(base, e, dram, console, ncoh, coh, page);
+    put_page(base, e, totals, dram, console, ncoh, coh, page);
     Wrote::Page
 }

@@ -18,7 +18,7 @@ div-result c = search needs
 returns : tie.Need-returns
 returns c =
     let a = c .before .before .before .args in
-    rw (c .entry-words .ensures .0, c .before .array-of .ensures) (count-view (a .page .now) (a .view) (a .k))
+    rw (c .entry-words .ensures .0, c .before .array-of .ensures .0) (count-view (a .page .now) (a .view) (a .k))
 
 pub count-of-spec : {M : Type 1} → statement M
 count-of-spec =

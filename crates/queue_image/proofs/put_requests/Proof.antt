@@ -2,7 +2,7 @@ use Prim.Native.Nat.{_-_, _≤_, _<_}
 use mathlib.Core.Path.{_≡_, refl, _∙_}
 use native.Mathlib.Omega.{arith}
 use lib.ListN.{length, take, length-take}
-use Rattle.queue.specs.Queue.{waiting, noRequest}
+use Rattle.queue.specs.Queue.{waiting}
 use Rattle.queue_image.specs.Image.{requestWords}
 use Rattle.queue_image.proofs.Rows.{laidTo, laid-none, laid-more, laid-taken}
 use Rattle.queue_image.proofs.Sides.{request-wide}
@@ -49,7 +49,7 @@ loop-again c =
     let a = c .before .before .before .before .before .before .before .before .before .before .args in
     let l = c .before .before .before .before .before .before .loop in
     let k : l .i < length (a .side .items) = omega (arith, c .before .before .before .before .before .before .before .before .request-count .ensures .0, length-take (a .side .count) (a .side .items)) in
-    (search needs, search needs, c .before .before .put-request .ensures ∙ rw (l .inv .2) (laid-more requestWords 2 (a .side .items) (a .image .now) 10 request-wide (l .i) noRequest (omega arith) k))
+    (search needs, search needs, c .before .before .put-request .ensures ∙ rw (l .inv .2) (laid-more requestWords 2 (a .side .items) (a .image .now) 10 request-wide (l .i) _ (omega arith) k))
 
 same-length : tie.Need-same-length Inv-loop μ-loop
 same-length c = search needs

@@ -3,7 +3,7 @@ use mathlib.Core.Path.{_≡_, refl, ap, _∙_}
 use native.Mathlib.Omega.{arith}
 use lib.ListN.{length, take, length-take}
 use Rattle.words.specs.Word.{splice}
-use Rattle.queue.specs.Queue.{held, noResponse}
+use Rattle.queue.specs.Queue.{held}
 use Rattle.queue_image.proofs.Rows.{laidTo, laid-none, laid-more, laid-taken}
 use Rattle.queue_image.proofs.Sides.{heldWords, held-flat, held-wide}
 use borrow.Author.Needs.{needs}
@@ -49,7 +49,7 @@ loop-again c =
     let a = c .before .before .before .before .before .before .before .before .before .before .args in
     let l = c .before .before .before .before .before .before .loop in
     let k : l .i < length (a .side .items) = omega (arith, c .before .before .before .before .before .before .before .before .response-count .ensures .0, length-take (a .side .count) (a .side .items)) in
-    (search needs, search needs, c .before .before .put-response .ensures ∙ rw (l .inv .2) (laid-more heldWords 82 (a .side .items) (a .image .now) 16 held-wide (l .i) noResponse (omega arith) k))
+    (search needs, search needs, c .before .before .put-response .ensures ∙ rw (l .inv .2) (laid-more heldWords 82 (a .side .items) (a .image .now) 16 held-wide (l .i) _ (omega arith) k))
 
 same-length : tie.Need-same-length Inv-loop μ-loop
 same-length c = search needs

@@ -1,14 +1,8 @@
-use mathlib.Core.Bool.{true, false}
-use mathlib.Core.Path.{_≡_, sym, _∙_}
-use Prim.Native.Nat.{_+_, _-_}
-use lib.Dec.{leb}
-use lib.ListN.{length}
-use borrow.Author.Tests.{le-leb, not-true, not-false}
-use Rattle.words.specs.Tests.{both}
-use Rattle.entries.specs.Entry.{size}
-use Rattle.entries.specs.Array.{wordsAt, soundOf}
-use Rattle.sections.specs.Section.{inRange}
-use Rattle.sections.proofs.Sections.{ok-nothing, ok-range, ok-sound, range-low, range-high}
+use Rattle.sections.proofs.Sections.{ok-nothing, ok-low, ok-placed}
+use Prim.Native.Nat.{_+_, _≤_, _<_}
+use mathlib.Core.Path.{sym}
+use Rattle.versions.specs.Edition.{core}
+use Rattle.sections.specs.Page.{pointerAt}
 use borrow.Author.Needs.{needs}
 use native.Mathlib.Omega.{arith}
 use Rattle.sections.proofs.section_ok.Statement.{statement}
@@ -29,35 +23,29 @@ is-nothing-requires c κs = search needs
 returns : tie.Need-returns
 returns c = let a = c .before .before .before .before .before .before .args in sym (ok-nothing (a .minor) (a .e .minor) (a .base) (a .k) (a .page .now) (cc))
 
-in-range-requires : tie.Need-in-range-requires
-in-range-requires c κs = search needs
+core-size-requires : tie.Need-core-size-requires
+core-size-requires c κs = search needs
+
+add-if2 : tie.Need-add-if2
+add-if2 c = search needs
 
 returns-2 : tie.Need-returns-2
 returns-2 c =
     let a = c .before .before .before .before .before .before .before .before .args in
-    let q : c .before .in-range .result ≡ false = not-true _ (c .if2 .taken) in
-    sym (ok-range (a .minor) (a .e .minor) (a .base) (a .k) (a .page .now) (cc) (cc))
+    let l : pointerAt (a .k) (a .page .now) < a .base + core (a .e .minor) = omega arith in
+    sym (ok-low (a .minor) (a .e .minor) (a .base) (a .k) (a .page .now) (cc) l)
 
 sub-at : tie.Need-sub-at
-sub-at c =
-    let a = c .before .before .before .before .before .before .before .before .args in
-    let g : inRange (a .e .minor) (a .base) (a .k) (c .before .before .before .before .before .before .count-at .result) (c .before .before .before .before .before .pointer-at .result) ≡ true = sym (c .before .in-range .ensures) ∙ not-false _ (c .if2 .left) in
-    omega (arith, range-low (a .e .minor) (a .base) (a .k) (c .before .before .before .before .before .before .count-at .result) (c .before .before .before .before .before .pointer-at .result) g)
+sub-at c = search needs
 
 sound-at-requires : tie.Need-sound-at-requires
 sound-at-requires c κs = search needs
 
 returns-3 : tie.Need-returns-3
-unfolding both
 returns-3 c =
     let a = c .before .before .before .before .before .before .before .before .before .args in
-    let g : inRange (a .e .minor) (a .base) (a .k) (c .before .before .before .before .before .before .before .count-at .result) (c .before .before .before .before .before .before .pointer-at .result) ≡ true = sym (c .before .before .in-range .ensures) ∙ not-false _ (c .before .if2 .left) in
-    let l : leb (c .before .before .before .before .before .before .pointer-at .result - a .base + size (a .k) (c .before .before .before .before .before .before .before .count-at .result)) (length (a .page .now)) ≡ true =
-    le-leb (c .before .before .before .before .before .before .pointer-at .result - a .base + size (a .k) (c .before .before .before .before .before .before .before .count-at .result)) (length (a .page .now))
-    (omega (arith, range-low (a .e .minor) (a .base) (a .k) (c .before .before .before .before .before .before .before .count-at .result) (c .before .before .before .before .before .before .pointer-at .result) g, range-high (a .e .minor) (a .base) (a .k) (c .before .before .before .before .before .before .before .count-at .result) (c .before .before .before .before .before .before .pointer-at .result) g)) in
-    let s : c .sound-at .result ≡ soundOf (a .minor) (a .k) (c .before .before .before .before .before .before .before .count-at .result) (c .before .before .before .before .before .before .pointer-at .result) (c .before .before .before .before .before .check-at .result) (wordsAt (a .k) (c .before .before .before .before .before .before .before .count-at .result) (c .before .before .before .before .before .before .pointer-at .result - a .base) (a .page .now)) =
-    rw l at (c .sound-at .ensures) in
-    cc (ok-sound (a .minor) (a .e .minor) (a .base) (a .k) (a .page .now) (cc) (cc))
+    let l : a .base + core (a .e .minor) ≤ pointerAt (a .k) (a .page .now) = omega arith in
+    cc (ok-placed (a .minor) (a .e .minor) (a .base) (a .k) (a .page .now) (cc) l (search needs))
 
 pub section-ok-spec : {M : Type 1} → statement M
 section-ok-spec =
@@ -68,7 +56,8 @@ section-ok-spec =
     check-at-requires
     is-nothing-requires
     returns
-    in-range-requires
+    core-size-requires
+    add-if2
     returns-2
     sub-at
     sound-at-requires

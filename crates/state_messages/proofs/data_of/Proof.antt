@@ -1,5 +1,7 @@
-use mathlib.Core.Path.{sym}
+use mathlib.Core.Path.{sym, ap}
+use native.Mathlib.Omega.{arith}
 use lib.ListN.{drop-of-length-le}
+use Rattle.words.specs.Word.{onFrom}
 use Rattle.state_messages.proofs.Writes.{lent-all}
 use borrow.Author.Needs.{needs}
 use Rattle.state_messages.proofs.data_of.Statement.{statement}
@@ -15,7 +17,7 @@ part-result-end : tie.Need-part-result-end
 part-result-end c = search needs
 
 returns : tie.Need-returns
-returns c = sym (drop-of-length-le (c .before .before .args .message .now) {i = 16} (search needs))
+returns c = (sym (drop-of-length-le (c .before .before .args .message .now) {i = 16} (search needs)), λ h. absurd (let z : ⊥ = omega arith in z))
 
 sub-result-2 : tie.Need-sub-result-2
 sub-result-2 c = search needs
@@ -27,7 +29,8 @@ part-result-end-2 : tie.Need-part-result-end-2
 part-result-end-2 c = search needs
 
 returns-2 : tie.Need-returns-2
-returns-2 c = lent-all 16 (c .before .before .args .message .now)
+unfolding onFrom
+returns-2 c = let a = c .before .before .args in (lent-all 16 (a .message .now), λ h. ap (λ x. (a .message .ptr .0, x)) (omega arith))
 
 pub data-of-spec : {M : Type 1} → statement M
 data-of-spec =

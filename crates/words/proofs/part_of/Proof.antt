@@ -1,9 +1,10 @@
 use Prim.Native.Nat.{_+_}
+use mathlib.Core.Path.{refl, ap}
 use lib.ListN.{length}
 use native.Mathlib.Nat.{add-sub-cancel-left}
 use native.Mathlib.Omega.{arith}
 use borrow.Author.Tests.{le-leb, lt-leb}
-use Rattle.words.specs.Word.{part, spanned}
+use Rattle.words.specs.Word.{part, spanned, spanStart, onFrom}
 use borrow.Author.Needs.{needs}
 use Rattle.words.proofs.part_of.Statement.{statement}
 use Rattle.words.proofs.part_of.Tie as tie
@@ -18,10 +19,10 @@ part-result-end : tie.Need-part-result-end
 part-result-end c = search needs
 
 returns : tie.Need-returns
-unfolding spanned
+unfolding spanned spanStart onFrom
 returns c =
     let a = c .before .before .args in
-    simp (lt-leb (a .span .at + a .span .len) (length (a .s .now)) (omega arith))
+    simp (lt-leb (a .span .at + a .span .len) (length (a .s .now)) (omega arith)) (refl, ap (λ x. (a .s .ptr .0, x)) (omega arith))
 
 sub-if2 : tie.Need-sub-if2
 sub-if2 c = search needs
@@ -36,10 +37,10 @@ part-result-end-2 : tie.Need-part-result-end-2
 part-result-end-2 c = search needs
 
 returns-2 : tie.Need-returns-2
-unfolding spanned
+unfolding spanned spanStart onFrom
 returns-2 c =
     let a = c .before .before .before .args in
-    simp (lt-leb (a .span .at + a .span .len) (length (a .s .now)) (omega arith))
+    simp (lt-leb (a .span .at + a .span .len) (length (a .s .now)) (omega arith)) (refl, ap (λ x. (a .s .ptr .0, x)) (omega arith))
 
 add-end : tie.Need-add-end
 add-end c = search needs
@@ -54,10 +55,10 @@ part-result-end-3 : tie.Need-part-result-end-3
 part-result-end-3 c = search needs
 
 returns-3 : tie.Need-returns-3
-unfolding spanned part
+unfolding spanned part spanStart onFrom
 returns-3 c =
     let a = c .before .before .before .args in
-    simp (le-leb (a .span .at + a .span .len) (length (a .s .now)) (omega arith), add-sub-cancel-left)
+    simp (le-leb (a .span .at + a .span .len) (length (a .s .now)) (omega arith), add-sub-cancel-left) (refl, ap (λ x. (a .s .ptr .0, x)) (omega arith))
 
 pub part-of-spec : {M : Type 1} → statement M
 part-of-spec =

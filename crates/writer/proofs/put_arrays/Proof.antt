@@ -21,7 +21,7 @@ same-length c = search needs
 
 returns : tie.Need-returns
 unfolding arraysOn four
-returns c = cc
+returns c = (search needs, cc)
 
 pub put-arrays-spec : {M : Type 1} → statement M
 put-arrays-spec =

@@ -1,6 +1,7 @@
 use mathlib.Core.Path.{ap}
 use Prim.Native.Nat.{ℕ, _+_}
-use Rattle.lists.specs.Description.{four, descriptionOf}
+use Rattle.lists.specs.declared.Totals.{Totals}
+use Rattle.lists.specs.Description.{four, descriptionOf, totalsOf}
 use Rattle.writer.proofs.Pages.{core-law}
 use borrow.Author.Needs.{needs}
 use Rattle.writer.proofs.put_core.Statement.{statement}
@@ -19,16 +20,20 @@ add-first : tie.Need-add-first
 add-first c = search needs
 
 put-section-requires : tie.Need-put-section-requires
-put-section-requires c κs = search needs
+unfolding totalsOf
+put-section-requires c κs = (search needs, ap (λ (t : Totals). t .dram) (c .before .before .before .before .before .before .before .before .before .before .before .before .pre .3))
 
 put-section-requires-2 : tie.Need-put-section-requires-2
-put-section-requires-2 c κs = search needs
+unfolding totalsOf
+put-section-requires-2 c κs = (search needs, ap (λ (t : Totals). t .console) (c .before .before .before .before .before .before .before .before .before .before .before .before .before .before .before .before .pre .3))
 
 put-section-requires-3 : tie.Need-put-section-requires-3
-put-section-requires-3 c κs = search needs
+unfolding totalsOf
+put-section-requires-3 c κs = (search needs, ap (λ (t : Totals). t .ncoh) (c .before .before .before .before .before .before .before .before .before .before .before .before .before .before .before .before .before .before .before .before .pre .3))
 
 put-section-requires-4 : tie.Need-put-section-requires-4
-put-section-requires-4 c κs = search needs
+unfolding totalsOf
+put-section-requires-4 c κs = (search needs, ap (λ (t : Totals). t .coh) (c .before .before .before .before .before .before .before .before .before .before .before .before .before .before .before .before .before .before .before .before .before .before .before .before .pre .3))
 
 same-length : tie.Need-same-length
 same-length c = search needs
@@ -37,8 +42,8 @@ returns : tie.Need-returns
 unfolding descriptionOf four
 returns c =
     let a = c .before .before .before .before .before .before .before .before .before .before .before .before .before .before .before .before .before .before .before .before .before .before .before .before .before .before .before .args in
-    core-law (a .base) (a .e .minor) (descriptionOf (a .dram .now) (a .console .now) (a .ncoh .now) (a .coh .now)) _ _ _ _ _ _ _ _ _ _
-    (c .before .before .before .before .before .before .before .before .before .before .before .before .before .before .before .before .before .before .before .before .before .before .before .before .before .before .before .pre .1) (c .before .before .before .before .before .before .before .before .before .before .before .before .before .before .before .before .before .before .before .put-words .ensures) (ap (λ (x : ℕ). a .base + x) (c .before .before .before .before .before .before .before .before .before .before .before .before .before .before .before .before .core-size .ensures .0))
+    core-law (a .base) (a .e .minor) (descriptionOf (a .dram .now) (a .console .now) (a .ncoh .now) (a .coh .now)) (a .page .now) (c .before .before .before .before .before .before .before .before .before .before .before .before .before .before .before .before .before .before .before .before .before .before .before .before .before .before .before .pre .1) _ _ _ _ _ _ _ _ _
+    (c .before .before .before .before .before .before .before .before .before .before .before .before .before .before .before .before .before .before .before .put-words .ensures) (ap (λ (x : ℕ). a .base + x) (c .before .before .before .before .before .before .before .before .before .before .before .before .before .before .before .before .core-size .ensures .0))
     (c .before .before .before .before .before .before .before .before .before .before .before .before .before .before .put-section .ensures .1) (c .before .before .before .before .before .before .before .before .before .before .before .before .before .before .put-section .ensures .0) (c .before .before .before .before .before .before .before .before .before .before .put-section2 .ensures .1) (c .before .before .before .before .before .before .before .before .before .before .put-section2 .ensures .0)
     (c .before .before .before .before .before .before .put-section3 .ensures .1) (c .before .before .before .before .before .before .put-section3 .ensures .0) (c .before .before .put-section4 .ensures .1)
 

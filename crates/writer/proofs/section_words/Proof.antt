@@ -19,9 +19,6 @@ div-count c = search needs
 wrapping-add-u64-requires : tie.Need-wrapping-add-u64-requires
 wrapping-add-u64-requires c κs = search needs
 
-sum-of-requires : tie.Need-sum-of-requires
-sum-of-requires c κs = search needs
-
 wrapping-add-u64-requires-2 : tie.Need-wrapping-add-u64-requires-2
 wrapping-add-u64-requires-2 c κs = search needs
 
@@ -30,10 +27,11 @@ wrapping-sub-u64-requires c κs = search needs
 
 returns-2 : tie.Need-returns-2
 returns-2 c =
-    let a = c .before .before .before .before .before .before .before .args in
-    let e : length (a .words .now) / c .before .before .before .before .entry-words .result ≡ length (a .words .now) / wordsPerEntry (a .k) = rw (c .before .before .before .before .entry-words .ensures .0) in
-    desc-some (a .k) (a .pointer) _ _ (a .words .now) (c .before .before .before .before .before .if1 .left) e
-    (neg-law _ (a .pointer) _ _ _ _ _ (c .before .before .sum-of .ensures) (c .before .before .before .wrapping-add-u64 .ensures) (c .before .wrapping-add-u642 .ensures) (c .wrapping-sub-u64 .ensures) (search needs))
+    let a = c .before .before .before .before .before .before .args in
+    let w = c .before .before .before .entry-words in
+    let e : length (a .words .now) / w .result ≡ length (a .words .now) / wordsPerEntry (a .k) = rw (w .ensures .0) in
+    desc-some (a .k) (a .pointer) _ _ (a .words .now) (c .before .before .before .before .if1 .left) e
+    (neg-law _ (a .pointer) _ _ _ _ _ (c .before .before .before .before .before .before .pre) (c .before .before .wrapping-add-u64 .ensures) (c .before .wrapping-add-u642 .ensures) (c .wrapping-sub-u64 .ensures) (search needs))
 
 pub section-words-spec : {M : Type 1} → statement M
 section-words-spec =
@@ -43,7 +41,6 @@ section-words-spec =
     entry-words-requires
     div-count
     wrapping-add-u64-requires
-    sum-of-requires
     wrapping-add-u64-requires-2
     wrapping-sub-u64-requires
     returns-2)

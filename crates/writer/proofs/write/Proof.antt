@@ -1,11 +1,12 @@
 use mathlib.Core.Path.{refl, sym, _∙_}
 use lib.ListN.{length}
+use Rattle.lists.proofs.Lists.{unsound-lists, sound-lists, sound-totals}
 use borrow.Author.Tests.{leb-true, not-true, not-false}
 use Rattle.sections.proofs.Sections.{placed}
 use Rattle.lists.specs.Description.{descriptionOf}
 use Rattle.writer.specs.Wrote.{madeBy}
 use Rattle.writer.specs.declared.Wrote.the-variants.{Place, Edition, Lists, Late, Room}
-use Rattle.writer.proofs.Checks.{w-place, w-edition, w-lists, w-late, w-room, w-made, wrote-not, wrote-page}
+use Rattle.writer.proofs.Checks.{w-place, w-edition, w-lists, w-late, w-room, w-made, lists-fit, wrote-not, wrote-page}
 use borrow.Author.Needs.{needs}
 use native.Mathlib.Omega.{arith}
 use Rattle.writer.proofs.write.Statement.{statement}
@@ -18,9 +19,11 @@ returns : tie.Need-returns
 unfolding madeBy
 returns c =
     let a = c .before .before .before .before .before .before .before .args in
+    let k = c .before .before .before in
     wrote-not Place 1 (a .page .now) _ refl
     (w-place (a .base) (length (a .page .now)) (a .edition) (descriptionOf (a .dram .now) (a .console .now) (a .ncoh .now) (a .coh .now))
     (sym (c .before .place-ok .ensures) ∙ not-true _ (c .if1 .taken)))
+    (lists-fit (a .dram .now) (a .console .now) (a .ncoh .now) (a .coh .now) (k .before .before .before .shared-slice-known .given) (k .before .before .shared-slice-known2 .given) (k .before .shared-slice-known3 .given) (k .shared-slice-known4 .given))
 
 is-edition-requires : tie.Need-is-edition-requires
 is-edition-requires c κs = search needs
@@ -29,23 +32,33 @@ returns-2 : tie.Need-returns-2
 unfolding madeBy
 returns-2 c =
     let a = c .before .before .before .before .before .before .before .before .before .args in
+    let k = c .before .before .before .before .before in
     wrote-not Edition 2 (a .page .now) _ refl
     (w-edition (a .base) (length (a .page .now)) (a .edition) (descriptionOf (a .dram .now) (a .console .now) (a .ncoh .now) (a .coh .now))
     (sym (c .before .before .before .place-ok .ensures) ∙ not-false _ (c .before .before .if1 .left))
     (sym (c .before .is-edition .ensures) ∙ not-true _ (c .if2 .taken)))
+    (lists-fit (a .dram .now) (a .console .now) (a .ncoh .now) (a .coh .now) (k .before .before .before .shared-slice-known .given) (k .before .before .shared-slice-known2 .given) (k .before .shared-slice-known3 .given) (k .shared-slice-known4 .given))
 
-lists-ok-requires : tie.Need-lists-ok-requires
-lists-ok-requires c κs = search needs
+sum-lists-requires : tie.Need-sum-lists-requires
+sum-lists-requires c κs = search needs
+
+enum-known-totals : tie.Need-enum-known-totals
+enum-known-totals c = search needs
+
+enum-told : tie.Need-enum-told
+enum-told c = search needs
 
 returns-3 : tie.Need-returns-3
 unfolding madeBy
 returns-3 c =
-    let a = c .before .before .before .before .before .before .before .before .before .before .before .args in
+    let a = c .before .before .before .before .before .before .before .before .before .before .before .before .args in
+    let k = c .before .before .before .before .before .before .before .before in
     wrote-not Lists 3 (a .page .now) _ refl
     (w-lists (a .base) (length (a .page .now)) (a .edition) (descriptionOf (a .dram .now) (a .console .now) (a .ncoh .now) (a .coh .now))
-    (sym (c .before .before .before .before .before .place-ok .ensures) ∙ not-false _ (c .before .before .before .before .if1 .left))
-    (sym (c .before .before .before .is-edition .ensures) ∙ not-false _ (c .before .before .if2 .left))
-    (sym (c .before .lists-ok .ensures) ∙ not-true _ (c .if3 .taken)))
+    (sym (c .before .before .before .before .before .before .place-ok .ensures) ∙ not-false _ (c .before .before .before .before .before .if1 .left))
+    (sym (c .before .before .before .before .is-edition .ensures) ∙ not-false _ (c .before .before .before .if2 .left))
+    (unsound-lists (a .edition) (a .dram .now) (a .console .now) (a .ncoh .now) (a .coh .now) (sym (c .before .before .sum-lists .ensures) ∙ c .enum-told .given .1)))
+    (lists-fit (a .dram .now) (a .console .now) (a .ncoh .now) (a .coh .now) (k .before .before .before .shared-slice-known .given) (k .before .before .shared-slice-known2 .given) (k .before .shared-slice-known3 .given) (k .shared-slice-known4 .given))
 
 none-late-requires : tie.Need-none-late-requires
 none-late-requires c κs = search needs
@@ -53,13 +66,15 @@ none-late-requires c κs = search needs
 returns-4 : tie.Need-returns-4
 unfolding madeBy
 returns-4 c =
-    let a = c .before .before .before .before .before .before .before .before .before .before .before .before .before .args in
+    let a = c .before .before .before .before .before .before .before .before .before .before .before .before .before .before .before .args in
+    let k = c .before .before .before .before .before .before .before .before .before .before .before in
     wrote-not Late 4 (a .page .now) _ refl
     (w-late (a .base) (length (a .page .now)) (a .edition) (descriptionOf (a .dram .now) (a .console .now) (a .ncoh .now) (a .coh .now))
-    (sym (c .before .before .before .before .before .before .before .place-ok .ensures) ∙ not-false _ (c .before .before .before .before .before .before .if1 .left))
-    (sym (c .before .before .before .before .before .is-edition .ensures) ∙ not-false _ (c .before .before .before .before .if2 .left))
-    (sym (c .before .before .before .lists-ok .ensures) ∙ not-false _ (c .before .before .if3 .left))
-    (sym (c .before .none-late .ensures) ∙ not-true _ (c .if4 .taken)))
+    (sym (c .before .before .before .before .before .before .before .before .before .place-ok .ensures) ∙ not-false _ (c .before .before .before .before .before .before .before .before .if1 .left))
+    (sym (c .before .before .before .before .before .before .before .is-edition .ensures) ∙ not-false _ (c .before .before .before .before .before .before .if2 .left))
+    (sound-lists (a .edition) (a .dram .now) (a .console .now) (a .ncoh .now) (a .coh .now) _ (sym (c .before .before .before .before .before .sum-lists .ensures) ∙ c .before .before .before .totals .given .1))
+    (sym (c .before .none-late .ensures) ∙ not-true _ (c .if3 .taken)))
+    (lists-fit (a .dram .now) (a .console .now) (a .ncoh .now) (a .coh .now) (k .before .before .before .shared-slice-known .given) (k .before .before .shared-slice-known2 .given) (k .before .shared-slice-known3 .given) (k .shared-slice-known4 .given))
 
 room-ok-requires : tie.Need-room-ok-requires
 room-ok-requires c κs = search needs
@@ -67,35 +82,39 @@ room-ok-requires c κs = search needs
 returns-5 : tie.Need-returns-5
 unfolding madeBy
 returns-5 c =
-    let a = c .before .before .before .before .before .before .before .before .before .before .before .before .before .before .before .args in
+    let a = c .before .before .before .before .before .before .before .before .before .before .before .before .before .before .before .before .before .args in
+    let k = c .before .before .before .before .before .before .before .before .before .before .before .before .before in
     wrote-not Room 5 (a .page .now) _ refl
     (w-room (a .base) (length (a .page .now)) (a .edition) (descriptionOf (a .dram .now) (a .console .now) (a .ncoh .now) (a .coh .now))
-    (sym (c .before .before .before .before .before .before .before .before .before .place-ok .ensures) ∙ not-false _ (c .before .before .before .before .before .before .before .before .if1 .left))
-    (sym (c .before .before .before .before .before .before .before .is-edition .ensures) ∙ not-false _ (c .before .before .before .before .before .before .if2 .left))
-    (sym (c .before .before .before .before .before .lists-ok .ensures) ∙ not-false _ (c .before .before .before .before .if3 .left))
-    (sym (c .before .before .before .none-late .ensures) ∙ not-false _ (c .before .before .if4 .left))
-    (sym (c .before .room-ok .ensures) ∙ not-true _ (c .if5 .taken)))
+    (sym (c .before .before .before .before .before .before .before .before .before .before .before .place-ok .ensures) ∙ not-false _ (c .before .before .before .before .before .before .before .before .before .before .if1 .left))
+    (sym (c .before .before .before .before .before .before .before .before .before .is-edition .ensures) ∙ not-false _ (c .before .before .before .before .before .before .before .before .if2 .left))
+    (sound-lists (a .edition) (a .dram .now) (a .console .now) (a .ncoh .now) (a .coh .now) _ (sym (c .before .before .before .before .before .before .before .sum-lists .ensures) ∙ c .before .before .before .before .before .totals .given .1))
+    (sym (c .before .before .before .none-late .ensures) ∙ not-false _ (c .before .before .if3 .left))
+    (sym (c .before .room-ok .ensures) ∙ not-true _ (c .if4 .taken)))
+    (lists-fit (a .dram .now) (a .console .now) (a .ncoh .now) (a .coh .now) (k .before .before .before .shared-slice-known .given) (k .before .before .shared-slice-known2 .given) (k .before .shared-slice-known3 .given) (k .shared-slice-known4 .given))
 
 put-page-requires : tie.Need-put-page-requires
 put-page-requires c κs =
-    let a = c .before .before .before .before .before .before .before .before .before .before .before .before .before .before .before .before .args in
-    let p = placed (a .base) (length (a .page .now)) (sym (c .before .before .before .before .before .before .before .before .before .before .place-ok .ensures) ∙ not-false _ (c .before .before .before .before .before .before .before .before .before .if1 .left)) in
-    (omega arith, p .0, leb-true _ _ (sym (c .before .before .room-ok .ensures) ∙ not-false _ (c .before .if5 .left)))
+    let a = c .before .before .before .before .before .before .before .before .before .before .before .before .before .before .before .before .before .before .args in
+    let p = placed (a .base) (length (a .page .now)) (sym (c .before .before .before .before .before .before .before .before .before .before .before .before .place-ok .ensures) ∙ not-false _ (c .before .before .before .before .before .before .before .before .before .before .before .if1 .left)) in
+    (omega arith, p .0, leb-true _ _ (sym (c .before .before .room-ok .ensures) ∙ not-false _ (c .before .if4 .left)), sound-totals (a .edition) (a .dram .now) (a .console .now) (a .ncoh .now) (a .coh .now) _ (sym (c .before .before .before .before .before .before .before .before .sum-lists .ensures) ∙ c .before .before .before .before .before .before .totals .given .1))
 
 same-length : tie.Need-same-length
 same-length c = search needs
 
 returns-6 : tie.Need-returns-6
 returns-6 c =
-    let a = c .before .before .before .before .before .before .before .before .before .before .before .before .before .before .before .before .before .before .before .args in
+    let a = c .before .before .before .before .before .before .before .before .before .before .before .before .before .before .before .before .before .before .before .before .before .args in
+    let k = c .before .before .before .before .before .before .before .before .before .before .before .before .before .before .before .before .before in
     wrote-page (a .page .now) _ _ _
     (w-made (a .base) (length (a .page .now)) (a .edition) (descriptionOf (a .dram .now) (a .console .now) (a .ncoh .now) (a .coh .now))
-    (sym (c .before .before .before .before .before .before .before .before .before .before .before .before .before .place-ok .ensures) ∙ not-false _ (c .before .before .before .before .before .before .before .before .before .before .before .before .if1 .left))
-    (sym (c .before .before .before .before .before .before .before .before .before .before .before .is-edition .ensures) ∙ not-false _ (c .before .before .before .before .before .before .before .before .before .before .if2 .left))
-    (sym (c .before .before .before .before .before .before .before .before .before .lists-ok .ensures) ∙ not-false _ (c .before .before .before .before .before .before .before .before .if3 .left))
-    (sym (c .before .before .before .before .before .before .before .none-late .ensures) ∙ not-false _ (c .before .before .before .before .before .before .if4 .left))
-    (sym (c .before .before .before .before .before .room-ok .ensures) ∙ not-false _ (c .before .before .before .before .if5 .left)))
+    (sym (c .before .before .before .before .before .before .before .before .before .before .before .before .before .before .before .place-ok .ensures) ∙ not-false _ (c .before .before .before .before .before .before .before .before .before .before .before .before .before .before .if1 .left))
+    (sym (c .before .before .before .before .before .before .before .before .before .before .before .before .before .is-edition .ensures) ∙ not-false _ (c .before .before .before .before .before .before .before .before .before .before .before .before .if2 .left))
+    (sound-lists (a .edition) (a .dram .now) (a .console .now) (a .ncoh .now) (a .coh .now) _ (sym (c .before .before .before .before .before .before .before .before .before .before .before .sum-lists .ensures) ∙ c .before .before .before .before .before .before .before .before .before .totals .given .1))
+    (sym (c .before .before .before .before .before .before .before .none-late .ensures) ∙ not-false _ (c .before .before .before .before .before .before .if3 .left))
+    (sym (c .before .before .before .before .before .room-ok .ensures) ∙ not-false _ (c .before .before .before .before .if4 .left)))
     (c .before .before .put-page .ensures)
+    (lists-fit (a .dram .now) (a .console .now) (a .ncoh .now) (a .coh .now) (k .before .before .before .shared-slice-known .given) (k .before .before .shared-slice-known2 .given) (k .before .shared-slice-known3 .given) (k .shared-slice-known4 .given))
 
 pub write-spec : {M : Type 1} → statement M
 write-spec =
@@ -105,7 +124,9 @@ write-spec =
     returns
     is-edition-requires
     returns-2
-    lists-ok-requires
+    sum-lists-requires
+    enum-known-totals
+    enum-told
     returns-3
     none-late-requires
     returns-4

@@ -20,7 +20,7 @@ offer-requires : tie.Need-offer-requires
 offer-requires c κs =
     let a = c .before .before .before .before .before .before .before .before .args in
     let f = collect-got (a .largest) (a .message .now) (a .self) (a .buffer .now) (sym (c .before .before .before .before .before .read-response .ensures) ∙ c .before .before .before .read .given .1) in
-    rw (c .before .data-of .ensures, length-drop) (omega arith)
+    rw (c .before .data-of .ensures .0, length-drop) (omega arith)
 
 enum-known-read-2 : tie.Need-enum-known-read-2
 enum-known-read-2 c = search needs
@@ -32,7 +32,7 @@ returns : tie.Need-returns
 returns c =
     let a = c .before .before .before .before .before .before .before .before .before .before .before .args in
     let f = collect-got (a .largest) (a .message .now) (a .self) (a .buffer .now) (sym (c .before .before .before .before .before .before .before .before .read-response .ensures) ∙ c .before .before .before .before .before .before .read .given .1) in
-    rw (c .before .before .offer .ensures, c .before .before .before .before .data-of .ensures) (sym (f .0))
+    rw (c .before .before .offer .ensures, c .before .before .before .before .data-of .ensures .0) (sym (f .0))
 
 returns-2 : tie.Need-returns-2
 unfolding outcome unchanged

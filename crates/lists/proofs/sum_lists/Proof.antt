@@ -1,0 +1,81 @@
+use mathlib.Core.Bool.{true, false}
+use mathlib.Core.Path.{_≡_, sym, _∙_}
+use borrow.Author.Tests.{not-true, not-false}
+use Rattle.words.specs.Tests.{both}
+use Rattle.lists.specs.Description.{listOk}
+use Rattle.lists.proofs.Lists.{sums-not, sums-are}
+use borrow.Author.Needs.{needs}
+use Rattle.lists.proofs.sum_lists.Statement.{statement}
+use Rattle.lists.proofs.sum_lists.Tie as tie
+use Rattle.lists.proofs.sum_list.Reads as sum-list-reads
+
+sum-list-requires : tie.Need-sum-list-requires
+sum-list-requires c κs = search needs
+
+returns : tie.Need-returns
+unfolding both
+returns c =
+    let a = c .before .before .before .before .before .before .before .args in
+    let q0 : listOk (a .minor) 0 (a .dram .now) ≡ false = sym (c .before .before .sum-list .ensures .0) ∙ not-true _ (c .if1 .taken) in
+    sums-not (a .minor) (a .dram .now) (a .console .now) (a .ncoh .now) (a .coh .now) (rw q0)
+
+sum-list-requires-2 : tie.Need-sum-list-requires-2
+sum-list-requires-2 c κs = search needs
+
+returns-2 : tie.Need-returns-2
+unfolding both
+returns-2 c =
+    let a = c .before .before .before .before .before .before .before .before .before .before .args in
+    let q0 : listOk (a .minor) 0 (a .dram .now) ≡ true = sym (c .before .before .before .before .before .sum-list .ensures .0) ∙ not-false _ (c .before .before .before .if1 .left) in
+    let q1 : listOk (a .minor) 1 (a .console .now) ≡ false = sym (c .before .before .sum-list2 .ensures .0) ∙ not-true _ (c .if2 .taken) in
+    sums-not (a .minor) (a .dram .now) (a .console .now) (a .ncoh .now) (a .coh .now) (rw (q0, q1))
+
+sum-list-requires-3 : tie.Need-sum-list-requires-3
+sum-list-requires-3 c κs = search needs
+
+returns-3 : tie.Need-returns-3
+unfolding both
+returns-3 c =
+    let a = c .before .before .before .before .before .before .before .before .before .before .before .before .before .args in
+    let q0 : listOk (a .minor) 0 (a .dram .now) ≡ true = sym (c .before .before .before .before .before .before .before .before .sum-list .ensures .0) ∙ not-false _ (c .before .before .before .before .before .before .if1 .left) in
+    let q1 : listOk (a .minor) 1 (a .console .now) ≡ true = sym (c .before .before .before .before .before .sum-list2 .ensures .0) ∙ not-false _ (c .before .before .before .if2 .left) in
+    let q2 : listOk (a .minor) 2 (a .ncoh .now) ≡ false = sym (c .before .before .sum-list3 .ensures .0) ∙ not-true _ (c .if3 .taken) in
+    sums-not (a .minor) (a .dram .now) (a .console .now) (a .ncoh .now) (a .coh .now) (rw (q0, q1, q2))
+
+sum-list-requires-4 : tie.Need-sum-list-requires-4
+sum-list-requires-4 c κs = search needs
+
+returns-4 : tie.Need-returns-4
+unfolding both
+returns-4 c =
+    let a = c .before .before .before .before .before .before .before .before .before .before .before .before .before .before .before .before .args in
+    let q0 : listOk (a .minor) 0 (a .dram .now) ≡ true = sym (c .before .before .before .before .before .before .before .before .before .before .before .sum-list .ensures .0) ∙ not-false _ (c .before .before .before .before .before .before .before .before .before .if1 .left) in
+    let q1 : listOk (a .minor) 1 (a .console .now) ≡ true = sym (c .before .before .before .before .before .before .before .before .sum-list2 .ensures .0) ∙ not-false _ (c .before .before .before .before .before .before .if2 .left) in
+    let q2 : listOk (a .minor) 2 (a .ncoh .now) ≡ true = sym (c .before .before .before .before .before .sum-list3 .ensures .0) ∙ not-false _ (c .before .before .before .if3 .left) in
+    let q3 : listOk (a .minor) 3 (a .coh .now) ≡ false = sym (c .before .before .sum-list4 .ensures .0) ∙ not-true _ (c .if4 .taken) in
+    sums-not (a .minor) (a .dram .now) (a .console .now) (a .ncoh .now) (a .coh .now) (rw (q0, q1, q2, q3))
+
+returns-5 : tie.Need-returns-5
+unfolding both
+returns-5 c =
+    let a = c .before .before .before .before .before .before .before .before .before .before .before .before .before .before .before .before .args in
+    let q0 : listOk (a .minor) 0 (a .dram .now) ≡ true = sym (c .before .before .before .before .before .before .before .before .before .before .before .sum-list .ensures .0) ∙ not-false _ (c .before .before .before .before .before .before .before .before .before .if1 .left) in
+    let q1 : listOk (a .minor) 1 (a .console .now) ≡ true = sym (c .before .before .before .before .before .before .before .before .sum-list2 .ensures .0) ∙ not-false _ (c .before .before .before .before .before .before .if2 .left) in
+    let q2 : listOk (a .minor) 2 (a .ncoh .now) ≡ true = sym (c .before .before .before .before .before .sum-list3 .ensures .0) ∙ not-false _ (c .before .before .before .if3 .left) in
+    let q3 : listOk (a .minor) 3 (a .coh .now) ≡ true = sym (c .before .before .sum-list4 .ensures .0) ∙ not-false _ (c .if4 .left) in
+    sums-are (a .minor) (a .dram .now) (a .console .now) (a .ncoh .now) (a .coh .now) _ _ _ _ (rw (q0, q1, q2, q3))
+    (c .before .before .before .before .before .before .before .before .before .before .before .sum-list .ensures .1 (not-false _ (c .before .before .before .before .before .before .before .before .before .if1 .left))) (c .before .before .before .before .before .before .before .before .sum-list2 .ensures .1 (not-false _ (c .before .before .before .before .before .before .if2 .left))) (c .before .before .before .before .before .sum-list3 .ensures .1 (not-false _ (c .before .before .before .if3 .left))) (c .before .before .sum-list4 .ensures .1 (not-false _ (c .if4 .left)))
+
+pub sum-lists-spec : {M : Type 1} → statement M
+sum-lists-spec =
+    tie.close
+    (tie.spec
+    sum-list-requires
+    returns
+    sum-list-requires-2
+    returns-2
+    sum-list-requires-3
+    returns-3
+    sum-list-requires-4
+    returns-4
+    returns-5)

@@ -1,0 +1,59 @@
+-- No byte is named but the core, the arrays and, of a page whose version is refused, the first 16. An edition that names every byte
+-- fails here. Assumes nothing.
+use Prim.Native.Nat.{ℕ, zero, suc, min, _+_, _≤_, _<_}
+use mathlib.Core.Bool.{Bool, false, false≢true}
+use mathlib.Core.Logic.{inl, inr}
+use mathlib.Core.Path.{_≡_, sym, _∙_}
+use mathlib.Core.List.{List}
+use native.Mathlib.Omega.{arith}
+use lib.ListN.{length}
+use borrow.Author.Tests.{leb-true, ltb-true, eqb-true}
+use Rattle.words.specs.Tests.{Yes, some}
+use Rattle.words.proofs.Tests.{both-l, both-r, either-cases, same-test}
+use Rattle.versions.specs.Version.{minorOf, versionOk}
+use Rattle.versions.specs.Edition.{sectionCount, core}
+use Rattle.entries.specs.Entry.{size}
+use Rattle.sections.specs.Page.{versionAt, countAt, pointerAt}
+use Rattle.reader.specs.Answer.{inArray, namedBy, named}
+use Rattle.reader.specs.Gaps.{BesideArray, OthersUnnamed}
+
+not-yes : (b : Bool) → (Yes b → ⊥) → b ≡ false
+not-yes b f = same-test b false (λ y. absurd (f y)) (λ y. absurd (false≢true y))
+
+some-not : (n : ℕ) (f : ℕ → Bool) → ((k : ℕ) → k < n → Yes (f k) → ⊥) → Yes (some n f) → ⊥
+unfolding some
+some-not zero f h y = false≢true y
+some-not (suc n) f h y = either-cases _ _ (some-not n f (λ k l. h k (omega arith))) (h n (omega arith)) y
+
+beside-not : (base : ℕ) (page : List ℕ) (i k : ℕ) → BesideArray base page i k → Yes (inArray base page i k) → ⊥
+unfolding inArray
+beside-not base page i k (inl h) y = let a : pointerAt k page ≤ base + i = leb-true _ _ (both-l _ _ (both-r _ _ y)) in omega arith
+beside-not base page i k (inr (inl h)) y = let a : base + i < pointerAt k page + size k (countAt k page) = ltb-true _ _ (both-r _ _ (both-r _ _ y)) in omega arith
+beside-not base page i k (inr (inr h)) y = false≢true (sym h ∙ both-l _ _ y)
+
+core-least : (e : ℕ) → 16 ≤ core e
+unfolding core
+core-least e = omega arith
+
+by-edition-not : (e base : ℕ) (page : List ℕ) (i : ℕ) → core e ≤ i → ((k : ℕ) → k < sectionCount e → BesideArray base page i k) → Yes (namedBy e base page i) → ⊥
+unfolding namedBy
+by-edition-not e base page i h g y =
+    either-cases _ _ (λ a. let l = ltb-true i (core e) a in omega arith)
+    (some-not (sectionCount e) (inArray base page i) (λ k l. beside-not base page i k (g k l))) y
+
+module _ (r base : ℕ) (page : List ℕ) (i : ℕ) where
+  named-not : 16 ≤ i → (Yes (versionOk (versionAt page)) → Yes (namedBy (min r (minorOf (versionAt page))) base page i) → ⊥) → named r base page i ≡ false
+  unfolding named
+  named-not h f = not-yes _ (λ y.
+      either-cases _ _ (λ a. let l = ltb-true i 16 a in omega arith) (λ b. f (both-l _ _ b) (both-r _ _ b)) (both-r _ _ y))
+
+  cut-not : (length page ≡ 4096 → ⊥) → named r base page i ≡ false
+  unfolding named
+  cut-not h = not-yes _ (λ y. h (eqb-true (length page) 4096 (both-l _ _ y)))
+
+pub others-unnamed : (r base : ℕ) (page : List ℕ) → OthersUnnamed r base page
+others-unnamed r base page = record {
+  gap = λ i h g. named-not r base page i (omega (arith, core-least (min r (minorOf (versionAt page))))) (λ v. by-edition-not _ base page i h g);
+  unknown = λ i h v. named-not r base page i h (λ y. absurd (false≢true (sym v ∙ y)));
+  cut = λ i h. cut-not r base page i h;
+}

@@ -1,0 +1,28 @@
+-- The bytes that an edition does not name. Assumes nothing.
+use Prim.Native.Nat.{ℕ, min, _+_, _≤_, _<_}
+use mathlib.Core.Bool.{false}
+use mathlib.Core.Logic.{_⊎_}
+use mathlib.Core.Path.{_≡_}
+use mathlib.Core.List.{List}
+use lib.ListN.{length}
+use Rattle.versions.specs.Version.{minorOf, versionOk}
+use Rattle.versions.specs.Edition.{sectionCount, core}
+use Rattle.entries.specs.Entry.{size}
+use Rattle.sections.specs.Page.{versionAt, countAt, pointerAt, inPage}
+use Rattle.reader.specs.Answer.{named}
+
+-- byte i lies before the array of section k or behind it, or that array does not lie within the page
+abbrev pub BesideArray : ℕ → List ℕ → ℕ → ℕ → Type 0
+BesideArray base page i k =
+    (base + i < pointerAt k page)
+    ⊎ ((pointerAt k page + size k (countAt k page) ≤ base + i) ⊎ (inPage base (pointerAt k page) (size k (countAt k page)) ≡ false))
+
+-- no byte is named but those that 01 gives; the edition is the smaller of the reader's and the page's minor
+pub record OthersUnnamed (r base : ℕ) (page : List ℕ) : Type 0 where
+  -- "The bytes an edition names are its core and each array that its sections place within the page"
+  pub gap : (i : ℕ) → core (min r (minorOf (versionAt page))) ≤ i →
+      ((k : ℕ) → k < sectionCount (min r (minorOf (versionAt page))) → BesideArray base page i k) → named r base page i ≡ false
+  -- "if the version is not accepted, the first 16 bytes only"
+  pub unknown : (i : ℕ) → 16 ≤ i → versionOk (versionAt page) ≡ false → named r base page i ≡ false
+  -- "Of a lent page not 4,096 bytes long none are named."
+  pub cut : (i : ℕ) → (length page ≡ 4096 → ⊥) → named r base page i ≡ false

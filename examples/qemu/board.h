@@ -1,0 +1,45 @@
+/* Numbers that C and assembly of all three programs share, and the script that runs them: the memory map of QEMU's machine "virt", what
+ * stands where in it, and what the platform gives. */
+#ifndef BOARD_H
+#define BOARD_H
+
+#define SECURE_RAM 0x0E000000 /* EL3's data; its code is in the flash at 0. Neither can be read from below EL3. */
+#define UART 0x09000000       /* PL011 */
+#define MONITOR 0x41000000    /* the monitor's image */
+#define PAGE 0x42000000       /* B: the shared page */
+#define HOST 0x43000000       /* the host's image */
+#define SETTINGS 0x43F00000   /* a word that the emulator's loader sets before the start: */
+#define SET_BROKEN 1          /* the manifest's checksum is broken before the monitor is entered */
+#define SET_WRONG 2           /* the monitor expects a wrong answer */
+#define SET_STACK 4           /* the stack of each command is printed */
+#define MEMORY 0x44000000     /* the bank of the manifest, and the first granule of the granule table */
+#define MEMORY_BYTES 0x0C000000
+#define GRANULES 16
+#define CPUS 2
+
+#define SYSTEM_OFF 0x84000008 /* PSCI; here x1 is the number of wrong results */
+
+/* Lengths of what the platform gives: keys and signatures as those of SECP384R1 are. */
+#define TOKEN_BYTES 100
+#define REALM_KEY_BYTES 48
+#define PUBLIC_KEY_BYTES 97
+#define SIGNATURE_BYTES 96
+
+/* Stacks. An area is painted whole, so that a stack that outgrows its part of it is seen, not suffered. */
+#define AREA 0x4000
+#define EL3_STACK 12288
+
+/* A world's saved registers: x0 to x30, then these. */
+#define CONTEXT_ELR 248
+#define CONTEXT_SPSR 256
+#define CONTEXT_SCR 264
+#define CONTEXT_STACK 272
+
+#define PAINT 0x5AFE5AFE5AFE5AFE
+#define RELEASED 0x52454C4541534544 /* no word that secure RAM holds by chance */
+
+/* SCTLR of EL3 and EL2, and of EL1: MMU and caches off, alignment checked (A), stack alignment checked (SA), reserved ones. */
+#define SCTLR_ABOVE 0x30C5083A
+#define SCTLR_EL1_VALUE 0x30D0080A
+
+#endif

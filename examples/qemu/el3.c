@@ -1,0 +1,289 @@
+/*
+ * The EL3 firmware of the board: it boots the monitor, serves its SMCs with the library, and passes calls between host and monitor.
+ *
+ * Without RME the monitor is at Non-secure EL2, with it at Realm EL2. The host, which stands for the Non-secure world, is at Non-secure
+ * EL1. The second CPU boots while the first waits for it, so one CPU at a time is in the library and no lock is needed. Firmware whose CPUs
+ * call at the same time holds one around pbeam_context_call and what belongs to it.
+ */
+#include "board.h"
+#include "console.h"
+#include "platform.h"
+#include "protection.h"
+
+/* Calls of the host that go to the monitor. */
+#define RMI_FIRST UINT64_C(0xC4000150)
+#define RMI_LAST UINT64_C(0xC400018F)
+
+#define SCR_NON_SECURE UINT64_C(0x531)           /* NS, HCE, RW, reserved ones */
+#define SCR_REALM (SCR_NON_SECURE | UINT64_C(1) << 62) /* NSE */
+#define SPSR_EL1 UINT64_C(0x3C5)                 /* interrupts masked, its own stack pointer */
+#define SPSR_EL2 UINT64_C(0x3C9)
+
+enum { EXIT_GOOD, EXIT_WRONG, EXIT_NO_BOOT, EXIT_FAULT };
+
+struct context {
+    uint64_t x[31], elr, spsr, scr;
+    uint8_t *stack;
+};
+_Static_assert(offsetof(struct context, elr) == CONTEXT_ELR && offsetof(struct context, spsr) == CONTEXT_SPSR, "el3.S");
+_Static_assert(offsetof(struct context, scr) == CONTEXT_SCR && offsetof(struct context, stack) == CONTEXT_STACK, "el3.S");
+
+enum world { WORLD_MONITOR, WORLD_HOST, WORLDS };
+
+__attribute__((section(".stacks"), aligned(16))) uint8_t stacks[CPUS][AREA];
+volatile uint64_t el3_released;       /* RELEASED: the second CPU may start */
+static volatile uint64_t second_done; /* it has booted */
+
+static struct {
+    pbeam_context_t kit; /* EL3's own boot record is in it */
+    uint8_t table[GRANULES];
+    struct context worlds[CPUS][WORLDS];
+    uint64_t most_stack, overflows;
+} el3;
+
+void semihost(uint64_t operation, const uint64_t *block);
+
+_Noreturn static void end(uint64_t code)
+{
+    const uint64_t block[2] = {0x20026, code}; /* SYS_EXIT: the application ended, with this code */
+    for (;;)
+        semihost(0x18, block);
+}
+
+/* ---- Faults ---- */
+
+static const char *fault_text(uint64_t esr)
+{
+    const uint64_t class = esr >> 26 & 63, status = esr & 63;
+    if (class == 0x07)
+        return "an FP or SIMD instruction";
+    if (class == 0x25 && status == 0x21)
+        return "an unaligned access";
+    return "an exception";
+}
+
+_Noreturn void el3_fault(uint64_t esr, uint64_t elr, uint64_t far)
+{
+    say("EL3: stopped by %s\nEL3: esr 0x%x, elr 0x%x, far 0x%x\n", fault_text(esr), esr, elr, far);
+    end(EXIT_FAULT);
+}
+
+/* ---- Stack ---- */
+
+/* How much of this CPU's area is no longer paint. Above EL3_STACK it is an overflow. */
+static uint64_t stack_used(uint64_t cpu)
+{
+    const uint64_t *words = (const uint64_t *)stacks[cpu];
+    size_t i = 0;
+    while (i < AREA / 8 && words[i] == PAINT)
+        i++;
+    return AREA - 8 * i;
+}
+
+static void stack_check(uint64_t cpu, const char *what, uint64_t number)
+{
+    const uint64_t used = stack_used(cpu);
+    if (used > el3.most_stack)
+        el3.most_stack = used;
+    if (used > EL3_STACK) {
+        el3.overflows++;
+        say("EL3: WRONG: %s 0x%x took %d bytes of a stack of %d\n", what, number, used, (uint64_t)EL3_STACK);
+    } else if (settings() & SET_STACK) {
+        say("EL3: stack: %s 0x%x took %d bytes\n", what, number, used);
+    }
+}
+
+/* ---- Boot ---- */
+
+static bool write_manifest(void)
+{
+    static const pbeam_bank_t bank = {.base = MEMORY, .size = MEMORY_BYTES};
+    static const pbeam_region_t pci = {.base = 0x10000000, .size = 0x2EFF0000};
+    pbeam_console_t console = {.base = UART, .map_pages = 1, .clk_in_hz = 24000000, .baud_rate = 115200};
+    const pbeam_lists_t lists = {
+        .dram = &bank, .dram_count = 1, .console = &console, .console_count = 1, .coh = &pci, .coh_count = 1};
+    uint32_t refusal;
+    if (!pbeam_console_set_name(&console, "pl011"))
+        return false;
+    refusal = pbeam_manifest_write(PAGE, PBEAM_EDITION_LAST, &lists, el3.kit.page);
+    say("EL3: CPU 0 at level %d writes the manifest: %s\n", level(), pbeam_write_text(refusal));
+    return refusal == PBEAM_WRITE_PAGE;
+}
+
+/* A world's first entry. */
+static struct context *enter(uint64_t cpu, enum world world, uint64_t x0)
+{
+    struct context *to = &el3.worlds[cpu][world];
+    const bool monitor = world == WORLD_MONITOR;
+    to->x[0] = x0;
+    to->elr = monitor ? MONITOR : HOST;
+    to->spsr = monitor ? SPSR_EL2 : SPSR_EL1;
+    to->scr = monitor && has_rme() ? SCR_REALM : SCR_NON_SECURE;
+    to->stack = stacks[cpu] + AREA;
+    return to;
+}
+
+/* EL3's own record goes up before the monitor is entered, over the registers and the page that it hands over. */
+static struct context *cold_boot(void)
+{
+    const pbeam_cold_t x = {.cpu = 0, .version = PBEAM_INTERFACE_MINOR, .cpus = CPUS, .base = PAGE};
+    struct context *to = enter(0, WORLD_MONITOR, x.cpu);
+    const int32_t code = pbeam_record_cold_boot(&el3.kit.record, &x, CPUS, el3.kit.page);
+    say("EL3: cold boot of its own record: %s\n", pbeam_boot_text(code));
+    if (code != E_RMM_BOOT_SUCCESS)
+        end(EXIT_NO_BOOT);
+    if (settings() & SET_BROKEN)
+        el3.kit.page->bytes[PBEAM_CORE_DRAM + PBEAM_SECTION_CHECKSUM] ^= 1;
+    to->x[1] = x.version;
+    to->x[2] = x.cpus;
+    to->x[3] = x.base;
+    return to;
+}
+
+static struct context *first_cpu(void)
+{
+    console_on();
+    el3.kit.page = (pbeam_page_t *)PAGE;
+    el3.kit.granules = pbeam_granules_from(MEMORY);
+    el3.kit.table = el3.table;
+    el3.kit.table_count = GRANULES;
+    el3.kit.mecid_width = PBEAM_WIDTH_MOST;
+    platform_realm_key(&el3.kit);
+    if (!write_manifest())
+        end(EXIT_NO_BOOT);
+    return cold_boot();
+}
+
+static struct context *next_cpu(uint64_t cpu)
+{
+    const int32_t code = pbeam_record_warm_boot(&el3.kit.record, cpu);
+    say("EL3: CPU %d at level %d, warm boot of its own record: %s\n", cpu, level(), pbeam_boot_text(code));
+    if (code != E_RMM_BOOT_SUCCESS)
+        end(EXIT_NO_BOOT);
+    return enter(cpu, WORLD_MONITOR, cpu);
+}
+
+struct context *el3_start(uint64_t cpu)
+{
+    struct context *to;
+    protection_on(cpu);
+    to = cpu == 0 ? first_cpu() : next_cpu(cpu);
+    stack_check(cpu, "boot of CPU", cpu);
+    return to;
+}
+
+_Noreturn static void park(uint64_t cpu)
+{
+    stack_check(cpu, "boot of CPU", cpu);
+    __asm__ volatile("dsb sy" ::: "memory");
+    second_done = 1; /* the last line of this CPU is printed: CPU 0 may go on */
+    for (;;)
+        __asm__ volatile("wfi");
+}
+
+static void start_second_cpu(void)
+{
+    el3_released = RELEASED;
+    __asm__ volatile("dsb sy; sev" ::: "memory");
+    while (!second_done)
+        ;
+}
+
+/* RMM_BOOT_COMPLETE. After an error no CPU enters the monitor again; this one may still stop itself, and is told UNK until then. */
+static struct context *boot_complete(uint64_t cpu, struct context *from)
+{
+    const int32_t code = (int32_t)(uint32_t)from->x[1];
+    say("EL3: CPU %d, boot complete with %d: %s\n", cpu, (uint64_t)(int64_t)code, pbeam_boot_text(code));
+    if (code != E_RMM_BOOT_SUCCESS) {
+        pbeam_record_close(&el3.kit.record);
+        return from;
+    }
+    if (cpu != 0)
+        park(cpu);
+    start_second_cpu();
+    return enter(cpu, WORLD_HOST, 0);
+}
+
+/* ---- SMCs ---- */
+
+/* The hardware's part, after a command. */
+static void act(const pbeam_call_t *call, const pbeam_registers_t *out, const pbeam_work_t *work)
+{
+    const uint64_t id = call->words[PBEAM_CALL_ID], granule = call->words[PBEAM_CALL_X1];
+    if (pbeam_registers_code(out) == E_RMM_OK && id == RMM_GTSI_DELEGATE)
+        protection_to_realm(granule);
+    if (pbeam_registers_code(out) == E_RMM_OK && id == RMM_GTSI_UNDELEGATE)
+        protection_to_non_secure(granule);
+    if (pbeam_work_is(work, PBEAM_WORK_REPROGRAM))
+        say("EL3: a new key for mecid %d\n", pbeam_work_value(work));
+}
+
+/* RMM_RMI_REQ_COMPLETE: the host goes on, with err_code in x0 and what the monitor has in x2 to x5. The signer has time now. */
+static struct context *forward(uint64_t cpu, const struct context *from, const pbeam_work_t *work)
+{
+    struct context *host = &el3.worlds[cpu][WORLD_HOST];
+    host->x[0] = pbeam_work_value(work);
+    memcpy(&host->x[1], &from->x[2], 4 * sizeof host->x[0]);
+    platform_sign(&el3.kit);
+    return host;
+}
+
+/* A command: x0 to x2 are its answer, all other registers stay the monitor's. */
+static struct context *command(uint64_t cpu, struct context *from)
+{
+    const pbeam_call_t call = pbeam_call_of(from->x[0], from->x[1], from->x[2], from->x[3], from->x[4]);
+    pbeam_registers_t out;
+    pbeam_work_t work;
+    const bool is_new = from->x[0] == RMM_ATTEST_GET_PLAT_TOKEN && platform_choose_token(&el3.kit, &call);
+    pbeam_context_call(&el3.kit, &call, &out, &work);
+    if (is_new && pbeam_registers_code(&out) == E_RMM_OK)
+        platform_token_is_lent();
+    act(&call, &out, &work);
+    if (pbeam_work_is(&work, PBEAM_WORK_FORWARD))
+        return forward(cpu, from, &work);
+    memcpy(from->x, out.words, sizeof out.words);
+    return from;
+}
+
+/* A call of the host: the monitor's last call, RMM_BOOT_COMPLETE or RMM_RMI_REQ_COMPLETE, comes back to it with the host's registers. */
+static struct context *from_host(uint64_t cpu, struct context *from)
+{
+    struct context *monitor = &el3.worlds[cpu][WORLD_MONITOR];
+    if (from->x[0] < RMI_FIRST || from->x[0] > RMI_LAST || !pbeam_record_is_up(&el3.kit.record)) {
+        from->x[0] = PBEAM_X0_UNK;
+        return from;
+    }
+    memcpy(monitor->x, from->x, 8 * sizeof from->x[0]);
+    return monitor;
+}
+
+_Noreturn static void off(uint64_t wrong)
+{
+    if (settings() & SET_STACK)
+        say("EL3: stack: %d bytes at most\n", el3.most_stack);
+    say("EL3: off; %d wrong, %d over the stack of %d bytes\n", wrong, el3.overflows, (uint64_t)EL3_STACK);
+    if (wrong != 0 || el3.overflows != 0)
+        end(EXIT_WRONG);
+    end(pbeam_record_is_up(&el3.kit.record) ? EXIT_GOOD : EXIT_NO_BOOT);
+}
+
+static struct context *serve(uint64_t cpu, enum world world, struct context *from)
+{
+    if (from->x[0] == SYSTEM_OFF)
+        off(from->x[1]);
+    if (world == WORLD_HOST)
+        return from_host(cpu, from);
+    return from->x[0] == RMM_BOOT_COMPLETE ? boot_complete(cpu, from) : command(cpu, from);
+}
+
+struct context *el3_lower(struct context *from, uint64_t esr)
+{
+    const size_t index = (size_t)(from - &el3.worlds[0][0]);
+    const uint64_t cpu = index / WORLDS, id = from->x[0];
+    struct context *to;
+    if (esr >> 26 != 0x17) /* SMC */
+        el3_fault(esr, from->elr, 0);
+    to = serve(cpu, (enum world)(index % WORLDS), from);
+    stack_check(cpu, "call", id);
+    return to;
+}

@@ -1,0 +1,325 @@
+/*
+ * A stand-in for the monitor (RMM), at EL2. It boots from x0 to x3, draws a token while it boots, as 002 lets it, and then serves the
+ * host's calls. Every answer of EL3 is compared with what the interface wants; what differs is printed and counted.
+ *
+ * The buffers lie at odd addresses in the upper half of the page, so that no word in them is aligned, and so that the manifest in the lower
+ * half can be read again at the end.
+ */
+#include "potterbeam_types.h"
+
+#include "board.h"
+#include "console.h"
+#include "rmi.h"
+#include "world.h"
+
+#define CPUS_MOST 8 /* what the monitor is built for */
+
+#define TOKEN_AT 0x801 /* offsets in the page */
+#define KEY_AT 0x903
+#define SIGN_AT 0xA05
+#define TOKEN_BUFFER 64
+#define OUTSIDE (PAGE + PBEAM_PAGE_BYTES)
+#define ROOM (PBEAM_PAGE_BYTES - SIGN_AT) /* from the signing buffer to the page's end */
+
+const char program[] = "monitor";
+static pbeam_page_t *const page = (pbeam_page_t *)PAGE;
+static pbeam_record_t record; /* the monitor's own */
+
+/* ---- Calls of EL3 ---- */
+
+struct step {
+    const char *what;
+    uint64_t x[5];   /* the call */
+    uint64_t out[3]; /* the answer it has to get */
+};
+
+static void take(const struct step *step)
+{
+    uint64_t x[8] = {step->x[0], step->x[1], step->x[2], step->x[3], step->x[4], 0x55, 0x66, 0x77};
+    smc(x);
+    say("monitor: %s: %s", step->what, pbeam_x0_text(x[0]));
+    say(x[1] | x[2] ? ", %d, %d\n" : "\n", x[1], x[2]);
+    expect("x0", x[0], step->out[0]);
+    expect("x1", x[1], step->out[1]);
+    expect("x2", x[2], step->out[2]);
+    expect("x3, which stays", x[3], step->x[3]);
+    expect("x7, which stays", x[7], 0x77);
+}
+
+static void take_all(const struct step *steps, size_t count)
+{
+    for (size_t i = 0; i < count; i++)
+        take(&steps[i]);
+}
+
+static void bytes_are(const char *what, const uint8_t *at, size_t count, uint8_t first, uint8_t step)
+{
+    for (size_t i = 0; i < count; i++)
+        expect(what, at[i], (uint8_t)(first + i * step));
+}
+
+/* ---- Boot ---- */
+
+static void list_manifest(void)
+{
+    pbeam_view_t view;
+    const int32_t code = pbeam_manifest_read(page, PAGE, PBEAM_EDITION_LAST, &view);
+    const pbeam_bank_t bank = pbeam_view_dram(page, &view, 0);
+    const pbeam_region_t region = pbeam_view_region(page, &view, PBEAM_COH, 0);
+    const pbeam_console_t console = pbeam_view_console(page, &view, 0);
+    char name[9];
+    pbeam_console_text(&console, name);
+    say("monitor: manifest 0.%d: %s\n", pbeam_view_minor(&view), pbeam_read_text(code));
+    say("monitor: bank 0x%x + 0x%x, device region 0x%x + 0x%x\n", bank.base, bank.size, region.base, region.size);
+    say("monitor: console %s at 0x%x, %d baud\n", name, console.base, console.baud_rate);
+    expect("manifest", (uint64_t)(int64_t)code, PBEAM_READ_ACCEPTED);
+    expect("bank", bank.base, MEMORY);
+    expect("console", console.base, UART);
+}
+
+static void draw_token(void)
+{
+    const uint64_t at = PAGE + TOKEN_AT;
+    const struct step busy = {"token for a challenge", {RMM_ATTEST_GET_PLAT_TOKEN, at, TOKEN_BUFFER, 48}, {PBEAM_X0_AGAIN}};
+    const struct step start = {"token for the same challenge", {RMM_ATTEST_GET_PLAT_TOKEN, at, TOKEN_BUFFER, 48}, {PBEAM_X0_OK, 64, 36}};
+    const struct step other = {"token for another challenge", {RMM_ATTEST_GET_PLAT_TOKEN, at, TOKEN_BUFFER, 48}, {PBEAM_X0_AGAIN}};
+    const struct step rest = {"token goes on", {RMM_ATTEST_GET_PLAT_TOKEN, at, TOKEN_BUFFER}, {PBEAM_X0_OK, TOKEN_BYTES - TOKEN_BUFFER}};
+    uint8_t *buffer = page->bytes + TOKEN_AT;
+    memset(buffer, 0xC4, 48);
+    take(&busy);
+    take(&start);
+    bytes_are("token's byte", buffer, TOKEN_BUFFER, 0xC4, 1);
+    memset(buffer, 0x11, 48);
+    take(&other);
+    take(&rest);
+    bytes_are("token's byte", buffer, TOKEN_BYTES - TOKEN_BUFFER, (uint8_t)(0xC4 + TOKEN_BUFFER), 1);
+}
+
+static void prepare(void)
+{
+    static const struct step steps[] = {
+        {"features", {RMM_EL3_FEATURES}, {PBEAM_X0_OK, PBEAM_FEATURE_TOKEN_SIGNING}},
+        {"realm key", {RMM_ATTEST_GET_REALM_KEY, PAGE + KEY_AT, 200}, {PBEAM_X0_OK, REALM_KEY_BYTES}},
+        {"public key, too early", {RMM_EL3_TOKEN_SIGN, PBEAM_OPCODE_KEY, PAGE + SIGN_AT, PUBLIC_KEY_BYTES}, {PBEAM_X0_AGAIN}},
+    };
+    take_all(steps, sizeof steps / sizeof steps[0]);
+    bytes_are("realm key's byte", page->bytes + KEY_AT, REALM_KEY_BYTES, 0x21, 0);
+    draw_token();
+}
+
+static void serve(uint64_t x[8]);
+
+/* The answer of RMM_BOOT_COMPLETE is the host's first call. After an error there is none: EL3 serves nothing more. */
+_Noreturn static void boot_complete(int32_t code)
+{
+    static const struct step after_error = {"delegate after the error", {RMM_GTSI_DELEGATE, MEMORY}, {PBEAM_X0_UNK}};
+    uint64_t x[8] = {RMM_BOOT_COMPLETE, (uint64_t)(int64_t)code};
+    smc(x);
+    if (code != E_RMM_BOOT_SUCCESS) {
+        take(&after_error);
+        off();
+    }
+    for (;;)
+        serve(x);
+}
+
+_Noreturn void cold(uint64_t x0, uint64_t x1, uint64_t x2, uint64_t x3)
+{
+    const pbeam_cold_t x = {.cpu = x0, .version = x1, .cpus = x2, .base = x3};
+    const int32_t code = pbeam_record_cold_boot(&record, &x, CPUS_MOST, (const pbeam_page_t *)x3);
+    say("monitor: CPU %d at level %d%s, cold boot: %s\n", x0, level(), has_rme() ? " of the Realm world" : "", pbeam_boot_text(code));
+    if (code == E_RMM_BOOT_SUCCESS) {
+        say("monitor: %d CPUs, page at 0x%x, agreed minor %d\n", pbeam_record_cpus(&record), pbeam_record_base(&record),
+            pbeam_record_minor(&record));
+        list_manifest(); /* before a command writes into the page */
+        expect_read("EL3's memory", SECURE_RAM, NO_ACCESS);
+        prepare();
+    }
+    boot_complete(code);
+}
+
+_Noreturn void warm(uint64_t x0)
+{
+    const int32_t code = pbeam_record_warm_boot(&record, x0);
+    say("monitor: CPU %d at level %d, warm boot: %s\n", x0, level(), pbeam_boot_text(code));
+    boot_complete(code);
+}
+
+/* ---- Calls of the host ---- */
+
+static bool is_realm; /* the host's granule */
+
+/* Without RME there is no granule protection to see. */
+static void read_granule(uint64_t granule)
+{
+    if (has_rme())
+        expect_read("the granule", granule, is_realm ? 0 : NOT_THIS_WORLD);
+}
+
+static uint64_t change_granule(uint64_t id, uint64_t granule)
+{
+    uint64_t x[8] = {id, granule};
+    read_granule(granule);
+    smc(x);
+    say("monitor: %s 0x%x: %s\n", id == RMM_GTSI_DELEGATE ? "delegate" : "undelegate", granule, pbeam_x0_text(x[0]));
+    if (x[0] == PBEAM_X0_OK)
+        is_realm = id == RMM_GTSI_DELEGATE;
+    read_granule(granule);
+    return x[0] == PBEAM_X0_OK ? RMI_SUCCESS : RMI_ERROR_INPUT;
+}
+
+static void put_request(uint64_t ticket)
+{
+    uint8_t hash[PBEAM_HASH_BYTES];
+    memset(hash, (int)(0x30 + ticket), sizeof hash);
+    pbeam_put_request(page->bytes + SIGN_AT, MEMORY, ticket, hash);
+}
+
+static const struct step push = {
+    "push a request", {RMM_EL3_TOKEN_SIGN, PBEAM_OPCODE_PUSH, PAGE + SIGN_AT, PBEAM_REQUEST_BYTES}, {PBEAM_X0_OK}};
+static const struct step pull = {
+    "pull a response", {RMM_EL3_TOKEN_SIGN, PBEAM_OPCODE_PULL, PAGE + SIGN_AT, PBEAM_RESPONSE_BYTES_MOST}, {PBEAM_X0_OK}};
+static const struct step pull_none = {
+    "pull a response", {RMM_EL3_TOKEN_SIGN, PBEAM_OPCODE_PULL, PAGE + SIGN_AT, PBEAM_RESPONSE_BYTES_MOST}, {PBEAM_X0_AGAIN}};
+
+static void pull_ticket(uint64_t ticket)
+{
+    pbeam_response_t response;
+    take(&pull);
+    expect("response", pbeam_get_response(page->bytes + SIGN_AT, PBEAM_RESPONSE_BYTES_MOST, &response), true);
+    expect("granule", response.rec_granule, MEMORY);
+    expect("ticket", response.req_ticket, ticket);
+    expect("signature's length", response.sig_len, SIGNATURE_BYTES);
+    expect("signature's first byte", response.signature_buf[0], 0x30 + ticket);
+    bytes_are("signature's byte", response.signature_buf + 1, SIGNATURE_BYTES - 1, 0x5A, 0);
+}
+
+/* A realm asks for a token: the request at its first entry, the response at the next. */
+static uint64_t rec_enter(void)
+{
+    static bool asked;
+    if (asked) {
+        pull_ticket(7);
+    } else {
+        put_request(7);
+        take(&push);
+        take(&pull_none);
+    }
+    asked = !asked;
+    return RMI_SUCCESS;
+}
+
+static uint64_t refusals(void);
+
+static uint64_t drain(void)
+{
+    struct step small = pull;
+    small.what = "pull into too small a buffer";
+    small.x[3] = PBEAM_RESPONSE_SIGNATURE + SIGNATURE_BYTES - 1;
+    small.out[0] = PBEAM_X0_INVAL;
+    take(&small);
+    for (uint64_t ticket = 0; ticket < PBEAM_RESPONSES_MOST; ticket++)
+        pull_ticket(ticket);
+    take(&pull_none);
+    return RMI_SUCCESS;
+}
+
+/* Commands wrote into their buffers and nowhere else: the manifest is still there. */
+static uint64_t report(uint64_t *result)
+{
+    list_manifest();
+    *result = wrong;
+    return RMI_SUCCESS;
+}
+
+static uint64_t rmi(const uint64_t x[8], uint64_t *result)
+{
+    switch (x[0]) {
+    case RMI_VERSION: *result = 0x10000; return RMI_SUCCESS;
+    case RMI_GRANULE_DELEGATE: return change_granule(RMM_GTSI_DELEGATE, x[1]);
+    case RMI_GRANULE_UNDELEGATE: return change_granule(RMM_GTSI_UNDELEGATE, x[1]);
+    case RMI_REC_ENTER: return rec_enter();
+    case RMI_REFUSALS: return refusals();
+    case RMI_DRAIN: return drain();
+    case RMI_REPORT: return report(result);
+    default: return RMI_ERROR_INPUT;
+    }
+}
+
+/* One call of the host in x; its answer goes out by RMM_RMI_REQ_COMPLETE, whose own answer is the next call. */
+static void serve(uint64_t x[8])
+{
+    uint64_t result = 0;
+    const uint64_t status = rmi(x, &result);
+    const uint64_t complete[8] = {RMM_RMI_REQ_COMPLETE, status, result};
+    memcpy(x, complete, sizeof complete);
+    smc(x);
+}
+
+/* ---- Refusals, in the order of the commands' checks. The first granule is Realm, the second Non-secure. ---- */
+
+#define TOKEN(pa, size, c_size) {RMM_ATTEST_GET_PLAT_TOKEN, pa, size, c_size}
+#define SIGN(opcode, pa, size, curve) {RMM_EL3_TOKEN_SIGN, opcode, pa, size, curve}
+#define AT(offset) (PAGE + (offset))
+
+static const struct step refused[] = {
+    {"delegate outside the table", {RMM_GTSI_DELEGATE, MEMORY + GRANULES * PBEAM_GRANULE_BYTES}, {PBEAM_X0_BAD_ADDR}},
+    {"delegate in mid-granule", {RMM_GTSI_DELEGATE, MEMORY + 8}, {PBEAM_X0_BAD_ADDR}},
+    {"delegate a Realm granule", {RMM_GTSI_DELEGATE, MEMORY}, {PBEAM_X0_BAD_PAS}},
+    {"undelegate outside the table", {RMM_GTSI_UNDELEGATE, MEMORY - PBEAM_GRANULE_BYTES}, {PBEAM_X0_BAD_ADDR}},
+    {"undelegate a Non-secure granule", {RMM_GTSI_UNDELEGATE, MEMORY + PBEAM_GRANULE_BYTES}, {PBEAM_X0_BAD_PAS}},
+    {"realm key outside the page", {RMM_ATTEST_GET_REALM_KEY, OUTSIDE, 96}, {PBEAM_X0_BAD_ADDR}},
+    {"realm key past the page", {RMM_ATTEST_GET_REALM_KEY, AT(4095), 2}, {PBEAM_X0_INVAL}},
+    {"realm key of another curve", {RMM_ATTEST_GET_REALM_KEY, AT(KEY_AT), 96, 1}, {PBEAM_X0_INVAL}},
+    {"realm key into too small a buffer", {RMM_ATTEST_GET_REALM_KEY, AT(KEY_AT), REALM_KEY_BYTES - 1}, {PBEAM_X0_UNK}},
+    {"token outside the page", TOKEN(PAGE - 1, 64, 48), {PBEAM_X0_BAD_ADDR}},
+    {"token past the page", TOKEN(AT(4033), 64, 48), {PBEAM_X0_INVAL}},
+    {"token for 33 bytes of challenge", TOKEN(AT(TOKEN_AT), 64, 33), {PBEAM_X0_INVAL}},
+    {"token for more challenge than buffer", TOKEN(AT(TOKEN_AT), 47, 48), {PBEAM_X0_INVAL}},
+    {"token goes on without a session", TOKEN(AT(TOKEN_AT), 64, 0), {PBEAM_X0_INVAL}},
+    {"features, register 1", {RMM_EL3_FEATURES, 1}, {PBEAM_X0_INVAL}},
+    {"signing with opcode 4", SIGN(4, AT(SIGN_AT), 80, 0), {PBEAM_X0_INVAL}},
+    {"push outside the page", SIGN(PBEAM_OPCODE_PUSH, OUTSIDE, 80, 0), {PBEAM_X0_INVAL}},
+    {"push past the page", SIGN(PBEAM_OPCODE_PUSH, AT(SIGN_AT), ROOM + 1, 0), {PBEAM_X0_INVAL}},
+    {"push of 79 bytes", SIGN(PBEAM_OPCODE_PUSH, AT(SIGN_AT), 79, 0), {PBEAM_X0_INVAL}},
+    {"public key of another curve", SIGN(PBEAM_OPCODE_KEY, AT(SIGN_AT), PUBLIC_KEY_BYTES, 1), {PBEAM_X0_INVAL}},
+    {"public key into too small a buffer", SIGN(PBEAM_OPCODE_KEY, AT(SIGN_AT), PUBLIC_KEY_BYTES - 1, 0), {PBEAM_X0_INVAL}},
+    {"public key", SIGN(PBEAM_OPCODE_KEY, AT(SIGN_AT), PUBLIC_KEY_BYTES, 0), {PBEAM_X0_OK, PUBLIC_KEY_BYTES}},
+    {"key update of mecid 65,536", {RMM_MECID_KEY_UPDATE, 65536}, {PBEAM_X0_INVAL}},
+    {"key update of mecid 9", {RMM_MECID_KEY_UPDATE, 9}, {PBEAM_X0_OK}},
+    {"a call that no one knows", {UINT64_C(0xC40001B7), 1, 2, 3, 4}, {PBEAM_X0_UNK}},
+};
+
+/* A push whose request has other ids. */
+static void push_other(const char *what, size_t id)
+{
+    struct step step = push;
+    step.what = what;
+    step.out[0] = PBEAM_X0_INVAL;
+    put_request(0);
+    page->bytes[SIGN_AT + id] ^= 2;
+    take(&step);
+}
+
+static void fill_queue(void)
+{
+    struct step full = push;
+    full.what = "push a ninth request";
+    full.out[0] = PBEAM_X0_AGAIN;
+    for (uint64_t ticket = 0; ticket < PBEAM_REQUESTS_MOST; ticket++) {
+        put_request(ticket);
+        take(&push);
+    }
+    take(&full);
+}
+
+static uint64_t refusals(void)
+{
+    take_all(refused, sizeof refused / sizeof refused[0]);
+    push_other("push for another algorithm", PBEAM_REQUEST_ALGORITHM);
+    push_other("push for another hash", PBEAM_REQUEST_HASH_ID);
+    fill_queue();
+    if (settings() & SET_WRONG)
+        take(&pull); /* nothing is signed yet: the answer is AGAIN */
+    return RMI_SUCCESS;
+}

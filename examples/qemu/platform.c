@@ -1,0 +1,91 @@
+#include "platform.h"
+
+#include "board.h"
+#include "console.h"
+
+static uint8_t realm_key[REALM_KEY_BYTES], public_key[PUBLIC_KEY_BYTES];
+
+void platform_realm_key(pbeam_context_t *kit)
+{
+    memset(realm_key, 0x21, sizeof realm_key);
+    kit->realm_key = pbeam_bytes(realm_key, sizeof realm_key);
+}
+
+/* The part that makes tokens is slow: it answers at the second asking. */
+static struct {
+    uint8_t challenge[PBEAM_CHALLENGE_SHA512];
+    size_t length; /* 0: it has nothing to do */
+} maker;
+
+/* The one that a session is lent, and one to make the next. */
+static uint8_t tokens[2][TOKEN_BYTES];
+static size_t lent, lent_length;
+
+static bool same(const uint8_t *a, const uint8_t *b, size_t n)
+{
+    for (size_t i = 0; i < n; i++)
+        if (a[i] != b[i])
+            return false;
+    return true;
+}
+
+/* Whether the token for this challenge is made, into `into`. */
+static bool maker_has(const uint8_t *challenge, size_t length, uint8_t into[TOKEN_BYTES])
+{
+    if (maker.length != length || !same(maker.challenge, challenge, length)) {
+        memcpy(maker.challenge, challenge, length); /* a copy: the page is the monitor's after the call */
+        maker.length = length;
+        say("EL3: begins a token for a challenge of %d bytes\n", (uint64_t)length);
+        return false;
+    }
+    for (size_t i = 0; i < TOKEN_BYTES; i++)
+        into[i] = (uint8_t)(challenge[i % length] + i);
+    maker.length = 0;
+    return true;
+}
+
+/* The token of a session that is under way is never written: a start that is told AGAIN leaves that session as it was. */
+bool platform_choose_token(pbeam_context_t *kit, const pbeam_call_t *call)
+{
+    pbeam_place_t place;
+    kit->busy = false;
+    kit->token = pbeam_bytes(tokens[lent], lent_length);
+    /* The challenge stands where the first hunk will be written, so it is looked at before the call. */
+    (void)pbeam_context_challenge(kit, call, &place);
+    if (pbeam_place_length(&place) == 0)
+        return false; /* the call goes on, or will be refused */
+    if (!maker_has(kit->page->bytes + pbeam_place_offset(&place), pbeam_place_length(&place), tokens[1 - lent])) {
+        kit->busy = true;
+        return false;
+    }
+    kit->token = pbeam_bytes(tokens[1 - lent], TOKEN_BYTES);
+    return true;
+}
+
+void platform_token_is_lent(void)
+{
+    lent = 1 - lent;
+    lent_length = TOKEN_BYTES;
+}
+
+/* The signature begins with the first byte of the hash, so that the monitor can tell whose it is. */
+static void sign_oldest(pbeam_queue_t *queue, const pbeam_request_t *request)
+{
+    pbeam_registers_t out;
+    uint8_t hash[PBEAM_HASH_BYTES], signature[SIGNATURE_BYTES];
+    pbeam_request_hash_buf(request, hash);
+    memset(signature, 0x5A, sizeof signature);
+    signature[0] = hash[0];
+    pbeam_queue_sign(queue, pbeam_bytes(signature, sizeof signature), &out);
+    say("EL3: signs for granule 0x%x, ticket %d: %s\n", pbeam_request_rec_granule(request), pbeam_request_req_ticket(request),
+        pbeam_x0_text(pbeam_registers_x0(&out)));
+}
+
+void platform_sign(pbeam_context_t *kit)
+{
+    pbeam_request_t request;
+    memset(public_key, 0x04, sizeof public_key);
+    kit->public_key = pbeam_bytes(public_key, sizeof public_key);
+    while (pbeam_queue_oldest(&kit->queue, &request) != 0 && pbeam_queue_responses(&kit->queue) < PBEAM_RESPONSES_MOST)
+        sign_oldest(&kit->queue, &request);
+}

@@ -1,0 +1,285 @@
+//! The other side of the benchmark for reader and writer: hand-written for speed, with the parameters of the C functions. The view's words
+//! are written while the sections are judged, a list is added while it is judged, and the page is made in the order of addresses.
+//! `tests/fast.rs` holds it to the reference.
+
+use crate::exports::ViewImage;
+use crate::reference::entries::{bank_sum, console_sum};
+use crate::reference::layout::{
+    accepted_minor, half_at, header_offset, placed, placed_mut, word_at, Edition, CONSOLE,
+    ENTRY_WORDS, PAGE, SECTIONS,
+};
+use crate::reference::writer::Lists;
+
+const PLACE: i32 = -5;
+const VERSION: i32 = -6;
+const RULES: i32 = -7;
+/// So many banks are judged one by one: a loop over two at a time is not worth its start.
+const FEW: usize = 4;
+
+/// `pbeam_read`.
+#[inline(never)]
+pub fn read(page: &[u8], base: u64, edition: u64, view: &mut ViewImage) -> i32 {
+    let code = judge(page, base, edition, view).err().unwrap_or(0);
+    if code != 0 {
+        *view = [0; 15];
+    }
+    code
+}
+
+/// Writes what the page shows as far as it is judged.
+#[inline]
+fn judge(page: &[u8], base: u64, edition: u64, view: &mut ViewImage) -> Result<(), i32> {
+    let page = placed(page, base).ok_or(PLACE)?;
+    let reader = Edition::new(edition).ok_or(VERSION)?;
+    let minor = accepted_minor(half_at(page, 0)).ok_or(VERSION)?;
+    let edition = reader.on_minor(minor);
+    let (core, plat) = (edition.core() as u64, word_at(page, 8));
+    let inside = (core..PAGE as u64).contains(&plat.wrapping_sub(base));
+    if half_at(page, 4) != 0 || !(plat == 0 || inside) {
+        return Err(RULES);
+    }
+    view[..3].copy_from_slice(&[u64::from(minor), edition.number(), plat]);
+    let sections = edition.sections();
+    show_sections(page, base, core, sections, view).ok_or(RULES)
+}
+
+/// Each section by itself, and that no two arrays overlap. Written out, so that a section's places are constants.
+#[inline]
+fn show_sections(
+    page: &[u8; PAGE],
+    base: u64,
+    core: u64,
+    sections: usize,
+    view: &mut ViewImage,
+) -> Option<()> {
+    view[3..].fill(0);
+    if sections == 0 {
+        return Some(());
+    }
+    let dram = show::<0>(page, base, core, view)?;
+    if sections == 1 {
+        return Some(());
+    }
+    let console = show::<1>(page, base, core, view)?;
+    if !apart(dram, console) {
+        return None;
+    }
+    if sections == 2 {
+        return Some(());
+    }
+    let ncoh = show::<2>(page, base, core, view)?;
+    let coh = show::<3>(page, base, core, view)?;
+    let others = apart(dram, ncoh) && apart(console, ncoh) && apart(dram, coh);
+    (others && apart(console, coh) && apart(ncoh, coh)).then_some(())
+}
+
+/// Where an array begins and ends; zeros for none.
+type Bounds = (u64, u64);
+
+#[inline]
+fn apart(a: Bounds, b: Bounds) -> bool {
+    a.1 <= b.0 || b.1 <= a.0
+}
+
+/// Judges a section of the edition and writes its three words of the view.
+#[inline]
+fn show<const K: usize>(
+    page: &[u8; PAGE],
+    base: u64,
+    core: u64,
+    view: &mut ViewImage,
+) -> Option<Bounds> {
+    let header = header_offset(K);
+    let count = word_at(page, header);
+    let pointer = word_at(page, header + 8);
+    let check = word_at(page, header + 16);
+    if count | pointer | check == 0 {
+        view[3 + 3 * K] = 1;
+        return Some((0, 0));
+    }
+    let (size, offset) = (8 * ENTRY_WORDS[K] as u64, pointer.wrapping_sub(base));
+    if offset < core || offset > PAGE as u64 || offset % 8 != 0 {
+        return None;
+    }
+    if count == 0 || count > (PAGE as u64 - offset) / size {
+        return None;
+    }
+    let end = offset + count * size;
+    let array = &page[offset as usize..end as usize];
+    let sum = if K == CONSOLE {
+        consoles(array)
+    } else {
+        banks(array)
+    }?;
+    let total = sum.wrapping_add(count).wrapping_add(pointer);
+    if total.wrapping_add(check) != 0 {
+        return None;
+    }
+    view[3 + 3 * K..6 + 3 * K].copy_from_slice(&[2, offset, count]);
+    Some((offset, end))
+}
+
+#[inline]
+fn banks(array: &[u8]) -> Option<u64> {
+    if array.len() <= 16 * FEW {
+        return few(array.chunks_exact(16).map(bank_at));
+    }
+    many_banks(array)
+}
+
+#[inline]
+fn bank_at(bank: &[u8]) -> [u64; 2] {
+    [word_at(bank, 0), word_at(bank, 8)]
+}
+
+/// As `bank_sum`, of a few.
+#[inline]
+fn few(banks: impl Iterator<Item = [u64; 2]>) -> Option<u64> {
+    let (mut sum, mut low, mut high) = (0u64, 0, 0);
+    for [base, size] in banks {
+        let span = size.wrapping_sub(1);
+        low |= base | size;
+        high |= base | span | base.wrapping_add(span);
+        sum = sum.wrapping_add(base).wrapping_add(size);
+    }
+    (low & 0xFFF == 0 && high >> 52 == 0).then_some(sum)
+}
+
+// Not inlined: three sections share the loop.
+#[inline(never)]
+fn many_banks(array: &[u8]) -> Option<u64> {
+    bank_sum(array.chunks_exact(16).map(bank_at))
+}
+
+#[inline]
+fn consoles(array: &[u8]) -> Option<u64> {
+    if array.len() == 48 {
+        return one_console(console_at(array));
+    }
+    many_consoles(array)
+}
+
+#[inline]
+fn console_at(console: &[u8]) -> [u64; 6] {
+    [
+        word_at(console, 0),
+        word_at(console, 8),
+        word_at(console, 16),
+        word_at(console, 24),
+        word_at(console, 32),
+        word_at(console, 40),
+    ]
+}
+
+/// As `console_sum`, of one.
+#[inline]
+fn one_console(words: [u64; 6]) -> Option<u64> {
+    let [base, pages, .., flags] = words;
+    let span = pages.wrapping_sub(1);
+    let high = span | (base >> 12).wrapping_add(span);
+    let sound = base & 0xFFF == 0 && high >> 40 == 0 && flags == 0;
+    sound.then(|| words.into_iter().fold(0, u64::wrapping_add))
+}
+
+#[inline(never)]
+fn many_consoles(array: &[u8]) -> Option<u64> {
+    console_sum(array.chunks_exact(48).map(console_at))
+}
+
+/// `pbeam_write`.
+#[inline(never)]
+pub fn write(base: u64, edition: u64, lists: Lists, page: &mut [u8]) -> u32 {
+    let page = match placed_mut(page, base) {
+        Some(page) => page,
+        None => return 1,
+    };
+    let edition = match Edition::new(edition) {
+        Some(edition) => edition,
+        None => return 2,
+    };
+    let sums = match sums_of(lists) {
+        Some(sums) => sums,
+        None => return 3,
+    };
+    let sections = edition.sections();
+    if lists[sections..].iter().any(|list| !list.is_empty()) {
+        return 4;
+    }
+    let words = lists
+        .iter()
+        .fold(0usize, |words, list| words.saturating_add(list.len()));
+    if words > (PAGE - edition.core()) / 8 {
+        return 5;
+    }
+    fill(page, base, edition, lists, sums);
+    0
+}
+
+#[inline]
+fn sums_of([dram, console, ncoh, coh]: Lists) -> Option<[u64; SECTIONS]> {
+    Some([
+        bank_list(dram)?,
+        console_list(console)?,
+        bank_list(ncoh)?,
+        bank_list(coh)?,
+    ])
+}
+
+#[inline]
+fn bank_list(list: &[u64]) -> Option<u64> {
+    if list.len() <= 2 * FEW {
+        let sum = few(list.chunks_exact(2).map(|bank| [bank[0], bank[1]]));
+        return sum.filter(|_| list.len() % 2 == 0);
+    }
+    many_listed(list)
+}
+
+#[inline(never)]
+fn many_listed(list: &[u64]) -> Option<u64> {
+    let sum = bank_sum(list.chunks_exact(2).map(|bank| [bank[0], bank[1]]));
+    sum.filter(|_| list.len() % 2 == 0)
+}
+
+#[inline]
+fn console_list(list: &[u64]) -> Option<u64> {
+    if list.is_empty() {
+        return Some(0);
+    }
+    if let Ok(console) = list.try_into() {
+        return one_console(console);
+    }
+    let consoles = list.chunks_exact(6);
+    let odd = consoles.remainder();
+    let sum = console_sum(consoles.map(|words| words.try_into().expect("a console")));
+    sum.filter(|_| odd.is_empty())
+}
+
+/// The page of lists that were all checked: core, arrays in section order, zeros.
+#[inline]
+fn fill(page: &mut [u8; PAGE], base: u64, edition: Edition, lists: Lists, sums: [u64; SECTIONS]) {
+    let mut at = edition.core();
+    put(page, 0, &[edition.number(), 0]);
+    for k in 0..edition.sections() {
+        let list = lists[k];
+        let mut words = [0; 3];
+        if !list.is_empty() {
+            let count = (list.len() / ENTRY_WORDS[k]) as u64;
+            let pointer = base + at as u64;
+            let total = count.wrapping_add(pointer).wrapping_add(sums[k]);
+            words = [count, pointer, total.wrapping_neg()];
+        }
+        put(page, header_offset(k), &words);
+        put(page, at, list);
+        at += 8 * list.len();
+    }
+    page[at..].fill(0);
+}
+
+/// Sets words of the page from an offset on.
+#[inline]
+fn put(page: &mut [u8; PAGE], at: usize, words: &[u64]) {
+    let place = &mut page[at..at + 8 * words.len()];
+    for (cell, word) in place.chunks_exact_mut(8).zip(words) {
+        cell.copy_from_slice(&word.to_le_bytes());
+    }
+}

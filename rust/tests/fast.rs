@@ -1,0 +1,79 @@
+//! The reader and the writer that are written for speed, against the reference: the code and every word or byte, of random pages and
+//! lists and of the pages that real firmware wrote.
+
+use potterbeam_tests::exports::Exports;
+use potterbeam_tests::fast;
+use potterbeam_tests::model::Model;
+use potterbeam_tests::random::Random;
+use potterbeam_tests::reference::layout::word_at;
+use std::collections::BTreeMap;
+
+const CALLS: usize = 200_000;
+
+/// Reads on both sides; answers the code.
+fn read(page: &[u8], base: u64, edition: u64) -> i32 {
+    // Stale, so that a word that is not written shows.
+    let [mut ours, mut theirs] = [[7; 15]; 2];
+    let code = fast::read(page, base, edition, &mut ours);
+    let expected = Model::read(page, base, edition, &mut theirs);
+    assert_eq!((code, ours), (expected, theirs), "{base:x} {edition}");
+    code
+}
+
+#[test]
+fn random_pages() {
+    let mut random = Random::new(31);
+    let mut met = BTreeMap::new();
+    for i in 0..CALLS {
+        let reading = match i % 2 {
+            0 => random.any_page(),
+            _ => random.valid_page(),
+        };
+        let code = read(&reading.page, reading.base, reading.edition);
+        *met.entry(code).or_insert(0) += 1;
+    }
+    println!("fast::read: {met:?}");
+    assert!([0, -5, -6, -7].iter().all(|code| met[code] > CALLS / 500));
+}
+
+#[test]
+fn random_lists() {
+    let mut random = Random::new(32);
+    let mut met = BTreeMap::new();
+    for i in 0..CALLS {
+        let writing = match i % 2 {
+            0 => random.any_writing(),
+            _ => random.valid_writing(),
+        };
+        let (base, edition, lists) = (writing.base, writing.edition, writing.lists());
+        let [mut ours, mut theirs] = [(); 2].map(|()| writing.page.clone());
+        let answer = fast::write(base, edition, lists, &mut ours);
+        assert_eq!(answer, Model::write(base, edition, lists, &mut theirs));
+        assert!(ours == theirs, "{lists:x?}");
+        *met.entry(answer).or_insert(0) += 1;
+    }
+    println!("fast::write: {met:?}");
+    assert!((0..6).all(|answer| met[&answer] > CALLS / 500));
+}
+
+/// The pages of firmware and the reader's run vectors: 8 bytes of B, then the page. A vector has its edition before.
+#[test]
+fn pages_of_files() {
+    let mut pages = 0;
+    for (folder, head) in [("tests/reader/field", 0), ("crates/reader_vectors/data", 8)] {
+        let folder = format!("{}/../{folder}", env!("CARGO_MANIFEST_DIR"));
+        for file in std::fs::read_dir(folder).expect("a folder") {
+            let path = file.expect("a file").path();
+            if path.extension().map_or(true, |kind| kind == "in") {
+                let bytes = std::fs::read(path).expect("a page");
+                let (base, page) = bytes[head..].split_at(8);
+                for edition in 0..6 {
+                    read(page, word_at(base, 0), edition);
+                }
+                pages += 1;
+            }
+        }
+    }
+    println!("{pages} files");
+    assert!(pages > 100);
+}
