@@ -178,7 +178,8 @@
 #define PBEAM_BANK_SIZE 1
 
 /* A console, and word numbers in it. Base is a multiple of 4,096, map_pages is not 0, base + 4,096 x map_pages is at most
- * PBEAM_ADDRESS_LIMIT, flags are 0. Name, clock and baud rate may be anything. */
+ * PBEAM_ADDRESS_LIMIT, flags are 0 on a page of minor 4 or less, and when written. Name, clock and baud rate may be
+ * anything. On a page of minor 5 or more flags may be anything too: pbeam_word then shows them as 0, while the array has the page's own. */
 #define PBEAM_CONSOLE_BYTES 48
 #define PBEAM_CONSOLE_WORDS 6
 #define PBEAM_CONSOLE_BASE 0

@@ -107,7 +107,7 @@ fn show<const K: usize>(
     let end = offset + count * size;
     let array = &page[offset as usize..end as usize];
     let sum = if K == CONSOLE {
-        consoles(array)
+        consoles(view[0], array)
     } else {
         banks(array)
     }?;
@@ -152,11 +152,11 @@ fn many_banks(array: &[u8]) -> Option<u64> {
 }
 
 #[inline]
-fn consoles(array: &[u8]) -> Option<u64> {
+fn consoles(minor: u64, array: &[u8]) -> Option<u64> {
     if array.len() == 48 {
-        return one_console(console_at(array));
+        return one_console(minor, console_at(array));
     }
-    many_consoles(array)
+    many_consoles(minor, array)
 }
 
 #[inline]
@@ -173,17 +173,17 @@ fn console_at(console: &[u8]) -> [u64; 6] {
 
 /// As `console_sum`, of one.
 #[inline]
-fn one_console(words: [u64; 6]) -> Option<u64> {
+fn one_console(minor: u64, words: [u64; 6]) -> Option<u64> {
     let [base, pages, .., flags] = words;
     let span = pages.wrapping_sub(1);
     let high = span | (base >> 12).wrapping_add(span);
-    let sound = base & 0xFFF == 0 && high >> 40 == 0 && flags == 0;
+    let sound = base & 0xFFF == 0 && high >> 40 == 0 && (flags == 0 || minor > 4);
     sound.then(|| words.into_iter().fold(0, u64::wrapping_add))
 }
 
 #[inline(never)]
-fn many_consoles(array: &[u8]) -> Option<u64> {
-    console_sum(array.chunks_exact(48).map(console_at))
+fn many_consoles(minor: u64, array: &[u8]) -> Option<u64> {
+    console_sum(minor, array.chunks_exact(48).map(console_at))
 }
 
 /// `pbeam_write`.
@@ -246,11 +246,13 @@ fn console_list(list: &[u64]) -> Option<u64> {
         return Some(0);
     }
     if let Ok(console) = list.try_into() {
-        return one_console(console);
+        return one_console(4, console);
     }
     let consoles = list.chunks_exact(6);
     let odd = consoles.remainder();
-    let sum = console_sum(consoles.map(|words| words.try_into().expect("a console")));
+    let consoles = consoles.map(|words| words.try_into().expect("a console"));
+    // No edition that is written has flags.
+    let sum = console_sum(4, consoles);
     sum.filter(|_| odd.is_empty())
 }
 

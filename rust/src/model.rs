@@ -14,9 +14,9 @@ use crate::reference::codes::{Answer, Outcome};
 use crate::reference::features::{features, forward, key_update};
 use crate::reference::granules::{delegate, delegate_list, undelegate, undelegate_list};
 use crate::reference::key::realm_key;
-use crate::reference::layout::{accepted_minor, word_at, ENTRY_WORDS};
+use crate::reference::layout::{accepted_minor, ENTRY_WORDS};
 use crate::reference::queue::Queue;
-use crate::reference::reader::{array, read};
+use crate::reference::reader::{array, read, shown_word};
 use crate::reference::runtime::{self, call, Call, Reply, State, PLAT_TOKEN, TOKEN_SIGN};
 use crate::reference::signing::{token_sign, SignCall};
 use crate::reference::token::{challenge, challenge_checks, TokenCall};
@@ -54,7 +54,9 @@ impl Exports for Model {
         };
         let mut entries = part.chunks_exact(8 * ENTRY_WORDS[section]);
         match entries.nth(entry) {
-            Some(entry) if word < ENTRY_WORDS[section] => word_at(entry, 8 * word),
+            Some(entry) if word < ENTRY_WORDS[section] => {
+                shown_word(view[0], section, entry, word)
+            }
             _ => 0,
         }
     }

@@ -108,7 +108,7 @@ fn print_reading(out: &mut String, input: &[u8]) {
 
 #[test]
 fn reader_vectors() {
-    compare("reader_vectors", 450, print_reading);
+    compare("reader_vectors", 538, print_reading);
 }
 
 // ---- Listing ----

@@ -237,7 +237,13 @@ impl Random {
         }
         let pointer = base + offset as u64;
         let mut sum = pointer.wrapping_add(count as u64);
-        let entries: Vec<u64> = (0..count).flat_map(|_| self.entry(k)).collect();
+        let mut entries: Vec<u64> = (0..count).flat_map(|_| self.entry(k)).collect();
+        // A console's flags are free from minor 5 on.
+        if k == CONSOLE && half_at(page, 0) > 4 && self.one_in(2) {
+            for flags in entries.iter_mut().skip(5).step_by(ENTRY_WORDS[CONSOLE]) {
+                *flags = self.free_word();
+            }
+        }
         for (i, &word) in entries.iter().enumerate() {
             put(page, offset + 8 * i, word);
             sum = sum.wrapping_add(word);

@@ -28,9 +28,9 @@ pub fn bank_sum(banks: impl ExactSizeIterator<Item = [u64; 2]>) -> Option<u64> {
     (aligned && either >> (MEMORY_BITS + 1) == 0 && high >> MEMORY_BITS == 0).then_some(sum)
 }
 
-/// The sum of all words of consoles, if each of them is sound.
+/// The sum of all words of consoles, if each of them is sound on a page of this minor: flags are free from minor 5 on.
 #[inline]
-pub fn console_sum(consoles: impl Iterator<Item = [u64; 6]>) -> Option<u64> {
+pub fn console_sum(minor: u64, consoles: impl Iterator<Item = [u64; 6]>) -> Option<u64> {
     // A sum for each field, so that they are added side by side.
     let mut sums = [0u64; 6];
     let (mut bases, mut high, mut pages, mut set) = (0, 0, 0, 0);
@@ -46,7 +46,7 @@ pub fn console_sum(consoles: impl Iterator<Item = [u64; 6]>) -> Option<u64> {
         }
     }
     let inside = (bases | high) >> MEMORY_BITS == 0 && pages >> PAGE_BITS == 0;
-    (inside && bases & OFFSET_MASK == 0 && set == 0)
+    (inside && bases & OFFSET_MASK == 0 && (set == 0 || minor > 4))
         .then(|| sums.into_iter().fold(0, u64::wrapping_add))
 }
 
@@ -61,9 +61,10 @@ mod tests {
         aligned && size != 0 && u128::from(base) + u128::from(size) <= 1 << 52
     }
 
-    fn console_sound([base, map_pages, _, _, _, flags]: [u64; 6]) -> bool {
+    fn console_sound(minor: u64, [base, map_pages, _, _, _, flags]: [u64; 6]) -> bool {
         let end = u128::from(base) + 4096 * u128::from(map_pages);
-        base % 4096 == 0 && map_pages != 0 && end <= 1 << 52 && flags == 0
+        let free = minor >= 5;
+        base % 4096 == 0 && map_pages != 0 && end <= 1 << 52 && (free || flags == 0)
     }
 
     fn sum<const N: usize>(entries: &[[u64; N]]) -> u64 {
@@ -122,9 +123,10 @@ mod tests {
                     ]
                 })
                 .collect();
-            let expected = consoles.iter().all(|&console| console_sound(console));
+            let minor = random.pick(&[1, 3, 4, 5, 6, 65535]);
+            let expected = consoles.iter().all(|&console| console_sound(minor, console));
             sound += u32::from(expected);
-            let answer = console_sum(consoles.iter().copied());
+            let answer = console_sum(minor, consoles.iter().copied());
             assert_eq!(answer, expected.then(|| sum(&consoles)), "{consoles:x?}");
         }
         assert!(sound > 10_000);

@@ -1,7 +1,7 @@
 //! The listing's text.
 
 use super::layout::{word_at, CONSOLE, ENTRY_WORDS};
-use super::reader::{array, read, Refusal, Section};
+use super::reader::{array, read, shown_word, Refusal, Section};
 use std::fmt::{Result, Write};
 
 const NAMES: [&str; 4] = ["dram", "console", "ncoh", "coh"];
@@ -38,7 +38,7 @@ pub fn list(out: &mut impl Write, page: &[u8], base: u64, edition: u64) -> Resul
             Section::Empty => writeln!(out, "{name} 0")?,
             Section::Entries { count, .. } => {
                 writeln!(out, "{name} {count}")?;
-                list_entries(out, array(page, base, edition, k), k)?;
+                list_entries(out, view.minor, array(page, base, edition, k), k)?;
             }
         }
     }
@@ -49,10 +49,10 @@ fn list_refusal(out: &mut impl Write, refusal: Refusal) -> Result {
     writeln!(out, "refused {}", refusal.code())
 }
 
-fn list_entries(out: &mut impl Write, array: &[u8], k: usize) -> Result {
+fn list_entries(out: &mut impl Write, minor: u16, array: &[u8], k: usize) -> Result {
     for entry in array.chunks_exact(8 * ENTRY_WORDS[k]) {
         for i in 0..ENTRY_WORDS[k] {
-            let word = word_at(entry, 8 * i);
+            let word = shown_word(minor.into(), k, entry, i);
             let gap = if i == 0 { "" } else { " " };
             if k == CONSOLE && i == NAME_WORD {
                 // Its bytes in their order.

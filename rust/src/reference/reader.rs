@@ -71,6 +71,15 @@ pub fn array(page: &[u8], base: u64, edition: u64, section: usize) -> &[u8] {
     }
 }
 
+/// Word i of an entry of section k as it is shown: a console's flags are 0 from minor 5 on.
+#[inline]
+pub fn shown_word(minor: u64, k: usize, entry: &[u8], i: usize) -> u64 {
+    match (k, i) {
+        (CONSOLE, 5) if minor > 4 => 0,
+        _ => word_at(entry, 8 * i),
+    }
+}
+
 #[inline]
 fn view(page: &[u8; PAGE], base: u64, minor: u16, edition: Edition) -> Option<View> {
     let plat_data = word_at(page, 8);
@@ -81,14 +90,14 @@ fn view(page: &[u8; PAGE], base: u64, minor: u16, edition: Edition) -> Option<Vi
     let count = edition.sections();
     // Written out, so that each section's offsets and entry are constants.
     if count > 0 {
-        sections[0] = read_section::<0>(page, base, edition)?;
+        sections[0] = read_section::<0>(page, base, minor, edition)?;
     }
     if count > 1 {
-        sections[1] = read_section::<1>(page, base, edition)?;
+        sections[1] = read_section::<1>(page, base, minor, edition)?;
     }
     if count > 2 {
-        sections[2] = read_section::<2>(page, base, edition)?;
-        sections[3] = read_section::<3>(page, base, edition)?;
+        sections[2] = read_section::<2>(page, base, minor, edition)?;
+        sections[3] = read_section::<3>(page, base, minor, edition)?;
     }
     disjoint(&sections).then_some(View {
         minor,
@@ -107,7 +116,12 @@ fn plat_data_allowed(plat_data: u64, base: u64, edition: Edition) -> bool {
 
 /// A section of the edition, if place, entries and checksum are sound.
 #[inline]
-fn read_section<const K: usize>(page: &[u8; PAGE], base: u64, edition: Edition) -> Option<Section> {
+fn read_section<const K: usize>(
+    page: &[u8; PAGE],
+    base: u64,
+    minor: u16,
+    edition: Edition,
+) -> Option<Section> {
     let header = header_offset(K);
     let count = word_at(page, header);
     let pointer = word_at(page, header + 8);
@@ -118,7 +132,7 @@ fn read_section<const K: usize>(page: &[u8; PAGE], base: u64, edition: Edition) 
     let section = locate(count, pointer.wrapping_sub(base), edition, K)?;
     let array = &page[section.bytes(K)];
     let sum = if K == CONSOLE {
-        console_array_sum(array)
+        console_array_sum(minor, array)
     } else {
         bank_array_sum(array)
     }?;
@@ -149,8 +163,8 @@ fn bank_array_sum(array: &[u8]) -> Option<u64> {
 }
 
 #[inline(never)]
-fn console_array_sum(array: &[u8]) -> Option<u64> {
-    console_sum(array.chunks_exact(48).map(console_words))
+fn console_array_sum(minor: u16, array: &[u8]) -> Option<u64> {
+    console_sum(minor.into(), array.chunks_exact(48).map(console_words))
 }
 
 #[inline]

@@ -49,7 +49,8 @@ fn list_sum(list: &[u64], k: usize) -> Option<u64> {
     if k == CONSOLE {
         let consoles = list.chunks_exact(6);
         let odd = consoles.remainder();
-        console_sum(consoles.map(entry::<6>)).filter(|_| odd.is_empty())
+        // No edition that is written has flags, so any of them will do as the minor.
+        console_sum(4, consoles.map(entry::<6>)).filter(|_| odd.is_empty())
     } else {
         let banks = list.chunks_exact(2);
         let odd = banks.remainder();
