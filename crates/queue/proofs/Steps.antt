@@ -7,7 +7,6 @@ use Rattle.codes.specs.Codes.{isOk, answerOf}
 use Rattle.codes.specs.declared.Code.{Code}
 use Rattle.codes.specs.declared.Code.the-variants.{Ok}
 use Rattle.codes.specs.declared.Answer.{Answer}
-use Rattle.codes.proofs.Gates.{if-ok-by}
 use Rattle.queue.specs.Queue.{Lists, SigningStep, queued}
 
 -- a refusal
@@ -20,11 +19,6 @@ refuses k new page q c a l p r e h = rw (e, h, p, r)
 pub accepts : (k : Code) (new : SigningStep) (page : List ℕ) (q : Lists) → k ≡ Ok → new ≡ queued k new page q
 unfolding queued
 accepts k new page q e = rw e
-
--- an answer of OK comes from a code of OK
-pub queued-ok : (k : Code) (new : SigningStep) (page : List ℕ) (q : Lists) → queued k new page q .answer .code ≡ Ok → k ≡ Ok
-unfolding queued answerOf
-queued-ok k new page q = if-ok-by (λ (s : SigningStep). s .answer .code ≡ Ok → k ≡ Ok) k new (record { answer = answerOf k 0 0; page = page; queue = q }) (λ e h. e) (λ e h. h)
 
 -- an answer of OK is no refusal
 pub not-refused : (a : Answer) (x1 x2 : ℕ) → a ≡ answerOf Ok x1 x2 → isOk (a .code) ≡ false → ⊥
