@@ -1,3 +1,3 @@
+pub mod Acts
 pub mod Sides
 pub mod Steps
-pub mod Acts

@@ -1,2 +1,2 @@
-pub mod Pushes
 pub mod Acts
+pub mod Pushes

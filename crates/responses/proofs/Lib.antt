@@ -1,4 +1,4 @@
+pub mod Acts
 pub mod Laid
 pub mod Pulls
 pub mod Signs
-pub mod Acts

@@ -1,2 +1,2 @@
-pub mod Signing
 pub mod Acts
+pub mod Signing
