@@ -1,4 +1,4 @@
--- What the lookup of the oldest request tells, by the array and its count. Assumes nothing.
+-- What the lookup of the oldest request tells, by the array and its count; and what an answer of OK tells of the code. Assumes nothing.
 use Prim.Native.Nat.{ℕ, zero, suc, _≤_}
 use mathlib.Core.Path.{_≡_, refl, ap}
 use mathlib.Core.Bool.{Bool, cond}
@@ -6,15 +6,24 @@ use mathlib.Core.List.{List, _∷_}
 use native.Mathlib.Omega.{arith}
 use lib.ListN.{length, take}
 use borrow.Author.Tests.{ne-eqb}
+use Rattle.codes.specs.Codes.{answerOf}
+use Rattle.codes.specs.declared.Code.{Code}
+use Rattle.codes.specs.declared.Code.the-variants.{Ok}
+use Rattle.codes.proofs.Gates.{if-ok-by}
 use Rattle.queue.specs.declared.Request.{Request}
 use Rattle.queue.specs.declared.Queue.{Queue}
 use Rattle.queue.specs.declared.Waiting.the-variants.{None, Some}
-use Rattle.queue.specs.Queue.{waiting, listsOf, oldestRequest, waitingOf}
+use Rattle.queue.specs.Queue.{Lists, SigningStep, queued, waiting, listsOf, oldestRequest, waitingOf}
 
 first-of : (n : ℕ) (r : Request) (rest : List Request) → 1 ≤ n → (waitingOf (take n (r ∷ rest)) ≡ Some) × (oldestRequest (take n (r ∷ rest)) ≡ r)
 unfolding waitingOf oldestRequest
 first-of zero r rest h = absurd (omega arith)
 first-of (suc n) r rest h = (ap (λ (b : Bool). cond b None Some) (ne-eqb (length (take (suc n) (r ∷ rest))) 0 (λ e. omega arith)), refl)
+
+-- an answer of OK comes from a code of OK
+pub queued-ok : (k : Code) (new : SigningStep) (page : List ℕ) (q : Lists) → queued k new page q .answer .code ≡ Ok → k ≡ Ok
+unfolding queued answerOf
+queued-ok k new page q = if-ok-by (λ (s : SigningStep). s .answer .code ≡ Ok → k ≡ Ok) k new (record { answer = answerOf k 0 0; page = page; queue = q }) (λ e h. e) (λ e h. h)
 
 module _ (q : Queue) where
   -- "The oldest request, all its fields, can be asked for": with a count of 1 or more it is the first of the array

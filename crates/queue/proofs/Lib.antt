@@ -1,4 +1,4 @@
+pub mod Acts
 pub mod Sides
 pub mod Holding
 pub mod Steps
-pub mod Acts

@@ -37,11 +37,6 @@ pub next-lists : (k : Code) (new : Lists) (old : Queue) → listsOf (queueNext k
 unfolding queueNext
 next-lists k new old = if-ok-by (λ (q : Queue). listsOf q ≡ ifOk k new (listsOf old)) k (queueHolding new) old (λ h. rw h (lists-back new)) (λ h. rw h)
 
--- an answer of OK comes from a code of OK
-pub queued-ok : (k : Code) (new : SigningStep) (page : List ℕ) (q : Lists) → queued k new page q .answer .code ≡ Ok → k ≡ Ok
-unfolding queued answerOf
-queued-ok k new page q = if-ok-by (λ (s : SigningStep). s .answer .code ≡ Ok → k ≡ Ok) k new (record { answer = answerOf k 0 0; page = page; queue = q }) (λ e h. e) (λ e h. h)
-
 -- an answer of OK is no refusal
 pub not-refused : (a : Answer) (x1 x2 : ℕ) → a ≡ answerOf Ok x1 x2 → isOk (a .code) ≡ false → ⊥
 unfolding answerOf

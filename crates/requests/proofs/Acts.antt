@@ -1,7 +1,7 @@
 -- When a push is OK, and what it then does. The statement lists the conditions of 01 as they stand there, and none of the definitions of the
 -- checks. Assumes nothing.
 use Prim.Native.Nat.{ℕ, _≤_, _<_}
-use mathlib.Core.Path.{_≡_, refl, sym, _∙_}
+use mathlib.Core.Path.{_≡_, refl}
 use mathlib.Core.List.{List, [], _∷_, _++_}
 use lib.ListN.{length}
 use borrow.Author.Tests.{ltb-false, leb-false, eqb-true}
@@ -9,8 +9,8 @@ use Rattle.words.specs.Word.{part, wordAt, halfAt}
 use Rattle.codes.specs.Codes.{extended, x0Of, answerOf}
 use Rattle.codes.specs.declared.Code.the-variants.{Ok}
 use Rattle.codes.proofs.Gates.{fails-ok, unless-ok}
-use Rattle.queue.specs.Queue.{Lists}
-use Rattle.queue.proofs.Steps.{accepts, queued-ok}
+use Rattle.queue.specs.Queue.{Lists, queued}
+use Rattle.queue.proofs.Acts.{queued-ok}
 use Rattle.requests.specs.Push.{requestOf, pushCode, pushed, pushOf}
 use Rattle.requests.proofs.Pushes.{push-ok}
 
@@ -25,8 +25,8 @@ pub buffer-push-acts : (b : List ℕ) (q : Lists) → 80 ≤ length b → halfAt
         responses = q .responses;
       };
     }
-unfolding pushOf pushed requestOf answerOf x0Of extended
-buffer-push-acts b q l a h n = sym (accepts (pushCode b q) _ b q (push-ok b q l (requestOf b) refl a h n)) ∙ rw (a, h)
+unfolding pushOf queued pushed requestOf answerOf x0Of extended
+buffer-push-acts b q l a h n = rw (push-ok b q l (requestOf b) refl a h n, a, h)
 
 -- and only then: by the code of the checks, and by the answer
 pub push-told : (b : List ℕ) (q : Lists) → pushCode b q ≡ Ok → (80 ≤ length b) × (halfAt 0 b ≡ 0) × (halfAt 24 b ≡ 1) × (length (q .requests) < 8)

@@ -1,3 +1,3 @@
-pub mod Pushes
 pub mod Acts
+pub mod Pushes
 pub mod OnImages

@@ -1,7 +1,7 @@
 -- When a pull and the signer's own step are OK, and what they then do. Each statement lists the conditions of 01 as they stand there, and none
 -- of the definitions of the checks. Assumes nothing.
 use Prim.Native.Nat.{ℕ, _+_, _≤_, _<_}
-use mathlib.Core.Path.{_≡_, refl, sym, _∙_}
+use mathlib.Core.Path.{_≡_, refl, _∙_}
 use mathlib.Core.List.{List, [], _∷_, _++_}
 use native.Mathlib.Omega.{arith}
 use native.Mathlib.Nat.{zero-add}
@@ -13,12 +13,12 @@ use Rattle.codes.specs.Codes.{extended, x0Of, answerOf}
 use Rattle.codes.specs.declared.Code.the-variants.{Ok}
 use Rattle.codes.proofs.Gates.{fails-ok}
 use Rattle.queue.specs.declared.Request.{Request}
-use Rattle.queue.specs.Queue.{Signed, Lists, oldestRequest, oldestResponse}
-use Rattle.queue.proofs.Steps.{accepts, queued-ok}
+use Rattle.queue.specs.Queue.{Signed, Lists, queued, oldestRequest, oldestResponse}
+use Rattle.queue.proofs.Acts.{queued-ok}
 use Rattle.responses.specs.Pull.{responseBytes, pullCode, pulled, pullOf}
 use Rattle.responses.specs.Sign.{signCode, signedBy, signed, signOf}
 use Rattle.responses.proofs.Pulls.{pull-ok}
-use Rattle.responses.proofs.Signs.{sign-ok, sign-accepts}
+use Rattle.responses.proofs.Signs.{sign-ok}
 
 pub signed-length : (s : Signed) → length (responseBytes s) ≡ 18 + length (s .signature)
 unfolding responseBytes
@@ -43,10 +43,9 @@ pub buffer-pull-acts : (b : List ℕ) (asked : List Request) (r : Signed) (rest 
       page = leBytes 8 (r .granule) ++ leBytes 8 (r .ticket) ++ leBytes 2 (length (r .signature)) ++ r .signature ++ drop (18 + length (r .signature)) b;
       queue = record { requests = asked; responses = rest };
     }
-unfolding pullOf pulled responseBytes oldestResponse answerOf x0Of extended
+unfolding pullOf queued pulled responseBytes oldestResponse answerOf x0Of extended
 buffer-pull-acts b asked r rest l =
-    sym (accepts (pullCode (length b) _) _ b _ (pull-ok (length b) (record { requests = asked; responses = r ∷ rest }) (λ e. omega arith) r refl l))
-    ∙ rw (front-over b (responseBytes r) (18 + length (r .signature)) (signed-length r))
+    rw (pull-ok (length b) (record { requests = asked; responses = r ∷ rest }) (λ e. omega arith) r refl l, front-over b (responseBytes r) (18 + length (r .signature)) (signed-length r))
 
 -- and only then: by the code of the checks, and by the answer
 pub pull-told : (size : ℕ) (q : Lists) → pullCode size q ≡ Ok → (1 ≤ length (q .responses)) × (18 + length (oldestResponse (q .responses) .signature) ≤ size)
@@ -67,9 +66,9 @@ pub sign-acts : (s : List ℕ) (r : Request) (rest : List Request) (done : List 
       answer = record { code = Ok; x0 = 0; x1 = 0; x2 = 0 };
       queue = record { requests = rest; responses = done ++ (record { granule = r .granule; ticket = r .ticket; signature = s } ∷ []) };
     }
-unfolding signed signedBy oldestRequest answerOf x0Of extended
+unfolding signOf signed signedBy oldestRequest answerOf x0Of extended
 sign-acts s r rest done lo hi m =
-    sym (sign-accepts (record { requests = r ∷ rest; responses = done }) s _ _ refl refl (sign-ok (record { requests = r ∷ rest; responses = done }) s (λ e. omega arith) hi (λ e. omega arith) m))
+    rw (sign-ok (record { requests = r ∷ rest; responses = done }) s (λ e. omega arith) hi (λ e. omega arith) m)
 
 -- and only then
 pub sign-only : (q : Lists) (s : List ℕ) → signOf q s .answer .code ≡ Ok → (1 ≤ length s) × (length s ≤ 104) × (1 ≤ length (q .requests)) × (length (q .responses) < 8)

@@ -1,5 +1,5 @@
+pub mod Acts
 pub mod Laid
 pub mod Pulls
 pub mod Signs
-pub mod Acts
 pub mod OnImages

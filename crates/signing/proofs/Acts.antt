@@ -23,7 +23,7 @@ use Rattle.codes.specs.declared.Answer.{Answer}
 use Rattle.codes.proofs.Gates.{fails-ok, unless-ok, then-ok}
 use Rattle.queue.specs.declared.Request.{Request}
 use Rattle.queue.specs.Queue.{Signed, Lists, SigningStep, queued, oldestResponse}
-use Rattle.queue.proofs.Steps.{queued-ok}
+use Rattle.queue.proofs.Acts.{queued-ok}
 use Rattle.requests.specs.Push.{requestOf, pushed}
 use Rattle.requests.proofs.Acts.{buffer-push-acts, push-told}
 use Rattle.responses.specs.Pull.{responseBytes, pulled}

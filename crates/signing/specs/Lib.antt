@@ -1,3 +1,3 @@
-pub mod Signing
 pub mod Acts
+pub mod Signing
 pub mod OnImage
