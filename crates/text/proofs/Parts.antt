@@ -1,12 +1,13 @@
 -- Parts of the listing by what is shown. Assumes nothing.
-use Prim.Native.Nat.{ℕ, zero, suc, _+_, _-_, _≤_}
-use mathlib.Core.Path.{_≡_, refl, _∙_}
+use Prim.Native.Nat.{ℕ, zero, suc, _+_, _-_, _≤_, _<_}
+use mathlib.Core.Path.{_≡_, refl, sym, _∙_}
 use mathlib.Core.Bool.{Bool, true, false, cond}
 use mathlib.Core.Logic.{⊎-elim}
 use mathlib.Core.List.{List, [], _∷_, _++_}
+use native.Mathlib.Decide.{decLt}
 use native.Mathlib.Omega.{arith}
 use lib.ListN.{length, take, drop, length-drop}
-use lib.Seq.{take-all}
+use lib.Seq.{take-all, length-take-le}
 use lib.Dec.{leb}
 use types.Run.{OneOf}
 use denote.Enum.Declared.{tagOf}
@@ -116,3 +117,14 @@ unfolding printed
 input-read input page base h e f =
     let g : page ≡ drop 8 input = f ∙ take-all (length input - 8) (drop 8 input) (omega (arith, length-drop 8 input)) in
     rw (eq-eqb (length input) 4104 h, e, g)
+
+-- What an input starts with shows all that is printed of it, if it is more than the input of a page: a longer one is refused whatever
+-- follows.
+pub input-start : (n : ℕ) (input : List ℕ) → 4104 < n → printed (take n input) ≡ printed input
+input-start n input h = go (decLt (length input) n)
+  where
+    go : Dec (length input < n) → printed (take n input) ≡ printed input
+    go (yes l) = rw (take-all n input (omega arith))
+    go (no l) =
+        let e : length (take n input) ≡ n = length-take-le n input (omega arith) in
+        sym (input-refused (take n input) (λ z. omega arith)) ∙ input-refused input (λ z. omega arith)

@@ -1,4 +1,5 @@
-use Rattle.text.proofs.Lay.{wrote-same}
+use Rattle.text.proofs.Lay.{wrote-same, listed}
+use Rattle.text.proofs.Room.{listing-fits}
 use Rattle.text.proofs.Parts.{list-refused, list-accepted}
 use borrow.Author.Needs.{needs}
 use Rattle.text.proofs.list.Statement.{statement}
@@ -20,7 +21,9 @@ same-length : tie.Need-same-length
 same-length c = search needs
 
 returns : tie.Need-returns
-returns c = wrote-same (list-refused (c .before .before .before .before .before .before .before .before .before .args .page .now) _ _ _ (c .before .before .before .before .enum-told .given .1) (c .before .before .before .before .before .before .read .ensures .0)) (c .before .before .put-refused .ensures)
+returns c =
+    let a = c .before .before .before .before .before .before .before .before .before .args in
+    listed (listing-fits (a .edition) (a .base) (a .page .now)) (wrote-same (list-refused (a .page .now) _ _ _ (c .before .before .before .before .enum-told .given .1) (c .before .before .before .before .before .before .read .ensures .0)) (c .before .before .put-refused .ensures))
 
 put-view-requires : tie.Need-put-view-requires
 put-view-requires c κs = search needs
@@ -29,7 +32,9 @@ same-length-2 : tie.Need-same-length-2
 same-length-2 c = search needs
 
 returns-2 : tie.Need-returns-2
-returns-2 c = wrote-same (list-accepted (c .before .before .before .before .before .before .before .before .before .before .args .page .now) _ _ _ (c .before .before .before .before .before .reading .given .1) (c .before .before .before .before .before .before .before .read .ensures .0)) (c .before .before .put-view .ensures)
+returns-2 c =
+    let a = c .before .before .before .before .before .before .before .before .before .before .args in
+    listed (listing-fits (a .edition) (a .base) (a .page .now)) (wrote-same (list-accepted (a .page .now) _ _ _ (c .before .before .before .before .before .reading .given .1) (c .before .before .before .before .before .before .before .read .ensures .0)) (c .before .before .put-view .ensures))
 
 pub list-spec : {M : Type 1} → statement M
 list-spec =
