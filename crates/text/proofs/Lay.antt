@@ -23,7 +23,7 @@ lay-none at s = rw (take-nil, append-nil, add-zero, take-append-drop)
 
 -- ---- where all of vs fits, and where it reaches the end
 module _ (at : ℕ) (vs s : List ℕ) where
-  pub lay-in : at + length vs ≤ length s → lay at vs s ≡ take at s ++ vs ++ drop (at + length vs) s
+  lay-in : at + length vs ≤ length s → lay at vs s ≡ take at s ++ vs ++ drop (at + length vs) s
   unfolding lay
   lay-in h = let e : length vs ≤ length s - at = omega arith in rw (take-all (length s - at) vs e)
 
@@ -127,6 +127,9 @@ wrote-more f i h p q = rw add-one (wrote-then h p q)
 pub listed : {r : ℕ} {vs s t : List ℕ} → length vs ≤ listingRoom → LaidOver 0 vs s r t → Listed vs s r t
 listed {r} {vs} {s} {t} h p = record { long = omega arith; most = omega arith; same = p .same; bytes = p .bytes }
 
--- a listing that fits is all there
+-- a text that fits is all there
+pub lay-whole : (vs s : List ℕ) → length vs ≤ length s → take (length vs) (lay 0 vs s) ≡ vs
+lay-whole vs s h = rw (lay-in 0 vs s (omega arith)) (take-at vs _ _ refl)
+
 pub listed-whole : {r : ℕ} {vs s t : List ℕ} → listingRoom ≤ length s → Listed vs s r t → take r t ≡ vs
-listed-whole {r} {vs} {s} {t} h p = rw (p .long, p .bytes, lay-in 0 vs s (omega arith)) (take-at vs _ _ refl)
+listed-whole {r} {vs} {s} {t} h p = rw (p .long, p .bytes) (lay-whole vs s (omega arith))

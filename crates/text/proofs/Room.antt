@@ -23,7 +23,8 @@ use Rattle.sections.specs.Section.{nothing, secOk, wordsIn, rulesAt}
 use Rattle.sections.specs.Steps.{okAt, endOf, apartAt, clearTo, apartTo}
 use Rattle.sections.proofs.Sections.{range-low, range-high, ok-each, rules-steps}
 use Rattle.reader.specs.Answer.{Shown, empty, full, PlatShown, ReaderAnswer, refused, minus, shownSec, shown, platShown, allShown, readerGate, judge, readOf, bytesIn, entryWord, entryCount}
-use Rattle.text.specs.Text.{newline, space, dash, zeroX, manifestText, readAsText, platformText, noneText, absentText, refusedText, titleText, placesIn, places, decimal, signedDecimal, hexText, byteText, nameByte, nameText, wordText, gapText, partText, entryText, countText, stateText, sectionText, headText, pointerText, platText, listingOf, printed, listingRoom}
+use Rattle.text.specs.Text.{lay, newline, space, dash, zeroX, manifestText, readAsText, platformText, noneText, absentText, refusedText, titleText, placesIn, places, decimal, signedDecimal, hexText, byteText, nameByte, nameText, wordText, gapText, partText, entryText, countText, stateText, sectionText, headText, pointerText, platText, listingOf, printed, listingRoom}
+use Rattle.text.proofs.Lay.{lay-whole}
 use Rattle.text.proofs.Spans.{addedUp, NoneShared, spans-fit}
 
 -- ---- numbers
@@ -182,41 +183,42 @@ unfolding joined
 four-lengths f = rw (length-append, length-append, length-append)
 
 module _ (w base : ℕ) (page : List ℕ) where
-  four-most : (e a b c d : ℕ) → rulesAt w e base page ≡ true →
-      a ≡ length (stateText 0 (shown w e 0 (secAt base page 0))) →
-      b ≡ length (stateText 1 (shown w e 1 (secAt base page 1))) →
-      c ≡ length (stateText 2 (shown w e 2 (secAt base page 2))) →
-      d ≡ length (stateText 3 (shown w e 3 (secAt base page 3))) →
-      a + b + c + d ≤ 9639
+  abbrev stateLength : ℕ → ℕ → ℕ
+  stateLength e k = length (stateText k (shown w e k (secAt base page k)))
+
+  states-most : (e : ℕ) → rulesAt w e base page ≡ true → stateLength e 0 + stateLength e 1 + stateLength e 2 + stateLength e 3 ≤ 9639
   unfolding sectionCount core addedUp size wordsPerEntry
-  four-most zero a b c d h f0 f1 f2 f3 =
-      omega (arith, state-out w 0 base page 0 (lit≤ tt), state-out w 0 base page 1 (lit≤ tt), state-out w 0 base page 2 (lit≤ tt), state-out w 0 base page 3 (lit≤ tt))
-  four-most (suc zero) a b c d h f0 f1 f2 f3 =
-      omega (arith, state-out w 1 base page 0 (lit≤ tt), state-out w 1 base page 1 (lit≤ tt), state-out w 1 base page 2 (lit≤ tt), state-out w 1 base page 3 (lit≤ tt))
-  four-most (suc (suc zero)) a b c d h f0 f1 f2 f3 =
+  states-most zero h =
+      let out = state-out w 0 base page in
+      omega (arith, out 0 (lit≤ tt), out 1 (lit≤ tt), out 2 (lit≤ tt), out 3 (lit≤ tt))
+  states-most (suc zero) h =
+      let out = state-out w 1 base page in
+      omega (arith, out 0 (lit≤ tt), out 1 (lit≤ tt), out 2 (lit≤ tt), out 3 (lit≤ tt))
+  states-most (suc (suc zero)) h =
+      let out = state-out w 2 base page in
       let m : base + 40 + (0 + 8 * (2 * countAt 0 page)) ≤ base + 4096 = arrays-fit w 2 base page h (lit≤ tt) in
-      let g0 : length (stateText 0 (shown w 2 0 (secAt base page 0))) ≤ 4 + 38 * countAt 0 page = shown-most w 2 base page h 0 (lit≤ tt) in
-      omega (arith, state-out w 2 base page 1 (lit≤ tt), state-out w 2 base page 2 (lit≤ tt), state-out w 2 base page 3 (lit≤ tt))
-  four-most (suc (suc (suc zero))) a b c d h f0 f1 f2 f3 =
+      let a : stateLength 2 0 ≤ 4 + 38 * countAt 0 page = shown-most w 2 base page h 0 (lit≤ tt) in
+      omega (arith, out 1 (lit≤ tt), out 2 (lit≤ tt), out 3 (lit≤ tt))
+  states-most (suc (suc (suc zero))) h =
+      let out = state-out w 3 base page in
       let m : base + 64 + (0 + 8 * (2 * countAt 0 page) + 8 * (6 * countAt 1 page)) ≤ base + 4096 = arrays-fit w 3 base page h (lit≤ tt) in
-      let g0 : length (stateText 0 (shown w 3 0 (secAt base page 0))) ≤ 4 + 38 * countAt 0 page = shown-most w 3 base page h 0 (lit≤ tt) in
-      let g1 : length (stateText 1 (shown w 3 1 (secAt base page 1))) ≤ 4 + 114 * countAt 1 page = shown-most w 3 base page h 1 (lit≤ tt) in
-      omega (arith, state-out w 3 base page 2 (lit≤ tt), state-out w 3 base page 3 (lit≤ tt))
-  four-most (suc (suc (suc (suc n)))) a b c d h f0 f1 f2 f3 =
+      let a : stateLength 3 0 ≤ 4 + 38 * countAt 0 page = shown-most w 3 base page h 0 (lit≤ tt) in
+      let b : stateLength 3 1 ≤ 4 + 114 * countAt 1 page = shown-most w 3 base page h 1 (lit≤ tt) in
+      omega (arith, out 2 (lit≤ tt), out 3 (lit≤ tt))
+  states-most (suc (suc (suc (suc n)))) h =
       let e = suc (suc (suc (suc n))) in
       let m : base + 112 + (0 + 8 * (2 * countAt 0 page) + 8 * (6 * countAt 1 page) + 8 * (2 * countAt 2 page) + 8 * (2 * countAt 3 page)) ≤ base + 4096 = arrays-fit w e base page h (lit≤ tt) in
-      let g0 : length (stateText 0 (shown w e 0 (secAt base page 0))) ≤ 4 + 38 * countAt 0 page = shown-most w e base page h 0 (lit≤ tt) in
-      let g1 : length (stateText 1 (shown w e 1 (secAt base page 1))) ≤ 4 + 114 * countAt 1 page = shown-most w e base page h 1 (lit≤ tt) in
-      let g2 : length (stateText 2 (shown w e 2 (secAt base page 2))) ≤ 4 + 38 * countAt 2 page = shown-most w e base page h 2 (lit≤ tt) in
-      let g3 : length (stateText 3 (shown w e 3 (secAt base page 3))) ≤ 4 + 38 * countAt 3 page = shown-most w e base page h 3 (lit≤ tt) in
+      let a : stateLength e 0 ≤ 4 + 38 * countAt 0 page = shown-most w e base page h 0 (lit≤ tt) in
+      let b : stateLength e 1 ≤ 4 + 114 * countAt 1 page = shown-most w e base page h 1 (lit≤ tt) in
+      let c : stateLength e 2 ≤ 4 + 38 * countAt 2 page = shown-most w e base page h 2 (lit≤ tt) in
+      let d : stateLength e 3 ≤ 4 + 38 * countAt 3 page = shown-most w e base page h 3 (lit≤ tt) in
       omega arith
 
   sections-most : (e : ℕ) → rulesAt w e base page ≡ true → length (joined 4 (sectionText (λ k. shown w e k (secAt base page k)))) ≤ 9661
   unfolding titleText
   sections-most e h =
       let s : ℕ → Shown = λ k. shown w e k (secAt base page k) in
-      let m = four-most e _ _ _ _ h refl refl refl refl in
-      rw (four-lengths (sectionText s), section-length s 0, section-length s 1, section-length s 2, section-length s 3) (omega arith)
+      rw (four-lengths (sectionText s), section-length s 0, section-length s 1, section-length s 2, section-length s 3) (omega (arith, states-most e h))
 
 -- ---- the two lines before them
 head-most : (w e : ℕ) → w < 65536 → e < 10 → length (headText w e) ≤ 27
@@ -255,6 +257,11 @@ listing-fits r base page = gate-most _ _ _ _ accepted
         let m : r ≤ 4 = leb-true _ _ (both-r _ _ (both-l _ _ v)) in
         let q = platShown (platAt base page) in
         rw (length-append, length-append) (omega (arith, head-most w (min r w) (omega arith) (omega arith), plat-most q, sections-most w base page (min r w) o))
+
+-- in a room of that length no listing is cut
+pub listing-whole : (r base : ℕ) (page out : List ℕ) → listingRoom ≤ length out →
+    take (length (listingOf (readOf r base page))) (lay 0 (listingOf (readOf r base page)) out) ≡ listingOf (readOf r base page)
+listing-whole r base page out h = lay-whole (listingOf (readOf r base page)) out (omega (arith, listing-fits r base page))
 
 pub printed-fits : (input : List ℕ) → length (printed input) ≤ listingRoom
 unfolding printed readerGate

@@ -7,7 +7,7 @@ use reader::View;
 ghost use Prim.Native.Nat.{_+_, _<_, min};
 ghost use mathlib.Core.Path.{_≡_};
 ghost use Rattle.reader.specs.Answer.{readOf, refused};
-ghost use Rattle.reader.specs.Reading.{refusalNumber, readingAnswer};
+ghost use Rattle.reader.specs.Reading.{refusalNumber, shownAs, readingAnswer};
 ghost use Rattle.text.specs.Text.{newline, decimal, hexText, byteText, nameText, wordText, gapText, entryText, countText};
 ghost use Rattle.text.specs.Text.{stateText, titleText, sectionText, headText, pointerText, platText, listingOf, printed};
 ghost use Rattle.words.specs.Word.{joined};
@@ -107,48 +107,79 @@ fn put_end(out: &mut [u8], at: usize) -> usize
     put(out, at, b"\n")
 }
 
-// Entry i of section k of a view: its words, and the end of the line.
-fn put_entry(out: &mut [u8], at: usize, page: &[u8], view: View, k: usize, i: usize) -> usize
-    ensures { λ r. ⌜ LaidOver at (entryText k (seen view (now (page .entry)) k) i) (now (out .entry)) r (now (out .exit)) ⌝ }
+// Entry i of a section k, on a page of that minor: its words, and the end of the line. This and what it is a part of take the section,
+// not its view: a view costs stack at each step that it goes down.
+fn put_entry(
+    out: &mut [u8],
+    at: usize,
+    page: &[u8],
+    minor: u64,
+    section: Section,
+    k: usize,
+    i: usize,
+) -> usize
+    ensures { λ r. ⌜ LaidOver at (entryText k (shownAs minor k section (now (page .entry))) i) (now (out .entry)) r (now (out .exit)) ⌝ }
 {
     let n = entries::entry_words(k);
     let mut to = at;
     for j in 0..n {
         to = put_gap(out, to, j);
-        to = put_word(out, to, k, j, lookup::word_of(page, view, k, i, j));
+        let w = lookup::word_in(page, minor, section, k, i, j);
+        to = put_word(out, to, k, j, w);
     }
     put_end(out, to)
 }
 
-// The first n entries of section k of a view.
-fn put_entries(out: &mut [u8], at: usize, page: &[u8], view: View, k: usize, n: usize) -> usize
-    ensures { λ r. ⌜ LaidOver at (joined n (entryText k (seen view (now (page .entry)) k))) (now (out .entry)) r (now (out .exit)) ⌝ }
+// The first n entries of a section k, on a page of that minor.
+fn put_entries(
+    out: &mut [u8],
+    at: usize,
+    page: &[u8],
+    minor: u64,
+    section: Section,
+    k: usize,
+    n: usize,
+) -> usize
+    ensures { λ r. ⌜ LaidOver at (joined n (entryText k (shownAs minor k section (now (page .entry))))) (now (out .entry)) r (now (out .exit)) ⌝ }
 {
     let mut to = at;
     for i in 0..n {
-        to = put_entry(out, to, page, view, k, i);
+        to = put_entry(out, to, page, minor, section, k, i);
     }
     to
 }
 
-// The count of section k of a view, and its entries.
-fn put_count(out: &mut [u8], at: usize, page: &[u8], view: View, k: usize) -> usize
-    ensures { λ r. ⌜ LaidOver at (countText k (seen view (now (page .entry)) k)) (now (out .entry)) r (now (out .exit)) ⌝ }
+// The count of a section k, and its entries.
+fn put_count(
+    out: &mut [u8],
+    at: usize,
+    page: &[u8],
+    minor: u64,
+    section: Section,
+    k: usize,
+) -> usize
+    ensures { λ r. ⌜ LaidOver at (countText k (shownAs minor k section (now (page .entry)))) (now (out .entry)) r (now (out .exit)) ⌝ }
 {
-    let n = lookup::count_of(page, view, k);
+    let n = lookup::count_in(page, section, k);
     let to = put_decimal(out, at, n as u64);
     let to = put_end(out, to);
-    put_entries(out, to, page, view, k, n)
+    put_entries(out, to, page, minor, section, k, n)
 }
 
-// What follows the name of section k of a view: that it is absent, or its count and entries.
-fn put_state(out: &mut [u8], at: usize, page: &[u8], view: View, k: usize) -> usize
-    ensures { λ r. ⌜ LaidOver at (stateText k (seen view (now (page .entry)) k)) (now (out .entry)) r (now (out .exit)) ⌝ }
+// What follows the name of a section k: that it is absent, or its count and entries.
+fn put_state(
+    out: &mut [u8],
+    at: usize,
+    page: &[u8],
+    minor: u64,
+    section: Section,
+    k: usize,
+) -> usize
+    ensures { λ r. ⌜ LaidOver at (stateText k (shownAs minor k section (now (page .entry)))) (now (out .entry)) r (now (out .exit)) ⌝ }
 {
-    let section = reader::section_of(view, k);
     match section {
         Section::Absent => put(out, at, b"absent\n"),
-        _ => put_count(out, at, page, view, k),
+        _ => put_count(out, at, page, minor, section, k),
     }
 }
 
@@ -164,13 +195,20 @@ fn put_title(out: &mut [u8], at: usize, k: usize) -> usize
     }
 }
 
-// Section k of a view.
-fn put_section(out: &mut [u8], at: usize, page: &[u8], view: View, k: usize) -> usize
-    ensures { λ r. ⌜ LaidOver at (sectionText (seen view (now (page .entry))) k) (now (out .entry)) r (now (out .exit)) ⌝ }
+// A section k, on a page of that minor.
+fn put_section(
+    out: &mut [u8],
+    at: usize,
+    page: &[u8],
+    minor: u64,
+    section: Section,
+    k: usize,
+) -> usize
+    ensures { λ r. ⌜ LaidOver at (sectionText (λ i. shownAs minor i section (now (page .entry))) k) (now (out .entry)) r (now (out .exit)) ⌝ }
 {
     let to = put_title(out, at, k);
     let to = put(out, to, b" ");
-    put_state(out, to, page, view, k)
+    put_state(out, to, page, minor, section, k)
 }
 
 // The four sections of a view.
@@ -179,7 +217,8 @@ fn put_sections(out: &mut [u8], at: usize, page: &[u8], view: View) -> usize
 {
     let mut to = at;
     for k in 0..4 {
-        to = put_section(out, to, page, view, k);
+        let section = reader::section_of(view, k);
+        to = put_section(out, to, page, view.minor, section, k);
     }
     to
 }
