@@ -189,6 +189,9 @@
 #define PBEAM_CONSOLE_BAUD_RATE 4
 #define PBEAM_CONSOLE_FLAGS 5
 
+/* No listing is longer: bytes for the text of pbeam_listing. */
+#define PBEAM_LISTING_ROOM 9716
+
 /* ---- Runtime commands: arguments ---- */
 
 /* Granule table: one byte a granule. Any other byte is none of these. */
@@ -398,6 +401,21 @@ size_t pbeam_count(const uint8_t *page, size_t page_len, const uint64_t view[PBE
 PBEAM_NONNULL(3)
 uint64_t pbeam_word(const uint8_t *page, size_t page_len, const uint64_t view[PBEAM_VIEW_WORDS], size_t section, size_t entry,
                     size_t word);
+
+/*
+ * pbeam_listing: what a page shows, as text: a line for version and edition, one for plat_data, and for each section its number of entries
+ *          with a line an entry, or that it is absent.
+ * Takes    the page, base and edition as pbeam_read, and a room for the text.
+ * Answers  the length of the whole text, also where it does not fit: if it is above text_len, the text was cut. It is never above
+ *          PBEAM_LISTING_ROOM (proved), so a room of that length holds any text.
+ * Leaves   the page as it was. text: ASCII from its first byte on, each line ended by '\n', with no '\0' behind it; as much as fits. What
+ *          is behind the text stays as it was. Of a page that is refused the text is one line, "refused -5", "refused -6" or
+ *          "refused -7", with the code of pbeam_read.
+ * Stack    832 bytes
+ * A word is written as 0x and 16 lower-case hex digits, a console's name as its 8 bytes in order, 16 such digits without 0x. A caller that
+ * prints the text prints what the page holds: no byte of the page is written as it stands.
+ */
+size_t pbeam_listing(const uint8_t *page, size_t page_len, uint64_t base, uint64_t edition, uint8_t *text, size_t text_len);
 
 /*
  * pbeam_write: write a manifest page.

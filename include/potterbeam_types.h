@@ -366,6 +366,20 @@ static inline int32_t pbeam_manifest_read(const pbeam_page_t *page, uint64_t bas
     return pbeam_read(page->bytes, sizeof page->bytes, base, edition, view->words);
 }
 
+/*
+ * pbeam_listing as a string: as much of the text as fits before a '\0'. A room of PBEAM_LISTING_ROOM + 1 characters holds any text; it was
+ * cut where the answer, the whole text's length, is not below the room. Into a room of 0 nothing is written.
+ */
+PBEAM_NONNULL(1)
+static inline size_t pbeam_manifest_listing(const pbeam_page_t *page, uint64_t base, uint64_t edition, char *text, size_t room)
+{
+    const size_t most = room == 0 ? 0 : room - 1;
+    const size_t length = pbeam_listing(page->bytes, sizeof page->bytes, base, edition, (uint8_t *)(void *)text, most);
+    if (room != 0)
+        text[length < most ? length : most] = '\0';
+    return length;
+}
+
 /* The page's minor, w. */
 PBEAM_NONNULL(1)
 static inline uint64_t pbeam_view_minor(const pbeam_view_t *view)

@@ -41,6 +41,8 @@ pub trait Exports {
     fn array_of(page: &[u8], view: &ViewImage, section: usize, place: &mut Place);
     fn count(page: &[u8], view: &ViewImage, section: usize) -> usize;
     fn word(page: &[u8], view: &ViewImage, section: usize, entry: usize, word: usize) -> u64;
+    /// The length of the whole text, of which as much as fits is written.
+    fn listing(page: &[u8], base: u64, edition: u64, text: &mut [u8]) -> usize;
     fn write(base: u64, edition: u64, lists: [&[u64]; 4], page: &mut [u8]) -> u32;
 
     fn cold_boot(state: &mut RecordImage, x: [u64; 4], most: u64, page: &[u8]) -> i32;

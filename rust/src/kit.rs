@@ -51,6 +51,14 @@ pub mod ffi {
             entry: usize,
             word: usize,
         ) -> u64;
+        pub fn pbeam_listing(
+            page: *const u8,
+            page_len: usize,
+            base: u64,
+            edition: u64,
+            text: *mut u8,
+            text_len: usize,
+        ) -> usize;
         pub fn pbeam_write(
             base: u64,
             edition: u64,
@@ -255,6 +263,13 @@ impl Exports for Kit {
     fn word(page: &[u8], view: &ViewImage, section: usize, entry: usize, word: usize) -> u64 {
         let (page, page_len) = lend(page);
         unsafe { ffi::pbeam_word(page, page_len, view, section, entry, word) }
+    }
+
+    #[inline]
+    fn listing(page: &[u8], base: u64, edition: u64, text: &mut [u8]) -> usize {
+        let (page, page_len) = lend(page);
+        let (text, text_len) = lend_mut(text);
+        unsafe { ffi::pbeam_listing(page, page_len, base, edition, text, text_len) }
     }
 
     #[inline]

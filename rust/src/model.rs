@@ -15,6 +15,7 @@ use crate::reference::features::{features, forward, key_update};
 use crate::reference::granules::{delegate, delegate_list, undelegate, undelegate_list};
 use crate::reference::key::realm_key;
 use crate::reference::layout::{accepted_minor, ENTRY_WORDS};
+use crate::reference::listing::list;
 use crate::reference::queue::Queue;
 use crate::reference::reader::{array, read, shown_word};
 use crate::reference::runtime::{self, call, Call, Reply, State, PLAT_TOKEN, TOKEN_SIGN};
@@ -59,6 +60,14 @@ impl Exports for Model {
             }
             _ => 0,
         }
+    }
+
+    fn listing(page: &[u8], base: u64, edition: u64, text: &mut [u8]) -> usize {
+        let mut whole = String::new();
+        list(&mut whole, page, base, edition).expect("a string takes any text");
+        let fits = whole.len().min(text.len());
+        text[..fits].copy_from_slice(&whole.as_bytes()[..fits]);
+        whole.len()
     }
 
     fn write(base: u64, edition: u64, lists: [&[u64]; 4], page: &mut [u8]) -> u32 {

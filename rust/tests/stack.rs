@@ -11,6 +11,7 @@
 
 use potterbeam_tests::exports::{Exports, Lent, QueueImage, RecordImage};
 use potterbeam_tests::kit::Kit;
+use potterbeam_tests::model::Model;
 use potterbeam_tests::reference::layout::PAGE;
 use potterbeam_tests::reference::tpm::Transfer;
 use potterbeam_tests::swtpm::{Library, StateBlobs};
@@ -276,6 +277,12 @@ fn reading(header: &mut Header, what: &str, page: &[u8], code: i32) {
     header.within(("pbeam_read", what), &[0; 15], code, |view| {
         Kit::read(page, BASE, 4, view)
     });
+    for room in [9716, 1000, 0] {
+        let length = Model::listing(page, BASE, 4, &mut []);
+        header.within(("pbeam_listing", what), &vec![0; room], length, |text| {
+            Kit::listing(page, BASE, 4, text)
+        });
+    }
     for section in 0..5 {
         header.within(("pbeam_array", what), &[0; 2], (), |place| {
             Kit::array(page, BASE, 4, section, place)

@@ -120,22 +120,29 @@ fn compare_listing(input: &Path, expected: &Path) {
     assert_eq!(out, expected, "{}", input.display());
 }
 
-/// The listing's own input, and the pages that real firmware wrote.
-#[test]
-fn listings() {
-    let listing = family("listing");
-    compare_listing(&listing.join("stdin"), &listing.join("stdout"));
-    let field = family("../tests/reader/field");
+/// Each input in a folder; says how many there are.
+fn compare_listings(folder: &Path) -> usize {
     let mut count = 0;
-    for file in std::fs::read_dir(field).expect("field pages") {
+    for file in std::fs::read_dir(folder).expect("inputs") {
         let input = file.expect("a file").path();
         if input.extension().map_or(false, |kind| kind == "in") {
             compare_listing(&input, &input.with_extension("out"));
             count += 1;
         }
     }
-    assert!(count >= 4, "only {count} field pages");
-    println!("listings: {count} field pages");
+    count
+}
+
+/// The listing's own input, the pages that real firmware wrote, and the inputs on which the program is run.
+#[test]
+fn listings() {
+    let listing = family("listing");
+    compare_listing(&listing.join("stdin"), &listing.join("stdout"));
+    let field = compare_listings(&family("../tests/reader/field"));
+    let cases = compare_listings(&family("../tests/listing/cases"));
+    assert!(field >= 4, "only {field} field pages");
+    assert!(cases >= 20, "only {cases} inputs");
+    println!("listings: {field} field pages, {cases} inputs");
 }
 
 // ---- Writer ----

@@ -223,6 +223,30 @@ static void check_lookups(void)
     SAME(pbeam_word(page, LEN, view, PBEAM_CONSOLE, 0, PBEAM_CONSOLE_FLAGS - 1), 115200);
 }
 
+/* The longest listing fills its room; a shorter room cuts it, and the answer says so. */
+static void check_listing(void)
+{
+    static uint8_t text[PBEAM_LISTING_ROOM + 1], cut[PBEAM_LISTING_ROOM + 1];
+    static uint64_t banks[2 * 253];
+    static const char refused[] = "refused -5\n";
+    for (size_t i = 0; i < 2 * 253; i++)
+        banks[i] = 0x1000;
+    pbeam_write(BASE, 2, banks, 2 * 253, NULL, 0, NULL, 0, NULL, 0, page, LEN);
+    put(page, 65535, 4);
+    put(page + 8, BASE + 40, 8);
+    memset(text, 0xEE, sizeof text);
+    memset(cut, 0xEE, sizeof cut);
+    SAME(PBEAM_LISTING_ROOM, pbeam_listing(page, LEN, BASE, 2, text, sizeof text));
+    SAME(text[PBEAM_LISTING_ROOM - 1], '\n');
+    SAME(text[PBEAM_LISTING_ROOM], 0xEE);
+    SAME(PBEAM_LISTING_ROOM, pbeam_listing(page, LEN, BASE, 2, cut, 1000));
+    SAME(memcmp(text, cut, 1000), 0);
+    SAME(cut[1000], 0xEE);
+    SAME(PBEAM_LISTING_ROOM, pbeam_listing(page, LEN, BASE, 2, NULL, 0));
+    SAME(pbeam_listing(page, LEN, 0, 2, text, sizeof text), sizeof refused - 1);
+    SAME(memcmp(text, refused, sizeof refused - 1), 0);
+}
+
 /* Name, clock and baud rate are alike to the library: a page that real firmware wrote tells which is which. */
 static void check_real_page(const char *path)
 {
@@ -969,6 +993,7 @@ int main(int argc, char **argv)
     check_padding_and_plat_data();
     check_view();
     check_lookups();
+    check_listing();
     check_real_page(argv[1]);
     check_entries();
     check_writer();

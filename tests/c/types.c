@@ -170,6 +170,25 @@ static void check_writer(void)
     SAME(memcmp(&page, &other, sizeof page), 0);
 }
 
+/* A string that ends within its room, cut or not. */
+static void check_listing(void)
+{
+    static const char first[] = "manifest 0.4 read as 4\n";
+    static char text[PBEAM_LISTING_ROOM + 1];
+    const size_t length = pbeam_manifest_listing(&page, BASE, 4, text, sizeof text);
+    SAME(strlen(text), length);
+    SAME(strncmp(text, first, sizeof first - 1), 0);
+    SAME(text[length - 1], '\n');
+    SAME(pbeam_manifest_listing(&page, BASE, 4, text, sizeof first), length);
+    SAME(strcmp(text, first), 0);
+    SAME(pbeam_manifest_listing(&page, BASE, 4, text, 1), length);
+    SAME(text[0], 0);
+    SAME(pbeam_manifest_listing(&page, BASE, 4, text + 1, 0), length);
+    SAME(text[1], first[1]);
+    SAME(pbeam_manifest_listing(&page, 0, 4, text, sizeof text), 11);
+    SAME(strcmp(text, "refused -5\n"), 0);
+}
+
 /* In words each of these counts is 0 or 2: a list that would be taken. */
 static void check_counts_that_wrap(void)
 {
@@ -529,6 +548,7 @@ int main(void)
     check_console_name();
     check_bytes();
     check_writer();
+    check_listing();
     check_counts_that_wrap();
     check_view();
     check_version();

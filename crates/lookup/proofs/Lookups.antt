@@ -1,5 +1,5 @@
 -- Laws of the lookups. Assumes nothing.
-use Prim.Native.Nat.{ℕ, _+_, _*_, _/_, _≤_, _<_}
+use Prim.Native.Nat.{ℕ, _+_, _*_, _≤_, _<_}
 use mathlib.Core.Path.{_≡_, refl, sym, ap, _∙_}
 use mathlib.Core.Bool.{Bool, true, false, cond}
 use mathlib.Core.List.{List}
@@ -25,7 +25,7 @@ use Rattle.reader.specs.declared.Refusal.{Refusal}
 use Rattle.reader.specs.declared.Reading.{Reading}
 use Rattle.reader.specs.declared.Reading.the-variants.{Accepted, Refused}
 use Rattle.reader.proofs.Whole.{reading-answer, reading-placed}
-use Rattle.lookup.specs.Lookup.{spanOf, spanIn, wordOf}
+use Rattle.lookup.specs.Lookup.{spanOf, spanIn, countOf, wordOf}
 
 -- ---- where the array lies
 module _ (k at count n : ℕ) where
@@ -54,9 +54,13 @@ pub place-view : (page : List ℕ) (v : View) (k : ℕ) → spanned (spanOf k (s
 unfolding lookIn readingAnswer
 place-view page v k = span-shown (v .minor) k (sectionOf v k) page
 
-pub count-view : (page : List ℕ) (v : View) (k : ℕ) → length (lookIn (readingAnswer page (Accepted v)) k) / (8 * wordsPerEntry k) ≡ countIn (readingAnswer page (Accepted v)) k
-unfolding lookIn countIn entryCount readingAnswer
-count-view page v k = refl
+pub count-shown : (w k : ℕ) (s : Section) (page : List ℕ) → countOf k s page ≡ entryCount k (shownAs w k s page)
+unfolding countOf entryCount
+count-shown w k s page = rw (span-shown w k s page)
+
+pub count-view : (page : List ℕ) (v : View) (k : ℕ) → countOf k (sectionOf v k) page ≡ countIn (readingAnswer page (Accepted v)) k
+unfolding countIn readingAnswer
+count-view page v k = count-shown (v .minor) k (sectionOf v k) page
 
 -- ---- where the part begins
 some-starts : (b : Bool) (at n : ℕ) (page : List ℕ) → leb (at + n) (length page) ≡ b → spanStart (cond b (spanAt at n) noSpan) page ≡ cond b (spanAt at n) noSpan .at

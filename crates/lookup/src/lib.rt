@@ -10,7 +10,7 @@ ghost use Rattle.words.specs.Word.{spanned, onFrom};
 ghost use Rattle.reader.specs.Answer.{lookIn, lookOf, countIn, wordIn, readOf};
 ghost use Rattle.reader.specs.Reading.{sectionOf, readingAnswer};
 ghost use Rattle.entries.specs.Entry.{isHidden};
-ghost use Rattle.lookup.specs.Lookup.{spanOf, spanIn, wordOf};
+ghost use Rattle.lookup.specs.Lookup.{spanOf, spanIn, countOf, wordOf};
 
 // Where count entries of section k at an offset lie in a page of so many bytes; nowhere where they do not lie within it.
 fn place_at(room: usize, k: usize, at: usize, count: usize) -> Span
@@ -53,12 +53,19 @@ pub fn array_of(page: &[u8], view: View, k: usize) -> &[u8]
     words::part_of(page, place_of(page, view, k))
 }
 
-// How many entries section k of a view has: 0 where its array is empty.
+// How many entries a section k has: 0 where its array is empty.
+pub fn count_in(page: &[u8], section: Section, k: usize) -> usize
+    ensures { λ r. ⌜ r ≡ countOf k section (now (page .entry)) ⌝ }
+{
+    let array = words::part_of(page, place_in(page.len(), section, k));
+    array.len() / (8 * entries::entry_words(k))
+}
+
+// The same of section k of a view.
 pub fn count_of(page: &[u8], view: View, k: usize) -> usize
     ensures { λ r. ⌜ r ≡ countIn (readingAnswer (now (page .entry)) (Reading.Accepted view)) k ⌝ }
 {
-    let array = array_of(page, view, k);
-    array.len() / (8 * entries::entry_words(k))
+    count_in(page, reader::section_of(view, k), k)
 }
 
 // Whether word j of an entry is shown as 0: a console's flags, from minor 5 on.
@@ -94,8 +101,8 @@ fn word_at(page: &[u8], k: usize, at: usize, count: usize, i: usize, j: usize) -
     words::word_at(page, at + 8 * (step * i + j))
 }
 
-// Word j of entry i of a section k, on a page of that minor.
-fn word_in(page: &[u8], minor: u64, section: Section, k: usize, i: usize, j: usize) -> u64
+// Word j of entry i of a section k, on a page of that minor: 0 where the section has no entry i, or its entries no word j.
+pub fn word_in(page: &[u8], minor: u64, section: Section, k: usize, i: usize, j: usize) -> u64
     ensures { λ r. ⌜ r ≡ wordOf minor k i j section (now (page .entry)) ⌝ }
 {
     if is_hidden(minor, k, j) {

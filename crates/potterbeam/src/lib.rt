@@ -8,6 +8,7 @@ ghost use Rattle.reader.specs.Answer.{countIn, wordIn, readOf};
 ghost use Rattle.reader.specs.Reading.{sectionOf, readingAnswer};
 ghost use Rattle.reader.specs.declared.Reading.the-variants.{Accepted};
 ghost use Rattle.lookup.specs.Lookup.{spanOf, spanIn};
+ghost use Rattle.text.specs.Text.{lay, listingOf};
 ghost use Rattle.lists.specs.Description.{descriptionOf};
 ghost use Rattle.writer.specs.Write.{descriptionFits};
 ghost use Rattle.writer.specs.Wrote.{pageAfter};
@@ -84,6 +85,15 @@ pub extern "C" fn pbeam_word(
     ensures { λ r. ⌜ r ≡ wordIn (readingAnswer (now (page .entry)) (Accepted (viewOf (now (view .entry))))) section entry word ⌝ }
 {
     lookup::word_of(page, images::view_of(view), section, entry, word)
+}
+
+// The listing of a page at a base, as a reader of an edition reads it, as far as it fits. Answers the length of the whole text.
+#[no_mangle]
+pub extern "C" fn pbeam_listing(page: &[u8], base: u64, edition: u64, text: &mut [u8]) -> usize
+    ensures { λ r. ⌜ r ≡ length (listingOf (readOf edition base (now (page .entry)))) ⌝ }
+    ensures { λ _. ⌜ now (text .exit) ≡ lay 0 (listingOf (readOf edition base (now (page .entry)))) (now (text .entry)) ⌝ }
+{
+    text::list(page, base, edition, text)
 }
 
 // Writes a manifest of an edition for a base into the page. Answers 0, or 1 to 5 for W1 to W5.

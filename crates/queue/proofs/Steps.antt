@@ -6,7 +6,6 @@ use mathlib.Core.List.{List}
 use Rattle.codes.specs.Codes.{isOk, ifOk, answerOf}
 use Rattle.codes.specs.declared.Code.{Code}
 use Rattle.codes.specs.declared.Code.the-variants.{Ok}
-use Rattle.codes.specs.declared.Answer.{Answer}
 use Rattle.codes.proofs.Gates.{if-ok-by}
 use Rattle.queue.specs.declared.Queue.{Queue}
 use Rattle.queue.specs.declared.Queued.{Queued}
@@ -36,8 +35,3 @@ module _ (k : Code) (page : List ℕ) (lists : Lists) (old : Queue) where
 pub next-lists : (k : Code) (new : Lists) (old : Queue) → listsOf (queueNext k new old) ≡ ifOk k new (listsOf old)
 unfolding queueNext
 next-lists k new old = if-ok-by (λ (q : Queue). listsOf q ≡ ifOk k new (listsOf old)) k (queueHolding new) old (λ h. rw h (lists-back new)) (λ h. rw h)
-
--- an answer of OK is no refusal
-pub not-refused : (a : Answer) (x1 x2 : ℕ) → a ≡ answerOf Ok x1 x2 → isOk (a .code) ≡ false → ⊥
-unfolding answerOf
-not-refused a x1 x2 e h = false≢true (sym h ∙ ap (λ (b : Answer). isOk (b .code)) e)

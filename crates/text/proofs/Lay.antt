@@ -8,13 +8,13 @@ use native.Mathlib.Decide.{decLt}
 use native.Mathlib.Omega.{arith}
 use lib.ListN.{length, take, drop, set, getD, length-append, length-take, length-drop, take-append-drop, drop-of-length-le}
 use lib.Seq.{length-take-le, take-nil, take-all, take-at, drop-at, drop-drop, take-take, take-suc, set-split, take-append-le, take-append-add, append-snoc}
-use Rattle.text.specs.Text.{lay}
+use Rattle.text.specs.Text.{lay, listingRoom}
 use Rattle.words.specs.Word.{joined}
-use Rattle.text.specs.Steps.{LaidOver}
+use Rattle.text.specs.Steps.{lastOffset, LaidOver, Listed}
 
-pub length-lay : (at : ℕ) (vs s : List ℕ) → at ≤ length s → length (lay at vs s) ≡ length s
+pub length-lay : (at : ℕ) (vs s : List ℕ) → length (lay at vs s) ≡ length s
 unfolding lay
-length-lay at vs s h = rw (length-append, length-append, length-take, length-take, length-drop) (omega arith)
+length-lay at vs s = rw (length-append, length-append, length-take, length-take, length-drop) (omega arith)
 
 -- nothing changes nothing
 pub lay-none : (at : ℕ) (s : List ℕ) → lay at [] s ≡ s
@@ -34,23 +34,23 @@ module _ (at : ℕ) (vs s : List ℕ) where
   head-length : at ≤ length s → length (take at s ++ vs) ≡ at + length vs
   head-length h = rw (length-append, length-take-le at s h)
 
--- at the end nothing more fits
-lay-full : (ws s : List ℕ) → lay (length s) ws s ≡ s
+-- from the end on nothing fits
+lay-past : (at : ℕ) (ws s : List ℕ) → length s ≤ at → lay at ws s ≡ s
 unfolding lay
-lay-full ws s =
-    let e : length s ≤ length s + length ws = omega arith in
-    let z : length s - length s ≡ 0 = omega arith in
-    rw (drop-of-length-le s e, append-nil, z, append-nil, take-all (length s) s (omega arith))
+lay-past at ws s h =
+    let e : length s ≤ at + length ws = omega arith in
+    let z : length s - at ≡ 0 = omega arith in
+    rw (drop-of-length-le s e, append-nil, z, append-nil, take-all at s h)
 
 -- one run after the other is both as one
-module _ (at : ℕ) (vs ws s : List ℕ) (h : at ≤ length s) where
+module _ (at : ℕ) (vs ws s : List ℕ) where
   lay-then-in : at + length vs ≤ length s → lay (at + length vs) ws (lay at vs s) ≡ lay at (vs ++ ws) s
   unfolding lay
   lay-then-in k =
       let n : length vs ≤ length s - at = omega arith in
       let m : length s - at ≡ length vs + (length s - (at + length vs)) = omega arith in
-      let e = head-length at vs s h in
-      rw (length-lay at vs s h, m, take-append-add, length-append)
+      let e = head-length at vs s (omega arith) in
+      rw (length-lay at vs s, m, take-append-add, length-append)
       (rw (
         ← m,
         take-all (length s - at) vs n,
@@ -60,19 +60,19 @@ module _ (at : ℕ) (vs ws s : List ℕ) (h : at ≤ length s) where
         drop-drop,
       ) (simp (append-assoc, add-assoc)))
 
-  lay-then-end : length s ≤ at + length vs → lay (length s) ws (lay at vs s) ≡ lay at (vs ++ ws) s
-  lay-then-end k =
+  lay-then-end : (m : ℕ) → length s ≤ m → length s ≤ at + length vs → lay m ws (lay at vs s) ≡ lay at (vs ++ ws) s
+  lay-then-end m l k =
       let n : length s - at ≤ length vs = omega arith in
-      let m : length s ≤ at + length (vs ++ ws) = rw length-append (omega arith) in
-      let f : lay (length s) ws (lay at vs s) ≡ lay at vs s = rw (length-lay at vs s h) at (lay-full ws (lay at vs s)) in
-      rw (f, lay-end at vs s k, lay-end at (vs ++ ws) s m, take-append-le (length s - at) vs ws n)
+      let o : length s ≤ at + length (vs ++ ws) = rw length-append (omega arith) in
+      let f : lay m ws (lay at vs s) ≡ lay at vs s = lay-past m ws (lay at vs s) (rw (length-lay at vs s) l) in
+      rw (f, lay-end at vs s k, lay-end at (vs ++ ws) s o, take-append-le (length s - at) vs ws n)
 
-  pub lay-then : lay (min (at + length vs) (length s)) ws (lay at vs s) ≡ lay at (vs ++ ws) s
-  lay-then = go (decLt (at + length vs) (length s))
+  pub lay-then : (m top : ℕ) → length s ≤ top → m ≡ min (at + length vs) top → lay m ws (lay at vs s) ≡ lay at (vs ++ ws) s
+  lay-then m top h e = go (decLt (at + length vs) (length s))
     where
-      go : Dec (at + length vs < length s) → lay (min (at + length vs) (length s)) ws (lay at vs s) ≡ lay at (vs ++ ws) s
-      go (yes k) = rw (let e : min (at + length vs) (length s) ≡ at + length vs = omega arith in e) (lay-then-in (omega arith))
-      go (no k) = rw (let e : min (at + length vs) (length s) ≡ length s = omega arith in e) (lay-then-end (omega arith))
+      go : Dec (at + length vs < length s) → lay m ws (lay at vs s) ≡ lay at (vs ++ ws) s
+      go (yes k) = rw (let f : m ≡ at + length vs = omega arith in f) (lay-then-in (omega arith))
+      go (no k) = lay-then-end m (omega arith) (omega arith)
 
 -- ---- byte by byte
 set-lay : (s : List ℕ) (i x : ℕ) → i < length s → set s i x ≡ lay i (x ∷ []) s
@@ -81,13 +81,13 @@ set-lay s i x h = set-split s i x h ∙ sym (lay-in i (x ∷ []) s (omega arith)
 pub lay-more : (at i : ℕ) (vs s : List ℕ) → at + i < length s → i < length vs → set (lay at (take i vs) s) (at + i) (getD vs i 0) ≡ lay at (take (i + 1) vs) s
 lay-more at i vs s h k =
     let l : length (take i vs) ≡ i = length-take-le i vs (omega arith) in
-    let n : at + i < length (lay at (take i vs) s) = rw (length-lay at (take i vs) s (omega arith)) h in
+    let n : at + i < length (lay at (take i vs) s) = rw (length-lay at (take i vs) s) h in
     rw (add-one, take-suc vs i 0 k)
-    (set-lay (lay at (take i vs) s) (at + i) (getD vs i 0) n ∙ rw l at (lay-then-in at (take i vs) (getD vs i 0 ∷ []) s (omega arith) (omega arith)))
+    (set-lay (lay at (take i vs) s) (at + i) (getD vs i 0) n ∙ rw l at (lay-then-in at (take i vs) (getD vs i 0 ∷ []) s (omega arith)))
 
 -- as much of vs as fits is all that counts
-pub lay-fits : (at n : ℕ) (vs s : List ℕ) → at ≤ length s → n ≡ min (length vs) (length s - at) → lay at (take n vs) s ≡ lay at vs s
-lay-fits at n vs s h e = go (decLt (length vs) (length s - at))
+pub lay-fits : (at n : ℕ) (vs s : List ℕ) → n ≡ min (length vs) (length s - at) → lay at (take n vs) s ≡ lay at vs s
+lay-fits at n vs s e = go (decLt (length vs) (length s - at))
   where
     go : Dec (length vs < length s - at) → lay at (take n vs) s ≡ lay at vs s
     go (yes k) = rw (take-all n vs (omega arith))
@@ -97,30 +97,39 @@ lay-fits at n vs s h e = go (decLt (length vs) (length s - at))
         rw (lay-end at (take n vs) s (omega arith), lay-end at vs s (omega arith), take-take (length s - at) n vs m)
 
 -- ---- what the steps promise
-pub wrote-none : (at : ℕ) (s : List ℕ) → at ≤ length s → LaidOver at [] s at s
-wrote-none at s h = record { cursor = omega arith; within = h; same = refl; bytes = sym (lay-none at s) }
+pub wrote-none : (at : ℕ) (s : List ℕ) → at ≤ lastOffset → LaidOver at [] s at s
+wrote-none at s h = record { cursor = omega arith; same = refl; bytes = sym (lay-none at s) }
 
-pub wrote-then : {at m r : ℕ} {vs ws s t u : List ℕ} → at ≤ length s → LaidOver at vs s m t → LaidOver m ws t r u → LaidOver at (vs ++ ws) s r u
+pub wrote-then : {at m r : ℕ} {vs ws s t u : List ℕ} → length s ≤ lastOffset → LaidOver at vs s m t → LaidOver m ws t r u → LaidOver at (vs ++ ws) s r u
 wrote-then {at} {m} {r} {vs} {ws} {s} {t} {u} h p q =
     record {
       cursor = rw length-append (omega arith);
-      within = q .within;
       same = q .same ∙ p .same;
-      bytes = q .bytes ∙ rw (p .bytes, p .cursor) (lay-then at vs ws s h);
+      bytes = q .bytes ∙ rw (p .bytes) (lay-then at vs ws s m lastOffset h (p .cursor));
     }
 
 -- text that is put byte by byte
-pub wrote-put : (at n : ℕ) (vs s t : List ℕ) → at ≤ length s → n ≡ min (length vs) (length s - at) → t ≡ lay at (take n vs) s → LaidOver at vs s (at + n) t
-wrote-put at n vs s t h e f =
-    let g : t ≡ lay at vs s = f ∙ lay-fits at n vs s h e in
-    let l : length t ≡ length s = ap length g ∙ length-lay at vs s h in
-    record { cursor = omega arith; within = omega arith; same = l; bytes = g }
+pub wrote-put : (at n r : ℕ) (vs s t : List ℕ) → n ≡ min (length vs) (length s - at) → r ≡ min (at + length vs) lastOffset → t ≡ lay at (take n vs) s → LaidOver at vs s r t
+wrote-put at n r vs s t e g f =
+    let h : t ≡ lay at vs s = f ∙ lay-fits at n vs s e in
+    record { cursor = g; same = ap length h ∙ length-lay at vs s; bytes = h }
 
 -- the same text by another name
 pub wrote-same : {at r : ℕ} {vs ws s t : List ℕ} → vs ≡ ws → LaidOver at vs s r t → LaidOver at ws s r t
 wrote-same {at} {r} {vs} {ws} {s} {t} e p = rw (← e) p
 
 -- one part more of many
-pub wrote-more : (f : ℕ → List ℕ) (i : ℕ) {at m r : ℕ} {s t u : List ℕ} → at ≤ length s → LaidOver at (joined i f) s m t → LaidOver m (f i) t r u → LaidOver at (joined (i + 1) f) s r u
+pub wrote-more : (f : ℕ → List ℕ) (i : ℕ) {at m r : ℕ} {s t u : List ℕ} → length s ≤ lastOffset → LaidOver at (joined i f) s m t → LaidOver m (f i) t r u → LaidOver at (joined (i + 1) f) s r u
 unfolding joined
 wrote-more f i h p q = rw add-one (wrote-then h p q)
+
+-- ---- what a listing promises
+pub listed : {r : ℕ} {vs s t : List ℕ} → length vs ≤ listingRoom → LaidOver 0 vs s r t → Listed vs s r t
+listed {r} {vs} {s} {t} h p = record { long = omega arith; most = omega arith; same = p .same; bytes = p .bytes }
+
+-- a text that fits is all there
+pub lay-whole : (vs s : List ℕ) → length vs ≤ length s → take (length vs) (lay 0 vs s) ≡ vs
+lay-whole vs s h = rw (lay-in 0 vs s (omega arith)) (take-at vs _ _ refl)
+
+pub listed-whole : {r : ℕ} {vs s t : List ℕ} → listingRoom ≤ length s → Listed vs s r t → take r t ≡ vs
+listed-whole {r} {vs} {s} {t} h p = rw (p .long, p .bytes) (lay-whole vs s (omega arith))

@@ -1,12 +1,13 @@
 -- Parts of the listing by what is shown. Assumes nothing.
-use Prim.Native.Nat.{ℕ, zero, suc, _+_, _-_, _≤_}
-use mathlib.Core.Path.{_≡_, refl, _∙_}
+use Prim.Native.Nat.{ℕ, zero, suc, _+_, _-_, _≤_, _<_}
+use mathlib.Core.Path.{_≡_, refl, sym, _∙_}
 use mathlib.Core.Bool.{Bool, true, false, cond}
 use mathlib.Core.Logic.{⊎-elim}
 use mathlib.Core.List.{List, [], _∷_, _++_}
+use native.Mathlib.Decide.{decLt}
 use native.Mathlib.Omega.{arith}
 use lib.ListN.{length, take, drop, length-drop}
-use lib.Seq.{take-all}
+use lib.Seq.{take-all, length-take-le}
 use lib.Dec.{leb}
 use types.Run.{OneOf}
 use denote.Enum.Declared.{tagOf}
@@ -14,7 +15,7 @@ use borrow.Author.Tests.{eq-eqb, ne-eqb}
 use Rattle.words.specs.Tests.{both}
 use Rattle.words.specs.Word.{wordAt}
 use Rattle.entries.specs.Entry.{size}
-use Rattle.reader.specs.Answer.{refused, readOf, empty, full, wordIn, entryWord, countIn, entryCount}
+use Rattle.reader.specs.Answer.{ReaderAnswer, refused, readOf, empty, full, entryWord}
 use Rattle.reader.specs.Reading.{refusalNumber, sectionOf, shownAs, readingAnswer, readingOf}
 use Rattle.reader.specs.declared.Section.{Section}
 use Rattle.reader.specs.declared.Section.the-variants.{Absent, Empty, Entries}
@@ -25,7 +26,8 @@ use Rattle.reader.specs.declared.Refusal.the-variants.{Place}
 use Rattle.reader.specs.declared.Reading.{Reading}
 use Rattle.reader.specs.declared.Reading.the-variants.{Accepted, Refused}
 use Rattle.reader.proofs.Whole.{reading-answer}
-use Rattle.text.specs.Text.{newline, space, noneText, absentText, titleText, hexText, nameText, wordText, gapText, countText, stateText, pointerText, listingOf, printed}
+use Rattle.lookup.specs.Lookup.{wordOf}
+use Rattle.text.specs.Text.{newline, space, noneText, absentText, titleText, hexText, nameText, wordText, gapText, countText, stateText, sectionText, pointerText, listingOf, printed}
 use Rattle.text.specs.Steps.{seen, refusalOf}
 
 -- ---- the space before a word
@@ -52,15 +54,14 @@ module _ (k j w : ℕ) where
   unfolding wordText both
   word-name e f = rw (eq-eqb k 1 e, eq-eqb j 2 f)
 
--- ---- what a view is asked for
-module _ (v : View) (page : List ℕ) (k : ℕ) where
-  pub word-seen : (i j : ℕ) → wordIn (readingAnswer page (Accepted v)) k i j ≡ entryWord k i j (seen v page k)
-  unfolding wordIn readingAnswer seen
-  word-seen i j = refl
+-- ---- what a section is asked for, and a view
+pub word-shown : (w k i j : ℕ) (s : Section) (page : List ℕ) → wordOf w k i j s page ≡ entryWord k i j (shownAs w k s page)
+unfolding wordOf
+word-shown w k i j s page = refl
 
-  pub count-seen : countIn (readingAnswer page (Accepted v)) k ≡ entryCount k (seen v page k)
-  unfolding countIn readingAnswer seen
-  count-seen = refl
+pub section-seen : (v : View) (page : List ℕ) (k : ℕ) (s : Section) → s ≡ sectionOf v k → sectionText (λ i. shownAs (v .minor) i s page) k ≡ sectionText (seen v page) k
+unfolding sectionText seen
+section-seen v page k s e = rw e
 
 -- ---- names, and the platform pointer
 pub title-last : (k : ℕ) → 3 ≤ k → titleText 3 ≡ titleText k
@@ -84,20 +85,15 @@ unfolding stateText
 count-shown k true ws bs = refl
 count-shown k false ws bs = refl
 
-count-other : (w k : ℕ) (s : Section) (page : List ℕ) → OneOf (1 ∷ 2 ∷ []) (tagOf the-type s) → countText k (shownAs w k s page) ≡ stateText k (shownAs w k s page)
+pub count-other : (w k : ℕ) (s : Section) (page : List ℕ) → OneOf (1 ∷ 2 ∷ []) (tagOf the-type s) → countText k (shownAs w k s page) ≡ stateText k (shownAs w k s page)
 unfolding stateText shownAs
 count-other w k Absent page h = absurd (⊎-elim (λ e. omega arith) (λ e. omega arith) h)
 count-other w k Empty page h = refl
 count-other w k (Entries at n) page h = count-shown k (leb (at + size k n) (length page)) _ _
 
-module _ (v : View) (page : List ℕ) (k : ℕ) (s : Section) (e : s ≡ sectionOf v k) where
-  pub state-absent : s ≡ Absent → absentText ++ newline ≡ stateText k (seen v page k)
-  unfolding stateText seen shownAs
-  state-absent f = rw (← e, f)
-
-  pub state-other : OneOf (1 ∷ 2 ∷ []) (tagOf the-type s) → countText k (seen v page k) ≡ stateText k (seen v page k)
-  unfolding seen
-  state-other h = rw (← e) (count-other (v .minor) k s page h)
+pub state-absent : (w k : ℕ) (s : Section) (page : List ℕ) → s ≡ Absent → absentText ++ newline ≡ stateText k (shownAs w k s page)
+unfolding stateText shownAs
+state-absent w k s page e = rw e
 
 -- ---- the answer of a reading
 pub list-refused : (e base : ℕ) (page : List ℕ) (r : Reading) (c : Refusal) → r ≡ Refused c → r ≡ readingOf e base page → refusalOf r ≡ listingOf (readOf e base page)
@@ -118,3 +114,14 @@ unfolding printed
 input-read input page base h e f =
     let g : page ≡ drop 8 input = f ∙ take-all (length input - 8) (drop 8 input) (omega (arith, length-drop 8 input)) in
     rw (eq-eqb (length input) 4104 h, e, g)
+
+-- What an input starts with shows all that is printed of it, if it is more than the input of a page: a longer one is refused whatever
+-- follows.
+pub input-start : (n : ℕ) (input : List ℕ) → 4104 < n → printed (take n input) ≡ printed input
+input-start n input h = go (decLt (length input) n)
+  where
+    go : Dec (length input < n) → printed (take n input) ≡ printed input
+    go (yes l) = rw (take-all n input (omega arith))
+    go (no l) =
+        let e : length (take n input) ≡ n = length-take-le n input (omega arith) in
+        sym (input-refused (take n input) (λ z. omega arith)) ∙ input-refused input (λ z. omega arith)

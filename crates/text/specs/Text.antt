@@ -147,3 +147,7 @@ listingOf (shows w e q s) = headText w e ++ platText q ++ joined 4 (sectionText 
 -- 4,104 bytes: `refused -5`."
 unfoldable pub printed : List ℕ → List ℕ
 printed input = listingOf (cond (eqb (length input) 4104) (readOf 4 (wordAt 0 input) (drop 8 input)) (refused (minus 5)))
+
+-- the length of the longest listing: a 0.65535 page read as edition 2, with a platform pointer and 253 banks
+abbrev pub listingRoom : ℕ
+listingRoom = 9716

@@ -1,33 +1,42 @@
 // The listing's text, laid into a lent slice as far as it fits. Each step puts a part of it at an offset, and answers where the
-// next part goes.
+// next part goes, which may be past the slice's end: so the last one answers how long the text is, whether or not it fits.
 use reader::Reading;
 use reader::Refusal;
 use reader::Section;
 use reader::View;
-ghost use Prim.Native.Nat.{_<_, _≤_};
-ghost use lib.ListN.{length};
+ghost use Prim.Native.Nat.{_+_, _<_, min};
+ghost use mathlib.Core.Path.{_≡_};
 ghost use Rattle.reader.specs.Answer.{readOf, refused};
-ghost use Rattle.reader.specs.Reading.{refusalNumber, readingAnswer};
+ghost use Rattle.reader.specs.Reading.{refusalNumber, shownAs, readingAnswer};
 ghost use Rattle.text.specs.Text.{newline, decimal, hexText, byteText, nameText, wordText, gapText, entryText, countText};
 ghost use Rattle.text.specs.Text.{stateText, titleText, sectionText, headText, pointerText, platText, listingOf, printed};
 ghost use Rattle.words.specs.Word.{joined};
-ghost use Rattle.text.specs.Steps.{LaidOver, seen, refusalOf};
+ghost use Rattle.text.specs.Steps.{lastOffset, LaidOver, Listed, seen, refusalOf};
 
-// Any bytes.
-fn put(out: &mut [u8], at: usize, text: &[u8]) -> usize
-    requires { ⌜ at ≤ length (now out) ⌝ }
-    ensures { λ r. ⌜ LaidOver at (now (text .entry)) (now (out .entry)) r (now (out .exit)) ⌝ }
+// The offset n bytes on; the largest number stands for all that lie past it. No text reaches so far, but a step does not know that.
+fn past(at: usize, n: usize) -> usize
+    ensures { λ r. ⌜ r ≡ min (at + n) lastOffset ⌝ }
 {
-    let n = words::smaller(text.len() as u64, (out.len() - at) as u64) as usize;
-    for i in 0..n {
-        out[at + i] = text[i];
+    if 0xFFFF_FFFF_FFFF_FFFF - at < n {
+        return 0xFFFF_FFFF_FFFF_FFFF;
     }
     at + n
 }
 
+// Any bytes.
+fn put(out: &mut [u8], at: usize, text: &[u8]) -> usize
+    ensures { λ r. ⌜ LaidOver at (now (text .entry)) (now (out .entry)) r (now (out .exit)) ⌝ }
+{
+    let from = words::smaller(at as u64, out.len() as u64) as usize;
+    let n = words::smaller(text.len() as u64, (out.len() - from) as u64) as usize;
+    for i in 0..n {
+        out[at + i] = text[i];
+    }
+    past(at, text.len())
+}
+
 // A number in decimal.
 fn put_decimal(out: &mut [u8], at: usize, n: u64) -> usize
-    requires { ⌜ at ≤ length (now out) ⌝ }
     ensures { λ r. ⌜ LaidOver at (decimal n) (now (out .entry)) r (now (out .exit)) ⌝ }
 {
     let mut digits = [0u8; 20];
@@ -37,7 +46,6 @@ fn put_decimal(out: &mut [u8], at: usize, n: u64) -> usize
 
 // A word: 0x and 16 digits.
 fn put_hex(out: &mut [u8], at: usize, w: u64) -> usize
-    requires { ⌜ at ≤ length (now out) ⌝ }
     ensures { λ r. ⌜ LaidOver at (hexText w) (now (out .entry)) r (now (out .exit)) ⌝ }
 {
     let mut digits = [0u8; 16];
@@ -48,7 +56,7 @@ fn put_hex(out: &mut [u8], at: usize, w: u64) -> usize
 
 // A byte: two digits.
 fn put_byte(out: &mut [u8], at: usize, b: u64) -> usize
-    requires { ⌜ (at ≤ length (now out)) × (b < 256) ⌝ }
+    requires { ⌜ b < 256 ⌝ }
     ensures { λ r. ⌜ LaidOver at (byteText b) (now (out .entry)) r (now (out .exit)) ⌝ }
 {
     let mut digits = [0u8; 16];
@@ -58,7 +66,6 @@ fn put_byte(out: &mut [u8], at: usize, b: u64) -> usize
 
 // A console's name: its 8 bytes in order.
 fn put_name(out: &mut [u8], at: usize, w: u64) -> usize
-    requires { ⌜ at ≤ length (now out) ⌝ }
     ensures { λ r. ⌜ LaidOver at (nameText w) (now (out .entry)) r (now (out .exit)) ⌝ }
 {
     let mut to = at;
@@ -72,7 +79,6 @@ fn put_name(out: &mut [u8], at: usize, w: u64) -> usize
 
 // Word j of an entry of section k.
 fn put_word(out: &mut [u8], at: usize, k: usize, j: usize, w: u64) -> usize
-    requires { ⌜ at ≤ length (now out) ⌝ }
     ensures { λ r. ⌜ LaidOver at (wordText k j w) (now (out .entry)) r (now (out .exit)) ⌝ }
 {
     if k != 1 {
@@ -86,7 +92,6 @@ fn put_word(out: &mut [u8], at: usize, k: usize, j: usize, w: u64) -> usize
 
 // The space before word j of an entry; none before the first.
 fn put_gap(out: &mut [u8], at: usize, j: usize) -> usize
-    requires { ⌜ at ≤ length (now out) ⌝ }
     ensures { λ r. ⌜ LaidOver at (gapText j) (now (out .entry)) r (now (out .exit)) ⌝ }
 {
     if j == 0 {
@@ -97,64 +102,89 @@ fn put_gap(out: &mut [u8], at: usize, j: usize) -> usize
 
 // The end of a line.
 fn put_end(out: &mut [u8], at: usize) -> usize
-    requires { ⌜ at ≤ length (now out) ⌝ }
     ensures { λ r. ⌜ LaidOver at newline (now (out .entry)) r (now (out .exit)) ⌝ }
 {
     put(out, at, b"\n")
 }
 
-// Entry i of section k of a view: its words, and the end of the line.
-fn put_entry(out: &mut [u8], at: usize, page: &[u8], view: View, k: usize, i: usize) -> usize
-    requires { ⌜ at ≤ length (now out) ⌝ }
-    ensures { λ r. ⌜ LaidOver at (entryText k (seen view (now (page .entry)) k) i) (now (out .entry)) r (now (out .exit)) ⌝ }
+// Entry i of a section k, on a page of that minor: its words, and the end of the line. This and what it is a part of take the section,
+// not its view: a view costs stack at each step that it goes down.
+fn put_entry(
+    out: &mut [u8],
+    at: usize,
+    page: &[u8],
+    minor: u64,
+    section: Section,
+    k: usize,
+    i: usize,
+) -> usize
+    ensures { λ r. ⌜ LaidOver at (entryText k (shownAs minor k section (now (page .entry))) i) (now (out .entry)) r (now (out .exit)) ⌝ }
 {
     let n = entries::entry_words(k);
     let mut to = at;
     for j in 0..n {
         to = put_gap(out, to, j);
-        to = put_word(out, to, k, j, lookup::word_of(page, view, k, i, j));
+        let w = lookup::word_in(page, minor, section, k, i, j);
+        to = put_word(out, to, k, j, w);
     }
     put_end(out, to)
 }
 
-// The first n entries of section k of a view.
-fn put_entries(out: &mut [u8], at: usize, page: &[u8], view: View, k: usize, n: usize) -> usize
-    requires { ⌜ at ≤ length (now out) ⌝ }
-    ensures { λ r. ⌜ LaidOver at (joined n (entryText k (seen view (now (page .entry)) k))) (now (out .entry)) r (now (out .exit)) ⌝ }
+// The first n entries of a section k, on a page of that minor.
+fn put_entries(
+    out: &mut [u8],
+    at: usize,
+    page: &[u8],
+    minor: u64,
+    section: Section,
+    k: usize,
+    n: usize,
+) -> usize
+    ensures { λ r. ⌜ LaidOver at (joined n (entryText k (shownAs minor k section (now (page .entry))))) (now (out .entry)) r (now (out .exit)) ⌝ }
 {
     let mut to = at;
     for i in 0..n {
-        to = put_entry(out, to, page, view, k, i);
+        to = put_entry(out, to, page, minor, section, k, i);
     }
     to
 }
 
-// The count of section k of a view, and its entries.
-fn put_count(out: &mut [u8], at: usize, page: &[u8], view: View, k: usize) -> usize
-    requires { ⌜ at ≤ length (now out) ⌝ }
-    ensures { λ r. ⌜ LaidOver at (countText k (seen view (now (page .entry)) k)) (now (out .entry)) r (now (out .exit)) ⌝ }
+// The count of a section k, and its entries.
+fn put_count(
+    out: &mut [u8],
+    at: usize,
+    page: &[u8],
+    minor: u64,
+    section: Section,
+    k: usize,
+) -> usize
+    ensures { λ r. ⌜ LaidOver at (countText k (shownAs minor k section (now (page .entry)))) (now (out .entry)) r (now (out .exit)) ⌝ }
 {
-    let n = lookup::count_of(page, view, k);
+    let n = lookup::count_in(page, section, k);
     let to = put_decimal(out, at, n as u64);
     let to = put_end(out, to);
-    put_entries(out, to, page, view, k, n)
+    put_entries(out, to, page, minor, section, k, n)
 }
 
-// What follows the name of section k of a view: that it is absent, or its count and entries.
-fn put_state(out: &mut [u8], at: usize, page: &[u8], view: View, k: usize) -> usize
-    requires { ⌜ at ≤ length (now out) ⌝ }
-    ensures { λ r. ⌜ LaidOver at (stateText k (seen view (now (page .entry)) k)) (now (out .entry)) r (now (out .exit)) ⌝ }
+// What follows the name of a section k: that it is absent, or its count and entries.
+fn put_state(
+    out: &mut [u8],
+    at: usize,
+    page: &[u8],
+    minor: u64,
+    section: Section,
+    k: usize,
+) -> usize
+    ensures { λ r. ⌜ LaidOver at (stateText k (shownAs minor k section (now (page .entry)))) (now (out .entry)) r (now (out .exit)) ⌝ }
 {
-    let section = reader::section_of(view, k);
     match section {
         Section::Absent => put(out, at, b"absent\n"),
-        _ => put_count(out, at, page, view, k),
+        _ => put_count(out, at, page, minor, section, k),
     }
 }
 
 // The name of section k.
 fn put_title(out: &mut [u8], at: usize, k: usize) -> usize
-    requires { ⌜ at ≤ length (now out) ⌝ }
     ensures { λ r. ⌜ LaidOver at (titleText k) (now (out .entry)) r (now (out .exit)) ⌝ }
 {
     match k {
@@ -165,31 +195,36 @@ fn put_title(out: &mut [u8], at: usize, k: usize) -> usize
     }
 }
 
-// Section k of a view.
-fn put_section(out: &mut [u8], at: usize, page: &[u8], view: View, k: usize) -> usize
-    requires { ⌜ at ≤ length (now out) ⌝ }
-    ensures { λ r. ⌜ LaidOver at (sectionText (seen view (now (page .entry))) k) (now (out .entry)) r (now (out .exit)) ⌝ }
+// A section k, on a page of that minor.
+fn put_section(
+    out: &mut [u8],
+    at: usize,
+    page: &[u8],
+    minor: u64,
+    section: Section,
+    k: usize,
+) -> usize
+    ensures { λ r. ⌜ LaidOver at (sectionText (λ i. shownAs minor i section (now (page .entry))) k) (now (out .entry)) r (now (out .exit)) ⌝ }
 {
     let to = put_title(out, at, k);
     let to = put(out, to, b" ");
-    put_state(out, to, page, view, k)
+    put_state(out, to, page, minor, section, k)
 }
 
 // The four sections of a view.
 fn put_sections(out: &mut [u8], at: usize, page: &[u8], view: View) -> usize
-    requires { ⌜ at ≤ length (now out) ⌝ }
     ensures { λ r. ⌜ LaidOver at (joined 4 (sectionText (seen view (now (page .entry))))) (now (out .entry)) r (now (out .exit)) ⌝ }
 {
     let mut to = at;
     for k in 0..4 {
-        to = put_section(out, to, page, view, k);
+        let section = reader::section_of(view, k);
+        to = put_section(out, to, page, view.minor, section, k);
     }
     to
 }
 
 // The first line: the version, whose major is 0, and the edition that the page was read as.
 fn put_head(out: &mut [u8], at: usize, minor: u64, edition: u64) -> usize
-    requires { ⌜ at ≤ length (now out) ⌝ }
     ensures { λ r. ⌜ LaidOver at (headText minor edition) (now (out .entry)) r (now (out .exit)) ⌝ }
 {
     let to = put(out, at, b"manifest 0.");
@@ -201,7 +236,6 @@ fn put_head(out: &mut [u8], at: usize, minor: u64, edition: u64) -> usize
 
 // The platform pointer, or that there is none.
 fn put_pointer(out: &mut [u8], at: usize, plat: u64) -> usize
-    requires { ⌜ at ≤ length (now out) ⌝ }
     ensures { λ r. ⌜ LaidOver at (pointerText plat) (now (out .entry)) r (now (out .exit)) ⌝ }
 {
     if plat == 0 {
@@ -212,7 +246,6 @@ fn put_pointer(out: &mut [u8], at: usize, plat: u64) -> usize
 
 // The second line.
 fn put_plat(out: &mut [u8], at: usize, plat: u64) -> usize
-    requires { ⌜ at ≤ length (now out) ⌝ }
     ensures { λ r. ⌜ LaidOver at (platText (record { pointer = plat })) (now (out .entry)) r (now (out .exit)) ⌝ }
 {
     let to = put(out, at, b"platform ");
@@ -251,9 +284,9 @@ fn put_refused(out: &mut [u8], reading: Reading) -> usize
 }
 
 // The listing of a page at a base, as a reader of an edition reads it: laid over out from its start as far as it fits, the rest
-// of out as it was. The answer is how many bytes of out it takes.
+// of out as it was. The answer is the length of the whole text: more than that of out where it does not fit.
 pub fn list(page: &[u8], base: u64, edition: u64, out: &mut [u8]) -> usize
-    ensures { λ r. ⌜ LaidOver 0 (listingOf (readOf edition base (now (page .entry)))) (now (out .entry)) r (now (out .exit)) ⌝ }
+    ensures { λ r. ⌜ Listed (listingOf (readOf edition base (now (page .entry)))) (now (out .entry)) r (now (out .exit)) ⌝ }
 {
     let reading = reader::read(page, base, edition);
     let Reading::Accepted(view) = reading else {
@@ -264,7 +297,7 @@ pub fn list(page: &[u8], base: u64, edition: u64, out: &mut [u8]) -> usize
 
 // What the listing program prints of its input: B in 8 bytes, then the page, read as edition 4.
 pub fn list_input(input: &[u8], out: &mut [u8]) -> usize
-    ensures { λ r. ⌜ LaidOver 0 (printed (now (input .entry))) (now (out .entry)) r (now (out .exit)) ⌝ }
+    ensures { λ r. ⌜ Listed (printed (now (input .entry))) (now (out .entry)) r (now (out .exit)) ⌝ }
 {
     if input.len() != 4104 {
         return put_code(out, Refusal::Place);

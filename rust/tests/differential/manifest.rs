@@ -4,6 +4,7 @@ use crate::calls;
 use crate::memory::Image;
 use crate::pair::Pair;
 use potterbeam_tests::exports::Exports;
+use potterbeam_tests::model::Model;
 use potterbeam_tests::random::pages::Reading;
 
 #[test]
@@ -18,15 +19,19 @@ fn reader_and_lookups() {
         if pair.random.one_in(3) {
             look(&mut pair);
         }
+        if pair.random.one_in(8) {
+            listing(&mut pair, &reading);
+        }
     }
     pair.print_counts();
-    // Of a lookup the answer noted is whether there was anything.
+    // Of a lookup the answer noted is whether there was anything, of a listing whether it was cut.
     pair.expect(&[
         ("pbeam_read", 0, &[0, -5, -6, -7]),
         ("pbeam_array", 0, &[0, 1]),
         ("pbeam_array_of", 0, &[0, 1]),
         ("pbeam_count", 0, &[0, 1]),
         ("pbeam_word", 0, &[0, 1]),
+        ("pbeam_listing", 0, &[0, 1]),
     ]);
 }
 
@@ -59,6 +64,25 @@ fn array(pair: &mut Pair, reading: &Reading) {
         S::array(m.page.lent(), base, edition, section, place);
     });
     meet_place(pair, "pbeam_array");
+}
+
+/// Into a room that holds it, just holds it, or cuts it anywhere.
+fn listing(pair: &mut Pair, reading: &Reading) {
+    let &Reading { base, edition, .. } = reading;
+    let whole = Model::listing(&reading.page, base, edition, &mut []);
+    let room = match pair.random.below(4) {
+        0 => whole,
+        1 => whole + pair.random.index(64),
+        _ => pair.random.index(whole),
+    };
+    pair.load(|random, m| {
+        let skew = random.index(8);
+        m.table.load(&vec![random.below(256) as u8; room], skew);
+    });
+    check!(pair, "pbeam_listing", (base, edition, room), |S, m| {
+        m.returned = S::listing(m.page.lent(), base, edition, m.table.lent_mut()) as i64;
+    });
+    pair.meet("pbeam_listing", 0, i64::from(room < whole));
 }
 
 /// The lookups in a view: the one that was read, or a forged one.

@@ -1,5 +1,6 @@
 use mathlib.Core.Path.{refl}
-use Rattle.text.proofs.Lay.{wrote-same}
+use Rattle.text.proofs.Lay.{wrote-same, listed}
+use Rattle.text.proofs.Room.{printed-fits}
 use Rattle.text.proofs.Parts.{input-refused, input-read}
 use borrow.Author.Needs.{needs}
 use Rattle.text.proofs.list_input.Statement.{statement}
@@ -12,7 +13,9 @@ same-length : tie.Need-same-length
 same-length c = search needs
 
 returns : tie.Need-returns
-returns c = wrote-same (input-refused (c .before .before .before .before .before .before .before .args .input .now) (search needs)) (c .before .before .put-code .ensures)
+returns c =
+    let a = c .before .before .before .before .before .before .before .args in
+    listed (printed-fits (a .input .now)) (wrote-same (input-refused (a .input .now) (search needs)) (c .before .before .put-code .ensures))
 
 sub-list : tie.Need-sub-list
 sub-list c = search needs

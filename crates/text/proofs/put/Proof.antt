@@ -9,19 +9,22 @@ use Rattle.text.proofs.put.Statement.{statement}
 use Rattle.text.proofs.put.Tie as tie
 
 abbrev Inv-loop : tie.InvT-loop
-Inv-loop out₀ at text n i₀ out i = (i ≤ n) × (length out ≡ length out₀) × (out ≡ lay at (take i text) out₀)
+Inv-loop out₀ at text from n i₀ out i = (i ≤ n) × (length out ≡ length out₀) × (out ≡ lay at (take i text) out₀)
 
 abbrev μ-loop : tie.MeasureT-loop
-μ-loop out₀ at text n i₀ out i = n - i
-
-sub-smaller : tie.Need-sub-smaller Inv-loop μ-loop
-sub-smaller c = search needs
+μ-loop out₀ at text from n i₀ out i = n - i
 
 smaller-requires : tie.Need-smaller-requires Inv-loop μ-loop
 smaller-requires c κs = search needs
 
+sub-smaller : tie.Need-sub-smaller Inv-loop μ-loop
+sub-smaller c = search needs
+
+smaller-requires-2 : tie.Need-smaller-requires-2 Inv-loop μ-loop
+smaller-requires-2 c κs = search needs
+
 loop-holds : tie.Need-loop-holds Inv-loop μ-loop
-loop-holds c = let a = c .before .before .before .args in (search needs, refl, sym (lay-none (a .at) (a .out .now)))
+loop-holds c = let a = c .before .before .before .before .args in (search needs, refl, sym (lay-none (a .at) (a .out .now)))
 
 shared-slice-read-out : tie.Need-shared-slice-read-out Inv-loop μ-loop
 shared-slice-read-out c = search needs
@@ -40,23 +43,23 @@ loop-less c = search needs
 
 loop-again : tie.Need-loop-again Inv-loop μ-loop
 loop-again c =
-    let a = c .before .before .before .before .before .before .args in
+    let a = c .before .before .before .before .before .before .before .args in
     let l = c .before .before .loop in
     (search needs, simp length-set (omega arith), rw (l .inv .2) (lay-more (a .at) (l .i) (a .text .now) (a .out .now) (omega arith) (omega arith)))
 
-add-result : tie.Need-add-result Inv-loop μ-loop
-add-result c = search needs
+past-requires : tie.Need-past-requires Inv-loop μ-loop
+past-requires c κs = search needs
 
 same-length : tie.Need-same-length Inv-loop μ-loop
 same-length c = search needs
 
 returns : tie.Need-returns Inv-loop μ-loop
 returns c =
-    let a = c .before .before .before .before .before .args in
-    let l = c .before .loop in
-    let n = c .before .before .smaller in
+    let a = c .before .before .before .before .before .before .before .args in
+    let l = c .before .before .loop in
+    let n = c .before .before .before .smaller2 in
     let e : l .i ≡ n .result = omega arith in
-    wrote-put (a .at) (n .result) (a .text .now) (a .out .now) (l .out) (search needs) (n .ensures) (rw (← e) (l .inv .2))
+    wrote-put (a .at) (n .result) _ (a .text .now) (a .out .now) (l .out) (omega arith) (c .past .ensures) (rw (← e) (l .inv .2))
 
 pub put-spec : {M : Type 1} → statement M
 put-spec =
@@ -64,8 +67,9 @@ put-spec =
     (tie.spec
     Inv-loop
     μ-loop
-    sub-smaller
     smaller-requires
+    sub-smaller
+    smaller-requires-2
     loop-holds
     shared-slice-read-out
     add-out
@@ -73,6 +77,6 @@ put-spec =
     add-i
     loop-less
     loop-again
-    add-result
+    past-requires
     same-length
     returns)

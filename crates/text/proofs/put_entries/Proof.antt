@@ -1,8 +1,9 @@
 use Prim.Native.Nat.{_-_, _≤_}
 use mathlib.Core.Path.{_≡_}
+use Rattle.reader.specs.Reading.{shownAs}
 use Rattle.text.specs.Text.{entryText}
 use Rattle.words.specs.Word.{joined}
-use Rattle.text.specs.Steps.{LaidOver, seen}
+use Rattle.text.specs.Steps.{LaidOver}
 use Rattle.text.proofs.Lay.{wrote-none, wrote-more}
 use borrow.Author.Needs.{needs}
 use native.Mathlib.Omega.{arith}
@@ -10,10 +11,10 @@ use Rattle.text.proofs.put_entries.Statement.{statement}
 use Rattle.text.proofs.put_entries.Tie as tie
 
 abbrev Inv-loop : tie.InvT-loop
-Inv-loop out₀ at page view k n to₀ i₀ out to i = (i ≤ n) × LaidOver at (joined i (entryText k (seen view page k))) out₀ to out
+Inv-loop out₀ at page w s k n to₀ i₀ out to i = (i ≤ n) × LaidOver at (joined i (entryText k (shownAs w k s page))) out₀ to out
 
 abbrev μ-loop : tie.MeasureT-loop
-μ-loop out₀ at page view k n to₀ i₀ out to i = n - i
+μ-loop out₀ at page w s k n to₀ i₀ out to i = n - i
 
 loop-holds : tie.Need-loop-holds Inv-loop μ-loop
 unfolding joined
@@ -32,7 +33,7 @@ loop-again : tie.Need-loop-again Inv-loop μ-loop
 loop-again c =
     let a = c .before .before .before .before .before .before .before .before .args in
     let l = c .before .before .before .before .before .loop in
-    (search needs, wrote-more (entryText (a .k) (seen (a .view) (a .page .now) (a .k))) (l .i) (search needs) (l .inv .1) (c .before .before .put-entry .ensures))
+    (search needs, wrote-more (entryText (a .k) (shownAs (a .minor) (a .k) (a .section) (a .page .now))) (l .i) (search needs) (l .inv .1) (c .before .before .put-entry .ensures))
 
 same-length : tie.Need-same-length Inv-loop μ-loop
 same-length c = search needs

@@ -2,21 +2,22 @@ use Prim.Native.Nat.{_-_, _≤_}
 use mathlib.Core.Path.{_≡_, ap, _∙_}
 use Rattle.entries.specs.Entry.{wordsPerEntry}
 use Rattle.reader.specs.Answer.{entryWord}
+use Rattle.reader.specs.Reading.{shownAs}
 use Rattle.text.specs.Text.{wordText, partText, entryText}
 use Rattle.words.specs.Word.{joined}
-use Rattle.text.specs.Steps.{LaidOver, seen}
+use Rattle.text.specs.Steps.{LaidOver}
 use Rattle.text.proofs.Lay.{wrote-none, wrote-then, wrote-same, wrote-more}
-use Rattle.text.proofs.Parts.{word-seen}
+use Rattle.text.proofs.Parts.{word-shown}
 use borrow.Author.Needs.{needs}
 use native.Mathlib.Omega.{arith}
 use Rattle.text.proofs.put_entry.Statement.{statement}
 use Rattle.text.proofs.put_entry.Tie as tie
 
 abbrev Inv-loop : tie.InvT-loop
-Inv-loop out₀ at page view k i n to₀ j₀ out to j = (j ≤ n) × LaidOver at (joined j (partText k (seen view page k) i)) out₀ to out
+Inv-loop out₀ at page w s k i n to₀ j₀ out to j = (j ≤ n) × LaidOver at (joined j (partText k (shownAs w k s page) i)) out₀ to out
 
 abbrev μ-loop : tie.MeasureT-loop
-μ-loop out₀ at page view k i n to₀ j₀ out to j = n - j
+μ-loop out₀ at page w s k i n to₀ j₀ out to j = n - j
 
 entry-words-requires : tie.Need-entry-words-requires Inv-loop μ-loop
 entry-words-requires c κs = search needs
@@ -28,8 +29,8 @@ loop-holds c = let a = c .before .before .before .args in (search needs, wrote-n
 put-gap-requires : tie.Need-put-gap-requires Inv-loop μ-loop
 put-gap-requires c κs = search needs
 
-word-of-requires : tie.Need-word-of-requires Inv-loop μ-loop
-word-of-requires c κs = search needs
+word-in-requires : tie.Need-word-in-requires Inv-loop μ-loop
+word-in-requires c κs = search needs
 
 put-word-requires : tie.Need-put-word-requires Inv-loop μ-loop
 put-word-requires c κs = search needs
@@ -45,9 +46,10 @@ unfolding partText
 loop-again c =
     let a = c .before .before .before .before .before .before .before .before .before .before .before .before .before .before .args in
     let l = c .before .before .before .before .before .before .before .before .before .before .loop in
-    let e : c .before .before .before .word-of .result ≡ entryWord (a .k) (a .i) (l .j) (seen (a .view) (a .page .now) (a .k)) = c .before .before .before .word-of .ensures ∙ word-seen (a .view) (a .page .now) (a .k) (a .i) (l .j) in (
+    let x = shownAs (a .minor) (a .k) (a .section) (a .page .now) in
+    let e : c .before .before .before .before .word-in .result ≡ entryWord (a .k) (a .i) (l .j) x = c .before .before .before .before .word-in .ensures ∙ word-shown (a .minor) (a .k) (a .i) (l .j) (a .section) (a .page .now) in (
       search needs,
-      wrote-more (partText (a .k) (seen (a .view) (a .page .now) (a .k)) (a .i)) (l .j) (search needs) (l .inv .1)
+      wrote-more (partText (a .k) x (a .i)) (l .j) (search needs) (l .inv .1)
           (wrote-then (search needs) (c .before .before .before .before .before .before .before .put-gap .ensures) (wrote-same (ap (wordText (a .k) (l .j)) e) (c .before .before .put-word .ensures))),
     )
 
@@ -73,7 +75,7 @@ put-entry-spec =
     entry-words-requires
     loop-holds
     put-gap-requires
-    word-of-requires
+    word-in-requires
     put-word-requires
     add-j
     loop-less

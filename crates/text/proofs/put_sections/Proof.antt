@@ -3,7 +3,8 @@ use mathlib.Core.Path.{_≡_}
 use Rattle.text.specs.Text.{sectionText}
 use Rattle.words.specs.Word.{joined}
 use Rattle.text.specs.Steps.{LaidOver, seen}
-use Rattle.text.proofs.Lay.{wrote-none, wrote-more}
+use Rattle.text.proofs.Lay.{wrote-none, wrote-same, wrote-more}
+use Rattle.text.proofs.Parts.{section-seen}
 use borrow.Author.Needs.{needs}
 use native.Mathlib.Omega.{arith}
 use Rattle.text.proofs.put_sections.Statement.{statement}
@@ -19,6 +20,9 @@ loop-holds : tie.Need-loop-holds Inv-loop μ-loop
 unfolding joined
 loop-holds c = let a = c .before .before .args in (search needs, wrote-none (a .at) (a .out .now) (search needs))
 
+section-of-requires : tie.Need-section-of-requires Inv-loop μ-loop
+section-of-requires c κs = search needs
+
 put-section-requires : tie.Need-put-section-requires Inv-loop μ-loop
 put-section-requires c κs = search needs
 
@@ -30,9 +34,10 @@ loop-less c = search needs
 
 loop-again : tie.Need-loop-again Inv-loop μ-loop
 loop-again c =
-    let a = c .before .before .before .before .before .before .before .before .args in
-    let l = c .before .before .before .before .before .loop in
-    (search needs, wrote-more (sectionText (seen (a .view) (a .page .now))) (l .k) (search needs) (l .inv .1) (c .before .before .put-section .ensures))
+    let a = c .before .before .before .before .before .before .before .before .before .args in
+    let l = c .before .before .before .before .before .before .loop in
+    let e = section-seen (a .view) (a .page .now) (l .k) _ (c .before .before .before .before .section-of .ensures) in
+    (search needs, wrote-more (sectionText (seen (a .view) (a .page .now))) (l .k) (search needs) (l .inv .1) (wrote-same e (c .before .before .put-section .ensures)))
 
 same-length : tie.Need-same-length Inv-loop μ-loop
 same-length c = search needs
@@ -47,6 +52,7 @@ put-sections-spec =
     Inv-loop
     μ-loop
     loop-holds
+    section-of-requires
     put-section-requires
     add-k
     loop-less

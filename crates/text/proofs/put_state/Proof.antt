@@ -1,12 +1,9 @@
 use Rattle.text.specs.Text.{absentText, newline}
 use Rattle.text.proofs.Lay.{wrote-same}
-use Rattle.text.proofs.Parts.{state-absent, state-other}
+use Rattle.text.proofs.Parts.{state-absent, count-other}
 use borrow.Author.Needs.{needs}
 use Rattle.text.proofs.put_state.Statement.{statement}
 use Rattle.text.proofs.put_state.Tie as tie
-
-section-of-requires : tie.Need-section-of-requires
-section-of-requires c κs = search needs
 
 enum-told : tie.Need-enum-told
 enum-told c = search needs
@@ -25,19 +22,18 @@ same-length c = search needs
 
 returns : tie.Need-returns
 unfolding absentText newline
-returns c = let a = c .before .before .before .before .before .before .before .before .before .before .args in wrote-same (state-absent (a .view) (a .page .now) (a .k) _ (c .before .before .before .before .before .before .before .section-of .ensures) (c .before .before .before .before .before .enum-told .given .1)) (c .before .before .put .ensures)
+returns c = let a = c .before .before .before .before .before .before .before .before .before .args in wrote-same (state-absent (a .minor) (a .k) (a .section) (a .page .now) (c .before .before .before .before .before .enum-told .given .1)) (c .before .before .put .ensures)
 
 same-length-2 : tie.Need-same-length-2
 same-length-2 c = search needs
 
 returns-2 : tie.Need-returns-2
-returns-2 c = let a = c .before .before .before .before .before .before .before .before .args in wrote-same (state-other (a .view) (a .page .now) (a .k) _ (c .before .before .before .before .before .section-of .ensures) (c .before .before .before .before .match .keys2)) (c .before .before .put-count .ensures)
+returns-2 c = let a = c .before .before .before .before .before .before .before .args in wrote-same (count-other (a .minor) (a .k) (a .section) (a .page .now) (c .before .before .before .before .match .keys2)) (c .before .before .put-count .ensures)
 
 pub put-state-spec : {M : Type 1} → statement M
 put-state-spec =
     tie.close
     (tie.spec
-    section-of-requires
     enum-told
     slice-aggregate-put
     put-requires
