@@ -412,8 +412,8 @@ uint64_t pbeam_word(const uint8_t *page, size_t page_len, const uint64_t view[PB
  *          is behind the text stays as it was. Of a page that is refused the text is one line, "refused -5", "refused -6" or
  *          "refused -7", with the code of pbeam_read.
  * Stack    832 bytes
- * A word is written as 0x and 16 lower-case hex digits, a console's name as its 8 bytes in order, 16 such digits without 0x. A caller that
- * prints the text prints what the page holds: no byte of the page is written as it stands.
+ * A word is written as 0x and 16 lower-case hex digits, a console's name as its 8 bytes in order, 16 such digits without 0x: whatever the
+ * page holds, the text can be printed.
  */
 size_t pbeam_listing(const uint8_t *page, size_t page_len, uint64_t base, uint64_t edition, uint8_t *text, size_t text_len);
 
