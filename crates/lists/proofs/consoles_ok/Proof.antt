@@ -2,7 +2,7 @@ use Prim.Native.Nat.{_+_, _*_, _-_, _≤_}
 use mathlib.Core.Path.{_≡_, sym, ap, _∙_}
 use native.Mathlib.Omega.{arith}
 use lib.ListN.{getD}
-use Rattle.words.specs.Tests.{both}
+use Rattle.words.specs.Tests.{both, either}
 use Rattle.entries.specs.Entry.{flagsOk, consoleOk, entriesOk}
 use Rattle.entries.specs.Gathered.{consoleClear}
 use Rattle.lists.proofs.Lists.{described-none, described-console}
@@ -23,7 +23,7 @@ none-requires : tie.Need-none-requires Inv-loop μ-loop
 none-requires c κs = search needs
 
 loop-holds : tie.Need-loop-holds Inv-loop μ-loop
-unfolding consoleClear flagsOk both
+unfolding consoleClear flagsOk both either
 loop-holds c =
     let a = c .before .before .args in
     (search needs, search needs, rw (c .none .ensures) (sym (described-none (a .minor) 1 (a .words .now))))
