@@ -23,7 +23,7 @@ rows-length width zero w = refl
 rows-length width (suc n) w = ap suc (rows-length width n (drop width w))
 
 -- one more row
-rows-suc : (width n : ℕ) (w : List ℕ) → rows width (suc n) w ≡ rows width n w ++ (take width (drop (width * n) w) ∷ [])
+pub rows-suc : (width n : ℕ) (w : List ℕ) → rows width (suc n) w ≡ rows width n w ++ (take width (drop (width * n) w) ∷ [])
 unfolding rows
 rows-suc width zero w = rw mul-zero
 rows-suc width (suc n) w = rw (mul-more, ← drop-drop) (ap {B = List (List ℕ)} (λ t. take width w ∷ t) (rows-suc width n (drop width w)))
@@ -108,12 +108,12 @@ module _ (s : List ℕ) (at a b c : ℕ) where
   put-four d h = ap (λ l. set l (at + 3) d) (put-three (omega arith)) ∙ put-next at (a ∷ b ∷ c ∷ []) s d (omega arith)
 
 module _ {A : Type 0} (f : A → List ℕ) where
-  flat-append : (xs ys : List A) → flat f (xs ++ ys) ≡ flat f xs ++ flat f ys
+  pub flat-append : (xs ys : List A) → flat f (xs ++ ys) ≡ flat f xs ++ flat f ys
   unfolding flat
   flat-append [] ys = refl
   flat-append (x ∷ xs) ys = rw (flat-append xs ys, append-assoc)
 
-  flat-one : (x : A) → flat f (x ∷ []) ≡ f x
+  pub flat-one : (x : A) → flat f (x ∷ []) ≡ f x
   unfolding flat
   flat-one x = append-nil (f x)
 
@@ -127,7 +127,7 @@ pub padded-length : (n : ℕ) (l : List ℕ) → length l ≤ n → length (padd
 unfolding padded
 padded-length n l h = length-append l (replicate (n - length l) 0) ∙ rw (length-replicate {A = ℕ} (n - length l) 0) (omega arith)
 
-padded-in : (i n : ℕ) (a vs b : List ℕ) → length a ≡ i → length vs ≤ n → splice i vs ((a ++ replicate n 0) ++ b) ≡ (a ++ padded n vs) ++ b
+pub padded-in : (i n : ℕ) (a vs b : List ℕ) → length a ≡ i → length vs ≤ n → splice i vs ((a ++ replicate n 0) ++ b) ≡ (a ++ padded n vs) ++ b
 unfolding splice padded
 padded-in i n a vs b e h =
     let z : List ℕ = replicate (length vs) 0 in
