@@ -14,7 +14,7 @@ use Rattle.codes.specs.declared.Code.the-variants.{Ok}
 use Rattle.codes.specs.declared.Answer.{Answer}
 use Rattle.queue.specs.Queue.{Signed, Lists, SigningStep, oldestResponse}
 use Rattle.responses.specs.Pull.{responseBytes, pullCode}
-use Rattle.responses.proofs.Laid.{length-splice}
+use Rattle.queue_image.proofs.Blocks.{length-splice}
 use Rattle.signing.specs.Signing.{publicCode, putBack}
 
 -- ---- a buffer of n bytes at an offset of s
