@@ -1,6 +1,5 @@
-// The signing queue as a lent image of 210 words, for C: the image is read as a queue, and a queue written as its image. An image
-// that no queue has is an input like any other.
-use codes::Code;
+// The signing queue as a lent image of 210 words, for C. A call works on the side that it needs, where it lies: a row joins those that
+// wait, or the oldest is dropped. An image is read as a queue too. One that no queue has is an input like any other.
 use queue::Queue;
 use queue::Request;
 use queue::Requests;
@@ -11,9 +10,8 @@ ghost use mathlib.Core.List.{map};
 ghost use Prim.Native.Nat.{min, _+_, _-_, _*_, _<_, _≤_};
 ghost use lib.ListN.{length, take, drop, getD, replicate};
 ghost use Rattle.words.specs.Word.{part, wordsOf, splice};
-ghost use Rattle.codes.specs.Codes.{ifOk};
-ghost use Rattle.queue.specs.Queue.{waiting, held, ready, signedIn, listsOf};
-ghost use Rattle.queue_image.specs.Image.{rows, requestIn, heldIn, responseIn, listsIn, requestWords, responseWords, flat, queueWords, oldestWords};
+ghost use Rattle.queue.specs.Queue.{waiting, held, signedIn, listsOf};
+ghost use Rattle.queue_image.specs.Image.{rows, requestIn, heldIn, responseIn, listsIn, requestWords, responseWords, oldestWords};
 ghost use Rattle.queue_image.specs.Sides.{requestSide, responseSide, rowAppended, rowDropped};
 
 // The request whose ten words begin at a place of an image.
@@ -124,47 +122,6 @@ fn put_response(image: &mut [u64], at: usize, response: Response)
     image[at + 1] = response.ticket;
     image[at + 2] = n as u64;
     put_bytes(image, at + 3, &signature[..n], 13);
-}
-
-// Puts what waits on either side, from its place in the image on.
-fn put_requests(image: &mut [u64], side: Requests)
-    requires { ⌜ length (now image) ≡ 210 ⌝ }
-    ensures { λ _. ⌜ now (image .exit) ≡ splice 2 (flat requestWords (waiting side)) (now (image .entry)) ⌝ }
-{
-    let n = queue::request_count(side);
-    let items = side.items;
-    for i in 0..n {
-        let request = items[i];
-        put_request(image, 2 + 10 * i, request);
-    }
-}
-
-fn put_responses(image: &mut [u64], side: Responses)
-    requires { ⌜ length (now image) ≡ 210 ⌝ }
-    ensures { λ _. ⌜ now (image .exit) ≡ splice 82 (flat responseWords (ready side)) (now (image .entry)) ⌝ }
-{
-    let n = queue::response_count(side);
-    let items = side.items;
-    for i in 0..n {
-        let response = items[i];
-        put_response(image, 82 + 16 * i, response);
-    }
-}
-
-// Writes a queue where the call that left it was accepted, over zeros; else the image stays, also one that no queue has.
-pub fn put_queue(image: &mut [u64; 210], queue: Queue, code: Code)
-    ensures { λ _. ⌜ now (image .exit) ≡ ifOk code (queueWords (listsOf queue)) (now (image .entry)) ⌝ }
-{
-    if !codes::is_ok(code) {
-        return;
-    }
-    let requests = queue.requests;
-    let responses = queue.responses;
-    *image = [0u64; 210];
-    image[0] = queue::request_count(requests) as u64;
-    image[1] = queue::response_count(responses) as u64;
-    put_requests(image, requests);
-    put_responses(image, responses);
 }
 
 // How many rows wait on the side with this number; a number above eight stands for eight.

@@ -64,7 +64,8 @@ pub fn push(buffer: &[u8], queue: Queue) -> Queued
 fn push_code(buffer: &[u8], waiting: usize) -> Code
     ensures { λ r. ⌜ ((q : Lists) → length (q .requests) ≡ waiting → r ≡ pushCode (now (buffer .entry)) q) ⌝ }
 {
-    if buffer.len() < 80 {
+    let size = buffer.len();
+    if size < 80 {
         return Code::Inval;
     }
     if words::half_at(buffer, 0) != 0 {

@@ -161,8 +161,8 @@ pub fn sign_on(image: &mut [u64; 210], signature: &[u8]) -> Answer
     if !codes::is_ok(code) {
         return codes::answered(code, 0, 0);
     }
-    let first = queue_image::front_request(image);
-    queue_image::add_response(image, response_of(first.granule, first.ticket, signature));
+    let oldest = queue_image::front_request(image);
+    queue_image::add_response(image, response_of(oldest.granule, oldest.ticket, signature));
     queue_image::remove_request(image);
     codes::answered(Code::Ok, 0, 0)
 }

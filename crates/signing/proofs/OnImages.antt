@@ -5,7 +5,6 @@ use mathlib.Core.List.{List, _++_}
 use lib.ListN.{length, take, drop}
 use Rattle.words.specs.Word.{part, splice}
 use Rattle.codes.specs.Codes.{ifOk}
-use Rattle.codes.specs.declared.Code.{Code}
 use Rattle.codes.specs.declared.Answer.{Answer}
 use Rattle.codes.proofs.Gates.{if-ok-by}
 use Rattle.queue.specs.Queue.{SigningStep}

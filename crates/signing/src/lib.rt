@@ -150,7 +150,8 @@ fn put_key(buffer: &mut [u8], key: &[u8]) -> Answer
         return codes::answered(Code::Inval, 0, 0);
     }
     words::copy(buffer, key);
-    codes::answered(Code::Ok, key.len() as u64, 0)
+    let len = key.len() as u64;
+    codes::answered(Code::Ok, len, 0)
 }
 
 // A call on the queue's image whose buffer passed: push has the requests, pull the responses, key neither.

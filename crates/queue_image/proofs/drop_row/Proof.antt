@@ -1,7 +1,7 @@
 use Prim.Native.Nat.{_*_, _+_, _≤_}
 use mathlib.Core.Path.{_≡_, ap, _∙_}
 use native.Mathlib.Omega.{arith}
-use lib.ListN.{length, length-set, replicate}
+use lib.ListN.{length-set, replicate}
 use Rattle.words.specs.Word.{splice}
 use Rattle.queue_image.proofs.InPlace.{upTo, row-room, row-dropped}
 use borrow.Author.Needs.{needs}

@@ -3,7 +3,7 @@ use native.Mathlib.Omega.{arith}
 use lib.ListN.{length}
 use Rattle.words.proofs.Store.{bytes-in}
 use Rattle.codes.specs.declared.Code.the-variants.{Inval, Again}
-use Rattle.queue.proofs.Steps.{refuses, accepts}
+use Rattle.queue_image.proofs.Steps.{list-refuses, list-accepts}
 use Rattle.signing.specs.Signing.{publicCode, publicOf}
 use Rattle.signing.proofs.Signings.{public-empty, public-long, public-ok}
 use borrow.Author.Needs.{needs}
@@ -17,7 +17,7 @@ returns : tie.Need-returns
 unfolding publicOf
 returns c =
     let a = c .before .before .before .before .args in
-    λ q. refuses (publicCode (length (a .buffer .now)) (a .key .now)) _ (a .buffer .now) q Again _ q (c .answered .ensures) refl (public-empty (length (a .buffer .now)) (a .key .now) (search needs)) refl
+    λ q. rw (c .answered .ensures) (list-refuses (publicCode (length (a .buffer .now)) (a .key .now)) _ (a .buffer .now) q Again (public-empty (length (a .buffer .now)) (a .key .now) (search needs)) refl)
 
 answered-requires-2 : tie.Need-answered-requires-2
 answered-requires-2 c κs = search needs
@@ -26,7 +26,7 @@ returns-2 : tie.Need-returns-2
 unfolding publicOf
 returns-2 c =
     let a = c .before .before .before .before .before .args in
-    λ q. refuses (publicCode (length (a .buffer .now)) (a .key .now)) _ (a .buffer .now) q Inval _ q (c .answered2 .ensures) refl (public-long (length (a .buffer .now)) (a .key .now) (search needs) (search needs)) refl
+    λ q. rw (c .answered2 .ensures) (list-refuses (publicCode (length (a .buffer .now)) (a .key .now)) _ (a .buffer .now) q Inval (public-long (length (a .buffer .now)) (a .key .now) (search needs) (search needs)) refl)
 
 copy-requires : tie.Need-copy-requires
 copy-requires c κs = search needs
@@ -41,7 +41,7 @@ returns-3 : tie.Need-returns-3
 unfolding publicOf
 returns-3 c =
     let a = c .before .before .before .before .before .before .before .before .before .args in
-    λ q. rw (c .answered3 .ensures, c .before .before .before .copy .ensures, bytes-in 0 (a .key .now) (a .buffer .now) (omega arith)) (accepts (publicCode (length (a .buffer .now)) (a .key .now)) _ (a .buffer .now) q (public-ok (length (a .buffer .now)) (a .key .now) (c .before .before .before .before .before .before .if1 .left) (search needs)))
+    λ q. rw (c .answered3 .ensures, c .before .before .before .copy .ensures, bytes-in 0 (a .key .now) (a .buffer .now) (omega arith)) (list-accepts (publicCode (length (a .buffer .now)) (a .key .now)) _ (a .buffer .now) q (public-ok (length (a .buffer .now)) (a .key .now) (c .before .before .before .before .before .before .if1 .left) (search needs)))
 
 pub put-key-spec : {M : Type 1} → statement M
 put-key-spec =
