@@ -13,7 +13,7 @@ use Rattle.queue.specs.declared.Responses.{Responses}
 use Rattle.queue.specs.declared.Queue.{Queue}
 use Rattle.queue.proofs.Sides.{count-over, count-within}
 use Rattle.queue.specs.Queue.{Signed, waiting, held, ready, signedIn, listsOf, oldestRequest}
-use Rattle.queue_image.specs.Image.{rows, requestIn, heldIn, responseIn, listsIn, requestWords, responseWords, flat, queueWords, oldestWords}
+use Rattle.queue_image.specs.Image.{rows, requestIn, heldIn, responseIn, listsIn, queueIn, requestWords, responseWords, flat, queueWords, oldestWords}
 use Rattle.queue_image.proofs.Rows.{rows-length, flat-map, flat-length, sides-in}
 
 pub request-wide : (r : Request) → length (requestWords r) ≡ 10
@@ -35,11 +35,16 @@ pub held-flat : (s : Responses) → flat heldWords (held s) ≡ flat responseWor
 unfolding ready
 held-flat s = sym (flat-map responseWords signedIn (held s))
 
-pub held-taken : (n : ℕ) (l : List (List ℕ)) → map signedIn (take n (map heldIn l)) ≡ take n (map responseIn l)
+held-taken : (n : ℕ) (l : List (List ℕ)) → map signedIn (take n (map heldIn l)) ≡ take n (map responseIn l)
 unfolding responseIn
 held-taken zero l = refl
 held-taken (suc n) [] = refl
 held-taken (suc n) (x ∷ l) = ap (λ t. signedIn (heldIn x) ∷ t) (held-taken n l)
+
+-- the queue that an image stands for, by value and as lists
+pub lists-in : (w : List ℕ) → listsOf (queueIn w) ≡ listsIn w
+unfolding listsOf waiting ready held queueIn listsIn
+lists-in w = rw held-taken
 
 -- ---- both sides laid over zeros, behind their counts
 pub queue-laid : (q : Queue) (n m : ℕ) → n ≡ length (waiting (q .requests)) → n ≤ 8 → m ≡ length (held (q .responses)) → m ≤ 8 → (s : List ℕ) → s ≡ n ∷ m ∷ replicate 208 0 →

@@ -1,5 +1,6 @@
 use mathlib.Core.Path.{ap, _∙_}
-use Rattle.queue.specs.Queue.{Lists}
+use Rattle.queue.specs.Queue.{Lists, listsOf}
+use Rattle.queue_image.proofs.Sides.{lists-in}
 use Rattle.responses.specs.Sign.{signOf, signExit}
 use Rattle.potterbeam.specs.Exports.{signIn}
 use Rattle.potterbeam.proofs.Left.{sign-left}
@@ -29,7 +30,7 @@ returns c =
     let a = c .before .before .before .before .before .before .before .before .before .args in
     let r = c .before .before .before .before .before .sign in
     let q = c .before .before .before .before .before .before .queue-of in
-    sign-left (r .result) (q .result) (a .queue .now) _ _ _ (c .registers .ensures) (c .before .put-queue .ensures) (r .ensures ∙ ap (λ (l : Lists). signExit (q .result) (signOf l (a .signature .now))) (q .ensures))
+    sign-left (r .result) (q .result) (a .queue .now) _ _ _ (c .registers .ensures) (c .before .put-queue .ensures) (r .ensures ∙ ap (λ (l : Lists). signExit (q .result) (signOf l (a .signature .now))) (ap listsOf (q .ensures) ∙ lists-in (a .queue .now)))
 
 pub pbeam-sign-spec : {M : Type 1} → statement M
 pbeam-sign-spec =

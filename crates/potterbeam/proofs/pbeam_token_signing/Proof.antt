@@ -1,6 +1,7 @@
 use mathlib.Core.Path.{ap, _∙_}
 use Rattle.boot.specs.declared.Record.{Record}
-use Rattle.queue.specs.Queue.{Lists}
+use Rattle.queue.specs.Queue.{Lists, listsOf}
+use Rattle.queue_image.proofs.Sides.{lists-in}
 use Rattle.signing.specs.Signing.{signingOf}
 use Rattle.potterbeam.specs.Exports.{signingIn}
 use Rattle.potterbeam.proofs.Left.{signing-left}
@@ -38,7 +39,7 @@ returns c =
     let r = c .before .before .before .before .before .before .before .token-signing in
     let q = c .before .before .before .before .before .before .before .before .queue-of in
     signing-left (r .result) (q .result) (a .queue .now) _ _ _ _ (c .registers .ensures) (c .before .put-queue .ensures)
-    (r .ensures ∙ rw (q .ensures, c .before .before .before .before .before .before .before .before .before .before .before .record-of .ensures))
+    (r .ensures ∙ rw (ap listsOf (q .ensures) ∙ lists-in (a .queue .now), c .before .before .before .before .before .before .before .before .before .before .before .record-of .ensures))
 
 pub pbeam-token-signing-spec : {M : Type 1} → statement M
 pbeam-token-signing-spec =
