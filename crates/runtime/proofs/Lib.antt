@@ -4,3 +4,4 @@ pub mod Refused
 pub mod Sessions
 pub mod Order
 pub mod Acts
+pub mod Values
