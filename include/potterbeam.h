@@ -20,9 +20,7 @@
  * - A refused runtime command puts its code into x0 and 0 into x1 and x2, and leaves page, table, session and queue as they were,
  *   whatever they hold.
  * - "Stack" bounds what a call was seen to write on x86-64, accepted or refused, with its return address and the words that it takes on the
- *   stack; the test rust/tests/stack.rs fails where a figure is exceeded. It is measured, not proved. The functions
- *   that change the queue (pbeam_token_signing, pbeam_sign, pbeam_call with PBEAM_ID_TOKEN_SIGNING) do not fit the stack of 2 or 4 KiB that
- *   EL3 firmware often has: give them one of their own. All others fit 1 KiB.
+ *   stack; the test rust/tests/stack.rs fails where a figure is exceeded. It is measured, not proved. All fit 1 KiB.
  * - The figure behind "AArch64" is static: the frame of the function and of all that it calls, in the archive that tools/aarch64 builds and
  *   that fails to build where a figure is exceeded. It is without the words that a call takes on the stack (pbeam_call 88 bytes) and
  *   without what the platform's memcpy and memset take.
@@ -261,8 +259,8 @@
 #define PBEAM_SESSION_SENDING 1 /* as written; any other number is read as sending too */
 
 /* Signing queue: two counts, eight requests, eight responses, the oldest first. A count above 8 is read as 8, a signature's length
- * above 104 as 104. An accepted token signing or pbeam_sign writes every word: places past the counts and signature
- * bytes past their length become zero. A refused one writes no word. */
+ * above 104 as 104. An accepted push writes one request and the number of requests, an accepted pull the responses that wait and their
+ * number, pbeam_sign both sides, the key no word. A place that is freed becomes zero; every other word stays. A refused call writes no word. */
 #define PBEAM_QUEUE_WORDS 210
 #define PBEAM_QUEUE_REQUESTS 0
 #define PBEAM_QUEUE_RESPONSES 1
@@ -584,9 +582,9 @@ void pbeam_features(const uint64_t state[PBEAM_STATE_WORDS], uint64_t index, uin
  *          key:  PBEAM_X0_AGAIN  key empty
  *          key:  PBEAM_X0_INVAL  key longer than size
  * Leaves   on OK: push: the request at the end of those that wait, the page as it was; pull: the oldest response at pa, and dropped
- *          from the queue; key: the key at pa, the queue with the same requests and responses. Bytes of the page behind what is
+ *          from the queue; key: the key at pa, the queue as it was. Bytes of the page behind what is
  *          written stay as they were. Refused, page and queue as they were.
- * Stack    11,264 bytes; AArch64 11,600
+ * Stack    352 bytes; AArch64 0
  */
 PBEAM_NONNULL(1, 2, 11)
 void pbeam_token_signing(const uint64_t state[PBEAM_STATE_WORDS], uint64_t queue[PBEAM_QUEUE_WORDS], uint8_t *page, size_t page_len,
@@ -628,7 +626,7 @@ uint64_t pbeam_forward(const uint64_t state[PBEAM_STATE_WORDS], uint64_t x1);
  *          PBEAM_X0_AGAIN     eight responses waiting; the request is kept
  * Leaves   on OK the queue with one request less and one response more: its rec_granule and req_ticket, and the signature. Refused,
  *          the queue as it was.
- * Stack    7,072 bytes; AArch64 7,488
+ * Stack    224 bytes; AArch64 0
  */
 PBEAM_NONNULL(1, 4)
 void pbeam_sign(uint64_t queue[PBEAM_QUEUE_WORDS], const uint8_t *signature, size_t signature_len, uint64_t out[PBEAM_OUT_WORDS]);
@@ -665,7 +663,7 @@ size_t pbeam_responses(const uint64_t queue[PBEAM_QUEUE_WORDS]);
  *          other id: PBEAM_X0_UNK. Every command but PBEAM_ID_FORWARD: PBEAM_X0_UNK while the record is not up.
  * Leaves   what the command leaves; all else as it was. Only PBEAM_ID_PLATFORM_TOKEN reads or writes the session, only
  *          PBEAM_ID_TOKEN_SIGNING the queue.
- * Stack    11,488 bytes with PBEAM_ID_TOKEN_SIGNING, 512 bytes with any other id; AArch64 11,632
+ * Stack    512 bytes with PBEAM_ID_TOKEN_SIGNING, 416 bytes with any other id; AArch64 0
  */
 PBEAM_NONNULL(1, 2, 3, 6, 17, 18, 19)
 void pbeam_call(const uint64_t state[PBEAM_STATE_WORDS], uint64_t session[PBEAM_SESSION_WORDS], uint64_t queue[PBEAM_QUEUE_WORDS],

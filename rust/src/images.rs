@@ -94,7 +94,7 @@ pub fn queue_of(image: &QueueImage) -> Queue {
     }
 }
 
-/// The canonical image: zero past each count, and past each signature.
+/// The image that holds what waits and nothing else: zero past each count, and past each signature.
 pub fn queue_words(queue: &Queue) -> QueueImage {
     let mut image = [0; 210];
     image[0] = queue.requests.len() as u64;
@@ -106,9 +106,40 @@ pub fn queue_words(queue: &Queue) -> QueueImage {
     }
     let places = responses.chunks_exact_mut(RESPONSE);
     for (place, response) in places.zip(queue.responses.iter()) {
-        put_response(place, response);
+        place.copy_from_slice(&response_words(response));
     }
     image
+}
+
+/// What an accepted step leaves of an image. A side with one more has its newest in a row behind those that waited; one with one less is
+/// moved up, its freed place zeroed; of a side with as many as before no word changes. `before` has both counts.
+pub fn put_moves(image: &mut QueueImage, before: [usize; 2], after: &Queue) {
+    let counts = [after.requests.len(), after.responses.len()];
+    for (word, (was, is)) in image.iter_mut().zip(before.into_iter().zip(counts)) {
+        if was != is {
+            *word = is as u64;
+        }
+    }
+    let (requests, responses) = image[REQUESTS..].split_at_mut(RESPONSES - REQUESTS);
+    let newest = after.requests.iter().last().map(request_words);
+    move_rows(requests, before[0], counts[0], newest);
+    let newest = after.responses.iter().last().map(response_words);
+    move_rows(responses, before[1], counts[1], newest);
+}
+
+fn move_rows<const N: usize>(
+    rows: &mut [u64],
+    before: usize,
+    after: usize,
+    newest: Option<[u64; N]>,
+) {
+    if after < before {
+        rows.copy_within(N..N * before, 0);
+        rows[N * after..N * before].fill(0);
+    }
+    if let (true, Some(words)) = (before < after, newest) {
+        rows[N * before..N * after].copy_from_slice(&words);
+    }
 }
 
 pub fn request_words(request: &Request) -> RequestImage {
@@ -144,13 +175,14 @@ fn response_of(image: &QueueImage, i: usize) -> Response {
     }
 }
 
-fn put_response(place: &mut [u64], response: &Response) {
+fn response_words(response: &Response) -> [u64; RESPONSE] {
     let signature = response.signature();
-    let head = [response.granule, response.ticket, signature.len() as u64];
-    place[..3].copy_from_slice(&head);
+    let mut image = [0; RESPONSE];
+    image[..3].copy_from_slice(&[response.granule, response.ticket, signature.len() as u64]);
     let mut bytes = [0; SIGNATURE];
     bytes[..signature.len()].copy_from_slice(signature);
-    put_bytes(&mut place[3..], &bytes);
+    put_bytes(&mut image[3..], &bytes);
+    image
 }
 
 fn put_bytes(words: &mut [u64], bytes: &[u8]) {

@@ -1,6 +1,7 @@
 //! The other side of the benchmark: commands by hand on the library's images, where they lie. Nothing of the queue is converted or
 //! copied whole; the record and the session are a few words, and the reference's commands work on those. The rules are the library's:
-//! a refused call leaves its images as they are, an accepted one leaves a canonical queue, whatever was lent.
+//! a refused call leaves its images as they are, an accepted one changes the side of the queue that it needs and zeros a place that it
+//! frees, whatever was lent.
 //!
 //! No function here is inlined, as no call of the library is.
 
@@ -155,7 +156,7 @@ fn signing(
     match opcode {
         1 => push(queue, buffer),
         2 => pull(queue, buffer),
-        _ => public(queue, public_key, buffer),
+        _ => public(public_key, buffer),
     }
 }
 
@@ -166,7 +167,7 @@ fn push(queue: &mut QueueImage, buffer: &[u8]) -> Outcome {
     if algorithm != 0 || hash_id != 1 {
         return Err(Error::Inval);
     }
-    let (requests, responses) = (count(queue[0]), count(queue[1]));
+    let requests = count(queue[0]);
     if requests == PLACES {
         return Err(Error::Again);
     }
@@ -177,13 +178,13 @@ fn push(queue: &mut QueueImage, buffer: &[u8]) -> Outcome {
     // The upper halves of these words are holes in the page.
     place[0] = u64::from(algorithm);
     place[3] = u64::from(hash_id);
-    settle(queue, requests + 1, responses);
+    queue[0] = requests as u64 + 1;
     Ok([0; 2])
 }
 
 #[inline]
 fn pull(queue: &mut QueueImage, buffer: &mut [u8]) -> Outcome {
-    let (requests, responses) = (count(queue[0]), count(queue[1]));
+    let responses = count(queue[1]);
     if responses == 0 {
         return Err(Error::Again);
     }
@@ -200,19 +201,18 @@ fn pull(queue: &mut QueueImage, buffer: &mut [u8]) -> Outcome {
     }
     tail.copy_from_slice(&bytes[..length]);
     let end = RESPONSES + RESPONSE * responses;
-    queue.copy_within(RESPONSES + RESPONSE..end, RESPONSES);
-    settle(queue, requests, responses - 1);
+    drop_first(&mut queue[RESPONSES..end], RESPONSE);
+    queue[1] = responses as u64 - 1;
     Ok([0; 2])
 }
 
 #[inline]
-fn public(queue: &mut QueueImage, key: &[u8], buffer: &mut [u8]) -> Outcome {
+fn public(key: &[u8], buffer: &mut [u8]) -> Outcome {
     if key.is_empty() {
         return Err(Error::Again);
     }
     let place = buffer.get_mut(..key.len()).ok_or(Error::Inval)?;
     place.copy_from_slice(key);
-    settle(queue, count(queue[0]), count(queue[1]));
     Ok([key.len() as u64, 0])
 }
 
@@ -235,8 +235,9 @@ fn signed(queue: &mut QueueImage, signature: &[u8]) -> Outcome {
         *word = word_at(cell, 0);
     }
     let end = REQUESTS + REQUEST * requests;
-    queue.copy_within(REQUESTS + REQUEST..end, REQUESTS);
-    settle(queue, requests - 1, responses + 1);
+    drop_first(&mut queue[REQUESTS..end], REQUEST);
+    queue[0] = requests as u64 - 1;
+    queue[1] = responses as u64 + 1;
     Ok([0; 2])
 }
 
@@ -246,28 +247,10 @@ fn signature_length(word: u64) -> usize {
     word.min(SIGNATURE as u64) as usize
 }
 
-/// Writes the counts, and zeros past them and past each signature: the image may be one that no call has left.
+/// The rows behind the first move up, and the place that is freed is zeroed.
 #[inline]
-fn settle(queue: &mut QueueImage, requests: usize, responses: usize) {
-    queue[0] = requests as u64;
-    queue[1] = responses as u64;
-    let (left, right) = queue[REQUESTS..].split_at_mut(RESPONSES - REQUESTS);
-    left[REQUEST * requests..].fill(0);
-    let (used, free) = right.split_at_mut(RESPONSE * responses);
-    free.fill(0);
-    for response in used.chunks_exact_mut(RESPONSE) {
-        settle_response(response);
-    }
-}
-
-#[inline]
-fn settle_response(response: &mut [u64]) {
-    let length = signature_length(response[2]);
-    response[2] = length as u64;
-    // Part of a word, then whole words.
-    let (whole, rest) = (length / 8, length % 8);
-    if let Some((first, others)) = response[HEAD + whole..].split_first_mut() {
-        *first &= (1 << (8 * rest)) - 1;
-        others.iter_mut().for_each(|word| *word = 0);
-    }
+fn drop_first(rows: &mut [u64], width: usize) {
+    rows.copy_within(width.., 0);
+    let freed = rows.len() - width;
+    rows[freed..].fill(0);
 }

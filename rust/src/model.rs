@@ -6,7 +6,7 @@ use crate::exports::{
     SessionImage, ViewImage, Work,
 };
 use crate::images::{
-    part_of, queue_of, queue_words, record_of, record_words, registers, request_words, session_of,
+    part_of, put_moves, queue_of, record_of, record_words, registers, request_words, session_of,
     session_words, view_words,
 };
 use crate::reference::boot::{boot_code, BootError, Record};
@@ -209,6 +209,7 @@ impl Exports for Model {
             session: session_of(session),
             queue: queue_of(queue),
         };
+        let before = counts(&next.queue);
         let [id, x @ ..] = *x;
         (*out, *work) = replied(call(&mut next, &mut native(lent), Call { id, x }));
         // Only the command that uses a state touches its image.
@@ -216,7 +217,7 @@ impl Exports for Model {
             *session = session_words(next.session);
         }
         if out[0] == 0 && id == TOKEN_SIGN {
-            *queue = queue_words(&next.queue);
+            put_moves(queue, before, &next.queue);
         }
     }
 }
@@ -244,12 +245,18 @@ fn boot(
     boot_code(answer)
 }
 
-/// A step of the queue. The whole image is written, but only if the step is accepted.
+/// How many requests wait, and how many responses.
+fn counts(queue: &Queue) -> [usize; 2] {
+    [queue.requests.len(), queue.responses.len()]
+}
+
+/// A step of the queue. What moves is written, but only if the step is accepted.
 fn on_queue(image: &mut QueueImage, step: impl FnOnce(&mut Queue) -> Outcome) -> Registers {
     let mut queue = queue_of(image);
+    let before = counts(&queue);
     let outcome = step(&mut queue);
     if outcome.is_ok() {
-        *image = queue_words(&queue);
+        put_moves(image, before, &queue);
     }
     answered(outcome)
 }

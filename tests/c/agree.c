@@ -670,7 +670,7 @@ static void check_request_layout(void)
     queue[0] = queue[1] = 0;
     lay_request(1);
     SAME(signing(state, queue, PBEAM_OPCODE_PUSH, 80), PBEAM_X0_OK);
-    SAME(PBEAM_QUEUE_WORDS, written(queue));
+    SAME(PBEAM_QUEUE_FIRST_REQUEST + PBEAM_REQUEST_WORDS, written(queue));
     SAME(queue[PBEAM_QUEUE_REQUESTS], 1);
     SAME(sign(queue, 1, 1), PBEAM_X0_OK);
     SAME(queue[PBEAM_QUEUE_REQUESTS], 0);
@@ -782,12 +782,14 @@ static void check_signing_sizes(void)
     SAME(signing(state, queue, PBEAM_OPCODE_KEY + 1, 5), PBEAM_X0_INVAL);
 }
 
-/* Push until the requests are full, sign until the responses are. */
+/* Push until the requests are full, sign until the responses are: then every word of the queue is written, and none behind it. */
 static void check_queue_limits(void)
 {
-    uint64_t state[ROOM], queue[ROOM] = {0};
+    uint64_t state[ROOM], queue[ROOM];
     uint64_t requests = 0, responses = 0;
     up(state, 5);
+    guard(queue);
+    queue[PBEAM_QUEUE_REQUESTS] = queue[PBEAM_QUEUE_RESPONSES] = 0;
     lay_request(1);
     while (requests < 100 && signing(state, queue, 1, 80) == 0)
         requests++;
@@ -800,6 +802,7 @@ static void check_queue_limits(void)
     }
     SAME(PBEAM_RESPONSES_MOST, responses);
     SAME(queue[PBEAM_QUEUE_RESPONSES], responses);
+    SAME(PBEAM_QUEUE_WORDS, written(queue));
     SAME(sign(queue, 1, 1), PBEAM_X0_AGAIN);
     SAME(PBEAM_QUEUE_FIRST_RESPONSE, PBEAM_QUEUE_FIRST_REQUEST + PBEAM_REQUESTS_MOST * PBEAM_REQUEST_WORDS);
     SAME(PBEAM_QUEUE_WORDS, PBEAM_QUEUE_FIRST_RESPONSE + PBEAM_RESPONSES_MOST * PBEAM_RESPONSE_WORDS);
@@ -828,35 +831,52 @@ static void check_refused_images(void)
     SAME(out[PBEAM_OUT_X0], PBEAM_X0_INVAL);
 }
 
-/* An accepted call writes every word of the queue and none behind it; places past the counts become zero. */
+/* Words of a guarded queue that an accepted call has to leave: all but its number and those from one place to another. */
+static void check_left(const uint64_t queue[ROOM], size_t number, size_t from, size_t to)
+{
+    for (size_t i = 0; i < ROOM; i++)
+        if (i > PBEAM_QUEUE_RESPONSES && (i < from || i >= to))
+            SAME(queue[i], GUARD);
+    SAME(queue[PBEAM_QUEUE_REQUESTS + PBEAM_QUEUE_RESPONSES - number], 0);
+}
+
+/* An accepted call touches the side that it needs: one row, or the rows that wait. A place that is freed becomes zero. */
 static void check_accepted_images(void)
 {
     uint64_t state[ROOM], queue[ROOM];
+    const size_t requests = PBEAM_QUEUE_FIRST_REQUEST, responses = PBEAM_QUEUE_FIRST_RESPONSE;
     up(state, 5);
     guard(queue);
-    queue[PBEAM_QUEUE_REQUESTS] = queue[PBEAM_QUEUE_RESPONSES] = 0;
     SAME(signing(state, queue, PBEAM_OPCODE_KEY, 5), PBEAM_X0_OK);
-    SAME(PBEAM_QUEUE_WORDS, written(queue));
-    for (size_t i = 0; i < PBEAM_QUEUE_WORDS; i++)
-        SAME(queue[i], 0);
+    SAME(written(queue), 0);
+    lay_request(1);
+    queue[PBEAM_QUEUE_REQUESTS] = queue[PBEAM_QUEUE_RESPONSES] = 0;
+    SAME(signing(state, queue, PBEAM_OPCODE_PUSH, 80), PBEAM_X0_OK);
+    SAME(queue[PBEAM_QUEUE_REQUESTS], 1);
+    check_left(queue, PBEAM_QUEUE_REQUESTS, requests, requests + PBEAM_REQUEST_WORDS);
     guard(queue);
     queue[PBEAM_QUEUE_REQUESTS] = 0;
     queue[PBEAM_QUEUE_RESPONSES] = 1;
     SAME(signing(state, queue, PBEAM_OPCODE_PULL, 200), PBEAM_X0_OK);
     SAME(get(page + HERE + PBEAM_RESPONSE_LENGTH, 2), PBEAM_SIGNATURE_BYTES_MOST);
-    SAME(PBEAM_QUEUE_WORDS, written(queue));
-    for (size_t i = 0; i < PBEAM_QUEUE_WORDS; i++)
-        SAME(queue[i], 0);
+    SAME(queue[PBEAM_QUEUE_RESPONSES], 0);
+    check_left(queue, PBEAM_QUEUE_RESPONSES, responses, responses + PBEAM_RESPONSE_WORDS);
+    for (size_t i = 0; i < PBEAM_RESPONSE_WORDS; i++)
+        SAME(queue[responses + i], 0);
     guard(queue);
     queue[PBEAM_QUEUE_REQUESTS] = 1;
     queue[PBEAM_QUEUE_RESPONSES] = 0;
     SAME(sign(queue, 1, 1), PBEAM_X0_OK);
-    SAME(PBEAM_QUEUE_WORDS, written(queue));
     SAME(queue[PBEAM_QUEUE_REQUESTS], 0);
-    SAME(queue[PBEAM_QUEUE_FIRST_RESPONSE + PBEAM_RESPONSE_WORD_GRANULE], GUARD);
-    SAME(queue[PBEAM_QUEUE_FIRST_RESPONSE + PBEAM_RESPONSE_WORD_SIGNATURE], 1);
-    for (size_t i = PBEAM_QUEUE_FIRST_RESPONSE + PBEAM_RESPONSE_WORD_SIGNATURE + 1; i < PBEAM_QUEUE_WORDS; i++)
-        SAME(queue[i], 0);
+    SAME(queue[PBEAM_QUEUE_RESPONSES], 1);
+    for (size_t i = 0; i < PBEAM_REQUEST_WORDS; i++)
+        SAME(queue[requests + i], 0);
+    SAME(queue[responses + PBEAM_RESPONSE_WORD_GRANULE], GUARD);
+    SAME(queue[responses + PBEAM_RESPONSE_WORD_SIGNATURE], 1);
+    for (size_t i = PBEAM_RESPONSE_WORD_SIGNATURE + 1; i < PBEAM_RESPONSE_WORDS; i++)
+        SAME(queue[responses + i], 0);
+    SAME(queue[requests + PBEAM_REQUEST_WORDS], GUARD);
+    SAME(responses + PBEAM_RESPONSE_WORDS, written(queue));
 }
 
 /* What the header says of hand-made images, and of a token that is exchanged in mid-session. */

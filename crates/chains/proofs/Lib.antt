@@ -1,2 +1,4 @@
 pub mod Chain
 pub mod Runs
+pub mod Singles
+pub mod Queues

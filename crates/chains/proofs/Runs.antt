@@ -11,7 +11,10 @@ use Rattle.words.specs.Tests.{Yes, both}
 use Rattle.words.specs.Word.{leBytes, areWords}
 use Rattle.words.proofs.Tests.{both-l, both-r, both-of}
 use Rattle.boot.specs.declared.Record.{Record}
+use Rattle.codes.specs.Codes.{ifOk}
 use Rattle.codes.specs.declared.Code.{Code}
+use Rattle.codes.specs.declared.Code.the-variants.{Ok}
+use Rattle.codes.proofs.Gates.{if-ok-by}
 use Rattle.granules.specs.declared.Granules.{Granules}
 use Rattle.attest.specs.Key.{keyCode, keyed, realmKeyOf}
 use Rattle.token.specs.Token.{TokenStep, tokenCode, sendOf, keeps, settled, tokenOf}
@@ -26,14 +29,18 @@ use Rattle.runtime.specs.declared.Kind.the-variants.{ForwardError, Delegate, Un
 use Rattle.runtime.specs.Step.{World, Call, Command, call, sign, kindOf, afterMove, afterKey, afterToken, afterSigning, afterUpdate, afterSign, callBy, callOf, stepOf}
 use Rattle.runtime.specs.Run.{worldAfter}
 use Rattle.images.specs.Image.{granulesOf}
-use Rattle.queue_image.specs.Image.{listsIn, queueWords, each, areBytes, responseFits, eightFit, queueFits}
-use Rattle.queue_image.proofs.Fits.{image-fits, each-append, low-bytes, part-bytes, splice-bytes, queue-words, queue-length}
-use Rattle.chains.specs.Chain.{Lent, lentWorld, lentAfter, allAfter, ofBytes}
-use Rattle.runtime.specs.declared.Needs.{Needs}
-use Rattle.potterbeam.specs.Exports.{queueAfter, signLeft, signIn, queueLeft, callLeft, callIn}
-use Rattle.chains.proofs.Chain.{if-ok-holds, signed-fits, call-fits, sign-chain, call-chain}
+use Rattle.queue_image.specs.Image.{each, areBytes, responseFits, eightFit, queueFits, Exact}
+use Rattle.queue_image.proofs.Fits.{image-fits, each-append, low-bytes, part-bytes, splice-bytes}
+use Rattle.queue_image.proofs.Becomes.{Becomes}
+use Rattle.chains.specs.Chain.{Lent, lentWorld, commandLeft, lentAfter, allAfter, ofBytes}
+use Rattle.potterbeam.specs.Exports.{callLeft, callIn}
+use Rattle.chains.proofs.Chain.{signer-becomes, sign-chain, call-becomes, call-chain}
 
 -- ---- a page of bytes stays one
+-- a refusal leaves what was
+if-ok-holds : {A : Type 0} (ok : A → Bool) (k : Code) (new old : A) → Yes (ok old) → (k ≡ Ok → Yes (ok new)) → Yes (ok (ifOk k new old))
+if-ok-holds {A} ok k new old f h = if-ok-by (λ (x : A). Yes (ok x)) k new old h (λ e. f)
+
 oldest-bytes : (l : List Signed) → Yes (each responseFits l) → Yes (areBytes (oldestResponse l .signature))
 unfolding oldestResponse each responseFits areBytes
 oldest-bytes [] h = refl
@@ -79,22 +86,9 @@ call-bytes KeyUpdate g w c a f b = a
 call-bytes Unlisted g w c a f b = a
 
 -- ---- one command, and any sequence
--- an image of 210 words stays one
-abbrev whole : List ℕ → Bool
-whole w = both (eqb (length w) 210) (areWords w)
-
-left-whole : (k : Code) (q : Lists) (image : List ℕ) → Yes (whole image) → Yes (queueFits q) → Yes (whole (queueAfter k q image))
-unfolding queueAfter
-left-whole k q image h f = if-ok-holds whole k (queueWords q) image h (λ e. both-of _ _ (eq-eqb (length (queueWords q)) 210 (queue-length q f)) (queue-words q f))
-
-needs-whole : (n : Needs) (k : Code) (q : Lists) (image : List ℕ) → Yes (whole image) → Yes (queueFits q) → Yes (whole (queueLeft n k q image))
-unfolding queueLeft
-needs-whole Needs.Nothing k q image h f = h
-needs-whole Needs.Session k q image h f = h
-needs-whole Needs.Queue k q image h f = left-whole k q image h f
-
+-- a page of bytes, and an image of 210 words
 sound : Lent → Bool
-sound m = both (areBytes (m .page)) (whole (m .queue))
+sound m = both (areBytes (m .page)) (both (eqb (length (m .queue)) 210) (areWords (m .queue)))
 
 module _ (granules : List ℕ) where
   module _ (m : Lent) (h : Yes (sound m)) where
@@ -102,21 +96,32 @@ module _ (granules : List ℕ) where
     unfolding sound
     page-bytes = both-l _ _ h
 
-    queue-fits : Yes (queueFits (listsIn (m .queue)))
+    queue-whole : length (m .queue) ≡ 210
     unfolding sound
-    queue-fits = image-fits (m .queue) (eqb-true _ _ (both-l _ _ (both-r _ _ h))) (both-r _ _ (both-r _ _ h))
+    queue-whole = eqb-true _ _ (both-l _ _ (both-r _ _ h))
+
+    queue-words : Yes (areWords (m .queue))
+    unfolding sound
+    queue-words = both-r _ _ (both-r _ _ h)
+
+    step-becomes : (c : Command) → Yes (ofBytes c) → Becomes (m .queue) (lentAfter granules m c .queue) (stepOf (granulesOf granules) (lentWorld m) c .next .queue)
+    unfolding commandLeft stepOf afterSign ofBytes
+    step-becomes (call c) b = call-becomes granules (m .session) (m .queue) (m .page) (m .table) c queue-whole queue-words page-bytes
+    step-becomes (sign s) b = signer-becomes (m .queue) queue-whole queue-words s b
+
+    step-bytes : (c : Command) → Yes (ofBytes c) → Yes (areBytes (lentAfter granules m c .page))
+    unfolding commandLeft callIn callLeft callOf
+    step-bytes (call c) b = call-bytes (kindOf (c .id)) (granulesOf granules) (lentWorld m) c page-bytes (image-fits (m .queue) queue-whole queue-words) b
+    step-bytes (sign s) b = page-bytes
 
     step-sound : (c : Command) → Yes (ofBytes c) → Yes (sound (lentAfter granules m c))
-    unfolding sound lentAfter callIn callLeft signIn signLeft callOf ofBytes
-    step-sound (call c) b =
-        both-of _ _ (call-bytes (kindOf (c .id)) (granulesOf granules) (lentWorld m) c page-bytes queue-fits b)
-        (needs-whole _ _ _ (m .queue) (both-r _ _ h) (call-fits (kindOf (c .id)) (granulesOf granules) (lentWorld m) c page-bytes queue-fits))
-    step-sound (sign s) b = both-of _ _ page-bytes (left-whole _ _ (m .queue) (both-r _ _ h) (signed-fits (listsIn (m .queue)) s b queue-fits))
+    unfolding sound
+    step-sound c b = let n = step-becomes c b in both-of _ _ (step-bytes c b) (both-of _ _ (eq-eqb (length (lentAfter granules m c .queue)) 210 (n .whole)) (n .words))
 
     step-chain : (c : Command) → Yes (ofBytes c) → lentWorld (lentAfter granules m c) ≡ stepOf (granulesOf granules) (lentWorld m) c .next
-    unfolding sound lentAfter stepOf afterSign ofBytes
-    step-chain (call c) b = call-chain granules (m .session) (m .queue) (m .page) (m .table) c (eqb-true _ _ (both-l _ _ (both-r _ _ h))) (both-r _ _ (both-r _ _ h)) page-bytes
-    step-chain (sign s) b = rw (sign-chain (m .queue) (eqb-true _ _ (both-l _ _ (both-r _ _ h))) (both-r _ _ (both-r _ _ h)) s b)
+    unfolding commandLeft stepOf afterSign ofBytes
+    step-chain (call c) b = call-chain granules (m .session) (m .queue) (m .page) (m .table) c queue-whole queue-words page-bytes
+    step-chain (sign s) b = rw (sign-chain (m .queue) queue-whole queue-words s b)
 
   run-sound : (m : Lent) (cs : List Command) → Yes (sound m) → Yes (each ofBytes cs) → lentWorld (allAfter granules m cs) ≡ worldAfter (granulesOf granules) (lentWorld m) cs
   unfolding allAfter worldAfter each
@@ -125,8 +130,20 @@ module _ (granules : List ℕ) where
       run-sound (lentAfter granules m c) cs (step-sound m h c (both-l _ _ b)) (both-r _ _ b)
       ∙ ap (λ (w : World). worldAfter (granulesOf granules) w cs) (step-chain m h c (both-l _ _ b))
 
+  exact-sound : (m : Lent) (cs : List Command) → Yes (sound m) → Yes (each ofBytes cs) → Exact (m .queue) → Exact (allAfter granules m cs .queue)
+  unfolding allAfter each
+  exact-sound m [] h b e = e
+  exact-sound m (c ∷ cs) h b e = exact-sound (lentAfter granules m c) cs (step-sound m h c (both-l _ _ b)) (both-r _ _ b) (step-becomes m h c (both-l _ _ b) .exact e)
+
   -- from an image of 210 words and a page of bytes, with bytes lent to each
-  pub run-chain : (m : Lent) (cs : List Command) → length (m .queue) ≡ 210 → Yes (areWords (m .queue)) → Yes (areBytes (m .page)) → Yes (each ofBytes cs) →
-      lentWorld (allAfter granules m cs) ≡ worldAfter (granulesOf granules) (lentWorld m) cs
-  unfolding sound
-  run-chain m cs l w a b = run-sound m cs (both-of _ _ a (both-of _ _ (eq-eqb (length (m .queue)) 210 l) w)) b
+  module _ (m : Lent) (cs : List Command) (l : length (m .queue) ≡ 210) (w : Yes (areWords (m .queue))) (a : Yes (areBytes (m .page))) (b : Yes (each ofBytes cs)) where
+    lent-sound : Yes (sound m)
+    unfolding sound
+    lent-sound = both-of _ _ a (both-of _ _ (eq-eqb (length (m .queue)) 210 l) w)
+
+    pub run-chain : lentWorld (allAfter granules m cs) ≡ worldAfter (granulesOf granules) (lentWorld m) cs
+    run-chain = run-sound m cs lent-sound b
+
+    -- what waits stays all that the queue's image holds
+    pub run-exact : Exact (m .queue) → Exact (allAfter granules m cs .queue)
+    run-exact e = exact-sound m cs lent-sound b e

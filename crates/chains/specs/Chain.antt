@@ -19,11 +19,17 @@ abbrev pub lentWorld : Lent → World
 lentWorld m = worldIn (m .session) (m .queue) (m .page) (m .table)
 
 -- what a call of the dispatcher, or the signer's own step, leaves; the granule record's image is one for all
-unfoldable pub lentAfter : List ℕ → Lent → Command → Lent
-lentAfter granules m (call c) =
-    let l : CallLeft = callIn granules (m .session) (m .queue) (m .page) (m .table) c in
-    record { session = l .session; queue = l .queue; page = l .page; table = l .table }
-lentAfter granules m (sign s) = record { session = m .session; queue = signIn (m .queue) s .queue; page = m .page; table = m .table }
+unfoldable pub commandLeft : List ℕ → Lent → Command → CallLeft
+commandLeft granules m (call c) = callIn granules (m .session) (m .queue) (m .page) (m .table) c
+commandLeft granules m (sign s) =
+    record { out = signIn (m .queue) s .out; work = 0 ∷ 0 ∷ []; page = m .page; table = m .table; session = m .session; queue = signIn (m .queue) s .queue }
+
+-- so much of it is lent to the next
+abbrev pub lentOn : CallLeft → Lent
+lentOn l = record { session = l .session; queue = l .queue; page = l .page; table = l .table }
+
+abbrev pub lentAfter : List ℕ → Lent → Command → Lent
+lentAfter granules m c = lentOn (commandLeft granules m c)
 
 -- and all of a sequence
 unfoldable pub allAfter : List ℕ → Lent → List Command → Lent

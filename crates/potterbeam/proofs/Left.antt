@@ -1,6 +1,6 @@
 -- What a call leaves, from what its parts promise. Assumes nothing.
 use Prim.Native.Nat.{ℕ}
-use mathlib.Core.Path.{_≡_, ap, _∙_}
+use mathlib.Core.Path.{_≡_, ap}
 use mathlib.Core.List.{List, [], _∷_}
 use lib.ListN.{getD}
 use Rattle.codes.specs.Codes.{ifOk}
@@ -8,15 +8,16 @@ use Rattle.codes.specs.declared.Answer.{Answer}
 use Rattle.granules.specs.Granules.{Moved, movedTo}
 use Rattle.token.specs.Token.{TokenStep}
 use Rattle.token.specs.declared.Session.{Session}
-use Rattle.queue.specs.Queue.{Lists, SigningStep}
-use Rattle.responses.specs.Sign.{SignStep}
+use Rattle.responses.specs.OnImage.{SignImage}
+use Rattle.signing.specs.OnImage.{signingOn}
 use Rattle.runtime.specs.Step.{plainWorld, Step, kindOf, afterToken, afterSigning, callBy, callOf, replyCode, needsOf}
 use Rattle.runtime.specs.declared.Needs.{Needs}
 use Rattle.runtime.specs.declared.Reply.{Reply}
 use Rattle.runtime.proofs.Plain.{needs-session, needs-queue, plain-beside}
 use Rattle.images.specs.Image.{recordOf, granulesOf, isSet, sessionOf, sessionWords, registerWords, workWords, replyRegisters, replyWords}
-use Rattle.queue_image.specs.Image.{listsIn, queueWords}
-use Rattle.potterbeam.specs.Exports.{sessionAfter, queueAfter, MoveLeft, moveLeft, TokenLeft, tokenLeft, tokenIn, SigningLeft, signingLeft, signingIn, SignLeft, signLeft, sessionLeft, queueLeft, CallLeft, callLeft, callLent, callIn, PlainLeft, plainLeft, plainIn}
+use Rattle.queue_image.specs.Image.{listsIn}
+use Rattle.queue_image.specs.Steps.{ImageStep, imageStep}
+use Rattle.potterbeam.specs.Exports.{sessionAfter, MoveLeft, moveLeft, TokenLeft, tokenLeft, tokenIn, SigningLeft, signingLeft, signingIn, SignLeft, signLeft, sessionLeft, queueLeft, CallLeft, callLeft, callLent, callIn, PlainLeft, plainLeft, plainIn}
 
 pub move-left : (a : Answer) (out table : List ℕ) (m : Moved) → out ≡ registerWords a → movedTo a table ≡ m → _≡_ {A = MoveLeft} (record { out = out; table = table }) (moveLeft m)
 unfolding moveLeft movedTo
@@ -27,15 +28,15 @@ pub token-left : (a : Answer) (s : Session) (image out page se : List ℕ) (t : 
 unfolding tokenLeft sessionAfter
 token-left a s image out page se t h i e = rw (h, i) (ap (λ (x : TokenStep). tokenLeft x image) e)
 
-pub signing-left : (a : Answer) (l : Lists) (image out page qe : List ℕ) (t : SigningStep) → out ≡ registerWords a → qe ≡ ifOk (a .code) (queueWords l) image →
-    record { answer = a; page = page; queue = l } ≡ t → _≡_ {A = SigningLeft} (record { out = out; page = page; queue = qe }) (signingLeft t image)
-unfolding signingLeft queueAfter
-signing-left a l image out page qe t h i e = rw (h, i) (ap (λ (x : SigningStep). signingLeft x image) e)
+pub signing-left : (a : Answer) (out page image : List ℕ) (s : ImageStep) → out ≡ registerWords a → _≡_ {A = ImageStep} (record { answer = a; page = page; image = image }) s →
+    _≡_ {A = SigningLeft} (record { out = out; page = page; queue = image }) (signingLeft s)
+unfolding signingLeft
+signing-left a out page image s h e = rw h (ap signingLeft e)
 
-pub sign-left : (a : Answer) (l : Lists) (image out qe : List ℕ) (t : SignStep) → out ≡ registerWords a → qe ≡ ifOk (a .code) (queueWords l) image →
-    record { answer = a; queue = l } ≡ t → _≡_ {A = SignLeft} (record { out = out; queue = qe }) (signLeft t image)
-unfolding signLeft queueAfter
-sign-left a l image out qe t h i e = rw (h, i) (ap (λ (x : SignStep). signLeft x image) e)
+pub sign-left : (a : Answer) (out image : List ℕ) (s : SignImage) → out ≡ registerWords a → _≡_ {A = SignImage} (record { answer = a; image = image }) s →
+    _≡_ {A = SignLeft} (record { out = out; queue = image }) (signLeft s)
+unfolding signLeft
+sign-left a out image s h e = rw h (ap signLeft e)
 
 pub plain-left : (reply : Reply) (out work page table : List ℕ) (s : Step) → out ≡ replyRegisters reply → work ≡ replyWords reply → record { reply = reply; next = plainWorld page table } ≡ s →
     _≡_ {A = PlainLeft} (record { out = out; work = work; page = page; table = table }) (plainLeft s)
@@ -60,5 +61,5 @@ module _ (granules session queue page table state x : List ℕ) (busy : ℕ) (ke
   -- the queue
   pub left-queue : needsOf (kindOf (getD x 0 0)) ≡ Needs.Queue → (l : SigningLeft) → l ≡ signingIn state queue page public (getD x 1 0) (getD x 2 0) (getD x 3 0) (getD x 4 0) →
       _≡_ {A = CallLeft} (record { out = l .out; work = 0 ∷ 0 ∷ []; page = l .page; table = table; session = session; queue = l .queue }) (callIn granules session queue page table (callLent state x busy key token public width))
-  unfolding signingIn signingLeft callIn callLent callLeft sessionLeft queueLeft callOf callBy needsOf afterSigning replyRegisters replyWords workWords replyCode
+  unfolding signingIn signingLeft signingOn imageStep callIn callLent callLeft sessionLeft queueLeft callOf callBy needsOf afterSigning replyRegisters replyWords workWords replyCode
   left-queue h l e = rw (needs-queue (kindOf (getD x 0 0)) h, e)

@@ -11,13 +11,13 @@ use Rattle.granules.specs.Granules.{Moved, moveOf}
 use Rattle.granules.specs.declared.Direction.{Direction}
 use Rattle.token.specs.Token.{TokenStep, tokenOf}
 use Rattle.token.specs.declared.Session.{Session}
-use Rattle.queue.specs.Queue.{Lists, SigningStep}
-use Rattle.responses.specs.Sign.{SignStep, signOf}
-use Rattle.signing.specs.Signing.{signingOf}
+use Rattle.responses.specs.OnImage.{SignImage, signOn}
+use Rattle.signing.specs.OnImage.{signingDone, signingOn}
 use Rattle.runtime.specs.Step.{World, worldOf, plainWorld, Call, callWith, plainCall, Step, kindOf, callOf, replyCode, needsOf, plainOf}
 use Rattle.runtime.specs.declared.Needs.{Needs}
 use Rattle.images.specs.Image.{recordOf, granulesOf, isSet, sessionOf, sessionWords, registerWords, replyRegisters, replyWords}
-use Rattle.queue_image.specs.Image.{listsIn, queueWords}
+use Rattle.queue_image.specs.Image.{listsIn}
+use Rattle.queue_image.specs.Steps.{ImageStep}
 
 -- ---- the writer, of its four lists
 abbrev pub writeIn : ℕ → ℕ → ℕ → List ℕ → List ℕ → List ℕ → List ℕ → Made
@@ -26,9 +26,6 @@ writeIn base n edition dram console ncoh coh = writeOf base n edition (descripti
 -- ---- an image after a call: written where the call is accepted
 unfoldable pub sessionAfter : Code → Session → List ℕ → List ℕ
 sessionAfter k s image = ifOk k (sessionWords s) image
-
-unfoldable pub queueAfter : Code → Lists → List ℕ → List ℕ
-queueAfter k q image = ifOk k (queueWords q) image
 
 -- ---- delegation: the result registers and the table
 pub record MoveLeft : Type 0 where
@@ -59,22 +56,22 @@ pub record SigningLeft : Type 0 where
   pub page : List ℕ
   pub queue : List ℕ
 
-unfoldable pub signingLeft : SigningStep → List ℕ → SigningLeft
-signingLeft s image = record { out = registerWords (s .answer); page = s .page; queue = queueAfter (s .answer .code) (s .queue) image }
+unfoldable pub signingLeft : ImageStep → SigningLeft
+signingLeft s = record { out = registerWords (s .answer); page = s .page; queue = s .image }
 
 unfoldable pub signingIn : List ℕ → List ℕ → List ℕ → List ℕ → ℕ → ℕ → ℕ → ℕ → SigningLeft
-signingIn state image page key opcode pa size curve = signingLeft (signingOf (recordOf state) page (listsIn image) key opcode pa size curve) image
+signingIn state image page key opcode pa size curve = signingLeft (signingOn (recordOf state) page image key opcode pa size curve)
 
 -- ---- the signer's own step: the result registers and the queue's image
 pub record SignLeft : Type 0 where
   pub out : List ℕ
   pub queue : List ℕ
 
-unfoldable pub signLeft : SignStep → List ℕ → SignLeft
-signLeft s image = record { out = registerWords (s .answer); queue = queueAfter (s .answer .code) (s .queue) image }
+unfoldable pub signLeft : SignImage → SignLeft
+signLeft s = record { out = registerWords (s .answer); queue = s .image }
 
 unfoldable pub signIn : List ℕ → List ℕ → SignLeft
-signIn image signature = signLeft (signOf (listsIn image) signature) image
+signIn image signature = signLeft (signOn image signature)
 
 -- ---- any command: the result registers, what the platform has to do, page and table, and both images
 pub record CallLeft : Type 0 where
@@ -91,20 +88,20 @@ sessionLeft Needs.Nothing k s image = image
 sessionLeft Needs.Session k s image = sessionAfter k s image
 sessionLeft Needs.Queue k s image = image
 
-unfoldable pub queueLeft : Needs → Code → Lists → List ℕ → List ℕ
-queueLeft Needs.Nothing k q image = image
-queueLeft Needs.Session k q image = image
-queueLeft Needs.Queue k q image = queueAfter k q image
+unfoldable pub queueLeft : Needs → Code → List ℕ → List ℕ → List ℕ
+queueLeft Needs.Nothing k new image = image
+queueLeft Needs.Session k new image = image
+queueLeft Needs.Queue k new image = ifOk k new image
 
-unfoldable pub callLeft : Needs → Step → List ℕ → List ℕ → CallLeft
-callLeft n s session queue =
+unfoldable pub callLeft : Needs → Step → List ℕ → List ℕ → List ℕ → CallLeft
+callLeft n s session new queue =
     record {
       out = replyRegisters (s .reply);
       work = replyWords (s .reply);
       page = s .next .page;
       table = s .next .table .bytes;
       session = sessionLeft n (replyCode (s .reply)) (s .next .session) session;
-      queue = queueLeft n (replyCode (s .reply)) (s .next .queue) queue;
+      queue = queueLeft n (replyCode (s .reply)) new queue;
     }
 
 -- what is lent to a call beside the images: x0, the function id, to x4, and what the platform says or lends
@@ -118,7 +115,7 @@ worldIn session queue page table = worldOf page table (sessionOf session) (lists
 
 unfoldable pub callIn : List ℕ → List ℕ → List ℕ → List ℕ → List ℕ → Call → CallLeft
 callIn granules session queue page table c =
-    callLeft (needsOf (kindOf (c .id))) (callOf (granulesOf granules) (worldIn session queue page table) c) session queue
+    callLeft (needsOf (kindOf (c .id))) (callOf (granulesOf granules) (worldIn session queue page table) c) session (signingDone (c .state) page queue (c .x1) (c .x2) (c .x3)) queue
 
 -- a call that uses neither image
 pub record PlainLeft : Type 0 where

@@ -296,7 +296,8 @@ pub extern "C" fn pbeam_features(state: &[u64; 4], index: u64, out: &mut [u64; 3
     *out = images::registers(features::features(images::record_of(state), index));
 }
 
-// 0xC40001B5: push, pull or key, by opcode. The queue's image is written where the call is accepted.
+// 0xC40001B5: push, pull or key, by opcode. An accepted push changes the requests' side of the queue's image, an accepted pull the
+// responses'; no other word of it changes.
 #[no_mangle]
 pub extern "C" fn pbeam_token_signing(
     state: &[u64; 4],
@@ -312,20 +313,8 @@ pub extern "C" fn pbeam_token_signing(
     ensures { λ _. ⌜ _≡_ {A = SigningLeft} (record { out = now (out .exit); page = now (page .exit); queue = now (queue .exit) })
         (signingIn (now (state .entry)) (now (queue .entry)) (now (page .entry)) (now (key .entry)) opcode pa size curve) ⌝ }
 {
-    let done = signing::token_signing(
-        images::record_of(state),
-        page,
-        queue_image::queue_of(queue),
-        key,
-        opcode,
-        pa,
-        size,
-        curve,
-    );
-    let answer = done.answer;
-    let next = done.queue;
-    let code = answer.code;
-    queue_image::put_queue(queue, next, code);
+    let record = images::record_of(state);
+    let answer = signing::token_signing_on(record, page, queue, key, opcode, pa, size, curve);
     *out = images::registers(answer);
 }
 
@@ -358,18 +347,13 @@ pub extern "C" fn pbeam_forward(state: &[u64; 4], x1: u64) -> u64
 
 // ---- The signer ----
 
-// The signer's own step: the oldest request becomes the newest response, with the signature that the signer lends. The queue's image
-// is written where the step is accepted.
+// The signer's own step: the oldest request becomes the newest response, with the signature that the signer lends. Where the
+// step is accepted, both sides of the queue's image change.
 #[no_mangle]
 pub extern "C" fn pbeam_sign(queue: &mut [u64; 210], signature: &[u8], out: &mut [u64; 3])
     ensures { λ _. ⌜ _≡_ {A = SignLeft} (record { out = now (out .exit); queue = now (queue .exit) }) (signIn (now (queue .entry)) (now (signature .entry))) ⌝ }
 {
-    let done = responses::sign(queue_image::queue_of(queue), signature);
-    let answer = done.answer;
-    let next = done.queue;
-    let code = answer.code;
-    queue_image::put_queue(queue, next, code);
-    *out = images::registers(answer);
+    *out = images::registers(responses::sign_on(queue, signature));
 }
 
 // The oldest request. Answers how many wait; where none does, the request is zeros.
@@ -424,7 +408,7 @@ fn plain(
 }
 
 // A call of the interface, x0 being the function id. Only the platform token reads and writes the session's image, and only token
-// signing the queue's; each is written where the call is accepted.
+// signing the queue's; each changes where the call is accepted.
 #[no_mangle]
 pub extern "C" fn pbeam_call(
     state: &[u64; 4],

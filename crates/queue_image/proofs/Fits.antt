@@ -17,6 +17,7 @@ use Rattle.words.proofs.Lists.{bytesOf-length, words-cons, words-append}
 use Rattle.queue.specs.declared.Request.{Request}
 use Rattle.queue.specs.Queue.{Signed, Lists, signedIn}
 use Rattle.queue_image.specs.Image.{rows, requestIn, heldIn, responseIn, listsIn, requestWords, responseWords, flat, padded, queueWords, each, areBytes, requestFits, responseFits, eightFit, queueFits}
+use Rattle.queue_image.specs.Sides.{Side, rowsWaiting, rowsIn, rowJoined, rowDropped}
 use Rattle.queue_image.proofs.Rows.{rows-length, mul-more, flat-length, padded-length}
 use Rattle.queue_image.proofs.Sides.{request-wide, response-wide}
 use Rattle.queue_image.proofs.Inverse.{each-take, each-drop}
@@ -114,9 +115,13 @@ pub part-bytes : (off n : ℕ) (s : List ℕ) → Yes (areBytes s) → Yes (areB
 unfolding part areBytes
 part-bytes off n s h = each-take _ n (drop off s) (each-drop _ off s h)
 
+splice-each : (f : ℕ → Bool) (off : ℕ) (vs s : List ℕ) → Yes (each f vs) → Yes (each f s) → Yes (each f (splice off vs s))
+unfolding splice
+splice-each f off vs s a b = each-append f (take off s ++ vs) (drop (off + length vs) s) (each-append f (take off s) vs (each-take f off s b) a) (each-drop f (off + length vs) s b)
+
 pub splice-bytes : (off : ℕ) (vs s : List ℕ) → Yes (areBytes vs) → Yes (areBytes s) → Yes (areBytes (splice off vs s))
-unfolding splice areBytes
-splice-bytes off vs s a b = each-append _ (take off s ++ vs) (drop (off + length vs) s) (each-append _ (take off s) vs (each-take _ off s b) a) (each-drop _ (off + length vs) s b)
+unfolding areBytes
+splice-bytes off vs s a b = splice-each _ off vs s a b
 
 number-below : (n : ℕ) (bs : List ℕ) → Yes (areBytes bs) → leOf (take n bs) < 256 ^ n
 unfolding areBytes each leOf
@@ -146,11 +151,11 @@ unfolding wordsOf areWords areBytes
 bytes-words zero bs a = refl
 bytes-words (suc n) bs a = both-of _ _ (lt-ltb (leOf (take 8 bs)) (2 ^ 64) (number-below 8 bs a)) (bytes-words n (drop 8 bs) (each-drop _ 8 bs a))
 
-request-words : (r : Request) → Yes (requestFits r) → Yes (areWords (requestWords r))
+pub request-words : (r : Request) → Yes (requestFits r) → Yes (areWords (requestWords r))
 unfolding requestWords requestFits
 request-words r h = words-append (r .algorithm ∷ r .granule ∷ r .ticket ∷ r .hashid ∷ []) (wordsOf 6 (r .hash)) (both-l _ _ h) (bytes-words 6 (r .hash) (both-r _ _ (both-r _ _ h)))
 
-response-words : (r : Signed) → Yes (responseFits r) → Yes (areWords (responseWords r))
+pub response-words : (r : Signed) → Yes (responseFits r) → Yes (areWords (responseWords r))
 unfolding responseWords responseFits
 response-words r h =
     let n : length (r .signature) ≤ 104 = leb-true _ _ (both-l _ _ (both-r _ _ h)) in
@@ -185,3 +190,25 @@ module _ (q : Lists) (h : Yes (queueFits q)) where
       let p : length (padded 80 a) ≡ 80 = padded-length 80 a (omega (arith, eights, flat-length requestWords 10 request-wide (q .requests))) in
       let r : length (padded 128 b) ≡ 128 = padded-length 128 b (omega (arith, eights, flat-length responseWords 16 response-wide (q .responses))) in
       omega (arith, length-append (padded 80 a) (padded 128 b))
+
+-- ---- an image of words stays one under the moves of its sides
+each-words : (ws : List ℕ) → Yes (each isWord ws) → Yes (areWords ws)
+unfolding areWords each isWord
+each-words [] h = refl
+each-words (w ∷ ws) h = both-of _ _ (both-l _ _ h) (each-words ws (both-r _ _ h))
+
+splice-words : (off : ℕ) (vs s : List ℕ) → Yes (areWords vs) → Yes (areWords s) → Yes (areWords (splice off vs s))
+splice-words off vs s a b = each-words (splice off vs s) (splice-each isWord off vs s (words-each vs a) (words-each s b))
+
+module _ (s : Side) (w : List ℕ) (h : Yes (areWords w)) where
+  pub joined-words : (row : List ℕ) → Yes (areWords row) → Yes (areWords (rowJoined s row w))
+  unfolding rowJoined rowsWaiting areWords
+  joined-words row a = splice-words (s .number) _ _ (words-cons (suc (rowsWaiting s w)) [] (omega arith) refl) (splice-words (s .start + s .width * rowsWaiting s w) row w a h)
+
+  pub dropped-words : Yes (areWords (rowDropped s w))
+  unfolding rowDropped rowsWaiting rowsIn part areWords
+  dropped-words =
+      let t : List ℕ = part (s .start) (s .width * rowsWaiting s w) w in
+      let r : Yes (each isWord (drop (s .width) t)) = each-drop isWord (s .width) t (each-take isWord (s .width * rowsWaiting s w) (drop (s .start) w) (each-drop isWord (s .start) w (words-each w h))) in
+      splice-words (s .number) _ _ (words-cons (rowsWaiting s w - 1) [] (omega arith) refl)
+      (splice-words (s .start) (drop (s .width) t ++ replicate (s .width) 0) w (words-append (drop (s .width) t) (replicate (s .width) 0) (each-words _ r) (zeros-words (s .width))) h)

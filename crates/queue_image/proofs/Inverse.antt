@@ -71,13 +71,13 @@ unfolding padded
 padded-full n l e = rw (let z : n - length l ≡ 0 = omega arith in z) (append-nil l)
 
 -- ---- a request and a response come back from their rows
-request-back : (r : Request) → Yes (requestFits r) → requestIn (requestWords r) ≡ r
+pub request-back : (r : Request) → Yes (requestFits r) → requestIn (requestWords r) ≡ r
 unfolding requestIn requestWords requestFits
 request-back r h =
     let l : length (r .hash) ≡ 48 = eqb-true _ _ (both-l _ _ (both-r _ _ h)) in
     rw (bytes-back 6 (r .hash) (omega arith) (both-r _ _ (both-r _ _ h)), padded-full 48 (r .hash) l)
 
-response-back : (r : Signed) → Yes (responseFits r) → responseIn (responseWords r) ≡ r
+pub response-back : (r : Signed) → Yes (responseFits r) → responseIn (responseWords r) ≡ r
 unfolding responseIn signedIn heldIn responseWords responseFits padded
 response-back r h =
     let l : length (r .signature) ≤ 104 = leb-true _ _ (both-l _ _ (both-r _ _ h)) in

@@ -6,12 +6,11 @@ use native.Mathlib.Nat.{mul-zero, mul-suc, add-comm, add-zero, zero-add, suc-add
 use native.Mathlib.Numerals.{add-one}
 use native.Mathlib.Omega.{arith}
 use lib.ListN.{length, take, drop, getD, set, replicate, length-append, length-map, length-drop, length-replicate, replicate-append-replicate, drop-of-length-le}
-use lib.Seq.{length-take-le, take-at, drop-at, drop-drop, drop-cons, take-suc, set-at, append-snoc, paste-zero, take-nil, getD-take, getD-drop}
+use lib.Seq.{length-take-le, take-at, drop-at, drop-drop, drop-cons, set-at, append-snoc, paste-zero, take-nil, getD-take, getD-drop}
 use Rattle.words.specs.Word.{part, wordAt, wordsOf, bytesOf, splice, laid}
 use Rattle.words.proofs.Read.{wordsOf-length, wordsOf-suc}
-use Rattle.words.proofs.Store.{splice-splice, laid-all}
+use Rattle.words.proofs.Store.{laid-all}
 use Rattle.words.proofs.Lists.{bytesOf-length}
-use Rattle.queue.proofs.Sides.{taken-all}
 use Rattle.queue_image.specs.Image.{rows, flat, padded}
 
 -- ---- rows read
@@ -24,7 +23,7 @@ rows-length width zero w = refl
 rows-length width (suc n) w = ap suc (rows-length width n (drop width w))
 
 -- one more row
-rows-suc : (width n : ℕ) (w : List ℕ) → rows width (suc n) w ≡ rows width n w ++ (take width (drop (width * n) w) ∷ [])
+pub rows-suc : (width n : ℕ) (w : List ℕ) → rows width (suc n) w ≡ rows width n w ++ (take width (drop (width * n) w) ∷ [])
 unfolding rows
 rows-suc width zero w = rw mul-zero
 rows-suc width (suc n) w = rw (mul-more, ← drop-drop) (ap {B = List (List ℕ)} (λ t. take width w ∷ t) (rows-suc width n (drop width w)))
@@ -58,7 +57,7 @@ pub row-at : (width at j : ℕ) (w : List ℕ) → j < width → getD w (at + j)
 unfolding part
 row-at width at j w h = rw (getD-take width (drop at w) j 0 h, getD-drop)
 
-drop-take : (k m : ℕ) (l : List ℕ) → drop k (take (k + m) l) ≡ take m (drop k l)
+pub drop-take : (k m : ℕ) (l : List ℕ) → drop k (take (k + m) l) ≡ take m (drop k l)
 drop-take zero m l = rw zero-add
 drop-take (suc k) m [] = simp take-nil
 drop-take (suc k) m (x ∷ l) = rw suc-add (drop-take k m l)
@@ -72,7 +71,7 @@ row-bytes k m at w z n e h l =
     rw (t, e) (laid-all (bytesOf (take m (drop (at + k) w))) z (bytesOf-length (take m (drop (at + k) w)) ∙ rw j (sym l)))
 
 -- ---- rows laid
-splice-none : (at : ℕ) (s : List ℕ) → s ≡ splice at [] s
+pub splice-none : (at : ℕ) (s : List ℕ) → s ≡ splice at [] s
 unfolding splice
 splice-none at s = paste-zero s at []
 
@@ -84,7 +83,7 @@ put-next at vs s x h =
     let e : at + length (vs ++ (x ∷ [])) ≡ suc (at + length vs) = omega (arith, length-append vs (x ∷ [])) in
     rw (drop-cons s (at + length vs) 0 h, set-at _ _ _ x _ l, e) (simp append-assoc)
 
-put-first : (at : ℕ) (s : List ℕ) (x : ℕ) → at < length s → set s at x ≡ splice at (x ∷ []) s
+pub put-first : (at : ℕ) (s : List ℕ) (x : ℕ) → at < length s → set s at x ≡ splice at (x ∷ []) s
 put-first at s x h = ap (λ (k : ℕ). set s k x) (sym (add-zero at)) ∙ ap (λ l. set l (at + 0) x) (splice-none at s) ∙ put-next at [] s x (omega arith)
 
 -- bytes as words
@@ -108,52 +107,27 @@ module _ (s : List ℕ) (at a b c : ℕ) where
   pub put-four : (d : ℕ) → at + 4 ≤ length s → set (set (set (set s at a) (at + 1) b) (at + 2) c) (at + 3) d ≡ splice at (a ∷ b ∷ c ∷ d ∷ []) s
   put-four d h = ap (λ l. set l (at + 3) d) (put-three (omega arith)) ∙ put-next at (a ∷ b ∷ c ∷ []) s d (omega arith)
 
--- the rows of the first i items, from a place on
-unfoldable pub laidTo : {A : Type 0} → (A → List ℕ) → ℕ → List A → List ℕ → ℕ → List ℕ
-laidTo f start items s i = splice start (flat f (take i items)) s
-
 module _ {A : Type 0} (f : A → List ℕ) where
-  flat-append : (xs ys : List A) → flat f (xs ++ ys) ≡ flat f xs ++ flat f ys
+  pub flat-append : (xs ys : List A) → flat f (xs ++ ys) ≡ flat f xs ++ flat f ys
   unfolding flat
   flat-append [] ys = refl
   flat-append (x ∷ xs) ys = rw (flat-append xs ys, append-assoc)
 
-  flat-one : (x : A) → flat f (x ∷ []) ≡ f x
+  pub flat-one : (x : A) → flat f (x ∷ []) ≡ f x
   unfolding flat
   flat-one x = append-nil (f x)
-
-  pub flat-map : {B : Type 0} (g : B → A) (l : List B) → flat f (map g l) ≡ flat (λ x. f (g x)) l
-  unfolding flat
-  flat-map g [] = refl
-  flat-map g (x ∷ l) = ap (λ t. f (g x) ++ t) (flat-map g l)
 
   pub flat-length : (width : ℕ) → ((x : A) → length (f x) ≡ width) → (l : List A) → length (flat f l) ≡ width * length l
   unfolding flat
   flat-length width wide [] = sym (mul-zero width)
   flat-length width wide (x ∷ l) = length-append (f x) (flat f l) ∙ rw (wide x, flat-length width wide l, mul-more)
 
-  module _ (start : ℕ) (items : List A) (s : List ℕ) where
-    pub laid-none : s ≡ laidTo f start items s 0
-    unfolding laidTo flat
-    laid-none = splice-none start s
-
-    pub laid-more : (width : ℕ) → ((x : A) → length (f x) ≡ width) → (i : ℕ) (d : A) → start ≤ length s → i < length items →
-        splice (start + width * i) (f (getD items i d)) (laidTo f start items s i) ≡ laidTo f start items s (i + 1)
-    unfolding laidTo
-    laid-more width wide i d h k =
-        let l : length (flat f (take i items)) ≡ width * i = flat-length width wide (take i items) ∙ ap (λ (n : ℕ). width * n) (length-take-le i items (omega arith)) in
-        rw (add-one, take-suc items i d k, flat-append, flat-one, ← l) (splice-splice start (flat f (take i items)) s h (f (getD items i d)))
-
-    pub laid-taken : (i n : ℕ) → i ≡ length (take n items) → laidTo f start items s i ≡ splice start (flat f (take n items)) s
-    unfolding laidTo
-    laid-taken i n e = rw (e, taken-all n items)
-
 -- ---- rows laid over zeros
 pub padded-length : (n : ℕ) (l : List ℕ) → length l ≤ n → length (padded n l) ≡ n
 unfolding padded
 padded-length n l h = length-append l (replicate (n - length l) 0) ∙ rw (length-replicate {A = ℕ} (n - length l) 0) (omega arith)
 
-padded-in : (i n : ℕ) (a vs b : List ℕ) → length a ≡ i → length vs ≤ n → splice i vs ((a ++ replicate n 0) ++ b) ≡ (a ++ padded n vs) ++ b
+pub padded-in : (i n : ℕ) (a vs b : List ℕ) → length a ≡ i → length vs ≤ n → splice i vs ((a ++ replicate n 0) ++ b) ≡ (a ++ padded n vs) ++ b
 unfolding splice padded
 padded-in i n a vs b e h =
     let z : List ℕ = replicate (length vs) 0 in
@@ -164,11 +138,3 @@ padded-in i n a vs b e h =
     let t : take i ((a ++ replicate n 0) ++ b) ≡ a = rw append-assoc (take-at a _ i e) in
     let d : drop (i + length vs) ((a ++ replicate n 0) ++ b) ≡ y ++ b = rw g (drop-at (a ++ z) (y ++ b) _ l) in
     rw (t, d) (simp append-assoc)
-
--- both sides, over an image of zeros but for their counts
-pub sides-in : (n m : ℕ) (p q : List ℕ) → length p ≤ 80 → length q ≤ 128 → splice 82 q (splice 2 p (n ∷ m ∷ replicate 208 0)) ≡ n ∷ m ∷ (padded 80 p ++ padded 128 q)
-sides-in n m p q h k =
-    let head : List ℕ = n ∷ m ∷ padded 80 p in
-    let l : length head ≡ 82 = ap (λ (i : ℕ). suc (suc i)) (padded-length 80 p h) in
-    ap (splice 82 q) (padded-in 2 80 (n ∷ m ∷ []) p (replicate 128 0) refl h ∙ sym (append-nil (head ++ replicate 128 0)))
-    ∙ padded-in 82 128 head q [] l k ∙ append-nil (head ++ padded 128 q)

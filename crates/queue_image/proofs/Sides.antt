@@ -1,20 +1,16 @@
 -- Requests and responses as rows of words. Assumes nothing.
-use Prim.Native.Nat.{ℕ, zero, suc, _<_, _≤_}
+use Prim.Native.Nat.{ℕ, zero, suc, min, _<_}
 use mathlib.Core.Path.{_≡_, refl, sym, ap, _∙_}
 use mathlib.Core.List.{List, [], _∷_, map}
 use native.Mathlib.Omega.{arith}
-use lib.ListN.{length, take, drop, getD, replicate, length-map}
+use lib.ListN.{length, take, drop, getD, replicate, length-map, length-take}
 use Rattle.words.specs.Word.{part, splice}
 use Rattle.words.proofs.Read.{wordsOf-length}
 use Rattle.words.proofs.Store.{bytes-in, laid-all}
 use Rattle.queue.specs.declared.Request.{Request}
-use Rattle.queue.specs.declared.Response.{Response}
-use Rattle.queue.specs.declared.Responses.{Responses}
-use Rattle.queue.specs.declared.Queue.{Queue}
-use Rattle.queue.proofs.Sides.{count-over, count-within}
-use Rattle.queue.specs.Queue.{Signed, waiting, held, ready, signedIn, listsOf, oldestRequest}
-use Rattle.queue_image.specs.Image.{rows, requestIn, heldIn, responseIn, listsIn, requestWords, responseWords, flat, queueWords, oldestWords}
-use Rattle.queue_image.proofs.Rows.{rows-length, flat-map, flat-length, sides-in}
+use Rattle.queue.specs.Queue.{Signed, signedIn, oldestRequest}
+use Rattle.queue_image.specs.Image.{rows, requestIn, heldIn, responseIn, listsIn, requestWords, responseWords, oldestWords}
+use Rattle.queue_image.proofs.Rows.{rows-length}
 
 pub request-wide : (r : Request) → length (requestWords r) ≡ 10
 unfolding requestWords
@@ -25,33 +21,11 @@ unfolding responseWords
 response-wide r = rw (wordsOf-length 13 (r .signature))
 
 -- ---- the side of responses, and what it stands for
-abbrev pub heldWords : Response → List ℕ
-heldWords r = responseWords (signedIn r)
-
-pub held-wide : (r : Response) → length (heldWords r) ≡ 16
-held-wide r = response-wide (signedIn r)
-
-pub held-flat : (s : Responses) → flat heldWords (held s) ≡ flat responseWords (ready s)
-unfolding ready
-held-flat s = sym (flat-map responseWords signedIn (held s))
-
 pub held-taken : (n : ℕ) (l : List (List ℕ)) → map signedIn (take n (map heldIn l)) ≡ take n (map responseIn l)
 unfolding responseIn
 held-taken zero l = refl
 held-taken (suc n) [] = refl
 held-taken (suc n) (x ∷ l) = ap (λ t. signedIn (heldIn x) ∷ t) (held-taken n l)
-
--- ---- both sides laid over zeros, behind their counts
-pub queue-laid : (q : Queue) (n m : ℕ) → n ≡ length (waiting (q .requests)) → n ≤ 8 → m ≡ length (held (q .responses)) → m ≤ 8 → (s : List ℕ) → s ≡ n ∷ m ∷ replicate 208 0 →
-    splice 82 (flat responseWords (ready (q .responses))) (splice 2 (flat requestWords (waiting (q .requests))) s) ≡ queueWords (listsOf q)
-unfolding queueWords listsOf ready
-queue-laid q n m e h f k s z =
-    let a : List Request = waiting (q .requests) in
-    let b : List Signed = map signedIn (held (q .responses)) in
-    let g : m ≡ length b = f ∙ sym (length-map (held (q .responses)) signedIn) in
-    rw z
-    (sides-in n m (flat requestWords a) (flat responseWords b) (omega (arith, flat-length requestWords 10 request-wide a)) (omega (arith, flat-length responseWords 16 response-wide b))
-    ∙ rw (e, g))
 
 -- ---- the oldest request
 pub oldest-first : (l : List Request) (r : Request) → 0 < length l → r ≡ oldestRequest l → splice 0 (requestWords r) (replicate 10 0) ≡ oldestWords l
@@ -67,11 +41,9 @@ module _ (w : List ℕ) where
     eight-rows : length (map f (rows width 8 (drop at w))) ≡ 8
     eight-rows = simp (length-map, rows-length)
 
-    pub says-more : 8 < n → 8 ≡ length (take n (map f (rows width 8 (drop at w))))
-    says-more h = sym (count-over n (map f (rows width 8 (drop at w))) eight-rows h)
-
-    pub says-all : n ≤ 8 → n ≡ length (take n (map f (rows width 8 (drop at w))))
-    says-all h = sym (count-within n (map f (rows width 8 (drop at w))) eight-rows h)
+    -- as many as the number says, at most eight
+    pub waits : min 8 n ≡ length (take n (map f (rows width 8 (drop at w))))
+    waits = omega (arith, length-take n (map f (rows width 8 (drop at w))), eight-rows)
 
   pub no-request : getD w 0 0 ≡ 0 → replicate 10 0 ≡ oldestWords (listsIn w .requests)
   unfolding listsIn oldestWords

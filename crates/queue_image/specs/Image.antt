@@ -1,6 +1,7 @@
 -- The signing queue as a lent image of 210 words, for C: how many requests and responses wait, then eight requests of 10 words, then
 -- eight responses of 16 words, the oldest first. Assumes nothing.
 use Prim.Native.Nat.{ℕ, zero, suc, _-_}
+use mathlib.Core.Path.{_≡_}
 use mathlib.Core.Bool.{Bool, true}
 use mathlib.Core.List.{List, [], _∷_, _++_, map}
 use lib.ListN.{length, take, drop, getD, replicate}
@@ -88,3 +89,7 @@ eightFit f l = both (leb (length l) 8) (each f l)
 
 unfoldable pub queueFits : Lists → Bool
 queueFits q = both (eightFit requestFits (q .requests)) (eightFit responseFits (q .responses))
+
+-- an image that is the image of its queue: what waits is in it, and zeros elsewhere
+unfoldable pub Exact : List ℕ → Type 0
+Exact w = w ≡ queueWords (listsIn w)

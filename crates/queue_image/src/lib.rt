@@ -1,6 +1,5 @@
-// The signing queue as a lent image of 210 words, for C: the image is read as a queue, and a queue written as its image. An image
-// that no queue has is an input like any other.
-use codes::Code;
+// The signing queue as a lent image of 210 words, for C. A call works on the side that it needs, where it lies: a row joins those that
+// wait, or the oldest is dropped. An image is read as a queue too. One that no queue has is an input like any other.
 use queue::Queue;
 use queue::Request;
 use queue::Requests;
@@ -8,12 +7,12 @@ use queue::Response;
 use queue::Responses;
 ghost use mathlib.Core.Path.{_≡_};
 ghost use mathlib.Core.List.{map};
-ghost use Prim.Native.Nat.{_+_, _≤_};
-ghost use lib.ListN.{length, take, drop, getD};
+ghost use Prim.Native.Nat.{min, _+_, _-_, _*_, _<_, _≤_};
+ghost use lib.ListN.{length, take, drop, getD, replicate};
 ghost use Rattle.words.specs.Word.{part, wordsOf, splice};
-ghost use Rattle.codes.specs.Codes.{ifOk};
-ghost use Rattle.queue.specs.Queue.{waiting, held, ready, signedIn, listsOf};
-ghost use Rattle.queue_image.specs.Image.{rows, requestIn, heldIn, listsIn, requestWords, responseWords, flat, queueWords, oldestWords};
+ghost use Rattle.queue.specs.Queue.{waiting, held, signedIn, listsOf};
+ghost use Rattle.queue_image.specs.Image.{rows, requestIn, heldIn, responseIn, listsIn, requestWords, responseWords, oldestWords};
+ghost use Rattle.queue_image.specs.Sides.{requestSide, responseSide, rowAppended, rowDropped};
 
 // The request whose ten words begin at a place of an image.
 fn request_in(image: &[u64], at: usize) -> Request
@@ -125,66 +124,141 @@ fn put_response(image: &mut [u64], at: usize, response: Response)
     put_bytes(image, at + 3, &signature[..n], 13);
 }
 
-// Puts what waits on either side, from its place in the image on.
-fn put_requests(image: &mut [u64], side: Requests)
-    requires { ⌜ length (now image) ≡ 210 ⌝ }
-    ensures { λ _. ⌜ now (image .exit) ≡ splice 2 (flat requestWords (waiting side)) (now (image .entry)) ⌝ }
+// How many rows wait on the side with this number; a number above eight stands for eight.
+fn rows_waiting(image: &[u64], number: usize) -> usize
+    requires { ⌜ number < length (now image) ⌝ }
+    ensures { λ r. ⌜ (r ≡ min 8 (getD (now (image .entry)) number 0)) × (r ≤ 8) ⌝ }
 {
-    let n = queue::request_count(side);
-    let items = side.items;
-    for i in 0..n {
-        let request = items[i];
-        put_request(image, 2 + 10 * i, request);
-    }
-}
-
-fn put_responses(image: &mut [u64], side: Responses)
-    requires { ⌜ length (now image) ≡ 210 ⌝ }
-    ensures { λ _. ⌜ now (image .exit) ≡ splice 82 (flat responseWords (ready side)) (now (image .entry)) ⌝ }
-{
-    let n = queue::response_count(side);
-    let items = side.items;
-    for i in 0..n {
-        let response = items[i];
-        put_response(image, 82 + 16 * i, response);
-    }
-}
-
-// Writes a queue where the call that left it was accepted, over zeros; else the image stays, also one that no queue has.
-pub fn put_queue(image: &mut [u64; 210], queue: Queue, code: Code)
-    ensures { λ _. ⌜ now (image .exit) ≡ ifOk code (queueWords (listsOf queue)) (now (image .entry)) ⌝ }
-{
-    if !codes::is_ok(code) {
-        return;
-    }
-    let requests = queue.requests;
-    let responses = queue.responses;
-    *image = [0u64; 210];
-    image[0] = queue::request_count(requests) as u64;
-    image[1] = queue::response_count(responses) as u64;
-    put_requests(image, requests);
-    put_responses(image, responses);
-}
-
-// How many wait on either side of an image; a number above eight stands for eight.
-pub fn requests_waiting(image: &[u64; 210]) -> usize
-    ensures { λ r. ⌜ r ≡ length (listsIn (now (image .entry)) .requests) ⌝ }
-{
-    let n = image[0];
+    let n = image[number];
     if 8 < n {
         return 8;
     }
     n as usize
+}
+
+// How many wait on either side of an image.
+pub fn requests_waiting(image: &[u64; 210]) -> usize
+    ensures { λ r. ⌜ (r ≡ length (listsIn (now (image .entry)) .requests)) × (r ≤ 8) ⌝ }
+{
+    rows_waiting(image, 0)
 }
 
 pub fn responses_waiting(image: &[u64; 210]) -> usize
-    ensures { λ r. ⌜ r ≡ length (listsIn (now (image .entry)) .responses) ⌝ }
+    ensures { λ r. ⌜ (r ≡ length (listsIn (now (image .entry)) .responses)) × (r ≤ 8) ⌝ }
 {
-    let n = image[1];
-    if 8 < n {
-        return 8;
+    rows_waiting(image, 1)
+}
+
+// One more at the end of a side; where eight wait, the image as it was.
+pub fn add_request(image: &mut [u64; 210], request: Request)
+    ensures { λ _. ⌜ now (image .exit) ≡ rowAppended requestSide (requestWords request) (now (image .entry)) ⌝ }
+{
+    let n = rows_waiting(image, 0);
+    if 8 <= n {
+        return;
+    }
+    put_request(image, 2 + 10 * n, request);
+    image[0] = (n + 1) as u64;
+}
+
+pub fn add_response(image: &mut [u64; 210], response: Response)
+    ensures { λ _. ⌜ now (image .exit) ≡ rowAppended responseSide (responseWords (signedIn response)) (now (image .entry)) ⌝ }
+{
+    let n = rows_waiting(image, 1);
+    if 8 <= n {
+        return;
+    }
+    put_response(image, 82 + 16 * n, response);
+    image[1] = (n + 1) as u64;
+}
+
+// Moves n words up by as many places as a row has.
+fn move_up(image: &mut [u64], start: usize, width: usize, n: usize)
+    requires { ⌜ start + width + n ≤ length (now image) ⌝ }
+    ensures { λ _. ⌜ now (image .exit) ≡ splice start (part (start + width) n (now (image .entry))) (now (image .entry)) ⌝ }
+{
+    let from = start + width;
+    for i in 0..n {
+        image[start + i] = image[from + i];
+    }
+}
+
+// Puts n zeros at a place.
+fn clear(image: &mut [u64], at: usize, n: usize)
+    requires { ⌜ at + n ≤ length (now image) ⌝ }
+    ensures { λ _. ⌜ now (image .exit) ≡ splice at (replicate n 0) (now (image .entry)) ⌝ }
+{
+    for i in 0..n {
+        image[at + i] = 0;
+    }
+}
+
+// How many rows wait behind the oldest.
+fn rows_behind(image: &[u64], number: usize) -> usize
+    requires { ⌜ number < length (now image) ⌝ }
+    ensures { λ r. ⌜ (r ≡ min 8 (getD (now (image .entry)) number 0) - 1) × (r ≤ 7) ⌝ }
+{
+    let n = rows_waiting(image, number);
+    if n == 0 {
+        return 0;
+    }
+    n - 1
+}
+
+// The oldest row of a side dropped: those behind it move up, and the place that is freed is zeroed.
+fn drop_row(image: &mut [u64], number: usize, start: usize, width: usize)
+    requires { ⌜ (number < start) × (width ≤ 16) × (start + width * 8 ≤ length (now image)) ⌝ }
+    ensures { λ _. ⌜ now (image .exit) ≡ rowDropped (record { number = number; start = start; width = width }) (now (image .entry)) ⌝ }
+{
+    let behind = rows_behind(image, number);
+    let n = width * behind;
+    move_up(image, start, width, n);
+    clear(image, start + n, width);
+    image[number] = behind as u64;
+}
+
+// The oldest of a side dropped.
+pub fn remove_request(image: &mut [u64; 210])
+    ensures { λ _. ⌜ now (image .exit) ≡ rowDropped requestSide (now (image .entry)) ⌝ }
+{
+    drop_row(image, 0, 2, 10);
+}
+
+pub fn remove_response(image: &mut [u64; 210])
+    ensures { λ _. ⌜ now (image .exit) ≡ rowDropped responseSide (now (image .entry)) ⌝ }
+{
+    drop_row(image, 1, 82, 16);
+}
+
+// What stands in the first place of a side: the oldest, where one waits.
+pub fn front_request(image: &[u64; 210]) -> Request
+    ensures { λ r. ⌜ r ≡ requestIn (part 2 10 (now (image .entry))) ⌝ }
+{
+    request_in(image, 2)
+}
+
+pub fn front_response(image: &[u64; 210]) -> Response
+    ensures { λ r. ⌜ r ≡ heldIn (part 82 16 (now (image .entry))) ⌝ }
+{
+    response_in(image, 82)
+}
+
+// How many bytes the signature of the response at a place has; a length above 104 stands for 104.
+fn len_in(image: &[u64], at: usize) -> usize
+    requires { ⌜ at + 16 ≤ length (now image) ⌝ }
+    ensures { λ r. ⌜ (r ≡ length (responseIn (part at 16 (now (image .entry))) .signature)) × (r ≤ 104) ⌝ }
+{
+    let n = image[at + 2];
+    if 104 < n {
+        return 104;
     }
     n as usize
+}
+
+pub fn front_len(image: &[u64; 210]) -> usize
+    ensures { λ r. ⌜ (r ≡ length (responseIn (part 82 16 (now (image .entry))) .signature)) × (r ≤ 104) ⌝ }
+{
+    len_in(image, 82)
 }
 
 // The words of the oldest request, of its row alone; zeros where none waits.

@@ -1,4 +1,5 @@
 // Requests: read from their buffer, and pushed to the queue.
+use codes::Answer;
 use codes::Code;
 use queue::Queue;
 use queue::Queued;
@@ -8,8 +9,10 @@ ghost use mathlib.Core.Bool.{false};
 ghost use Prim.Native.Nat.{_≤_};
 ghost use lib.ListN.{length};
 ghost use Rattle.codes.specs.Codes.{isOk};
-ghost use Rattle.queue.specs.Queue.{signingExit, listsOf};
-ghost use Rattle.requests.specs.Push.{requestOf, pushOf};
+ghost use Rattle.queue.specs.Queue.{Lists, signingExit, listsOf};
+ghost use Rattle.queue_image.specs.Steps.{ImageStep};
+ghost use Rattle.requests.specs.Push.{requestOf, pushCode, pushOf};
+ghost use Rattle.requests.specs.OnImage.{pushOn};
 
 // The request in a buffer; the bytes between its fields are not read.
 fn request_of(buffer: &[u8]) -> Request
@@ -55,4 +58,36 @@ pub fn push(buffer: &[u8], queue: Queue) -> Queued
             responses,
         },
     }
+}
+
+// The checks of a push, where so many requests wait.
+fn push_code(buffer: &[u8], waiting: usize) -> Code
+    ensures { λ r. ⌜ ((q : Lists) → length (q .requests) ≡ waiting → r ≡ pushCode (now (buffer .entry)) q) ⌝ }
+{
+    let size = buffer.len();
+    if size < 80 {
+        return Code::Inval;
+    }
+    if words::half_at(buffer, 0) != 0 {
+        return Code::Inval;
+    }
+    if words::half_at(buffer, 24) != 1 {
+        return Code::Inval;
+    }
+    if 8 <= waiting {
+        return Code::Again;
+    }
+    Code::Ok
+}
+
+// Push on the queue's image: all checks come before the first word is copied, and only the requests' side is touched.
+pub fn push_on(buffer: &[u8], image: &mut [u64; 210]) -> Answer
+    ensures { λ r. ⌜ _≡_ {A = ImageStep} (record { answer = r; page = now (buffer .entry); image = now (image .exit) }) (pushOn (now (buffer .entry)) (now (image .entry))) ⌝ }
+{
+    let code = push_code(buffer, queue_image::requests_waiting(image));
+    if !codes::is_ok(code) {
+        return codes::answered(code, 0, 0);
+    }
+    queue_image::add_request(image, request_of(buffer));
+    codes::answered(Code::Ok, 0, 0)
 }

@@ -1,3 +1,4 @@
 pub mod Laid
 pub mod Pulls
 pub mod Signs
+pub mod OnImages

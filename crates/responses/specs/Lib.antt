@@ -1,2 +1,3 @@
 pub mod Pull
 pub mod Sign
+pub mod OnImage

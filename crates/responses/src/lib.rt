@@ -1,4 +1,5 @@
 // Responses: made by the signer's own step, and pulled into their buffer.
+use codes::Answer;
 use codes::Code;
 use queue::Queue;
 use queue::Queued;
@@ -9,9 +10,11 @@ ghost use Prim.Native.Nat.{_+_, _≤_};
 ghost use lib.ListN.{length};
 ghost use Rattle.words.specs.Word.{splice};
 ghost use Rattle.codes.specs.Codes.{isOk};
-ghost use Rattle.queue.specs.Queue.{signingExit, signedIn, listsOf};
-ghost use Rattle.responses.specs.Pull.{responseBytes, pullOf};
-ghost use Rattle.responses.specs.Sign.{SignStep, signOf};
+ghost use Rattle.queue.specs.Queue.{Lists, signingExit, signedIn, listsOf, oldestResponse};
+ghost use Rattle.queue_image.specs.Steps.{ImageStep};
+ghost use Rattle.responses.specs.Pull.{responseBytes, pullCode, pullOf};
+ghost use Rattle.responses.specs.Sign.{signCode, SignStep, signOf};
+ghost use Rattle.responses.specs.OnImage.{pullOn, SignImage, signOn};
 
 // Writes a response at the start of a buffer that holds it.
 fn put_response(buffer: &mut [u8], response: Response)
@@ -98,4 +101,68 @@ pub fn sign(queue: Queue, signature: &[u8]) -> Queued
             responses: more,
         },
     }
+}
+
+// The checks of a pull into so many bytes, where so many responses wait and the signature of the oldest has so many bytes.
+fn pull_code(size: usize, waiting: usize, len: usize) -> Code
+    requires { ⌜ len ≤ 104 ⌝ }
+    ensures { λ r. ⌜ ((q : Lists) → length (q .responses) ≡ waiting → ((length (q .responses) ≡ 0 → ⊥) → length (oldestResponse (q .responses) .signature) ≡ len) → r ≡ pullCode size q) ⌝ }
+{
+    if waiting == 0 {
+        return Code::Again;
+    }
+    if size < 18 + len {
+        return Code::Inval;
+    }
+    Code::Ok
+}
+
+// Pull on the queue's image: all checks come before the first word is copied, and only the responses' side is touched.
+pub fn pull_on(buffer: &mut [u8], image: &mut [u64; 210]) -> Answer
+    ensures { λ r. ⌜ _≡_ {A = ImageStep} (record { answer = r; page = now (buffer .exit); image = now (image .exit) }) (pullOn (now (buffer .entry)) (now (image .entry))) ⌝ }
+{
+    let waiting = queue_image::responses_waiting(image);
+    let len = queue_image::front_len(image);
+    let code = pull_code(buffer.len(), waiting, len);
+    if !codes::is_ok(code) {
+        return codes::answered(code, 0, 0);
+    }
+    put_response(buffer, queue_image::front_response(image));
+    queue_image::remove_response(image);
+    codes::answered(Code::Ok, 0, 0)
+}
+
+// The checks of the signer's step, where so many requests and responses wait.
+fn sign_code(signature: &[u8], requests: usize, responses: usize) -> Code
+    ensures { λ r. ⌜ ((q : Lists) → length (q .requests) ≡ requests → length (q .responses) ≡ responses → r ≡ signCode q (now (signature .entry))) ⌝ }
+{
+    if signature.len() == 0 {
+        return Code::Inval;
+    }
+    if 104 < signature.len() {
+        return Code::Inval;
+    }
+    if requests == 0 {
+        return Code::Again;
+    }
+    if 8 <= responses {
+        return Code::Again;
+    }
+    Code::Ok
+}
+
+// The signer's own step on the queue's image.
+pub fn sign_on(image: &mut [u64; 210], signature: &[u8]) -> Answer
+    ensures { λ r. ⌜ _≡_ {A = SignImage} (record { answer = r; image = now (image .exit) }) (signOn (now (image .entry)) (now (signature .entry))) ⌝ }
+{
+    let requests = queue_image::requests_waiting(image);
+    let responses = queue_image::responses_waiting(image);
+    let code = sign_code(signature, requests, responses);
+    if !codes::is_ok(code) {
+        return codes::answered(code, 0, 0);
+    }
+    let oldest = queue_image::front_request(image);
+    queue_image::add_response(image, response_of(oldest.granule, oldest.ticket, signature));
+    queue_image::remove_request(image);
+    codes::answered(Code::Ok, 0, 0)
 }

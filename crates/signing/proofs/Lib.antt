@@ -1,3 +1,4 @@
 pub mod Buffers
 pub mod Signings
 pub mod Acts
+pub mod OnImages

@@ -1,5 +1,6 @@
 // Token signing: push, pull and key by opcode, each on its buffer in the page.
 use boot::Record;
+use codes::Answer;
 use codes::Code;
 use codes::Gate;
 use queue::Queue;
@@ -11,8 +12,10 @@ ghost use Prim.Native.Nat.{_+_, _≤_};
 ghost use lib.ListN.{length};
 ghost use Rattle.range.specs.Range.{placeOf};
 ghost use Rattle.codes.specs.Codes.{isOk, upOf, gated};
-ghost use Rattle.queue.specs.Queue.{signingExit, listsOf};
+ghost use Rattle.queue.specs.Queue.{Lists, SigningStep, signingExit, listsOf};
+ghost use Rattle.queue_image.specs.Steps.{ImageStep};
 ghost use Rattle.signing.specs.Signing.{opcodeOf, isOther, badCurve, sharedCode, publicOf, opAt, signingOf};
+ghost use Rattle.signing.specs.OnImage.{opOn, signingOn};
 
 // What a token signing call asks for.
 pub enum Opcode {
@@ -133,5 +136,64 @@ pub fn token_signing(
     match gate {
         Gate::Stop(code) => queue::refused(code, queue),
         Gate::Go(at) => serve(page, at, size, queue, key, asked),
+    }
+}
+
+// Key on its buffer alone, whatever waits.
+fn put_key(buffer: &mut [u8], key: &[u8]) -> Answer
+    ensures { λ r. ⌜ ((q : Lists) → _≡_ {A = SigningStep} (record { answer = r; page = now (buffer .exit); queue = q }) (publicOf (now (buffer .entry)) q (now (key .entry)))) ⌝ }
+{
+    if key.len() == 0 {
+        return codes::answered(Code::Again, 0, 0);
+    }
+    if buffer.len() < key.len() {
+        return codes::answered(Code::Inval, 0, 0);
+    }
+    words::copy(buffer, key);
+    let len = key.len() as u64;
+    codes::answered(Code::Ok, len, 0)
+}
+
+// A call on the queue's image whose buffer passed: push has the requests, pull the responses, key neither.
+fn serve_on(
+    page: &mut [u8],
+    at: usize,
+    size: u64,
+    image: &mut [u64; 210],
+    key: &[u8],
+    opcode: Opcode,
+) -> Answer
+    requires { ⌜ at + size ≤ length (now page) ⌝ }
+    ensures { λ r. ⌜ _≡_ {A = ImageStep} (record { answer = r; page = now (page .exit); image = now (image .exit) })
+        (opOn opcode at size (now (page .entry)) (now (image .entry)) (now (key .entry))) ⌝ }
+{
+    let end = at + size as usize;
+    match opcode {
+        Opcode::Push => requests::push_on(&page[at..end], image),
+        Opcode::Pull => responses::pull_on(&mut page[at..end], image),
+        Opcode::Key => put_key(&mut page[at..end], key),
+        Opcode::Other => codes::answered(Code::Inval, 0, 0),
+    }
+}
+
+// 0xC40001B5 on the queue's image. No word of the image is read before the shared checks pass.
+pub fn token_signing_on(
+    state: Record,
+    page: &mut [u8],
+    image: &mut [u64; 210],
+    key: &[u8],
+    opcode: u64,
+    pa: u64,
+    size: u64,
+    curve: u64,
+) -> Answer
+    ensures { λ r. ⌜ _≡_ {A = ImageStep} (record { answer = r; page = now (page .exit); image = now (image .exit) })
+        (signingOn state (now (page .entry)) (now (image .entry)) (now (key .entry)) opcode pa size curve) ⌝ }
+{
+    let asked = opcode_of(opcode);
+    let gate = gate_of(state, page.len(), asked, pa, size, curve);
+    match gate {
+        Gate::Stop(code) => codes::answered(code, 0, 0),
+        Gate::Go(at) => serve_on(page, at, size, image, key, asked),
     }
 }

@@ -1,29 +1,15 @@
-use mathlib.Core.Path.{ap, _∙_}
-use Rattle.boot.specs.declared.Record.{Record}
-use Rattle.queue.specs.Queue.{Lists}
-use Rattle.signing.specs.Signing.{signingOf}
+use mathlib.Core.Path.{_∙_}
 use Rattle.potterbeam.specs.Exports.{signingIn}
 use Rattle.potterbeam.proofs.Left.{signing-left}
 use borrow.Author.Needs.{needs}
 use Rattle.potterbeam.proofs.pbeam_token_signing.Statement.{statement}
 use Rattle.potterbeam.proofs.pbeam_token_signing.Tie as tie
-use Rattle.images.proofs.record_of.Reads as record-of-reads
-use Rattle.images.proofs.registers.Reads as registers-reads
-use Rattle.queue_image.proofs.put_queue.Reads as put-queue-reads
-use Rattle.queue_image.proofs.queue_of.Reads as queue-of-reads
-use Rattle.signing.proofs.token_signing.Reads as token-signing-reads
 
 record-of-requires : tie.Need-record-of-requires
 record-of-requires c κs = search needs
 
-queue-of-requires : tie.Need-queue-of-requires
-queue-of-requires c κs = search needs
-
-token-signing-requires : tie.Need-token-signing-requires
-token-signing-requires c κs = search needs
-
-put-queue-requires : tie.Need-put-queue-requires
-put-queue-requires c κs = search needs
+token-signing-on-requires : tie.Need-token-signing-on-requires
+token-signing-on-requires c κs = search needs
 
 registers-requires : tie.Need-registers-requires
 registers-requires c κs = search needs
@@ -33,20 +19,9 @@ same-length c = search needs
 
 returns : tie.Need-returns
 unfolding signingIn
-returns c =
-    let a = c .before .before .before .before .before .before .before .before .before .before .before .before .before .before .args in
-    let r = c .before .before .before .before .before .before .before .token-signing in
-    signing-left (r .result .answer) _ (a .queue .now) _ _ _ _ (c .registers .ensures) (c .before .put-queue .ensures)
-    (r .ensures .0 ∙ rw (c .before .before .before .before .before .before .before .before .queue-of .ensures, c .before .before .before .before .before .before .before .before .before .before .before .record-of .ensures))
+returns c = signing-left _ _ _ _ _ (c .registers .ensures) (c .before .before .before .token-signing-on .ensures ∙ rw (c .before .before .before .before .before .before .record-of .ensures))
 
 pub pbeam-token-signing-spec : {M : Type 1} → statement M
 pbeam-token-signing-spec =
     tie.close
-    (tie.spec
-    record-of-requires
-    queue-of-requires
-    token-signing-requires
-    put-queue-requires
-    registers-requires
-    same-length
-    returns)
+    (tie.spec record-of-requires token-signing-on-requires registers-requires same-length returns)

@@ -1,0 +1,91 @@
+-- Every export of a runtime command, and of the signer's step: what it leaves, and which of the runtime's commands it is. Assumes nothing.
+use Prim.Native.Nat.{ℕ}
+use mathlib.Core.List.{List, [], _∷_}
+use lib.ListN.{getD}
+use Rattle.granules.specs.declared.Direction.{Direction}
+use Rattle.attest.specs.Key.{realmKeyOf}
+use Rattle.features.specs.Features.{featuresOf, updateOf, forwardOf}
+use Rattle.runtime.specs.Step.{Command, call, sign}
+use Rattle.runtime.specs.declared.Kind.{Kind}
+use Rattle.runtime.specs.declared.Kind.the-variants.{ForwardError, Delegate, Undelegate, RealmKey, PlatformToken, Features, TokenSigning, KeyUpdate, Unlisted}
+use Rattle.images.specs.Image.{recordOf, registerWords, workWords}
+use Rattle.potterbeam.specs.Exports.{MoveLeft, moveIn, TokenLeft, tokenIn, SigningLeft, signingIn, SignLeft, signIn, CallLeft, callLent, callIn}
+use Rattle.chains.specs.Chain.{Lent, lentOn}
+
+-- a call of an export, with what is lent to it alone: the boot record's image, numbers and bytes
+pub data Exported : Type 0 where
+  pbeam-delegate : (state : List ℕ) (address : ℕ) → Exported
+  pbeam-undelegate : (state : List ℕ) (address : ℕ) → Exported
+  pbeam-realm-key : (state key : List ℕ) (pa size curve : ℕ) → Exported
+  pbeam-platform-token : (state token : List ℕ) (busy pa size csize : ℕ) → Exported
+  pbeam-features : (state : List ℕ) (index : ℕ) → Exported
+  pbeam-token-signing : (state key : List ℕ) (opcode pa size curve : ℕ) → Exported
+  pbeam-key-update : (state : List ℕ) (width mecid : ℕ) → Exported
+  pbeam-forward : (state : List ℕ) (x1 : ℕ) → Exported
+  pbeam-call : (state x : List ℕ) (busy : ℕ) (key token public : List ℕ) (width : ℕ) → Exported
+  pbeam-sign : (signature : List ℕ) → Exported
+
+-- ---- what it leaves: what is not lent to it is as it was, and counts as zeros where it is an answer
+abbrev movesLeft : MoveLeft → Lent → CallLeft
+movesLeft l m = record { out = l .out; work = 0 ∷ 0 ∷ []; page = m .page; table = l .table; session = m .session; queue = m .queue }
+
+abbrev tokensLeft : TokenLeft → Lent → CallLeft
+tokensLeft l m = record { out = l .out; work = 0 ∷ 0 ∷ []; page = l .page; table = m .table; session = l .session; queue = m .queue }
+
+abbrev signingsLeft : SigningLeft → Lent → CallLeft
+signingsLeft l m = record { out = l .out; work = 0 ∷ 0 ∷ []; page = l .page; table = m .table; session = m .session; queue = l .queue }
+
+abbrev signsLeft : SignLeft → Lent → CallLeft
+signsLeft l m = record { out = l .out; work = 0 ∷ 0 ∷ []; page = m .page; table = m .table; session = m .session; queue = l .queue }
+
+-- registers, work and the page
+abbrev answersLeft : List ℕ → List ℕ → List ℕ → Lent → CallLeft
+answersLeft out work page m = record { out = out; work = work; page = page; table = m .table; session = m .session; queue = m .queue }
+
+-- pbeam_forward has no registers: the number that it answers is to be forwarded, which the dispatcher says by 2 in the work
+unfoldable pub exportLeft : List ℕ → Lent → Exported → CallLeft
+exportLeft granules m (pbeam-delegate state address) = movesLeft (moveIn Direction.Delegate state granules (m .table) address) m
+exportLeft granules m (pbeam-undelegate state address) = movesLeft (moveIn Direction.Undelegate state granules (m .table) address) m
+exportLeft granules m (pbeam-realm-key state key pa size curve) =
+    answersLeft (registerWords (realmKeyOf (recordOf state) (m .page) key pa size curve .answer)) (0 ∷ 0 ∷ []) (realmKeyOf (recordOf state) (m .page) key pa size curve .page) m
+exportLeft granules m (pbeam-platform-token state token busy pa size csize) = tokensLeft (tokenIn state (m .session) (m .page) token busy pa size csize) m
+exportLeft granules m (pbeam-features state index) = answersLeft (registerWords (featuresOf (recordOf state) index)) (0 ∷ 0 ∷ []) (m .page) m
+exportLeft granules m (pbeam-token-signing state key opcode pa size curve) = signingsLeft (signingIn state (m .queue) (m .page) key opcode pa size curve) m
+exportLeft granules m (pbeam-key-update state width mecid) =
+    answersLeft (registerWords (updateOf (recordOf state) width mecid .answer)) (workWords (updateOf (recordOf state) width mecid .work)) (m .page) m
+exportLeft granules m (pbeam-forward state x1) = answersLeft (0 ∷ 0 ∷ 0 ∷ []) (2 ∷ forwardOf (recordOf state) x1 ∷ []) (m .page) m
+exportLeft granules m (pbeam-call state x busy key token public width) = callIn granules (m .session) (m .queue) (m .page) (m .table) (callLent state x busy key token public width)
+exportLeft granules m (pbeam-sign signature) = signsLeft (signIn (m .queue) signature) m
+
+-- ---- the command that it is: a call with the id and the registers, nothing else being lent; or the signer's own step
+abbrev callFor : List ℕ → List ℕ → ℕ → List ℕ → List ℕ → List ℕ → ℕ → Command
+callFor state x busy key token public width = call (callLent state x busy key token public width)
+
+unfoldable pub commandOf : Exported → Command
+commandOf (pbeam-delegate state address) = callFor state (0xC40001B0 ∷ address ∷ []) 0 [] [] [] 0
+commandOf (pbeam-undelegate state address) = callFor state (0xC40001B1 ∷ address ∷ []) 0 [] [] [] 0
+commandOf (pbeam-realm-key state key pa size curve) = callFor state (0xC40001B2 ∷ pa ∷ size ∷ curve ∷ []) 0 key [] [] 0
+commandOf (pbeam-platform-token state token busy pa size csize) = callFor state (0xC40001B3 ∷ pa ∷ size ∷ csize ∷ []) busy [] token [] 0
+commandOf (pbeam-features state index) = callFor state (0xC40001B4 ∷ index ∷ []) 0 [] [] [] 0
+commandOf (pbeam-token-signing state key opcode pa size curve) = callFor state (0xC40001B5 ∷ opcode ∷ pa ∷ size ∷ curve ∷ []) 0 [] [] key 0
+commandOf (pbeam-key-update state width mecid) = callFor state (0xC40001B6 ∷ mecid ∷ []) 0 [] [] [] width
+commandOf (pbeam-forward state x1) = callFor state (0xC400018F ∷ x1 ∷ []) 0 [] [] [] 0
+commandOf (pbeam-call state x busy key token public width) = callFor state x busy key token public width
+commandOf (pbeam-sign signature) = sign signature
+
+-- ---- the export of a call's id, with the registers that its command uses and what it uses of the rest; an id that is not listed has none
+unfoldable pub exportFor : Kind → List ℕ → List ℕ → ℕ → List ℕ → List ℕ → List ℕ → ℕ → Exported
+exportFor ForwardError state x busy key token public width = pbeam-forward state (getD x 1 0)
+exportFor Delegate state x busy key token public width = pbeam-delegate state (getD x 1 0)
+exportFor Undelegate state x busy key token public width = pbeam-undelegate state (getD x 1 0)
+exportFor RealmKey state x busy key token public width = pbeam-realm-key state key (getD x 1 0) (getD x 2 0) (getD x 3 0)
+exportFor PlatformToken state x busy key token public width = pbeam-platform-token state token busy (getD x 1 0) (getD x 2 0) (getD x 3 0)
+exportFor Features state x busy key token public width = pbeam-features state (getD x 1 0)
+exportFor TokenSigning state x busy key token public width = pbeam-token-signing state public (getD x 1 0) (getD x 2 0) (getD x 3 0) (getD x 4 0)
+exportFor KeyUpdate state x busy key token public width = pbeam-key-update state width (getD x 1 0)
+exportFor Unlisted state x busy key token public width = pbeam-call state x busy key token public width
+
+-- ---- all of a sequence
+unfoldable pub allExported : List ℕ → Lent → List Exported → Lent
+allExported granules m [] = m
+allExported granules m (e ∷ es) = allExported granules (lentOn (exportLeft granules m e)) es

@@ -1,0 +1,215 @@
+-- Demand 1 at the C edge. Assumes nothing.
+use Prim.Native.Nat.{ℕ}
+use mathlib.Core.Path.{_≡_, refl, sym, ap, _∙_}
+use mathlib.Core.Bool.{Bool, false}
+use mathlib.Core.List.{List, [], _∷_}
+use lib.ListN.{getD}
+use Rattle.codes.specs.Codes.{isOk, ifOk, x0Of, extended, answerOf}
+use Rattle.codes.specs.declared.Answer.{Answer}
+use Rattle.codes.specs.declared.Code.{Code}
+use Rattle.codes.specs.declared.Code.the-variants.{Ok, Unk, BadAddr, BadPas, Inval, Again}
+use Rattle.codes.specs.declared.Work.the-variants.{Nothing}
+use Rattle.codes.proofs.Gates.{if-ok-by}
+use Rattle.granules.specs.Granules.{Moved, movedBy, moveOf}
+use Rattle.granules.specs.declared.Direction.{Direction}
+use Rattle.granules.specs.declared.Granules.{Granules}
+use Rattle.granules.proofs.Moving.{move-refused}
+use Rattle.boot.specs.declared.Record.{Record}
+use Rattle.attest.specs.Key.{Keyed, keyed, realmKeyOf}
+use Rattle.attest.proofs.Keys.{key-refused}
+use Rattle.token.specs.Token.{TokenStep, settled, sendOf, keeps, tokenOf}
+use Rattle.token.specs.declared.Session.{Session}
+use Rattle.token.proofs.Tokens.{token-refused}
+use Rattle.features.specs.Features.{featuresBy, featuresOf, updateBy, updateOf}
+use Rattle.features.specs.declared.Updated.{Updated}
+use Rattle.features.proofs.Feature.{features-refused, update-refused}
+use Rattle.queue.specs.Queue.{Lists, SigningStep}
+use Rattle.responses.specs.Sign.{SignStep, signOf}
+use Rattle.responses.specs.OnImage.{signDone, signOn}
+use Rattle.signing.specs.Signing.{signingOf}
+use Rattle.signing.specs.OnImage.{signingDone, signingOn}
+use Rattle.signing.specs.declared.Opcode.{Opcode}
+use Rattle.signing.proofs.Signings.{signing-by, signing-refused}
+use Rattle.runtime.specs.declared.Kind.{Kind}
+use Rattle.runtime.specs.declared.Kind.the-variants.{ForwardError, Delegate, Undelegate, RealmKey, PlatformToken, Features, TokenSigning, KeyUpdate, Unlisted}
+use Rattle.runtime.specs.declared.Needs.{Needs}
+use Rattle.runtime.specs.Step.{World, Call, call, Step, kindOf, afterMove, afterKey, afterToken, afterSigning, afterUpdate, callBy, callOf, stepOf, replyCode, refusal, needsOf}
+use Rattle.runtime.proofs.Refused.{refused}
+use Rattle.images.specs.Image.{recordOf, granulesOf, isSet, sessionOf, sessionWords, registerWords, workWords, replyRegisters, replyWords}
+use Rattle.queue_image.specs.Image.{listsIn}
+use Rattle.queue_image.specs.Steps.{imageStep}
+use Rattle.potterbeam.specs.Exports.{sessionAfter, moveLeft, moveIn, tokenLeft, tokenIn, signingLeft, signingIn, signLeft, signIn, sessionLeft, queueLeft, CallLeft, callLeft, worldIn, callIn}
+use Rattle.potterbeam.specs.Refusals.{Refuses, x0Alone, ExportsRefuse}
+
+-- ---- x0 is not 0: the code is not OK
+-- an answer's x0 is that of its code
+abbrev Tells : Answer → Type 0
+Tells a = a .x0 ≡ x0Of (a .code)
+
+code-of : (k : Code) → (x0Of k ≡ 0 → ⊥) → isOk k ≡ false
+unfolding x0Of extended
+code-of Ok h = absurd (h refl)
+code-of Unk h = refl
+code-of BadAddr h = refl
+code-of BadPas h = refl
+code-of Inval h = refl
+code-of Again h = refl
+
+refuses : (a : Answer) → Tells a → Refuses (registerWords a) → isOk (a .code) ≡ false
+unfolding registerWords
+refuses a t h = code-of (a .code) (λ e. h (t ∙ e))
+
+settled-tells : (k : Code) (new : TokenStep) (page : List ℕ) (s : Session) → Tells (new .answer) → Tells (settled k new page s .answer)
+unfolding settled keeps answerOf
+settled-tells k new page s h = if-ok-by (λ (t : TokenStep). Tells (t .answer)) k new (keeps k page s) (λ e. h) (λ e. refl)
+
+send-tells : (at : ℕ) (token : List ℕ) (i size : ℕ) (page : List ℕ) → Tells (sendOf at token i size page .answer)
+unfolding sendOf answerOf
+send-tells at token i size page = refl
+
+token-tells : (r : Record) (page : List ℕ) (s : Session) (busy : Bool) (token : List ℕ) (pa size c : ℕ) → Tells (tokenOf r page s busy token pa size c .answer)
+unfolding tokenOf
+token-tells r page s busy token pa size c = settled-tells _ _ page s (send-tells _ token _ size page)
+
+signing-tells : (r : Record) (page : List ℕ) (q : Lists) (key : List ℕ) (op pa size curve : ℕ) → Tells (signingOf r page q key op pa size curve .answer)
+unfolding answerOf
+signing-tells r page q key op pa size curve =
+    signing-by (λ (o : Opcode) (s : SigningStep). Tells (s .answer)) r page q key op pa size curve
+    (record { refusal = λ o k e. refl; push = λ p e. refl; pull = λ p e. refl; public = λ p e. refl })
+
+-- ---- the exports
+delegation : (d : Direction) (state granules table : List ℕ) (address : ℕ) →
+    Refuses (moveIn d state granules table address .out) → moveIn d state granules table address ≡ record { out = x0Alone (moveIn d state granules table address .out); table = table }
+unfolding moveIn moveLeft registerWords moveOf movedBy answerOf
+delegation d state granules table address h =
+    let m : Moved = moveOf (recordOf state) (granulesOf granules) d (record { bytes = table }) address in
+    ap moveLeft (move-refused (recordOf state) (granulesOf granules) d (record { bytes = table }) address (refuses (m .answer) refl h))
+
+realm-key : (state page key : List ℕ) (pa size curve : ℕ) → Refuses (registerWords (realmKeyOf (recordOf state) page key pa size curve .answer)) →
+    (registerWords (realmKeyOf (recordOf state) page key pa size curve .answer) ≡ x0Alone (registerWords (realmKeyOf (recordOf state) page key pa size curve .answer)))
+    × (realmKeyOf (recordOf state) page key pa size curve .page ≡ page)
+unfolding registerWords realmKeyOf keyed answerOf
+realm-key state page key pa size curve h =
+    let k : Keyed = realmKeyOf (recordOf state) page key pa size curve in
+    let e : k ≡ record { answer = answerOf (k .answer .code) 0 0; page = page } = key-refused (recordOf state) page key pa size curve (refuses (k .answer) refl h) in
+    (ap (λ (x : Keyed). registerWords (x .answer)) e, ap (λ (x : Keyed). x .page) e)
+
+-- ---- a refusal leaves an image as it was
+left-old : {A : Type 0} (k : Code) (new old : A) → isOk k ≡ false → ifOk k new old ≡ old
+left-old k new old f = rw f
+
+session-stays : (k : Code) (s : Session) (image : List ℕ) → isOk k ≡ false → sessionAfter k s image ≡ image
+unfolding sessionAfter
+session-stays k s image f = left-old k (sessionWords s) image f
+
+-- a step that is refused, with an image beside it
+token-kept : (t : TokenStep) (image page : List ℕ) (s : Session) → Tells (t .answer) → Refuses (registerWords (t .answer)) →
+    (isOk (t .answer .code) ≡ false → t ≡ record { answer = answerOf (t .answer .code) 0 0; page = page; session = s }) →
+    tokenLeft t image ≡ record { out = x0Alone (registerWords (t .answer)); page = page; session = image }
+unfolding tokenLeft registerWords answerOf
+token-kept t image page s told h kept =
+    let f : isOk (t .answer .code) ≡ false = refuses (t .answer) told h in
+    ap (λ (x : TokenStep). tokenLeft x image) (kept f) ∙ rw (← told, session-stays (t .answer .code) s image f)
+
+platform-token : (state session page token : List ℕ) (busy pa size csize : ℕ) → Refuses (tokenIn state session page token busy pa size csize .out) →
+    tokenIn state session page token busy pa size csize ≡ record { out = x0Alone (tokenIn state session page token busy pa size csize .out); page = page; session = session }
+unfolding tokenIn tokenLeft
+platform-token state session page token busy pa size csize h =
+    token-kept _ session page (sessionOf session) (token-tells (recordOf state) page (sessionOf session) (isSet busy) token pa size csize) h
+    (token-refused (recordOf state) page (sessionOf session) (isSet busy) token pa size csize)
+
+signing-kept : (t : SigningStep) (new image page : List ℕ) (q : Lists) → Tells (t .answer) → Refuses (registerWords (t .answer)) →
+    (isOk (t .answer .code) ≡ false → t ≡ record { answer = answerOf (t .answer .code) 0 0; page = page; queue = q }) →
+    signingLeft (imageStep t new image) ≡ record { out = x0Alone (registerWords (t .answer)); page = page; queue = image }
+unfolding signingLeft imageStep registerWords answerOf
+signing-kept t new image page q told h kept =
+    let f : isOk (t .answer .code) ≡ false = refuses (t .answer) told h in
+    ap (λ (x : SigningStep). signingLeft (imageStep x new image)) (kept f) ∙ rw (← told, left-old (t .answer .code) new image f)
+
+token-signing : (state queue page key : List ℕ) (opcode pa size curve : ℕ) → Refuses (signingIn state queue page key opcode pa size curve .out) →
+    signingIn state queue page key opcode pa size curve ≡ record { out = x0Alone (signingIn state queue page key opcode pa size curve .out); page = page; queue = queue }
+unfolding signingIn signingOn signingLeft imageStep
+token-signing state queue page key opcode pa size curve h =
+    signing-kept _ _ queue page (listsIn queue) (signing-tells (recordOf state) page (listsIn queue) key opcode pa size curve) h
+    (signing-refused (recordOf state) page (listsIn queue) key opcode pa size curve)
+
+signer : (queue signature : List ℕ) → Refuses (signIn queue signature .out) → signIn queue signature ≡ record { out = x0Alone (signIn queue signature .out); queue = queue }
+unfolding signIn signLeft signOn signOf registerWords answerOf
+signer queue signature h =
+    let t : SignStep = signOf (listsIn queue) signature in
+    let f : isOk (t .answer .code) ≡ false = refuses (t .answer) refl h in
+    rw (left-old (t .answer .code) (signDone queue signature) queue f)
+
+feature-registers : (state : List ℕ) (index : ℕ) → Refuses (registerWords (featuresOf (recordOf state) index)) →
+    registerWords (featuresOf (recordOf state) index) ≡ x0Alone (registerWords (featuresOf (recordOf state) index))
+unfolding registerWords featuresOf featuresBy answerOf
+feature-registers state index h = ap registerWords (features-refused (recordOf state) index (refuses (featuresOf (recordOf state) index) refl h))
+
+key-update : (state : List ℕ) (width mecid : ℕ) → Refuses (registerWords (updateOf (recordOf state) width mecid .answer)) →
+    (registerWords (updateOf (recordOf state) width mecid .answer) ≡ x0Alone (registerWords (updateOf (recordOf state) width mecid .answer)))
+    × (workWords (updateOf (recordOf state) width mecid .work) ≡ 0 ∷ 0 ∷ [])
+unfolding registerWords workWords updateOf updateBy answerOf
+key-update state width mecid h =
+    let u : Updated = updateOf (recordOf state) width mecid in
+    let e : u ≡ record { answer = answerOf (u .answer .code) 0 0; work = Nothing } = update-refused (recordOf state) width mecid (refuses (u .answer) refl h) in
+    (ap (λ (x : Updated). registerWords (x .answer)) e, ap (λ (x : Updated). workWords (x .work)) e)
+
+-- ---- the dispatcher
+reply-tells : (k : Kind) (g : Granules) (w : World) (c : Call) → Refuses (replyRegisters (callBy k g w c .reply)) → isOk (replyCode (callBy k g w c .reply)) ≡ false
+unfolding callBy afterMove afterKey afterToken afterSigning afterUpdate replyRegisters replyCode moveOf movedBy realmKeyOf keyed featuresOf featuresBy updateOf updateBy answerOf
+reply-tells ForwardError g w c h = absurd (h refl)
+reply-tells Delegate g w c h = refuses (moveOf (c .state) g Direction.Delegate (w .table) (c .x1) .answer) refl h
+reply-tells Undelegate g w c h = refuses (moveOf (c .state) g Direction.Undelegate (w .table) (c .x1) .answer) refl h
+reply-tells RealmKey g w c h = refuses (realmKeyOf (c .state) (w .page) (c .realmKey) (c .x1) (c .x2) (c .x3) .answer) refl h
+reply-tells PlatformToken g w c h = refuses _ (token-tells (c .state) (w .page) (w .session) (c .busy) (c .token) (c .x1) (c .x2) (c .x3)) h
+reply-tells Features g w c h = refuses (featuresOf (c .state) (c .x1)) refl h
+reply-tells TokenSigning g w c h = refuses _ (signing-tells (c .state) (w .page) (w .queue) (c .publicKey) (c .x1) (c .x2) (c .x3) (c .x4)) h
+reply-tells KeyUpdate g w c h = refuses (updateOf (c .state) (c .width) (c .x1) .answer) refl h
+reply-tells Unlisted g w c h = refl
+
+session-kept : (n : Needs) (k : Code) (s : Session) (image : List ℕ) → isOk k ≡ false → sessionLeft n k s image ≡ image
+unfolding sessionLeft
+session-kept Needs.Nothing k s image f = refl
+session-kept Needs.Session k s image f = session-stays k s image f
+session-kept Needs.Queue k s image f = refl
+
+queue-kept : (n : Needs) (k : Code) (new image : List ℕ) → isOk k ≡ false → queueLeft n k new image ≡ image
+unfolding queueLeft
+queue-kept Needs.Nothing k new image f = refl
+queue-kept Needs.Session k new image f = refl
+queue-kept Needs.Queue k new image f = left-old k new image f
+
+-- what a refusal leaves: x0, and zeros in what is written
+abbrev kept : List ℕ → List ℕ → List ℕ → List ℕ → ℕ → CallLeft
+kept session queue page table x0 = record { out = x0 ∷ 0 ∷ 0 ∷ []; work = 0 ∷ 0 ∷ []; page = page; table = table; session = session; queue = queue }
+
+step-kept : (n : Needs) (st : Step) (w : World) (session new queue : List ℕ) → isOk (replyCode (st .reply)) ≡ false → st ≡ refusal st w →
+    callLeft n st session new queue ≡ kept session queue (w .page) (w .table .bytes) (x0Of (replyCode (st .reply)))
+unfolding callLeft replyRegisters replyWords registerWords workWords answerOf replyCode
+step-kept n st w session new queue f e =
+    let k : Code = replyCode (st .reply) in
+    ap (λ (x : Step). callLeft n x session new queue) e ∙ rw (session-kept n k (w .session) session f, queue-kept n k new queue f)
+
+dispatched : (granules session queue page table : List ℕ) (c : Call) → Refuses (callIn granules session queue page table c .out) →
+    callIn granules session queue page table c ≡ kept session queue page table (getD (callIn granules session queue page table c .out) 0 0)
+unfolding callIn callLeft callOf stepOf
+dispatched granules session queue page table c h =
+    let g : Granules = granulesOf granules in
+    let w : World = worldIn session queue page table in
+    let st : Step = callOf g w c in
+    let f : isOk (replyCode (st .reply)) ≡ false = reply-tells (kindOf (c .id)) g w c h in
+    let q = step-kept (needsOf (kindOf (c .id))) st w session (signingDone (c .state) page queue (c .x1) (c .x2) (c .x3)) queue f (refused g w (call c) f) in
+    q ∙ ap (kept session queue page table) (sym (ap (λ (l : CallLeft). getD (l .out) 0 0) q))
+
+pub exports-refuse : ExportsRefuse
+exports-refuse =
+    record {
+      delegation = delegation;
+      realmKey = realm-key;
+      token = platform-token;
+      features = feature-registers;
+      signing = token-signing;
+      update = key-update;
+      sign = signer;
+      call = dispatched;
+    }

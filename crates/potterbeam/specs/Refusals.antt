@@ -1,0 +1,56 @@
+-- Demand 1 at the C edge. 01: "a refused call returns zero in the other result registers and changes no page, table, session or queue":
+-- what a call of the exports leaves where x0 is not 0, whatever words were lent as an image. Assumes nothing.
+use Prim.Native.Nat.{ℕ}
+use mathlib.Core.Path.{_≡_}
+use mathlib.Core.List.{List, [], _∷_}
+use lib.ListN.{getD}
+use Rattle.granules.specs.declared.Direction.{Direction}
+use Rattle.attest.specs.Key.{realmKeyOf}
+use Rattle.features.specs.Features.{featuresOf, updateOf}
+use Rattle.runtime.specs.Step.{Call}
+use Rattle.images.specs.Image.{recordOf, registerWords, workWords}
+use Rattle.potterbeam.specs.Exports.{moveIn, tokenIn, signingIn, signIn, callIn}
+
+-- the registers show a refusal
+abbrev pub Refuses : List ℕ → Type 0
+Refuses out = getD out 0 0 ≡ 0 → ⊥
+
+-- x0, and zeros in the other registers
+abbrev pub x0Alone : List ℕ → List ℕ
+x0Alone out = getD out 0 0 ∷ 0 ∷ 0 ∷ []
+
+pub record ExportsRefuse : Type 0 where
+  -- pbeam_delegate, pbeam_undelegate
+  pub delegation : (d : Direction) (state granules table : List ℕ) (address : ℕ) →
+      let l = moveIn d state granules table address in
+      Refuses (l .out) → l ≡ record { out = x0Alone (l .out); table = table }
+  -- pbeam_realm_key
+  pub realmKey : (state page key : List ℕ) (pa size curve : ℕ) →
+      let k = realmKeyOf (recordOf state) page key pa size curve in
+      let out = registerWords (k .answer) in
+      Refuses out → (out ≡ x0Alone out) × (k .page ≡ page)
+  -- pbeam_platform_token
+  pub token : (state session page token : List ℕ) (busy pa size csize : ℕ) →
+      let l = tokenIn state session page token busy pa size csize in
+      Refuses (l .out) → l ≡ record { out = x0Alone (l .out); page = page; session = session }
+  -- pbeam_features
+  pub features : (state : List ℕ) (index : ℕ) →
+      let out = registerWords (featuresOf (recordOf state) index) in
+      Refuses out → out ≡ x0Alone out
+  -- pbeam_token_signing
+  pub signing : (state queue page key : List ℕ) (opcode pa size curve : ℕ) →
+      let l = signingIn state queue page key opcode pa size curve in
+      Refuses (l .out) → l ≡ record { out = x0Alone (l .out); page = page; queue = queue }
+  -- pbeam_key_update
+  pub update : (state : List ℕ) (width mecid : ℕ) →
+      let u = updateOf (recordOf state) width mecid in
+      let out = registerWords (u .answer) in
+      Refuses out → (out ≡ x0Alone out) × (workWords (u .work) ≡ 0 ∷ 0 ∷ [])
+  -- pbeam_sign
+  pub sign : (queue signature : List ℕ) →
+      let l = signIn queue signature in
+      Refuses (l .out) → l ≡ record { out = x0Alone (l .out); queue = queue }
+  -- pbeam_call
+  pub call : (granules session queue page table : List ℕ) (c : Call) →
+      let l = callIn granules session queue page table c in
+      Refuses (l .out) → l ≡ record { out = x0Alone (l .out); work = 0 ∷ 0 ∷ []; page = page; table = table; session = session; queue = queue }

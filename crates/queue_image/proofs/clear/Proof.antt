@@ -1,0 +1,63 @@
+use Prim.Native.Nat.{_-_, _≤_}
+use mathlib.Core.Path.{_≡_, refl, _∙_}
+use native.Mathlib.Omega.{arith}
+use lib.ListN.{length, length-set}
+use Rattle.queue_image.proofs.InPlace.{zerosTo, zeros-none, zeros-more}
+use borrow.Author.Needs.{needs}
+use Rattle.queue_image.proofs.clear.Statement.{statement}
+use Rattle.queue_image.proofs.clear.Tie as tie
+
+abbrev Inv-loop : tie.InvT-loop
+Inv-loop image₀ at n i₀ image i = (i ≤ n) × (length image ≡ length image₀) × (image ≡ zerosTo at image₀ i)
+
+abbrev μ-loop : tie.MeasureT-loop
+μ-loop image₀ at n i₀ image i = n - i
+
+loop-holds : tie.Need-loop-holds Inv-loop μ-loop
+loop-holds c = let a = c .args in (search needs, refl, zeros-none (a .at) (a .image .now))
+
+add-image : tie.Need-add-image Inv-loop μ-loop
+add-image c = search needs
+
+mul-image : tie.Need-mul-image Inv-loop μ-loop
+mul-image c = search needs
+
+slice-write-image : tie.Need-slice-write-image Inv-loop μ-loop
+slice-write-image c = search needs
+
+add-i : tie.Need-add-i Inv-loop μ-loop
+add-i c = search needs
+
+loop-less : tie.Need-loop-less Inv-loop μ-loop
+loop-less c = search needs
+
+loop-again : tie.Need-loop-again Inv-loop μ-loop
+loop-again c =
+    let a = c .before .before .args in
+    let l = c .before .loop in
+    (search needs, simp length-set (omega arith), rw (l .inv .2) (zeros-more (a .at) (a .image .now) (l .i) (omega arith)))
+
+same-length : tie.Need-same-length Inv-loop μ-loop
+same-length c = search needs
+
+returns : tie.Need-returns Inv-loop μ-loop
+unfolding zerosTo
+returns c =
+    let e : c .before .loop .i ≡ c .before .before .args .n = omega arith in
+    c .before .loop .inv .2 ∙ rw e
+
+pub clear-spec : {M : Type 1} → statement M
+clear-spec =
+    tie.close
+    (tie.spec
+    Inv-loop
+    μ-loop
+    loop-holds
+    add-image
+    mul-image
+    slice-write-image
+    add-i
+    loop-less
+    loop-again
+    same-length
+    returns)
