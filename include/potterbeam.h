@@ -584,7 +584,7 @@ void pbeam_features(const uint64_t state[PBEAM_STATE_WORDS], uint64_t index, uin
  * Leaves   on OK: push: the request at the end of those that wait, the page as it was; pull: the oldest response at pa, and dropped
  *          from the queue; key: the key at pa, the queue as it was. Bytes of the page behind what is
  *          written stay as they were. Refused, page and queue as they were.
- * Stack    352 bytes; AArch64 0
+ * Stack    352 bytes; AArch64 400
  */
 PBEAM_NONNULL(1, 2, 11)
 void pbeam_token_signing(const uint64_t state[PBEAM_STATE_WORDS], uint64_t queue[PBEAM_QUEUE_WORDS], uint8_t *page, size_t page_len,
@@ -626,7 +626,7 @@ uint64_t pbeam_forward(const uint64_t state[PBEAM_STATE_WORDS], uint64_t x1);
  *          PBEAM_X0_AGAIN     eight responses waiting; the request is kept
  * Leaves   on OK the queue with one request less and one response more: its rec_granule and req_ticket, and the signature. Refused,
  *          the queue as it was.
- * Stack    224 bytes; AArch64 0
+ * Stack    224 bytes; AArch64 192
  */
 PBEAM_NONNULL(1, 4)
 void pbeam_sign(uint64_t queue[PBEAM_QUEUE_WORDS], const uint8_t *signature, size_t signature_len, uint64_t out[PBEAM_OUT_WORDS]);
@@ -663,7 +663,7 @@ size_t pbeam_responses(const uint64_t queue[PBEAM_QUEUE_WORDS]);
  *          other id: PBEAM_X0_UNK. Every command but PBEAM_ID_FORWARD: PBEAM_X0_UNK while the record is not up.
  * Leaves   what the command leaves; all else as it was. Only PBEAM_ID_PLATFORM_TOKEN reads or writes the session, only
  *          PBEAM_ID_TOKEN_SIGNING the queue.
- * Stack    512 bytes with PBEAM_ID_TOKEN_SIGNING, 416 bytes with any other id; AArch64 0
+ * Stack    512 bytes with PBEAM_ID_TOKEN_SIGNING, 416 bytes with any other id; AArch64 432
  */
 PBEAM_NONNULL(1, 2, 3, 6, 17, 18, 19)
 void pbeam_call(const uint64_t state[PBEAM_STATE_WORDS], uint64_t session[PBEAM_SESSION_WORDS], uint64_t queue[PBEAM_QUEUE_WORDS],
