@@ -27,7 +27,7 @@
 
 /* Stacks. An area is painted whole, so that a stack that outgrows its part of it is seen, not suffered. */
 #define AREA 0x4000
-#define EL3_STACK 12288
+#define EL3_STACK 2048
 
 /* A world's saved registers: x0 to x30, then these. */
 #define CONTEXT_ELR 248
