@@ -5,11 +5,9 @@ use queue::Queue;
 use queue::Queued;
 use queue::Request;
 ghost use mathlib.Core.Path.{_≡_};
-ghost use mathlib.Core.Bool.{false};
 ghost use Prim.Native.Nat.{_≤_};
 ghost use lib.ListN.{length};
-ghost use Rattle.codes.specs.Codes.{isOk};
-ghost use Rattle.queue.specs.Queue.{Lists, signingExit, listsOf};
+ghost use Rattle.queue.specs.Queue.{Lists, listsOf, signingExit, exitOf};
 ghost use Rattle.queue_image.specs.Steps.{ImageStep};
 ghost use Rattle.requests.specs.Push.{requestOf, pushCode, pushOf};
 ghost use Rattle.requests.specs.OnImage.{pushOn};
@@ -32,8 +30,7 @@ fn request_of(buffer: &[u8]) -> Request
 
 // Push: the request in the buffer joins the end of those that wait.
 pub fn push(buffer: &[u8], queue: Queue) -> Queued
-    ensures { λ r. ⌜ signingExit r (now (buffer .entry)) ≡ pushOf (now (buffer .entry)) (listsOf queue) ⌝ }
-    ensures { λ r. ⌜ (isOk (r .answer .code) ≡ false → r .queue ≡ queue) ⌝ }
+    ensures { λ r. ⌜ signingExit r (now (buffer .entry)) ≡ exitOf queue (pushOf (now (buffer .entry)) (listsOf queue)) ⌝ }
 {
     if buffer.len() < 80 {
         return queue::refused(Code::Inval, queue);
@@ -51,11 +48,12 @@ pub fn push(buffer: &[u8], queue: Queue) -> Queued
         return queue::refused(Code::Again, queue);
     }
     let more = queue::join_request(requests, request);
+    let same = queue::responses_from(responses, 0);
     Queued {
         answer: codes::answered(Code::Ok, 0, 0),
         queue: Queue {
             requests: more,
-            responses,
+            responses: same,
         },
     }
 }

@@ -5,15 +5,13 @@ use queue::Queue;
 use queue::Queued;
 use queue::Response;
 ghost use mathlib.Core.Path.{_≡_};
-ghost use mathlib.Core.Bool.{false};
 ghost use Prim.Native.Nat.{_+_, _≤_};
 ghost use lib.ListN.{length};
 ghost use Rattle.words.specs.Word.{splice};
-ghost use Rattle.codes.specs.Codes.{isOk};
-ghost use Rattle.queue.specs.Queue.{Lists, signingExit, signedIn, listsOf, oldestResponse};
+ghost use Rattle.queue.specs.Queue.{Lists, signedIn, listsOf, oldestResponse, signingExit, exitOf};
 ghost use Rattle.queue_image.specs.Steps.{ImageStep};
 ghost use Rattle.responses.specs.Pull.{responseBytes, pullCode, pullOf};
-ghost use Rattle.responses.specs.Sign.{signCode, SignStep, signOf};
+ghost use Rattle.responses.specs.Sign.{signCode, signOf, signExit};
 ghost use Rattle.responses.specs.OnImage.{pullOn, SignImage, signOn};
 
 // Writes a response at the start of a buffer that holds it.
@@ -31,8 +29,7 @@ fn put_response(buffer: &mut [u8], response: Response)
 
 // Pull: writes the oldest response into the buffer and drops it; one that does not fit is kept.
 pub fn pull(buffer: &mut [u8], queue: Queue) -> Queued
-    ensures { λ r. ⌜ signingExit r (now (buffer .exit)) ≡ pullOf (now (buffer .entry)) (listsOf queue) ⌝ }
-    ensures { λ r. ⌜ (isOk (r .answer .code) ≡ false → r .queue ≡ queue) ⌝ }
+    ensures { λ r. ⌜ signingExit r (now (buffer .exit)) ≡ exitOf queue (pullOf (now (buffer .entry)) (listsOf queue)) ⌝ }
 {
     let requests = queue.requests;
     let responses = queue.responses;
@@ -44,11 +41,12 @@ pub fn pull(buffer: &mut [u8], queue: Queue) -> Queued
         return queue::refused(Code::Inval, queue);
     }
     put_response(buffer, response);
-    let rest = queue::drop_response(responses);
+    let same = queue::requests_from(requests, 0);
+    let rest = queue::responses_from(responses, 1);
     Queued {
         answer: codes::answered(Code::Ok, 0, 0),
         queue: Queue {
-            requests,
+            requests: same,
             responses: rest,
         },
     }
@@ -71,8 +69,7 @@ fn response_of(granule: u64, ticket: u64, signature: &[u8]) -> Response
 
 // The signer's own step: the oldest request becomes the newest response, with the signature that the signer lends.
 pub fn sign(queue: Queue, signature: &[u8]) -> Queued
-    ensures { λ r. ⌜ _≡_ {A = SignStep} (record { answer = r .answer; queue = listsOf (r .queue) }) (signOf (listsOf queue) (now (signature .entry))) ⌝ }
-    ensures { λ r. ⌜ (isOk (r .answer .code) ≡ false → r .queue ≡ queue) ⌝ }
+    ensures { λ r. ⌜ r ≡ signExit queue (signOf (listsOf queue) (now (signature .entry))) ⌝ }
 {
     if signature.len() == 0 {
         return queue::refused(Code::Inval, queue);
@@ -89,7 +86,7 @@ pub fn sign(queue: Queue, signature: &[u8]) -> Queued
         return queue::refused(Code::Again, queue);
     }
     let first = queue::first_request(requests);
-    let rest = queue::drop_request(requests);
+    let rest = queue::requests_from(requests, 1);
     let more = queue::join_response(
         responses,
         response_of(first.granule, first.ticket, signature),

@@ -7,12 +7,11 @@ use queue::Queue;
 use queue::Queued;
 use range::OutsideAs;
 ghost use mathlib.Core.Path.{_≡_};
-ghost use mathlib.Core.Bool.{false};
 ghost use Prim.Native.Nat.{_+_, _≤_};
 ghost use lib.ListN.{length};
 ghost use Rattle.range.specs.Range.{placeOf};
-ghost use Rattle.codes.specs.Codes.{isOk, upOf, gated};
-ghost use Rattle.queue.specs.Queue.{Lists, SigningStep, signingExit, listsOf};
+ghost use Rattle.codes.specs.Codes.{upOf, gated};
+ghost use Rattle.queue.specs.Queue.{Lists, SigningStep, listsOf, signingExit, exitOf};
 ghost use Rattle.queue_image.specs.Steps.{ImageStep};
 ghost use Rattle.signing.specs.Signing.{opcodeOf, isOther, badCurve, sharedCode, publicOf, opAt, signingOf};
 ghost use Rattle.signing.specs.OnImage.{opOn, signingOn};
@@ -86,8 +85,7 @@ fn gate_of(state: Record, len: usize, opcode: Opcode, pa: u64, size: u64, curve:
 
 // Key: writes the public key that the platform lends into the buffer; x1 is its length.
 fn public_key(buffer: &mut [u8], queue: Queue, key: &[u8]) -> Queued
-    ensures { λ r. ⌜ signingExit r (now (buffer .exit)) ≡ publicOf (now (buffer .entry)) (listsOf queue) (now (key .entry)) ⌝ }
-    ensures { λ r. ⌜ (isOk (r .answer .code) ≡ false → r .queue ≡ queue) ⌝ }
+    ensures { λ r. ⌜ signingExit r (now (buffer .exit)) ≡ exitOf queue (publicOf (now (buffer .entry)) (listsOf queue) (now (key .entry))) ⌝ }
 {
     if key.len() == 0 {
         return queue::refused(Code::Again, queue);
@@ -98,15 +96,14 @@ fn public_key(buffer: &mut [u8], queue: Queue, key: &[u8]) -> Queued
     words::copy(buffer, key);
     Queued {
         answer: codes::answered(Code::Ok, key.len() as u64, 0),
-        queue,
+        queue: queue::only_waiting(queue),
     }
 }
 
 // A call whose buffer passed, at an offset of the page: the buffer is lent to what the opcode asks for.
 fn serve(page: &mut [u8], at: usize, size: u64, queue: Queue, key: &[u8], opcode: Opcode) -> Queued
     requires { ⌜ at + size ≤ length (now page) ⌝ }
-    ensures { λ r. ⌜ signingExit r (now (page .exit)) ≡ opAt opcode at size (now (page .entry)) (listsOf queue) (now (key .entry)) ⌝ }
-    ensures { λ r. ⌜ (isOk (r .answer .code) ≡ false → r .queue ≡ queue) ⌝ }
+    ensures { λ r. ⌜ signingExit r (now (page .exit)) ≡ exitOf queue (opAt opcode at size (now (page .entry)) (listsOf queue) (now (key .entry))) ⌝ }
 {
     let end = at + size as usize;
     match opcode {
@@ -128,8 +125,8 @@ pub fn token_signing(
     size: u64,
     curve: u64,
 ) -> Queued
-    ensures { λ r. ⌜ signingExit r (now (page .exit)) ≡ signingOf state (now (page .entry)) (listsOf queue) (now (key .entry)) opcode pa size curve ⌝ }
-    ensures { λ r. ⌜ (isOk (r .answer .code) ≡ false → r .queue ≡ queue) ⌝ }
+    ensures { λ r. ⌜ signingExit r (now (page .exit))
+        ≡ exitOf queue (signingOf state (now (page .entry)) (listsOf queue) (now (key .entry)) opcode pa size curve) ⌝ }
 {
     let asked = opcode_of(opcode);
     let gate = gate_of(state, page.len(), asked, pa, size, curve);

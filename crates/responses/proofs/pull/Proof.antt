@@ -1,12 +1,10 @@
-use mathlib.Core.Path.{_≡_, refl, sym, ap, _∙_}
-use native.Mathlib.Omega.{arith}
-use Prim.Native.Nat.{_<_, _+_, _≤_}
+use mathlib.Core.Path.{_≡_, refl, sym, _∙_}
 use lib.ListN.{length}
 use Rattle.codes.specs.declared.Code.the-variants.{Inval, Again}
-use Rattle.queue.specs.Queue.{held, ready, listsOf, signedIn, oldestResponse}
-use Rattle.queue.proofs.Steps.{refuses, accepts, not-refused}
+use Rattle.queue.specs.Queue.{ready, listsOf, signedIn, oldestResponse, queueHolding}
+use Rattle.queue.proofs.Steps.{refuses, accepts}
 use Rattle.responses.specs.Pull.{pullCode, pulled, pullOf}
-use Rattle.responses.proofs.Pulls.{ready-length, ready-first, ready-rest, pull-none, pull-long, pull-ok}
+use Rattle.responses.proofs.Pulls.{ready-length, ready-first, pull-none, pull-long, pull-ok}
 use borrow.Author.Needs.{needs}
 use Rattle.responses.proofs.pull.Statement.{statement}
 use Rattle.responses.proofs.pull.Tie as tie
@@ -22,7 +20,7 @@ unfolding pullOf listsOf
 returns c =
     let a = c .before .before .before .before .before .before .args in
     let z : length (ready (a .queue .responses)) ≡ c .before .before .response-count .result = ready-length (a .queue .responses) ∙ sym (c .before .before .response-count .ensures .0) in
-    (refuses (pullCode (length (a .buffer .now)) (listsOf (a .queue))) _ (a .buffer .now) (listsOf (a .queue)) Again _ _ (c .refused .ensures .0) (ap listsOf (c .refused .ensures .1)) (pull-none (length (a .buffer .now)) (listsOf (a .queue)) (z ∙ c .before .if1 .taken)) refl, λ h. c .refused .ensures .1)
+    refuses (pullCode (length (a .buffer .now)) (listsOf (a .queue))) (a .buffer .now) (listsOf (a .queue)) (a .queue) _ Again _ (c .refused .ensures) (pull-none (length (a .buffer .now)) (listsOf (a .queue)) (z ∙ c .before .if1 .taken)) refl
 
 first-response-requires : tie.Need-first-response-requires
 first-response-requires c κs = search needs
@@ -42,16 +40,18 @@ returns-2 c =
     let a = c .before .before .before .before .before .before .before .before .before .args in
     let z : length (ready (a .queue .responses)) ≡ c .before .before .before .before .before .response-count .result = ready-length (a .queue .responses) ∙ sym (c .before .before .before .before .before .response-count .ensures .0) in
     let n : length (ready (a .queue .responses)) ≡ 0 → ⊥ = λ e. c .before .before .before .before .if1 .left (sym z ∙ e) in
-    let p : 0 < length (held (a .queue .responses)) = omega (arith, c .before .before .before .before .before .response-count .ensures .0, c .before .before .before .before .if1 .left) in
     let r = c .before .before .before .first-response .result in
-    let f : oldestResponse (ready (a .queue .responses)) ≡ signedIn r = ready-first (a .queue .responses) r (c .before .before .before .first-response .ensures p) in
-    (refuses (pullCode (length (a .buffer .now)) (listsOf (a .queue))) _ (a .buffer .now) (listsOf (a .queue)) Inval _ _ (c .refused2 .ensures .0) (ap listsOf (c .refused2 .ensures .1)) (pull-long (length (a .buffer .now)) (listsOf (a .queue)) n (signedIn r) f (search needs)) refl, λ h. c .refused2 .ensures .1)
+    let f : oldestResponse (ready (a .queue .responses)) ≡ signedIn r = ready-first (a .queue .responses) r (c .before .before .before .first-response .ensures) in
+    refuses (pullCode (length (a .buffer .now)) (listsOf (a .queue))) (a .buffer .now) (listsOf (a .queue)) (a .queue) _ Inval _ (c .refused2 .ensures) (pull-long (length (a .buffer .now)) (listsOf (a .queue)) n (signedIn r) f (search needs)) refl
 
 put-response-requires : tie.Need-put-response-requires
 put-response-requires c κs = search needs
 
-drop-response-requires : tie.Need-drop-response-requires
-drop-response-requires c κs = search needs
+requests-from-requires : tie.Need-requests-from-requires
+requests-from-requires c κs = search needs
+
+responses-from-requires : tie.Need-responses-from-requires
+responses-from-requires c κs = search needs
 
 answered-requires : tie.Need-answered-requires
 answered-requires c κs = search needs
@@ -60,15 +60,16 @@ same-length : tie.Need-same-length
 same-length c = search needs
 
 returns-3 : tie.Need-returns-3
-unfolding pullOf pulled listsOf
+unfolding pullOf pulled listsOf queueHolding
 returns-3 c =
-    let a = c .before .before .before .before .before .before .before .before .before .before .before .before .before .before .args in
-    let z : length (ready (a .queue .responses)) ≡ c .before .before .before .before .before .before .before .before .before .before .response-count .result = ready-length (a .queue .responses) ∙ sym (c .before .before .before .before .before .before .before .before .before .before .response-count .ensures .0) in
-    let n : length (ready (a .queue .responses)) ≡ 0 → ⊥ = λ e. c .before .before .before .before .before .before .before .before .before .if1 .left (sym z ∙ e) in
-    let p : 0 < length (held (a .queue .responses)) = omega (arith, c .before .before .before .before .before .before .before .before .before .before .response-count .ensures .0, c .before .before .before .before .before .before .before .before .before .if1 .left) in
-    let r = c .before .before .before .before .before .before .before .before .first-response .result in
-    let f : oldestResponse (ready (a .queue .responses)) ≡ signedIn r = ready-first (a .queue .responses) r (c .before .before .before .before .before .before .before .before .first-response .ensures p) in
-    (rw (c .answered .ensures, ready-rest (a .queue .responses) _ (c .before .drop-response .ensures), c .before .before .before .before .put-response .ensures, ← f) (accepts (pullCode (length (a .buffer .now)) (listsOf (a .queue))) _ (a .buffer .now) (listsOf (a .queue)) (pull-ok (length (a .buffer .now)) (listsOf (a .queue)) n (signedIn r) f (search needs))), λ h. absurd (not-refused _ 0 0 (c .answered .ensures) h))
+    let a = c .before .before .before .before .before .before .before .before .before .before .before .before .before .before .before .args in
+    let m = c .before .before .before .before .before .before .before .before .before .before .before .response-count in
+    let z : length (ready (a .queue .responses)) ≡ m .result = ready-length (a .queue .responses) ∙ sym (m .ensures .0) in
+    let n : length (ready (a .queue .responses)) ≡ 0 → ⊥ = λ e. c .before .before .before .before .before .before .before .before .before .before .if1 .left (sym z ∙ e) in
+    let r = c .before .before .before .before .before .before .before .before .before .first-response .result in
+    let f : oldestResponse (ready (a .queue .responses)) ≡ signedIn r = ready-first (a .queue .responses) r (c .before .before .before .before .before .before .before .before .before .first-response .ensures) in
+    rw (c .answered .ensures, c .before .before .requests-from .ensures, c .before .responses-from .ensures, c .before .before .before .before .before .put-response .ensures, ← f)
+    (accepts (pullCode (length (a .buffer .now)) (listsOf (a .queue))) (a .buffer .now) (listsOf (a .queue)) (a .queue) 0 0 _ _ (pull-ok (length (a .buffer .now)) (listsOf (a .queue)) n (signedIn r) f (search needs)))
 
 pub pull-spec : {M : Type 1} → statement M
 pull-spec =
@@ -83,7 +84,8 @@ pull-spec =
     refused-requires-2
     returns-2
     put-response-requires
-    drop-response-requires
+    requests-from-requires
+    responses-from-requires
     answered-requires
     same-length
     returns-3)

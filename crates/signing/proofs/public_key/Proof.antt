@@ -1,10 +1,10 @@
-use mathlib.Core.Path.{_≡_, refl, sym, ap, _∙_}
+use mathlib.Core.Path.{refl}
 use native.Mathlib.Omega.{arith}
 use lib.ListN.{length}
 use Rattle.words.proofs.Store.{bytes-in}
 use Rattle.codes.specs.declared.Code.the-variants.{Inval, Again}
 use Rattle.queue.specs.Queue.{listsOf}
-use Rattle.queue.proofs.Steps.{refuses, accepts, not-refused}
+use Rattle.queue.proofs.Steps.{refuses, accepts}
 use Rattle.signing.specs.Signing.{publicCode, publicOf}
 use Rattle.signing.proofs.Signings.{public-empty, public-long, public-ok}
 use borrow.Author.Needs.{needs}
@@ -18,7 +18,7 @@ returns : tie.Need-returns
 unfolding publicOf
 returns c =
     let a = c .before .before .before .before .args in
-    (refuses (publicCode (length (a .buffer .now)) (a .key .now)) _ (a .buffer .now) (listsOf (a .queue)) Again _ _ (c .refused .ensures .0) (ap listsOf (c .refused .ensures .1)) (public-empty (length (a .buffer .now)) (a .key .now) (search needs)) refl, λ h. c .refused .ensures .1)
+    refuses (publicCode (length (a .buffer .now)) (a .key .now)) (a .buffer .now) (listsOf (a .queue)) (a .queue) _ Again _ (c .refused .ensures) (public-empty (length (a .buffer .now)) (a .key .now) (search needs)) refl
 
 refused-requires-2 : tie.Need-refused-requires-2
 refused-requires-2 c κs = search needs
@@ -27,7 +27,7 @@ returns-2 : tie.Need-returns-2
 unfolding publicOf
 returns-2 c =
     let a = c .before .before .before .before .before .args in
-    (refuses (publicCode (length (a .buffer .now)) (a .key .now)) _ (a .buffer .now) (listsOf (a .queue)) Inval _ _ (c .refused2 .ensures .0) (ap listsOf (c .refused2 .ensures .1)) (public-long (length (a .buffer .now)) (a .key .now) (search needs) (search needs)) refl, λ h. c .refused2 .ensures .1)
+    refuses (publicCode (length (a .buffer .now)) (a .key .now)) (a .buffer .now) (listsOf (a .queue)) (a .queue) _ Inval _ (c .refused2 .ensures) (public-long (length (a .buffer .now)) (a .key .now) (search needs) (search needs)) refl
 
 copy-requires : tie.Need-copy-requires
 copy-requires c κs = search needs
@@ -35,14 +35,18 @@ copy-requires c κs = search needs
 answered-requires : tie.Need-answered-requires
 answered-requires c κs = search needs
 
+only-waiting-requires : tie.Need-only-waiting-requires
+only-waiting-requires c κs = search needs
+
 same-length : tie.Need-same-length
 same-length c = search needs
 
 returns-3 : tie.Need-returns-3
 unfolding publicOf
 returns-3 c =
-    let a = c .before .before .before .before .before .before .before .before .before .args in
-    (rw (c .answered .ensures, c .before .before .before .copy .ensures, bytes-in 0 (a .key .now) (a .buffer .now) (omega arith)) (accepts (publicCode (length (a .buffer .now)) (a .key .now)) _ (a .buffer .now) (listsOf (a .queue)) (public-ok (length (a .buffer .now)) (a .key .now) (c .before .before .before .before .before .before .if1 .left) (search needs))), λ h. absurd (not-refused _ (length (a .key .now)) 0 (c .answered .ensures) h))
+    let a = c .before .before .before .before .before .before .before .before .before .before .args in
+    rw (c .only-waiting .ensures, c .before .answered .ensures, c .before .before .before .before .copy .ensures, bytes-in 0 (a .key .now) (a .buffer .now) (omega arith))
+    (accepts (publicCode (length (a .buffer .now)) (a .key .now)) (a .buffer .now) (listsOf (a .queue)) (a .queue) (length (a .key .now)) 0 _ _ (public-ok (length (a .buffer .now)) (a .key .now) (c .before .before .before .before .before .before .before .if1 .left) (search needs)))
 
 pub public-key-spec : {M : Type 1} → statement M
 public-key-spec =
@@ -54,5 +58,6 @@ public-key-spec =
     returns-2
     copy-requires
     answered-requires
+    only-waiting-requires
     same-length
     returns-3)
