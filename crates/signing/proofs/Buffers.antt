@@ -15,7 +15,7 @@ use Rattle.queue.specs.declared.Queue.{Queue}
 use Rattle.queue.specs.declared.Queued.{Queued}
 use Rattle.queue.specs.Queue.{Signed, Lists, SigningStep, SigningExit, oldestResponse, signingExit, exitOf}
 use Rattle.responses.specs.Pull.{responseBytes, pullCode}
-use Rattle.responses.proofs.Laid.{length-splice}
+use Rattle.queue_image.proofs.Blocks.{length-splice}
 use Rattle.signing.specs.Signing.{publicCode, putBack}
 
 -- ---- a buffer of n bytes at an offset of s

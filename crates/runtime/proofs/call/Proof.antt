@@ -2,7 +2,7 @@ use mathlib.Core.Path.{_≡_, sym, ap, _∙_}
 use Rattle.codes.specs.declared.Work.the-variants as Work
 use Rattle.queue.specs.Queue.{SigningExit, listsOf, exitOf}
 use Rattle.token.specs.Token.{TokenStep}
-use Rattle.runtime.specs.Step.{CallExit, worldOf, kindOf, callOf, callBy, needsOf, replyCode, afterToken, afterSigning, queueBy, exitBy}
+use Rattle.runtime.specs.Step.{worldOf, kindOf, callOf, callBy, needsOf, replyCode, afterToken, afterSigning, queueBy, exitBy}
 use Rattle.runtime.specs.declared.Kind.the-variants.{PlatformToken, TokenSigning}
 use Rattle.runtime.specs.declared.Needs.the-variants.{Nothing, Session}
 use Rattle.runtime.specs.declared.Reply.the-variants.{Back}
@@ -48,7 +48,7 @@ returns : tie.Need-returns
 unfolding exitBy queueBy
 returns c =
     let a = c .before .before .before .before .before .before .before .before .before .before .before .before .before .before .before .args in
-    let n = sym (c .before .before .before .before .before .before .before .before .before .needs-of .ensures) ∙ c .before .before .before .before .before .before .before .enum-told .given .1 in
+    let n : needsOf (kindOf (a .id)) ≡ Nothing = sym (c .before .before .before .before .before .before .before .before .before .needs-of .ensures) ∙ c .before .before .before .before .before .before .before .enum-told .given .1 in
     rw n
     (ap (exitBy Nothing (a .queue))
     (ap (beside (a .session) (listsOf (a .queue))) (c .before .before .before .before .plain-call .ensures)
