@@ -21,7 +21,7 @@ unfolding responseWords
 response-wide r = rw (wordsOf-length 13 (r .signature))
 
 -- ---- the side of responses, and what it stands for
-pub held-taken : (n : ℕ) (l : List (List ℕ)) → map signedIn (take n (map heldIn l)) ≡ take n (map responseIn l)
+held-taken : (n : ℕ) (l : List (List ℕ)) → map signedIn (take n (map heldIn l)) ≡ take n (map responseIn l)
 unfolding responseIn
 held-taken zero l = refl
 held-taken (suc n) [] = refl

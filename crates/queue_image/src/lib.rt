@@ -7,7 +7,7 @@ use queue::Response;
 use queue::Responses;
 ghost use mathlib.Core.Path.{_≡_};
 ghost use Prim.Native.Nat.{min, _+_, _-_, _*_, _<_, _≤_};
-ghost use lib.ListN.{length, drop, getD, replicate};
+ghost use lib.ListN.{length, getD, replicate};
 ghost use Rattle.words.specs.Word.{part, wordsOf, splice};
 ghost use Rattle.queue.specs.Queue.{signedIn};
 ghost use Rattle.queue_image.specs.Image.{requestIn, heldIn, responseIn, listsIn, queueIn, requestWords, responseWords, oldestWords};

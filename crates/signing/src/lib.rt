@@ -83,19 +83,31 @@ fn gate_of(state: Record, len: usize, opcode: Opcode, pa: u64, size: u64, curve:
     Gate::Go(at)
 }
 
-// Key: writes the public key that the platform lends into the buffer; x1 is its length.
+// Key: writes the public key that the platform lends into the buffer; x1 is its length. The same whatever waits.
+fn put_key(buffer: &mut [u8], key: &[u8]) -> Answer
+    ensures { λ r. ⌜ ((q : Lists) → _≡_ {A = SigningStep} (record { answer = r; page = now (buffer .exit); queue = q }) (publicOf (now (buffer .entry)) q (now (key .entry)))) ⌝ }
+{
+    if key.len() == 0 {
+        return codes::answered(Code::Again, 0, 0);
+    }
+    if buffer.len() < key.len() {
+        return codes::answered(Code::Inval, 0, 0);
+    }
+    words::copy(buffer, key);
+    codes::answered(Code::Ok, key.len() as u64, 0)
+}
+
+// Key, with the queue by value.
 fn public_key(buffer: &mut [u8], queue: Queue, key: &[u8]) -> Queued
     ensures { λ r. ⌜ signingExit r (now (buffer .exit)) ≡ exitOf queue (publicOf (now (buffer .entry)) (listsOf queue) (now (key .entry))) ⌝ }
 {
-    if key.len() == 0 {
-        return queue::refused(Code::Again, queue);
+    let answer = put_key(buffer, key);
+    let code = answer.code;
+    if !codes::is_ok(code) {
+        return Queued { answer, queue };
     }
-    if buffer.len() < key.len() {
-        return queue::refused(Code::Inval, queue);
-    }
-    words::copy(buffer, key);
     Queued {
-        answer: codes::answered(Code::Ok, key.len() as u64, 0),
+        answer,
         queue: queue::only_waiting(queue),
     }
 }
@@ -134,21 +146,6 @@ pub fn token_signing(
         Gate::Stop(code) => queue::refused(code, queue),
         Gate::Go(at) => serve(page, at, size, queue, key, asked),
     }
-}
-
-// Key on its buffer alone, whatever waits.
-fn put_key(buffer: &mut [u8], key: &[u8]) -> Answer
-    ensures { λ r. ⌜ ((q : Lists) → _≡_ {A = SigningStep} (record { answer = r; page = now (buffer .exit); queue = q }) (publicOf (now (buffer .entry)) q (now (key .entry)))) ⌝ }
-{
-    if key.len() == 0 {
-        return codes::answered(Code::Again, 0, 0);
-    }
-    if buffer.len() < key.len() {
-        return codes::answered(Code::Inval, 0, 0);
-    }
-    words::copy(buffer, key);
-    let len = key.len() as u64;
-    codes::answered(Code::Ok, len, 0)
 }
 
 // A call on the queue's image whose buffer passed: push has the requests, pull the responses, key neither.
