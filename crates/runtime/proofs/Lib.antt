@@ -1,5 +1,5 @@
+pub mod Acts
 pub mod Plain
 pub mod Refused
 pub mod Sessions
 pub mod Order
-pub mod Acts
