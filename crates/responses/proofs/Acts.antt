@@ -68,7 +68,7 @@ pub sign-acts : (s : List ℕ) (r : Request) (rest : List Request) (done : List 
     }
 unfolding signOf signed signedBy oldestRequest answerOf x0Of extended
 sign-acts s r rest done lo hi m =
-    rw (sign-ok (record { requests = r ∷ rest; responses = done }) s (λ e. omega arith) hi (λ e. omega arith) m)
+    rw (sign-ok (record { requests = r ∷ rest; responses = done }) s (λ e. omega arith) hi (λ e. omega arith) m) refl
 
 -- and only then
 pub sign-only : (q : Lists) (s : List ℕ) → signOf q s .answer .code ≡ Ok → (1 ≤ length s) × (length s ≤ 104) × (1 ≤ length (q .requests)) × (length (q .responses) < 8)

@@ -1,7 +1,7 @@
+pub mod Acts
 pub mod Plain
 pub mod Lists
 pub mod Refused
 pub mod Sessions
 pub mod Order
-pub mod Acts
 pub mod Values

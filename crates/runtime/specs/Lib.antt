@@ -1,3 +1,3 @@
+pub mod Acts
 pub mod Step
 pub mod Run
-pub mod Acts
