@@ -20,7 +20,7 @@ div-result c = search needs
 
 returns : tie.Need-returns
 unfolding countOf
-returns c = rw (c .entry-words .ensures .0, c .before .part-of .ensures, c .before .before .place-in .ensures)
+returns c = rw (c .entry-words .ensures .0, c .before .part-of .ensures .0, c .before .before .place-in .ensures)
 
 pub count-in-spec : {M : Type 1} → statement M
 count-in-spec =
