@@ -18,7 +18,7 @@
  * - There is no lock. One image, page or table is used by one call at a time; different ones may be used at the same time.
  * - The first check that fails decides the answer. The checks stand below in their order.
  * - A refused runtime command puts its code into x0 and 0 into x1 and x2, and leaves page, table, session and queue as they were,
- *   whatever they hold.
+ *   whatever they hold. A refused list of granules differs: x1 is the number done, and these stay done.
  * - "Stack" bounds what a call was seen to write on x86-64, accepted or refused, with its return address and the words that it takes on the
  *   stack; the test rust/tests/stack.rs fails where a figure is exceeded. It is measured, not proved. All fit 1 KiB.
  * - The figure behind "AArch64" is static: the frame of the function and of all that it calls, in the archive that tools/aarch64 builds and
@@ -392,7 +392,7 @@ size_t pbeam_count(const uint8_t *page, size_t page_len, const uint64_t view[PBE
 /*
  * pbeam_word: one word of an entry.
  * Takes    page, view and section as pbeam_array_of; entry and word, both counted from 0 (PBEAM_BANK_BASE .., PBEAM_CONSOLE_BASE ..).
- * Answers  the word; 0 where there is no such entry or word.
+ * Answers  the word; 0 where there is no such entry or word, and for the flags of a console where the view's minor is 5 or above.
  * Leaves   page and view as they were.
  * Stack    192 bytes; AArch64 144
  */
@@ -410,8 +410,9 @@ uint64_t pbeam_word(const uint8_t *page, size_t page_len, const uint64_t view[PB
  *          is behind the text stays as it was. Of a page that is refused the text is one line, "refused -5", "refused -6" or
  *          "refused -7", with the code of pbeam_read.
  * Stack    832 bytes
- * A word is written as 0x and 16 lower-case hex digits, a console's name as its 8 bytes in order, 16 such digits without 0x: whatever the
- * page holds, the text can be printed.
+ * A word is written as 0x and 16 lower-case hex digits, a console's name as its 8 bytes in order, 16 such digits without 0x; the flags of a
+ * console are 0 on a page of minor 5 or above, as pbeam_word shows them. No byte of the page is written as it stands, so the text is safe
+ * to print.
  */
 size_t pbeam_listing(const uint8_t *page, size_t page_len, uint64_t base, uint64_t edition, uint8_t *text, size_t text_len);
 

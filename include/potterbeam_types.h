@@ -130,7 +130,7 @@ typedef struct {
     uint64_t name; /* pbeam_console_set_name, pbeam_console_text */
     uint64_t clk_in_hz;
     uint64_t baud_rate;
-    uint64_t flags; /* 0; shown as 0 on a page of a later minor, whatever it has there */
+    uint64_t flags; /* 0 to be written; read as 0 from a page of minor 5 or above, whatever the page has */
 } pbeam_console_t;
 
 /* Bytes that a call only reads. A NULL pointer is no byte, whatever the length. */

@@ -78,6 +78,7 @@ fn print_lent(input: &[u8], table: &mut [u8], k: usize, page: &mut [u8])
     let n = page.len();
     let first = 104 + t + k;
     let second = first + n;
+    let third = second + t;
     words::copy(table, words::part_of(input, Span { at: 104, len: t }));
     words::copy(page, words::part_of(input, Span { at: first, len: n }));
     let key = words::part_of(
@@ -96,13 +97,7 @@ fn print_lent(input: &[u8], table: &mut [u8], k: usize, page: &mut [u8])
     cases::print_same(
         b"page",
         page,
-        words::part_of(
-            input,
-            Span {
-                at: second + t,
-                len: n,
-            },
-        ),
+        words::part_of(input, Span { at: third, len: n }),
     );
 }
 
