@@ -1,20 +1,17 @@
 -- 02, E1: a list of granules among the commands. Assumes nothing.
-use Prim.Native.Nat.{ℕ, _≤_}
-use mathlib.Core.Path.{_≡_, refl, sym, ap, _∙_}
+use Prim.Native.Nat.{ℕ}
+use mathlib.Core.Path.{_≡_, refl, ap, _∙_}
 use mathlib.Core.List.{List, [], _∷_, map}
-use native.Mathlib.Omega.{arith}
-use lib.ListN.{length, take, length-map, length-take}
+use lib.ListN.{length, take, length-map}
 use lib.Seq.{length-take-le}
 use Rattle.boot.specs.declared.Record.{Record}
 use Rattle.codes.specs.Codes.{answerOf}
-use Rattle.codes.specs.declared.Work.the-variants.{Nothing}
-use Rattle.granules.specs.Granules.{GranuleTable, Moved, moveOf}
-use Rattle.granules.specs.Lists.{moveListOf, doneBy, tableBy, doneOf, codeBy}
+use Rattle.granules.specs.Granules.{moveOf}
+use Rattle.granules.specs.Lists.{tableBy, doneOf}
 use Rattle.granules.specs.declared.Granules.{Granules}
 use Rattle.granules.specs.declared.Direction.{Direction}
 use Rattle.granules.proofs.Done.{list-is, longest}
-use Rattle.runtime.specs.declared.Reply.the-variants.{Back}
-use Rattle.runtime.specs.Step.{World, withTable, Command, list, Step, kindOf, afterMove, callBy, callOf, stepOf, replyCode, refusal}
+use Rattle.runtime.specs.Step.{World, withTable, list, kindOf, afterMove, callBy, callOf, stepOf, replyCode, refusal}
 use Rattle.runtime.specs.Run.{nextOf, worldAfter, single, doneCalls}
 
 module _ (g : Granules) (r : Record) where

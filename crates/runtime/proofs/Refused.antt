@@ -1,10 +1,9 @@
 -- Demand 1: a refused command changes nothing, and returns zeros. Assumes nothing.
-use mathlib.Core.Path.{_≡_, refl, sym, ap}
+use mathlib.Core.Path.{_≡_, refl, ap}
 use mathlib.Core.Bool.{false, true≢false}
 use lib.ListN.{length}
 use Rattle.codes.specs.Codes.{isOk, answerOf}
 use Rattle.codes.specs.declared.Answer.{Answer}
-use Rattle.codes.specs.declared.Work.the-variants.{Nothing}
 use Rattle.granules.specs.Granules.{Moved}
 use Rattle.granules.specs.declared.Granules.{Granules}
 use Rattle.granules.specs.declared.Direction.{Direction}
@@ -21,8 +20,7 @@ use Rattle.responses.proofs.Signs.{sign-refused}
 use Rattle.signing.proofs.Signings.{signing-refused}
 use Rattle.runtime.specs.declared.Kind.{Kind}
 use Rattle.runtime.specs.declared.Kind.the-variants.{ForwardError, Delegate, Undelegate, RealmKey, PlatformToken, Features, TokenSigning, KeyUpdate, Unlisted}
-use Rattle.runtime.specs.declared.Reply.the-variants.{Back}
-use Rattle.runtime.specs.Step.{World, Call, Command, call, sign, list, Step, kindOf, back, afterMove, afterKey, afterToken, afterSigning, afterUpdate, afterSign, callBy, callOf, stepOf, replyCode, refusal}
+use Rattle.runtime.specs.Step.{World, Call, Command, call, sign, list, kindOf, back, afterMove, afterKey, afterToken, afterSigning, afterUpdate, afterSign, callBy, callOf, stepOf, replyCode, refusal}
 use Rattle.runtime.specs.Run.{worldAfter, doneCalls}
 use Rattle.runtime.proofs.Lists.{list-run}
 

@@ -1,10 +1,10 @@
 use Prim.Native.Nat.{_-_, _≤_}
 use mathlib.Core.Path.{_≡_, refl, sym, ap, _∙_}
 use native.Mathlib.Omega.{arith}
-use lib.ListN.{length, getD, drop}
+use lib.ListN.{length, drop}
 use borrow.Author.Tests.{not-true, not-false}
 use Rattle.codes.specs.Codes.{answerOf}
-use Rattle.granules.specs.Granules.{GranuleTable, Moved, moveAt, movedTo}
+use Rattle.granules.specs.Granules.{Moved, moveAt, movedTo}
 use Rattle.granules.specs.Lists.{listBy}
 use Rattle.granules.proofs.Moving.{move-length}
 use Rattle.granules.proofs.Lists.{list-last, list-more, list-stop, list-up, list-none, list-down}
