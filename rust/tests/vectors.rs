@@ -2,6 +2,7 @@
 //! third implementation made. The programs that print it from the proved library are crates/*_vectors/src/main.rt; a case's format
 //! is described at the top of each.
 
+use potterbeam_tests::images::{queue_of, queue_words};
 use potterbeam_tests::reference::boot::{boot_code, Kept, Record};
 use potterbeam_tests::reference::codes::{Answer, Outcome};
 use potterbeam_tests::reference::features::{features, forward, key_update};
@@ -11,7 +12,7 @@ use potterbeam_tests::reference::layout::word_at;
 use potterbeam_tests::reference::listing::{list, list_input};
 use potterbeam_tests::reference::queue::{Queue, Request, Response, Ring, PLACES};
 use potterbeam_tests::reference::reader::array;
-use potterbeam_tests::reference::runtime::{call, Call, Lent, Reply, State};
+use potterbeam_tests::reference::runtime::{call, Call, Lent, Reply, State, TOKEN_SIGN};
 use potterbeam_tests::reference::token::{challenge, Session, TokenCall};
 use potterbeam_tests::reference::writer::write;
 use std::fmt::Write;
@@ -371,6 +372,11 @@ struct Memory {
     table: Vec<u8>,
 }
 
+/// The queue holds what waits and nothing else: no count above eight, no length above 104.
+fn only_waiting(queue: &mut Queue) {
+    *queue = queue_of(&queue_words(queue));
+}
+
 fn operate(out: &mut String, input: &[u8], step: &[u8], state: &mut State, memory: &mut Memory) {
     let [x1, x2, x3, x4] = [16, 24, 32, 40].map(|at| word_at(step, at));
     match word_at(step, 0) {
@@ -387,9 +393,20 @@ fn operate(out: &mut String, input: &[u8], step: &[u8], state: &mut State, memor
             };
             let id = word_at(step, 8);
             let x = [x1, x2, x3, x4];
-            print_reply(out, call(state, &mut lent, Call { id, x }));
+            let reply = call(state, &mut lent, Call { id, x });
+            let accepted = matches!(&reply, Reply::Back { answer, .. } if answer.x0 == 0);
+            if accepted && id == TOKEN_SIGN {
+                only_waiting(&mut state.queue);
+            }
+            print_reply(out, reply);
         }
-        1 => print_reply(out, state.queue.sign(lent_by(input, step, 72)).into()),
+        1 => {
+            let outcome = state.queue.sign(lent_by(input, step, 72));
+            if outcome.is_ok() {
+                only_waiting(&mut state.queue);
+            }
+            print_reply(out, outcome.into());
+        }
         2 => {
             let (pa, size, c_size) = (x1, x2, x3);
             let call = TokenCall { pa, size, c_size };

@@ -178,6 +178,15 @@ def without_oldest(line):
     return Line(waiting(line)[1:], len(waiting(line)) - 1)
 
 
+def only_waiting(w):
+    """The queue holds what waits and nothing else: no count above eight, no length above 104."""
+    requests = waiting(w.requests)
+    responses = tuple(r._replace(length=len(signature_of(r)), signature=signature_of(r))
+                      for r in waiting(w.responses))
+    return w._replace(requests=Line(requests, len(requests)),
+                      responses=Line(responses, len(responses)))
+
+
 def send(w, op):
     """An accepted token call: x1, x2 and the state after it."""
     sent = w.session[1] if op.x3 == 0 else 0
@@ -207,8 +216,8 @@ def accepted(w, op):
     if op.kind == SIGN:
         oldest = waiting(w.requests)[0]
         response = Response(oldest.granule, oldest.ticket, len(op.signature), op.signature)
-        return 0, 0, None, w._replace(requests=without_oldest(w.requests),
-                                      responses=joined(w.responses, response))
+        return 0, 0, None, only_waiting(w._replace(requests=without_oldest(w.requests),
+                                                   responses=joined(w.responses, response)))
     if op.id in (DELEGATE, UNDELEGATE):
         i, byte = (op.x1 - w.g) // 4096, bytes([op.id == DELEGATE])
         return 0, 0, None, w._replace(table=w.table[:i] + byte + w.table[i + 1:])
@@ -219,7 +228,7 @@ def accepted(w, op):
         return x1, x2, None, after
     if op.id == SIGNING:
         x1, after = signing(w, op)
-        return x1, 0, None, after
+        return x1, 0, None, only_waiting(after)
     return (1, 0, None, w) if op.id == FEATURES else (0, 0, op.x1, w)
 
 

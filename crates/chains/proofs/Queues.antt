@@ -14,7 +14,7 @@ use Rattle.words.proofs.Lists.{words-cons}
 use Rattle.codes.specs.declared.Code.the-variants.{Ok}
 use Rattle.codes.proofs.Gates.{fails-ok, unless-ok}
 use Rattle.queue.specs.declared.Request.{Request}
-use Rattle.queue.specs.Queue.{Signed, Lists, oldestRequest}
+use Rattle.queue.specs.Queue.{Signed, Lists, noRequest, oldestRequest}
 use Rattle.requests.specs.Push.{requestOf, pushCode, pushed}
 use Rattle.responses.specs.Pull.{pulled}
 use Rattle.responses.specs.Sign.{signCode, signedBy, signed}
@@ -37,7 +37,7 @@ request-fits b a n =
 
 -- the response has the granule and the ticket of the oldest request
 oldest-words : (l : List Request) → Yes (each requestFits l) → Yes (areWords (oldestRequest l .granule ∷ oldestRequest l .ticket ∷ []))
-unfolding oldestRequest each requestFits areWords
+unfolding oldestRequest noRequest each requestFits areWords
 oldest-words [] h = words-cons 0 (0 ∷ []) (lit≤ tt) (words-cons 0 [] (lit≤ tt) refl)
 oldest-words (r ∷ l) h =
     let w = both-r _ _ (both-l _ _ (both-l _ _ h)) in

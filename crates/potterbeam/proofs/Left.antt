@@ -5,6 +5,8 @@ use mathlib.Core.List.{List, [], _∷_}
 use lib.ListN.{getD}
 use Rattle.codes.specs.Codes.{ifOk}
 use Rattle.codes.specs.declared.Answer.{Answer}
+use Rattle.codes.specs.declared.Code.{Code}
+use Rattle.codes.proofs.Gates.{if-ok-by}
 use Rattle.granules.specs.Granules.{Moved, movedTo}
 use Rattle.token.specs.Token.{TokenStep}
 use Rattle.token.specs.declared.Session.{Session}

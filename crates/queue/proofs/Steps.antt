@@ -1,26 +1,37 @@
--- What a signing call leaves, refused or not. Assumes nothing.
+-- What a signing call hands back, refused or not. Assumes nothing.
 use Prim.Native.Nat.{ℕ}
-use mathlib.Core.Path.{_≡_, sym, ap, _∙_}
-use mathlib.Core.Bool.{false, false≢true}
+use mathlib.Core.Path.{_≡_}
+use mathlib.Core.Bool.{false}
 use mathlib.Core.List.{List}
-use Rattle.codes.specs.Codes.{isOk, answerOf}
+use Rattle.codes.specs.Codes.{isOk, ifOk, answerOf}
 use Rattle.codes.specs.declared.Code.{Code}
 use Rattle.codes.specs.declared.Code.the-variants.{Ok}
-use Rattle.codes.specs.declared.Answer.{Answer}
-use Rattle.queue.specs.Queue.{Lists, SigningStep, queued}
+use Rattle.codes.proofs.Gates.{if-ok-by}
+use Rattle.queue.specs.declared.Queue.{Queue}
+use Rattle.queue.specs.declared.Queued.{Queued}
+use Rattle.queue.specs.Queue.{Lists, SigningStep, SigningExit, listsOf, queueHolding, queued, queueNext, signingExit, exitOf}
+use Rattle.queue.proofs.Holding.{lists-back}
 
--- a refusal
-pub refuses : (k : Code) (new : SigningStep) (page : List ℕ) (q : Lists) (c : Code) (a : Answer) (l : Lists) → a ≡ answerOf c 0 0 → l ≡ q → k ≡ c → isOk c ≡ false →
-    _≡_ {A = SigningStep} (record { answer = a; page = page; queue = l }) (queued k new page q)
-unfolding queued
-refuses k new page q c a l p r e h = rw (e, h, p, r)
+module _ (k : Code) (page : List ℕ) (lists : Lists) where
+  -- checks that pass hand on to what comes after them
+  pub goes-on : (new : SigningStep) → k ≡ Ok → new ≡ queued k new page lists
+  unfolding queued
+  goes-on new e = rw e
 
--- an OK
-pub accepts : (k : Code) (new : SigningStep) (page : List ℕ) (q : Lists) → k ≡ Ok → new ≡ queued k new page q
-unfolding queued
-accepts k new page q e = rw e
+module _ (k : Code) (page : List ℕ) (lists : Lists) (old : Queue) where
+  -- a refusal
+  pub refuses : (new : SigningStep) (c : Code) (r : Queued) → r ≡ record { answer = answerOf c 0 0; queue = old } → k ≡ c → isOk c ≡ false → signingExit r page ≡ exitOf old (queued k new page lists)
+  unfolding queued exitOf queueNext answerOf
+  refuses new c r p e h = rw (p, e, h) (rw h)
 
--- an answer of OK is no refusal
-pub not-refused : (a : Answer) (x1 x2 : ℕ) → a ≡ answerOf Ok x1 x2 → isOk (a .code) ≡ false → ⊥
-unfolding answerOf
-not-refused a x1 x2 e h = false≢true (sym h ∙ ap (λ (b : Answer). isOk (b .code)) e)
+  -- an OK
+  pub accepts : (x1 x2 : ℕ) (after : List ℕ) (next : Lists) → k ≡ Ok →
+      _≡_ {A = SigningExit} (record { answer = answerOf Ok x1 x2; page = after; queue = queueHolding next })
+      (exitOf old (queued k (record { answer = answerOf Ok x1 x2; page = after; queue = next }) page lists))
+  unfolding queued exitOf queueNext answerOf
+  accepts x1 x2 after next e = rw e
+
+-- what the queue stands for then
+pub next-lists : (k : Code) (new : Lists) (old : Queue) → listsOf (queueNext k new old) ≡ ifOk k new (listsOf old)
+unfolding queueNext
+next-lists k new old = if-ok-by (λ (q : Queue). listsOf q ≡ ifOk k new (listsOf old)) k (queueHolding new) old (λ h. rw h (lists-back new)) (λ h. rw h)

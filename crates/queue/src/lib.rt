@@ -4,10 +4,11 @@ use codes::Answer;
 use codes::Code;
 ghost use mathlib.Core.Path.{_≡_};
 ghost use mathlib.Core.List.{[]};
-ghost use Prim.Native.Nat.{_<_, _≤_};
+ghost use Prim.Native.Nat.{_≤_};
 ghost use lib.ListN.{length, drop, getD};
 ghost use Rattle.codes.specs.Codes.{answerOf};
-ghost use Rattle.queue.specs.Queue.{waiting, held, signedIn, listsOf, appended, noResponse, oldestRequest, waitingOf};
+ghost use Rattle.queue.specs.Queue.{waiting, held, ready, signedIn, listsOf, appended, noRequest, noResponse, oldestRequest, oldestOf};
+ghost use Rattle.queue.specs.Queue.{requestsHolding, responseHolding, responsesHolding, queueHolding};
 
 // A request to sign a realm's token. Algorithm and hash id are the numbers of their four bytes.
 pub struct Request {
@@ -53,7 +54,7 @@ pub enum Waiting {
     Some,
 }
 
-// The oldest request. Where none waits, the request beside it is any.
+// The oldest request; zeros where none waits.
 pub struct Oldest {
     pub waiting: Waiting,
     pub request: Request,
@@ -62,37 +63,48 @@ pub struct Oldest {
 impl Queue {
     // A queue with no request and no response.
     pub fn empty() -> Self
-        ensures { λ r. ⌜ listsOf r ≡ record { requests = []; responses = [] } ⌝ }
+        ensures { λ r. ⌜ r ≡ queueHolding (record { requests = []; responses = [] }) ⌝ }
     {
-        let request = Request {
-            algorithm: 0,
-            granule: 0,
-            ticket: 0,
-            hashid: 0,
-            hash: [0u8; 48],
-        };
-        let response = Response {
-            granule: 0,
-            ticket: 0,
-            len: 0,
-            signature: [0u8; 104],
-        };
         Queue {
             requests: Requests {
-                items: [request; 8],
+                items: [no_request(); 8],
                 count: 0,
             },
             responses: Responses {
-                items: [response; 8],
+                items: [no_response(); 8],
                 count: 0,
             },
         }
     }
 }
 
+// Zeros, as they stand in a place where none waits.
+fn no_request() -> Request
+    ensures { λ r. ⌜ r ≡ noRequest ⌝ }
+{
+    Request {
+        algorithm: 0,
+        granule: 0,
+        ticket: 0,
+        hashid: 0,
+        hash: [0u8; 48],
+    }
+}
+
+fn no_response() -> Response
+    ensures { λ r. ⌜ r ≡ noResponse ⌝ }
+{
+    Response {
+        granule: 0,
+        ticket: 0,
+        len: 0,
+        signature: [0u8; 104],
+    }
+}
+
 // A refused call on the queue: zeros in the other registers, and the very queue.
 pub fn refused(code: Code, queue: Queue) -> Queued
-    ensures { λ r. ⌜ (r .answer ≡ answerOf code 0 0) × (r .queue ≡ queue) ⌝ }
+    ensures { λ r. ⌜ r ≡ record { answer = answerOf code 0 0; queue = queue } ⌝ }
 {
     Queued {
         answer: codes::answered(code, 0, 0),
@@ -121,89 +133,6 @@ pub fn response_count(side: Responses) -> usize
     n
 }
 
-// The side with one more at its end; where eight wait, as it was.
-pub fn join_request(side: Requests, request: Request) -> Requests
-    ensures { λ r. ⌜ waiting r ≡ appended (waiting side) request ⌝ }
-{
-    let at = side.count;
-    if 8 <= at {
-        return side;
-    }
-    let mut items = side.items;
-    items[at] = request;
-    Requests {
-        items,
-        count: at + 1,
-    }
-}
-
-pub fn join_response(side: Responses, response: Response) -> Responses
-    ensures { λ r. ⌜ held r ≡ appended (held side) response ⌝ }
-{
-    let at = side.count;
-    if 8 <= at {
-        return side;
-    }
-    let mut items = side.items;
-    items[at] = response;
-    Responses {
-        items,
-        count: at + 1,
-    }
-}
-
-// The side without its oldest, the others moved up; where none waits, as it was.
-pub fn drop_request(side: Requests) -> Requests
-    ensures { λ r. ⌜ waiting r ≡ drop 1 (waiting side) ⌝ }
-{
-    let n = request_count(side);
-    if n == 0 {
-        return side;
-    }
-    let mut items = side.items;
-    for i in 0..7 {
-        let next = items[i + 1];
-        items[i] = next;
-    }
-    Requests {
-        items,
-        count: n - 1,
-    }
-}
-
-pub fn drop_response(side: Responses) -> Responses
-    ensures { λ r. ⌜ held r ≡ drop 1 (held side) ⌝ }
-{
-    let n = response_count(side);
-    if n == 0 {
-        return side;
-    }
-    let mut items = side.items;
-    for i in 0..7 {
-        let next = items[i + 1];
-        items[i] = next;
-    }
-    Responses {
-        items,
-        count: n - 1,
-    }
-}
-
-// The oldest of a side; any where none waits.
-pub fn first_request(side: Requests) -> Request
-    ensures { λ r. ⌜ (0 < length (waiting side) → r ≡ oldestRequest (waiting side)) ⌝ }
-{
-    let requests = side.items;
-    requests[0]
-}
-
-pub fn first_response(side: Responses) -> Response
-    ensures { λ r. ⌜ (0 < length (held side) → r ≡ getD (held side) 0 noResponse) ⌝ }
-{
-    let responses = side.items;
-    responses[0]
-}
-
 // How many bytes the signature of a response has; a length above 104 stands for 104.
 pub fn signature_len(response: Response) -> usize
     ensures { λ r. ⌜ (r ≡ length (signedIn response .signature)) × (r ≤ 104) ⌝ }
@@ -215,10 +144,128 @@ pub fn signature_len(response: Response) -> usize
     n
 }
 
+// A response with zeros behind its signature.
+fn only_signed(response: Response) -> Response
+    ensures { λ r. ⌜ r ≡ responseHolding (signedIn response) ⌝ }
+{
+    let n = signature_len(response);
+    let from = response.signature;
+    let mut signature = [0u8; 104];
+    words::copy(&mut signature, &from[..n]);
+    Response {
+        granule: response.granule,
+        ticket: response.ticket,
+        len: n,
+        signature,
+    }
+}
+
+// The side without its oldest, so many of them: the others moved up, and zeros in every place past them.
+pub fn requests_from(side: Requests, gone: usize) -> Requests
+    ensures { λ r. ⌜ r ≡ requestsHolding (drop gone (waiting side)) ⌝ }
+{
+    let n = request_count(side);
+    let from = side.items;
+    let request = no_request();
+    let mut items = [request; 8];
+    if n <= gone {
+        return Requests { items, count: 0 };
+    }
+    let count = n - gone;
+    for i in 0..count {
+        let next = from[gone + i];
+        items[i] = next;
+    }
+    Requests { items, count }
+}
+
+pub fn responses_from(side: Responses, gone: usize) -> Responses
+    ensures { λ r. ⌜ r ≡ responsesHolding (drop gone (ready side)) ⌝ }
+{
+    let n = response_count(side);
+    let from = side.items;
+    let response = no_response();
+    let mut items = [response; 8];
+    if n <= gone {
+        return Responses { items, count: 0 };
+    }
+    let count = n - gone;
+    for i in 0..count {
+        let next = from[gone + i];
+        items[i] = only_signed(next);
+    }
+    Responses { items, count }
+}
+
+// The queue with what waits, and zeros in every other place.
+pub fn only_waiting(queue: Queue) -> Queue
+    ensures { λ r. ⌜ r ≡ queueHolding (listsOf queue) ⌝ }
+{
+    let requests = queue.requests;
+    let responses = queue.responses;
+    Queue {
+        requests: requests_from(requests, 0),
+        responses: responses_from(responses, 0),
+    }
+}
+
+// The side with one more at its end, where fewer than eight wait; zeros in every place past them.
+pub fn join_request(side: Requests, request: Request) -> Requests
+    ensures { λ r. ⌜ r ≡ requestsHolding (appended (waiting side) request) ⌝ }
+{
+    let kept = requests_from(side, 0);
+    let n = kept.count;
+    if 8 <= n {
+        return kept;
+    }
+    let mut items = kept.items;
+    items[n] = request;
+    Requests {
+        items,
+        count: n + 1,
+    }
+}
+
+pub fn join_response(side: Responses, response: Response) -> Responses
+    ensures { λ r. ⌜ r ≡ responsesHolding (appended (ready side) (signedIn response)) ⌝ }
+{
+    let kept = responses_from(side, 0);
+    let n = kept.count;
+    if 8 <= n {
+        return kept;
+    }
+    let mut items = kept.items;
+    items[n] = only_signed(response);
+    Responses {
+        items,
+        count: n + 1,
+    }
+}
+
+// The oldest of a side; zeros where none waits.
+pub fn first_request(side: Requests) -> Request
+    ensures { λ r. ⌜ r ≡ oldestRequest (waiting side) ⌝ }
+{
+    if request_count(side) == 0 {
+        return no_request();
+    }
+    let requests = side.items;
+    requests[0]
+}
+
+pub fn first_response(side: Responses) -> Response
+    ensures { λ r. ⌜ r ≡ getD (held side) 0 noResponse ⌝ }
+{
+    if response_count(side) == 0 {
+        return no_response();
+    }
+    let responses = side.items;
+    responses[0]
+}
+
 // The oldest request, all its fields, or that there is none.
 pub fn oldest_request(queue: Queue) -> Oldest
-    ensures { λ r. ⌜ r .waiting ≡ waitingOf (listsOf queue .requests) ⌝ }
-    ensures { λ r. ⌜ (0 < length (listsOf queue .requests) → r .request ≡ oldestRequest (listsOf queue .requests)) ⌝ }
+    ensures { λ r. ⌜ r ≡ oldestOf (listsOf queue .requests) ⌝ }
 {
     let requests = queue.requests;
     let request = first_request(requests);

@@ -28,9 +28,9 @@ module _ (width : ℕ) where
   rows-taken (suc m) (suc n) v = rw (suc-min-suc, rows-taken m n (drop width v))
 
 -- ---- the two moves
-splice-length : (at : ℕ) (vs s : List ℕ) → at + length vs ≤ length s → length (splice at vs s) ≡ length s
+pub length-splice : (at : ℕ) (vs s : List ℕ) → at + length vs ≤ length s → length (splice at vs s) ≡ length s
 unfolding splice
-splice-length at vs s h = rw (length-append, length-append) (omega (arith, length-take at s, length-drop (at + length vs) s))
+length-splice at vs s h = rw (length-append, length-append) (omega (arith, length-take at s, length-drop (at + length vs) s))
 
 unfoldable pub blockJoined : ℕ → ℕ → List ℕ → List ℕ → List ℕ
 blockJoined width k row p = splice (width * k) row p
@@ -98,7 +98,7 @@ module _ {A : Type 0} (f : A → List ℕ) (width : ℕ) (wide : (x : A) → len
 module _ (width : ℕ) (p : List ℕ) (l : length p ≡ width * 8) where
   pub joined-length : (k : ℕ) (row : List ℕ) → length row ≡ width → k < 8 → length (blockJoined width k row p) ≡ width * 8
   unfolding blockJoined
-  joined-length k row e h = splice-length (width * k) row p (omega (arith, rows-within width (suc k) h, mul-more width k)) ∙ l
+  joined-length k row e h = length-splice (width * k) row p (omega (arith, rows-within width (suc k) h, mul-more width k)) ∙ l
 
   pub dropped-fits : (k : ℕ) → k ≤ 8 → length (drop width (take (width * k) p) ++ replicate width 0) ≤ length p
   dropped-fits k h =
@@ -107,4 +107,4 @@ module _ (width : ℕ) (p : List ℕ) (l : length p ≡ width * 8) where
 
   pub dropped-length : (k : ℕ) → k ≤ 8 → length (blockDropped width k p) ≡ width * 8
   unfolding blockDropped
-  dropped-length k h = splice-length 0 _ p (rw zero-add (dropped-fits k h)) ∙ l
+  dropped-length k h = length-splice 0 _ p (rw zero-add (dropped-fits k h)) ∙ l

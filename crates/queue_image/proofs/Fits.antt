@@ -1,5 +1,5 @@
--- Any image of words stands for a queue that fits. One more at the end of a side, and one less at its front, keep that it fits. The
--- image of a queue that fits is 210 words. Assumes nothing.
+-- Any image of words stands for a queue that fits. The row of what fits is words, and an image of words stays one under the moves of its
+-- sides. Assumes nothing.
 use Prim.Native.Nat.{ℕ, zero, suc, _+_, _-_, _*_, _/_, _%_, _^_, _≤_, _<_}
 use mathlib.Core.Path.{_≡_, refl, _∙_}
 use mathlib.Core.Bool.{Bool}
@@ -7,7 +7,7 @@ use mathlib.Core.List.{List, [], _∷_, _++_, map}
 use native.Mathlib.Nat.{pow-suc}
 use native.Mathlib.Omega.{arith}
 use lib.Dec.{ltb, lit≤}
-use lib.ListN.{length, take, drop, getD, replicate, length-append, length-take, length-drop, length-map}
+use lib.ListN.{length, take, drop, getD, replicate, length-take, length-drop, length-map}
 use lib.Seq.{length-take-le}
 use borrow.Author.Tests.{ltb-true, leb-true, lt-ltb, le-leb, eq-eqb}
 use Rattle.words.specs.Tests.{Yes}
@@ -15,11 +15,10 @@ use Rattle.words.specs.Word.{leOf, leBytes, part, numAt, wordsOf, bytesOf, areW
 use Rattle.words.proofs.Tests.{both-l, both-r, both-of}
 use Rattle.words.proofs.Lists.{bytesOf-length, words-cons, words-append}
 use Rattle.queue.specs.declared.Request.{Request}
-use Rattle.queue.specs.Queue.{Signed, Lists, signedIn}
-use Rattle.queue_image.specs.Image.{rows, requestIn, heldIn, responseIn, listsIn, requestWords, responseWords, flat, padded, queueWords, each, areBytes, requestFits, responseFits, eightFit, queueFits}
+use Rattle.queue.specs.Queue.{Signed, signedIn}
+use Rattle.queue_image.specs.Image.{rows, requestIn, heldIn, responseIn, listsIn, requestWords, responseWords, each, areBytes, requestFits, responseFits, eightFit, queueFits}
 use Rattle.queue_image.specs.Sides.{Side, rowsWaiting, rowsIn, rowJoined, rowDropped}
-use Rattle.queue_image.proofs.Rows.{rows-length, mul-more, flat-length, padded-length}
-use Rattle.queue_image.proofs.Sides.{request-wide, response-wide}
+use Rattle.queue_image.proofs.Rows.{rows-length, mul-more}
 use Rattle.queue_image.proofs.Inverse.{each-take, each-drop}
 
 -- ---- the bytes of words are bytes
@@ -100,16 +99,6 @@ image-fits w l h =
     (side-fits requestIn requestFits 10 request-fits (getD w 0 0) (drop 2 w) (omega (arith, length-drop 2 w)) (each-drop isWord 2 w e))
     (side-fits responseIn responseFits 16 response-fits (getD w 1 0) (drop 82 w) (omega (arith, length-drop 82 w)) (each-drop isWord 82 w e))
 
--- ---- a side that fits, with one more at its end where fewer than eight wait, and without the one at its front
-module _ {A : Type 0} (f : A → Bool) (l : List A) (h : Yes (eightFit f l)) where
-  pub side-joins : (x : A) → length l < 8 → Yes (f x) → Yes (eightFit f (l ++ (x ∷ [])))
-  unfolding eightFit each
-  side-joins x n y = both-of _ _ (le-leb (length (l ++ (x ∷ []))) 8 (omega (arith, length-append l (x ∷ [])))) (each-append f l (x ∷ []) (both-r _ _ h) (both-of _ _ y refl))
-
-  pub side-rests : Yes (eightFit f (drop 1 l))
-  unfolding eightFit
-  side-rests = both-of _ _ (le-leb (length (drop 1 l)) 8 (omega (arith, length-drop 1 l, leb-true (length l) 8 (both-l _ _ h)))) (each-drop f 1 l (both-r _ _ h))
-
 -- ---- what is read from bytes and written to them: a part of bytes is bytes, bytes over bytes are, and a number of n bytes is below 256 ^ n
 pub part-bytes : (off n : ℕ) (s : List ℕ) → Yes (areBytes s) → Yes (areBytes (part off n s))
 unfolding part areBytes
@@ -136,15 +125,11 @@ pub num-below : (n off : ℕ) (s : List ℕ) → Yes (areBytes s) → numAt n of
 unfolding numAt part areBytes
 num-below n off s h = number-below n (drop off s) (each-drop _ off s h)
 
--- ---- the image of a queue that fits is 210 words
+-- ---- the row of a request that fits, and of a response, is words
 zeros-words : (n : ℕ) → Yes (areWords (replicate n 0))
 unfolding areWords
 zeros-words zero = refl
 zeros-words (suc n) = both-of _ _ refl (zeros-words n)
-
-padded-words : (n : ℕ) (l : List ℕ) → Yes (areWords l) → Yes (areWords (padded n l))
-unfolding padded
-padded-words n l h = words-append l (replicate (n - length l) 0) h (zeros-words (n - length l))
 
 bytes-words : (n : ℕ) (bs : List ℕ) → Yes (areBytes bs) → Yes (areWords (wordsOf n bs))
 unfolding wordsOf areWords areBytes
@@ -161,35 +146,6 @@ response-words r h =
     let n : length (r .signature) ≤ 104 = leb-true _ _ (both-l _ _ (both-r _ _ h)) in
     words-append (r .granule ∷ r .ticket ∷ []) (length (r .signature) ∷ wordsOf 13 (r .signature)) (both-l _ _ h)
     (words-cons (length (r .signature)) (wordsOf 13 (r .signature)) (omega arith) (bytes-words 13 (r .signature) (both-r _ _ (both-r _ _ h))))
-
-module _ {A : Type 0} (g : A → List ℕ) (ok : A → Bool) (one : (x : A) → Yes (ok x) → Yes (areWords (g x))) where
-  flat-words : (l : List A) → Yes (each ok l) → Yes (areWords (flat g l))
-  unfolding flat each areWords
-  flat-words [] h = refl
-  flat-words (x ∷ l) h = words-append (g x) (flat g l) (one x (both-l _ _ h)) (flat-words l (both-r _ _ h))
-
-module _ (q : Lists) (h : Yes (queueFits q)) where
-  eights : (length (q .requests) ≤ 8) × (length (q .responses) ≤ 8)
-  unfolding queueFits eightFit
-  eights = (leb-true _ _ (both-l _ _ (both-l _ _ h)), leb-true _ _ (both-l _ _ (both-r _ _ h)))
-
-  pub queue-words : Yes (areWords (queueWords q))
-  unfolding queueWords queueFits eightFit
-  queue-words =
-      words-cons (length (q .requests)) _ (omega (arith, eights))
-      (words-cons (length (q .responses)) _ (omega (arith, eights))
-      (words-append (padded 80 (flat requestWords (q .requests))) (padded 128 (flat responseWords (q .responses)))
-      (padded-words 80 (flat requestWords (q .requests)) (flat-words requestWords requestFits request-words (q .requests) (both-r _ _ (both-l _ _ h))))
-      (padded-words 128 (flat responseWords (q .responses)) (flat-words responseWords responseFits response-words (q .responses) (both-r _ _ (both-r _ _ h))))))
-
-  pub queue-length : length (queueWords q) ≡ 210
-  unfolding queueWords
-  queue-length =
-      let a : List ℕ = flat requestWords (q .requests) in
-      let b : List ℕ = flat responseWords (q .responses) in
-      let p : length (padded 80 a) ≡ 80 = padded-length 80 a (omega (arith, eights, flat-length requestWords 10 request-wide (q .requests))) in
-      let r : length (padded 128 b) ≡ 128 = padded-length 128 b (omega (arith, eights, flat-length responseWords 16 response-wide (q .responses))) in
-      omega (arith, length-append (padded 80 a) (padded 128 b))
 
 -- ---- an image of words stays one under the moves of its sides
 each-words : (ws : List ℕ) → Yes (each isWord ws) → Yes (areWords ws)

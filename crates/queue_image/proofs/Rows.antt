@@ -44,9 +44,9 @@ module _ {A : Type 0} (f : List ℕ → A) (width start : ℕ) (w : List ℕ) (i
       let l : length (map f (rows width i (drop start w))) ≡ i = length-map (rows width i (drop start w)) f ∙ rows-length width i (drop start w) in
       rw (e, g, drop-cons items i d h, set-at _ _ _ _ _ l, add-one, rows-suc, map-append, drop-drop, append-snoc)
 
-  pub read-all : (i n : ℕ) (now : List A) → now ≡ readTo i → length items ≡ 8 → i ≡ 8 → take n now ≡ take n (map f (rows width 8 (drop start w)))
+  pub read-all : (i : ℕ) (now : List A) → now ≡ readTo i → length items ≡ 8 → i ≡ 8 → now ≡ map f (rows width 8 (drop start w))
   unfolding readTo
-  read-all i n now e h g = ap (take n) (e ∙ rw (g, drop-of-length-le items {i = 8} (omega arith)) (append-nil _))
+  read-all i now e h g = e ∙ rw (g, drop-of-length-le items {i = 8} (omega arith)) (append-nil _)
 
 -- ---- the fields of a row, where they lie
 pub row-first : (width at : ℕ) (w : List ℕ) → 0 < width → getD w at 0 ≡ getD (part at width w) 0 0

@@ -8,8 +8,8 @@ use Rattle.words.specs.Word.{part, splice}
 use Rattle.words.proofs.Read.{wordsOf-length}
 use Rattle.words.proofs.Store.{bytes-in, laid-all}
 use Rattle.queue.specs.declared.Request.{Request}
-use Rattle.queue.specs.Queue.{Signed, signedIn, oldestRequest}
-use Rattle.queue_image.specs.Image.{rows, requestIn, heldIn, responseIn, listsIn, requestWords, responseWords, oldestWords}
+use Rattle.queue.specs.Queue.{Signed, waiting, held, ready, signedIn, listsOf, oldestRequest}
+use Rattle.queue_image.specs.Image.{rows, requestIn, heldIn, responseIn, listsIn, queueIn, requestWords, responseWords, oldestWords}
 use Rattle.queue_image.proofs.Rows.{rows-length}
 
 pub request-wide : (r : Request) → length (requestWords r) ≡ 10
@@ -21,11 +21,16 @@ unfolding responseWords
 response-wide r = rw (wordsOf-length 13 (r .signature))
 
 -- ---- the side of responses, and what it stands for
-pub held-taken : (n : ℕ) (l : List (List ℕ)) → map signedIn (take n (map heldIn l)) ≡ take n (map responseIn l)
+held-taken : (n : ℕ) (l : List (List ℕ)) → map signedIn (take n (map heldIn l)) ≡ take n (map responseIn l)
 unfolding responseIn
 held-taken zero l = refl
 held-taken (suc n) [] = refl
 held-taken (suc n) (x ∷ l) = ap (λ t. signedIn (heldIn x) ∷ t) (held-taken n l)
+
+-- the queue that an image stands for, by value and as lists
+pub lists-in : (w : List ℕ) → listsOf (queueIn w) ≡ listsIn w
+unfolding listsOf waiting ready held queueIn listsIn
+lists-in w = rw held-taken
 
 -- ---- the oldest request
 pub oldest-first : (l : List Request) (r : Request) → 0 < length l → r ≡ oldestRequest l → splice 0 (requestWords r) (replicate 10 0) ≡ oldestWords l

@@ -10,6 +10,7 @@ use Rattle.words.specs.Tests.{both}
 use Rattle.words.specs.Word.{wordsOf, bytesOf, areWords}
 use Rattle.queue.specs.declared.Request.{Request}
 use Rattle.queue.specs.declared.Response.{Response}
+use Rattle.queue.specs.declared.Queue.{Queue}
 use Rattle.queue.specs.Queue.{Signed, Lists, signedIn}
 
 -- ---- the queue that an image stands for
@@ -42,6 +43,14 @@ listsIn w =
     record {
       requests = take (getD w 0 0) (map requestIn (rows 10 8 (drop 2 w)));
       responses = take (getD w 1 0) (map responseIn (rows 16 8 (drop 82 w)));
+    }
+
+-- the same by value: all eight places of either side, as the image has them
+unfoldable pub queueIn : List ℕ → Queue
+queueIn w =
+    record {
+      requests = record { items = map requestIn (rows 10 8 (drop 2 w)); count = getD w 0 0 };
+      responses = record { items = map heldIn (rows 16 8 (drop 82 w)); count = getD w 1 0 };
     }
 
 -- ---- the image of a queue: zeros past what waits, and past each signature

@@ -6,12 +6,11 @@ use queue::Requests;
 use queue::Response;
 use queue::Responses;
 ghost use mathlib.Core.Path.{_≡_};
-ghost use mathlib.Core.List.{map};
 ghost use Prim.Native.Nat.{min, _+_, _-_, _*_, _<_, _≤_};
-ghost use lib.ListN.{length, take, drop, getD, replicate};
+ghost use lib.ListN.{length, getD, replicate};
 ghost use Rattle.words.specs.Word.{part, wordsOf, splice};
-ghost use Rattle.queue.specs.Queue.{waiting, held, signedIn, listsOf};
-ghost use Rattle.queue_image.specs.Image.{rows, requestIn, heldIn, responseIn, listsIn, requestWords, responseWords, oldestWords};
+ghost use Rattle.queue.specs.Queue.{signedIn};
+ghost use Rattle.queue_image.specs.Image.{requestIn, heldIn, responseIn, listsIn, queueIn, requestWords, responseWords, oldestWords};
 ghost use Rattle.queue_image.specs.Sides.{requestSide, responseSide, rowAppended, rowDropped};
 
 // The request whose ten words begin at a place of an image.
@@ -52,7 +51,7 @@ fn response_in(image: &[u64], at: usize) -> Response
 // Either side of an image: all eight places are read, and the image's own number says how many of them count.
 fn requests_in(image: &[u64]) -> Requests
     requires { ⌜ length (now image) ≡ 210 ⌝ }
-    ensures { λ r. ⌜ waiting r ≡ take (getD (now (image .entry)) 0 0) (map requestIn (rows 10 8 (drop 2 (now (image .entry))))) ⌝ }
+    ensures { λ r. ⌜ r ≡ queueIn (now (image .entry)) .requests ⌝ }
 {
     let mut items = [request_in(image, 2); 8];
     for i in 0..8 {
@@ -66,7 +65,7 @@ fn requests_in(image: &[u64]) -> Requests
 
 fn responses_in(image: &[u64]) -> Responses
     requires { ⌜ length (now image) ≡ 210 ⌝ }
-    ensures { λ r. ⌜ held r ≡ take (getD (now (image .entry)) 1 0) (map heldIn (rows 16 8 (drop 82 (now (image .entry))))) ⌝ }
+    ensures { λ r. ⌜ r ≡ queueIn (now (image .entry)) .responses ⌝ }
 {
     let mut items = [response_in(image, 82); 8];
     for i in 0..8 {
@@ -79,7 +78,7 @@ fn responses_in(image: &[u64]) -> Responses
 }
 
 pub fn queue_of(image: &[u64; 210]) -> Queue
-    ensures { λ r. ⌜ listsOf r ≡ listsIn (now (image .entry)) ⌝ }
+    ensures { λ r. ⌜ r ≡ queueIn (now (image .entry)) ⌝ }
 {
     let requests = requests_in(image);
     let responses = responses_in(image);

@@ -5,11 +5,9 @@ use queue::Queue;
 use queue::Queued;
 use queue::Request;
 ghost use mathlib.Core.Path.{_≡_};
-ghost use mathlib.Core.Bool.{false};
 ghost use Prim.Native.Nat.{_≤_};
 ghost use lib.ListN.{length};
-ghost use Rattle.codes.specs.Codes.{isOk};
-ghost use Rattle.queue.specs.Queue.{Lists, signingExit, listsOf};
+ghost use Rattle.queue.specs.Queue.{Lists, listsOf, signingExit, exitOf};
 ghost use Rattle.queue_image.specs.Steps.{ImageStep};
 ghost use Rattle.requests.specs.Push.{requestOf, pushCode, pushOf};
 ghost use Rattle.requests.specs.OnImage.{pushOn};
@@ -30,42 +28,11 @@ fn request_of(buffer: &[u8]) -> Request
     }
 }
 
-// Push: the request in the buffer joins the end of those that wait.
-pub fn push(buffer: &[u8], queue: Queue) -> Queued
-    ensures { λ r. ⌜ signingExit r (now (buffer .entry)) ≡ pushOf (now (buffer .entry)) (listsOf queue) ⌝ }
-    ensures { λ r. ⌜ (isOk (r .answer .code) ≡ false → r .queue ≡ queue) ⌝ }
-{
-    if buffer.len() < 80 {
-        return queue::refused(Code::Inval, queue);
-    }
-    let request = request_of(buffer);
-    if request.algorithm != 0 {
-        return queue::refused(Code::Inval, queue);
-    }
-    if request.hashid != 1 {
-        return queue::refused(Code::Inval, queue);
-    }
-    let requests = queue.requests;
-    let responses = queue.responses;
-    if 8 <= queue::request_count(requests) {
-        return queue::refused(Code::Again, queue);
-    }
-    let more = queue::join_request(requests, request);
-    Queued {
-        answer: codes::answered(Code::Ok, 0, 0),
-        queue: Queue {
-            requests: more,
-            responses,
-        },
-    }
-}
-
 // The checks of a push, where so many requests wait.
 fn push_code(buffer: &[u8], waiting: usize) -> Code
     ensures { λ r. ⌜ ((q : Lists) → length (q .requests) ≡ waiting → r ≡ pushCode (now (buffer .entry)) q) ⌝ }
 {
-    let size = buffer.len();
-    if size < 80 {
+    if buffer.len() < 80 {
         return Code::Inval;
     }
     if words::half_at(buffer, 0) != 0 {
@@ -78,6 +45,27 @@ fn push_code(buffer: &[u8], waiting: usize) -> Code
         return Code::Again;
     }
     Code::Ok
+}
+
+// Push: the request in the buffer joins the end of those that wait.
+pub fn push(buffer: &[u8], queue: Queue) -> Queued
+    ensures { λ r. ⌜ signingExit r (now (buffer .entry)) ≡ exitOf queue (pushOf (now (buffer .entry)) (listsOf queue)) ⌝ }
+{
+    let requests = queue.requests;
+    let responses = queue.responses;
+    let checked = push_code(buffer, queue::request_count(requests));
+    if !codes::is_ok(checked) {
+        return queue::refused(checked, queue);
+    }
+    let more = queue::join_request(requests, request_of(buffer));
+    let same = queue::responses_from(responses, 0);
+    Queued {
+        answer: codes::answered(Code::Ok, 0, 0),
+        queue: Queue {
+            requests: more,
+            responses: same,
+        },
+    }
 }
 
 // Push on the queue's image: all checks come before the first word is copied, and only the requests' side is touched.

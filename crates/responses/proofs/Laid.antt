@@ -4,23 +4,15 @@ use mathlib.Core.Path.{_≡_, ap, _∙_}
 use mathlib.Core.List.{List, _++_}
 use native.Mathlib.Decide.{decLe}
 use native.Mathlib.Omega.{arith}
-use lib.ListN.{length, take, drop, length-append, length-drop}
-use lib.Seq.{length-take-le}
+use lib.ListN.{length, take, drop, length-append}
 use Rattle.words.specs.Word.{leBytes, splice, laid}
 use Rattle.words.proofs.Read.{leBytes-length}
 use Rattle.words.proofs.Store.{splice-splice, bytes-in, bytes-out, lent-back}
 use Rattle.queue.specs.declared.Response.{Response}
 use Rattle.queue.specs.Queue.{signedIn}
 use Rattle.queue.proofs.Sides.{taken-all}
+use Rattle.queue_image.proofs.Blocks.{length-splice}
 use Rattle.responses.specs.Pull.{responseBytes}
-
-pub length-splice : (off : ℕ) (vs s : List ℕ) → off + length vs ≤ length s → length (splice off vs s) ≡ length s
-unfolding splice
-length-splice off vs s h =
-    let t : length (take off s) ≡ off = length-take-le off s (omega arith) in
-    let d : length (drop (off + length vs) s) ≡ length s - (off + length vs) = length-drop (off + length vs) s in
-    let e : length (take off s ++ vs) ≡ length (take off s) + length vs = length-append (take off s) vs in
-    length-append (take off s ++ vs) (drop (off + length vs) s) ∙ omega arith
 
 length-laid : (off : ℕ) (vs s : List ℕ) → length (laid off vs s) ≡ length s
 length-laid off vs s = go (decLe (off + length vs) (length s))

@@ -1,24 +1,17 @@
 -- Responses that wait, and pull, return by return. Assumes nothing.
 use Prim.Native.Nat.{ℕ, _+_, _<_, _≤_}
 use mathlib.Core.Path.{_≡_, refl, sym, ap, _∙_}
-use mathlib.Core.List.{List, [], _∷_, _++_, map}
-use lib.ListN.{length, drop, getD, length-map}
+use mathlib.Core.Bool.{false, true≢false}
+use mathlib.Core.List.{List, [], _∷_, map}
+use lib.ListN.{length, getD, length-map}
 use borrow.Author.Tests.{eq-eqb, ne-eqb, le-ltb, lt-ltb}
-use Rattle.codes.specs.Codes.{fails}
+use Rattle.codes.specs.Codes.{fails, isOk, answerOf}
+use Rattle.codes.proofs.Gates.{if-ok-by}
 use Rattle.codes.specs.declared.Code.the-variants.{Ok, Inval, Again}
 use Rattle.queue.specs.declared.Response.{Response}
 use Rattle.queue.specs.declared.Responses.{Responses}
-use Rattle.queue.specs.Queue.{Signed, Lists, held, ready, signedIn, appended, noResponse, oldestResponse}
-use Rattle.queue.proofs.Sides.{joined-room}
-use Rattle.responses.specs.Pull.{pullCode}
-
-map-snoc : {A B : Type 0} (f : A → B) (l : List A) (x : A) → map f (l ++ (x ∷ [])) ≡ map f l ++ (f x ∷ [])
-map-snoc f [] x = refl
-map-snoc f (y ∷ l) x = ap (λ r. f y ∷ r) (map-snoc f l x)
-
-map-rest : {A B : Type 0} (f : A → B) (l : List A) → map f (drop 1 l) ≡ drop 1 (map f l)
-map-rest f [] = refl
-map-rest f (y ∷ l) = refl
+use Rattle.queue.specs.Queue.{Signed, Lists, SigningStep, held, ready, signedIn, noResponse, oldestResponse, queued}
+use Rattle.responses.specs.Pull.{pullCode, pullOf}
 
 -- ---- the side of responses, and what it stands for
 pub ready-length : (s : Responses) → length (ready s) ≡ length (held s)
@@ -30,16 +23,8 @@ map-first f [] d = refl
 map-first f (x ∷ l) d = refl
 
 pub ready-first : (s : Responses) (r : Response) → r ≡ getD (held s) 0 noResponse → oldestResponse (ready s) ≡ signedIn r
-unfolding ready oldestResponse signedIn
+unfolding ready oldestResponse signedIn noResponse
 ready-first s r h = map-first signedIn (held s) noResponse ∙ ap signedIn (sym h)
-
-pub ready-rest : (s t : Responses) → held t ≡ drop 1 (held s) → ready t ≡ drop 1 (ready s)
-unfolding ready
-ready-rest s t h = ap (map signedIn) h ∙ map-rest signedIn (held s)
-
-pub ready-join : (s t : Responses) (r : Response) → held t ≡ appended (held s) r → length (held s) < 8 → ready t ≡ ready s ++ (signedIn r ∷ [])
-unfolding ready
-ready-join s t r h k = ap (map signedIn) (h ∙ joined-room (held s) r k) ∙ map-snoc signedIn (held s) r
 
 -- ---- pull
 module _ (size : ℕ) (q : Lists) where
@@ -55,3 +40,10 @@ module _ (size : ℕ) (q : Lists) where
     pub pull-ok : 18 + length (r .signature) ≤ size → pullCode size q ≡ Ok
     unfolding pullCode fails
     pull-ok h = rw (ne-eqb (length (q .responses)) 0 n, e, le-ltb size (18 + length (r .signature)) h)
+
+-- "response kept": a refused pull leaves the buffer and both sides as they were, with zeros in the other registers
+pub pull-refused : (b : List ℕ) (q : Lists) → isOk (pullOf b q .answer .code) ≡ false → pullOf b q ≡ record { answer = answerOf (pullOf b q .answer .code) 0 0; page = b; queue = q }
+unfolding pullOf queued answerOf
+pull-refused b q =
+    if-ok-by (λ (s : SigningStep). isOk (s .answer .code) ≡ false → s ≡ record { answer = answerOf (s .answer .code) 0 0; page = b; queue = q }) (pullCode (length b) q) _ _
+    (λ e h. absurd (true≢false h)) (λ e h. refl)

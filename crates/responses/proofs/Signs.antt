@@ -8,18 +8,19 @@ use borrow.Author.Tests.{eq-eqb, ne-eqb, le-ltb, lt-ltb, le-leb, lt-leb}
 use Rattle.codes.specs.Codes.{fails, isOk, answerOf}
 use Rattle.codes.specs.declared.Code.{Code}
 use Rattle.codes.specs.declared.Code.the-variants.{Ok, Inval, Again}
-use Rattle.codes.specs.declared.Answer.{Answer}
-use Rattle.queue.specs.Queue.{Lists}
-use Rattle.responses.specs.Sign.{signCode, signed, SignStep, signOf}
+use Rattle.queue.specs.declared.Queue.{Queue}
+use Rattle.queue.specs.declared.Queued.{Queued}
+use Rattle.queue.specs.Queue.{Lists, queueHolding, queueNext}
+use Rattle.responses.specs.Sign.{signCode, signed, signOf, signExit}
 
-pub sign-refuses : (q : Lists) (s : List ℕ) (c : Code) (a : Answer) (l : Lists) → a ≡ answerOf c 0 0 → l ≡ q → signCode q s ≡ c → isOk c ≡ false →
-    _≡_ {A = SignStep} (record { answer = a; queue = l }) (signOf q s)
-unfolding signOf
-sign-refuses q s c a l p r e h = rw (e, h, p, r)
+module _ (q : Lists) (s : List ℕ) (old : Queue) where
+  pub sign-refuses : (c : Code) (r : Queued) → r ≡ record { answer = answerOf c 0 0; queue = old } → signCode q s ≡ c → isOk c ≡ false → r ≡ signExit old (signOf q s)
+  unfolding signOf signExit queueNext answerOf
+  sign-refuses c r p e h = rw (p, e, h)
 
-pub sign-accepts : (q : Lists) (s : List ℕ) (a : Answer) (l : Lists) → a ≡ answerOf Ok 0 0 → l ≡ signed q s → signCode q s ≡ Ok → _≡_ {A = SignStep} (record { answer = a; queue = l }) (signOf q s)
-unfolding signOf
-sign-accepts q s a l p r e = rw (e, p, r)
+  pub sign-accepts : signCode q s ≡ Ok → _≡_ {A = Queued} (record { answer = answerOf Ok 0 0; queue = queueHolding (signed q s) }) (signExit old (signOf q s))
+  unfolding signOf signExit queueNext answerOf
+  sign-accepts e = rw e
 
 module _ (q : Lists) (s : List ℕ) where
   pub sign-empty : length s ≡ 0 → signCode q s ≡ Inval

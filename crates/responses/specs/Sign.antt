@@ -8,7 +8,9 @@ use Rattle.codes.specs.declared.Code.{Code}
 use Rattle.codes.specs.declared.Code.the-variants.{Ok, Inval, Again}
 use Rattle.codes.specs.declared.Answer.{Answer}
 use Rattle.queue.specs.declared.Request.{Request}
-use Rattle.queue.specs.Queue.{Signed, Lists, oldestRequest}
+use Rattle.queue.specs.declared.Queue.{Queue}
+use Rattle.queue.specs.declared.Queued.{Queued}
+use Rattle.queue.specs.Queue.{Signed, Lists, oldestRequest, queueNext}
 
 -- "signature length not 1 to 104 INVAL; no request AGAIN; eight responses waiting AGAIN;"
 unfoldable pub signCode : Lists → List ℕ → Code
@@ -34,3 +36,7 @@ pub record SignStep : Type 0 where
 
 unfoldable pub signOf : Lists → List ℕ → SignStep
 signOf q s = record { answer = answerOf (signCode q s) 0 0; queue = ifOk (signCode q s) (signed q s) q }
+
+-- the step by value: the answer, and the queue after it
+unfoldable pub signExit : Queue → SignStep → Queued
+signExit old s = record { answer = s .answer; queue = queueNext (s .answer .code) (s .queue) old }

@@ -5,15 +5,13 @@ use queue::Queue;
 use queue::Queued;
 use queue::Response;
 ghost use mathlib.Core.Path.{_≡_};
-ghost use mathlib.Core.Bool.{false};
 ghost use Prim.Native.Nat.{_+_, _≤_};
 ghost use lib.ListN.{length};
 ghost use Rattle.words.specs.Word.{splice};
-ghost use Rattle.codes.specs.Codes.{isOk};
-ghost use Rattle.queue.specs.Queue.{Lists, signingExit, signedIn, listsOf, oldestResponse};
+ghost use Rattle.queue.specs.Queue.{Lists, signedIn, listsOf, oldestResponse, signingExit, exitOf};
 ghost use Rattle.queue_image.specs.Steps.{ImageStep};
 ghost use Rattle.responses.specs.Pull.{responseBytes, pullCode, pullOf};
-ghost use Rattle.responses.specs.Sign.{signCode, SignStep, signOf};
+ghost use Rattle.responses.specs.Sign.{signCode, signOf, signExit};
 ghost use Rattle.responses.specs.OnImage.{pullOn, SignImage, signOn};
 
 // Writes a response at the start of a buffer that holds it.
@@ -29,26 +27,39 @@ fn put_response(buffer: &mut [u8], response: Response)
     words::copy(&mut buffer[18..], &signature[..n]);
 }
 
+// The checks of a pull into so many bytes, where so many responses wait and the signature of the oldest has so many bytes.
+fn pull_code(size: usize, waiting: usize, len: usize) -> Code
+    requires { ⌜ len ≤ 104 ⌝ }
+    ensures { λ r. ⌜ ((q : Lists) → length (q .responses) ≡ waiting → ((length (q .responses) ≡ 0 → ⊥) → length (oldestResponse (q .responses) .signature) ≡ len) → r ≡ pullCode size q) ⌝ }
+{
+    if waiting == 0 {
+        return Code::Again;
+    }
+    if size < 18 + len {
+        return Code::Inval;
+    }
+    Code::Ok
+}
+
 // Pull: writes the oldest response into the buffer and drops it; one that does not fit is kept.
 pub fn pull(buffer: &mut [u8], queue: Queue) -> Queued
-    ensures { λ r. ⌜ signingExit r (now (buffer .exit)) ≡ pullOf (now (buffer .entry)) (listsOf queue) ⌝ }
-    ensures { λ r. ⌜ (isOk (r .answer .code) ≡ false → r .queue ≡ queue) ⌝ }
+    ensures { λ r. ⌜ signingExit r (now (buffer .exit)) ≡ exitOf queue (pullOf (now (buffer .entry)) (listsOf queue)) ⌝ }
 {
     let requests = queue.requests;
     let responses = queue.responses;
-    if queue::response_count(responses) == 0 {
-        return queue::refused(Code::Again, queue);
-    }
     let response = queue::first_response(responses);
-    if buffer.len() < 18 + queue::signature_len(response) {
-        return queue::refused(Code::Inval, queue);
+    let len = queue::signature_len(response);
+    let checked = pull_code(buffer.len(), queue::response_count(responses), len);
+    if !codes::is_ok(checked) {
+        return queue::refused(checked, queue);
     }
     put_response(buffer, response);
-    let rest = queue::drop_response(responses);
+    let same = queue::requests_from(requests, 0);
+    let rest = queue::responses_from(responses, 1);
     Queued {
         answer: codes::answered(Code::Ok, 0, 0),
         queue: Queue {
-            requests,
+            requests: same,
             responses: rest,
         },
     }
@@ -69,69 +80,6 @@ fn response_of(granule: u64, ticket: u64, signature: &[u8]) -> Response
     }
 }
 
-// The signer's own step: the oldest request becomes the newest response, with the signature that the signer lends.
-pub fn sign(queue: Queue, signature: &[u8]) -> Queued
-    ensures { λ r. ⌜ _≡_ {A = SignStep} (record { answer = r .answer; queue = listsOf (r .queue) }) (signOf (listsOf queue) (now (signature .entry))) ⌝ }
-    ensures { λ r. ⌜ (isOk (r .answer .code) ≡ false → r .queue ≡ queue) ⌝ }
-{
-    if signature.len() == 0 {
-        return queue::refused(Code::Inval, queue);
-    }
-    if 104 < signature.len() {
-        return queue::refused(Code::Inval, queue);
-    }
-    let requests = queue.requests;
-    let responses = queue.responses;
-    if queue::request_count(requests) == 0 {
-        return queue::refused(Code::Again, queue);
-    }
-    if 8 <= queue::response_count(responses) {
-        return queue::refused(Code::Again, queue);
-    }
-    let first = queue::first_request(requests);
-    let rest = queue::drop_request(requests);
-    let more = queue::join_response(
-        responses,
-        response_of(first.granule, first.ticket, signature),
-    );
-    Queued {
-        answer: codes::answered(Code::Ok, 0, 0),
-        queue: Queue {
-            requests: rest,
-            responses: more,
-        },
-    }
-}
-
-// The checks of a pull into so many bytes, where so many responses wait and the signature of the oldest has so many bytes.
-fn pull_code(size: usize, waiting: usize, len: usize) -> Code
-    requires { ⌜ len ≤ 104 ⌝ }
-    ensures { λ r. ⌜ ((q : Lists) → length (q .responses) ≡ waiting → ((length (q .responses) ≡ 0 → ⊥) → length (oldestResponse (q .responses) .signature) ≡ len) → r ≡ pullCode size q) ⌝ }
-{
-    if waiting == 0 {
-        return Code::Again;
-    }
-    if size < 18 + len {
-        return Code::Inval;
-    }
-    Code::Ok
-}
-
-// Pull on the queue's image: all checks come before the first word is copied, and only the responses' side is touched.
-pub fn pull_on(buffer: &mut [u8], image: &mut [u64; 210]) -> Answer
-    ensures { λ r. ⌜ _≡_ {A = ImageStep} (record { answer = r; page = now (buffer .exit); image = now (image .exit) }) (pullOn (now (buffer .entry)) (now (image .entry))) ⌝ }
-{
-    let waiting = queue_image::responses_waiting(image);
-    let len = queue_image::front_len(image);
-    let code = pull_code(buffer.len(), waiting, len);
-    if !codes::is_ok(code) {
-        return codes::answered(code, 0, 0);
-    }
-    put_response(buffer, queue_image::front_response(image));
-    queue_image::remove_response(image);
-    codes::answered(Code::Ok, 0, 0)
-}
-
 // The checks of the signer's step, where so many requests and responses wait.
 fn sign_code(signature: &[u8], requests: usize, responses: usize) -> Code
     ensures { λ r. ⌜ ((q : Lists) → length (q .requests) ≡ requests → length (q .responses) ≡ responses → r ≡ signCode q (now (signature .entry))) ⌝ }
@@ -149,6 +97,47 @@ fn sign_code(signature: &[u8], requests: usize, responses: usize) -> Code
         return Code::Again;
     }
     Code::Ok
+}
+
+// The signer's own step: the oldest request becomes the newest response, with the signature that the signer lends.
+pub fn sign(queue: Queue, signature: &[u8]) -> Queued
+    ensures { λ r. ⌜ r ≡ signExit queue (signOf (listsOf queue) (now (signature .entry))) ⌝ }
+{
+    let requests = queue.requests;
+    let responses = queue.responses;
+    let waiting = queue::request_count(requests);
+    let checked = sign_code(signature, waiting, queue::response_count(responses));
+    if !codes::is_ok(checked) {
+        return queue::refused(checked, queue);
+    }
+    let first = queue::first_request(requests);
+    let rest = queue::requests_from(requests, 1);
+    let more = queue::join_response(
+        responses,
+        response_of(first.granule, first.ticket, signature),
+    );
+    Queued {
+        answer: codes::answered(Code::Ok, 0, 0),
+        queue: Queue {
+            requests: rest,
+            responses: more,
+        },
+    }
+}
+
+// Pull on the queue's image: all checks come before the first word is copied, and only the responses' side is touched.
+pub fn pull_on(buffer: &mut [u8], image: &mut [u64; 210]) -> Answer
+    ensures { λ r. ⌜ _≡_ {A = ImageStep} (record { answer = r; page = now (buffer .exit); image = now (image .exit) }) (pullOn (now (buffer .entry)) (now (image .entry))) ⌝ }
+{
+    let waiting = queue_image::responses_waiting(image);
+    let len = queue_image::front_len(image);
+    let code = pull_code(buffer.len(), waiting, len);
+    if !codes::is_ok(code) {
+        return codes::answered(code, 0, 0);
+    }
+    put_response(buffer, queue_image::front_response(image));
+    queue_image::remove_response(image);
+    codes::answered(Code::Ok, 0, 0)
 }
 
 // The signer's own step on the queue's image.

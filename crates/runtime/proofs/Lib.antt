@@ -2,3 +2,4 @@ pub mod Plain
 pub mod Refused
 pub mod Sessions
 pub mod Order
+pub mod Values

@@ -18,7 +18,8 @@ use Rattle.token.specs.declared.Session.{Session}
 use Rattle.token.specs.declared.Session.the-variants.{Idle}
 use Rattle.features.specs.Features.{featuresOf, updateOf, forwardOf}
 use Rattle.features.specs.declared.Updated.{Updated}
-use Rattle.queue.specs.Queue.{Lists, SigningStep}
+use Rattle.queue.specs.declared.Queue.{Queue}
+use Rattle.queue.specs.Queue.{Lists, SigningStep, queueNext}
 use Rattle.responses.specs.Sign.{SignStep, signOf}
 use Rattle.signing.specs.Signing.{signingOf}
 use Rattle.runtime.specs.declared.Kind.{Kind}
@@ -26,6 +27,7 @@ use Rattle.runtime.specs.declared.Kind.the-variants.{ForwardError, Deleg
 use Rattle.runtime.specs.declared.Needs.{Needs}
 use Rattle.runtime.specs.declared.Reply.{Reply}
 use Rattle.runtime.specs.declared.Reply.the-variants.{Forward, Back}
+use Rattle.runtime.specs.declared.Stepped.{Stepped}
 
 -- all that a command may change. The boot record and the granule record are not among it.
 pub record World : Type 0 where
@@ -173,3 +175,30 @@ plainBy Needs.Queue k g w c = back (answerOf Unk 0 0) w
 
 unfoldable pub plainOf : Granules → World → Call → Step
 plainOf g w c = plainBy (needsOf (kindOf (c .id))) (kindOf (c .id)) g w c
+
+-- ---- a call by value: the answer, page and table at exit, and the states handed back
+pub record CallExit : Type 0 where
+  pub reply : Reply
+  pub page : List ℕ
+  pub table : List ℕ
+  pub session : Session
+  pub queue : Queue
+
+abbrev pub callExit : Stepped → List ℕ → List ℕ → CallExit
+callExit r page table = record { reply = r .reply; page = page; table = table; session = r .session; queue = r .queue }
+
+-- a command that does not use the queue hands it back as it was
+unfoldable pub queueBy : Needs → Code → Lists → Queue → Queue
+queueBy Needs.Nothing k new old = old
+queueBy Needs.Session k new old = old
+queueBy Needs.Queue k new old = queueNext k new old
+
+unfoldable pub exitBy : Needs → Queue → Step → CallExit
+exitBy n old s =
+    record {
+      reply = s .reply;
+      page = s .next .page;
+      table = s .next .table .bytes;
+      session = s .next .session;
+      queue = queueBy n (replyCode (s .reply)) (s .next .queue) old;
+    }

@@ -10,10 +10,8 @@ use queue::Queued;
 use token::Session;
 use token::Tokened;
 ghost use mathlib.Core.Path.{_≡_};
-ghost use mathlib.Core.Bool.{false};
-ghost use Rattle.codes.specs.Codes.{isOk};
 ghost use Rattle.queue.specs.Queue.{listsOf};
-ghost use Rattle.runtime.specs.Step.{Step, worldOf, plainWorld, callWith, plainCall, kindOf, needsOf, plainOf, callOf, replyCode};
+ghost use Rattle.runtime.specs.Step.{Step, worldOf, plainWorld, callWith, plainCall, kindOf, needsOf, plainOf, callOf, callExit, exitBy};
 
 // A command, by its function id.
 pub enum Kind {
@@ -177,10 +175,9 @@ pub fn call(
     public: &[u8],
     width: u64,
 ) -> Stepped
-    ensures { λ r. ⌜ _≡_ {A = Step} (record { reply = r .reply; next = worldOf (now (page .exit)) (now (table .exit)) (r .session) (listsOf (r .queue)) })
+    ensures { λ r. ⌜ callExit r (now (page .exit)) (now (table .exit)) ≡ exitBy (needsOf (kindOf id)) queue
         (callOf granules (worldOf (now (page .entry)) (now (table .entry)) session (listsOf queue))
         (callWith state id x1 x2 x3 x4 busy (now (key .entry)) (now (token .entry)) (now (public .entry)) width)) ⌝ }
-    ensures { λ r. ⌜ (isOk (replyCode (r .reply)) ≡ false → r .queue ≡ queue) ⌝ }
 {
     match needs_of(id) {
         Needs::Nothing => {

@@ -11,10 +11,11 @@ use Rattle.words.proofs.Read.{leBytes-length}
 use Rattle.words.proofs.Store.{part-back, buffer-back}
 use Rattle.codes.proofs.Gates.{fails-ok}
 use Rattle.codes.specs.declared.Code.the-variants.{Ok}
-use Rattle.codes.specs.declared.Answer.{Answer}
-use Rattle.queue.specs.Queue.{Signed, Lists, SigningStep, oldestResponse}
+use Rattle.queue.specs.declared.Queue.{Queue}
+use Rattle.queue.specs.declared.Queued.{Queued}
+use Rattle.queue.specs.Queue.{Signed, Lists, SigningStep, SigningExit, oldestResponse, signingExit, exitOf}
 use Rattle.responses.specs.Pull.{responseBytes, pullCode}
-use Rattle.responses.proofs.Laid.{length-splice}
+use Rattle.queue_image.proofs.Blocks.{length-splice}
 use Rattle.signing.specs.Signing.{publicCode, putBack}
 
 -- ---- a buffer of n bytes at an offset of s
@@ -42,15 +43,13 @@ module _ (at n : ℕ) (s : List ℕ) where
         sym (back-at (splice 0 vs (part at n s)) l) ∙ buffer-back at n vs s room h
 
 -- a call on a lent buffer, which is c at exit; one that only reads it
-pub put-back : (at n : ℕ) (page : List ℕ) (a : Answer) (c : List ℕ) (q : Lists) (s : SigningStep) → length c ≡ n → _≡_ {A = SigningStep} (record { answer = a; page = c; queue = q }) s →
-    _≡_ {A = SigningStep} (record { answer = a; page = take at page ++ (c ++ drop n (drop at page)); queue = q }) (putBack at page s)
-unfolding putBack
-put-back at n page a c q s e h = rw (back-at at n page c e) (ap (putBack at page) h)
+module _ (at n : ℕ) (page : List ℕ) (old : Queue) (r : Queued) (s : SigningStep) where
+  pub exit-back : (c : List ℕ) → length c ≡ n → signingExit r c ≡ exitOf old s → signingExit r (take at page ++ (c ++ drop n (drop at page))) ≡ exitOf old (putBack at page s)
+  unfolding putBack exitOf
+  exit-back c e h = rw (back-at at n page c e) (ap (λ (x : SigningExit). record { answer = x .answer; page = splice at (x .page) page; queue = x .queue }) h)
 
-pub put-same : (at n : ℕ) (page : List ℕ) (a : Answer) (q : Lists) (s : SigningStep) → at + n ≤ length page → _≡_ {A = SigningStep} (record { answer = a; page = part at n page; queue = q }) s →
-    _≡_ {A = SigningStep} (record { answer = a; page = page; queue = q }) (putBack at page s)
-unfolding putBack
-put-same at n page a q s room h = ap (λ (p : List ℕ). record { answer = a; page = p; queue = q }) (sym (back-same at n page room)) ∙ ap (putBack at page) h
+  pub exit-same : at + n ≤ length page → signingExit r (part at n page) ≡ exitOf old s → signingExit r page ≡ exitOf old (putBack at page s)
+  exit-same room h = ap (signingExit r) (sym (back-at at n page (part at n page) (buffer-length at n page room) ∙ back-same at n page room)) ∙ exit-back (part at n page) (buffer-length at n page room) h
 
 -- ---- an OK wrote no more than the buffer holds
 response-length : (s : Signed) → length (responseBytes s) ≡ 18 + length (s .signature)

@@ -7,12 +7,11 @@ use queue::Queue;
 use queue::Queued;
 use range::OutsideAs;
 ghost use mathlib.Core.Path.{_≡_};
-ghost use mathlib.Core.Bool.{false};
 ghost use Prim.Native.Nat.{_+_, _≤_};
 ghost use lib.ListN.{length};
 ghost use Rattle.range.specs.Range.{placeOf};
-ghost use Rattle.codes.specs.Codes.{isOk, upOf, gated};
-ghost use Rattle.queue.specs.Queue.{Lists, SigningStep, signingExit, listsOf};
+ghost use Rattle.codes.specs.Codes.{upOf, gated};
+ghost use Rattle.queue.specs.Queue.{Lists, SigningStep, listsOf, signingExit, exitOf};
 ghost use Rattle.queue_image.specs.Steps.{ImageStep};
 ghost use Rattle.signing.specs.Signing.{opcodeOf, isOther, badCurve, sharedCode, publicOf, opAt, signingOf};
 ghost use Rattle.signing.specs.OnImage.{opOn, signingOn};
@@ -84,29 +83,39 @@ fn gate_of(state: Record, len: usize, opcode: Opcode, pa: u64, size: u64, curve:
     Gate::Go(at)
 }
 
-// Key: writes the public key that the platform lends into the buffer; x1 is its length.
-fn public_key(buffer: &mut [u8], queue: Queue, key: &[u8]) -> Queued
-    ensures { λ r. ⌜ signingExit r (now (buffer .exit)) ≡ publicOf (now (buffer .entry)) (listsOf queue) (now (key .entry)) ⌝ }
-    ensures { λ r. ⌜ (isOk (r .answer .code) ≡ false → r .queue ≡ queue) ⌝ }
+// Key: writes the public key that the platform lends into the buffer; x1 is its length. The same whatever waits.
+fn put_key(buffer: &mut [u8], key: &[u8]) -> Answer
+    ensures { λ r. ⌜ ((q : Lists) → _≡_ {A = SigningStep} (record { answer = r; page = now (buffer .exit); queue = q }) (publicOf (now (buffer .entry)) q (now (key .entry)))) ⌝ }
 {
     if key.len() == 0 {
-        return queue::refused(Code::Again, queue);
+        return codes::answered(Code::Again, 0, 0);
     }
     if buffer.len() < key.len() {
-        return queue::refused(Code::Inval, queue);
+        return codes::answered(Code::Inval, 0, 0);
     }
     words::copy(buffer, key);
+    codes::answered(Code::Ok, key.len() as u64, 0)
+}
+
+// Key, with the queue by value.
+fn public_key(buffer: &mut [u8], queue: Queue, key: &[u8]) -> Queued
+    ensures { λ r. ⌜ signingExit r (now (buffer .exit)) ≡ exitOf queue (publicOf (now (buffer .entry)) (listsOf queue) (now (key .entry))) ⌝ }
+{
+    let answer = put_key(buffer, key);
+    let code = answer.code;
+    if !codes::is_ok(code) {
+        return Queued { answer, queue };
+    }
     Queued {
-        answer: codes::answered(Code::Ok, key.len() as u64, 0),
-        queue,
+        answer,
+        queue: queue::only_waiting(queue),
     }
 }
 
 // A call whose buffer passed, at an offset of the page: the buffer is lent to what the opcode asks for.
 fn serve(page: &mut [u8], at: usize, size: u64, queue: Queue, key: &[u8], opcode: Opcode) -> Queued
     requires { ⌜ at + size ≤ length (now page) ⌝ }
-    ensures { λ r. ⌜ signingExit r (now (page .exit)) ≡ opAt opcode at size (now (page .entry)) (listsOf queue) (now (key .entry)) ⌝ }
-    ensures { λ r. ⌜ (isOk (r .answer .code) ≡ false → r .queue ≡ queue) ⌝ }
+    ensures { λ r. ⌜ signingExit r (now (page .exit)) ≡ exitOf queue (opAt opcode at size (now (page .entry)) (listsOf queue) (now (key .entry))) ⌝ }
 {
     let end = at + size as usize;
     match opcode {
@@ -128,8 +137,8 @@ pub fn token_signing(
     size: u64,
     curve: u64,
 ) -> Queued
-    ensures { λ r. ⌜ signingExit r (now (page .exit)) ≡ signingOf state (now (page .entry)) (listsOf queue) (now (key .entry)) opcode pa size curve ⌝ }
-    ensures { λ r. ⌜ (isOk (r .answer .code) ≡ false → r .queue ≡ queue) ⌝ }
+    ensures { λ r. ⌜ signingExit r (now (page .exit))
+        ≡ exitOf queue (signingOf state (now (page .entry)) (listsOf queue) (now (key .entry)) opcode pa size curve) ⌝ }
 {
     let asked = opcode_of(opcode);
     let gate = gate_of(state, page.len(), asked, pa, size, curve);
@@ -137,21 +146,6 @@ pub fn token_signing(
         Gate::Stop(code) => queue::refused(code, queue),
         Gate::Go(at) => serve(page, at, size, queue, key, asked),
     }
-}
-
-// Key on its buffer alone, whatever waits.
-fn put_key(buffer: &mut [u8], key: &[u8]) -> Answer
-    ensures { λ r. ⌜ ((q : Lists) → _≡_ {A = SigningStep} (record { answer = r; page = now (buffer .exit); queue = q }) (publicOf (now (buffer .entry)) q (now (key .entry)))) ⌝ }
-{
-    if key.len() == 0 {
-        return codes::answered(Code::Again, 0, 0);
-    }
-    if buffer.len() < key.len() {
-        return codes::answered(Code::Inval, 0, 0);
-    }
-    words::copy(buffer, key);
-    let len = key.len() as u64;
-    codes::answered(Code::Ok, len, 0)
 }
 
 // A call on the queue's image whose buffer passed: push has the requests, pull the responses, key neither.

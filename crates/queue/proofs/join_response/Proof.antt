@@ -1,13 +1,17 @@
-use lib.ListN.{length-map}
-use Rattle.queue.specs.Queue.{held}
-use Rattle.queue.proofs.Sides.{joins-full, joins}
+use Rattle.queue.specs.Queue.{ready, signedIn}
+use Rattle.queue.proofs.Holding.{responses-full, responses-join}
 use borrow.Author.Needs.{needs}
 use Rattle.queue.proofs.join_response.Statement.{statement}
 use Rattle.queue.proofs.join_response.Tie as tie
 
+responses-from-requires : tie.Need-responses-from-requires
+responses-from-requires c κs = search needs
+
 returns : tie.Need-returns
-unfolding held
-returns c = let s = c .before .args .side in joins-full (s .count) (s .items) (simp length-map at (c .before .good .0 .1 .1 .0 .1 .0 .1)) _ (search needs)
+returns c = responses-full _ (ready (c .before .before .args .side)) _ (c .before .responses-from .ensures) (search needs)
+
+only-signed-requires : tie.Need-only-signed-requires
+only-signed-requires c κs = search needs
 
 mul-items : tie.Need-mul-items
 mul-items c = search needs
@@ -15,12 +19,22 @@ mul-items c = search needs
 array-set-from-items : tie.Need-array-set-from-items
 array-set-from-items c = search needs
 
-add-t6 : tie.Need-add-t6
-add-t6 c = search needs
+add-t8 : tie.Need-add-t8
+add-t8 c = search needs
 
 returns-2 : tie.Need-returns-2
-unfolding held
-returns-2 c = let s = c .before .before .args .side in joins (s .count) (s .items) (simp length-map at (c .before .before .good .0 .1 .1 .0 .1 .0 .1)) _ (search needs)
+returns-2 c =
+    let a = c .before .before .before .before .args in
+    rw (c .only-signed .ensures) (responses-join (c .before .before .before .responses-from .result) (ready (a .side)) (signedIn (a .response)) (c .before .before .before .responses-from .ensures) (search needs))
 
 pub join-response-spec : {M : Type 1} → statement M
-join-response-spec = tie.close (tie.spec returns mul-items array-set-from-items add-t6 returns-2)
+join-response-spec =
+    tie.close
+    (tie.spec
+    responses-from-requires
+    returns
+    only-signed-requires
+    mul-items
+    array-set-from-items
+    add-t8
+    returns-2)

@@ -1,6 +1,3 @@
-use Rattle.queue.specs.Queue.{ready, listsOf}
-use Rattle.queue_image.specs.Image.{listsIn}
-use Rattle.queue_image.proofs.Sides.{held-taken}
 use borrow.Author.Needs.{needs}
 use Rattle.queue_image.proofs.queue_of.Statement.{statement}
 use Rattle.queue_image.proofs.queue_of.Tie as tie
@@ -12,8 +9,7 @@ responses-in-requires : tie.Need-responses-in-requires
 responses-in-requires c κs = search needs
 
 returns : tie.Need-returns
-unfolding listsOf ready listsIn
-returns c = rw (c .before .before .requests-in .ensures, c .responses-in .ensures, held-taken)
+returns c = rw (c .before .before .requests-in .ensures, c .responses-in .ensures)
 
 pub queue-of-spec : {M : Type 1} → statement M
 queue-of-spec = tie.close (tie.spec requests-in-requires responses-in-requires returns)

@@ -1,9 +1,11 @@
 use Prim.Native.Nat.{_-_, _≤_}
-use mathlib.Core.Path.{_≡_}
+use mathlib.Core.Path.{_≡_, ap}
+use mathlib.Core.List.{List}
 use native.Mathlib.Omega.{arith}
 use lib.ListN.{getD}
-use Rattle.queue.specs.Queue.{waiting, noRequest}
-use Rattle.queue_image.specs.Image.{requestIn}
+use Rattle.queue.specs.declared.Request.{Request}
+use Rattle.queue.specs.Queue.{noRequest}
+use Rattle.queue_image.specs.Image.{requestIn, queueIn}
 use Rattle.queue_image.proofs.Rows.{readTo, read-none, read-more, read-all}
 use borrow.Author.Needs.{needs}
 use Rattle.queue_image.proofs.requests_in.Statement.{statement}
@@ -51,11 +53,11 @@ shared-slice-read-t14 : tie.Need-shared-slice-read-t14 Inv-loop μ-loop
 shared-slice-read-t14 c = search needs
 
 returns : tie.Need-returns Inv-loop μ-loop
-unfolding waiting
+unfolding queueIn
 returns c =
     let l = c .before .before .loop in
     let w = c .before .before .before .before .before .args .image .now in
-    read-all requestIn 10 2 w _ (l .i) (getD w 0 0) (l .items) (l .inv .1) (search needs) (omega arith)
+    ap (λ (items : List Request). record { items = items; count = getD w 0 0 }) (read-all requestIn 10 2 w _ (l .i) (l .items) (l .inv .1) (search needs) (omega arith))
 
 pub requests-in-spec : {M : Type 1} → statement M
 requests-in-spec =

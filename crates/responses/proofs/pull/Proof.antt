@@ -1,28 +1,15 @@
-use mathlib.Core.Path.{_≡_, refl, sym, ap, _∙_}
-use native.Mathlib.Omega.{arith}
-use Prim.Native.Nat.{_<_, _+_, _≤_}
+use mathlib.Core.Path.{_≡_, sym, ap, _∙_}
 use lib.ListN.{length}
-use Rattle.codes.specs.declared.Code.the-variants.{Inval, Again}
-use Rattle.queue.specs.Queue.{held, ready, listsOf, signedIn, oldestResponse}
-use Rattle.queue.proofs.Steps.{refuses, accepts, not-refused}
+use borrow.Author.Tests.{not-true, not-false}
+use Rattle.queue.specs.Queue.{Signed, ready, listsOf, signedIn, oldestResponse, queueHolding}
+use Rattle.queue.proofs.Steps.{refuses, accepts}
+use Rattle.queue_image.proofs.Steps.{ok-is}
 use Rattle.responses.specs.Pull.{pullCode, pulled, pullOf}
-use Rattle.responses.proofs.Pulls.{ready-length, ready-first, ready-rest, pull-none, pull-long, pull-ok}
+use Rattle.responses.proofs.Pulls.{ready-length, ready-first}
+use Rattle.responses.proofs.OnImages.{pull-passed}
 use borrow.Author.Needs.{needs}
 use Rattle.responses.proofs.pull.Statement.{statement}
 use Rattle.responses.proofs.pull.Tie as tie
-
-response-count-requires : tie.Need-response-count-requires
-response-count-requires c κs = search needs
-
-refused-requires : tie.Need-refused-requires
-refused-requires c κs = search needs
-
-returns : tie.Need-returns
-unfolding pullOf listsOf
-returns c =
-    let a = c .before .before .before .before .before .before .args in
-    let z : length (ready (a .queue .responses)) ≡ c .before .before .response-count .result = ready-length (a .queue .responses) ∙ sym (c .before .before .response-count .ensures .0) in
-    (refuses (pullCode (length (a .buffer .now)) (listsOf (a .queue))) _ (a .buffer .now) (listsOf (a .queue)) Again _ _ (c .refused .ensures .0) (ap listsOf (c .refused .ensures .1)) (pull-none (length (a .buffer .now)) (listsOf (a .queue)) (z ∙ c .before .if1 .taken)) refl, λ h. c .refused .ensures .1)
 
 first-response-requires : tie.Need-first-response-requires
 first-response-requires c κs = search needs
@@ -30,28 +17,41 @@ first-response-requires c κs = search needs
 signature-len-requires : tie.Need-signature-len-requires
 signature-len-requires c κs = search needs
 
-add-if2 : tie.Need-add-if2
-add-if2 c = search needs
+response-count-requires : tie.Need-response-count-requires
+response-count-requires c κs = search needs
 
-refused-requires-2 : tie.Need-refused-requires-2
-refused-requires-2 c κs = search needs
+pull-code-requires : tie.Need-pull-code-requires
+pull-code-requires c κs = search needs
 
-returns-2 : tie.Need-returns-2
+is-ok-requires : tie.Need-is-ok-requires
+is-ok-requires c κs = search needs
+
+refused-requires : tie.Need-refused-requires
+refused-requires c κs = search needs
+
+returns : tie.Need-returns
 unfolding pullOf listsOf
-returns-2 c =
-    let a = c .before .before .before .before .before .before .before .before .before .args in
-    let z : length (ready (a .queue .responses)) ≡ c .before .before .before .before .before .response-count .result = ready-length (a .queue .responses) ∙ sym (c .before .before .before .before .before .response-count .ensures .0) in
-    let n : length (ready (a .queue .responses)) ≡ 0 → ⊥ = λ e. c .before .before .before .before .if1 .left (sym z ∙ e) in
-    let p : 0 < length (held (a .queue .responses)) = omega (arith, c .before .before .before .before .before .response-count .ensures .0, c .before .before .before .before .if1 .left) in
-    let r = c .before .before .before .first-response .result in
-    let f : oldestResponse (ready (a .queue .responses)) ≡ signedIn r = ready-first (a .queue .responses) r (c .before .before .before .first-response .ensures p) in
-    (refuses (pullCode (length (a .buffer .now)) (listsOf (a .queue))) _ (a .buffer .now) (listsOf (a .queue)) Inval _ _ (c .refused2 .ensures .0) (ap listsOf (c .refused2 .ensures .1)) (pull-long (length (a .buffer .now)) (listsOf (a .queue)) n (signedIn r) f (search needs)) refl, λ h. c .refused2 .ensures .1)
+returns c =
+    let a = c .before .before .before .before .before .before .before .before .before .before .args in
+    let b = a .buffer .now in
+    let q = listsOf (a .queue) in
+    let f : oldestResponse (ready (a .queue .responses)) ≡ signedIn (c .before .before .before .before .before .before .first-response .result) = ready-first (a .queue .responses) (c .before .before .before .before .before .before .first-response .result) (c .before .before .before .before .before .before .first-response .ensures) in
+    refuses (pullCode (length b) q) b q (a .queue) _ (c .before .before .before .pull-code .result) _ (c .refused .ensures) (sym (c .before .before .before .pull-code .ensures q (ready-length (a .queue .responses) ∙ sym (c .before .before .before .before .response-count .ensures .0)) (λ z. ap (λ (x : Signed). length (x .signature)) f ∙ sym (c .before .before .before .before .before .signature-len .ensures .0)))) (sym (c .before .before .is-ok .ensures) ∙ not-true (c .before .before .is-ok .result) (c .before .if1 .taken))
 
 put-response-requires : tie.Need-put-response-requires
-put-response-requires c κs = search needs
+unfolding listsOf
+put-response-requires c κs =
+    let a = c .before .before .before .before .before .before .before .before .before .before .args in
+    let b = a .buffer .now in
+    let q = listsOf (a .queue) in
+    let f : oldestResponse (ready (a .queue .responses)) ≡ signedIn (c .before .before .before .before .before .before .first-response .result) = ready-first (a .queue .responses) (c .before .before .before .before .before .before .first-response .result) (c .before .before .before .before .before .before .first-response .ensures) in
+    rw f at (pull-passed (length b) q (sym (c .before .before .before .pull-code .ensures q (ready-length (a .queue .responses) ∙ sym (c .before .before .before .before .response-count .ensures .0)) (λ z. ap (λ (x : Signed). length (x .signature)) f ∙ sym (c .before .before .before .before .before .signature-len .ensures .0))) ∙ ok-is _ (sym (c .before .before .is-ok .ensures) ∙ not-false (c .before .before .is-ok .result) (c .before .if1 .left))) .1)
 
-drop-response-requires : tie.Need-drop-response-requires
-drop-response-requires c κs = search needs
+requests-from-requires : tie.Need-requests-from-requires
+requests-from-requires c κs = search needs
+
+responses-from-requires : tie.Need-responses-from-requires
+responses-from-requires c κs = search needs
 
 answered-requires : tie.Need-answered-requires
 answered-requires c κs = search needs
@@ -59,31 +59,30 @@ answered-requires c κs = search needs
 same-length : tie.Need-same-length
 same-length c = search needs
 
-returns-3 : tie.Need-returns-3
-unfolding pullOf pulled listsOf
-returns-3 c =
-    let a = c .before .before .before .before .before .before .before .before .before .before .before .before .before .before .args in
-    let z : length (ready (a .queue .responses)) ≡ c .before .before .before .before .before .before .before .before .before .before .response-count .result = ready-length (a .queue .responses) ∙ sym (c .before .before .before .before .before .before .before .before .before .before .response-count .ensures .0) in
-    let n : length (ready (a .queue .responses)) ≡ 0 → ⊥ = λ e. c .before .before .before .before .before .before .before .before .before .if1 .left (sym z ∙ e) in
-    let p : 0 < length (held (a .queue .responses)) = omega (arith, c .before .before .before .before .before .before .before .before .before .before .response-count .ensures .0, c .before .before .before .before .before .before .before .before .before .if1 .left) in
-    let r = c .before .before .before .before .before .before .before .before .first-response .result in
-    let f : oldestResponse (ready (a .queue .responses)) ≡ signedIn r = ready-first (a .queue .responses) r (c .before .before .before .before .before .before .before .before .first-response .ensures p) in
-    (rw (c .answered .ensures, ready-rest (a .queue .responses) _ (c .before .drop-response .ensures), c .before .before .before .before .put-response .ensures, ← f) (accepts (pullCode (length (a .buffer .now)) (listsOf (a .queue))) _ (a .buffer .now) (listsOf (a .queue)) (pull-ok (length (a .buffer .now)) (listsOf (a .queue)) n (signedIn r) f (search needs))), λ h. absurd (not-refused _ 0 0 (c .answered .ensures) h))
+returns-2 : tie.Need-returns-2
+unfolding pullOf pulled listsOf queueHolding
+returns-2 c =
+    let a = c .before .before .before .before .before .before .before .before .before .before .before .before .before .before .before .before .args in
+    let b = a .buffer .now in
+    let q = listsOf (a .queue) in
+    let f : oldestResponse (ready (a .queue .responses)) ≡ signedIn (c .before .before .before .before .before .before .before .before .before .before .before .before .first-response .result) = ready-first (a .queue .responses) (c .before .before .before .before .before .before .before .before .before .before .before .before .first-response .result) (c .before .before .before .before .before .before .before .before .before .before .before .before .first-response .ensures) in
+    rw (c .answered .ensures, c .before .before .requests-from .ensures, c .before .responses-from .ensures, c .before .before .before .before .before .put-response .ensures, ← f)
+    (accepts (pullCode (length b) q) b q (a .queue) 0 0 _ _ (sym (c .before .before .before .before .before .before .before .before .before .pull-code .ensures q (ready-length (a .queue .responses) ∙ sym (c .before .before .before .before .before .before .before .before .before .before .response-count .ensures .0)) (λ z. ap (λ (x : Signed). length (x .signature)) f ∙ sym (c .before .before .before .before .before .before .before .before .before .before .before .signature-len .ensures .0))) ∙ ok-is _ (sym (c .before .before .before .before .before .before .before .before .is-ok .ensures) ∙ not-false (c .before .before .before .before .before .before .before .before .is-ok .result) (c .before .before .before .before .before .before .before .if1 .left))))
 
 pub pull-spec : {M : Type 1} → statement M
 pull-spec =
     tie.close
     (tie.spec
-    response-count-requires
-    refused-requires
-    returns
     first-response-requires
     signature-len-requires
-    add-if2
-    refused-requires-2
-    returns-2
+    response-count-requires
+    pull-code-requires
+    is-ok-requires
+    refused-requires
+    returns
     put-response-requires
-    drop-response-requires
+    requests-from-requires
+    responses-from-requires
     answered-requires
     same-length
-    returns-3)
+    returns-2)

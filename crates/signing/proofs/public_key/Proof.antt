@@ -1,58 +1,59 @@
-use mathlib.Core.Path.{_≡_, refl, sym, ap, _∙_}
-use native.Mathlib.Omega.{arith}
-use lib.ListN.{length}
-use Rattle.words.proofs.Store.{bytes-in}
-use Rattle.codes.specs.declared.Code.the-variants.{Inval, Again}
-use Rattle.queue.specs.Queue.{listsOf}
-use Rattle.queue.proofs.Steps.{refuses, accepts, not-refused}
-use Rattle.signing.specs.Signing.{publicCode, publicOf}
-use Rattle.signing.proofs.Signings.{public-empty, public-long, public-ok}
+use Prim.Native.Nat.{ℕ}
+use mathlib.Core.Path.{_≡_, sym, _∙_}
+use mathlib.Core.Bool.{true, false}
+use mathlib.Core.List.{List}
+use borrow.Author.Tests.{not-true, not-false}
+use Rattle.codes.specs.Codes.{isOk}
+use Rattle.codes.specs.declared.Answer.{Answer}
+use Rattle.queue.specs.declared.Queue.{Queue}
+use Rattle.queue.specs.Queue.{Lists, SigningStep, SigningExit, queueHolding, listsOf, queueNext, exitOf}
 use borrow.Author.Needs.{needs}
 use Rattle.signing.proofs.public_key.Statement.{statement}
 use Rattle.signing.proofs.public_key.Tie as tie
 
-refused-requires : tie.Need-refused-requires
-refused-requires c κs = search needs
+-- what is handed back with a queue, refused and accepted
+module _ (a : Answer) (page : List ℕ) (q : Lists) (old : Queue) (s : SigningStep) (e : _≡_ {A = SigningStep} (record { answer = a; page = page; queue = q }) s) where
+  stays : isOk (a .code) ≡ false → _≡_ {A = SigningExit} (record { answer = a; page = page; queue = old }) (exitOf old s)
+  unfolding exitOf queueNext
+  stays h = rw (← e, h)
 
-returns : tie.Need-returns
-unfolding publicOf
-returns c =
-    let a = c .before .before .before .before .args in
-    (refuses (publicCode (length (a .buffer .now)) (a .key .now)) _ (a .buffer .now) (listsOf (a .queue)) Again _ _ (c .refused .ensures .0) (ap listsOf (c .refused .ensures .1)) (public-empty (length (a .buffer .now)) (a .key .now) (search needs)) refl, λ h. c .refused .ensures .1)
+  holds : isOk (a .code) ≡ true → _≡_ {A = SigningExit} (record { answer = a; page = page; queue = queueHolding q }) (exitOf old s)
+  unfolding exitOf queueNext
+  holds h = rw (← e, h)
 
-refused-requires-2 : tie.Need-refused-requires-2
-refused-requires-2 c κs = search needs
+put-key-requires : tie.Need-put-key-requires
+put-key-requires c κs = search needs
 
-returns-2 : tie.Need-returns-2
-unfolding publicOf
-returns-2 c =
-    let a = c .before .before .before .before .before .args in
-    (refuses (publicCode (length (a .buffer .now)) (a .key .now)) _ (a .buffer .now) (listsOf (a .queue)) Inval _ _ (c .refused2 .ensures .0) (ap listsOf (c .refused2 .ensures .1)) (public-long (length (a .buffer .now)) (a .key .now) (search needs) (search needs)) refl, λ h. c .refused2 .ensures .1)
-
-copy-requires : tie.Need-copy-requires
-copy-requires c κs = search needs
-
-answered-requires : tie.Need-answered-requires
-answered-requires c κs = search needs
+is-ok-requires : tie.Need-is-ok-requires
+is-ok-requires c κs = search needs
 
 same-length : tie.Need-same-length
 same-length c = search needs
 
-returns-3 : tie.Need-returns-3
-unfolding publicOf
-returns-3 c =
+returns : tie.Need-returns
+returns c =
+    let a = c .before .before .before .before .before .before .before .before .args in
+    stays _ _ (listsOf (a .queue)) (a .queue) _ (c .before .before .before .before .put-key .ensures (listsOf (a .queue))) (sym (c .before .is-ok .ensures) ∙ not-true (c .before .is-ok .result) (c .if1 .taken))
+
+only-waiting-requires : tie.Need-only-waiting-requires
+only-waiting-requires c κs = search needs
+
+same-length-2 : tie.Need-same-length-2
+same-length-2 c = search needs
+
+returns-2 : tie.Need-returns-2
+returns-2 c =
     let a = c .before .before .before .before .before .before .before .before .before .args in
-    (rw (c .answered .ensures, c .before .before .before .copy .ensures, bytes-in 0 (a .key .now) (a .buffer .now) (omega arith)) (accepts (publicCode (length (a .buffer .now)) (a .key .now)) _ (a .buffer .now) (listsOf (a .queue)) (public-ok (length (a .buffer .now)) (a .key .now) (c .before .before .before .before .before .before .if1 .left) (search needs))), λ h. absurd (not-refused _ (length (a .key .now)) 0 (c .answered .ensures) h))
+    rw (c .only-waiting .ensures) (holds _ _ (listsOf (a .queue)) (a .queue) _ (c .before .before .before .before .before .put-key .ensures (listsOf (a .queue))) (sym (c .before .before .is-ok .ensures) ∙ not-false (c .before .before .is-ok .result) (c .before .if1 .left)))
 
 pub public-key-spec : {M : Type 1} → statement M
 public-key-spec =
     tie.close
     (tie.spec
-    refused-requires
-    returns
-    refused-requires-2
-    returns-2
-    copy-requires
-    answered-requires
+    put-key-requires
+    is-ok-requires
     same-length
-    returns-3)
+    returns
+    only-waiting-requires
+    same-length-2
+    returns-2)

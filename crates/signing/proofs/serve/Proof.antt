@@ -1,9 +1,11 @@
-use mathlib.Core.Path.{_≡_, refl}
+use mathlib.Core.Path.{_≡_}
 use native.Mathlib.Omega.{arith}
 use Prim.Native.Nat.{_+_, _-_}
 use Rattle.words.specs.Word.{part}
+use Rattle.codes.specs.Codes.{answerOf}
+use Rattle.queue.specs.Queue.{queueNext, exitOf}
 use Rattle.signing.specs.Signing.{opOf, opAt}
-use Rattle.signing.proofs.Buffers.{put-back, put-same}
+use Rattle.signing.proofs.Buffers.{exit-back, exit-same}
 use borrow.Author.Needs.{needs}
 use Rattle.signing.proofs.serve.Statement.{statement}
 use Rattle.signing.proofs.serve.Tie as tie
@@ -70,7 +72,7 @@ unfolding part opAt opOf
 returns c =
     let a = c .before .before .before .before .before .before .before .args in
     let e : a .at + a .size - a .at ≡ a .size = omega arith in
-    (rw (c .before .before .before .enum-told .given .1) (put-same (a .at) (a .size) (a .page .now) _ _ _ (search needs) (rw e at (c .push .ensures .0))), c .push .ensures .1)
+    rw (c .before .before .before .enum-told .given .1) (exit-same (a .at) (a .size) (a .page .now) (a .queue) _ _ (search needs) (rw e at (c .push .ensures)))
 
 same-length-2 : tie.Need-same-length-2
 same-length-2 c = search needs
@@ -80,7 +82,7 @@ unfolding part opAt opOf
 returns-2 c =
     let a = c .before .before .before .before .before .before .before .before .args in
     let e : a .at + a .size - a .at ≡ a .size = omega arith in
-    (rw (c .before .before .before .before .enum-told2 .given .1, e) (put-back (a .at) (a .size) (a .page .now) _ _ _ _ (search needs) (rw e at (c .before .before .pull .ensures .0))), c .before .before .pull .ensures .1)
+    rw (c .before .before .before .before .enum-told2 .given .1, e) (exit-back (a .at) (a .size) (a .page .now) (a .queue) _ _ _ (search needs) (rw e at (c .before .before .pull .ensures)))
 
 same-length-3 : tie.Need-same-length-3
 same-length-3 c = search needs
@@ -90,13 +92,13 @@ unfolding part opAt opOf
 returns-3 c =
     let a = c .before .before .before .before .before .before .before .before .args in
     let e : a .at + a .size - a .at ≡ a .size = omega arith in
-    (rw (c .before .before .before .before .enum-told3 .given .1, e) (put-back (a .at) (a .size) (a .page .now) _ _ _ _ (search needs) (rw e at (c .before .before .public-key .ensures .0))), c .before .before .public-key .ensures .1)
+    rw (c .before .before .before .before .enum-told3 .given .1, e) (exit-back (a .at) (a .size) (a .page .now) (a .queue) _ _ _ (search needs) (rw e at (c .before .before .public-key .ensures)))
 
 returns-4 : tie.Need-returns-4
-unfolding part opAt opOf
+unfolding part opAt opOf exitOf queueNext answerOf
 returns-4 c =
     let a = c .before .before .before .before .before .args in
-    (rw (c .before .enum-told4 .given .1, c .refused .ensures .0, c .refused .ensures .1) (put-same (a .at) (a .size) (a .page .now) _ _ _ (search needs) refl), λ h. c .refused .ensures .1)
+    rw (c .before .enum-told4 .given .1) (exit-same (a .at) (a .size) (a .page .now) (a .queue) _ _ (search needs) (rw (c .refused .ensures)))
 
 pub serve-spec : {M : Type 1} → statement M
 serve-spec =

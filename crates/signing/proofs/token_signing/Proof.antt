@@ -4,8 +4,8 @@ use lib.ListN.{length}
 use Rattle.codes.specs.Codes.{upOf, gated}
 use Rattle.codes.proofs.Gates.{went, stood}
 use Rattle.range.specs.Range.{placeOf}
-use Rattle.queue.specs.Queue.{listsOf}
-use Rattle.queue.proofs.Steps.{refuses, accepts}
+use Rattle.queue.specs.Queue.{listsOf, exitOf}
+use Rattle.queue.proofs.Steps.{refuses, goes-on}
 use Rattle.signing.specs.Signing.{opcodeOf, sharedCode, opAt, signingOf}
 use Rattle.signing.proofs.Signings.{shared-passed}
 use borrow.Author.Needs.{needs}
@@ -39,7 +39,7 @@ unfolding signingOf
 returns c =
     let a = c .before .before .before .before .before .before .before .before .args in
     let g = stood (sharedCode (a .state) (length (a .page .now)) (opcodeOf (a .opcode)) (a .pa) (a .size) (a .curve)) (placeOf (upOf (a .state)) (a .pa)) _ (sym (ap (λ o. gated (sharedCode (a .state) (length (a .page .now)) o (a .pa) (a .size) (a .curve)) (placeOf (upOf (a .state)) (a .pa))) (c .before .before .before .before .before .opcode-of .ensures)) ∙ sym (c .before .before .before .before .gate-of .ensures) ∙ c .before .before .gate .given .1) in
-    (refuses (sharedCode (a .state) (length (a .page .now)) (opcodeOf (a .opcode)) (a .pa) (a .size) (a .curve)) (opAt (opcodeOf (a .opcode)) (placeOf (upOf (a .state)) (a .pa)) (a .size) (a .page .now) (listsOf (a .queue)) (a .key .now)) (a .page .now) (listsOf (a .queue)) _ _ _ (c .refused .ensures .0) (ap listsOf (c .refused .ensures .1)) (g .0) (g .1), λ h. c .refused .ensures .1)
+    refuses (sharedCode (a .state) (length (a .page .now)) (opcodeOf (a .opcode)) (a .pa) (a .size) (a .curve)) (a .page .now) (listsOf (a .queue)) (a .queue) (opAt (opcodeOf (a .opcode)) (placeOf (upOf (a .state)) (a .pa)) (a .size) (a .page .now) (listsOf (a .queue)) (a .key .now)) _ _ (c .refused .ensures) (g .0) (g .1)
 
 same-length : tie.Need-same-length
 same-length c = search needs
@@ -49,7 +49,7 @@ unfolding signingOf
 returns-2 c =
     let a = c .before .before .before .before .before .before .before .before .before .before .before .args in
     let g = went (sharedCode (a .state) (length (a .page .now)) (opcodeOf (a .opcode)) (a .pa) (a .size) (a .curve)) (placeOf (upOf (a .state)) (a .pa)) _ (sym (ap (λ o. gated (sharedCode (a .state) (length (a .page .now)) o (a .pa) (a .size) (a .curve)) (placeOf (upOf (a .state)) (a .pa))) (c .before .before .before .before .before .before .before .before .opcode-of .ensures)) ∙ sym (c .before .before .before .before .before .before .before .gate-of .ensures) ∙ c .before .before .before .before .before .gate2 .given .1) in
-    (c .before .before .serve .ensures .0 ∙ rw (c .before .before .before .before .before .before .before .before .opcode-of .ensures, g .1) (accepts (sharedCode (a .state) (length (a .page .now)) (opcodeOf (a .opcode)) (a .pa) (a .size) (a .curve)) (opAt (opcodeOf (a .opcode)) (placeOf (upOf (a .state)) (a .pa)) (a .size) (a .page .now) (listsOf (a .queue)) (a .key .now)) (a .page .now) (listsOf (a .queue)) (g .0)), c .before .before .serve .ensures .1)
+    c .before .before .serve .ensures ∙ rw (c .before .before .before .before .before .before .before .before .opcode-of .ensures, g .1) (ap (exitOf (a .queue)) (goes-on (sharedCode (a .state) (length (a .page .now)) (opcodeOf (a .opcode)) (a .pa) (a .size) (a .curve)) (a .page .now) (listsOf (a .queue)) (opAt (opcodeOf (a .opcode)) (placeOf (upOf (a .state)) (a .pa)) (a .size) (a .page .now) (listsOf (a .queue)) (a .key .now)) (g .0)))
 
 pub token-signing-spec : {M : Type 1} → statement M
 token-signing-spec =

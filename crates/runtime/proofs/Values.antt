@@ -1,0 +1,52 @@
+-- Calls by value: the queue that comes back stands for what then waits, so that a sequence of calls, each on the queue that the one
+-- before it left, is a sequence of steps. Assumes nothing.
+use Prim.Native.Nat.{ℕ}
+use mathlib.Core.Path.{_≡_, refl, sym, ap, _∙_}
+use mathlib.Core.Bool.{false}
+use mathlib.Core.List.{List}
+use Rattle.codes.specs.Codes.{isOk}
+use Rattle.codes.specs.declared.Code.{Code}
+use Rattle.codes.proofs.Gates.{if-ok-by}
+use Rattle.granules.specs.declared.Granules.{Granules}
+use Rattle.token.specs.declared.Session.{Session}
+use Rattle.queue.specs.declared.Queue.{Queue}
+use Rattle.queue.specs.Queue.{Lists, SigningStep, listsOf, queueNext}
+use Rattle.queue.proofs.Steps.{next-lists}
+use Rattle.responses.specs.Sign.{SignStep, signOf, signExit}
+use Rattle.responses.proofs.Signs.{sign-refused}
+use Rattle.signing.specs.Signing.{signingOf}
+use Rattle.signing.proofs.Signings.{signing-refused}
+use Rattle.runtime.specs.declared.Kind.{Kind}
+use Rattle.runtime.specs.declared.Kind.the-variants.{ForwardError, Delegate, Undelegate, RealmKey, PlatformToken, Features, TokenSigning, KeyUpdate, Unlisted}
+use Rattle.runtime.specs.Step.{World, worldOf, Call, kindOf, needsOf, callBy, callOf, replyCode, afterMove, afterKey, afterToken, afterSigning, afterUpdate, queueBy, exitBy}
+
+stands-for : (k : Code) (new : Lists) (old : Queue) → (isOk k ≡ false → new ≡ listsOf old) → listsOf (queueNext k new old) ≡ new
+stands-for k new old h = next-lists k new old ∙ if-ok-by (λ (l : Lists). l ≡ new) k new (listsOf old) (λ e. refl) (λ e. sym (h e))
+
+-- the signer's own step
+pub sign-lists : (q : Queue) (s : List ℕ) → listsOf (signExit q (signOf (listsOf q) s) .queue) ≡ signOf (listsOf q) s .queue
+unfolding signExit
+sign-lists q s = stands-for _ (signOf (listsOf q) s .queue) q (λ h. ap (λ (t : SignStep). t .queue) (sign-refused (listsOf q) s h))
+
+-- any call
+module _ (g : Granules) (page table : List ℕ) (session : Session) (q : Queue) (c : Call) where
+  abbrev before : World
+  before = worldOf page table session (listsOf q)
+
+  by-kind : (k : Kind) → listsOf (exitBy (needsOf k) q (callBy k g before c) .queue) ≡ callBy k g before c .next .queue
+  unfolding needsOf callBy exitBy queueBy replyCode afterMove afterKey afterToken afterSigning afterUpdate
+  by-kind ForwardError = refl
+  by-kind Delegate = refl
+  by-kind Undelegate = refl
+  by-kind RealmKey = refl
+  by-kind PlatformToken = refl
+  by-kind Features = refl
+  by-kind TokenSigning =
+      stands-for _ (signingOf (c .state) page (listsOf q) (c .publicKey) (c .x1) (c .x2) (c .x3) (c .x4) .queue) q
+      (λ h. ap (λ (t : SigningStep). t .queue) (signing-refused (c .state) page (listsOf q) (c .publicKey) (c .x1) (c .x2) (c .x3) (c .x4) h))
+  by-kind KeyUpdate = refl
+  by-kind Unlisted = refl
+
+  pub call-lists : listsOf (exitBy (needsOf (kindOf (c .id))) q (callOf g before c) .queue) ≡ callOf g before c .next .queue
+  unfolding callOf
+  call-lists = by-kind (kindOf (c .id))
