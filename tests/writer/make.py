@@ -349,7 +349,7 @@ def check_by_reader(case):
     refused = refusals(case.b, case.edition, case.lists, case.length)
     faults = broken(4, case.b, bytes(case.length))
     assert ("W1" in refused) == any(code == -5 for code, _ in faults)
-    assert ("W3" in refused) != all(8 * len(entry) == ENTRY[k] and entry_holds(k, entry)
+    assert ("W3" in refused) != all(8 * len(entry) == ENTRY[k] and entry_holds(4, k, entry)
                                     for k in range(4) for entry in listed[k])
     if refused:
         return
