@@ -24,12 +24,8 @@ pub ok-is : (k : Code) → isOk k ≡ true → k ≡ Ok
 unfolding andThen
 ok-is k h = first-ok k Ok (rw h)
 
--- ---- a call on the lists: a refusal, and checks that pass
+-- ---- a refused call on the lists
 module _ (k : Code) (new : SigningStep) (page : List ℕ) (q : Lists) where
   pub list-refuses : (c : Code) → k ≡ c → isOk c ≡ false → _≡_ {A = SigningStep} (record { answer = answerOf c 0 0; page = page; queue = q }) (queued k new page q)
   unfolding queued
   list-refuses c e h = rw (e, h)
-
-  pub list-accepts : k ≡ Ok → new ≡ queued k new page q
-  unfolding queued
-  list-accepts e = rw e

@@ -3,7 +3,8 @@ use native.Mathlib.Omega.{arith}
 use lib.ListN.{length}
 use Rattle.words.proofs.Store.{bytes-in}
 use Rattle.codes.specs.declared.Code.the-variants.{Inval, Again}
-use Rattle.queue_image.proofs.Steps.{list-refuses, list-accepts}
+use Rattle.queue.proofs.Steps.{goes-on}
+use Rattle.queue_image.proofs.Steps.{list-refuses}
 use Rattle.signing.specs.Signing.{publicCode, publicOf}
 use Rattle.signing.proofs.Signings.{public-empty, public-long, public-ok}
 use borrow.Author.Needs.{needs}
@@ -41,7 +42,7 @@ returns-3 : tie.Need-returns-3
 unfolding publicOf
 returns-3 c =
     let a = c .before .before .before .before .before .before .before .before .before .args in
-    λ q. rw (c .answered3 .ensures, c .before .before .before .copy .ensures, bytes-in 0 (a .key .now) (a .buffer .now) (omega arith)) (list-accepts (publicCode (length (a .buffer .now)) (a .key .now)) _ (a .buffer .now) q (public-ok (length (a .buffer .now)) (a .key .now) (c .before .before .before .before .before .before .if1 .left) (search needs)))
+    λ q. rw (c .answered3 .ensures, c .before .before .before .copy .ensures, bytes-in 0 (a .key .now) (a .buffer .now) (omega arith)) (goes-on (publicCode (length (a .buffer .now)) (a .key .now)) (a .buffer .now) q _ (public-ok (length (a .buffer .now)) (a .key .now) (c .before .before .before .before .before .before .if1 .left) (search needs)))
 
 pub put-key-spec : {M : Type 1} → statement M
 put-key-spec =

@@ -6,9 +6,10 @@ use Rattle.codes.specs.Codes.{upOf, gated}
 use Rattle.codes.proofs.Gates.{went, stood}
 use Rattle.range.specs.Range.{placeOf}
 use Rattle.queue.specs.Queue.{SigningStep}
+use Rattle.queue.proofs.Steps.{goes-on}
 use Rattle.queue_image.specs.Image.{listsIn}
 use Rattle.queue_image.specs.Steps.{imageStep}
-use Rattle.queue_image.proofs.Steps.{image-refuses, list-accepts}
+use Rattle.queue_image.proofs.Steps.{image-refuses}
 use Rattle.signing.specs.Signing.{opcodeOf, sharedCode, opAt, signingOf}
 use Rattle.signing.specs.OnImage.{imageDone, opOn, signingDone, signingOn}
 use Rattle.signing.proofs.Signings.{shared-passed}
@@ -54,7 +55,7 @@ returns-2 c =
     let a = c .before .before .before .before .before .before .before .before .before .before .before .before .args in
     let g = went (sharedCode (a .state) (length (a .page .now)) (opcodeOf (a .opcode)) (a .pa) (a .size) (a .curve)) (placeOf (upOf (a .state)) (a .pa)) _ (sym (ap (λ o. gated (sharedCode (a .state) (length (a .page .now)) o (a .pa) (a .size) (a .curve)) (placeOf (upOf (a .state)) (a .pa))) (c .before .before .before .before .before .before .before .before .before .opcode-of .ensures)) ∙ sym (c .before .before .before .before .before .before .before .before .gate-of .ensures) ∙ c .before .before .before .before .before .before .gate2 .given .1) in
     c .before .before .serve-on .ensures
-    ∙ rw (c .before .before .before .before .before .before .before .before .before .opcode-of .ensures, g .1) (ap (λ (s : SigningStep). imageStep s (imageDone (opcodeOf (a .opcode)) (part (placeOf (upOf (a .state)) (a .pa)) (a .size) (a .page .now)) (a .image .now)) (a .image .now)) (list-accepts (sharedCode (a .state) (length (a .page .now)) (opcodeOf (a .opcode)) (a .pa) (a .size) (a .curve)) (opAt (opcodeOf (a .opcode)) (placeOf (upOf (a .state)) (a .pa)) (a .size) (a .page .now) (listsIn (a .image .now)) (a .key .now)) (a .page .now) (listsIn (a .image .now)) (g .0)))
+    ∙ rw (c .before .before .before .before .before .before .before .before .before .opcode-of .ensures, g .1) (ap (λ (s : SigningStep). imageStep s (imageDone (opcodeOf (a .opcode)) (part (placeOf (upOf (a .state)) (a .pa)) (a .size) (a .page .now)) (a .image .now)) (a .image .now)) (goes-on (sharedCode (a .state) (length (a .page .now)) (opcodeOf (a .opcode)) (a .pa) (a .size) (a .curve)) (a .page .now) (listsIn (a .image .now)) (opAt (opcodeOf (a .opcode)) (placeOf (upOf (a .state)) (a .pa)) (a .size) (a .page .now) (listsIn (a .image .now)) (a .key .now)) (g .0)))
 
 pub token-signing-on-spec : {M : Type 1} → statement M
 token-signing-on-spec =
