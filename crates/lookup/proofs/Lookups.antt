@@ -135,11 +135,11 @@ module _ (k at count i j : ℕ) (page : List ℕ) where
       (ap (λ x. wordAt x page) (let e : at + 8 * (wordsPerEntry k * i) + 8 * j ≡ at + 8 * (wordsPerEntry k * i + j) = omega arith in e)))
 
 -- any section
-pub word-shown : (w k i j : ℕ) (s : Section) (page : List ℕ) → isHidden w k j ≡ false → wordOf 0 k i j s page ≡ wordOf w k i j s page
+pub word-unhidden : (w k i j : ℕ) (s : Section) (page : List ℕ) → isHidden w k j ≡ false → wordOf 0 k i j s page ≡ wordOf w k i j s page
 unfolding wordOf shownAs entryWord
-word-shown w k i j Absent page h = refl
-word-shown w k i j Empty page h = refl
-word-shown w k i j (Entries at count) page h = sym (hidden-tests k at count i j page false w h)
+word-unhidden w k i j Absent page h = refl
+word-unhidden w k i j Empty page h = refl
+word-unhidden w k i j (Entries at count) page h = sym (hidden-tests k at count i j page false w h)
 
 pub word-hidden : (w k i j : ℕ) (s : Section) (page : List ℕ) → isHidden w k j ≡ true → 0 ≡ wordOf w k i j s page
 unfolding wordOf shownAs entryWord

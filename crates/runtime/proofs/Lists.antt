@@ -12,24 +12,24 @@ use Rattle.granules.specs.declared.Granules.{Granules}
 use Rattle.granules.specs.declared.Direction.{Direction}
 use Rattle.granules.proofs.Done.{list-is, longest}
 use Rattle.runtime.specs.Step.{World, withTable, list, kindOf, afterMove, callBy, callOf, stepOf, replyCode, refusal}
-use Rattle.runtime.specs.Run.{nextOf, worldAfter, single, doneCalls}
+use Rattle.runtime.specs.Run.{nextOf, worldAfter, singleCall, doneCalls}
 
 module _ (g : Granules) (r : Record) where
   -- a single call moves the table alone, as the command's definition says
-  pub single-next : (d : Direction) (w : World) (a : ℕ) → nextOf g w (single r d a) ≡ withTable (moveOf r g d (w .table) a .table) w
-  unfolding single stepOf callOf kindOf callBy afterMove
+  pub single-next : (d : Direction) (w : World) (a : ℕ) → nextOf g w (singleCall r d a) ≡ withTable (moveOf r g d (w .table) a .table) w
+  unfolding singleCall stepOf callOf kindOf callBy afterMove
   single-next Direction.Delegate w a = refl
   single-next Direction.Undelegate w a = refl
 
-  singles-after : (d : Direction) (w : World) (l : List ℕ) → worldAfter g w (map (single r d) l) ≡ withTable (tableBy (moveOf r g d) (w .table) l) w
+  singles-after : (d : Direction) (w : World) (l : List ℕ) → worldAfter g w (map (singleCall r d) l) ≡ withTable (tableBy (moveOf r g d) (w .table) l) w
   unfolding worldAfter tableBy
   singles-after d w [] = refl
-  singles-after d w (a ∷ l) = ap (λ v. worldAfter g v (map (single r d) l)) (single-next d w a) ∙ singles-after d (withTable (moveOf r g d (w .table) a .table) w) l
+  singles-after d w (a ∷ l) = ap (λ v. worldAfter g v (map (singleCall r d) l)) (single-next d w a) ∙ singles-after d (withTable (moveOf r g d (w .table) a .table) w) l
 
   -- how many are done is how many single calls that is
   done-length : (d : Direction) (w : World) (l : List ℕ) → length (doneCalls g w (list r d l)) ≡ doneOf r g d (w .table) l
   unfolding doneCalls
-  done-length d w l = length-map (take (doneOf r g d (w .table) l) l) (single r d) ∙ length-take-le (doneOf r g d (w .table) l) l (longest (moveOf r g d) (w .table) l .within)
+  done-length d w l = length-map (take (doneOf r g d (w .table) l) l) (singleCall r d) ∙ length-take-le (doneOf r g d (w .table) l) l (longest (moveOf r g d) (w .table) l .within)
 
   -- those done, one by one
   done-after : (d : Direction) (w : World) (l : List ℕ) → worldAfter g w (doneCalls g w (list r d l)) ≡ withTable (tableBy (moveOf r g d) (w .table) (take (doneOf r g d (w .table) l) l)) w

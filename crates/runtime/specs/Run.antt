@@ -42,15 +42,15 @@ module _ (g : Granules) where
 
 -- ---- a list and its single calls
 -- the call of one granule of a list; what is lent to other commands does not matter
-unfoldable pub single : Record → Direction → ℕ → Command
-single r Direction.Delegate a = call (callWith r 0xC40001B0 a 0 0 0 false [] [] [] 0)
-single r Direction.Undelegate a = call (callWith r 0xC40001B1 a 0 0 0 false [] [] [] 0)
+unfoldable pub singleCall : Record → Direction → ℕ → Command
+singleCall r Direction.Delegate a = call (callWith r 0xC40001B0 a 0 0 0 false [] [] [] 0)
+singleCall r Direction.Undelegate a = call (callWith r 0xC40001B1 a 0 0 0 false [] [] [] 0)
 
 -- 02, E1: "Demand 1 counts each granule of a list as a call of its own": the calls that a command has done where it is refused
 unfoldable pub doneCalls : Granules → World → Command → List Command
 doneCalls g w (call c) = []
 doneCalls g w (sign s) = []
-doneCalls g w (list r d l) = map (single r d) (take (doneOf r g d (w .table) l) l)
+doneCalls g w (list r d l) = map (singleCall r d) (take (doneOf r g d (w .table) l) l)
 
 -- ---- the token calls of a sequence
 abbrev pub ofToken : {A : Type 0} → Kind → List A → List A
