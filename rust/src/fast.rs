@@ -251,7 +251,7 @@ fn console_list(list: &[u64]) -> Option<u64> {
     let consoles = list.chunks_exact(6);
     let odd = consoles.remainder();
     let consoles = consoles.map(|words| words.try_into().expect("a console"));
-    // No edition that is written has flags.
+    // Flags have to be 0 at every edition that can be written.
     let sum = console_sum(4, consoles);
     sum.filter(|_| odd.is_empty())
 }

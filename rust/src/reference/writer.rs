@@ -49,7 +49,7 @@ fn list_sum(list: &[u64], k: usize) -> Option<u64> {
     if k == CONSOLE {
         let consoles = list.chunks_exact(6);
         let odd = consoles.remainder();
-        // No edition that is written has flags, so any of them will do as the minor.
+        // Flags have to be 0 at every edition that can be written, 1 to 4: so 4 does for all.
         console_sum(4, consoles.map(entry::<6>)).filter(|_| odd.is_empty())
     } else {
         let banks = list.chunks_exact(2);
