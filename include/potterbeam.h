@@ -409,7 +409,7 @@ uint64_t pbeam_word(const uint8_t *page, size_t page_len, const uint64_t view[PB
  * Leaves   the page as it was. text: ASCII from its first byte on, each line ended by '\n', with no '\0' behind it; as much as fits. What
  *          is behind the text stays as it was. Of a page that is refused the text is one line, "refused -5", "refused -6" or
  *          "refused -7", with the code of pbeam_read.
- * Stack    832 bytes
+ * Stack    832 bytes; AArch64 960
  * A word is written as 0x and 16 lower-case hex digits, a console's name as its 8 bytes in order, 16 such digits without 0x; the flags of a
  * console are 0 on a page of minor 5 or above, as pbeam_word shows them. No byte of the page is written as it stands, so the text is safe
  * to print.
@@ -428,7 +428,7 @@ size_t pbeam_listing(const uint8_t *page, size_t page_len, uint64_t base, uint64
  *          PBEAM_WRITE_W5_ROOM     core and arrays exceed 4,096 bytes
  * Leaves   the whole page written: version, plat_data 0, the sections, the arrays at once after the core in section order, zero
  *          everywhere else; an empty list gives 24 zero bytes. Refused, the page stays as it was. The lists stay as they were.
- * Stack    288 bytes; AArch64 192
+ * Stack    288 bytes; AArch64 208
  */
 uint32_t pbeam_write(uint64_t base, uint64_t edition, const uint64_t *dram, size_t dram_len, const uint64_t *console,
                      size_t console_len, const uint64_t *ncoh, size_t ncoh_len, const uint64_t *coh, size_t coh_len, uint8_t *page,
@@ -530,7 +530,7 @@ void pbeam_undelegate(const uint64_t state[PBEAM_STATE_WORDS], const uint64_t gr
  *          also when x0 is a refusal: so x1 is the index of the refused address. x2 0. An empty list is OK with 0, up or not.
  * Leaves   as x1 single calls would: the granules before the refused address are Realm and stay so; no other byte changes. An address
  *          that comes twice is refused with PBEAM_X0_BAD_PAS the second time.
- * Stack    64 bytes
+ * Stack    64 bytes; AArch64 0
  * The bytes alone are changed: the change in hardware is the platform's, for the first x1 addresses, on a refusal too.
  */
 PBEAM_NONNULL(1, 2, 7)
@@ -539,7 +539,7 @@ void pbeam_delegate_list(const uint64_t state[PBEAM_STATE_WORDS], const uint64_t
 
 /*
  * pbeam_undelegate_list: the same from Realm to Non-secure, each address as pbeam_undelegate takes it.
- * Stack    64 bytes
+ * Stack    64 bytes; AArch64 0
  */
 PBEAM_NONNULL(1, 2, 7)
 void pbeam_undelegate_list(const uint64_t state[PBEAM_STATE_WORDS], const uint64_t granules[PBEAM_GRANULES_WORDS], uint8_t *table,
