@@ -55,9 +55,7 @@ impl Exports for Model {
         };
         let mut entries = part.chunks_exact(8 * ENTRY_WORDS[section]);
         match entries.nth(entry) {
-            Some(entry) if word < ENTRY_WORDS[section] => {
-                shown_word(view[0], section, entry, word)
-            }
+            Some(entry) if word < ENTRY_WORDS[section] => shown_word(view[0], section, entry, word),
             _ => 0,
         }
     }

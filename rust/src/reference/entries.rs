@@ -124,7 +124,9 @@ mod tests {
                 })
                 .collect();
             let minor = random.pick(&[1, 3, 4, 5, 6, 65535]);
-            let expected = consoles.iter().all(|&console| console_sound(minor, console));
+            let expected = consoles
+                .iter()
+                .all(|&console| console_sound(minor, console));
             sound += u32::from(expected);
             let answer = console_sum(minor, consoles.iter().copied());
             assert_eq!(answer, expected.then(|| sum(&consoles)), "{consoles:x?}");

@@ -1,6 +1,8 @@
-//! The repository's run vectors, through the reference: what it prints is compared byte for byte with the expected text, which a
-//! third implementation made. The programs that print it from the proved library are crates/*_vectors/src/main.rt; a case's format
-//! is described at the top of each.
+//! The repository's run vectors, through the reference here and through the library's exports in `library`: what each prints is compared
+//! byte for byte with the expected text, which a third implementation made. The programs that print it from the proved crates are
+//! crates/*_vectors/src/main.rt; a case's format is described at the top of each.
+
+mod library;
 
 use potterbeam_tests::images::{queue_of, queue_words};
 use potterbeam_tests::reference::boot::{boot_code, Kept, Record};
@@ -198,15 +200,19 @@ fn print_boots(out: &mut String, input: &[u8]) {
         };
         record = next;
         write!(out, "code {}", boot_code(answer)).unwrap();
-        match record {
-            Record::Fresh => writeln!(out, " fresh"),
-            Record::Up(Kept { cpus, base, minor }) => {
-                writeln!(out, " up {cpus:016x} {base:016x} {minor:016x}")
-            }
-            Record::Closed => writeln!(out, " closed"),
-        }
-        .unwrap();
+        print_record(out, record);
     }
+}
+
+fn print_record(out: &mut String, record: Record) {
+    match record {
+        Record::Fresh => writeln!(out, " fresh"),
+        Record::Up(Kept { cpus, base, minor }) => {
+            writeln!(out, " up {cpus:016x} {base:016x} {minor:016x}")
+        }
+        Record::Closed => writeln!(out, " closed"),
+    }
+    .unwrap();
 }
 
 #[test]
@@ -474,27 +480,41 @@ fn same_or_differs(same: bool) -> &'static str {
     }
 }
 
-fn print_runtime(out: &mut String, input: &[u8]) {
-    let mut state = State {
-        record: record_at(input),
-        session: session_at(input),
-        queue: queue_at(lent(input, 136)),
-    };
+/// An operation of a case, on a state of a kind.
+type Operation<T> = fn(&mut String, &[u8], &[u8], &mut T, &mut Memory);
+
+/// The operations of a case, each with the state after it, and what waits at last.
+fn print_steps<T>(
+    out: &mut String,
+    input: &[u8],
+    held_state: &mut T,
+    operate: Operation<T>,
+    state: fn(&T) -> State,
+) {
     let mut held = Memory {
         page: lent(input, 72).to_vec(),
         table: lent(input, 88).to_vec(),
     };
     let mut expected = held.clone();
     for step in input[160..].chunks_exact(136).take(size_at(input, 152)) {
-        operate(out, input, step, &mut state, &mut held);
+        operate(out, input, step, held_state, &mut held);
         lay(input, step, 88, &mut expected.page);
         lay(input, step, 112, &mut expected.table);
-        print_state(out, &state);
+        print_state(out, &state(held_state));
         let page = same_or_differs(held.page == expected.page);
         let table = same_or_differs(held.table == expected.table);
         writeln!(out, ", page {page}, table {table}").unwrap();
     }
-    print_queue(out, &state.queue);
+    print_queue(out, &state(held_state).queue);
+}
+
+fn print_runtime(out: &mut String, input: &[u8]) {
+    let mut state = State {
+        record: record_at(input),
+        session: session_at(input),
+        queue: queue_at(lent(input, 136)),
+    };
+    print_steps(out, input, &mut state, operate, State::clone);
 }
 
 #[test]

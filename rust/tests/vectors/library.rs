@@ -1,0 +1,274 @@
+//! The same cases through the library's exports, on images and lent slices as a C caller has them. On x86-64 the programs of
+//! crates/*_vectors do it too; this is what can be run on another machine.
+
+use crate::*;
+use potterbeam_tests::exports::{Exports, Lent as LentTo, QueueImage, RecordImage, SessionImage};
+use potterbeam_tests::images::{record_of, record_words, session_of, session_words};
+use potterbeam_tests::kit::Kit;
+
+/// PBEAM_LISTING_ROOM: no listing is longer.
+const LISTING_ROOM: usize = 9716;
+
+fn list_page(out: &mut String, page: &[u8], base: u64, edition: u64) {
+    let mut text = [0; LISTING_ROOM];
+    let length = Kit::listing(page, base, edition, &mut text);
+    out.push_str(std::str::from_utf8(&text[..length]).expect("text"));
+}
+
+fn print_registers(out: &mut String, [x0, x1, x2]: [u64; 3]) {
+    writeln!(out, "registers {x0:016x} {x1:016x} {x2:016x}").unwrap();
+}
+
+fn print_same(out: &mut String, name: &str, held: &[u8], expected: &[u8]) {
+    writeln!(out, "{name} {}as expected", not_if(held != expected)).unwrap();
+}
+
+// ---- Manifest ----
+
+fn print_reading(out: &mut String, input: &[u8]) {
+    let (edition, base, page) = (word_at(input, 0), word_at(input, 8), &input[16..]);
+    list_page(out, page, base, edition);
+    for k in 0..5 {
+        let mut place = [0; 2];
+        Kit::array(page, base, edition, k, &mut place);
+        let part = &page[place[0] as usize..][..place[1] as usize];
+        writeln!(out, "array {k} {} {:016x}", part.len(), mark(part)).unwrap();
+    }
+}
+
+#[test]
+fn reader() {
+    compare("reader_vectors", 538, |out, input| {
+        if input.len() >= 16 {
+            print_reading(out, input);
+        }
+    });
+}
+
+fn print_writing(out: &mut String, input: &[u8]) {
+    let (base, edition) = (word_at(input, 0), word_at(input, 8));
+    let mut page = vec![word_at(input, 16) as u8; size_at(input, 24)];
+    let mut rest = &input[64..];
+    let lists = [32, 40, 48, 56].map(|at| words(take(&mut rest, 8 * size_at(input, at))));
+    let [dram, console, ncoh, coh] = &lists;
+    let refusal = Kit::write(base, edition, [dram, console, ncoh, coh], &mut page);
+    match refusal {
+        0 => writeln!(out, "made"),
+        _ => writeln!(out, "refused W{refusal}"),
+    }
+    .unwrap();
+    print_same(out, "page", &page, rest);
+    for edition in 1..=4 {
+        if refusal == 0 {
+            writeln!(out, "edition {edition}").unwrap();
+            list_page(out, &page, base, edition);
+        }
+    }
+}
+
+#[test]
+fn writer() {
+    compare("writer_vectors", 299, print_writing);
+}
+
+// ---- Boot ----
+
+fn print_boots(out: &mut String, input: &[u8]) {
+    let mut record = record_words(record_at(input));
+    let mut rest = &input[40..];
+    for _ in 0..word_at(input, 32) {
+        let step = take(&mut rest, 56);
+        let page = take(&mut rest, size_at(step, 48));
+        let x = [8, 16, 24, 32].map(|at| word_at(step, at));
+        let code = match word_at(step, 0) {
+            0 => Kit::cold_boot(&mut record, x, word_at(step, 40), page),
+            _ => Kit::warm_boot(&mut record, x),
+        };
+        write!(out, "code {code}").unwrap();
+        print_record(out, record_of(&record));
+    }
+}
+
+#[test]
+fn boot() {
+    compare("boot_vectors", 246, print_boots);
+}
+
+// ---- Commands ----
+
+fn print_list(out: &mut String, input: &[u8]) {
+    let record = record_words(record_at(input));
+    let [direction, start] = [32, 40].map(|at| word_at(input, at));
+    let [in_table, length] = [48, 56].map(|at| size_at(input, at));
+    let mut rest = &input[64..];
+    let mut table = take(&mut rest, in_table).to_vec();
+    let list = words(take(&mut rest, 8 * length));
+    let mut registers = [0; 3];
+    match direction {
+        0 => Kit::delegate_list(&record, &[start], &mut table, &list, &mut registers),
+        _ => Kit::undelegate_list(&record, &[start], &mut table, &list, &mut registers),
+    }
+    print_registers(out, registers);
+    print_same(out, "table", &table, take(&mut rest, in_table));
+}
+
+#[test]
+fn granules() {
+    compare("granule_vectors", 166, print_list);
+}
+
+fn print_command(out: &mut String, input: &[u8]) {
+    let record = record_words(record_at(input));
+    let [id, x1, x2, x3, start, width] = [32, 40, 48, 56, 64, 72].map(|at| word_at(input, at));
+    let [in_table, in_key, in_page] = [80, 88, 96].map(|at| size_at(input, at));
+    let mut rest = &input[104..];
+    let mut table = take(&mut rest, in_table).to_vec();
+    let key = take(&mut rest, in_key);
+    let mut page = take(&mut rest, in_page).to_vec();
+    let (mut registers, mut work) = ([0; 3], [0; 2]);
+    match id {
+        0xC400_01B0 => Kit::delegate(&record, &[start], &mut table, x1, &mut registers),
+        0xC400_01B1 => Kit::undelegate(&record, &[start], &mut table, x1, &mut registers),
+        0xC400_01B2 => Kit::realm_key(&record, &mut page, key, [x1, x2, x3], &mut registers),
+        0xC400_01B4 => Kit::features(&record, x1, &mut registers),
+        0xC400_01B6 => Kit::key_update(&record, width, x1, &mut registers, &mut work),
+        _ => work = [2, Kit::forward(&record, x1)],
+    }
+    if work[0] != 2 {
+        print_registers(out, registers);
+    }
+    match work {
+        [1, mecid] => writeln!(out, "reprogram {mecid:016x}").unwrap(),
+        [2, error] => writeln!(out, "forward {error:016x}").unwrap(),
+        _ => {}
+    }
+    print_same(out, "table", &table, take(&mut rest, in_table));
+    print_same(out, "page", &page, take(&mut rest, in_page));
+}
+
+#[test]
+fn commands() {
+    compare("command_vectors", 930, print_command);
+}
+
+// ---- The runtime ----
+
+struct Images {
+    record: RecordImage,
+    session: SessionImage,
+    queue: QueueImage,
+}
+
+impl Images {
+    /// The state that the images stand for, with counts and lengths as the words have them.
+    fn state(&self) -> State {
+        let bytes: Vec<u8> = self.queue.iter().flat_map(|w| w.to_le_bytes()).collect();
+        State {
+            record: record_of(&self.record),
+            session: session_of(&self.session),
+            queue: queue_at(&bytes),
+        }
+    }
+
+    /// The expected text is of a queue by value, in which an accepted call settles both sides; on the image it touches only what it needs.
+    /// Both stand for the same queue.
+    fn settle(&mut self) {
+        self.queue = queue_words(&queue_of(&self.queue));
+    }
+}
+
+fn print_work(out: &mut String, [x0, x1, x2]: [u64; 3], work: [u64; 2]) {
+    let answer = Answer { x0, x1, x2 };
+    print_reply(
+        out,
+        match work {
+            [2, error] => Reply::Forward(error),
+            [kind, mecid] => Reply::Back {
+                answer,
+                reprogram: (kind == 1).then_some(mecid),
+            },
+        },
+    );
+}
+
+fn call_by_id(out: &mut String, input: &[u8], step: &[u8], images: &mut Images, held: &mut Memory) {
+    let (mut registers, mut work) = ([0; 3], [0; 2]);
+    let x = [8, 16, 24, 32, 40].map(|at| word_at(step, at));
+    let mut lent = LentTo {
+        page: &mut held.page,
+        granules: [word_at(input, 32)],
+        table: &mut held.table,
+        key: lent(input, 104),
+        token: lent_by(input, step, 56),
+        busy: word_at(step, 48),
+        public_key: lent(input, 120),
+        width: word_at(input, 40),
+    };
+    let Images {
+        record,
+        session,
+        queue,
+    } = images;
+    Kit::call(
+        record,
+        session,
+        queue,
+        &mut lent,
+        &x,
+        &mut registers,
+        &mut work,
+    );
+    if registers[0] == 0 && x[0] == TOKEN_SIGN {
+        images.settle();
+    }
+    print_work(out, registers, work);
+}
+
+fn operate(out: &mut String, input: &[u8], step: &[u8], images: &mut Images, held: &mut Memory) {
+    let mut registers = [0; 3];
+    match word_at(step, 0) {
+        0 => call_by_id(out, input, step, images, held),
+        1 => {
+            Kit::sign(&mut images.queue, lent_by(input, step, 72), &mut registers);
+            if registers[0] == 0 {
+                images.settle();
+            }
+            print_work(out, registers, [0; 2]);
+        }
+        2 => {
+            let (x, mut place) = ([16, 24, 32].map(|at| word_at(step, at)), [0; 2]);
+            Kit::challenge(&images.record, &held.page, x, &mut place);
+            let part = &held.page[place[0] as usize..][..place[1] as usize];
+            write!(out, "challenge {}", part.len()).unwrap();
+            print_bytes(out, part);
+        }
+        _ => {
+            let mut request = [0; 10];
+            if Kit::oldest(&images.queue, &mut request) == 0 {
+                out.push_str("oldest none\n");
+                return;
+            }
+            let mut image = vec![0; 16];
+            image.extend(request.iter().flat_map(|word: &u64| word.to_le_bytes()));
+            print_request(out, "oldest", &request_at(&image, 0));
+        }
+    }
+}
+
+fn print_runtime(out: &mut String, input: &[u8]) {
+    let mut queue = [0; 210];
+    for (word, bytes) in queue.iter_mut().zip(lent(input, 136).chunks_exact(8)) {
+        *word = word_at(bytes, 0);
+    }
+    let mut images = Images {
+        record: record_words(record_at(input)),
+        session: session_words(session_at(input)),
+        queue,
+    };
+    print_steps(out, input, &mut images, operate, Images::state);
+}
+
+#[test]
+fn runtime() {
+    compare("runtime_vectors", 840, print_runtime);
+}
