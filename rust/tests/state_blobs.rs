@@ -1,5 +1,5 @@
 //! The exports for state blobs against the reference, on valid, damaged and random messages and collectors: each answer, each lent byte and
-//! word is compared, and the guards around them. Then the repository's run vectors through the reference. The seeds are fixed;
+//! word is compared, and the guards around them. Then the repository's run vectors through both. The seeds are fixed;
 //! POTTERBEAM_CALLS is how many calls each export gets at least.
 
 use potterbeam_tests::random::Random;
@@ -428,7 +428,7 @@ fn hex(words: &[u32]) -> String {
     words.join(" ")
 }
 
-fn case_text(out: &mut String, call: &[u8], memory: &mut Memory) {
+fn case_text<S: StateBlobs>(out: &mut String, call: &[u8], memory: &mut Memory) {
     let expected = &call[160..256];
     let made = match case_call(call) {
         Some(made) => made,
@@ -438,9 +438,9 @@ fn case_text(out: &mut String, call: &[u8], memory: &mut Memory) {
             return;
         }
     };
-    let answer = make::<Model>(&made, memory);
+    let answer = make::<S>(&made, memory);
     let collector = *memory.collector();
-    let complete = if Model::complete(&collector) {
+    let complete = if S::complete(&collector) {
         " complete"
     } else {
         ""
@@ -450,15 +450,14 @@ fn case_text(out: &mut String, call: &[u8], memory: &mut Memory) {
         out,
         "answer {answer:08x} collector {} held {:08x}{complete} parts {} length {} buffer as expected",
         hex(&collector),
-        Model::held(&collector),
+        S::held(&collector),
         hex(memory.parts()),
         memory.len[1]
     )
     .expect("text");
 }
 
-#[test]
-fn vectors() {
+fn compare_vectors<S: StateBlobs>(side: &str) {
     let place = Path::new(env!("CARGO_MANIFEST_DIR")).join("../crates/state_blobs_vectors");
     let (mut out, mut n) = (String::new(), 0);
     while let Ok(input) = std::fs::read(place.join(format!("data/c{n:03}"))) {
@@ -471,10 +470,16 @@ fn vectors() {
         };
         input
             .chunks_exact(256)
-            .for_each(|call| case_text(&mut out, call, &mut memory));
+            .for_each(|call| case_text::<S>(&mut out, call, &mut memory));
         n += 1;
     }
     assert!(n >= 100, "only {n} cases");
     let expected = std::fs::read_to_string(place.join("stdout")).expect("expected text");
-    assert!(out == expected, "the reference prints another text");
+    assert!(out == expected, "the {side} prints another text");
+}
+
+#[test]
+fn vectors() {
+    compare_vectors::<Library>("library");
+    compare_vectors::<Model>("reference");
 }

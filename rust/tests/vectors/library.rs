@@ -45,6 +45,19 @@ fn reader() {
     });
 }
 
+/// The input is 8 bytes of base, then the page; one without a base has no page either.
+fn list_input(out: &mut String, input: &[u8]) {
+    match input.len() < 8 {
+        true => list_page(out, &[], 0, 4),
+        false => list_page(out, &input[8..], word_at(input, 0), 4),
+    }
+}
+
+#[test]
+fn listings() {
+    compare_all_listings(list_input);
+}
+
 fn print_writing(out: &mut String, input: &[u8]) {
     let (base, edition) = (word_at(input, 0), word_at(input, 8));
     let mut page = vec![word_at(input, 16) as u8; size_at(input, 24)];

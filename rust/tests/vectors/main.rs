@@ -116,20 +116,23 @@ fn reader_vectors() {
 
 // ---- Listing ----
 
-fn compare_listing(input: &Path, expected: &Path) {
+/// What a side prints for the listing's input.
+type Lister = fn(&mut String, &[u8]);
+
+fn compare_listing(lister: Lister, input: &Path, expected: &Path) {
     let mut out = String::new();
-    list_input(&mut out, &std::fs::read(input).expect("input")).unwrap();
+    lister(&mut out, &std::fs::read(input).expect("input"));
     let expected = std::fs::read_to_string(expected).expect("expected text");
     assert_eq!(out, expected, "{}", input.display());
 }
 
 /// Each input in a folder; says how many there are.
-fn compare_listings(folder: &Path) -> usize {
+fn compare_listings(lister: Lister, folder: &Path) -> usize {
     let mut count = 0;
     for file in std::fs::read_dir(folder).expect("inputs") {
         let input = file.expect("a file").path();
         if input.extension().map_or(false, |kind| kind == "in") {
-            compare_listing(&input, &input.with_extension("out"));
+            compare_listing(lister, &input, &input.with_extension("out"));
             count += 1;
         }
     }
@@ -137,15 +140,19 @@ fn compare_listings(folder: &Path) -> usize {
 }
 
 /// The listing's own input, the pages that real firmware wrote, and the inputs on which the program is run.
-#[test]
-fn listings() {
+fn compare_all_listings(lister: Lister) {
     let listing = family("listing");
-    compare_listing(&listing.join("stdin"), &listing.join("stdout"));
-    let field = compare_listings(&family("../tests/reader/field"));
-    let cases = compare_listings(&family("../tests/listing/cases"));
+    compare_listing(lister, &listing.join("stdin"), &listing.join("stdout"));
+    let field = compare_listings(lister, &family("../tests/reader/field"));
+    let cases = compare_listings(lister, &family("../tests/listing/cases"));
     assert!(field >= 4, "only {field} field pages");
     assert!(cases >= 20, "only {cases} inputs");
     println!("listings: {field} field pages, {cases} inputs");
+}
+
+#[test]
+fn listings() {
+    compare_all_listings(|out, input| list_input(out, input).unwrap());
 }
 
 // ---- Writer ----
