@@ -10,7 +10,7 @@
  * - Any number, page, list, table and image is taken as input. There is no condition on values; every call returns, and touches only
  *   what it is lent. The library allocates nothing and keeps nothing between calls.
  * - A slice is a pointer and a count of elements. The pointer may be NULL only where the count is 0. An image (state, granules, session,
- *   queue, view, place, out, work, request, call) is a pointer to a fixed number of 64-bit words and is never NULL, also where the call does
+ *   queue, view, place, field, out, work, request, call) is a pointer to a fixed number of 64-bit words and is never NULL, also where the call does
  *   not need it.
  * - A page is lent by the address at which the caller sees it; B is only a number to the library. So a page needs no alignment in
  *   memory, and a caller that maps it elsewhere passes both. Words (uint64_t) are aligned as C asks.
@@ -101,9 +101,9 @@
 #define PBEAM_WRITE_PAGE 0       /* the page was made */
 #define PBEAM_WRITE_W1_PLACE 1   /* as PBEAM_MANIFEST_PLACE */
 #define PBEAM_WRITE_W2_EDITION 2 /* edition not 1 to 4 */
-#define PBEAM_WRITE_W3_LISTS 3   /* a list is not whole entries, or an entry breaks its rule */
+#define PBEAM_WRITE_W3_LISTS 3   /* a list is not whole entries, or an entry breaks its rule; fields are broken, or one has tag 0 */
 #define PBEAM_WRITE_W4_LATE 4    /* a list for a section after the edition is not empty */
-#define PBEAM_WRITE_W5_ROOM 5    /* core and arrays exceed 4,096 bytes */
+#define PBEAM_WRITE_W5_ROOM 5    /* core, arrays and fields with their end mark exceed 4,096 bytes */
 
 /* Runtime commands: the number. 002's NOMEM (-4) is never answered, so it has no name here. */
 #define PBEAM_OK 0
@@ -148,7 +148,7 @@
 /* Offsets in the page. */
 #define PBEAM_CORE_VERSION 0   /* 4 bytes */
 #define PBEAM_CORE_PADDING 4   /* 4 bytes, zero */
-#define PBEAM_CORE_PLAT_DATA 8 /* 8 bytes: 0, or an address in the page behind the core */
+#define PBEAM_CORE_PLAT_DATA 8 /* 8 bytes: 0, or the address of the fields in the page behind the core, any alignment */
 #define PBEAM_CORE_DRAM 16     /* section, since edition 2 */
 #define PBEAM_CORE_CONSOLE 40  /* section, since edition 3 */
 #define PBEAM_CORE_NCOH 64     /* section, since edition 4 */
@@ -187,8 +187,27 @@
 #define PBEAM_CONSOLE_BAUD_RATE 4
 #define PBEAM_CONSOLE_FLAGS 5
 
+/* Platform data: fields one after another, and an end mark, which is a tag and a length of 0. Through the end mark they lie in the page
+ * and share no byte with an array that the reader reads. Byte offsets in a field. */
+#define PBEAM_FIELD_TAG 0     /* 1 byte */
+#define PBEAM_FIELD_LENGTH 1  /* 2 bytes: length of the value */
+#define PBEAM_FIELD_VALUE 3   /* so many bytes */
+#define PBEAM_FIELD_END_BYTES 3
+#define PBEAM_FIELD_VALUE_MOST 65535 /* no page holds so much; a description is refused for its room then */
+
+/* Tags. Those below PBEAM_TAG_FREE appear at most once; the others may repeat, with any value. The values hold any bytes. */
+#define PBEAM_TAG_END 0     /* the end mark, length 0; with another length the fields are broken */
+#define PBEAM_TAG_NAME 1    /* board name, PBEAM_NAME_LEAST to PBEAM_NAME_MOST bytes */
+#define PBEAM_TAG_SERIAL 2  /* serial, PBEAM_SERIAL_BYTES bytes */
+#define PBEAM_TAG_CONSOLE 3 /* preferred console, PBEAM_CHOICE_BYTES byte */
+#define PBEAM_TAG_FREE 4
+#define PBEAM_NAME_LEAST 1
+#define PBEAM_NAME_MOST 32
+#define PBEAM_SERIAL_BYTES 8
+#define PBEAM_CHOICE_BYTES 1
+
 /* No listing is longer: bytes for the text of pbeam_listing. */
-#define PBEAM_LISTING_ROOM 9716
+#define PBEAM_LISTING_ROOM 12336
 
 /* ---- Runtime commands: arguments ---- */
 
@@ -309,6 +328,13 @@
 #define PBEAM_PLACE_OFFSET 0
 #define PBEAM_PLACE_LENGTH 1
 
+/* A field that was asked for. All zero where there is none. */
+#define PBEAM_FIELD_WORDS 4
+#define PBEAM_FIELD_WORD_FOUND 0  /* 1, or 0 where there is no such field */
+#define PBEAM_FIELD_WORD_TAG 1
+#define PBEAM_FIELD_WORD_OFFSET 2 /* offset of the value in the page */
+#define PBEAM_FIELD_WORD_LENGTH 3 /* length of the value */
+
 /* Result registers. Always written whole. */
 #define PBEAM_OUT_WORDS 3
 #define PBEAM_OUT_X0 0
@@ -345,10 +371,12 @@ extern "C" {
  *          PBEAM_MANIFEST_VERSION  edition not 1 to 4; the manifest's version has bit 31 set, major not 0, or minor 0
  *          PBEAM_MANIFEST_RULES    padding not zero; plat_data neither 0 nor from B + core size of e to B + 4,095; a section of e
  *                                  neither 24 zero bytes nor sound (count, pointer, array between core and page's end,
- *                                  checksum, each entry's rule); two arrays overlap
+ *                                  checksum, each entry's rule); two arrays overlap; the fields that plat_data points at are broken
+ *                                  (no end mark in the page, tag 0 with a length, a length that tags 1 to 3 may not have, one of
+ *                                  these twice) or share a byte with an array
  * Leaves   the page as it was. view: what the page shows; refused: all zero.
  * Stack    352 bytes; AArch64 400
- * A later minor is never refused. Sections after e are not read, nor what plat_data points at.
+ * A later minor is never refused. Sections after e are not read, nor what stands behind the end mark. Fields belong to every edition.
  */
 PBEAM_NONNULL(5)
 int32_t pbeam_read(const uint8_t *page, size_t page_len, uint64_t base, uint64_t edition, uint64_t view[PBEAM_VIEW_WORDS]);
@@ -401,8 +429,64 @@ uint64_t pbeam_word(const uint8_t *page, size_t page_len, const uint64_t view[PB
                     size_t word);
 
 /*
- * pbeam_listing: what a page shows, as text: a line for version and edition, one for plat_data, and for each section its number of entries
- *          with a line an entry, or that it is absent.
+ * pbeam_field_count: how many fields the platform data has.
+ * Takes    a page, and the view that pbeam_read made of it.
+ * Answers  the number of fields; 0 where plat_data is 0, where an end mark stands alone and, by a view that no reading made, where the
+ *          fields are broken or not in the lent page.
+ * Leaves   page and view as they were.
+ * Stack    256 bytes; AArch64 256
+ */
+PBEAM_NONNULL(3)
+size_t pbeam_field_count(const uint8_t *page, size_t page_len, const uint64_t view[PBEAM_VIEW_WORDS]);
+
+/*
+ * pbeam_field: a field by its number.
+ * Takes    page and view as pbeam_field_count; index, from 0 on in page order.
+ * Answers  nothing. field: 1, the tag, and offset and length of the value in the page; all zero where there is no such field. An empty
+ *          value has an offset too.
+ * Leaves   page and view as they were.
+ * Stack    256 bytes; AArch64 256
+ * Each call starts at the first field: to pass all of them, walk with pbeam_field_start and pbeam_field_next.
+ */
+PBEAM_NONNULL(3, 5)
+void pbeam_field(const uint8_t *page, size_t page_len, const uint64_t view[PBEAM_VIEW_WORDS], size_t index,
+                 uint64_t field[PBEAM_FIELD_WORDS]);
+
+/*
+ * pbeam_field_of_tag: the first field of a tag: so the board name (PBEAM_TAG_NAME) and the serial (PBEAM_TAG_SERIAL).
+ * Takes    page and view as pbeam_field_count; the tag. PBEAM_TAG_END is no field's.
+ * Answers  nothing. field: as pbeam_field.
+ * Leaves   page and view as they were.
+ * Stack    256 bytes; AArch64 256
+ */
+PBEAM_NONNULL(3, 5)
+void pbeam_field_of_tag(const uint8_t *page, size_t page_len, const uint64_t view[PBEAM_VIEW_WORDS], uint8_t tag,
+                        uint64_t field[PBEAM_FIELD_WORDS]);
+
+/*
+ * pbeam_field_start: the cursor at the first field, for pbeam_field_next.
+ * Takes    page and view as pbeam_field_count.
+ * Answers  the cursor; page_len where pbeam_field_count answers 0 and there is no end mark to stand at.
+ * Leaves   page and view as they were.
+ * Stack    256 bytes; AArch64 256
+ */
+PBEAM_NONNULL(3)
+size_t pbeam_field_start(const uint8_t *page, size_t page_len, const uint64_t view[PBEAM_VIEW_WORDS]);
+
+/*
+ * pbeam_field_next: the field at a cursor.
+ * Takes    the page, and a cursor that pbeam_field_start or this function answered for it.
+ * Answers  the cursor behind the field; page_len behind the last. field: as pbeam_field; all zero behind the last.
+ * Leaves   the page as it was.
+ * Stack    256 bytes; AArch64 256
+ * A walk over all fields passes the page once. Any other cursor is taken as the offset of a field: none is found outside the page.
+ */
+PBEAM_NONNULL(4)
+size_t pbeam_field_next(const uint8_t *page, size_t page_len, size_t cursor, uint64_t field[PBEAM_FIELD_WORDS]);
+
+/*
+ * pbeam_listing: what a page shows, as text: a line for version and edition, one for plat_data, one a field, and for each section its
+ *          number of entries with a line an entry, or that it is absent.
  * Takes    the page, base and edition as pbeam_read, and a room for the text.
  * Answers  the length of the whole text, also where it does not fit: if it is above text_len, the text was cut. It is never above
  *          PBEAM_LISTING_ROOM (proved), so a room of that length holds any text.
@@ -410,6 +494,7 @@ uint64_t pbeam_word(const uint8_t *page, size_t page_len, const uint64_t view[PB
  *          is behind the text stays as it was. Of a page that is refused the text is one line, "refused -5", "refused -6" or
  *          "refused -7", with the code of pbeam_read.
  * Stack    832 bytes; AArch64 960
+ * A field is its tag and the length of its value in decimal, and each byte of the value as two lower-case hex digits, parted by blanks.
  * A word is written as 0x and 16 lower-case hex digits, a console's name as its 8 bytes in order, 16 such digits without 0x; the flags of a
  * console are 0 on a page of minor 5 or above, as pbeam_word shows them. No byte of the page is written as it stands, so the text is safe
  * to print.
@@ -419,20 +504,23 @@ size_t pbeam_listing(const uint8_t *page, size_t page_len, uint64_t base, uint64
 /*
  * pbeam_write: write a manifest page.
  * Takes    B = base, the edition, four lists of words in the order of their entries (PBEAM_BANK_WORDS an entry, PBEAM_CONSOLE_WORDS for a
- *          console; each length counts words), and the page.
+ *          console; each length counts words), the fields of the platform data as they are to stand in the page, without an end mark
+ *          (fields_len counts bytes), and the page.
  * Answers  PBEAM_WRITE_PAGE, or by the first check that fails:
  *          PBEAM_WRITE_W1_PLACE    page not 4,096 bytes long; B zero, not a multiple of 4,096, or above PBEAM_BASE_MOST
  *          PBEAM_WRITE_W2_EDITION  edition not 1 to 4
- *          PBEAM_WRITE_W3_LISTS    a list's length is not a whole number of entries, or an entry breaks its rule; all four count
+ *          PBEAM_WRITE_W3_LISTS    a list's length is not a whole number of entries, or an entry breaks its rule; all four count; a field
+ *                                  is cut short, has tag 0 or a length that tags 1 to 3 may not have, or is the second of these
  *          PBEAM_WRITE_W4_LATE     a list for a section after the edition is not empty
- *          PBEAM_WRITE_W5_ROOM     core and arrays exceed 4,096 bytes
- * Leaves   the whole page written: version, plat_data 0, the sections, the arrays at once after the core in section order, zero
- *          everywhere else; an empty list gives 24 zero bytes. Refused, the page stays as it was. The lists stay as they were.
+ *          PBEAM_WRITE_W5_ROOM     core and arrays, and fields with their end mark if there are any, exceed 4,096 bytes
+ * Leaves   the whole page written: version, the sections, the arrays at once after the core in section order, then the fields with their
+ *          end mark and plat_data at them, or plat_data 0 without fields; zero everywhere else; an empty list gives 24 zero bytes.
+ *          Refused, the page stays as it was. Lists and fields stay as they were.
  * Stack    288 bytes; AArch64 208
  */
 uint32_t pbeam_write(uint64_t base, uint64_t edition, const uint64_t *dram, size_t dram_len, const uint64_t *console,
-                     size_t console_len, const uint64_t *ncoh, size_t ncoh_len, const uint64_t *coh, size_t coh_len, uint8_t *page,
-                     size_t page_len);
+                     size_t console_len, const uint64_t *ncoh, size_t ncoh_len, const uint64_t *coh, size_t coh_len,
+                     const uint8_t *fields, size_t fields_len, uint8_t *page, size_t page_len);
 
 /* ---- Boot ---- */
 

@@ -102,6 +102,10 @@ typedef struct {
 } pbeam_place_t;
 
 typedef struct {
+    uint64_t words[PBEAM_FIELD_WORDS];
+} pbeam_field_t;
+
+typedef struct {
     uint64_t words[PBEAM_OUT_WORDS];
 } pbeam_registers_t;
 
@@ -139,7 +143,8 @@ typedef struct {
     size_t length;
 } pbeam_bytes_t;
 
-/* The four lists of a manifest. A count is a number of entries; a pointer may be NULL where it is 0. */
+/* The four lists of a manifest, and its fields as pbeam_fields_add puts them. A count is a number of entries; a pointer may be NULL where
+ * it is 0. */
 typedef struct {
     const pbeam_bank_t *dram;
     size_t dram_count;
@@ -149,6 +154,7 @@ typedef struct {
     size_t ncoh_count;
     const pbeam_region_t *coh;
     size_t coh_count;
+    pbeam_bytes_t fields; /* all zero: none */
 } pbeam_lists_t;
 
 /* x0 to x3 of a cold boot. */
@@ -191,6 +197,7 @@ PBEAM_ASSERT(sizeof(pbeam_queue_t) == 1680, "a queue");
 PBEAM_ASSERT(sizeof(pbeam_request_t) == 80, "a request");
 PBEAM_ASSERT(sizeof(pbeam_view_t) == 120, "a view");
 PBEAM_ASSERT(sizeof(pbeam_place_t) == 16, "a place");
+PBEAM_ASSERT(sizeof(pbeam_field_t) == 32, "a field");
 PBEAM_ASSERT(sizeof(pbeam_registers_t) == 24, "result registers");
 PBEAM_ASSERT(sizeof(pbeam_work_t) == 16, "work");
 PBEAM_ASSERT(sizeof(pbeam_call_t) == 40, "registers of a call");
@@ -283,9 +290,9 @@ static inline const char *pbeam_write_text(uint32_t refusal)
     case PBEAM_WRITE_PAGE: return "done";
     case PBEAM_WRITE_W1_PLACE: return "W1: the page's length or base is wrong";
     case PBEAM_WRITE_W2_EDITION: return "W2: the edition is not 1 to 4";
-    case PBEAM_WRITE_W3_LISTS: return "W3: a list is not whole entries, or an entry breaks its rule";
+    case PBEAM_WRITE_W3_LISTS: return "W3: a list is not whole entries, or an entry or a field breaks its rule";
     case PBEAM_WRITE_W4_LATE: return "W4: a list for a section that the edition does not have";
-    case PBEAM_WRITE_W5_ROOM: return "W5: the entries do not fit into the page";
+    case PBEAM_WRITE_W5_ROOM: return "W5: entries and fields do not fit into the page";
     default: return "no writer's answer";
     }
 }
@@ -339,6 +346,26 @@ static inline void pbeam_console_text(const pbeam_console_t *console, char text[
     text[8] = '\0';
 }
 
+/*
+ * Adds a field behind the *used bytes of a description, which it counts up. false, and no change, where the value is longer than
+ * PBEAM_FIELD_VALUE_MOST or the room is too short. The rules of tags are pbeam_write's to check.
+ */
+PBEAM_NONNULL(1, 3)
+static inline bool pbeam_fields_add(uint8_t *fields, size_t room, size_t *used, uint8_t tag, pbeam_bytes_t value)
+{
+    const size_t length = value.at == NULL ? 0 : value.length;
+    uint8_t *field;
+    if (length > PBEAM_FIELD_VALUE_MOST || *used > room || room - *used < PBEAM_FIELD_VALUE + length)
+        return false;
+    field = fields + *used;
+    field[PBEAM_FIELD_TAG] = tag;
+    pbeam_put16(field + PBEAM_FIELD_LENGTH, (uint16_t)length);
+    for (size_t i = 0; i < length; i++)
+        field[PBEAM_FIELD_VALUE + i] = value.at[i];
+    *used += PBEAM_FIELD_VALUE + length;
+    return true;
+}
+
 /* ---- Manifest ---- */
 
 /*
@@ -355,8 +382,8 @@ static inline uint32_t pbeam_manifest_write(uint64_t base, uint64_t edition, con
     return pbeam_write(base, edition, (const uint64_t *)(const void *)lists->dram, lists->dram_count * PBEAM_BANK_WORDS,
                        (const uint64_t *)(const void *)lists->console, lists->console_count * PBEAM_CONSOLE_WORDS,
                        (const uint64_t *)(const void *)lists->ncoh, lists->ncoh_count * PBEAM_BANK_WORDS,
-                       (const uint64_t *)(const void *)lists->coh, lists->coh_count * PBEAM_BANK_WORDS, page->bytes,
-                       sizeof page->bytes);
+                       (const uint64_t *)(const void *)lists->coh, lists->coh_count * PBEAM_BANK_WORDS, lists->fields.at,
+                       lists->fields.at == NULL ? 0 : lists->fields.length, page->bytes, sizeof page->bytes);
 }
 
 /* pbeam_read. */
@@ -394,7 +421,7 @@ static inline uint64_t pbeam_view_edition(const pbeam_view_t *view)
     return view->words[PBEAM_VIEW_EDITION];
 }
 
-/* plat_data: 0, or a physical address in the page. */
+/* plat_data: 0, or the physical address of the fields in the page. */
 PBEAM_NONNULL(1)
 static inline uint64_t pbeam_view_plat_data(const pbeam_view_t *view)
 {
@@ -431,6 +458,88 @@ PBEAM_NONNULL(1, 2)
 static inline uint64_t pbeam_view_word(const pbeam_page_t *page, const pbeam_view_t *view, size_t section, size_t entry, size_t word)
 {
     return pbeam_word(page->bytes, sizeof page->bytes, view->words, section, entry, word);
+}
+
+/* pbeam_field_count: the number of fields of the platform data. */
+PBEAM_NONNULL(1, 2)
+static inline size_t pbeam_view_field_count(const pbeam_page_t *page, const pbeam_view_t *view)
+{
+    return pbeam_field_count(page->bytes, sizeof page->bytes, view->words);
+}
+
+/* pbeam_field: a field by its number, in page order. */
+PBEAM_NONNULL(1, 2)
+static inline pbeam_field_t pbeam_view_field(const pbeam_page_t *page, const pbeam_view_t *view, size_t index)
+{
+    pbeam_field_t field;
+    pbeam_field(page->bytes, sizeof page->bytes, view->words, index, field.words);
+    return field;
+}
+
+/* pbeam_field_of_tag: the first field of a tag. */
+PBEAM_NONNULL(1, 2)
+static inline pbeam_field_t pbeam_view_field_of_tag(const pbeam_page_t *page, const pbeam_view_t *view, uint8_t tag)
+{
+    pbeam_field_t field;
+    pbeam_field_of_tag(page->bytes, sizeof page->bytes, view->words, tag, field.words);
+    return field;
+}
+
+/* pbeam_field_start: the cursor at the first field. */
+PBEAM_NONNULL(1, 2)
+static inline size_t pbeam_view_field_start(const pbeam_page_t *page, const pbeam_view_t *view)
+{
+    return pbeam_field_start(page->bytes, sizeof page->bytes, view->words);
+}
+
+/* pbeam_field_next: the field at the cursor, which moves behind it. */
+PBEAM_NONNULL(1, 2)
+static inline pbeam_field_t pbeam_view_field_next(const pbeam_page_t *page, size_t *cursor)
+{
+    pbeam_field_t field;
+    *cursor = pbeam_field_next(page->bytes, sizeof page->bytes, *cursor, field.words);
+    return field;
+}
+
+/* Whether a field was found. */
+PBEAM_NONNULL(1)
+static inline bool pbeam_field_found(const pbeam_field_t *field)
+{
+    return field->words[PBEAM_FIELD_WORD_FOUND] != 0;
+}
+
+/* The tag of a field; PBEAM_TAG_END where there is none. */
+PBEAM_NONNULL(1)
+static inline uint8_t pbeam_field_tag(const pbeam_field_t *field)
+{
+    return (uint8_t)(field->words[PBEAM_FIELD_WORD_TAG] & 0xFF);
+}
+
+/* The value of a field, as the part of the page that it is; no byte where there is no field, or where a field that no lookup made lies
+ * outside the page. */
+PBEAM_NONNULL(1, 2)
+static inline pbeam_bytes_t pbeam_field_value(const pbeam_page_t *page, const pbeam_field_t *field)
+{
+    const uint64_t offset = field->words[PBEAM_FIELD_WORD_OFFSET], length = field->words[PBEAM_FIELD_WORD_LENGTH];
+    if (!pbeam_field_found(field) || offset > sizeof page->bytes || length > sizeof page->bytes - offset)
+        return pbeam_bytes(NULL, 0);
+    return pbeam_bytes(page->bytes + offset, (size_t)length);
+}
+
+/* The board name; no byte where there is none. It has no '\0' behind it. */
+PBEAM_NONNULL(1, 2)
+static inline pbeam_bytes_t pbeam_view_board_name(const pbeam_page_t *page, const pbeam_view_t *view)
+{
+    const pbeam_field_t field = pbeam_view_field_of_tag(page, view, PBEAM_TAG_NAME);
+    return pbeam_field_value(page, &field);
+}
+
+/* The serial, PBEAM_SERIAL_BYTES bytes; no byte where there is none. */
+PBEAM_NONNULL(1, 2)
+static inline pbeam_bytes_t pbeam_view_serial(const pbeam_page_t *page, const pbeam_view_t *view)
+{
+    const pbeam_field_t field = pbeam_view_field_of_tag(page, view, PBEAM_TAG_SERIAL);
+    return pbeam_field_value(page, &field);
 }
 
 /* A bank of dram; all zero where there is no such entry. No bank that was accepted has size 0. */

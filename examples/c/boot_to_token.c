@@ -1,7 +1,7 @@
 /*
  * From boot to a signed token: EL3 firmware on one side, the monitor (RMM) on the other, the page between them.
  *
- *   1  EL3 writes a manifest with two banks and a console.
+ *   1  EL3 writes a manifest with two banks and a console, and with the board's name and serial.
  *   2  EL3 enters the monitor: cold boot on CPU 0. The monitor lists what the manifest shows, and reports with RMM_BOOT_COMPLETE.
  *   3  Warm boot on CPU 1.
  *   4  The monitor delegates a granule, and tries the same one again: a refusal. EL3 hands over 200 granules of guest memory in one call; a
@@ -176,12 +176,18 @@ static bool el3_write_manifest(void)
         {.base = UINT64_C(0x880000000), .size = UINT64_C(0x80000000)},
     };
     pbeam_console_t console = {.base = UINT64_C(0x1C0C0000), .map_pages = 1, .clk_in_hz = 24000000, .baud_rate = 115200};
+    static const uint8_t name[] = {'D', 'K', '-', '1'}, serial[PBEAM_SERIAL_BYTES] = {0x20, 0x26, 0x11, 0x16, 0, 0, 0, 7};
+    uint8_t fields[64];
+    size_t used = 0;
     /* Counts are entries. Without device regions the last two lists are empty. */
-    const pbeam_lists_t lists = {
+    pbeam_lists_t lists = {
         .dram = banks, .dram_count = sizeof banks / sizeof banks[0], .console = &console, .console_count = 1};
     uint32_t refusal;
-    if (!pbeam_console_set_name(&console, "pl011"))
+    if (!pbeam_console_set_name(&console, "pl011") ||
+        !pbeam_fields_add(fields, sizeof fields, &used, PBEAM_TAG_NAME, pbeam_bytes(name, sizeof name)) ||
+        !pbeam_fields_add(fields, sizeof fields, &used, PBEAM_TAG_SERIAL, pbeam_bytes(serial, sizeof serial)))
         return false;
+    lists.fields = pbeam_bytes(fields, used);
     refusal = pbeam_manifest_write(BASE, PBEAM_EDITION_LAST, &lists, &page);
     printf("EL3: write a manifest of edition %d: %s\n", PBEAM_EDITION_LAST, pbeam_write_text(refusal));
     return refusal == PBEAM_WRITE_PAGE; /* on a board: clean the cache, the monitor may read it with its MMU off */
@@ -256,7 +262,13 @@ static void monitor_boot_complete(int32_t code)
 
 static void monitor_list(const pbeam_view_t *view)
 {
+    const pbeam_bytes_t name = pbeam_view_board_name(&page, view), serial = pbeam_view_serial(&page, view);
     printf("monitor: manifest 0.%" PRIu64 " read as edition %" PRIu64 "\n", pbeam_view_minor(view), pbeam_view_edition(view));
+    /* The name is any bytes, with no '\0' behind them: a board that does not trust them prints them in hex, as the serial. */
+    printf("monitor: board %.*s, serial ", (int)name.length, (const char *)name.at);
+    for (size_t i = 0; i < serial.length; i++)
+        printf("%02x", serial.at[i]);
+    printf("\n");
     for (size_t i = 0; i < pbeam_view_count(&page, view, PBEAM_DRAM); i++) {
         const pbeam_bank_t bank = pbeam_view_dram(&page, view, i);
         printf("monitor: bank at 0x%" PRIx64 ", 0x%" PRIx64 " bytes\n", bank.base, bank.size);

@@ -100,11 +100,17 @@ static bool write_manifest(void)
     static const pbeam_bank_t bank = {.base = MEMORY, .size = MEMORY_BYTES};
     static const pbeam_region_t pci = {.base = 0x10000000, .size = 0x2EFF0000};
     pbeam_console_t console = {.base = UART, .map_pages = 1, .clk_in_hz = 24000000, .baud_rate = 115200};
-    const pbeam_lists_t lists = {
+    static const uint8_t name[] = {'v', 'i', 'r', 't'}, serial[PBEAM_SERIAL_BYTES] = {0x20, 0x26, 0x11, 0x16, 0, 0, 0, 7};
+    static uint8_t fields[32];
+    pbeam_lists_t lists = {
         .dram = &bank, .dram_count = 1, .console = &console, .console_count = 1, .coh = &pci, .coh_count = 1};
+    size_t used = 0;
     uint32_t refusal;
-    if (!pbeam_console_set_name(&console, "pl011"))
+    if (!pbeam_console_set_name(&console, "pl011") ||
+        !pbeam_fields_add(fields, sizeof fields, &used, PBEAM_TAG_NAME, pbeam_bytes(name, sizeof name)) ||
+        !pbeam_fields_add(fields, sizeof fields, &used, PBEAM_TAG_SERIAL, pbeam_bytes(serial, sizeof serial)))
         return false;
+    lists.fields = pbeam_bytes(fields, used);
     refusal = pbeam_manifest_write(PAGE, PBEAM_EDITION_LAST, &lists, el3.kit.page);
     say("EL3: CPU 0 at level %d writes the manifest: %s\n", level(), pbeam_write_text(refusal));
     return refusal == PBEAM_WRITE_PAGE;

@@ -15,10 +15,11 @@ use potterbeam_tests::kit::{ffi, Kit};
 use potterbeam_tests::model::Model;
 use potterbeam_tests::reference::boot::Record;
 use potterbeam_tests::reference::codes::Outcome;
+use potterbeam_tests::reference::fields::split_field;
 use potterbeam_tests::reference::granules::{delegate, undelegate};
 use potterbeam_tests::reference::layout::PAGE;
 use potterbeam_tests::reference::queue::Queue;
-use potterbeam_tests::reference::reader::read;
+use potterbeam_tests::reference::reader::{pointed, read};
 use potterbeam_tests::reference::runtime::{
     DELEGATE, FEATURES, KEY_UPDATE, PLAT_TOKEN, REALM_KEY, REQ_COMPLETE, TOKEN_SIGN, UNDELEGATE,
 };
@@ -126,9 +127,9 @@ fn compare(name: &str, calls: u32, kit: Side, others: Vec<(&str, Side)>) {
 // ---- Manifest ----
 
 /// A reading against the reference and against code written by hand for speed, with the library's parameters.
-fn compare_reading(name: &str, base: u64, edition: u64, lists: Lists) {
+fn compare_reading(name: &str, base: u64, edition: u64, lists: Lists, fields: &[u8]) {
     let mut page = Page([0; PAGE]);
-    write(base, edition, lists, &mut page.0).expect("written");
+    write(base, edition, lists, fields, &mut page.0).expect("written");
     let (page, [base]) = (&*page.lent(), hidden([base]));
     let [mut view, mut theirs] = [[0; 15]; 2];
     // Neither `read` nor `write` can be inlined from another crate, so they need no wrapper to be calls.
@@ -157,7 +158,7 @@ fn compare_reading(name: &str, base: u64, edition: u64, lists: Lists) {
 }
 
 /// A writing, and the answer that all sides give.
-fn compare_writing(name: &str, base: u64, edition: u64, lists: Lists, answer: u32) {
+fn compare_writing(name: &str, base: u64, edition: u64, lists: Lists, fields: &[u8], answer: u32) {
     let [mut first, mut second, mut third] = [(); 3].map(|()| Page([0; PAGE]));
     let (ours, theirs, native) = (first.lent(), second.lent(), third.lent());
     let [base, edition] = hidden([base, edition]);
@@ -165,14 +166,14 @@ fn compare_writing(name: &str, base: u64, edition: u64, lists: Lists, answer: u3
         name,
         1,
         side(|| {
-            assert_eq!(Kit::write(base, edition, lists, ours), answer);
+            assert_eq!(Kit::write(base, edition, lists, fields, ours), answer);
             see(u64::from(ours[0]));
         }),
         vec![
             (
                 "native",
                 side(|| {
-                    let wrote = write(base, edition, lists, native);
+                    let wrote = write(base, edition, lists, fields, native);
                     assert_eq!(wrote.map_or_else(|refusal| refusal as u32, |()| 0), answer);
                     see(u64::from(native[0]));
                 }),
@@ -180,7 +181,7 @@ fn compare_writing(name: &str, base: u64, edition: u64, lists: Lists, answer: u3
             (
                 "by hand",
                 side(|| {
-                    assert_eq!(fast::write(base, edition, lists, theirs), answer);
+                    assert_eq!(fast::write(base, edition, lists, fields, theirs), answer);
                     see(u64::from(theirs[0]));
                 }),
             ),
@@ -201,13 +202,90 @@ fn compare_manifests() {
         ("83 consoles", BASE, 4, [&[], &consoles, &[], &[]]),
     ];
     for (name, base, edition, lists) in pages {
-        compare_reading(name, base, edition, lists);
-        compare_writing(&format!("write {name}"), base, edition, lists, 0);
+        compare_reading(name, base, edition, lists, &[]);
+        compare_writing(&format!("write {name}"), base, edition, lists, &[], 0);
+    }
+    // 02, E7: 4,000 bytes of fields, and fewer: the cost grows with the bytes.
+    for (name, fields) in [
+        ("an FVP page, name and serial", board()),
+        ("1,000 bytes of fields", of_fields(50, 17)),
+        ("2,000 bytes of fields", of_fields(100, 17)),
+        ("4,000 bytes of fields", of_fields(200, 17)),
+        ("4,000 bytes, fields of 1 byte", of_fields(1000, 1)),
+        ("4,000 bytes in one field", of_fields(1, 3997)),
+    ] {
+        let lists: Lists = match name.starts_with("an FVP") {
+            true => [&fvp, &uart, &[], &[]],
+            false => [&[]; 4],
+        };
+        let edition = if fields.len() < 100 { 3 } else { 1 };
+        compare_reading(name, BASE, edition, lists, &fields);
+        compare_writing(&format!("write {name}"), BASE, edition, lists, &fields, 0);
+        compare_walk(name, edition, lists, &fields);
     }
     let (mut unsound, many) = (banks.clone(), BANK.repeat(250));
     unsound[497] = 1;
-    compare_writing("write 249 banks, W3", BASE, 4, [&unsound, &[], &[], &[]], 3);
-    compare_writing("write 250 banks, W5", BASE, 4, [&many, &[], &[], &[]], 5);
+    let [unsound, many]: [Lists; 2] = [[&unsound, &[], &[], &[]], [&many, &[], &[], &[]]];
+    compare_writing("write 249 banks, W3", BASE, 4, unsound, &[], 3);
+    compare_writing("write 250 banks, W5", BASE, 4, many, &[], 5);
+}
+
+/// A name and a serial.
+fn board() -> Vec<u8> {
+    let name = [&[1, 15, 0], &b"Potterbeam DK-1"[..]].concat();
+    [&name, &[2, 8, 0, 1, 2, 3, 4, 5, 6, 7, 8][..]].concat()
+}
+
+/// So many fields with values of so many bytes.
+fn of_fields(count: usize, length: u16) -> Vec<u8> {
+    let [low, high] = length.to_le_bytes();
+    let field = [vec![77, low, high], vec![5; length.into()]].concat();
+    field.repeat(count)
+}
+
+#[inline(never)]
+fn native_walk(page: &[u8], plat_data: u64) -> u64 {
+    let mut rest = pointed(page, plat_data);
+    let mut sum = 0;
+    while let Some((field, behind)) = split_field(rest).filter(|(field, _)| field.tag != 0) {
+        sum += field.value.len() as u64;
+        rest = behind;
+    }
+    sum
+}
+
+/// All fields of a page that was read, by a cursor, and the first of a tag that is not there.
+fn compare_walk(name: &str, edition: u64, lists: Lists, fields: &[u8]) {
+    let (mut page, mut view) = (Page([0; PAGE]), [0; 15]);
+    write(BASE, edition, lists, fields, &mut page.0).expect("written");
+    let page = &*page.lent();
+    assert_eq!(Kit::read(page, BASE, 4, &mut view), 0);
+    let [mut ours, mut theirs] = [0; 2];
+    compare(
+        &format!("walk {name}"),
+        1,
+        side(|| {
+            let mut field = [0; 4];
+            let mut cursor = Kit::field_start(page, &view);
+            ours = 0;
+            loop {
+                cursor = Kit::field_next(page, cursor, &mut field);
+                if field[0] == 0 {
+                    break;
+                }
+                ours += field[3];
+            }
+            see(ours);
+        }),
+        vec![(
+            "native",
+            side(|| {
+                theirs = native_walk(page, view[2]);
+                see(theirs);
+            }),
+        )],
+    );
+    assert_eq!(ours, theirs);
 }
 
 // ---- Granules ----
@@ -705,7 +783,7 @@ fn in_place_cold_boot(state: &mut RecordImage, x: [u64; 4], most: u64, page: &[u
 
 fn compare_cold_boot() {
     let mut page = Page([0; PAGE]);
-    write(BASE, 2, [&BANK, &[], &[], &[]], &mut page.0).expect("written");
+    write(BASE, 2, [&BANK, &[], &[], &[]], &[], &mut page.0).expect("written");
     let (x, [most]) = (hidden([0, 5, 8, BASE]), hidden([8]));
     let page = &*page.lent();
     let [mut ours, mut theirs] = [[0; 4]; 2];

@@ -11,6 +11,8 @@ pub type SessionImage = [u64; 3];
 pub type QueueImage = [u64; 210];
 /// What a page shows: w, e, plat_data, then three words a section: 0 absent, 1 empty or 2 entries, their offset, their number.
 pub type ViewImage = [u64; 15];
+/// A field of the platform data: 1, its tag, and the offset and length of its value; zeros where there is none.
+pub type FieldImage = [u64; 4];
 /// A request as it stands in the queue.
 pub type RequestImage = [u64; 10];
 /// Offset and length of a part of the page; zeros where it is empty.
@@ -41,9 +43,18 @@ pub trait Exports {
     fn array_of(page: &[u8], view: &ViewImage, section: usize, place: &mut Place);
     fn count(page: &[u8], view: &ViewImage, section: usize) -> usize;
     fn word(page: &[u8], view: &ViewImage, section: usize, entry: usize, word: usize) -> u64;
+    /// How many fields there are.
+    fn field_count(page: &[u8], view: &ViewImage) -> usize;
+    fn field(page: &[u8], view: &ViewImage, index: usize, field: &mut FieldImage);
+    /// The first of a tag.
+    fn field_of_tag(page: &[u8], view: &ViewImage, tag: u8, field: &mut FieldImage);
+    /// The cursor at the first field.
+    fn field_start(page: &[u8], view: &ViewImage) -> usize;
+    /// The field at a cursor, and the cursor behind it.
+    fn field_next(page: &[u8], cursor: usize, field: &mut FieldImage) -> usize;
     /// The length of the whole text, of which as much as fits is written.
     fn listing(page: &[u8], base: u64, edition: u64, text: &mut [u8]) -> usize;
-    fn write(base: u64, edition: u64, lists: [&[u64]; 4], page: &mut [u8]) -> u32;
+    fn write(base: u64, edition: u64, lists: [&[u64]; 4], fields: &[u8], page: &mut [u8]) -> u32;
 
     fn cold_boot(state: &mut RecordImage, x: [u64; 4], most: u64, page: &[u8]) -> i32;
     fn warm_boot(state: &mut RecordImage, x: [u64; 4]) -> i32;

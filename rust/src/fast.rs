@@ -40,7 +40,75 @@ fn judge(page: &[u8], base: u64, edition: u64, view: &mut ViewImage) -> Result<(
     }
     view[..3].copy_from_slice(&[u64::from(minor), edition.number(), plat]);
     let sections = edition.sections();
-    show_sections(page, base, core, sections, view).ok_or(RULES)
+    show_sections(page, base, core, sections, view).ok_or(RULES)?;
+    if plat == 0 {
+        return Ok(());
+    }
+    fields_apart(page, plat - base, view).ok_or(RULES)
+}
+
+/// That the fields from an offset on are good, and overlap no array that the view shows.
+#[inline(never)]
+fn fields_apart(page: &[u8; PAGE], from: u64, view: &ViewImage) -> Option<()> {
+    let bounds = (from, fields_end(page, from as usize)? as u64);
+    for (k, words) in view[3..].chunks_exact(3).enumerate() {
+        let length = words[2] * 8 * ENTRY_WORDS[k] as u64;
+        if words[0] == 2 && !apart(bounds, (words[1], words[1] + length)) {
+            return None;
+        }
+    }
+    Some(())
+}
+
+/// Where the fields from an offset on end, behind their mark. A value that leaves the page leaves no room for the mark: so only the
+/// three bytes before a value are looked for in the page.
+#[inline]
+fn fields_end(page: &[u8], from: usize) -> Option<usize> {
+    let (mut at, mut seen) = (from, 0u8);
+    loop {
+        let head = page.get(at..at + 3)?;
+        let (tag, length) = (head[0], usize::from(u16::from_le_bytes([head[1], head[2]])));
+        if tag <= 3 {
+            if tag == 0 {
+                return (length == 0).then_some(at + 3);
+            }
+            if !may_follow(&mut seen, tag, length) {
+                return None;
+            }
+        }
+        at += 3 + length;
+    }
+}
+
+/// Whether a field of tag 1 to 3 may follow those seen, of which it becomes one.
+#[inline]
+fn may_follow(seen: &mut u8, tag: u8, length: usize) -> bool {
+    let fine = match tag {
+        1 => (1..=32).contains(&length),
+        2 => length == 8,
+        _ => length == 1,
+    };
+    let first = *seen & 1 << tag == 0;
+    *seen |= 1 << tag;
+    fine && first
+}
+
+/// Whether these are fields up to the last byte, none of tag 0.
+#[inline(never)]
+fn bare(fields: &[u8]) -> bool {
+    let (mut at, mut seen) = (0, 0u8);
+    while at < fields.len() {
+        let head = match fields.get(at..at + 3) {
+            Some(head) => head,
+            None => return false,
+        };
+        let (tag, length) = (head[0], usize::from(u16::from_le_bytes([head[1], head[2]])));
+        if tag == 0 || (tag <= 3 && !may_follow(&mut seen, tag, length)) {
+            return false;
+        }
+        at += 3 + length;
+    }
+    at == fields.len()
 }
 
 /// Each section by itself, and that no two arrays overlap. Written out, so that a section's places are constants.
@@ -188,7 +256,7 @@ fn many_consoles(minor: u64, array: &[u8]) -> Option<u64> {
 
 /// `pbeam_write`.
 #[inline(never)]
-pub fn write(base: u64, edition: u64, lists: Lists, page: &mut [u8]) -> u32 {
+pub fn write(base: u64, edition: u64, lists: Lists, fields: &[u8], page: &mut [u8]) -> u32 {
     let page = match placed_mut(page, base) {
         Some(page) => page,
         None => return 1,
@@ -201,6 +269,9 @@ pub fn write(base: u64, edition: u64, lists: Lists, page: &mut [u8]) -> u32 {
         Some(sums) => sums,
         None => return 3,
     };
+    if !fields.is_empty() && !bare(fields) {
+        return 3;
+    }
     let sections = edition.sections();
     if lists[sections..].iter().any(|list| !list.is_empty()) {
         return 4;
@@ -208,10 +279,12 @@ pub fn write(base: u64, edition: u64, lists: Lists, page: &mut [u8]) -> u32 {
     let words = lists
         .iter()
         .fold(0usize, |words, list| words.saturating_add(list.len()));
-    if words > (PAGE - edition.core()) / 8 {
+    let room = (PAGE - edition.core()) / 8;
+    if words > room || (!fields.is_empty() && fields.len() > (8 * (room - words)).saturating_sub(3))
+    {
         return 5;
     }
-    fill(page, base, edition, lists, sums);
+    fill(page, base, edition, lists, fields, sums);
     0
 }
 
@@ -258,7 +331,14 @@ fn console_list(list: &[u64]) -> Option<u64> {
 
 /// The page of lists that were all checked: core, arrays in section order, zeros.
 #[inline]
-fn fill(page: &mut [u8; PAGE], base: u64, edition: Edition, lists: Lists, sums: [u64; SECTIONS]) {
+fn fill(
+    page: &mut [u8; PAGE],
+    base: u64,
+    edition: Edition,
+    lists: Lists,
+    fields: &[u8],
+    sums: [u64; SECTIONS],
+) {
     let mut at = edition.core();
     put(page, 0, &[edition.number(), 0]);
     for k in 0..edition.sections() {
@@ -273,6 +353,11 @@ fn fill(page: &mut [u8; PAGE], base: u64, edition: Edition, lists: Lists, sums: 
         put(page, header_offset(k), &words);
         put(page, at, list);
         at += 8 * list.len();
+    }
+    if !fields.is_empty() {
+        put(page, 8, &[base + at as u64]);
+        page[at..at + fields.len()].copy_from_slice(fields);
+        at += fields.len();
     }
     page[at..].fill(0);
 }

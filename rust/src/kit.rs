@@ -2,16 +2,16 @@
 //! or a length, and those come from slices and arrays here.
 
 use crate::exports::{
-    Exports, GranulesImage, Lent, Place, QueueImage, RecordImage, Registers, RequestImage,
-    SessionImage, ViewImage, Work,
+    Exports, FieldImage, GranulesImage, Lent, Place, QueueImage, RecordImage, Registers,
+    RequestImage, SessionImage, ViewImage, Work,
 };
 use std::ptr::{null, null_mut};
 
 /// The C functions. Tests of the stack call them by address.
 pub mod ffi {
     use super::{
-        GranulesImage, Place, QueueImage, RecordImage, Registers, RequestImage, SessionImage,
-        ViewImage, Work,
+        FieldImage, GranulesImage, Place, QueueImage, RecordImage, Registers, RequestImage,
+        SessionImage, ViewImage, Work,
     };
 
     extern "C" {
@@ -51,6 +51,30 @@ pub mod ffi {
             entry: usize,
             word: usize,
         ) -> u64;
+        pub fn pbeam_field_count(page: *const u8, page_len: usize, view: *const ViewImage)
+            -> usize;
+        pub fn pbeam_field(
+            page: *const u8,
+            page_len: usize,
+            view: *const ViewImage,
+            index: usize,
+            field: *mut FieldImage,
+        );
+        pub fn pbeam_field_of_tag(
+            page: *const u8,
+            page_len: usize,
+            view: *const ViewImage,
+            tag: u8,
+            field: *mut FieldImage,
+        );
+        pub fn pbeam_field_start(page: *const u8, page_len: usize, view: *const ViewImage)
+            -> usize;
+        pub fn pbeam_field_next(
+            page: *const u8,
+            page_len: usize,
+            cursor: usize,
+            field: *mut FieldImage,
+        ) -> usize;
         pub fn pbeam_listing(
             page: *const u8,
             page_len: usize,
@@ -70,6 +94,8 @@ pub mod ffi {
             ncoh_len: usize,
             coh: *const u64,
             coh_len: usize,
+            fields: *const u8,
+            fields_len: usize,
             page: *mut u8,
             page_len: usize,
         ) -> u32;
@@ -266,6 +292,36 @@ impl Exports for Kit {
     }
 
     #[inline]
+    fn field_count(page: &[u8], view: &ViewImage) -> usize {
+        let (page, page_len) = lend(page);
+        unsafe { ffi::pbeam_field_count(page, page_len, view) }
+    }
+
+    #[inline]
+    fn field(page: &[u8], view: &ViewImage, index: usize, field: &mut FieldImage) {
+        let (page, page_len) = lend(page);
+        unsafe { ffi::pbeam_field(page, page_len, view, index, field) }
+    }
+
+    #[inline]
+    fn field_of_tag(page: &[u8], view: &ViewImage, tag: u8, field: &mut FieldImage) {
+        let (page, page_len) = lend(page);
+        unsafe { ffi::pbeam_field_of_tag(page, page_len, view, tag, field) }
+    }
+
+    #[inline]
+    fn field_start(page: &[u8], view: &ViewImage) -> usize {
+        let (page, page_len) = lend(page);
+        unsafe { ffi::pbeam_field_start(page, page_len, view) }
+    }
+
+    #[inline]
+    fn field_next(page: &[u8], cursor: usize, field: &mut FieldImage) -> usize {
+        let (page, page_len) = lend(page);
+        unsafe { ffi::pbeam_field_next(page, page_len, cursor, field) }
+    }
+
+    #[inline]
     fn listing(page: &[u8], base: u64, edition: u64, text: &mut [u8]) -> usize {
         let (page, page_len) = lend(page);
         let (text, text_len) = lend_mut(text);
@@ -273,12 +329,13 @@ impl Exports for Kit {
     }
 
     #[inline]
-    fn write(base: u64, edition: u64, lists: [&[u64]; 4], page: &mut [u8]) -> u32 {
+    fn write(base: u64, edition: u64, lists: [&[u64]; 4], fields: &[u8], page: &mut [u8]) -> u32 {
         let [dram, console, ncoh, coh] = lists;
         let (dram, dram_len) = lend(dram);
         let (console, console_len) = lend(console);
         let (ncoh, ncoh_len) = lend(ncoh);
         let (coh, coh_len) = lend(coh);
+        let (fields, fields_len) = lend(fields);
         let (page, page_len) = lend_mut(page);
         unsafe {
             ffi::pbeam_write(
@@ -292,6 +349,8 @@ impl Exports for Kit {
                 ncoh_len,
                 coh,
                 coh_len,
+                fields,
+                fields_len,
                 page,
                 page_len,
             )

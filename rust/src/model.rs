@@ -2,8 +2,8 @@
 //! refused command leaves its images as they are, whatever they hold; a boot always writes the record.
 
 use crate::exports::{
-    Exports, GranulesImage, Lent, Place, QueueImage, RecordImage, Registers, RequestImage,
-    SessionImage, ViewImage, Work,
+    Exports, FieldImage, GranulesImage, Lent, Place, QueueImage, RecordImage, Registers,
+    RequestImage, SessionImage, ViewImage, Work,
 };
 use crate::images::{
     part_of, put_moves, queue_of, record_of, record_words, registers, request_words, session_of,
@@ -12,12 +12,13 @@ use crate::images::{
 use crate::reference::boot::{boot_code, BootError, Record};
 use crate::reference::codes::{Answer, Outcome};
 use crate::reference::features::{features, forward, key_update};
+use crate::reference::fields::{fields_end, split_field, Field};
 use crate::reference::granules::{delegate, delegate_list, undelegate, undelegate_list};
 use crate::reference::key::realm_key;
 use crate::reference::layout::{accepted_minor, ENTRY_WORDS};
 use crate::reference::listing::list;
 use crate::reference::queue::Queue;
-use crate::reference::reader::{array, read, shown_word};
+use crate::reference::reader::{array, fields, pointed, read, shown_word};
 use crate::reference::runtime::{self, call, Call, Reply, State, PLAT_TOKEN, TOKEN_SIGN};
 use crate::reference::signing::{token_sign, SignCall};
 use crate::reference::token::{challenge, challenge_checks, TokenCall};
@@ -60,6 +61,45 @@ impl Exports for Model {
         }
     }
 
+    fn field_count(page: &[u8], view: &ViewImage) -> usize {
+        fields(page, view[2]).len()
+    }
+
+    fn field(page: &[u8], view: &ViewImage, index: usize, field: &mut FieldImage) {
+        let shown = fields(page, view[2]);
+        *field = shown
+            .get(index)
+            .map_or([0; 4], |shown| field_words(page, shown));
+    }
+
+    fn field_of_tag(page: &[u8], view: &ViewImage, tag: u8, field: &mut FieldImage) {
+        let shown = fields(page, view[2]);
+        let first = shown.iter().find(|field| field.tag == tag);
+        *field = first.map_or([0; 4], |shown| field_words(page, shown));
+    }
+
+    /// A cursor is an offset; the page's length is the one behind the last field.
+    fn field_start(page: &[u8], view: &ViewImage) -> usize {
+        let fields = pointed(page, view[2]);
+        match fields_end(fields) {
+            Some(_) => page.len() - fields.len(),
+            None => page.len(),
+        }
+    }
+
+    fn field_next(page: &[u8], cursor: usize, field: &mut FieldImage) -> usize {
+        match page.get(cursor..).and_then(split_field) {
+            Some((shown, rest)) if shown.tag != 0 => {
+                *field = field_words(page, &shown);
+                page.len() - rest.len()
+            }
+            _ => {
+                *field = [0; 4];
+                page.len()
+            }
+        }
+    }
+
     fn listing(page: &[u8], base: u64, edition: u64, text: &mut [u8]) -> usize {
         let mut whole = String::new();
         list(&mut whole, page, base, edition).expect("a string takes any text");
@@ -68,8 +108,8 @@ impl Exports for Model {
         whole.len()
     }
 
-    fn write(base: u64, edition: u64, lists: [&[u64]; 4], page: &mut [u8]) -> u32 {
-        write(base, edition, lists, page).map_or_else(|refusal| refusal as u32, |()| 0)
+    fn write(base: u64, edition: u64, lists: [&[u64]; 4], fields: &[u8], page: &mut [u8]) -> u32 {
+        write(base, edition, lists, fields, page).map_or_else(|refusal| refusal as u32, |()| 0)
     }
 
     fn cold_boot(state: &mut RecordImage, x: [u64; 4], most: u64, page: &[u8]) -> i32 {
@@ -307,6 +347,12 @@ fn native<'a>(lent: &'a mut Lent) -> runtime::Lent<'a> {
         busy: lent.busy != 0,
         width: lent.width,
     }
+}
+
+/// A field of the page. An empty value has a place too: behind its length.
+fn field_words(page: &[u8], field: &Field) -> FieldImage {
+    let offset = field.value.as_ptr() as usize - page.as_ptr() as usize;
+    [1, field.tag.into(), offset as u64, field.value.len() as u64]
 }
 
 /// Where a part of the page stands in it.

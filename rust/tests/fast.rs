@@ -47,9 +47,11 @@ fn random_lists() {
         };
         let (base, edition, lists) = (writing.base, writing.edition, writing.lists());
         let [mut ours, mut theirs] = [(); 2].map(|()| writing.page.clone());
-        let answer = fast::write(base, edition, lists, &mut ours);
-        assert_eq!(answer, Model::write(base, edition, lists, &mut theirs));
-        assert!(ours == theirs, "{lists:x?}");
+        let fields = &writing.fields;
+        let answer = fast::write(base, edition, lists, fields, &mut ours);
+        let expected = Model::write(base, edition, lists, fields, &mut theirs);
+        assert_eq!(answer, expected);
+        assert!(ours == theirs, "{lists:x?} {fields:x?}");
         *met.entry(answer).or_insert(0) += 1;
     }
     println!("fast::write: {met:?}");

@@ -4,7 +4,7 @@ use potterbeam_tests::random::calls::{Outcome, Step};
 use potterbeam_tests::random::Random;
 use potterbeam_tests::reference::boot::{boot_code, Record};
 use potterbeam_tests::reference::layout::word_at;
-use potterbeam_tests::reference::reader::{read, Section};
+use potterbeam_tests::reference::reader::{fields, read, Section};
 use potterbeam_tests::reference::runtime::Reply;
 use potterbeam_tests::reference::writer::write;
 use std::collections::{BTreeMap, BTreeSet};
@@ -53,10 +53,12 @@ fn pages_meet_every_code() {
 #[test]
 fn made_pages_are_read_as_told() {
     let mut random = Random::new(3);
+    let mut most = 0;
     for _ in 0..RUNS {
         let mut writing = random.valid_writing();
         let mut page = std::mem::take(&mut writing.page);
-        write(writing.base, writing.edition, writing.lists(), &mut page).expect("valid");
+        let (lists, told) = (writing.lists(), &writing.fields);
+        write(writing.base, writing.edition, lists, told, &mut page).expect("valid");
         let view = read(&page, writing.base, 4).expect("made");
         for (k, list) in writing.lists().into_iter().enumerate() {
             let words = match view.sections[k] {
@@ -66,7 +68,17 @@ fn made_pages_are_read_as_told() {
             let words: Vec<u64> = words.chunks_exact(8).map(|cell| word_at(cell, 0)).collect();
             assert_eq!(words, list);
         }
+        let shown = fields(&page, view.plat_data);
+        let mut again = Vec::new();
+        for field in &shown {
+            again.push(field.tag);
+            again.extend((field.value.len() as u16).to_le_bytes());
+            again.extend_from_slice(field.value);
+        }
+        assert_eq!(&again, told);
+        most = most.max(shown.len());
     }
+    assert!(most > 200, "at most {most} fields");
 }
 
 #[test]
@@ -76,7 +88,8 @@ fn lists_meet_every_refusal_and_leave_the_page() {
     for _ in 0..RUNS {
         let writing = random.any_writing();
         let mut page = writing.page.clone();
-        let answer = write(writing.base, writing.edition, writing.lists(), &mut page);
+        let (lists, fields) = (writing.lists(), &writing.fields);
+        let answer = write(writing.base, writing.edition, lists, fields, &mut page);
         assert!(answer.is_ok() || page == writing.page);
         *answers
             .entry(answer.map_or_else(|refusal| refusal as u8, |()| 0))

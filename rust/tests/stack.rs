@@ -241,9 +241,21 @@ fn figure_that_is_exceeded_fails() {
 // ---- Manifest and boot ----
 
 fn page_of(lists: [&[u64]; 4]) -> Vec<u8> {
+    page_with(lists, &[])
+}
+
+fn page_with(lists: [&[u64]; 4], fields: &[u8]) -> Vec<u8> {
     let mut page = vec![0; PAGE];
-    assert_eq!(Kit::write(BASE, 4, lists, &mut page), 0);
+    assert_eq!(Kit::write(BASE, 4, lists, fields, &mut page), 0);
     page
+}
+
+/// A name and a serial.
+const BOARD: &[u8] = b"\x01\x04\x00DK-1\x02\x08\x00\x00\x01\x02\x03\x04\x05\x06\x07";
+
+/// So many fields of one byte.
+fn fields(count: usize) -> Vec<u8> {
+    [4, 1, 0, 9].repeat(count)
 }
 
 fn consoles(count: usize) -> Vec<u8> {
@@ -265,6 +277,17 @@ fn pages() -> Vec<(&'static str, Vec<u8>, i32)> {
         ("83 consoles", consoles(83), 0),
         ("249 banks", page_of([&BANK.repeat(249), &[], &[], &[]]), 0),
         ("all four sections", four(), 0),
+        (
+            "all four sections and two fields",
+            page_with([&BANK, &CONSOLE, &BANK, &BANK], BOARD),
+            0,
+        ),
+        ("995 fields", page_with([&[]; 4], &fields(995)), 0),
+        (
+            "a broken field",
+            spoilt(page_with([&[]; 4], &fields(995)), 115),
+            -7,
+        ),
         ("page too short", vec![0; PAGE - 1], -5),
         ("no version", vec![0; PAGE], -6),
         ("padding", spoilt(four(), 4), -7),
@@ -305,7 +328,7 @@ fn reading(header: &mut Header, what: &str, page: &[u8], code: i32) {
     header.within(("pbeam_read", what), &[0; 15], code, |view| {
         Kit::read(page, BASE, 4, view)
     });
-    for room in [9716, 1000, 0] {
+    for room in [12336, 1000, 0] {
         let length = Model::listing(page, BASE, 4, &mut []);
         header.within(("pbeam_listing", what), &vec![0; room], length, |text| {
             Kit::listing(page, BASE, 4, text)
@@ -344,6 +367,36 @@ fn looking_up(header: &mut Header) {
             Kit::word(&page, &view, 1, 82, 4)
         });
     }
+    looking_up_fields(header);
+}
+
+/// The same for fields: the last of many, and views without any.
+fn looking_up_fields(header: &mut Header) {
+    let (page, mut view) = (page_with([&[]; 4], &fields(995)), [0; 15]);
+    assert_eq!(Kit::read(&page, BASE, 4, &mut view), 0);
+    for (what, view, count, start) in [
+        ("995 fields", view, 995, 112),
+        ("no view", [0; 15], 0, PAGE),
+        ("any words", [u64::MAX; 15], 0, PAGE),
+    ] {
+        header.within(("pbeam_field_count", what), &(), count, |()| {
+            Kit::field_count(&page, &view)
+        });
+        header.within(("pbeam_field_start", what), &(), start, |()| {
+            Kit::field_start(&page, &view)
+        });
+        header.within(("pbeam_field", what), &[0; 4], (), |field| {
+            Kit::field(&page, &view, 994, field)
+        });
+        header.within(("pbeam_field_of_tag", what), &[0; 4], (), |field| {
+            Kit::field_of_tag(&page, &view, 5, field)
+        });
+    }
+    for (what, cursor, next) in [("a field", 112, 116), ("none", PAGE, PAGE)] {
+        header.within(("pbeam_field_next", what), &[0; 4], next, |field| {
+            Kit::field_next(&page, cursor, field)
+        });
+    }
 }
 
 fn writing(header: &mut Header) {
@@ -361,7 +414,17 @@ fn writing(header: &mut Header) {
         ("W5", BASE, 4, [&more[..], &[], &[], &[]], 5),
     ] {
         header.within(("pbeam_write", what), &page, made, |page| {
-            Kit::write(base, edition, lists, page)
+            Kit::write(base, edition, lists, &[], page)
+        });
+    }
+    for (what, fields, made) in [
+        ("two fields", BOARD.to_vec(), 0),
+        ("995 fields", fields(995), 0),
+        ("995 fields, W3", [fields(995), vec![0; 3]].concat(), 3),
+        ("996 fields, W5", fields(996), 5),
+    ] {
+        header.within(("pbeam_write", what), &page, made, |page| {
+            Kit::write(BASE, 4, [&[]; 4], &fields, page)
         });
     }
 }
@@ -455,11 +518,11 @@ fn writing_takes_no_more_for_more_entries() {
     let of = |entry: &[u64], count| (entry.repeat(count), vec![0; PAGE]);
     let lent = [&of(&CONSOLE, 1), &of(&CONSOLE, 83)];
     no_more_for_more("write, 83 consoles", lent, |(list, page)| {
-        Kit::write(BASE, 4, [&[], list, &[], &[]], page) as i32
+        Kit::write(BASE, 4, [&[], list, &[], &[]], &[], page) as i32
     });
     let lent = [&of(&BANK, 1), &of(&BANK, 249)];
     no_more_for_more("write, 249 banks", lent, |(list, page)| {
-        Kit::write(BASE, 4, [list, &[], &[], &[]], page) as i32
+        Kit::write(BASE, 4, [list, &[], &[], &[]], &[], page) as i32
     });
 }
 

@@ -19,8 +19,8 @@ HERE = Path(__file__).resolve().parent
 
 sys.dont_write_bytecode = True
 sys.path[:0] = [str(HERE.parent), str(HERE.parent / "reader")]
-from make import (B, HEAD, JUNK, PAGE, SAMPLE, TOP, WORD, Page,
-                  broken, example_14, field_pages, full, read, with_entry)
+from make import (B, CHOICE, HEAD, JUNK, NAME, PAGE, PLACE, SAMPLE, SERIAL, TOP, WORD, Page,
+                  broken, example_14, field, field_pages, full, read, with_entry)
 from vectors import write_all
 
 ONES = WORD - 1
@@ -170,7 +170,7 @@ def manifests():
         add([-7], text, cold(page))
     for edition, text, page in ((1, "dram checksum 1", full().checksum(0, 1)),
                                 (2, "console checksum 1", full().checksum(1, 1)),
-                                (2, "plat_data at B + 40", full().words(8, B + 40)),
+                                (2, "plat_data at B + 40", Page().words(8, B + 40)),
                                 (3, "coh checksum 1", full().checksum(3, 1))):
         assert not broken(edition, B, page.data)
         add([-7], f"x1 = {edition}: {text}, edition {edition} would accept", cold(page, x1=edition))
@@ -183,6 +183,25 @@ def manifests():
     add([0], "example 14's page", cold(example_14()), kept=(8, B, 4))
     for stem, b, page, _ in field_pages():      # qemu's console checksum does not hold
         add([-7 if stem.startswith("qemu") else 0], f"field page {stem}", cold(page, x3=b))
+
+
+def fields():
+    """02, E7: cold boot reads the fields of the platform data by the new rules"""
+    for minor in (1, 4, 9):
+        page = full(minor, fill=JUNK).facts(0x703, NAME, SERIAL, CHOICE, field(9), field(9, b"ab"))
+        add([0, 0], f"name, serial, console and two more, 0.{minor} page", cold(page), warm(7),
+            kept=(8, B, 4))
+    add([0], "an end mark alone", cold(full().facts(4093)))
+    for rule, text, page in (
+            ("fields", "serial twice", full().facts(0x703, SERIAL, NAME, SERIAL)),
+            ("fields", "a name of 33 bytes", full().facts(0x703, field(1, JUNK[:33]))),
+            ("fields", "no end mark", full(fill=JUNK).words(8, B + 4095)),
+            ("fields in array", "fields in dram", full().words(8, B + PLACE[0]))):
+        assert [rule] == [found for _, found in broken(4, B, page.data)], text
+        add([-7], text, cold(page))
+    page = full().words(8, B + PLACE[3])
+    assert not broken(3, B, page.data)
+    add([-7], "x1 = 3: fields in coh, edition 3 would accept", cold(page, x1=3))
 
 
 # Three ways to break each check of cold boot and no other. Those of one index go together.
@@ -304,7 +323,7 @@ def random_sequences():
 
 def build_all():
     for group in (versions, processors, bases_and_lengths, manifests, several_at_once, warm_boots,
-                  sequences, forged_records, random_sequences):
+                  sequences, forged_records, random_sequences, fields):
         GROUPS.append((group.__doc__, []))
         group()
 
@@ -319,7 +338,7 @@ def check():
         tally.update((step.kind, code) for step, (code, _) in zip(case.steps, case.answers))
         assert 1 <= len(case.steps) <= 6 and len(file_of(case)) <= 32000
         assert all(len(step.page) <= (4200 if step.kind == "cold" else 0) for step in case.steps)
-    assert len({file_of(case) for case in cases}) == len(cases) <= 250
+    assert len({file_of(case) for case in cases}) == len(cases) <= 300
     assert {code for kind, code in tally if kind == "cold"} == {0, *range(-7, 0)}
     assert {code for kind, code in tally if kind == "warm"} == {0, -1, -4}
     print(f"{len(cases)} cases, steps by code:",

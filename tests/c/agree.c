@@ -83,7 +83,7 @@ static uint32_t make(uint64_t edition)
 {
     memset(page, 0xEE, sizeof page);
     return pbeam_write(BASE, edition, dram, edition < 2 ? 0 : 4, console, edition < 3 ? 0 : 6, ncoh, edition < 4 ? 0 : 6, coh,
-                    edition < 4 ? 0 : 8, page, LEN);
+                    edition < 4 ? 0 : 8, NULL, 0, page, LEN);
 }
 
 /* The core size by the library: the lowest plat_data that a reader of the edition accepts. */
@@ -91,7 +91,7 @@ static size_t core_of(uint64_t edition)
 {
     uint64_t view[ROOM];
     size_t at = 1;
-    pbeam_write(BASE, edition, NULL, 0, NULL, 0, NULL, 0, NULL, 0, page, LEN);
+    pbeam_write(BASE, edition, NULL, 0, NULL, 0, NULL, 0, NULL, 0, NULL, 0, page, LEN);
     for (; at < LEN; at++) {
         put(page + 8, BASE + at, 8);
         if (pbeam_read(page, LEN, BASE, edition, view) == 0)
@@ -187,7 +187,7 @@ static void check_view(void)
     SAME(view[PBEAM_VIEW_MINOR], 4);
     SAME(view[PBEAM_VIEW_EDITION], 2);
     section_shown(view, PBEAM_CONSOLE, PBEAM_VIEW_ABSENT, 0, 0);
-    pbeam_write(BASE, 4, dram, 4, NULL, 0, NULL, 0, NULL, 0, page, LEN);
+    pbeam_write(BASE, 4, dram, 4, NULL, 0, NULL, 0, NULL, 0, NULL, 0, page, LEN);
     pbeam_read(page, LEN, BASE, 4, view);
     section_shown(view, PBEAM_CONSOLE, PBEAM_VIEW_EMPTY, 0, 0);
     /* A refused page shows zeros. */
@@ -223,26 +223,112 @@ static void check_lookups(void)
     SAME(pbeam_word(page, LEN, view, PBEAM_CONSOLE, 0, PBEAM_CONSOLE_FLAGS - 1), 115200);
 }
 
+static uint8_t facts[LEN];
+
+/* A field behind the others of a description; its value is of one byte, repeated. */
+static size_t add(size_t used, uint8_t tag, size_t length, int byte)
+{
+    facts[used + PBEAM_FIELD_TAG] = tag;
+    put(facts + used + PBEAM_FIELD_LENGTH, length, 2);
+    memset(facts + used + PBEAM_FIELD_VALUE, byte, length);
+    return used + PBEAM_FIELD_VALUE + length;
+}
+
+static uint32_t write_facts(size_t length)
+{
+    return pbeam_write(BASE, 1, NULL, 0, NULL, 0, NULL, 0, NULL, 0, facts, length, page, LEN);
+}
+
+/* Whether a field of the tag may have so long a value. */
+static uint32_t write_fact(uint8_t tag, size_t length)
+{
+    return write_facts(add(0, tag, length, 0x77));
+}
+
+/* The bytes of a page with fields, and how the lookups show each. */
+static void check_fields(void)
+{
+    uint64_t view[ROOM], field[ROOM];
+    size_t used = add(0, PBEAM_TAG_NAME, 5, 'b'), cursor;
+    used = add(used, PBEAM_TAG_SERIAL, PBEAM_SERIAL_BYTES, 0x5E);
+    used = add(used, PBEAM_TAG_CONSOLE, PBEAM_CHOICE_BYTES, 1);
+    used = add(used, PBEAM_TAG_FREE, 0, 0);
+    memset(page, 0xEE, sizeof page);
+    SAME(write_facts(used), PBEAM_WRITE_PAGE);
+    SAME(get(page + PBEAM_CORE_PLAT_DATA, 8), BASE + 16);
+    SAME(page[16 + PBEAM_FIELD_TAG], 1);
+    SAME(get(page + 16 + PBEAM_FIELD_LENGTH, 2), 5);
+    SAME(page[16 + PBEAM_FIELD_VALUE], 'b');
+    SAME(page[16 + used], PBEAM_TAG_END);
+    SAME(pbeam_read(page, LEN, BASE, 4, view), PBEAM_READ_ACCEPTED);
+    SAME(pbeam_field_count(page, LEN, view), 4);
+    guard(field);
+    pbeam_field(page, LEN, view, 1, field);
+    SAME(PBEAM_FIELD_WORDS, written(field));
+    SAME(field[PBEAM_FIELD_WORD_FOUND], 1);
+    SAME(field[PBEAM_FIELD_WORD_TAG], 2);
+    SAME(field[PBEAM_FIELD_WORD_OFFSET], 16 + 8 + 3);
+    SAME(field[PBEAM_FIELD_WORD_LENGTH], 8);
+    guard(field);
+    pbeam_field_of_tag(page, LEN, view, PBEAM_TAG_CONSOLE, field);
+    SAME(PBEAM_FIELD_WORDS, written(field));
+    SAME(field[PBEAM_FIELD_WORD_OFFSET], 16 + 8 + 11 + 3);
+    pbeam_field_of_tag(page, LEN, view, 5, field);
+    SAME(field[PBEAM_FIELD_WORD_FOUND], 0);
+    cursor = pbeam_field_start(page, LEN, view);
+    SAME(cursor, 16);
+    for (uint64_t tag = 1; tag < 5; tag++) {
+        guard(field);
+        cursor = pbeam_field_next(page, LEN, cursor, field);
+        SAME(PBEAM_FIELD_WORDS, written(field));
+        SAME(field[PBEAM_FIELD_WORD_TAG], tag);
+    }
+    SAME(cursor, 16 + used);
+    SAME(pbeam_field_next(page, LEN, cursor, field), LEN);
+    SAME(field[PBEAM_FIELD_WORD_FOUND], 0);
+}
+
+/* Each limit from both sides. */
+static void check_field_limits(void)
+{
+    SAME(write_fact(PBEAM_TAG_NAME, PBEAM_NAME_LEAST), PBEAM_WRITE_PAGE);
+    SAME(write_fact(PBEAM_TAG_NAME, PBEAM_NAME_LEAST - 1), PBEAM_WRITE_W3_LISTS);
+    SAME(write_fact(PBEAM_TAG_NAME, PBEAM_NAME_MOST), PBEAM_WRITE_PAGE);
+    SAME(write_fact(PBEAM_TAG_NAME, PBEAM_NAME_MOST + 1), PBEAM_WRITE_W3_LISTS);
+    SAME(write_fact(PBEAM_TAG_SERIAL, PBEAM_SERIAL_BYTES), PBEAM_WRITE_PAGE);
+    SAME(write_fact(PBEAM_TAG_SERIAL, PBEAM_SERIAL_BYTES + 1), PBEAM_WRITE_W3_LISTS);
+    SAME(write_fact(PBEAM_TAG_CONSOLE, PBEAM_CHOICE_BYTES), PBEAM_WRITE_PAGE);
+    SAME(write_fact(PBEAM_TAG_CONSOLE, PBEAM_CHOICE_BYTES + 1), PBEAM_WRITE_W3_LISTS);
+    SAME(write_fact(PBEAM_TAG_FREE - 1, 0), PBEAM_WRITE_W3_LISTS);
+    SAME(write_fact(PBEAM_TAG_FREE, 0), PBEAM_WRITE_PAGE);
+    SAME(write_fact(PBEAM_TAG_END, 0), PBEAM_WRITE_W3_LISTS);
+    /* The end mark counts: a field that leaves its bytes fits, a byte more does not. */
+    SAME(write_fact(9, LEN - 16 - PBEAM_FIELD_VALUE - PBEAM_FIELD_END_BYTES), PBEAM_WRITE_PAGE);
+    SAME(write_fact(9, LEN - 16 - PBEAM_FIELD_VALUE - PBEAM_FIELD_END_BYTES + 1), PBEAM_WRITE_W5_ROOM);
+    /* The largest length that two bytes hold; one more would be read as 0. */
+    add(0, 9, 0, 0);
+    put(facts + PBEAM_FIELD_LENGTH, PBEAM_FIELD_VALUE_MOST, 2);
+    SAME(get(facts + PBEAM_FIELD_LENGTH, 2), PBEAM_FIELD_VALUE_MOST);
+    put(facts + PBEAM_FIELD_LENGTH, PBEAM_FIELD_VALUE_MOST + 1, 2);
+    SAME(get(facts + PBEAM_FIELD_LENGTH, 2), 0);
+}
+
 /* The longest listing fills its room; a shorter room cuts it, and the answer says so. */
 static void check_listing(void)
 {
     static uint8_t text[PBEAM_LISTING_ROOM + 1], cut[PBEAM_LISTING_ROOM + 1];
-    static uint64_t banks[2 * 253];
     static const char refused[] = "refused -5\n";
-    for (size_t i = 0; i < 2 * 253; i++)
-        banks[i] = 0x1000;
-    pbeam_write(BASE, 2, banks, 2 * 253, NULL, 0, NULL, 0, NULL, 0, page, LEN);
+    write_fact(200, LEN - 16 - PBEAM_FIELD_VALUE - PBEAM_FIELD_END_BYTES);
     put(page, 65535, 4);
-    put(page + 8, BASE + 40, 8);
     memset(text, 0xEE, sizeof text);
     memset(cut, 0xEE, sizeof cut);
-    SAME(PBEAM_LISTING_ROOM, pbeam_listing(page, LEN, BASE, 2, text, sizeof text));
+    SAME(PBEAM_LISTING_ROOM, pbeam_listing(page, LEN, BASE, 1, text, sizeof text));
     SAME(text[PBEAM_LISTING_ROOM - 1], '\n');
     SAME(text[PBEAM_LISTING_ROOM], 0xEE);
-    SAME(PBEAM_LISTING_ROOM, pbeam_listing(page, LEN, BASE, 2, cut, 1000));
+    SAME(PBEAM_LISTING_ROOM, pbeam_listing(page, LEN, BASE, 1, cut, 1000));
     SAME(memcmp(text, cut, 1000), 0);
     SAME(cut[1000], 0xEE);
-    SAME(PBEAM_LISTING_ROOM, pbeam_listing(page, LEN, BASE, 2, NULL, 0));
+    SAME(PBEAM_LISTING_ROOM, pbeam_listing(page, LEN, BASE, 1, NULL, 0));
     SAME(pbeam_listing(page, LEN, 0, 2, text, sizeof text), sizeof refused - 1);
     SAME(memcmp(text, refused, sizeof refused - 1), 0);
 }
@@ -274,7 +360,7 @@ static size_t entry_words(int of_console)
 {
     size_t n = 1;
     for (; n < 6; n++)
-        if (pbeam_write(BASE, 4, dram, of_console ? 0 : n, console, of_console ? n : 0, NULL, 0, NULL, 0, page, LEN) != 3)
+        if (pbeam_write(BASE, 4, dram, of_console ? 0 : n, console, of_console ? n : 0, NULL, 0, NULL, 0, NULL, 0, page, LEN) != 3)
             break;
     return n;
 }
@@ -284,7 +370,7 @@ static uint32_t write_console(size_t word, uint64_t value)
     uint64_t one[16];
     memcpy(one, console, sizeof console);
     one[word] = value;
-    return pbeam_write(BASE, 3, NULL, 0, one, 6, NULL, 0, NULL, 0, page, LEN);
+    return pbeam_write(BASE, 3, NULL, 0, one, 6, NULL, 0, NULL, 0, NULL, 0, page, LEN);
 }
 
 static void check_entries(void)
@@ -302,7 +388,7 @@ static void check_entries(void)
 static uint32_t write_bank(uint64_t bank, uint64_t size)
 {
     uint64_t one[2] = {bank, size};
-    return pbeam_write(BASE, 2, one, 2, NULL, 0, NULL, 0, NULL, 0, page, LEN);
+    return pbeam_write(BASE, 2, one, 2, NULL, 0, NULL, 0, NULL, 0, NULL, 0, page, LEN);
 }
 
 static void check_writer(void)
@@ -310,19 +396,19 @@ static void check_writer(void)
     static uint64_t banks[500];
     for (size_t i = 0; i < 500; i++)
         banks[i] = 4096 * (i + 1);
-    SAME(PBEAM_WRITE_W1_PLACE, pbeam_write(0, 4, NULL, 0, NULL, 0, NULL, 0, NULL, 0, page, LEN));
-    SAME(PBEAM_WRITE_W2_EDITION, pbeam_write(BASE, 0, NULL, 0, NULL, 0, NULL, 0, NULL, 0, page, LEN));
-    SAME(PBEAM_WRITE_W3_LISTS, pbeam_write(BASE, 1, NULL, 0, NULL, 0, NULL, 0, coh, 1, page, LEN));
-    SAME(PBEAM_WRITE_W4_LATE, pbeam_write(BASE, 3, NULL, 0, NULL, 0, NULL, 0, coh, 2, page, LEN));
+    SAME(PBEAM_WRITE_W1_PLACE, pbeam_write(0, 4, NULL, 0, NULL, 0, NULL, 0, NULL, 0, NULL, 0, page, LEN));
+    SAME(PBEAM_WRITE_W2_EDITION, pbeam_write(BASE, 0, NULL, 0, NULL, 0, NULL, 0, NULL, 0, NULL, 0, page, LEN));
+    SAME(PBEAM_WRITE_W3_LISTS, pbeam_write(BASE, 1, NULL, 0, NULL, 0, NULL, 0, coh, 1, NULL, 0, page, LEN));
+    SAME(PBEAM_WRITE_W4_LATE, pbeam_write(BASE, 3, NULL, 0, NULL, 0, NULL, 0, coh, 2, NULL, 0, page, LEN));
     memset(page, 0xEE, LEN);
-    SAME(PBEAM_WRITE_W5_ROOM, pbeam_write(BASE, 4, banks, 500, NULL, 0, NULL, 0, NULL, 0, page, LEN));
+    SAME(PBEAM_WRITE_W5_ROOM, pbeam_write(BASE, 4, banks, 500, NULL, 0, NULL, 0, NULL, 0, NULL, 0, page, LEN));
     for (size_t i = 0; i < LEN; i++)
         SAME(page[i], 0xEE);
-    SAME(PBEAM_WRITE_PAGE, pbeam_write(BASE, 4, banks, 498, NULL, 0, NULL, 0, NULL, 0, page, LEN));
+    SAME(PBEAM_WRITE_PAGE, pbeam_write(BASE, 4, banks, 498, NULL, 0, NULL, 0, NULL, 0, NULL, 0, page, LEN));
     SAME(write_bank(PBEAM_ADDRESS_LIMIT - 4096, 4096), PBEAM_WRITE_PAGE);
     SAME(write_bank(PBEAM_ADDRESS_LIMIT - 4096, 8192), PBEAM_WRITE_W3_LISTS);
-    SAME(PBEAM_WRITE_PAGE, pbeam_write(PBEAM_BASE_MOST, 4, NULL, 0, NULL, 0, NULL, 0, NULL, 0, page, LEN));
-    SAME(PBEAM_WRITE_W1_PLACE, pbeam_write(PBEAM_BASE_MOST + 4096, 4, NULL, 0, NULL, 0, NULL, 0, NULL, 0, page, LEN));
+    SAME(PBEAM_WRITE_PAGE, pbeam_write(PBEAM_BASE_MOST, 4, NULL, 0, NULL, 0, NULL, 0, NULL, 0, NULL, 0, page, LEN));
+    SAME(PBEAM_WRITE_W1_PLACE, pbeam_write(PBEAM_BASE_MOST + 4096, 4, NULL, 0, NULL, 0, NULL, 0, NULL, 0, NULL, 0, page, LEN));
 }
 
 static void check_editions_and_length(void)
@@ -1013,6 +1099,8 @@ int main(int argc, char **argv)
     check_padding_and_plat_data();
     check_view();
     check_lookups();
+    check_fields();
+    check_field_limits();
     check_listing();
     check_real_page(argv[1]);
     check_entries();

@@ -13,7 +13,7 @@ uint64_t mistakes(pbeam_context_t *context, pbeam_page_t *page, const pbeam_bank
     pbeam_request_t request;
     pbeam_registers_t out = {{0, 0, 0}};
     pbeam_work_t work;
-    pbeam_lists_t lists = {banks, 1, NULL, 0, NULL, 0, NULL, 0};
+    pbeam_lists_t lists = {banks, 1, NULL, 0, NULL, 0, NULL, 0, {NULL, 0}};
     const pbeam_call_t call = pbeam_call_features();
     pbeam_context_call(context, &call, &out, &work);
 #if MISTAKE == 1 /* incompatible pointer type */

@@ -12,8 +12,14 @@ struct signatures {
     void (*array_of)(bytes, size_t, words, size_t, uint64_t *);
     size_t (*count)(bytes, size_t, words, size_t);
     uint64_t (*word)(bytes, size_t, words, size_t, size_t, size_t);
+    size_t (*field_count)(bytes, size_t, words);
+    void (*field)(bytes, size_t, words, size_t, uint64_t *);
+    void (*field_of_tag)(bytes, size_t, words, uint8_t, uint64_t *);
+    size_t (*field_start)(bytes, size_t, words);
+    size_t (*field_next)(bytes, size_t, size_t, uint64_t *);
     size_t (*listing)(bytes, size_t, uint64_t, uint64_t, uint8_t *, size_t);
-    uint32_t (*write)(uint64_t, uint64_t, words, size_t, words, size_t, words, size_t, words, size_t, uint8_t *, size_t);
+    uint32_t (*write)(uint64_t, uint64_t, words, size_t, words, size_t, words, size_t, words, size_t, bytes, size_t, uint8_t *,
+                      size_t);
     int32_t (*cold_boot)(uint64_t *, uint64_t, uint64_t, uint64_t, uint64_t, uint64_t, bytes, size_t);
     int32_t (*warm_boot)(uint64_t *, uint64_t, uint64_t, uint64_t, uint64_t);
     void (*close)(uint64_t *);
@@ -40,7 +46,8 @@ struct signatures {
 
 #define SIGNATURES                                                                                                             \
     {                                                                                                                          \
-        pbeam_read, pbeam_array, pbeam_array_of, pbeam_count, pbeam_word, pbeam_listing, pbeam_write, pbeam_cold_boot,         \
+        pbeam_read, pbeam_array, pbeam_array_of, pbeam_count, pbeam_word, pbeam_field_count, pbeam_field,                      \
+            pbeam_field_of_tag, pbeam_field_start, pbeam_field_next, pbeam_listing, pbeam_write, pbeam_cold_boot,              \
             pbeam_warm_boot, pbeam_close, pbeam_version_accepted, pbeam_agreed_minor, pbeam_is_later, pbeam_delegate,          \
             pbeam_undelegate, pbeam_delegate_list, pbeam_undelegate_list, pbeam_realm_key, pbeam_platform_token,               \
             pbeam_challenge, pbeam_features,                                                                                   \

@@ -152,7 +152,7 @@ static const pbeam_bank_t dram[] = {{0x90000000, 0x10000000}, {0x880000000, 0x20
 static const pbeam_console_t console[] = {{0x1C0C0000, 3, 0x3131306C70, 24000000, 115200, 0}};
 static const pbeam_region_t ncoh[] = {{0x1000, 0x1000}, {0x3000, 0x1000}, {0x5000, 0x1000}};
 static const pbeam_region_t coh[] = {{0x11000, 0x1000}, {0x13000, 0x1000}, {0x15000, 0x1000}, {0x17000, 0x1000}};
-static const pbeam_lists_t lists = {dram, 2, console, 1, ncoh, 3, coh, 4};
+static const pbeam_lists_t lists = {dram, 2, console, 1, ncoh, 3, coh, 4, {NULL, 0}};
 
 /* Counts are entries: the page has each of them, and is the one that the same words give. */
 static void check_writer(void)
@@ -163,11 +163,63 @@ static void check_writer(void)
     static const uint64_t coh_words[] = {0x11000, 0x1000, 0x13000, 0x1000, 0x15000, 0x1000, 0x17000, 0x1000};
     static pbeam_page_t other;
     SAME(pbeam_manifest_write(BASE, 4, &lists, &page), PBEAM_WRITE_PAGE);
-    SAME(pbeam_write(BASE, 4, dram_words, 4, console_words, 6, ncoh_words, 6, coh_words, 8, other.bytes, 4096), PBEAM_WRITE_PAGE);
+    SAME(pbeam_write(BASE, 4, dram_words, 4, console_words, 6, ncoh_words, 6, coh_words, 8, NULL, 0, other.bytes, 4096), PBEAM_WRITE_PAGE);
     SAME(memcmp(&page, &other, sizeof page), 0);
     SAME(pbeam_manifest_write(0, 4, &lists, &page), PBEAM_WRITE_W1_PLACE);
     SAME(pbeam_manifest_write(BASE, 3, &lists, &page), PBEAM_WRITE_W4_LATE);
     SAME(memcmp(&page, &other, sizeof page), 0);
+}
+
+/* A description of a name, a serial and an empty field, and what the page shows of it. */
+static void check_fields(void)
+{
+    static const uint8_t name[] = {'D', 'K', '1'}, serial[] = {1, 2, 3, 4, 5, 6, 7, 8};
+    uint8_t fields[20] = {0};
+    pbeam_lists_t told = lists;
+    pbeam_view_t view;
+    pbeam_field_t field;
+    size_t used = 0, cursor;
+    SAME(pbeam_fields_add(fields, sizeof fields, &used, PBEAM_TAG_NAME, pbeam_bytes(name, 3)), true);
+    SAME(pbeam_fields_add(fields, sizeof fields, &used, PBEAM_TAG_SERIAL, pbeam_bytes(serial, 8)), true);
+    SAME(used, 17);
+    SAME(pbeam_fields_add(fields, sizeof fields, &used, 9, pbeam_bytes(name, 1)), false);
+    SAME(pbeam_fields_add(fields, sizeof fields, &used, 9, pbeam_bytes(NULL, 7)), true);
+    SAME(pbeam_fields_add(fields, sizeof fields, &used, 9, pbeam_bytes(NULL, 0)), false);
+    SAME(used, sizeof fields);
+    told.fields = pbeam_bytes(fields, used);
+    SAME(pbeam_manifest_write(BASE, 4, &told, &page), PBEAM_WRITE_PAGE);
+    SAME(pbeam_manifest_read(&page, BASE, 4, &view), PBEAM_READ_ACCEPTED);
+    SAME(pbeam_view_field_count(&page, &view), 3);
+    SAME(pbeam_view_board_name(&page, &view).length, 3);
+    SAME(memcmp(pbeam_view_board_name(&page, &view).at, name, 3), 0);
+    SAME(pbeam_view_serial(&page, &view).length, PBEAM_SERIAL_BYTES);
+    SAME(memcmp(pbeam_view_serial(&page, &view).at, serial, 8), 0);
+    cursor = pbeam_view_field_start(&page, &view);
+    for (size_t i = 0; i < 4; i++) {
+        const pbeam_field_t by_number = pbeam_view_field(&page, &view, i);
+        field = pbeam_view_field_next(&page, &cursor);
+        SAME(memcmp(&field, &by_number, sizeof field), 0);
+        SAME(pbeam_field_found(&field), i < 3);
+        SAME(pbeam_field_tag(&field), i == 2 ? 9 : i == 3 ? 0 : i + 1);
+    }
+    SAME(cursor, sizeof page);
+    field = pbeam_view_field_of_tag(&page, &view, 9);
+    SAME(pbeam_field_value(&page, &field).length, 0);
+    SAME(pbeam_field_value(&page, &field).at == NULL, 0);
+    field.words[PBEAM_FIELD_WORD_LENGTH] = sizeof page;
+    SAME(pbeam_field_value(&page, &field).at == NULL, 1);
+    field = pbeam_view_field_of_tag(&page, &view, PBEAM_TAG_CONSOLE);
+    SAME(pbeam_field_found(&field), false);
+    SAME(pbeam_field_value(&page, &field).at == NULL, 1);
+    used = 0;
+    SAME(pbeam_fields_add(fields, sizeof fields, &used, 9, pbeam_bytes(serial, PBEAM_FIELD_VALUE_MOST + 1)), false);
+    fields[0] = PBEAM_TAG_END;
+    SAME(pbeam_manifest_write(BASE, 4, &told, &page), PBEAM_WRITE_W3_LISTS);
+    told.fields = pbeam_bytes(NULL, 0);
+    SAME(pbeam_manifest_write(BASE, 4, &told, &page), PBEAM_WRITE_PAGE);
+    SAME(pbeam_manifest_read(&page, BASE, 4, &view), PBEAM_READ_ACCEPTED);
+    SAME(pbeam_view_field_count(&page, &view), 0);
+    SAME(pbeam_view_board_name(&page, &view).length, 0);
 }
 
 /* A string that ends within its room, cut or not. */
@@ -230,7 +282,7 @@ static void check_view(void)
 {
     pbeam_view_t view;
     pbeam_place_t place;
-    const pbeam_lists_t banks = {dram, 2, NULL, 0, NULL, 0, NULL, 0};
+    const pbeam_lists_t banks = {dram, 2, NULL, 0, NULL, 0, NULL, 0, {NULL, 0}};
     SAME(pbeam_manifest_write(BASE, 4, &lists, &page), PBEAM_WRITE_PAGE);
     SAME(pbeam_manifest_read(&page, BASE, 4, &view), PBEAM_READ_ACCEPTED);
     for (size_t k = 0; k < 5; k++) {
@@ -549,6 +601,7 @@ int main(void)
     check_bytes();
     check_writer();
     check_listing();
+    check_fields();
     check_counts_that_wrap();
     check_view();
     check_version();

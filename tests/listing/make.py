@@ -1,5 +1,5 @@
 #!/usr/bin/env python3
-"""Inputs of the listing program and what it has to print for them, made from docs/01-scope.md alone
+"""Inputs of the listing program and what it has to print for them, made from the two papers alone
 by the reader and the listing of tests/reader/make.py.
 
 Run from the repository's root:  python3 tests/listing/make.py
@@ -15,7 +15,8 @@ HERE = Path(__file__).resolve().parent
 
 sys.dont_write_bytecode = True
 sys.path[:0] = [str(HERE.parent), str(HERE.parent / "reader")]
-from make import B, CORE, ENTRY, NAMES, PAGE, PL011, Page, full, listing, number, read
+from make import (B, CHOICE, CORE, ENTRY, JUNK, NAME, NAMES, PAGE, PL011, SERIAL, Page, field, full,
+                  listing, number, read)
 from vectors import ROOT
 
 INPUT = 8 + PAGE
@@ -31,9 +32,11 @@ def console(i):
 
 
 def fullest(minor, k):
-    """A page with as many entries of section k as it holds, and a platform pointer."""
+    """A page with as many entries of section k as it holds, and an end mark if there is room."""
     most = (PAGE - CORE[minor]) // ENTRY[k]
-    page = Page(minor).words(8, B + 4095)
+    page = Page(minor)
+    if CORE[minor] + most * ENTRY[k] + 3 <= PAGE:
+        page.facts(PAGE - 3)
     return page.section(k, CORE[minor], [(console if k == 1 else bank)(i) for i in range(most)])
 
 
@@ -45,6 +48,20 @@ def four_full():
         at += most * ENTRY[k]
     assert at == PAGE
     return page
+
+
+def long_fields(minor):
+    """A page whose fields take all behind the core: the longest text of a byte is that of a long
+    value, or of a field's first three bytes if its tag has three digits."""
+    room = PAGE - CORE[minor] - 3
+    first = field(255, JUNK[:1500])
+    return Page(minor).facts(CORE[minor], first, field(100, JUNK[:room - len(first) - 3]))
+
+
+def short_fields(size):
+    """A page full of fields with values of so many bytes."""
+    n = (PAGE - CORE[4] - 3) // (3 + size)
+    return Page(4).facts(CORE[4], *[field(4 + i % 252, JUNK[i:i + size]) for i in range(n)])
 
 
 def raw(page, b=B):
@@ -59,6 +76,16 @@ def cases():
     yield "empty-0.1", raw(Page(1))
     yield "empty-0.4", raw(Page(4))
     yield "newer-0.65535", raw(full(4).version(65535))
+    yield "fields-longest-0.1", raw(long_fields(1))
+    yield "fields-longest-0.4", raw(long_fields(4))
+    yield "fields-of-0", raw(short_fields(0))
+    yield "fields-of-1", raw(short_fields(1))
+    board = full().facts(0x703, NAME, SERIAL, CHOICE, field(9), field(200, b"\0\xff"))
+    yield "fields-board", raw(board)
+    yield "fields-end-alone", raw(full(fill=JUNK).facts(4093))
+    yield "refused-fields", raw(full().facts(0x703, SERIAL, SERIAL))
+    yield "refused-field-in-array", raw(full().words(8, B + 0x200))
+    yield "refused-no-end", raw(full().facts(4094))
     yield "refused-base", raw(full(), B + 8)
     yield "refused-version", raw(full().version(0x00010004))
     yield "refused-checksum", raw(full().checksum(3, 1))
@@ -86,7 +113,7 @@ def main():
         (folder / f"{name}.in").write_bytes(data)
         (folder / f"{name}.out").write_text(text)
         longest = max(longest, len(text))
-    assert longest == 9712              # a 0.65535 page read as edition 2 has 4 digits more
+    assert longest == 12332             # a 0.65535 page read as edition 1 has 4 digits more
     print(f"{len(list(cases()))} listings, the longest of {longest} bytes")
 
 

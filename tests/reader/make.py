@@ -1,5 +1,6 @@
 #!/usr/bin/env python3
-"""Run vectors for the boot-manifest reader, made from docs/01-scope.md alone.
+"""Run vectors for the boot-manifest reader, made from the two papers alone: docs/01-scope.md and
+E3 and E7 of docs/02-change-requests.md.
 
 Run from the repository's root:  python3 tests/reader/make.py
 It rewrites crates/reader_vectors/data/c000, c001, .. (8 bytes of reader edition, 8 bytes of B,
@@ -27,6 +28,7 @@ HEAD = (16, 40, 64, 88)             # offset of each section's count, pointer, c
 SINCE = (2, 3, 4, 4)                # edition that brought the section
 ENTRY = (16, 48, 16, 16)            # bytes of one entry
 BANKS = (0, 2, 3)                   # the sections with base and size entries
+ONCE = {1: (1, 32), 2: (8, 8), 3: (1, 1)}   # 02, E7: tags that appear at most once, by length
 
 
 # ---- The reader, from 01's text in 01's order. All arithmetic is on plain numbers. ----
@@ -61,6 +63,24 @@ def entry_holds(minor, k, entry):
                 and base + 4096 * map_pages <= TOP and (flags == 0 or minor >= 5))
     base, size = entry
     return base % 4096 == 0 and size % 4096 == 0 and size != 0 and base + size <= TOP
+
+
+def fields_of(raw):
+    """02, E7: the fields from the first byte on, each as its tag and its value, and the number of
+    bytes through their end mark. None if they are broken."""
+    fields, at = [], 0
+    while at + 3 <= len(raw):
+        tag, length = raw[at], number(raw[at + 1:at + 3])
+        value = bytes(raw[at + 3:at + 3 + length])
+        at += 3 + length
+        if tag == 0:
+            return (fields, at) if length == 0 else None
+        least, most = ONCE.get(tag, (0, 65535))
+        twice = tag in ONCE and tag in [other for other, _ in fields]
+        if len(value) < length or not least <= length <= most or twice:
+            return None
+        fields.append((tag, value))
+    return None                     # no end mark in the page
 
 
 def broken(r, b, page):
@@ -108,12 +128,19 @@ def broken(r, b, page):
     for k, offset, length in arrays:
         for entry in entries(page, k, offset, length // ENTRY[k]):
             rule(-7, "entry", entry_holds(minor, k, entry))
+    if first <= plat_data < end:
+        told = fields_of(page[plat_data - b:])
+        rule(-7, "fields", told is not None)
+        for _, offset, length in arrays if told else []:
+            start = plat_data - b
+            rule(-7, "fields in array", start + told[1] <= offset or offset + length <= start)
     return found
 
 
 def read(r, b, page):
-    """The reader's answer: a code, or w, e, plat_data and for each section None if absent,
-    [] if empty, or its entries; and beside it the bytes that the lookup gives for each section."""
+    """The reader's answer: a code, or w, e, plat_data, the fields and for each section None if
+    absent, [] if empty, or its entries; and beside it the bytes that the lookup gives for each
+    section."""
     faults = broken(r, b, page)
     if faults:
         return faults[0][0], [b""] * 4
@@ -128,16 +155,20 @@ def read(r, b, page):
             shown = [(*entry[:5], 0) for entry in shown]
         sections.append(shown)
         lookups.append(bytes(page[offset:offset + count * ENTRY[k]]))
-    return (w, e, number(page[8:16]), sections), lookups
+    plat_data = number(page[8:16])
+    fields = fields_of(page[plat_data - b:])[0] if plat_data else []
+    return (w, e, plat_data, fields, sections), lookups
 
 
 def listing(answer):
-    """The lines of example 14 and the paragraph after it."""
+    """The lines of example 14 and the paragraph after it, with 02's lines of the fields (E7)."""
     if isinstance(answer, int):
         return f"refused {answer}\n"
-    w, e, plat_data, sections = answer
+    w, e, plat_data, fields, sections = answer
     lines = [f"manifest 0.{w} read as {e}",
              f"platform 0x{plat_data:016x}" if plat_data else "platform none"]
+    for tag, value in fields:
+        lines.append(" ".join([str(tag), str(len(value)), *[f"{byte:02x}" for byte in value]]))
     for k, section in enumerate(sections):
         lines.append(f"{NAMES[k]} {'absent' if section is None else len(section)}")
         for entry in section or []:
@@ -160,13 +191,29 @@ def mark(part):
     return high * 2**32 + low
 
 
+def shown_field(found):
+    """What follows on the line of a field lookup: the tag, the length and the mark of the value."""
+    return "".join(f" {tag} {len(v)} {mark(v):016x}\n" for tag, v in found) or " none\n"
+
+
+def asked(fields):
+    """The lines of the field lookups: how many there are, the first of some tags, and some by
+    number, the first that there is not among them."""
+    text = f"fields {len(fields)}\n"
+    for tag in (0, 1, 2, 3, 4, 255):
+        text += f"tag {tag}" + shown_field([field for field in fields if field[0] == tag][:1])
+    for i in (0, len(fields) // 2, len(fields)):
+        text += f"field {i}" + shown_field(fields[i:i + 1])
+    return text
+
+
 def expected(number_of_case, r, b, page):
     """What the program prints for one case."""
     answer, lookups = read(r, b, page)
     text = f"case {number_of_case:03}\n" + listing(answer)
     for k, part in enumerate(lookups + [b""]):      # there is no section 4
         text += f"array {k} {len(part)} {mark(part):016x}\n"
-    return text
+    return text if isinstance(answer, int) else text + asked(answer[3])
 
 
 # ---- The page builder ----
@@ -185,6 +232,20 @@ SAMPLE = (
     [(0x4000000000, 0x100000000), (0x6000000000, 0x3000), (0, 0x8000)],
     [(0x5000000000, 0x40000000), (0x7000001000, 0x1000), (0xFFFFF00000000, 0x10000000)],
 )
+
+
+MARK = bytes(3)                     # what ends the fields
+
+
+def field(tag, value=b"", length=None):
+    """A field of the platform data; its length may be told otherwise than it is."""
+    length = len(value) if length is None else length
+    return bytes([tag]) + length.to_bytes(2, "little") + value
+
+
+NAME = field(1, b"Potterbeam DK-1")
+SERIAL = field(2, b"\x11\x22\x33\x44\x55\x66\x77\x88")
+CHOICE = field(3, b"\1")
 
 
 class Page:
@@ -224,6 +285,10 @@ class Page:
 
     def checksum(self, k, value):
         return self.words(HEAD[k] + 16, value)
+
+    def facts(self, offset, *fields, end=MARK):
+        """Write fields and what ends them, and let plat_data point at the first."""
+        return self.words(8, self.b + offset).put(offset, b"".join(fields) + end)
 
 
 def full(minor=4, b=B, fill=ZERO, places=PLACE, only=range(4), **other):
@@ -349,10 +414,15 @@ def padding_and_platform():
                         (B + 4096, "at B + 4,096"), (B + 2**63 + 0x800, "2^63 too high"),
                         (WORD - 1, "2^64 - 1")):
         bad("plat_data", f"plat_data {text}", full().words(8, value))
-    for value, text in ((B + 4095, "at B + 4,095"), (B + 0x200, "at an array's start"),
-                        (B + 0x315, "inside an array"), (B + 0x703, "at junk, not aligned")):
-        good(f"plat_data {text}", full(fill=JUNK).words(8, value))
-    by_edition(3, "plat_data", "plat_data at B + 40 of a 0.4 page", full().words(8, B + 40))
+    for rule, value, text in (      # 02, E7: good in 01, which does not read what is pointed at
+            ("fields", B + 4095, "at B + 4,095"),
+            ("fields in array", B + 0x200, "at an array's start"),
+            ("fields in array", B + 0x315, "inside an array"),
+            ("fields", B + 0x703, "at junk, not aligned")):
+        bad(rule, f"plat_data {text}", full(fill=JUNK).words(8, value))
+    for r in range(1, 5):           # a console's count stands there: tag 3 with a length of 0
+        bad("fields" if r < 3 else "plat_data", f"plat_data at B + 40 of a 0.4 page, edition {r}",
+            full().words(8, B + 40), r)
     bad("plat_data", "plat_data at B + 111 of a 0.9 page", full(9).words(8, B + 111))
 
 
@@ -568,6 +638,179 @@ def console_flags():
         full(minor=5, console=[(0x1C090000, 0, PL011, 0, 0, 1)]))
 
 
+def field_lengths():
+    """02, E7: the tag and the length of a field"""
+    def alone(rule, text, *fields, **other):
+        page = full(fill=JUNK).facts(0x703, *fields, **other)
+        good(text, page) if rule is None else bad(rule, text, page)
+
+    alone(None, "name, serial, console and a field of tag 4", NAME, SERIAL, CHOICE, field(4, b"x"))
+    for tag, (least, most) in ONCE.items():
+        for length in sorted({least - 1, least, most, most + 1}):
+            fine = least <= length <= most
+            alone(None if fine else "fields", f"tag {tag} of {length} bytes",
+                  field(tag, JUNK[:length]))
+    for tag in (4, 127, 128, 255):
+        for length in (0, 1, 7, 8, 9, 32, 33, 255, 256, 257):
+            alone(None, f"tag {tag} of {length} bytes", field(tag, JUNK[:length]))
+    for tag in (1, 4, 255):
+        alone("fields", f"tag {tag} of 65,535 bytes", field(tag, JUNK[:2000], 65535))
+    alone("fields", "tag 1 of 256 bytes, 1 in the other byte order", field(1, JUNK[:256]))
+    alone("fields", "tag 1 of 257 bytes", field(1, JUNK[:257]))
+    alone("fields", "tag 2 of 2,048 bytes, 8 in the other byte order", field(2, JUNK[:2048]))
+    alone("fields", "tag 3 of 256 bytes, 1 in the other byte order", field(3, JUNK[:256]))
+    for value in (0, 255):
+        alone(None, f"a console choice of {value}", field(3, bytes([value])))
+    for text, value in (("zeros", bytes(8)), ("0xff", b"\xff" * 8)):
+        alone(None, f"name and serial of {text}", field(1, value), field(2, value))
+    for tag in (1, 2, 3):
+        alone("fields", f"a good field, then tag {tag} with one byte too many",
+              field(9, b"abc"), field(tag, JUNK[:ONCE[tag][1] + 1]))
+
+
+def field_repeats():
+    """02, E7: tags that appear twice"""
+    one = {1: NAME, 2: SERIAL, 3: CHOICE}
+    for tag, first in one.items():
+        others = [field for other, field in one.items() if other != tag]
+        again = field(tag, bytes(ONCE[tag][0]))
+        bad("fields", f"tag {tag} twice, one after the other", full().facts(0x700, first, first))
+        bad("fields", f"tag {tag} twice, with other values",
+            full().facts(0x700, first, *others, again))
+        bad("fields", f"tag {tag} twice, tags from 4 up between",
+            full().facts(0x700, first, field(4), field(200, b"ab"), first))
+        good(f"tag {tag} again after the end mark",
+             full().facts(0x700, first, end=MARK + first + MARK))
+    for tag in (4, 5, 255):
+        good(f"tag {tag} three times, two of them the same",
+             full().facts(0x700, field(tag, b"ab"), field(tag), field(tag, b"ab")))
+    for order in permutations((1, 2, 3)):
+        good(f"tags {order} in this order", full().facts(0x700, *[one[tag] for tag in order]))
+    good("tag 4, name, tag 4, serial, tag 4, console",
+         full().facts(0x700, field(4, b"a"), NAME, field(4, b"b"), SERIAL, field(4), CHOICE))
+
+
+def field_ends():
+    """02, E7: the end mark, and fields up to the page's end"""
+    for e, core in CORE.items():
+        good(f"an end mark alone at the core's end of an empty 0.{e} page", Page(e).facts(core))
+        good(f"an end mark alone at the core's end, all else junk, 0.{e}",
+             full(e, fill=JUNK).facts(core))
+    good("an end mark alone at B + 4,093", full(fill=JUNK).facts(4093))
+    for offset in (4094, 4095):
+        bad("fields", f"zeros from B + {offset:,} on", full(fill=JUNK).facts(offset))
+    for length in (1, 255, 256, 65535):
+        bad("fields", f"tag 0 with length {length}",
+            full(fill=JUNK).facts(0x700, field(0, JUNK[:length][:900], length)))
+        bad("fields", f"a name, then tag 0 with length {length}",
+            full(fill=JUNK).facts(0x700, NAME, field(0, bytes(length)[:900], length)))
+    for text, fields in (("a field of tag 4", [field(4, JUNK[:90])]),
+                         ("an empty field", [field(8)]), ("name and serial", [NAME, SERIAL])):
+        size = sum(map(len, fields))
+        good(f"{text} and the end mark up to the page's end",
+             full(fill=JUNK).facts(4093 - size, *fields))
+        for cut in (1, 2, 3):
+            bad("fields", f"{text}, {cut} bytes of the end mark past the page's end",
+                full(fill=JUNK).facts(4093 - size + cut, *fields))
+        bad("fields", f"{text}, its last byte past the page's end",
+            full(fill=JUNK).facts(4097 - size, *fields))
+    for left in (1, 2):
+        bad("fields", f"a name, and {left} bytes up to the page's end",
+            full(fill=JUNK).facts(4096 - left - len(NAME), NAME))
+    for what, end in (("junk", JUNK[5:900]), ("a broken field", field(0, b"x")),
+                      ("a field", field(9, b"later") + MARK), ("0xff", b"\xff" * 900)):
+        good(f"behind the end mark: {what}", full().facts(0x700, NAME, end=MARK + end))
+    bad("fields", "no end mark but 0xff up to the page's end",
+        full().facts(0x700, NAME, end=b"\xff" * 4096))
+
+
+def fields_and_arrays():
+    """02, E7: fields and the arrays that the reader reads"""
+    def around(k, before, after):
+        """A full page and a field from so many bytes before the array on, to as many after."""
+        size = before - 3 + len(SAMPLE[k]) * ENTRY[k] + after
+        page = full().facts(PLACE[k] - before, field(9, b"", size), end=b"")
+        return page.put(PLACE[k] + len(SAMPLE[k]) * ENTRY[k] + after, MARK)
+
+    for k, name in enumerate(NAMES):
+        start, end = PLACE[k], PLACE[k] + len(SAMPLE[k]) * ENTRY[k]
+        size = len(NAME) + 3
+        good(f"fields end where {name} starts", full().facts(start - size, NAME))
+        page = full(fill=JUNK, **{name: [(0x9000000000, *SAMPLE[k][0][1:])]})
+        by_edition(SINCE[k], "fields in array", f"an end mark alone from the first byte of {name}",
+                   page.words(8, B + start))
+        by_edition(SINCE[k], "fields in array", f"the end mark's last byte is the first of {name}",
+                   page.facts(start - size + 1, NAME, end=MARK[:2]))
+        good(f"fields start where {name} ends", full(fill=JUNK).facts(end, NAME))
+        by_edition(SINCE[k], "fields in array", f"{name} inside the value of a field",
+                   around(k, 7, 5))
+    page = full(only=[1, 2, 3]).section(0, PLACE[0], [(0x80000000, 0x1000)])
+    good("fields start at the byte after a short array", page.facts(PLACE[0] + 16, NAME, SERIAL))
+    page = full(only=[1, 2, 3]).section(0, PLACE[0], [(0x80000000, 0x1000)])
+    bad("fields in array", "an end mark alone, its first byte the last of dram",
+        page.words(8, B + PLACE[0] + 15))
+    page = full().checksum(3, 1)
+    by_edition(4, "checksum", "fields, and the checksum of coh broken", page.facts(0x700, NAME))
+    page = Page().facts(0x200, field(9, bytes(300)))
+    page.section(2, 0x240, SAMPLE[2])
+    by_edition(4, "fields in array", "ncoh in a field of a page without other arrays", page)
+    page = Page().section(0, 112, [(0x1000 * i, 0x1000) for i in range(200)])
+    good("200 banks and fields to the page's end",
+         page.facts(112 + 3200, field(9, JUNK[:4096 - 112 - 3200 - 6])))
+
+
+def field_places():
+    """02, E7: where fields may lie, and who reads them"""
+    for shift in range(8):
+        good(f"fields at an address of {shift} modulo 8",
+             full(fill=JUNK).facts(0x700 + shift, NAME, field(7, b"abc"), SERIAL))
+    for r in range(1, 5):
+        for w in (1, 2, 3, 4, 5, 65535):
+            good(f"edition {r} on a 0.{w} page with fields",
+                 full(w, fill=JUNK).facts(0x801, NAME, SERIAL, field(77, b"\0\xff")), r)
+        bad("fields", f"edition {r} on a page with broken fields",
+            full(fill=JUNK).facts(0x801, NAME, NAME), r)
+    good("fields at the core's end of a 0.1 page, to its last byte",
+         Page(1).facts(16, NAME, SERIAL, field(200, JUNK[:4096 - 16 - 3 - len(NAME + SERIAL) - 3])))
+    page = Page().facts(64, end=b"")
+    by_edition(4, "plat_data", "an end mark alone where edition 4 has the count of ncoh", page)
+    page = Page(4, fill=JUNK).section(0, 0x200, SAMPLE[0]).facts(70, NAME, end=b"").put(88, MARK)
+    for r in (1, 2, 3):             # the fields lie where a newer core has its sections
+        good(f"fields in what is the core of edition 4, edition {r}", page, r)
+    mixed(-7, "fields in what is the core of edition 4, edition 4", page, 4)
+    for b in (4096, TOP - 4096, 2**32 * 4096):
+        good(f"fields, B = 0x{b:x}", full(b=b, fill=JUNK).facts(0x703, NAME, SERIAL))
+    for text, pointer in (("one page high", B + 0x1703), ("one page low", B - 0x8FD),
+                          ("without B", 0x703), ("2^32 too high", B + 2**32 + 0x703)):
+        bad("plat_data", f"fields, the pointer {text}",
+            full().facts(0x703, NAME).words(8, pointer))
+    mixed(-7, "broken fields, and a broken checksum",
+          full().facts(0x703, NAME, NAME).checksum(0, 1))
+    mixed(-7, "broken fields, and padding", full().facts(0x703, NAME, NAME).put(4, b"\1"))
+
+
+def many_fields():
+    """02, E7: pages full of fields"""
+    for w, core in CORE.items():
+        room = PAGE - core - 3
+        for size in (0, 1, 2, 5) if w == 4 else (1,):
+            n = room // (3 + size)
+            at = PAGE - 3 - n * (3 + size)
+            listed = [field(4 + i % 252, bytes((i + j) % 256 for j in range(size)))
+                      for i in range(n)]
+            good(f"0.{w}: {n} fields of {size} bytes", Page(w).facts(at, *listed))
+        bad("fields", f"0.{w}: fields of 1 byte and no end mark",
+            Page(w, fill=b"\4\1\0\5" * 1024).words(8, B + core), 4)
+        value = JUNK[:room - 3]
+        good(f"0.{w}: one field of {len(value):,} bytes", Page(w).facts(core, field(9, value)))
+        bad("fields", f"0.{w}: one field of {len(value) + 1:,} bytes",
+            Page(w).facts(core, field(9, value + b"x")))
+    good("1,000 bytes of names of other tags",
+         full().facts(0x700, *[field(4 + i, bytes([i]) * 20) for i in range(43)]))
+    bad("fields", "a second serial after 300 fields",
+        full().facts(0x700, SERIAL, *[field(5, bytes([i % 256])) for i in range(300)], SERIAL))
+
+
 def holes_and_order():
     """Bytes that are not named, and the order of arrays"""
     for w in (1, 2, 3):
@@ -654,7 +897,8 @@ def build_all():
     for group in (known_pages, lengths_and_bases, editions, versions, padding_and_platform,
                   section_heads, pointers, wrapping, overlaps, checksums, bank_entries,
                   console_entries, holes_and_order, fullest, later_sections, two_at_once,
-                  console_flags):
+                  console_flags, field_lengths, field_repeats, field_ends, fields_and_arrays,
+                  field_places, many_fields):
         GROUPS.append((group.__doc__, []))
         group()
 

@@ -1,12 +1,13 @@
 #!/usr/bin/env python3
-"""Run vectors for the boot-manifest writer, made from docs/01-scope.md alone.
+"""Run vectors for the boot-manifest writer, made from the two papers alone: docs/01-scope.md and E7
+of docs/02-change-requests.md.
 
 Run from the repository's root:  python3 tests/writer/make.py
 It rewrites crates/writer_vectors/data/c000, c001, .. (8-byte words: B, edition, fill byte, page
 length, the four list lengths in words, the words of the four lists; then the bytes of the page at
-exit), crates/writer_vectors/stdout (what the program has to print for them in order) and
-tests/writer/CASES.md (what each case is for). The same run always gives the same bytes.
-With a folder as its argument it writes them below that folder.
+exit; then those of the fields), crates/writer_vectors/stdout (what the program has to print for
+them in order) and tests/writer/CASES.md (what each case is for). The same run always gives the
+same bytes. With a folder as its argument it writes them below that folder.
 """
 
 import sys
@@ -19,8 +20,9 @@ HERE = Path(__file__).resolve().parent
 
 sys.dont_write_bytecode = True
 sys.path[:0] = [str(HERE.parent), str(HERE.parent / "reader")]
-from make import (B, CORE, ENTRY, NAMES, PAGE, PL011, SAMPLE, SINCE, TOP, WORD, Page,
-                  broken, entry_holds, example_14, head, listing, read)
+from make import (B, CHOICE, CORE, ENTRY, JUNK, MARK, NAME, NAMES, ONCE, PAGE, PL011, SAMPLE,
+                  SERIAL, SINCE, TOP, WORD, Page, broken, entry_holds, example_14, field,
+                  fields_of, head, listing, read)
 from vectors import write_all
 
 REFUSALS = ("W1", "W2", "W3", "W4", "W5")
@@ -47,41 +49,65 @@ def sound(k, entry):
     return base % 4096 == 0 and size % 4096 == 0 and size != 0 and base + size <= TOP
 
 
-def refusals(b, edition, lists, length):
+def split(fields):
+    """02, E7: the fields of a description, in their order, each as tag, told length and the bytes
+    that are there; what is left over at its end is a field without a length."""
+    listed = []
+    while fields:
+        length = fields[1] + 256 * fields[2] if len(fields) >= 3 else None
+        listed.append((fields[0], length, fields[3:3 + (length or 0)]))
+        fields = fields[3 + (length or 0):]
+    return listed
+
+
+def fields_sound(fields):
+    """Whether a description of fields is whole and keeps the reader's rules, with no tag 0."""
+    listed = split(fields)
+    once = Counter(tag for tag, _, _ in listed if tag in ONCE)
+    return max(once.values(), default=0) <= 1 and all(
+        tag != 0 and length == len(value)
+        and (tag not in ONCE or ONCE[tag][0] <= length <= ONCE[tag][1])
+        for tag, length, value in listed)
+
+
+def refusals(b, edition, lists, fields, length):
     """Every refusal that applies, in 01's order. The first of them is the writer's answer."""
     core = CORE.get(edition, 0)     # at no known edition the arrays alone may be too long
+    facts = len(fields) + len(MARK) if fields else 0
     applies = (
         length != PAGE or b == 0 or b % 4096 != 0 or b > TOP - 4096,
         not 1 <= edition <= 4,
-        not all(sound(k, entry) for k in range(4) for entry in entries(k, lists[k])),
+        not (all(sound(k, entry) for k in range(4) for entry in entries(k, lists[k]))
+             and fields_sound(fields)),
         any(lists[k] and SINCE[k] > edition for k in range(4)),
-        core + 8 * sum(map(len, lists)) > PAGE)
+        core + 8 * sum(map(len, lists)) + facts > PAGE)
     return [name for name, applied in zip(REFUSALS, applies) if applied]
 
 
-def write(b, edition, lists, length=PAGE):
+def write(b, edition, lists, fields=b"", length=PAGE):
     """The writer's answer: the name of a refusal, or the bytes of the page."""
-    refused = refusals(b, edition, lists, length)
+    refused = refusals(b, edition, lists, fields, length)
     if refused:
         return refused[0]
-    core = [edition, 0]             # version 0.edition with the padding, then plat_data
+    behind = b + CORE[edition] + 8 * sum(map(len, lists))
+    core = [edition, behind if fields else 0]   # version 0.edition with the padding, plat_data
     pointer = b + CORE[edition]
     for k, words in enumerate(lists):
         if SINCE[k] <= edition:
             place = [8 * len(words) // ENTRY[k], pointer] if words else [0, 0]
             core += place + [-sum(place + words) % WORD]
             pointer += 8 * len(words)
-    return raw(core + sum(lists, [])).ljust(PAGE, b"\0")
+    return (raw(core + sum(lists, [])) + fields).ljust(PAGE, b"\0")     # the end mark is zeros
 
 
 # ---- A case, its file and what the program prints for it ----
 
-Case = namedtuple("Case", "text b edition lists length fill")
+Case = namedtuple("Case", "text b edition lists fields length fill")
 
 
 def answer(case):
     """The second line of a case, and the page at exit."""
-    made = write(case.b, case.edition, case.lists, case.length)
+    made = write(case.b, case.edition, case.lists, case.fields, case.length)
     if isinstance(made, str):
         return f"refused {made}", bytes([case.fill]) * case.length
     return "made", made
@@ -90,7 +116,7 @@ def answer(case):
 def file_of(case):
     """The bytes of a case's file."""
     words = [case.b, case.edition, case.fill, case.length, *map(len, case.lists)]
-    return raw(words + sum(case.lists, [])) + answer(case)[1]
+    return raw(words + sum(case.lists, [])) + answer(case)[1] + case.fields
 
 
 def expected(number_of_case, case):
@@ -108,12 +134,12 @@ def expected(number_of_case, case):
 GROUPS = []                         # (heading, [case, ..])
 
 
-def add(outcome, text, lists, edition=4, b=B, length=PAGE, fill=0xA5):
+def add(outcome, text, lists, edition=4, b=B, length=PAGE, fill=0xA5, fields=b""):
     """Note a case. Its outcome is "made", or all refusals that apply with a blank between."""
-    found = " ".join(refusals(b, edition, lists, length)) or "made"
+    found = " ".join(refusals(b, edition, lists, fields, length)) or "made"
     assert found == outcome, (text, found)
     shown = f"{text} ({outcome})" if " " in outcome else text
-    GROUPS[-1][1].append(Case(shown, b, edition, lists, length, fill))
+    GROUPS[-1][1].append(Case(shown, b, edition, lists, fields, length, fill))
 
 
 def flat(listed):
@@ -333,11 +359,126 @@ def random_descriptions():
             b=4096 * (1 + pick(2**40 - 1)), fill=pick(256))
 
 
+def field_rules():
+    """02, E7: the rules for a field, and descriptions that are cut short"""
+    def alone(outcome, text, *fields, **other):
+        add(outcome, text, filled(count=1), fields=b"".join(fields), **other)
+
+    alone("made", "name, serial, console and tag 4", NAME, SERIAL, CHOICE, field(4, b"x"))
+    for tag, (least, most) in ONCE.items():
+        for length in sorted({least - 1, least, most, most + 1}):
+            alone("made" if least <= length <= most else "W3", f"tag {tag} of {length} bytes",
+                  field(tag, JUNK[:length]))
+    for tag in (4, 128, 255):
+        for length in (0, 1, 33, 255, 256):
+            alone("made", f"tag {tag} of {length} bytes", field(tag, JUNK[:length]))
+    for tag, one in ((1, NAME), (2, SERIAL), (3, CHOICE)):
+        alone("W3", f"tag {tag} twice", one, one)
+        alone("W3", f"tag {tag} twice, others between", one, field(4), field(9, b"ab"), one)
+    alone("made", "tag 4 three times", field(4, b"a"), field(4), field(4, b"a"))
+    alone("made", "console, serial, tag 200 and name", CHOICE, SERIAL, field(200, b"ab"), NAME)
+    for text, fields in (
+            ("an end mark alone", MARK), ("a name and an end mark", NAME + MARK),
+            ("an end mark and a name", MARK + NAME),
+            ("an end mark between name and serial", NAME + MARK + SERIAL),
+            ("tag 0 of 1 byte", field(0, b"x")), ("tag 0 of 256 bytes", field(0, JUNK[:256])),
+            ("a name and tag 0 of 1 byte", NAME + field(0, b"x")),
+            ("one byte", b"\4"), ("two bytes", b"\4\0"), ("two zeros", bytes(2)),
+            ("tag 4 of 1 byte, which is missing", field(4, b"", 1)),
+            ("tag 4 of 65,535 bytes, all missing but 90", field(4, JUNK[:90], 65535)),
+            ("a name without its last byte", NAME[:-1]),
+            ("name and serial, the serial without its last byte", NAME + SERIAL[:-1]),
+            ("a name and one byte", NAME + b"\4"), ("a name and two bytes", NAME + b"\4\0"),
+            ("a length in the other byte order", b"\4\0\3abc")):
+        alone("W3", text, fields)
+
+
+def field_places():
+    """02, E7: fields behind core and arrays, at each edition"""
+    for edition in range(1, 5):
+        for count in (0, 1, 3) if edition > 1 else (0,):
+            for fill in (0xFF, 0):
+                add("made", f"edition {edition}, {count} entries a list; onto 0x{fill:02x}",
+                    filled(edition, count=count), edition, fill=fill,
+                    fields=NAME + field(9, b"\0\1") + SERIAL)
+    for b in (4096, TOP - 4096):
+        add("made", f"B = 0x{b:x}", filled(count=1), b=b, fields=NAME)
+    for k, name in enumerate(NAMES):
+        add("made", f"{name} alone and fields", filled(only=[k]), fields=SERIAL + field(66, b"abc"))
+
+
+def field_room():
+    """02, E7: as many bytes of fields as fit, and one more"""
+    def both(text, lists, room, edition=4):
+        """A field that fills the page with its end mark, and one with a byte more."""
+        exact = field(99, JUNK[:room - 3 - len(MARK)])
+        add("made", f"{text}: a field of {len(exact):,} bytes", lists, edition, fields=exact)
+        add("W5", f"{text}: one byte more", lists, edition, fields=field(99, JUNK[:room - 5]))
+
+    for edition in (1, 4):
+        both(f"edition {edition}, no entry", filled(edition, []), PAGE - CORE[edition], edition)
+    both("edition 2, 253 of dram", amounts(253, 0, 0, 0), 8, 2)
+    both("edition 3, 80 consoles", amounts(0, 80, 0, 0), 192, 3)
+    both("edition 4, 1, 1, 1 and 234 entries", amounts(1, 1, 1, 234), 160)
+    add("W5", "edition 4: (60, 40, 60, 9) entries, to the last byte, and an empty field",
+        amounts(60, 40, 60, 9), fields=field(9))
+    add("W5", "edition 4: 249 of dram and a console choice", amounts(249, 0, 0, 0), fields=CHOICE)
+    for size, name in ((0, "empty fields"), (1, "fields of 1 byte")):
+        n = (PAGE - CORE[4] - 3) // (3 + size)
+        listed = [field(4 + i % 252, JUNK[i:i + size]) for i in range(n + 1)]
+        add("made", f"{n} {name}", filled(only=[]), fields=b"".join(listed[:-1]))
+        add("W5", f"{n + 1} {name}", filled(only=[]), fields=b"".join(listed))
+    add("W5", "5,000 bytes of fields", filled(), fields=field(8, JUNK + JUNK[:901]))
+
+
+def field_order():
+    """02, E7: several refusals apply, the fields among them"""
+    bank, twice, much = list(SAMPLE[0][0]), SERIAL + SERIAL, field(9, JUNK)
+    add("W1 W3", "B zero, serial twice", filled(), b=0, fields=twice)
+    add("W2 W3", "edition 5, serial twice", filled(), 5, fields=twice)
+    add("W2 W5", "edition 5, 4,099 bytes of fields", filled(only=[]), 5, fields=much)
+    add("W3", "a bank of size 0, serial twice", filled(other={0: [0x1000, 0]}), fields=twice)
+    add("W3", "a bank of size 0, good fields", filled(other={0: [0x1000, 0]}), fields=NAME)
+    add("W3 W4", "edition 1, a bank, serial twice", filled(1, other={0: bank}), 1, fields=twice)
+    add("W4", "edition 1, a bank, good fields", filled(1, other={0: bank}), 1, fields=NAME)
+    add("W4 W5", "edition 1, a bank, 4,099 bytes of fields", filled(1, other={0: bank}), 1,
+        fields=much)
+    add("W3 W5", "4,099 bytes of fields, then an end mark", filled(), fields=much + MARK)
+    add("W3 W5", "250 banks, an end mark alone", amounts(250, 0, 0, 0), fields=MARK)
+    add("W3 W4 W5", "edition 3, 300 of coh, half a field", amounts(0, 0, 0, 300), 3, fields=b"\1")
+    add("W1 W3 W4 W5", "the same, page of 4,095 bytes", amounts(0, 0, 0, 300), 3, fields=b"\1",
+        length=4095)
+
+
+def random_fields():
+    """02, E7: random descriptions with fields that keep all rules"""
+    dice = Random(7)
+
+    def pick(n):
+        return dice.getrandbits(64) % n
+
+    def value(length):
+        return bytes(pick(256) for _ in range(length))
+
+    for i in range(30):
+        edition = 1 + i % 4
+        counts = [pick(12) if SINCE[k] <= edition else 0 for k in range(4)]
+        listed = [field(4 + pick(252), value((0, 1, 2, 9, 40)[pick(5)]))
+                  for _ in range((0, 1, 5, 40)[pick(4)])]
+        for tag, (least, most) in ONCE.items():
+            if pick(3):
+                one = field(tag, value(least + pick(most - least + 1)))
+                listed.insert(pick(len(listed) + 1), one)
+        add("made", f"edition {edition}: {tuple(counts)} entries and {len(listed)} fields",
+            amounts(*counts), edition, fields=b"".join(listed), fill=pick(256))
+
+
 # ---- Output ----
 
 def build_all():
     for group in (example, lengths_and_bases, editions, list_lengths, entry_rules,
-                  later_sections, fullest, subsets, checksums, together, random_descriptions):
+                  later_sections, fullest, subsets, checksums, together, random_descriptions,
+                  field_rules, field_places, field_room, field_order, random_fields):
         GROUPS.append((group.__doc__, []))
         group()
 
@@ -346,23 +487,28 @@ def check_by_reader(case):
     """W1 and W3 have the reader's rules; each edition of the reader accepts a made page and shows
     what was described; the reader's page builder makes the same bytes."""
     listed = [entries(k, words) for k, words in enumerate(case.lists)]
-    refused = refusals(case.b, case.edition, case.lists, case.length)
+    refused = refusals(case.b, case.edition, case.lists, case.fields, case.length)
+    told = fields_of(case.fields + MARK)
     faults = broken(4, case.b, bytes(case.length))
     assert ("W1" in refused) == any(code == -5 for code, _ in faults)
-    assert ("W3" in refused) != all(8 * len(entry) == ENTRY[k] and entry_holds(4, k, entry)
-                                    for k in range(4) for entry in listed[k])
+    assert ("W3" in refused) != (told is not None and told[1] == len(case.fields) + len(MARK)
+                                 and all(8 * len(entry) == ENTRY[k] and entry_holds(4, k, entry)
+                                         for k in range(4) for entry in listed[k]))
     if refused:
         return
     page, built, offset = answer(case)[1], Page(case.edition, case.b), CORE[case.edition]
     for k in [k for k in range(4) if listed[k]]:
         built.section(k, offset, listed[k])
         offset += len(listed[k]) * ENTRY[k]
+    if case.fields:
+        built.facts(offset, case.fields)
     assert page == bytes(built.data), case.text
     for r in range(1, 5):
         e = min(r, case.edition)
         sections = [listed[k] if SINCE[k] <= e else None for k in range(4)]
         lookups = [raw(case.lists[k]) if SINCE[k] <= e else b"" for k in range(4)]
-        assert read(r, case.b, page) == ((case.edition, e, 0, sections), lookups), case.text
+        shown = case.edition, e, case.b + offset if case.fields else 0, told[0], sections
+        assert read(r, case.b, page) == (shown, lookups), case.text
 
 
 def check():
@@ -371,7 +517,8 @@ def check():
     for case in cases:
         check_by_reader(case)
         assert case.length <= 8192 and case.fill <= 255 and max(map(len, case.lists)) <= 600
-    assert len({file_of(case) for case in cases}) == len(cases) <= 300
+        assert len(file_of(case)) < 32768
+    assert len({file_of(case) for case in cases}) == len(cases) <= 1000
     tally = Counter(answer(case)[0] for case in cases)
     assert set(tally) == {"made", *[f"refused {name}" for name in REFUSALS]}
     print(f"{len(cases)} cases:", ", ".join(f"{tally[line]} {line}" for line in sorted(tally)))

@@ -11,10 +11,11 @@ use Rattle.versions.specs.Version.{minorOf, majorOf, aboveOf, versionOk, later,
 use Rattle.words.specs.Word.{leOf, leBytes, part, numAt, joined}
 use Rattle.versions.specs.Edition.{sectionCount, core, editionOk}
 use Rattle.entries.specs.Entry.{wordsPerEntry, size, bankOk, flagsOk, consoleOk, entryRule, entryOk, entriesOk, sum, checkOk}
-use Rattle.sections.specs.Page.{placeOk, mkSec, secAt, mkPlat, platAt}
-use Rattle.sections.specs.Section.{platOk, nothing, secOk, extent, apart, clearBefore, rules}
+use Rattle.sections.specs.Page.{placeOk, mkSec, secAt, mkPlat, foundAt, platAt}
+use Rattle.sections.specs.Section.{platOk, nothing, secOk, extent, apart, clearBefore, platExtent, platClear, rules}
 use Rattle.reader.specs.Answer.{ReaderAnswer, refused, shows, allShown, readerGate, judge, readOf}
-use Rattle.lists.specs.Description.{four, descriptionOf, listOk, descriptionOk, noneLate, platBytes, used}
+use Rattle.fields.specs.Fields.{scan, scanAll, scanOf, judged, fieldsOk, lengthsOk, count, taken, isBare}
+use Rattle.lists.specs.Description.{four, descriptionOf, listOk, listsOk, tellable, descriptionOk, noneLate, withMark, platBytes, used}
 use Rattle.boot.specs.declared.Params.{Params}
 use Rattle.boot.specs.declared.Record.the-variants.{Up}
 use Rattle.codes.specs.Codes.{extended, x0Of, answerOf, unless, fails, isUp, whenUp}
@@ -39,7 +40,7 @@ consoles n = joined n (λ i. 0x90000000 ∷ 1 ∷ 0 ∷ 0 ∷ 0 ∷ 0 ∷ [])
 
 -- what the writer of edition v makes of these banks and consoles
 abbrev making : ℕ → List ℕ → List ℕ → Made
-making v a b = writeOf 0x80000000 4096 v (descriptionOf a b [] [])
+making v a b = writeOf 0x80000000 4096 v (descriptionOf a b [] [] [])
 
 unfoldable pub isPage : Made → Bool
 isPage (no-page n) = false
@@ -89,7 +90,7 @@ unfolding moveOf movedBy moveCode granuleCode fromByte whenUp isUp unless fails
 granted u g t addr i f b = rw (f, b)
 
 pub examples : Examples
-unfolding later agreed readWith readOf judge readerGate allShown rules clearBefore apart extent secOk nothing platOk platAt mkPlat secAt mkSec size numAt part leBytes leOf versionOk aboveOf majorOf minorOf checkOk sum both either every joined isPage writeOf writerGate placeOk editionOk descriptionOk listOk noneLate used platBytes descriptionOf four core sectionCount wordsPerEntry entriesOk entryOk entryRule bankOk consoleOk flagsOk outside tooLong x0Of extended updateCode fails unless
+unfolding later agreed readWith readOf judge readerGate allShown rules platClear platExtent taken foundAt clearBefore apart extent secOk nothing platOk platAt mkPlat secAt mkSec size numAt part leBytes leOf versionOk aboveOf majorOf minorOf checkOk sum both either every joined isPage writeOf writerGate placeOk editionOk descriptionOk tellable isBare scanOf judged scanAll scan fieldsOk lengthsOk count listsOk listOk noneLate used platBytes withMark descriptionOf four core sectionCount wordsPerEntry entriesOk entryOk entryRule bankOk consoleOk flagsOk outside tooLong x0Of extended updateCode fails unless
 examples = record {
   e1 = refl;
   e1-read = refl;

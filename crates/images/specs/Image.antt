@@ -12,6 +12,8 @@ use Rattle.codes.specs.declared.Answer.{Answer}
 use Rattle.codes.specs.declared.Work.{Work}
 use Rattle.codes.specs.declared.Work.the-variants.{Nothing, Reprogram}
 use Rattle.granules.specs.declared.Granules.{Granules}
+use Rattle.lookup.specs.declared.FieldPlace.{FieldPlace}
+use Rattle.lookup.specs.declared.FieldPlace.the-variants as place
 use Rattle.reader.specs.Answer.{ReaderAnswer, refused, shows}
 use Rattle.reader.specs.Reading.{viewAt}
 use Rattle.reader.specs.declared.Section.{Section}
@@ -130,6 +132,11 @@ wroteNumber Room = 5
 -- ---- where a part of the page lies: its offset and its length
 unfoldable pub spanWords : Span → List ℕ
 spanWords p = p .at ∷ p .len ∷ []
+
+-- ---- a field that is asked for: 0 for none or 1, its tag, and the offset and the length of its value
+unfoldable pub fieldWords : FieldPlace → List ℕ
+fieldWords (place.Raw t at n) = 1 ∷ t ∷ at ∷ n ∷ []
+fieldWords place.Nothing = 0 ∷ 0 ∷ 0 ∷ 0 ∷ []
 
 -- ---- the dispatcher's reply: the result registers, zeros for 0xC400018F, which has none; and what the platform has to do, 2 being an
 -- error code to forward to the Non-secure world

@@ -6,6 +6,7 @@ use codes::Answer;
 use codes::Code;
 use codes::Work;
 use granules::Granules;
+use lookup::FieldPlace;
 use reader::Section;
 use reader::View;
 use runtime::Reply;
@@ -17,7 +18,7 @@ ghost use Prim.Native.Nat.{_+_, _≤_};
 ghost use lib.ListN.{length};
 ghost use Rattle.codes.specs.Codes.{ifOk};
 ghost use Rattle.runtime.specs.Step.{replyCode};
-ghost use Rattle.images.specs.Image.{recordOf, recordWords, granulesOf, isSet, sessionOf, sessionWords, registerWords, workWords, sectionIn, viewOf, spanWords, wroteNumber, replyRegisters, replyWords};
+ghost use Rattle.images.specs.Image.{recordOf, recordWords, granulesOf, isSet, sessionOf, sessionWords, registerWords, workWords, sectionIn, viewOf, spanWords, fieldWords, wroteNumber, replyRegisters, replyWords};
 
 pub fn record_of(image: &[u64; 4]) -> Record
     ensures { λ r. ⌜ r ≡ recordOf (now (image .entry)) ⌝ }
@@ -155,6 +156,19 @@ pub fn span_words(span: Span) -> [u64; 2]
     ensures { λ r. ⌜ r ≡ spanWords span ⌝ }
 {
     [span.at as u64, span.len as u64]
+}
+
+// A field that is asked for.
+pub fn field_words(field: FieldPlace) -> [u64; 4]
+    ensures { λ r. ⌜ r ≡ fieldWords field ⌝ }
+{
+    match field {
+        FieldPlace::Raw { tag, at, len } => {
+            let number = tag as u64;
+            [1, number, at as u64, len as u64]
+        }
+        FieldPlace::Nothing => [0u64; 4],
+    }
 }
 
 // A reply's code; one that goes to the Non-secure world is never refused.

@@ -20,7 +20,7 @@ fn show(room: &[u8], n: usize, out: &mut [u8]) -> usize
 fn main() {
     let mut input = [0u8; 4105];
     let n = io::read_full(STDIN_FILENO, &mut input);
-    let mut out = [0u8; 9716];
+    let mut out = [0u8; 12336];
     let written = show(&input, n, &mut out);
     io::write_all(STDOUT_FILENO, &out[..written]);
 }

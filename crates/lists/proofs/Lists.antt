@@ -9,7 +9,7 @@ use native.Mathlib.Omega.{arith}
 use lib.ListN.{length, take, getD, length-append}
 use lib.Seq.{take-suc, take-length}
 use lib.Dec.{leb, ltb, eqb}
-use borrow.Author.Tests.{eq-eqb, ne-eqb, lt-ltb, le-ltb, le-leb, leb-true}
+use borrow.Author.Tests.{eq-eqb, ne-eqb, lt-ltb, le-ltb, le-leb, lt-leb, leb-true}
 use Rattle.words.specs.Tests.{both, either, every}
 use Rattle.words.proofs.Tests.{either-l, every-of, every-at, every-none, every-more, every-not, same-test}
 use Rattle.words.specs.Word.{joined}
@@ -18,7 +18,8 @@ use Rattle.versions.proofs.Editions.{section-count-most}
 use Rattle.entries.specs.Entry.{wordsPerEntry, bankOk, consoleOk, entryRule, entryOk, entriesOk, sum}
 use Rattle.entries.specs.Gathered.{lastOf}
 use Rattle.entries.proofs.Entries.{per-other, sum-snoc, last-law}
-use Rattle.lists.specs.Description.{four, descriptionOf, listOk, descriptionOk, sumsOf, totalsOf, noneLate, platBytes, used}
+use Rattle.fields.specs.Fields.{endMark}
+use Rattle.lists.specs.Description.{four, descriptionOf, listOk, listsOk, sumsOf, totalsOf, noneLate, withMark, platBytes, used}
 use Rattle.lists.specs.declared.Totals.{Totals}
 use Rattle.lists.specs.declared.Sums.{Sums}
 use Rattle.lists.specs.declared.Sums.the-variants.{Unsound, Sound}
@@ -83,8 +84,8 @@ module _ (w k : ℕ) (ws : List ℕ) where
   list-whole h = rw (eq-eqb (length ws % wordsPerEntry k) 0 h)
 
 -- ---- all four
-described-four : (w : ℕ) (a b c d : List ℕ) → descriptionOk w (descriptionOf a b c d) ≡ both (both (both (listOk w 0 a) (listOk w 1 b)) (listOk w 2 c)) (listOk w 3 d)
-unfolding descriptionOk descriptionOf every both four
+described-four : (w : ℕ) (a b c d : List ℕ) → listsOk w (four a b c d) ≡ both (both (both (listOk w 0 a) (listOk w 1 b)) (listOk w 2 c)) (listOk w 3 d)
+unfolding listsOk every both four
 described-four w a b c d = refl
 
 -- the totals of sums that there are
@@ -106,19 +107,19 @@ module _ (w : ℕ) (a b c d : List ℕ) where
   unfolding sumsOf totalsOf
   sums-are p q r s e f g h i = rw (described-four w a b c d, e, f, g, h, i)
 
-  sums-sound : isSound (sumsOf w a b c d) ≡ descriptionOk w (descriptionOf a b c d)
+  sums-sound : isSound (sumsOf w a b c d) ≡ listsOk w (four a b c d)
   unfolding sumsOf
-  sums-sound = go (descriptionOk w (descriptionOf a b c d))
+  sums-sound = go (listsOk w (four a b c d))
     where
       go : (t : Bool) → isSound (cond t (Sound (totalsOf a b c d)) Unsound) ≡ t
       go true = refl
       go false = refl
 
   -- what is learnt from the answer
-  pub unsound-lists : sumsOf w a b c d ≡ Unsound → descriptionOk w (descriptionOf a b c d) ≡ false
+  pub unsound-lists : sumsOf w a b c d ≡ Unsound → listsOk w (four a b c d) ≡ false
   unsound-lists e = sym sums-sound ∙ ap isSound e
 
-  pub sound-lists : (t : Totals) → sumsOf w a b c d ≡ Sound t → descriptionOk w (descriptionOf a b c d) ≡ true
+  pub sound-lists : (t : Totals) → sumsOf w a b c d ≡ Sound t → listsOk w (four a b c d) ≡ true
   sound-lists t e = sym sums-sound ∙ ap isSound e
 
   pub sound-totals : (t : Totals) → sumsOf w a b c d ≡ Sound t → t ≡ totalsOf a b c d
@@ -176,15 +177,39 @@ module _ (from : ℕ) (n : List ℕ) where
   unfolding lateTo
   late-end k h p = every-of 4 (λ j. either (ltb j from) (eqb (getD n j 0) 0)) (λ i m. every-at k (λ j. either (ltb j from) (eqb (getD n j 0) 0)) p i (omega arith))
 
-pub late-same : (v : ℕ) (a b c d : List ℕ) → lateTo (sectionCount v) 4 (lens a b c d) ≡ noneLate v (descriptionOf a b c d)
-unfolding lateTo noneLate descriptionOf four every
+pub late-same : (v : ℕ) (a b c d : List ℕ) → lateTo (sectionCount v) 4 (lens a b c d) ≡ noneLate v (four a b c d)
+unfolding lateTo noneLate four every
 late-same v a b c d = refl
 
--- the room behind the core
-pub room-same : (v s : ℕ) (a b c d : List ℕ) → s ≡ core v → leb (sumTo 4 (lens a b c d)) (512 - s / 8) ≡ leb (used v (descriptionOf a b c d)) 4096
-unfolding used core platBytes descriptionOf
-room-same v s a b c d e =
-    rw to-joined
-    (same-test _ _
-    (λ p. le-leb (16 + 24 * sectionCount v + 8 * length (joined 4 (four a b c d)) + 0) 4096 (let q = leb-true (length (joined 4 (four a b c d))) (512 - s / 8) p in let m = section-count-most v in omega arith))
-    (λ p. le-leb (length (joined 4 (four a b c d))) (512 - s / 8) (let q = leb-true (16 + 24 * sectionCount v + 8 * length (joined 4 (four a b c d)) + 0) 4096 p in let m = section-count-most v in omega arith)))
+-- ---- the fields and their end mark
+pub marked-none : (fs : List ℕ) → length fs ≡ 0 → 0 ≡ length (withMark fs)
+unfolding withMark
+marked-none [] h = refl
+marked-none (b ∷ bs) h = absurd (let z : ⊥ = omega arith in z)
+
+pub marked-some : (fs : List ℕ) → (length fs ≡ 0 → ⊥) → length fs + 3 ≡ length (withMark fs)
+unfolding withMark endMark
+marked-some [] h = absurd (h refl)
+marked-some (b ∷ bs) h = sym (length-append (b ∷ bs) endMark)
+
+pub marked-more : (fs : List ℕ) → length fs ≤ length (withMark fs)
+unfolding withMark
+marked-more [] = omega arith
+marked-more (b ∷ bs) = omega (arith, length-append (b ∷ bs) endMark)
+
+-- ---- the room behind the core
+module _ (v s : ℕ) (a b c d fs : List ℕ) (e : s ≡ core v) where
+  pub room-not : 4096 - s < length (withMark fs) → leb (used v (descriptionOf a b c d fs)) 4096 ≡ false
+  unfolding used platBytes descriptionOf
+  room-not h = lt-leb (core v + 8 * length (joined 4 (four a b c d)) + length (withMark fs)) 4096 (omega arith)
+
+  pub room-same : (r : Bool) (room : ℕ) → r ≡ leb (sumTo 4 (lens a b c d)) room → length (withMark fs) ≤ 4096 - s → room ≡ (4096 - s - length (withMark fs)) / 8 →
+      r ≡ leb (used v (descriptionOf a b c d fs)) 4096
+  unfolding used core platBytes descriptionOf
+  room-same r room f h i =
+      let n = length (joined 4 (four a b c d)) in
+      let k = length (withMark fs) in
+      f ∙ rw to-joined
+      (same-test _ _
+      (λ p. le-leb (16 + 24 * sectionCount v + 8 * n + k) 4096 (let q = leb-true n room p in let m = section-count-most v in omega arith))
+      (λ p. le-leb n room (let q = leb-true (16 + 24 * sectionCount v + 8 * n + k) 4096 p in let m = section-count-most v in omega arith)))

@@ -1,20 +1,23 @@
--- The description that the writer takes, and its checks W3 to W5. 01: "four lists of 64-bit words (2 words an entry, 6 for a console)". Assumes nothing.
+-- The description that the writer takes, and its checks W3 to W5. 01: "four lists of 64-bit words (2 words an entry, 6 for a console)"; 02,
+-- E7: "The writer takes a list of fields". Assumes nothing.
 use Prim.Native.Nat.{ℕ, zero, suc, _+_, _*_, _/_, _%_, _^_}
 use mathlib.Core.Bool.{Bool, cond}
-use mathlib.Core.List.{List, []}
+use mathlib.Core.List.{List, [], _∷_, _++_}
 use lib.ListN.{length}
 use lib.Dec.{ltb, eqb}
 use Rattle.words.specs.Tests.{both, either, every}
 use Rattle.words.specs.Word.{joined}
 use Rattle.versions.specs.Edition.{sectionCount, core}
 use Rattle.entries.specs.Entry.{wordsPerEntry, entriesOk, sum}
+use Rattle.fields.specs.Fields.{Field, Scanned, broken, ended, bare, scanOf, isBare, endMark}
 use Rattle.lists.specs.declared.Totals.{Totals}
 use Rattle.lists.specs.declared.Sums.{Sums}
 use Rattle.lists.specs.declared.Sums.the-variants.{Unsound, Sound}
 
--- a description: a list of words for each section
+-- a description: a list of words for each section, and fields as they will stand on the page, with no end mark
 pub record Description : Type 0 where
   pub lists : ℕ → List ℕ
+  pub fields : List ℕ
 
 unfoldable pub four : List ℕ → List ℕ → List ℕ → List ℕ → ℕ → List ℕ
 four a b c d zero = a
@@ -23,32 +26,51 @@ four a b c d (suc (suc zero)) = c
 four a b c d (suc (suc (suc zero))) = d
 four a b c d (suc (suc (suc (suc n)))) = []
 
-unfoldable pub descriptionOf : List ℕ → List ℕ → List ℕ → List ℕ → Description
-descriptionOf a b c d = record { lists = four a b c d }
+unfoldable pub descriptionOf : List ℕ → List ℕ → List ℕ → List ℕ → List ℕ → Description
+descriptionOf a b c d fs = record { lists = four a b c d; fields = fs }
 
 -- W3: "list length not a whole number of entries, or an entry that breaks a reader's rule"; all four lists, also those of
 -- sections after the edition
 unfoldable pub listOk : ℕ → ℕ → List ℕ → Bool
 listOk v k ws = both (eqb (length ws % wordsPerEntry k) 0) (entriesOk v k (length ws / wordsPerEntry k) ws)
 
-unfoldable pub descriptionOk : ℕ → Description → Bool
-descriptionOk v d = every 4 (λ k. listOk v k (d .lists k))
+unfoldable pub listsOk : ℕ → (ℕ → List ℕ) → Bool
+listsOk v l = every 4 (λ k. listOk v k (l k))
 
--- the sums of the four lists' words modulo 2^64, which the checksums need; none where W3 holds
+-- 02, E7: "broken fields are -7 in the reader and W3 in the writer, there also any tag 0": fields that may be written keep the reader's
+-- rules and take up every byte, so that none is cut short and no tag is 0
+unfoldable pub tellable : Scanned → Bool
+tellable s = isBare s
+
+unfoldable pub descriptionOk : ℕ → Description → Bool
+descriptionOk v d = both (listsOk v (d .lists)) (tellable (scanOf (d .fields)))
+
+-- the fields that a description tells
+unfoldable pub fieldsTold : Scanned → List Field
+fieldsTold broken = []
+fieldsTold (ended fs n) = []
+fieldsTold (bare fs) = fs
+
+-- the sums of the four lists' words modulo 2^64, which the checksums need; none where one of them is W3
 unfoldable pub totalsOf : List ℕ → List ℕ → List ℕ → List ℕ → Totals
 totalsOf a b c d = record { dram = sum a % 2 ^ 64; console = sum b % 2 ^ 64; ncoh = sum c % 2 ^ 64; coh = sum d % 2 ^ 64 }
 
 unfoldable pub sumsOf : ℕ → List ℕ → List ℕ → List ℕ → List ℕ → Sums
-sumsOf v a b c d = cond (descriptionOk v (descriptionOf a b c d)) (Sound (totalsOf a b c d)) Unsound
+sumsOf v a b c d = cond (listsOk v (four a b c d)) (Sound (totalsOf a b c d)) Unsound
 
 -- W4: "a nonempty list for a section after the edition"
-unfoldable pub noneLate : ℕ → Description → Bool
-noneLate v d = every 4 (λ k. either (ltb k (sectionCount v)) (eqb (length (d .lists k)) 0))
+unfoldable pub noneLate : ℕ → (ℕ → List ℕ) → Bool
+noneLate v l = every 4 (λ k. either (ltb k (sectionCount v)) (eqb (length (l k)) 0))
 
--- the bytes of the platform data behind the arrays: at present none
+-- fields with their end mark behind them; without fields no byte
+unfoldable pub withMark : List ℕ → List ℕ
+withMark [] = []
+withMark (b ∷ bs) = (b ∷ bs) ++ endMark
+
+-- the bytes of the platform data
 unfoldable pub platBytes : Description → List ℕ
-platBytes d = []
+platBytes d = withMark (d .fields)
 
--- W5: "core and arrays exceed 4,096 bytes"
+-- W5: "core and arrays exceed 4,096 bytes"; 02, E7: "W5 counts the fields and, if there are any, their end mark"
 unfoldable pub used : ℕ → Description → ℕ
 used v d = core v + 8 * length (joined 4 (d .lists)) + length (platBytes d)

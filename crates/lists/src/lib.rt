@@ -1,4 +1,4 @@
-// The writer's checks of the description: whole entries within their rules, none of a section after the edition, and room.
+// The writer's checks of the description: whole entries and fields within their rules, no entry of a section after the edition, and room.
 use entries::Bits;
 use versions::Edition;
 ghost use mathlib.Core.Path.{_≡_};
@@ -7,7 +7,8 @@ ghost use Prim.Native.Nat.{_*_, _%_, _^_, _≤_};
 ghost use lib.ListN.{length, take};
 ghost use lib.Dec.{leb};
 ghost use Rattle.entries.specs.Entry.{entriesOk, sum};
-ghost use Rattle.lists.specs.Description.{descriptionOf, listOk, sumsOf, noneLate, used};
+ghost use Rattle.fields.specs.Fields.{scanOf};
+ghost use Rattle.lists.specs.Description.{four, descriptionOf, listOk, sumsOf, tellable, noneLate, withMark, used};
 ghost use Rattle.lists.specs.Lengths.{sumTo, lateTo};
 
 // The sums of the four lists' words, modulo 2^64.
@@ -120,6 +121,13 @@ pub fn sum_lists(minor: u64, dram: &[u64], console: &[u64], ncoh: &[u64], coh: &
     })
 }
 
+// W3: whether the fields may be written.
+pub fn fields_ok(fields: &[u8]) -> bool
+    ensures { λ r. ⌜ r ≡ tellable (scanOf (now (fields .entry))) ⌝ }
+{
+    fields::description_ok(fields)
+}
+
 // Whether each list from a section on is empty, by the four lengths.
 fn empty_from(from: usize, n: [usize; 4]) -> bool
     ensures { λ r. ⌜ r ≡ lateTo from 4 n ⌝ }
@@ -134,7 +142,7 @@ fn empty_from(from: usize, n: [usize; 4]) -> bool
 
 // W4: whether each list of a section after the edition is empty.
 pub fn none_late(e: Edition, dram: &[u64], console: &[u64], ncoh: &[u64], coh: &[u64]) -> bool
-    ensures { λ r. ⌜ r ≡ noneLate (e .minor) (descriptionOf (now (dram .entry)) (now (console .entry)) (now (ncoh .entry)) (now (coh .entry))) ⌝ }
+    ensures { λ r. ⌜ r ≡ noneLate (e .minor) (four (now (dram .entry)) (now (console .entry)) (now (ncoh .entry)) (now (coh .entry))) ⌝ }
 {
     let n = [dram.len(), console.len(), ncoh.len(), coh.len()];
     empty_from(e.sections() as usize, n)
@@ -154,11 +162,37 @@ fn fits(room: usize, n: [usize; 4]) -> bool
     true
 }
 
-// W5: whether core and arrays fit into 4,096 bytes, 512 words.
-pub fn room_ok(e: Edition, dram: &[u64], console: &[u64], ncoh: &[u64], coh: &[u64]) -> bool
-    ensures { λ r. ⌜ r ≡ leb (used (e .minor) (descriptionOf (now (dram .entry)) (now (console .entry)) (now (ncoh .entry)) (now (coh .entry)))) 4096 ⌝ }
+// How many bytes fields take on a page: themselves and their end mark, or none.
+fn marked_size(fields: &[u8]) -> usize
+    requires { ⌜ length (now fields) ≤ 4096 ⌝ }
+    ensures { λ r. ⌜ r ≡ length (withMark (now (fields .entry))) ⌝ }
 {
-    let room = 512 - (e.core_size() as usize) / 8;
+    if fields.len() == 0 {
+        return 0;
+    }
+    fields.len() + 3
+}
+
+// W5: whether core, arrays and fields fit into 4,096 bytes.
+pub fn room_ok(
+    e: Edition,
+    dram: &[u64],
+    console: &[u64],
+    ncoh: &[u64],
+    coh: &[u64],
+    fields: &[u8],
+) -> bool
+    ensures { λ r. ⌜ r ≡ leb (used (e .minor) (descriptionOf (now (dram .entry)) (now (console .entry)) (now (ncoh .entry)) (now (coh .entry)) (now (fields .entry)))) 4096 ⌝ }
+{
+    if 4096 < fields.len() {
+        return false;
+    }
+    let left = 4096 - (e.core_size() as usize);
+    let marked = marked_size(fields);
+    if left < marked {
+        return false;
+    }
+    let room = (left - marked) / 8;
     let n = [dram.len(), console.len(), ncoh.len(), coh.len()];
     fits(room, n)
 }

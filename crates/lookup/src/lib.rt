@@ -1,16 +1,31 @@
 // What can be asked of a page: a section's array as the part of the lent page that holds it, how many entries it has, and each
-// word of an entry.
+// word of an entry; and the fields of the platform data.
+use fields::FieldsEnd;
+use fields::Head;
 use reader::Reading;
 use reader::Section;
 use reader::View;
 use words::Span;
 ghost use mathlib.Core.Path.{_≡_};
 ghost use lib.ListN.{length};
-ghost use Rattle.words.specs.Word.{spanned, onFrom};
-ghost use Rattle.reader.specs.Answer.{lookIn, lookOf, countIn, wordIn, readOf};
+ghost use Rattle.words.specs.Word.{spanned, spanStart, onFrom};
+ghost use Rattle.reader.specs.Answer.{lookIn, lookOf, countIn, wordIn, fieldsShown, readOf};
 ghost use Rattle.reader.specs.Reading.{sectionOf, readingAnswer};
 ghost use Rattle.entries.specs.Entry.{isHidden};
 ghost use Rattle.lookup.specs.Lookup.{spanOf, spanIn, countOf, wordOf};
+ghost use Rattle.lookup.specs.Fields.{firstIn, restIn, nthIn, ofTag, valueIn, fieldAs, placeSpan, shownFrom, stepAt, startAt, nthPlace, tagPlace};
+
+// A field that is asked for: its tag, and where its value lies in the page; or that there is no such field.
+pub enum FieldPlace {
+    Raw { tag: u8, at: usize, len: usize },
+    Nothing,
+}
+
+// A step of a walk over the fields: the field at a cursor, and the cursor behind it.
+pub struct FieldStep {
+    pub field: FieldPlace,
+    pub next: usize,
+}
 
 // Where count entries of section k at an offset lie in a page of so many bytes; nowhere where they do not lie within it.
 fn place_at(room: usize, k: usize, at: usize, count: usize) -> Span
@@ -138,4 +153,125 @@ pub fn array(page: &[u8], base: u64, edition: u64, k: usize) -> &[u8]
     ensures { λ r. ⌜ r .ptr ≡ onFrom (page .entry .ptr) (spanIn base (now (page .entry)) (readOf edition base (now (page .entry))) k .at) ⌝ }
 {
     words::part_of(page, place(page, base, edition, k))
+}
+
+// The cursor at the first field of a view: the page's length where the view has no pointer or, of a view that no reading made, where it
+// points at broken fields.
+pub fn fields_start(page: &[u8], view: View) -> usize
+    ensures { λ r. ⌜ r ≡ startAt (view .plat) (now (page .entry)) ⌝ }
+    ensures { λ r. ⌜ shownFrom r (now (page .entry)) ≡ fieldsShown (readingAnswer (now (page .entry)) (Reading.Accepted view)) ⌝ }
+{
+    let plat = view.plat;
+    if plat == 0 {
+        return page.len();
+    }
+    let at = (plat % 4096) as usize;
+    let told = fields::scan_at(page, at);
+    let FieldsEnd::Ended(_) = told else {
+        return page.len();
+    };
+    at
+}
+
+// The field at a cursor, and the cursor behind it: a walk from the first field passes all of them, in page order.
+pub fn field_next(page: &[u8], cursor: usize) -> FieldStep
+    ensures { λ r. ⌜ r ≡ stepAt cursor (now (page .entry)) ⌝ }
+    ensures { λ r. ⌜ fieldAs (r .field) (now (page .entry)) ≡ firstIn (shownFrom cursor (now (page .entry))) ⌝ }
+    ensures { λ r. ⌜ shownFrom (r .next) (now (page .entry)) ≡ restIn (shownFrom cursor (now (page .entry))) ⌝ }
+{
+    let head = fields::field_at(page, cursor);
+    let Head::Field {
+        tag,
+        value,
+        len,
+        next,
+    } = head
+    else {
+        let next = page.len();
+        return FieldStep {
+            field: FieldPlace::Nothing,
+            next,
+        };
+    };
+    FieldStep {
+        field: FieldPlace::Raw {
+            tag,
+            at: value,
+            len,
+        },
+        next,
+    }
+}
+
+// How many fields a view shows.
+pub fn field_count(page: &[u8], view: View) -> usize
+    ensures { λ r. ⌜ r ≡ length (fieldsShown (readingAnswer (now (page .entry)) (Reading.Accepted view))) ⌝ }
+{
+    let plat = view.plat;
+    if plat == 0 {
+        return 0;
+    }
+    let at = (plat % 4096) as usize;
+    if page.len() < at {
+        return 0;
+    }
+    fields::count(&page[at..])
+}
+
+// Field i of a view, in page order.
+pub fn field_of(page: &[u8], view: View, i: usize) -> FieldPlace
+    ensures { λ r. ⌜ r ≡ nthPlace i view (now (page .entry)) ⌝ }
+    ensures { λ r. ⌜ fieldAs r (now (page .entry)) ≡ nthIn i (fieldsShown (readingAnswer (now (page .entry)) (Reading.Accepted view))) ⌝ }
+{
+    let mut cursor = fields_start(page, view);
+    let mut left = i;
+    loop {
+        let step = field_next(page, cursor);
+        let field = step.field;
+        let FieldPlace::Raw { tag, at, len } = field else {
+            return FieldPlace::Nothing;
+        };
+        if left == 0 {
+            return FieldPlace::Raw { tag, at, len };
+        }
+        left -= 1;
+        cursor = step.next;
+    }
+}
+
+// The first field of a view with a tag: the board name has tag 1, the serial tag 2.
+pub fn field_of_tag(page: &[u8], view: View, tag: u8) -> FieldPlace
+    ensures { λ r. ⌜ r ≡ tagPlace tag view (now (page .entry)) ⌝ }
+    ensures { λ r. ⌜ fieldAs r (now (page .entry)) ≡ ofTag tag (fieldsShown (readingAnswer (now (page .entry)) (Reading.Accepted view))) ⌝ }
+{
+    let mut cursor = fields_start(page, view);
+    loop {
+        let step = field_next(page, cursor);
+        let field = step.field;
+        let FieldPlace::Raw { tag: own, at, len } = field else {
+            return FieldPlace::Nothing;
+        };
+        if own == tag {
+            return FieldPlace::Raw { tag: own, at, len };
+        }
+        cursor = step.next;
+    }
+}
+
+// Where the value of a field lies; nowhere where there is none.
+fn span_of(field: FieldPlace) -> Span
+    ensures { λ r. ⌜ r ≡ placeSpan field ⌝ }
+{
+    match field {
+        FieldPlace::Raw { tag: _, at, len } => Span { at, len },
+        FieldPlace::Nothing => Span { at: 0, len: 0 },
+    }
+}
+
+// The value of a field, as the part of the page that holds it; empty where there is none.
+pub fn value_of(page: &[u8], field: FieldPlace) -> &[u8]
+    ensures { λ r. ⌜ now r ≡ valueIn (fieldAs field (now (page .entry))) ⌝ }
+    ensures { λ r. ⌜ r .ptr ≡ onFrom (page .entry .ptr) (spanStart (placeSpan field) (now (page .entry))) ⌝ }
+{
+    words::part_of(page, span_of(field))
 }

@@ -20,9 +20,9 @@ use Rattle.images.specs.Image.{recordOf, granulesOf, isSet, sessionOf, sessionW
 use Rattle.queue_image.specs.Image.{listsIn}
 use Rattle.queue_image.specs.Steps.{ImageStep}
 
--- ---- the writer, of its four lists
-abbrev pub writeIn : ℕ → ℕ → ℕ → List ℕ → List ℕ → List ℕ → List ℕ → Made
-writeIn base n edition dram console ncoh coh = writeOf base n edition (descriptionOf dram console ncoh coh)
+-- ---- the writer, of its four lists and its fields
+abbrev pub writeIn : ℕ → ℕ → ℕ → List ℕ → List ℕ → List ℕ → List ℕ → List ℕ → Made
+writeIn base n edition dram console ncoh coh fields = writeOf base n edition (descriptionOf dram console ncoh coh fields)
 
 -- ---- an image after a call: written where the call is accepted
 unfoldable pub sessionAfter : Code → Session → List ℕ → List ℕ

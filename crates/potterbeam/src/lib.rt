@@ -12,10 +12,11 @@ ghost use Rattle.versions.specs.Edition.{sectionCount};
 ghost use Rattle.sections.specs.Page.{countAt, pointerAt};
 ghost use Rattle.sections.specs.Section.{rulesAt};
 ghost use Rattle.words.specs.Tests.{Yes};
-ghost use Rattle.reader.specs.Answer.{countIn, wordIn, readOf};
+ghost use Rattle.reader.specs.Answer.{countIn, wordIn, fieldsShown, readOf};
 ghost use Rattle.reader.specs.Reading.{sectionOf, readingAnswer, sectionAt, viewAt};
 ghost use Rattle.reader.specs.declared.Reading.the-variants.{Accepted};
 ghost use Rattle.lookup.specs.Lookup.{spanOf, spanIn};
+ghost use Rattle.lookup.specs.Fields.{firstIn, restIn, nthIn, ofTag, fieldAs, shownFrom, stepAt, startAt, nthPlace, tagPlace};
 ghost use Rattle.text.specs.Text.{lay, listingOf};
 ghost use Rattle.lists.specs.Description.{descriptionOf};
 ghost use Rattle.writer.specs.Write.{descriptionFits};
@@ -29,7 +30,7 @@ ghost use mathlib.Core.Bool.{true, false};
 ghost use Rattle.codes.specs.Codes.{x0Of};
 ghost use Rattle.token.specs.Token.{bufferCode, challengeSpan};
 ghost use Rattle.features.specs.Features.{featuresOf, updateOf, forwardOf};
-ghost use Rattle.images.specs.Image.{recordOf, recordWords, registerWords, workWords, sectionWords, viewOf, viewWords, answerWords, madeNumber, spanWords};
+ghost use Rattle.images.specs.Image.{recordOf, recordWords, registerWords, workWords, sectionWords, viewOf, viewWords, answerWords, madeNumber, spanWords, fieldWords};
 ghost use Rattle.queue_image.specs.Image.{listsIn, oldestWords};
 ghost use Rattle.potterbeam.specs.Exports.{writeIn, MoveLeft, moveIn, moveListIn, TokenLeft, tokenIn, SigningLeft, signingIn, SignLeft, signIn, PlainLeft, plainIn, CallLeft, callLent, callIn};
 
@@ -144,6 +145,54 @@ pub extern "C" fn pbeam_word(
     lookup::word_of(page, images::view_of(view), section, entry, word)
 }
 
+// How many fields a view shows.
+#[no_mangle]
+pub extern "C" fn pbeam_field_count(page: &[u8], view: &[u64; 15]) -> usize
+    ensures { λ r. ⌜ r ≡ length (fieldsShown (readingAnswer (now (page .entry)) (Accepted (viewOf (now (view .entry)))))) ⌝ }
+{
+    lookup::field_count(page, images::view_of(view))
+}
+
+// A view's field by its number, in page order.
+#[no_mangle]
+pub extern "C" fn pbeam_field(page: &[u8], view: &[u64; 15], index: usize, field: &mut [u64; 4])
+    ensures { λ _. ⌜ now (field .exit) ≡ fieldWords (nthPlace index (viewOf (now (view .entry))) (now (page .entry))) ⌝ }
+    ensures { λ _. ⌜ fieldAs (nthPlace index (viewOf (now (view .entry))) (now (page .entry))) (now (page .entry)) ≡ nthIn index (fieldsShown (readingAnswer (now (page .entry)) (Accepted (viewOf (now (view .entry)))))) ⌝ }
+{
+    *field = images::field_words(lookup::field_of(page, images::view_of(view), index));
+}
+
+// A view's first field with a tag.
+#[no_mangle]
+pub extern "C" fn pbeam_field_of_tag(page: &[u8], view: &[u64; 15], tag: u8, field: &mut [u64; 4])
+    ensures { λ _. ⌜ now (field .exit) ≡ fieldWords (tagPlace tag (viewOf (now (view .entry))) (now (page .entry))) ⌝ }
+    ensures { λ _. ⌜ fieldAs (tagPlace tag (viewOf (now (view .entry))) (now (page .entry))) (now (page .entry)) ≡ ofTag tag (fieldsShown (readingAnswer (now (page .entry)) (Accepted (viewOf (now (view .entry)))))) ⌝ }
+{
+    *field = images::field_words(lookup::field_of_tag(page, images::view_of(view), tag));
+}
+
+// The cursor at a view's first field.
+#[no_mangle]
+pub extern "C" fn pbeam_field_start(page: &[u8], view: &[u64; 15]) -> usize
+    ensures { λ r. ⌜ r ≡ startAt ((viewOf (now (view .entry))) .plat) (now (page .entry)) ⌝ }
+    ensures { λ r. ⌜ shownFrom r (now (page .entry)) ≡ fieldsShown (readingAnswer (now (page .entry)) (Accepted (viewOf (now (view .entry))))) ⌝ }
+{
+    lookup::fields_start(page, images::view_of(view))
+}
+
+// The field at a cursor. Answers the cursor behind it.
+#[no_mangle]
+pub extern "C" fn pbeam_field_next(page: &[u8], cursor: usize, field: &mut [u64; 4]) -> usize
+    ensures { λ r. ⌜ r ≡ stepAt cursor (now (page .entry)) .next ⌝ }
+    ensures { λ _. ⌜ now (field .exit) ≡ fieldWords (stepAt cursor (now (page .entry)) .field) ⌝ }
+    ensures { λ r. ⌜ (fieldAs (stepAt cursor (now (page .entry)) .field) (now (page .entry)) ≡ firstIn (shownFrom cursor (now (page .entry)))) × (shownFrom r (now (page .entry)) ≡ restIn (shownFrom cursor (now (page .entry)))) ⌝ }
+{
+    let step = lookup::field_next(page, cursor);
+    let found = step.field;
+    *field = images::field_words(found);
+    step.next
+}
+
 // The listing of a page at a base, as a reader of an edition reads it, as far as it fits. Answers the length of the whole text.
 #[no_mangle]
 pub extern "C" fn pbeam_listing(page: &[u8], base: u64, edition: u64, text: &mut [u8]) -> usize
@@ -162,14 +211,15 @@ pub extern "C" fn pbeam_write(
     console: &[u64],
     ncoh: &[u64],
     coh: &[u64],
+    fields: &[u8],
     page: &mut [u8],
 ) -> u32
-    ensures { λ r. ⌜ r ≡ madeNumber (writeIn base (length (now (page .entry))) edition (now (dram .entry)) (now (console .entry)) (now (ncoh .entry)) (now (coh .entry))) ⌝ }
+    ensures { λ r. ⌜ r ≡ madeNumber (writeIn base (length (now (page .entry))) edition (now (dram .entry)) (now (console .entry)) (now (ncoh .entry)) (now (coh .entry)) (now (fields .entry))) ⌝ }
     ensures { λ r. ⌜ now (page .exit) ≡ pageAfter (now (page .entry))
-        (writeIn base (length (now (page .entry))) edition (now (dram .entry)) (now (console .entry)) (now (ncoh .entry)) (now (coh .entry))) ⌝ }
-    ensures { λ _. ⌜ Yes (descriptionFits (descriptionOf (now (dram .entry)) (now (console .entry)) (now (ncoh .entry)) (now (coh .entry)))) ⌝ }
+        (writeIn base (length (now (page .entry))) edition (now (dram .entry)) (now (console .entry)) (now (ncoh .entry)) (now (coh .entry)) (now (fields .entry))) ⌝ }
+    ensures { λ _. ⌜ Yes (descriptionFits (descriptionOf (now (dram .entry)) (now (console .entry)) (now (ncoh .entry)) (now (coh .entry)) (now (fields .entry)))) ⌝ }
 {
-    images::wrote_number(writer::write(base, edition, dram, console, ncoh, coh, page))
+    images::wrote_number(writer::write(base, edition, dram, console, ncoh, coh, fields, page))
 }
 
 // ---- Versions ----

@@ -1,4 +1,4 @@
--- No byte is named but the core, the arrays and, of a page whose version is refused, the first 16. An edition that names every byte
+-- No byte is named but the core, the arrays, the fields and, of a page whose version is refused, the first 16. An edition that names every byte
 -- fails here. Assumes nothing.
 use Prim.Native.Nat.{ℕ, zero, suc, min, _+_, _≤_, _<_}
 use mathlib.Core.Bool.{Bool, false, false≢true}
@@ -13,9 +13,11 @@ use Rattle.words.proofs.Tests.{both-l, both-r, either-cases, same-test}
 use Rattle.versions.specs.Version.{minorOf, versionOk}
 use Rattle.versions.specs.Edition.{sectionCount, core}
 use Rattle.entries.specs.Entry.{size}
-use Rattle.sections.specs.Page.{versionAt, countAt, pointerAt}
-use Rattle.reader.specs.Answer.{inArray, namedBy, named}
-use Rattle.reader.specs.Gaps.{BesideArray, OthersUnnamed}
+use Rattle.words.specs.Word.{wordAt}
+use Rattle.fields.specs.Fields.{reach}
+use Rattle.sections.specs.Page.{versionAt, countAt, pointerAt, foundAt}
+use Rattle.reader.specs.Answer.{inArray, inPlat, namedBy, named}
+use Rattle.reader.specs.Gaps.{BesideArray, BesideFields, OthersUnnamed}
 
 not-yes : (b : Bool) → (Yes b → ⊥) → b ≡ false
 not-yes b f = same-test b false (λ y. absurd (f y)) (λ y. absurd (false≢true y))
@@ -31,15 +33,21 @@ beside-not base page i k (inl h) y = let a : pointerAt k page ≤ base + i = leb
 beside-not base page i k (inr (inl h)) y = let a : base + i < pointerAt k page + size k (countAt k page) = ltb-true _ _ (both-r _ _ (both-r _ _ y)) in omega arith
 beside-not base page i k (inr (inr h)) y = false≢true (sym h ∙ both-l _ _ y)
 
+fields-not : (base : ℕ) (page : List ℕ) (i : ℕ) → BesideFields base page i → Yes (inPlat base page i) → ⊥
+unfolding inPlat
+fields-not base page i (inl h) y = let a : wordAt 8 page ≤ base + i = leb-true _ _ (both-l _ _ (both-r _ _ y)) in omega arith
+fields-not base page i (inr (inl h)) y = let a : base + i < wordAt 8 page + reach (foundAt base page (wordAt 8 page)) = ltb-true _ _ (both-r _ _ (both-r _ _ y)) in omega arith
+fields-not base page i (inr (inr h)) y = false≢true (sym h ∙ both-l _ _ y)
+
 core-least : (e : ℕ) → 16 ≤ core e
 unfolding core
 core-least e = omega arith
 
-by-edition-not : (e base : ℕ) (page : List ℕ) (i : ℕ) → core e ≤ i → ((k : ℕ) → k < sectionCount e → BesideArray base page i k) → Yes (namedBy e base page i) → ⊥
+by-edition-not : (e base : ℕ) (page : List ℕ) (i : ℕ) → core e ≤ i → ((k : ℕ) → k < sectionCount e → BesideArray base page i k) → BesideFields base page i → Yes (namedBy e base page i) → ⊥
 unfolding namedBy
-by-edition-not e base page i h g y =
+by-edition-not e base page i h g f y =
     either-cases _ _ (λ a. let l = ltb-true i (core e) a in omega arith)
-    (some-not (sectionCount e) (inArray base page i) (λ k l. beside-not base page i k (g k l))) y
+    (either-cases _ _ (some-not (sectionCount e) (inArray base page i) (λ k l. beside-not base page i k (g k l))) (fields-not base page i f)) y
 
 module _ (r base : ℕ) (page : List ℕ) (i : ℕ) where
   named-not : 16 ≤ i → (Yes (versionOk (versionAt page)) → Yes (namedBy (min r (minorOf (versionAt page))) base page i) → ⊥) → named r base page i ≡ false
@@ -53,7 +61,7 @@ module _ (r base : ℕ) (page : List ℕ) (i : ℕ) where
 
 pub others-unnamed : (r base : ℕ) (page : List ℕ) → OthersUnnamed r base page
 others-unnamed r base page = record {
-  gap = λ i h g. named-not r base page i (omega (arith, core-least (min r (minorOf (versionAt page))))) (λ v. by-edition-not _ base page i h g);
+  gap = λ i h g f. named-not r base page i (omega (arith, core-least (min r (minorOf (versionAt page))))) (λ v. by-edition-not _ base page i h g f);
   unknown = λ i h v. named-not r base page i h (λ y. absurd (false≢true (sym v ∙ y)));
   cut = λ i h. cut-not r base page i h;
 }

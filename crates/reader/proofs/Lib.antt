@@ -5,3 +5,4 @@ pub mod Gaps
 pub mod Views
 pub mod Sample
 pub mod FlagsSample
+pub mod FieldsSample

@@ -1,13 +1,14 @@
 -- The bytes that an edition names are all that a reader looks at. Assumes nothing.
-use Prim.Native.Nat.{ℕ, _+_, _*_, min, _≤_, _<_}
-use mathlib.Core.Bool.{Bool, true, false}
-use mathlib.Core.Path.{_≡_, refl, ap}
+use Prim.Native.Nat.{ℕ, _+_, _-_, _*_, min, _≤_, _<_}
+use mathlib.Core.Bool.{Bool, true, false, cond}
+use mathlib.Core.Path.{_≡_, refl, sym, ap}
 use mathlib.Core.List.{List}
 use native.Mathlib.Omega.{arith}
 use native.Mathlib.Decide.{decLt}
-use lib.ListN.{length, getD}
+use lib.ListN.{length, getD, drop, length-drop}
+use lib.Seq.{getD-drop}
 use lib.Dec.{eqb, lit≤}
-use borrow.Author.Tests.{leb-true, le-leb, lt-ltb, le-ltb}
+use borrow.Author.Tests.{eqb-true, leb-true, le-leb, lt-ltb, le-ltb}
 use Rattle.words.specs.Tests.{Yes}
 use Rattle.words.specs.Word.{leOf, numAt, wordAt}
 use Rattle.words.proofs.Tests.{both-l, both-r, both-of, either-l, either-r, every-same, some-of, cond-same}
@@ -15,9 +16,11 @@ use Rattle.words.proofs.Read.{part-same}
 use Rattle.versions.specs.Version.{minorOf, versionOk}
 use Rattle.versions.specs.Edition.{sectionCount, core}
 use Rattle.entries.specs.Entry.{size}
-use Rattle.sections.specs.Page.{placeOk, versionAt, countAt, pointerAt, inPage, arrayAt, Sec, secAt, Plat, platAt}
-use Rattle.sections.specs.Section.{secOk, clearBefore, rules}
-use Rattle.reader.specs.Answer.{ReaderAnswer, shown, allShown, readerGate, judge, readOf, inArray, namedBy, named}
+use Rattle.fields.specs.Fields.{Scanned, broken, ended, scanOf, reach}
+use Rattle.fields.proofs.Same.{found-same}
+use Rattle.sections.specs.Page.{placeOk, versionAt, countAt, pointerAt, inPage, arrayAt, Sec, secAt, Plat, foundAt, platAt}
+use Rattle.sections.specs.Section.{secOk, clearBefore, platClear, rules}
+use Rattle.reader.specs.Answer.{ReaderAnswer, shown, allShown, readerGate, judge, readOf, inArray, inPlat, namedBy, named}
 use Rattle.reader.proofs.Newer.{shows-same}
 
 -- ---- answers by what is read
@@ -31,12 +34,17 @@ clear-same : (f g : ℕ → Sec) (i : ℕ) → f i ≡ g i → ((j : ℕ) → j 
 unfolding clearBefore
 clear-same f g i e h = every-same i _ _ (λ j m. rw (e, h j m))
 
+plat-clear-same : (q : Plat) (f g : ℕ → Sec) (k : ℕ) → f k ≡ g k → platClear q f k ≡ platClear q g k
+unfolding platClear
+plat-clear-same q f g k e = rw e
+
 pub rules-same : (w e base pad : ℕ) (q : Plat) (f g : ℕ → Sec) → ((k : ℕ) → k < sectionCount e → f k ≡ g k) → rules w e base pad q f ≡ rules w e base pad q g
 unfolding rules
 rules-same w e base pad q f g h =
     rw (
       every-same (sectionCount e) (λ k. secOk w e base k (f k)) (λ k. secOk w e base k (g k)) (λ k l. rw (h k l)),
       every-same (sectionCount e) (λ k. clearBefore f k) (λ k. clearBefore g k) (λ k l. clear-same f g k (h k l) (λ j m. h j (omega arith))),
+      every-same (sectionCount e) (λ k. platClear q f k) (λ k. platClear q g k) (λ k l. plat-clear-same q f g k (h k l)),
     )
 
 shown-same : (w e k : ℕ) (s t : Sec) → (k < sectionCount e → s ≡ t) → shown w e k s ≡ shown w e k t
@@ -55,6 +63,14 @@ low-page : (base a n : ℕ) → Yes (inPage base a n) → base ≤ a
 unfolding inPage
 low-page base a n y = leb-true _ _ (both-l _ _ y)
 
+found-in : (base : ℕ) (page : List ℕ) (a : ℕ) → eqb a 0 ≡ false → Yes (inPage base a 1) → foundAt base page a ≡ scanOf (drop (a - base) page)
+unfolding foundAt
+found-in base page a z y = rw (z, y)
+
+cond-else : {A : Type 0} (b : Bool) (x y z : A) → (b ≡ false → y ≡ z) → cond b x y ≡ cond b x z
+cond-else true x y z h = refl
+cond-else false x y z h = h refl
+
 place-length : (base n : ℕ) → Yes (placeOk base n) → Yes (eqb n 4096)
 unfolding placeOk
 place-length base n t = both-l _ _ t
@@ -68,14 +84,32 @@ module _ (r base : ℕ) (p q : List ℕ) (l : length p ≡ length q) (h : (i : �
       let c : i < 16 = omega arith in
       h i (both-of _ _ (place-length base _ t) (either-l _ _ (lt-ltb i 16 c)))))
 
-  plat-same : platAt base p ≡ platAt base q
-  unfolding platAt
-  plat-same = rw (head-same 8 8 (lit≤ tt))
-
   module _ (v : Yes (versionOk (versionAt p))) where
     rest-same : (i : ℕ) → Yes (namedBy (min r (minorOf (versionAt p))) base p i) → getD p i 0 ≡ getD q i 0
     unfolding named
     rest-same i b = h i (both-of _ _ (place-length base _ t) (either-r _ _ (both-of _ _ v b)))
+
+    found-at : (i : ℕ) → Yes (inPlat base p i) → getD p i 0 ≡ getD q i 0
+    unfolding namedBy
+    found-at i b = rest-same i (either-r _ _ (either-r _ _ b))
+
+    scan-same : eqb (wordAt 8 p) 0 ≡ false → Yes (inPage base (wordAt 8 p) 1) → scanOf (drop (wordAt 8 p - base) p) ≡ scanOf (drop (wordAt 8 p - base) q)
+    unfolding inPlat
+    scan-same n y =
+        let a = wordAt 8 p in
+        let z : base ≤ a = low-page _ _ _ y in
+        let m : length p ≡ 4096 = eqb-true _ _ (place-length base _ t) in
+        let e : foundAt base p a ≡ scanOf (drop (a - base) p) = found-in base p a n y in
+        sym (found-same (drop (a - base) p) (drop (a - base) q) _ (simp (length-drop, l)) (rw length-drop (omega arith)) refl (λ i c.
+        simp getD-drop (found-at (a - base + i) (both-of _ _ y (both-of _ _ (omega (arith, le-leb)) (rw e (omega (arith, lt-ltb))))))))
+
+    fields-same : foundAt base p (wordAt 8 p) ≡ foundAt base q (wordAt 8 p)
+    unfolding foundAt
+    fields-same = cond-else _ _ _ _ (λ n. cond-same _ _ _ _ (scan-same n))
+
+    plat-same : platAt base p ≡ platAt base q
+    unfolding platAt
+    plat-same = rw (fields-same, head-same 8 8 (lit≤ tt))
 
     core-same : (off : ℕ) → off + 8 ≤ core (min r (minorOf (versionAt p))) → wordAt off p ≡ wordAt off q
     unfolding numAt namedBy
@@ -90,7 +124,7 @@ module _ (r base : ℕ) (p q : List ℕ) (l : length p ≡ length q) (h : (i : �
       unfolding arrayAt inArray namedBy
       array-same = cond-same _ _ _ _ (λ y. part-same _ _ p q l (λ i c d.
           let z = low-page _ _ _ y in
-          rest-same i (either-r _ _ (some-of _ _ k b (both-of _ _ y (both-of _ _ (omega (arith, le-leb)) (omega (arith, lt-ltb))))))))
+          rest-same i (either-r _ _ (either-l _ _ (some-of _ _ k b (both-of _ _ y (both-of _ _ (omega (arith, le-leb)) (omega (arith, lt-ltb)))))))))
 
       sec-same : secAt base p k ≡ secAt base q k
       unfolding secAt
@@ -102,5 +136,5 @@ unnamed r base p q l h = rw (← l) (gate-same _ _ _ _ _ _ _
     (λ t. rw (head-same r base p q l h t 4 0 (lit≤ tt)))
     (λ t v.
     let f = sec-same r base p q l h t (both-r _ _ v) in
-    rw (← head-same r base p q l h t 4 0 (lit≤ tt), ← head-same r base p q l h t 4 4 (lit≤ tt), ← plat-same r base p q l h t)
+    rw (← head-same r base p q l h t 4 0 (lit≤ tt), ← head-same r base p q l h t 4 4 (lit≤ tt), ← plat-same r base p q l h t (both-r _ _ v))
     (rules-same _ _ _ _ _ _ _ f, view-same _ _ _ _ _ f)))

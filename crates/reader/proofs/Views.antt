@@ -48,6 +48,7 @@ shows-page r base page w e q s h =
       minor = sym (i .0);
       edition = sym (i .1) ∙ rw (i .0);
       plat = ap (λ (p : PlatShown). p .pointer) (sym (i .2));
+      fields = ap (λ (p : PlatShown). p .fields) (sym (i .2));
       later = λ k l. a k ∙ sym (shown-absent w e base k page l);
       none = λ k l z. a k ∙ sym (shown-empty w e base k page l z);
       entries = λ k l z.

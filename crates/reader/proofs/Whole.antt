@@ -1,25 +1,28 @@
 -- The whole answer, return by return. Assumes nothing.
-use Prim.Native.Nat.{ℕ, zero, suc, _+_, _-_, _≤_, _<_, min}
+use Prim.Native.Nat.{ℕ, zero, suc, _+_, _-_, _%_, _≤_, _<_, min}
 use mathlib.Core.Path.{_≡_, refl, sym, ap, fun-ext, _∙_}
-use mathlib.Core.Bool.{Bool, true, false, true≢false}
-use mathlib.Core.List.{List}
+use mathlib.Core.Bool.{Bool, true, false, cond, true≢false}
+use mathlib.Core.List.{List, []}
 use native.Mathlib.Omega.{arith}
 use native.Mathlib.Decide.{decLt}
 use lib.ListN.{length}
-use borrow.Author.Tests.{le-leb, lt-ltb, le-ltb, eq-eqb, ne-eqb}
-use Rattle.words.specs.Tests.{Yes, both}
+use lib.Dec.{leb, eqb}
+use borrow.Author.Tests.{leb-true, ltb-true, le-leb, lt-ltb, le-ltb, eq-eqb, ne-eqb}
+use Rattle.words.specs.Tests.{Yes, both, either}
+use Rattle.words.proofs.Tests.{both-l, both-r, both-of, either-cases}
 use Rattle.words.specs.Word.{wordAt}
 use Rattle.versions.specs.Version.{minorOf, versionOk}
 use Rattle.versions.specs.Edition.{sectionCount, core, editionOk}
 use Rattle.versions.proofs.Editions.{section-count-most}
 use Rattle.entries.specs.Entry.{size}
 use Rattle.entries.specs.Array.{wordsAt}
-use Rattle.sections.specs.Page.{placeOk, versionAt, countAt, pointerAt, mkSec, secAt, mkPlat, platAt}
-use Rattle.sections.specs.Section.{wordsIn, inRange, rulesAt}
+use Rattle.sections.specs.Page.{placeOk, versionAt, countAt, pointerAt, inPage, mkSec, secAt, mkPlat, foundAt, platAt}
+use Rattle.fields.specs.Fields.{ended, fieldsIn, shownFields}
+use Rattle.sections.specs.Section.{platOk, wordsIn, inRange, rulesAt}
 use Rattle.sections.specs.Steps.{okAt, okTo}
-use Rattle.sections.proofs.Sections.{placed, range-low, range-high, array-in, ok-in-range, ok-each, rules-sections}
+use Rattle.sections.proofs.Sections.{placed, range-low, range-high, array-in, ok-in-range, ok-each, rules-sections, rules-pointer}
 use Rattle.reader.specs.Answer.{Shown, ReaderAnswer, shows, shown, shownSec, platShown, allShown, readerGate, judge, readOf}
-use Rattle.reader.specs.Reading.{sectionOf, shownAs, readingAnswer, sectionAt, viewAt, readingGate, readingOf, verdictOf, sectionRead}
+use Rattle.reader.specs.Reading.{sectionOf, shownAs, fieldsOf, readingAnswer, sectionAt, viewAt, readingGate, readingOf, verdictOf, sectionRead}
 use Rattle.reader.specs.declared.Section.{Section}
 use Rattle.reader.specs.declared.Section.the-variants.{Absent, Empty, Entries}
 use Rattle.reader.specs.declared.View.{View}
@@ -91,11 +94,33 @@ section-view w e base page (suc (suc zero)) = refl
 section-view w e base page (suc (suc (suc zero))) = refl
 section-view w e base page (suc (suc (suc (suc k)))) = section-absent e base (suc (suc (suc (suc k)))) page (omega (arith, section-count-most e))
 
-view-shows : (w e base : ℕ) (page : List ℕ) → length page ≡ 4096 → okTo w e base (sectionCount e) page ≡ true →
+-- the fields of the view's pointer are those at the page's own
+cond-else : {A : Type 0} (b : Bool) (x y z : A) → y ≡ z → cond b x y ≡ cond b x z
+cond-else true x y z h = refl
+cond-else false x y z h = h
+
+fields-view : (e base q : ℕ) (page : List ℕ) → base % 4096 ≡ 0 → platOk e base (mkPlat q (foundAt base page q)) ≡ true → fieldsOf q page ≡ foundAt base page q
+unfolding platOk mkPlat fieldsOf foundAt inPage
+fields-view e base q page m h =
+    either-cases _ _
+    (λ z. rw z)
+    (λ b.
+    let l : base + core e ≤ q = leb-true _ _ (both-l _ _ b) in
+    let u : q < base + 4096 = ltb-true _ _ (both-l _ _ (both-r _ _ b)) in
+    let x : q % 4096 ≡ q - base = omega arith in
+    cond-else (eqb q 0) (ended [] 0) _ _ (rw (x, both-of (leb base q) (leb (q + 1) (base + 4096)) (le-leb base q (omega arith)) (le-leb (q + 1) (base + 4096) (omega arith)))))
+    h
+
+view-shows : (w e base : ℕ) (page : List ℕ) → Yes (placeOk base (length page)) → rulesAt w e base page ≡ true →
     readingAnswer page (Accepted (viewAt w e base page)) ≡ allShown w e (platAt base page) (secAt base page)
 unfolding readingAnswer allShown platShown platAt mkPlat viewAt
-view-shows w e base page n o = ap {B = ReaderAnswer} (λ f. shows w e (record { pointer = wordAt 8 page }) f) (fun-ext (λ k.
-    ap (λ s. shownAs w k s page) (section-view w e base page k) ∙ shown-at w e base k page n (ok-each w e base page (sectionCount e) k o)))
+view-shows w e base page p t =
+    let n = placed base (length page) p in
+    let o = rules-sections w e base page t in
+    ap {B = ReaderAnswer} (λ f. shows w e (record { pointer = wordAt 8 page; fields = shownFields (fieldsIn (fieldsOf (wordAt 8 page) page)) }) f) (fun-ext (λ k.
+    ap (λ s. shownAs w k s page) (section-view w e base page k) ∙ shown-at w e base k page (n .0) (ok-each w e base page (sectionCount e) k o)))
+    ∙ ap {B = ReaderAnswer} (λ s. shows w e (record { pointer = wordAt 8 page; fields = shownFields (fieldsIn s) }) (λ k. shown w e k (secAt base page k)))
+    (fields-view e base (wordAt 8 page) page (n .2) (rules-pointer w e base page t))
 
 -- ---- what the enum stands for
 gate-answer : (page : List ℕ) (p v o : Bool) (u : View) (a : ReaderAnswer) → (Yes p → Yes o → readingAnswer page (Accepted u) ≡ a) →
@@ -166,7 +191,7 @@ module _ (r base : ℕ) (page : List ℕ) where
 module _ (r base : ℕ) (page : List ℕ) where
   pub reading-answer : readingAnswer page (readingOf r base page) ≡ readOf r base page
   unfolding readingOf readOf judge rulesAt
-  reading-answer = gate-answer page _ _ _ _ _ (λ p o. view-shows _ _ base page (placed base (length page) p .0) (rules-sections _ _ base page o))
+  reading-answer = gate-answer page _ _ _ _ _ (λ p o. view-shows _ _ base page p o)
 
   -- the view of an accepted page has the places that the page's own pointers name
   pub reading-placed : (v : View) → Accepted v ≡ readingOf r base page → v ≡ viewAt (v .minor) (v .edition) base page

@@ -6,10 +6,12 @@ use lib.ListN.{length, getD}
 use lib.Dec.{leb, ltb, eqb}
 use lib.IntN.{ℤ, pos, negℤ}
 use Rattle.words.specs.Tests.{both, either, some}
+use Rattle.words.specs.Word.{wordAt}
 use Rattle.versions.specs.Version.{minorOf, versionOk}
 use Rattle.versions.specs.Edition.{sectionCount, core, editionOk}
 use Rattle.entries.specs.Entry.{wordsPerEntry, size, shownWords}
-use Rattle.sections.specs.Page.{placeOk, versionAt, paddingAt, countAt, pointerAt, inPage, Sec, secAt, Plat, platAt}
+use Rattle.fields.specs.Fields.{FieldShown, shownFields, fieldsIn, reach}
+use Rattle.sections.specs.Page.{placeOk, versionAt, paddingAt, countAt, pointerAt, inPage, Sec, secAt, Plat, foundAt, platAt}
 use Rattle.sections.specs.Section.{wordsIn, rules}
 
 -- "for each of the four sections absent (not in e), empty, or the entries in order": the words of the entries as they are
@@ -18,9 +20,10 @@ pub data Shown : Type 0 where
   absent empty : Shown
   full : List ℕ → List ℕ → Shown
 
--- what is shown of the platform data
+-- what is shown of the platform data: the pointer, and 02, E7's fields in page order
 pub record PlatShown : Type 0 where
   pub pointer : ℕ
+  pub fields : List FieldShown
 
 -- "a lone reader's answer is its code or, on acceptance, all that it shows": w, e, plat_data and each section
 pub data ReaderAnswer : Type 0 where
@@ -39,7 +42,7 @@ unfoldable pub shown : ℕ → ℕ → ℕ → Sec → Shown
 shown w e k s = cond (ltb k (sectionCount e)) (shownSec w k s) absent
 
 unfoldable pub platShown : Plat → PlatShown
-platShown q = record { pointer = q .at }
+platShown q = record { pointer = q .at; fields = shownFields (fieldsIn (q .found)) }
 
 -- "It shows w, e, plat_data, and for each of the four sections ..", of a page of minor w read as edition e
 unfoldable pub allShown : ℕ → ℕ → Plat → (ℕ → Sec) → ReaderAnswer
@@ -95,6 +98,11 @@ unfoldable pub countIn : ReaderAnswer → ℕ → ℕ
 countIn (refused c) k = 0
 countIn (shows w e q s) k = entryCount k (s k)
 
+-- the fields that an answer shows; 02, E7: "An end mark alone, or no pointer, shows an empty list."
+unfoldable pub fieldsShown : ReaderAnswer → List FieldShown
+fieldsShown (refused c) = []
+fieldsShown (shows w e q s) = q .fields
+
 -- the sections of an answer, "less those that came after its edition": "The older reader shows each section that came after
 -- its edition as absent."
 unfoldable pub less : ℕ → (ℕ → Shown) → ℕ → Shown
@@ -107,9 +115,15 @@ inArray base page i k =
     both (inPage base (pointerAt k page) (size k (countAt k page)))
     (both (leb (pointerAt k page) (base + i)) (ltb (base + i) (pointerAt k page + size k (countAt k page))))
 
--- "The bytes an edition names are its core and each array that its sections place within the page", e being the edition
+-- byte i is one of the fields, "which every edition names through the end mark, or all from the pointer on if they are broken" (02, E7)
+unfoldable pub inPlat : ℕ → List ℕ → ℕ → Bool
+inPlat base page i =
+    both (inPage base (wordAt 8 page) 1)
+    (both (leb (wordAt 8 page) (base + i)) (ltb (base + i) (wordAt 8 page + reach (foundAt base page (wordAt 8 page)))))
+
+-- "The bytes an edition names are its core and each array that its sections place within the page", e being the edition, and the fields
 unfoldable pub namedBy : ℕ → ℕ → List ℕ → ℕ → Bool
-namedBy e base page i = either (ltb i (core e)) (some (sectionCount e) (inArray base page i))
+namedBy e base page i = either (ltb i (core e)) (either (some (sectionCount e) (inArray base page i)) (inPlat base page i))
 
 -- "if the version is not accepted, the first 16 bytes only. Of a lent page not 4,096 bytes long none are named."
 unfoldable pub named : ℕ → ℕ → List ℕ → ℕ → Bool

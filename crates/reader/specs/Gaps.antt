@@ -8,7 +8,9 @@ use lib.ListN.{length}
 use Rattle.versions.specs.Version.{minorOf, versionOk}
 use Rattle.versions.specs.Edition.{sectionCount, core}
 use Rattle.entries.specs.Entry.{size}
-use Rattle.sections.specs.Page.{versionAt, countAt, pointerAt, inPage}
+use Rattle.words.specs.Word.{wordAt}
+use Rattle.fields.specs.Fields.{reach}
+use Rattle.sections.specs.Page.{versionAt, countAt, pointerAt, inPage, foundAt}
 use Rattle.reader.specs.Answer.{named}
 
 -- byte i lies before the array of section k or behind it, or that array does not lie within the page
@@ -17,11 +19,17 @@ BesideArray base page i k =
     (base + i < pointerAt k page)
     ⊎ ((pointerAt k page + size k (countAt k page) ≤ base + i) ⊎ (inPage base (pointerAt k page) (size k (countAt k page)) ≡ false))
 
--- no byte is named but those that 01 gives; the edition is the smaller of the reader's and the page's minor
+-- byte i lies before the fields or behind them, or their pointer does not lie within the page
+abbrev pub BesideFields : ℕ → List ℕ → ℕ → Type 0
+BesideFields base page i =
+    (base + i < wordAt 8 page)
+    ⊎ ((wordAt 8 page + reach (foundAt base page (wordAt 8 page)) ≤ base + i) ⊎ (inPage base (wordAt 8 page) 1 ≡ false))
+
+-- no byte is named but those that 01 and 02, E7 give; the edition is the smaller of the reader's and the page's minor
 pub record OthersUnnamed (r base : ℕ) (page : List ℕ) : Type 0 where
-  -- "The bytes an edition names are its core and each array that its sections place within the page"
+  -- "The bytes an edition names are its core and each array that its sections place within the page", and the fields
   pub gap : (i : ℕ) → core (min r (minorOf (versionAt page))) ≤ i →
-      ((k : ℕ) → k < sectionCount (min r (minorOf (versionAt page))) → BesideArray base page i k) → named r base page i ≡ false
+      ((k : ℕ) → k < sectionCount (min r (minorOf (versionAt page))) → BesideArray base page i k) → BesideFields base page i → named r base page i ≡ false
   -- "if the version is not accepted, the first 16 bytes only"
   pub unknown : (i : ℕ) → 16 ≤ i → versionOk (versionAt page) ≡ false → named r base page i ≡ false
   -- "Of a lent page not 4,096 bytes long none are named."

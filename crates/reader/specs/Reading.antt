@@ -1,8 +1,8 @@
 -- What the reader's enum stands for: 01's numbers and values, with the page that it was read from. Assumes nothing.
-use Prim.Native.Nat.{ℕ, zero, suc, _+_, _-_, min}
+use Prim.Native.Nat.{ℕ, zero, suc, _+_, _-_, _%_, min}
 use mathlib.Core.Bool.{Bool, true, false, cond}
-use mathlib.Core.List.{List}
-use lib.ListN.{length}
+use mathlib.Core.List.{List, []}
+use lib.ListN.{length, drop}
 use lib.Dec.{leb, ltb, eqb}
 use lib.IntN.{ℤ}
 use Rattle.words.specs.Tests.{both}
@@ -11,6 +11,7 @@ use Rattle.versions.specs.Version.{minorOf, versionOk}
 use Rattle.versions.specs.Edition.{sectionCount, editionOk}
 use Rattle.entries.specs.Entry.{size, shownWords}
 use Rattle.entries.specs.Array.{wordsAt}
+use Rattle.fields.specs.Fields.{Scanned, ended, scanOf, fieldsIn, shownFields}
 use Rattle.sections.specs.Page.{placeOk, versionAt, countAt, pointerAt}
 use Rattle.sections.specs.Section.{rulesAt}
 use Rattle.reader.specs.Answer.{Shown, absent, empty, full, ReaderAnswer, refused, shows, minus}
@@ -45,10 +46,15 @@ shownAs w k Empty page = empty
 shownAs w k (Entries at count) page =
     cond (leb (at + size k count) (length page)) (full (shownWords w k (wordsAt k count at page)) (part at (size k count) page)) empty
 
+-- The fields of a view's platform pointer. B is a multiple of 4,096, so the pointer's remainder is their place in the page. Of a view that
+-- no reading made they are whatever stands at that place, and none where it is broken.
+unfoldable pub fieldsOf : ℕ → List ℕ → Scanned
+fieldsOf q page = cond (eqb q 0) (ended [] 0) (scanOf (drop (q % 4096) page))
+
 unfoldable pub readingAnswer : List ℕ → Reading → ReaderAnswer
 readingAnswer page (Refused c) = refused (refusalNumber c)
 readingAnswer page (Accepted v) =
-    shows (v .minor) (v .edition) (record { pointer = v .plat }) (λ k. shownAs (v .minor) k (sectionOf v k) page)
+    shows (v .minor) (v .edition) (record { pointer = v .plat; fields = shownFields (fieldsIn (fieldsOf (v .plat) page)) }) (λ k. shownAs (v .minor) k (sectionOf v k) page)
 
 -- ---- where the arrays lie: an array is "the part of the lent page that holds it", at its pointer
 unfoldable pub sectionAt : ℕ → ℕ → List ℕ → ℕ → Section

@@ -7,7 +7,8 @@ use Rattle.versions.specs.Version.{minorOf}
 use Rattle.versions.specs.Edition.{sectionCount}
 use Rattle.entries.specs.Entry.{size, shownWords}
 use Rattle.entries.specs.Array.{wordsAt}
-use Rattle.sections.specs.Page.{versionAt, countAt, pointerAt}
+use Rattle.fields.specs.Fields.{fieldsIn, shownFields}
+use Rattle.sections.specs.Page.{versionAt, countAt, pointerAt, foundAt}
 use Rattle.reader.specs.Answer.{Shown, absent, empty, full, PlatShown}
 
 -- "It shows w, e, plat_data, and for each of the four sections absent (not in e), empty, or the entries in order", with the bytes of
@@ -16,6 +17,7 @@ pub record PageShown (r base : ℕ) (page : List ℕ) (w e : ℕ) (q : PlatShown
   pub minor : w ≡ minorOf (versionAt page)
   pub edition : e ≡ min r w
   pub plat : q .pointer ≡ wordAt 8 page
+  pub fields : q .fields ≡ shownFields (fieldsIn (foundAt base page (wordAt 8 page)))
   pub later : (k : ℕ) → sectionCount e ≤ k → s k ≡ absent
   pub none : (k : ℕ) → k < sectionCount e → countAt k page ≡ 0 → s k ≡ empty
   pub entries : (k : ℕ) → k < sectionCount e → (countAt k page ≡ 0 → ⊥) →

@@ -1,6 +1,10 @@
 // Reads the numbered cases of data/ in turn, up to the first that is missing. A case is 8 bytes of reader edition, 8 bytes of
-// B and a page of any length. Prints the listing of each, and what the array lookup gives for sections 0 to 4.
+// B and a page of any length. Prints the listing of each, what the array lookup gives for sections 0 to 4 and, if the page is accepted,
+// what the field lookups give.
 use libc::STDOUT_FILENO;
+use lookup::FieldPlace;
+use reader::Reading;
+use reader::View;
 ghost use Prim.Native.Nat.{_<_};
 
 fn wide(byte: u8) -> u64
@@ -33,6 +37,48 @@ fn print_array(page: &[u8], base: u64, edition: u64, k: usize) {
     io::write_all(STDOUT_FILENO, b"\n");
 }
 
+fn print_number(name: &[u8], n: u64) {
+    io::write_all(STDOUT_FILENO, name);
+    io::write_all(STDOUT_FILENO, b" ");
+    io::print_decimal(STDOUT_FILENO, n);
+}
+
+// The tag, the length and the mark of a field that was asked for.
+fn print_field(page: &[u8], field: FieldPlace) {
+    let FieldPlace::Raw { tag, at: _, len } = field else {
+        io::write_all(STDOUT_FILENO, b" none\n");
+        return;
+    };
+    print_number(b"", tag as u64);
+    print_number(b"", len as u64);
+    cases::print_word(mark(lookup::value_of(page, field)));
+    io::write_all(STDOUT_FILENO, b"\n");
+}
+
+fn print_tag(page: &[u8], view: View, tag: u8) {
+    print_number(b"tag", tag as u64);
+    print_field(page, lookup::field_of_tag(page, view, tag));
+}
+
+fn print_index(page: &[u8], view: View, i: usize) {
+    print_number(b"field", i as u64);
+    print_field(page, lookup::field_of(page, view, i));
+}
+
+// How many fields there are, the first of some tags, and some by number.
+fn print_fields(page: &[u8], view: View) {
+    let n = lookup::field_count(page, view);
+    print_number(b"fields", n as u64);
+    io::write_all(STDOUT_FILENO, b"\n");
+    for tag in 0..5u8 {
+        print_tag(page, view, tag);
+    }
+    print_tag(page, view, 255);
+    print_index(page, view, 0);
+    print_index(page, view, n / 2);
+    print_index(page, view, n);
+}
+
 fn print_case(edition: u64, base: u64, page: &[u8]) {
     let mut out = [0u8; 16384];
     let n = text::list(page, base, edition, &mut out);
@@ -40,6 +86,11 @@ fn print_case(edition: u64, base: u64, page: &[u8]) {
     for k in 0..5usize {
         print_array(page, base, edition, k);
     }
+    let reading = reader::read(page, base, edition);
+    let Reading::Accepted(view) = reading else {
+        return;
+    };
+    print_fields(page, view);
 }
 
 fn print_input(input: &[u8]) {

@@ -1,22 +1,26 @@
 -- Laws of the rules of a page's sections. Assumes nothing.
 use Prim.Native.Nat.{ℕ, _+_, _-_, _*_, _%_, _^_, _≤_, _<_}
 use mathlib.Core.Path.{_≡_, refl}
-use mathlib.Core.Bool.{true, false}
-use mathlib.Core.List.{List}
+use mathlib.Core.Bool.{Bool, true, false, cond}
+use mathlib.Core.List.{List, []}
 use native.Mathlib.Omega.{arith}
 use native.Mathlib.Decide.{decLe}
 use lib.Dec.{leb, eqb}
-use lib.ListN.{length}
-use borrow.Author.Tests.{leb-true, ltb-true, eqb-true, le-leb, lt-leb}
+use lib.ListN.{length, drop, length-drop}
+use borrow.Author.Tests.{leb-true, ltb-true, eqb-true, le-leb, lt-leb, lt-ltb, le-ltb, eq-eqb, ne-eqb}
 use Rattle.words.specs.Tests.{Yes, both, either}
-use Rattle.words.specs.Word.{part}
-use Rattle.words.proofs.Tests.{both-l, both-r, both-of, either-cases, every-at, every-none, every-more, every-not}
+use Rattle.words.specs.Word.{part, wordAt}
+use Rattle.words.proofs.Tests.{both-l, both-r, both-of, either-cases, every-at, every-of, every-none, every-more, every-not}
 use Rattle.versions.specs.Edition.{sectionCount, core}
 use Rattle.entries.specs.Entry.{wordsPerEntry, size}
 use Rattle.entries.specs.Array.{wordsAt, soundOf}
-use Rattle.sections.specs.Page.{placeOk, paddingAt, countAt, pointerAt, checkAt, inPage, arrayAt, mkSec, secAt, platAt}
-use Rattle.sections.specs.Section.{platOk, wordsIn, nothing, inRange, secOk, extent, apart, clearBefore, rules, rulesAt}
-use Rattle.sections.specs.Steps.{okAt, okTo, endOf, apartAt, clearTo, apartTo}
+use Rattle.sections.specs.Page.{placeOk, Plat, paddingAt, countAt, pointerAt, checkAt, inPage, arrayAt, mkSec, secAt, mkPlat, foundAt, platAt}
+use Rattle.sections.specs.Section.{platOk, wordsIn, nothing, inRange, secOk, extent, apart, clearBefore, platExtent, platClear, rules, rulesAt}
+use Rattle.sections.specs.Steps.{platEnd, okAt, okTo, endOf, apartAt, clearTo, apartTo, clearAt, clearFrom}
+use Rattle.fields.specs.Fields.{Scanned, broken, ended, bare, isEnded, taken, scanOf}
+use Rattle.fields.specs.Steps.{toldOf}
+use Rattle.fields.proofs.Same.{taken-room}
+use Rattle.fields.specs.declared.FieldsEnd.the-variants as fieldsEnd
 
 -- ---- the place of a page
 pub placed : (base n : ℕ) → Yes (placeOk base n) → (n ≡ 4096) × (0 < base) × (base % 4096 ≡ 0) × (base ≤ 2 ^ 52 - 4096)
@@ -146,11 +150,129 @@ module _ (page : List ℕ) where
   unfolding apartTo clearTo
   apart-not n i j h k q = every-not n (λ i. clearTo i i page) i h (every-not i (λ j. apartAt i j page) j k q)
 
+-- ---- the fields and the arrays
+module _ (from to : ℕ) (page : List ℕ) where
+  pub clear-from-none : clearFrom from to 0 page ≡ true
+  unfolding clearFrom
+  clear-from-none = every-none (λ k. clearAt from to k page)
+
+  pub clear-from-more : (k : ℕ) → clearFrom from to k page ≡ true → clearAt from to k page ≡ true → clearFrom from to (k + 1) page ≡ true
+  unfolding clearFrom
+  clear-from-more k p q = every-more k (λ k. clearAt from to k page) p q
+
+  pub clear-from-not : (n k : ℕ) → k < n → clearAt from to k page ≡ false → clearFrom from to n page ≡ false
+  unfolding clearFrom
+  clear-from-not n k h q = every-not n (λ k. clearAt from to k page) k h q
+
+  pub clear-from-0 : (n : ℕ) → to ≡ 0 → clearFrom from to n page ≡ true
+  unfolding clearFrom clearAt either
+  clear-from-0 n z = every-of n (λ k. clearAt from to k page) (λ k l. rw (le-leb to (pointerAt k page) (omega arith)))
+
+-- fields that a reader takes, as the pass over them tells
+pub end-told : (s : Scanned) → cond (isEnded s) (fieldsEnd.Ended (taken s)) fieldsEnd.Broken ≡ toldOf s
+unfolding isEnded taken toldOf
+end-told broken = refl
+end-told (ended fs n) = refl
+end-told (bare fs) = refl
+
+-- the platform data, as the pointer lies
+module _ (e base q : ℕ) (page : List ℕ) where
+  pub plat-none : q ≡ 0 → platEnd e base (mkPlat q (foundAt base page q)) ≡ fieldsEnd.Ended 0
+  unfolding platEnd platOk mkPlat foundAt either taken
+  plat-none z = rw (eq-eqb q 0 z)
+
+  module _ (n : q ≡ 0 → ⊥) where
+    pub plat-low : q < base + core e → platEnd e base (mkPlat q (foundAt base page q)) ≡ fieldsEnd.Broken
+    unfolding platEnd platOk mkPlat either both
+    plat-low l = rw (ne-eqb q 0 n, lt-leb (base + core e) q l)
+
+    module _ (h : base + core e ≤ q) where
+      pub plat-high : base + 4096 ≤ q → platEnd e base (mkPlat q (foundAt base page q)) ≡ fieldsEnd.Broken
+      unfolding platEnd platOk mkPlat either both
+      plat-high l = rw (ne-eqb q 0 n, le-leb (base + core e) q h, le-ltb q (base + 4096) l)
+
+      pub plat-in : q < base + 4096 → platEnd e base (mkPlat q (foundAt base page q)) ≡ toldOf (scanOf (drop (q - base) page))
+      unfolding platEnd platOk mkPlat foundAt inPage either both
+      plat-in l =
+          rw (ne-eqb q 0 n, le-leb (base + core e) q h, lt-ltb q (base + 4096) l, le-leb base q (omega arith), le-leb (q + 1) (base + 4096) (omega arith))
+          (end-told (scanOf (drop (q - base) page)))
+
+-- what the pass over the fields tells of the rule
+by-broken : (b : Bool) (n : ℕ) → fieldsEnd.Broken ≡ cond b (fieldsEnd.Ended n) fieldsEnd.Broken → b ≡ false
+by-broken true n h = absurd (let z : _≡_ {A = ℕ} 0 1 = cc in omega arith)
+by-broken false n h = refl
+
+by-ended : (b : Bool) (n m : ℕ) → fieldsEnd.Ended m ≡ cond b (fieldsEnd.Ended n) fieldsEnd.Broken → (b ≡ true) × (m ≡ n)
+by-ended true n m h = (refl, cc)
+by-ended false n m h = absurd (let z : _≡_ {A = ℕ} 0 1 = cc in omega arith)
+
+module _ (e base : ℕ) (q : Plat) where
+  pub plat-broken : fieldsEnd.Broken ≡ platEnd e base q → platOk e base q ≡ false
+  unfolding platEnd
+  plat-broken h = by-broken (platOk e base q) (taken (q .found)) h
+
+  pub plat-ended : (m : ℕ) → fieldsEnd.Ended m ≡ platEnd e base q → (platOk e base q ≡ true) × (m ≡ taken (q .found))
+  unfolding platEnd
+  plat-ended m h = by-ended (platOk e base q) (taken (q .found)) m h
+
+-- fields take no more bytes than a page has
+taken-case : (b : Bool) (s t : Scanned) → taken s ≤ 4096 → taken t ≤ 4096 → taken (cond b s t) ≤ 4096
+taken-case true s t x y = x
+taken-case false s t x y = y
+
+pub found-room : (base q : ℕ) (page : List ℕ) → length page ≡ 4096 → taken (foundAt base page q) ≤ 4096
+unfolding foundAt taken
+found-room base q page l =
+    taken-case (eqb q 0) (ended [] 0) (cond (inPage base q 1) (scanOf (drop (q - base) page)) broken) (omega arith)
+    (taken-case (inPage base q 1) (scanOf (drop (q - base) page)) broken (omega (arith, taken-room (drop (q - base) page), length-drop (q - base) page)) (omega arith))
+
+-- so they end where no address wraps
+pub plat-top : (e base : ℕ) (page : List ℕ) → length page ≡ 4096 → platOk e base (platAt base page) ≡ true →
+    wordAt 8 page + taken (foundAt base page (wordAt 8 page)) ≤ base + 8192
+unfolding platOk platAt mkPlat
+plat-top e base page l h =
+    let r = found-room base (wordAt 8 page) page l in
+    either-cases _ _
+    (λ z. let q : wordAt 8 page ≡ 0 = eqb-true _ _ z in omega arith)
+    (λ b. let q : wordAt 8 page < base + 4096 = ltb-true _ _ (both-l _ _ (both-r _ _ b)) in omega arith)
+    h
+
 -- ---- the rules of a page, check by check
 pub rules-steps : (w e base : ℕ) (page : List ℕ) →
-    rulesAt w e base page ≡ both (eqb (paddingAt page) 0) (both (platOk e base (platAt base page)) (both (okTo w e base (sectionCount e) page) (apartTo (sectionCount e) page)))
-unfolding rulesAt rules okTo okAt apartTo clearTo apartAt clearBefore apart extent endOf secAt mkSec
+    rulesAt w e base page ≡ both (eqb (paddingAt page) 0)
+    (both (platOk e base (platAt base page))
+    (both (okTo w e base (sectionCount e) page)
+    (both (apartTo (sectionCount e) page) (clearFrom (wordAt 8 page) (wordAt 8 page + taken (foundAt base page (wordAt 8 page))) (sectionCount e) page))))
+unfolding rulesAt rules okTo okAt apartTo clearTo apartAt clearBefore apart extent endOf secAt mkSec platClear platExtent platAt mkPlat clearFrom clearAt
 rules-steps w e base page = refl
+
+module _ (w e base : ℕ) (page : List ℕ) where
+  pub rules-padding : (paddingAt page ≡ 0 → ⊥) → rulesAt w e base page ≡ false
+  unfolding both
+  rules-padding p = rw (rules-steps w e base page, ne-eqb (paddingAt page) 0 p)
+
+  module _ (p : paddingAt page ≡ 0) where
+    pub rules-plat : platOk e base (platAt base page) ≡ false → rulesAt w e base page ≡ false
+    unfolding both
+    rules-plat q = rw (rules-steps w e base page, eq-eqb (paddingAt page) 0 p, q)
+
+    module _ (q : platOk e base (platAt base page) ≡ true) where
+      pub rules-each : okTo w e base (sectionCount e) page ≡ false → rulesAt w e base page ≡ false
+      unfolding both
+      rules-each o = rw (rules-steps w e base page, eq-eqb (paddingAt page) 0 p, q, o)
+
+      module _ (o : okTo w e base (sectionCount e) page ≡ true) where
+        pub rules-apart : apartTo (sectionCount e) page ≡ false → rulesAt w e base page ≡ false
+        unfolding both
+        rules-apart a = rw (rules-steps w e base page, eq-eqb (paddingAt page) 0 p, q, o, a)
+
+        pub rules-clear : apartTo (sectionCount e) page ≡ true →
+            rulesAt w e base page ≡ clearFrom (wordAt 8 page) (wordAt 8 page + taken (foundAt base page (wordAt 8 page))) (sectionCount e) page
+        unfolding both
+        rules-clear a = rw (rules-steps w e base page, eq-eqb (paddingAt page) 0 p, q, o, a)
 
 pub rules-sections : (w e base : ℕ) (page : List ℕ) → rulesAt w e base page ≡ true → okTo w e base (sectionCount e) page ≡ true
 rules-sections w e base page h = both-l _ _ (both-r _ _ (both-r _ _ (rw (rules-steps w e base page) at h)))
+
+pub rules-pointer : (w e base : ℕ) (page : List ℕ) → rulesAt w e base page ≡ true → platOk e base (platAt base page) ≡ true
+rules-pointer w e base page h = both-l _ _ (both-r _ _ (rw (rules-steps w e base page) at h))

@@ -2,9 +2,11 @@
 use Prim.Native.Nat.{ℕ, _+_, _-_, _*_, _%_, _^_}
 use mathlib.Core.Bool.{Bool, cond}
 use mathlib.Core.List.{List, []}
+use lib.ListN.{drop}
 use lib.Dec.{leb, ltb, eqb}
 use Rattle.words.specs.Tests.{both}
 use Rattle.words.specs.Word.{part, wordAt, halfAt}
+use Rattle.fields.specs.Fields.{Scanned, broken, ended, scanOf}
 use Rattle.entries.specs.Entry.{size}
 
 -- code -5: "page length not 4,096; B zero, not a multiple of 4,096, or above 2^52 - 4,096"
@@ -51,13 +53,19 @@ secAt base page k =
     mkSec (countAt k page) (pointerAt k page) (checkAt k page)
     (arrayAt base page (pointerAt k page) (size k (countAt k page)))
 
--- All that a page says of the platform data: at present the pointer alone ("what it points at is not read").
+-- All that a page says of the platform data: the pointer, and the fields that it points at. 02, E7 amends 01's "what it points at is
+-- not read".
 pub record Plat : Type 0 where
   pub at : ℕ
+  pub found : Scanned
 
-unfoldable pub mkPlat : ℕ → Plat
-mkPlat q = record { at = q }
+unfoldable pub mkPlat : ℕ → Scanned → Plat
+mkPlat q s = record { at = q; found = s }
+
+-- the fields from address q on, up to the page's end; E7: "no pointer, shows an empty list"
+unfoldable pub foundAt : ℕ → List ℕ → ℕ → Scanned
+foundAt base page q = cond (eqb q 0) (ended [] 0) (cond (inPage base q 1) (scanOf (drop (q - base) page)) broken)
 
 -- Offset 8: plat_data pointer.
 unfoldable pub platAt : ℕ → List ℕ → Plat
-platAt base page = mkPlat (wordAt 8 page)
+platAt base page = mkPlat (wordAt 8 page) (foundAt base page (wordAt 8 page))

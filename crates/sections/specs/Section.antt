@@ -9,11 +9,13 @@ use Rattle.words.specs.Word.{wordsOf}
 use Rattle.versions.specs.Edition.{sectionCount, core}
 use Rattle.entries.specs.Entry.{wordsPerEntry, size}
 use Rattle.entries.specs.Array.{soundOf}
+use Rattle.fields.specs.Fields.{isEnded, taken}
 use Rattle.sections.specs.Page.{Sec, Plat, paddingAt, platAt, secAt}
 
--- "plat_data is 0 or lies from B + core size of e to B + 4,095"
+-- "plat_data is 0 or lies from B + core size of e to B + 4,095"; 02, E7: "Fields through the end mark must lie in the page": "broken fields
+-- are -7"
 unfoldable pub platOk : ℕ → ℕ → Plat → Bool
-platOk e base q = either (eqb (q .at) 0) (both (leb (base + core e) (q .at)) (ltb (q .at) (base + 4096)))
+platOk e base q = either (eqb (q .at) 0) (both (leb (base + core e) (q .at)) (both (ltb (q .at) (base + 4096)) (isEnded (q .found))))
 
 -- the words of a section's array
 unfoldable pub wordsIn : ℕ → Sec → List ℕ
@@ -50,11 +52,21 @@ apart a b = either (leb (a .to) (b .from)) (leb (b .to) (a .from))
 unfoldable pub clearBefore : (ℕ → Sec) → ℕ → Bool
 clearBefore f i = every i (λ j. apart (extent i (f i)) (extent j (f j)))
 
+-- the addresses of the fields through their end mark; none without a pointer
+unfoldable pub platExtent : Plat → Extent
+platExtent q = record { from = q .at; to = q .at + taken (q .found) }
+
+-- 02, E7: the fields "overlap no array that the reader reads"
+unfoldable pub platClear : Plat → (ℕ → Sec) → ℕ → Bool
+platClear q f k = apart (platExtent q) (extent k (f k))
+
 -- code -7: "any other manifest rule broken"
 unfoldable pub rules : ℕ → ℕ → ℕ → ℕ → Plat → (ℕ → Sec) → Bool
 rules w e base pad q f =
     both (eqb pad 0)
-    (both (platOk e base q) (both (every (sectionCount e) (λ k. secOk w e base k (f k))) (every (sectionCount e) (λ k. clearBefore f k))))
+    (both (platOk e base q)
+    (both (every (sectionCount e) (λ k. secOk w e base k (f k)))
+    (both (every (sectionCount e) (λ k. clearBefore f k)) (every (sectionCount e) (λ k. platClear q f k)))))
 
 -- the same of a page
 unfoldable pub rulesAt : ℕ → ℕ → ℕ → List ℕ → Bool

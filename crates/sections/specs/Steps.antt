@@ -1,12 +1,19 @@
 -- The rules of a page's sections up to a number of them, as the loops go. Assumes nothing.
 use Prim.Native.Nat.{ℕ, _+_}
-use mathlib.Core.Bool.{Bool}
+use mathlib.Core.Bool.{Bool, cond}
 use mathlib.Core.List.{List}
 use lib.Dec.{leb}
 use Rattle.words.specs.Tests.{either, every}
 use Rattle.entries.specs.Entry.{size}
-use Rattle.sections.specs.Page.{countAt, pointerAt, secAt}
-use Rattle.sections.specs.Section.{secOk}
+use Rattle.fields.specs.Fields.{taken}
+use Rattle.fields.specs.declared.FieldsEnd.{FieldsEnd}
+use Rattle.fields.specs.declared.FieldsEnd.the-variants.{Broken, Ended}
+use Rattle.sections.specs.Page.{countAt, pointerAt, secAt, Plat}
+use Rattle.sections.specs.Section.{platOk, secOk}
+
+-- the platform data: how many bytes the fields take through their end mark, or that its rule is broken
+unfoldable pub platEnd : ℕ → ℕ → Plat → FieldsEnd
+platEnd e base q = cond (platOk e base q) (Ended (taken (q .found))) Broken
 
 -- the rule of section k by itself
 unfoldable pub okAt : ℕ → ℕ → ℕ → ℕ → List ℕ → Bool
@@ -31,3 +38,11 @@ clearTo i n page = every n (λ j. apartAt i j page)
 -- no two of the first n arrays overlap
 unfoldable pub apartTo : ℕ → List ℕ → Bool
 apartTo n page = every n (λ i. clearTo i i page)
+
+-- the addresses from one up to another share none with the array of section k
+unfoldable pub clearAt : ℕ → ℕ → ℕ → List ℕ → Bool
+clearAt from to k page = either (leb to (pointerAt k page)) (leb (endOf k page) from)
+
+-- and with none of the first n
+unfoldable pub clearFrom : ℕ → ℕ → ℕ → List ℕ → Bool
+clearFrom from to n page = every n (λ k. clearAt from to k page)

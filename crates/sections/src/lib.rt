@@ -1,13 +1,14 @@
-// The rules of a manifest's page, read where its words lie: the place, the padding, the platform pointer, each section by
-// itself, and that no two arrays overlap.
+// The rules of a manifest's page, read where its words lie: the place, the padding, the platform pointer with its fields, each section
+// by itself, and that no two arrays overlap, nor fields and an array.
+use fields::FieldsEnd;
 use versions::Edition;
 ghost use mathlib.Core.Path.{_≡_};
 ghost use Prim.Native.Nat.{ℕ, _+_, _≤_, _<_};
 ghost use lib.ListN.{length};
 ghost use Rattle.words.specs.Tests.{both};
-ghost use Rattle.sections.specs.Page.{placeOk, versionAt, paddingAt, countAt, pointerAt, checkAt, mkPlat};
-ghost use Rattle.sections.specs.Section.{platOk, nothing, rulesAt};
-ghost use Rattle.sections.specs.Steps.{okAt, okTo, endOf, apartAt, apartTo};
+ghost use Rattle.sections.specs.Page.{placeOk, versionAt, paddingAt, countAt, pointerAt, checkAt, foundAt, mkPlat};
+ghost use Rattle.sections.specs.Section.{nothing, rulesAt};
+ghost use Rattle.sections.specs.Steps.{platEnd, okAt, okTo, endOf, apartAt, apartTo, clearAt, clearFrom};
 
 // Whether a page of n bytes at this base is a place for a manifest.
 pub fn place_ok(base: u64, n: usize) -> bool
@@ -60,21 +61,23 @@ pub fn check_at(page: &[u8], k: u8) -> u64
     words::word_at(page, 32 + 24 * (k as usize))
 }
 
-// The rule of the platform pointer, of a page read as edition e.
-fn plat_ok(base: u64, e: Edition, plat: u64) -> bool
-    requires { ⌜ base ≤ 0x10_0000_0000_0000 ⌝ }
-    ensures { λ r. ⌜ r ≡ platOk (e .minor) base (mkPlat plat) ⌝ }
+// The rule of the platform pointer and of the fields that it points at, on a page read as edition e: how many bytes they take
+// through their end mark, none without a pointer; or that the rule is broken.
+fn plat_end(page: &[u8], base: u64, e: Edition, plat: u64) -> FieldsEnd
+    requires { ⌜ (length (now page) ≡ 4096) × (base ≤ 0x10_0000_0000_0000) ⌝ }
+    ensures { λ r. ⌜ r ≡ platEnd (e .minor) base (mkPlat plat (foundAt base (now (page .entry)) plat)) ⌝ }
 {
     if plat == 0 {
-        return true;
+        return FieldsEnd::Ended(0);
     }
     if plat < base + e.core_size() {
-        return false;
+        return FieldsEnd::Broken;
     }
     if base + 4096 <= plat {
-        return false;
+        return FieldsEnd::Broken;
     }
-    true
+    let at = (plat - base) as usize;
+    fields::scan_at(page, at)
 }
 
 // Whether a section's three words are zero.
@@ -165,6 +168,36 @@ fn all_apart(page: &[u8], n: u8) -> bool
     ok
 }
 
+// Whether the addresses from one up to another share none with the array of section k.
+fn is_clear(page: &[u8], from: u64, to: u64, k: u8) -> bool
+    requires { ⌜ endOf k (now page) < 0x1_0000_0000_0000_0000 ⌝ }
+    ensures { λ r. ⌜ r ≡ clearAt from to k (now (page .entry)) ⌝ }
+{
+    if to <= pointer_at(page, k) {
+        return true;
+    }
+    if end_of(page, k) <= from {
+        return true;
+    }
+    false
+}
+
+// Whether the fields overlap none of the first n arrays. Without a pointer there are none.
+fn fields_clear(page: &[u8], from: u64, to: u64, n: u8) -> bool
+    requires { ⌜ (n ≤ 4) × ((k : ℕ) → k < n → endOf k (now page) < 0x1_0000_0000_0000_0000) ⌝ }
+    ensures { λ r. ⌜ r ≡ clearFrom from to n (now (page .entry)) ⌝ }
+{
+    if to == 0 {
+        return true;
+    }
+    for k in 0..n {
+        if !is_clear(page, from, to, k) {
+            return false;
+        }
+    }
+    true
+}
+
 // The rules of a page of that minor, read as edition e.
 fn rules_ok(page: &[u8], base: u64, minor: u64, e: Edition) -> bool
     requires { ⌜ (length (now page) ≡ 4096) × (base ≤ 0x10_0000_0000_0000) ⌝ }
@@ -173,14 +206,20 @@ fn rules_ok(page: &[u8], base: u64, minor: u64, e: Edition) -> bool
     if padding_at(page) != 0 {
         return false;
     }
-    if !plat_ok(base, e, words::word_at(page, 8)) {
+    let plat = words::word_at(page, 8);
+    let told = plat_end(page, base, e, plat);
+    let FieldsEnd::Ended(taken) = told else {
         return false;
-    }
+    };
     let n = e.sections();
     if !sections_ok(page, base, minor, e, n) {
         return false;
     }
-    all_apart(page, n)
+    if !all_apart(page, n) {
+        return false;
+    }
+    let end = plat + (taken as u64);
+    fields_clear(page, plat, end, n)
 }
 
 // Whether a page is a place for a manifest and keeps its rules, of that minor and read as edition e.

@@ -5,8 +5,9 @@ use mathlib.Core.List.{List, [], _∷_, _++_}
 use Rattle.words.specs.Tests.{both}
 use Rattle.words.specs.Word.{leBytes, joined}
 use Rattle.entries.specs.Entry.{wordsPerEntry}
+use Rattle.fields.specs.Fields.{raw}
 use Rattle.reader.specs.Answer.{Shown, absent, empty, full, shows, refused, minus, entryWord, bytesIn, entryCount}
-use Rattle.text.specs.Text.{newline, space, dash, zeroX, manifestText, readAsText, platformText, noneText, absentText, refusedText, titleText, placesIn, places, decimal, signedDecimal, hexText, byteText, nameByte, nameText, wordText, gapText, partText, entryText, countText, stateText, sectionText, headText, pointerText, platText, listingOf}
+use Rattle.text.specs.Text.{newline, space, dash, zeroX, manifestText, readAsText, platformText, noneText, absentText, refusedText, titleText, placesIn, places, decimal, signedDecimal, hexText, byteText, nameByte, nameText, wordText, gapText, partText, entryText, countText, stateText, sectionText, headText, pointerText, platText, valueByte, valueText, fieldText, fieldsText, listingOf}
 
 -- "example 4's bank on a 0.2 page": one bank, and no section after it
 abbrev sections : ℕ → Shown
@@ -41,8 +42,8 @@ line6 = 110 ∷ 99 ∷ 111 ∷ 104 ∷ 32 ∷ 97 ∷ 98 ∷ 115 ∷ 101 ∷ 110 
 abbrev line7 : List ℕ
 line7 = 99 ∷ 111 ∷ 104 ∷ 32 ∷ 97 ∷ 98 ∷ 115 ∷ 101 ∷ 110 ∷ 116 ∷ 10 ∷ []
 
-pub example-14 : listingOf (shows 2 2 (record { pointer = 0 }) sections) ≡ line1 ++ line2 ++ line3 ++ line4 ++ line5 ++ line6 ++ line7
-unfolding listingOf headText platText pointerText sectionText stateText countText entryText partText wordText gapText hexText decimal places placesIn titleText joined newline space zeroX manifestText readAsText platformText noneText absentText entryWord entryCount bytesIn wordsPerEntry both leBytes
+pub example-14 : listingOf (shows 2 2 (record { pointer = 0; fields = [] }) sections) ≡ line1 ++ line2 ++ line3 ++ line4 ++ line5 ++ line6 ++ line7
+unfolding listingOf headText platText fieldsText pointerText sectionText stateText countText entryText partText wordText gapText hexText decimal places placesIn titleText joined newline space zeroX manifestText readAsText platformText noneText absentText entryWord entryCount bytesIn wordsPerEntry both leBytes
 example-14 = refl
 
 -- a console: "its 8 bytes in order as 16 such digits, no 0x"
@@ -61,6 +62,11 @@ console-line = refl
 pub empty-line : sectionText (λ k. empty) 3 ≡ 99 ∷ 111 ∷ 104 ∷ 32 ∷ 48 ∷ 10 ∷ []
 unfolding sectionText stateText countText decimal places placesIn titleText joined newline space entryCount bytesIn wordsPerEntry
 empty-line = refl
+
+-- a board name and an empty field: `1 3 70 62 31`, `255 0`
+pub field-lines : fieldsText (raw 1 (112 ∷ 98 ∷ 49 ∷ []) ∷ raw 255 [] ∷ []) ≡ 49 ∷ 32 ∷ 51 ∷ 32 ∷ 55 ∷ 48 ∷ 32 ∷ 54 ∷ 50 ∷ 32 ∷ 51 ∷ 49 ∷ 10 ∷ 50 ∷ 53 ∷ 53 ∷ 32 ∷ 48 ∷ 10 ∷ []
+unfolding fieldsText fieldText valueText valueByte byteText decimal places placesIn joined newline space
+field-lines = refl
 
 -- more than nine entries: `12`
 pub twelve : decimal 12 ≡ 49 ∷ 50 ∷ []

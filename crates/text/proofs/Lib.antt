@@ -2,5 +2,7 @@ pub mod Lay
 pub mod Numbers
 pub mod Parts
 pub mod Spans
+pub mod Lengths
+pub mod FieldRoom
 pub mod Room
 pub mod Example

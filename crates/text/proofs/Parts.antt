@@ -1,6 +1,6 @@
 -- Parts of the listing by what is shown. Assumes nothing.
 use Prim.Native.Nat.{ℕ, zero, suc, _+_, _-_, _≤_, _<_}
-use mathlib.Core.Path.{_≡_, refl, sym, _∙_}
+use mathlib.Core.Path.{_≡_, refl, sym, ap, _∙_}
 use mathlib.Core.Bool.{Bool, true, false, cond}
 use mathlib.Core.Logic.{⊎-elim}
 use mathlib.Core.List.{List, [], _∷_, _++_}
@@ -13,7 +13,7 @@ use types.Run.{OneOf}
 use denote.Enum.Declared.{tagOf}
 use borrow.Author.Tests.{eq-eqb, ne-eqb}
 use Rattle.words.specs.Tests.{both}
-use Rattle.words.specs.Word.{wordAt}
+use Rattle.words.specs.Word.{part, wordAt}
 use Rattle.entries.specs.Entry.{size}
 use Rattle.reader.specs.Answer.{ReaderAnswer, refused, readOf, empty, full, entryWord}
 use Rattle.reader.specs.Reading.{refusalNumber, sectionOf, shownAs, readingAnswer, readingOf}
@@ -26,8 +26,13 @@ use Rattle.reader.specs.declared.Refusal.the-variants.{Place}
 use Rattle.reader.specs.declared.Reading.{Reading}
 use Rattle.reader.specs.declared.Reading.the-variants.{Accepted, Refused}
 use Rattle.reader.proofs.Whole.{reading-answer}
+use Rattle.fields.specs.Fields.{raw}
 use Rattle.lookup.specs.Lookup.{wordOf}
-use Rattle.text.specs.Text.{newline, space, noneText, absentText, titleText, hexText, nameText, wordText, gapText, countText, stateText, sectionText, pointerText, listingOf, printed}
+use Rattle.lookup.specs.Fields.{shownValue, valueIn, fieldAs, shownFrom, stepAt}
+use Rattle.lookup.specs.declared.FieldPlace.the-variants.{Raw}
+use Rattle.lookup.specs.declared.FieldStep.{FieldStep}
+use Rattle.lookup.proofs.Fields.{step-raw, first-raw}
+use Rattle.text.specs.Text.{newline, space, noneText, absentText, titleText, hexText, nameText, wordText, gapText, countText, stateText, sectionText, pointerText, fieldText, fieldsText, listingOf, printed}
 use Rattle.text.specs.Steps.{seen, refusalOf}
 
 -- ---- the space before a word
@@ -78,6 +83,15 @@ pointer-none p e = rw (eq-eqb p 0 e)
 pub pointer-some : (p : ℕ) → (p ≡ 0 → ⊥) → hexText p ≡ pointerText p
 unfolding pointerText
 pointer-some p h = rw (ne-eqb p 0 h)
+
+-- ---- a field: its line, and those of the fields behind it
+pub fields-step : (at : ℕ) (page : List ℕ) (s : FieldStep) {t v m : ℕ} (vs : List ℕ) → s ≡ stepAt at page → s .field ≡ Raw t v m → vs ≡ valueIn (fieldAs (Raw t v m) page) →
+    fieldText (raw t vs) ++ fieldsText (shownFrom (s .next) page) ≡ fieldsText (shownFrom at page)
+unfolding fieldsText valueIn shownValue
+fields-step at page s {t} {v} {m} vs h f w =
+    let e : stepAt at page .field ≡ Raw t v m = ap (λ (x : FieldStep). x .field) (sym h) ∙ f in
+    let q : vs ≡ part v m page = w ∙ ap valueIn (first-raw 0 at page e) in
+    rw (q, h, step-raw at page e)
 
 -- ---- a section that is absent, and one that is not
 count-shown : (k : ℕ) (b : Bool) (ws bs : List ℕ) → countText k (cond b (full ws bs) empty) ≡ stateText k (cond b (full ws bs) empty)

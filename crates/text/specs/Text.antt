@@ -9,7 +9,8 @@ use Rattle.io.specs.Digits.{digits}
 use Rattle.words.specs.Tests.{both}
 use Rattle.words.specs.Word.{leBytes, wordAt, joined}
 use Rattle.entries.specs.Entry.{wordsPerEntry}
-use Rattle.reader.specs.Answer.{Shown, absent, empty, full, PlatShown, ReaderAnswer, refused, shows, minus, readOf, entryWord, entryCount}
+use Rattle.fields.specs.Fields.{FieldShown, raw}
+use Rattle.reader.specs.Answer.{Shown, absent, empty, full, ReaderAnswer, refused, shows, minus, readOf, entryWord, entryCount}
 
 -- vs over s from an offset on as far as it fits; the rest of s as it was
 unfoldable pub lay : ℕ → List ℕ → List ℕ → List ℕ
@@ -126,7 +127,7 @@ stateText k (full ws bs) = countText k (full ws bs)
 unfoldable pub sectionText : (ℕ → Shown) → ℕ → List ℕ
 sectionText s k = titleText k ++ space ++ stateText k (s k)
 
--- ---- the listing
+-- ---- the two lines before the fields
 -- "The first line has major.minor and e": w is the minor, and the major of an accepted version is 0
 unfoldable pub headText : ℕ → ℕ → List ℕ
 headText w e = manifestText ++ decimal w ++ readAsText ++ decimal e ++ newline
@@ -135,19 +136,38 @@ headText w e = manifestText ++ decimal w ++ readAsText ++ decimal e ++ newline
 unfoldable pub pointerText : ℕ → List ℕ
 pointerText p = cond (eqb p 0) noneText (hexText p)
 
-unfoldable pub platText : PlatShown → List ℕ
-platText q = platformText ++ pointerText (q .pointer) ++ newline
+unfoldable pub platText : ℕ → List ℕ
+platText p = platformText ++ pointerText p ++ newline
 
+-- ---- fields
+-- 02, E7: "each byte of the value as two lower-case hex digits, all parted by single spaces"
+unfoldable pub valueByte : List ℕ → ℕ → List ℕ
+valueByte v i = space ++ byteText (getD v i 0)
+
+unfoldable pub valueText : List ℕ → List ℕ
+valueText v = joined (length v) (valueByte v)
+
+-- "tag and length in decimal, then each byte of the value"
+unfoldable pub fieldText : FieldShown → List ℕ
+fieldText (raw t v) = decimal t ++ space ++ decimal (length v) ++ valueText v ++ newline
+
+-- "one line a field in page order"
+unfoldable pub fieldsText : List FieldShown → List ℕ
+fieldsText [] = []
+fieldsText (f ∷ fs) = fieldText f ++ fieldsText fs
+
+-- ---- all of it
 -- of a page that is refused: "one line, `refused` and the code"
 unfoldable pub listingOf : ReaderAnswer → List ℕ
 listingOf (refused c) = refusedText ++ signedDecimal c ++ newline
-listingOf (shows w e q s) = headText w e ++ platText q ++ joined 4 (sectionText s)
+listingOf (shows w e q s) = headText w e ++ platText (q .pointer) ++ fieldsText (q .fields) ++ joined 4 (sectionText s)
 
 -- "The listing program reads from standard input 8 bytes of B, then the page, as reader of edition 4." "Input of any length but
 -- 4,104 bytes: `refused -5`."
 unfoldable pub printed : List ℕ → List ℕ
 printed input = listingOf (cond (eqb (length input) 4104) (readOf 4 (wordAt 0 input) (drop 8 input)) (refused (minus 5)))
 
--- the length of the longest listing: a 0.65535 page read as edition 2, with a platform pointer and 253 banks
+-- the length of the longest listing: a 0.65535 page read as edition 1, whose fields take all bytes behind the core, with a tag above 99 and
+-- a value of 1,000 bytes or more each
 abbrev pub listingRoom : ℕ
-listingRoom = 9716
+listingRoom = 12336

@@ -1,5 +1,6 @@
 // The listing's text, laid into a lent slice as far as it fits. Each step puts a part of it at an offset, and answers where the
 // next part goes, which may be past the slice's end: so the last one answers how long the text is, whether or not it fits.
+use lookup::FieldPlace;
 use reader::Reading;
 use reader::Refusal;
 use reader::Section;
@@ -9,7 +10,9 @@ ghost use mathlib.Core.Path.{_≡_};
 ghost use Rattle.reader.specs.Answer.{readOf, refused};
 ghost use Rattle.reader.specs.Reading.{refusalNumber, shownAs, readingAnswer};
 ghost use Rattle.text.specs.Text.{newline, decimal, hexText, byteText, nameText, wordText, gapText, entryText, countText};
-ghost use Rattle.text.specs.Text.{stateText, titleText, sectionText, headText, pointerText, platText, listingOf, printed};
+ghost use Rattle.text.specs.Text.{stateText, titleText, sectionText, headText, pointerText, platText, valueText, fieldText, fieldsText, listingOf, printed};
+ghost use Rattle.fields.specs.Fields.{raw};
+ghost use Rattle.lookup.specs.Fields.{shownFrom};
 ghost use Rattle.words.specs.Word.{joined};
 ghost use Rattle.text.specs.Steps.{lastOffset, LaidOver, Listed, seen, refusalOf};
 
@@ -246,11 +249,54 @@ fn put_pointer(out: &mut [u8], at: usize, plat: u64) -> usize
 
 // The second line.
 fn put_plat(out: &mut [u8], at: usize, plat: u64) -> usize
-    ensures { λ r. ⌜ LaidOver at (platText (record { pointer = plat })) (now (out .entry)) r (now (out .exit)) ⌝ }
+    ensures { λ r. ⌜ LaidOver at (platText plat) (now (out .entry)) r (now (out .exit)) ⌝ }
 {
     let to = put(out, at, b"platform ");
     let to = put_pointer(out, to, plat);
     put_end(out, to)
+}
+
+// The bytes of a value, each after a space.
+fn put_value(out: &mut [u8], at: usize, value: &[u8]) -> usize
+    ensures { λ r. ⌜ LaidOver at (valueText (now (value .entry))) (now (out .entry)) r (now (out .exit)) ⌝ }
+{
+    let n = value.len();
+    let mut to = at;
+    for i in 0..n {
+        to = put_gap(out, to, 1);
+        let b = value[i] as u64;
+        to = put_byte(out, to, b);
+    }
+    to
+}
+
+// A field: its tag, the length of its value and the value's bytes.
+fn put_field(out: &mut [u8], at: usize, tag: u8, value: &[u8]) -> usize
+    ensures { λ r. ⌜ LaidOver at (fieldText (raw tag (now (value .entry)))) (now (out .entry)) r (now (out .exit)) ⌝ }
+{
+    let to = put_decimal(out, at, tag as u64);
+    let to = put(out, to, b" ");
+    let to = put_decimal(out, to, value.len() as u64);
+    let to = put_value(out, to, value);
+    put_end(out, to)
+}
+
+// The fields from a cursor on.
+fn put_fields(out: &mut [u8], at: usize, page: &[u8], start: usize) -> usize
+    ensures { λ r. ⌜ LaidOver at (fieldsText (shownFrom start (now (page .entry)))) (now (out .entry)) r (now (out .exit)) ⌝ }
+{
+    let mut to = at;
+    let mut cursor = start;
+    loop {
+        let step = lookup::field_next(page, cursor);
+        let field = step.field;
+        let FieldPlace::Raw { tag, at: _, len: _ } = field else {
+            return to;
+        };
+        let value = lookup::value_of(page, field);
+        to = put_field(out, to, tag, value);
+        cursor = step.next;
+    }
 }
 
 // The listing of an accepted page.
@@ -259,6 +305,8 @@ fn put_view(out: &mut [u8], page: &[u8], view: View) -> usize
 {
     let to = put_head(out, 0, view.minor, view.edition);
     let to = put_plat(out, to, view.plat);
+    let start = lookup::fields_start(page, view);
+    let to = put_fields(out, to, page, start);
     put_sections(out, to, page, view)
 }
 

@@ -12,7 +12,8 @@ use Rattle.words.specs.Tests.{Yes, both, every}
 use Rattle.words.proofs.Lists.{words-below}
 use Rattle.versions.specs.Edition.{editionOk}
 use Rattle.sections.specs.Page.{placeOk}
-use Rattle.lists.specs.Description.{Description, four, descriptionOf, descriptionOk, noneLate, used}
+use Rattle.fields.specs.Fields.{scanOf}
+use Rattle.lists.specs.Description.{Description, four, descriptionOf, listsOk, tellable, descriptionOk, noneLate, used}
 use Rattle.writer.specs.Write.{pageOf, Made, no-page, a-page, writerGate, writeOf, descriptionFits}
 use Rattle.writer.specs.Wrote.{madeBy, pageAfter}
 use Rattle.writer.specs.declared.Wrote.{Wrote}
@@ -29,29 +30,34 @@ module _ (base n v : ℕ) (d : Description) where
     w-edition g = rw (h, g)
 
     module _ (g : editionOk v ≡ true) where
-      pub w-lists : descriptionOk v d ≡ false → writeOf base n v d ≡ no-page 3
-      unfolding writeOf writerGate
+      pub w-lists : listsOk v (d .lists) ≡ false → writeOf base n v d ≡ no-page 3
+      unfolding writeOf writerGate descriptionOk both
       w-lists a = rw (h, g, a)
 
-      module _ (a : descriptionOk v d ≡ true) where
-        pub w-late : noneLate v d ≡ false → writeOf base n v d ≡ no-page 4
-        unfolding writeOf writerGate
-        w-late b = rw (h, g, a, b)
+      module _ (a : listsOk v (d .lists) ≡ true) where
+        pub w-fields : tellable (scanOf (d .fields)) ≡ false → writeOf base n v d ≡ no-page 3
+        unfolding writeOf writerGate descriptionOk both
+        w-fields t = rw (h, g, a, t)
 
-        module _ (b : noneLate v d ≡ true) where
-          pub w-room : leb (used v d) 4096 ≡ false → writeOf base n v d ≡ no-page 5
-          unfolding writeOf writerGate
-          w-room c = rw (h, g, a, b, c)
+        module _ (t : tellable (scanOf (d .fields)) ≡ true) where
+          pub w-late : noneLate v (d .lists) ≡ false → writeOf base n v d ≡ no-page 4
+          unfolding writeOf writerGate descriptionOk both
+          w-late b = rw (h, g, a, t, b)
 
-          pub w-made : leb (used v d) 4096 ≡ true → writeOf base n v d ≡ a-page (pageOf base v d)
-          unfolding writeOf writerGate
-          w-made c = rw (h, g, a, b, c)
+          module _ (b : noneLate v (d .lists) ≡ true) where
+            pub w-room : leb (used v d) 4096 ≡ false → writeOf base n v d ≡ no-page 5
+            unfolding writeOf writerGate descriptionOk both
+            w-room c = rw (h, g, a, t, b, c)
+
+            pub w-made : leb (used v d) 4096 ≡ true → writeOf base n v d ≡ a-page (pageOf base v d)
+            unfolding writeOf writerGate descriptionOk both
+            w-made c = rw (h, g, a, t, b, c)
 
 -- lent lists are of 64-bit words
-pub lists-fit : (a b c d : List ℕ) → ((i : ℕ) → Fits w64 (getD a i 0)) → ((i : ℕ) → Fits w64 (getD b i 0)) → ((i : ℕ) → Fits w64 (getD c i 0)) → ((i : ℕ) → Fits w64 (getD d i 0)) →
-    Yes (descriptionFits (descriptionOf a b c d))
+pub lists-fit : (a b c d fs : List ℕ) → ((i : ℕ) → Fits w64 (getD a i 0)) → ((i : ℕ) → Fits w64 (getD b i 0)) → ((i : ℕ) → Fits w64 (getD c i 0)) → ((i : ℕ) → Fits w64 (getD d i 0)) →
+    Yes (descriptionFits (descriptionOf a b c d fs))
 unfolding descriptionFits descriptionOf four every both
-lists-fit a b c d e f g h =
+lists-fit a b c d fs e f g h =
     rw (words-below a (λ i. omega (arith, e i)), words-below b (λ i. omega (arith, f i)), words-below c (λ i. omega (arith, g i)), words-below d (λ i. omega (arith, h i)))
 
 -- a refusal leaves the page as it was; else it is the page made; f is what holds in each case

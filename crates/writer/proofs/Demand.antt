@@ -24,9 +24,9 @@ demand3 = record {
 }
 
 -- The third statement, of a call of `write` that made a page: its premises are what `write` promises, of the answer and of the lists lent.
-pub written-lent : (base v : ℕ) (dram console ncoh coh before after : List ℕ) →
-    madeBy after Page ≡ writeLists base v dram console ncoh coh before → Yes (descriptionFits (descriptionOf dram console ncoh coh)) →
+pub written-lent : (base v : ℕ) (dram console ncoh coh fields before after : List ℕ) →
+    madeBy after Page ≡ writeLists base v dram console ncoh coh fields before → Yes (descriptionFits (descriptionOf dram console ncoh coh fields)) →
     (r : ℕ) → Yes (editionOk r) →
-    readOf r base after ≡ shows v (min r v) (platDescribed base v (descriptionOf dram console ncoh coh)) (described (min r v) (descriptionOf dram console ncoh coh))
+    readOf r base after ≡ shows v (min r v) (platDescribed base v (descriptionOf dram console ncoh coh fields)) (described (min r v) (descriptionOf dram console ncoh coh fields))
 unfolding madeBy
-written-lent base v dram console ncoh coh before after h f = round base (length before) v (descriptionOf dram console ncoh coh) after f (sym h)
+written-lent base v dram console ncoh coh fields before after h f = round base (length before) v (descriptionOf dram console ncoh coh fields) after f (sym h)

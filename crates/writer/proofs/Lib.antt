@@ -1,3 +1,4 @@
+pub mod Given
 pub mod Round
 pub mod Demand
 pub mod Sums

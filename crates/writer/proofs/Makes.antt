@@ -13,7 +13,7 @@ use Rattle.versions.specs.Edition.{sectionCount, core}
 use Rattle.versions.proofs.Editions.{edition-of}
 use Rattle.entries.specs.Entry.{wordsPerEntry, entryOk, entriesOk}
 use Rattle.sections.specs.Page.{placeOk}
-use Rattle.lists.specs.Description.{Description, listOk, descriptionOk, noneLate, platBytes, used}
+use Rattle.lists.specs.Description.{Description, listOk, listsOk, noneLate, platBytes, used}
 use Rattle.writer.specs.Unrefused.{Unrefused}
 use Rattle.writer.specs.Write.{pageOf, a-page, writeOf}
 use Rattle.writer.proofs.Checks.{w-made}
@@ -23,11 +23,11 @@ module _ (base n v : ℕ) (d : Description) (t : Unrefused base n v d) where
   unfolding placeOk
   place-is = both-of _ _ (eq-eqb n 4096 (t .whole)) (both-of _ _ (lt-ltb 0 base (t .positive)) (both-of _ _ (eq-eqb (base % 4096) 0 (t .align)) (le-leb base (2 ^ 52 - 4096) (t .top))))
 
-  lists-are : Yes (descriptionOk v d)
-  unfolding descriptionOk listOk entriesOk
+  lists-are : Yes (listsOk v (d .lists))
+  unfolding listsOk listOk entriesOk
   lists-are = every-of 4 _ (λ k l. both-of _ _ (eq-eqb (length (d .lists k) % wordsPerEntry k) 0 (t .lengths k l)) (every-of (length (d .lists k) / wordsPerEntry k) _ (λ i m. t .entries k i l m)))
 
-  late-are : Yes (noneLate v d)
+  late-are : Yes (noneLate v (d .lists))
   unfolding noneLate
   late-are = every-of 4 _ (λ k l. go k l (decLt k (sectionCount v)))
     where
@@ -41,4 +41,4 @@ module _ (base n v : ℕ) (d : Description) (t : Unrefused base n v d) where
 
   -- "A page is made when the writer does not refuse", and a refusal comes only where 01 gives it
   pub makes : writeOf base n v d ≡ a-page (pageOf base v d)
-  makes = w-made base n v d place-is (edition-of v (t .first) (t .last)) lists-are late-are (le-leb (used v d) 4096 room-is)
+  makes = w-made base n v d place-is (edition-of v (t .first) (t .last)) lists-are (t .told) late-are (le-leb (used v d) 4096 room-is)

@@ -1,6 +1,6 @@
 -- The page made in the order of its addresses: these bytes, then what was there, and zero at the end. Assumes nothing.
 use Prim.Native.Nat.{ℕ, suc, _+_, _-_, _*_, min, _≤_, _<_}
-use mathlib.Core.Path.{_≡_, sym, ap, _∙_}
+use mathlib.Core.Path.{_≡_, refl, sym, ap, _∙_}
 use mathlib.Core.List.{List, [], _∷_, _++_, append-assoc, append-nil}
 use native.Mathlib.Omega.{arith}
 use native.Mathlib.Nat.{zero-add}
@@ -13,26 +13,47 @@ use Rattle.words.proofs.Store.{splice-splice, bytes-in, words-in}
 use Rattle.words.proofs.Lists.{bytesOf-length, bytesOf-append, joined-length, joined-mono}
 use Rattle.versions.specs.Edition.{sectionCount, core}
 use Rattle.versions.proofs.Editions.{section-count-most}
-use Rattle.lists.specs.Description.{Description, four, descriptionOf, platBytes, used}
-use Rattle.writer.specs.Write.{platWord, descriptor, arrayAddress, descriptorAt, coreWords, filled, pageOf}
+use Rattle.fields.specs.Fields.{endMark}
+use Rattle.lists.specs.Description.{Description, four, descriptionOf, withMark, platBytes, used}
+use Rattle.lists.proofs.Lists.{marked-more}
+use Rattle.writer.specs.Write.{descriptor, arrayAddress, pointTo, platWord, descriptorAt, coreWords, filled, pageOf}
 use Rattle.writer.specs.Steps.{sectionOn, arraysOn}
-use Rattle.writer.proofs.Round.{desc-length}
+use Rattle.writer.proofs.Given.{desc-length}
 
 -- ---- these bytes, then the page as it was
 over-length : (bs p : List ℕ) → length bs ≤ length p → length (splice 0 bs p) ≡ length p
 unfolding splice
 over-length bs p h = simp (length-append, length-drop) (omega arith)
 
--- words laid at once after those that are there
+-- bytes laid at once after those that are there
+bytes-more : (xs ys p : List ℕ) → length p ≡ 4096 → length xs + length ys ≤ 4096 → laid (length xs) ys (splice 0 xs p) ≡ splice 0 (xs ++ ys) p
+bytes-more xs ys p e h =
+    let l : length (splice 0 xs p) ≡ length p = over-length xs p (omega arith) in
+    bytes-in (length xs) ys (splice 0 xs p) (omega arith) ∙ rw zero-add at (splice-splice 0 xs p (omega arith) ys)
+
 words-more : (xs ws p : List ℕ) → length p ≡ 4096 → 8 * (length xs + length ws) ≤ 4096 →
     laid (8 * length xs) (bytesOf ws) (splice 0 (bytesOf xs) p) ≡ splice 0 (bytesOf (xs ++ ws)) p
 words-more xs ws p e h =
     let m = bytesOf-length xs in
-    let n = bytesOf-length ws in
-    let l : length (splice 0 (bytesOf xs) p) ≡ length p = over-length (bytesOf xs) p (omega arith) in
-    rw (bytesOf-append, ← m)
-    (bytes-in (length (bytesOf xs)) (bytesOf ws) (splice 0 (bytesOf xs) p) (omega arith)
-    ∙ rw zero-add at (splice-splice 0 (bytesOf xs) p (omega arith) (bytesOf ws)))
+    rw (bytesOf-append, ← m) (bytes-more (bytesOf xs) (bytesOf ws) p e (omega (arith, bytesOf-length ws)))
+
+point-none : (a : ℕ) (fs : List ℕ) → length fs ≡ 0 → 0 ≡ pointTo a fs
+unfolding pointTo
+point-none a [] h = refl
+point-none a (b ∷ bs) h = absurd (let z : ⊥ = omega arith in z)
+
+point-some : {r : ℕ} (a : ℕ) (fs : List ℕ) → (length fs ≡ 0 → ⊥) → r ≡ a → r ≡ pointTo a fs
+unfolding pointTo
+point-some a [] h e = absurd (h refl)
+point-some a (b ∷ bs) h e = e
+
+lists-length : (a b c d : List ℕ) → length (joined 4 (four a b c d)) ≡ length a + length b + length c + length d
+unfolding joined four
+lists-length a b c d = simp length-append (omega arith)
+
+mark-3 : length endMark ≡ 3
+unfolding endMark
+mark-3 = refl
 
 -- ---- zero behind them
 -- a part lent from an offset on, and cleared
@@ -47,6 +68,29 @@ unfolding filled splice
 filled-back at bs p s e h f g =
     let l : length s ≡ 4096 = ap length g ∙ over-length bs p (omega arith) ∙ e in
     cleared at s (omega arith) ∙ rw (l, g, f, take-append-seam)
+
+-- the end mark of the fields is of the zeros behind them
+filled-end : (ys : List ℕ) → length ys + 3 ≤ 4096 → filled ys ≡ filled (ys ++ endMark)
+unfolding filled endMark
+filled-end ys h =
+    let z : 4096 - length ys ≡ suc (suc (suc (4096 - (length ys + 3)))) = omega arith in
+    rw (length-append, append-assoc, z)
+
+filled-mark : (xs fs : List ℕ) → length xs + length (withMark fs) ≤ 4096 → filled (xs ++ fs) ≡ filled (xs ++ withMark fs)
+unfolding withMark
+filled-mark xs [] h = refl
+filled-mark xs (b ∷ bs) h =
+    let n : length ((b ∷ bs) ++ endMark) ≡ length (b ∷ bs) + length endMark = length-append (b ∷ bs) endMark in
+    filled-end (xs ++ (b ∷ bs)) (rw length-append (omega (arith, mark-3))) ∙ ap filled (append-assoc xs (b ∷ bs) endMark)
+
+-- ---- the platform pointer
+pub pointer-none : (base v : ℕ) (a b c d fs : List ℕ) → length fs ≡ 0 → 0 ≡ platWord base v (descriptionOf a b c d fs)
+unfolding platWord descriptionOf
+pointer-none base v a b c d fs h = point-none _ fs h
+
+pub pointer-some : (base v s r : ℕ) (a b c d fs : List ℕ) → (length fs ≡ 0 → ⊥) → s ≡ core v → r ≡ base + s + 8 * (length a + length b + length c + length d) → r ≡ platWord base v (descriptionOf a b c d fs)
+unfolding platWord descriptionOf arrayAddress
+pointer-some base v s r a b c d fs h e f = point-some _ fs h (omega (arith, lists-length a b c d))
 
 -- ---- the core
 pub section-in : (v k p : ℕ) (ws page : List ℕ) → k < sectionCount v → sectionOn v k p ws page ≡ laid (16 + 24 * k) (bytesOf (descriptor k p ws)) page
@@ -71,12 +115,12 @@ module _ (base v : ℕ) (d : Description) (p : List ℕ) (whole : length p ≡ 4
   unfolding headTo descriptorAt
   head-length k = let e = joined-length (min k (sectionCount v)) 3 (descriptorAt base v (d .lists)) (λ j. desc-length j (arrayAddress base v (d .lists) j) (d .lists j)) in omega arith
 
-  head-start : v ∷ 0 ∷ [] ≡ headTo base v d 0
-  unfolding headTo joined platWord
-  head-start = ap (λ (n : ℕ). v ∷ 0 ∷ joined n (descriptorAt base v (d .lists))) (let e : 0 ≡ min 0 (sectionCount v) = omega arith in e)
+  head-start : v ∷ platWord base v d ∷ [] ≡ headTo base v d 0
+  unfolding headTo joined
+  head-start = ap (λ (n : ℕ). v ∷ platWord base v d ∷ joined n (descriptorAt base v (d .lists))) (let e : 0 ≡ min 0 (sectionCount v) = omega arith in e)
 
-  head-none : laid 0 (bytesOf (v ∷ 0 ∷ [])) p ≡ splice 0 (bytesOf (headTo base v d 0)) p
-  head-none = words-in 0 (v ∷ 0 ∷ []) p (omega arith) ∙ ap (λ (ws : List ℕ). splice 0 (bytesOf ws) p) head-start
+  head-none : (q : ℕ) → q ≡ platWord base v d → laid 0 (bytesOf (v ∷ q ∷ [])) p ≡ splice 0 (bytesOf (headTo base v d 0)) p
+  head-none q e = rw e (words-in 0 (v ∷ platWord base v d ∷ []) p (omega arith) ∙ ap (λ (ws : List ℕ). splice 0 (bytesOf ws) p) head-start)
 
   head-in : (k : ℕ) → k < sectionCount v → headTo base v d (suc k) ≡ headTo base v d k ++ descriptor k (arrayAddress base v (d .lists) k) (d .lists k)
   unfolding headTo joined descriptorAt
@@ -112,15 +156,15 @@ module _ (base v : ℕ) (d : Description) (p : List ℕ) (whole : length p ≡ 4
   place-more k = rw length-append (omega arith)
 
   -- by the steps of the code
-  pub core-law : (p1 p2 p3 p4 p5 : List ℕ) (a b c e : ℕ) → p1 ≡ laid 0 (bytesOf (v ∷ 0 ∷ [])) p → a ≡ base + core v →
+  pub core-law : (p1 p2 p3 p4 p5 : List ℕ) (q a b c e : ℕ) → q ≡ platWord base v d → p1 ≡ laid 0 (bytesOf (v ∷ q ∷ [])) p → a ≡ base + core v →
       p2 ≡ sectionOn v 0 a (d .lists 0) p1 → b ≡ a + 8 * length (d .lists 0) → p3 ≡ sectionOn v 1 b (d .lists 1) p2 → c ≡ b + 8 * length (d .lists 1) →
       p4 ≡ sectionOn v 2 c (d .lists 2) p3 → e ≡ c + 8 * length (d .lists 2) → p5 ≡ sectionOn v 3 e (d .lists 3) p4 → p5 ≡ splice 0 (bytesOf (coreWords base v d)) p
-  core-law p1 p2 p3 p4 p5 a b c e e1 f0 e2 f1 e3 f2 e4 f3 e5 =
+  core-law p1 p2 p3 p4 p5 q a b c e e0 e1 f0 e2 f1 e3 f2 e4 f3 e5 =
       let g0 : a ≡ arrayAddress base v (d .lists) 0 = omega (arith, place-none) in
       let g1 : b ≡ arrayAddress base v (d .lists) 1 = omega (arith, place-more 0) in
       let g2 : c ≡ arrayAddress base v (d .lists) 2 = omega (arith, place-more 1) in
       let g3 : e ≡ arrayAddress base v (d .lists) 3 = omega (arith, place-more 2) in
-      let h1 : p1 ≡ splice 0 (bytesOf (headTo base v d 0)) p = e1 ∙ head-none in
+      let h1 : p1 ≡ splice 0 (bytesOf (headTo base v d 0)) p = e1 ∙ head-none q e0 in
       let h2 : p2 ≡ splice 0 (bytesOf (headTo base v d 1)) p = e2 ∙ head-more 0 a p1 (omega arith) g0 h1 in
       let h3 : p3 ≡ splice 0 (bytesOf (headTo base v d 2)) p = e3 ∙ head-more 1 b p2 (omega arith) g1 h2 in
       let h4 : p4 ≡ splice 0 (bytesOf (headTo base v d 3)) p = e4 ∙ head-more 2 c p3 (omega arith) g2 h3 in
@@ -153,10 +197,6 @@ module _ (base v : ℕ) (d : Description) (p : List ℕ) (whole : length p ≡ 4
   unfolding joined
   body-none = rw append-nil
 
-  body-all : filled (bytesOf (coreWords base v d ++ joined 4 (d .lists))) ≡ pageOf base v d
-  unfolding pageOf platBytes
-  body-all = rw append-nil
-
   pub arrays-law : (at : ℕ) (page : List ℕ) → used v d ≤ 4096 → at ≡ core v → page ≡ splice 0 (bytesOf (coreWords base v d)) p →
       arraysOn at (d .lists) page ≡ splice 0 (bytesOf (coreWords base v d ++ joined 4 (d .lists))) p
   unfolding arraysOn
@@ -173,24 +213,30 @@ module _ (base v : ℕ) (d : Description) (p : List ℕ) (whole : length p ≡ 4
   unfolding offset
   body-bytes = rw (bytesOf-length, length-append) (omega (arith, core-bytes))
 
-  module _ (at end : ℕ) (fit : used v d ≤ 4096) (e : at ≡ core v) (f : end ≡ at + 8 * length (d .lists 0) + 8 * length (d .lists 1) + 8 * length (d .lists 2) + 8 * length (d .lists 3)) where
-    end-at : end ≡ offset v d 4
-    end-at = omega (arith, offset-none, offset-more 0, offset-more 1, offset-more 2, offset-more 3)
+  module _ (at behind : ℕ) (fit : used v d ≤ 4096) (e : at ≡ core v) (f : behind ≡ at + 8 * length (d .lists 0) + 8 * length (d .lists 1) + 8 * length (d .lists 2) + 8 * length (d .lists 3)) where
+    behind-at : behind ≡ offset v d 4
+    behind-at = omega (arith, offset-none, offset-more 0, offset-more 1, offset-more 2, offset-more 3)
 
-    pub end-in : end ≤ 4096
-    unfolding used offset
-    end-in = let o = end-at in omega arith
+    marked-in : behind + length (withMark (d .fields)) ≤ 4096
+    unfolding used offset platBytes
+    marked-in = let o = behind-at in omega arith
 
-    pub page-law : (s : List ℕ) → s ≡ splice 0 (bytesOf (coreWords base v d ++ joined 4 (d .lists))) p →
+    pub fields-in : behind + length (d .fields) ≤ 4096
+    fields-in = omega (arith, marked-in, marked-more (d .fields))
+
+    -- the fields behind them, then zero
+    pub page-law : (end : ℕ) (r s : List ℕ) → r ≡ splice 0 (bytesOf (coreWords base v d ++ joined 4 (d .lists))) p → s ≡ laid behind (d .fields) r → end ≡ behind + length (d .fields) →
         take end s ++ (replicate (length (take (length s - end) (drop end s))) 0 ++ drop (length s - end) (drop end s)) ≡ pageOf base v d
-    page-law s g =
-        let o = end-at in
-        let n = end-in in
-        filled-back end (bytesOf (coreWords base v d ++ joined 4 (d .lists))) p s whole (omega (arith, body-bytes)) (omega (arith, body-bytes)) g ∙ body-all
+    unfolding pageOf platBytes
+    page-law end r s g h i =
+        let bs = bytesOf (coreWords base v d ++ joined 4 (d .lists)) in
+        let n : behind ≡ length bs = omega (arith, behind-at, body-bytes) in
+        let m : length (bs ++ d .fields) ≡ length bs + length (d .fields) = length-append bs (d .fields) in
+        let l = fields-in in
+        let k : s ≡ splice 0 (bs ++ d .fields) p = h ∙ rw (g, n) (bytes-more bs (d .fields) p whole (omega arith)) in
+        filled-back end (bs ++ d .fields) p s whole (omega arith) (omega arith) k ∙ filled-mark bs (d .fields) (omega (arith, marked-in))
 
 -- what there is room for
-pub words-room : (v : ℕ) (a b c d : List ℕ) → used v (descriptionOf a b c d) ≤ 4096 → length a + length b + length c + length d ≤ 512
-unfolding used descriptionOf joined four
-words-room v a b c d h =
-    let e : length ((([] ++ a) ++ b) ++ c ++ d) ≡ length a + length b + length c + length d = simp length-append (omega arith) in
-    omega arith
+pub words-room : (v : ℕ) (a b c d fs : List ℕ) → used v (descriptionOf a b c d fs) ≤ 4096 → length a + length b + length c + length d ≤ 512
+unfolding used descriptionOf
+words-room v a b c d fs h = omega (arith, lists-length a b c d)

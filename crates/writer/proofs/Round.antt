@@ -1,138 +1,32 @@
 -- What the writer makes, every reader shows. Assumes nothing.
-use Prim.Native.Nat.{ℕ, zero, suc, _+_, _-_, _*_, _/_, _%_, _^_, min, _≤_, _<_}
+use Prim.Native.Nat.{ℕ, suc, _+_, _-_, _*_, _%_, _^_, min, _≤_, _<_}
 use mathlib.Core.Bool.{Bool, true, false}
 use mathlib.Core.Path.{_≡_, refl, ap, _∙_}
 use mathlib.Core.List.{List, [], _∷_, _++_, append-assoc, append-nil}
 use native.Mathlib.Omega.{arith}
 use native.Mathlib.Decide.{decLt}
-use native.Mathlib.Nat.{div-add-mod, div-le-self}
-use lib.ListN.{length, getD, length-append, length-replicate}
-use lib.Seq.{drop-append-add}
+use lib.ListN.{length, getD, drop, replicate, length-append, length-replicate}
+use lib.Seq.{drop-append-add, drop-at}
 use lib.Dec.{lit≤}
-use borrow.Author.Tests.{leb-true, eqb-true, lt-ltb, le-leb, lt-leb, le-ltb, ne-eqb}
-use Rattle.words.specs.Tests.{Yes, both}
+use borrow.Author.Tests.{leb-true, lt-ltb, le-ltb}
+use Rattle.words.specs.Tests.{Yes}
 use Rattle.words.specs.Word.{part, wordAt, bytesOf, areWords, joined}
-use Rattle.words.proofs.Tests.{both-l, both-r, both-of, either-l, either-r, every-at, every-of}
-use Rattle.words.proofs.Lists.{bytesOf-length, wordsOf-bytesOf, word-at, part-at, halves, joined-at, joined-get, joined-length, joined-mono, words-cons, words-append, words-joined}
+use Rattle.words.proofs.Tests.{both-l, both-r, both-of, every-at, every-of}
+use Rattle.words.proofs.Lists.{bytesOf-length, word-at, part-at, halves, joined-at, joined-get, joined-length, joined-mono, words-cons, words-append, words-joined}
 use Rattle.versions.specs.Version.{versionOk}
 use Rattle.versions.specs.Edition.{sectionCount, core, editionOk}
 use Rattle.versions.proofs.Versions.{version-of, version-minor}
 use Rattle.versions.proofs.Editions.{section-count-most, section-count-mono, edition-range}
-use Rattle.entries.specs.Entry.{wordsPerEntry, size, entriesOk, sum, checkOk}
-use Rattle.entries.proofs.Flags.{shown-plain}
-use Rattle.entries.specs.Array.{soundOf}
-use Rattle.sections.specs.Page.{placeOk, versionAt, paddingAt, inPage, arrayAt, Sec, mkSec, secAt, Plat, mkPlat, platAt}
-use Rattle.sections.specs.Section.{platOk, wordsIn, nothing, inRange, secOk, extent, apart, clearBefore, rules}
-use Rattle.sections.proofs.Sections.{placed, array-in}
-use Rattle.reader.specs.Answer.{shows, shown, shownSec, platShown, allShown, judge, readOf}
+use Rattle.fields.specs.Fields.{scanOf}
+use Rattle.sections.specs.Page.{placeOk, versionAt, paddingAt, secAt, Plat, mkPlat, platAt}
+use Rattle.sections.specs.Section.{platOk, clearBefore, platClear, rules}
+use Rattle.sections.proofs.Sections.{placed}
+use Rattle.reader.specs.Answer.{shows, shown, platShown, allShown, judge, readOf}
 use Rattle.reader.proofs.Newer.{rules-mono, gate-true, shows-same}
 use Rattle.reader.proofs.Named.{rules-same}
-use Rattle.lists.specs.Description.{Description, listOk, descriptionOk, used}
-use Rattle.writer.specs.Write.{platWord, neg, descriptor, arrayAddress, descriptorAt, coreWords, filled, pageOf, no-page, a-page, writerGate, writeOf, descriptionFits, shownList, described, platDescribed}
-
--- ---- one section
--- what a page says of the section that a list makes
-unfoldable given : ℕ → ℕ → List ℕ → Sec
-given k p [] = mkSec 0 0 0 []
-given k p (w ∷ ws) =
-    let c = length (w ∷ ws) / wordsPerEntry k in
-    mkSec c p (neg (c + p + sum (w ∷ ws))) (bytesOf (w ∷ ws))
-
--- and of the platform data
-unfoldable platGiven : ℕ → ℕ → Description → Plat
-platGiven base v d = mkPlat (platWord base v d)
-
--- the checksum holds, and is a word
-neg-zero : (x : ℕ) → (x + neg x) % 2 ^ 64 ≡ 0
-unfolding neg
-neg-zero x = omega arith
-
-neg-word : (x : ℕ) → neg x < 2 ^ 64
-unfolding neg
-neg-word x = omega arith
-
-check-neg : (c p : ℕ) (ws : List ℕ) → Yes (checkOk c p ws (neg (c + p + sum ws)))
-unfolding checkOk
-check-neg c p ws = rw (neg-zero (c + p + sum ws))
-
-pub desc-length : (k p : ℕ) (ws : List ℕ) → length (descriptor k p ws) ≡ 3
-unfolding descriptor
-desc-length k p [] = refl
-desc-length k p (w ∷ ws) = refl
-
-desc-words : (k p : ℕ) (ws : List ℕ) → p < 2 ^ 64 → length ws ≤ 512 → Yes (areWords (descriptor k p ws))
-unfolding descriptor areWords
-desc-words k p [] h n = both-of _ _ refl (both-of _ _ refl (both-of _ _ refl refl))
-desc-words k p (w ∷ ws) h n =
-    let c : length (w ∷ ws) / wordsPerEntry k < 2 ^ 64 = omega (arith, div-le-self (length (w ∷ ws)) (wordsPerEntry k)) in
-    both-of _ _ (lt-ltb _ _ c) (both-of _ _ (lt-ltb _ _ h) (both-of _ _ (lt-ltb _ _ (neg-word _)) refl))
-
--- a list that the writer takes: whole entries, each within its rule
-module _ (v k : ℕ) (ws : List ℕ) (t : Yes (listOk v k ws)) where
-  whole : wordsPerEntry k * (length ws / wordsPerEntry k) ≡ length ws
-  unfolding listOk
-  whole = let m : length ws % wordsPerEntry k ≡ 0 = eqb-true _ _ (both-l _ _ t) in omega (arith, div-add-mod (length ws) (wordsPerEntry k))
-
-  entries : Yes (entriesOk v k (length ws / wordsPerEntry k) ws)
-  unfolding listOk
-  entries = both-r _ _ t
-
-count-pos : (m c n : ℕ) → m * c ≡ suc n → 0 < c
-count-pos m zero n h = omega arith
-count-pos m (suc c) n h = omega arith
-
--- a list with entries
-module _ (v k p w : ℕ) (ws : List ℕ) (t : Yes (listOk v k (w ∷ ws))) where
-  some-entry : 0 < length (w ∷ ws) / wordsPerEntry k
-  some-entry = count-pos (wordsPerEntry k) _ (length ws) (whole v k (w ∷ ws) t)
-
-  size-given : size k (length (w ∷ ws) / wordsPerEntry k) ≡ 8 * length (w ∷ ws)
-  unfolding size
-  size-given = rw (whole v k (w ∷ ws) t)
-
-  range-given : (base : ℕ) → base + core v ≤ p → p + 8 * length (w ∷ ws) ≤ base + 4096 → Yes (inRange v base k (length (w ∷ ws) / wordsPerEntry k) p)
-  unfolding inRange
-  range-given base lo hi = rw size-given (both-of _ _ (le-leb _ _ lo) (le-leb _ _ hi))
-
-  words-given : Yes (areWords (w ∷ ws)) → wordsIn k (given k p (w ∷ ws)) ≡ w ∷ ws
-  unfolding wordsIn given mkSec
-  words-given a = rw (whole v k (w ∷ ws) t) (rw append-nil at (wordsOf-bytesOf (w ∷ ws) [] a))
-
-  sound-given : p % 8 ≡ 0 → Yes (soundOf v k (length (w ∷ ws) / wordsPerEntry k) p (neg (length (w ∷ ws) / wordsPerEntry k + p + sum (w ∷ ws))) (w ∷ ws))
-  unfolding soundOf
-  sound-given al = rw al (both-of _ _ (lt-ltb _ _ some-entry) (both-of _ _ refl (both-of _ _ (check-neg _ p (w ∷ ws)) (entries v k (w ∷ ws) t))))
-
--- what a page says of a section, by the words and the array that its list makes
-no-array : (base n : ℕ) (page : List ℕ) → 0 < base → arrayAt base page 0 n ≡ []
-unfolding arrayAt inPage both
-no-array base n page h = rw (lt-leb base 0 h)
-
-sec-made : (base v k p : ℕ) (ws page : List ℕ) → Yes (listOk v k ws) → 0 < base → base + core v ≤ p → p + 8 * length ws ≤ base + 4096 → part (p - base) (8 * length ws) page ≡ bytesOf ws →
-    mkSec (getD (descriptor k p ws) 0 0) (getD (descriptor k p ws) 1 0) (getD (descriptor k p ws) 2 0) (arrayAt base page (getD (descriptor k p ws) 1 0) (size k (getD (descriptor k p ws) 0 0))) ≡ given k p ws
-unfolding descriptor given
-sec-made base v k p [] page t b lo hi a = rw (no-array base (size k 0) page b)
-sec-made base v k p (w ∷ ws) page t b lo hi a = rw (array-in v base k _ p (range-given v k p w ws t base lo hi) page, size-given v k p w ws t, a)
-
--- the rule of one section
-sec-ok : (base v k p : ℕ) (ws : List ℕ) → Yes (listOk v k ws) → Yes (areWords ws) → base + core v ≤ p → p + 8 * length ws ≤ base + 4096 → p % 8 ≡ 0 → Yes (secOk v v base k (given k p ws))
-unfolding secOk nothing given mkSec
-sec-ok base v k p [] t a lo hi al = either-l _ _ (both-of _ _ refl (both-of _ _ refl refl))
-sec-ok base v k p (w ∷ ws) t a lo hi al =
-    either-r _ _ (both-of _ _ (range-given v k p w ws t base lo hi) (rw (words-given v k p w ws t a) (sound-given v k p w ws t al)))
-
--- two sections' arrays stand apart
-apart-of : (v i j p q : ℕ) (us ws : List ℕ) → Yes (listOk v j ws) → q + 8 * length ws ≤ p → Yes (apart (extent i (given i p us)) (extent j (given j q ws)))
-unfolding apart extent given mkSec size
-apart-of v i j p q [] ws t h = either-l _ _ (omega (arith, le-leb))
-apart-of v i j p q (u ∷ us) [] t h = either-r _ _ (omega (arith, le-leb))
-apart-of v i j p q (u ∷ us) (w ∷ ws) t h = either-r _ _ (let z = whole v j (w ∷ ws) t in omega (arith, le-leb))
-
-shown-list : (v k p : ℕ) (ws : List ℕ) → v ≤ 4 → Yes (listOk v k ws) → Yes (areWords ws) → shownSec v k (given k p ws) ≡ shownList ws
-unfolding shownSec shownList given mkSec
-shown-list v k p [] m t a = refl
-shown-list v k p (w ∷ ws) m t a =
-    let c = some-entry v k p w ws t in
-    rw (words-given v k p w ws t a, shown-plain v k m (w ∷ ws), ne-eqb (length (w ∷ ws) / wordsPerEntry k) 0 (λ z. omega arith))
+use Rattle.lists.specs.Description.{Description, listOk, listsOk, tellable, descriptionOk, withMark, platBytes, used}
+use Rattle.writer.specs.Write.{platWord, arrayAddress, descriptorAt, coreWords, filled, pageOf, no-page, a-page, writerGate, writeOf, descriptionFits, described, platDescribed}
+use Rattle.writer.proofs.Given.{given, desc-length, desc-words, sec-made, sec-ok, apart-of, shown-list, foundGiven, point-word, found-made, plat-made, clear-made, fields-made}
 
 -- ---- the page as a whole
 -- what the writer has checked
@@ -145,6 +39,10 @@ pub record Fit (base v : ℕ) (d : Description) : Type 0 where
   pub small : Yes (descriptionFits d)
   pub room : used v d ≤ 4096
 
+-- what a page says of the platform data
+unfoldable platGiven : ℕ → ℕ → Description → Plat
+platGiven base v d = mkPlat (platWord base v d) (foundGiven (d .fields))
+
 -- all words of the page, before the platform data's bytes
 abbrev pageWords : ℕ → ℕ → Description → List ℕ
 pageWords base v d = coreWords base v d ++ joined 4 (d .lists)
@@ -155,8 +53,12 @@ module _ (base v : ℕ) (d : Description) (g : Fit base v d) where
   fits = let r = g .room in omega arith
 
   ok : (k : ℕ) → k < 4 → Yes (listOk v k (d .lists k))
+  unfolding descriptionOk listsOk
+  ok = every-at 4 (λ k. listOk v k (d .lists k)) (both-l _ _ (g .told))
+
+  told-fields : Yes (tellable (scanOf (d .fields)))
   unfolding descriptionOk
-  ok = every-at 4 (λ k. listOk v k (d .lists k)) (g .told)
+  told-fields = both-r _ _ (g .told)
 
   wd : (k : ℕ) → k < 4 → Yes (areWords (d .lists k))
   unfolding descriptionFits
@@ -197,9 +99,17 @@ module _ (base v : ℕ) (d : Description) (g : Fit base v d) where
       let t = g .top in
       desc-words k (arrayAddress base v (d .lists) k) (d .lists k) (omega arith) (omega arith)
 
+  -- where the fields stand: behind core and arrays
+  plat-low : base + core v ≤ arrayAddress base v (d .lists) 4
+  plat-low = place-low 4
+
+  plat-room : arrayAddress base v (d .lists) 4 + length (withMark (d .fields)) ≤ base + 4096
+  unfolding arrayAddress used platBytes
+  plat-room = let r = g .room in omega arith
+
   plat-word : platWord base v d < 2 ^ 64
   unfolding platWord
-  plat-word = lit≤ tt
+  plat-word = point-word _ (d .fields) (let r = plat-room in let t = g .top in omega arith)
 
   core-words : Yes (areWords (coreWords base v d))
   unfolding coreWords
@@ -255,17 +165,29 @@ module _ (base v : ℕ) (d : Description) (g : Fit base v d) where
       (sec-made base v k _ (d .lists k) (pageOf base v d) (ok k (one k h)) (g .positive) (place-low k) (place-end k (one k h)) (array k (one k h)))
 
   -- what it says of the platform data
+  plat-pointer : wordAt 8 (pageOf base v d) ≡ platWord base v d
+  unfolding pageOf filled coreWords
+  plat-pointer = rw (append-assoc, word-at 1 (pageWords base v d) _ page-words (omega arith))
+
+  fields-at : drop (arrayAddress base v (d .lists) 4 - base) (pageOf base v d) ≡ withMark (d .fields) ++ replicate (4096 - length (bytesOf (pageWords base v d) ++ withMark (d .fields))) 0
+  unfolding pageOf filled platBytes arrayAddress
+  fields-at = rw append-assoc (drop-at (bytesOf (pageWords base v d)) _ (arrayAddress base v (d .lists) 4 - base) (rw bytes-length (omega arith)))
+
   plat-at : platAt base (pageOf base v d) ≡ platGiven base v d
-  unfolding platAt platGiven pageOf filled coreWords
-  plat-at = rw (append-assoc, word-at 1 (pageWords base v d) _ page-words (omega arith))
+  unfolding platAt platGiven platWord
+  plat-at = rw (plat-pointer, found-made base (arrayAddress base v (d .lists) 4) (g .positive) (pageOf base v d) _ (d .fields) (let l = plat-low in omega arith) fields-at plat-room told-fields)
 
   plat-ok : Yes (platOk v base (platGiven base v d))
-  unfolding platOk platGiven mkPlat platWord
-  plat-ok = either-l _ _ refl
+  unfolding platGiven platWord
+  plat-ok = plat-made base (arrayAddress base v (d .lists) 4) (g .positive) v (d .fields) plat-low plat-room
 
   plat-owed : platShown (platGiven base v d) ≡ platDescribed base v d
   unfolding platShown platGiven mkPlat platDescribed
-  plat-owed = refl
+  plat-owed = rw (fields-made base 0 (g .positive) (d .fields))
+
+  plat-clear : (k : ℕ) → k < 4 → Yes (platClear (platGiven base v d) (λ j. given j (arrayAddress base v (d .lists) j) (d .lists j)) k)
+  unfolding platClear platGiven platWord
+  plat-clear k h = clear-made base (arrayAddress base v (d .lists) 4) (g .positive) v k _ (d .lists k) (d .fields) (ok k h) (place-next 4 k h)
 
   -- so the rules hold, and each list is shown
   rules-given : Yes (rules v v base 0 (platGiven base v d) (λ k. given k (arrayAddress base v (d .lists) k) (d .lists k)))
@@ -273,7 +195,9 @@ module _ (base v : ℕ) (d : Description) (g : Fit base v d) where
   rules-given =
       both-of _ _ refl (both-of _ _ plat-ok (both-of _ _
       (every-of (sectionCount v) _ (λ k h. sec-ok base v k _ (d .lists k) (ok k (one k h)) (wd k (one k h)) (place-low k) (place-end k (one k h)) (place-al k)))
-      (every-of (sectionCount v) _ (λ i h. every-of i _ (λ j m. apart-of v i j _ _ (d .lists i) (d .lists j) (ok j (let f = one i h in omega arith)) (place-next i j m))))))
+      (both-of _ _
+      (every-of (sectionCount v) _ (λ i h. every-of i _ (λ j m. apart-of v i j _ _ (d .lists i) (d .lists j) (ok j (let f = one i h in omega arith)) (place-next i j m))))
+      (every-of (sectionCount v) _ (λ k h. plat-clear k (one k h))))))
 
   rules-page : (e : ℕ) → e ≤ v → Yes (rules v e base 0 (platAt base (pageOf base v d)) (secAt base (pageOf base v d)))
   rules-page e h =

@@ -21,7 +21,7 @@ pub record Demand3 : Type 0 where
   pub older : (r r' base : ℕ) (page : List ℕ) → 1 ≤ r → r ≤ r' → r' ≤ 4 → (c : ℤ) → readOf r base page ≡ refused c → readOf r' base page ≡ refused c
   -- "Whatever lists our writer is given and whatever the page held before: each page that it makes, at any edition from 1 to 4,
   -- is accepted by every reader of edition 1 to 4 at the base address it was made for. That reader shows exactly the sections
-  -- that both editions have, as they were described." The lists are of 64-bit words, which `write` promises of those that it is lent; of
+  -- that both editions have, as they were described." 02, E7: "Demand 3 then covers the fields". The lists are of 64-bit words, which `write` promises of those that it is lent; of
   -- the lent page writeOf sees the length alone, and it makes a page at editions 1 to 4 only.
   pub written : (base n v : ℕ) (d : Description) (p : List ℕ) → Yes (descriptionFits d) → writeOf base n v d ≡ a-page p →
       (r : ℕ) → Yes (editionOk r) → readOf r base p ≡ shows v (min r v) (platDescribed base v d) (described (min r v) d)

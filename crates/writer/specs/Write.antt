@@ -1,6 +1,7 @@
 -- The writer. 01: "The writer takes B, an edition, four lists of 64-bit words (2 words an entry, 6 for a console) and a page. It
 -- writes the core, plat_data 0, then the arrays at once after it in section order, and zero everywhere else. An empty list gives
--- 24 zero bytes." Assumes nothing.
+-- 24 zero bytes." 02, E7: "The writer takes a list of fields, places them in list order at once after core and arrays and points at
+-- them, or writes pointer 0 if there are none." Assumes nothing.
 use Prim.Native.Nat.{ℕ, _+_, _-_, _*_, _/_, _%_, _^_}
 use mathlib.Core.Bool.{Bool, true, false, cond}
 use mathlib.Core.List.{List, [], _∷_, _++_}
@@ -12,11 +13,8 @@ use Rattle.versions.specs.Edition.{sectionCount, core, editionOk}
 use Rattle.entries.specs.Entry.{wordsPerEntry, sum}
 use Rattle.sections.specs.Page.{placeOk}
 use Rattle.reader.specs.Answer.{Shown, absent, empty, full, PlatShown}
-use Rattle.lists.specs.Description.{Description, descriptionOk, noneLate, platBytes, used}
-
--- the platform pointer: "plat_data 0"
-unfoldable pub platWord : ℕ → ℕ → Description → ℕ
-platWord base v d = 0
+use Rattle.fields.specs.Fields.{scanOf, shownFields}
+use Rattle.lists.specs.Description.{Description, descriptionOk, fieldsTold, noneLate, platBytes, used}
 
 -- the word that makes a sum 0 modulo 2^64
 unfoldable pub neg : ℕ → ℕ
@@ -29,12 +27,21 @@ descriptor k p (w ∷ ws) =
     let c = length (w ∷ ws) / wordsPerEntry k in
     c ∷ p ∷ neg (c + p + sum (w ∷ ws)) ∷ []
 
--- the address of the array of section k
+-- the address of the array of section k, or behind the first k arrays
 unfoldable pub arrayAddress : ℕ → ℕ → (ℕ → List ℕ) → ℕ → ℕ
 arrayAddress base v l k = base + (core v + 8 * length (joined k l))
 
 unfoldable pub descriptorAt : ℕ → ℕ → (ℕ → List ℕ) → ℕ → List ℕ
 descriptorAt base v l k = descriptor k (arrayAddress base v l k) (l k)
+
+-- the platform pointer: it "points at them, or writes pointer 0 if there are none"
+unfoldable pub pointTo : ℕ → List ℕ → ℕ
+pointTo a [] = 0
+pointTo a (b ∷ bs) = a
+
+-- the fields stand where an array behind the four would
+unfoldable pub platWord : ℕ → ℕ → Description → ℕ
+platWord base v d = pointTo (arrayAddress base v (d .lists) 4) (d .fields)
 
 -- the words of the core: version and padding are the halves of the first
 unfoldable pub coreWords : ℕ → ℕ → Description → List ℕ
@@ -52,7 +59,7 @@ pub data Made : Type 0 where
   no-page : ℕ → Made
   a-page : List ℕ → Made
 
--- "Writer refusals, in order": W1 as -5, W2 edition, W3 lists, W4 late section, W5 room
+-- "Writer refusals, in order": W1 as -5, W2 edition, W3 lists and fields, W4 late section, W5 room
 unfoldable pub writerGate : Bool → Bool → Bool → Bool → Bool → List ℕ → Made
 writerGate true true true true true p = a-page p
 writerGate true true true true false p = no-page 5
@@ -63,7 +70,7 @@ writerGate false b c d e p = no-page 1
 
 -- what the writer of edition v makes at base B on a lent page of n bytes
 unfoldable pub writeOf : ℕ → ℕ → ℕ → Description → Made
-writeOf base n v d = writerGate (placeOk base n) (editionOk v) (descriptionOk v d) (noneLate v d) (leb (used v d) 4096) (pageOf base v d)
+writeOf base n v d = writerGate (placeOk base n) (editionOk v) (descriptionOk v d) (noneLate v (d .lists)) (leb (used v d) 4096) (pageOf base v d)
 
 -- ---- what a reader shows of a page that was written from a description
 -- each word of the lists is below 2^64: what a lent list of 64-bit words always obeys, and `write` promises
@@ -79,6 +86,6 @@ shownList (w ∷ ws) = full (w ∷ ws) (bytesOf (w ∷ ws))
 unfoldable pub described : ℕ → Description → ℕ → Shown
 described e d k = cond (ltb k (sectionCount e)) (shownList (d .lists k)) absent
 
--- the platform data: the pointer that was written
+-- the platform data: the pointer that was written, and the fields in list order
 unfoldable pub platDescribed : ℕ → ℕ → Description → PlatShown
-platDescribed base v d = record { pointer = platWord base v d }
+platDescribed base v d = record { pointer = platWord base v d; fields = shownFields (fieldsTold (scanOf (d .fields))) }

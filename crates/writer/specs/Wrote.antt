@@ -7,9 +7,9 @@ use Rattle.writer.specs.Write.{Made, no-page, a-page, writeOf}
 use Rattle.writer.specs.declared.Wrote.{Wrote}
 use Rattle.writer.specs.declared.Wrote.the-variants.{Page, Place, Edition, Lists, Late, Room}
 
--- "The writer takes B, an edition, four lists of 64-bit words .. and a page."
-abbrev pub writeLists : ℕ → ℕ → List ℕ → List ℕ → List ℕ → List ℕ → List ℕ → Made
-writeLists base v dram console ncoh coh page = writeOf base (length page) v (descriptionOf dram console ncoh coh)
+-- "The writer takes B, an edition, four lists of 64-bit words .. and a page."; 02, E7: "The writer takes a list of fields"
+abbrev pub writeLists : ℕ → ℕ → List ℕ → List ℕ → List ℕ → List ℕ → List ℕ → List ℕ → Made
+writeLists base v dram console ncoh coh fields page = writeOf base (length page) v (descriptionOf dram console ncoh coh fields)
 
 -- W1 to W5, or the page that was made
 unfoldable pub madeBy : List ℕ → Wrote → Made

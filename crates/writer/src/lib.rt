@@ -9,11 +9,11 @@ ghost use Rattle.words.specs.Tests.{Yes};
 ghost use Rattle.words.specs.Word.{bytesOf, splice, laid};
 ghost use Rattle.entries.specs.Entry.{sum};
 ghost use Rattle.lists.specs.Description.{four, descriptionOf, totalsOf, used};
-ghost use Rattle.writer.specs.Write.{descriptor, coreWords, pageOf, descriptionFits};
+ghost use Rattle.writer.specs.Write.{descriptor, platWord, coreWords, pageOf, descriptionFits};
 ghost use Rattle.writer.specs.Wrote.{writeLists, madeBy, pageAfter};
 ghost use Rattle.writer.specs.Steps.{sectionOn, arraysOn};
 
-// A page was made, or why not: W1 the place, W2 the edition, W3 a list, W4 a section after the edition, W5 no room.
+// A page was made, or why not: W1 the place, W2 the edition, W3 a list or the fields, W4 a section after the edition, W5 no room.
 pub enum Wrote {
     Page,
     Place,
@@ -60,7 +60,37 @@ fn put_array(page: &mut [u8], at: usize, words: &[u64]) -> usize
     at + 8 * words.len()
 }
 
-// Puts the core over the page's start: version, padding, plat_data 0, the sections' words.
+// Puts the fields at an offset, and answers the offset behind them. Their end mark is of the zeros that follow.
+fn put_fields(page: &mut [u8], at: usize, fields: &[u8]) -> usize
+    requires { ⌜ (at + length (now fields) ≤ length (now page)) × (length (now page) ≡ 4096) ⌝ }
+    ensures { λ r. ⌜ (r ≡ at + length (now (fields .entry))) × (now (page .exit) ≡ laid at (now (fields .entry)) (now (page .entry))) ⌝ }
+{
+    words::copy(&mut page[at..], fields);
+    at + fields.len()
+}
+
+// The platform pointer: the address behind core and arrays, or 0 without fields.
+fn plat_pointer(
+    base: u64,
+    e: Edition,
+    dram: &[u64],
+    console: &[u64],
+    ncoh: &[u64],
+    coh: &[u64],
+    fields: &[u8],
+) -> u64
+    requires { ⌜ (base ≤ 0x10_0000_0000_0000) × (length (now dram) + length (now console) + length (now ncoh) + length (now coh) ≤ 512) ⌝ }
+    ensures { λ r. ⌜ r ≡ platWord base (e .minor) (descriptionOf (now (dram .entry)) (now (console .entry)) (now (ncoh .entry)) (now (coh .entry)) (now (fields .entry))) ⌝ }
+{
+    if fields.len() == 0 {
+        return 0;
+    }
+    let count = dram.len() + console.len() + ncoh.len() + coh.len();
+    let first = base + e.core_size();
+    first + 8 * (count as u64)
+}
+
+// Puts the core over the page's start: version, padding, platform pointer, the sections' words.
 fn put_core(
     base: u64,
     e: Edition,
@@ -69,14 +99,16 @@ fn put_core(
     console: &[u64],
     ncoh: &[u64],
     coh: &[u64],
+    fields: &[u8],
     page: &mut [u8],
 )
     requires { ⌜ (base ≤ 0x10_0000_0000_0000) × (length (now page) ≡ 4096)
         × (length (now dram) + length (now console) + length (now ncoh) + length (now coh) ≤ 512)
         × (totals ≡ totalsOf (now dram) (now console) (now ncoh) (now coh)) ⌝ }
-    ensures { λ _. ⌜ now (page .exit) ≡ splice 0 (bytesOf (coreWords base (e .minor) (descriptionOf (now (dram .entry)) (now (console .entry)) (now (ncoh .entry)) (now (coh .entry))))) (now (page .entry)) ⌝ }
+    ensures { λ _. ⌜ now (page .exit) ≡ splice 0 (bytesOf (coreWords base (e .minor) (descriptionOf (now (dram .entry)) (now (console .entry)) (now (ncoh .entry)) (now (coh .entry)) (now (fields .entry))))) (now (page .entry)) ⌝ }
 {
-    let head = [e.minor, 0];
+    let plat = plat_pointer(base, e, dram, console, ncoh, coh, fields);
+    let head = [e.minor, plat];
     words::put_words(page, 0, &head);
     let first = base + e.core_size();
     let second = put_section(page, e, 0, first, dram, totals.dram);
@@ -104,7 +136,7 @@ fn put_arrays(
     put_array(page, fourth, coh)
 }
 
-// Makes the whole page in the order of addresses: core, arrays, zero behind them.
+// Makes the whole page in the order of addresses: core, arrays, fields, zero behind them.
 fn put_page(
     base: u64,
     e: Edition,
@@ -113,20 +145,22 @@ fn put_page(
     console: &[u64],
     ncoh: &[u64],
     coh: &[u64],
+    fields: &[u8],
     page: &mut [u8],
 )
     requires { ⌜ (base ≤ 0x10_0000_0000_0000) × (length (now page) ≡ 4096)
-        × (used (e .minor) (descriptionOf (now dram) (now console) (now ncoh) (now coh)) ≤ 4096)
+        × (used (e .minor) (descriptionOf (now dram) (now console) (now ncoh) (now coh) (now fields)) ≤ 4096)
         × (totals ≡ totalsOf (now dram) (now console) (now ncoh) (now coh)) ⌝ }
-    ensures { λ _. ⌜ now (page .exit) ≡ pageOf base (e .minor) (descriptionOf (now (dram .entry)) (now (console .entry)) (now (ncoh .entry)) (now (coh .entry))) ⌝ }
+    ensures { λ _. ⌜ now (page .exit) ≡ pageOf base (e .minor) (descriptionOf (now (dram .entry)) (now (console .entry)) (now (ncoh .entry)) (now (coh .entry)) (now (fields .entry))) ⌝ }
 {
-    put_core(base, e, totals, dram, console, ncoh, coh, page);
+    put_core(base, e, totals, dram, console, ncoh, coh, fields, page);
     let at = e.core_size() as usize;
-    let end = put_arrays(at, dram, console, ncoh, coh, page);
+    let behind = put_arrays(at, dram, console, ncoh, coh, page);
+    let end = put_fields(page, behind, fields);
     words::clear(&mut page[end..]);
 }
 
-// Writes a manifest of an edition for a base into the lent page: exactly core and arrays, and zero everywhere else. Refused by
+// Writes a manifest of an edition for a base into the lent page: exactly core, arrays and fields, and zero everywhere else. Refused by
 // the first check in 01's order, it leaves the page as it was. That the lists are of 64-bit words is promised for what is said of the
 // pages made (`written` in demand 3).
 pub fn write(
@@ -136,13 +170,14 @@ pub fn write(
     console: &[u64],
     ncoh: &[u64],
     coh: &[u64],
+    fields: &[u8],
     page: &mut [u8],
 ) -> Wrote
     ensures { λ r. ⌜ madeBy (now (page .exit)) r
-        ≡ writeLists base edition (now (dram .entry)) (now (console .entry)) (now (ncoh .entry)) (now (coh .entry)) (now (page .entry)) ⌝ }
+        ≡ writeLists base edition (now (dram .entry)) (now (console .entry)) (now (ncoh .entry)) (now (coh .entry)) (now (fields .entry)) (now (page .entry)) ⌝ }
     ensures { λ r. ⌜ now (page .exit) ≡ pageAfter (now (page .entry))
-        (writeLists base edition (now (dram .entry)) (now (console .entry)) (now (ncoh .entry)) (now (coh .entry)) (now (page .entry))) ⌝ }
-    ensures { λ _. ⌜ Yes (descriptionFits (descriptionOf (now (dram .entry)) (now (console .entry)) (now (ncoh .entry)) (now (coh .entry)))) ⌝ }
+        (writeLists base edition (now (dram .entry)) (now (console .entry)) (now (ncoh .entry)) (now (coh .entry)) (now (fields .entry)) (now (page .entry))) ⌝ }
+    ensures { λ _. ⌜ Yes (descriptionFits (descriptionOf (now (dram .entry)) (now (console .entry)) (now (ncoh .entry)) (now (coh .entry)) (now (fields .entry)))) ⌝ }
 {
     if !sections::place_ok(base, page.len()) {
         return Wrote::Place;
@@ -153,13 +188,16 @@ pub fn write(
     let Sums::Sound(totals) = lists::sum_lists(edition, dram, console, ncoh, coh) else {
         return Wrote::Lists;
     };
+    if !lists::fields_ok(fields) {
+        return Wrote::Lists;
+    }
     let e = Edition { minor: edition };
     if !lists::none_late(e, dram, console, ncoh, coh) {
         return Wrote::Late;
     }
-    if !lists::room_ok(e, dram, console, ncoh, coh) {
+    if !lists::room_ok(e, dram, console, ncoh, coh, fields) {
         return Wrote::Room;
     }
-    put_page(base, e, totals, dram, console, ncoh, coh, page);
+    put_page(base, e, totals, dram, console, ncoh, coh, fields, page);
     Wrote::Page
 }

@@ -1,6 +1,6 @@
 // Writes what the numbered cases of data/ describe, in turn, up to the first that is missing. A case is 8-byte words: B, edition,
 // the byte that the page is full of, the page's length, the lengths of the four lists in words, the lists; then the page
-// expected at exit. Prints the answer, whether the page is the one expected, and what the four editions show of a page made.
+// expected at exit, and in the bytes that are left the fields. Prints the answer, whether the page is the one expected, and what the four editions show of a page made.
 use libc::STDOUT_FILENO;
 use words::Span;
 use writer::Wrote;
@@ -58,6 +58,14 @@ fn print_page(refusal: u64, base: u64, page: &[u8], expected: &[u8]) {
     }
 }
 
+// The bytes from an offset on, none past the end.
+fn behind(input: &[u8], at: usize) -> &[u8] {
+    if input.len() < at {
+        return &input[0..0];
+    }
+    &input[at..]
+}
+
 // Writes the lists, which follow one another among the words of a case, into a page that is full of the case's byte.
 fn print_written(input: &[u8], list: &[u64], page: &mut [u8])
     requires { ⌜ 4096 ≤ length (now list) ⌝ }
@@ -67,6 +75,8 @@ fn print_written(input: &[u8], list: &[u64], page: &mut [u8])
     let c = b + cases::length_at(input, 48, 600);
     let d = c + cases::length_at(input, 56, 600);
     let base = list[0];
+    let rest = behind(input, 8 * d);
+    let fields = behind(rest, page.len());
     let answer = writer::write(
         base,
         list[1],
@@ -74,13 +84,14 @@ fn print_written(input: &[u8], list: &[u64], page: &mut [u8])
         &list[a..b],
         &list[b..c],
         &list[c..d],
+        fields,
         page,
     );
     let expected = Span {
-        at: 8 * d,
+        at: 0,
         len: page.len(),
     };
-    print_page(number(answer), base, page, words::part_of(input, expected));
+    print_page(number(answer), base, page, words::part_of(rest, expected));
 }
 
 fn print_case(input: &[u8]) {

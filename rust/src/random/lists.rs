@@ -1,5 +1,6 @@
 //! Lists for the writer.
 
+use super::pages::push_field;
 use super::Random;
 use crate::reference::layout::{Edition, ENTRY_WORDS, PAGE, SECTIONS};
 
@@ -9,6 +10,8 @@ pub struct Writing {
     pub base: u64,
     pub edition: u64,
     pub lists: [Vec<u64>; SECTIONS],
+    /// Fields as on the page, without an end mark.
+    pub fields: Vec<u8>,
     pub page: Vec<u8>,
 }
 
@@ -31,11 +34,14 @@ impl Random {
     /// Lists that the writer makes a page of.
     pub fn valid_writing(&mut self) -> Writing {
         let edition = self.between(1, 4);
-        let counts = self.counts(Edition::new(edition).expect("1 to 4"));
+        let newest = Edition::new(edition).expect("1 to 4");
+        let counts = self.counts(newest);
+        let words: usize = (0..SECTIONS).map(|k| counts[k] * ENTRY_WORDS[k]).sum();
         Writing {
             base: self.base(),
             edition,
             lists: std::array::from_fn(|k| self.entries(k, counts[k])),
+            fields: self.fields(PAGE - newest.core() - 8 * words),
             page: vec![self.word() as u8; PAGE],
         }
     }
@@ -47,7 +53,7 @@ impl Random {
     fn spoil(&mut self, writing: &mut Writing) {
         let k = self.index(SECTIONS);
         let list = &mut writing.lists[k];
-        match self.below(12) {
+        match self.below(18) {
             0 => writing.base = self.any_base(),
             1 => writing.edition = self.any_edition(),
             2 => {
@@ -68,6 +74,17 @@ impl Random {
                 let count = self.between(1, 4) as usize;
                 list.extend(self.entries(k, count));
             }
+            // A field more than there is room for, a field too many, or one that fits.
+            12 => {
+                let length = self.pick(&[0, 1, 8, 32, 900, 4090]);
+                let tag = self.between(4, 255) as u8;
+                let value = self.bytes(length);
+                push_field(&mut writing.fields, tag, &value);
+            }
+            13 => writing.fields.extend([0; 3]),
+            14 => drop(writing.fields.pop()),
+            15 => writing.fields.extend_from_within(..),
+            16 | 17 => self.spoil_fields(&mut writing.fields),
             _ => self.spoil_word(list),
         }
     }

@@ -4,6 +4,7 @@ use super::Random;
 use crate::reference::layout::{
     accepted_minor, half_at, header_offset, word_at, Edition, CONSOLE, ENTRY_WORDS, PAGE, SECTIONS,
 };
+use std::ops::Range;
 
 /// Pages of memory: 2^52 bytes.
 const MEMORY_PAGES: u64 = 1 << 40;
@@ -63,11 +64,13 @@ impl Random {
             self.fill(&mut page);
         }
         put(&mut page, 0, u64::from(minor));
-        let plat_data = self.plat_data(base, works);
-        put(&mut page, 8, plat_data);
+        put(&mut page, 8, 0);
         let plan = self.plan(works);
         for k in 0..works.sections() {
             self.put_section(&mut page, base, k, plan.counts[k], plan.offsets[k]);
+        }
+        if self.one_in(2) {
+            self.put_fields(&mut page, base, holes(works, &plan));
         }
         Reading {
             base,
@@ -171,14 +174,86 @@ impl Random {
         }
     }
 
-    fn plat_data(&mut self, base: u64, edition: Edition) -> u64 {
-        let core = edition.core() as u64;
-        match self.below(4) {
-            0 => base + core,
-            1 => base + 4095,
-            2 => base + self.between(core, 4095),
-            _ => 0,
+    /// Fields in one of the holes, at any address, and the pointer at them; none where no hole holds an end mark.
+    fn put_fields(&mut self, page: &mut [u8], base: u64, holes: Vec<Range<usize>>) {
+        if holes.is_empty() {
+            return;
         }
+        let hole = holes[self.index(holes.len())].clone();
+        let most = hole.len() as u64 - 3;
+        let any = self.below(most + 1);
+        let mut from = hole.start + self.pick(&[0, 0, most, any]) as usize;
+        let fields = self.fields(hole.end - from);
+        let end = from + fields.len() + 3;
+        if self.one_in(4) {
+            // The mark up to the hole's end.
+            from += hole.end - end;
+        }
+        put(page, 8, base + from as u64);
+        page[from..from + fields.len()].copy_from_slice(&fields);
+        page[from + fields.len()..][..3].fill(0);
+    }
+
+    /// Good fields that fit with their end mark into so many bytes; often none.
+    pub(super) fn fields(&mut self, room: usize) -> Vec<u8> {
+        let mut fields = Vec::new();
+        let mut once = [1, 2, 3];
+        self.shuffle(&mut once);
+        let mut once = once.into_iter();
+        let count = self.pick(&[0, 1, 2, 3, 5, 40, 2000]);
+        for _ in 0..count {
+            let tag = match self.one_in(3) {
+                true => once.next(),
+                false => None,
+            };
+            let tag = tag.unwrap_or_else(|| self.between(4, 255) as u8);
+            // What is left beside this field's first bytes and the end mark.
+            let left = match room.checked_sub(fields.len() + 6) {
+                Some(left) => left,
+                None => break,
+            };
+            let length = match tag {
+                1 => self.between(1, 32) as usize,
+                2 => 8,
+                3 => 1,
+                _ if count > 40 => self.index(5),
+                _ => match self.below(8) {
+                    0 => left,
+                    1 => self.index(left + 1),
+                    2 => self.pick(&[255, 256, 257]),
+                    _ => self.index(12),
+                },
+            };
+            if length <= left {
+                let value = self.bytes(length);
+                push_field(&mut fields, tag, &value);
+            }
+        }
+        fields
+    }
+
+    /// Changes a byte of fields, most often of a tag or a length.
+    pub(super) fn spoil_fields(&mut self, fields: &mut [u8]) {
+        if fields.is_empty() {
+            return;
+        }
+        let mut at = 0;
+        for _ in 0..self.below(4) {
+            let length = match fields.get(at..at + 3) {
+                Some(head) => usize::from(u16::from_le_bytes([head[1], head[2]])),
+                None => break,
+            };
+            at += 3 + length;
+        }
+        let at = match self.below(4) {
+            0 => self.index(fields.len()),
+            n => (at + n as usize - 1).min(fields.len() - 1),
+        };
+        fields[at] = match self.below(4) {
+            0 => fields[at] ^ 1 << self.below(8),
+            1 => fields[at].wrapping_add(self.pick(&[1, 255])),
+            _ => self.pick(&[0, 1, 2, 3, 4, 8, 9, 32, 33, 255]),
+        };
     }
 
     /// How many entries each section of the edition gets: together they fit behind the core.
@@ -283,7 +358,7 @@ impl Random {
 
     fn damage(&mut self, reading: &mut Reading) {
         let sections = sections_read(reading).max(1);
-        match self.below(19) {
+        match self.below(23) {
             0..=6 => self.damage_core(&mut reading.page, reading.base, sections),
             7..=11 => self.damage_header(&mut reading.page, reading.base, sections),
             12 | 13 => {
@@ -296,6 +371,8 @@ impl Random {
             }
             16 => self.misalign(reading, sections),
             17 => self.sink(reading, sections),
+            18..=20 => self.damage_fields(reading),
+            21 => self.point_at_array(reading, sections),
             _ => self.overlap(reading, sections),
         }
     }
@@ -316,6 +393,40 @@ impl Random {
             4 => put(page, 8 * self.index(core / 8), self.edge()),
             5 => nudge(page, 8 * self.index(core / 8), self.shift()),
             _ => put(page, 8, self.near_page(base)),
+        }
+    }
+
+    /// Changes a byte of the fields, or where they are said to be.
+    fn damage_fields(&mut self, reading: &mut Reading) {
+        let at = match word_at(&reading.page, 8) {
+            0 => self.index(PAGE),
+            pointer => (pointer % PAGE as u64) as usize,
+        };
+        if self.one_in(4) {
+            let shift = self.pick(&[1, 2, 3, 4, 8, 4093]) as u64;
+            let pointer = (reading.base + at as u64).wrapping_add(shift);
+            put(&mut reading.page, 8, pointer);
+        } else if let Some(fields) = reading.page.get_mut(at..) {
+            self.spoil_fields(fields);
+        }
+    }
+
+    /// An end mark alone at or near the edge of an array, where its bytes may be zeros.
+    fn point_at_array(&mut self, reading: &mut Reading, sections: usize) {
+        let k = self.index(sections);
+        if let Some((offset, count)) = array_at(reading, k) {
+            let edge = match self.one_in(2) {
+                true => offset,
+                false => offset + 8 * ENTRY_WORDS[k] * count,
+            };
+            let at = (edge + self.index(6)).saturating_sub(4).min(PAGE - 1);
+            put(&mut reading.page, 8, reading.base + at as u64);
+            // Bytes outside of the array; those inside stay.
+            for i in at..(at + 3).min(PAGE) {
+                if i < offset || i >= offset + 8 * ENTRY_WORDS[k] * count {
+                    reading.page[i] = 0;
+                }
+            }
         }
     }
 
@@ -401,6 +512,31 @@ impl Random {
             None => 8 * self.index(PAGE / 8),
         }
     }
+}
+
+/// A field of a value of up to 65,535 bytes.
+pub(super) fn push_field(fields: &mut Vec<u8>, tag: u8, value: &[u8]) {
+    fields.push(tag);
+    fields.extend((value.len() as u16).to_le_bytes());
+    fields.extend_from_slice(value);
+}
+
+/// What the arrays leave free behind the core, where an end mark fits.
+fn holes(edition: Edition, plan: &Plan) -> Vec<Range<usize>> {
+    let mut arrays: Vec<Range<usize>> = (0..edition.sections())
+        .map(|k| plan.offsets[k]..plan.offsets[k] + 8 * ENTRY_WORDS[k] * plan.counts[k])
+        .filter(|array| !array.is_empty())
+        .collect();
+    arrays.push(PAGE..PAGE);
+    arrays.sort_by_key(|array| array.start);
+    let mut holes = Vec::new();
+    let mut from = edition.core();
+    for array in arrays {
+        holes.push(from..array.start);
+        from = array.end;
+    }
+    holes.retain(|hole| hole.len() >= 3);
+    holes
 }
 
 /// Offset and count of an array that lies in the page, if the section's header places one there.

@@ -22,7 +22,7 @@ const UP: Record = Record::Up(Kept {
 /// What the writer says to so many banks and consoles.
 fn written(edition: u64, banks: usize, consoles: usize) -> Result<(), Unwritten> {
     let lists: [&[u64]; 4] = [&BANK.repeat(banks), &CONSOLE.repeat(consoles), &[], &[]];
-    write(BASE, edition, lists, &mut [0; PAGE])
+    write(BASE, edition, lists, &[], &mut [0; PAGE])
 }
 
 #[test]
@@ -39,7 +39,7 @@ fn examples_2_and_3_versions_refused() {
 #[test]
 fn example_4_checksum() {
     let mut page = [0xff; PAGE];
-    write(BASE, 2, [&BANK, &[], &[], &[]], &mut page).expect("written");
+    write(BASE, 2, [&BANK, &[], &[], &[]], &[], &mut page).expect("written");
     assert_eq!(word_at(&page, 16), 1);
     assert_eq!(word_at(&page, 24), 0x8000_0028);
     assert_eq!(word_at(&page, 32), 0xFFFF_FFFE_DFFF_FFD7);
@@ -113,7 +113,7 @@ fn example_13_no_cpu() {
 #[test]
 fn example_14_listing() {
     let mut page = [0; PAGE];
-    write(BASE, 2, [&BANK, &[], &[], &[]], &mut page).expect("written");
+    write(BASE, 2, [&BANK, &[], &[], &[]], &[], &mut page).expect("written");
     let mut out = String::new();
     list_input(&mut out, &[&BASE.to_le_bytes()[..], &page].concat()).expect("text");
     assert_eq!(

@@ -1,7 +1,7 @@
 //! The listing's text.
 
 use super::layout::{word_at, CONSOLE, ENTRY_WORDS};
-use super::reader::{array, read, shown_word, Refusal, Section};
+use super::reader::{array, fields, read, shown_word, Refusal, Section};
 use std::fmt::{Result, Write};
 
 const NAMES: [&str; 4] = ["dram", "console", "ncoh", "coh"];
@@ -31,6 +31,13 @@ pub fn list(out: &mut impl Write, page: &[u8], base: u64, edition: u64) -> Resul
     match view.plat_data {
         0 => writeln!(out, "platform none")?,
         pointer => writeln!(out, "platform {pointer:#018x}")?,
+    }
+    for field in fields(page, view.plat_data) {
+        write!(out, "{} {}", field.tag, field.value.len())?;
+        for byte in field.value {
+            write!(out, " {byte:02x}")?;
+        }
+        writeln!(out)?;
     }
     for (k, name) in NAMES.into_iter().enumerate() {
         match view.sections[k] {

@@ -5,6 +5,7 @@ pub mod boot;
 pub mod codes;
 pub mod entries;
 pub mod features;
+pub mod fields;
 pub mod granules;
 pub mod key;
 pub mod layout;

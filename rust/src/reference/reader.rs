@@ -1,6 +1,7 @@
 //! The manifest reader.
 
 use super::entries::{bank_sum, console_sum};
+use super::fields::{fields_end, fields_of, Field};
 use super::layout::{
     accepted_minor, half_at, header_offset, placed, word_at, Edition, CONSOLE, ENTRY_WORDS, PAGE,
     SECTIONS,
@@ -80,6 +81,21 @@ pub fn shown_word(minor: u64, k: usize, entry: &[u8], i: usize) -> u64 {
     }
 }
 
+/// What a platform pointer points at, up to the page's end; nothing without one.
+pub fn pointed(page: &[u8], plat_data: u64) -> &[u8] {
+    // The base is a multiple of a page's length.
+    let offset = (plat_data % PAGE as u64) as usize;
+    match plat_data {
+        0 => &[],
+        _ => page.get(offset..).unwrap_or_default(),
+    }
+}
+
+/// The fields of a page that was accepted with this pointer, in page order.
+pub fn fields(page: &[u8], plat_data: u64) -> Vec<Field<'_>> {
+    fields_of(pointed(page, plat_data))
+}
+
 #[inline]
 fn view(page: &[u8; PAGE], base: u64, minor: u16, edition: Edition) -> Option<View> {
     let plat_data = word_at(page, 8);
@@ -99,7 +115,8 @@ fn view(page: &[u8; PAGE], base: u64, minor: u16, edition: Edition) -> Option<Vi
         sections[2] = read_section::<2>(page, base, minor, edition)?;
         sections[3] = read_section::<3>(page, base, minor, edition)?;
     }
-    disjoint(&sections).then_some(View {
+    let sound = disjoint(&sections) && fields_sound(page, plat_data, &sections);
+    sound.then_some(View {
         minor,
         edition,
         plat_data,
@@ -112,6 +129,23 @@ fn plat_data_allowed(plat_data: u64, base: u64, edition: Edition) -> bool {
     // A pointer below the base wraps to far above the page.
     let offset = plat_data.wrapping_sub(base);
     plat_data == 0 || (edition.core() as u64..PAGE as u64).contains(&offset)
+}
+
+/// Whether the fields that are pointed at are whole and share no byte with an array, their end mark too.
+fn fields_sound(page: &[u8; PAGE], plat_data: u64, sections: &[Section; SECTIONS]) -> bool {
+    if plat_data == 0 {
+        return true;
+    }
+    let fields = pointed(page, plat_data);
+    let start = PAGE - fields.len();
+    let end = match fields_end(fields) {
+        Some(length) => start + length,
+        None => return false,
+    };
+    sections.iter().enumerate().all(|(k, section)| {
+        let array = section.bytes(k);
+        array.is_empty() || end <= array.start || array.end <= start
+    })
 }
 
 /// A section of the edition, if place, entries and checksum are sound.

@@ -1,6 +1,7 @@
 //! The manifest writer.
 
 use super::entries::{bank_sum, console_sum};
+use super::fields::{description_ok, HEAD};
 use super::layout::{header_offset, placed_mut, Edition, CONSOLE, ENTRY_WORDS, PAGE, SECTIONS};
 
 /// Why nothing is written: W1 to W5.
@@ -17,20 +18,30 @@ pub enum Unwritten {
 pub type Lists<'a> = [&'a [u64]; SECTIONS];
 
 /// Writes the manifest into the page; on a refusal the page stays as it was.
-pub fn write(base: u64, edition: u64, lists: Lists, page: &mut [u8]) -> Result<(), Unwritten> {
+pub fn write(
+    base: u64,
+    edition: u64,
+    lists: Lists,
+    fields: &[u8],
+    page: &mut [u8],
+) -> Result<(), Unwritten> {
     let page = placed_mut(page, base).ok_or(Unwritten::Place)?;
     let edition = Edition::new(edition).ok_or(Unwritten::Edition)?;
     let sums = list_sums(lists).ok_or(Unwritten::Lists)?;
+    if !description_ok(fields) {
+        return Err(Unwritten::Lists);
+    }
     if !lists[edition.sections()..]
         .iter()
         .all(|list| list.is_empty())
     {
         return Err(Unwritten::Late);
     }
-    if !fits(edition, lists) {
+    if !fits(edition, lists, fields) {
         return Err(Unwritten::Room);
     }
-    fill(page, base, edition, lists, sums);
+    let end = fill(page, base, edition, lists, sums);
+    fill_fields(page, base, end, fields);
     Ok(())
 }
 
@@ -64,17 +75,38 @@ fn entry<const WORDS: usize>(words: &[u64]) -> [u64; WORDS] {
 }
 
 #[inline]
-fn fits(edition: Edition, lists: Lists) -> bool {
+fn fits(edition: Edition, lists: Lists, fields: &[u8]) -> bool {
     // One list may be lent four times over, so even lengths of real lists could wrap.
-    let total = lists.iter().fold(edition.core() / 8, |sum, list| {
+    let words = lists.iter().fold(edition.core() / 8, |sum, list| {
         sum.saturating_add(list.len())
     });
-    total <= PAGE / 8
+    let marked = match fields.len() {
+        0 => 0,
+        length => length.saturating_add(HEAD),
+    };
+    words <= PAGE / 8 && marked <= PAGE - 8 * words
 }
 
-/// The page of lists that were all checked: core, arrays in section order, zeros.
+/// Fields at an offset with zeros behind them, the end mark among these; the pointer at them, or none.
 #[inline]
-fn fill(page: &mut [u8; PAGE], base: u64, edition: Edition, lists: Lists, sums: [u64; SECTIONS]) {
+fn fill_fields(page: &mut [u8; PAGE], base: u64, at: usize, fields: &[u8]) {
+    if !fields.is_empty() {
+        put(page, 8, &[base + at as u64]);
+    }
+    let end = at + fields.len();
+    page[at..end].copy_from_slice(fields);
+    page[end..].fill(0);
+}
+
+/// Core and arrays of lists that were all checked. Answers where they end.
+#[inline]
+fn fill(
+    page: &mut [u8; PAGE],
+    base: u64,
+    edition: Edition,
+    lists: Lists,
+    sums: [u64; SECTIONS],
+) -> usize {
     let mut at = edition.core();
     page[..at].fill(0);
     put(page, 0, &[edition.number()]);
@@ -93,7 +125,7 @@ fn fill(page: &mut [u8; PAGE], base: u64, edition: Edition, lists: Lists, sums: 
         put(page, at, list);
         at += 8 * list.len();
     }
-    page[at..].fill(0);
+    at
 }
 
 /// Sets words of the page from an offset on.

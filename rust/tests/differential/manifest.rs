@@ -18,6 +18,7 @@ fn reader_and_lookups() {
         }
         if pair.random.one_in(3) {
             look(&mut pair);
+            look_fields(&mut pair);
         }
         if pair.random.one_in(8) {
             listing(&mut pair, &reading);
@@ -31,6 +32,11 @@ fn reader_and_lookups() {
         ("pbeam_array_of", 0, &[0, 1]),
         ("pbeam_count", 0, &[0, 1]),
         ("pbeam_word", 0, &[0, 1]),
+        ("pbeam_field_count", 0, &[0, 1]),
+        ("pbeam_field", 0, &[0, 1]),
+        ("pbeam_field_of_tag", 0, &[0, 1]),
+        ("pbeam_field_start", 0, &[0, 1]),
+        ("pbeam_field_next", 0, &[0, 1]),
         ("pbeam_listing", 0, &[0, 1]),
     ]);
 }
@@ -116,6 +122,60 @@ fn look(pair: &mut Pair) {
     pair.meet("pbeam_word", 0, i64::from(pair.model.returned != 0));
 }
 
+/// The lookups of fields in the same view, and a walk over some of them.
+fn look_fields(pair: &mut Pair) {
+    check!(pair, "pbeam_field_count", (), |S, m| {
+        m.returned = S::field_count(m.page.lent(), &m.images.view.words) as i64;
+    });
+    let count = pair.model.returned as usize;
+    pair.meet("pbeam_field_count", 0, i64::from(count != 0));
+    let index = match pair.random.below(8) {
+        0 => pair.random.edge() as usize,
+        1 => count,
+        _ => pair.random.index(count + 1),
+    };
+    check!(pair, "pbeam_field", (index), |S, m| {
+        let field = &mut m.images.field.words;
+        S::field(m.page.lent(), &m.images.view.words, index, field);
+    });
+    meet_field(pair, "pbeam_field");
+    let tag = match pair.random.below(3) {
+        0 => pair.random.below(256) as u8,
+        1 => pair.model.images.field.words[1] as u8,
+        _ => pair.random.index(5) as u8,
+    };
+    check!(pair, "pbeam_field_of_tag", (tag), |S, m| {
+        let field = &mut m.images.field.words;
+        S::field_of_tag(m.page.lent(), &m.images.view.words, tag, field);
+    });
+    meet_field(pair, "pbeam_field_of_tag");
+    check!(pair, "pbeam_field_start", (), |S, m| {
+        m.returned = S::field_start(m.page.lent(), &m.images.view.words) as i64;
+    });
+    let mut cursor = pair.model.returned as usize;
+    let found = cursor < pair.model.page.lent().len();
+    pair.meet("pbeam_field_start", 0, i64::from(found));
+    for _ in 0..3 {
+        if pair.random.one_in(8) {
+            // No cursor that a walk gives.
+            cursor = match pair.random.one_in(4) {
+                true => pair.random.edge() as usize,
+                false => pair.random.index(4100),
+            };
+        }
+        check!(pair, "pbeam_field_next", (cursor), |S, m| {
+            let field = &mut m.images.field.words;
+            m.returned = S::field_next(m.page.lent(), cursor, field) as i64;
+        });
+        meet_field(pair, "pbeam_field_next");
+        cursor = pair.model.returned as usize;
+    }
+}
+
+fn meet_field(pair: &mut Pair, name: &'static str) {
+    pair.meet(name, 0, pair.model.images.field.words[0] as i64);
+}
+
 fn meet_place(pair: &mut Pair, name: &'static str) {
     let [_, length] = pair.model.images.place.words;
     pair.meet(name, 0, i64::from(length != 0));
@@ -127,10 +187,16 @@ fn writer() {
     for _ in 0..calls() {
         let writing = pair.random.any_writing();
         let (base, edition, lists) = (writing.base, writing.edition, writing.lists());
+        let fields = &writing.fields;
         pair.load(|random, m| m.page.load(&writing.page, random.index(8)));
-        check!(pair, "pbeam_write", (base, edition, lists), |S, m| {
-            m.returned = S::write(base, edition, lists, m.page.lent_mut()).into();
-        });
+        check!(
+            pair,
+            "pbeam_write",
+            (base, edition, lists, fields),
+            |S, m| {
+                m.returned = S::write(base, edition, lists, fields, m.page.lent_mut()).into();
+            }
+        );
         pair.meet("pbeam_write", 0, pair.model.returned);
     }
     pair.print_counts();

@@ -78,6 +78,7 @@ pub struct Images {
     pub queue: Image<210>,
     pub view: Image<15>,
     pub place: Image<2>,
+    pub field: Image<4>,
     pub request: Image<10>,
     pub out: Image<3>,
     pub work: Image<2>,
@@ -104,6 +105,7 @@ impl Memory {
     /// Leaves nothing of the last answer.
     pub fn make_stale(&mut self) {
         self.images.place = Image::default();
+        self.images.field = Image::default();
         self.images.request = Image::default();
         self.images.out = Image::default();
         self.images.work = Image::default();
@@ -122,6 +124,7 @@ impl Memory {
             ("queue", format!("{:x?}", images.queue)),
             ("view", format!("{:x?}", images.view)),
             ("place", format!("{:x?}", images.place)),
+            ("field", format!("{:x?}", images.field)),
             ("request", format!("{:x?}", images.request)),
             ("out", format!("{:x?}", images.out)),
             ("work", format!("{:x?}", images.work)),

@@ -2,12 +2,14 @@
 //! crates/*_vectors do it too; this is what can be run on another machine.
 
 use crate::*;
-use potterbeam_tests::exports::{Exports, Lent as LentTo, QueueImage, RecordImage, SessionImage};
+use potterbeam_tests::exports::{
+    Exports, FieldImage, Lent as LentTo, QueueImage, RecordImage, SessionImage, ViewImage,
+};
 use potterbeam_tests::images::{record_of, record_words, session_of, session_words};
 use potterbeam_tests::kit::Kit;
 
 /// PBEAM_LISTING_ROOM: no listing is longer.
-const LISTING_ROOM: usize = 9716;
+const LISTING_ROOM: usize = 12336;
 
 fn list_page(out: &mut String, page: &[u8], base: u64, edition: u64) {
     let mut text = [0; LISTING_ROOM];
@@ -34,11 +36,41 @@ fn print_reading(out: &mut String, input: &[u8]) {
         let part = &page[place[0] as usize..][..place[1] as usize];
         writeln!(out, "array {k} {} {:016x}", part.len(), mark(part)).unwrap();
     }
+    let mut view = [0; 15];
+    if Kit::read(page, base, edition, &mut view) == 0 {
+        let asked = |ask: &dyn Fn(&mut FieldImage)| {
+            let mut field = [0; 4];
+            ask(&mut field);
+            let [there, tag, at, length] = field;
+            let value = &page[at as usize..][..length as usize];
+            let tag = tag as u8;
+            (there == 1).then_some(Field { tag, value })
+        };
+        print_fields(
+            out,
+            Kit::field_count(page, &view),
+            |tag| asked(&|field| Kit::field_of_tag(page, &view, tag, field)),
+            |i| asked(&|field| Kit::field(page, &view, i, field)),
+        );
+        print_walk(page, &view);
+    }
+}
+
+/// The walk by a cursor passes the same fields as the lookup by number, and ends behind the last.
+fn print_walk(page: &[u8], view: &ViewImage) {
+    let mut cursor = Kit::field_start(page, view);
+    for i in 0..=Kit::field_count(page, view) {
+        let [mut walked, mut asked] = [[7; 4]; 2];
+        cursor = Kit::field_next(page, cursor, &mut walked);
+        Kit::field(page, view, i, &mut asked);
+        assert_eq!(walked, asked);
+    }
+    assert_eq!(cursor, page.len());
 }
 
 #[test]
 fn reader() {
-    compare("reader_vectors", 538, |out, input| {
+    compare("reader_vectors", 808, |out, input| {
         if input.len() >= 16 {
             print_reading(out, input);
         }
@@ -64,13 +96,14 @@ fn print_writing(out: &mut String, input: &[u8]) {
     let mut rest = &input[64..];
     let lists = [32, 40, 48, 56].map(|at| words(take(&mut rest, 8 * size_at(input, at))));
     let [dram, console, ncoh, coh] = &lists;
-    let refusal = Kit::write(base, edition, [dram, console, ncoh, coh], &mut page);
+    let expected = take(&mut rest, page.len());
+    let refusal = Kit::write(base, edition, [dram, console, ncoh, coh], rest, &mut page);
     match refusal {
         0 => writeln!(out, "made"),
         _ => writeln!(out, "refused W{refusal}"),
     }
     .unwrap();
-    print_same(out, "page", &page, rest);
+    print_same(out, "page", &page, expected);
     for edition in 1..=4 {
         if refusal == 0 {
             writeln!(out, "edition {edition}").unwrap();
@@ -81,7 +114,7 @@ fn print_writing(out: &mut String, input: &[u8]) {
 
 #[test]
 fn writer() {
-    compare("writer_vectors", 299, print_writing);
+    compare("writer_vectors", 435, print_writing);
 }
 
 // ---- Boot ----
@@ -104,7 +137,7 @@ fn print_boots(out: &mut String, input: &[u8]) {
 
 #[test]
 fn boot() {
-    compare("boot_vectors", 246, print_boots);
+    compare("boot_vectors", 255, print_boots);
 }
 
 // ---- Commands ----

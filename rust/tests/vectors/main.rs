@@ -8,12 +8,13 @@ use potterbeam_tests::images::{queue_of, queue_words};
 use potterbeam_tests::reference::boot::{boot_code, Kept, Record};
 use potterbeam_tests::reference::codes::{Answer, Outcome};
 use potterbeam_tests::reference::features::{features, forward, key_update};
+use potterbeam_tests::reference::fields::Field;
 use potterbeam_tests::reference::granules::{delegate, delegate_list, undelegate, undelegate_list};
 use potterbeam_tests::reference::key::realm_key;
 use potterbeam_tests::reference::layout::word_at;
 use potterbeam_tests::reference::listing::{list, list_input};
 use potterbeam_tests::reference::queue::{Queue, Request, Response, Ring, PLACES};
-use potterbeam_tests::reference::reader::array;
+use potterbeam_tests::reference::reader::{array, fields, read};
 use potterbeam_tests::reference::runtime::{call, Call, Lent, Reply, State, TOKEN_SIGN};
 use potterbeam_tests::reference::token::{challenge, Session, TokenCall};
 use potterbeam_tests::reference::writer::write;
@@ -107,11 +108,43 @@ fn print_reading(out: &mut String, input: &[u8]) {
         let part = array(page, base, edition, k);
         writeln!(out, "array {k} {} {:016x}", part.len(), mark(part)).unwrap();
     }
+    if let Ok(view) = read(page, base, edition) {
+        let fields = fields(page, view.plat_data);
+        let tagged = |tag| fields.iter().find(|field| field.tag == tag).copied();
+        print_fields(out, fields.len(), tagged, |i| fields.get(i).copied());
+    }
+}
+
+/// What the field lookups give: how many fields there are, the first of some tags, and some by number.
+fn print_fields<'a>(
+    out: &mut String,
+    count: usize,
+    tagged: impl Fn(u8) -> Option<Field<'a>>,
+    nth: impl Fn(usize) -> Option<Field<'a>>,
+) {
+    writeln!(out, "fields {count}").unwrap();
+    for tag in [0, 1, 2, 3, 4, 255] {
+        write!(out, "tag {tag}").unwrap();
+        print_field(out, tagged(tag));
+    }
+    for i in [0, count / 2, count] {
+        write!(out, "field {i}").unwrap();
+        print_field(out, nth(i));
+    }
+}
+
+fn print_field(out: &mut String, field: Option<Field>) {
+    match field {
+        Some(Field { tag, value }) => {
+            writeln!(out, " {tag} {} {:016x}", value.len(), mark(value)).unwrap();
+        }
+        None => out.push_str(" none\n"),
+    }
 }
 
 #[test]
 fn reader_vectors() {
-    compare("reader_vectors", 538, print_reading);
+    compare("reader_vectors", 808, print_reading);
 }
 
 // ---- Listing ----
@@ -163,13 +196,14 @@ fn print_writing(out: &mut String, input: &[u8]) {
     let mut rest = &input[64..];
     let lists = [32, 40, 48, 56].map(|at| words(take(&mut rest, 8 * size_at(input, at))));
     let [dram, console, ncoh, coh] = &lists;
-    let answer = write(base, edition, [dram, console, ncoh, coh], &mut page);
+    let expected = take(&mut rest, page.len());
+    let answer = write(base, edition, [dram, console, ncoh, coh], rest, &mut page);
     match answer {
         Ok(()) => writeln!(out, "made"),
         Err(refusal) => writeln!(out, "refused W{}", refusal as u8),
     }
     .unwrap();
-    writeln!(out, "page {}as expected", not_if(page != rest)).unwrap();
+    writeln!(out, "page {}as expected", not_if(page != expected)).unwrap();
     if answer.is_err() {
         return;
     }
@@ -189,7 +223,7 @@ fn not_if(differs: bool) -> &'static str {
 
 #[test]
 fn writer_vectors() {
-    compare("writer_vectors", 299, print_writing);
+    compare("writer_vectors", 435, print_writing);
 }
 
 // ---- Boot ----
@@ -224,7 +258,7 @@ fn print_record(out: &mut String, record: Record) {
 
 #[test]
 fn boot_vectors() {
-    compare("boot_vectors", 246, print_boots);
+    compare("boot_vectors", 255, print_boots);
 }
 
 // ---- Lists of granules ----

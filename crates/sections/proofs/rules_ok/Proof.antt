@@ -1,13 +1,12 @@
 use mathlib.Core.Bool.{true, false}
 use mathlib.Core.Path.{_≡_, sym, _∙_}
-use Prim.Native.Nat.{_<_}
-use borrow.Author.Tests.{eq-eqb, ne-eqb, not-true, not-false}
-use Rattle.words.specs.Tests.{both}
+use Prim.Native.Nat.{_+_, _<_}
+use borrow.Author.Tests.{not-true, not-false}
 use Rattle.versions.specs.Edition.{sectionCount}
-use Rattle.sections.specs.Page.{paddingAt, platAt}
-use Rattle.sections.specs.Section.{platOk}
-use Rattle.sections.specs.Steps.{okTo}
-use Rattle.sections.proofs.Sections.{ok-each, ok-end, rules-steps}
+use Rattle.fields.specs.declared.FieldsEnd.the-variants.{Broken, Ended}
+use Rattle.sections.specs.Page.{paddingAt, mkPlat, platAt}
+use Rattle.sections.specs.Steps.{platEnd, okTo, apartTo}
+use Rattle.sections.proofs.Sections.{ok-each, ok-end, plat-broken, plat-ended, plat-top, rules-padding, rules-plat, rules-each, rules-apart, rules-clear}
 use borrow.Author.Needs.{needs}
 use native.Mathlib.Omega.{arith}
 use Rattle.sections.proofs.rules_ok.Statement.{statement}
@@ -17,24 +16,29 @@ padding-at-requires : tie.Need-padding-at-requires
 padding-at-requires c κs = search needs
 
 returns : tie.Need-returns
-unfolding both
 returns c =
     let a = c .before .before .before .args in
-    rw (rules-steps (a .minor) (a .e .minor) (a .base) (a .page .now)) (simp (ne-eqb (paddingAt (a .page .now)) 0 (λ z. c .if1 .taken (c .before .padding-at .ensures ∙ z))))
+    sym (rules-padding (a .minor) (a .e .minor) (a .base) (a .page .now) (λ z. c .if1 .taken (c .before .padding-at .ensures ∙ z)))
 
 word-at-requires : tie.Need-word-at-requires
 word-at-requires c κs = search needs
 
-plat-ok-requires : tie.Need-plat-ok-requires
-plat-ok-requires c κs = search needs
+plat-end-requires : tie.Need-plat-end-requires
+plat-end-requires c κs = search needs
+
+enum-known-told : tie.Need-enum-known-told
+enum-known-told c = search needs
+
+enum-told : tie.Need-enum-told
+enum-told c = search needs
 
 returns-2 : tie.Need-returns-2
-unfolding both platAt
+unfolding platAt
 returns-2 c =
-    let a = c .before .before .before .before .before .before .args in
-    let q : platOk (a .e .minor) (a .base) (platAt (a .base) (a .page .now)) ≡ false =
-    rw (← c .before .before .word-at .ensures) (sym (c .before .plat-ok .ensures) ∙ not-true _ (c .if2 .taken)) in
-    rw (rules-steps (a .minor) (a .e .minor) (a .base) (a .page .now)) (simp (eq-eqb (paddingAt (a .page .now)) 0 (sym (c .before .before .before .before .padding-at .ensures) ∙ c .before .before .before .if1 .left), q))
+    let a = c .before .before .before .before .before .before .before .args in
+    let p : paddingAt (a .page .now) ≡ 0 = sym (c .before .before .before .before .before .padding-at .ensures) ∙ c .before .before .before .before .if1 .left in
+    let q : Broken ≡ platEnd (a .e .minor) (a .base) (platAt (a .base) (a .page .now)) = rw (← c .before .before .before .word-at .ensures) (sym (c .enum-told .given .1) ∙ c .before .before .plat-end .ensures) in
+    sym (rules-plat (a .minor) (a .e .minor) (a .base) (a .page .now) p (plat-broken (a .e .minor) (a .base) (platAt (a .base) (a .page .now)) q))
 
 sections-requires : tie.Need-sections-requires
 sections-requires c κs = search needs
@@ -43,20 +47,21 @@ sections-ok-requires : tie.Need-sections-ok-requires
 sections-ok-requires c κs = search needs
 
 returns-3 : tie.Need-returns-3
-unfolding both platAt
+unfolding platAt
 returns-3 c =
-    let a = c .before .before .before .before .before .before .before .before .before .args in
-    let q : platOk (a .e .minor) (a .base) (platAt (a .base) (a .page .now)) ≡ true =
-    rw (← c .before .before .before .before .before .word-at .ensures) (sym (c .before .before .before .before .plat-ok .ensures) ∙ not-false _ (c .before .before .before .if2 .left)) in
-    let o : okTo (a .minor) (a .e .minor) (a .base) (sectionCount (a .e .minor)) (a .page .now) ≡ false =
-    rw (← c .before .before .sections .ensures .0) (sym (c .before .sections-ok .ensures) ∙ not-true _ (c .if3 .taken)) in
-    rw (rules-steps (a .minor) (a .e .minor) (a .base) (a .page .now)) (simp (eq-eqb (paddingAt (a .page .now)) 0 (sym (c .before .before .before .before .before .before .before .padding-at .ensures) ∙ c .before .before .before .before .before .before .if1 .left), q, o))
+    let a = c .before .before .before .before .before .before .before .before .before .before .before .args in
+    let p : paddingAt (a .page .now) ≡ 0 = sym (c .before .before .before .before .before .before .before .before .before .padding-at .ensures) ∙ c .before .before .before .before .before .before .before .before .if1 .left in
+    let g = c .before .before .before .before .told .given in
+    let q : Ended (g .0 .0) ≡ platEnd (a .e .minor) (a .base) (platAt (a .base) (a .page .now)) = rw (← c .before .before .before .before .before .before .before .word-at .ensures) (sym (g .1) ∙ c .before .before .before .before .before .before .plat-end .ensures) in
+    let t = plat-ended (a .e .minor) (a .base) (platAt (a .base) (a .page .now)) (g .0 .0) q in
+    let o : okTo (a .minor) (a .e .minor) (a .base) (sectionCount (a .e .minor)) (a .page .now) ≡ false = rw (← c .before .before .sections .ensures .0) (sym (c .before .sections-ok .ensures) ∙ not-true _ (c .if2 .taken)) in
+    sym (rules-each (a .minor) (a .e .minor) (a .base) (a .page .now) p (t .0) o)
 
 all-apart-requires : tie.Need-all-apart-requires
 all-apart-requires c κs =
-    let a = c .before .before .before .before .before .before .before .before .before .args in
-    let o : okTo (a .minor) (a .e .minor) (a .base) (sectionCount (a .e .minor)) (a .page .now) ≡ true =
-    rw (← c .before .before .sections .ensures .0) (sym (c .before .sections-ok .ensures) ∙ not-false _ (c .if3 .left)) in (
+    let a = c .before .before .before .before .before .before .before .before .before .before .before .args in
+    let p : paddingAt (a .page .now) ≡ 0 = sym (c .before .before .before .before .before .before .before .before .before .padding-at .ensures) ∙ c .before .before .before .before .before .before .before .before .if1 .left in
+    let o : okTo (a .minor) (a .e .minor) (a .base) (sectionCount (a .e .minor)) (a .page .now) ≡ true = rw (← c .before .before .sections .ensures .0) (sym (c .before .sections-ok .ensures) ∙ not-false _ (c .if2 .left)) in (
       search needs,
       λ k h.
           let l : k < sectionCount (a .e .minor) = omega arith in
@@ -64,14 +69,49 @@ all-apart-requires c κs =
     )
 
 returns-4 : tie.Need-returns-4
-unfolding both platAt
+unfolding platAt
 returns-4 c =
-    let a = c .before .before .before .before .before .before .before .before .before .before .args in
-    let q : platOk (a .e .minor) (a .base) (platAt (a .base) (a .page .now)) ≡ true =
-    rw (← c .before .before .before .before .before .before .word-at .ensures) (sym (c .before .before .before .before .before .plat-ok .ensures) ∙ not-false _ (c .before .before .before .before .if2 .left)) in
-    let o : okTo (a .minor) (a .e .minor) (a .base) (sectionCount (a .e .minor)) (a .page .now) ≡ true =
-    rw (← c .before .before .before .sections .ensures .0) (sym (c .before .before .sections-ok .ensures) ∙ not-false _ (c .before .if3 .left)) in
-    rw (rules-steps (a .minor) (a .e .minor) (a .base) (a .page .now)) (simp (eq-eqb (paddingAt (a .page .now)) 0 (sym (c .before .before .before .before .before .before .before .before .padding-at .ensures) ∙ c .before .before .before .before .before .before .before .if1 .left), q, o) (rw (← c .before .before .before .sections .ensures .0) (c .all-apart .ensures)))
+    let a = c .before .before .before .before .before .before .before .before .before .before .before .before .before .args in
+    let p : paddingAt (a .page .now) ≡ 0 = sym (c .before .before .before .before .before .before .before .before .before .before .before .padding-at .ensures) ∙ c .before .before .before .before .before .before .before .before .before .before .if1 .left in
+    let g = c .before .before .before .before .before .before .told .given in
+    let q : Ended (g .0 .0) ≡ platEnd (a .e .minor) (a .base) (platAt (a .base) (a .page .now)) = rw (← c .before .before .before .before .before .before .before .before .before .word-at .ensures) (sym (g .1) ∙ c .before .before .before .before .before .before .before .before .plat-end .ensures) in
+    let t = plat-ended (a .e .minor) (a .base) (platAt (a .base) (a .page .now)) (g .0 .0) q in
+    let o : okTo (a .minor) (a .e .minor) (a .base) (sectionCount (a .e .minor)) (a .page .now) ≡ true = rw (← c .before .before .before .before .sections .ensures .0) (sym (c .before .before .before .sections-ok .ensures) ∙ not-false _ (c .before .before .if2 .left)) in
+    let x : apartTo (sectionCount (a .e .minor)) (a .page .now) ≡ false = rw (← c .before .before .before .before .sections .ensures .0) (sym (c .before .all-apart .ensures) ∙ not-true _ (c .if3 .taken)) in
+    sym (rules-apart (a .minor) (a .e .minor) (a .base) (a .page .now) p (t .0) o x)
+
+add-end : tie.Need-add-end
+unfolding platAt mkPlat
+add-end c =
+    let a = c .before .before .before .before .before .before .before .before .before .before .before .before .before .args in
+    let p : paddingAt (a .page .now) ≡ 0 = sym (c .before .before .before .before .before .before .before .before .before .before .before .padding-at .ensures) ∙ c .before .before .before .before .before .before .before .before .before .before .if1 .left in
+    let g = c .before .before .before .before .before .before .told .given in
+    let q : Ended (g .0 .0) ≡ platEnd (a .e .minor) (a .base) (platAt (a .base) (a .page .now)) = rw (← c .before .before .before .before .before .before .before .before .before .word-at .ensures) (sym (g .1) ∙ c .before .before .before .before .before .before .before .before .plat-end .ensures) in
+    let t = plat-ended (a .e .minor) (a .base) (platAt (a .base) (a .page .now)) (g .0 .0) q in
+    omega (arith, t .1, c .before .before .before .before .before .before .before .before .before .word-at .ensures, plat-top (a .e .minor) (a .base) (a .page .now) (search needs) (t .0))
+
+fields-clear-requires : tie.Need-fields-clear-requires
+fields-clear-requires c κs =
+    let a = c .before .before .before .before .before .before .before .before .before .before .before .before .before .args in
+    let p : paddingAt (a .page .now) ≡ 0 = sym (c .before .before .before .before .before .before .before .before .before .before .before .padding-at .ensures) ∙ c .before .before .before .before .before .before .before .before .before .before .if1 .left in
+    let o : okTo (a .minor) (a .e .minor) (a .base) (sectionCount (a .e .minor)) (a .page .now) ≡ true = rw (← c .before .before .before .before .sections .ensures .0) (sym (c .before .before .before .sections-ok .ensures) ∙ not-false _ (c .before .before .if2 .left)) in (
+      search needs,
+      λ k h.
+          let l : k < sectionCount (a .e .minor) = omega arith in
+          omega (arith, ok-end (a .minor) (a .e .minor) (a .base) k (a .page .now) (ok-each (a .minor) (a .e .minor) (a .base) (a .page .now) (sectionCount (a .e .minor)) k o l)),
+    )
+
+returns-5 : tie.Need-returns-5
+unfolding platAt mkPlat
+returns-5 c =
+    let a = c .before .before .before .before .before .before .before .before .before .before .before .before .before .before .args in
+    let p : paddingAt (a .page .now) ≡ 0 = sym (c .before .before .before .before .before .before .before .before .before .before .before .before .padding-at .ensures) ∙ c .before .before .before .before .before .before .before .before .before .before .before .if1 .left in
+    let g = c .before .before .before .before .before .before .before .told .given in
+    let q : Ended (g .0 .0) ≡ platEnd (a .e .minor) (a .base) (platAt (a .base) (a .page .now)) = rw (← c .before .before .before .before .before .before .before .before .before .before .word-at .ensures) (sym (g .1) ∙ c .before .before .before .before .before .before .before .before .before .plat-end .ensures) in
+    let t = plat-ended (a .e .minor) (a .base) (platAt (a .base) (a .page .now)) (g .0 .0) q in
+    let o : okTo (a .minor) (a .e .minor) (a .base) (sectionCount (a .e .minor)) (a .page .now) ≡ true = rw (← c .before .before .before .before .before .sections .ensures .0) (sym (c .before .before .before .before .sections-ok .ensures) ∙ not-false _ (c .before .before .before .if2 .left)) in
+    let x : apartTo (sectionCount (a .e .minor)) (a .page .now) ≡ true = rw (← c .before .before .before .before .before .sections .ensures .0) (sym (c .before .before .all-apart .ensures) ∙ not-false _ (c .before .if3 .left)) in
+    c .fields-clear .ensures ∙ rw (t .1, c .before .before .before .before .before .before .before .before .before .before .word-at .ensures, c .before .before .before .before .before .sections .ensures .0) (sym (rules-clear (a .minor) (a .e .minor) (a .base) (a .page .now) p (t .0) o x))
 
 pub rules-ok-spec : {M : Type 1} → statement M
 rules-ok-spec =
@@ -80,10 +120,15 @@ rules-ok-spec =
     padding-at-requires
     returns
     word-at-requires
-    plat-ok-requires
+    plat-end-requires
+    enum-known-told
+    enum-told
     returns-2
     sections-requires
     sections-ok-requires
     returns-3
     all-apart-requires
-    returns-4)
+    returns-4
+    add-end
+    fields-clear-requires
+    returns-5)

@@ -3,6 +3,7 @@ use Rattle.text.proofs.Lay.{wrote-same, listed}
 use Rattle.text.proofs.Room.{printed-fits}
 use Rattle.text.proofs.Parts.{input-refused, input-read}
 use borrow.Author.Needs.{needs}
+use native.Mathlib.Omega.{arith}
 use Rattle.text.proofs.list_input.Statement.{statement}
 use Rattle.text.proofs.list_input.Tie as tie
 
@@ -15,7 +16,7 @@ same-length c = search needs
 returns : tie.Need-returns
 returns c =
     let a = c .before .before .before .before .before .before .before .args in
-    listed (printed-fits (a .input .now)) (wrote-same (input-refused (a .input .now) (search needs)) (c .before .before .put-code .ensures))
+    listed (printed-fits (a .input .now) (λ i. omega (arith, c .before .before .before .before .before .before .shared-slice-known .given i))) (wrote-same (input-refused (a .input .now) (search needs)) (c .before .before .put-code .ensures))
 
 sub-list : tie.Need-sub-list
 sub-list c = search needs

@@ -7,6 +7,9 @@ use borrow.Author.Needs.{needs}
 use Rattle.writer.proofs.put_core.Statement.{statement}
 use Rattle.writer.proofs.put_core.Tie as tie
 
+plat-pointer-requires : tie.Need-plat-pointer-requires
+plat-pointer-requires c κs = search needs
+
 slice-aggregate-put-words : tie.Need-slice-aggregate-put-words
 slice-aggregate-put-words c = search needs
 
@@ -21,19 +24,19 @@ add-first c = search needs
 
 put-section-requires : tie.Need-put-section-requires
 unfolding totalsOf
-put-section-requires c κs = (search needs, ap (λ (t : Totals). t .dram) (c .before .before .before .before .before .before .before .before .before .before .before .before .pre .3))
+put-section-requires c κs = (search needs, ap (λ (t : Totals). t .dram) (c .before .before .before .before .before .before .before .before .before .before .before .before .before .before .pre .3))
 
 put-section-requires-2 : tie.Need-put-section-requires-2
 unfolding totalsOf
-put-section-requires-2 c κs = (search needs, ap (λ (t : Totals). t .console) (c .before .before .before .before .before .before .before .before .before .before .before .before .before .before .before .before .pre .3))
+put-section-requires-2 c κs = (search needs, ap (λ (t : Totals). t .console) (c .before .before .before .before .before .before .before .before .before .before .before .before .before .before .before .before .before .before .pre .3))
 
 put-section-requires-3 : tie.Need-put-section-requires-3
 unfolding totalsOf
-put-section-requires-3 c κs = (search needs, ap (λ (t : Totals). t .ncoh) (c .before .before .before .before .before .before .before .before .before .before .before .before .before .before .before .before .before .before .before .before .pre .3))
+put-section-requires-3 c κs = (search needs, ap (λ (t : Totals). t .ncoh) (c .before .before .before .before .before .before .before .before .before .before .before .before .before .before .before .before .before .before .before .before .before .before .pre .3))
 
 put-section-requires-4 : tie.Need-put-section-requires-4
 unfolding totalsOf
-put-section-requires-4 c κs = (search needs, ap (λ (t : Totals). t .coh) (c .before .before .before .before .before .before .before .before .before .before .before .before .before .before .before .before .before .before .before .before .before .before .before .before .pre .3))
+put-section-requires-4 c κs = let p = c .before .before .before .before .before .before .before .before .before .before .before .before .before .before .before .before .before .before .before .before .before .before .before .before .before .before .pre in (search needs, ap (λ (t : Totals). t .coh) (p .3))
 
 same-length : tie.Need-same-length
 same-length c = search needs
@@ -41,8 +44,9 @@ same-length c = search needs
 returns : tie.Need-returns
 unfolding descriptionOf four
 returns c =
-    let a = c .before .before .before .before .before .before .before .before .before .before .before .before .before .before .before .before .before .before .before .before .before .before .before .before .before .before .before .args in
-    core-law (a .base) (a .e .minor) (descriptionOf (a .dram .now) (a .console .now) (a .ncoh .now) (a .coh .now)) (a .page .now) (c .before .before .before .before .before .before .before .before .before .before .before .before .before .before .before .before .before .before .before .before .before .before .before .before .before .before .before .pre .1) _ _ _ _ _ _ _ _ _
+    let a = c .before .before .before .before .before .before .before .before .before .before .before .before .before .before .before .before .before .before .before .before .before .before .before .before .before .before .before .before .before .args in
+    core-law (a .base) (a .e .minor) (descriptionOf (a .dram .now) (a .console .now) (a .ncoh .now) (a .coh .now) (a .fields .now)) (a .page .now) (c .before .before .before .before .before .before .before .before .before .before .before .before .before .before .before .before .before .before .before .before .before .before .before .before .before .before .before .before .before .pre .1) _ _ _ _ _ _ _ _ _ _
+    (c .before .before .before .before .before .before .before .before .before .before .before .before .before .before .before .before .before .before .before .before .before .before .plat-pointer .ensures)
     (c .before .before .before .before .before .before .before .before .before .before .before .before .before .before .before .before .before .before .before .put-words .ensures) (ap (λ (x : ℕ). a .base + x) (c .before .before .before .before .before .before .before .before .before .before .before .before .before .before .before .before .core-size .ensures .0))
     (c .before .before .before .before .before .before .before .before .before .before .before .before .before .before .put-section .ensures .1) (c .before .before .before .before .before .before .before .before .before .before .before .before .before .before .put-section .ensures .0) (c .before .before .before .before .before .before .before .before .before .before .put-section2 .ensures .1) (c .before .before .before .before .before .before .before .before .before .before .put-section2 .ensures .0)
     (c .before .before .before .before .before .before .put-section3 .ensures .1) (c .before .before .before .before .before .before .put-section3 .ensures .0) (c .before .before .put-section4 .ensures .1)
@@ -51,6 +55,7 @@ pub put-core-spec : {M : Type 1} → statement M
 put-core-spec =
     tie.close
     (tie.spec
+    plat-pointer-requires
     slice-aggregate-put-words
     put-words-requires
     core-size-requires

@@ -1,0 +1,117 @@
+-- Board facts in the platform data. E7: "A field is one byte of tag, two of length, the value. Tag 0 with length 0 ends them; tag 0
+-- with another length is broken." Assumes nothing.
+use Prim.Native.Nat.{ℕ, zero, suc, _+_, _^_}
+use mathlib.Core.Bool.{Bool, true, false, cond}
+use mathlib.Core.List.{List, [], _∷_}
+use lib.ListN.{length, getD, drop}
+use lib.Dec.{leb, ltb, eqb}
+use Rattle.words.specs.Tests.{both}
+use Rattle.words.specs.Word.{part, numAt}
+
+pub record Field : Type 0 where
+  pub tag : ℕ
+  pub value : List ℕ
+
+unfoldable pub mkField : ℕ → List ℕ → Field
+mkField t v = record { tag = t; value = v }
+
+-- What bytes hold from their start on: nothing whole; fields and an end mark, with the number of bytes through the mark; or fields alone
+-- that take up every byte, as the writer is told them.
+pub data Scanned : Type 0 where
+  broken : Scanned
+  ended : List Field → ℕ → Scanned
+  bare : List Field → Scanned
+
+unfoldable pub push : Field → Scanned → Scanned
+push f broken = broken
+push f (ended fs n) = ended (f ∷ fs) (3 + length (f .value) + n)
+push f (bare fs) = bare (f ∷ fs)
+
+-- no byte left; cut short; tag 0; length 0
+unfoldable pub step : Bool → Bool → Bool → Bool → Field → Scanned → Scanned
+step true c z e f s = bare []
+step false true z e f s = broken
+step false false true true f s = ended [] 3
+step false false true false f s = broken
+step false false false e f s = push f s
+
+-- at most n fields: enough where there are no more than n bytes
+unfoldable pub scan : ℕ → List ℕ → Scanned
+scan zero bs = bare []
+scan (suc n) bs =
+    let m = numAt 2 1 bs in
+    step (eqb (length bs) 0) (ltb (length bs) (3 + m)) (eqb (getD bs 0 0) 0) (eqb m 0) (mkField (getD bs 0 0) (part 3 m bs)) (scan n (drop (3 + m) bs))
+
+unfoldable pub scanAll : List ℕ → Scanned
+scanAll bs = scan (length bs) bs
+
+-- E7: "Tag 1 is the board name, 1 to 32 bytes; tag 2 the serial, 8 bytes; tag 3 the preferred console, 1 byte"
+unfoldable pub lengthOk : ℕ → ℕ → Bool
+lengthOk t n =
+    cond (eqb t 0) false (cond (eqb t 1) (both (leb 1 n) (leb n 32)) (cond (eqb t 2) (eqb n 8) (cond (eqb t 3) (eqb n 1) (ltb n (2 ^ 16)))))
+
+unfoldable pub lengthsOk : List Field → Bool
+lengthsOk [] = true
+lengthsOk (f ∷ fs) = both (lengthOk (f .tag) (length (f .value))) (lengthsOk fs)
+
+unfoldable pub count : ℕ → List Field → ℕ
+count t [] = 0
+count t (f ∷ fs) = cond (eqb (f .tag) t) 1 0 + count t fs
+
+-- E7: "Tags 1 to 3 appear at most once"
+unfoldable pub fieldsOk : List Field → Bool
+fieldsOk fs = both (lengthsOk fs) (both (leb (count 1 fs) 1) (both (leb (count 2 fs) 1) (leb (count 3 fs) 1)))
+
+-- fields that do not pass a test are as broken as those without an end
+unfoldable pub judged : (List Field → Bool) → Scanned → Scanned
+judged ok broken = broken
+judged ok (ended fs n) = cond (ok fs) (ended fs n) broken
+judged ok (bare fs) = cond (ok fs) (bare fs) broken
+
+-- what bytes hold, by all of E7's rules
+unfoldable pub scanOf : List ℕ → Scanned
+scanOf bs = judged fieldsOk (scanAll bs)
+
+-- the fields that a reader shows: none of what is broken or has no end mark
+unfoldable pub fieldsIn : Scanned → List Field
+fieldsIn broken = []
+fieldsIn (ended fs n) = fs
+fieldsIn (bare fs) = []
+
+-- ---- how a field is shown: "shown as raw fields", its tag and its value's bytes
+pub data FieldShown : Type 0 where
+  raw : ℕ → List ℕ → FieldShown
+
+unfoldable pub shownField : Field → FieldShown
+shownField f = raw (f .tag) (f .value)
+
+unfoldable pub shownFields : List Field → List FieldShown
+shownFields [] = []
+shownFields (f ∷ fs) = shownField f ∷ shownFields fs
+
+-- whether a reader takes them: they end in a mark
+unfoldable pub isEnded : Scanned → Bool
+isEnded broken = false
+isEnded (ended fs n) = true
+isEnded (bare fs) = false
+
+-- the bytes that they take through the end mark
+unfoldable pub taken : Scanned → ℕ
+taken broken = 0
+taken (ended fs n) = n
+taken (bare fs) = 0
+
+-- the bytes that the naming rule counts: E7: "through the end mark, or all from the pointer on if they are broken"
+unfoldable pub reach : Scanned → ℕ
+reach broken = 4096
+reach (ended fs n) = n
+reach (bare fs) = 4096
+
+-- whether a description, fields with no end mark, keeps the rules
+unfoldable pub isBare : Scanned → Bool
+isBare broken = false
+isBare (ended fs n) = false
+isBare (bare fs) = true
+
+unfoldable pub endMark : List ℕ
+endMark = 0 ∷ 0 ∷ 0 ∷ []

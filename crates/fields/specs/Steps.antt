@@ -1,0 +1,67 @@
+-- What the code's steps tell, by place: what stands at an offset, which tags were seen, where a pass stops. Assumes nothing.
+use Prim.Native.Nat.{ℕ, zero, suc, _+_}
+use mathlib.Core.Bool.{Bool, true, false, cond, not}
+use mathlib.Core.List.{List, [], _∷_}
+use lib.ListN.{length, getD}
+use lib.Dec.{ltb, eqb}
+use Rattle.words.specs.Tests.{both, either}
+use Rattle.words.specs.Word.{part, numAt}
+use Rattle.fields.specs.Fields.{Field, mkField, Scanned, broken, ended, bare, lengthOk}
+use Rattle.fields.specs.declared.Head.{Head}
+use Rattle.fields.specs.declared.Head.the-variants as head
+use Rattle.fields.specs.declared.Seen.{Seen}
+use Rattle.fields.specs.declared.FieldsEnd.{FieldsEnd}
+use Rattle.fields.specs.declared.FieldsEnd.the-variants as fieldsEnd
+use Rattle.fields.specs.declared.Stop.{Stop}
+use Rattle.fields.specs.declared.Stop.the-variants as stop
+
+-- cut short; tag 0; length 0
+unfoldable pub headOf : Bool → Bool → Bool → Head → Head
+headOf true z e h = head.Broken
+headOf false true true h = head.End
+headOf false true false h = head.Broken
+headOf false false e h = h
+
+unfoldable pub headAt : ℕ → List ℕ → Head
+headAt at bs =
+    let m = numAt 2 (at + 1) bs in
+    headOf (ltb (length bs) (at + 3 + m)) (eqb (getD bs at 0) 0) (eqb m 0) (head.Field (getD bs at 0) (at + 3) m (at + 3 + m))
+
+-- a field with one of the tags 1 to 3 was seen before
+unfoldable pub isSeen : Seen → ℕ → Bool
+isSeen s t = either (both (eqb t 1) (s .name)) (either (both (eqb t 2) (s .serial)) (both (eqb t 3) (s .console)))
+
+unfoldable pub marked : Seen → ℕ → Seen
+marked s t = record { name = either (eqb t 1) (s .name); serial = either (eqb t 2) (s .serial); console = either (eqb t 3) (s .console) }
+
+unfoldable pub noneSeen : Seen
+noneSeen = record { name = false; serial = false; console = false }
+
+unfoldable pub allowed : Seen → ℕ → ℕ → Bool
+allowed s t n = both (lengthOk t n) (not (isSeen s t))
+
+-- where a pass over the bytes stops
+unfoldable pub stopOf : Scanned → Stop
+stopOf broken = stop.Broken
+stopOf (ended fs n) = stop.Mark n (length fs)
+stopOf (bare fs) = stop.Edge
+
+-- what a reader is told of it
+unfoldable pub toldOf : Scanned → FieldsEnd
+toldOf broken = fieldsEnd.Broken
+toldOf (ended fs n) = fieldsEnd.Ended n
+toldOf (bare fs) = fieldsEnd.Broken
+
+-- the fields that are passed by going from a place to the next, at most n of them
+unfoldable pub onward : Head → List ℕ → (ℕ → List Field) → List Field
+onward head.Broken bs go = []
+onward head.End bs go = []
+onward (head.Field t v n x) bs go = mkField t (part v n bs) ∷ go x
+
+unfoldable pub walked : ℕ → ℕ → List ℕ → List Field
+walked zero at bs = []
+walked (suc n) at bs = onward (headAt at bs) bs (λ x. walked n x bs)
+
+-- all fields that a walk from a place passes
+unfoldable pub fieldsFrom : ℕ → List ℕ → List Field
+fieldsFrom at bs = walked (length bs) at bs

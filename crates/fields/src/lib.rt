@@ -1,0 +1,248 @@
+// Board facts in the platform data: fields of a tag, a two-byte length and a value, up to an end mark, judged and read where they lie.
+ghost use mathlib.Core.Path.{_≡_};
+ghost use Prim.Native.Nat.{_+_, _<_, _≤_};
+ghost use lib.ListN.{length, drop};
+ghost use Rattle.words.specs.Word.{numAt};
+ghost use Rattle.fields.specs.Fields.{lengthOk, scanOf, isBare, fieldsIn};
+ghost use Rattle.fields.specs.Steps.{headAt, isSeen, marked, noneSeen, allowed, stopOf, toldOf};
+
+// What stands at an offset: nothing whole, or a tag 0 with a length; the end mark; or a field, with the place and length of its
+// value and the place behind it.
+pub enum Head {
+    Broken,
+    End,
+    Field {
+        tag: u8,
+        value: usize,
+        len: usize,
+        next: usize,
+    },
+}
+
+// What a slice holds from its start on: broken fields, or good ones and an end mark, with the number of bytes through the mark.
+pub enum FieldsEnd {
+    Broken,
+    Ended(usize),
+}
+
+// Where a pass over fields stops: at a broken rule, behind an end mark with so many fields passed, or at the slice's end with no mark.
+enum Stop {
+    Broken,
+    Mark { end: usize, passed: usize },
+    Edge,
+}
+
+// Which of the tags 1 to 3 were passed.
+struct Seen {
+    name: bool,
+    serial: bool,
+    console: bool,
+}
+
+fn wide(x: u8) -> usize
+    ensures { λ r. ⌜ (r ≡ x) × (r < 0x100) ⌝ }
+{
+    x as usize
+}
+
+// The two-byte number at an offset within the slice.
+fn pair(s: &[u8], at: usize) -> usize
+    requires { ⌜ at + 2 ≤ length (now s) ⌝ }
+    ensures { λ r. ⌜ (r ≡ numAt 2 at (now (s .entry))) × (r < 0x1_0000) ⌝ }
+{
+    wide(s[at]) + wide(s[at + 1]) * 0x100
+}
+
+// What stands at an offset, whatever was before it: the rules on tags 1 to 3 are not looked at.
+pub fn field_at(part: &[u8], at: usize) -> Head
+    ensures { λ r. ⌜ r ≡ headAt at (now (part .entry)) ⌝ }
+{
+    if part.len() < at {
+        return Head::Broken;
+    }
+    if part.len() - at < 3 {
+        return Head::Broken;
+    }
+    let tag = part[at];
+    let len = pair(part, at + 1);
+    let value = at + 3;
+    if part.len() - value < len {
+        return Head::Broken;
+    }
+    let next = value + len;
+    if tag != 0 {
+        return Head::Field {
+            tag,
+            value,
+            len,
+            next,
+        };
+    }
+    if len != 0 {
+        return Head::Broken;
+    }
+    Head::End
+}
+
+// Whether a field of that tag may have a value of so many bytes.
+fn length_ok(tag: u8, len: usize) -> bool
+    ensures { λ r. ⌜ r ≡ lengthOk tag len ⌝ }
+{
+    if tag == 0 {
+        return false;
+    }
+    if tag == 1 {
+        if len < 1 {
+            return false;
+        }
+        return len <= 32;
+    }
+    if tag == 2 {
+        return len == 8;
+    }
+    if tag == 3 {
+        return len == 1;
+    }
+    len < 0x1_0000
+}
+
+fn is_seen(seen: Seen, tag: u8) -> bool
+    ensures { λ r. ⌜ r ≡ isSeen seen tag ⌝ }
+{
+    if tag == 1 {
+        return seen.name;
+    }
+    if tag == 2 {
+        return seen.serial;
+    }
+    if tag == 3 {
+        return seen.console;
+    }
+    false
+}
+
+fn none_seen() -> Seen
+    ensures { λ r. ⌜ r ≡ noneSeen ⌝ }
+{
+    Seen {
+        name: false,
+        serial: false,
+        console: false,
+    }
+}
+
+fn marked(seen: Seen, tag: u8) -> Seen
+    ensures { λ r. ⌜ r ≡ marked seen tag ⌝ }
+{
+    if tag == 1 {
+        return Seen {
+            name: true,
+            serial: seen.serial,
+            console: seen.console,
+        };
+    }
+    if tag == 2 {
+        return Seen {
+            name: seen.name,
+            serial: true,
+            console: seen.console,
+        };
+    }
+    if tag == 3 {
+        return Seen {
+            name: seen.name,
+            serial: seen.serial,
+            console: true,
+        };
+    }
+    seen
+}
+
+// Whether a field may follow those that were seen.
+fn allowed(seen: Seen, tag: u8, len: usize) -> bool
+    ensures { λ r. ⌜ r ≡ allowed seen tag len ⌝ }
+{
+    if !length_ok(tag, len) {
+        return false;
+    }
+    !is_seen(seen, tag)
+}
+
+// One pass over the fields from the slice's start.
+fn walk(part: &[u8]) -> Stop
+    ensures { λ r. ⌜ r ≡ stopOf (scanOf (now (part .entry))) ⌝ }
+{
+    let mut at = 0;
+    let mut passed = 0;
+    let mut seen = none_seen();
+    while at < part.len() {
+        let head = field_at(part, at);
+        match head {
+            Head::Broken => return Stop::Broken,
+            Head::End => {
+                let end = at + 3;
+                return Stop::Mark { end, passed };
+            }
+            Head::Field {
+                tag,
+                value: _,
+                len,
+                next,
+            } => {
+                if !allowed(seen, tag, len) {
+                    return Stop::Broken;
+                }
+                seen = marked(seen, tag);
+                passed += 1;
+                at = next;
+            }
+        }
+    }
+    Stop::Edge
+}
+
+// Judges the fields from the slice's start through their end mark; what stands behind the mark is not looked at.
+pub fn scan(part: &[u8]) -> FieldsEnd
+    ensures { λ r. ⌜ r ≡ toldOf (scanOf (now (part .entry))) ⌝ }
+{
+    let stop = walk(part);
+    match stop {
+        Stop::Broken => FieldsEnd::Broken,
+        Stop::Mark { end, passed: _ } => FieldsEnd::Ended(end),
+        Stop::Edge => FieldsEnd::Broken,
+    }
+}
+
+// The same from an offset of a slice on: broken past its end.
+pub fn scan_at(page: &[u8], at: usize) -> FieldsEnd
+    ensures { λ r. ⌜ r ≡ toldOf (scanOf (drop at (now (page .entry)))) ⌝ }
+{
+    if page.len() < at {
+        return FieldsEnd::Broken;
+    }
+    scan(&page[at..])
+}
+
+// Whether a description may be written: fields that keep the rules up to its last byte, with no tag 0 among them.
+pub fn description_ok(description: &[u8]) -> bool
+    ensures { λ r. ⌜ r ≡ isBare (scanOf (now (description .entry))) ⌝ }
+{
+    let stop = walk(description);
+    match stop {
+        Stop::Broken => false,
+        Stop::Mark { end: _, passed: _ } => false,
+        Stop::Edge => true,
+    }
+}
+
+// How many fields a reader shows: none of broken ones.
+pub fn count(part: &[u8]) -> usize
+    ensures { λ r. ⌜ r ≡ length (fieldsIn (scanOf (now (part .entry)))) ⌝ }
+{
+    let stop = walk(part);
+    match stop {
+        Stop::Broken => 0,
+        Stop::Mark { end: _, passed } => passed,
+        Stop::Edge => 0,
+    }
+}

@@ -1,0 +1,14 @@
+use Rattle.lists.specs.Description.{tellable}
+use borrow.Author.Needs.{needs}
+use Rattle.lists.proofs.fields_ok.Statement.{statement}
+use Rattle.lists.proofs.fields_ok.Tie as tie
+
+description-ok-requires : tie.Need-description-ok-requires
+description-ok-requires c κs = search needs
+
+returns : tie.Need-returns
+unfolding tellable
+returns c = search needs
+
+pub fields-ok-spec : {M : Type 1} → statement M
+fields-ok-spec = tie.close (tie.spec description-ok-requires returns)

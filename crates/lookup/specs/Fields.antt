@@ -1,0 +1,98 @@
+-- What can be asked of the fields that a page shows: "The writer takes a list of fields", and a reader shows one in page order (02, E7).
+-- Assumes nothing.
+use Prim.Native.Nat.{ℕ, zero, suc, _+_, _%_}
+use mathlib.Core.Bool.{cond}
+use mathlib.Core.List.{List, [], _∷_}
+use lib.ListN.{length, drop}
+use lib.Dec.{leb, eqb}
+use Rattle.words.specs.Word.{part}
+use Rattle.words.specs.declared.Span.{Span}
+use Rattle.fields.specs.Fields.{FieldShown, raw, shownFields, scanOf, isEnded}
+use Rattle.fields.specs.Steps.{headAt, fieldsFrom}
+use Rattle.fields.specs.declared.Head.{Head}
+use Rattle.fields.specs.declared.Head.the-variants as head
+use Rattle.reader.specs.declared.View.{View}
+use Rattle.lookup.specs.declared.FieldPlace.{FieldPlace}
+use Rattle.lookup.specs.declared.FieldPlace.the-variants.{Raw, Nothing}
+use Rattle.lookup.specs.declared.FieldStep.{FieldStep}
+
+-- a field, or that there is none
+pub data Asked : Type 0 where
+  noField : Asked
+  field : FieldShown → Asked
+
+unfoldable pub firstIn : List FieldShown → Asked
+firstIn [] = noField
+firstIn (f ∷ fs) = field f
+
+unfoldable pub restIn : List FieldShown → List FieldShown
+restIn [] = []
+restIn (f ∷ fs) = fs
+
+-- field i, from 0 on
+unfoldable pub nthIn : ℕ → List FieldShown → Asked
+nthIn zero fs = firstIn fs
+nthIn (suc i) fs = nthIn i (restIn fs)
+
+unfoldable pub shownTag : FieldShown → ℕ
+shownTag (raw t v) = t
+
+unfoldable pub shownValue : FieldShown → List ℕ
+shownValue (raw t v) = v
+
+-- the first field with a tag
+unfoldable pub ofTag : ℕ → List FieldShown → Asked
+ofTag t [] = noField
+ofTag t (f ∷ fs) = cond (eqb (shownTag f) t) (field f) (ofTag t fs)
+
+unfoldable pub valueIn : Asked → List ℕ
+valueIn noField = []
+valueIn (field f) = shownValue f
+
+-- ---- by place in the page
+-- the field that a place stands for; a place that does not lie within the page stands for none
+unfoldable pub fieldAs : FieldPlace → List ℕ → Asked
+fieldAs (Raw t at n) page = cond (leb (at + n) (length page)) (field (raw t (part at n page))) noField
+fieldAs Nothing page = noField
+
+unfoldable pub placeSpan : FieldPlace → Span
+placeSpan (Raw t at n) = record { at = at; len = n }
+placeSpan Nothing = record { at = 0; len = 0 }
+
+-- the fields that are left at a cursor
+unfoldable pub shownFrom : ℕ → List ℕ → List FieldShown
+shownFrom at page = shownFields (fieldsFrom at page)
+
+-- the field at a cursor, and the cursor behind it; behind the last one the cursor is the page's length
+unfoldable pub stepOf : Head → ℕ → FieldStep
+stepOf head.Broken n = record { field = Nothing; next = n }
+stepOf head.End n = record { field = Nothing; next = n }
+stepOf (head.Field t v m x) n = record { field = Raw t v m; next = x }
+
+unfoldable pub stepAt : ℕ → List ℕ → FieldStep
+stepAt at page = stepOf (headAt at page) (length page)
+
+-- the cursor at the first field of a platform pointer; the page's length where there is no pointer, or broken fields
+unfoldable pub startAt : ℕ → List ℕ → ℕ
+startAt q page = cond (eqb q 0) (length page) (cond (isEnded (scanOf (drop (q % 4096) page))) (q % 4096) (length page))
+
+-- where field i from a cursor on lies
+unfoldable pub placeNth : ℕ → ℕ → List ℕ → FieldPlace
+placeNth zero at page = stepAt at page .field
+placeNth (suc i) at page = placeNth i (stepAt at page .next) page
+
+-- where the first of the next n fields with a tag lies
+unfoldable pub tagOr : ℕ → FieldPlace → FieldPlace → FieldPlace
+tagOr t (Raw u v m) p = cond (eqb u t) (Raw u v m) p
+tagOr t Nothing p = Nothing
+
+unfoldable pub placeTagged : ℕ → ℕ → ℕ → List ℕ → FieldPlace
+placeTagged t zero at page = Nothing
+placeTagged t (suc n) at page = tagOr t (stepAt at page .field) (placeTagged t n (stepAt at page .next) page)
+
+-- the same of a view
+unfoldable pub nthPlace : ℕ → View → List ℕ → FieldPlace
+nthPlace i v page = placeNth i (startAt (v .plat) page) page
+
+unfoldable pub tagPlace : ℕ → View → List ℕ → FieldPlace
+tagPlace t v page = placeTagged t (length (shownFrom (startAt (v .plat) page) page)) (startAt (v .plat) page) page

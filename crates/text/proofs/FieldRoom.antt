@@ -1,0 +1,120 @@
+-- How long the text of fields is: at most three bytes for each byte that they take. Assumes nothing.
+use Prim.Native.Nat.{ℕ, zero, suc, _+_, _-_, _*_, _≤_, _<_}
+use mathlib.Core.Path.{_≡_, refl, ap}
+use mathlib.Core.Bool.{Bool, true, false, cond, false≢true}
+use mathlib.Core.Logic.{_⊎_, inl, inr}
+use mathlib.Core.List.{List, [], _∷_}
+use native.Mathlib.Omega.{arith}
+use lib.Dec.{eqb, lit≤}
+use lib.ListN.{length, getD, drop, length-append, length-drop}
+use lib.Seq.{getD-drop}
+use borrow.Author.Tests.{ltb-false, eqb-true, leb-true, ltb-true, eq-eqb}
+use Rattle.words.specs.Word.{part, numAt, wordAt}
+use Rattle.words.proofs.Tests.{both-l, both-r, either-cases}
+use Rattle.words.proofs.Lists.{joined-length}
+use Rattle.versions.specs.Edition.{core}
+use Rattle.fields.specs.Fields.{Field, mkField, Scanned, broken, ended, bare, step, scan, scanAll, scanOf, judged, fieldsOk, fieldsIn, taken, raw, shownField, shownFields}
+use Rattle.fields.proofs.Scans.{never, step-ended, part-length}
+use Rattle.fields.proofs.Rules.{listed, judged-passed}
+use Rattle.fields.proofs.Same.{taken-room}
+use Rattle.sections.specs.Page.{inPage, mkPlat, foundAt, platAt}
+use Rattle.sections.specs.Section.{platOk}
+use Rattle.text.specs.Text.{newline, space, decimal, byteText, valueByte, valueText, fieldText, fieldsText}
+use Rattle.text.proofs.Lengths.{digits-length, decimal-most}
+
+-- the page is one of bytes
+abbrev pub Bytes : List ℕ → Type 0
+Bytes bs = (i : ℕ) → getD bs i 0 < 256
+
+-- ---- one field
+byte-length : (v : List ℕ) (i : ℕ) → length (valueByte v i) ≡ 3
+unfolding valueByte space byteText
+byte-length v i = ap suc (digits-length 16 2 (getD v i 0))
+
+value-length : (v : List ℕ) → length (valueText v) ≡ 3 * length v
+unfolding valueText
+value-length v = joined-length (length v) 3 (valueByte v) (byte-length v)
+
+field-most : (t : ℕ) (v : List ℕ) → t < 256 → length v ≤ 4096 → length (fieldText (raw t v)) ≤ 9 + 3 * length v
+unfolding fieldText space newline
+field-most t v h g =
+    let a : length (decimal t) ≤ 3 = decimal-most 2 t (omega arith) in
+    let b : length (decimal (length v)) ≤ 4 = decimal-most 3 (length v) (omega arith) in
+    rw (length-append, length-append, length-append, length-append) (omega (arith, value-length v))
+
+-- ---- all fields up to an end mark
+step-text : (x c z e : Bool) (f : Field) (s : Scanned) (fs : List Field) (m : ℕ) {P : Type 0} → step x c z e f s ≡ ended fs m → (fs ≡ [] → m ≡ 3 → P) →
+    (c ≡ false → (gs : List Field) (k : ℕ) → fs ≡ f ∷ gs → s ≡ ended gs k → m ≡ 3 + length (f .value) + k → P) → P
+unfolding step
+step-text true c z e f s fs m h j k = never (cc)
+step-text false true z e f s fs m h j k = never (cc)
+step-text false false true true f s fs m h j k = j (cc) (cc)
+step-text false false true false f s fs m h j k = never (cc)
+step-text false false false e f s fs m h j k = step-ended false false e f s fs m h (λ a b q. absurd (false≢true b)) (λ a b gs n p r q. k refl gs n p r q)
+
+scan-text : (n : ℕ) (bs : List ℕ) (fs : List Field) (m : ℕ) → Bytes bs → length bs ≤ 4096 → scan n bs ≡ ended fs m → length (fieldsText (shownFields fs)) + 9 ≤ 3 * m
+unfolding scan mkField fieldsText shownFields shownField
+scan-text zero bs fs m b l h = never (cc)
+scan-text (suc n) bs fs m b l h =
+    let w = numAt 2 1 bs in
+    step-text _ _ _ _ _ _ fs m h
+    (λ p q. rw (p, q) (lit≤ tt))
+    (λ c gs k p s q.
+    let u : 3 + w ≤ length bs = ltb-false (length bs) (3 + w) c in
+    let v : length (part 3 w bs) ≡ w = part-length 3 w bs u in
+    let q' : m ≡ 3 + length (part 3 w bs) + k = q in
+    let r : length (fieldsText (shownFields gs)) + 9 ≤ 3 * k = scan-text n (drop (3 + w) bs) gs k (λ i. rw getD-drop (b (3 + w + i))) (rw length-drop (omega arith)) s in
+    rw (p, length-append) (omega (arith, field-most (getD bs 0 0) (part 3 w bs) (b 0) (omega arith))))
+
+text-by : (u : Scanned) → ((fs : List Field) (m : ℕ) → u ≡ ended fs m → length (fieldsText (shownFields fs)) + 9 ≤ 3 * m) → length (fieldsText (shownFields (fieldsIn u))) ≤ 3 * taken u - 9
+unfolding fieldsIn taken fieldsText shownFields
+text-by broken h = omega arith
+text-by (ended fs m) h = omega (arith, h fs m refl)
+text-by (bare fs) h = omega arith
+
+scanned-text : (bs : List ℕ) → Bytes bs → length bs ≤ 4096 → length (fieldsText (shownFields (fieldsIn (scanOf bs)))) ≤ 3 * taken (scanOf bs) - 9
+unfolding scanOf scanAll listed
+scanned-text bs b l =
+    text-by (scanOf bs) (λ fs m h. scan-text (length bs) bs fs m b l (judged-passed fieldsOk (scanAll bs) (ended fs m) (λ e. never (cc)) h .0))
+
+-- ---- of a page
+text-case : (b : Bool) (s t : Scanned) → length (fieldsText (shownFields (fieldsIn s))) ≤ 3 * taken s - 9 → length (fieldsText (shownFields (fieldsIn t))) ≤ 3 * taken t - 9 →
+    length (fieldsText (shownFields (fieldsIn (cond b s t)))) ≤ 3 * taken (cond b s t) - 9
+text-case true s t x y = x
+text-case false s t x y = y
+
+pub found-text : (base q : ℕ) (page : List ℕ) → Bytes page → length page ≡ 4096 →
+    length (fieldsText (shownFields (fieldsIn (foundAt base page q)))) ≤ 3 * taken (foundAt base page q) - 9
+unfolding foundAt fieldsIn taken fieldsText shownFields
+found-text base q page b l =
+    text-case (eqb q 0) (ended [] 0) (cond (inPage base q 1) (scanOf (drop (q - base) page)) broken) (omega arith)
+    (text-case (inPage base q 1) (scanOf (drop (q - base) page)) broken
+    (scanned-text (drop (q - base) page) (λ i. rw getD-drop (b (q - base + i))) (rw length-drop (omega arith))) (omega arith))
+
+taken-case : (b : Bool) (s t : Scanned) (n : ℕ) → taken s ≤ n → taken t ≤ n → taken (cond b s t) ≤ n
+taken-case true s t n x y = x
+taken-case false s t n x y = y
+
+taken-within : (base q : ℕ) (page : List ℕ) → length page ≡ 4096 → taken (foundAt base page q) ≤ 4096 - (q - base)
+unfolding foundAt taken
+taken-within base q page l =
+    taken-case (eqb q 0) (ended [] 0) (cond (inPage base q 1) (scanOf (drop (q - base) page)) broken) (4096 - (q - base)) (omega arith)
+    (taken-case (inPage base q 1) (scanOf (drop (q - base) page)) broken (4096 - (q - base))
+    (omega (arith, taken-room (drop (q - base) page), length-drop (q - base) page)) (omega arith))
+
+taken-none : (base q : ℕ) (page : List ℕ) → q ≡ 0 → taken (foundAt base page q) ≡ 0
+unfolding foundAt taken
+taken-none base q page z = rw (eq-eqb q 0 z)
+
+-- the fields of a page whose rules hold take no byte, or lie behind the core
+pub fields-lie : (e base : ℕ) (page : List ℕ) → length page ≡ 4096 → platOk e base (platAt base page) ≡ true →
+    (taken (foundAt base page (wordAt 8 page)) ≡ 0) ⊎ ((base + core e ≤ wordAt 8 page) × (wordAt 8 page + taken (foundAt base page (wordAt 8 page)) ≤ base + 4096))
+unfolding platOk platAt mkPlat
+fields-lie e base page n h =
+    either-cases _ _
+    (λ z. inl (taken-none base (wordAt 8 page) page (eqb-true _ _ z)))
+    (λ b.
+    let l : base + core e ≤ wordAt 8 page = leb-true _ _ (both-l _ _ b) in
+    let u : wordAt 8 page < base + 4096 = ltb-true _ _ (both-l _ _ (both-r _ _ b)) in
+    inr (l, omega (arith, taken-within base (wordAt 8 page) page n)))
+    h

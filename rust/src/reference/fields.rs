@@ -1,0 +1,82 @@
+//! Board facts in the platform data (02, E7): fields of one byte of tag, two of length and the value, up to an end mark.
+
+/// Bytes of a field before its value, and of the end mark.
+pub const HEAD: usize = 3;
+
+/// A field and the part of the lent bytes that its value is.
+#[derive(Clone, Copy, Debug, PartialEq, Eq)]
+pub struct Field<'a> {
+    pub tag: u8,
+    pub value: &'a [u8],
+}
+
+/// The field that the bytes begin with, and what follows it; none where it is not whole.
+#[inline]
+pub fn split_field(bytes: &[u8]) -> Option<(Field<'_>, &[u8])> {
+    let head = bytes.get(..HEAD)?;
+    let end = HEAD + usize::from(u16::from_le_bytes([head[1], head[2]]));
+    let value = bytes.get(HEAD..end)?;
+    let tag = head[0];
+    Some((Field { tag, value }, &bytes[end..]))
+}
+
+/// Which of the tags 1 to 3 were met.
+#[derive(Default)]
+struct Met([bool; 4]);
+
+impl Met {
+    /// Whether a field may follow those met: the lengths of tags 1 to 3, and that each of them appears at most once.
+    #[inline]
+    fn allow(&mut self, field: Field) -> bool {
+        let lengths = match field.tag {
+            1 => 1..=32,
+            2 => 8..=8,
+            3 => 1..=1,
+            _ => return true,
+        };
+        let met = std::mem::replace(&mut self.0[usize::from(field.tag)], true);
+        lengths.contains(&field.value.len()) && !met
+    }
+}
+
+/// How many bytes the fields take through their end mark, if they keep the rules and the mark is there.
+pub fn fields_end(bytes: &[u8]) -> Option<usize> {
+    let mut met = Met::default();
+    let mut rest = bytes;
+    loop {
+        let (field, behind) = split_field(rest)?;
+        rest = behind;
+        if field.tag == 0 {
+            return field.value.is_empty().then_some(bytes.len() - rest.len());
+        }
+        if !met.allow(field) {
+            return None;
+        }
+    }
+}
+
+/// The fields in their order; none where they are broken.
+pub fn fields_of(bytes: &[u8]) -> Vec<Field<'_>> {
+    let mut fields = Vec::new();
+    let mut rest = &bytes[..fields_end(bytes).unwrap_or(0)];
+    while let Some((field, behind)) = split_field(rest) {
+        if field.tag != 0 {
+            fields.push(field);
+        }
+        rest = behind;
+    }
+    fields
+}
+
+/// Whether a description may be written: whole fields that keep the rules, none of tag 0.
+pub fn description_ok(bytes: &[u8]) -> bool {
+    let mut met = Met::default();
+    let mut rest = bytes;
+    while !rest.is_empty() {
+        match split_field(rest) {
+            Some((field, behind)) if field.tag != 0 && met.allow(field) => rest = behind,
+            _ => return false,
+        }
+    }
+    true
+}
