@@ -8,8 +8,8 @@ use lib.IntN.{ℤ, pos, negsuc}
 use Rattle.versions.specs.Version.{versionOk, agreed}
 use Rattle.reader.specs.Answer.{ReaderAnswer, refused, shows, minus, readOf}
 use Rattle.reader.specs.Reading.{refusalNumber}
-use Rattle.reader.specs.declared.Reading.{Reading}
-use Rattle.reader.specs.declared.Reading.the-variants.{Accepted, Refused}
+use Rattle.reader.specs.declared.Verdict.{Verdict}
+use Rattle.reader.specs.declared.Verdict.the-variants.{Fine, Refused}
 use Rattle.boot.specs.declared.Params.{Params}
 use Rattle.boot.specs.declared.Record.{Record}
 use Rattle.boot.specs.declared.Record.the-variants.{Fresh, Up, Closed}
@@ -30,10 +30,10 @@ unfoldable pub codeIn : ReaderAnswer → ℤ
 codeIn (refused c) = c
 codeIn (shows w e q s) = pos 0
 
--- the same of the reader's enum
-unfoldable pub numberIn : Reading → ℤ
+-- the same of the reader's verdict
+unfoldable pub numberIn : Verdict → ℤ
 numberIn (Refused c) = refusalNumber c
-numberIn (Accepted v) = pos 0
+numberIn (Fine w) = pos 0
 
 unfoldable pub isFresh : Record → Bool
 isFresh Fresh = true

@@ -1,5 +1,5 @@
 // Cold and warm boot: the monitor checks the boot registers and the manifest, and keeps a record of the outcome.
-use reader::Reading;
+use reader::Verdict;
 ghost use mathlib.Core.Path.{_≡_};
 ghost use Rattle.boot.specs.Boot.{bootNumber, numberIn, isFresh, coldCode, coldNext, after, cpuCode, warmCode, warmNext};
 
@@ -80,13 +80,13 @@ fn warm_up(state: Record, cpus: u64, x0: u64) -> Booted
     }
 }
 
-// The code of a reading; 0 of one that is accepted.
-fn code_of(reading: Reading) -> BootCode
-    ensures { λ r. ⌜ bootNumber r ≡ numberIn reading ⌝ }
+// The code of a verdict on a page; 0 of one that is accepted.
+fn code_of(verdict: Verdict) -> BootCode
+    ensures { λ r. ⌜ bootNumber r ≡ numberIn verdict ⌝ }
 {
-    match reading {
-        Reading::Accepted(_) => BootCode::Done,
-        Reading::Refused(code) => BootCode::Manifest(code),
+    match verdict {
+        Verdict::Fine(_) => BootCode::Done,
+        Verdict::Refused(code) => BootCode::Manifest(code),
     }
 }
 
@@ -114,9 +114,9 @@ impl Record {
         if x2 <= x0 {
             return failed(BootCode::Cpu);
         }
-        let reading = reader::read(page, x3, 4);
-        let Reading::Accepted(_) = reading else {
-            return failed(code_of(reading));
+        let verdict = reader::judge_page(page, x3, 4);
+        let Verdict::Fine(_) = verdict else {
+            return failed(code_of(verdict));
         };
         let params = Params {
             cpus: x2,

@@ -14,8 +14,6 @@ use Rattle.codes.specs.declared.Work.the-variants.{Nothing, Reprogram}
 use Rattle.granules.specs.declared.Granules.{Granules}
 use Rattle.reader.specs.Answer.{ReaderAnswer, refused, shows}
 use Rattle.reader.specs.Reading.{viewAt}
-use Rattle.reader.specs.declared.Reading.{Reading}
-use Rattle.reader.specs.declared.Reading.the-variants.{Accepted, Refused}
 use Rattle.reader.specs.declared.Section.{Section}
 use Rattle.reader.specs.declared.Section.the-variants.{Absent, Empty, Entries}
 use Rattle.reader.specs.declared.View.{View}
@@ -114,11 +112,6 @@ viewWords v =
 unfoldable pub answerWords : ℕ → List ℕ → ReaderAnswer → List ℕ
 answerWords base page (refused c) = replicate 15 0
 answerWords base page (shows w e q s) = viewWords (viewAt w e base page)
-
--- the same of the reader's enum
-unfoldable pub readingWords : Reading → List ℕ
-readingWords (Refused c) = replicate 15 0
-readingWords (Accepted v) = viewWords v
 
 -- ---- the number of the writer's answer: 0, or 1 to 5 for W1 to W5
 unfoldable pub madeNumber : Made → ℕ

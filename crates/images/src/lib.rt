@@ -6,7 +6,6 @@ use codes::Answer;
 use codes::Code;
 use codes::Work;
 use granules::Granules;
-use reader::Reading;
 use reader::Section;
 use reader::View;
 use runtime::Reply;
@@ -16,10 +15,9 @@ use writer::Wrote;
 ghost use mathlib.Core.Path.{_≡_};
 ghost use Prim.Native.Nat.{_+_, _≤_};
 ghost use lib.ListN.{length};
-ghost use Rattle.boot.specs.Boot.{numberIn};
 ghost use Rattle.codes.specs.Codes.{ifOk};
 ghost use Rattle.runtime.specs.Step.{replyCode};
-ghost use Rattle.images.specs.Image.{recordOf, recordWords, granulesOf, isSet, sessionOf, sessionWords, registerWords, workWords, sectionIn, sectionWords, viewOf, viewWords, spanWords, readingWords, wroteNumber, replyRegisters, replyWords};
+ghost use Rattle.images.specs.Image.{recordOf, recordWords, granulesOf, isSet, sessionOf, sessionWords, registerWords, workWords, sectionIn, viewOf, spanWords, wroteNumber, replyRegisters, replyWords};
 
 pub fn record_of(image: &[u64; 4]) -> Record
     ensures { λ r. ⌜ r ≡ recordOf (now (image .entry)) ⌝ }
@@ -125,16 +123,6 @@ fn section_in(image: &[u64; 15], at: usize) -> Section
     }
 }
 
-fn section_words(section: Section) -> [u64; 3]
-    ensures { λ r. ⌜ r ≡ sectionWords section ⌝ }
-{
-    match section {
-        Section::Absent => [0, 0, 0],
-        Section::Empty => [1, 0, 0],
-        Section::Entries { at, count } => [2, at as u64, count as u64],
-    }
-}
-
 pub fn view_of(image: &[u64; 15]) -> View
     ensures { λ r. ⌜ r ≡ viewOf (now (image .entry)) ⌝ }
 {
@@ -146,56 +134,6 @@ pub fn view_of(image: &[u64; 15]) -> View
         console: section_in(image, 6),
         ncoh: section_in(image, 9),
         coh: section_in(image, 12),
-    }
-}
-
-pub fn view_words(view: View) -> [u64; 15]
-    ensures { λ r. ⌜ r ≡ viewWords view ⌝ }
-{
-    let dram = view.dram;
-    let console = view.console;
-    let ncoh = view.ncoh;
-    let coh = view.coh;
-    let a = section_words(dram);
-    let b = section_words(console);
-    let c = section_words(ncoh);
-    let d = section_words(coh);
-    [
-        view.minor,
-        view.edition,
-        view.plat,
-        a[0],
-        a[1],
-        a[2],
-        b[0],
-        b[1],
-        b[2],
-        c[0],
-        c[1],
-        c[2],
-        d[0],
-        d[1],
-        d[2],
-    ]
-}
-
-// The view of a reading; zeros where the page is refused.
-pub fn reading_words(reading: Reading) -> [u64; 15]
-    ensures { λ r. ⌜ r ≡ readingWords reading ⌝ }
-{
-    match reading {
-        Reading::Accepted(view) => view_words(view),
-        Reading::Refused(_) => [0u64; 15],
-    }
-}
-
-// The number of a reading: 0, or the code.
-pub fn reading_number(reading: Reading) -> i32
-    ensures { λ r. ⌜ r ≡ numberIn reading ⌝ }
-{
-    match reading {
-        Reading::Accepted(_) => 0,
-        Reading::Refused(code) => reader::number(code),
     }
 }
 

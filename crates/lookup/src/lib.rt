@@ -129,11 +129,7 @@ pub fn place(page: &[u8], base: u64, edition: u64, k: usize) -> Span
     ensures { λ r. ⌜ r ≡ spanIn base (now (page .entry)) (readOf edition base (now (page .entry))) k ⌝ }
     ensures { λ r. ⌜ spanned r (now (page .entry)) ≡ lookOf edition base (now (page .entry)) k ⌝ }
 {
-    let reading = reader::read(page, base, edition);
-    let Reading::Accepted(view) = reading else {
-        return Span { at: 0, len: 0 };
-    };
-    place_of(page, view, k)
+    place_in(page.len(), reader::section_read(page, base, edition, k), k)
 }
 
 // The array lookup: the array of section k as the part of the page that holds it.

@@ -1,11 +1,19 @@
 // The kit for C and Rust: every entry under one prefix. A state is a lent image of words, a result a number or lent words.
 use boot::Record;
+use reader::Verdict;
 use runtime::Needs;
+use versions::Edition;
 ghost use mathlib.Core.Path.{_≡_};
+ghost use mathlib.Core.List.{[], _∷_};
+ghost use Prim.Native.Nat.{_+_, _*_, _≤_, _<_};
 ghost use lib.ListN.{length};
+ghost use Rattle.words.specs.Word.{splice};
+ghost use Rattle.versions.specs.Edition.{sectionCount};
+ghost use Rattle.sections.specs.Page.{countAt, pointerAt};
+ghost use Rattle.sections.specs.Section.{rulesAt};
 ghost use Rattle.words.specs.Tests.{Yes};
 ghost use Rattle.reader.specs.Answer.{countIn, wordIn, readOf};
-ghost use Rattle.reader.specs.Reading.{sectionOf, readingAnswer};
+ghost use Rattle.reader.specs.Reading.{sectionOf, readingAnswer, sectionAt, viewAt};
 ghost use Rattle.reader.specs.declared.Reading.the-variants.{Accepted};
 ghost use Rattle.lookup.specs.Lookup.{spanOf, spanIn};
 ghost use Rattle.text.specs.Text.{lay, listingOf};
@@ -17,15 +25,57 @@ ghost use Rattle.boot.specs.declared.Record.the-variants.{Closed};
 ghost use Rattle.boot.specs.Boot.{codeIn, coldCode, coldNext, warmCode, warmNext};
 ghost use Rattle.granules.specs.declared.Direction.{Direction};
 ghost use Rattle.attest.specs.Key.{realmKeyOf};
-ghost use mathlib.Core.Bool.{false};
+ghost use mathlib.Core.Bool.{true, false};
 ghost use Rattle.codes.specs.Codes.{x0Of};
 ghost use Rattle.token.specs.Token.{bufferCode, challengeSpan};
 ghost use Rattle.features.specs.Features.{featuresOf, updateOf, forwardOf};
-ghost use Rattle.images.specs.Image.{recordOf, recordWords, registerWords, workWords, viewOf, answerWords, madeNumber, spanWords};
+ghost use Rattle.images.specs.Image.{recordOf, recordWords, registerWords, workWords, sectionWords, viewOf, viewWords, answerWords, madeNumber, spanWords};
 ghost use Rattle.queue_image.specs.Image.{listsIn, oldestWords};
 ghost use Rattle.potterbeam.specs.Exports.{writeIn, MoveLeft, moveIn, moveListIn, TokenLeft, tokenIn, SigningLeft, signingIn, SignLeft, signIn, PlainLeft, plainIn, CallLeft, callLent, callIn};
 
 // ---- Manifest ----
+
+// Three words of a view, put at a place.
+fn put_three(view: &mut [u64], at: usize, x: u64, y: u64, z: u64)
+    requires { ⌜ at + 3 ≤ length (now view) ⌝ }
+    ensures { λ _. ⌜ now (view .exit) ≡ splice at (x ∷ y ∷ z ∷ []) (now (view .entry)) ⌝ }
+{
+    view[at] = x;
+    view[at + 1] = y;
+    view[at + 2] = z;
+}
+
+// Section k of an accepted page, put into its view by the page's core.
+fn show_section(core: &[u8], base: u64, e: Edition, k: u8, view: &mut [u64])
+    requires { ⌜ (k ≤ 3) × (length (now view) ≡ 15) × (k < sectionCount (e .minor) → (countAt k (now core) ≡ 0 → ⊥) → base ≤ pointerAt k (now core)) ⌝ }
+    ensures { λ _. ⌜ now (view .exit) ≡ splice (3 + 3 * k) (sectionWords (sectionAt (e .minor) base (now (core .entry)) k)) (now (view .entry)) ⌝ }
+{
+    let at = 3 + 3 * (k as usize);
+    if e.sections() <= k {
+        put_three(view, at, 0, 0, 0);
+        return;
+    }
+    let count = sections::count_at(core, k);
+    if count == 0 {
+        put_three(view, at, 1, 0, 0);
+        return;
+    }
+    let from = sections::pointer_at(core, k) - base;
+    put_three(view, at, 2, from, count);
+}
+
+// The view of an accepted page, put straight from the page. Its core is a part of constant length, so that no bound is tested.
+fn show(page: &[u8], base: u64, minor: u64, e: Edition, view: &mut [u64])
+    requires { ⌜ (length (now page) ≡ 4096) × (length (now view) ≡ 15) × (rulesAt minor (e .minor) base (now page) ≡ true) ⌝ }
+    ensures { λ _. ⌜ now (view .exit) ≡ viewWords (viewAt minor (e .minor) base (now (page .entry))) ⌝ }
+{
+    let core = &page[0..112];
+    put_three(view, 0, minor, e.minor, words::word_at(core, 8));
+    show_section(core, base, e, 0, view);
+    show_section(core, base, e, 1, view);
+    show_section(core, base, e, 2, view);
+    show_section(core, base, e, 3, view);
+}
 
 // Reads a page at a base as a reader of an edition. Answers 0 and what the page shows, or the code and a view of zeros.
 #[no_mangle]
@@ -33,9 +83,16 @@ pub extern "C" fn pbeam_read(page: &[u8], base: u64, edition: u64, view: &mut [u
     ensures { λ r. ⌜ r ≡ codeIn (readOf edition base (now (page .entry))) ⌝ }
     ensures { λ r. ⌜ now (view .exit) ≡ answerWords base (now (page .entry)) (readOf edition base (now (page .entry))) ⌝ }
 {
-    let reading = reader::read(page, base, edition);
-    *view = images::reading_words(reading);
-    images::reading_number(reading)
+    match reader::judge_page(page, base, edition) {
+        Verdict::Fine(w) => {
+            show(page, base, w, reader::edition_read(edition, w), view);
+            0
+        }
+        Verdict::Refused(code) => {
+            *view = [0u64; 15];
+            reader::number(code)
+        }
+    }
 }
 
 // The array lookup: where a section's array lies in a page at a base, as a reader of an edition finds it.

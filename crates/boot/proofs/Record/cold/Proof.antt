@@ -1,3 +1,4 @@
+use Rattle.reader.proofs.Whole.{fine-reads, refused-reads}
 use mathlib.Core.Path.{sym, ap, _∙_}
 use borrow.Author.Tests.{not-true, not-false}
 use Rattle.boot.specs.Boot.{bootNumber, numberIn, paramsOf}
@@ -48,8 +49,8 @@ returns-4 c =
     let k = cold-cpu (a .self) (a .x0) (a .x1) (a .x2) (a .x3) (a .most) (a .page .now) (sym (c .before .before .before .before .before .before .is-fresh .ensures) ∙ not-false _ (c .before .before .before .before .before .if1 .left)) (sym (c .before .before .before .before .is-accepted .ensures) ∙ not-false _ (c .before .before .before .if2 .left)) (search needs) (search needs) in
     (ap bootNumber (c .failed4 .ensures .1) ∙ k .0, c .failed4 .ensures .0 ∙ k .1)
 
-read-requires : tie.Need-read-requires
-read-requires c κs = search needs
+judge-page-requires : tie.Need-judge-page-requires
+judge-page-requires c κs = search needs
 
 enum-told : tie.Need-enum-told
 enum-told c = search needs
@@ -68,7 +69,7 @@ unfolding numberIn
 returns-5 c =
     let a = c .before .before .before .before .before .before .before .before .before .before .before .before .args in
     let g = c .before .before .enum-told2 .given in
-    let k = cold-refused (a .self) (a .x0) (a .x1) (a .x2) (a .x3) (a .most) (a .page .now) (sym (c .before .before .before .before .before .before .before .before .before .before .is-fresh .ensures) ∙ not-false _ (c .before .before .before .before .before .before .before .before .before .if1 .left)) (sym (c .before .before .before .before .before .before .before .before .is-accepted .ensures) ∙ not-false _ (c .before .before .before .before .before .before .before .if2 .left)) (search needs) (search needs) (g .0 .0) (sym (g .1) ∙ c .before .before .before .before .read .ensures) in
+    let k = cold-refused (a .self) (a .x0) (a .x1) (a .x2) (a .x3) (a .most) (a .page .now) (sym (c .before .before .before .before .before .before .before .before .before .before .is-fresh .ensures) ∙ not-false _ (c .before .before .before .before .before .before .before .before .before .if1 .left)) (sym (c .before .before .before .before .before .before .before .before .is-accepted .ensures) ∙ not-false _ (c .before .before .before .before .before .before .before .if2 .left)) (search needs) (search needs) (g .0 .0) (refused-reads 4 (a .x3) (a .page .now) _ (sym (g .1) ∙ c .before .before .before .before .judge-page .ensures)) in
     (ap bootNumber (c .failed5 .ensures .1) ∙ c .before .code-of .ensures ∙ ap numberIn (g .1) ∙ k .0, c .failed5 .ensures .0 ∙ k .1)
 
 agreed-minor-requires : tie.Need-agreed-minor-requires
@@ -79,7 +80,7 @@ unfolding paramsOf
 returns-6 c =
     let a = c .before .before .before .before .before .before .before .before .before .before .before .args in
     let g = c .before .enum-told .given in
-    let k = cold-up (a .self) (a .x0) (a .x1) (a .x2) (a .x3) (a .most) (a .page .now) (sym (c .before .before .before .before .before .before .before .before .before .is-fresh .ensures) ∙ not-false _ (c .before .before .before .before .before .before .before .before .if1 .left)) (sym (c .before .before .before .before .before .before .before .is-accepted .ensures) ∙ not-false _ (c .before .before .before .before .before .before .if2 .left)) (search needs) (search needs) (g .0 .0) (sym (g .1) ∙ c .before .before .before .read .ensures) in
+    let k = cold-up (a .self) (a .x0) (a .x1) (a .x2) (a .x3) (a .most) (a .page .now) (sym (c .before .before .before .before .before .before .before .before .before .is-fresh .ensures) ∙ not-false _ (c .before .before .before .before .before .before .before .before .if1 .left)) (sym (c .before .before .before .before .before .before .before .is-accepted .ensures) ∙ not-false _ (c .before .before .before .before .before .before .if2 .left)) (search needs) (search needs) _ (fine-reads 4 (a .x3) (a .page .now) _ (sym (g .1) ∙ c .before .before .before .judge-page .ensures) .2) in
     (k .0, rw (c .agreed-minor .ensures .0) (k .1))
 
 pub cold-spec : {M : Type 1} → statement M
@@ -96,7 +97,7 @@ cold-spec =
     returns-3
     failed-requires-4
     returns-4
-    read-requires
+    judge-page-requires
     enum-told
     enum-told-2
     code-of-requires
