@@ -2,12 +2,14 @@
 use boot::Record;
 use runtime::Needs;
 ghost use mathlib.Core.Path.{_≡_};
+ghost use Prim.Native.Nat.{_≤_};
 ghost use lib.ListN.{length};
 ghost use Rattle.words.specs.Tests.{Yes};
 ghost use Rattle.reader.specs.Answer.{countIn, wordIn, readOf};
 ghost use Rattle.reader.specs.Reading.{sectionOf, readingAnswer};
 ghost use Rattle.reader.specs.declared.Reading.the-variants.{Accepted};
 ghost use Rattle.lookup.specs.Lookup.{spanOf, spanIn};
+ghost use Rattle.lookup.specs.Kept.{keptFor};
 ghost use Rattle.text.specs.Text.{lay, listingOf};
 ghost use Rattle.lists.specs.Description.{descriptionOf};
 ghost use Rattle.writer.specs.Write.{descriptionFits};
@@ -85,6 +87,15 @@ pub extern "C" fn pbeam_word(
     ensures { λ r. ⌜ r ≡ wordIn (readingAnswer (now (page .entry)) (Accepted (viewOf (now (view .entry))))) section entry word ⌝ }
 {
     lookup::word_of(page, images::view_of(view), section, entry, word)
+}
+
+// How many bytes the manifest of a view takes from the page's start: with so many kept bytes at cold boot it is read the same after any
+// runtime commands. At most 4,096.
+#[no_mangle]
+pub extern "C" fn pbeam_kept_for(view: &[u64; 15]) -> u64
+    ensures { λ r. ⌜ (r ≡ keptFor (viewOf (now (view .entry)))) × (r ≤ 4096) ⌝ }
+{
+    lookup::kept_for(images::view_of(view))
 }
 
 // The listing of a page at a base, as a reader of an edition reads it, as far as it fits. Answers the length of the whole text.
