@@ -26,7 +26,7 @@ pub fn read(page: &[u8], base: u64, edition: u64, view: &mut ViewImage) -> i32 {
     code
 }
 
-/// `pbeam_kept_for`. Each section's end is found without a division; a count or an offset above a page lies nowhere.
+/// `pbeam_kept_for`. A count or an offset that no page has is passed over, so that no sum wraps.
 #[inline(never)]
 pub fn kept_for(view: &ViewImage) -> u64 {
     const CORE: [u64; 5] = [16, 16, 40, 64, 112];
