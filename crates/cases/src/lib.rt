@@ -78,6 +78,7 @@ pub fn record_at(input: &[u8]) -> Record
         cpus: words::word_at(input, 8),
         base: words::word_at(input, 16),
         minor: words::word_at(input, 24),
+        kept: words::word_at(input, 32),
     };
     if state == 1 {
         return Record::Up(params);

@@ -35,18 +35,18 @@ fn print_moves(state: Record, granules: Granules, direction: u64, table: &mut [u
     print_answer(granules::undelegate_list(state, granules, table, list));
 }
 
-// A case with its lends: the table stands from 64 on, then the addresses, then the table expected.
+// A case with its lends: the table stands from 72 on, then the addresses, then the table expected.
 fn print_lent(input: &[u8], table: &mut [u8], list: &mut [u64])
     requires { ⌜ (length (now table) ≤ 600) × (length (now list) ≤ 600) ⌝ }
 {
     let t = table.len();
     let k = 8 * list.len();
-    words::copy(table, words::part_of(input, Span { at: 64, len: t }));
-    read_list(words::part_of(input, Span { at: 64 + t, len: k }), list);
+    words::copy(table, words::part_of(input, Span { at: 72, len: t }));
+    read_list(words::part_of(input, Span { at: 72 + t, len: k }), list);
     let granules = Granules {
-        start: words::word_at(input, 40),
+        start: words::word_at(input, 48),
     };
-    let direction = words::word_at(input, 32);
+    let direction = words::word_at(input, 40);
     print_moves(cases::record_at(input), granules, direction, table, list);
     cases::print_same(
         b"table",
@@ -54,7 +54,7 @@ fn print_lent(input: &[u8], table: &mut [u8], list: &mut [u64])
         words::part_of(
             input,
             Span {
-                at: 64 + t + k,
+                at: 72 + t + k,
                 len: t,
             },
         ),
@@ -64,8 +64,8 @@ fn print_lent(input: &[u8], table: &mut [u8], list: &mut [u64])
 fn print_case(input: &[u8]) {
     let mut table = [0u8; 600];
     let mut list = [0u64; 600];
-    let t = cases::length_at(input, 48, 600);
-    let n = cases::length_at(input, 56, 600);
+    let t = cases::length_at(input, 56, 600);
+    let n = cases::length_at(input, 64, 600);
     print_lent(input, &mut table[..t], &mut list[..n]);
 }
 

@@ -31,13 +31,13 @@ use Rattle.writer.specs.declared.Wrote.the-variants.{Page, Place, Edition, List
 unfoldable pub recordOf : List ℕ → Record
 recordOf w =
     cond (eqb (getD w 0 0) 0) Fresh
-    (cond (eqb (getD w 0 0) 1) (Up (record { cpus = getD w 1 0; base = getD w 2 0; minor = getD w 3 0 }))
+    (cond (eqb (getD w 0 0) 1) (Up (record { cpus = getD w 1 0; base = getD w 2 0; minor = getD w 3 0; kept = getD w 4 0 }))
     Closed)
 
 unfoldable pub recordWords : Record → List ℕ
-recordWords Fresh = 0 ∷ 0 ∷ 0 ∷ 0 ∷ []
-recordWords (Up u) = 1 ∷ u .cpus ∷ u .base ∷ u .minor ∷ []
-recordWords Closed = 2 ∷ 0 ∷ 0 ∷ 0 ∷ []
+recordWords Fresh = 0 ∷ 0 ∷ 0 ∷ 0 ∷ 0 ∷ []
+recordWords (Up u) = 1 ∷ u .cpus ∷ u .base ∷ u .minor ∷ u .kept ∷ []
+recordWords Closed = 2 ∷ 0 ∷ 0 ∷ 0 ∷ 0 ∷ []
 
 -- ---- the granule record: the address of the table's first granule
 unfoldable pub granulesOf : List ℕ → Granules

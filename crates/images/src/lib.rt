@@ -21,7 +21,7 @@ ghost use Rattle.codes.specs.Codes.{ifOk};
 ghost use Rattle.runtime.specs.Step.{replyCode};
 ghost use Rattle.images.specs.Image.{recordOf, recordWords, granulesOf, isSet, sessionOf, sessionWords, registerWords, workWords, sectionIn, sectionWords, viewOf, viewWords, spanWords, readingWords, wroteNumber, replyRegisters, replyWords};
 
-pub fn record_of(image: &[u64; 4]) -> Record
+pub fn record_of(image: &[u64; 5]) -> Record
     ensures { λ r. ⌜ r ≡ recordOf (now (image .entry)) ⌝ }
 {
     if image[0] == 0 {
@@ -32,18 +32,19 @@ pub fn record_of(image: &[u64; 4]) -> Record
             cpus: image[1],
             base: image[2],
             minor: image[3],
+            kept: image[4],
         });
     }
     Record::Closed
 }
 
-pub fn record_words(state: Record) -> [u64; 4]
+pub fn record_words(state: Record) -> [u64; 5]
     ensures { λ r. ⌜ r ≡ recordWords state ⌝ }
 {
     match state {
-        Record::Fresh => [0, 0, 0, 0],
-        Record::Up(params) => [1, params.cpus, params.base, params.minor],
-        Record::Closed => [2, 0, 0, 0],
+        Record::Fresh => [0, 0, 0, 0, 0],
+        Record::Up(params) => [1, params.cpus, params.base, params.minor, params.kept],
+        Record::Closed => [2, 0, 0, 0, 0],
     }
 }
 

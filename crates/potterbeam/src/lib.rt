@@ -2,12 +2,14 @@
 use boot::Record;
 use runtime::Needs;
 ghost use mathlib.Core.Path.{_≡_};
+ghost use Prim.Native.Nat.{_≤_};
 ghost use lib.ListN.{length};
 ghost use Rattle.words.specs.Tests.{Yes};
 ghost use Rattle.reader.specs.Answer.{countIn, wordIn, readOf};
 ghost use Rattle.reader.specs.Reading.{sectionOf, readingAnswer};
 ghost use Rattle.reader.specs.declared.Reading.the-variants.{Accepted};
 ghost use Rattle.lookup.specs.Lookup.{spanOf, spanIn};
+ghost use Rattle.lookup.specs.Kept.{keptFor};
 ghost use Rattle.text.specs.Text.{lay, listingOf};
 ghost use Rattle.lists.specs.Description.{descriptionOf};
 ghost use Rattle.writer.specs.Write.{descriptionFits};
@@ -87,6 +89,15 @@ pub extern "C" fn pbeam_word(
     lookup::word_of(page, images::view_of(view), section, entry, word)
 }
 
+// How many bytes the manifest of a view takes from the page's start: with so many kept bytes at cold boot it is read the same after any
+// runtime commands. At most 4,096.
+#[no_mangle]
+pub extern "C" fn pbeam_kept_for(view: &[u64; 15]) -> u64
+    ensures { λ r. ⌜ (r ≡ keptFor (viewOf (now (view .entry)))) × (r ≤ 4096) ⌝ }
+{
+    lookup::kept_for(images::view_of(view))
+}
+
 // The listing of a page at a base, as a reader of an edition reads it, as far as it fits. Answers the length of the whole text.
 #[no_mangle]
 pub extern "C" fn pbeam_listing(page: &[u8], base: u64, edition: u64, text: &mut [u8]) -> usize
@@ -143,21 +154,23 @@ pub extern "C" fn pbeam_is_later(a: u64, b: u64) -> bool
 
 // ---- Boot ----
 
-// Cold boot with x0 to x3 on a monitor of at most so many CPUs, and the manifest's page at x3. Answers 0 or the code.
+// Cold boot with x0 to x3 on a monitor of at most so many CPUs, with so many kept bytes at the start of the page, and the manifest's page at
+// x3. Answers 0 or the code.
 #[no_mangle]
 pub extern "C" fn pbeam_cold_boot(
-    image: &mut [u64; 4],
+    image: &mut [u64; 5],
     x0: u64,
     x1: u64,
     x2: u64,
     x3: u64,
     most: u64,
+    kept: u64,
     page: &[u8],
 ) -> i32
-    ensures { λ r. ⌜ r ≡ coldCode (recordOf (now (image .entry))) x0 x1 x2 x3 most (now (page .entry)) ⌝ }
-    ensures { λ r. ⌜ now (image .exit) ≡ recordWords (coldNext (recordOf (now (image .entry))) x0 x1 x2 x3 most (now (page .entry))) ⌝ }
+    ensures { λ r. ⌜ r ≡ coldCode (recordOf (now (image .entry))) x0 x1 x2 x3 most kept (now (page .entry)) ⌝ }
+    ensures { λ r. ⌜ now (image .exit) ≡ recordWords (coldNext (recordOf (now (image .entry))) x0 x1 x2 x3 most kept (now (page .entry))) ⌝ }
 {
-    let booted = images::record_of(image).cold(x0, x1, x2, x3, most, page);
+    let booted = images::record_of(image).cold(x0, x1, x2, x3, most, kept, page);
     let next = booted.next;
     *image = images::record_words(next);
     let code = booted.code;
@@ -166,7 +179,7 @@ pub extern "C" fn pbeam_cold_boot(
 
 // Warm boot with x0 to x3, of which only x0 counts. Answers 0 or the code.
 #[no_mangle]
-pub extern "C" fn pbeam_warm_boot(image: &mut [u64; 4], x0: u64, x1: u64, x2: u64, x3: u64) -> i32
+pub extern "C" fn pbeam_warm_boot(image: &mut [u64; 5], x0: u64, x1: u64, x2: u64, x3: u64) -> i32
     ensures { λ r. ⌜ r ≡ warmCode (recordOf (now (image .entry))) x0 ⌝ }
     ensures { λ r. ⌜ now (image .exit) ≡ recordWords (warmNext (recordOf (now (image .entry))) x0) ⌝ }
 {
@@ -179,7 +192,7 @@ pub extern "C" fn pbeam_warm_boot(image: &mut [u64; 4], x0: u64, x1: u64, x2: u6
 
 // Closes the record for good, whatever it was: for EL3, when the monitor reports that its boot failed.
 #[no_mangle]
-pub extern "C" fn pbeam_close(image: &mut [u64; 4])
+pub extern "C" fn pbeam_close(image: &mut [u64; 5])
     ensures { λ _. ⌜ now (image .exit) ≡ recordWords Closed ⌝ }
 {
     *image = images::record_words(Record::Closed);
@@ -190,7 +203,7 @@ pub extern "C" fn pbeam_close(image: &mut [u64; 4])
 // 0xC40001B0: the granule at an address becomes Realm.
 #[no_mangle]
 pub extern "C" fn pbeam_delegate(
-    state: &[u64; 4],
+    state: &[u64; 5],
     granules: &[u64; 1],
     table: &mut [u8],
     address: u64,
@@ -210,7 +223,7 @@ pub extern "C" fn pbeam_delegate(
 // 0xC40001B1: the granule at an address becomes Non-secure.
 #[no_mangle]
 pub extern "C" fn pbeam_undelegate(
-    state: &[u64; 4],
+    state: &[u64; 5],
     granules: &[u64; 1],
     table: &mut [u8],
     address: u64,
@@ -230,7 +243,7 @@ pub extern "C" fn pbeam_undelegate(
 // The granules at a list of addresses become Realm, one by one up to the first that is refused; x1 is how many did.
 #[no_mangle]
 pub extern "C" fn pbeam_delegate_list(
-    state: &[u64; 4],
+    state: &[u64; 5],
     granules: &[u64; 1],
     table: &mut [u8],
     addresses: &[u64],
@@ -250,7 +263,7 @@ pub extern "C" fn pbeam_delegate_list(
 // The granules at a list of addresses become Non-secure, one by one up to the first that is refused; x1 is how many did.
 #[no_mangle]
 pub extern "C" fn pbeam_undelegate_list(
-    state: &[u64; 4],
+    state: &[u64; 5],
     granules: &[u64; 1],
     table: &mut [u8],
     addresses: &[u64],
@@ -270,7 +283,7 @@ pub extern "C" fn pbeam_undelegate_list(
 // 0xC40001B2: the realm key at pa.
 #[no_mangle]
 pub extern "C" fn pbeam_realm_key(
-    state: &[u64; 4],
+    state: &[u64; 5],
     page: &mut [u8],
     key: &[u8],
     pa: u64,
@@ -294,7 +307,7 @@ pub extern "C" fn pbeam_realm_key(
 // 0xC40001B3: the next hunk of the token at pa. The session's image is written where the call is accepted.
 #[no_mangle]
 pub extern "C" fn pbeam_platform_token(
-    state: &[u64; 4],
+    state: &[u64; 5],
     session: &mut [u64; 3],
     page: &mut [u8],
     token: &[u8],
@@ -327,7 +340,7 @@ pub extern "C" fn pbeam_platform_token(
 // Where the challenge of a start lies in the page. Answers x0 of the first check that the call fails, or OK.
 #[no_mangle]
 pub extern "C" fn pbeam_challenge(
-    state: &[u64; 4],
+    state: &[u64; 5],
     page: &[u8],
     pa: u64,
     size: u64,
@@ -344,7 +357,7 @@ pub extern "C" fn pbeam_challenge(
 
 // 0xC40001B4: the features at an index.
 #[no_mangle]
-pub extern "C" fn pbeam_features(state: &[u64; 4], index: u64, out: &mut [u64; 3])
+pub extern "C" fn pbeam_features(state: &[u64; 5], index: u64, out: &mut [u64; 3])
     ensures { λ _. ⌜ now (out .exit) ≡ registerWords (featuresOf (recordOf (now (state .entry))) index) ⌝ }
 {
     *out = images::registers(features::features(images::record_of(state), index));
@@ -354,7 +367,7 @@ pub extern "C" fn pbeam_features(state: &[u64; 4], index: u64, out: &mut [u64; 3
 // responses'; no other word of it changes.
 #[no_mangle]
 pub extern "C" fn pbeam_token_signing(
-    state: &[u64; 4],
+    state: &[u64; 5],
     queue: &mut [u64; 210],
     page: &mut [u8],
     key: &[u8],
@@ -375,7 +388,7 @@ pub extern "C" fn pbeam_token_signing(
 // 0xC40001B6: what the platform has to do goes into work.
 #[no_mangle]
 pub extern "C" fn pbeam_key_update(
-    state: &[u64; 4],
+    state: &[u64; 5],
     width: u64,
     mecid: u64,
     out: &mut [u64; 3],
@@ -393,7 +406,7 @@ pub extern "C" fn pbeam_key_update(
 
 // 0xC400018F: the error code that goes to the Non-secure world.
 #[no_mangle]
-pub extern "C" fn pbeam_forward(state: &[u64; 4], x1: u64) -> u64
+pub extern "C" fn pbeam_forward(state: &[u64; 5], x1: u64) -> u64
     ensures { λ r. ⌜ r ≡ forwardOf (recordOf (now (state .entry))) x1 ⌝ }
 {
     features::forward(images::record_of(state), x1)
@@ -432,7 +445,7 @@ pub extern "C" fn pbeam_responses(queue: &[u64; 210]) -> usize
 
 // A call that uses neither session nor queue.
 fn plain(
-    state: &[u64; 4],
+    state: &[u64; 5],
     page: &mut [u8],
     granules: &[u64; 1],
     table: &mut [u8],
@@ -465,7 +478,7 @@ fn plain(
 // signing the queue's; each changes where the call is accepted.
 #[no_mangle]
 pub extern "C" fn pbeam_call(
-    state: &[u64; 4],
+    state: &[u64; 5],
     session: &mut [u64; 3],
     queue: &mut [u64; 210],
     page: &mut [u8],
