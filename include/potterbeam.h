@@ -415,8 +415,8 @@ uint64_t pbeam_word(const uint8_t *page, size_t page_len, const uint64_t view[PB
  *          within 4,096 bytes do not count; so it is never above 4,096.
  * Leaves   the view as it was.
  * Stack    160 bytes; AArch64 128
- * With so many kept bytes the page is read with the same answer after any commands (proved), by a reader of the view's edition or an older
- * one. What plat_data points at is not counted: where that is to be kept too, take the larger number.
+ * With so many kept bytes pbeam_read gives the same answer and the same view after any commands (proved), as the edition that the view was
+ * read as, and so as an older one. What plat_data points at is not counted: where that is to be kept too, take the larger number.
  */
 PBEAM_NONNULL(1)
 uint64_t pbeam_kept_for(const uint64_t view[PBEAM_VIEW_WORDS]);
