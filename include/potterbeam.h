@@ -30,10 +30,14 @@
  *
  * What the library cannot check, and EL3 has to do:
  *
- * The boot record. EL3 keeps one of its own, apart from the monitor's: every command takes B and the agreed minor from it. EL3 gets it
- *   up with pbeam_cold_boot, over the registers and the page that it is about to hand to the monitor, before it enters the monitor,
- *   since the monitor may call EL3 while it boots. Before each warm boot it calls pbeam_warm_boot. Both sides check the same, so both
- *   records hold the same. A record that EL3 finds closed means: do not enter the monitor.
+ * The boot record. EL3 keeps one of its own, apart from the monitor's: every command takes B, the agreed minor and the kept bytes from it.
+ *   EL3 gets it up with pbeam_cold_boot, over the registers and the page that it is about to hand to the monitor, before it enters the
+ *   monitor, since the monitor may call EL3 while it boots. Before each warm boot it calls pbeam_warm_boot. Both sides check the same, so
+ *   both records hold the same. A record that EL3 finds closed means: do not enter the monitor.
+ * Kept bytes. With K kept bytes in EL3's record no command writes below B + K, so a manifest that lies there can be read at any later boot.
+ *   pbeam_kept_for says how many bytes a manifest takes; with 0 the first command may overwrite it. No register carries K: the monitor
+ *   finds the same number with pbeam_kept_for on the same page, and puts its buffers at B + K and above. The monitor itself may still write
+ *   there: only the commands are held to it.
  * Boot errors. The monitor ends each boot with RMM_BOOT_COMPLETE (0xC40001CF, the code in x1). That call is the platform's: pbeam_call
  *   answers PBEAM_X0_UNK. If x1 is not 0, EL3 closes its record with pbeam_close and lets no CPU enter the monitor again. Every
  *   command but 0xC400018F is PBEAM_X0_UNK from then on.
@@ -49,7 +53,8 @@
  * 0xC400018F does not return to the monitor, so `out` goes nowhere. The Non-secure world gets x0 to x4 (002). 002 names err_code alone, which
  *   is the value of `work`: it goes into x0. Which of the monitor's registers go into x1 to x4 is the platform's; we suggest x2 to x5.
  * Hand-made images. Any words are taken, and no call touches more than it is lent; but an answer is only as true as the words.
- *   - A record that is up is believed: B says which addresses are in the page, the minor which commands there are. Neither is checked.
+ *   - A record that is up is believed: B says which addresses are in the page, the kept bytes which of them are free, the minor which
+ *     commands there are. None is checked; with more than 4,095 kept bytes every buffer is outside.
  *   - A session that has sent as much as its token or more: the next call that goes on is OK with hunk 0 and rest 0, and ends it.
  *   - A request in the queue with ids above 32 bits, or with any ids: pbeam_oldest shows them as they stand, and pbeam_sign takes it. A
  *     push never puts one there.
@@ -241,11 +246,12 @@
 /* ---- Images: sizes in words, and word numbers. All zero: fresh record, idle session, empty queue. ---- */
 
 /* Boot record. Only boot writes it. */
-#define PBEAM_STATE_WORDS 4
+#define PBEAM_STATE_WORDS 5
 #define PBEAM_STATE_KIND 0
 #define PBEAM_STATE_CPUS 1  /* x2 of the cold boot; 0 when not up */
 #define PBEAM_STATE_BASE 2  /* B; 0 when not up */
 #define PBEAM_STATE_MINOR 3 /* agreed minor; 0 when not up */
+#define PBEAM_STATE_KEPT 4  /* K, the number of kept bytes at the page's start; 0 when not up */
 #define PBEAM_STATE_FRESH 0
 #define PBEAM_STATE_UP 1
 #define PBEAM_STATE_CLOSED 2 /* as written; any other number is read as closed too */
@@ -401,6 +407,21 @@ uint64_t pbeam_word(const uint8_t *page, size_t page_len, const uint64_t view[PB
                     size_t word);
 
 /*
+ * pbeam_kept_for: how many bytes at the page's start the manifest takes: the number of kept bytes to give pbeam_cold_boot, so that no
+ *          command overwrites it.
+ * Takes    the view that pbeam_read made of the page as PBEAM_EDITION_LAST.
+ * Answers  the highest end of the core and of the arrays, as an offset in the page, rounded up to a multiple of 8: from 16 to 4,096. Of a
+ *          view that no reading made: the core is that of its edition, below 1 taken as 1 and above 4 as 4, and entries that do not lie
+ *          within 4,096 bytes do not count; so it is never above 4,096.
+ * Leaves   the view as it was.
+ * Stack    160 bytes; AArch64 128
+ * With so many kept bytes pbeam_read gives the same answer and the same view after any commands (proved), as the edition that the view was
+ * read as, and so as an older one. What plat_data points at is not counted: where that is to be kept too, take the larger number.
+ */
+PBEAM_NONNULL(1)
+uint64_t pbeam_kept_for(const uint64_t view[PBEAM_VIEW_WORDS]);
+
+/*
  * pbeam_listing: what a page shows, as text: a line for version and edition, one for plat_data, and for each section its number of entries
  *          with a line an entry, or that it is absent.
  * Takes    the page, base and edition as pbeam_read, and a room for the text.
@@ -438,20 +459,23 @@ uint32_t pbeam_write(uint64_t base, uint64_t edition, const uint64_t *dram, size
 
 /*
  * pbeam_cold_boot: the first boot after a reset.
- * Takes    the boot record; x0 the CPU, x1 the version offered, x2 the number of CPUs, x3 = B; the monitor's maximum of CPUs; the
- *          page at B, which is read as PBEAM_EDITION_LAST.
+ * Takes    the boot record; x0 the CPU, x1 the version offered, x2 the number of CPUs, x3 = B; the monitor's maximum of CPUs; K = kept, the
+ *          number of bytes at the page's start that no command may write (0: none; pbeam_kept_for: those of the manifest); the page at B,
+ *          which is read as PBEAM_EDITION_LAST.
  * Answers  PBEAM_BOOT_DONE, or by the first check that fails:
  *          PBEAM_BOOT_STATE        record not fresh
  *          PBEAM_BOOT_VERSION      x1 above 32 bits; bit 31 set, major not 0, or minor 0
  *          PBEAM_BOOT_CPUS         x2 above most
  *          PBEAM_BOOT_CPU          x0 not below x2; so with x2 = 0 always
+ *          PBEAM_MANIFEST_PLACE    K above 4,096
  *          PBEAM_MANIFEST_PLACE, PBEAM_MANIFEST_VERSION, PBEAM_MANIFEST_RULES  as pbeam_read
- * Leaves   the page as it was. state: up, with x2, B and the agreed minor; refused: closed, for good.
+ * Leaves   the page as it was. state: up, with x2, B, the agreed minor and K; refused: closed, for good.
  * Stack    416 bytes; AArch64 432
- * The view is not kept: read the page with pbeam_read before a command writes into it.
+ * The view is not kept. With K = 0 read the page with pbeam_read before a command writes into it. K need not cover the manifest; with K =
+ * 4,096 every buffer is outside.
  */
 PBEAM_NONNULL(1)
-int32_t pbeam_cold_boot(uint64_t state[PBEAM_STATE_WORDS], uint64_t x0, uint64_t x1, uint64_t x2, uint64_t x3, uint64_t most,
+int32_t pbeam_cold_boot(uint64_t state[PBEAM_STATE_WORDS], uint64_t x0, uint64_t x1, uint64_t x2, uint64_t x3, uint64_t most, uint64_t kept,
                         const uint8_t *page, size_t page_len);
 
 /*
@@ -460,7 +484,7 @@ int32_t pbeam_cold_boot(uint64_t state[PBEAM_STATE_WORDS], uint64_t x0, uint64_t
  * Answers  PBEAM_BOOT_DONE, or by the first check that fails:
  *          PBEAM_BOOT_STATE        record not up
  *          PBEAM_BOOT_CPU          x0 not below the cold boot's x2
- * Leaves   state: up, as it was; refused: closed, for good. A CPU may warm boot twice.
+ * Leaves   state: up, as it was, kept bytes too; refused: closed, for good. A CPU may warm boot twice.
  * Stack    32 bytes; AArch64 16
  */
 PBEAM_NONNULL(1)
@@ -495,8 +519,8 @@ uint64_t pbeam_agreed_minor(uint64_t version);
  */
 bool pbeam_is_later(uint64_t a, uint64_t b);
 
-/* ---- Runtime commands. A buffer is `size` bytes at physical address pa. It is outside when pa is below B or not below B + 4,096,
- * and too long when size exceeds B + 4,096 - pa. B and the agreed minor are those of the boot record. ---- */
+/* ---- Runtime commands. A buffer is `size` bytes at physical address pa. It is outside when pa is below B + K or not below B + 4,096,
+ * and too long when size exceeds B + 4,096 - pa. B, K (the number of kept bytes) and the agreed minor are those of the boot record. ---- */
 
 /*
  * pbeam_delegate (0xC40001B0): a granule goes from Non-secure to Realm.

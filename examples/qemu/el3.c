@@ -123,14 +123,18 @@ static struct context *enter(uint64_t cpu, enum world world, uint64_t x0)
     return to;
 }
 
-/* EL3's own record goes up before the monitor is entered, over the registers and the page that it hands over. */
+/* EL3's own record goes up before the monitor is entered, over the registers and the page that it hands over. It keeps the bytes that the
+ * manifest takes: no command writes there. */
 static struct context *cold_boot(void)
 {
     const uint64_t offered = settings() & SET_OLDER ? PBEAM_SIGNING_MINOR - 1 : PBEAM_INTERFACE_MINOR; /* a version of major 0 */
     const pbeam_cold_t x = {.cpu = 0, .version = offered, .cpus = CPUS, .base = PAGE};
     struct context *to = enter(0, WORLD_MONITOR, x.cpu);
-    const int32_t code = pbeam_record_cold_boot(&el3.kit.record, &x, CPUS, el3.kit.page);
-    say("EL3: cold boot of its own record: %s\n", pbeam_boot_text(code));
+    pbeam_view_t view;
+    int32_t code;
+    (void)pbeam_manifest_read(el3.kit.page, PAGE, PBEAM_EDITION_LAST, &view); /* the cold boot answers for a refused page */
+    code = pbeam_record_cold_boot(&el3.kit.record, &x, CPUS, pbeam_view_kept(&view), el3.kit.page);
+    say("EL3: cold boot of its own record: %s, %d bytes kept\n", pbeam_boot_text(code), pbeam_record_kept(&el3.kit.record));
     if (code != E_RMM_BOOT_SUCCESS)
         end(EXIT_NO_BOOT);
     if (settings() & SET_BROKEN)

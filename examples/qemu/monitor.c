@@ -2,8 +2,8 @@
  * A stand-in for the monitor (RMM), at EL2. It boots from x0 to x3, draws a token while it boots, as 002 lets it, and then serves the
  * host's calls. Every answer of EL3 is compared with what the interface wants; what differs is printed and counted.
  *
- * The buffers lie at odd addresses in the upper half of the page, so that no word in them is aligned, and so that the manifest in the lower
- * half can be read again at the end.
+ * The buffers lie at odd addresses, so that no word in them is aligned, and behind the kept bytes, where the manifest is: it is read again
+ * after the token, at the warm boot and at the end.
  */
 #include "potterbeam_types.h"
 
@@ -14,7 +14,8 @@
 
 #define CPUS_MOST 8 /* what the monitor is built for */
 
-#define TOKEN_AT 0x801 /* offsets in the page */
+#define KEPT 192            /* bytes of the manifest: core, a bank, a console, a region */
+#define TOKEN_AT (KEPT + 1) /* offsets in the page */
 #define KEY_AT 0x903
 #define SIGN_AT 0xA05
 #define TOKEN_BUFFER 64
@@ -95,6 +96,7 @@ static void draw_token(void)
     take(&other);
     take(&rest);
     bytes_are("token's byte", buffer, TOKEN_BYTES - TOKEN_BUFFER, (uint8_t)(0xC4 + TOKEN_BUFFER), 1);
+    list_manifest(); /* no hunk was written over it */
 }
 
 static bool has_signing(void)
@@ -145,12 +147,17 @@ _Noreturn static void boot_complete(int32_t code)
 _Noreturn void cold(uint64_t x0, uint64_t x1, uint64_t x2, uint64_t x3)
 {
     const pbeam_cold_t x = {.cpu = x0, .version = x1, .cpus = x2, .base = x3};
-    const int32_t code = pbeam_record_cold_boot(&record, &x, CPUS_MOST, (const pbeam_page_t *)x3);
+    const pbeam_page_t *lent = (const pbeam_page_t *)x3;
+    pbeam_view_t view;
+    int32_t code;
+    (void)pbeam_manifest_read(lent, x3, PBEAM_EDITION_LAST, &view); /* the cold boot answers for a refused page */
+    code = pbeam_record_cold_boot(&record, &x, CPUS_MOST, pbeam_view_kept(&view), lent);
     say("monitor: CPU %d at level %d%s, cold boot: %s\n", x0, level(), has_rme() ? " of the Realm world" : "", pbeam_boot_text(code));
     if (code == E_RMM_BOOT_SUCCESS) {
-        say("monitor: %d CPUs, page at 0x%x, agreed minor %d\n", pbeam_record_cpus(&record), pbeam_record_base(&record),
-            pbeam_record_minor(&record));
-        list_manifest(); /* before a command writes into the page */
+        say("monitor: %d CPUs, page at 0x%x, agreed minor %d, %d bytes kept\n", pbeam_record_cpus(&record), pbeam_record_base(&record),
+            pbeam_record_minor(&record), pbeam_record_kept(&record));
+        expect("kept bytes", pbeam_record_kept(&record), KEPT);
+        list_manifest();
         expect_read("EL3's memory", SECURE_RAM, NO_ACCESS);
         prepare();
     }
@@ -161,6 +168,7 @@ _Noreturn void warm(uint64_t x0)
 {
     const int32_t code = pbeam_record_warm_boot(&record, x0);
     say("monitor: CPU %d at level %d, warm boot: %s\n", x0, level(), pbeam_boot_text(code));
+    list_manifest();
     boot_complete(code);
 }
 
@@ -243,7 +251,7 @@ static uint64_t drain(void)
     return RMI_SUCCESS;
 }
 
-/* Commands wrote into their buffers and nowhere else: the manifest is still there. */
+/* After all commands the manifest is still there. */
 static uint64_t report(uint64_t *result)
 {
     list_manifest();
@@ -288,10 +296,12 @@ static const struct step refused[] = {
     {"undelegate outside the table", {RMM_GTSI_UNDELEGATE, MEMORY - PBEAM_GRANULE_BYTES}, {PBEAM_X0_BAD_ADDR}},
     {"undelegate a Non-secure granule", {RMM_GTSI_UNDELEGATE, MEMORY + PBEAM_GRANULE_BYTES}, {PBEAM_X0_BAD_PAS}},
     {"realm key outside the page", {RMM_ATTEST_GET_REALM_KEY, OUTSIDE, 96}, {PBEAM_X0_BAD_ADDR}},
+    {"realm key in the kept bytes", {RMM_ATTEST_GET_REALM_KEY, AT(KEPT - 1), 96}, {PBEAM_X0_BAD_ADDR}},
     {"realm key past the page", {RMM_ATTEST_GET_REALM_KEY, AT(4095), 2}, {PBEAM_X0_INVAL}},
     {"realm key of another curve", {RMM_ATTEST_GET_REALM_KEY, AT(KEY_AT), 96, 1}, {PBEAM_X0_INVAL}},
     {"realm key into too small a buffer", {RMM_ATTEST_GET_REALM_KEY, AT(KEY_AT), REALM_KEY_BYTES - 1}, {PBEAM_X0_UNK}},
     {"token outside the page", TOKEN(PAGE - 1, 64, 48), {PBEAM_X0_BAD_ADDR}},
+    {"token in the kept bytes", TOKEN(AT(KEPT - 1), 64, 48), {PBEAM_X0_BAD_ADDR}},
     {"token past the page", TOKEN(AT(4033), 64, 48), {PBEAM_X0_INVAL}},
     {"token for 33 bytes of challenge", TOKEN(AT(TOKEN_AT), 64, 33), {PBEAM_X0_INVAL}},
     {"token for more challenge than buffer", TOKEN(AT(TOKEN_AT), 47, 48), {PBEAM_X0_INVAL}},
@@ -299,6 +309,9 @@ static const struct step refused[] = {
     {"features, register 1", {RMM_EL3_FEATURES, 1}, {PBEAM_X0_INVAL}},
     {"signing with opcode 4", SIGN(4, AT(SIGN_AT), 80, 0), {PBEAM_X0_INVAL}},
     {"push outside the page", SIGN(PBEAM_OPCODE_PUSH, OUTSIDE, 80, 0), {PBEAM_X0_INVAL}},
+    {"push in the kept bytes", SIGN(PBEAM_OPCODE_PUSH, PAGE, 80, 0), {PBEAM_X0_INVAL}},
+    {"pull into the kept bytes", SIGN(PBEAM_OPCODE_PULL, AT(KEPT - 1), 122, 0), {PBEAM_X0_INVAL}},
+    {"public key into the kept bytes", SIGN(PBEAM_OPCODE_KEY, PAGE, PUBLIC_KEY_BYTES, 0), {PBEAM_X0_INVAL}},
     {"push past the page", SIGN(PBEAM_OPCODE_PUSH, AT(SIGN_AT), ROOM + 1, 0), {PBEAM_X0_INVAL}},
     {"push of 79 bytes", SIGN(PBEAM_OPCODE_PUSH, AT(SIGN_AT), 79, 0), {PBEAM_X0_INVAL}},
     {"public key of another curve", SIGN(PBEAM_OPCODE_KEY, AT(SIGN_AT), PUBLIC_KEY_BYTES, 1), {PBEAM_X0_INVAL}},

@@ -75,7 +75,7 @@ struct Up {
 
 impl Up {
     fn new() -> Up {
-        let image = hidden([1, 8, BASE, 5]);
+        let image = hidden([1, 8, BASE, 5, 0]);
         let record = record_of(&image);
         Up { image, record }
     }
@@ -154,6 +154,20 @@ fn compare_reading(name: &str, base: u64, edition: u64, lists: Lists) {
         ],
     );
     assert_eq!(view, theirs);
+}
+
+/// What the manifest of a view takes of the page.
+fn compare_kept_for() {
+    let (mut page, mut view) = (Page([0; PAGE]), [0; 15]);
+    write(BASE, 4, [&BANK, &CONSOLE, &BANK, &BANK], &mut page.0).expect("written");
+    assert_eq!(Kit::read(page.lent(), BASE, 4, &mut view), 0);
+    assert_eq!(Kit::kept_for(&view), fast::kept_for(&view));
+    compare(
+        "kept bytes of a view",
+        1,
+        side(|| see(Kit::kept_for(&view))),
+        vec![("by hand", side(|| see(fast::kept_for(&view))))],
+    );
 }
 
 /// A writing, and the answer that all sides give.
@@ -250,7 +264,7 @@ fn compare_granules() {
 /// A list by hand: what does not depend on the address is looked at once, and the rest where it lies.
 #[inline(never)]
 fn native_delegate_list(
-    state: &[u64; 4],
+    state: &RecordImage,
     start: u64,
     table: &mut [u8],
     list: &[u64],
@@ -699,29 +713,35 @@ fn compare_calls() {
 // ---- Cold boot ----
 
 #[inline(never)]
-fn in_place_cold_boot(state: &mut RecordImage, x: [u64; 4], most: u64, page: &[u8]) -> i32 {
-    Model::cold_boot(state, x, most, page)
+fn in_place_cold_boot(
+    state: &mut RecordImage,
+    x: [u64; 4],
+    most: u64,
+    kept: u64,
+    page: &[u8],
+) -> i32 {
+    Model::cold_boot(state, x, most, kept, page)
 }
 
 fn compare_cold_boot() {
     let mut page = Page([0; PAGE]);
     write(BASE, 2, [&BANK, &[], &[], &[]], &mut page.0).expect("written");
-    let (x, [most]) = (hidden([0, 5, 8, BASE]), hidden([8]));
+    let (x, [most, kept]) = (hidden([0, 5, 8, BASE]), hidden([8, 56]));
     let page = &*page.lent();
-    let [mut ours, mut theirs] = [[0; 4]; 2];
+    let [mut ours, mut theirs] = [[0; 5]; 2];
     compare(
         "cold boot with example 14's page",
         1,
         side(|| {
-            ours = [0; 4];
-            assert_eq!(Kit::cold_boot(&mut ours, x, most, page), 0);
+            ours = [0; 5];
+            assert_eq!(Kit::cold_boot(&mut ours, x, most, kept, page), 0);
             see(ours[3]);
         }),
         vec![(
             "in place",
             side(|| {
-                theirs = [0; 4];
-                assert_eq!(in_place_cold_boot(&mut theirs, x, most, page), 0);
+                theirs = [0; 5];
+                assert_eq!(in_place_cold_boot(&mut theirs, x, most, kept, page), 0);
                 see(theirs[3]);
             }),
         )],
@@ -1046,6 +1066,7 @@ fn main() {
     println!("Best of {RUNS} runs, in turn. No page, table or image is cleared before a call.");
     println!("ns a call                              library reference  ratio  reference's state");
     compare_manifests();
+    compare_kept_for();
     if std::env::args().nth(1).as_deref() == Some("manifest") {
         return;
     }

@@ -145,7 +145,7 @@ fn signing(
     if !(1..=3).contains(&opcode) {
         return Err(Error::Inval);
     }
-    let room = buffer(kept.base, pa, size).map_err(|_| Error::Inval)?;
+    let room = buffer(kept, pa, size).map_err(|_| Error::Inval)?;
     if opcode == 3 && curve != 0 {
         return Err(Error::Inval);
     }

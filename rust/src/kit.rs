@@ -51,6 +51,7 @@ pub mod ffi {
             entry: usize,
             word: usize,
         ) -> u64;
+        pub fn pbeam_kept_for(view: *const ViewImage) -> u64;
         pub fn pbeam_listing(
             page: *const u8,
             page_len: usize,
@@ -80,6 +81,7 @@ pub mod ffi {
             x2: u64,
             x3: u64,
             most: u64,
+            kept: u64,
             page: *const u8,
             page_len: usize,
         ) -> i32;
@@ -266,6 +268,11 @@ impl Exports for Kit {
     }
 
     #[inline]
+    fn kept_for(view: &ViewImage) -> u64 {
+        unsafe { ffi::pbeam_kept_for(view) }
+    }
+
+    #[inline]
     fn listing(page: &[u8], base: u64, edition: u64, text: &mut [u8]) -> usize {
         let (page, page_len) = lend(page);
         let (text, text_len) = lend_mut(text);
@@ -299,10 +306,10 @@ impl Exports for Kit {
     }
 
     #[inline]
-    fn cold_boot(state: &mut RecordImage, x: [u64; 4], most: u64, page: &[u8]) -> i32 {
+    fn cold_boot(state: &mut RecordImage, x: [u64; 4], most: u64, kept: u64, page: &[u8]) -> i32 {
         let [x0, x1, x2, x3] = x;
         let (page, page_len) = lend(page);
-        unsafe { ffi::pbeam_cold_boot(state, x0, x1, x2, x3, most, page, page_len) }
+        unsafe { ffi::pbeam_cold_boot(state, x0, x1, x2, x3, most, kept, page, page_len) }
     }
 
     #[inline]

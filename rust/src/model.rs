@@ -14,7 +14,7 @@ use crate::reference::codes::{Answer, Outcome};
 use crate::reference::features::{features, forward, key_update};
 use crate::reference::granules::{delegate, delegate_list, undelegate, undelegate_list};
 use crate::reference::key::realm_key;
-use crate::reference::layout::{accepted_minor, ENTRY_WORDS};
+use crate::reference::layout::{accepted_minor, Edition, ENTRY_WORDS, PAGE, SECTIONS};
 use crate::reference::listing::list;
 use crate::reference::queue::Queue;
 use crate::reference::reader::{array, read, shown_word};
@@ -60,6 +60,13 @@ impl Exports for Model {
         }
     }
 
+    fn kept_for(view: &ViewImage) -> u64 {
+        let edition = Edition::new(view[1].clamp(1, 4)).expect("an edition");
+        let parts = (0..SECTIONS).filter_map(|section| part_of(PAGE, view, section));
+        let end = parts.map(|part| part.end).fold(edition.core(), usize::max);
+        (end as u64 + 7) / 8 * 8
+    }
+
     fn listing(page: &[u8], base: u64, edition: u64, text: &mut [u8]) -> usize {
         let mut whole = String::new();
         list(&mut whole, page, base, edition).expect("a string takes any text");
@@ -72,8 +79,8 @@ impl Exports for Model {
         write(base, edition, lists, page).map_or_else(|refusal| refusal as u32, |()| 0)
     }
 
-    fn cold_boot(state: &mut RecordImage, x: [u64; 4], most: u64, page: &[u8]) -> i32 {
-        boot(state, |record| record.cold(x, most, page))
+    fn cold_boot(state: &mut RecordImage, x: [u64; 4], most: u64, kept: u64, page: &[u8]) -> i32 {
+        boot(state, |record| record.cold(x, most, kept, page))
     }
 
     fn warm_boot(state: &mut RecordImage, x: [u64; 4]) -> i32 {

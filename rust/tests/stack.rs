@@ -25,7 +25,7 @@ const BASE: u64 = 0x8000_0000;
 const MEMORY: u64 = 0x9000_0000;
 const BANK: [u64; 2] = [0x9000_0000, 0x1000_0000];
 const CONSOLE: [u64; 6] = [0x1c0c_0000, 1, 0x7061_7274, 24_000_000, 115_200, 0];
-const UP: [u64; 4] = [1, 8, BASE, 5];
+const UP: RecordImage = [1, 8, BASE, 5, 0];
 
 /// The most that a call on a boot path may take: half of a boot stack of 2 KiB.
 const BOOT: usize = 1024;
@@ -319,9 +319,11 @@ fn reading(header: &mut Header, what: &str, page: &[u8], code: i32) {
 }
 
 fn cold_booting(header: &mut Header, what: &str, page: &[u8], code: i32) {
-    header.within(("pbeam_cold_boot", what), &[0; 4], code, |state| {
-        Kit::cold_boot(state, [0, 5, 8, BASE], 8, page)
-    });
+    for kept in [0, 112, 4096] {
+        header.within(("pbeam_cold_boot", what), &[0; 5], code, |state| {
+            Kit::cold_boot(state, [0, 5, 8, BASE], 8, kept, page)
+        });
+    }
 }
 
 /// By a view of the page, and by views that no reading made.
@@ -339,6 +341,12 @@ fn looking_up(header: &mut Header) {
         header.within(("pbeam_count", what), &(), count, |()| {
             Kit::count(&page, &view, 1)
         });
+        header.within(
+            ("pbeam_kept_for", what),
+            &(),
+            Model::kept_for(&view),
+            |()| Kit::kept_for(&view),
+        );
         let word = if count == 0 { 0 } else { CONSOLE[4] };
         header.within(("pbeam_word", what), &(), word, |()| {
             Kit::word(&page, &view, 1, 82, 4)
@@ -369,20 +377,21 @@ fn writing(header: &mut Header) {
 /// The boots that no page decides.
 fn refused_boots(header: &mut Header) {
     let page = consoles(1);
-    for (what, state, x, code) in [
-        ("record not fresh", UP, [0, 5, 8, BASE], -1),
-        ("version", [0; 4], [0, 0, 8, BASE], -2),
-        ("number of CPUs", [0; 4], [0, 5, 9, BASE], -3),
-        ("CPU", [0; 4], [8, 5, 8, BASE], -4),
-        ("B", [0; 4], [0, 5, 8, 1], -5),
+    for (what, state, x, kept, code) in [
+        ("record not fresh", UP, [0, 5, 8, BASE], 0, -1),
+        ("version", [0; 5], [0, 0, 8, BASE], 0, -2),
+        ("number of CPUs", [0; 5], [0, 5, 9, BASE], 0, -3),
+        ("CPU", [0; 5], [8, 5, 8, BASE], 0, -4),
+        ("kept bytes", [0; 5], [0, 5, 8, BASE], 4097, -5),
+        ("B", [0; 5], [0, 5, 8, 1], 0, -5),
     ] {
         header.within(("pbeam_cold_boot", what), &state, code, |state| {
-            Kit::cold_boot(state, x, 8, &page)
+            Kit::cold_boot(state, x, 8, kept, &page)
         });
     }
     for (what, state, cpu, code) in [
         ("accepted", UP, 7, 0),
-        ("record not up", [0; 4], 0, -1),
+        ("record not up", [0; 5], 0, -1),
         ("CPU", UP, 8, -4),
     ] {
         header.within(("pbeam_warm_boot", what), &state, code, |state| {
@@ -476,8 +485,8 @@ fn cold_boot_fits_a_boot_stack() {
             page_of([&BANK, &CONSOLE, &BANK, &BANK]),
         ),
     ] {
-        boot_stack(what, &[0; 4], |state| {
-            Kit::cold_boot(state, [0, 5, 8, BASE], 8, &page)
+        boot_stack(what, &[0; 5], |state| {
+            Kit::cold_boot(state, [0, 5, 8, BASE], 8, 4096, &page)
         });
     }
     for name in ["pbeam_read", "pbeam_write", "pbeam_cold_boot"] {
@@ -575,7 +584,8 @@ impl Board {
 /// Calls with their code: each command accepted and refused at each kind of check, and with queues from empty to full.
 fn calls() -> Vec<(&'static str, Board, [u64; 5], i64)> {
     let board = || Board::new(1, 1);
-    let fresh = || Board::with(|board| board.state = [0; 4]);
+    let fresh = || Board::with(|board| board.state = [0; 5]);
+    let keeping = || Board::with(|board| board.state[4] = 1);
     let old = || Board::with(|board| board.state[3] = 3);
     let short = || Board::with(|board| board.page.truncate(PAGE - 1));
     let bare = || Board::with(|board| board.secret.clear());
@@ -650,6 +660,12 @@ fn calls() -> Vec<(&'static str, Board, [u64; 5], i64)> {
             BAD_ADDR,
         ),
         (
+            "realm key, kept bytes",
+            keeping(),
+            [REALM_KEY, BASE, 4096, 0, 0],
+            BAD_ADDR,
+        ),
+        (
             "realm key, too long",
             board(),
             [REALM_KEY, BASE, 4097, 0, 0],
@@ -677,6 +693,12 @@ fn calls() -> Vec<(&'static str, Board, [u64; 5], i64)> {
             "token, outside",
             board(),
             [TOKEN, BASE - 1, 64, 64, 0],
+            BAD_ADDR,
+        ),
+        (
+            "token, kept bytes",
+            keeping(),
+            [TOKEN, BASE, 64, 64, 0],
             BAD_ADDR,
         ),
         ("token, c_size", board(), [TOKEN, BASE, 64, 33, 0], INVAL),
@@ -727,6 +749,7 @@ fn calls() -> Vec<(&'static str, Board, [u64; 5], i64)> {
             INVAL,
         ),
         ("signing, outside", board(), [SIGNING, 1, end, 80, 0], INVAL),
+        ("signing, kept bytes", keeping(), pull, INVAL),
         ("signing, record", fresh(), push, UNK),
         ("signing, minor", old(), push, UNK),
         ("key update", board(), [KEY_UPDATE, 7, 0, 0, 0], OK),
@@ -830,7 +853,7 @@ fn challenges(header: &mut Header) {
     for (what, state, x, place) in [
         ("a start", UP, [BASE + 8, 64, 48], [8, 48]),
         ("no start", UP, [BASE, 64, 0], [0, 0]),
-        ("record", [0; 4], [BASE, 64, 48], [0, 0]),
+        ("record", [0; 5], [BASE, 64, 48], [0, 0]),
         ("outside", UP, [BASE + 4096, 64, 48], [0, 0]),
     ] {
         header.within(("pbeam_challenge", what), &[1; 2], place, |place| {
@@ -841,7 +864,7 @@ fn challenges(header: &mut Header) {
 }
 
 fn granule_lists(header: &mut Header) {
-    let fresh = [0; 4];
+    let fresh = [0; 5];
     let up = Board::new(0, 0).state;
     for (what, state, count, spoilt, x0) in [
         ("empty", up, 0, 0, OK),

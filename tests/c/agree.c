@@ -360,7 +360,7 @@ static void up(uint64_t state[ROOM], uint64_t minor)
 {
     make(4);
     memset(state, 0, ROOM * sizeof state[0]);
-    SAME(pbeam_cold_boot(state, 0, minor, 3, BASE, 8, page, LEN), 0);
+    SAME(pbeam_cold_boot(state, 0, minor, 3, BASE, 8, 0, page, LEN), 0);
 }
 
 static void check_state(void)
@@ -368,35 +368,43 @@ static void check_state(void)
     uint64_t state[ROOM];
     make(4);
     guard(state);
-    SAME(PBEAM_BOOT_STATE, pbeam_cold_boot(state, 0, 4, 3, BASE, 8, page, LEN));
+    SAME(PBEAM_BOOT_STATE, pbeam_cold_boot(state, 0, 4, 3, BASE, 8, 0, page, LEN));
     SAME(PBEAM_STATE_WORDS, written(state));
     SAME(state[PBEAM_STATE_KIND], PBEAM_STATE_CLOSED);
     guard(state);
     state[PBEAM_STATE_KIND] = PBEAM_STATE_FRESH;
-    SAME(PBEAM_BOOT_DONE, pbeam_cold_boot(state, 0, 4, 3, BASE, 8, page, LEN));
+    SAME(PBEAM_BOOT_DONE, pbeam_cold_boot(state, 0, 4, 3, BASE, 8, 112, page, LEN));
     SAME(PBEAM_STATE_WORDS, written(state));
     SAME(state[PBEAM_STATE_KIND], PBEAM_STATE_UP);
     SAME(state[PBEAM_STATE_CPUS], 3);
     SAME(state[PBEAM_STATE_BASE], BASE);
     SAME(state[PBEAM_STATE_MINOR], 4);
+    SAME(state[PBEAM_STATE_KEPT], 112);
+    SAME(PBEAM_BOOT_DONE, pbeam_warm_boot(state, 2, 9, 9, 9));
     SAME(PBEAM_BOOT_DONE, pbeam_warm_boot(state, 2, 9, 9, 9));
     SAME(state[PBEAM_STATE_KIND], PBEAM_STATE_UP);
+    SAME(state[PBEAM_STATE_KEPT], 112);
     SAME(PBEAM_BOOT_CPU, pbeam_warm_boot(state, 3, 0, 0, 0));
     SAME(state[PBEAM_STATE_KIND], PBEAM_STATE_CLOSED);
     SAME(PBEAM_BOOT_STATE, pbeam_warm_boot(state, 0, 0, 0, 0));
     memset(state, 0, sizeof state);
-    SAME(PBEAM_BOOT_DONE, pbeam_cold_boot(state, 0, 0xFFFF, 3, BASE, 8, page, LEN));
+    SAME(PBEAM_BOOT_DONE, pbeam_cold_boot(state, 0, 0xFFFF, 3, BASE, 8, 0, page, LEN));
     SAME(PBEAM_INTERFACE_MINOR, state[PBEAM_STATE_MINOR]);
 }
 
-/* A cold boot of a fresh record that is refused: it closes the record. */
-static int32_t refused_boot(uint64_t x0, uint64_t x1, uint64_t x2, uint64_t x3)
+/* A cold boot of a fresh record that is refused: it closes the record, which keeps nothing. */
+static int32_t refused_with(uint64_t x0, uint64_t x1, uint64_t x2, uint64_t x3, uint64_t kept)
 {
     uint64_t state[ROOM] = {0};
-    int32_t code = pbeam_cold_boot(state, x0, x1, x2, x3, 8, page, LEN);
+    int32_t code = pbeam_cold_boot(state, x0, x1, x2, x3, 8, kept, page, LEN);
     SAME(state[PBEAM_STATE_KIND], PBEAM_STATE_CLOSED);
-    SAME(state[PBEAM_STATE_CPUS] | state[PBEAM_STATE_BASE] | state[PBEAM_STATE_MINOR], 0);
+    SAME(state[PBEAM_STATE_CPUS] | state[PBEAM_STATE_BASE] | state[PBEAM_STATE_MINOR] | state[PBEAM_STATE_KEPT], 0);
     return code;
+}
+
+static int32_t refused_boot(uint64_t x0, uint64_t x1, uint64_t x2, uint64_t x3)
+{
+    return refused_with(x0, x1, x2, x3, 112);
 }
 
 static void check_boot_codes(void)
@@ -406,9 +414,13 @@ static void check_boot_codes(void)
     SAME(PBEAM_BOOT_VERSION, refused_boot(0, UINT64_C(0x100000005), 3, BASE));
     SAME(PBEAM_BOOT_CPUS, refused_boot(0, 5, 9, BASE));
     SAME(PBEAM_BOOT_CPU, refused_boot(3, 5, 3, BASE));
+    SAME(PBEAM_BOOT_CPU, refused_with(3, 5, 3, BASE, 4097));
+    SAME(PBEAM_MANIFEST_PLACE, refused_with(0, 5, 3, BASE, 4097));
+    SAME(PBEAM_MANIFEST_PLACE, refused_with(0, 5, 3, BASE, UINT64_MAX));
     SAME(PBEAM_MANIFEST_PLACE, refused_boot(0, 5, 3, 0));
     put(page, 0, 4);
     SAME(PBEAM_MANIFEST_VERSION, refused_boot(0, 5, 3, BASE));
+    SAME(PBEAM_MANIFEST_PLACE, refused_with(0, 5, 3, BASE, 4097));
     put(page, 4, 8);
     page[4] = 1;
     SAME(PBEAM_MANIFEST_RULES, refused_boot(0, 5, 3, BASE));
@@ -549,7 +561,79 @@ static void check_versions_and_close(void)
     up(state, 5);
     pbeam_close(state);
     SAME(state[PBEAM_STATE_KIND], PBEAM_STATE_CLOSED);
-    SAME(state[PBEAM_STATE_KIND + 1] | state[PBEAM_STATE_KIND + 2] | state[PBEAM_STATE_KIND + 3], 0);
+    for (size_t i = 1; i < PBEAM_STATE_WORDS; i++)
+        SAME(state[PBEAM_STATE_KIND + i], 0);
+}
+
+/* ---- Kept bytes ---- */
+
+/* The core's end, or that of the last array. A view that no reading made is no error, and is never more than a page. */
+static void check_kept_for(void)
+{
+    uint64_t view[ROOM];
+    make(1);
+    pbeam_read(page, LEN, BASE, 4, view);
+    SAME(PBEAM_CORE_BYTES_1, pbeam_kept_for(view));
+    make(2);
+    pbeam_read(page, LEN, BASE, 4, view);
+    SAME(PBEAM_CORE_BYTES_2 + 32, pbeam_kept_for(view));
+    make(4);
+    pbeam_read(page, LEN, BASE, 4, view);
+    SAME(PBEAM_CORE_BYTES_4 + 192, pbeam_kept_for(view));
+    pbeam_read(page, LEN, BASE, 3, view); /* what an older reader needs is all that it reads */
+    SAME(PBEAM_CORE_BYTES_4 + 80, pbeam_kept_for(view));
+    for (size_t i = 0; i < ROOM; i++)
+        view[i] = UINT64_MAX;
+    SAME(PBEAM_CORE_BYTES_4, pbeam_kept_for(view));
+    view[PBEAM_VIEW_SECTIONS + PBEAM_VIEW_SECTION_OFFSET] = 3;
+    view[PBEAM_VIEW_SECTIONS + PBEAM_VIEW_SECTION_COUNT] = 255;
+    SAME(pbeam_kept_for(view), 4088); /* 3 + 16 * 255 is 4,083 */
+    memset(view, 0, sizeof view);
+    SAME(PBEAM_CORE_BYTES_1, pbeam_kept_for(view));
+}
+
+/* The code of each command with a buffer of 64 bytes at pa, and of the lookup. */
+static void buffer_at(const uint64_t state[ROOM], uint64_t pa, uint64_t others, uint64_t signing_code)
+{
+    static const uint8_t key[] = {0x11};
+    uint64_t out[ROOM], session[ROOM] = {0}, queue[ROOM] = {0}, place[ROOM];
+    pbeam_realm_key(state, page, LEN, key, 1, pa, 64, PBEAM_CURVE_SECP384R1, out);
+    SAME(out[PBEAM_OUT_X0], others);
+    SAME(pbeam_challenge(state, page, LEN, pa, 64, 48, place), others);
+    pbeam_platform_token(state, session, page, LEN, key, 1, 0, pa, 64, 48, out);
+    SAME(out[PBEAM_OUT_X0], others);
+    queue[PBEAM_QUEUE_RESPONSES] = 1;
+    pbeam_token_signing(state, queue, page, LEN, key, 1, PBEAM_OPCODE_PULL, pa, 64, 0, out);
+    SAME(out[PBEAM_OUT_X0], signing_code);
+    pbeam_token_signing(state, queue, page, LEN, key, 1, PBEAM_OPCODE_KEY, pa, 64, PBEAM_CURVE_SECP384R1, out);
+    SAME(out[PBEAM_OUT_X0], signing_code);
+    SAME(pbeam_challenge(state, page, LEN, pa, 0, 0, place), others); /* a buffer of no bytes is no way around it */
+}
+
+/* The manifest is read the same after commands at every edge of the kept bytes. */
+static void check_kept_bytes(void)
+{
+    uint64_t state[ROOM], view[ROOM], again[ROOM], kept;
+    make(4);
+    guard(again);
+    memset(state, 0, sizeof state);
+    guard(view);
+    pbeam_read(page, LEN, BASE, 4, view);
+    kept = pbeam_kept_for(view);
+    SAME(PBEAM_BOOT_DONE, pbeam_cold_boot(state, 0, 5, 3, BASE, 8, kept, page, LEN));
+    SAME(PBEAM_BOOT_DONE, pbeam_warm_boot(state, 1, 0, 0, 0));
+    SAME(PBEAM_BOOT_DONE, pbeam_warm_boot(state, 1, 0, 0, 0));
+    buffer_at(state, BASE, PBEAM_X0_BAD_ADDR, PBEAM_X0_INVAL);
+    buffer_at(state, BASE + kept - 1, PBEAM_X0_BAD_ADDR, PBEAM_X0_INVAL);
+    buffer_at(state, BASE + kept, PBEAM_X0_OK, PBEAM_X0_OK);
+    buffer_at(state, BASE + LEN - 64, PBEAM_X0_OK, PBEAM_X0_OK);
+    buffer_at(state, BASE + LEN, PBEAM_X0_BAD_ADDR, PBEAM_X0_INVAL);
+    SAME(PBEAM_READ_ACCEPTED, pbeam_read(page, LEN, BASE, 4, again));
+    SAME(memcmp(view, again, sizeof view), 0);
+    state[PBEAM_STATE_KEPT] = UINT64_MAX - BASE + 1; /* B + K is 2^64 */
+    buffer_at(state, BASE, PBEAM_X0_BAD_ADDR, PBEAM_X0_INVAL);
+    state[PBEAM_STATE_KEPT] = 4096;
+    buffer_at(state, BASE + LEN - 1, PBEAM_X0_BAD_ADDR, PBEAM_X0_INVAL);
 }
 
 static void check_challenge_sizes(void)
@@ -1024,6 +1108,8 @@ int main(int argc, char **argv)
     check_granules();
     check_realm_key();
     check_versions_and_close();
+    check_kept_for();
+    check_kept_bytes();
     check_challenge_sizes();
     check_session();
     check_features();

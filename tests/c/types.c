@@ -300,24 +300,30 @@ static void check_version(void)
 static void check_record(void)
 {
     pbeam_record_t record;
+    pbeam_view_t view;
     const pbeam_cold_t x = {2, 4, 3, BASE};
     memset(&record, 0xA5, sizeof record);
     SAME(pbeam_record_is_up(&record), false);
     pbeam_record_reset(&record);
     SAME(pbeam_manifest_write(BASE, 4, &lists, &page), PBEAM_WRITE_PAGE);
-    SAME(pbeam_record_cold_boot(&record, &x, 3, &page), PBEAM_BOOT_DONE);
+    SAME(pbeam_manifest_read(&page, BASE, 4, &view), PBEAM_READ_ACCEPTED);
+    SAME(pbeam_view_kept(&view), pbeam_kept_for(view.words));
+    SAME(pbeam_record_cold_boot(&record, &x, 3, pbeam_view_kept(&view), &page), PBEAM_BOOT_DONE);
     SAME(pbeam_record_is_up(&record), true);
     SAME(pbeam_record_cpus(&record), 3);
     SAME(pbeam_record_base(&record), BASE);
     SAME(pbeam_record_minor(&record), 4);
+    SAME(pbeam_record_kept(&record), pbeam_kept_for(view.words));
     SAME(pbeam_record_warm_boot(&record, 1), PBEAM_BOOT_DONE);
     SAME(pbeam_record_is_up(&record), true);
     pbeam_record_close(&record);
     SAME(record.words[PBEAM_STATE_KIND], PBEAM_STATE_CLOSED);
-    SAME(record.words[1] | record.words[2] | record.words[3], 0);
+    SAME(record.words[1] | record.words[2] | record.words[3] | record.words[4], 0);
     SAME(pbeam_record_warm_boot(&record, 1), PBEAM_BOOT_STATE);
     pbeam_record_reset(&record);
-    SAME(pbeam_record_cold_boot(&record, &x, 2, &page), PBEAM_BOOT_CPUS);
+    SAME(pbeam_record_cold_boot(&record, &x, 2, 4096, &page), PBEAM_BOOT_CPUS);
+    pbeam_record_reset(&record);
+    SAME(pbeam_record_cold_boot(&record, &x, 3, 4097, &page), PBEAM_MANIFEST_PLACE);
 }
 
 /* ---- Registers ---- */
@@ -384,7 +390,7 @@ static void set_up(void)
     const pbeam_cold_t x = {0, 5, 1, BASE};
     memset(&context, 0, sizeof context);
     pbeam_manifest_write(BASE, 4, &lists, &page);
-    SAME(pbeam_record_cold_boot(&context.record, &x, 1, &page), PBEAM_BOOT_DONE);
+    SAME(pbeam_record_cold_boot(&context.record, &x, 1, 0, &page), PBEAM_BOOT_DONE);
     memset(table, 0, sizeof table);
     context.page = &page;
     context.granules = pbeam_granules_from(MEMORY);

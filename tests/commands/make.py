@@ -1,18 +1,19 @@
 #!/usr/bin/env python3
-"""Run vectors for six runtime commands, made from docs/01-scope.md alone.
+"""Run vectors for six runtime commands, made from docs/01-scope.md and
+docs/02-change-requests.md (E5) alone.
 
 Run from the repository's root:  python3 tests/commands/make.py
 It rewrites crates/command_vectors/data/c000, c001, .. (8-byte words: the record's state, cpus,
-base and minor, of which the last three count only when it is up; function id, x1, x2, x3, G, m,
-the lengths of table, key and page; then the bytes of these three, and those of table and page at
-exit), crates/command_vectors/stdout (what the program has to print for them in order) and
+base, minor and kept bytes, of which the last four count only when it is up; function id, x1, x2,
+x3, G, m, the lengths of table, key and page; then the bytes of these three, and those of table and
+page at exit), crates/command_vectors/stdout (what the program has to print for them in order) and
 tests/commands/CASES.md (what each case is for). The same run always gives the same bytes.
 With a folder as its argument it writes them below that folder.
 """
 
 import sys
 from collections import Counter, namedtuple
-from itertools import combinations
+from itertools import combinations, product
 from pathlib import Path
 from random import Random
 
@@ -38,11 +39,11 @@ CHECKS = {                              # the checks of each command in 01's ord
           "curve": "INVAL", "key": "UNK"},
     FEATURES: {"not up": "UNK", "index": "INVAL", "minor": "UNK"},
     UPDATE: {"not up": "UNK", "mecid": "INVAL", "width": "UNK", "minor": "UNK"}}
-Case = namedtuple("Case", "text state cpus base minor id x1 x2 x3 g m table key page")
+Case = namedtuple("Case", "text state cpus base minor kept id x1 x2 x3 g m table key page")
 Answer = namedtuple("Answer", "code registers told table page")
 
 
-# ---- The commands, from 01's text. All arithmetic is on plain numbers. ----
+# ---- The commands, from 01's and 02's text. All arithmetic is on plain numbers. ----
 
 def failing(case):
     """Every check that fails, in 01's order. The first of them gives the answer."""
@@ -51,7 +52,7 @@ def failing(case):
     fails = {
         "not up": case.state != "up",
         "length": len(case.page) != PAGE,
-        "outside": case.x1 < case.base or case.x1 >= end,
+        "outside": case.x1 < case.base + case.kept or case.x1 >= end,
         "too long": case.x2 > end - case.x1,
         "curve": case.x3 != 0,
         "key": len(case.key) == 0 or len(case.key) > case.x2,
@@ -89,8 +90,8 @@ def run(case):
 def file_of(case):
     """The bytes of a case's file."""
     lent, answer = (case.table, case.key, case.page), run(case)
-    words = (STATES.index(case.state), case.cpus, case.base, case.minor, case.id, case.x1,
-             case.x2, case.x3, case.g, case.m, *map(len, lent))
+    words = (STATES.index(case.state), case.cpus, case.base, case.minor, case.kept, case.id,
+             case.x1, case.x2, case.x3, case.g, case.m, *map(len, lent))
     head = b"".join(word.to_bytes(8, "little") for word in words)
     return head + b"".join(lent) + answer.table + answer.page
 
@@ -114,8 +115,9 @@ B, G = 0x80000000, 0x880000000
 LENT = bytes(1 + (i * 67 + i // 127 * 31) % 127 for i in range(4200))
 SECRET = bytes(128 + (i * 89 + i // 128 * 57) % 128 for i in range(4200))
 ONE = SECRET[:1]
-ALL = {"state": "up", "cpus": 8, "base": B, "minor": 5, "x2": ONES, "x3": ONES - 1, "g": G, "m": 15,
-       "table": bytes([0, 1, 2, 3, 255]), "key": SECRET[:96], "page": LENT[:PAGE]}
+ALL = {"state": "up", "cpus": 8, "base": B, "minor": 5, "kept": 0, "x2": ONES, "x3": ONES - 1,
+       "g": G, "m": 15, "table": bytes([0, 1, 2, 3, 255]), "key": SECRET[:96],
+       "page": LENT[:PAGE]}
 USUAL = {                               # for each command, input that it accepts
     FORWARD: {"x1": 1}, FEATURES: {"x1": 0}, UPDATE: {"x1": 200},
     DELEGATE: {"x1": G + 2 * 4096, "table": b"\0" * 8},
@@ -355,11 +357,42 @@ def random_inputs():
             page=bytes(pick(256) for _ in range(PAGE if command == KEY else pick(100))))
 
 
+def kept_bytes():
+    """Kept bytes: a buffer that begins below B + K is outside; other commands do not mind"""
+    for kept in (1, 112, 4095, 4096, 4097, ONES):
+        last = min(B + kept, B + 4096)      # where the first byte after the kept ones is, if any
+        for pa, size in product(sorted({last - 1, last, (B + kept - 1) % WORD}), (0, 1)):
+            outside = pa < B + kept or pa >= B + PAGE
+            fails = ["outside"] * outside + ["too long"] * (pa + size > B + PAGE)
+            add(", ".join(fails + ["key"] * (size == 0)) or "OK", KEY,
+                f"K = {show(kept)}, pa = {show(pa)}, size {size}", kept=kept, x1=pa, x2=size,
+                key=ONE)
+    for base, kept, pa in ((WORD - 4096, 4095, ONES), (0, 112, 112), (B + 1, 8, B + 9),
+                           (B, 4000, B + 4000)):
+        for text, before in (("at", 0), ("1 below", 1)):
+            add("outside" if before else "OK", KEY, f"B = {show(base)}, pa {text} B + {kept:,}",
+                base=base, kept=kept, x1=pa - before, x2=1, key=ONE)
+    for base, kept, pa in ((WORD - 4096, 4096, ONES), (ONES, 1, ONES), (ONES, ONES, ONES),
+                           (2**63, 2**63 + 5, 2**63 + 100), (B, WORD - B, B), (B, ONES, B + 4095),
+                           (B, WORD - B + 64, B + 64)):
+        add("outside", KEY, f"B = {show(base)}, K = {show(kept)}, pa = {show(pa)}: B + K is 2^64 "
+            "or more", base=base, kept=kept, x1=pa, x2=1, key=ONE)
+    for other, change in (("not up", {"state": "closed"}), ("length", {"page": LENT[:4095]}),
+                          ("too long", {"x2": ONES}), ("curve", {"x3": 1}), ("key", {"key": b""})):
+        case = add(None, KEY, f"{other} and outside by K", kept=112, **{"x1": B + 111, **change})
+        assert sorted(failing(case)) == sorted([other, "outside"]), case.text
+    for kept in (4096, ONES):
+        for command in (FORWARD, DELEGATE, UNDELEGATE, FEATURES, UPDATE):
+            add("OK", command, f"K = {show(kept)}", kept=kept)
+    add("not up, outside", KEY, "closed, with K", state="closed", kept=ONES)
+
+
 # ---- Output ----
 
 def build_all():
     for group in (examples, forwarding, records, page_lengths, granule_addresses, granule_bytes,
-                  key_ranges, keys_and_curves, features, key_updates, together, random_inputs):
+                  key_ranges, keys_and_curves, features, key_updates, together, random_inputs,
+                  kept_bytes):
         GROUPS.append((group.__doc__, []))
         group()
 

@@ -4,7 +4,7 @@
 
 Run from the repository's root:  python3 tests/granules/make.py
 It rewrites crates/granule_vectors/data/c000, c001, .. (8-byte words: the record's state, cpus,
-base and minor, of which the last three count only when it is up; 0 to delegate or 1 to
+base, minor and kept bytes, of which the last four count only when it is up; 0 to delegate or 1 to
 undelegate, G, the length of the table and of the list; then the table, the addresses, and the
 table at exit), crates/granule_vectors/stdout (what the program has to print for them in order)
 and tests/granules/CASES.md (what each case is for). The same run always gives the same bytes.
@@ -56,7 +56,7 @@ def run(case):
 
 def file_of(case):
     """The bytes of a case's file."""
-    words = (STATES.index(case.state), 8, 0x80000000, 5, case.direction, case.g,
+    words = (STATES.index(case.state), 8, 0x80000000, 5, 0, case.direction, case.g,
              len(case.table), len(case.addresses))
     return (b"".join(word.to_bytes(8, "little") for word in words) + case.table
             + b"".join(word.to_bytes(8, "little") for word in case.addresses) + run(case).table)

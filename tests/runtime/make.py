@@ -1,15 +1,17 @@
 #!/usr/bin/env python3
-"""Run vectors for the runtime as a whole, made from docs/01-scope.md alone: every call goes through
-the dispatcher; the platform token, token signing, the challenge lookup, the signer's own step and
-the oldest request are tried at each edge, in sequences on one state.
+"""Run vectors for the runtime as a whole, made from docs/01-scope.md and docs/02-change-requests.md
+(E5) alone: every call goes through the dispatcher; the platform token, token signing, the challenge
+lookup, the signer's own step and the oldest request are tried at each edge, in sequences on one
+state.
 
 Run from the repository's root:  python3 tests/runtime/make.py
-It rewrites crates/runtime_vectors/data/c000, c001, .. (8-byte words: the record's state, cpus, base
-and minor; G, m; the session: 0 or 1, whole, sent; the places of page, table, realm key, public key
-and queue, a place being an offset in the file and a length; the number of operations; then the
-operations, and the bytes that the places name), crates/runtime_vectors/stdout (what the program has
-to print for them in order) and tests/runtime/CASES.md (what each case is for). The same run always
-gives the same bytes. With a folder as its argument it writes them below that folder.
+It rewrites crates/runtime_vectors/data/c000, c001, .. (8-byte words: the record's state, cpus,
+base, minor and kept bytes; G, m; the session: 0 or 1, whole, sent; the places of page, table, realm
+key, public key and queue, a place being an offset in the file and a length; the number of
+operations; then the operations, and the bytes that the places name), crates/runtime_vectors/stdout
+(what the program has to print for them in order) and tests/runtime/CASES.md (what each case is
+for). The same run always gives the same bytes. With a folder as its argument it writes them below
+that folder.
 """
 
 import sys
@@ -21,7 +23,8 @@ from random import Random
 HERE = Path(__file__).resolve().parent
 
 sys.dont_write_bytecode = True
-sys.path.insert(0, str(HERE.parent))
+sys.path[:0] = [str(HERE.parent), str(HERE.parent / "reader")]
+from make import field_pages, full, kept_for, read
 from vectors import write_all
 
 PAGE = 4096
@@ -40,7 +43,7 @@ Request = namedtuple("Request", "algorithm granule ticket hashid hash")
 Response = namedtuple("Response", "granule ticket length signature")
 # One side of the queue as it is stored: its places, of which the first `count` wait.
 Line = namedtuple("Line", "places count")
-World = namedtuple("World", "state cpus base minor g m key public page table session requests "
+World = namedtuple("World", "state cpus base minor kept g m key public page table session requests "
                             "responses")
 Op = namedtuple("Op", "kind id x1 x2 x3 x4 busy token signature")
 Check = namedtuple("Check", "name code fails")
@@ -48,7 +51,7 @@ Answer = namedtuple("Answer", "fails code x1 x2 told after")
 Case = namedtuple("Case", "text start ops answers")
 
 
-# ---- The operations, from 01's text. All arithmetic is on plain numbers. ----
+# ---- The operations, from 01's and 02's text. All arithmetic is on plain numbers. ----
 
 def waiting(line):
     """What waits, oldest first. There are eight places, so that a higher count stands for eight."""
@@ -76,7 +79,7 @@ def request_at(w, pa):
 
 def range_checks(w, pa, size, outside):
     end = w.base + PAGE
-    return [Check("outside", outside, pa < w.base or pa >= end),
+    return [Check("outside", outside, pa < w.base + w.kept or pa >= end),
             Check("too long", "INVAL", size > end - pa)]
 
 
@@ -280,7 +283,7 @@ def change(before, after):
 def file_of(case):
     """The bytes of a case's file: words, and after them a pool of bytes, each run but once."""
     w, pool = case.start, bytearray()
-    pool_at = 160 + 136 * len(case.ops)
+    pool_at = 168 + 136 * len(case.ops)
 
     def place(data):
         found = pool.find(data)
@@ -289,7 +292,7 @@ def file_of(case):
             pool.extend(data)
         return pool_at + found, len(data)
 
-    file = words(STATES.index(w.state), w.cpus, w.base, w.minor, w.g, w.m,
+    file = words(STATES.index(w.state), w.cpus, w.base, w.minor, w.kept, w.g, w.m,
                  w.session is not None, *(w.session or (0, 0)))
     for data in (w.page, w.table, w.key, w.public, image_of(w.requests, w.responses)):
         file += words(*place(data))
@@ -392,7 +395,7 @@ def page_of(*items, base=LENT):
 
 # 40 requests of tickets 0, 1, .. in a row; from 3,200 on there is room for what is written.
 ASKED = page_of(0, b"".join(request_bytes(request(n), 17 * n % 256) for n in range(40)))
-ALL = World("up", 8, B, 5, G, 15, SECRET[:96], OTHER[:97], LENT[:PAGE], bytes([0, 1, 2, 3, 255]),
+ALL = World("up", 8, B, 5, 0, G, 15, SECRET[:96], OTHER[:97], LENT[:PAGE], bytes([0, 1, 2, 3, 255]),
             None, EMPTY, EMPTY)
 
 
@@ -1091,12 +1094,155 @@ def random_sequences():
         add(f"random sequence {i}", w, *steps)
 
 
+KEPT = (0, 1, 112, 4095, 4096, 4097, ONES)
+
+
+def around(kept, base=B):
+    """Addresses at the end of the kept bytes, at the page's edges, and where B + K wraps to."""
+    end = base + kept
+    pas = {base - 1, base, end - 1, end, end + 1, base + 4095, base + 4096, end % WORD,
+           (end - 1) % WORD}
+    return [pa for pa in sorted(pas) if 0 <= pa < WORD]
+
+
+def kept_bytes():
+    """Kept bytes: a buffer that begins below B + K is outside, in each command and the lookup"""
+    def fails(w, pa, size, *others):
+        outside, long = pa < w.base + w.kept or pa >= w.base + PAGE, pa + size > w.base + PAGE
+        return ", ".join(["outside"] * outside + ["too long"] * long + [*others])
+
+    for kept in KEPT:
+        w = start(kept=kept, session=(100, 0), key=SECRET[:1], public=OTHER[:1],
+                  responses=responses(2))
+        steps = []
+        for pa, n in product(around(kept), (0, 1)):
+            empty = n == 0
+            steps += [
+                send_token(fails(w, pa, n), 0, n, pa), challenge(fails(w, pa, n), 0, n, pa),
+                challenge(fails(w, pa, n, "above"), 32, n, pa),
+                call(fails(w, pa, n, *["key"] * empty), KEY, pa, n, 0),
+                push(fails(w, pa, n, "short.."), size=n, pa=pa),
+                pull(fails(w, pa, n, "no room"), n, pa),
+                public(fails(w, pa, n, *["long key"] * empty), n, pa)]
+        add(f"K = {show(kept)}: each edge, sizes 0 and 1, each command and the lookup", w, *steps)
+
+
+def kept_and_room():
+    """Kept bytes: buffers with room behind them, and forged records"""
+    sizes = {"token": 64, "challenge": 64, "push": 80, "pull": NEED, "key": 97, "realm key": 96}
+    ops = {"token": lambda o, pa, n: send_token(o, 48, n, pa),
+           "challenge": lambda o, pa, n: challenge(o, 48, n, pa),
+           "push": lambda o, pa, n: push(o, size=n, pa=pa),
+           "pull": lambda o, pa, n: pull(o, n, pa), "key": lambda o, pa, n: public(o, n, pa),
+           "realm key": lambda o, pa, n: call(o, KEY, pa, n, 0)}
+    for name, op in ops.items():
+        n = sizes[name]
+        for kept in (1, 112, PAGE - n - 1, PAGE - n):
+            page = page_of(kept, request_bytes(request(1))) if name == "push" else LENT[:PAGE]
+            w = start(kept=kept, page=page, responses=responses(2))
+            add(f"{name}: K = {kept:,}: 1 below B + K, at it, 1 byte too long", w,
+                op("outside..", B + kept - 1, n), op("outside..", B, n),
+                op("too long", B + kept, PAGE - kept + 1), op("", B + kept, n))
+        add(f"{name}: B = 2^64 - 4,096, K = {PAGE - n:,}", start(
+            base=WORD - 4096, kept=PAGE - n, page=page_of(PAGE - n, request_bytes(request(1))),
+            responses=responses(1)), op("outside..", ONES - n, n), op("", WORD - n, n))
+    for base, kept in ((B, 4097), (B, WORD - B), (B, WORD - B + 64), (2**63, 2**63 + 5), (ONES, 1),
+                       (ONES, ONES), (WORD - 4096, 4096), (1, ONES)):
+        w = start(base=base, kept=kept, page=page_of(64, request_bytes(request(1))),
+                  responses=responses(1))
+        add(f"B = {show(base)}, K = {show(kept)}: all is outside", w,
+            *(op("outside..", pa, size) for name, op in ops.items() for size in (0, sizes[name])
+              for pa in (base, base + 64, base + 4095) if pa < WORD))
+
+
+def kept_pairs():
+    """Kept bytes: outside by K and one more check: the first in 01's order answers"""
+    first, pas = ("not up", "length"), (PA, B + 0x2FF, B)       # the last two are kept
+    fresh = {"state": "fresh"}
+    worlds = [start(kept=0x300, session=session, page=page, **state) for session, page, state in
+              product(((100, 64), None), (ASKED, ASKED[:4095]), ({}, fresh))]
+    search("token", (*first, "busy", "outside", "too long", "c_size", "above", "no session",
+                     "token"), worlds, [send_token(None, *rest)[1] for rest in product(
+                         (0, 48, 65, 33), (64, 20, 4097), pas, (SECRET[:100], b"", SECRET[:99]),
+                         (False, True))], each="outside")
+    search("challenge", (*first, "outside", "too long", "c_size", "above"), worlds,
+           [challenge(None, *rest)[1] for rest in product((48, 65, 33), (64, 20, 4097), pas)],
+           each="outside")
+    search("realm key", (*first, "outside", "too long", "curve", "key"), worlds,
+           [call(None, KEY, *rest)[1] for rest in product(pas, (128, 95, 4097), (0, 1))],
+           each="outside")
+    asked = [page_of(0, b"".join(request_bytes(request(1, algorithm=a, hashid=h))
+                                 for _ in range(40))) for a, h in product((0, 1), (1, 2))]
+    worlds = [start(kept=0x300, page=(page + LENT)[:length], minor=minor, public=key,
+                    requests=requests(count), responses=responses(1 - count // 8), **state)
+              for page, length, minor, key, count, state in product(
+                  asked, (PAGE, PAGE + 1), (5, 3), (OTHER[:97], b""), (2, 8), ({}, fresh))]
+
+    def signing_pairs(text, opcode, *names):
+        search(text, (*first, *names), worlds,
+               [call(None, SIGNING, opcode, pa, size, curve)[1] for pa, size, curve in product(
+                   (PA, B), (128, 80, 79, 4, 4097), (0, 1))], each="outside")
+
+    add("opcode 4: opcode and outside", worlds[0], call("opcode, outside", SIGNING, 4, B, 80, 0))
+    signing_pairs("push", PUSH, "outside", "too long", "minor", "short", "algorithm", "hash id",
+                  "full")
+    signing_pairs("pull", PULL, "outside", "too long", "minor", "no response", "no room")
+    signing_pairs("key", PUBLIC, "outside", "too long", "curve", "minor", "no key", "long key")
+
+
+def kept_manifests():
+    """A manifest in the kept bytes is read the same after all commands"""
+    pages = [("a full page", B, full().data), ("a full page, 0.9", B, full(9).data),
+             ("a full page, 0.2", B, full(2).data)]
+    pages += [(f"field page {stem}", b, page) for stem, b, page, _ in field_pages()
+              if not isinstance(read(4, b, page)[0], int)]
+    for text, b, page in pages:
+        page, before = bytes(page), read(4, b, page)
+        kept = kept_for(min(4, page[0]), b, page)
+        ask = page_of(PAGE - 80, request_bytes(request(1)), base=page)
+        steps = []
+        for pa in (b, b + 16, b + kept - 1, b + kept, b + kept + 8):
+            steps += [send_token(None, 48, 128, pa), send_token(None, 0, 128, pa),
+                      call(None, KEY, pa, 96, 0), challenge(None, 48, 64, pa),
+                      pull(None, 122, pa), public(None, 128, pa)]
+        steps += [push("", pa=b + PAGE - 80), sign(), pull("", 122, b + kept)]
+        case = add(f"{text}: K = {kept:,}", start(base=b, kept=kept, page=ask,
+                                                  responses=responses(3)), *steps)
+        last = case.answers[-1].after.page
+        assert last[:kept] == ask[:kept] and last != ask, text
+        assert read(4, b, last) == before == read(4, b, ask), text
+        one_less = add(f"{text}: K = {kept - 8:,} does not cover it", start(
+            base=b, kept=kept - 8, page=ask), send_token("", 48, 128, b + kept - 8))
+        assert read(4, b, one_less.answers[-1].after.page)[0] == -7, text
+
+
+def random_kept():
+    """Random sequences with kept bytes"""
+    dice = Random(33)
+    for i in range(20):
+        base = dice.choice((B, 4096 * dice.randrange(1, 2**40), dice.getrandbits(64)))
+        kept = dice.choice((dice.randrange(4097), dice.randrange(600), 4000, dice.getrandbits(64)))
+        w, steps = start(base=base, kept=kept, page=ASKED, responses=responses(4),
+                         requests=requests(2)), []
+        for _ in range(12):
+            near = kept + dice.randrange(-2, 3), dice.randrange(4097), kept + dice.randrange(900)
+            pa = min(max(base + dice.choice(near), 0), ONES)
+            n = dice.choice((0, 1, 64, 80, 128, 200))
+            steps.append(dice.choice((
+                send_token(None, dice.choice((0, 32, 48)), n, pa), challenge(None, 32, n, pa),
+                call(None, KEY, pa, n, 0), push(None, size=n, pa=pa), pull(None, n, pa),
+                public(None, n, pa))))
+        case = add(f"random sequence {i}: B = {show(base)}, K = {show(kept)}", w, *steps)
+        assert case.answers[-1].after.page[:kept] == w.page[:kept], i
+
+
 # ---- Output ----
 
 def build_all():
     for group in (examples, buffers, challenge_sizes, tokens, whole_tokens, sessions, challenges,
                   signing_edges, pushes, pulls, signer, rounds, forged, identities, pairs, mixed,
-                  random_sequences):
+                  random_sequences, kept_bytes, kept_and_room, kept_pairs, kept_manifests,
+                  random_kept):
         GROUPS.append((group.__doc__, []))
         group()
 

@@ -105,6 +105,11 @@ impl Scene {
     fn base(&self) -> u64 {
         self.state.record.up().map_or(0x8000_0000, |kept| kept.base)
     }
+
+    /// How many bytes at the page's start are kept.
+    fn kept(&self) -> u64 {
+        self.state.record.up().map_or(0, |kept| kept.kept)
+    }
 }
 
 impl Random {
@@ -244,16 +249,19 @@ impl Random {
         list
     }
 
-    /// An address and a size, mostly in the page.
+    /// An address and a size, mostly in the page and behind the kept bytes.
     fn buffer(&mut self, scene: &Scene) -> (u64, u64) {
-        let base = scene.base();
+        let (base, kept) = (scene.base(), scene.kept());
+        let free = 4096 - kept.min(4095);
         let offset = match self.below(16) {
             0 => self.pick(&[u64::MAX, 4095, 4096, 4097]),
             1 => self.edge(),
             2 => 4096 - self.pick(&[1, 17, 18, 79, 80, 122]),
             3 => self.below(4096),
-            4 | 5 => 0,
-            _ => self.below(2048),
+            4 => kept,
+            5 => kept.wrapping_sub(self.pick(&[0, 1])),
+            6 => 0,
+            _ => kept.wrapping_add(self.below((free + 1) / 2)),
         };
         let room = 4096u64.saturating_sub(offset);
         let size = match self.below(8) {
@@ -301,9 +309,14 @@ impl Random {
         [opcode, pa, size, curve]
     }
 
-    /// Writes a request at an address, if it fits there: mostly with the ids that are allowed, and with anything in the holes.
+    /// Writes a request at an address, if it fits there behind the kept bytes: mostly with the ids that are allowed, and with anything in
+    /// the holes.
     fn put_request(&mut self, scene: &mut Scene, pa: u64) {
-        let offset = usize::try_from(pa.wrapping_sub(scene.base())).unwrap_or(usize::MAX);
+        let offset = pa.wrapping_sub(scene.base());
+        if offset < scene.kept() {
+            return;
+        }
+        let offset = usize::try_from(offset).unwrap_or(usize::MAX);
         let rest = scene.page.get_mut(offset..);
         let place = match rest.and_then(|rest| rest.get_mut(..80)) {
             Some(place) => place,

@@ -17,7 +17,7 @@ use potterbeam_tests::reference::runtime::{
 const STEPS: usize = 40;
 
 /// One kind of step.
-type Step = fn(&mut Pair, &mut Scene);
+pub type Step = fn(&mut Pair, &mut Scene);
 
 /// Runs scenes of these steps until each export was called often enough.
 fn run(pair: &mut Pair, steps: &[Step], names: &[&str]) {
@@ -152,7 +152,7 @@ fn undelegate_list(pair: &mut Pair, scene: &mut Scene) {
     note_list(pair, "pbeam_undelegate_list");
 }
 
-fn realm_key(pair: &mut Pair, scene: &mut Scene) {
+pub fn realm_key(pair: &mut Pair, scene: &mut Scene) {
     let [pa, size, curve, _] = registers(pair, scene, REALM_KEY);
     let (key, x) = (&scene.realm_key, [pa, size, curve]);
     check!(pair, "pbeam_realm_key", (key, x), |S, m| {
@@ -162,7 +162,7 @@ fn realm_key(pair: &mut Pair, scene: &mut Scene) {
     note(pair, scene, "pbeam_realm_key", 0);
 }
 
-fn platform_token(pair: &mut Pair, scene: &mut Scene) {
+pub fn platform_token(pair: &mut Pair, scene: &mut Scene) {
     let [pa, size, csize, _] = registers(pair, scene, PLAT_TOKEN);
     let busy = busy(pair, scene);
     let (token, x) = (&scene.token, [pa, size, csize]);
@@ -181,7 +181,7 @@ fn platform_token(pair: &mut Pair, scene: &mut Scene) {
     note_forged_session(pair, "pbeam_platform_token");
 }
 
-fn challenge(pair: &mut Pair, scene: &mut Scene) {
+pub fn challenge(pair: &mut Pair, scene: &mut Scene) {
     let [pa, size, csize, _] = registers(pair, scene, PLAT_TOKEN);
     let x = [pa, size, csize];
     check!(pair, "pbeam_challenge", (x), |S, m| {
@@ -203,7 +203,7 @@ fn features(pair: &mut Pair, scene: &mut Scene) {
     note(pair, scene, "pbeam_features", 0);
 }
 
-fn token_signing(pair: &mut Pair, scene: &mut Scene) {
+pub fn token_signing(pair: &mut Pair, scene: &mut Scene) {
     let x = registers(pair, scene, TOKEN_SIGN);
     let key = &scene.public_key;
     check!(pair, "pbeam_token_signing", (key, x), |S, m| {
@@ -237,7 +237,7 @@ fn forward(pair: &mut Pair, scene: &mut Scene) {
     pair.meet("pbeam_forward", 0, i64::from(pair.model.returned != 0));
 }
 
-fn sign(pair: &mut Pair, _: &mut Scene) {
+pub fn sign(pair: &mut Pair, _: &mut Scene) {
     let signature = pair.random.signature();
     check!(pair, "pbeam_sign", (signature), |S, m| {
         let images = &mut m.images;
@@ -263,7 +263,7 @@ fn oldest(pair: &mut Pair, _: &mut Scene) {
     pair.meet("pbeam_oldest", 0, pair.model.returned);
 }
 
-fn call(pair: &mut Pair, scene: &mut Scene) {
+pub fn call(pair: &mut Pair, scene: &mut Scene) {
     let Call { id, x } = pair.random.call(scene);
     load_page(pair, scene);
     let (busy, [x1, x2, x3, x4]) = (busy(pair, scene), x);

@@ -9,6 +9,7 @@
 mod pair;
 mod boots;
 mod commands;
+mod kept;
 mod manifest;
 mod memory;
 mod wrong;

@@ -73,7 +73,7 @@ impl<const N: usize> Default for Image<N> {
 
 #[derive(Clone, Copy, Debug, Default, PartialEq, Eq)]
 pub struct Images {
-    pub record: Image<4>,
+    pub record: Image<5>,
     pub session: Image<3>,
     pub queue: Image<210>,
     pub view: Image<15>,

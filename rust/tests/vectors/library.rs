@@ -88,13 +88,13 @@ fn writer() {
 
 fn print_boots(out: &mut String, input: &[u8]) {
     let mut record = record_words(record_at(input));
-    let mut rest = &input[40..];
-    for _ in 0..word_at(input, 32) {
-        let step = take(&mut rest, 56);
-        let page = take(&mut rest, size_at(step, 48));
+    let mut rest = &input[48..];
+    for _ in 0..word_at(input, 40) {
+        let step = take(&mut rest, 64);
+        let page = take(&mut rest, size_at(step, 56));
         let x = [8, 16, 24, 32].map(|at| word_at(step, at));
         let code = match word_at(step, 0) {
-            0 => Kit::cold_boot(&mut record, x, word_at(step, 40), page),
+            0 => Kit::cold_boot(&mut record, x, word_at(step, 40), word_at(step, 48), page),
             _ => Kit::warm_boot(&mut record, x),
         };
         write!(out, "code {code}").unwrap();
@@ -104,16 +104,16 @@ fn print_boots(out: &mut String, input: &[u8]) {
 
 #[test]
 fn boot() {
-    compare("boot_vectors", 246, print_boots);
+    compare("boot_vectors", 335, print_boots);
 }
 
 // ---- Commands ----
 
 fn print_list(out: &mut String, input: &[u8]) {
     let record = record_words(record_at(input));
-    let [direction, start] = [32, 40].map(|at| word_at(input, at));
-    let [in_table, length] = [48, 56].map(|at| size_at(input, at));
-    let mut rest = &input[64..];
+    let [direction, start] = [40, 48].map(|at| word_at(input, at));
+    let [in_table, length] = [56, 64].map(|at| size_at(input, at));
+    let mut rest = &input[72..];
     let mut table = take(&mut rest, in_table).to_vec();
     let list = words(take(&mut rest, 8 * length));
     let mut registers = [0; 3];
@@ -132,9 +132,9 @@ fn granules() {
 
 fn print_command(out: &mut String, input: &[u8]) {
     let record = record_words(record_at(input));
-    let [id, x1, x2, x3, start, width] = [32, 40, 48, 56, 64, 72].map(|at| word_at(input, at));
-    let [in_table, in_key, in_page] = [80, 88, 96].map(|at| size_at(input, at));
-    let mut rest = &input[104..];
+    let [id, x1, x2, x3, start, width] = [40, 48, 56, 64, 72, 80].map(|at| word_at(input, at));
+    let [in_table, in_key, in_page] = [88, 96, 104].map(|at| size_at(input, at));
+    let mut rest = &input[112..];
     let mut table = take(&mut rest, in_table).to_vec();
     let key = take(&mut rest, in_key);
     let mut page = take(&mut rest, in_page).to_vec();
@@ -161,7 +161,7 @@ fn print_command(out: &mut String, input: &[u8]) {
 
 #[test]
 fn commands() {
-    compare("command_vectors", 930, print_command);
+    compare("command_vectors", 986, print_command);
 }
 
 // ---- The runtime ----
@@ -209,13 +209,13 @@ fn call_by_id(out: &mut String, input: &[u8], step: &[u8], images: &mut Images, 
     let x = [8, 16, 24, 32, 40].map(|at| word_at(step, at));
     let mut lent = LentTo {
         page: &mut held.page,
-        granules: [word_at(input, 32)],
+        granules: [word_at(input, 40)],
         table: &mut held.table,
-        key: lent(input, 104),
+        key: lent(input, 112),
         token: lent_by(input, step, 56),
         busy: word_at(step, 48),
-        public_key: lent(input, 120),
-        width: word_at(input, 40),
+        public_key: lent(input, 128),
+        width: word_at(input, 48),
     };
     let Images {
         record,
@@ -270,7 +270,7 @@ fn operate(out: &mut String, input: &[u8], step: &[u8], images: &mut Images, hel
 
 fn print_runtime(out: &mut String, input: &[u8]) {
     let mut queue = [0; 210];
-    for (word, bytes) in queue.iter_mut().zip(lent(input, 136).chunks_exact(8)) {
+    for (word, bytes) in queue.iter_mut().zip(lent(input, 144).chunks_exact(8)) {
         *word = word_at(bytes, 0);
     }
     let mut images = Images {
@@ -283,5 +283,5 @@ fn print_runtime(out: &mut String, input: &[u8]) {
 
 #[test]
 fn runtime() {
-    compare("runtime_vectors", 840, print_runtime);
+    compare("runtime_vectors", 963, print_runtime);
 }

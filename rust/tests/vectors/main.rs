@@ -64,10 +64,15 @@ fn size_at(input: &[u8], at: usize) -> usize {
 }
 
 fn record_at(input: &[u8]) -> Record {
-    let [cpus, base, minor] = [8, 16, 24].map(|at| word_at(input, at));
+    let [cpus, base, minor, kept] = [8, 16, 24, 32].map(|at| word_at(input, at));
     match word_at(input, 0) {
         0 => Record::Fresh,
-        1 => Record::Up(Kept { cpus, base, minor }),
+        1 => Record::Up(Kept {
+            cpus,
+            base,
+            minor,
+            kept,
+        }),
         _ => Record::Closed,
     }
 }
@@ -196,13 +201,13 @@ fn writer_vectors() {
 
 fn print_boots(out: &mut String, input: &[u8]) {
     let mut record = record_at(input);
-    let mut rest = &input[40..];
-    for _ in 0..word_at(input, 32) {
-        let step = take(&mut rest, 56);
-        let page = take(&mut rest, size_at(step, 48));
+    let mut rest = &input[48..];
+    for _ in 0..word_at(input, 40) {
+        let step = take(&mut rest, 64);
+        let page = take(&mut rest, size_at(step, 56));
         let x = [8, 16, 24, 32].map(|at| word_at(step, at));
         let (next, answer) = match word_at(step, 0) {
-            0 => record.cold(x, word_at(step, 40), page),
+            0 => record.cold(x, word_at(step, 40), word_at(step, 48), page),
             _ => record.warm(x),
         };
         record = next;
@@ -214,8 +219,13 @@ fn print_boots(out: &mut String, input: &[u8]) {
 fn print_record(out: &mut String, record: Record) {
     match record {
         Record::Fresh => writeln!(out, " fresh"),
-        Record::Up(Kept { cpus, base, minor }) => {
-            writeln!(out, " up {cpus:016x} {base:016x} {minor:016x}")
+        Record::Up(Kept {
+            cpus,
+            base,
+            minor,
+            kept,
+        }) => {
+            writeln!(out, " up {cpus:016x} {base:016x} {minor:016x} {kept:016x}")
         }
         Record::Closed => writeln!(out, " closed"),
     }
@@ -224,16 +234,16 @@ fn print_record(out: &mut String, record: Record) {
 
 #[test]
 fn boot_vectors() {
-    compare("boot_vectors", 246, print_boots);
+    compare("boot_vectors", 335, print_boots);
 }
 
 // ---- Lists of granules ----
 
 fn print_list(out: &mut String, input: &[u8]) {
     let record = record_at(input);
-    let [direction, start] = [32, 40].map(|at| word_at(input, at));
-    let [in_table, length] = [48, 56].map(|at| size_at(input, at));
-    let mut rest = &input[64..];
+    let [direction, start] = [40, 48].map(|at| word_at(input, at));
+    let [in_table, length] = [56, 64].map(|at| size_at(input, at));
+    let mut rest = &input[72..];
     let mut table = take(&mut rest, in_table).to_vec();
     let list: Vec<u64> = (0..length)
         .map(|_| word_at(take(&mut rest, 8), 0))
@@ -257,9 +267,9 @@ fn granule_vectors() {
 
 fn print_command(out: &mut String, input: &[u8]) {
     let record = record_at(input);
-    let [id, x1, x2, x3, start, width] = [32, 40, 48, 56, 64, 72].map(|at| word_at(input, at));
-    let [in_table, in_key, in_page] = [80, 88, 96].map(|at| size_at(input, at));
-    let mut rest = &input[104..];
+    let [id, x1, x2, x3, start, width] = [40, 48, 56, 64, 72, 80].map(|at| word_at(input, at));
+    let [in_table, in_key, in_page] = [88, 96, 104].map(|at| size_at(input, at));
+    let mut rest = &input[112..];
     let mut table = take(&mut rest, in_table).to_vec();
     let key = take(&mut rest, in_key);
     let mut page = take(&mut rest, in_page).to_vec();
@@ -290,7 +300,7 @@ fn print_padded(out: &mut String, outcome: Outcome) {
 
 #[test]
 fn command_vectors() {
-    compare("command_vectors", 930, print_command);
+    compare("command_vectors", 986, print_command);
 }
 
 // ---- The runtime ----
@@ -337,11 +347,11 @@ fn queue_at(image: &[u8]) -> Queue {
 }
 
 fn session_at(input: &[u8]) -> Session {
-    match word_at(input, 48) {
+    match word_at(input, 56) {
         0 => Session::Idle,
         _ => Session::Sending {
-            whole: word_at(input, 56),
-            sent: word_at(input, 64),
+            whole: word_at(input, 64),
+            sent: word_at(input, 72),
         },
     }
 }
@@ -430,12 +440,12 @@ fn operate(out: &mut String, input: &[u8], step: &[u8], state: &mut State, memor
             let mut lent = Lent {
                 page: &mut memory.page,
                 table: &mut memory.table,
-                start: word_at(input, 32),
-                realm_key: lent(input, 104),
-                public_key: lent(input, 120),
+                start: word_at(input, 40),
+                realm_key: lent(input, 112),
+                public_key: lent(input, 128),
                 token: lent_by(input, step, 56),
                 busy: word_at(step, 48) != 0,
-                width: word_at(input, 40),
+                width: word_at(input, 48),
             };
             let id = word_at(step, 8);
             let x = [x1, x2, x3, x4];
@@ -499,11 +509,11 @@ fn print_steps<T>(
     state: fn(&T) -> State,
 ) {
     let mut held = Memory {
-        page: lent(input, 72).to_vec(),
-        table: lent(input, 88).to_vec(),
+        page: lent(input, 80).to_vec(),
+        table: lent(input, 96).to_vec(),
     };
     let mut expected = held.clone();
-    for step in input[160..].chunks_exact(136).take(size_at(input, 152)) {
+    for step in input[168..].chunks_exact(136).take(size_at(input, 160)) {
         operate(out, input, step, held_state, &mut held);
         lay(input, step, 88, &mut expected.page);
         lay(input, step, 112, &mut expected.table);
@@ -519,12 +529,12 @@ fn print_runtime(out: &mut String, input: &[u8]) {
     let mut state = State {
         record: record_at(input),
         session: session_at(input),
-        queue: queue_at(lent(input, 136)),
+        queue: queue_at(lent(input, 144)),
     };
     print_steps(out, input, &mut state, operate, State::clone);
 }
 
 #[test]
 fn runtime_vectors() {
-    compare("runtime_vectors", 840, print_runtime);
+    compare("runtime_vectors", 963, print_runtime);
 }
