@@ -15,7 +15,7 @@ use Rattle.codes.specs.Codes.{ifOk}
 use Rattle.codes.specs.declared.Code.{Code}
 use Rattle.codes.specs.declared.Code.the-variants.{Ok}
 use Rattle.codes.proofs.Gates.{if-ok-by}
-use Rattle.granules.specs.declared.Granules.{Granules}
+use Rattle.banks.specs.Banks.{Granules}
 use Rattle.attest.specs.Key.{keyCode, keyed, realmKeyOf}
 use Rattle.token.specs.Token.{TokenStep, tokenCode, sendOf, keeps, settled, tokenOf}
 use Rattle.token.specs.declared.Session.{Session}

@@ -21,7 +21,7 @@ use Rattle.codes.specs.Codes.{extended, x0Of, answerOf, unless, fails, isUp, wh
 use Rattle.codes.specs.declared.Code.the-variants.{Ok, BadAddr, BadPas, Inval}
 use Rattle.range.specs.Range.{outside, tooLong}
 use Rattle.granules.specs.Granules.{granuleAt, GranuleTable, fromByte, granuleCode, moveCode, movedBy, moveOf, delegateOf}
-use Rattle.granules.specs.declared.Granules.{Granules}
+use Rattle.banks.specs.Banks.{Granules}
 use Rattle.granules.specs.declared.Granule.the-variants.{At}
 use Rattle.features.specs.Features.{updateCode}
 use Rattle.writer.specs.Write.{Made, no-page, a-page, writerGate, writeOf}

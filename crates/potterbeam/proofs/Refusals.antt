@@ -13,7 +13,7 @@ use Rattle.codes.proofs.Gates.{if-ok-by}
 use Rattle.granules.specs.Granules.{Moved, movedBy, moveOf}
 use Rattle.granules.specs.Lists.{doneBy, tableBy}
 use Rattle.granules.specs.declared.Direction.{Direction}
-use Rattle.granules.specs.declared.Granules.{Granules}
+use Rattle.banks.specs.Banks.{Granules}
 use Rattle.granules.proofs.Moving.{move-refused}
 use Rattle.granules.proofs.Done.{list-is}
 use Rattle.boot.specs.declared.Record.{Record}
