@@ -38,7 +38,7 @@ use Rattle.runtime.specs.declared.Needs.{Needs}
 use Rattle.runtime.specs.Step.{World, Call, call, Step, kindOf, afterMove, afterKey, afterToken, afterSigning, afterUpdate, callBy, callOf, stepOf, replyCode, refusal, needsOf}
 use Rattle.runtime.specs.Run.{worldAfter, doneCalls}
 use Rattle.runtime.proofs.Refused.{refused}
-use Rattle.images.specs.Image.{recordOf, granulesOf, isSet, sessionOf, sessionWords, registerWords, workWords, replyRegisters, replyWords}
+use Rattle.images.specs.Image.{recordOf, isSet, sessionOf, sessionWords, registerWords, workWords, replyRegisters, replyWords}
 use Rattle.queue_image.specs.Image.{listsIn}
 use Rattle.queue_image.specs.Steps.{imageStep}
 use Rattle.potterbeam.specs.Exports.{sessionAfter, moveLeft, moveIn, moveListIn, tokenLeft, tokenIn, signingLeft, signingIn, signLeft, signIn, sessionLeft, queueLeft, CallLeft, callLeft, worldIn, callIn}
@@ -85,8 +85,8 @@ delegation : (d : Direction) (state granules table : List ℕ) (address : ℕ) �
     Refuses (moveIn d state granules table address .out) → moveIn d state granules table address ≡ record { out = x0Alone (moveIn d state granules table address .out); table = table }
 unfolding moveIn moveLeft registerWords moveOf movedBy answerOf
 delegation d state granules table address h =
-    let m : Moved = moveOf (recordOf state) (granulesOf granules) d (record { bytes = table }) address in
-    ap moveLeft (move-refused (recordOf state) (granulesOf granules) d (record { bytes = table }) address (refuses (m .answer) refl h))
+    let m : Moved = moveOf (recordOf state) granules d (record { bytes = table }) address in
+    ap moveLeft (move-refused (recordOf state) granules d (record { bytes = table }) address (refuses (m .answer) refl h))
 
 realm-key : (state page key : List ℕ) (pa size curve : ℕ) → Refuses (registerWords (realmKeyOf (recordOf state) page key pa size curve .answer)) →
     (registerWords (realmKeyOf (recordOf state) page key pa size curve .answer) ≡ x0Alone (registerWords (realmKeyOf (recordOf state) page key pa size curve .answer)))
@@ -197,7 +197,7 @@ dispatched : (granules session queue page table : List ℕ) (c : Call) → Refus
     callIn granules session queue page table c ≡ kept session queue page table (getD (callIn granules session queue page table c .out) 0 0)
 unfolding callIn callLeft callOf stepOf doneCalls worldAfter
 dispatched granules session queue page table c h =
-    let g : Granules = granulesOf granules in
+    let g : Granules = granules in
     let w : World = worldIn session queue page table in
     let st : Step = callOf g w c in
     let f : isOk (replyCode (st .reply)) ≡ false = reply-tells (kindOf (c .id)) g w c h in
@@ -207,11 +207,11 @@ dispatched granules session queue page table c h =
 -- a list, whatever its code
 lists : (d : Direction) (state granules table addresses : List ℕ) →
     let l = moveListIn d state granules table addresses in
-    let f = moveOf (recordOf state) (granulesOf granules) d in
+    let f = moveOf (recordOf state) granules d in
     let done = doneBy f (record { bytes = table }) addresses in
     l ≡ record { out = getD (l .out) 0 0 ∷ done ∷ 0 ∷ []; table = tableBy f (record { bytes = table }) (take done addresses) .bytes }
 unfolding moveListIn moveLeft registerWords answerOf
-lists d state granules table addresses = rw (list-is (recordOf state) (granulesOf granules) d (record { bytes = table }) addresses)
+lists d state granules table addresses = rw (list-is (recordOf state) granules d (record { bytes = table }) addresses)
 
 pub exports-refuse : ExportsRefuse
 exports-refuse =

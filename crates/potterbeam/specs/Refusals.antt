@@ -10,7 +10,7 @@ use Rattle.granules.specs.declared.Direction.{Direction}
 use Rattle.attest.specs.Key.{realmKeyOf}
 use Rattle.features.specs.Features.{featuresOf, updateOf}
 use Rattle.runtime.specs.Step.{Call}
-use Rattle.images.specs.Image.{recordOf, granulesOf, registerWords, workWords}
+use Rattle.images.specs.Image.{recordOf, registerWords, workWords}
 use Rattle.potterbeam.specs.Exports.{moveIn, moveListIn, tokenIn, signingIn, signIn, callIn}
 
 -- the registers show a refusal
@@ -30,7 +30,7 @@ pub record ExportsRefuse : Type 0 where
   -- that after the single calls of these; of an accepted list too
   pub lists : (d : Direction) (state granules table addresses : List ℕ) →
       let l = moveListIn d state granules table addresses in
-      let f = moveOf (recordOf state) (granulesOf granules) d in
+      let f = moveOf (recordOf state) granules d in
       let done = doneBy f (record { bytes = table }) addresses in
       l ≡ record { out = getD (l .out) 0 0 ∷ done ∷ 0 ∷ []; table = tableBy f (record { bytes = table }) (take done addresses) .bytes }
   -- pbeam_realm_key

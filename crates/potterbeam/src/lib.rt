@@ -191,7 +191,7 @@ pub extern "C" fn pbeam_close(image: &mut [u64; 4])
 #[no_mangle]
 pub extern "C" fn pbeam_delegate(
     state: &[u64; 4],
-    granules: &[u64; 1],
+    granules: &[u64; 33],
     table: &mut [u8],
     address: u64,
     out: &mut [u64; 3],
@@ -201,7 +201,7 @@ pub extern "C" fn pbeam_delegate(
 {
     *out = images::registers(granules::delegate(
         images::record_of(state),
-        images::granules_of(granules),
+        granules,
         table,
         address,
     ));
@@ -211,7 +211,7 @@ pub extern "C" fn pbeam_delegate(
 #[no_mangle]
 pub extern "C" fn pbeam_undelegate(
     state: &[u64; 4],
-    granules: &[u64; 1],
+    granules: &[u64; 33],
     table: &mut [u8],
     address: u64,
     out: &mut [u64; 3],
@@ -221,7 +221,7 @@ pub extern "C" fn pbeam_undelegate(
 {
     *out = images::registers(granules::undelegate(
         images::record_of(state),
-        images::granules_of(granules),
+        granules,
         table,
         address,
     ));
@@ -231,7 +231,7 @@ pub extern "C" fn pbeam_undelegate(
 #[no_mangle]
 pub extern "C" fn pbeam_delegate_list(
     state: &[u64; 4],
-    granules: &[u64; 1],
+    granules: &[u64; 33],
     table: &mut [u8],
     addresses: &[u64],
     out: &mut [u64; 3],
@@ -241,7 +241,7 @@ pub extern "C" fn pbeam_delegate_list(
 {
     *out = images::registers(granules::delegate_list(
         images::record_of(state),
-        images::granules_of(granules),
+        granules,
         table,
         addresses,
     ));
@@ -251,7 +251,7 @@ pub extern "C" fn pbeam_delegate_list(
 #[no_mangle]
 pub extern "C" fn pbeam_undelegate_list(
     state: &[u64; 4],
-    granules: &[u64; 1],
+    granules: &[u64; 33],
     table: &mut [u8],
     addresses: &[u64],
     out: &mut [u64; 3],
@@ -261,7 +261,7 @@ pub extern "C" fn pbeam_undelegate_list(
 {
     *out = images::registers(granules::undelegate_list(
         images::record_of(state),
-        images::granules_of(granules),
+        granules,
         table,
         addresses,
     ));
@@ -434,7 +434,7 @@ pub extern "C" fn pbeam_responses(queue: &[u64; 210]) -> usize
 fn plain(
     state: &[u64; 4],
     page: &mut [u8],
-    granules: &[u64; 1],
+    granules: &[u64; 33],
     table: &mut [u8],
     key: &[u8],
     width: u64,
@@ -447,7 +447,7 @@ fn plain(
 {
     let reply = runtime::plain_call(
         images::record_of(state),
-        images::granules_of(granules),
+        granules,
         call[0],
         call[1],
         call[2],
@@ -469,7 +469,7 @@ pub extern "C" fn pbeam_call(
     session: &mut [u64; 3],
     queue: &mut [u64; 210],
     page: &mut [u8],
-    granules: &[u64; 1],
+    granules: &[u64; 33],
     table: &mut [u8],
     key: &[u8],
     token: &[u8],
