@@ -1,10 +1,10 @@
 -- Demand 1 at the C edge. Assumes nothing.
 use Prim.Native.Nat.{ℕ}
 use mathlib.Core.Path.{_≡_, refl, sym, ap, _∙_}
-use mathlib.Core.Bool.{Bool, false}
+use mathlib.Core.Bool.{Bool, true, false}
 use mathlib.Core.List.{List, [], _∷_}
 use lib.ListN.{take, getD}
-use Rattle.codes.specs.Codes.{isOk, ifOk, x0Of, extended, answerOf}
+use Rattle.codes.specs.Codes.{isOk, unless, fails, ifOk, x0Of, extended, answerOf}
 use Rattle.codes.specs.declared.Answer.{Answer}
 use Rattle.codes.specs.declared.Code.{Code}
 use Rattle.codes.specs.declared.Code.the-variants.{Ok, Unk, BadAddr, BadPas, Inval, Again}
@@ -13,7 +13,7 @@ use Rattle.codes.proofs.Gates.{if-ok-by}
 use Rattle.granules.specs.Granules.{Moved, movedBy, moveOf}
 use Rattle.granules.specs.Lists.{doneBy, tableBy}
 use Rattle.granules.specs.declared.Direction.{Direction}
-use Rattle.banks.specs.Banks.{Granules}
+use Rattle.banks.specs.Banks.{Granules, countIn, takes, recordFrom, setUpCode, setUpOf}
 use Rattle.granules.proofs.Moving.{move-refused}
 use Rattle.granules.proofs.Done.{list-is}
 use Rattle.boot.specs.declared.Record.{Record}
@@ -41,7 +41,7 @@ use Rattle.runtime.proofs.Refused.{refused}
 use Rattle.images.specs.Image.{recordOf, isSet, sessionOf, sessionWords, registerWords, workWords, replyRegisters, replyWords}
 use Rattle.queue_image.specs.Image.{listsIn}
 use Rattle.queue_image.specs.Steps.{imageStep}
-use Rattle.potterbeam.specs.Exports.{sessionAfter, moveLeft, moveIn, moveListIn, tokenLeft, tokenIn, signingLeft, signingIn, signLeft, signIn, sessionLeft, queueLeft, CallLeft, callLeft, worldIn, callIn}
+use Rattle.potterbeam.specs.Exports.{sessionAfter, SetUpLeft, setUpLeft, setUpIn, moveLeft, moveIn, moveListIn, tokenLeft, tokenIn, signingLeft, signingIn, signLeft, signIn, sessionLeft, queueLeft, CallLeft, callLeft, worldIn, callIn}
 use Rattle.potterbeam.specs.Refusals.{Refuses, x0Alone, ExportsRefuse}
 
 -- ---- x0 is not 0: the code is not OK
@@ -81,6 +81,15 @@ signing-tells r page q key op pa size curve =
     (record { refusal = λ o k e. refl; push = λ p e. refl; pull = λ p e. refl; public = λ p e. refl })
 
 -- ---- the exports
+set-up : (granules banks : List ℕ) (n : ℕ) → (setUpIn granules banks n .x0 ≡ 0 → ⊥) → setUpIn granules banks n ≡ record { x0 = x0Of Inval; granules = granules }
+unfolding setUpIn setUpLeft setUpOf setUpCode fails unless x0Of extended
+set-up granules banks n h = go (takes banks n) h
+  where
+    go : (b : Bool) → (x0Of (fails (unless b) Inval Ok) ≡ 0 → ⊥) →
+        _≡_ {A = SetUpLeft} (record { x0 = x0Of (fails (unless b) Inval Ok); granules = ifOk (fails (unless b) Inval Ok) (recordFrom (countIn banks) banks) granules }) (record { x0 = x0Of Inval; granules = granules })
+    go true h = absurd (h refl)
+    go false h = refl
+
 delegation : (d : Direction) (state granules table : List ℕ) (address : ℕ) →
     Refuses (moveIn d state granules table address .out) → moveIn d state granules table address ≡ record { out = x0Alone (moveIn d state granules table address .out); table = table }
 unfolding moveIn moveLeft registerWords moveOf movedBy answerOf
@@ -216,6 +225,7 @@ lists d state granules table addresses = rw (list-is (recordOf state) granules d
 pub exports-refuse : ExportsRefuse
 exports-refuse =
     record {
+      setUp = set-up;
       delegation = delegation;
       lists = lists;
       realmKey = realm-key;

@@ -3,10 +3,11 @@
 use Prim.Native.Nat.{ℕ}
 use mathlib.Core.List.{List}
 use lib.ListN.{getD}
-use Rattle.codes.specs.Codes.{ifOk}
+use Rattle.codes.specs.Codes.{x0Of, ifOk}
 use Rattle.codes.specs.declared.Code.{Code}
 use Rattle.lists.specs.Description.{descriptionOf}
 use Rattle.writer.specs.Write.{Made, writeOf}
+use Rattle.banks.specs.Banks.{SetUp, setUpOf}
 use Rattle.granules.specs.Granules.{Moved, moveOf}
 use Rattle.granules.specs.Lists.{moveListOf}
 use Rattle.granules.specs.declared.Direction.{Direction}
@@ -27,6 +28,17 @@ writeIn base n edition dram console ncoh coh = writeOf base n edition (descripti
 -- ---- an image after a call: written where the call is accepted
 unfoldable pub sessionAfter : Code → Session → List ℕ → List ℕ
 sessionAfter k s image = ifOk k (sessionWords s) image
+
+-- ---- the granule record's set-up: x0 and the record
+pub record SetUpLeft : Type 0 where
+  pub x0 : ℕ
+  pub granules : List ℕ
+
+unfoldable pub setUpLeft : SetUp → SetUpLeft
+setUpLeft s = record { x0 = x0Of (s .code); granules = s .granules }
+
+unfoldable pub setUpIn : List ℕ → List ℕ → ℕ → SetUpLeft
+setUpIn granules banks n = setUpLeft (setUpOf banks n granules)
 
 -- ---- delegation: the result registers and the table
 pub record MoveLeft : Type 0 where

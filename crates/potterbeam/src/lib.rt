@@ -23,7 +23,7 @@ ghost use Rattle.token.specs.Token.{bufferCode, challengeSpan};
 ghost use Rattle.features.specs.Features.{featuresOf, updateOf, forwardOf};
 ghost use Rattle.images.specs.Image.{recordOf, recordWords, registerWords, workWords, viewOf, answerWords, madeNumber, spanWords};
 ghost use Rattle.queue_image.specs.Image.{listsIn, oldestWords};
-ghost use Rattle.potterbeam.specs.Exports.{writeIn, MoveLeft, moveIn, moveListIn, TokenLeft, tokenIn, SigningLeft, signingIn, SignLeft, signIn, PlainLeft, plainIn, CallLeft, callLent, callIn};
+ghost use Rattle.potterbeam.specs.Exports.{writeIn, SetUpLeft, setUpIn, MoveLeft, moveIn, moveListIn, TokenLeft, tokenIn, SigningLeft, signingIn, SignLeft, signIn, PlainLeft, plainIn, CallLeft, callLent, callIn};
 
 // ---- Manifest ----
 
@@ -183,6 +183,18 @@ pub extern "C" fn pbeam_close(image: &mut [u64; 4])
     ensures { λ _. ⌜ now (image .exit) ≡ recordWords Closed ⌝ }
 {
     *image = images::record_words(Record::Closed);
+}
+
+// ---- Granule record ----
+
+// Sets up the granule record from the banks in a page, in the bytes that the array lookup gives, for a table of so many granules. Answers
+// 0, or the number of INVAL as x0 holds it, and leaves the record as it was.
+#[no_mangle]
+pub extern "C" fn pbeam_set_up_granules(granules: &mut [u64; 33], banks: &[u8], len: u64) -> u64
+    ensures { λ r. ⌜ _≡_ {A = SetUpLeft} (record { x0 = r; granules = now (granules .exit) })
+        (setUpIn (now (granules .entry)) (now (banks .entry)) len) ⌝ }
+{
+    codes::x0(banks::set_up(banks, len, granules))
 }
 
 // ---- Runtime commands ----
