@@ -1,5 +1,6 @@
 #!/usr/bin/env python3
-"""Run vectors for six runtime commands, made from docs/01-scope.md alone.
+"""Run vectors for six runtime commands, made from docs/01-scope.md and docs/02-change-requests.md
+(E8) alone.
 
 Run from the repository's root:  python3 tests/commands/make.py
 It rewrites crates/command_vectors/data/c000, c001, .. (8-byte words: the record's state, cpus,
@@ -32,8 +33,10 @@ GRANULE = (DELEGATE, UNDELEGATE)        # the index is the byte that the command
 CODES = {"OK": 0, "UNK": -1, "BAD_ADDR": -2, "BAD_PAS": -3, "INVAL": -5}
 GRANULE_CHECKS = {"not up": "UNK", "G": "BAD_ADDR", "address": "BAD_ADDR", "off": "BAD_ADDR",
                   "byte": "BAD_PAS"}
+SHARED_CHECKS = {"not up": "UNK", "G": "BAD_ADDR", "address": "BAD_ADDR", "off": "BAD_ADDR",
+                 "shared": "BAD_ADDR", "byte": "BAD_PAS"}       # 02, E8
 CHECKS = {                              # the checks of each command in 01's order, with the code
-    FORWARD: {}, DELEGATE: GRANULE_CHECKS, UNDELEGATE: GRANULE_CHECKS,
+    FORWARD: {}, DELEGATE: GRANULE_CHECKS, UNDELEGATE: SHARED_CHECKS,
     KEY: {"not up": "UNK", "length": "UNK", "outside": "BAD_ADDR", "too long": "INVAL",
           "curve": "INVAL", "key": "UNK"},
     FEATURES: {"not up": "UNK", "index": "INVAL", "minor": "UNK"},
@@ -58,6 +61,7 @@ def failing(case):
         "G": case.g % 4096 != 0,
         "address": case.x1 % 4096 != 0,
         "off": off,
+        "shared": case.x1 == case.base,
         "byte": not off and case.table[index] != (0 if case.id == DELEGATE else 1),
         "index": case.x1 != 0,
         "mecid": case.x1 > 65535 or case.x1 > 2**(min(case.m, 15) + 1) - 1,
@@ -313,8 +317,8 @@ def together():
         "off": ({"table": b""},), "byte": ({"table": b"\2" * 8},)}
     for command in (DELEGATE, UNDELEGATE, KEY, FEATURES, UPDATE):
         for one, two in combinations(CHECKS[command], 2):
-            if (one, two) == ("off", "byte"):
-                continue                # off the table there is no byte
+            if (one, two) == ("off", "byte") or "shared" in (one, two):
+                continue                # off the table there is no byte; B has a group of its own
             for i in range(1 if command in GRANULE else 2):
                 case = add(None, command, f"{one} and {two}{', again' if i else ''}",
                            **ways[one][i], **ways[two][i])
@@ -355,11 +359,34 @@ def random_inputs():
             page=bytes(pick(256) for _ in range(PAGE if command == KEY else pick(100))))
 
 
+def shared_page():
+    """02, E8: the granule at B is not undelegated, whatever its byte"""
+    for where, i in (("first", 0), ("middle", 3), ("last", 7)):
+        for byte in (0, 1, 2, 3) if where == "middle" else (0, 1):
+            table = bytearray(b"\1" * 8)
+            table[i] = byte
+            given = {"base": G + 4096 * i, "x1": G + 4096 * i, "table": bytes(table)}
+            text = f"B the {where} granule, its byte {byte}"
+            add("shared" if byte == 1 else "shared, byte", UNDELEGATE, text, **given)
+            add("byte" if byte else "OK", DELEGATE, text, **given)
+        for state in ("fresh", "closed"):
+            add("not up, shared", UNDELEGATE, f"B the {where} granule, record {state}", state=state,
+                base=G + 4096 * i, x1=G + 4096 * i)
+    for text, base in (("the granule before B", G + 3 * 4096), ("behind B", G + 4096),
+                       ("B one byte below it", G + 2 * 4096 - 1), ("B = 0", 0)):
+        add("OK", UNDELEGATE, text, base=base)
+    add("off, shared", UNDELEGATE, "B one past the table", base=G + 8 * 4096, x1=G + 8 * 4096)
+    add("shared", UNDELEGATE, "B = G = 0", base=0, x1=0, g=0)
+    add("G, shared", UNDELEGATE, "G 8 too high", base=G + 4096, x1=G + 4096, g=G + 8)
+    add("address, shared", UNDELEGATE, "B not aligned", base=G + 4096 + 8, x1=G + 4096 + 8)
+
+
 # ---- Output ----
 
 def build_all():
     for group in (examples, forwarding, records, page_lengths, granule_addresses, granule_bytes,
-                  key_ranges, keys_and_curves, features, key_updates, together, random_inputs):
+                  key_ranges, keys_and_curves, features, key_updates, together, random_inputs,
+                  shared_page):
         GROUPS.append((group.__doc__, []))
         group()
 

@@ -1,6 +1,6 @@
 #!/usr/bin/env python3
 """Run vectors for lists of granules, made from docs/01-scope.md and docs/02-change-requests.md
-(E1) alone.
+(E1, E8) alone.
 
 Run from the repository's root:  python3 tests/granules/make.py
 It rewrites crates/granule_vectors/data/c000, c001, .. (8-byte words: the record's state, cpus,
@@ -23,6 +23,7 @@ sys.path.insert(0, str(HERE.parent))
 from vectors import write_all
 
 WORD = 2**64
+BASE = 0x80000000                       # B, that every record keeps
 STATES = ("fresh", "up", "closed")      # a file has the index
 DELEGATE, UNDELEGATE = 0, 1             # the byte that a granule must have
 NAMES = ("delegate", "undelegate")
@@ -34,11 +35,13 @@ Answer = namedtuple("Answer", "code done table")
 # ---- The rules. All arithmetic is on plain numbers. ----
 
 def single(case, table, address):
-    """01: the code of one call, and the granule that it names."""
+    """01, and 02, E8: the code of one call, and the granule that it names."""
     index = (address - case.g) // 4096
     if case.state != "up":
         return "UNK", None
     if case.g % 4096 or address % 4096 or not 0 <= index < len(table):
+        return "BAD_ADDR", None
+    if case.direction == UNDELEGATE and address == BASE:
         return "BAD_ADDR", None
     return ("OK" if table[index] == case.direction else "BAD_PAS"), index
 
@@ -56,7 +59,7 @@ def run(case):
 
 def file_of(case):
     """The bytes of a case's file."""
-    words = (STATES.index(case.state), 8, 0x80000000, 5, case.direction, case.g,
+    words = (STATES.index(case.state), 8, BASE, 5, case.direction, case.g,
              len(case.table), len(case.addresses))
     return (b"".join(word.to_bytes(8, "little") for word in words) + case.table
             + b"".join(word.to_bytes(8, "little") for word in case.addresses) + run(case).table)
@@ -156,6 +159,53 @@ def repeats():
         add("BAD_ADDR", 1, way, "a table of one granule", at(0, 1, 0), table=[way])
 
 
+def shared_tables():
+    """Where the shared page is among the granules: the text, G, its index, and the granules."""
+    return [(f"B the {where} granule", BASE - 4096 * i, i, 8)
+            for where, i in (("first", 0), ("middle", 3), ("last", 7))]
+
+
+def shared():
+    """02, E8: the shared page alone. It is not undelegated, whatever its byte"""
+    for text, g, i, n in shared_tables():
+        for byte in range(4):
+            for way in (DELEGATE, UNDELEGATE):
+                table = [way] * n
+                table[i] = byte
+                code = "BAD_ADDR" if way == UNDELEGATE else "BAD_PAS" if byte else "OK"
+                add(code, int(code == "OK"), way, f"{text}, byte {byte}", [BASE], g=g, table=table)
+        for state in ("fresh", "closed"):
+            add("UNK", 0, UNDELEGATE, f"{text}, record {state}", [BASE], state=state, g=g)
+        add("BAD_ADDR", 0, UNDELEGATE, f"{text}: one byte above B", [BASE + 1], g=g)
+    for way in (DELEGATE, UNDELEGATE):
+        add("BAD_ADDR", 0, way, "B in no granule of the table", [BASE])
+        add("BAD_ADDR", 0, way, "B one past the table", [BASE], g=BASE - 8 * 4096)
+        add("BAD_ADDR", 0, way, "B, an empty table", [BASE], g=BASE, table=b"")
+        add("OK", 2, way, "the granules before and behind B", [BASE - 4096, BASE + 4096],
+            g=BASE - 4096)
+
+
+def shared_lists():
+    """02, E8: lists with the shared page in them; what comes before it is done"""
+    for text, g, i, n in shared_tables():
+        others = [g + 4096 * k for k in range(n) if k != i][:4]
+        for where, at_index in (("first", 0), ("in the middle", 2), ("last", 4)):
+            picks = others[:at_index] + [BASE] + others[at_index:]
+            add("BAD_ADDR", at_index, UNDELEGATE, f"{text}, {where} of five", picks, g=g)
+            add("OK", 5, DELEGATE, f"{text}, {where} of five", picks, g=g)
+            bad = [g + 4096 * k + 1 for k in range(2)]
+            add("BAD_ADDR", at_index, UNDELEGATE, f"{text}, {where}, then one not aligned",
+                others[:at_index] + [BASE] + bad, g=g)
+        add("BAD_PAS", 1, UNDELEGATE, f"{text}, behind a repeat", [*others[:1] * 2, BASE], g=g)
+        add("BAD_ADDR", 1, UNDELEGATE, f"{text}, before a repeat", [*others[:1], BASE, *others[:1]],
+            g=g)
+        add("BAD_PAS", 1, DELEGATE, f"{text}, twice", [BASE, BASE], g=g)
+        table = [1] * n
+        table[i] = 0
+        add("BAD_ADDR", 2, UNDELEGATE, f"{text}, its byte 0, behind two", [*others[:2], BASE], g=g,
+            table=table)
+
+
 def random_lists():
     """Random lists"""
     dice = Random(11)
@@ -194,7 +244,7 @@ def case_of(n, case):
 
 
 if __name__ == "__main__":
-    for group in (empty, whole, records, stopped, repeats, random_lists):
+    for group in (empty, whole, records, stopped, repeats, random_lists, shared, shared_lists):
         GROUPS.append((group.__doc__, []))
         group()
     check()

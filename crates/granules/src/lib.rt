@@ -5,7 +5,7 @@ use codes::Answer;
 use codes::Code;
 ghost use mathlib.Core.Path.{_≡_};
 ghost use Rattle.codes.specs.Codes.{answerOf};
-ghost use Rattle.granules.specs.Granules.{granuleAt, fromByte, toByte, moveAt, moveOf, delegateOf, undelegateOf, movedTo};
+ghost use Rattle.granules.specs.Granules.{granuleAt, fromByte, toByte, guarded, moveAt, moveOf, delegateOf, undelegateOf, movedTo};
 ghost use Rattle.granules.specs.Lists.{moveListOf, delegateListOf, undelegateListOf};
 
 // The granule record: the address of the table's first granule.
@@ -65,6 +65,16 @@ fn to_byte(direction: Direction) -> u8
     }
 }
 
+// Whether an address is not to be moved though it falls on a granule: the shared page must stay Realm.
+fn is_guarded(params: Params, direction: Direction, address: u64) -> bool
+    ensures { λ r. ⌜ r ≡ guarded params direction address ⌝ }
+{
+    match direction {
+        Direction::Delegate => false,
+        Direction::Undelegate => address == params.base,
+    }
+}
+
 // Moves the granule at an address, with a boot record that is up and keeps these parameters.
 fn shift_at(
     params: Params,
@@ -77,8 +87,11 @@ fn shift_at(
 {
     let granule = granule_of(granules, table.len(), address);
     let Granule::At(at) = granule else {
-        return Code::BadAddr;
+        return Code::BadAddr; // no granule of the table
     };
+    if is_guarded(params, direction, address) {
+        return Code::BadAddr; // the shared page's
+    }
     let from = from_byte(direction);
     let to = to_byte(direction);
     let held = table[at];

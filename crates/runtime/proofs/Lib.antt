@@ -5,3 +5,5 @@ pub mod Refused
 pub mod Sessions
 pub mod Order
 pub mod Values
+pub mod Changes
+pub mod Shared

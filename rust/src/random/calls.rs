@@ -114,7 +114,7 @@ impl Random {
             0 => self.pick(&[0, 79, 4095, 4097]),
             _ => PAGE,
         };
-        Scene {
+        let mut scene = Scene {
             state: State {
                 record: self.record(),
                 session: self.session(token.len() as u64),
@@ -128,7 +128,17 @@ impl Random {
             token,
             busy: self.one_in(8),
             width: self.pick(&[0, 7, 14, 15, 15, 16, 63, 64, u64::MAX]),
+        };
+        if self.one_in(3) {
+            self.share(&mut scene);
         }
+        scene
+    }
+
+    /// Puts the shared page among the granules, or right behind them.
+    fn share(&mut self, scene: &mut Scene) {
+        let before = self.below(scene.table.len() as u64 + 1);
+        scene.start = scene.base().wrapping_sub(4096 * before);
     }
 
     /// The next step in a scene. What is lent to it may change before: a request in the page, another token, a busy platform.
@@ -215,13 +225,14 @@ impl Random {
 
     fn granule(&mut self, scene: &Scene) -> u64 {
         let count = scene.table.len() as u64;
-        match self.below(10) {
+        match self.below(12) {
             0 => scene.start.wrapping_sub(self.pick(&[1, 4096])),
             1 => scene.start.wrapping_add(4096 * count),
             2 => scene.start.wrapping_add(self.below(4096 * count + 1)),
             3 => self.edge(),
             // On a multiple of 4,096, even where G is on none.
             4 => scene.start.wrapping_add(4096 * self.below(count + 1)) & !4095,
+            5 | 6 => scene.base(),
             _ => scene.start.wrapping_add(4096 * self.below(count + 1)),
         }
     }

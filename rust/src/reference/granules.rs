@@ -13,7 +13,7 @@ pub fn delegate(record: Record, start: u64, table: &mut [u8], address: u64) -> O
     change(record, start, table, address, NON_SECURE, REALM)
 }
 
-/// From Realm to Non-secure.
+/// From Realm to Non-secure; the shared page is refused.
 #[inline]
 pub fn undelegate(record: Record, start: u64, table: &mut [u8], address: u64) -> Outcome {
     change(record, start, table, address, REALM, NON_SECURE)
@@ -47,8 +47,12 @@ fn in_turn(addresses: &[u64], mut one: impl FnMut(u64) -> Outcome) -> Listed {
 
 #[inline]
 fn change(record: Record, start: u64, table: &mut [u8], address: u64, from: u8, to: u8) -> Outcome {
-    need_up(record)?;
+    let kept = need_up(record)?;
     let state = granule(start, table, address).ok_or(Error::BadAddr)?;
+    // The shared page stays Realm.
+    if from == REALM && address == kept.base {
+        return Err(Error::BadAddr);
+    }
     if *state != from {
         return Err(Error::BadPas);
     }

@@ -127,7 +127,7 @@ fn print_list(out: &mut String, input: &[u8]) {
 
 #[test]
 fn granules() {
-    compare("granule_vectors", 166, print_list);
+    compare("granule_vectors", 246, print_list);
 }
 
 fn print_command(out: &mut String, input: &[u8]) {
@@ -161,7 +161,7 @@ fn print_command(out: &mut String, input: &[u8]) {
 
 #[test]
 fn commands() {
-    compare("command_vectors", 930, print_command);
+    compare("command_vectors", 960, print_command);
 }
 
 // ---- The runtime ----
@@ -283,5 +283,5 @@ fn print_runtime(out: &mut String, input: &[u8]) {
 
 #[test]
 fn runtime() {
-    compare("runtime_vectors", 840, print_runtime);
+    compare("runtime_vectors", 852, print_runtime);
 }

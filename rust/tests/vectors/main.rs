@@ -250,7 +250,7 @@ fn print_list(out: &mut String, input: &[u8]) {
 
 #[test]
 fn granule_vectors() {
-    compare("granule_vectors", 166, print_list);
+    compare("granule_vectors", 246, print_list);
 }
 
 // ---- Single commands ----
@@ -290,7 +290,7 @@ fn print_padded(out: &mut String, outcome: Outcome) {
 
 #[test]
 fn command_vectors() {
-    compare("command_vectors", 930, print_command);
+    compare("command_vectors", 960, print_command);
 }
 
 // ---- The runtime ----
@@ -526,5 +526,5 @@ fn print_runtime(out: &mut String, input: &[u8]) {
 
 #[test]
 fn runtime_vectors() {
-    compare("runtime_vectors", 840, print_runtime);
+    compare("runtime_vectors", 852, print_runtime);
 }
