@@ -563,7 +563,8 @@ void pbeam_delegate(const uint64_t state[PBEAM_STATE_WORDS], const uint64_t gran
 
 /*
  * pbeam_undelegate (0xC40001B1): a granule goes from Realm to Non-secure.
- * As pbeam_delegate, with PBEAM_X0_BAD_PAS where the byte is not PBEAM_GRANULE_REALM; on OK it becomes PBEAM_GRANULE_NON_SECURE.
+ * As pbeam_delegate, with PBEAM_X0_BAD_PAS where the byte is not PBEAM_GRANULE_REALM; on OK it becomes PBEAM_GRANULE_NON_SECURE. Before
+ * that check the shared page, address B, is PBEAM_X0_BAD_ADDR whatever its byte: it has to stay Realm.
  * Stack    64 bytes; AArch64 0
  */
 PBEAM_NONNULL(1, 2, 6)

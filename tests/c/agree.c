@@ -546,6 +546,23 @@ static void check_granule_lists(const uint64_t state[ROOM])
     SAME(out[PBEAM_OUT_X1], 0);
 }
 
+/* The shared page stays Realm: the granule at B is not undelegated, alone or in a list; the one behind it is. */
+static void check_shared_page(const uint64_t state[ROOM])
+{
+    const uint64_t record[ROOM] = {BASE}, list[2] = {BASE + PBEAM_GRANULE_BYTES, BASE};
+    uint64_t out[ROOM];
+    uint8_t table[2] = {PBEAM_GRANULE_NON_SECURE, PBEAM_GRANULE_NON_SECURE};
+    pbeam_delegate_list(state, record, table, 2, list, 2, out);
+    SAME(out[PBEAM_OUT_X0], PBEAM_X0_OK);
+    pbeam_undelegate(state, record, table, 2, BASE, out);
+    SAME(out[PBEAM_OUT_X0], PBEAM_X0_BAD_ADDR);
+    pbeam_undelegate_list(state, record, table, 2, list, 2, out);
+    SAME(out[PBEAM_OUT_X0], PBEAM_X0_BAD_ADDR);
+    SAME(out[PBEAM_OUT_X1], 1);
+    SAME(table[0], PBEAM_GRANULE_REALM);
+    SAME(table[1], PBEAM_GRANULE_NON_SECURE);
+}
+
 static void check_granules(void)
 {
     uint64_t state[ROOM];
@@ -562,6 +579,7 @@ static void check_granules(void)
     check_set_up();
     check_granule_record(state);
     check_granule_lists(state);
+    check_shared_page(state);
     /* Root and Secure are alike to the library: 01 gives them these numbers. */
     SAME(PBEAM_GRANULE_ROOT, 2);
     SAME(PBEAM_GRANULE_SECURE, 3);

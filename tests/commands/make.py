@@ -1,6 +1,6 @@
 #!/usr/bin/env python3
 """Run vectors for six runtime commands, made from docs/01-scope.md and docs/02-change-requests.md
-(E2, E5) alone.
+(E2, E5, E8) alone.
 
 Run from the repository's root:  python3 tests/commands/make.py
 It rewrites crates/command_vectors/data/c000, c001, .. (8-byte words: the record's state, cpus,
@@ -36,8 +36,10 @@ GRANULE = (DELEGATE, UNDELEGATE)        # the index is the byte that the command
 CODES = {"OK": 0, "UNK": -1, "BAD_ADDR": -2, "BAD_PAS": -3, "INVAL": -5}
 GRANULE_CHECKS = {"not up": "UNK", "banks": "BAD_ADDR", "table": "BAD_ADDR", "address": "BAD_ADDR",
                   "off": "BAD_ADDR", "byte": "BAD_PAS"}
+SHARED_CHECKS = {"not up": "UNK", "banks": "BAD_ADDR", "table": "BAD_ADDR", "address": "BAD_ADDR",
+                 "off": "BAD_ADDR", "shared": "BAD_ADDR", "byte": "BAD_PAS"}       # 02, E8
 CHECKS = {                              # the checks of each command in 01's order, with the code
-    FORWARD: {}, DELEGATE: GRANULE_CHECKS, UNDELEGATE: GRANULE_CHECKS,
+    FORWARD: {}, DELEGATE: GRANULE_CHECKS, UNDELEGATE: SHARED_CHECKS,
     KEY: {"not up": "UNK", "length": "UNK", "outside": "BAD_ADDR", "too long": "INVAL",
           "curve": "INVAL", "key": "UNK"},
     FEATURES: {"not up": "UNK", "index": "INVAL", "minor": "UNK"},
@@ -58,6 +60,7 @@ def failing(case):
         "too long": case.x2 > end - case.x1,
         "curve": case.x3 != 0,
         "key": len(case.key) == 0 or len(case.key) > case.x2,
+        "shared": case.x1 == case.base,
         "byte": index is not None and case.table[index] != (0 if case.id == DELEGATE else 1),
         "index": case.x1 != 0,
         "mecid": case.x1 > 65535 or case.x1 > 2**(min(case.m, 15) + 1) - 1,
@@ -399,7 +402,8 @@ def granules_fail(command, names):
     address += 2**40 * ("off" in names) + 8 * ("address" in names)
     byte = 2 if "byte" in names else GRANULE.index(command)
     add(", ".join(names), command, " and ".join(names), state=state, record=record_of(banks),
-        x1=address, table=bytes([byte]) * (9 if "table" in names else 8))
+        base=address if "shared" in names else B, x1=address,
+        table=bytes([byte]) * (9 if "table" in names else 8))
 
 
 def random_inputs():
@@ -457,12 +461,38 @@ def kept_bytes():
     add("not up, outside", KEY, "closed, with K", state="closed", kept=ONES)
 
 
+def shared_page():
+    """02, E8: the granule at B is not undelegated, whatever its byte"""
+    for where, i in (("first", 0), ("middle", 3), ("last", 7)):
+        for byte in (0, 1, 2, 3) if where == "middle" else (0, 1):
+            table = bytearray(b"\1" * 8)
+            table[i] = byte
+            given = {"base": G + 4096 * i, "x1": G + 4096 * i, "table": bytes(table)}
+            text = f"B the {where} granule, its byte {byte}"
+            add("shared" if byte == 1 else "shared, byte", UNDELEGATE, text, **given)
+            add("byte" if byte else "OK", DELEGATE, text, **given)
+        for state in ("fresh", "closed"):
+            add("not up, shared", UNDELEGATE, f"B the {where} granule, record {state}", state=state,
+                base=G + 4096 * i, x1=G + 4096 * i)
+    for text, base in (("the granule before B", G + 3 * 4096), ("behind B", G + 4096),
+                       ("B one byte below it", G + 2 * 4096 - 1), ("B = 0", 0)):
+        add("OK", UNDELEGATE, text, base=base)
+    add("off, shared", UNDELEGATE, "B one past the table", base=G + 8 * 4096, x1=G + 8 * 4096)
+    add("shared", UNDELEGATE, "B = 0, the first granule", base=0, x1=0, record=one(0, 8))
+    add("address, shared", UNDELEGATE, "B not aligned", base=G + 4096 + 8, x1=G + 4096 + 8)
+    for other in ("not up", "banks", "table", "address", "off"):
+        granules_fail(UNDELEGATE, (other, "shared"))
+    hole = record_of([(G, 4 * 4096), (G + 5 * 4096, 4 * 4096)])
+    add("off, shared", UNDELEGATE, "B in a hole", base=G + 4 * 4096, x1=G + 4 * 4096, record=hole)
+    add("shared", UNDELEGATE, "B behind the hole", base=G + 5 * 4096, x1=G + 5 * 4096, record=hole)
+
+
 # ---- Output ----
 
 def build_all():
     for group in (examples, forwarding, records, page_lengths, granule_addresses, granule_banks,
                   granule_records, granule_bytes, key_ranges, keys_and_curves, features,
-                  key_updates, together, random_inputs, kept_bytes):
+                  key_updates, together, random_inputs, kept_bytes, shared_page):
         GROUPS.append((group.__doc__, []))
         group()
 

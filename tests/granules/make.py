@@ -1,6 +1,6 @@
 #!/usr/bin/env python3
 """Run vectors for setting up the granule record and for lists of granules, made from
-docs/01-scope.md and docs/02-change-requests.md (E1, E2) alone.
+docs/01-scope.md and docs/02-change-requests.md (E1, E2, E8) alone.
 
 Run from the repository's root:  python3 tests/granules/make.py
 It rewrites crates/granule_vectors/data/c000, c001, .. (8-byte words: the boot record's state, cpus,
@@ -29,6 +29,7 @@ from vectors import write_all
 WORD = 2**64
 ONES = WORD - 1
 TOP = 2**52                             # where memory ends
+BASE = 0x80000000                       # B, that every record keeps
 STATES = ("fresh", "up", "closed")      # a file has the index
 DELEGATE, UNDELEGATE, SET_UP = range(3)  # of a move, the byte that a granule must have
 NAMES = ("delegate", "undelegate", "set up")
@@ -42,11 +43,13 @@ Answer = namedtuple("Answer", "code done table")
 # ---- The rules. All arithmetic is on plain numbers. ----
 
 def single(case, table, address):
-    """01, with the granules of 02, E2: the code of one call, and the granule that it names."""
+    """01, with the granules of 02, E2, and E8: the code of one call, and the granule that it names."""
     index = granule_at(case.record, len(table), address)
     if case.state != "up":
         return "UNK", None
     if index is None:
+        return "BAD_ADDR", None
+    if case.direction == UNDELEGATE and address == BASE:
         return "BAD_ADDR", None
     return ("OK" if table[index] == case.direction else "BAD_PAS"), index
 
@@ -68,7 +71,7 @@ def file_of(case):
         up, direction, length, count = (0, 0, 0, 0, 0), SET_UP, case.length, len(case.banks)
         body = case.banks
     else:
-        up, direction = (STATES.index(case.state), 8, 0x80000000, 5, 0), case.direction
+        up, direction = (STATES.index(case.state), 8, BASE, 5, 0), case.direction
         length, count = len(case.table), len(case.addresses)
         body = case.table + words(*case.addresses) + run(case).table
     return words(*up, direction, 72 + len(body), length, count) + body + stored(case.record)
@@ -380,6 +383,69 @@ def repeats():
         add("BAD_ADDR", 1, way, "a table of one granule", at(0, 1, 0), table=[way])
 
 
+def shared_tables():
+    """Where the shared page is among the granules: the text, the banks, and its index."""
+    places = (("first", 0), ("middle", 2), ("last", 4))
+    return [(f"B the {where} granule of a bank", [(BASE - 4096 * i, 5 * 4096)], i)
+            for where, i in places] + [
+        (f"B the {where} granule of the second bank",
+         [(BASE - 4096 * (i + 4), 3 * 4096), (BASE - 4096 * i, 5 * 4096)], 3 + i)
+        for where, i in places]
+
+
+def shared():
+    """02, E8: the shared page alone. It is not undelegated, whatever its byte"""
+    for text, held, i in shared_tables():
+        record, n = record_of(held), len(addresses_of(held))
+        for byte in range(4):
+            for way in (DELEGATE, UNDELEGATE):
+                table = [way] * n
+                table[i] = byte
+                code = "BAD_ADDR" if way == UNDELEGATE else "BAD_PAS" if byte else "OK"
+                add(code, int(code == "OK"), way, f"{text}, byte {byte}", [BASE], record=record,
+                    table=table)
+        for state in ("fresh", "closed"):
+            add("UNK", 0, UNDELEGATE, f"{text}, record {state}", [BASE], state=state,
+                record=record, table=[1] * n)
+        add("BAD_ADDR", 0, UNDELEGATE, f"{text}: one byte above B", [BASE + 1], record=record,
+            table=[1] * n)
+    hole = record_of([(BASE - 4 * 4096, 4 * 4096), (BASE + 4096, 4 * 4096)])
+    for way in (DELEGATE, UNDELEGATE):
+        add("BAD_ADDR", 0, way, "B in no bank", [BASE])
+        add("BAD_ADDR", 0, way, "B in a hole", [BASE], record=hole)
+        add("OK", 2, way, "the granules beside the hole at B", [BASE - 4096, BASE + 4096],
+            record=hole)
+        add("BAD_ADDR", 0, way, "B one past the table", [BASE], record=one(BASE - 8 * 4096, 8))
+        add("BAD_ADDR", 0, way, "B, an empty table", [BASE], record=one(BASE, 8), table=b"")
+        add("OK", 2, way, "the granules before and behind B", [BASE - 4096, BASE + 4096],
+            record=one(BASE - 4096, 8))
+
+
+def shared_lists():
+    """02, E8: lists with the shared page in them; what comes before it is done"""
+    for text, held, i in shared_tables():
+        addresses = addresses_of(held)
+        n, given = len(addresses), {"record": record_of(held)}
+        others = [address for address in addresses if address != BASE][:4]
+        for where, at_index in (("first", 0), ("in the middle", 2), ("last", 4)):
+            picks = others[:at_index] + [BASE] + others[at_index:]
+            add("BAD_ADDR", at_index, UNDELEGATE, f"{text}, {where} of five", picks,
+                table=[1] * n, **given)
+            add("OK", 5, DELEGATE, f"{text}, {where} of five", picks, table=[0] * n, **given)
+            add("BAD_ADDR", at_index, UNDELEGATE, f"{text}, {where}, then one not aligned",
+                others[:at_index] + [BASE, addresses[0] + 1, addresses[1] + 1], table=[1] * n,
+                **given)
+        add("BAD_PAS", 1, UNDELEGATE, f"{text}, behind a repeat", [*others[:1] * 2, BASE],
+            table=[1] * n, **given)
+        add("BAD_ADDR", 1, UNDELEGATE, f"{text}, before a repeat", [*others[:1], BASE, *others[:1]],
+            table=[1] * n, **given)
+        add("BAD_PAS", 1, DELEGATE, f"{text}, twice", [BASE, BASE], table=[0] * n, **given)
+        table = [1] * n
+        table[i] = 0
+        add("BAD_ADDR", 2, UNDELEGATE, f"{text}, its byte 0, behind two", [*others[:2], BASE],
+            table=table, **given)
+
+
 def random_lists():
     """Random lists"""
     dice = Random(11)
@@ -456,7 +522,7 @@ def case_of(n, case):
 if __name__ == "__main__":
     for group in (set_up_counts, set_up_order, set_up_rule, set_up_sums, set_up_lent, set_up_pages,
                   empty, whole, banks, forged, records, stopped, repeats, random_lists,
-                  random_banks):
+                  random_banks, shared, shared_lists):
         GROUPS.append((group.__doc__, []))
         group()
     check()

@@ -1,6 +1,6 @@
 #!/usr/bin/env python3
 """Run vectors for the runtime as a whole, made from docs/01-scope.md and docs/02-change-requests.md
-(E2, E5) alone: every call goes through the dispatcher; the platform token, token signing, the
+(E2, E5, E8) alone: every call goes through the dispatcher; the platform token, token signing, the
 challenge lookup, the signer's own step and the oldest request are tried at each edge, in sequences
 on one state.
 
@@ -133,6 +133,7 @@ def granule_checks(w, op):
     wrong = index is not None and w.table[index] != (op.id == UNDELEGATE)
     fails = granule_fails(w.record, n, op.x1)
     return [*(Check(name, "BAD_ADDR", fail) for name, fail in fails.items()),
+            Check("shared", "BAD_ADDR", op.id == UNDELEGATE and op.x1 == w.base),     # 02, E8
             Check("byte", "BAD_PAS", wrong)]
 
 
@@ -1286,13 +1287,30 @@ def random_kept():
         assert case.answers[-1].after.page[:kept] == w.page[:kept], i
 
 
+def shared_page():
+    """02, E8: the shared page stays Realm, so keys, hunks and responses go into Realm memory"""
+    for where, i in (("first", 0), ("middle", 2), ("last", 4)):
+        world = start(page=ASKED, record=one(B - 4096 * i, 5), table=bytes([1] * 5), responses=responses(1))
+        add(f"B the {where} granule: undelegated, then written to", world,
+            call("shared", UNDELEGATE, B), call("", KEY, B + 3400, 96, 0),
+            call("shared", UNDELEGATE, B),
+            send_token("", 48, pa=B + 3300, registers=(64, 36)), pull("", 200, B + 3200),
+            call("byte", DELEGATE, B), call("shared", UNDELEGATE, B), public("", 97, B + 3700))
+        add(f"B the {where} granule, Non-secure: delegated once", world._replace(
+            table=bytes(k != i for k in range(5))), call("shared, byte", UNDELEGATE, B),
+            call("", DELEGATE, B), call("shared", UNDELEGATE, B), call("", KEY, B + 3400, 96, 0))
+        for state in ("fresh", "closed"):
+            add(f"B the {where} granule, record {state}", world._replace(state=state),
+                call("not up, shared", UNDELEGATE, B), call("not up, byte", DELEGATE, B))
+
+
 # ---- Output ----
 
 def build_all():
     for group in (examples, buffers, challenge_sizes, tokens, whole_tokens, sessions, challenges,
                   signing_edges, pushes, pulls, signer, rounds, forged, identities, banks, pairs,
                   mixed, random_sequences, kept_bytes, kept_and_room, kept_pairs, kept_manifests,
-                  random_kept):
+                  random_kept, shared_page):
         GROUPS.append((group.__doc__, []))
         group()
 

@@ -31,12 +31,12 @@ use Rattle.boot.specs.declared.Record.{Record}
 use Rattle.boot.specs.declared.Record.the-variants.{Up, Closed}
 use Rattle.boot.proofs.Closing.{up-stays}
 use Rattle.codes.specs.Codes.{isUp}
-use Rattle.granules.specs.declared.Granules.{Granules}
+use Rattle.banks.specs.Banks.{Granules}
 use Rattle.runtime.specs.Step.{World, Command}
 use Rattle.runtime.specs.Run.{worldAfter}
 use Rattle.runtime.specs.Kept.{KeptTo, AllHave}
 use Rattle.runtime.proofs.Kept.{kept}
-use Rattle.images.specs.Image.{granulesOf, viewOf, viewWords, answerWords}
+use Rattle.images.specs.Image.{viewOf, viewWords, answerWords}
 use Rattle.images.proofs.Inverse.{view-back}
 use Rattle.queue_image.specs.Image.{each, areBytes}
 use Rattle.chains.specs.Chain.{Lent, lentWorld, ofBytes}
@@ -137,7 +137,7 @@ view-covers r base page w e q t h =
 module _ (granules : List ℕ) (m : Lent) (es : List Exported) (l : length (m .queue) ≡ 210) (v : Yes (areWords (m .queue))) (a : Yes (areBytes (m .page))) (b : Yes (each ofBytes (map commandOf es))) where
   -- no kept byte of the lent page changes
   pub exports-kept : (u : Params) → AllHave (Up u) (map commandOf es) → KeptTo (u .kept) (m .page) (allExported granules m es .page)
-  exports-kept u h = subst (λ (x : World). KeptTo (u .kept) (m .page) (x .page)) (sym (exports-chain granules m es l v a b)) (kept (granulesOf granules) u (lentWorld m) (map commandOf es) h)
+  exports-kept u h = subst (λ (x : World). KeptTo (u .kept) (m .page) (x .page)) (sym (exports-chain granules m es l v a b)) (kept granules u (lentWorld m) (map commandOf es) h)
 
   module _ (s : Record) (x0 x1 x2 x3 most n : ℕ) (e : coldCode s x0 x1 x2 x3 most n (m .page) ≡ pos 0) (h : AllHave (coldNext s x0 x1 x2 x3 most n (m .page)) (map commandOf es)) where
     cold-kept : KeptTo n (m .page) (allExported granules m es .page)

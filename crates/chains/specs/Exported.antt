@@ -1,7 +1,11 @@
 -- Every export of a runtime command, and of the signer's step: what it leaves, and which of the runtime's commands it is. Assumes nothing.
 use Prim.Native.Nat.{ℕ}
+use mathlib.Core.Path.{_≡_}
 use mathlib.Core.List.{List, [], _∷_}
 use lib.ListN.{getD}
+use Rattle.codes.specs.Codes.{upOf}
+use Rattle.range.specs.Buffers.{BufferIn}
+use Rattle.granules.specs.Changes.{RealmAt}
 use Rattle.granules.specs.declared.Direction.{Direction}
 use Rattle.attest.specs.Key.{realmKeyOf}
 use Rattle.features.specs.Features.{featuresOf, updateOf, forwardOf}
@@ -92,3 +96,41 @@ exportFor Unlisted state x busy key token public width = pbeam-call state x busy
 unfoldable pub allExported : List ℕ → Lent → List Exported → Lent
 allExported granules m [] = m
 allExported granules m (e ∷ es) = allExported granules (lentOn (exportLeft granules m e)) es
+
+-- ---- 02, E8: "with the same boot .. records": an export that is lent this image of it; the signer's step takes none
+unfoldable pub exportUnder : List ℕ → Exported → Exported
+exportUnder image (pbeam-delegate state address) = pbeam-delegate image address
+exportUnder image (pbeam-undelegate state address) = pbeam-undelegate image address
+exportUnder image (pbeam-delegate-list state addresses) = pbeam-delegate-list image addresses
+exportUnder image (pbeam-undelegate-list state addresses) = pbeam-undelegate-list image addresses
+exportUnder image (pbeam-realm-key state key pa size curve) = pbeam-realm-key image key pa size curve
+exportUnder image (pbeam-platform-token state token busy pa size csize) = pbeam-platform-token image token busy pa size csize
+exportUnder image (pbeam-features state index) = pbeam-features image index
+exportUnder image (pbeam-token-signing state key opcode pa size curve) = pbeam-token-signing image key opcode pa size curve
+exportUnder image (pbeam-key-update state width mecid) = pbeam-key-update image width mecid
+exportUnder image (pbeam-forward state x1) = pbeam-forward image x1
+exportUnder image (pbeam-call state x busy key token public width) = pbeam-call image x busy key token public width
+exportUnder image (pbeam-sign signature) = pbeam-sign signature
+
+-- an address is Realm in a lent table, with the image of the granule record
+abbrev pub RealmIn : List ℕ → ℕ → Lent → Type 0
+RealmIn granules addr m = RealmAt granules addr (record { bytes = m .table })
+
+-- the base that the image of a boot record keeps
+abbrev pub baseIn : List ℕ → ℕ
+baseIn image = upOf (recordOf image) .base
+
+-- a buffer that is written to lies in the shared page, whose granule is then Realm
+pub record LentIntoRealm (granules image : List ℕ) (m : Lent) (pa size : ℕ) : Type 0 where
+  pub buffer : BufferIn (upOf (recordOf image)) (m .page) pa size
+  pub realm : RealmIn granules (baseIn image) m
+
+-- x0 is 0
+abbrev pub Oks : List ℕ → Lent → Exported → Type 0
+Oks granules m e = getD (exportLeft granules m e .out) 0 0 ≡ 0
+
+-- each export that writes to the page, where x0 is 0; a call of the dispatcher is one of them (`dispatcher-exports`)
+pub record ExportsIntoRealm (granules image : List ℕ) (m : Lent) : Type 0 where
+  pub key : (key : List ℕ) (pa size curve : ℕ) → Oks granules m (pbeam-realm-key image key pa size curve) → LentIntoRealm granules image m pa size
+  pub hunk : (token : List ℕ) (busy pa size csize : ℕ) → Oks granules m (pbeam-platform-token image token busy pa size csize) → LentIntoRealm granules image m pa size
+  pub response : (key : List ℕ) (opcode pa size curve : ℕ) → Oks granules m (pbeam-token-signing image key opcode pa size curve) → LentIntoRealm granules image m pa size

@@ -1,25 +1,26 @@
 -- When delegation is OK, and what an OK did. Assumes nothing.
 use Prim.Native.Nat.{ℕ, _<_}
 use mathlib.Core.Path.{_≡_, refl, sym, ap, _∙_}
-use mathlib.Core.Bool.{true, false≢true}
+use mathlib.Core.Bool.{true, false, false≢true}
 use native.Mathlib.Omega.{arith}
 use lib.ListN.{length, getD, length-set}
 use lib.Seq.{getD-set-same, getD-set-other}
-use borrow.Author.Tests.{eqb-true}
+use borrow.Author.Tests.{eqb-true, eqb-false, eq-eqb, ne-eqb}
 use Rattle.words.specs.Tests.{Yes}
 use Rattle.banks.specs.Banks.{Granules, recordOk, granuleCount, granuleAt, addressOf}
 use Rattle.boot.specs.declared.Params.{Params}
 use Rattle.boot.specs.declared.Record.{Record}
 use Rattle.codes.specs.Codes.{isUp, upOf, isOk, whenUp, answerOf}
-use Rattle.codes.specs.declared.Code.the-variants.{Ok}
-use Rattle.codes.proofs.Gates.{unless-ok}
+use Rattle.codes.specs.declared.Code.the-variants.{Ok, BadAddr}
+use Rattle.codes.proofs.Gates.{fails-ok, unless-ok}
 use Rattle.banks.proofs.Laws.{falls, index-below, index-named, one-address}
-use Rattle.granules.specs.Granules.{GranuleTable, fromByte, toByte, granuleCode, moveCode, granuleSet, moved, Moved, movedBy, moveOf, movedTo}
+use Rattle.granules.specs.Granules.{GranuleTable, fromByte, toByte, guarded, granuleCode, moveCode, granuleSet, moved, Moved, movedBy, moveAt, moveOf, movedTo}
 use Rattle.granules.specs.Acts.{MoveActed}
 use Rattle.banks.specs.declared.Granule.{Granule}
 use Rattle.banks.specs.declared.Granule.the-variants.{Nothing, At}
 use Rattle.granules.specs.declared.Direction.{Direction}
-use Rattle.granules.proofs.Moving.{move-ok, move-up}
+use Rattle.granules.specs.declared.Direction.the-variants.{Delegate, Undelegate}
+use Rattle.granules.proofs.Moving.{move-addr, move-guarded, move-ok, move-up}
 
 -- ---- granule i of a table: it is that of its bank's address, and of no other
 module _ (g : Granules) (n i : ℕ) where
@@ -31,12 +32,25 @@ module _ (g : Granules) (n i : ℕ) where
       let f = falls g n addr i h in
       one-address g n addr (addressOf g i) i h (granule-on (f .ok) (f .count) (index-below g n addr i h))
 
--- A refusal comes only where 01 gives it: with the record up and the address that of a granule of the table, whose byte is 0
--- (delegate) or 1 (undelegate), the answer is OK.
-pub move-passes : (s : Record) (g : Granules) (d : Direction) (t : GranuleTable) (addr i : ℕ) → isUp s ≡ true → granuleAt g (length (t .bytes)) addr ≡ At i → getD (t .bytes) i 0 ≡ fromByte d →
-    moveOf s g d t addr .answer ≡ answerOf Ok 0 0
-unfolding movedTo
-move-passes s g d t addr i u e b = ap (λ (m : Moved). m .answer) (sym (move-ok (upOf s) g d (t .bytes) addr i e b (toByte d) refl ∙ move-up s g d t addr u))
+-- A refusal comes only where 01 and 02, E8 give it: with the record up and the address that of a granule of the table, not the shared
+-- page's if it is to be undelegated, whose byte is 0 (delegate) or 1 (undelegate), the answer is OK.
+pub move-passes : (s : Record) (g : Granules) (d : Direction) (t : GranuleTable) (addr i : ℕ) → isUp s ≡ true → granuleAt g (length (t .bytes)) addr ≡ At i → (d ≡ Undelegate → addr ≡ upOf s .base → ⊥) →
+    getD (t .bytes) i 0 ≡ fromByte d → moveOf s g d t addr .answer ≡ answerOf Ok 0 0
+unfolding movedTo guarded
+move-passes s g d t addr i u e n b = ap (λ (m : Moved). m .answer) (sym (move-ok (upOf s) g d (t .bytes) addr i e (go d n) b (toByte d) refl ∙ move-up s g d t addr u))
+  where
+    go : (d : Direction) → (d ≡ Undelegate → addr ≡ upOf s .base → ⊥) → guarded (upOf s) d addr ≡ false
+    go Delegate n = refl
+    go Undelegate n = ne-eqb addr (upOf s .base) (n refl)
+
+-- 02, E8: with the record up, undelegating the shared page is BAD_ADDR, whatever the table
+pub shared-refused : (s : Record) (g : Granules) (t : GranuleTable) → isUp s ≡ true → moveOf s g Undelegate t (upOf s .base) ≡ record { answer = answerOf BadAddr 0 0; table = t }
+unfolding movedTo guarded
+shared-refused s g t u = sym (go (granuleAt g (length (t .bytes)) (upOf s .base)) refl ∙ move-up s g Undelegate t (upOf s .base) u)
+  where
+    go : (k : Granule) → granuleAt g (length (t .bytes)) (upOf s .base) ≡ k → _≡_ {A = Moved} (record { answer = answerOf BadAddr 0 0; table = t }) (moveAt (upOf s) g Undelegate t (upOf s .base))
+    go Nothing e = move-addr (upOf s) g Undelegate (t .bytes) (upOf s .base) e
+    go (At i) e = move-guarded (upOf s) g Undelegate (t .bytes) (upOf s .base) i e (eq-eqb (upOf s .base) (upOf s .base) refl)
 
 acted : (u : Params) (g : Granules) (d : Direction) (t : GranuleTable) (addr : ℕ) (k : Granule) → granuleAt g (length (t .bytes)) addr ≡ k → granuleCode u d t addr k ≡ Ok → MoveActed g d t (granuleSet d t k) addr
 unfolding granuleCode granuleSet
@@ -45,16 +59,26 @@ acted u g d t addr (At i) e h =
     record {
       granule = i;
       own = e;
-      was = eqb-true _ _ (unless-ok _ _ _ refl h .0);
+      was = eqb-true _ _ (unless-ok _ _ _ refl (fails-ok _ _ _ refl h .1) .0);
       becomes = getD-set-same (t .bytes) i (toByte d) 0 (index-below g (length (t .bytes)) addr i e);
       others = λ j n. getD-set-other (t .bytes) i j _ 0 n;
       whole = length-set (t .bytes) i _;
     }
 
--- and only with the record up; what else an OK tells is part of what it did
-pub move-only : (s : Record) (g : Granules) (d : Direction) (t : GranuleTable) (addr : ℕ) → moveOf s g d t addr .answer .code ≡ Ok → isUp s ≡ true
-unfolding moveOf movedBy whenUp answerOf
-move-only s g d t addr h = unless-ok _ _ _ refl h .0
+-- what an OK tells of the checks that no byte is looked at for
+free : (u : Params) (d : Direction) (t : GranuleTable) (addr : ℕ) (k : Granule) → granuleCode u d t addr k ≡ Ok → guarded u d addr ≡ false
+unfolding granuleCode
+free u d t addr Nothing h = absurd (false≢true (ap isOk h))
+free u d t addr (At i) h = fails-ok _ _ _ refl h .0
+
+pub move-free : (s : Record) (g : Granules) (d : Direction) (t : GranuleTable) (addr : ℕ) → moveOf s g d t addr .answer .code ≡ Ok → (isUp s ≡ true) × (guarded (upOf s) d addr ≡ false)
+unfolding moveOf movedBy moveCode whenUp answerOf
+move-free s g d t addr h = let p = unless-ok _ _ _ refl h in (p .0, free (upOf s) d t addr _ (p .1))
+
+-- and only with the record up, and not the shared page's to be undelegated; what else an OK tells is part of what it did
+pub move-only : (s : Record) (g : Granules) (d : Direction) (t : GranuleTable) (addr : ℕ) → moveOf s g d t addr .answer .code ≡ Ok → (isUp s ≡ true) × (d ≡ Undelegate → addr ≡ upOf s .base → ⊥)
+unfolding guarded
+move-only s g d t addr h = let p = move-free s g d t addr h in (p .0, λ e. eqb-false addr (upOf s .base) (rw e at (p .1)))
 
 -- "Then it becomes 1 or 0."
 pub move-acts : (s : Record) (g : Granules) (d : Direction) (t : GranuleTable) (addr : ℕ) → moveOf s g d t addr .answer .code ≡ Ok → MoveActed g d t (moveOf s g d t addr .table) addr

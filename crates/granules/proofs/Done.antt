@@ -9,21 +9,20 @@ use lib.Dec.{eqb}
 use lib.ListN.{length, take, getD}
 use borrow.Author.Tests.{eqb-true, eqb-false}
 use Rattle.boot.specs.declared.Record.{Record}
-use Rattle.codes.specs.Codes.{isUp, upOf, whenUp, isOk, answerOf}
+use Rattle.codes.specs.Codes.{isUp, upOf, isOk, answerOf}
 use Rattle.codes.specs.declared.Code.{Code}
 use Rattle.codes.specs.declared.Code.the-variants.{Ok, Unk, BadAddr, BadPas, Inval, Again}
-use Rattle.codes.proofs.Gates.{unless-ok}
 use Rattle.banks.specs.Banks.{Granules, granuleAt}
-use Rattle.granules.specs.Granules.{GranuleTable, fromByte, toByte, Moved, movedBy, moveOf, movedTo}
+use Rattle.granules.specs.Granules.{GranuleTable, fromByte, toByte, guarded, Moved, moveOf, movedTo}
 use Rattle.granules.specs.Acts.{MoveActed}
 use Rattle.granules.specs.Lists.{onward, listBy, moveListOf, doneBy, tableBy, codeBy, codeAt, Longest}
 use Rattle.banks.specs.declared.Granule.the-variants.{At}
 use Rattle.granules.specs.declared.Direction.{Direction}
 use Rattle.granules.specs.declared.Direction.the-variants.{Delegate, Undelegate}
 use Rattle.granules.proofs.Moving.{move-refused, move-up, move-pas}
-use Rattle.granules.proofs.Acts.{move-acts}
+use Rattle.granules.proofs.Acts.{move-free, move-acts}
 
-ok-code : (k : Code) → isOk k ≡ true → k ≡ Ok
+pub ok-code : (k : Code) → isOk k ≡ true → k ≡ Ok
 ok-code Ok h = refl
 ok-code Unk h = absurd (false≢true h)
 ok-code BadAddr h = absurd (false≢true h)
@@ -74,7 +73,7 @@ module _ (f : GranuleTable → ℕ → Moved) where
 
 -- ---- the command's
 module _ (s : Record) (g : Granules) (d : Direction) where
-  stays : (t : GranuleTable) (a : ℕ) → isOk (moveOf s g d t a .answer .code) ≡ false → moveOf s g d t a .table ≡ t
+  pub stays : (t : GranuleTable) (a : ℕ) → isOk (moveOf s g d t a .answer .code) ≡ false → moveOf s g d t a .table ≡ t
   stays t a h = ap (λ (m : Moved). m .table) (move-refused s g d t a h)
 
   -- "The result, the table and the number done equal single calls made in list order, stopping at the first refusal."
@@ -101,24 +100,20 @@ module _ (s : Record) (g : Granules) (d : Direction) where
       go Undelegate h = absurd (omega arith)
 
   -- the single call of an address whose granule has the byte that it would get
-  marked-refused : (t : GranuleTable) (a i : ℕ) → isUp s ≡ true → granuleAt g (length (t .bytes)) a ≡ At i → getD (t .bytes) i 0 ≡ toByte d → moveOf s g d t a .answer .code ≡ BadPas
+  marked-refused : (t : GranuleTable) (a i : ℕ) → isUp s ≡ true → guarded (upOf s) d a ≡ false → granuleAt g (length (t .bytes)) a ≡ At i → getD (t .bytes) i 0 ≡ toByte d → moveOf s g d t a .answer .code ≡ BadPas
   unfolding movedTo answerOf
-  marked-refused t a i u e h = ap (λ (m : Moved). m .answer .code) (sym (move-pas (upOf s) g d (t .bytes) a i e (λ b. differs (sym h ∙ b)) ∙ move-up s g d t a u))
+  marked-refused t a i u n e h = ap (λ (m : Moved). m .answer .code) (sym (move-pas (upOf s) g d (t .bytes) a i e n (λ b. differs (sym h ∙ b)) ∙ move-up s g d t a u))
 
-  again-from : (u : isUp s ≡ true) (l : List ℕ) (t : GranuleTable) (j a i : ℕ) → granuleAt g (length (t .bytes)) a ≡ At i → getD (t .bytes) i 0 ≡ toByte d → getD l j 0 ≡ a → j < length l →
+  again-from : (l : List ℕ) (t : GranuleTable) (j a i : ℕ) → (isUp s ≡ true) × (guarded (upOf s) d a ≡ false) → granuleAt g (length (t .bytes)) a ≡ At i → getD (t .bytes) i 0 ≡ toByte d → getD l j 0 ≡ a → j < length l →
       j ≤ doneBy (moveOf s g d) t l → (doneBy (moveOf s g d) t l ≡ j) × (codeBy (moveOf s g d) t l ≡ BadPas)
   unfolding doneBy codeBy
-  again-from u [] t j a i e h n m r = absurd (omega arith)
-  again-from u (b ∷ l) t zero a i e h n m r = rw (n, marked-refused t a i u e h) (refl, refl)
-  again-from u (b ∷ l) t (suc j) a i e h n m r =
+  again-from [] t j a i u e h n m r = absurd (omega arith)
+  again-from (b ∷ l) t zero a i u e h n m r = rw (n, marked-refused t a i (u .0) (u .1) e h) (refl, refl)
+  again-from (b ∷ l) t (suc j) a i u e h n m r =
       let k = first-done (moveOf s g d) t b l (omega arith) in
       let acts = move-acts s g d t b (ok-code _ k) in
-      let p = again-from u l (moveOf s g d t b .table) j a i (rw (acts .whole) e) (mark-stays t _ b i acts h) n (omega arith) (let q : suc j ≤ suc (doneBy (moveOf s g d) (moveOf s g d t b .table) l) = rw k at r in omega arith) in
+      let p = again-from l (moveOf s g d t b .table) j a i u (rw (acts .whole) e) (mark-stays t _ b i acts h) n (omega arith) (let q : suc j ≤ suc (doneBy (moveOf s g d) (moveOf s g d t b .table) l) = rw k at r in omega arith) in
       rw k (ap suc (p .0), p .1)
-
-  ok-up : (t : GranuleTable) (a : ℕ) → moveOf s g d t a .answer .code ≡ Ok → isUp s ≡ true
-  unfolding moveOf movedBy whenUp answerOf
-  ok-up t a h = unless-ok _ _ _ refl h .0
 
   again : (l : List ℕ) (t : GranuleTable) (i j : ℕ) → i < j → j < length l → getD l i 0 ≡ getD l j 0 → j ≤ doneBy (moveOf s g d) t l → (doneBy (moveOf s g d) t l ≡ j) × (codeBy (moveOf s g d) t l ≡ BadPas)
   unfolding doneBy codeBy
@@ -128,7 +123,7 @@ module _ (s : Record) (g : Granules) (d : Direction) where
       let k = first-done (moveOf s g d) t b l (omega arith) in
       let acts = move-acts s g d t b (ok-code _ k) in
       let q : suc j ≤ suc (doneBy (moveOf s g d) (moveOf s g d t b .table) l) = rw k at r in
-      let p = again-from (ok-up t b (ok-code _ k)) l (moveOf s g d t b .table) j b (acts .granule) (rw (acts .whole) (acts .own)) (acts .becomes) (sym e) (omega arith) (omega arith) in
+      let p = again-from l (moveOf s g d t b .table) j b (acts .granule) (move-free s g d t b (ok-code _ k)) (rw (acts .whole) (acts .own)) (acts .becomes) (sym e) (omega arith) (omega arith) in
       rw k (ap suc (p .0), p .1)
   again (b ∷ l) t (suc i) (suc j) h m e r =
       let k = first-done (moveOf s g d) t b l (omega arith) in

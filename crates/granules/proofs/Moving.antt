@@ -12,7 +12,7 @@ use Rattle.codes.specs.Codes.{isUp, unless, fails, upOf, whenUp, isOk, answerOf
 use Rattle.codes.specs.declared.Code.the-variants.{Ok, Unk, BadAddr, BadPas}
 use Rattle.codes.proofs.Gates.{if-ok-by}
 use Rattle.banks.proofs.Laws.{index-below, judged-once}
-use Rattle.granules.specs.Granules.{Inside, GranuleTable, fromByte, toByte, granuleCode, moveCode, granuleSet, moved, movedBy, moveAt, moveOf, movedTo}
+use Rattle.granules.specs.Granules.{Inside, GranuleTable, fromByte, toByte, guarded, granuleCode, moveCode, granuleSet, moved, movedBy, moveAt, moveOf, movedTo}
 use Rattle.banks.specs.declared.Granule.{Granule}
 use Rattle.banks.specs.declared.Granule.the-variants.{Nothing, At}
 use Rattle.granules.specs.declared.Direction.{Direction}
@@ -31,13 +31,18 @@ module _ (u : Params) (g : Granules) (d : Direction) (t : List ℕ) (addr : ℕ)
   move-addr e = rw e
 
   module _ (i : ℕ) (e : granuleAt g (length t) addr ≡ At i) where
-    pub move-pas : (getD t i 0 ≡ fromByte d → ⊥) → movedTo (answerOf BadPas 0 0) t ≡ moveAt u g d (record { bytes = t }) addr
-    unfolding movedTo moveAt movedBy moveCode granuleCode moved granuleSet unless fails
-    move-pas n = rw (e, ne-eqb (getD t i 0) (fromByte d) n)
+    pub move-guarded : guarded u d addr ≡ true → movedTo (answerOf BadAddr 0 0) t ≡ moveAt u g d (record { bytes = t }) addr
+    unfolding movedTo moveAt movedBy moveCode granuleCode moved granuleSet fails
+    move-guarded k = rw (e, k)
 
-    pub move-ok : getD t i 0 ≡ fromByte d → (v : ℕ) → v ≡ toByte d → movedTo (answerOf Ok 0 0) (set t i v) ≡ moveAt u g d (record { bytes = t }) addr
-    unfolding movedTo moveAt movedBy moveCode granuleCode moved granuleSet unless fails
-    move-ok b v y = rw (e, eq-eqb (getD t i 0) (fromByte d) b, y)
+    module _ (k : guarded u d addr ≡ false) where
+      pub move-pas : (getD t i 0 ≡ fromByte d → ⊥) → movedTo (answerOf BadPas 0 0) t ≡ moveAt u g d (record { bytes = t }) addr
+      unfolding movedTo moveAt movedBy moveCode granuleCode moved granuleSet unless fails
+      move-pas n = rw (e, k, ne-eqb (getD t i 0) (fromByte d) n)
+
+      pub move-ok : getD t i 0 ≡ fromByte d → (v : ℕ) → v ≡ toByte d → movedTo (answerOf Ok 0 0) (set t i v) ≡ moveAt u g d (record { bytes = t }) addr
+      unfolding movedTo moveAt movedBy moveCode granuleCode moved granuleSet unless fails
+      move-ok b v y = rw (e, k, eq-eqb (getD t i 0) (fromByte d) b, y)
 
 -- no call changes how many granules there are
 set-length : (d : Direction) (t : GranuleTable) (k : Granule) → length (granuleSet d t k .bytes) ≡ length (t .bytes)

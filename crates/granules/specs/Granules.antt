@@ -2,6 +2,7 @@
 -- bytes are none of these (house codes)." Which granule an address falls on is said by the banks (02, E2). Assumes nothing.
 use Prim.Native.Nat.{ℕ, _<_}
 use mathlib.Core.Path.{_≡_}
+use mathlib.Core.Bool.{Bool, false}
 use mathlib.Core.List.{List}
 use lib.ListN.{length, getD, set}
 use lib.Dec.{eqb}
@@ -32,11 +33,20 @@ unfoldable pub toByte : Direction → ℕ
 toByte Delegate = 1
 toByte Undelegate = 0
 
--- "BAD_ADDR unless .. the address falls on a granule of the table. BAD_PAS unless that byte is 0 (delegate) or 1 (undelegate).", u
--- being what the boot record keeps
+-- 02, E8: "Once the boot record is up, if the shared page is a granule of the table, undelegating it is refused.": the address is B, u
+-- being what the boot record keeps. Delegating it is as before.
+unfoldable pub guarded : Params → Direction → ℕ → Bool
+guarded u Delegate addr = false
+guarded u Undelegate addr = eqb addr (u .base)
+
+-- "BAD_ADDR unless .. the address falls on a granule of the table. BAD_PAS unless that byte is 0 (delegate) or 1 (undelegate).", amended
+-- by 02, E8: "BAD_ADDR for that granule, right after the granule address check"
 unfoldable pub granuleCode : Params → Direction → GranuleTable → ℕ → Granule → Code
 granuleCode u d t addr Nothing = BadAddr
-granuleCode u d t addr (At i) = fails (unless (eqb (getD (t .bytes) i 0) (fromByte d))) BadPas Ok
+granuleCode u d t addr (At i) =
+    fails (guarded u d addr) BadAddr
+    (fails (unless (eqb (getD (t .bytes) i 0) (fromByte d))) BadPas
+    Ok)
 
 unfoldable pub moveCode : Params → Granules → Direction → GranuleTable → ℕ → Code
 moveCode u g d t addr = granuleCode u d t addr (granuleAt g (length (t .bytes)) addr)

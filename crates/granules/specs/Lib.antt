@@ -1,3 +1,4 @@
 pub mod Granules
 pub mod Acts
 pub mod Lists
+pub mod Changes

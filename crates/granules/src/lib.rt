@@ -8,7 +8,7 @@ ghost use mathlib.Core.Path.{_≡_};
 ghost use Rattle.codes.specs.Codes.{answerOf};
 ghost use lib.ListN.{length};
 ghost use Rattle.banks.specs.Banks.{Granules, granuleAt};
-ghost use Rattle.granules.specs.Granules.{Inside, fromByte, toByte, moveAt, moveOf, delegateOf, undelegateOf, movedTo};
+ghost use Rattle.granules.specs.Granules.{Inside, fromByte, toByte, guarded, moveAt, moveOf, delegateOf, undelegateOf, movedTo};
 ghost use Rattle.granules.specs.Lists.{moveListOf, delegateListOf, undelegateListOf};
 
 // Which way a granule goes: from Non-secure to Realm, or back.
@@ -36,6 +36,16 @@ fn to_byte(direction: Direction) -> u8
     }
 }
 
+// Whether an address is not to be moved though it falls on a granule: the shared page must stay Realm.
+fn is_guarded(params: Params, direction: Direction, address: u64) -> bool
+    ensures { λ r. ⌜ r ≡ guarded params direction address ⌝ }
+{
+    match direction {
+        Direction::Delegate => false,
+        Direction::Undelegate => address == params.base,
+    }
+}
+
 // Moves the granule that an address falls on, by whichever granule record, with a boot record that is up and keeps these parameters.
 fn shift_at(
     params: Params,
@@ -49,8 +59,11 @@ fn shift_at(
         movedTo (answerOf r 0 0) (now (table .exit)) ≡ moveAt params g direction (record { bytes = now (table .entry) }) address) ⌝ }
 {
     let Granule::At(at) = granule else {
-        return Code::BadAddr;
+        return Code::BadAddr; // no granule of the table
     };
+    if is_guarded(params, direction, address) {
+        return Code::BadAddr; // the shared page's
+    }
     let from = from_byte(direction);
     let to = to_byte(direction);
     let held = table[at];

@@ -46,7 +46,7 @@ use Rattle.potterbeam.specs.Refusals.{Refuses, x0Alone, ExportsRefuse}
 
 -- ---- x0 is not 0: the code is not OK
 -- an answer's x0 is that of its code
-abbrev Tells : Answer → Type 0
+abbrev pub Tells : Answer → Type 0
 Tells a = a .x0 ≡ x0Of (a .code)
 
 code-of : (k : Code) → (x0Of k ≡ 0 → ⊥) → isOk k ≡ false
@@ -70,11 +70,11 @@ send-tells : (at : ℕ) (token : List ℕ) (i size : ℕ) (page : List ℕ) → 
 unfolding sendOf answerOf
 send-tells at token i size page = refl
 
-token-tells : (r : Record) (page : List ℕ) (s : Session) (busy : Bool) (token : List ℕ) (pa size c : ℕ) → Tells (tokenOf r page s busy token pa size c .answer)
+pub token-tells : (r : Record) (page : List ℕ) (s : Session) (busy : Bool) (token : List ℕ) (pa size c : ℕ) → Tells (tokenOf r page s busy token pa size c .answer)
 unfolding tokenOf
 token-tells r page s busy token pa size c = settled-tells _ _ page s (send-tells _ token _ size page)
 
-signing-tells : (r : Record) (page : List ℕ) (q : Lists) (key : List ℕ) (op pa size curve : ℕ) → Tells (signingOf r page q key op pa size curve .answer)
+pub signing-tells : (r : Record) (page : List ℕ) (q : Lists) (key : List ℕ) (op pa size curve : ℕ) → Tells (signingOf r page q key op pa size curve .answer)
 unfolding answerOf
 signing-tells r page q key op pa size curve =
     signing-by (λ (o : Opcode) (s : SigningStep). Tells (s .answer)) r page q key op pa size curve

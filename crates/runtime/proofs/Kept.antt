@@ -19,7 +19,7 @@ use Rattle.codes.proofs.Gates.{if-ok-by}
 use Rattle.range.specs.Range.{placeOf}
 use Rattle.range.specs.Buffers.{BufferIn}
 use Rattle.range.proofs.Buffers.{passed-in}
-use Rattle.granules.specs.declared.Granules.{Granules}
+use Rattle.banks.specs.Banks.{Granules}
 use Rattle.attest.specs.Key.{keyCode, keyed, realmKeyOf}
 use Rattle.attest.proofs.Acts.{key-only}
 use Rattle.token.specs.Token.{tokenCode, beginOf, hunkOf, TokenStep, sendOf, keeps, settled, tokenOf}

@@ -6,3 +6,5 @@ pub mod Sessions
 pub mod Order
 pub mod Values
 pub mod Kept
+pub mod Changes
+pub mod Shared

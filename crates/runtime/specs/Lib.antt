@@ -2,3 +2,4 @@ pub mod Acts
 pub mod Step
 pub mod Run
 pub mod Kept
+pub mod Changes

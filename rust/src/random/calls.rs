@@ -120,7 +120,7 @@ impl Random {
             0 => self.pick(&[0, 79, 4095, 4097]),
             _ => PAGE,
         };
-        Scene {
+        let mut scene = Scene {
             state: State {
                 record: self.record(),
                 session: self.session(token.len() as u64),
@@ -134,7 +134,17 @@ impl Random {
             token,
             busy: self.one_in(8),
             width: self.pick(&[0, 7, 14, 15, 15, 16, 63, 64, u64::MAX]),
+        };
+        if self.one_in(3) {
+            self.share(&mut scene);
         }
+        scene
+    }
+
+    /// Puts the shared page among the granules, or right behind them.
+    fn share(&mut self, scene: &mut Scene) {
+        let before = self.below(scene.table.len() as u64 + 1);
+        scene.start = scene.base().wrapping_sub(4096 * before);
     }
 
     /// The next step in a scene. What is lent to it may change before: a request in the page, another token, a busy platform.
@@ -223,7 +233,7 @@ impl Random {
     fn granule(&mut self, scene: &Scene) -> u64 {
         let [base, size] = self.bank_of(&scene.granules);
         let in_bank = base.wrapping_add(4096 * self.below(size / 4096 + 1));
-        match self.below(12) {
+        match self.below(14) {
             0 => base.wrapping_sub(self.pick(&[1, 4096])),
             1 => base.wrapping_add(size),
             2 => base.wrapping_add(self.below(size.saturating_add(1))),
@@ -232,6 +242,7 @@ impl Random {
             4 => in_bank & !4095,
             5 => base,
             6 => base.wrapping_add(size).wrapping_sub(4096),
+            7 | 8 => scene.base(),
             _ => in_bank,
         }
     }

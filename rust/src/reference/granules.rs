@@ -13,7 +13,7 @@ pub fn delegate(record: Record, banks: &BankWords, table: &mut [u8], address: u6
     change(record, banks, table, address, NON_SECURE, REALM)
 }
 
-/// From Realm to Non-secure.
+/// From Realm to Non-secure; the shared page is refused.
 #[inline]
 pub fn undelegate(record: Record, banks: &BankWords, table: &mut [u8], address: u64) -> Outcome {
     change(record, banks, table, address, REALM, NON_SECURE)
@@ -64,8 +64,12 @@ fn change(
     from: u8,
     to: u8,
 ) -> Outcome {
-    need_up(record)?;
+    let kept = need_up(record)?;
     let at = index(banks, table.len(), address).ok_or(Error::BadAddr)?;
+    // The shared page stays Realm.
+    if from == REALM && address == kept.base {
+        return Err(Error::BadAddr);
+    }
     let state = &mut table[at];
     if *state != from {
         return Err(Error::BadPas);

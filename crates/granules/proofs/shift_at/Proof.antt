@@ -1,6 +1,6 @@
 use mathlib.Core.Path.{sym, _∙_}
 use native.Mathlib.Omega.{arith}
-use Rattle.granules.proofs.Moving.{move-addr, move-pas, move-ok}
+use Rattle.granules.proofs.Moving.{move-addr, move-guarded, move-pas, move-ok}
 use borrow.Author.Needs.{needs}
 use Rattle.granules.proofs.shift_at.Statement.{statement}
 use Rattle.granules.proofs.shift_at.Tie as tie
@@ -16,6 +16,14 @@ returns c =
     let a = c .before .before .before .args in
     λ g e. move-addr (a .params) g (a .direction) (a .table .now) (a .address) (sym e ∙ c .enum-told .given .1)
 
+is-guarded-requires : tie.Need-is-guarded-requires
+is-guarded-requires c κs = search needs
+
+returns-2 : tie.Need-returns-2
+returns-2 c =
+    let a = c .before .before .before .before .before .before .args in
+    λ g e. move-guarded (a .params) g (a .direction) (a .table .now) (a .address) _ (sym e ∙ c .before .before .before .granule .given .1) (sym (c .before .is-guarded .ensures) ∙ c .if1 .taken)
+
 from-byte-requires : tie.Need-from-byte-requires
 from-byte-requires c κs = search needs
 
@@ -23,23 +31,23 @@ to-byte-requires : tie.Need-to-byte-requires
 to-byte-requires c κs = search needs
 
 slice-read-held : tie.Need-slice-read-held
-slice-read-held c = omega (arith, c .before .before .before .before .before .before .before .pre _ (c .before .before .before .before .granule .given .1))
+slice-read-held c = omega (arith, c .before .before .before .before .before .before .before .before .before .pre _ (c .before .before .before .before .before .before .granule .given .1))
 
-returns-2 : tie.Need-returns-2
-returns-2 c =
-    let a = c .before .before .before .before .before .before .before .before .args in
-    λ g e. move-pas (a .params) g (a .direction) (a .table .now) (a .address) _ (sym e ∙ c .before .before .before .before .before .granule .given .1) (rw (← c .before .before .before .from-byte .ensures) (c .if1 .taken))
+returns-3 : tie.Need-returns-3
+returns-3 c =
+    let a = c .before .before .before .before .before .before .before .before .before .before .args in
+    λ g e. move-pas (a .params) g (a .direction) (a .table .now) (a .address) _ (sym e ∙ c .before .before .before .before .before .before .before .granule .given .1) (sym (c .before .before .before .before .before .is-guarded .ensures) ∙ c .before .before .before .before .if1 .left) (rw (← c .before .before .before .from-byte .ensures) (c .if2 .taken))
 
 slice-write-table : tie.Need-slice-write-table
-slice-write-table c = omega (arith, c .before .before .before .before .before .before .before .before .pre _ (c .before .before .before .before .before .granule .given .1))
+slice-write-table c = omega (arith, c .before .before .before .before .before .before .before .before .before .before .pre _ (c .before .before .before .before .before .before .before .granule .given .1))
 
 same-length : tie.Need-same-length
 same-length c = search needs
 
-returns-3 : tie.Need-returns-3
-returns-3 c =
-    let a = c .before .before .before .before .before .before .before .before .args in
-    λ g e. move-ok (a .params) g (a .direction) (a .table .now) (a .address) _ (sym e ∙ c .before .before .before .before .before .granule .given .1) (c .if1 .left ∙ c .before .before .before .from-byte .ensures) _ (c .before .before .to-byte .ensures)
+returns-4 : tie.Need-returns-4
+returns-4 c =
+    let a = c .before .before .before .before .before .before .before .before .before .before .args in
+    λ g e. move-ok (a .params) g (a .direction) (a .table .now) (a .address) _ (sym e ∙ c .before .before .before .before .before .before .before .granule .given .1) (sym (c .before .before .before .before .before .is-guarded .ensures) ∙ c .before .before .before .before .if1 .left) (c .if2 .left ∙ c .before .before .before .from-byte .ensures) _ (c .before .before .to-byte .ensures)
 
 pub shift-at-spec : {M : Type 1} → statement M
 shift-at-spec =
@@ -48,10 +56,12 @@ shift-at-spec =
     enum-known-granule
     enum-told
     returns
+    is-guarded-requires
+    returns-2
     from-byte-requires
     to-byte-requires
     slice-read-held
-    returns-2
+    returns-3
     slice-write-table
     same-length
-    returns-3)
+    returns-4)
