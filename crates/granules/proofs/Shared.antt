@@ -6,11 +6,12 @@ use lib.ListN.{length, getD}
 use Rattle.boot.specs.declared.Record.{Record}
 use Rattle.codes.specs.Codes.{upOf}
 use Rattle.codes.specs.declared.Code.the-variants.{Ok}
-use Rattle.granules.specs.Granules.{granuleAt, GranuleTable, fromByte, moveOf}
+use Rattle.granules.specs.Granules.{GranuleTable, fromByte, moveOf}
+use Rattle.banks.specs.Banks.{granuleAt}
 use Rattle.granules.specs.Acts.{MoveActed}
 use Rattle.granules.specs.Changes.{RealmAt}
 use Rattle.banks.specs.Banks.{Granules}
-use Rattle.granules.specs.declared.Granule.the-variants.{At}
+use Rattle.banks.specs.declared.Granule.the-variants.{At}
 use Rattle.granules.specs.declared.Direction.{Direction}
 use Rattle.granules.specs.declared.Direction.the-variants.{Delegate, Undelegate}
 use Rattle.granules.proofs.Acts.{move-only, move-acts}

@@ -129,7 +129,7 @@ fn print_list(out: &mut String, input: &[u8]) {
 
 #[test]
 fn granules() {
-    compare("granule_vectors", 642, print_list);
+    compare("granule_vectors", 798, print_list);
 }
 
 fn print_command(out: &mut String, input: &[u8]) {
@@ -163,7 +163,7 @@ fn print_command(out: &mut String, input: &[u8]) {
 
 #[test]
 fn commands() {
-    compare("command_vectors", 891, print_command);
+    compare("command_vectors", 927, print_command);
 }
 
 // ---- The runtime ----
@@ -285,5 +285,5 @@ fn print_runtime(out: &mut String, input: &[u8]) {
 
 #[test]
 fn runtime() {
-    compare("runtime_vectors", 983, print_runtime);
+    compare("runtime_vectors", 995, print_runtime);
 }

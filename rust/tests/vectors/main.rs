@@ -295,7 +295,7 @@ fn print_list(out: &mut String, input: &[u8]) {
 
 #[test]
 fn granule_vectors() {
-    compare("granule_vectors", 642, print_list);
+    compare("granule_vectors", 798, print_list);
 }
 
 // ---- Single commands ----
@@ -335,7 +335,7 @@ fn print_padded(out: &mut String, outcome: Outcome) {
 
 #[test]
 fn command_vectors() {
-    compare("command_vectors", 891, print_command);
+    compare("command_vectors", 927, print_command);
 }
 
 // ---- The runtime ----
@@ -571,5 +571,5 @@ fn print_runtime(out: &mut String, input: &[u8]) {
 
 #[test]
 fn runtime_vectors() {
-    compare("runtime_vectors", 983, print_runtime);
+    compare("runtime_vectors", 995, print_runtime);
 }
