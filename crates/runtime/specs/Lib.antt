@@ -1,3 +1,4 @@
 pub mod Acts
 pub mod Step
 pub mod Run
+pub mod Kept
