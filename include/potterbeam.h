@@ -422,7 +422,7 @@ uint64_t pbeam_word(const uint8_t *page, size_t page_len, const uint64_t view[PB
  *          view that no reading made: the core is that of its edition, below 1 taken as 1 and above 4 as 4, and entries that do not lie
  *          within 4,096 bytes do not count; so it is never above 4,096.
  * Leaves   the view as it was.
- * Stack    160 bytes; AArch64 128
+ * Stack    96 bytes; AArch64 0
  * With so many kept bytes pbeam_read gives the same answer and the same view after any commands (proved), as the edition that the view was
  * read as, and so as an older one. What plat_data points at is not counted: where that is to be kept too, take the larger number.
  */
