@@ -7,15 +7,17 @@ use mathlib.Core.List.{List, [], _∷_}
 use native.Mathlib.Omega.{arith}
 use native.Mathlib.Nat.{zero-add}
 use native.Mathlib.Decide.{decLt}
-use lib.ListN.{getD}
+use lib.ListN.{length, getD}
 use lib.Dec.{leb, ltb, eqb}
 use borrow.Author.Tests.{leb-true, ltb-true, eqb-true, le-leb, lt-ltb, le-ltb, eq-eqb}
 use Rattle.words.specs.Tests.{both, Yes}
+use Rattle.words.specs.Word.{wordAt}
 use Rattle.words.proofs.Tests.{both-l, both-r, both-of, same-test}
+use Rattle.codes.specs.declared.Code.the-variants.{Ok}
 use Rattle.banks.specs.declared.Granule.{Granule}
 use Rattle.banks.specs.declared.Granule.the-variants.{Nothing, At}
-use Rattle.banks.specs.Banks.{Granules, Bank, banksBy, bankAt, countOf, banksOf, ascend, banksOk, recordOk, total, granuleCount, holds, indexIn, placeIn, orElse, placeAmong, placeOf, granuleAt, addressIn, addressOf, foundIn, foundAt}
-use Rattle.banks.proofs.Making.{banks-some}
+use Rattle.banks.specs.Banks.{Granules, Bank, banksBy, bankAt, countOf, banksOf, ascend, banksOk, recordOk, total, granuleCount, holds, indexIn, placeIn, orElse, placeAmong, placeOf, granuleAt, addressIn, addressOf, singleRange, foundIn, foundAt, setUpCode, setUpOf}
+use Rattle.banks.proofs.Making.{banks-some, made-one, made-good}
 use Rattle.banks.proofs.Passing.{Follows, follows-is, or-nothing}
 
 -- ---- how an answer came about
@@ -214,10 +216,6 @@ judged-once g n addr = go (recordOk g) refl
     go false e = simp (le-ltb 0 (granuleCount g) (no-granules g e)) (sym (cond-none (both (eqb (addr % 4096) 0) (eqb (granuleCount g) n))))
 
 -- ---- one bank: "01's single range is the case of one bank that the set-up takes"
--- 01's granule of an address, in a table of n granules from address start on
-abbrev pub singleRange : ℕ → ℕ → ℕ → Granule
-singleRange start n addr = cond (both (eqb (start % 4096) 0) (both (eqb (addr % 4096) 0) (both (leb start addr) (ltb ((addr - start) / 4096) n)))) (At ((addr - start) / 4096)) Nothing
-
 holds-same : (base size addr : ℕ) → Follows 0 base size → addr % 4096 ≡ 0 → holds base size addr ≡ both (leb base addr) (ltb ((addr - base) / 4096) (size / 4096))
 unfolding holds
 holds-same base size addr f m =
@@ -253,3 +251,12 @@ module _ (g : Granules) (one : countOf g ≡ 1) (ok : Yes (recordOk g)) where
           ≡ cond (both k (both (leb (getD g 1 0) addr) (ltb ((addr - getD g 1 0) / 4096) (getD g 2 0 / 4096)))) (At ((addr - getD g 1 0) / 4096)) Nothing
       go true e = rw (holds-same (getD g 1 0) (getD g 2 0) addr only-follows (eqb-true _ _ e), zero-add)
       go false e = refl
+
+-- of a record that the set-up made of one bank, in a table of the length that it was made for
+pub one-bank-made : (shown : List ℕ) (n : ℕ) (g : Granules) → length shown ≡ 16 → setUpCode shown n ≡ Ok → (addr : ℕ) → granuleAt (setUpOf shown n g .granules) n addr ≡ singleRange (wordAt 0 shown) n addr
+one-bank-made shown n g l h addr =
+    let m = made-good shown n g h in
+    let o = made-one shown n g l h in
+    ap (λ k. granuleAt (setUpOf shown n g .granules) k addr) (sym (m .1))
+    ∙ one-bank (setUpOf shown n g .granules) (o .0) (m .0) addr
+    ∙ rw (o .1, m .1)

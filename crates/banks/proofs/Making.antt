@@ -12,8 +12,10 @@ use borrow.Author.Tests.{eqb-true, lt-leb, lt-ltb, eq-eqb, ne-eqb}
 use Rattle.words.specs.Tests.{both, Yes}
 use Rattle.words.specs.Word.{wordAt, wordsOf}
 use Rattle.words.proofs.Tests.{both-l, both-r}
+use Rattle.codes.specs.declared.Code.the-variants.{Ok, Inval}
+use Rattle.codes.proofs.Gates.{unless-ok}
 use Rattle.words.proofs.Read.{wordsOf-at, wordsOf-length, wordsOf-suc}
-use Rattle.banks.specs.Banks.{Bank, banksBy, bankAt, countOf, banksOf, ascend, banksOk, recordOk, total, granuleCount, bankIn, banksIn, countIn, takes, filled, recordFrom}
+use Rattle.banks.specs.Banks.{Granules, Bank, banksBy, bankAt, countOf, banksOf, ascend, banksOk, recordOk, total, granuleCount, bankIn, banksIn, countIn, takes, setUpCode, filled, recordFrom, setUpOf}
 use Rattle.banks.proofs.Passing.{Follows, follows-is}
 
 -- ---- the words, one by one
@@ -108,10 +110,32 @@ pub part-not : (shown : List ℕ) (n : ℕ) → (length shown % 16 ≡ 0 → ⊥
 unfolding takes both
 part-not shown n h = simp (ne-eqb (length shown % 16) 0 h)
 
--- a record that the set-up made is good, and has as many granules as the table
-pub made-good : (shown : List ℕ) (n : ℕ) → Yes (takes shown n) → Yes (recordOk (recordFrom (countIn shown) shown)) × (granuleCount (recordFrom (countIn shown) shown) ≡ n)
-unfolding takes recordOk
-made-good shown n h =
-    let f : Yes (fine shown) = both-l _ _ (both-r _ _ h) in
-    let e : sum shown ≡ n = eqb-true _ _ (both-r _ _ (both-r _ _ h)) in
-    (rw (banks-made (countIn shown) shown, count-made (countIn shown) shown) f, granules-made (countIn shown) shown ∙ rw f e)
+-- ---- what the set-up made
+module _ (shown : List ℕ) (n : ℕ) (g : Granules) (h : setUpCode shown n ≡ Ok) where
+  made-is : setUpOf shown n g .granules ≡ recordFrom (countIn shown) shown
+  unfolding setUpOf
+  made-is = rw h
+
+  took : Yes (takes shown n)
+  unfolding setUpCode
+  took = unless-ok (takes shown n) Inval Ok refl h .0
+
+  took-banks : Yes (fine shown)
+  unfolding takes
+  took-banks = both-l _ _ (both-r _ _ took)
+
+  took-sum : sum shown ≡ n
+  unfolding takes
+  took-sum = eqb-true _ _ (both-r _ _ (both-r _ _ took))
+
+  -- a record that the set-up made is good, and has as many granules as the table
+  pub made-good : Yes (recordOk (setUpOf shown n g .granules)) × (granuleCount (setUpOf shown n g .granules) ≡ n)
+  unfolding recordOk
+  made-good = rw made-is (rw (banks-made (countIn shown) shown, count-made (countIn shown) shown) took-banks, granules-made (countIn shown) shown ∙ rw took-banks took-sum)
+
+module _ (shown : List ℕ) (n : ℕ) (g : Granules) (l : length shown ≡ 16) (h : setUpCode shown n ≡ Ok) where
+  -- of 16 bytes: one bank, whose base is their first word
+  pub made-one : (countOf (setUpOf shown n g .granules) ≡ 1) × (getD (setUpOf shown n g .granules) 1 0 ≡ wordAt 0 shown)
+  made-one =
+      let c : countIn shown ≡ 1 = omega arith in
+      rw (made-is shown n g h, c) (count-made 1 shown, word-in 1 0 shown (omega arith))

@@ -85,17 +85,24 @@ placeAmong before (b ∷ bs) addr = orElse (placeIn before (b .base) (b .size) a
 unfoldable pub placeOf : Granules → ℕ → Granule
 placeOf g addr = cond (recordOk g) (placeAmong 0 (banksOf g) addr) Nothing
 
--- in a table of n granules. 01: "the address [is a multiple] of 4,096"; 02: "a table of another length makes every address BAD_ADDR"
+-- in a table of n granules. 01: "BAD_ADDR unless .. the address are multiples of 4,096 and the address falls on a granule of the table."
+-- 02, E2: "Demand 2 reads "granule of the table" so", and "a table of another length makes every address BAD_ADDR"
 unfoldable pub granuleAt : Granules → ℕ → ℕ → Granule
 granuleAt g n addr = cond (both (eqb (addr % 4096) 0) (eqb (granuleCount g) n)) (placeOf g addr) Nothing
 
--- ---- the address of granule i, in banks and in a record's, for the theorems
+-- ---- for the theorems
+-- the address of granule i, in banks and in a record's
 unfoldable pub addressIn : List Bank → ℕ → ℕ
 addressIn [] i = 0
 addressIn (b ∷ bs) i = cond (ltb i (b .size / 4096)) (b .base + 4096 * i) (addressIn bs (i - b .size / 4096))
 
 abbrev pub addressOf : Granules → ℕ → ℕ
 addressOf g i = addressIn (banksOf g) i
+
+-- 01's granule of an address, in a table of n granules from address G on: "BAD_ADDR unless G and the address are multiples of 4,096 and
+-- the address falls on a granule of the table."
+abbrev pub singleRange : ℕ → ℕ → ℕ → Granule
+singleRange start n addr = cond (both (eqb (start % 4096) 0) (both (eqb (addr % 4096) 0) (both (leb start addr) (ltb ((addr - start) / 4096) n)))) (At ((addr - start) / 4096)) Nothing
 
 -- ---- the granule of an address, for a list of addresses, which asks once for the number m of the record's granules
 -- in banks that are not judged again, up to 16

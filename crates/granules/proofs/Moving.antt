@@ -17,10 +17,9 @@ use Rattle.banks.specs.declared.Granule.{Granule}
 use Rattle.banks.specs.declared.Granule.the-variants.{Nothing, At}
 use Rattle.granules.specs.declared.Direction.{Direction}
 
--- ---- the granule of a record that was judged once, with m granules
-module _ (g : Granules) (m n addr : ℕ) (k : Granule) (c : m ≡ granuleCount g) (f : k ≡ foundAt g m n addr) where
-  pub found-is : k ≡ granuleAt g n addr
-  found-is = f ∙ ap (λ x. foundAt g x n addr) c ∙ judged-once g n addr
+-- ---- the granule of an address by a record that was judged once and has m granules, and that it lies within the table
+pub found-is : (g : Granules) (m n addr : ℕ) (k : Granule) → m ≡ granuleCount g → k ≡ foundAt g m n addr → k ≡ granuleAt g n addr
+found-is g m n addr k c f = f ∙ ap (λ x. foundAt g x n addr) c ∙ judged-once g n addr
 
 pub granule-inside : (g : Granules) (t : List ℕ) (addr : ℕ) (k : Granule) → k ≡ granuleAt g (length t) addr → Inside k t
 granule-inside g t addr k e i h = index-below g (length t) addr i (sym e ∙ h)

@@ -36,7 +36,7 @@ fn to_byte(direction: Direction) -> u8
     }
 }
 
-// Moves the granule that an address falls on, with a boot record that is up and keeps these parameters.
+// Moves the granule that an address falls on, by whichever granule record, with a boot record that is up and keeps these parameters.
 fn shift_at(
     params: Params,
     granule: Granule,
