@@ -23,7 +23,7 @@
  *   stack; the test rust/tests/stack.rs fails where a figure is exceeded. It is measured, not proved. All fit 1 KiB.
  * - The figure behind "AArch64" is static: the frame of the function and of all that it calls, in the archive that tools/aarch64 builds and
  *   that fails to build where a figure is exceeded. It is without the words that a call takes on the stack (pbeam_call 88 bytes) and
- *   without what the platform's memcpy and memset take.
+ *   without what the platform's memcpy, memmove and memset take.
  *
  * potterbeam_types.h has a struct for each image, lists that are counted in entries, and one struct for all that pbeam_call takes. The
  * functions here take plain words and count them: two banks are 4.

@@ -126,7 +126,8 @@ static struct context *enter(uint64_t cpu, enum world world, uint64_t x0)
 /* EL3's own record goes up before the monitor is entered, over the registers and the page that it hands over. */
 static struct context *cold_boot(void)
 {
-    const pbeam_cold_t x = {.cpu = 0, .version = PBEAM_INTERFACE_MINOR, .cpus = CPUS, .base = PAGE};
+    const uint64_t offered = settings() & SET_OLDER ? PBEAM_SIGNING_MINOR - 1 : PBEAM_INTERFACE_MINOR; /* a version of major 0 */
+    const pbeam_cold_t x = {.cpu = 0, .version = offered, .cpus = CPUS, .base = PAGE};
     struct context *to = enter(0, WORLD_MONITOR, x.cpu);
     const int32_t code = pbeam_record_cold_boot(&el3.kit.record, &x, CPUS, el3.kit.page);
     say("EL3: cold boot of its own record: %s\n", pbeam_boot_text(code));
@@ -147,8 +148,7 @@ static struct context *first_cpu(void)
     el3.kit.granules = pbeam_granules_from(MEMORY);
     el3.kit.table = el3.table;
     el3.kit.table_count = GRANULES;
-    el3.kit.mecid_width = PBEAM_WIDTH_MOST;
-    platform_realm_key(&el3.kit);
+    platform_start(&el3.kit);
     if (!write_manifest())
         end(EXIT_NO_BOOT);
     return cold_boot();
@@ -245,6 +245,17 @@ static struct context *command(uint64_t cpu, struct context *from)
     return from;
 }
 
+/* PLATFORM_GIVES. A product has no such call. */
+static struct context *change_platform(struct context *from)
+{
+    const bool done = platform_gives(&el3.kit, from->x[1], from->x[2], from->x[3]);
+    const uint64_t out[3] = {done ? PBEAM_X0_OK : PBEAM_X0_INVAL};
+    if (done)
+        say("EL3: has a realm key of %d bytes, tokens of %d, MECIDWidthm1 %d\n", from->x[1], from->x[2], from->x[3]);
+    memcpy(from->x, out, sizeof out);
+    return from;
+}
+
 /* A call of the host: the monitor's last call, RMM_BOOT_COMPLETE or RMM_RMI_REQ_COMPLETE, comes back to it with the host's registers. */
 static struct context *from_host(uint64_t cpu, struct context *from)
 {
@@ -273,7 +284,11 @@ static struct context *serve(uint64_t cpu, enum world world, struct context *fro
         off(from->x[1]);
     if (world == WORLD_HOST)
         return from_host(cpu, from);
-    return from->x[0] == RMM_BOOT_COMPLETE ? boot_complete(cpu, from) : command(cpu, from);
+    switch (from->x[0]) {
+    case RMM_BOOT_COMPLETE: return boot_complete(cpu, from);
+    case PLATFORM_GIVES: return change_platform(from);
+    default: return command(cpu, from);
+    }
 }
 
 struct context *el3_lower(struct context *from, uint64_t esr)

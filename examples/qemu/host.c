@@ -46,7 +46,10 @@ _Noreturn void cold(void)
     say("host: at level %d\n", level());
     call("version", RMI_VERSION, 0, RMI_SUCCESS, 0x10000);
     granules();
-    tokens();
+    if (settings() & SET_OLDER)
+        call("refusals", RMI_REFUSALS, 0, RMI_SUCCESS, 0);
+    else
+        tokens();
     call("undelegate the granule", RMI_GRANULE_UNDELEGATE, MEMORY, RMI_SUCCESS, 0);
     read_granule(0);
     call("a call that the monitor does not know", RMI_REPORT + 1, 0, RMI_ERROR_INPUT, 0);

@@ -52,6 +52,8 @@ static void take_all(const struct step *steps, size_t count)
         take(&steps[i]);
 }
 
+#define TAKE_ALL(steps) take_all(steps, sizeof(steps) / sizeof(steps)[0])
+
 static void bytes_are(const char *what, const uint8_t *at, size_t count, uint8_t first, uint8_t step)
 {
     for (size_t i = 0; i < count; i++)
@@ -95,28 +97,45 @@ static void draw_token(void)
     bytes_are("token's byte", buffer, TOKEN_BYTES - TOKEN_BUFFER, (uint8_t)(0xC4 + TOKEN_BUFFER), 1);
 }
 
+static bool has_signing(void)
+{
+    return pbeam_record_minor(&record) >= PBEAM_SIGNING_MINOR;
+}
+
 static void prepare(void)
 {
-    static const struct step steps[] = {
+    static const struct step key = {"realm key", {RMM_ATTEST_GET_REALM_KEY, PAGE + KEY_AT, 200}, {PBEAM_X0_OK, REALM_KEY_BYTES}};
+    static const struct step signing[] = {
         {"features", {RMM_EL3_FEATURES}, {PBEAM_X0_OK, PBEAM_FEATURE_TOKEN_SIGNING}},
-        {"realm key", {RMM_ATTEST_GET_REALM_KEY, PAGE + KEY_AT, 200}, {PBEAM_X0_OK, REALM_KEY_BYTES}},
         {"public key, too early", {RMM_EL3_TOKEN_SIGN, PBEAM_OPCODE_KEY, PAGE + SIGN_AT, PUBLIC_KEY_BYTES}, {PBEAM_X0_AGAIN}},
     };
-    take_all(steps, sizeof steps / sizeof steps[0]);
+    if (has_signing())
+        TAKE_ALL(signing);
+    take(&key);
     bytes_are("realm key's byte", page->bytes + KEY_AT, REALM_KEY_BYTES, 0x21, 0);
     draw_token();
 }
 
 static void serve(uint64_t x[8]);
 
+/* While EL3's record is not up. */
+static const struct step after_error[] = {
+    {"delegate after the error", {RMM_GTSI_DELEGATE, MEMORY}, {PBEAM_X0_UNK}},
+    {"undelegate after the error", {RMM_GTSI_UNDELEGATE, MEMORY}, {PBEAM_X0_UNK}},
+    {"realm key after the error", {RMM_ATTEST_GET_REALM_KEY, PAGE + KEY_AT, 200}, {PBEAM_X0_UNK}},
+    {"token after the error", {RMM_ATTEST_GET_PLAT_TOKEN, PAGE + TOKEN_AT, TOKEN_BUFFER, 48}, {PBEAM_X0_UNK}},
+    {"features after the error", {RMM_EL3_FEATURES}, {PBEAM_X0_UNK}},
+    {"public key after the error", {RMM_EL3_TOKEN_SIGN, PBEAM_OPCODE_KEY, PAGE + SIGN_AT, PUBLIC_KEY_BYTES}, {PBEAM_X0_UNK}},
+    {"key update after the error", {RMM_MECID_KEY_UPDATE, 9}, {PBEAM_X0_UNK}},
+};
+
 /* The answer of RMM_BOOT_COMPLETE is the host's first call. After an error there is none: EL3 serves nothing more. */
 _Noreturn static void boot_complete(int32_t code)
 {
-    static const struct step after_error = {"delegate after the error", {RMM_GTSI_DELEGATE, MEMORY}, {PBEAM_X0_UNK}};
     uint64_t x[8] = {RMM_BOOT_COMPLETE, (uint64_t)(int64_t)code};
     smc(x);
     if (code != E_RMM_BOOT_SUCCESS) {
-        take(&after_error);
+        TAKE_ALL(after_error);
         off();
     }
     for (;;)
@@ -290,6 +309,50 @@ static const struct step refused[] = {
     {"a call that no one knows", {UINT64_C(0xC40001B7), 1, 2, 3, 4}, {PBEAM_X0_UNK}},
 };
 
+/* Refusals that depend on what the platform gives, which EL3 changes by its call for the test. A session outlives those within it. */
+#define GIVES(key_bytes, token_bytes, width) {PLATFORM_GIVES, key_bytes, token_bytes, width}
+
+static const struct step refused_by_platform[] = {
+    {"platform to give no realm key", GIVES(0, TOKEN_BYTES, PBEAM_WIDTH_MOST), {PBEAM_X0_OK}},
+    {"realm key that is not there", {RMM_ATTEST_GET_REALM_KEY, AT(KEY_AT), 96}, {PBEAM_X0_UNK}},
+    {"platform to give empty tokens", GIVES(REALM_KEY_BYTES, 0, PBEAM_WIDTH_MOST), {PBEAM_X0_OK}},
+    {"token for a challenge", TOKEN(AT(TOKEN_AT), TOKEN_BUFFER, 48), {PBEAM_X0_AGAIN}},
+    {"token that is empty", TOKEN(AT(TOKEN_AT), TOKEN_BUFFER, 48), {PBEAM_X0_UNK}},
+    {"platform to give whole tokens", GIVES(REALM_KEY_BYTES, TOKEN_BYTES, PBEAM_WIDTH_MOST), {PBEAM_X0_OK}},
+    {"token for a challenge", TOKEN(AT(TOKEN_AT), TOKEN_BUFFER, 48), {PBEAM_X0_AGAIN}},
+    {"token for the same challenge", TOKEN(AT(TOKEN_AT), TOKEN_BUFFER, 48), {PBEAM_X0_OK, TOKEN_BUFFER, TOKEN_BYTES - TOKEN_BUFFER}},
+    {"platform to give shorter tokens", GIVES(REALM_KEY_BYTES, TOKEN_BYTES - 1, PBEAM_WIDTH_MOST), {PBEAM_X0_OK}},
+    {"token of another length goes on", TOKEN(AT(TOKEN_AT), TOKEN_BUFFER, 0), {PBEAM_X0_UNK}},
+    {"platform to give whole tokens, mecids of 8 bits", GIVES(REALM_KEY_BYTES, TOKEN_BYTES, 7), {PBEAM_X0_OK}},
+    {"token goes on", TOKEN(AT(TOKEN_AT), TOKEN_BUFFER, 0), {PBEAM_X0_OK, TOKEN_BYTES - TOKEN_BUFFER}},
+    {"key update of mecid 256", {RMM_MECID_KEY_UPDATE, 256}, {PBEAM_X0_INVAL}},
+    {"key update of mecid 255", {RMM_MECID_KEY_UPDATE, 255}, {PBEAM_X0_OK}},
+    {"platform to give mecids of 17 bits", GIVES(REALM_KEY_BYTES, TOKEN_BYTES, PBEAM_WIDTH_MOST + 1), {PBEAM_X0_OK}},
+    {"key update with too great a width", {RMM_MECID_KEY_UPDATE, 9}, {PBEAM_X0_UNK}},
+    {"platform to give more than it has", GIVES(REALM_KEY_BYTES, TOKEN_BYTES + 1, PBEAM_WIDTH_MOST), {PBEAM_X0_INVAL}},
+    {"platform to give all as before", GIVES(REALM_KEY_BYTES, TOKEN_BYTES, PBEAM_WIDTH_MOST), {PBEAM_X0_OK}},
+};
+
+/* What an interface without token signing does not serve. The checks of the arguments come first. */
+static const struct step refused_by_older[] = {
+    {"features, register 1", {RMM_EL3_FEATURES, 1}, {PBEAM_X0_INVAL}},
+    {"features", {RMM_EL3_FEATURES}, {PBEAM_X0_UNK}},
+    {"signing with opcode 4", SIGN(4, AT(SIGN_AT), 80, 0), {PBEAM_X0_INVAL}},
+    {"push a request", SIGN(PBEAM_OPCODE_PUSH, AT(SIGN_AT), PBEAM_REQUEST_BYTES, 0), {PBEAM_X0_UNK}},
+    {"pull a response", SIGN(PBEAM_OPCODE_PULL, AT(SIGN_AT), PBEAM_RESPONSE_BYTES_MOST, 0), {PBEAM_X0_UNK}},
+    {"public key", SIGN(PBEAM_OPCODE_KEY, AT(SIGN_AT), PUBLIC_KEY_BYTES, 0), {PBEAM_X0_UNK}},
+    {"key update of mecid 65,536", {RMM_MECID_KEY_UPDATE, 65536}, {PBEAM_X0_INVAL}},
+    {"key update of mecid 9", {RMM_MECID_KEY_UPDATE, 9}, {PBEAM_X0_UNK}},
+};
+
+static void platform_refusals(void)
+{
+    uint8_t *buffer = page->bytes + TOKEN_AT;
+    memset(buffer, 0x3E, 48);
+    TAKE_ALL(refused_by_platform);
+    bytes_are("token's byte", buffer, TOKEN_BYTES - TOKEN_BUFFER, 0x3E + TOKEN_BUFFER, 1);
+}
+
 /* A push whose request has other ids. */
 static void push_other(const char *what, size_t id)
 {
@@ -315,7 +378,12 @@ static void fill_queue(void)
 
 static uint64_t refusals(void)
 {
-    take_all(refused, sizeof refused / sizeof refused[0]);
+    if (!has_signing()) {
+        TAKE_ALL(refused_by_older);
+        return RMI_SUCCESS;
+    }
+    TAKE_ALL(refused);
+    platform_refusals();
     push_other("push for another algorithm", PBEAM_REQUEST_ALGORITHM);
     push_other("push for another hash", PBEAM_REQUEST_HASH_ID);
     fill_queue();
