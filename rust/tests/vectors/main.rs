@@ -285,7 +285,7 @@ fn print_list(out: &mut String, input: &[u8]) {
 
 #[test]
 fn granule_vectors() {
-    compare("granule_vectors", 642, print_list);
+    compare("granule_vectors", 645, print_list);
 }
 
 // ---- Single commands ----
