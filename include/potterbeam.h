@@ -579,7 +579,7 @@ void pbeam_undelegate(const uint64_t state[PBEAM_STATE_WORDS], const uint64_t gr
  *          also when x0 is a refusal: so x1 is the index of the refused address. x2 0. An empty list is OK with 0, up or not.
  * Leaves   as x1 single calls would: the granules before the refused address are Realm and stay so; no other byte changes. An address
  *          that comes twice is refused with PBEAM_X0_BAD_PAS the second time.
- * Stack    64 bytes; AArch64 0
+ * Stack    192 bytes; AArch64 0
  * The bytes alone are changed: the change in hardware is the platform's, for the first x1 addresses, on a refusal too.
  */
 PBEAM_NONNULL(1, 2, 7)
@@ -588,7 +588,7 @@ void pbeam_delegate_list(const uint64_t state[PBEAM_STATE_WORDS], const uint64_t
 
 /*
  * pbeam_undelegate_list: the same from Realm to Non-secure, each address as pbeam_undelegate takes it.
- * Stack    64 bytes; AArch64 0
+ * Stack    192 bytes; AArch64 0
  */
 PBEAM_NONNULL(1, 2, 7)
 void pbeam_undelegate_list(const uint64_t state[PBEAM_STATE_WORDS], const uint64_t granules[PBEAM_GRANULES_WORDS], uint8_t *table,

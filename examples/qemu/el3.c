@@ -97,17 +97,29 @@ static void stack_check(uint64_t cpu, const char *what, uint64_t number)
 
 static bool write_manifest(void)
 {
-    static const pbeam_bank_t bank = {.base = MEMORY, .size = MEMORY_BYTES};
+    static const pbeam_bank_t banks[] = {{.base = MEMORY, .size = MEMORY_BYTES}, {.base = HIGH, .size = HIGH_BYTES}};
     static const pbeam_region_t pci = {.base = 0x10000000, .size = 0x2EFF0000};
     pbeam_console_t console = {.base = UART, .map_pages = 1, .clk_in_hz = 24000000, .baud_rate = 115200};
     const pbeam_lists_t lists = {
-        .dram = &bank, .dram_count = 1, .console = &console, .console_count = 1, .coh = &pci, .coh_count = 1};
+        .dram = banks, .dram_count = sizeof banks / sizeof banks[0], .console = &console, .console_count = 1, .coh = &pci, .coh_count = 1};
     uint32_t refusal;
     if (!pbeam_console_set_name(&console, "pl011"))
         return false;
     refusal = pbeam_manifest_write(PAGE, PBEAM_EDITION_LAST, &lists, el3.kit.page);
     say("EL3: CPU 0 at level %d writes the manifest: %s\n", level(), pbeam_write_text(refusal));
     return refusal == PBEAM_WRITE_PAGE;
+}
+
+/* The granule record, of the banks that the manifest shows. Of a refused page the view shows no bank, which is refused here. */
+static bool set_up_granules(void)
+{
+    pbeam_view_t view;
+    uint64_t x0;
+    (void)pbeam_manifest_read(el3.kit.page, PAGE, PBEAM_EDITION_LAST, &view);
+    x0 = pbeam_context_set_up_granules(&el3.kit, el3.kit.page, &view);
+    say("EL3: sets up %d banks, %d granules: %s\n", pbeam_view_count(el3.kit.page, &view, PBEAM_DRAM),
+        pbeam_view_granules(el3.kit.page, &view), pbeam_x0_text(x0));
+    return x0 == PBEAM_X0_OK;
 }
 
 /* A world's first entry. */
@@ -149,11 +161,10 @@ static struct context *first_cpu(void)
 {
     console_on();
     el3.kit.page = (pbeam_page_t *)PAGE;
-    el3.kit.granules = pbeam_granules_from(MEMORY);
     el3.kit.table = el3.table;
     el3.kit.table_count = GRANULES;
     platform_start(&el3.kit);
-    if (!write_manifest())
+    if (!write_manifest() || !set_up_granules())
         end(EXIT_NO_BOOT);
     return cold_boot();
 }

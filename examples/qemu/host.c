@@ -27,6 +27,8 @@ static void read_granule(uint64_t status)
 
 static void granules(void)
 {
+    call("delegate the last granule of the second bank", RMI_GRANULE_DELEGATE, HIGH + HIGH_BYTES - 4096, RMI_SUCCESS, 0);
+    call("undelegate it", RMI_GRANULE_UNDELEGATE, HIGH + HIGH_BYTES - 4096, RMI_SUCCESS, 0);
     read_granule(0);
     call("delegate a granule", RMI_GRANULE_DELEGATE, MEMORY, RMI_SUCCESS, 0);
     read_granule(NOT_THIS_WORLD);

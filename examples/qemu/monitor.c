@@ -67,16 +67,18 @@ static void list_manifest(void)
 {
     pbeam_view_t view;
     const int32_t code = pbeam_manifest_read(page, PAGE, PBEAM_EDITION_LAST, &view);
-    const pbeam_bank_t bank = pbeam_view_dram(page, &view, 0);
+    const pbeam_bank_t bank = pbeam_view_dram(page, &view, 0), high = pbeam_view_dram(page, &view, 1);
     const pbeam_region_t region = pbeam_view_region(page, &view, PBEAM_COH, 0);
     const pbeam_console_t console = pbeam_view_console(page, &view, 0);
     char name[9];
     pbeam_console_text(&console, name);
     say("monitor: manifest 0.%d: %s\n", pbeam_view_minor(&view), pbeam_read_text(code));
-    say("monitor: bank 0x%x + 0x%x, device region 0x%x + 0x%x\n", bank.base, bank.size, region.base, region.size);
+    say("monitor: banks 0x%x + 0x%x, 0x%x + 0x%x\n", bank.base, bank.size, high.base, high.size);
+    say("monitor: device region 0x%x + 0x%x\n", region.base, region.size);
     say("monitor: console %s at 0x%x, %d baud\n", name, console.base, console.baud_rate);
     expect("manifest", (uint64_t)(int64_t)code, PBEAM_READ_ACCEPTED);
     expect("bank", bank.base, MEMORY);
+    expect("second bank", high.base, HIGH);
     expect("console", console.base, UART);
 }
 
@@ -290,10 +292,12 @@ static void serve(uint64_t x[8])
 #define AT(offset) (PAGE + (offset))
 
 static const struct step refused[] = {
-    {"delegate outside the table", {RMM_GTSI_DELEGATE, MEMORY + GRANULES * PBEAM_GRANULE_BYTES}, {PBEAM_X0_BAD_ADDR}},
+    {"delegate between the banks", {RMM_GTSI_DELEGATE, MEMORY + MEMORY_BYTES}, {PBEAM_X0_BAD_ADDR}},
+    {"delegate behind the banks", {RMM_GTSI_DELEGATE, HIGH + HIGH_BYTES}, {PBEAM_X0_BAD_ADDR}},
     {"delegate in mid-granule", {RMM_GTSI_DELEGATE, MEMORY + 8}, {PBEAM_X0_BAD_ADDR}},
     {"delegate a Realm granule", {RMM_GTSI_DELEGATE, MEMORY}, {PBEAM_X0_BAD_PAS}},
-    {"undelegate outside the table", {RMM_GTSI_UNDELEGATE, MEMORY - PBEAM_GRANULE_BYTES}, {PBEAM_X0_BAD_ADDR}},
+    {"undelegate before the banks", {RMM_GTSI_UNDELEGATE, MEMORY - PBEAM_GRANULE_BYTES}, {PBEAM_X0_BAD_ADDR}},
+    {"undelegate right before the second", {RMM_GTSI_UNDELEGATE, HIGH - PBEAM_GRANULE_BYTES}, {PBEAM_X0_BAD_ADDR}},
     {"undelegate a Non-secure granule", {RMM_GTSI_UNDELEGATE, MEMORY + PBEAM_GRANULE_BYTES}, {PBEAM_X0_BAD_PAS}},
     {"realm key outside the page", {RMM_ATTEST_GET_REALM_KEY, OUTSIDE, 96}, {PBEAM_X0_BAD_ADDR}},
     {"realm key in the kept bytes", {RMM_ATTEST_GET_REALM_KEY, AT(KEPT - 1), 96}, {PBEAM_X0_BAD_ADDR}},

@@ -5,7 +5,7 @@
 //! image as the library, by the same rules ("in place"); `tests/inplace.rs` holds it to them. Reader and writer are timed against the
 //! reference and against a second reader and writer, written for speed ("by hand"); `tests/fast.rs` holds it to the reference.
 //!
-//! With the argument `manifest` only these are timed.
+//! With the argument `manifest` only these are timed, with `granules` only granule records and moves.
 
 use potterbeam_tests::exports::{
     Exports, GranulesImage, QueueImage, RecordImage, Registers, SessionImage, Work,
@@ -1065,21 +1065,31 @@ fn compare_collections(message: &[u8], largest: u32, total: u32) {
     );
 }
 
-fn main() {
-    println!("Best of {RUNS} runs, in turn. No page, table or image is cleared before a call.");
-    println!("ns a call                              library reference  ratio  reference's state");
-    compare_manifests();
-    compare_kept_for();
-    if std::env::args().nth(1).as_deref() == Some("manifest") {
-        return;
-    }
-    compare_cold_boot();
-    compare_calls();
+fn compare_all_granules() {
     for count in [1, 16] {
         compare_granules(count);
         compare_lists(count);
         compare_set_up(count);
     }
+}
+
+fn compare_pages() {
+    compare_manifests();
+    compare_kept_for();
+}
+
+fn main() {
+    println!("Best of {RUNS} runs, in turn. No page, table or image is cleared before a call.");
+    println!("ns a call                              library reference  ratio  reference's state");
+    let only = std::env::args().nth(1);
+    match only.as_deref() {
+        Some("manifest") => return compare_pages(),
+        Some("granules") => return compare_all_granules(),
+        _ => compare_pages(),
+    }
+    compare_cold_boot();
+    compare_calls();
+    compare_all_granules();
     compare_token(64);
     compare_token(4096);
     compare_queue(0);

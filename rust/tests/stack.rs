@@ -568,7 +568,7 @@ impl Board {
             session: [1, 100, 64],
             queue,
             page,
-            granules: banks(1, 2),
+            granules: in_banks(1, 2),
             table: vec![0, 1],
             secret: vec![7; 100],
             busy: 0,
@@ -586,7 +586,7 @@ impl Board {
 
 /// A record of so many banks of so many granules, with a hole of one behind each; the last bank ends where one of 2 granules at MEMORY
 /// would, so that the same addresses name its last two.
-fn banks(count: u64, granules: u64) -> GranulesImage {
+fn in_banks(count: u64, granules: u64) -> GranulesImage {
     let mut record = [0; 33];
     record[0] = count;
     let end = MEMORY + 2 * 4096;
@@ -601,8 +601,9 @@ fn calls() -> Vec<(&'static str, Board, [u64; 5], i64)> {
     let board = || Board::new(1, 1);
     let fresh = || Board::with(|board| board.state = [0; 5]);
     let keeping = || Board::with(|board| board.state[4] = 1);
-    let many =
-        || Board::with(|board| (board.granules, board.table) = (banks(16, 2), [0, 1].repeat(16)));
+    let many = || {
+        Board::with(|board| (board.granules, board.table) = (in_banks(16, 2), [0, 1].repeat(16)))
+    };
     let broken = || Board::with(|board| board.granules[0] = 17);
     let old = || Board::with(|board| board.state[3] = 3);
     let short = || Board::with(|board| board.page.truncate(PAGE - 1));
@@ -904,7 +905,7 @@ fn set_ups(header: &mut Header) {
         let words = record[1..=2 * count].iter();
         words.flat_map(|word: &u64| word.to_le_bytes()).collect()
     };
-    let (one, many) = (shown(banks(1, 2), 1), shown(banks(16, 2), 16));
+    let (one, many) = (shown(in_banks(1, 2), 1), shown(in_banks(16, 2), 16));
     for (what, banks, in_table, x0) in [
         ("one bank", &one[..], 2, OK),
         ("16 banks", &many, 32, OK),
@@ -930,7 +931,7 @@ fn addresses(record: &GranulesImage) -> Vec<u64> {
 fn granule_lists(header: &mut Header) {
     let fresh = [0; 5];
     let up = Board::new(0, 0).state;
-    let (one, many) = (banks(1, 256), banks(16, 16));
+    let (one, many) = (in_banks(1, 256), in_banks(16, 16));
     for (what, state, granules, count, spoilt, x0) in [
         ("empty", up, one, 0, 0, OK),
         ("200 granules", up, one, 200, 256, OK),

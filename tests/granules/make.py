@@ -236,15 +236,27 @@ def set_up_lent():
 
 
 def set_up_pages():
-    """Set-up: banks of pages that the reader accepts and the set-up does not"""
+    """Set-up: the banks of pages that the reader accepts, whatever their order and number"""
     usual = [(G + 8192 * i, 4096) for i in range(249)]
     for text, banks in (("249 banks", usual), ("17 banks", usual[:17]),
                         ("two banks, the higher first", TWO[::-1]),
-                        ("one bank twice", TWO[:1] * 2), ("a bank inside another",
+                        ("one bank twice", TWO[:1] * 2), ("bank inside another",
                                                           [(G, 16 * 4096), (G + 4096, 4096)])):
         assert len(banks) <= 249 and all(bank_ok(*bank) for bank in banks)
-        make("INVAL", f"a page's {text}", banks)
-    make("INVAL", "a page without a bank", [])
+        make("INVAL", f"a page's {text}", banks, record=())
+    make("INVAL", "a page without a bank", [], record=())
+    field = HERE.parent / "reader" / "field" / "fvp-2.12.1.in"
+    held = banks_in(dram_of(field.read_bytes()))
+    make("OK", f"the banks of {field.stem}", held, record=())
+    make("INVAL", f"the banks of {field.stem}, a table of the first", held, held[0][1] // 4096,
+         record=())
+
+
+def dram_of(raw):
+    """The array of dram on a page that firmware wrote, behind 8 bytes of B."""
+    base, page = (int.from_bytes(raw[:8], "little"), raw[8:])
+    count, pointer = (int.from_bytes(page[at:at + 8], "little") for at in (16, 24))
+    return page[pointer - base:][:16 * count]
 
 
 def empty():

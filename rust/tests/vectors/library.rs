@@ -129,7 +129,7 @@ fn print_list(out: &mut String, input: &[u8]) {
 
 #[test]
 fn granules() {
-    compare("granule_vectors", 798, print_list);
+    compare("granule_vectors", 801, print_list);
 }
 
 fn print_command(out: &mut String, input: &[u8]) {

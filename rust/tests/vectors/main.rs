@@ -295,7 +295,7 @@ fn print_list(out: &mut String, input: &[u8]) {
 
 #[test]
 fn granule_vectors() {
-    compare("granule_vectors", 798, print_list);
+    compare("granule_vectors", 801, print_list);
 }
 
 // ---- Single commands ----
