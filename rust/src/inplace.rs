@@ -186,7 +186,7 @@ fn moved(
     if state[0] != 1 {
         return Err(Error::Unk);
     }
-    if at % 4096 != 0 {
+    if at % 4096 != 0 || is_shared(state, at, from) {
         return Err(Error::BadAddr);
     }
     let (count, place) = pass(granules, at);
@@ -230,12 +230,22 @@ fn moved_list(
         false => &[],
     };
     for (done, &at) in list.iter().enumerate() {
-        if let Err(error) = turned(table, find(banks, at), from) {
+        let place = match is_shared(state, at, from) {
+            true => NOWHERE,
+            false => find(banks, at),
+        };
+        if let Err(error) = turned(table, place, from) {
             *out = [Answer::from(Err(error)).x0, done as u64, 0];
             return;
         }
     }
     out[1] = list.len() as u64;
+}
+
+/// The shared page's granule, which is not undelegated.
+#[inline]
+fn is_shared(state: &RecordImage, at: u64, from: u8) -> bool {
+    from == 1 && at == state[2]
 }
 
 /// No granule has this index.

@@ -549,7 +549,7 @@ static void check_granule_lists(const uint64_t state[ROOM])
 /* The shared page stays Realm: the granule at B is not undelegated, alone or in a list; the one behind it is. */
 static void check_shared_page(const uint64_t state[ROOM])
 {
-    const uint64_t record[ROOM] = {BASE}, list[2] = {BASE + PBEAM_GRANULE_BYTES, BASE};
+    const uint64_t record[ROOM] = {1, BASE, 2 * PBEAM_GRANULE_BYTES}, list[2] = {BASE + PBEAM_GRANULE_BYTES, BASE};
     uint64_t out[ROOM];
     uint8_t table[2] = {PBEAM_GRANULE_NON_SECURE, PBEAM_GRANULE_NON_SECURE};
     pbeam_delegate_list(state, record, table, 2, list, 2, out);

@@ -141,10 +141,15 @@ impl Random {
         scene
     }
 
-    /// Puts the shared page among the granules, or right behind them.
+    /// Moves the banks so that the shared page is among the granules, or right behind a bank.
     fn share(&mut self, scene: &mut Scene) {
-        let before = self.below(scene.table.len() as u64 + 1);
-        scene.start = scene.base().wrapping_sub(4096 * before);
+        let [base, size] = self.bank_of(&scene.granules);
+        let at = base.wrapping_add(4096 * self.below(size / 4096 + 1));
+        let by = scene.base().wrapping_sub(at);
+        let count = scene.granules[0].min(16) as usize;
+        for bank in scene.granules[1..=2 * count].chunks_mut(2) {
+            bank[0] = bank[0].wrapping_add(by);
+        }
     }
 
     /// The next step in a scene. What is lent to it may change before: a request in the page, another token, a busy platform.
