@@ -296,7 +296,7 @@ static inline const char *pbeam_x0_text(uint64_t x0)
     switch (x0) {
     case PBEAM_X0_OK: return "OK";
     case PBEAM_X0_UNK: return "UNK: not served, or the platform has nothing to give";
-    case PBEAM_X0_BAD_ADDR: return "BAD_ADDR: outside the page or in its kept bytes, or on no granule of the table";
+    case PBEAM_X0_BAD_ADDR: return "BAD_ADDR: outside the page or in its kept bytes, on no granule of the table, or the shared page to be undelegated";
     case PBEAM_X0_BAD_PAS: return "BAD_PAS: the granule is in another state than the command needs";
     case PBEAM_X0_INVAL: return "INVAL: an argument is not allowed";
     case PBEAM_X0_AGAIN: return "AGAIN: busy, full or nothing there yet; call again later";
