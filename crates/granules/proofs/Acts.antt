@@ -1,51 +1,35 @@
 -- When delegation is OK, and what an OK did. Assumes nothing.
-use Prim.Native.Nat.{ℕ, _+_, _*_, _%_, _≤_, _<_}
+use Prim.Native.Nat.{ℕ, _<_}
 use mathlib.Core.Path.{_≡_, refl, sym, ap, _∙_}
 use mathlib.Core.Bool.{true, false≢true}
 use native.Mathlib.Omega.{arith}
 use lib.ListN.{length, getD, length-set}
 use lib.Seq.{getD-set-same, getD-set-other}
-use borrow.Author.Tests.{leb-true, eqb-true, eq-eqb, le-leb, lt-ltb}
-use Rattle.words.proofs.Tests.{both-l, both-r, both-of}
+use borrow.Author.Tests.{eqb-true}
+use Rattle.words.specs.Tests.{Yes}
+use Rattle.banks.specs.Banks.{Granules, recordOk, granuleCount, granuleAt, addressOf}
 use Rattle.boot.specs.declared.Params.{Params}
 use Rattle.boot.specs.declared.Record.{Record}
 use Rattle.codes.specs.Codes.{isUp, upOf, isOk, whenUp, answerOf}
 use Rattle.codes.specs.declared.Code.the-variants.{Ok}
 use Rattle.codes.proofs.Gates.{unless-ok}
-use Rattle.granules.specs.Granules.{granuleOf, falls, granuleAt, GranuleTable, fromByte, toByte, granuleCode, moveCode, granuleSet, moved, Moved, movedBy, moveOf, movedTo}
+use Rattle.banks.proofs.Laws.{falls, index-below, index-named, one-address}
+use Rattle.granules.specs.Granules.{GranuleTable, fromByte, toByte, granuleCode, moveCode, granuleSet, moved, Moved, movedBy, moveOf, movedTo}
 use Rattle.granules.specs.Acts.{MoveActed}
-use Rattle.granules.specs.declared.Granules.{Granules}
-use Rattle.granules.specs.declared.Granule.{Granule}
-use Rattle.granules.specs.declared.Granule.the-variants.{Nothing, At}
+use Rattle.banks.specs.declared.Granule.{Granule}
+use Rattle.banks.specs.declared.Granule.the-variants.{Nothing, At}
 use Rattle.granules.specs.declared.Direction.{Direction}
-use Rattle.granules.proofs.Moving.{granule-at, granule-in, move-ok, move-up}
+use Rattle.granules.proofs.Moving.{move-ok, move-up}
 
--- ---- granule i of a table of n: its address is G + 4,096 i
+-- ---- granule i of a table: it is that of its bank's address, and of no other
 module _ (g : Granules) (n i : ℕ) where
-  granule-is : granuleOf g (g .start + 4096 * i) ≡ i
-  unfolding granuleOf
-  granule-is = omega arith
+  pub granule-on : Yes (recordOk g) → granuleCount g ≡ n → i < n → granuleAt g n (addressOf g i) ≡ At i
+  granule-on ok e h = rw (← e) (index-named g i ok (omega arith))
 
-  falls-on : g .start % 4096 ≡ 0 → i < n → falls g n (g .start + 4096 * i) ≡ true
-  unfolding falls
-  falls-on a h =
-      both-of _ _ (eq-eqb (g .start % 4096) 0 a)
-      (both-of _ _ (eq-eqb ((g .start + 4096 * i) % 4096) 0 (omega arith))
-      (both-of _ _ (le-leb (g .start) (g .start + 4096 * i) (omega arith))
-      (lt-ltb _ n (rw granule-is h))))
-
-  pub granule-on : g .start % 4096 ≡ 0 → i < n → granuleAt g n (g .start + 4096 * i) ≡ At i
-  unfolding granuleAt
-  granule-on a h = rw (falls-on a h, granule-is)
-
-  pub granule-address : (addr : ℕ) → granuleAt g n addr ≡ At i → addr ≡ g .start + 4096 * i
-  unfolding falls granuleOf
-  granule-address addr e =
-      let p = granule-at g n addr i e in
-      let a : g .start % 4096 ≡ 0 = eqb-true _ _ (both-l _ _ (p .0)) in
-      let b : addr % 4096 ≡ 0 = eqb-true _ _ (both-l _ _ (both-r _ _ (p .0))) in
-      let c : g .start ≤ addr = leb-true _ _ (both-l _ _ (both-r _ _ (both-r _ _ (p .0)))) in
-      omega (arith, p .1)
+  pub granule-address : (addr : ℕ) → granuleAt g n addr ≡ At i → addr ≡ addressOf g i
+  granule-address addr h =
+      let f = falls g n addr i h in
+      one-address g n addr (addressOf g i) i h (granule-on (f .ok) (f .count) (index-below g n addr i h))
 
 -- A refusal comes only where 01 gives it: with the record up and the address that of a granule of the table, whose byte is 0
 -- (delegate) or 1 (undelegate), the answer is OK.
@@ -62,7 +46,7 @@ acted u g d t addr (At i) e h =
       granule = i;
       own = e;
       was = eqb-true _ _ (unless-ok _ _ _ refl h .0);
-      becomes = getD-set-same (t .bytes) i (toByte d) 0 (granule-in g (length (t .bytes)) addr i e);
+      becomes = getD-set-same (t .bytes) i (toByte d) 0 (index-below g (length (t .bytes)) addr i e);
       others = λ j n. getD-set-other (t .bytes) i j _ 0 n;
       whole = length-set (t .bytes) i _;
     }

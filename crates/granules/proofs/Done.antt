@@ -13,11 +13,11 @@ use Rattle.codes.specs.Codes.{isUp, upOf, whenUp, isOk, answerOf}
 use Rattle.codes.specs.declared.Code.{Code}
 use Rattle.codes.specs.declared.Code.the-variants.{Ok, Unk, BadAddr, BadPas, Inval, Again}
 use Rattle.codes.proofs.Gates.{unless-ok}
-use Rattle.granules.specs.Granules.{GranuleTable, granuleAt, fromByte, toByte, Moved, movedBy, moveOf, movedTo}
+use Rattle.banks.specs.Banks.{Granules, granuleAt}
+use Rattle.granules.specs.Granules.{GranuleTable, fromByte, toByte, Moved, movedBy, moveOf, movedTo}
 use Rattle.granules.specs.Acts.{MoveActed}
 use Rattle.granules.specs.Lists.{onward, listBy, moveListOf, doneBy, tableBy, codeBy, codeAt, Longest}
-use Rattle.granules.specs.declared.Granules.{Granules}
-use Rattle.granules.specs.declared.Granule.the-variants.{At}
+use Rattle.banks.specs.declared.Granule.the-variants.{At}
 use Rattle.granules.specs.declared.Direction.{Direction}
 use Rattle.granules.specs.declared.Direction.the-variants.{Delegate, Undelegate}
 use Rattle.granules.proofs.Moving.{move-refused, move-up, move-pas}

@@ -10,9 +10,9 @@ use lib.Seq.{drop-cons, drop-length}
 use Rattle.boot.specs.declared.Record.{Record}
 use Rattle.codes.specs.Codes.{isUp, upOf, isOk, answerOf}
 use Rattle.codes.specs.declared.Code.the-variants.{Ok, Unk}
+use Rattle.banks.specs.Banks.{Granules}
 use Rattle.granules.specs.Granules.{GranuleTable, Moved, movedBy, moveAt, moveOf}
 use Rattle.granules.specs.Lists.{onward, listBy, moveListOf}
-use Rattle.granules.specs.declared.Granules.{Granules}
 use Rattle.granules.specs.declared.Direction.{Direction}
 use Rattle.granules.proofs.Moving.{move-down, move-up}
 

@@ -1,40 +1,29 @@
 -- Delegation, return by return, and what a refusal leaves. Assumes nothing.
-use Prim.Native.Nat.{ℕ, _<_}
-use mathlib.Core.Path.{_≡_, refl}
-use mathlib.Core.Bool.{Bool, true, false, cond}
+use Prim.Native.Nat.{ℕ}
+use mathlib.Core.Path.{_≡_, refl, sym, ap, _∙_}
+use mathlib.Core.Bool.{true, false}
 use mathlib.Core.List.{List}
-use native.Mathlib.Omega.{arith}
 use lib.ListN.{length, getD, set, length-set}
-use borrow.Author.Tests.{ltb-true, eq-eqb, ne-eqb}
-use Rattle.words.proofs.Tests.{both-r}
+use borrow.Author.Tests.{eq-eqb, ne-eqb}
+use Rattle.banks.specs.Banks.{Granules, granuleCount, granuleAt, foundAt}
 use Rattle.boot.specs.declared.Params.{Params}
 use Rattle.boot.specs.declared.Record.{Record}
 use Rattle.codes.specs.Codes.{isUp, unless, fails, upOf, whenUp, isOk, answerOf}
 use Rattle.codes.specs.declared.Code.the-variants.{Ok, Unk, BadAddr, BadPas}
 use Rattle.codes.proofs.Gates.{if-ok-by}
-use Rattle.granules.specs.Granules.{granuleOf, falls, granuleAt, GranuleTable, fromByte, toByte, granuleCode, moveCode, granuleSet, moved, movedBy, moveAt, moveOf, movedTo}
-use Rattle.granules.specs.declared.Granules.{Granules}
-use Rattle.granules.specs.declared.Granule.{Granule}
-use Rattle.granules.specs.declared.Granule.the-variants.{Nothing, At}
+use Rattle.banks.proofs.Laws.{index-below, judged-once}
+use Rattle.granules.specs.Granules.{Inside, GranuleTable, fromByte, toByte, granuleCode, moveCode, granuleSet, moved, movedBy, moveAt, moveOf, movedTo}
+use Rattle.banks.specs.declared.Granule.{Granule}
+use Rattle.banks.specs.declared.Granule.the-variants.{Nothing, At}
 use Rattle.granules.specs.declared.Direction.{Direction}
 
-pick : Bool → ℕ → Granule
-pick b i = cond b (At i) Nothing
+-- ---- the granule of a record that was judged once, with m granules
+module _ (g : Granules) (m n addr : ℕ) (k : Granule) (c : m ≡ granuleCount g) (f : k ≡ foundAt g m n addr) where
+  pub found-is : k ≡ granuleAt g n addr
+  found-is = f ∙ ap (λ x. foundAt g x n addr) c ∙ judged-once g n addr
 
-pick-at : (b : Bool) (i j : ℕ) → pick b i ≡ At j → (b ≡ true) × (j ≡ i)
-unfolding pick
-pick-at true i j h = (refl, cc)
-pick-at false i j h = let z : _≡_ {A = ℕ} 0 1 = cc in absurd (omega arith)
-
-module _ (g : Granules) (n addr : ℕ) where
-  pub granule-at : (i : ℕ) → granuleAt g n addr ≡ At i → (falls g n addr ≡ true) × (i ≡ granuleOf g addr)
-  unfolding granuleAt pick
-  granule-at i h = pick-at (falls g n addr) (granuleOf g addr) i h
-
-  -- what the rest asks of the granule record: a granule of the table is below its length
-  pub granule-in : (i : ℕ) → granuleAt g n addr ≡ At i → i < n
-  unfolding falls
-  granule-in i h = let p = granule-at i h in rw (p .1) (ltb-true _ _ (both-r _ _ (both-r _ _ (both-r _ _ (p .0)))))
+pub granule-inside : (g : Granules) (t : List ℕ) (addr : ℕ) (k : Granule) → k ≡ granuleAt g (length t) addr → Inside k t
+granule-inside g t addr k e i h = index-below g (length t) addr i (sym e ∙ h)
 
 -- ---- a record that is up
 module _ (u : Params) (g : Granules) (d : Direction) (t : List ℕ) (addr : ℕ) where

@@ -2,9 +2,9 @@
 use Prim.Native.Nat.{ℕ}
 use mathlib.Core.Path.{_≡_}
 use lib.ListN.{length, getD}
-use Rattle.granules.specs.Granules.{granuleAt, GranuleTable, fromByte, toByte}
-use Rattle.granules.specs.declared.Granules.{Granules}
-use Rattle.granules.specs.declared.Granule.the-variants.{At}
+use Rattle.banks.specs.Banks.{Granules, granuleAt}
+use Rattle.granules.specs.Granules.{GranuleTable, fromByte, toByte}
+use Rattle.banks.specs.declared.Granule.the-variants.{At}
 use Rattle.granules.specs.declared.Direction.{Direction}
 
 -- The granule is the address's own, its byte was the one that it must have and is the one that it gets, and every

@@ -1,34 +1,21 @@
--- 0xC40001B0, B1: delegate, undelegate. 01: "The granule table is one byte a granule from address G: 0 Non-secure, 1 Realm, 2 Root,
--- 3 Secure; other bytes are none of these (house codes)." Assumes nothing.
-use Prim.Native.Nat.{ℕ, _-_, _/_, _%_}
-use mathlib.Core.Bool.{Bool, cond}
+-- 0xC40001B0, B1: delegate, undelegate. 01: "The granule table is one byte a granule ..: 0 Non-secure, 1 Realm, 2 Root, 3 Secure; other
+-- bytes are none of these (house codes)." Which granule an address falls on is said by the banks (02, E2). Assumes nothing.
+use Prim.Native.Nat.{ℕ, _<_}
+use mathlib.Core.Path.{_≡_}
 use mathlib.Core.List.{List}
 use lib.ListN.{length, getD, set}
-use lib.Dec.{leb, ltb, eqb}
-use Rattle.words.specs.Tests.{both}
+use lib.Dec.{eqb}
+use Rattle.banks.specs.Banks.{Granules, granuleAt}
+use Rattle.banks.specs.declared.Granule.{Granule}
+use Rattle.banks.specs.declared.Granule.the-variants.{Nothing, At}
 use Rattle.boot.specs.declared.Params.{Params}
 use Rattle.boot.specs.declared.Record.{Record}
 use Rattle.codes.specs.Codes.{unless, fails, upOf, whenUp, ifOk, answerOf}
 use Rattle.codes.specs.declared.Code.{Code}
 use Rattle.codes.specs.declared.Code.the-variants.{Ok, BadAddr, BadPas}
 use Rattle.codes.specs.declared.Answer.{Answer}
-use Rattle.granules.specs.declared.Granules.{Granules}
-use Rattle.granules.specs.declared.Granule.{Granule}
-use Rattle.granules.specs.declared.Granule.the-variants.{Nothing, At}
 use Rattle.granules.specs.declared.Direction.{Direction}
 use Rattle.granules.specs.declared.Direction.the-variants.{Delegate, Undelegate}
-
--- ---- the granule that an address falls on
--- "G and the address are multiples of 4,096 and the address falls on a granule of the table", which has n
-unfoldable pub granuleOf : Granules → ℕ → ℕ
-granuleOf g addr = (addr - g .start) / 4096
-
-unfoldable pub falls : Granules → ℕ → ℕ → Bool
-falls g n addr = both (eqb (g .start % 4096) 0) (both (eqb (addr % 4096) 0) (both (leb (g .start) addr) (ltb (granuleOf g addr) n)))
-
--- both in one: nothing else asks for either
-unfoldable pub granuleAt : Granules → ℕ → ℕ → Granule
-granuleAt g n addr = cond (falls g n addr) (At (granuleOf g addr)) Nothing
 
 -- ---- what delegation changes: the table's bytes
 pub record GranuleTable : Type 0 where
@@ -86,3 +73,7 @@ undelegateOf s g t addr = moveOf s g Undelegate t addr
 -- what a call promises of the lent bytes
 unfoldable pub movedTo : Answer → List ℕ → Moved
 movedTo a bytes = record { answer = a; table = record { bytes = bytes } }
+
+-- ---- a granule that lies within the table's bytes
+abbrev pub Inside : Granule → List ℕ → Type 0
+Inside k bytes = (i : ℕ) → k ≡ At i → i < length bytes

@@ -8,8 +8,8 @@ use Rattle.boot.specs.declared.Record.{Record}
 use Rattle.codes.specs.Codes.{isOk, ifOk, answerOf}
 use Rattle.codes.specs.declared.Code.{Code}
 use Rattle.codes.specs.declared.Code.the-variants.{Ok}
+use Rattle.banks.specs.Banks.{Granules}
 use Rattle.granules.specs.Granules.{GranuleTable, Moved, moveOf}
-use Rattle.granules.specs.declared.Granules.{Granules}
 use Rattle.granules.specs.declared.Direction.{Direction}
 use Rattle.granules.specs.declared.Direction.the-variants.{Delegate, Undelegate}
 

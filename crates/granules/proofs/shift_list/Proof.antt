@@ -3,20 +3,20 @@ use mathlib.Core.Path.{_≡_, refl, sym, ap, _∙_}
 use native.Mathlib.Omega.{arith}
 use lib.ListN.{length, drop}
 use borrow.Author.Tests.{not-true, not-false}
+use borrow.Author.Needs.{needs}
 use Rattle.codes.specs.Codes.{answerOf}
 use Rattle.granules.specs.Granules.{Moved, moveAt, movedTo}
 use Rattle.granules.specs.Lists.{listBy}
-use Rattle.granules.proofs.Moving.{move-length}
+use Rattle.granules.proofs.Moving.{found-is, granule-inside, move-length}
 use Rattle.granules.proofs.Lists.{list-last, list-more, list-stop, list-up, list-none, list-down}
-use borrow.Author.Needs.{needs}
 use Rattle.granules.proofs.shift_list.Statement.{statement}
 use Rattle.granules.proofs.shift_list.Tie as tie
 
 abbrev Inv-loop : tie.InvT-loop
-Inv-loop granules direction table₀ addresses n up params i₀ table i = (i ≤ length addresses) × (length table ≡ length table₀) × (listBy (moveAt params granules direction) 0 (record { bytes = table₀ }) addresses ≡ listBy (moveAt params granules direction) i (record { bytes = table }) (drop i addresses))
+Inv-loop granules direction table₀ addresses n up params count i₀ table i = (i ≤ length addresses) × (length table ≡ length table₀) × (listBy (moveAt params granules direction) 0 (record { bytes = table₀ }) addresses ≡ listBy (moveAt params granules direction) i (record { bytes = table }) (drop i addresses))
 
 abbrev μ-loop : tie.MeasureT-loop
-μ-loop granules direction table₀ addresses n up params i₀ table i = length addresses - i
+μ-loop granules direction table₀ addresses n up params count i₀ table i = length addresses - i
 
 answered-requires : tie.Need-answered-requires Inv-loop μ-loop
 answered-requires c κs = search needs
@@ -25,7 +25,7 @@ returns : tie.Need-returns Inv-loop μ-loop
 unfolding movedTo
 returns c =
     let a = c .before .before .before .before .args in
-    rw (c .answered .ensures) (list-none (a .state) (a .granules) (a .direction) (record { bytes = a .table .now }) (a .addresses .now) (c .before .if1 .taken))
+    rw (c .answered .ensures) (list-none (a .state) (a .granules .now) (a .direction) (record { bytes = a .table .now }) (a .addresses .now) (c .before .if1 .taken))
 
 is-up-requires : tie.Need-is-up-requires Inv-loop μ-loop
 is-up-requires c κs = search needs
@@ -37,22 +37,31 @@ returns-2 : tie.Need-returns-2 Inv-loop μ-loop
 unfolding movedTo
 returns-2 c =
     let a = c .before .before .before .before .before .before .args in
-    rw (c .answered2 .ensures) (list-down (a .state) (a .granules) (a .direction) (record { bytes = a .table .now }) (sym (c .before .before .is-up .ensures) ∙ not-true _ (c .before .if2 .taken)) (a .addresses .now) (c .before .before .before .if1 .left))
+    rw (c .answered2 .ensures) (list-down (a .state) (a .granules .now) (a .direction) (record { bytes = a .table .now }) (sym (c .before .before .is-up .ensures) ∙ not-true _ (c .before .if2 .taken)) (a .addresses .now) (c .before .before .before .if1 .left))
 
 up-of-requires : tie.Need-up-of-requires Inv-loop μ-loop
 up-of-requires c κs = search needs
 
+granule-count-requires : tie.Need-granule-count-requires Inv-loop μ-loop
+granule-count-requires c κs = search needs
+
 loop-holds : tie.Need-loop-holds Inv-loop μ-loop
 loop-holds c = (search needs, refl, refl)
 
-mul-shift-at : tie.Need-mul-shift-at Inv-loop μ-loop
-mul-shift-at c = search needs
+mul-address : tie.Need-mul-address Inv-loop μ-loop
+mul-address c = search needs
 
-shared-slice-read-shift-at : tie.Need-shared-slice-read-shift-at Inv-loop μ-loop
-shared-slice-read-shift-at c = search needs
+shared-slice-read-address : tie.Need-shared-slice-read-address Inv-loop μ-loop
+shared-slice-read-address c = search needs
+
+find-granule-requires : tie.Need-find-granule-requires Inv-loop μ-loop
+find-granule-requires c κs = search needs
 
 shift-at-requires : tie.Need-shift-at-requires Inv-loop μ-loop
-shift-at-requires c κs = search needs
+shift-at-requires c κs =
+    let a = c .before .before .before .before .before .before .before .before .before .before .before .before .args in
+    let l = c .before .before .before .before .loop in
+    granule-inside (a .granules .now) (l .table) _ _ (found-is (a .granules .now) _ (length (l .table)) _ _ (c .before .before .before .before .before .granule-count .ensures) (c .before .find-granule .ensures))
 
 is-ok-requires : tie.Need-is-ok-requires Inv-loop μ-loop
 is-ok-requires c κs = search needs
@@ -66,13 +75,14 @@ same-length c = search needs
 returns-3 : tie.Need-returns-3 Inv-loop μ-loop
 unfolding movedTo answerOf
 returns-3 c =
-    let a = c .before .before .before .before .before .before .before .before .before .before .before .before .before .before .before .before .args in
-    let l = c .before .before .before .before .before .before .before .before .before .loop in
+    let a = c .before .before .before .before .before .before .before .before .before .before .before .before .before .before .before .before .before .before .args in
+    let l = c .before .before .before .before .before .before .before .before .before .before .loop in
+    let e = found-is (a .granules .now) _ (length (l .table)) _ _ (c .before .before .before .before .before .before .before .before .before .before .before .granule-count .ensures) (c .before .before .before .before .before .before .before .find-granule .ensures) in
     rw (c .answered3 .ensures)
-    (list-stop (moveAt _ (a .granules) (a .direction)) (a .addresses .now) (l .i) (record { bytes = l .table }) (search needs) _ (c .before .before .before .before .before .shift-at .ensures) (sym (c .before .before .is-ok .ensures) ∙ not-true _ (c .before .if3 .taken))
+    (list-stop (moveAt _ (a .granules .now) (a .direction)) (a .addresses .now) (l .i) (record { bytes = l .table }) (search needs) _ (c .before .before .before .before .before .shift-at .ensures (a .granules .now) e) (sym (c .before .before .is-ok .ensures) ∙ not-true _ (c .before .if3 .taken))
     ∙ sym (l .inv .2)
-    ∙ ap (λ u. listBy (moveAt u (a .granules) (a .direction)) 0 (record { bytes = a .table .now }) (a .addresses .now)) (c .before .before .before .before .before .before .before .before .before .before .up-of .ensures)
-    ∙ list-up (a .state) (a .granules) (a .direction) (record { bytes = a .table .now }) (sym (c .before .before .before .before .before .before .before .before .before .before .before .before .is-up .ensures) ∙ not-false _ (c .before .before .before .before .before .before .before .before .before .before .before .if2 .left)) (a .addresses .now))
+    ∙ ap (λ u. listBy (moveAt u (a .granules .now) (a .direction)) 0 (record { bytes = a .table .now }) (a .addresses .now)) (c .before .before .before .before .before .before .before .before .before .before .before .before .up-of .ensures)
+    ∙ list-up (a .state) (a .granules .now) (a .direction) (record { bytes = a .table .now }) (sym (c .before .before .before .before .before .before .before .before .before .before .before .before .before .before .is-up .ensures) ∙ not-false _ (c .before .before .before .before .before .before .before .before .before .before .before .before .before .if2 .left)) (a .addresses .now))
 
 add-i : tie.Need-add-i Inv-loop μ-loop
 add-i c = search needs
@@ -83,9 +93,10 @@ loop-less c = search needs
 loop-again : tie.Need-loop-again Inv-loop μ-loop
 unfolding movedTo answerOf
 loop-again c =
-    let a = c .before .before .before .before .before .before .before .before .before .before .before .before .before .before .before .args in
-    let l = c .before .before .before .before .before .before .before .before .loop in
-    (search needs, ap (λ (m : Moved). length (m .table .bytes)) (c .before .before .before .before .shift-at .ensures) ∙ move-length _ (a .granules) (a .direction) (record { bytes = l .table }) _ ∙ l .inv .1, l .inv .2 ∙ list-more (moveAt _ (a .granules) (a .direction)) (a .addresses .now) (l .i) (record { bytes = l .table }) (search needs) _ (c .before .before .before .before .shift-at .ensures) (sym (c .before .is-ok .ensures) ∙ not-false _ (c .if3 .left)))
+    let a = c .before .before .before .before .before .before .before .before .before .before .before .before .before .before .before .before .before .args in
+    let l = c .before .before .before .before .before .before .before .before .before .loop in
+    let m = c .before .before .before .before .shift-at .ensures (a .granules .now) (found-is (a .granules .now) _ (length (l .table)) _ _ (c .before .before .before .before .before .before .before .before .before .before .granule-count .ensures) (c .before .before .before .before .before .before .find-granule .ensures)) in
+    (search needs, ap (λ (m : Moved). length (m .table .bytes)) m ∙ move-length _ (a .granules .now) (a .direction) (record { bytes = l .table }) _ ∙ l .inv .1, l .inv .2 ∙ list-more (moveAt _ (a .granules .now) (a .direction)) (a .addresses .now) (l .i) (record { bytes = l .table }) (search needs) _ m (sym (c .before .is-ok .ensures) ∙ not-false _ (c .if3 .left)))
 
 answered-requires-4 : tie.Need-answered-requires-4 Inv-loop μ-loop
 answered-requires-4 c κs = search needs
@@ -96,13 +107,13 @@ same-length-2 c = search needs
 returns-4 : tie.Need-returns-4 Inv-loop μ-loop
 unfolding movedTo
 returns-4 c =
-    let a = c .before .before .before .before .before .before .before .before .before .args in
+    let a = c .before .before .before .before .before .before .before .before .before .before .args in
     let l = c .before .before .loop in
     rw (c .answered4 .ensures)
-    (list-last (moveAt _ (a .granules) (a .direction)) (a .addresses .now) (l .i) (record { bytes = l .table }) (omega arith)
+    (list-last (moveAt _ (a .granules .now) (a .direction)) (a .addresses .now) (l .i) (record { bytes = l .table }) (omega arith)
     ∙ sym (l .inv .2)
-    ∙ ap (λ u. listBy (moveAt u (a .granules) (a .direction)) 0 (record { bytes = a .table .now }) (a .addresses .now)) (c .before .before .before .up-of .ensures)
-    ∙ list-up (a .state) (a .granules) (a .direction) (record { bytes = a .table .now }) (sym (c .before .before .before .before .before .is-up .ensures) ∙ not-false _ (c .before .before .before .before .if2 .left)) (a .addresses .now))
+    ∙ ap (λ u. listBy (moveAt u (a .granules .now) (a .direction)) 0 (record { bytes = a .table .now }) (a .addresses .now)) (c .before .before .before .before .up-of .ensures)
+    ∙ list-up (a .state) (a .granules .now) (a .direction) (record { bytes = a .table .now }) (sym (c .before .before .before .before .before .before .is-up .ensures) ∙ not-false _ (c .before .before .before .before .before .if2 .left)) (a .addresses .now))
 
 pub shift-list-spec : {M : Type 1} → statement M
 shift-list-spec =
@@ -116,9 +127,11 @@ shift-list-spec =
     answered-requires-2
     returns-2
     up-of-requires
+    granule-count-requires
     loop-holds
-    mul-shift-at
-    shared-slice-read-shift-at
+    mul-address
+    shared-slice-read-address
+    find-granule-requires
     shift-at-requires
     is-ok-requires
     answered-requires-3
