@@ -86,8 +86,11 @@ unfoldable pub placeOf : Granules → ℕ → Granule
 placeOf g addr = cond (recordOk g) (placeAmong 0 (banksOf g) addr) Nothing
 
 -- in a table of n granules. 01: "the address [is a multiple] of 4,096"; 02: "a table of another length makes every address BAD_ADDR"
+abbrev pub placedIn : ℕ → Granule → ℕ → ℕ → Granule
+placedIn m place n addr = cond (both (eqb (addr % 4096) 0) (eqb m n)) place Nothing
+
 unfoldable pub granuleAt : Granules → ℕ → ℕ → Granule
-granuleAt g n addr = cond (both (eqb (addr % 4096) 0) (eqb (granuleCount g) n)) (placeOf g addr) Nothing
+granuleAt g n addr = placedIn (granuleCount g) (placeOf g addr) n addr
 
 -- ---- the address of granule i, in banks and in a record's, for the theorems
 unfoldable pub addressIn : List Bank → ℕ → ℕ

@@ -1,11 +1,11 @@
 -- When delegation is OK, and what an OK did. Assumes nothing.
-use Prim.Native.Nat.{ℕ, _<_}
+use Prim.Native.Nat.{ℕ, _/_, _<_}
 use mathlib.Core.Path.{_≡_, refl, sym, ap, _∙_}
 use mathlib.Core.Bool.{true, false≢true}
 use native.Mathlib.Omega.{arith}
 use lib.ListN.{length, getD, length-set}
 use lib.Seq.{getD-set-same, getD-set-other}
-use borrow.Author.Tests.{eqb-true}
+use borrow.Author.Tests.{eqb-true, eq-eqb}
 use Rattle.words.specs.Tests.{Yes}
 use Rattle.banks.specs.Banks.{Granules, recordOk, granuleCount, granuleAt, addressOf}
 use Rattle.boot.specs.declared.Params.{Params}
@@ -13,8 +13,10 @@ use Rattle.boot.specs.declared.Record.{Record}
 use Rattle.codes.specs.Codes.{isUp, upOf, isOk, whenUp, answerOf}
 use Rattle.codes.specs.declared.Code.the-variants.{Ok}
 use Rattle.codes.proofs.Gates.{unless-ok}
+use Rattle.realm_words.specs.Bits.{wordsFor}
+use Rattle.realm_words.proofs.Laws.{realm-lt, put-same, put-other, put-length}
 use Rattle.banks.proofs.Laws.{falls, index-below, index-named, one-address}
-use Rattle.granules.specs.Granules.{GranuleTable, fromByte, toByte, granuleCode, moveCode, granuleSet, moved, Moved, movedBy, moveOf, movedTo}
+use Rattle.granules.specs.Granules.{GranuleTable, fromByte, toByte, granuleCode, moveCode, granuleSet, moved, Moved, movedBy, whenFit, moveOf, movedTo}
 use Rattle.granules.specs.Acts.{MoveActed}
 use Rattle.banks.specs.declared.Granule.{Granule}
 use Rattle.banks.specs.declared.Granule.the-variants.{Nothing, At}
@@ -31,17 +33,26 @@ module _ (g : Granules) (n i : ℕ) where
       let f = falls g n addr i h in
       one-address g n addr (addressOf g i) i h (granule-on (f .ok) (f .count) (index-below g n addr i h))
 
--- A refusal comes only where 01 gives it: with the record up and the address that of a granule of the table, whose byte is 0
--- (delegate) or 1 (undelegate), the answer is OK.
-pub move-passes : (s : Record) (g : Granules) (d : Direction) (t : GranuleTable) (addr i : ℕ) → isUp s ≡ true → granuleAt g (length (t .bytes)) addr ≡ At i → getD (t .bytes) i 0 ≡ fromByte d →
+-- A refusal comes only where 01 and 02 give it: with as many words as the record's granules ask for, the record up and the address that
+-- of a granule of the table, whose byte is 0 (delegate) or 1 (undelegate), the answer is OK.
+pub move-passes : (s : Record) (g : Granules) (d : Direction) (t : GranuleTable) (addr i : ℕ) → length (t .words) ≡ wordsFor (granuleCount g) → isUp s ≡ true → granuleAt g (length (t .bytes)) addr ≡ At i → getD (t .bytes) i 0 ≡ fromByte d →
     moveOf s g d t addr .answer ≡ answerOf Ok 0 0
 unfolding movedTo
-move-passes s g d t addr i u e b = ap (λ (m : Moved). m .answer) (sym (move-ok (upOf s) g d (t .bytes) addr i e b (toByte d) refl ∙ move-up s g d t addr u))
+move-passes s g d t addr i f u e b =
+    ap (λ (m : Moved). m .answer) (sym (move-ok (upOf s) g d (t .bytes) (t .words) addr i e b (toByte d) refl ∙ move-up s g d t addr (eq-eqb (length (t .words)) (wordsFor (granuleCount g)) f) u))
 
-acted : (u : Params) (g : Granules) (d : Direction) (t : GranuleTable) (addr : ℕ) (k : Granule) → granuleAt g (length (t .bytes)) addr ≡ k → granuleCode u d t addr k ≡ Ok → MoveActed g d t (granuleSet d t k) addr
+-- the granule's bit is in one of the words
+word-of : (g : Granules) (t : GranuleTable) (addr i : ℕ) → length (t .words) ≡ wordsFor (granuleCount g) → granuleAt g (length (t .bytes)) addr ≡ At i → i / 64 < length (t .words)
+unfolding wordsFor
+word-of g t addr i f e =
+    let l : i < length (t .bytes) = index-below g (length (t .bytes)) addr i e in
+    let n : granuleCount g ≡ length (t .bytes) = falls g (length (t .bytes)) addr i e .count in
+    omega arith
+
+acted : (u : Params) (g : Granules) (d : Direction) (t : GranuleTable) (addr : ℕ) (k : Granule) → length (t .words) ≡ wordsFor (granuleCount g) → granuleAt g (length (t .bytes)) addr ≡ k → granuleCode u d t addr k ≡ Ok → MoveActed g d t (granuleSet d t k) addr
 unfolding granuleCode granuleSet
-acted u g d t addr Nothing e h = absurd (false≢true (ap isOk h))
-acted u g d t addr (At i) e h =
+acted u g d t addr Nothing f e h = absurd (false≢true (ap isOk h))
+acted u g d t addr (At i) f e h =
     record {
       granule = i;
       own = e;
@@ -49,14 +60,17 @@ acted u g d t addr (At i) e h =
       becomes = getD-set-same (t .bytes) i (toByte d) 0 (index-below g (length (t .bytes)) addr i e);
       others = λ j n. getD-set-other (t .bytes) i j _ 0 n;
       whole = length-set (t .bytes) i _;
+      bit = put-same (t .words) i _ (word-of g t addr i f e) (realm-lt (toByte d));
+      otherBits = λ j n. put-other (t .words) i j _ (realm-lt (toByte d)) n;
+      wholeWords = put-length (t .words) i _;
     }
 
--- and only with the record up; what else an OK tells is part of what it did
-pub move-only : (s : Record) (g : Granules) (d : Direction) (t : GranuleTable) (addr : ℕ) → moveOf s g d t addr .answer .code ≡ Ok → isUp s ≡ true
-unfolding moveOf movedBy whenUp answerOf
-move-only s g d t addr h = unless-ok _ _ _ refl h .0
+-- and only with so many words and the record up; what else an OK tells is part of what it did
+pub move-only : (s : Record) (g : Granules) (d : Direction) (t : GranuleTable) (addr : ℕ) → moveOf s g d t addr .answer .code ≡ Ok → (length (t .words) ≡ wordsFor (granuleCount g)) × (isUp s ≡ true)
+unfolding moveOf movedBy whenFit whenUp answerOf
+move-only s g d t addr h = let p = unless-ok _ _ _ refl h in (eqb-true _ _ (p .0), unless-ok _ _ _ refl (p .1) .0)
 
 -- "Then it becomes 1 or 0."
 pub move-acts : (s : Record) (g : Granules) (d : Direction) (t : GranuleTable) (addr : ℕ) → moveOf s g d t addr .answer .code ≡ Ok → MoveActed g d t (moveOf s g d t addr .table) addr
-unfolding moveOf movedBy moveCode moved whenUp answerOf
-move-acts s g d t addr h = rw h (acted _ g d t addr _ refl (unless-ok _ _ _ refl h .1))
+unfolding moveOf movedBy moveCode moved whenFit whenUp answerOf
+move-acts s g d t addr h = let p = unless-ok _ _ _ refl h in rw h (acted _ g d t addr _ (eqb-true _ _ (p .0)) refl (unless-ok _ _ _ refl (p .1) .1))

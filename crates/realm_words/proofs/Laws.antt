@@ -2,7 +2,7 @@
 -- "a build call sets it up". Words and table agree where the words are `realmWords` of the table. Assumes nothing.
 use Prim.Native.Nat.{ℕ, zero, suc, _+_, _-_, _*_, _/_, _%_, _≤_, _<_}
 use mathlib.Core.Path.{_≡_, refl, sym, ap, _∙_}
-use mathlib.Core.Bool.{true}
+use mathlib.Core.Bool.{Bool, true, false, cond}
 use mathlib.Core.List.{List, [], _∷_}
 use native.Mathlib.Omega.{arith}
 use native.Mathlib.Nat.{not-suc-le-zero}
@@ -15,10 +15,10 @@ use Rattle.words.proofs.Tests.{both-of}
 use Rattle.realm_words.specs.declared.Number.{Number}
 use Rattle.realm_words.specs.declared.Agreement.{Agreement}
 use Rattle.realm_words.specs.Bits.{bitOf, bitAt, withBit, putBit, realmBit, packed, packedTo, wordsFor, realmWords}
-use Rattle.realm_words.specs.Answers.{bothFit, marked, firstMarked, realmCountOf, realmNextOf, realmAgreeOf, realmBuildOf, realmAt, realms, nextRealm}
+use Rattle.realm_words.specs.Answers.{bothFit, sameWords, marked, firstMarked, realmCountOf, realmNextOf, realmAgreeOf, realmBuildOf, realmAt, realms, nextRealm}
 use Rattle.realm_words.proofs.Bits.{bit-same, bit-other, with-zero, with-suc}
 use Rattle.realm_words.proofs.Packing.{realm-le, bit-agrees, words-length}
-use Rattle.realm_words.proofs.Agreeing.{is-same}
+use Rattle.realm_words.proofs.Agreeing.{same-is, is-same}
 
 -- ---- the same marks give the same answers
 marked-same : (f g : ℕ → ℕ) (n : ℕ) → ((i : ℕ) → i < n → f i ≡ g i) → marked f n ≡ marked g n
@@ -55,6 +55,13 @@ next-agrees t i h =
     (first-same (bitAt (realmWords t)) (realmAt t) (length t - i) i (λ j l. bit-agrees t j (omega arith)))
 
 -- ---- "write their granule's bit too and no other", whatever the words were
+pub realm-lt : (b : ℕ) → realmBit b < 2
+realm-lt b = omega (arith, realm-le b)
+
+pub put-length : (ws : List ℕ) (i v : ℕ) → length (putBit ws i v) ≡ length ws
+unfolding putBit
+put-length ws i v = length-set ws (i / 64) _
+
 pub put-same : (ws : List ℕ) (i v : ℕ) → i / 64 < length ws → v < 2 → bitAt (putBit ws i v) i ≡ v
 unfolding putBit
 put-same ws i v h l = rw (getD-set-same ws (i / 64) (withBit (getD ws (i / 64) 0) (i % 64) v) 0 h) (bit-same (getD ws (i / 64) 0) (i % 64) v l)
@@ -111,6 +118,16 @@ fit-both t ws e = both-of _ _ (eq-eqb (length ws) (wordsFor (length t)) e) (eq-e
 pub agree-yes : (t : List ℕ) → realmAgreeOf t (realmWords t) (length t) ≡ Agreement.Yes
 unfolding realmAgreeOf
 agree-yes t = rw (fit-both t (realmWords t) (words-length (wordsFor (length t)) t), is-same (realmWords t))
+
+-- and Yes is told of no others
+pub agree-told : (t ws : List ℕ) (n : ℕ) → realmAgreeOf t ws n ≡ Agreement.Yes → ws ≡ realmWords t
+unfolding realmAgreeOf
+agree-told t ws n = go (bothFit t ws n) (sameWords ws (realmWords t)) refl
+  where
+    go : (b s : Bool) → sameWords ws (realmWords t) ≡ s → cond b (cond s Agreement.Yes Agreement.No) Agreement.Inval ≡ Agreement.Yes → ws ≡ realmWords t
+    go true true e h = same-is ws (realmWords t) e
+    go true false e h = let z : _≡_ {A = ℕ} 0 1 = cc in absurd (omega arith)
+    go false s e h = let z : _≡_ {A = ℕ} 0 1 = cc in absurd (omega arith)
 
 -- build makes agreement, whatever the words were
 pub build-agrees : (t ws : List ℕ) → length ws ≡ wordsFor (length t) → realmBuildOf t ws (length t) ≡ record { done = true; words = realmWords t }
