@@ -51,6 +51,8 @@
  * Hand-made images. Any words are taken, and no call touches more than it is lent; but an answer is only as true as the words.
  *   - A record that is up is believed: B says which addresses are in the page, the minor which commands there are. Neither is checked.
  *   - A session that has sent as much as its token or more: the next call that goes on is OK with hunk 0 and rest 0, and ends it.
+ *   - A granule record is judged by each call that takes it: one that pbeam_set_up_granules would not have made has no granules. One that it
+ *     would have made is believed, whatever memory the board has.
  *   - A request in the queue with ids above 32 bits, or with any ids: pbeam_oldest shows them as they stand, and pbeam_sign takes it. A
  *     push never puts one there.
  */
@@ -250,9 +252,15 @@
 #define PBEAM_STATE_UP 1
 #define PBEAM_STATE_CLOSED 2 /* as written; any other number is read as closed too */
 
-/* Granule record: the address G of the table's first granule. */
-#define PBEAM_GRANULES_WORDS 1
-#define PBEAM_GRANULES_START 0
+/* Granule record: the number of banks of memory, then base and size of each (PBEAM_BANK_WORDS). The words behind the last bank count for
+ * nothing. pbeam_set_up_granules makes it, and no other function writes it.
+ * Granule i of the table is granule i of the banks, joined in their order: an address between two banks is on no granule. A record has no
+ * granules, so that no address is on one, unless pbeam_set_up_granules would take its banks: 1 to 16 of them, each as the reader accepts
+ * it, each beginning at or after the end of the one before. All zero has none. */
+#define PBEAM_GRANULES_WORDS 33
+#define PBEAM_GRANULES_COUNT 0
+#define PBEAM_GRANULES_FIRST_BANK 1
+#define PBEAM_GRANULES_BANKS_MOST 16
 
 /* Token session. */
 #define PBEAM_SESSION_WORDS 3
@@ -499,11 +507,27 @@ bool pbeam_is_later(uint64_t a, uint64_t b);
  * and too long when size exceeds B + 4,096 - pa. B and the agreed minor are those of the boot record. ---- */
 
 /*
+ * pbeam_set_up_granules: the granule record of the banks that a manifest shows. Once, before the first command that takes the record.
+ * Takes    room for the record; the banks' bytes, as pbeam_array or pbeam_array_of with PBEAM_DRAM gives their place in the page
+ *          (PBEAM_BANK_BYTES a bank); and the length of the granule table.
+ * Answers  PBEAM_X0_OK, or PBEAM_X0_INVAL if there is no bank, a part of one or more than PBEAM_GRANULES_BANKS_MOST; if a bank breaks the
+ *          reader's rule (base and size multiples of 4,096, size not 0, base + size at most 2^52); if a bank begins before the end of the
+ *          one before it (they may touch); or if table_len is not the sum of the sizes over PBEAM_GRANULE_BYTES.
+ * Leaves   on OK the record, with 0 in the words behind its last bank. With PBEAM_X0_INVAL no record is made: the words stay as they were.
+ * Stack    384 bytes; AArch64 0
+ * It needs no boot record and keeps no pointer: the page may be overwritten afterwards. The reader accepts more than this: banks in any order,
+ * overlapping ones, up to 249. Such a board has no record, and its commands answer PBEAM_X0_BAD_ADDR.
+ */
+PBEAM_NONNULL(1)
+uint64_t pbeam_set_up_granules(uint64_t granules[PBEAM_GRANULES_WORDS], const uint8_t *banks, size_t banks_len, uint64_t table_len);
+
+/*
  * pbeam_delegate (0xC40001B0): a granule goes from Non-secure to Realm.
  * Takes    the boot record, the granule record, the granule table, and the granule's address.
  * Answers  out: x0 PBEAM_X0_OK, or by the first check that fails:
  *          PBEAM_X0_UNK       record not up
- *          PBEAM_X0_BAD_ADDR  G or address not a multiple of 4,096, or address on no granule of the table
+ *          PBEAM_X0_BAD_ADDR  address not a multiple of 4,096, or on no granule of the record's banks; the granule record one without
+ *                             granules; the table of another length than the record's granules: then every address
  *          PBEAM_X0_BAD_PAS   the granule's byte is not PBEAM_GRANULE_NON_SECURE
  * Leaves   on OK that byte as PBEAM_GRANULE_REALM, and every other byte as it was. Refused, the table as it was.
  * Stack    64 bytes; AArch64 0

@@ -165,8 +165,8 @@ typedef struct {
     pbeam_session_t session;
     pbeam_queue_t queue;
     pbeam_page_t *page;      /* NULL: no page, so the commands that need it answer PBEAM_X0_UNK */
-    pbeam_granules_t granules;
-    uint8_t *table;          /* a byte a granule; NULL: no granule */
+    pbeam_granules_t granules; /* pbeam_context_set_up_granules, before the first command; all zero: no granule */
+    uint8_t *table;          /* a byte a granule of its banks; NULL: no granule */
     size_t table_count;
     pbeam_bytes_t realm_key;
     pbeam_bytes_t token;     /* see "The platform token" in potterbeam.h */
@@ -185,7 +185,7 @@ typedef struct {
 
 PBEAM_ASSERT(sizeof(pbeam_page_t) == 4096, "a page");
 PBEAM_ASSERT(sizeof(pbeam_record_t) == 32, "a boot record");
-PBEAM_ASSERT(sizeof(pbeam_granules_t) == 8, "a granule record");
+PBEAM_ASSERT(sizeof(pbeam_granules_t) == 264, "a granule record");
 PBEAM_ASSERT(sizeof(pbeam_session_t) == 24, "a session");
 PBEAM_ASSERT(sizeof(pbeam_queue_t) == 1680, "a queue");
 PBEAM_ASSERT(sizeof(pbeam_request_t) == 80, "a request");
@@ -673,12 +673,26 @@ static inline bool pbeam_session_is_sending(const pbeam_session_t *session)
     return session->words[PBEAM_SESSION_KIND] != PBEAM_SESSION_IDLE;
 }
 
-/* Where the granule table starts: G. */
-static inline pbeam_granules_t pbeam_granules_from(uint64_t start)
+/* How many granules the banks of an accepted page have: the length that the table must have. */
+PBEAM_NONNULL(1, 2)
+static inline uint64_t pbeam_view_granules(const pbeam_page_t *page, const pbeam_view_t *view)
 {
-    pbeam_granules_t granules;
-    granules.words[PBEAM_GRANULES_START] = start;
+    uint64_t granules = 0;
+    for (size_t i = 0; i < pbeam_view_count(page, view, PBEAM_DRAM); i++)
+        granules += pbeam_view_dram(page, view, i).size / PBEAM_GRANULE_BYTES;
     return granules;
+}
+
+/* pbeam_set_up_granules: the context's granule record, from the banks that a view of the page shows, for the table that the context has.
+ * Answers PBEAM_X0_OK, or PBEAM_X0_INVAL with the record as it was. */
+PBEAM_NONNULL(1, 2, 3)
+static inline uint64_t pbeam_context_set_up_granules(pbeam_context_t *context, const pbeam_page_t *page, const pbeam_view_t *view)
+{
+    pbeam_place_t place;
+    pbeam_bytes_t banks;
+    pbeam_view_array(page, view, PBEAM_DRAM, &place);
+    banks = pbeam_bytes(page->bytes + pbeam_place_offset(&place), pbeam_place_length(&place));
+    return pbeam_set_up_granules(context->granules.words, banks.at, banks.length, context->table == NULL ? 0 : context->table_count);
 }
 
 /* pbeam_call: one command. */

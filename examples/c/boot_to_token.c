@@ -1,11 +1,13 @@
 /*
  * From boot to a signed token: EL3 firmware on one side, the monitor (RMM) on the other, the page between them.
  *
- *   1  EL3 writes a manifest with two banks and a console.
+ *   1  EL3 writes a manifest with two banks and a console, and sets up its granule record from what the manifest shows: the table has a byte
+ *      for each granule of the two.
  *   2  EL3 enters the monitor: cold boot on CPU 0. The monitor lists what the manifest shows, and reports with RMM_BOOT_COMPLETE.
  *   3  Warm boot on CPU 1.
- *   4  The monitor delegates a granule, and tries the same one again: a refusal. EL3 hands over 200 granules of guest memory in one call; a
- *      second list runs into the granule that is Realm already, and says how many it did before.
+ *   4  The monitor delegates a granule, and tries the same one again: a refusal. It delegates one of the second bank; an address in the hole
+ *      between the banks is refused. EL3 hands over 200 granules of guest memory in one call; a second list runs into the granule that is
+ *      Realm already, and says how many it did before.
  *   5  It draws the platform token, 100 bytes through a buffer of 64. The platform takes its time: AGAIN, and the monitor asks again. In
  *      mid-session the monitor starts anew, is told AGAIN, and goes on: it still gets the rest of the first token. Then it gets the new one.
  *   6  It completes an RMI call of the Non-secure world.
@@ -22,8 +24,11 @@
 #include "potterbeam_types.h"
 
 #define BASE UINT64_C(0x80000000)       /* B: the page's physical address */
-#define MEMORY UINT64_C(0x90000000)     /* the first granule of the granule table */
-#define GRANULES 512
+#define MEMORY UINT64_C(0x90000000)     /* the first bank */
+#define MEMORY_BYTES UINT64_C(0x10000000)
+#define HIGH UINT64_C(0x880000000)      /* the second */
+#define HIGH_BYTES UINT64_C(0x80000000)
+#define GRANULES ((MEMORY_BYTES + HIGH_BYTES) / PBEAM_GRANULE_BYTES) /* of this board; a byte each */
 #define GUEST_GRANULES 200
 #define CPUS 3
 #define CPUS_MOST 8                     /* what the monitor is built for */
@@ -172,8 +177,8 @@ static void el3_sign_oldest(void)
 static bool el3_write_manifest(void)
 {
     static const pbeam_bank_t banks[] = {
-        {.base = UINT64_C(0x90000000), .size = UINT64_C(0x10000000)},
-        {.base = UINT64_C(0x880000000), .size = UINT64_C(0x80000000)},
+        {.base = MEMORY, .size = MEMORY_BYTES},
+        {.base = HIGH, .size = HIGH_BYTES},
     };
     pbeam_console_t console = {.base = UINT64_C(0x1C0C0000), .map_pages = 1, .clk_in_hz = 24000000, .baud_rate = 115200};
     /* Counts are entries. Without device regions the last two lists are empty. */
@@ -185,6 +190,18 @@ static bool el3_write_manifest(void)
     refusal = pbeam_manifest_write(BASE, PBEAM_EDITION_LAST, &lists, &page);
     printf("EL3: write a manifest of edition %d: %s\n", PBEAM_EDITION_LAST, pbeam_write_text(refusal));
     return refusal == PBEAM_WRITE_PAGE; /* on a board: clean the cache, the monitor may read it with its MMU off */
+}
+
+/* The granule record, of the banks that the manifest shows. Now: the first token may overwrite the page. */
+static bool el3_set_up_granules(void)
+{
+    pbeam_view_t view;
+    uint64_t x0;
+    (void)pbeam_manifest_read(&page, BASE, PBEAM_EDITION_LAST, &view); /* of a refused page the view shows no bank, which is refused here */
+    x0 = pbeam_context_set_up_granules(&el3.context, &page, &view);
+    printf("EL3: set up %" PRIu64 " banks, %" PRIu64 " granules: %s\n", el3.context.granules.words[PBEAM_GRANULES_COUNT],
+           pbeam_view_granules(&page, &view), pbeam_x0_text(x0));
+    return x0 == PBEAM_X0_OK;
 }
 
 /* Guest memory goes to Realm, so many granules from one on, in one call. It has no function id of its own: a board gives it one of the
@@ -372,12 +389,11 @@ static int32_t monitor_pull(void)
 static bool boot(void)
 {
     el3.context.page = &page;
-    el3.context.granules = pbeam_granules_from(MEMORY);
     el3.context.table = el3.table;
     el3.context.table_count = GRANULES;
     el3.context.mecid_width = PBEAM_WIDTH_MOST;
     /* This board has no realm key and no public key: both stay empty. */
-    return el3_write_manifest() && el3_boot_first_cpu() && el3_boot_next_cpu(1);
+    return el3_write_manifest() && el3_set_up_granules() && el3_boot_first_cpu() && el3_boot_next_cpu(1);
 }
 
 int main(void)
@@ -387,6 +403,8 @@ int main(void)
     if (!boot())
         return 1;
     if (monitor_delegate(granule) != E_RMM_OK || monitor_delegate(granule) != E_RMM_BAD_PAS) /* it is Realm already */
+        return 1;
+    if (monitor_delegate(HIGH) != E_RMM_OK || monitor_delegate(MEMORY + MEMORY_BYTES) != E_RMM_BAD_ADDR) /* the hole behind the first bank */
         return 1;
     if (!el3_hand_over(300, &done) || el3_hand_over(0, &done) || done != 2) /* granule 2 is Realm already */
         return 1;

@@ -3,8 +3,8 @@
 
 /// The boot record: 0 fresh, 1 up, any other number closed; then x2, B and the agreed minor when up.
 pub type RecordImage = [u64; 4];
-/// The granule record: G.
-pub type GranulesImage = [u64; 1];
+/// The granule record: the number of banks, then base and size of each.
+pub type GranulesImage = [u64; 33];
 /// The token session: 0 idle, any other number sending; then the token's length at the start, and how much of it is sent.
 pub type SessionImage = [u64; 3];
 /// The signing queue: two counts, eight requests of 10 words, eight responses of 16.
@@ -24,7 +24,7 @@ pub type Work = [u64; 2];
 #[derive(Debug)]
 pub struct Lent<'a> {
     pub page: &'a mut [u8],
-    pub granules: GranulesImage,
+    pub granules: &'a GranulesImage,
     pub table: &'a mut [u8],
     pub key: &'a [u8],
     pub token: &'a [u8],
@@ -53,6 +53,9 @@ pub trait Exports {
     fn version_accepted(version: u64) -> bool;
     fn agreed_minor(version: u64) -> u64;
     fn is_later(a: u64, b: u64) -> bool;
+
+    /// The banks as the array lookup gives them. Answers x0: OK, or INVAL with the record as it was.
+    fn set_up_granules(granules: &mut GranulesImage, banks: &[u8], in_table: u64) -> u64;
 
     fn delegate(
         state: &RecordImage,

@@ -88,6 +88,12 @@ pub mod ffi {
         pub fn pbeam_version_accepted(version: u64) -> bool;
         pub fn pbeam_agreed_minor(version: u64) -> u64;
         pub fn pbeam_is_later(a: u64, b: u64) -> bool;
+        pub fn pbeam_set_up_granules(
+            granules: *mut GranulesImage,
+            banks: *const u8,
+            banks_len: usize,
+            table_len: u64,
+        ) -> u64;
         pub fn pbeam_delegate(
             state: *const RecordImage,
             granules: *const GranulesImage,
@@ -331,6 +337,12 @@ impl Exports for Kit {
     }
 
     #[inline]
+    fn set_up_granules(granules: &mut GranulesImage, banks: &[u8], in_table: u64) -> u64 {
+        let (banks, banks_len) = lend(banks);
+        unsafe { ffi::pbeam_set_up_granules(granules, banks, banks_len, in_table) }
+    }
+
+    #[inline]
     fn delegate(
         state: &RecordImage,
         granules: &GranulesImage,
@@ -497,7 +509,7 @@ impl Exports for Kit {
         let (key, key_len) = lend(lent.key);
         let (token, token_len) = lend(lent.token);
         let (public, public_len) = lend(lent.public_key);
-        let (granules, busy, width) = (&lent.granules, lent.busy, lent.width);
+        let (granules, busy, width) = (lent.granules, lent.busy, lent.width);
         unsafe {
             ffi::pbeam_call(
                 state, session, queue, page, page_len, granules, table, table_len, key, key_len,

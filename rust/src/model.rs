@@ -9,6 +9,7 @@ use crate::images::{
     part_of, put_moves, queue_of, record_of, record_words, registers, request_words, session_of,
     session_words, view_words,
 };
+use crate::reference::banks::set_up;
 use crate::reference::boot::{boot_code, BootError, Record};
 use crate::reference::codes::{Answer, Outcome};
 use crate::reference::features::{features, forward, key_update};
@@ -96,6 +97,15 @@ impl Exports for Model {
         a > b
     }
 
+    fn set_up_granules(granules: &mut GranulesImage, banks: &[u8], in_table: u64) -> u64 {
+        let made = set_up(banks, in_table);
+        if let Ok(record) = made {
+            *granules = record;
+        }
+        let [x0, ..] = answered(made.map(|_| [0, 0]));
+        x0
+    }
+
     fn delegate(
         state: &RecordImage,
         granules: &GranulesImage,
@@ -103,7 +113,7 @@ impl Exports for Model {
         at: u64,
         out: &mut Registers,
     ) {
-        *out = answered(delegate(record_of(state), granules[0], table, at));
+        *out = answered(delegate(record_of(state), granules, table, at));
     }
 
     fn undelegate(
@@ -113,7 +123,7 @@ impl Exports for Model {
         at: u64,
         out: &mut Registers,
     ) {
-        *out = answered(undelegate(record_of(state), granules[0], table, at));
+        *out = answered(undelegate(record_of(state), granules, table, at));
     }
 
     fn delegate_list(
@@ -123,7 +133,7 @@ impl Exports for Model {
         addresses: &[u64],
         out: &mut Registers,
     ) {
-        let listed = delegate_list(record_of(state), granules[0], table, addresses);
+        let listed = delegate_list(record_of(state), granules, table, addresses);
         *out = registers(Answer::from(listed));
     }
 
@@ -134,7 +144,7 @@ impl Exports for Model {
         addresses: &[u64],
         out: &mut Registers,
     ) {
-        let listed = undelegate_list(record_of(state), granules[0], table, addresses);
+        let listed = undelegate_list(record_of(state), granules, table, addresses);
         *out = registers(Answer::from(listed));
     }
 
@@ -300,7 +310,7 @@ fn native<'a>(lent: &'a mut Lent) -> runtime::Lent<'a> {
     runtime::Lent {
         page: lent.page,
         table: lent.table,
-        start: lent.granules[0],
+        banks: lent.granules,
         realm_key: lent.key,
         public_key: lent.public_key,
         token: lent.token,

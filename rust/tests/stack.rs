@@ -9,7 +9,7 @@
 
 #![cfg(target_arch = "x86_64")]
 
-use potterbeam_tests::exports::{Exports, Lent, QueueImage, RecordImage};
+use potterbeam_tests::exports::{Exports, GranulesImage, Lent, QueueImage, RecordImage};
 use potterbeam_tests::kit::Kit;
 use potterbeam_tests::model::Model;
 use potterbeam_tests::reference::layout::PAGE;
@@ -294,6 +294,7 @@ fn kit_measured() -> Header {
         direct(&mut header, what, &board, &x, x0);
         dispatched(&mut header, what, &board, &x, x0);
     }
+    set_ups(&mut header);
     granule_lists(&mut header);
     challenges(&mut header);
     signer(&mut header);
@@ -537,7 +538,8 @@ struct Board {
     session: [u64; 3],
     queue: QueueImage,
     page: Vec<u8>,
-    table: [u8; 2],
+    granules: GranulesImage,
+    table: Vec<u8>,
     secret: Vec<u8>,
     busy: u64,
     out: [u64; 3],
@@ -557,7 +559,8 @@ impl Board {
             session: [1, 100, 64],
             queue,
             page,
-            table: [0, 1],
+            granules: banks(1, 2),
+            table: vec![0, 1],
             secret: vec![7; 100],
             busy: 0,
             out: [0; 3],
@@ -572,10 +575,25 @@ impl Board {
     }
 }
 
+/// A record of so many banks of so many granules, with a hole of one behind each; the last bank ends where one of 2 granules at MEMORY
+/// would, so that the same addresses name its last two.
+fn banks(count: u64, granules: u64) -> GranulesImage {
+    let mut record = [0; 33];
+    record[0] = count;
+    let end = MEMORY + 2 * 4096;
+    for (i, bank) in (1..=count).rev().zip(record[1..].chunks_exact_mut(2)) {
+        bank.copy_from_slice(&[end + 4096 - i * 4096 * (granules + 1), 4096 * granules]);
+    }
+    record
+}
+
 /// Calls with their code: each command accepted and refused at each kind of check, and with queues from empty to full.
 fn calls() -> Vec<(&'static str, Board, [u64; 5], i64)> {
     let board = || Board::new(1, 1);
     let fresh = || Board::with(|board| board.state = [0; 4]);
+    let many =
+        || Board::with(|board| (board.granules, board.table) = (banks(16, 2), [0, 1].repeat(16)));
+    let broken = || Board::with(|board| board.granules[0] = 17);
     let old = || Board::with(|board| board.state[3] = 3);
     let short = || Board::with(|board| board.page.truncate(PAGE - 1));
     let bare = || Board::with(|board| board.secret.clear());
@@ -588,6 +606,18 @@ fn calls() -> Vec<(&'static str, Board, [u64; 5], i64)> {
     let key = [SIGNING, 3, BASE, 100, 0];
     vec![
         ("delegate", board(), [DELEGATE, MEMORY, 0, 0, 0], OK),
+        (
+            "delegate, 16 banks",
+            many(),
+            [DELEGATE, MEMORY, 0, 0, 0],
+            OK,
+        ),
+        (
+            "delegate, 17 banks",
+            broken(),
+            [DELEGATE, MEMORY, 0, 0, 0],
+            BAD_ADDR,
+        ),
         (
             "delegate, record",
             fresh(),
@@ -609,6 +639,12 @@ fn calls() -> Vec<(&'static str, Board, [u64; 5], i64)> {
         (
             "undelegate",
             board(),
+            [UNDELEGATE, MEMORY + 4096, 0, 0, 0],
+            OK,
+        ),
+        (
+            "undelegate, 16 banks",
+            many(),
             [UNDELEGATE, MEMORY + 4096, 0, 0, 0],
             OK,
         ),
@@ -760,10 +796,10 @@ fn direct(header: &mut Header, what: &str, board: &Board, x: &[u64; 5], x0: i64)
     };
     match id {
         DELEGATE => measure("pbeam_delegate", &|b| {
-            Kit::delegate(&b.state, &[MEMORY], &mut b.table, x1, &mut b.out)
+            Kit::delegate(&b.state, &b.granules, &mut b.table, x1, &mut b.out)
         }),
         UNDELEGATE => measure("pbeam_undelegate", &|b| {
-            Kit::undelegate(&b.state, &[MEMORY], &mut b.table, x1, &mut b.out)
+            Kit::undelegate(&b.state, &b.granules, &mut b.table, x1, &mut b.out)
         }),
         REALM_KEY => measure("pbeam_realm_key", &|b| {
             Kit::realm_key(&b.state, &mut b.page, &b.secret, [x1, x2, x3], &mut b.out)
@@ -802,7 +838,7 @@ fn dispatched(header: &mut Header, what: &str, board: &Board, x: &[u64; 5], x0: 
     let bytes = header.within(("pbeam_call", what), board, x0, |board| {
         let mut lent = Lent {
             page: &mut board.page,
-            granules: [MEMORY],
+            granules: &board.granules,
             table: &mut board.table,
             key: &board.secret,
             token: &board.secret,
@@ -840,17 +876,49 @@ fn challenges(header: &mut Header) {
     }
 }
 
+fn set_ups(header: &mut Header) {
+    let shown = |record: GranulesImage, count: usize| -> Vec<u8> {
+        let words = record[1..=2 * count].iter();
+        words.flat_map(|word: &u64| word.to_le_bytes()).collect()
+    };
+    let (one, many) = (shown(banks(1, 2), 1), shown(banks(16, 2), 16));
+    for (what, banks, in_table, x0) in [
+        ("one bank", &one[..], 2, OK),
+        ("16 banks", &many, 32, OK),
+        ("a table one long", &many, 33, INVAL),
+        ("no bank", &[], 0, INVAL),
+        ("a part of a bank", &many[..255], 30, INVAL),
+        ("17 banks", &many.repeat(2)[..272], 34, INVAL),
+    ] {
+        let name = "pbeam_set_up_granules";
+        header.within((name, what), &[7; 33], x0, |record| {
+            Kit::set_up_granules(record, banks, in_table) as i64
+        });
+    }
+}
+
+/// The address of each granule.
+fn addresses(record: &GranulesImage) -> Vec<u64> {
+    let banks = record[1..].chunks_exact(2).take(record[0] as usize);
+    let granules = |bank: &[u64]| (bank[0]..bank[0] + bank[1]).step_by(4096);
+    banks.flat_map(granules).collect()
+}
+
 fn granule_lists(header: &mut Header) {
     let fresh = [0; 4];
     let up = Board::new(0, 0).state;
-    for (what, state, count, spoilt, x0) in [
-        ("empty", up, 0, 0, OK),
-        ("200 granules", up, 200, 256, OK),
-        ("the last refused", up, 200, 199, BAD_PAS),
-        ("past the table", up, 257, 256, BAD_ADDR),
-        ("record", fresh, 200, 256, UNK),
+    let (one, many) = (banks(1, 256), banks(16, 16));
+    for (what, state, granules, count, spoilt, x0) in [
+        ("empty", up, one, 0, 0, OK),
+        ("200 granules", up, one, 200, 256, OK),
+        ("16 banks, all granules", up, many, 256, 256, OK),
+        ("the last refused", up, one, 200, 199, BAD_PAS),
+        ("past the table", up, one, 257, 256, BAD_ADDR),
+        ("record", fresh, one, 200, 256, UNK),
     ] {
-        let list: Vec<u64> = (0..count).map(|i| MEMORY + 4096 * i).collect();
+        let mut list = addresses(&granules);
+        list.push(1);
+        list.truncate(count);
         let lent = |byte| {
             let mut table = vec![byte; 256];
             table.iter_mut().skip(spoilt).take(1).for_each(|b| *b = 2);
@@ -858,12 +926,12 @@ fn granule_lists(header: &mut Header) {
         };
         let name = "pbeam_delegate_list";
         header.within((name, what), &lent(0), x0, |(table, out)| {
-            Kit::delegate_list(&state, &[MEMORY], table, &list, out);
+            Kit::delegate_list(&state, &granules, table, &list, out);
             out[0] as i64
         });
         let name = "pbeam_undelegate_list";
         header.within((name, what), &lent(1), x0, |(table, out)| {
-            Kit::undelegate_list(&state, &[MEMORY], table, &list, out);
+            Kit::undelegate_list(&state, &granules, table, &list, out);
             out[0] as i64
         });
     }

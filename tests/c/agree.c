@@ -20,7 +20,8 @@
 #define ROOM 512
 #define GUARD UINT64_C(0xA5C3A5C3A5C3A5C3)
 
-static const uint64_t granules[ROOM] = {MEMORY};
+/* One bank at MEMORY, of 4 granules; checks with another table make their own. */
+static const uint64_t granules[ROOM] = {1, MEMORY, 4 * 4096};
 static unsigned long checks;
 
 static void same(int line, const char *what, uint64_t is, const char *beside, uint64_t want)
@@ -419,7 +420,7 @@ static void check_boot_codes(void)
 static void check_codes(void)
 {
     uint64_t state[ROOM], session[ROOM] = {0}, out[ROOM];
-    uint8_t table[1] = {1};
+    uint8_t table[4] = {1};
     SAME(PBEAM_X0_OK, (int64_t)PBEAM_OK);
     SAME(PBEAM_X0_UNK, (int64_t)PBEAM_UNK);
     SAME(PBEAM_X0_BAD_ADDR, (int64_t)PBEAM_BAD_ADDR);
@@ -434,9 +435,9 @@ static void check_codes(void)
     up(state, 5);
     pbeam_features(state, 0, out);
     SAME(PBEAM_X0_OK, out[PBEAM_OUT_X0]);
-    pbeam_delegate(state, granules, table, 1, MEMORY + 1, out);
+    pbeam_delegate(state, granules, table, 4, MEMORY + 1, out);
     SAME(PBEAM_X0_BAD_ADDR, out[PBEAM_OUT_X0]);
-    pbeam_delegate(state, granules, table, 1, MEMORY, out);
+    pbeam_delegate(state, granules, table, 4, MEMORY, out);
     SAME(PBEAM_X0_BAD_PAS, out[PBEAM_OUT_X0]);
     pbeam_features(state, 1, out);
     SAME(PBEAM_X0_INVAL, out[PBEAM_OUT_X0]);
@@ -457,18 +458,59 @@ static uint64_t delegate(const uint64_t state[ROOM], uint8_t *table, size_t i, i
     return out[0];
 }
 
-/* G is taken from its word, whatever stands around it. */
+/* The set-up's answer for so many banks of one granule, with holes of one, for a table of so many. */
+static uint64_t set_up(uint64_t record[ROOM], size_t count, uint64_t table_len)
+{
+    uint8_t banks[17 * 16];
+    for (size_t i = 0; i < count; i++) {
+        put(banks + 16 * i, MEMORY + i * 8192, 8);
+        put(banks + 16 * i + 8, 4096, 8);
+    }
+    guard(record);
+    return pbeam_set_up_granules(record, banks, 16 * count, table_len);
+}
+
+/* What the set-up writes, and what it refuses. */
+static void check_set_up(void)
+{
+    uint64_t record[ROOM];
+    size_t most = 0;
+    for (size_t n = 1; n <= 17; n++)
+        most = set_up(record, n, n) == PBEAM_X0_OK ? n : most;
+    SAME(PBEAM_GRANULES_BANKS_MOST, most);
+    SAME(set_up(record, 2, 2), PBEAM_X0_OK);
+    SAME(PBEAM_GRANULES_WORDS, written(record));
+    SAME(record[PBEAM_GRANULES_COUNT], 2);
+    SAME(record[PBEAM_GRANULES_FIRST_BANK + PBEAM_BANK_BASE], MEMORY);
+    SAME(record[PBEAM_GRANULES_FIRST_BANK + PBEAM_BANK_SIZE], 4096);
+    SAME(record[PBEAM_GRANULES_FIRST_BANK + PBEAM_BANK_WORDS + PBEAM_BANK_BASE], MEMORY + 8192);
+    SAME(record[PBEAM_GRANULES_FIRST_BANK + 2 * PBEAM_BANK_WORDS], 0);
+    SAME(PBEAM_GRANULES_WORDS, PBEAM_GRANULES_FIRST_BANK + PBEAM_BANK_WORDS * PBEAM_GRANULES_BANKS_MOST);
+    SAME(set_up(record, 2, 1), PBEAM_X0_INVAL);
+    SAME(set_up(record, 0, 0), PBEAM_X0_INVAL);
+    SAME(pbeam_set_up_granules(record, NULL, 0, 0), PBEAM_X0_INVAL);
+    SAME(written(record), 0);
+}
+
+/* Granules are those of the banks; a record by hand is judged. */
 static void check_granule_record(const uint64_t state[ROOM])
 {
-    uint64_t words[2 * ROOM], out[ROOM];
-    uint64_t *record = words + ROOM;
-    uint8_t table[1] = {0};
-    guard(words);
-    guard(record);
-    record[PBEAM_GRANULES_START] = MEMORY;
+    uint64_t record[ROOM], out[ROOM];
+    uint8_t table[2] = {0, 0};
+    SAME(set_up(record, 2, 2), PBEAM_X0_OK);
+    pbeam_delegate(state, record, table, 2, MEMORY + 4096, out); /* the hole */
+    SAME(out[0], PBEAM_X0_BAD_ADDR);
+    pbeam_delegate(state, record, table, 2, MEMORY + 8192, out);
+    SAME(out[0], PBEAM_X0_OK);
+    SAME(get(table, 2), 0x100);
+    pbeam_delegate(state, record, table, 1, MEMORY, out); /* a table one short */
+    SAME(out[0], PBEAM_X0_BAD_ADDR);
+    record[PBEAM_GRANULES_FIRST_BANK + PBEAM_BANK_WORDS + PBEAM_BANK_BASE] = MEMORY; /* on the first */
+    pbeam_delegate(state, record, table, 2, MEMORY, out);
+    SAME(out[0], PBEAM_X0_BAD_ADDR);
+    record[PBEAM_GRANULES_COUNT] = 1; /* the second counts for nothing */
     pbeam_delegate(state, record, table, 1, MEMORY, out);
     SAME(out[0], PBEAM_X0_OK);
-    SAME(PBEAM_GRANULES_WORDS, PBEAM_GRANULES_START + 1);
 }
 
 /* A list: its addresses are whole words, x1 counts those done, and nothing past the three registers is written. */
@@ -476,18 +518,18 @@ static void check_granule_lists(const uint64_t state[ROOM])
 {
     const uint64_t list[3] = {MEMORY + PBEAM_GRANULE_BYTES, MEMORY, MEMORY + 2 * PBEAM_GRANULE_BYTES};
     uint64_t out[ROOM];
-    uint8_t table[3] = {PBEAM_GRANULE_NON_SECURE, PBEAM_GRANULE_NON_SECURE, PBEAM_GRANULE_REALM};
+    uint8_t table[4] = {PBEAM_GRANULE_NON_SECURE, PBEAM_GRANULE_NON_SECURE, PBEAM_GRANULE_REALM, 9};
     guard(out);
-    pbeam_delegate_list(state, granules, table, 3, list, 3, out);
+    pbeam_delegate_list(state, granules, table, 4, list, 3, out);
     SAME(PBEAM_OUT_WORDS, written(out));
     SAME(out[PBEAM_OUT_X0], PBEAM_X0_BAD_PAS);
     SAME(out[PBEAM_OUT_X1], 2);
     SAME(table[0] + table[1] + table[2], 3 * PBEAM_GRANULE_REALM);
-    pbeam_undelegate_list(state, granules, table, 3, list, 3, out);
+    pbeam_undelegate_list(state, granules, table, 4, list, 3, out);
     SAME(out[PBEAM_OUT_X0], PBEAM_X0_OK);
     SAME(out[PBEAM_OUT_X1], 3);
     SAME(table[0] + table[1] + table[2], PBEAM_GRANULE_NON_SECURE);
-    pbeam_delegate_list(state, granules, table, 3, NULL, 0, out);
+    pbeam_delegate_list(state, granules, table, 4, NULL, 0, out);
     SAME(out[PBEAM_OUT_X0], PBEAM_X0_OK);
     SAME(out[PBEAM_OUT_X1], 0);
 }
@@ -505,6 +547,7 @@ static void check_granules(void)
         SAME(delegate(state, table, i, 0), PBEAM_X0_BAD_PAS);
         SAME(delegate(state, table, i, 1), PBEAM_X0_BAD_PAS);
     }
+    check_set_up();
     check_granule_record(state);
     check_granule_lists(state);
     /* Root and Secure are alike to the library: 01 gives them these numbers. */
@@ -952,7 +995,7 @@ static void check_hand_made_images(void)
 
 static struct {
     uint64_t state[ROOM], session[ROOM], queue[ROOM], call[ROOM], out[ROOM], work[ROOM];
-    uint8_t table[2];
+    uint8_t table[4];
 } board;
 
 static uint64_t dispatch(uint64_t id, uint64_t x1, uint64_t x2, uint64_t x3, uint64_t x4)
@@ -966,7 +1009,7 @@ static uint64_t dispatch(uint64_t id, uint64_t x1, uint64_t x2, uint64_t x3, uin
     board.call[PBEAM_CALL_X2] = x2;
     board.call[PBEAM_CALL_X3] = x3;
     board.call[PBEAM_CALL_X4] = x4;
-    pbeam_call(board.state, board.session, board.queue, page, LEN, granules, board.table, 2, key, sizeof key, token, sizeof token, 0,
+    pbeam_call(board.state, board.session, board.queue, page, LEN, granules, board.table, 4, key, sizeof key, token, sizeof token, 0,
             public_key, sizeof public_key, 15, board.call, board.out, board.work);
     SAME(PBEAM_OUT_WORDS, written(board.out));
     SAME(PBEAM_WORK_WORDS, written(board.work));

@@ -20,6 +20,7 @@ struct signatures {
     bool (*version_accepted)(uint64_t);
     uint64_t (*agreed_minor)(uint64_t);
     bool (*is_later)(uint64_t, uint64_t);
+    uint64_t (*set_up_granules)(uint64_t *, bytes, size_t, uint64_t);
     void (*delegate)(words, words, uint8_t *, size_t, uint64_t, uint64_t *);
     void (*undelegate)(words, words, uint8_t *, size_t, uint64_t, uint64_t *);
     void (*delegate_list)(words, words, uint8_t *, size_t, words, size_t, uint64_t *);
@@ -41,8 +42,8 @@ struct signatures {
 #define SIGNATURES                                                                                                             \
     {                                                                                                                          \
         pbeam_read, pbeam_array, pbeam_array_of, pbeam_count, pbeam_word, pbeam_listing, pbeam_write, pbeam_cold_boot,         \
-            pbeam_warm_boot, pbeam_close, pbeam_version_accepted, pbeam_agreed_minor, pbeam_is_later, pbeam_delegate,          \
-            pbeam_undelegate, pbeam_delegate_list, pbeam_undelegate_list, pbeam_realm_key, pbeam_platform_token,               \
+            pbeam_warm_boot, pbeam_close, pbeam_version_accepted, pbeam_agreed_minor, pbeam_is_later, pbeam_set_up_granules,   \
+            pbeam_delegate, pbeam_undelegate, pbeam_delegate_list, pbeam_undelegate_list, pbeam_realm_key, pbeam_platform_token,               \
             pbeam_challenge, pbeam_features,                                                                                   \
             pbeam_token_signing, pbeam_key_update, pbeam_forward, pbeam_sign, pbeam_oldest, pbeam_responses,                   \
             pbeam_call                                                                                                         \

@@ -1,15 +1,17 @@
 #!/usr/bin/env python3
-"""Run vectors for the runtime as a whole, made from docs/01-scope.md alone: every call goes through
-the dispatcher; the platform token, token signing, the challenge lookup, the signer's own step and
-the oldest request are tried at each edge, in sequences on one state.
+"""Run vectors for the runtime as a whole, made from docs/01-scope.md and, for the granule record,
+docs/02-change-requests.md (E2) alone: every call goes through the dispatcher; the platform token,
+token signing, the challenge lookup, the signer's own step and the oldest request are tried at each
+edge, in sequences on one state.
 
 Run from the repository's root:  python3 tests/runtime/make.py
 It rewrites crates/runtime_vectors/data/c000, c001, .. (8-byte words: the record's state, cpus, base
-and minor; G, m; the session: 0 or 1, whole, sent; the places of page, table, realm key, public key
-and queue, a place being an offset in the file and a length; the number of operations; then the
-operations, and the bytes that the places name), crates/runtime_vectors/stdout (what the program has
-to print for them in order) and tests/runtime/CASES.md (what each case is for). The same run always
-gives the same bytes. With a folder as its argument it writes them below that folder.
+and minor; where the granule record stands in the file, m; the session: 0 or 1, whole, sent; the
+places of page, table, realm key, public key and queue, a place being an offset in the file and a
+length; the number of operations; then the operations, the bytes that the places name, and the
+granule record: how many of its words are given, and these), crates/runtime_vectors/stdout (what the
+program has to print for them in order) and tests/runtime/CASES.md (what each case is for). The same
+run always gives the same bytes. With a folder as its argument it writes them below that folder.
 """
 
 import sys
@@ -22,6 +24,8 @@ HERE = Path(__file__).resolve().parent
 
 sys.dont_write_bytecode = True
 sys.path.insert(0, str(HERE.parent))
+from banks import (MANY, TWO, addresses_of, granule_at, granule_fails, meant, one, record_of,
+                   stored, words)
 from vectors import write_all
 
 PAGE = 4096
@@ -40,7 +44,7 @@ Request = namedtuple("Request", "algorithm granule ticket hashid hash")
 Response = namedtuple("Response", "granule ticket length signature")
 # One side of the queue as it is stored: its places, of which the first `count` wait.
 Line = namedtuple("Line", "places count")
-World = namedtuple("World", "state cpus base minor g m key public page table session requests "
+World = namedtuple("World", "state cpus base minor record m key public page table session requests "
                             "responses")
 Op = namedtuple("Op", "kind id x1 x2 x3 x4 busy token signature")
 Check = namedtuple("Check", "name code fails")
@@ -123,11 +127,11 @@ def signing_checks(w, op):
 
 
 def granule_checks(w, op):
-    index = (op.x1 - w.g) // 4096
-    off = not 0 <= index < len(w.table)
-    return [Check("G", "BAD_ADDR", w.g % 4096 != 0),
-            Check("address", "BAD_ADDR", op.x1 % 4096 != 0), Check("off", "BAD_ADDR", off),
-            Check("byte", "BAD_PAS", not off and w.table[index] != (op.id == UNDELEGATE))]
+    index, n = meant(w.record, len(w.table), op.x1), len(w.table)
+    wrong = index is not None and w.table[index] != (op.id == UNDELEGATE)
+    fails = granule_fails(w.record, n, op.x1)
+    return [*(Check(name, "BAD_ADDR", fail) for name, fail in fails.items()),
+            Check("byte", "BAD_PAS", wrong)]
 
 
 def command_checks(w, op):
@@ -219,7 +223,7 @@ def accepted(w, op):
         return 0, 0, None, only_waiting(w._replace(requests=without_oldest(w.requests),
                                                    responses=joined(w.responses, response)))
     if op.id in (DELEGATE, UNDELEGATE):
-        i, byte = (op.x1 - w.g) // 4096, bytes([op.id == DELEGATE])
+        i, byte = granule_at(w.record, len(w.table), op.x1), bytes([op.id == DELEGATE])
         return 0, 0, None, w._replace(table=w.table[:i] + byte + w.table[i + 1:])
     if op.id == KEY:
         return len(w.key), 0, None, written(w, op.x1, w.key)
@@ -251,10 +255,6 @@ def step(w, op):
 
 # ---- What a case's file holds, and what the program prints ----
 
-def words(*numbers):
-    return b"".join(n.to_bytes(8, "little") for n in numbers)
-
-
 def image_of(requests, responses):
     """The queue as a file has it; nothing if it is empty, with nothing in its places."""
     if (requests, responses) == (EMPTY, EMPTY):
@@ -278,7 +278,8 @@ def change(before, after):
 
 
 def file_of(case):
-    """The bytes of a case's file: words, and after them a pool of bytes, each run but once."""
+    """The bytes of a case's file: words, after them a pool of bytes, each run but once, and the
+    granule record."""
     w, pool = case.start, bytearray()
     pool_at = 160 + 136 * len(case.ops)
 
@@ -289,18 +290,19 @@ def file_of(case):
             pool.extend(data)
         return pool_at + found, len(data)
 
-    file = words(STATES.index(w.state), w.cpus, w.base, w.minor, w.g, w.m,
-                 w.session is not None, *(w.session or (0, 0)))
-    for data in (w.page, w.table, w.key, w.public, image_of(w.requests, w.responses)):
-        file += words(*place(data))
-    file += words(len(case.ops))
+    places = b"".join(words(*place(data)) for data in (
+        w.page, w.table, w.key, w.public, image_of(w.requests, w.responses)))
+    ops = b""
     for op, answer in zip(case.ops, case.answers):
         page_at, page = change(w.page, answer.after.page)
         table_at, table = change(w.table, answer.after.table)
-        file += words(op.kind, op.id, op.x1, op.x2, op.x3, op.x4, op.busy, *place(op.token),
-                      *place(op.signature), page_at, *place(page), table_at, *place(table))
+        ops += words(op.kind, op.id, op.x1, op.x2, op.x3, op.x4, op.busy, *place(op.token),
+                     *place(op.signature), page_at, *place(page), table_at, *place(table))
         w = answer.after
-    return file + bytes(pool)
+    w = case.start
+    head = words(STATES.index(w.state), w.cpus, w.base, w.minor, pool_at + len(pool), w.m,
+                 w.session is not None, *(w.session or (0, 0)))
+    return head + places + words(len(case.ops)) + ops + bytes(pool) + stored(w.record)
 
 
 def hexes(*numbers):
@@ -392,8 +394,8 @@ def page_of(*items, base=LENT):
 
 # 40 requests of tickets 0, 1, .. in a row; from 3,200 on there is room for what is written.
 ASKED = page_of(0, b"".join(request_bytes(request(n), 17 * n % 256) for n in range(40)))
-ALL = World("up", 8, B, 5, G, 15, SECRET[:96], OTHER[:97], LENT[:PAGE], bytes([0, 1, 2, 3, 255]),
-            None, EMPTY, EMPTY)
+ALL = World("up", 8, B, 5, one(G, 5), 15, SECRET[:96], OTHER[:97], LENT[:PAGE],
+            bytes([0, 1, 2, 3, 255]), None, EMPTY, EMPTY)
 
 
 def show(n):
@@ -900,6 +902,12 @@ def identities():
     each("no token lent, which only 0xC40001B3 minds", world, (TOKEN,), "token", token=b"")
     each("no realm key, which only 0xC40001B2 minds", world._replace(key=b""), (KEY,), "key")
     each("no public key, which none of these minds", world._replace(public=b""), (), "")
+    each("a table one long, which only 0xC40001B0 and B1 mind", world._replace(record=one(G, 4)),
+         (DELEGATE, UNDELEGATE), "table")
+    for text, record in (("a count of 17", (17, *one(G, 5)[1:])), ("no bank", ()),
+                         ("a count of 2^64 - 1", (ONES, *one(G, 5)[1:]))):
+        each(f"{text}, which only 0xC40001B0 and B1 mind", world._replace(record=record),
+             (DELEGATE, UNDELEGATE), "banks, table, off")
     for state in STATES:
         add(f"ids that are not listed, record {state}", world._replace(state=state),
             *(call("id", other, 0, 0, 0, 0) for other in near),
@@ -920,6 +928,36 @@ def identities():
     for m, mecid, name in ((7, 255, ""), (7, 256, "mecid"), (15, 65535, ""), (15, 65536, "mecid"),
                            (16, 65535, "width"), (16, 65536, "mecid, width")):
         add(f"0xC40001B6: m = {m}, mecid {mecid:,}", world._replace(m=m), call(name, UPDATE, mecid))
+
+
+def banks():
+    """Several banks: granules to and fro, the edges of each bank, tables of other lengths"""
+    for text, held in (("two banks", TWO), ("16 banks", MANY)):
+        every = addresses_of(held)
+        n = len(every)
+        world = start(record=record_of(held), table=bytes(n))
+        add(f"{text}: every granule to Realm", world, *(call("", DELEGATE, at) for at in every))
+        ends = sorted({edge for base, size in held for edge in (base, base + size - 4096)})
+        add(f"{text}: first and last granule of each bank, to and fro, and again", world,
+            *(call(outcome, command, at) for at in ends for outcome, command in (
+                ("", DELEGATE), ("byte", DELEGATE), ("", UNDELEGATE), ("byte", UNDELEGATE))))
+        holes = sorted({edge for base, size in held for edge in (base - 4096, base + size)}
+                       - set(every))
+        add(f"{text}: holes, below and above, and the last byte of each bank", world,
+            *(call("off", command, at) for at in holes for command in (DELEGATE, UNDELEGATE)),
+            *(call("address", DELEGATE, base + size - 1) for base, size in held))
+        for what, length in (("one short", n - 1), ("one long", n + 1)):
+            add(f"{text}: a table {what}", world._replace(table=bytes(length)),
+                *(call(None, DELEGATE, at) for at in ends + holes))
+        add(f"{text}: the last one broken", world._replace(record=(*record_of(held)[:-1], 0)),
+            *(call(None, DELEGATE, at) for at in ends + holes))
+        add(f"{text}: a broken bank behind the count", world._replace(
+            record=(1, *record_of(held)[1:3], 1, 1), table=bytes(held[0][1] // 4096)),
+            call("", DELEGATE, held[0][0]), call("off", DELEGATE, held[1][0]))
+    add("two banks that overlap", start(record=(2, G, 8192, G + 4096, 3 * 4096), table=bytes(5)),
+        *(call("banks", DELEGATE, at) for at in (G, G + 4096)))
+    add("a bank to 2^52 exactly", start(record=one(2**52 - 8192, 2), table=bytes(2)),
+        call("", DELEGATE, 2**52 - 4096), call("off", DELEGATE, 2**52), call("off", DELEGATE, 0))
 
 
 def search(text, names, worlds, ops, impossible=(), each=""):
@@ -1041,15 +1079,24 @@ def random_sequences():
         return request_bytes(request(pick(2**16), algorithm=pick(12) // 11,
                                      hashid=1 + pick(12) // 11), pick(256))
 
+    def bank_list():
+        low, held = 4096 * pick(2**pick(39)), []
+        for _ in range(1 + pick(one_of(1, 3, 16))):
+            low += 4096 * one_of(0, 1, pick(2**pick(30)))
+            held.append((low, 4096 * (1 + pick(6))))
+            low += held[-1][1]
+        return held
+
     def world():
-        whole, slots = 1 + pick(300), b"".join(slot() for _ in range(24))
+        whole, slots, held = 1 + pick(300), b"".join(slot() for _ in range(24)), bank_list()
+        granules = len(addresses_of(held)) + one_of(*[0] * 12, 1)
         return start(state=one_of(*["up"] * 18, "fresh", "closed"), cpus=pick(9),
                      base=one_of(B, B, B, 4096 * pick(2**40), pick(2**pick(65))),
-                     minor=one_of(3, 4, 5, 5, 5, 5, 5, ONES), g=4096 * pick(2**pick(40)),
+                     minor=one_of(3, 4, 5, 5, 5, 5, 5, ONES), record=record_of(held),
                      m=pick(18), key=some(pick(140)),
                      public=some(one_of(0, pick(140), pick(140))),
                      page=page_of(0, slots)[:one_of(*[PAGE] * 15, 4095)],
-                     table=bytes(pick(3) for _ in range(1 + pick(20))),
+                     table=bytes(pick(3) for _ in range(granules)),
                      session=one_of(None, None, (whole, pick(whole)), (whole, pick(whole)),
                                     (whole, whole + pick(9))),
                      requests=line(stored_request), responses=line(stored_response))
@@ -1070,11 +1117,15 @@ def random_sequences():
         size = one_of(80, 128, 128, 140, 79 + pick(3), 110 + pick(15), pick(200), 4096)
         return call(None, SIGNING, opcode, min(pa, ONES), size, one_of(0, 0, 0, pick(2)))
 
+    def granule_edges(record):
+        held = [record[k:k + 2] for k in range(1, len(record), 2)]
+        return addresses_of(held) + [base + size for base, size in held]
+
     def other_op(w):
         command = one_of(FORWARD, DELEGATE, DELEGATE, UNDELEGATE, UNDELEGATE, KEY, FEATURES, UPDATE,
                          0xC40001B7 + pick(9))
         x1 = {KEY: w.base + pick(4100), FEATURES: pick(5) // 4, UPDATE: pick(2**pick(18))}.get(
-            command, w.g + 4096 * pick(len(w.table) + 1) + pick(9) // 8)
+            command, one_of(*granule_edges(w.record)) + pick(9) // 8)
         return call(None, command, min(x1, ONES), one_of(140, pick(200)), pick(8) // 7)
 
     for i in range(200):
@@ -1095,8 +1146,8 @@ def random_sequences():
 
 def build_all():
     for group in (examples, buffers, challenge_sizes, tokens, whole_tokens, sessions, challenges,
-                  signing_edges, pushes, pulls, signer, rounds, forged, identities, pairs, mixed,
-                  random_sequences):
+                  signing_edges, pushes, pulls, signer, rounds, forged, identities, banks, pairs,
+                  mixed, random_sequences):
         GROUPS.append((group.__doc__, []))
         group()
 

@@ -33,7 +33,7 @@ word-in : (n i : ℕ) (shown : List ℕ) → i < 2 * n → getD (recordFrom n sh
 unfolding filled
 word-in n i shown h = List·getD-append (wordsOf (2 * n) shown) (replicate (32 - 2 * n) 0) 0 i (rw (wordsOf-length (2 * n) shown) h) ∙ wordsOf-at (2 * n) shown i h
 
-banks-same : (f g : ℕ → Bank) (i n : ℕ) → ((j : ℕ) → j < i + n → f j ≡ g j) → banksBy f i n ≡ banksBy g i n
+pub banks-same : (f g : ℕ → Bank) (i n : ℕ) → ((j : ℕ) → j < i + n → f j ≡ g j) → banksBy f i n ≡ banksBy g i n
 unfolding banksBy
 banks-same f g i zero h = refl
 banks-same f g i (suc n) h = rw (h i (omega arith), banks-same f g (suc i) n (λ j l. h j (omega arith)))

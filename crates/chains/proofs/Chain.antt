@@ -12,7 +12,7 @@ use Rattle.boot.specs.declared.Record.{Record}
 use Rattle.codes.specs.Codes.{isOk, ifOk, answerOf, upOf}
 use Rattle.codes.specs.declared.Code.{Code}
 use Rattle.codes.specs.declared.Code.the-variants.{Ok}
-use Rattle.granules.specs.declared.Granules.{Granules}
+use Rattle.banks.specs.Banks.{Granules}
 use Rattle.range.specs.Range.{placeOf}
 use Rattle.token.specs.Token.{TokenStep, tokenOf}
 use Rattle.token.specs.declared.Session.{Session}
@@ -28,7 +28,7 @@ use Rattle.signing.proofs.Signings.{signing-by}
 use Rattle.runtime.specs.declared.Kind.{Kind}
 use Rattle.runtime.specs.declared.Kind.the-variants.{ForwardError, Delegate, Undelegate, RealmKey, PlatformToken, Features, TokenSigning, KeyUpdate, Unlisted}
 use Rattle.runtime.specs.Step.{Call, Step, kindOf, afterMove, afterKey, afterToken, afterSigning, afterUpdate, callBy, callOf, replyCode, needsOf}
-use Rattle.images.specs.Image.{recordOf, granulesOf, isSet, sessionOf, sessionWords}
+use Rattle.images.specs.Image.{recordOf, isSet, sessionOf, sessionWords}
 use Rattle.images.proofs.Inverse.{session-back}
 use Rattle.queue_image.specs.Image.{listsIn, areBytes}
 use Rattle.queue_image.specs.Steps.{imageStep}
@@ -123,12 +123,12 @@ module _ (g : Granules) (session queue page table : List ℕ) (c : Call) where
   queue-by l w a Unlisted = as-it-was queue l w
 
 module _ (granules session queue page table : List ℕ) (c : Call) (l : length queue ≡ 210) (w : Yes (areWords queue)) (a : Yes (areBytes page)) where
-  pub call-becomes : Becomes queue (callIn granules session queue page table c .queue) (callOf (granulesOf granules) (worldIn session queue page table) c .next .queue)
+  pub call-becomes : Becomes queue (callIn granules session queue page table c .queue) (callOf granules (worldIn session queue page table) c .next .queue)
   unfolding callIn callLeft callOf by
-  call-becomes = queue-by (granulesOf granules) session queue page table c l w a (kindOf (c .id))
+  call-becomes = queue-by granules session queue page table c l w a (kindOf (c .id))
 
   -- all that a call leaves stands for the next world
   pub call-chain : worldIn (callIn granules session queue page table c .session) (callIn granules session queue page table c .queue) (callIn granules session queue page table c .page) (callIn granules session queue page table c .table)
-      ≡ callOf (granulesOf granules) (worldIn session queue page table) c .next
+      ≡ callOf granules (worldIn session queue page table) c .next
   unfolding callIn callLeft callOf by
-  call-chain = rw (session-by (granulesOf granules) session queue page table c (kindOf (c .id)), queue-by (granulesOf granules) session queue page table c l w a (kindOf (c .id)) .lists)
+  call-chain = rw (session-by granules session queue page table c (kindOf (c .id)), queue-by granules session queue page table c l w a (kindOf (c .id)) .lists)

@@ -5,7 +5,6 @@ use mathlib.Core.List.{List, [], _∷_}
 use Rattle.words.specs.Tests.{both}
 use Rattle.granules.specs.Lists.{moveListOf}
 use Rattle.runtime.specs.Step.{World, Command, call, sign, list}
-use Rattle.images.specs.Image.{granulesOf}
 use Rattle.queue_image.specs.Image.{areBytes}
 use Rattle.potterbeam.specs.Exports.{MoveLeft, moveLeft, signIn, CallLeft, worldIn, callIn}
 
@@ -29,7 +28,7 @@ unfoldable pub commandLeft : List ℕ → Lent → Command → CallLeft
 commandLeft granules m (call c) = callIn granules (m .session) (m .queue) (m .page) (m .table) c
 commandLeft granules m (sign s) =
     record { out = signIn (m .queue) s .out; work = 0 ∷ 0 ∷ []; page = m .page; table = m .table; session = m .session; queue = signIn (m .queue) s .queue }
-commandLeft granules m (list r d l) = movesLeft (moveLeft (moveListOf r (granulesOf granules) d (record { bytes = m .table }) l)) m
+commandLeft granules m (list r d l) = movesLeft (moveLeft (moveListOf r granules d (record { bytes = m .table }) l)) m
 
 -- so much of it is lent to the next
 abbrev pub lentOn : CallLeft → Lent

@@ -1,10 +1,10 @@
 // Runs the commands that the numbered cases of data/ describe, in turn, up to the first that is missing. A case is 8-byte words:
-// the record (0 fresh, 1 up, 2 closed, then what it keeps), the function id, x1 to x3, G, MECIDWidthm1, the lengths of table, key
-// and page; then these three, and table and page expected at exit. Prints the answer, and whether both are as expected.
+// the boot record (0 fresh, 1 up, 2 closed, then what it keeps), the function id, x1 to x3, where the granule record stands (see
+// `cases::granules_at`), MECIDWidthm1, the lengths of table, key and page; then these three, and table and page expected at exit. Prints
+// the answer, and whether both are as expected.
 use boot::Record;
 use codes::Answer;
 use codes::Work;
-use granules::Granules;
 use libc::STDOUT_FILENO;
 use words::Span;
 ghost use Prim.Native.Nat.{_≤_};
@@ -48,17 +48,15 @@ fn print_other(state: Record, id: u64, x1: u64, width: u64) {
 // The command of a case, on the table, key and page that it lends.
 fn print_command(input: &[u8], table: &mut [u8], key: &[u8], page: &mut [u8]) {
     let state = cases::record_at(input);
-    let granules = Granules {
-        start: words::word_at(input, 64),
-    };
+    let granules = cases::granules_at(input, 64);
     let id = words::word_at(input, 32);
     let x1 = words::word_at(input, 40);
     if id == 0xC400_01B0 {
-        print_answer(granules::delegate(state, granules, table, x1));
+        print_answer(granules::delegate(state, &granules, table, x1));
         return;
     }
     if id == 0xC400_01B1 {
-        print_answer(granules::undelegate(state, granules, table, x1));
+        print_answer(granules::undelegate(state, &granules, table, x1));
         return;
     }
     if id == 0xC400_01B2 {

@@ -20,9 +20,9 @@ use Rattle.boot.specs.declared.Record.the-variants.{Up}
 use Rattle.codes.specs.Codes.{extended, x0Of, answerOf, unless, fails, isUp, whenUp}
 use Rattle.codes.specs.declared.Code.the-variants.{Ok, BadAddr, BadPas, Inval}
 use Rattle.range.specs.Range.{outside, tooLong}
-use Rattle.granules.specs.Granules.{granuleAt, GranuleTable, fromByte, granuleCode, moveCode, movedBy, moveOf, delegateOf}
-use Rattle.granules.specs.declared.Granules.{Granules}
-use Rattle.granules.specs.declared.Granule.the-variants.{At}
+use Rattle.granules.specs.Granules.{GranuleTable, fromByte, granuleCode, moveCode, movedBy, moveOf, delegateOf}
+use Rattle.banks.specs.Banks.{Granules, granuleAt}
+use Rattle.banks.specs.declared.Granule.the-variants.{At}
 use Rattle.features.specs.Features.{updateCode}
 use Rattle.writer.specs.Write.{Made, no-page, a-page, writerGate, writeOf}
 

@@ -11,7 +11,6 @@ use Rattle.codes.specs.Codes.{unless}
 use Rattle.codes.specs.declared.Answer.{Answer}
 use Rattle.codes.specs.declared.Work.{Work}
 use Rattle.codes.specs.declared.Work.the-variants.{Nothing, Reprogram}
-use Rattle.granules.specs.declared.Granules.{Granules}
 use Rattle.reader.specs.Answer.{ReaderAnswer, refused, shows}
 use Rattle.reader.specs.Reading.{viewAt}
 use Rattle.reader.specs.declared.Reading.{Reading}
@@ -38,10 +37,6 @@ unfoldable pub recordWords : Record → List ℕ
 recordWords Fresh = 0 ∷ 0 ∷ 0 ∷ 0 ∷ []
 recordWords (Up u) = 1 ∷ u .cpus ∷ u .base ∷ u .minor ∷ []
 recordWords Closed = 2 ∷ 0 ∷ 0 ∷ 0 ∷ []
-
--- ---- the granule record: the address of the table's first granule
-unfoldable pub granulesOf : List ℕ → Granules
-granulesOf w = record { start = getD w 0 0 }
 
 -- ---- a flag as a number: any but 0 is set
 unfoldable pub isSet : ℕ → Bool

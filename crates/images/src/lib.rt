@@ -5,7 +5,6 @@ use boot::Record;
 use codes::Answer;
 use codes::Code;
 use codes::Work;
-use granules::Granules;
 use reader::Reading;
 use reader::Section;
 use reader::View;
@@ -19,7 +18,7 @@ ghost use lib.ListN.{length};
 ghost use Rattle.boot.specs.Boot.{numberIn};
 ghost use Rattle.codes.specs.Codes.{ifOk};
 ghost use Rattle.runtime.specs.Step.{replyCode};
-ghost use Rattle.images.specs.Image.{recordOf, recordWords, granulesOf, isSet, sessionOf, sessionWords, registerWords, workWords, sectionIn, sectionWords, viewOf, viewWords, spanWords, readingWords, wroteNumber, replyRegisters, replyWords};
+ghost use Rattle.images.specs.Image.{recordOf, recordWords, isSet, sessionOf, sessionWords, registerWords, workWords, sectionIn, sectionWords, viewOf, viewWords, spanWords, readingWords, wroteNumber, replyRegisters, replyWords};
 
 pub fn record_of(image: &[u64; 4]) -> Record
     ensures { λ r. ⌜ r ≡ recordOf (now (image .entry)) ⌝ }
@@ -45,12 +44,6 @@ pub fn record_words(state: Record) -> [u64; 4]
         Record::Up(params) => [1, params.cpus, params.base, params.minor],
         Record::Closed => [2, 0, 0, 0],
     }
-}
-
-pub fn granules_of(image: &[u64; 1]) -> Granules
-    ensures { λ r. ⌜ r ≡ granulesOf (now (image .entry)) ⌝ }
-{
-    Granules { start: image[0] }
 }
 
 pub fn session_of(image: &[u64; 3]) -> Session

@@ -14,7 +14,7 @@ use Rattle.runtime.specs.Step.{plainWorld, Step, kindOf, afterToken, afterSigni
 use Rattle.runtime.specs.declared.Needs.{Needs}
 use Rattle.runtime.specs.declared.Reply.{Reply}
 use Rattle.runtime.proofs.Plain.{needs-session, needs-queue, plain-beside}
-use Rattle.images.specs.Image.{recordOf, granulesOf, isSet, sessionOf, sessionWords, registerWords, workWords, replyRegisters, replyWords}
+use Rattle.images.specs.Image.{recordOf, isSet, sessionOf, sessionWords, registerWords, workWords, replyRegisters, replyWords}
 use Rattle.queue_image.specs.Image.{listsIn}
 use Rattle.queue_image.specs.Steps.{ImageStep, imageStep}
 use Rattle.potterbeam.specs.Exports.{sessionAfter, MoveLeft, moveLeft, TokenLeft, tokenLeft, tokenIn, SigningLeft, signingLeft, signingIn, SignLeft, signLeft, sessionLeft, queueLeft, CallLeft, callLeft, callLent, callIn, PlainLeft, plainLeft, plainIn}
@@ -50,7 +50,7 @@ module _ (granules session queue page table state x : List ℕ) (busy : ℕ) (ke
       _≡_ {A = CallLeft} (record { out = l .out; work = l .work; page = l .page; table = l .table; session = session; queue = queue }) (callIn granules session queue page table (callLent state x busy key token public width))
   unfolding plainIn plainLeft callIn callLent callLeft sessionLeft queueLeft
   left-plain h l e =
-      rw (h, plain-beside (granulesOf granules) page table (sessionOf session) (listsIn queue) (recordOf state) (getD x 0 0) (getD x 1 0) (getD x 2 0) (getD x 3 0) (getD x 4 0) (isSet busy) key token public width h, e)
+      rw (h, plain-beside granules page table (sessionOf session) (listsIn queue) (recordOf state) (getD x 0 0) (getD x 1 0) (getD x 2 0) (getD x 3 0) (getD x 4 0) (isSet busy) key token public width h, e)
 
   -- the session
   pub left-session : needsOf (kindOf (getD x 0 0)) ≡ Needs.Session → (l : TokenLeft) → l ≡ tokenIn state session page token busy (getD x 1 0) (getD x 2 0) (getD x 3 0) →

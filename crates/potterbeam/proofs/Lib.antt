@@ -1,2 +1,3 @@
 pub mod Left
 pub mod Refusals
+pub mod SetUp

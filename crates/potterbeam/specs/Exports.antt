@@ -3,10 +3,11 @@
 use Prim.Native.Nat.{ℕ}
 use mathlib.Core.List.{List}
 use lib.ListN.{getD}
-use Rattle.codes.specs.Codes.{ifOk}
+use Rattle.codes.specs.Codes.{x0Of, ifOk}
 use Rattle.codes.specs.declared.Code.{Code}
 use Rattle.lists.specs.Description.{descriptionOf}
 use Rattle.writer.specs.Write.{Made, writeOf}
+use Rattle.banks.specs.Banks.{SetUp, setUpOf}
 use Rattle.granules.specs.Granules.{Moved, moveOf}
 use Rattle.granules.specs.Lists.{moveListOf}
 use Rattle.granules.specs.declared.Direction.{Direction}
@@ -16,7 +17,7 @@ use Rattle.responses.specs.OnImage.{SignImage, signOn}
 use Rattle.signing.specs.OnImage.{signingDone, signingOn}
 use Rattle.runtime.specs.Step.{World, worldOf, plainWorld, Call, callWith, plainCall, Step, kindOf, callOf, replyCode, needsOf, plainOf}
 use Rattle.runtime.specs.declared.Needs.{Needs}
-use Rattle.images.specs.Image.{recordOf, granulesOf, isSet, sessionOf, sessionWords, registerWords, replyRegisters, replyWords}
+use Rattle.images.specs.Image.{recordOf, isSet, sessionOf, sessionWords, registerWords, replyRegisters, replyWords}
 use Rattle.queue_image.specs.Image.{listsIn}
 use Rattle.queue_image.specs.Steps.{ImageStep}
 
@@ -28,6 +29,17 @@ writeIn base n edition dram console ncoh coh = writeOf base n edition (descripti
 unfoldable pub sessionAfter : Code → Session → List ℕ → List ℕ
 sessionAfter k s image = ifOk k (sessionWords s) image
 
+-- ---- the granule record's set-up: x0 and the record
+pub record SetUpLeft : Type 0 where
+  pub x0 : ℕ
+  pub granules : List ℕ
+
+unfoldable pub setUpLeft : SetUp → SetUpLeft
+setUpLeft s = record { x0 = x0Of (s .code); granules = s .granules }
+
+unfoldable pub setUpIn : List ℕ → List ℕ → ℕ → SetUpLeft
+setUpIn granules banks n = setUpLeft (setUpOf banks n granules)
+
 -- ---- delegation: the result registers and the table
 pub record MoveLeft : Type 0 where
   pub out : List ℕ
@@ -37,11 +49,11 @@ unfoldable pub moveLeft : Moved → MoveLeft
 moveLeft m = record { out = registerWords (m .answer); table = m .table .bytes }
 
 unfoldable pub moveIn : Direction → List ℕ → List ℕ → List ℕ → ℕ → MoveLeft
-moveIn d state granules table address = moveLeft (moveOf (recordOf state) (granulesOf granules) d (record { bytes = table }) address)
+moveIn d state granules table address = moveLeft (moveOf (recordOf state) granules d (record { bytes = table }) address)
 
 -- over a list of addresses
 unfoldable pub moveListIn : Direction → List ℕ → List ℕ → List ℕ → List ℕ → MoveLeft
-moveListIn d state granules table addresses = moveLeft (moveListOf (recordOf state) (granulesOf granules) d (record { bytes = table }) addresses)
+moveListIn d state granules table addresses = moveLeft (moveListOf (recordOf state) granules d (record { bytes = table }) addresses)
 
 -- ---- the platform token: the result registers, the page and the session's image
 pub record TokenLeft : Type 0 where
@@ -120,7 +132,7 @@ worldIn session queue page table = worldOf page table (sessionOf session) (lists
 
 unfoldable pub callIn : List ℕ → List ℕ → List ℕ → List ℕ → List ℕ → Call → CallLeft
 callIn granules session queue page table c =
-    callLeft (needsOf (kindOf (c .id))) (callOf (granulesOf granules) (worldIn session queue page table) c) session (signingDone (c .state) page queue (c .x1) (c .x2) (c .x3)) queue
+    callLeft (needsOf (kindOf (c .id))) (callOf granules (worldIn session queue page table) c) session (signingDone (c .state) page queue (c .x1) (c .x2) (c .x3)) queue
 
 -- a call that uses neither image
 pub record PlainLeft : Type 0 where
@@ -134,4 +146,4 @@ plainLeft s = record { out = replyRegisters (s .reply); work = replyWords (s .re
 
 unfoldable pub plainIn : List ℕ → List ℕ → List ℕ → List ℕ → List ℕ → List ℕ → ℕ → PlainLeft
 plainIn state granules page table x key width =
-    plainLeft (plainOf (granulesOf granules) (plainWorld page table) (plainCall (recordOf state) (getD x 0 0) (getD x 1 0) (getD x 2 0) (getD x 3 0) key width))
+    plainLeft (plainOf granules (plainWorld page table) (plainCall (recordOf state) (getD x 0 0) (getD x 1 0) (getD x 2 0) (getD x 3 0) key width))

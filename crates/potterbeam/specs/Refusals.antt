@@ -4,14 +4,16 @@ use Prim.Native.Nat.{ℕ}
 use mathlib.Core.Path.{_≡_}
 use mathlib.Core.List.{List, [], _∷_}
 use lib.ListN.{take, getD}
+use Rattle.codes.specs.Codes.{x0Of}
+use Rattle.codes.specs.declared.Code.the-variants.{Inval}
 use Rattle.granules.specs.Granules.{moveOf}
 use Rattle.granules.specs.Lists.{doneBy, tableBy}
 use Rattle.granules.specs.declared.Direction.{Direction}
 use Rattle.attest.specs.Key.{realmKeyOf}
 use Rattle.features.specs.Features.{featuresOf, updateOf}
 use Rattle.runtime.specs.Step.{Call}
-use Rattle.images.specs.Image.{recordOf, granulesOf, registerWords, workWords}
-use Rattle.potterbeam.specs.Exports.{moveIn, moveListIn, tokenIn, signingIn, signIn, callIn}
+use Rattle.images.specs.Image.{recordOf, registerWords, workWords}
+use Rattle.potterbeam.specs.Exports.{setUpIn, moveIn, moveListIn, tokenIn, signingIn, signIn, callIn}
 
 -- the registers show a refusal
 abbrev pub Refuses : List ℕ → Type 0
@@ -22,6 +24,10 @@ abbrev pub x0Alone : List ℕ → List ℕ
 x0Alone out = getD out 0 0 ∷ 0 ∷ 0 ∷ []
 
 pub record ExportsRefuse : Type 0 where
+  -- pbeam_set_up_granules. 02, E2: "the set-up answers INVAL, with no record made"
+  pub setUp : (granules banks : List ℕ) (n : ℕ) →
+      let l = setUpIn granules banks n in
+      (l .x0 ≡ 0 → ⊥) → l ≡ record { x0 = x0Of Inval; granules = granules }
   -- pbeam_delegate, pbeam_undelegate
   pub delegation : (d : Direction) (state granules table : List ℕ) (address : ℕ) →
       let l = moveIn d state granules table address in
@@ -30,7 +36,7 @@ pub record ExportsRefuse : Type 0 where
   -- that after the single calls of these; of an accepted list too
   pub lists : (d : Direction) (state granules table addresses : List ℕ) →
       let l = moveListIn d state granules table addresses in
-      let f = moveOf (recordOf state) (granulesOf granules) d in
+      let f = moveOf (recordOf state) granules d in
       let done = doneBy f (record { bytes = table }) addresses in
       l ≡ record { out = getD (l .out) 0 0 ∷ done ∷ 0 ∷ []; table = tableBy f (record { bytes = table }) (take done addresses) .bytes }
   -- pbeam_realm_key

@@ -23,7 +23,7 @@ ghost use Rattle.token.specs.Token.{bufferCode, challengeSpan};
 ghost use Rattle.features.specs.Features.{featuresOf, updateOf, forwardOf};
 ghost use Rattle.images.specs.Image.{recordOf, recordWords, registerWords, workWords, viewOf, answerWords, madeNumber, spanWords};
 ghost use Rattle.queue_image.specs.Image.{listsIn, oldestWords};
-ghost use Rattle.potterbeam.specs.Exports.{writeIn, MoveLeft, moveIn, moveListIn, TokenLeft, tokenIn, SigningLeft, signingIn, SignLeft, signIn, PlainLeft, plainIn, CallLeft, callLent, callIn};
+ghost use Rattle.potterbeam.specs.Exports.{writeIn, SetUpLeft, setUpIn, MoveLeft, moveIn, moveListIn, TokenLeft, tokenIn, SigningLeft, signingIn, SignLeft, signIn, PlainLeft, plainIn, CallLeft, callLent, callIn};
 
 // ---- Manifest ----
 
@@ -185,13 +185,25 @@ pub extern "C" fn pbeam_close(image: &mut [u64; 4])
     *image = images::record_words(Record::Closed);
 }
 
+// ---- Granule record ----
+
+// Sets up the granule record from the banks in a page, in the bytes that the array lookup gives, for a table of so many granules. Answers
+// 0, or the number of INVAL as x0 holds it, and leaves the record as it was.
+#[no_mangle]
+pub extern "C" fn pbeam_set_up_granules(granules: &mut [u64; 33], banks: &[u8], len: u64) -> u64
+    ensures { λ r. ⌜ _≡_ {A = SetUpLeft} (record { x0 = r; granules = now (granules .exit) })
+        (setUpIn (now (granules .entry)) (now (banks .entry)) len) ⌝ }
+{
+    codes::x0(banks::set_up(banks, len, granules))
+}
+
 // ---- Runtime commands ----
 
 // 0xC40001B0: the granule at an address becomes Realm.
 #[no_mangle]
 pub extern "C" fn pbeam_delegate(
     state: &[u64; 4],
-    granules: &[u64; 1],
+    granules: &[u64; 33],
     table: &mut [u8],
     address: u64,
     out: &mut [u64; 3],
@@ -201,7 +213,7 @@ pub extern "C" fn pbeam_delegate(
 {
     *out = images::registers(granules::delegate(
         images::record_of(state),
-        images::granules_of(granules),
+        granules,
         table,
         address,
     ));
@@ -211,7 +223,7 @@ pub extern "C" fn pbeam_delegate(
 #[no_mangle]
 pub extern "C" fn pbeam_undelegate(
     state: &[u64; 4],
-    granules: &[u64; 1],
+    granules: &[u64; 33],
     table: &mut [u8],
     address: u64,
     out: &mut [u64; 3],
@@ -221,7 +233,7 @@ pub extern "C" fn pbeam_undelegate(
 {
     *out = images::registers(granules::undelegate(
         images::record_of(state),
-        images::granules_of(granules),
+        granules,
         table,
         address,
     ));
@@ -231,7 +243,7 @@ pub extern "C" fn pbeam_undelegate(
 #[no_mangle]
 pub extern "C" fn pbeam_delegate_list(
     state: &[u64; 4],
-    granules: &[u64; 1],
+    granules: &[u64; 33],
     table: &mut [u8],
     addresses: &[u64],
     out: &mut [u64; 3],
@@ -241,7 +253,7 @@ pub extern "C" fn pbeam_delegate_list(
 {
     *out = images::registers(granules::delegate_list(
         images::record_of(state),
-        images::granules_of(granules),
+        granules,
         table,
         addresses,
     ));
@@ -251,7 +263,7 @@ pub extern "C" fn pbeam_delegate_list(
 #[no_mangle]
 pub extern "C" fn pbeam_undelegate_list(
     state: &[u64; 4],
-    granules: &[u64; 1],
+    granules: &[u64; 33],
     table: &mut [u8],
     addresses: &[u64],
     out: &mut [u64; 3],
@@ -261,7 +273,7 @@ pub extern "C" fn pbeam_undelegate_list(
 {
     *out = images::registers(granules::undelegate_list(
         images::record_of(state),
-        images::granules_of(granules),
+        granules,
         table,
         addresses,
     ));
@@ -434,7 +446,7 @@ pub extern "C" fn pbeam_responses(queue: &[u64; 210]) -> usize
 fn plain(
     state: &[u64; 4],
     page: &mut [u8],
-    granules: &[u64; 1],
+    granules: &[u64; 33],
     table: &mut [u8],
     key: &[u8],
     width: u64,
@@ -447,7 +459,7 @@ fn plain(
 {
     let reply = runtime::plain_call(
         images::record_of(state),
-        images::granules_of(granules),
+        granules,
         call[0],
         call[1],
         call[2],
@@ -469,7 +481,7 @@ pub extern "C" fn pbeam_call(
     session: &mut [u64; 3],
     queue: &mut [u64; 210],
     page: &mut [u8],
-    granules: &[u64; 1],
+    granules: &[u64; 33],
     table: &mut [u8],
     key: &[u8],
     token: &[u8],

@@ -5,7 +5,7 @@ use mathlib.Core.Bool.{Bool}
 use mathlib.Core.List.{List}
 use native.Mathlib.Omega.{arith}
 use Rattle.boot.specs.declared.Record.{Record}
-use Rattle.granules.specs.declared.Granules.{Granules}
+use Rattle.banks.specs.Banks.{Granules}
 use Rattle.token.specs.declared.Session.{Session}
 use Rattle.queue.specs.Queue.{Lists}
 use Rattle.runtime.specs.declared.Kind.{Kind}

@@ -5,7 +5,7 @@ use lib.ListN.{length}
 use Rattle.codes.specs.Codes.{isOk, answerOf}
 use Rattle.codes.specs.declared.Answer.{Answer}
 use Rattle.granules.specs.Granules.{Moved}
-use Rattle.granules.specs.declared.Granules.{Granules}
+use Rattle.banks.specs.Banks.{Granules}
 use Rattle.granules.specs.declared.Direction.{Direction}
 use Rattle.granules.proofs.Moving.{move-refused}
 use Rattle.attest.specs.Key.{Keyed}

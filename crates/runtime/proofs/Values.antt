@@ -7,7 +7,7 @@ use mathlib.Core.List.{List}
 use Rattle.codes.specs.Codes.{isOk}
 use Rattle.codes.specs.declared.Code.{Code}
 use Rattle.codes.proofs.Gates.{if-ok-by}
-use Rattle.granules.specs.declared.Granules.{Granules}
+use Rattle.banks.specs.Banks.{Granules}
 use Rattle.token.specs.declared.Session.{Session}
 use Rattle.queue.specs.declared.Queue.{Queue}
 use Rattle.queue.specs.Queue.{Lists, SigningStep, listsOf, queueNext}

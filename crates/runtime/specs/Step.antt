@@ -12,7 +12,7 @@ use Rattle.codes.specs.declared.Work.{Work}
 use Rattle.codes.specs.declared.Work.the-variants.{Nothing}
 use Rattle.granules.specs.Granules.{GranuleTable, Moved, delegateOf, undelegateOf}
 use Rattle.granules.specs.Lists.{moveListOf}
-use Rattle.granules.specs.declared.Granules.{Granules}
+use Rattle.banks.specs.Banks.{Granules}
 use Rattle.granules.specs.declared.Direction.{Direction}
 use Rattle.attest.specs.Key.{Keyed, realmKeyOf}
 use Rattle.token.specs.Token.{TokenStep, tokenOf}

@@ -4,7 +4,6 @@ use codes::Answer;
 use codes::Code;
 use codes::Work;
 use features::Updated;
-use granules::Granules;
 use queue::Queue;
 use queue::Queued;
 use token::Session;
@@ -102,7 +101,7 @@ fn updated(done: Updated) -> Reply
 // A call that uses neither session nor queue. An id that uses either is answered as one that is not listed.
 pub fn plain_call(
     state: Record,
-    granules: Granules,
+    granules: &[u64; 33],
     id: u64,
     x1: u64,
     x2: u64,
@@ -113,7 +112,7 @@ pub fn plain_call(
     width: u64,
 ) -> Reply
     ensures { λ r. ⌜ _≡_ {A = Step} (record { reply = r; next = plainWorld (now (page .exit)) (now (table .exit)) })
-        (plainOf granules (plainWorld (now (page .entry)) (now (table .entry))) (plainCall state id x1 x2 x3 (now (key .entry)) width)) ⌝ }
+        (plainOf (now (granules .entry)) (plainWorld (now (page .entry)) (now (table .entry))) (plainCall state id x1 x2 x3 (now (key .entry)) width)) ⌝ }
 {
     let kind = kind_of(id);
     match kind {
@@ -159,7 +158,7 @@ fn after_signing(done: Queued, session: Session) -> Stepped
 // MECIDWidthm1.
 pub fn call(
     state: Record,
-    granules: Granules,
+    granules: &[u64; 33],
     id: u64,
     x1: u64,
     x2: u64,
@@ -176,7 +175,7 @@ pub fn call(
     width: u64,
 ) -> Stepped
     ensures { λ r. ⌜ callExit r (now (page .exit)) (now (table .exit)) ≡ exitBy (needsOf (kindOf id)) queue
-        (callOf granules (worldOf (now (page .entry)) (now (table .entry)) session (listsOf queue))
+        (callOf (now (granules .entry)) (worldOf (now (page .entry)) (now (table .entry)) session (listsOf queue))
         (callWith state id x1 x2 x3 x4 busy (now (key .entry)) (now (token .entry)) (now (public .entry)) width)) ⌝ }
 {
     match needs_of(id) {

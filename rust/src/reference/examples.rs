@@ -1,5 +1,6 @@
 //! The paper's numbered examples.
 
+use super::banks::set_up;
 use super::boot::{boot_code, Kept, Record};
 use super::codes::{buffer, Answer, Error};
 use super::entries::bank_sum;
@@ -73,7 +74,8 @@ fn example_9_sign_extension() {
 
 #[test]
 fn example_10_delegating_a_realm_granule() {
-    assert_eq!(delegate(UP, 0, &mut [1], 0), Err(Error::BadPas));
+    let banks = set_up(&[[0; 8], 4096u64.to_le_bytes()].concat(), 1).expect("a bank at 0");
+    assert_eq!(delegate(UP, &banks, &mut [1], 0), Err(Error::BadPas));
 }
 
 #[test]

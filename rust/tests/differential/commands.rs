@@ -25,6 +25,7 @@ fn run(pair: &mut Pair, steps: &[Step], names: &[&str]) {
         let mut scene = pair.random.scene();
         pair.load(|random, m| {
             m.table.load(&scene.table, random.index(8));
+            m.images.granules.words = scene.granules;
             m.images.record.words = random.record_image();
             m.images.session.words = random.session_image(scene.token.len() as u64);
             m.images.queue.words = random.queue_image();
@@ -86,12 +87,12 @@ fn note(pair: &mut Pair, scene: &mut Scene, name: &'static str, case: u64) {
 }
 
 fn delegate(pair: &mut Pair, scene: &mut Scene) {
-    let (start, [at, ..]) = (scene.start, registers(pair, scene, DELEGATE));
-    check!(pair, "pbeam_delegate", (start, at), |S, m| {
+    let [at, ..] = registers(pair, scene, DELEGATE);
+    check!(pair, "pbeam_delegate", (at), |S, m| {
         let (images, table) = (&mut m.images, m.table.lent_mut());
         S::delegate(
             &images.record.words,
-            &[start],
+            &images.granules.words,
             table,
             at,
             &mut images.out.words,
@@ -101,12 +102,12 @@ fn delegate(pair: &mut Pair, scene: &mut Scene) {
 }
 
 fn undelegate(pair: &mut Pair, scene: &mut Scene) {
-    let (start, [at, ..]) = (scene.start, registers(pair, scene, UNDELEGATE));
-    check!(pair, "pbeam_undelegate", (start, at), |S, m| {
+    let [at, ..] = registers(pair, scene, UNDELEGATE);
+    check!(pair, "pbeam_undelegate", (at), |S, m| {
         let (images, table) = (&mut m.images, m.table.lent_mut());
         S::undelegate(
             &images.record.words,
-            &[start],
+            &images.granules.words,
             table,
             at,
             &mut images.out.words,
@@ -123,12 +124,12 @@ fn note_list(pair: &mut Pair, name: &'static str) {
 }
 
 fn delegate_list(pair: &mut Pair, scene: &mut Scene) {
-    let (start, list) = (scene.start, pair.random.granules(scene));
-    check!(pair, "pbeam_delegate_list", (start, list), |S, m| {
+    let list = pair.random.granules(scene);
+    check!(pair, "pbeam_delegate_list", (list), |S, m| {
         let (images, table) = (&mut m.images, m.table.lent_mut());
         S::delegate_list(
             &images.record.words,
-            &[start],
+            &images.granules.words,
             table,
             &list,
             &mut images.out.words,
@@ -138,12 +139,12 @@ fn delegate_list(pair: &mut Pair, scene: &mut Scene) {
 }
 
 fn undelegate_list(pair: &mut Pair, scene: &mut Scene) {
-    let (start, list) = (scene.start, pair.random.granules(scene));
-    check!(pair, "pbeam_undelegate_list", (start, list), |S, m| {
+    let list = pair.random.granules(scene);
+    check!(pair, "pbeam_undelegate_list", (list), |S, m| {
         let (images, table) = (&mut m.images, m.table.lent_mut());
         S::undelegate_list(
             &images.record.words,
-            &[start],
+            &images.granules.words,
             table,
             &list,
             &mut images.out.words,
@@ -269,9 +270,10 @@ fn call(pair: &mut Pair, scene: &mut Scene) {
     let (busy, [x1, x2, x3, x4]) = (busy(pair, scene), x);
     let x = [id, x1, x2, x3, x4];
     check!(pair, "pbeam_call", (scene, busy, x), |S, m| {
+        let images = &mut m.images;
         let mut lent = Lent {
             page: m.page.lent_mut(),
-            granules: [scene.start],
+            granules: &images.granules.words,
             table: m.table.lent_mut(),
             key: &scene.realm_key,
             token: &scene.token,
@@ -279,7 +281,6 @@ fn call(pair: &mut Pair, scene: &mut Scene) {
             public_key: &scene.public_key,
             width: scene.width,
         };
-        let images = &mut m.images;
         let (session, queue) = (&mut images.session.words, &mut images.queue.words);
         let (out, work) = (&mut images.out.words, &mut images.work.words);
         S::call(

@@ -7,6 +7,7 @@
 
 #[macro_use]
 mod pair;
+mod banks;
 mod boots;
 mod commands;
 mod manifest;

@@ -2,7 +2,7 @@
 //! crates/*_vectors do it too; this is what can be run on another machine.
 
 use crate::*;
-use potterbeam_tests::exports::{Exports, Lent as LentTo, QueueImage, RecordImage, SessionImage};
+use potterbeam_tests::exports::{Lent as LentTo, QueueImage, RecordImage, SessionImage};
 use potterbeam_tests::images::{record_of, record_words, session_of, session_words};
 use potterbeam_tests::kit::Kit;
 
@@ -110,16 +110,18 @@ fn boot() {
 // ---- Commands ----
 
 fn print_list(out: &mut String, input: &[u8]) {
-    let record = record_words(record_at(input));
-    let [direction, start] = [32, 40].map(|at| word_at(input, at));
+    if word_at(input, 32) == 2 {
+        return print_set_up(out, input, Kit::set_up_granules);
+    }
+    let (record, banks) = (record_words(record_at(input)), &granules_at(input, 40));
     let [in_table, length] = [48, 56].map(|at| size_at(input, at));
     let mut rest = &input[64..];
     let mut table = take(&mut rest, in_table).to_vec();
     let list = words(take(&mut rest, 8 * length));
     let mut registers = [0; 3];
-    match direction {
-        0 => Kit::delegate_list(&record, &[start], &mut table, &list, &mut registers),
-        _ => Kit::undelegate_list(&record, &[start], &mut table, &list, &mut registers),
+    match word_at(input, 32) {
+        0 => Kit::delegate_list(&record, banks, &mut table, &list, &mut registers),
+        _ => Kit::undelegate_list(&record, banks, &mut table, &list, &mut registers),
     }
     print_registers(out, registers);
     print_same(out, "table", &table, take(&mut rest, in_table));
@@ -127,12 +129,12 @@ fn print_list(out: &mut String, input: &[u8]) {
 
 #[test]
 fn granules() {
-    compare("granule_vectors", 166, print_list);
+    compare("granule_vectors", 642, print_list);
 }
 
 fn print_command(out: &mut String, input: &[u8]) {
-    let record = record_words(record_at(input));
-    let [id, x1, x2, x3, start, width] = [32, 40, 48, 56, 64, 72].map(|at| word_at(input, at));
+    let (record, banks) = (record_words(record_at(input)), &granules_at(input, 64));
+    let [id, x1, x2, x3, width] = [32, 40, 48, 56, 72].map(|at| word_at(input, at));
     let [in_table, in_key, in_page] = [80, 88, 96].map(|at| size_at(input, at));
     let mut rest = &input[104..];
     let mut table = take(&mut rest, in_table).to_vec();
@@ -140,8 +142,8 @@ fn print_command(out: &mut String, input: &[u8]) {
     let mut page = take(&mut rest, in_page).to_vec();
     let (mut registers, mut work) = ([0; 3], [0; 2]);
     match id {
-        0xC400_01B0 => Kit::delegate(&record, &[start], &mut table, x1, &mut registers),
-        0xC400_01B1 => Kit::undelegate(&record, &[start], &mut table, x1, &mut registers),
+        0xC400_01B0 => Kit::delegate(&record, banks, &mut table, x1, &mut registers),
+        0xC400_01B1 => Kit::undelegate(&record, banks, &mut table, x1, &mut registers),
         0xC400_01B2 => Kit::realm_key(&record, &mut page, key, [x1, x2, x3], &mut registers),
         0xC400_01B4 => Kit::features(&record, x1, &mut registers),
         0xC400_01B6 => Kit::key_update(&record, width, x1, &mut registers, &mut work),
@@ -161,7 +163,7 @@ fn print_command(out: &mut String, input: &[u8]) {
 
 #[test]
 fn commands() {
-    compare("command_vectors", 930, print_command);
+    compare("command_vectors", 835, print_command);
 }
 
 // ---- The runtime ----
@@ -209,7 +211,7 @@ fn call_by_id(out: &mut String, input: &[u8], step: &[u8], images: &mut Images, 
     let x = [8, 16, 24, 32, 40].map(|at| word_at(step, at));
     let mut lent = LentTo {
         page: &mut held.page,
-        granules: [word_at(input, 32)],
+        granules: &granules_at(input, 32),
         table: &mut held.table,
         key: lent(input, 104),
         token: lent_by(input, step, 56),
@@ -283,5 +285,5 @@ fn print_runtime(out: &mut String, input: &[u8]) {
 
 #[test]
 fn runtime() {
-    compare("runtime_vectors", 840, print_runtime);
+    compare("runtime_vectors", 860, print_runtime);
 }

@@ -4,7 +4,9 @@
 
 mod library;
 
+use potterbeam_tests::exports::{Exports, GranulesImage};
 use potterbeam_tests::images::{queue_of, queue_words};
+use potterbeam_tests::model::Model;
 use potterbeam_tests::reference::boot::{boot_code, Kept, Record};
 use potterbeam_tests::reference::codes::{Answer, Outcome};
 use potterbeam_tests::reference::features::{features, forward, key_update};
@@ -70,6 +72,19 @@ fn record_at(input: &[u8]) -> Record {
         1 => Record::Up(Kept { cpus, base, minor }),
         _ => Record::Closed,
     }
+}
+
+/// The granule record that stands where a word of the case says: how many of its words are given, then these. The rest are 0.
+fn granules_at(input: &[u8], at: usize) -> GranulesImage {
+    let stored = &input[size_at(input, at)..];
+    let mut record = [0; 33];
+    for (word, cell) in record[..size_at(stored, 0)]
+        .iter_mut()
+        .zip(stored[8..].chunks_exact(8))
+    {
+        *word = word_at(cell, 0);
+    }
+    record
 }
 
 /// Takes so many bytes off the front.
@@ -227,20 +242,40 @@ fn boot_vectors() {
     compare("boot_vectors", 246, print_boots);
 }
 
-// ---- Lists of granules ----
+// ---- Granule records and lists of granules ----
+
+/// The case has the record that is lent before, the table's length and the banks' bytes.
+fn print_set_up(out: &mut String, input: &[u8], set_up: SetUp) {
+    let mut record = granules_at(input, 40);
+    let x0 = set_up(
+        &mut record,
+        &input[64..][..size_at(input, 56)],
+        word_at(input, 48),
+    );
+    write!(out, "set_up {x0:016x}\nrecord").unwrap();
+    record
+        .iter()
+        .for_each(|word| write!(out, " {word:x}").unwrap());
+    out.push('\n');
+}
+
+/// A set-up of a record from the bytes of banks, for a table of so many granules.
+type SetUp = fn(&mut GranulesImage, &[u8], u64) -> u64;
 
 fn print_list(out: &mut String, input: &[u8]) {
-    let record = record_at(input);
-    let [direction, start] = [32, 40].map(|at| word_at(input, at));
+    if word_at(input, 32) == 2 {
+        return print_set_up(out, input, Model::set_up_granules);
+    }
+    let (record, banks) = (record_at(input), &granules_at(input, 40));
     let [in_table, length] = [48, 56].map(|at| size_at(input, at));
     let mut rest = &input[64..];
     let mut table = take(&mut rest, in_table).to_vec();
     let list: Vec<u64> = (0..length)
         .map(|_| word_at(take(&mut rest, 8), 0))
         .collect();
-    let listed = match direction {
-        0 => delegate_list(record, start, &mut table, &list),
-        _ => undelegate_list(record, start, &mut table, &list),
+    let listed = match word_at(input, 32) {
+        0 => delegate_list(record, banks, &mut table, &list),
+        _ => undelegate_list(record, banks, &mut table, &list),
     };
     let Answer { x0, x1, x2 } = Answer::from(listed);
     writeln!(out, "registers {x0:016x} {x1:016x} {x2:016x}").unwrap();
@@ -250,22 +285,22 @@ fn print_list(out: &mut String, input: &[u8]) {
 
 #[test]
 fn granule_vectors() {
-    compare("granule_vectors", 166, print_list);
+    compare("granule_vectors", 642, print_list);
 }
 
 // ---- Single commands ----
 
 fn print_command(out: &mut String, input: &[u8]) {
-    let record = record_at(input);
-    let [id, x1, x2, x3, start, width] = [32, 40, 48, 56, 64, 72].map(|at| word_at(input, at));
+    let (record, banks) = (record_at(input), &granules_at(input, 64));
+    let [id, x1, x2, x3, width] = [32, 40, 48, 56, 72].map(|at| word_at(input, at));
     let [in_table, in_key, in_page] = [80, 88, 96].map(|at| size_at(input, at));
     let mut rest = &input[104..];
     let mut table = take(&mut rest, in_table).to_vec();
     let key = take(&mut rest, in_key);
     let mut page = take(&mut rest, in_page).to_vec();
     match id {
-        0xC400_01B0 => print_padded(out, delegate(record, start, &mut table, x1)),
-        0xC400_01B1 => print_padded(out, undelegate(record, start, &mut table, x1)),
+        0xC400_01B0 => print_padded(out, delegate(record, banks, &mut table, x1)),
+        0xC400_01B1 => print_padded(out, undelegate(record, banks, &mut table, x1)),
         0xC400_01B2 => print_padded(out, realm_key(record, &mut page, key, x1, x2, x3)),
         0xC400_01B4 => print_padded(out, features(record, x1)),
         0xC400_01B6 => {
@@ -290,7 +325,7 @@ fn print_padded(out: &mut String, outcome: Outcome) {
 
 #[test]
 fn command_vectors() {
-    compare("command_vectors", 930, print_command);
+    compare("command_vectors", 835, print_command);
 }
 
 // ---- The runtime ----
@@ -430,7 +465,7 @@ fn operate(out: &mut String, input: &[u8], step: &[u8], state: &mut State, memor
             let mut lent = Lent {
                 page: &mut memory.page,
                 table: &mut memory.table,
-                start: word_at(input, 32),
+                banks: &granules_at(input, 32),
                 realm_key: lent(input, 104),
                 public_key: lent(input, 120),
                 token: lent_by(input, step, 56),
@@ -526,5 +561,5 @@ fn print_runtime(out: &mut String, input: &[u8]) {
 
 #[test]
 fn runtime_vectors() {
-    compare("runtime_vectors", 840, print_runtime);
+    compare("runtime_vectors", 860, print_runtime);
 }

@@ -52,7 +52,7 @@ returns c =
     rw n
     (ap (exitBy Nothing (a .queue))
     (ap (beside (a .session) (listsOf (a .queue))) (c .before .before .before .before .plain-call .ensures)
-    ∙ sym (plain-beside (a .granules) (a .page .now) (a .table .now) (a .session) (listsOf (a .queue)) (a .state) (a .id) (a .x1) (a .x2) (a .x3) (a .x4) (a .busy) (a .key .now) (a .token .now) (a .public .now) (a .width) n)))
+    ∙ sym (plain-beside (a .granules .now) (a .page .now) (a .table .now) (a .session) (listsOf (a .queue)) (a .state) (a .id) (a .x1) (a .x2) (a .x3) (a .x4) (a .busy) (a .key .now) (a .token .now) (a .public .now) (a .width) n)))
 
 same-length-3 : tie.Need-same-length-3
 same-length-3 c = search needs
