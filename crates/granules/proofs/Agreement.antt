@@ -43,16 +43,21 @@ module _ (s : Record) (g : Granules) (d : Direction) where
       if-ok-by Agrees (whenFit g t (whenUp s (moveCode (upOf s) g d t addr))) (granuleSet d t (granuleAt g (length (t .bytes)) addr)) t
       (λ e. set-keeps g d t addr (granuleAt g (length (t .bytes)) addr) refl a) (λ e. a)
 
-  either-keeps : (b : Bool) (x y : Moved) → Agrees (x .table) → Agrees (y .table) → Agrees (cond b x y .table)
-  either-keeps true x y p q = p
-  either-keeps false x y p q = q
+-- ---- what each single call keeps, a list keeps
+module _ (s : Record) (g : Granules) (d : Direction) (P : GranuleTable → Type 0) (keeps : (t : GranuleTable) (addr : ℕ) → P t → P (moveOf s g d t addr .table)) where
+  either-holds : (b : Bool) (x y : Moved) → P (x .table) → P (y .table) → P (cond b x y .table)
+  either-holds true x y p q = p
+  either-holds false x y p q = q
 
-  by-keeps : (k : ℕ) (t : GranuleTable) (l : List ℕ) → Agrees t → Agrees (listBy (moveOf s g d) k t l .table)
+  by-holds : (k : ℕ) (t : GranuleTable) (l : List ℕ) → P t → P (listBy (moveOf s g d) k t l .table)
   unfolding listBy onward
-  by-keeps k t [] a = a
-  by-keeps k t (x ∷ l) a =
-      either-keeps (isOk (moveOf s g d t x .answer .code)) _ _ (by-keeps (suc k) (moveOf s g d t x .table) l (move-keeps t x a)) (move-keeps t x a)
+  by-holds k t [] p = p
+  by-holds k t (a ∷ l) p =
+      either-holds (isOk (moveOf s g d t a .answer .code)) _ _ (by-holds (suc k) (moveOf s g d t a .table) l (keeps t a p)) (keeps t a p)
 
-  pub list-keeps : (t : GranuleTable) (l : List ℕ) → Agrees t → Agrees (moveListOf s g d t l .table)
+  pub list-holds : (t : GranuleTable) (l : List ℕ) → P t → P (moveListOf s g d t l .table)
   unfolding moveListOf movedBy
-  list-keeps t l a = either-keeps (fitting g t) (listBy (moveOf s g d) 0 t l) (movedBy Inval t t) (by-keeps 0 t l a) a
+  list-holds t l p = either-holds (fitting g t) (listBy (moveOf s g d) 0 t l) (movedBy Inval t t) (by-holds 0 t l p) p
+
+pub list-keeps : (s : Record) (g : Granules) (d : Direction) (t : GranuleTable) (l : List ℕ) → Agrees t → Agrees (moveListOf s g d t l .table)
+list-keeps s g d t l a = list-holds s g d Agrees (λ x addr p. move-keeps s g d x addr p) t l a

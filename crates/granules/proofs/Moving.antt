@@ -54,7 +54,7 @@ module _ (u : Params) (g : Granules) (d : Direction) (t ws : List ℕ) (addr : �
     move-ok b v y = rw (e, eq-eqb (getD t i 0) (fromByte d) b, y)
 
 -- no call changes how many bytes or words there are
-abbrev AsLong : GranuleTable → GranuleTable → Type 0
+abbrev pub AsLong : GranuleTable → GranuleTable → Type 0
 AsLong t after = (length (after .bytes) ≡ length (t .bytes)) × (length (after .words) ≡ length (t .words))
 
 set-lengths : (d : Direction) (t : GranuleTable) (k : Granule) → AsLong t (granuleSet d t k)
@@ -72,6 +72,10 @@ move-lengths u g d t addr = by-lengths (moveCode u g d t addr) g d t addr
 
 -- ---- any record
 module _ (s : Record) (g : Granules) (d : Direction) (t : GranuleTable) (addr : ℕ) where
+  pub lengths-kept : AsLong t (moveOf s g d t addr .table)
+  unfolding moveOf
+  lengths-kept = by-lengths _ g d t addr
+
   pub move-unfit : fitting g t ≡ false → movedBy Inval t t ≡ moveOf s g d t addr
   unfolding moveOf movedBy whenFit unless fails
   move-unfit h = rw h
@@ -87,8 +91,7 @@ module _ (s : Record) (g : Granules) (d : Direction) (t : GranuleTable) (addr : 
 
     -- words that are as many as they must be stay so
     pub fit-kept : fitting g (moveOf s g d t addr .table) ≡ true
-    unfolding moveOf
-    fit-kept = ap (λ n. eqb n (wordsFor (granuleCount g))) (by-lengths _ g d t addr .1) ∙ f
+    fit-kept = ap (λ n. eqb n (wordsFor (granuleCount g))) (lengths-kept .1) ∙ f
 
 -- a refused move leaves the table as it was, with zeros in the other registers
 pub move-refused : (s : Record) (g : Granules) (d : Direction) (t : GranuleTable) (addr : ℕ) → isOk (moveOf s g d t addr .answer .code) ≡ false →

@@ -5,3 +5,4 @@ pub mod Refused
 pub mod Sessions
 pub mod Order
 pub mod Values
+pub mod Agreement
