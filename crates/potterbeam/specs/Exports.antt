@@ -7,7 +7,8 @@ use Rattle.codes.specs.Codes.{x0Of, ifOk}
 use Rattle.codes.specs.declared.Code.{Code}
 use Rattle.lists.specs.Description.{descriptionOf}
 use Rattle.writer.specs.Write.{Made, writeOf}
-use Rattle.banks.specs.Banks.{SetUp, setUpOf}
+use Rattle.banks.specs.Banks.{SetUp, setUpOf, granuleCount}
+use Rattle.realm_words.specs.Answers.{Built, realmBuildOf}
 use Rattle.granules.specs.Granules.{tableOf, Moved, moveOf}
 use Rattle.granules.specs.Lists.{moveListOf}
 use Rattle.granules.specs.declared.Direction.{Direction}
@@ -18,6 +19,7 @@ use Rattle.signing.specs.OnImage.{signingDone, signingOn}
 use Rattle.runtime.specs.Step.{World, worldOf, plainWorld, Call, callWith, plainCall, Step, kindOf, callOf, replyCode, needsOf, plainOf}
 use Rattle.runtime.specs.declared.Needs.{Needs}
 use Rattle.images.specs.Image.{recordOf, isSet, sessionOf, sessionWords, registerWords, replyRegisters, replyWords}
+use Rattle.images.specs.Realm.{builtX0}
 use Rattle.queue_image.specs.Image.{listsIn}
 use Rattle.queue_image.specs.Steps.{ImageStep}
 
@@ -55,6 +57,17 @@ moveIn d state granules table words address = moveLeft (moveOf (recordOf state) 
 -- over a list of addresses
 unfoldable pub moveListIn : Direction → List ℕ → List ℕ → List ℕ → List ℕ → List ℕ → MoveLeft
 moveListIn d state granules table words addresses = moveLeft (moveListOf (recordOf state) granules d (tableOf table words) addresses)
+
+-- ---- the words built: x0 and the words
+pub record BuildLeft : Type 0 where
+  pub x0 : ℕ
+  pub words : List ℕ
+
+unfoldable pub buildLeft : Built → BuildLeft
+buildLeft b = record { x0 = builtX0 (b .done); words = b .words }
+
+unfoldable pub buildIn : List ℕ → List ℕ → List ℕ → BuildLeft
+buildIn granules table words = buildLeft (realmBuildOf table words (granuleCount granules))
 
 -- ---- the platform token: the result registers, the page and the session's image
 pub record TokenLeft : Type 0 where

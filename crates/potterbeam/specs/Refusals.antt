@@ -1,4 +1,5 @@
--- Demand 1 at the C edge. 01: "a refused call returns zero in the other result registers and changes no page, table, session or queue":
+-- Demand 1 at the C edge. 01: "a refused call returns zero in the other result registers and changes no page, table, session or queue";
+-- 02, E6: "no refusal changes a word":
 -- what a call of the exports leaves where x0 is not 0, whatever words were lent as an image. Assumes nothing.
 use Prim.Native.Nat.{ℕ}
 use mathlib.Core.Path.{_≡_}
@@ -6,14 +7,16 @@ use mathlib.Core.List.{List, [], _∷_}
 use lib.ListN.{take, getD}
 use Rattle.codes.specs.Codes.{x0Of}
 use Rattle.codes.specs.declared.Code.the-variants.{Inval}
-use Rattle.granules.specs.Granules.{moveOf}
+use Rattle.realm_words.specs.Answers.{realmCountOf, realmNextOf}
+use Rattle.granules.specs.Granules.{tableOf, moveOf}
 use Rattle.granules.specs.Lists.{doneBy, tableBy}
 use Rattle.granules.specs.declared.Direction.{Direction}
 use Rattle.attest.specs.Key.{realmKeyOf}
 use Rattle.features.specs.Features.{featuresOf, updateOf}
 use Rattle.runtime.specs.Step.{Call}
 use Rattle.images.specs.Image.{recordOf, registerWords, workWords}
-use Rattle.potterbeam.specs.Exports.{setUpIn, moveIn, moveListIn, tokenIn, signingIn, signIn, callIn}
+use Rattle.images.specs.Realm.{numberX0, numberWords, hitX0, hitWords}
+use Rattle.potterbeam.specs.Exports.{setUpIn, moveIn, moveListIn, buildIn, tokenIn, signingIn, signIn, callIn}
 
 -- the registers show a refusal
 abbrev pub Refuses : List ℕ → Type 0
@@ -77,6 +80,6 @@ pub record ExportsRefuse : Type 0 where
   pub realmNext : (words : List ℕ) (n index : ℕ) →
       let a = realmNextOf words n index in
       (hitX0 a ≡ 0 → ⊥) → hitWords a ≡ 0 ∷ []
-  pub realmBuild : (table words : List ℕ) (n : ℕ) →
-      let b = realmBuildOf table words n in
-      (builtX0 (b .done) ≡ 0 → ⊥) → b .words ≡ words
+  pub realmBuild : (granules table words : List ℕ) →
+      let l = buildIn granules table words in
+      (l .x0 ≡ 0 → ⊥) → l ≡ record { x0 = x0Of Inval; words = words }
