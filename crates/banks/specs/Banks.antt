@@ -87,8 +87,11 @@ placeOf g addr = cond (recordOk g) (placeAmong 0 (banksOf g) addr) Nothing
 
 -- in a table of n granules. 01: "BAD_ADDR unless .. the address are multiples of 4,096 and the address falls on a granule of the table."
 -- 02, E2: "Demand 2 reads "granule of the table" so", and "a table of another length makes every address BAD_ADDR"
+abbrev pub placedIn : ℕ → Granule → ℕ → ℕ → Granule
+placedIn m place n addr = cond (both (eqb (addr % 4096) 0) (eqb m n)) place Nothing
+
 unfoldable pub granuleAt : Granules → ℕ → ℕ → Granule
-granuleAt g n addr = cond (both (eqb (addr % 4096) 0) (eqb (granuleCount g) n)) (placeOf g addr) Nothing
+granuleAt g n addr = placedIn (granuleCount g) (placeOf g addr) n addr
 
 -- ---- for the theorems
 -- the address of granule i, in banks and in a record's

@@ -5,7 +5,7 @@ use entries::Bits;
 ghost use mathlib.Core.Path.{_≡_};
 ghost use Prim.Native.Nat.{_/_, _<_, _≤_};
 ghost use Rattle.entries.specs.Entry.{bankOk};
-ghost use Rattle.banks.specs.Banks.{follows, orElse, placeIn, granuleCount, placeOf, granuleAt, foundIn, foundAt, recordFrom, SetUp, setUpOf};
+ghost use Rattle.banks.specs.Banks.{follows, orElse, placeIn, granuleCount, placeOf, placedIn, granuleAt, foundIn, foundAt, recordFrom, SetUp, setUpOf};
 
 // The granule that an address falls on.
 pub enum Granule {
@@ -95,19 +95,25 @@ pub fn granule_count(granules: &[u64; 33]) -> u64
     pass.granules
 }
 
-// The granule that an address falls on, in a table of n granules.
-pub fn granule_of(granules: &[u64; 33], n: usize, address: u64) -> Granule
-    ensures { λ r. ⌜ r ≡ granuleAt (now (granules .entry)) n address ⌝ }
+// The granule that an address falls on, in a table of n granules, by a pass over the record with that address.
+pub fn granule_in(pass: Pass, n: usize, address: u64) -> Granule
+    ensures { λ r. ⌜ r ≡ placedIn (pass .granules) (pass .place) n address ⌝ }
 {
     if address % 4096 != 0 {
         return Granule::Nothing;
     }
-    let pass = pass_over(granules, address);
     if pass.granules != n as u64 {
         return Granule::Nothing;
     }
     let place = pass.place;
     place
+}
+
+// The granule that an address falls on, in a table of n granules.
+pub fn granule_of(granules: &[u64; 33], n: usize, address: u64) -> Granule
+    ensures { λ r. ⌜ r ≡ granuleAt (now (granules .entry)) n address ⌝ }
+{
+    granule_in(pass_over(granules, address), n, address)
 }
 
 // The granules of a bank of any size.

@@ -1,5 +1,5 @@
 -- When delegation is OK, and what an OK did. Assumes nothing.
-use Prim.Native.Nat.{ℕ, _<_}
+use Prim.Native.Nat.{ℕ, _/_, _<_}
 use mathlib.Core.Path.{_≡_, refl, sym, ap, _∙_}
 use mathlib.Core.Bool.{true, false, false≢true}
 use native.Mathlib.Omega.{arith}
@@ -13,8 +13,10 @@ use Rattle.boot.specs.declared.Record.{Record}
 use Rattle.codes.specs.Codes.{isUp, upOf, isOk, whenUp, answerOf}
 use Rattle.codes.specs.declared.Code.the-variants.{Ok, BadAddr}
 use Rattle.codes.proofs.Gates.{fails-ok, unless-ok}
+use Rattle.realm_words.specs.Bits.{wordsFor}
+use Rattle.realm_words.proofs.Laws.{realm-lt, put-same, put-other, put-length}
 use Rattle.banks.proofs.Laws.{falls, index-below, index-named, one-address}
-use Rattle.granules.specs.Granules.{GranuleTable, fromByte, toByte, guarded, granuleCode, moveCode, granuleSet, moved, Moved, movedBy, moveAt, moveOf, movedTo}
+use Rattle.granules.specs.Granules.{GranuleTable, fromByte, toByte, guarded, granuleCode, moveCode, granuleSet, moved, Moved, movedBy, moveAt, whenFit, fitting, moveOf, movedTo}
 use Rattle.granules.specs.Acts.{MoveActed}
 use Rattle.banks.specs.declared.Granule.{Granule}
 use Rattle.banks.specs.declared.Granule.the-variants.{Nothing, At}
@@ -32,30 +34,39 @@ module _ (g : Granules) (n i : ℕ) where
       let f = falls g n addr i h in
       one-address g n addr (addressOf g i) i h (granule-on (f .ok) (f .count) (index-below g n addr i h))
 
--- A refusal comes only where 01 and 02, E8 give it: with the record up and the address that of a granule of the table, not the shared
--- page's if it is to be undelegated, whose byte is 0 (delegate) or 1 (undelegate), the answer is OK.
-pub move-passes : (s : Record) (g : Granules) (d : Direction) (t : GranuleTable) (addr i : ℕ) → isUp s ≡ true → granuleAt g (length (t .bytes)) addr ≡ At i → (d ≡ Undelegate → addr ≡ upOf s .base → ⊥) →
-    getD (t .bytes) i 0 ≡ fromByte d → moveOf s g d t addr .answer ≡ answerOf Ok 0 0
+-- A refusal comes only where 01 and 02 give it: with as many words as the record's granules ask for, the record up and the address that
+-- of a granule of the table, not the shared page's if it is to be undelegated, whose byte is 0 (delegate) or 1 (undelegate), the answer is OK.
+pub move-passes : (s : Record) (g : Granules) (d : Direction) (t : GranuleTable) (addr i : ℕ) → length (t .words) ≡ wordsFor (granuleCount g) → isUp s ≡ true → granuleAt g (length (t .bytes)) addr ≡ At i →
+    (d ≡ Undelegate → addr ≡ upOf s .base → ⊥) → getD (t .bytes) i 0 ≡ fromByte d → moveOf s g d t addr .answer ≡ answerOf Ok 0 0
 unfolding movedTo guarded
-move-passes s g d t addr i u e n b = ap (λ (m : Moved). m .answer) (sym (move-ok (upOf s) g d (t .bytes) addr i e (go d n) b (toByte d) refl ∙ move-up s g d t addr u))
+move-passes s g d t addr i f u e n b =
+    ap (λ (m : Moved). m .answer) (sym (move-ok (upOf s) g d (t .bytes) (t .words) addr i e (go d n) b (toByte d) refl ∙ move-up s g d t addr (eq-eqb (length (t .words)) (wordsFor (granuleCount g)) f) u))
   where
     go : (d : Direction) → (d ≡ Undelegate → addr ≡ upOf s .base → ⊥) → guarded (upOf s) d addr ≡ false
     go Delegate n = refl
     go Undelegate n = ne-eqb addr (upOf s .base) (n refl)
 
--- 02, E8: with the record up, undelegating the shared page is BAD_ADDR, whatever the table
-pub shared-refused : (s : Record) (g : Granules) (t : GranuleTable) → isUp s ≡ true → moveOf s g Undelegate t (upOf s .base) ≡ record { answer = answerOf BadAddr 0 0; table = t }
+-- 02, E8: with so many words and the record up, undelegating the shared page is BAD_ADDR, whatever the table
+pub shared-refused : (s : Record) (g : Granules) (t : GranuleTable) → length (t .words) ≡ wordsFor (granuleCount g) → isUp s ≡ true → moveOf s g Undelegate t (upOf s .base) ≡ record { answer = answerOf BadAddr 0 0; table = t }
 unfolding movedTo guarded
-shared-refused s g t u = sym (go (granuleAt g (length (t .bytes)) (upOf s .base)) refl ∙ move-up s g Undelegate t (upOf s .base) u)
+shared-refused s g t f u = sym (go (granuleAt g (length (t .bytes)) (upOf s .base)) refl ∙ move-up s g Undelegate t (upOf s .base) (eq-eqb (length (t .words)) (wordsFor (granuleCount g)) f) u)
   where
     go : (k : Granule) → granuleAt g (length (t .bytes)) (upOf s .base) ≡ k → _≡_ {A = Moved} (record { answer = answerOf BadAddr 0 0; table = t }) (moveAt (upOf s) g Undelegate t (upOf s .base))
-    go Nothing e = move-addr (upOf s) g Undelegate (t .bytes) (upOf s .base) e
-    go (At i) e = move-guarded (upOf s) g Undelegate (t .bytes) (upOf s .base) i e (eq-eqb (upOf s .base) (upOf s .base) refl)
+    go Nothing e = move-addr (upOf s) g Undelegate (t .bytes) (t .words) (upOf s .base) e
+    go (At i) e = move-guarded (upOf s) g Undelegate (t .bytes) (t .words) (upOf s .base) i e (eq-eqb (upOf s .base) (upOf s .base) refl)
 
-acted : (u : Params) (g : Granules) (d : Direction) (t : GranuleTable) (addr : ℕ) (k : Granule) → granuleAt g (length (t .bytes)) addr ≡ k → granuleCode u d t addr k ≡ Ok → MoveActed g d t (granuleSet d t k) addr
+-- the granule's bit is in one of the words
+word-of : (g : Granules) (t : GranuleTable) (addr i : ℕ) → length (t .words) ≡ wordsFor (granuleCount g) → granuleAt g (length (t .bytes)) addr ≡ At i → i / 64 < length (t .words)
+unfolding wordsFor
+word-of g t addr i f e =
+    let l : i < length (t .bytes) = index-below g (length (t .bytes)) addr i e in
+    let n : granuleCount g ≡ length (t .bytes) = falls g (length (t .bytes)) addr i e .count in
+    omega arith
+
+acted : (u : Params) (g : Granules) (d : Direction) (t : GranuleTable) (addr : ℕ) (k : Granule) → length (t .words) ≡ wordsFor (granuleCount g) → granuleAt g (length (t .bytes)) addr ≡ k → granuleCode u d t addr k ≡ Ok → MoveActed g d t (granuleSet d t k) addr
 unfolding granuleCode granuleSet
-acted u g d t addr Nothing e h = absurd (false≢true (ap isOk h))
-acted u g d t addr (At i) e h =
+acted u g d t addr Nothing f e h = absurd (false≢true (ap isOk h))
+acted u g d t addr (At i) f e h =
     record {
       granule = i;
       own = e;
@@ -63,6 +74,9 @@ acted u g d t addr (At i) e h =
       becomes = getD-set-same (t .bytes) i (toByte d) 0 (index-below g (length (t .bytes)) addr i e);
       others = λ j n. getD-set-other (t .bytes) i j _ 0 n;
       whole = length-set (t .bytes) i _;
+      bit = put-same (t .words) i _ (word-of g t addr i f e) (realm-lt (toByte d));
+      otherBits = λ j n. put-other (t .words) i j _ (realm-lt (toByte d)) n;
+      wholeWords = put-length (t .words) i _;
     }
 
 -- what an OK tells of the checks that no byte is looked at for
@@ -71,16 +85,20 @@ unfolding granuleCode
 free u d t addr Nothing h = absurd (false≢true (ap isOk h))
 free u d t addr (At i) h = fails-ok _ _ _ refl h .0
 
-pub move-free : (s : Record) (g : Granules) (d : Direction) (t : GranuleTable) (addr : ℕ) → moveOf s g d t addr .answer .code ≡ Ok → (isUp s ≡ true) × (guarded (upOf s) d addr ≡ false)
-unfolding moveOf movedBy moveCode whenUp answerOf
-move-free s g d t addr h = let p = unless-ok _ _ _ refl h in (p .0, free (upOf s) d t addr _ (p .1))
+pub move-free : (s : Record) (g : Granules) (d : Direction) (t : GranuleTable) (addr : ℕ) → moveOf s g d t addr .answer .code ≡ Ok → (fitting g t ≡ true) × (isUp s ≡ true) × (guarded (upOf s) d addr ≡ false)
+unfolding moveOf movedBy moveCode whenFit whenUp answerOf
+move-free s g d t addr h =
+    let p = unless-ok _ _ _ refl h in
+    let q = unless-ok _ _ _ refl (p .1) in
+    (p .0, q .0, free (upOf s) d t addr _ (q .1))
 
--- and only with the record up, and not the shared page's to be undelegated; what else an OK tells is part of what it did
-pub move-only : (s : Record) (g : Granules) (d : Direction) (t : GranuleTable) (addr : ℕ) → moveOf s g d t addr .answer .code ≡ Ok → (isUp s ≡ true) × (d ≡ Undelegate → addr ≡ upOf s .base → ⊥)
-unfolding guarded
-move-only s g d t addr h = let p = move-free s g d t addr h in (p .0, λ e. eqb-false addr (upOf s .base) (rw e at (p .1)))
+-- and only with so many words, the record up, and not the shared page's to be undelegated; what else an OK tells is part of what it did
+pub move-only : (s : Record) (g : Granules) (d : Direction) (t : GranuleTable) (addr : ℕ) → moveOf s g d t addr .answer .code ≡ Ok →
+    (length (t .words) ≡ wordsFor (granuleCount g)) × (isUp s ≡ true) × (d ≡ Undelegate → addr ≡ upOf s .base → ⊥)
+unfolding guarded fitting
+move-only s g d t addr h = let p = move-free s g d t addr h in (eqb-true _ _ (p .0), p .1, λ e. eqb-false addr (upOf s .base) (rw e at (p .2)))
 
 -- "Then it becomes 1 or 0."
 pub move-acts : (s : Record) (g : Granules) (d : Direction) (t : GranuleTable) (addr : ℕ) → moveOf s g d t addr .answer .code ≡ Ok → MoveActed g d t (moveOf s g d t addr .table) addr
-unfolding moveOf movedBy moveCode moved whenUp answerOf
-move-acts s g d t addr h = rw h (acted _ g d t addr _ refl (unless-ok _ _ _ refl h .1))
+unfolding moveOf movedBy moveCode moved whenFit whenUp answerOf
+move-acts s g d t addr h = let p = unless-ok _ _ _ refl h in rw h (acted _ g d t addr _ (eqb-true _ _ (p .0)) refl (unless-ok _ _ _ refl (p .1) .1))

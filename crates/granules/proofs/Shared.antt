@@ -40,4 +40,4 @@ realm-taken g t after a addr m r e =
 -- "If it was Realm at boot it is Realm after any later calls on that table with the same boot and granule records.": after one call
 pub shared-kept : (s : Record) (g : Granules) (d : Direction) (t : GranuleTable) (a : ℕ) → moveOf s g d t a .answer .code ≡ Ok → RealmAt g (upOf s .base) t → RealmAt g (upOf s .base) (moveOf s g d t a .table)
 shared-kept s g Delegate t a h r = let m = move-acts s g Delegate t a h in other-stays g Delegate t _ a (upOf s .base) m r (realm-taken g t _ a (upOf s .base) m r)
-shared-kept s g Undelegate t a h r = other-stays g Undelegate t _ a (upOf s .base) (move-acts s g Undelegate t a h) r (move-only s g Undelegate t a h .1 refl)
+shared-kept s g Undelegate t a h r = other-stays g Undelegate t _ a (upOf s .base) (move-acts s g Undelegate t a h) r (move-only s g Undelegate t a h .2 refl)

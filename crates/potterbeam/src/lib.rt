@@ -24,6 +24,8 @@ ghost use Rattle.writer.specs.Wrote.{pageAfter};
 ghost use Rattle.versions.specs.Version.{versionOk, later, agreed};
 ghost use Rattle.boot.specs.declared.Record.the-variants.{Closed};
 ghost use Rattle.boot.specs.Boot.{codeIn, coldCode, coldNext, warmCode, warmNext};
+ghost use Rattle.banks.specs.Banks.{granuleCount};
+ghost use Rattle.realm_words.specs.Answers.{realmCountOf, realmNextOf, realmAgreeOf};
 ghost use Rattle.granules.specs.declared.Direction.{Direction};
 ghost use Rattle.attest.specs.Key.{realmKeyOf};
 ghost use mathlib.Core.Bool.{true, false};
@@ -31,8 +33,9 @@ ghost use Rattle.codes.specs.Codes.{x0Of};
 ghost use Rattle.token.specs.Token.{bufferCode, challengeSpan};
 ghost use Rattle.features.specs.Features.{featuresOf, updateOf, forwardOf};
 ghost use Rattle.images.specs.Image.{recordOf, recordWords, registerWords, workWords, sectionWords, viewOf, viewWords, answerWords, madeNumber, spanWords};
+ghost use Rattle.images.specs.Realm.{numberX0, numberWords, hitX0, hitWords, agreementX0};
 ghost use Rattle.queue_image.specs.Image.{listsIn, oldestWords};
-ghost use Rattle.potterbeam.specs.Exports.{writeIn, SetUpLeft, setUpIn, MoveLeft, moveIn, moveListIn, TokenLeft, tokenIn, SigningLeft, signingIn, SignLeft, signIn, PlainLeft, plainIn, CallLeft, callLent, callIn};
+ghost use Rattle.potterbeam.specs.Exports.{writeIn, SetUpLeft, setUpIn, MoveLeft, moveIn, moveListIn, BuildLeft, buildIn, TokenLeft, tokenIn, SigningLeft, signingIn, SignLeft, signIn, PlainLeft, plainIn, CallLeft, callLent, callIn};
 
 // ---- Manifest ----
 
@@ -274,16 +277,18 @@ pub extern "C" fn pbeam_delegate(
     state: &[u64; 5],
     granules: &[u64; 33],
     table: &mut [u8],
+    words: &mut [u64],
     address: u64,
     out: &mut [u64; 3],
 )
-    ensures { λ _. ⌜ _≡_ {A = MoveLeft} (record { out = now (out .exit); table = now (table .exit) })
-        (moveIn Direction.Delegate (now (state .entry)) (now (granules .entry)) (now (table .entry)) address) ⌝ }
+    ensures { λ _. ⌜ _≡_ {A = MoveLeft} (record { out = now (out .exit); table = now (table .exit); words = now (words .exit) })
+        (moveIn Direction.Delegate (now (state .entry)) (now (granules .entry)) (now (table .entry)) (now (words .entry)) address) ⌝ }
 {
     *out = images::registers(granules::delegate(
         images::record_of(state),
         granules,
         table,
+        words,
         address,
     ));
 }
@@ -294,16 +299,18 @@ pub extern "C" fn pbeam_undelegate(
     state: &[u64; 5],
     granules: &[u64; 33],
     table: &mut [u8],
+    words: &mut [u64],
     address: u64,
     out: &mut [u64; 3],
 )
-    ensures { λ _. ⌜ _≡_ {A = MoveLeft} (record { out = now (out .exit); table = now (table .exit) })
-        (moveIn Direction.Undelegate (now (state .entry)) (now (granules .entry)) (now (table .entry)) address) ⌝ }
+    ensures { λ _. ⌜ _≡_ {A = MoveLeft} (record { out = now (out .exit); table = now (table .exit); words = now (words .exit) })
+        (moveIn Direction.Undelegate (now (state .entry)) (now (granules .entry)) (now (table .entry)) (now (words .entry)) address) ⌝ }
 {
     *out = images::registers(granules::undelegate(
         images::record_of(state),
         granules,
         table,
+        words,
         address,
     ));
 }
@@ -314,16 +321,18 @@ pub extern "C" fn pbeam_delegate_list(
     state: &[u64; 5],
     granules: &[u64; 33],
     table: &mut [u8],
+    words: &mut [u64],
     addresses: &[u64],
     out: &mut [u64; 3],
 )
-    ensures { λ _. ⌜ _≡_ {A = MoveLeft} (record { out = now (out .exit); table = now (table .exit) })
-        (moveListIn Direction.Delegate (now (state .entry)) (now (granules .entry)) (now (table .entry)) (now (addresses .entry))) ⌝ }
+    ensures { λ _. ⌜ _≡_ {A = MoveLeft} (record { out = now (out .exit); table = now (table .exit); words = now (words .exit) })
+        (moveListIn Direction.Delegate (now (state .entry)) (now (granules .entry)) (now (table .entry)) (now (words .entry)) (now (addresses .entry))) ⌝ }
 {
     *out = images::registers(granules::delegate_list(
         images::record_of(state),
         granules,
         table,
+        words,
         addresses,
     ));
 }
@@ -334,16 +343,18 @@ pub extern "C" fn pbeam_undelegate_list(
     state: &[u64; 5],
     granules: &[u64; 33],
     table: &mut [u8],
+    words: &mut [u64],
     addresses: &[u64],
     out: &mut [u64; 3],
 )
-    ensures { λ _. ⌜ _≡_ {A = MoveLeft} (record { out = now (out .exit); table = now (table .exit) })
-        (moveListIn Direction.Undelegate (now (state .entry)) (now (granules .entry)) (now (table .entry)) (now (addresses .entry))) ⌝ }
+    ensures { λ _. ⌜ _≡_ {A = MoveLeft} (record { out = now (out .exit); table = now (table .exit); words = now (words .exit) })
+        (moveListIn Direction.Undelegate (now (state .entry)) (now (granules .entry)) (now (table .entry)) (now (words .entry)) (now (addresses .entry))) ⌝ }
 {
     *out = images::registers(granules::undelegate_list(
         images::record_of(state),
         granules,
         table,
+        words,
         addresses,
     ));
 }
@@ -509,6 +520,60 @@ pub extern "C" fn pbeam_responses(queue: &[u64; 210]) -> usize
     queue_image::responses_waiting(queue)
 }
 
+// ---- The realm words ----
+
+// How many Realm granules there are, by the words alone. Answers x0 of OK or INVAL.
+#[no_mangle]
+pub extern "C" fn pbeam_realm_count(
+    granules: &[u64; 33],
+    words: &[u64],
+    number: &mut [u64; 1],
+) -> u64
+    ensures { λ r. ⌜ r ≡ numberX0 (realmCountOf (now (words .entry)) (granuleCount (now (granules .entry)))) ⌝ }
+    ensures { λ _. ⌜ now (number .exit) ≡ numberWords (realmCountOf (now (words .entry)) (granuleCount (now (granules .entry)))) ⌝ }
+{
+    let n = banks::granule_count(granules);
+    let counted = realm_words::count(words, n as usize);
+    *number = images::number_words(counted);
+    images::number_x0(counted)
+}
+
+// The first Realm granule at or after an index, by the words alone. Answers x0 of OK or INVAL, or 1 if there is none.
+#[no_mangle]
+pub extern "C" fn pbeam_realm_next(
+    granules: &[u64; 33],
+    words: &[u64],
+    index: u64,
+    found: &mut [u64; 1],
+) -> u64
+    ensures { λ r. ⌜ r ≡ hitX0 (realmNextOf (now (words .entry)) (granuleCount (now (granules .entry))) index) ⌝ }
+    ensures { λ _. ⌜ now (found .exit) ≡ hitWords (realmNextOf (now (words .entry)) (granuleCount (now (granules .entry))) index) ⌝ }
+{
+    let n = banks::granule_count(granules);
+    let hit = realm_words::next(words, n as usize, index as usize);
+    *found = images::hit_words(hit);
+    images::hit_x0(hit)
+}
+
+// Whether words and table agree, spare bits too. Answers x0 of OK or INVAL, or 1 if they do not.
+#[no_mangle]
+pub extern "C" fn pbeam_realm_agrees(granules: &[u64; 33], table: &[u8], words: &[u64]) -> u64
+    ensures { λ r. ⌜ r ≡ agreementX0 (realmAgreeOf (now (table .entry)) (now (words .entry)) (granuleCount (now (granules .entry)))) ⌝ }
+{
+    let n = banks::granule_count(granules);
+    images::agreement_x0(realm_words::agrees(table, words, n as usize))
+}
+
+// Makes the words agree with the table. Answers x0 of OK or INVAL.
+#[no_mangle]
+pub extern "C" fn pbeam_realm_build(granules: &[u64; 33], table: &[u8], words: &mut [u64]) -> u64
+    ensures { λ r. ⌜ _≡_ {A = BuildLeft} (record { x0 = r; words = now (words .exit) })
+        (buildIn (now (granules .entry)) (now (table .entry)) (now (words .entry))) ⌝ }
+{
+    let n = banks::granule_count(granules);
+    images::built_x0(realm_words::build(table, words, n as usize))
+}
+
 // ---- Every command ----
 
 // A call that uses neither session nor queue.
@@ -517,14 +582,15 @@ fn plain(
     page: &mut [u8],
     granules: &[u64; 33],
     table: &mut [u8],
+    words: &mut [u64],
     key: &[u8],
     width: u64,
     call: &[u64; 5],
     out: &mut [u64; 3],
     work: &mut [u64; 2],
 )
-    ensures { λ _. ⌜ _≡_ {A = PlainLeft} (record { out = now (out .exit); work = now (work .exit); page = now (page .exit); table = now (table .exit) })
-        (plainIn (now (state .entry)) (now (granules .entry)) (now (page .entry)) (now (table .entry)) (now (call .entry)) (now (key .entry)) width) ⌝ }
+    ensures { λ _. ⌜ _≡_ {A = PlainLeft} (record { out = now (out .exit); work = now (work .exit); page = now (page .exit); table = now (table .exit); words = now (words .exit) })
+        (plainIn (now (state .entry)) (now (granules .entry)) (now (page .entry)) (now (table .entry)) (now (words .entry)) (now (call .entry)) (now (key .entry)) width) ⌝ }
 {
     let reply = runtime::plain_call(
         images::record_of(state),
@@ -535,6 +601,7 @@ fn plain(
         call[3],
         page,
         table,
+        words,
         key,
         width,
     );
@@ -552,6 +619,7 @@ pub extern "C" fn pbeam_call(
     page: &mut [u8],
     granules: &[u64; 33],
     table: &mut [u8],
+    words: &mut [u64],
     key: &[u8],
     token: &[u8],
     busy: u64,
@@ -566,14 +634,26 @@ pub extern "C" fn pbeam_call(
       work = now (work .exit);
       page = now (page .exit);
       table = now (table .exit);
+      words = now (words .exit);
       session = now (session .exit);
       queue = now (queue .exit);
     })
-        (callIn (now (granules .entry)) (now (session .entry)) (now (queue .entry)) (now (page .entry)) (now (table .entry))
+        (callIn (now (granules .entry)) (now (session .entry)) (now (queue .entry)) (now (page .entry)) (now (table .entry)) (now (words .entry))
         (callLent (now (state .entry)) (now (call .entry)) busy (now (key .entry)) (now (token .entry)) (now (public .entry)) width)) ⌝ }
 {
     match runtime::needs_of(call[0]) {
-        Needs::Nothing => plain(state, page, granules, table, key, width, call, out, work),
+        Needs::Nothing => plain(
+            state,
+            page,
+            granules,
+            table,
+            words,
+            key,
+            width,
+            call,
+            out,
+            work,
+        ),
         Needs::Session => {
             *work = [0, 0];
             pbeam_platform_token(

@@ -8,3 +8,4 @@ pub mod Values
 pub mod Kept
 pub mod Changes
 pub mod Shared
+pub mod Agreement

@@ -17,9 +17,12 @@ registers-requires c κs = search needs
 same-length : tie.Need-same-length
 same-length c = search needs
 
+same-length-2 : tie.Need-same-length-2
+same-length-2 c = search needs
+
 returns : tie.Need-returns
 unfolding moveListIn
-returns c = move-left _ _ _ _ (c .registers .ensures) (c .before .before .before .undelegate-list .ensures ∙ rw (c .before .before .before .before .before .record-of .ensures))
+returns c = move-left _ _ _ _ _ (c .registers .ensures) (c .before .before .before .before .before .undelegate-list .ensures ∙ rw (c .before .before .before .before .before .before .before .before .record-of .ensures))
 
 pub pbeam-undelegate-list-spec : {M : Type 1} → statement M
 pbeam-undelegate-list-spec =
@@ -29,4 +32,5 @@ pbeam-undelegate-list-spec =
     undelegate-list-requires
     registers-requires
     same-length
+    same-length-2
     returns)
