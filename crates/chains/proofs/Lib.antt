@@ -2,3 +2,4 @@ pub mod Chain
 pub mod Runs
 pub mod Singles
 pub mod Queues
+pub mod Agreement
