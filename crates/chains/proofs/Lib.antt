@@ -4,3 +4,4 @@ pub mod Singles
 pub mod Queues
 pub mod Reread
 pub mod Tables
+pub mod Agreement

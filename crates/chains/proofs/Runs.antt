@@ -1,4 +1,4 @@
--- Any sequence of exported calls, each on the images, the page and the table that the one before it left, is a sequence of the runtime's
+-- Any sequence of exported calls, each on the images, the page, the table and its words that the one before it left, is a sequence of the runtime's
 -- steps. Assumes nothing.
 use Prim.Native.Nat.{ℕ}
 use mathlib.Core.Path.{_≡_, refl, ap, _∙_}
@@ -105,7 +105,7 @@ module _ (granules : List ℕ) where
 
     step-becomes : (c : Command) → Yes (ofBytes c) → Becomes (m .queue) (lentAfter granules m c .queue) (stepOf granules (lentWorld m) c .next .queue)
     unfolding commandLeft stepOf afterMove afterSign ofBytes
-    step-becomes (call c) b = call-becomes granules (m .session) (m .queue) (m .page) (m .table) c queue-whole queue-words page-bytes
+    step-becomes (call c) b = call-becomes granules (m .session) (m .queue) (m .page) (m .table) (m .words) c queue-whole queue-words page-bytes
     step-becomes (sign s) b = signer-becomes (m .queue) queue-whole queue-words s b
     step-becomes (list r d l) b = as-it-was (m .queue) queue-whole queue-words
 
@@ -121,7 +121,7 @@ module _ (granules : List ℕ) where
 
     step-chain : (c : Command) → Yes (ofBytes c) → lentWorld (lentAfter granules m c) ≡ stepOf granules (lentWorld m) c .next
     unfolding commandLeft moveLeft stepOf afterMove afterSign ofBytes
-    step-chain (call c) b = call-chain granules (m .session) (m .queue) (m .page) (m .table) c queue-whole queue-words page-bytes
+    step-chain (call c) b = call-chain granules (m .session) (m .queue) (m .page) (m .table) (m .words) c queue-whole queue-words page-bytes
     step-chain (sign s) b = rw (sign-chain (m .queue) queue-whole queue-words s b)
     step-chain (list r d l) b = refl
 

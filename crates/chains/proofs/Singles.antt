@@ -22,7 +22,7 @@ use Rattle.chains.proofs.Runs.{run-chain, run-exact}
 module _ (granules : List ℕ) (m : Lent) where
   -- a call by the kind of its id
   dispatched-by : (k : Kind) (state x : List ℕ) (busy : ℕ) (key token public : List ℕ) (width : ℕ) → kindOf (getD x 0 0) ≡ k →
-      callIn granules (m .session) (m .queue) (m .page) (m .table) (callLent state x busy key token public width) ≡ exportLeft granules m (exportFor k state x busy key token public width)
+      callIn granules (m .session) (m .queue) (m .page) (m .table) (m .words) (callLent state x busy key token public width) ≡ exportLeft granules m (exportFor k state x busy key token public width)
   unfolding exportFor exportLeft callIn callLent callLeft callOf callBy needsOf afterMove afterKey afterToken afterSigning afterUpdate sessionLeft queueLeft replyRegisters replyWords workWords replyCode moveIn moveLeft tokenIn tokenLeft signingIn signingLeft signingOn imageStep
   dispatched-by ForwardError state x busy key token public width e = rw e
   dispatched-by Delegate state x busy key token public width e = rw e
