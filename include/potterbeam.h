@@ -755,7 +755,7 @@ size_t pbeam_responses(const uint64_t queue[PBEAM_QUEUE_WORDS]);
  *          other id: PBEAM_X0_UNK. Every command but PBEAM_ID_FORWARD: PBEAM_X0_UNK while the record is not up.
  * Leaves   what the command leaves; all else as it was. Only PBEAM_ID_PLATFORM_TOKEN reads or writes the session, only
  *          PBEAM_ID_TOKEN_SIGNING the queue.
- * Stack    512 bytes with PBEAM_ID_TOKEN_SIGNING, 416 bytes with any other id; AArch64 432
+ * Stack    528 bytes with PBEAM_ID_TOKEN_SIGNING, 416 bytes with any other id; AArch64 432
  */
 PBEAM_NONNULL(1, 2, 3, 6, 17, 18, 19)
 void pbeam_call(const uint64_t state[PBEAM_STATE_WORDS], uint64_t session[PBEAM_SESSION_WORDS], uint64_t queue[PBEAM_QUEUE_WORDS],
