@@ -10,7 +10,7 @@ use Rattle.codes.specs.Codes.{isOk, x0Of, extended, answerOf}
 use Rattle.codes.specs.declared.Answer.{Answer}
 use Rattle.codes.specs.declared.Code.{Code}
 use Rattle.codes.specs.declared.Code.the-variants.{Ok, Unk, BadAddr, BadPas, Inval, Again}
-use Rattle.granules.specs.Granules.{GranuleTable}
+use Rattle.granules.specs.Granules.{GranuleTable, tableOf}
 use Rattle.granules.specs.Changes.{RealmAt}
 use Rattle.granules.proofs.Done.{ok-code}
 use Rattle.attest.specs.Key.{keyed, realmKeyOf}
@@ -30,7 +30,7 @@ use Rattle.signing.specs.OnImage.{signingOn}
 use Rattle.images.specs.Image.{recordOf, isSet, sessionOf, registerWords}
 use Rattle.queue_image.specs.Image.{listsIn}
 use Rattle.queue_image.specs.Steps.{imageStep}
-use Rattle.potterbeam.specs.Exports.{moveLeft, callLeft, callLent, callIn, tokenIn, tokenLeft, signingIn, signingLeft}
+use Rattle.potterbeam.specs.Exports.{moveLeft, CallLeft, callLeft, callLent, callIn, tokenIn, tokenLeft, signingIn, signingLeft}
 use Rattle.potterbeam.proofs.Refusals.{Tells, token-tells, signing-tells}
 use Rattle.chains.specs.Chain.{Lent, lentWorld, lentOn, commandLeft}
 use Rattle.chains.specs.Exported.{Exported, pbeam-delegate, pbeam-undelegate, pbeam-delegate-list, pbeam-undelegate-list, pbeam-realm-key, pbeam-platform-token, pbeam-features, pbeam-token-signing, pbeam-key-update, pbeam-forward, pbeam-call, pbeam-sign, exportLeft, commandOf, allExported, exportUnder, RealmIn, baseIn, LentIntoRealm, ExportsIntoRealm}
@@ -38,17 +38,17 @@ use Rattle.chains.proofs.Singles.{single}
 
 -- ---- the table alone
 module _ (granules : List ℕ) where
-  command-table : (m : Lent) (c : Command) → commandLeft granules m c .table ≡ nextOf granules (lentWorld m) c .table .bytes
+  command-table : (m : Lent) (c : Command) → tableOf (commandLeft granules m c .table) (commandLeft granules m c .words) ≡ nextOf granules (lentWorld m) c .table
   unfolding commandLeft callIn callLeft moveLeft stepOf afterMove afterSign
   command-table m (call c) = refl
   command-table m (sign s) = refl
   command-table m (list r d l) = refl
 
-  export-table : (m : Lent) (e : Exported) → nextOf granules (lentWorld m) (commandOf e) .table ≡ record { bytes = exportLeft granules m e .table }
-  export-table m e = ap (λ (b : List ℕ). record { bytes = b }) (sym (command-table m (commandOf e))) ∙ ap (λ l. record { bytes = l .table }) (sym (single granules m e))
+  export-table : (m : Lent) (e : Exported) → nextOf granules (lentWorld m) (commandOf e) .table ≡ tableOf (exportLeft granules m e .table) (exportLeft granules m e .words)
+  export-table m e = sym (command-table m (commandOf e)) ∙ ap (λ (l : CallLeft). tableOf (l .table) (l .words)) (sym (single granules m e))
 
-  -- any sequence of exports leaves the table that the sequence of their commands leaves, from any world with that table
-  pub exports-table : (w : World) (m : Lent) (es : List Exported) → w .table ≡ lentWorld m .table → worldAfter granules w (map commandOf es) .table ≡ record { bytes = allExported granules m es .table }
+  -- any sequence of exports leaves the table, with its words, that the sequence of their commands leaves, from any world with that table
+  pub exports-table : (w : World) (m : Lent) (es : List Exported) → w .table ≡ lentWorld m .table → worldAfter granules w (map commandOf es) .table ≡ tableOf (allExported granules m es .table) (allExported granules m es .words)
   unfolding worldAfter allExported
   exports-table w m [] h = h
   exports-table w m (e ∷ es) h =

@@ -5,6 +5,7 @@ use mathlib.Core.List.{List, [], _∷_}
 use lib.ListN.{getD}
 use Rattle.codes.specs.Codes.{upOf}
 use Rattle.range.specs.Buffers.{BufferIn}
+use Rattle.granules.specs.Granules.{tableOf}
 use Rattle.granules.specs.Changes.{RealmAt}
 use Rattle.granules.specs.declared.Direction.{Direction}
 use Rattle.attest.specs.Key.{realmKeyOf}
@@ -114,7 +115,7 @@ exportUnder image (pbeam-sign signature) = pbeam-sign signature
 
 -- an address is Realm in a lent table, with the image of the granule record
 abbrev pub RealmIn : List ℕ → ℕ → Lent → Type 0
-RealmIn granules addr m = RealmAt granules addr (record { bytes = m .table })
+RealmIn granules addr m = RealmAt granules addr (tableOf (m .table) (m .words))
 
 -- the base that the image of a boot record keeps
 abbrev pub baseIn : List ℕ → ℕ
