@@ -68,6 +68,32 @@ fn print_command(input: &[u8], table: &mut [u8], words: &mut [u64], key: &[u8], 
     print_other(state, id, x1, words::word_at(input, 72));
 }
 
+// Whether table and page are as the case expects them from an offset on, and the words.
+fn print_exit(input: &[u8], at: usize, table: &[u8], words: &[u64], page: &[u8])
+    requires { ⌜ (at ≤ 20000) × (length (now table) ≤ 600) ⌝ }
+{
+    let t = table.len();
+    let n = page.len();
+    cases::print_same(b"table", table, words::part_of(input, Span { at, len: t }));
+    cases::print_same(
+        b"page",
+        page,
+        words::part_of(input, Span { at: at + t, len: n }),
+    );
+    cases::print_words(words);
+}
+
+// Fills what is lent: the table stands from 104 on, and the page from an offset on.
+fn fill(input: &[u8], at: usize, table: &mut [u8], words: &mut [u64], page: &mut [u8])
+    requires { ⌜ length (now words) ≤ 600 ⌝ }
+{
+    let t = table.len();
+    let n = page.len();
+    words::copy(table, words::part_of(input, Span { at: 104, len: t }));
+    words::copy(page, words::part_of(input, Span { at, len: n }));
+    cases::fill_words(input, 64, words);
+}
+
 // A case with its lends: table, a key of k bytes and page stand from 104 on, then table and page expected.
 fn print_lent(input: &[u8], table: &mut [u8], words: &mut [u64], k: usize, page: &mut [u8])
     requires { ⌜ (length (now table) ≤ 600) × (length (now words) ≤ 600) × (k ≤ 4200) × (length (now page) ≤ 4200) ⌝ }
@@ -75,10 +101,7 @@ fn print_lent(input: &[u8], table: &mut [u8], words: &mut [u64], k: usize, page:
     let t = table.len();
     let n = page.len();
     let first = 104 + t + k;
-    let second = first + n;
-    let third = second + t;
-    words::copy(table, words::part_of(input, Span { at: 104, len: t }));
-    words::copy(page, words::part_of(input, Span { at: first, len: n }));
+    fill(input, first, table, words, page);
     let key = words::part_of(
         input,
         Span {
@@ -86,19 +109,8 @@ fn print_lent(input: &[u8], table: &mut [u8], words: &mut [u64], k: usize, page:
             len: k,
         },
     );
-    cases::fill_words(input, 64, words);
     print_command(input, table, words, key, page);
-    cases::print_same(
-        b"table",
-        table,
-        words::part_of(input, Span { at: second, len: t }),
-    );
-    cases::print_same(
-        b"page",
-        page,
-        words::part_of(input, Span { at: third, len: n }),
-    );
-    cases::print_words(words);
+    print_exit(input, first + n, table, words, page);
 }
 
 fn print_case(input: &[u8]) {
