@@ -1,17 +1,19 @@
 -- One pass over the banks, as the loop goes: what is left to judge, to add and to find. Assumes nothing.
 use Prim.Native.Nat.{ℕ, zero, suc, _+_, _-_, _*_, _/_, _%_, _^_, _≤_, _<_}
 use mathlib.Core.Path.{_≡_, refl, sym, _∙_}
-use mathlib.Core.Bool.{Bool, true, false}
+use mathlib.Core.Bool.{Bool, true, false, cond}
 use mathlib.Core.List.{List, [], _∷_}
 use native.Mathlib.Omega.{arith}
+use native.Mathlib.Decide.{decLt}
 use lib.ListN.{getD}
+use lib.Dec.{leb, ltb}
 use borrow.Author.Tests.{leb-true, ltb-true, eqb-true, le-leb, lt-leb, lt-ltb, le-ltb}
 use Rattle.words.specs.Tests.{both, Yes}
-use Rattle.words.proofs.Tests.{both-l, both-r}
+use Rattle.words.proofs.Tests.{both-l, both-r, same-test}
 use Rattle.entries.specs.Entry.{bankOk}
 use Rattle.banks.specs.declared.Granule.{Granule}
 use Rattle.banks.specs.declared.Granule.the-variants.{Nothing, At}
-use Rattle.banks.specs.Banks.{Granules, Bank, banksBy, bankAt, countOf, banksOf, follows, ascend, banksOk, recordOk, total, granuleCount, placeIn, orElse, placeAmong, placeOf}
+use Rattle.banks.specs.Banks.{Granules, Bank, banksBy, bankAt, countOf, banksOf, follows, ascend, banksOk, recordOk, total, granuleCount, holds, placeIn, orElse, placeAmong, placeOf, distance, reachIn, reachAmong}
 
 -- ---- a bank that follows
 pub record Follows (low base size : ℕ) : Type 0 where
@@ -162,18 +164,49 @@ module _ (g : Granules) (addr i low before : ℕ) (place : Granule) (s : Stage g
     unfolding ascend both
     stage-stops n = s .judged ∙ rw (one-left, n)
 
+-- ---- a bank that meets the reader's rule is searched by one comparison
+pub distance-is : (base addr r : ℕ) → (r + base) % 2 ^ 64 ≡ addr → r < 2 ^ 64 → base < 2 ^ 64 → distance base addr ≡ r
+unfolding distance
+distance-is base addr r e l m = go (decLt addr base)
+  where
+    go : Dec (addr < base) → cond (leb base addr) (addr - base) (addr + 2 ^ 64 - base) ≡ r
+    go (yes y) = rw (lt-leb base addr y) (omega arith)
+    go (no y) = let k : base ≤ addr = omega arith in rw (le-leb base addr k) (omega arith)
+
+pub reach-place : (before base size addr : ℕ) → base + size ≤ 2 ^ 64 → reachIn before base size addr ≡ placeIn before base size addr
+unfolding reachIn distance placeIn holds both
+reach-place before base size addr h = go (decLt addr base)
+  where
+    same : base ≤ addr → ltb (addr - base) size ≡ ltb addr (base + size)
+    same l =
+        same-test _ _
+        (λ k. let e : addr - base < size = ltb-true _ _ k in lt-ltb addr (base + size) (omega arith))
+        (λ k. let e : addr < base + size = ltb-true _ _ k in lt-ltb (addr - base) size (omega arith))
+
+    go : Dec (addr < base) → cond (ltb (cond (leb base addr) (addr - base) (addr + 2 ^ 64 - base)) size) (At (before + cond (leb base addr) (addr - base) (addr + 2 ^ 64 - base) / 4096)) Nothing
+        ≡ cond (both (leb base addr) (ltb addr (base + size))) (At (before + (addr - base) / 4096)) Nothing
+    go (yes y) = rw (lt-leb base addr y, le-ltb (addr + 2 ^ 64 - base) size (omega arith))
+    go (no y) = let l : base ≤ addr = omega arith in rw (le-leb base addr l, same l)
+
+pub reach-among : (low before : ℕ) (bs : List Bank) (addr : ℕ) → Yes (ascend low bs) → reachAmong before bs addr ≡ placeAmong before bs addr
+unfolding ascend reachAmong placeAmong
+reach-among low before [] addr a = refl
+reach-among low before (b ∷ bs) addr a =
+    let f = follows-is low (b .base) (b .size) (both-l _ _ a) in
+    rw (reach-place before (b .base) (b .size) addr (omega (arith, f .ends)), reach-among (b .base + b .size) (before + b .size / 4096) bs addr (both-r _ _ a))
+
 -- ---- a search that stops at the first hit
 module _ (g : Granules) (addr i before : ℕ) where
-  pub seek-last : countOf g ≤ i → placeAmong before (left g i) addr ≡ Nothing
-  unfolding placeAmong
+  pub seek-last : countOf g ≤ i → reachAmong before (left g i) addr ≡ Nothing
+  unfolding reachAmong
   seek-last h = rw (left-none g i h)
 
   module _ (h : i < countOf g) where
-    pub seek-more : placeIn before (getD g (1 + 2 * i) 0) (getD g (2 + 2 * i) 0) addr ≡ Nothing
-        → placeAmong before (left g i) addr ≡ placeAmong (before + getD g (2 + 2 * i) 0 / 4096) (left g (i + 1)) addr
-    unfolding placeAmong orElse
+    pub seek-more : reachIn before (getD g (1 + 2 * i) 0) (getD g (2 + 2 * i) 0) addr ≡ Nothing
+        → reachAmong before (left g i) addr ≡ reachAmong (before + getD g (2 + 2 * i) 0 / 4096) (left g (i + 1)) addr
+    unfolding reachAmong orElse
     seek-more n = rw (left-more g i h, n)
 
-    pub seek-hit : (k : ℕ) → placeIn before (getD g (1 + 2 * i) 0) (getD g (2 + 2 * i) 0) addr ≡ At k → placeAmong before (left g i) addr ≡ At k
-    unfolding placeAmong orElse
+    pub seek-hit : (k : ℕ) → reachIn before (getD g (1 + 2 * i) 0) (getD g (2 + 2 * i) 0) addr ≡ At k → reachAmong before (left g i) addr ≡ At k
+    unfolding reachAmong orElse
     seek-hit k n = rw (left-more g i h, n)

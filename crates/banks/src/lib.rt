@@ -5,7 +5,7 @@ use entries::Bits;
 ghost use mathlib.Core.Path.{_≡_};
 ghost use Prim.Native.Nat.{_/_, _<_, _≤_};
 ghost use Rattle.entries.specs.Entry.{bankOk};
-ghost use Rattle.banks.specs.Banks.{follows, orElse, placeIn, granuleCount, placeOf, granuleAt, foundIn, foundAt, recordFrom, SetUp, setUpOf};
+ghost use Rattle.banks.specs.Banks.{follows, orElse, placeIn, granuleCount, placeOf, granuleAt, reachIn, onlyAt, foundIn, foundAt, recordFrom, SetUp, setUpOf};
 
 // The granule that an address falls on.
 pub enum Granule {
@@ -95,10 +95,42 @@ pub fn granule_count(granules: &[u64; 33]) -> u64
     pass.granules
 }
 
-// The granule that an address falls on, in a table of n granules.
+// The same by one comparison, in a bank that meets the reader's rule.
+fn reach_in(before: u64, base: u64, size: u64, address: u64) -> Granule
+    requires { ⌜ before < 0x8000_0000_0000_0000 ⌝ }
+    ensures { λ r. ⌜ r ≡ reachIn before base size address ⌝ }
+{
+    let distance = std::num::wrapping_sub_u64(address, base);
+    if size <= distance {
+        return Granule::Nothing;
+    }
+    let at = before + distance / 4096;
+    Granule::At(at as usize)
+}
+
+// The granule that an address falls on, in a table of n granules, of a record with one bank.
+fn only_granule(base: u64, size: u64, n: usize, address: u64) -> Granule
+    ensures { λ r. ⌜ r ≡ onlyAt base size n address ⌝ }
+{
+    if address % 4096 != 0 {
+        return Granule::Nothing;
+    }
+    if !bank_ok(base, size) {
+        return Granule::Nothing;
+    }
+    if size / 4096 != n as u64 {
+        return Granule::Nothing;
+    }
+    reach_in(0, base, size, address)
+}
+
+// The granule that an address falls on, in a table of n granules. A record of one bank, the usual one, is judged without a loop.
 pub fn granule_of(granules: &[u64; 33], n: usize, address: u64) -> Granule
     ensures { λ r. ⌜ r ≡ granuleAt (now (granules .entry)) n address ⌝ }
 {
+    if granules[0] == 1 {
+        return only_granule(granules[1], granules[2], n, address);
+    }
     if address % 4096 != 0 {
         return Granule::Nothing;
     }
@@ -129,7 +161,7 @@ fn find(granules: &[u64; 33], address: u64) -> Granule
     for i in 0..(count as usize) {
         let base = granules[1 + 2 * i];
         let size = granules[2 + 2 * i];
-        let place = place_in(Granule::Nothing, before, base, size, address);
+        let place = reach_in(before, base, size, address);
         let Granule::Nothing = place else {
             return place;
         };
