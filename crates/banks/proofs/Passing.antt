@@ -210,3 +210,8 @@ module _ (g : Granules) (addr i before : ℕ) where
     pub seek-hit : (k : ℕ) → reachIn before (getD g (1 + 2 * i) 0) (getD g (2 + 2 * i) 0) addr ≡ At k → reachAmong before (left g i) addr ≡ At k
     unfolding reachAmong orElse
     seek-hit k n = rw (left-more g i h, n)
+
+-- in one bank
+pub seek-only : (g : Granules) (addr : ℕ) → countOf g ≡ 1 → reachAmong 0 (banksOf g) addr ≡ reachIn 0 (getD g 1 0) (getD g 2 0) addr
+unfolding banksBy reachAmong
+seek-only g addr one = rw one (or-nothing _)

@@ -109,7 +109,7 @@ fn reach_in(before: u64, base: u64, size: u64, address: u64) -> Granule
 }
 
 // The granule that an address falls on, in a table of n granules, of a record with one bank.
-fn only_granule(base: u64, size: u64, n: usize, address: u64) -> Granule
+pub fn only_granule(base: u64, size: u64, n: usize, address: u64) -> Granule
     ensures { λ r. ⌜ r ≡ onlyAt base size n address ⌝ }
 {
     if address % 4096 != 0 {
@@ -156,6 +156,9 @@ fn find(granules: &[u64; 33], address: u64) -> Granule
     let count = granules[0];
     if 16 < count {
         return Granule::Nothing;
+    }
+    if count == 1 {
+        return reach_in(0, granules[1], granules[2], address);
     }
     let mut before: u64 = 0;
     for i in 0..(count as usize) {

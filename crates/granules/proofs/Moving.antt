@@ -5,22 +5,27 @@ use mathlib.Core.Bool.{true, false}
 use mathlib.Core.List.{List}
 use lib.ListN.{length, getD, set, length-set}
 use borrow.Author.Tests.{eq-eqb, ne-eqb}
-use Rattle.banks.specs.Banks.{Granules, granuleCount, granuleAt, foundAt}
+use Rattle.banks.specs.Banks.{Granules, countOf, granuleCount, granuleAt, onlyAt, foundAt}
 use Rattle.boot.specs.declared.Params.{Params}
 use Rattle.boot.specs.declared.Record.{Record}
 use Rattle.codes.specs.Codes.{isUp, unless, fails, upOf, whenUp, isOk, answerOf}
 use Rattle.codes.specs.declared.Code.the-variants.{Ok, Unk, BadAddr, BadPas}
 use Rattle.codes.proofs.Gates.{if-ok-by}
-use Rattle.banks.proofs.Laws.{index-below, judged-once}
+use Rattle.banks.proofs.Laws.{index-below, judged-once, only-at}
 use Rattle.granules.specs.Granules.{Inside, GranuleTable, fromByte, toByte, granuleCode, moveCode, granuleSet, moved, movedBy, moveAt, moveOf, movedTo}
 use Rattle.banks.specs.declared.Granule.{Granule}
 use Rattle.banks.specs.declared.Granule.the-variants.{Nothing, At}
 use Rattle.granules.specs.declared.Direction.{Direction}
 
--- ---- the granule of an address by a record that was judged once and has m granules, and that it lies within the table
+-- ---- the granule of an address, by a record that was judged once and has m granules
 pub found-is : (g : Granules) (m n addr : ℕ) (k : Granule) → m ≡ granuleCount g → k ≡ foundAt g m n addr → k ≡ granuleAt g n addr
 found-is g m n addr k c f = f ∙ ap (λ x. foundAt g x n addr) c ∙ judged-once g n addr
 
+-- of a record with one bank
+pub only-is : (g : Granules) (base size n addr : ℕ) (k : Granule) → countOf g ≡ 1 → base ≡ getD g 1 0 → size ≡ getD g 2 0 → k ≡ onlyAt base size n addr → k ≡ granuleAt g n addr
+only-is g base size n addr k one b z e = e ∙ rw (b, z) (sym (only-at g one n addr))
+
+-- it lies within the table
 pub granule-inside : (g : Granules) (t : List ℕ) (addr : ℕ) (k : Granule) → k ≡ granuleAt g (length t) addr → Inside k t
 granule-inside g t addr k e i h = index-below g (length t) addr i (sym e ∙ h)
 

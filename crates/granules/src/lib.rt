@@ -6,8 +6,8 @@ use codes::Answer;
 use codes::Code;
 ghost use mathlib.Core.Path.{_≡_};
 ghost use Rattle.codes.specs.Codes.{answerOf};
-ghost use lib.ListN.{length};
-ghost use Rattle.banks.specs.Banks.{Granules, granuleAt};
+ghost use lib.ListN.{length, getD};
+ghost use Rattle.banks.specs.Banks.{Granules, countOf, granuleAt};
 ghost use Rattle.granules.specs.Granules.{Inside, fromByte, toByte, moveAt, moveOf, delegateOf, undelegateOf, movedTo};
 ghost use Rattle.granules.specs.Lists.{moveListOf, delegateListOf, undelegateListOf};
 
@@ -68,16 +68,35 @@ fn shift(
     direction: Direction,
     table: &mut [u8],
     address: u64,
-) -> Answer
-    ensures { λ r. ⌜ movedTo r (now (table .exit)) ≡ moveOf state (now (granules .entry)) direction (record { bytes = now (table .entry) }) address ⌝ }
+) -> Code
+    ensures { λ r. ⌜ movedTo (answerOf r 0 0) (now (table .exit)) ≡ moveOf state (now (granules .entry)) direction (record { bytes = now (table .entry) }) address ⌝ }
 {
     if !codes::is_up(state) {
-        return codes::answered(Code::Unk, 0, 0);
+        return Code::Unk;
     }
     let params = codes::up_of(state);
     let granule = banks::granule_of(granules, table.len(), address);
-    let code = shift_at(params, granule, direction, table, address);
-    codes::answered(code, 0, 0)
+    shift_at(params, granule, direction, table, address)
+}
+
+// The same with a record of one bank.
+fn shift_only(
+    state: Record,
+    base: u64,
+    size: u64,
+    direction: Direction,
+    table: &mut [u8],
+    address: u64,
+) -> Code
+    ensures { λ r. ⌜ ((g : Granules) → countOf g ≡ 1 → base ≡ getD g 1 0 → size ≡ getD g 2 0 →
+        movedTo (answerOf r 0 0) (now (table .exit)) ≡ moveOf state g direction (record { bytes = now (table .entry) }) address) ⌝ }
+{
+    if !codes::is_up(state) {
+        return Code::Unk;
+    }
+    let params = codes::up_of(state);
+    let granule = banks::only_granule(base, size, table.len(), address);
+    shift_at(params, granule, direction, table, address)
 }
 
 // Moves the granules at a list of addresses, in its order, up to the first that is refused; x1 is how many were moved. Whether the
@@ -112,18 +131,43 @@ fn shift_list(
     codes::answered(Code::Ok, n as u64, 0)
 }
 
-// 0xC40001B0: the granule at an address becomes Realm, if it is Non-secure.
+// 0xC40001B0: the granule at an address becomes Realm, if it is Non-secure. A record of one bank, the usual one, takes no loop: its path ends
+// before the other begins, for speed.
 pub fn delegate(state: Record, granules: &[u64; 33], table: &mut [u8], address: u64) -> Answer
     ensures { λ r. ⌜ movedTo r (now (table .exit)) ≡ delegateOf state (now (granules .entry)) (record { bytes = now (table .entry) }) address ⌝ }
 {
-    shift(state, granules, Direction::Delegate, table, address)
+    if granules[0] == 1 {
+        let code = shift_only(
+            state,
+            granules[1],
+            granules[2],
+            Direction::Delegate,
+            table,
+            address,
+        );
+        return codes::answered(code, 0, 0);
+    }
+    let code = shift(state, granules, Direction::Delegate, table, address);
+    codes::answered(code, 0, 0)
 }
 
 // 0xC40001B1: the granule at an address becomes Non-secure, if it is Realm.
 pub fn undelegate(state: Record, granules: &[u64; 33], table: &mut [u8], address: u64) -> Answer
     ensures { λ r. ⌜ movedTo r (now (table .exit)) ≡ undelegateOf state (now (granules .entry)) (record { bytes = now (table .entry) }) address ⌝ }
 {
-    shift(state, granules, Direction::Undelegate, table, address)
+    if granules[0] == 1 {
+        let code = shift_only(
+            state,
+            granules[1],
+            granules[2],
+            Direction::Undelegate,
+            table,
+            address,
+        );
+        return codes::answered(code, 0, 0);
+    }
+    let code = shift(state, granules, Direction::Undelegate, table, address);
+    codes::answered(code, 0, 0)
 }
 
 // The granules at a list of addresses become Realm, one by one; x1 is how many did.
