@@ -5,7 +5,7 @@ use entries::Bits;
 ghost use mathlib.Core.Path.{_≡_};
 ghost use Prim.Native.Nat.{_/_, _<_, _≤_};
 ghost use Rattle.entries.specs.Entry.{bankOk};
-ghost use Rattle.banks.specs.Banks.{follows, orElse, placeIn, granuleCount, placeOf, granuleAt, reachIn, onlyAt, foundIn, foundAt, recordFrom, SetUp, setUpOf};
+ghost use Rattle.banks.specs.Banks.{follows, orElse, granuleCount, placeOf, granuleAt, reachIn, onlyAt, foundIn, foundAt, recordFrom, SetUp, setUpOf};
 
 // The granule that an address falls on.
 pub enum Granule {
@@ -36,22 +36,29 @@ fn bank_follows(low: u64, base: u64, size: u64) -> bool
     bank_ok(base, size)
 }
 
-// The place found already; else the address's place in a bank, behind the granules of the banks before.
+// The address's place in a bank that meets the reader's rule, by one comparison, behind the granules of the banks before.
+fn reach_in(before: u64, base: u64, size: u64, address: u64) -> Granule
+    requires { ⌜ before < 0x8000_0000_0000_0000 ⌝ }
+    ensures { λ r. ⌜ r ≡ reachIn before base size address ⌝ }
+{
+    let distance = std::num::wrapping_sub_u64(address, base);
+    if size <= distance {
+        return Granule::Nothing;
+    }
+    let at = before + distance / 4096;
+    Granule::At(at as usize)
+}
+
+// The address's place in that bank; where it is none, the place found before.
 fn place_in(place: Granule, before: u64, base: u64, size: u64, address: u64) -> Granule
     requires { ⌜ before < 0x8000_0000_0000_0000 ⌝ }
-    ensures { λ r. ⌜ r ≡ orElse place (placeIn before base size address) ⌝ }
+    ensures { λ r. ⌜ r ≡ orElse (reachIn before base size address) place ⌝ }
 {
-    let Granule::Nothing = place else {
+    let here = reach_in(before, base, size, address);
+    let Granule::At(_) = here else {
         return place;
     };
-    if address < base {
-        return Granule::Nothing;
-    }
-    if size <= address - base {
-        return Granule::Nothing;
-    }
-    let at = before + (address - base) / 4096;
-    Granule::At(at as usize)
+    here
 }
 
 // One pass over the banks: judges them, adds up their granules and finds the address.
@@ -93,19 +100,6 @@ pub fn granule_count(granules: &[u64; 33]) -> u64
 {
     let pass = pass_over(granules, 0);
     pass.granules
-}
-
-// The same by one comparison, in a bank that meets the reader's rule.
-fn reach_in(before: u64, base: u64, size: u64, address: u64) -> Granule
-    requires { ⌜ before < 0x8000_0000_0000_0000 ⌝ }
-    ensures { λ r. ⌜ r ≡ reachIn before base size address ⌝ }
-{
-    let distance = std::num::wrapping_sub_u64(address, base);
-    if size <= distance {
-        return Granule::Nothing;
-    }
-    let at = before + distance / 4096;
-    Granule::At(at as usize)
 }
 
 // The granule that an address falls on, in a table of n granules, of a record with one bank.
@@ -154,11 +148,11 @@ fn find(granules: &[u64; 33], address: u64) -> Granule
     ensures { λ r. ⌜ r ≡ foundIn (now (granules .entry)) address ⌝ }
 {
     let count = granules[0];
-    if 16 < count {
-        return Granule::Nothing;
-    }
     if count == 1 {
         return reach_in(0, granules[1], granules[2], address);
+    }
+    if 16 < count {
+        return Granule::Nothing;
     }
     let mut before: u64 = 0;
     for i in 0..(count as usize) {

@@ -61,27 +61,23 @@ fn shift_at(
     Code::Ok
 }
 
-// Moves the granule at an address.
+// Moves the granule at an address, with a boot record that is up and keeps these parameters.
 fn shift(
-    state: Record,
+    params: Params,
     granules: &[u64; 33],
     direction: Direction,
     table: &mut [u8],
     address: u64,
 ) -> Code
-    ensures { λ r. ⌜ movedTo (answerOf r 0 0) (now (table .exit)) ≡ moveOf state (now (granules .entry)) direction (record { bytes = now (table .entry) }) address ⌝ }
+    ensures { λ r. ⌜ movedTo (answerOf r 0 0) (now (table .exit)) ≡ moveAt params (now (granules .entry)) direction (record { bytes = now (table .entry) }) address ⌝ }
 {
-    if !codes::is_up(state) {
-        return Code::Unk;
-    }
-    let params = codes::up_of(state);
     let granule = banks::granule_of(granules, table.len(), address);
     shift_at(params, granule, direction, table, address)
 }
 
-// The same with a record of one bank.
+// The same with a granule record of one bank.
 fn shift_only(
-    state: Record,
+    params: Params,
     base: u64,
     size: u64,
     direction: Direction,
@@ -89,12 +85,8 @@ fn shift_only(
     address: u64,
 ) -> Code
     ensures { λ r. ⌜ ((g : Granules) → countOf g ≡ 1 → base ≡ getD g 1 0 → size ≡ getD g 2 0 →
-        movedTo (answerOf r 0 0) (now (table .exit)) ≡ moveOf state g direction (record { bytes = now (table .entry) }) address) ⌝ }
+        movedTo (answerOf r 0 0) (now (table .exit)) ≡ moveAt params g direction (record { bytes = now (table .entry) }) address) ⌝ }
 {
-    if !codes::is_up(state) {
-        return Code::Unk;
-    }
-    let params = codes::up_of(state);
     let granule = banks::only_granule(base, size, table.len(), address);
     shift_at(params, granule, direction, table, address)
 }
@@ -136,18 +128,17 @@ fn shift_list(
 pub fn delegate(state: Record, granules: &[u64; 33], table: &mut [u8], address: u64) -> Answer
     ensures { λ r. ⌜ movedTo r (now (table .exit)) ≡ delegateOf state (now (granules .entry)) (record { bytes = now (table .entry) }) address ⌝ }
 {
+    if !codes::is_up(state) {
+        return codes::answered(Code::Unk, 0, 0);
+    }
+    let params = codes::up_of(state);
     if granules[0] == 1 {
-        let code = shift_only(
-            state,
-            granules[1],
-            granules[2],
-            Direction::Delegate,
-            table,
-            address,
-        );
+        let base = granules[1];
+        let size = granules[2];
+        let code = shift_only(params, base, size, Direction::Delegate, table, address);
         return codes::answered(code, 0, 0);
     }
-    let code = shift(state, granules, Direction::Delegate, table, address);
+    let code = shift(params, granules, Direction::Delegate, table, address);
     codes::answered(code, 0, 0)
 }
 
@@ -155,18 +146,17 @@ pub fn delegate(state: Record, granules: &[u64; 33], table: &mut [u8], address: 
 pub fn undelegate(state: Record, granules: &[u64; 33], table: &mut [u8], address: u64) -> Answer
     ensures { λ r. ⌜ movedTo r (now (table .exit)) ≡ undelegateOf state (now (granules .entry)) (record { bytes = now (table .entry) }) address ⌝ }
 {
+    if !codes::is_up(state) {
+        return codes::answered(Code::Unk, 0, 0);
+    }
+    let params = codes::up_of(state);
     if granules[0] == 1 {
-        let code = shift_only(
-            state,
-            granules[1],
-            granules[2],
-            Direction::Undelegate,
-            table,
-            address,
-        );
+        let base = granules[1];
+        let size = granules[2];
+        let code = shift_only(params, base, size, Direction::Undelegate, table, address);
         return codes::answered(code, 0, 0);
     }
-    let code = shift(state, granules, Direction::Undelegate, table, address);
+    let code = shift(params, granules, Direction::Undelegate, table, address);
     codes::answered(code, 0, 0)
 }
 

@@ -17,10 +17,6 @@ abbrev μ-loop : tie.MeasureT-loop
 element-copy-out-count : tie.Need-element-copy-out-count Inv-loop μ-loop
 element-copy-out-count c = search needs
 
-returns : tie.Need-returns Inv-loop μ-loop
-unfolding foundIn
-returns c = let a = c .before .before .args in simp (lt-leb (countOf (a .granules .now)) 16 (search needs))
-
 element-copy-out-reach-in : tie.Need-element-copy-out-reach-in Inv-loop μ-loop
 element-copy-out-reach-in c = search needs
 
@@ -30,11 +26,15 @@ element-copy-out-reach-in-2 c = search needs
 reach-in-requires : tie.Need-reach-in-requires Inv-loop μ-loop
 reach-in-requires c κs = search needs
 
+returns : tie.Need-returns Inv-loop μ-loop
+unfolding foundIn
+returns c =
+    let a = c .before .before .before .before .before .args in
+    simp (le-leb (countOf (a .granules .now)) 16 (search needs)) (c .reach-in .ensures ∙ sym (seek-only (a .granules .now) (a .address) (c .before .before .before .if1 .taken)))
+
 returns-2 : tie.Need-returns-2 Inv-loop μ-loop
 unfolding foundIn
-returns-2 c =
-    let a = c .before .before .before .before .before .before .args in
-    simp (le-leb (countOf (a .granules .now)) 16 (search needs)) (c .reach-in .ensures ∙ sym (seek-only (a .granules .now) (a .address) (c .before .before .before .if2 .taken)))
+returns-2 c = let a = c .before .before .before .args in simp (lt-leb (countOf (a .granules .now)) 16 (search needs))
 
 loop-holds : tie.Need-loop-holds Inv-loop μ-loop
 loop-holds c = let a = c .before .before .before .args in (search needs, search needs, ap (λ l. reachAmong 0 l (a .address)) (sym (left-all (a .granules .now))))
@@ -112,10 +112,10 @@ find-spec =
     Inv-loop
     μ-loop
     element-copy-out-count
-    returns
     element-copy-out-reach-in
     element-copy-out-reach-in-2
     reach-in-requires
+    returns
     returns-2
     loop-holds
     mul-base
