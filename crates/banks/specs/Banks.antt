@@ -116,6 +116,10 @@ unfoldable pub reachAmong : ℕ → List Bank → ℕ → Granule
 reachAmong before [] addr = Nothing
 reachAmong before (b ∷ bs) addr = orElse (reachIn before (b .base) (b .size) addr) (reachAmong (before + b .size / 4096) bs addr)
 
+-- a granule as a word: all ones for none
+unfoldable pub placedAt : ℕ → Granule
+placedAt p = cond (eqb p 0xFFFFFFFFFFFFFFFF) Nothing (At p)
+
 -- of a record with one bank
 unfoldable pub onlyAt : ℕ → ℕ → ℕ → ℕ → Granule
 onlyAt base size n addr = cond (both (eqb (addr % 4096) 0) (both (bankOk base size) (eqb (size / 4096) n))) (reachIn 0 base size addr) Nothing

@@ -5,7 +5,7 @@ use entries::Bits;
 ghost use mathlib.Core.Path.{_≡_};
 ghost use Prim.Native.Nat.{_/_, _<_, _≤_};
 ghost use Rattle.entries.specs.Entry.{bankOk};
-ghost use Rattle.banks.specs.Banks.{follows, orElse, granuleCount, placeOf, granuleAt, reachIn, onlyAt, foundIn, foundAt, recordFrom, SetUp, setUpOf};
+ghost use Rattle.banks.specs.Banks.{follows, orElse, granuleCount, placeOf, granuleAt, placedAt, reachIn, onlyAt, foundIn, foundAt, recordFrom, SetUp, setUpOf};
 
 // The granule that an address falls on.
 pub enum Granule {
@@ -49,16 +49,26 @@ fn reach_in(before: u64, base: u64, size: u64, address: u64) -> Granule
     Granule::At(at as usize)
 }
 
-// The address's place in that bank; where it is none, the place found before.
-fn place_in(place: Granule, before: u64, base: u64, size: u64, address: u64) -> Granule
-    requires { ⌜ before < 0x8000_0000_0000_0000 ⌝ }
-    ensures { λ r. ⌜ r ≡ orElse (reachIn before base size address) place ⌝ }
+// The granule that a word stands for: all ones for none. The pass keeps its place so, in one register.
+fn granule_in(place: u64) -> Granule
+    ensures { λ r. ⌜ r ≡ placedAt place ⌝ }
 {
-    let here = reach_in(before, base, size, address);
-    let Granule::At(_) = here else {
+    if place == 0xFFFF_FFFF_FFFF_FFFF {
+        return Granule::Nothing;
+    }
+    Granule::At(place as usize)
+}
+
+// The address's place in a bank that meets the reader's rule; where it is none, the place found before.
+fn place_in(place: u64, before: u64, base: u64, size: u64, address: u64) -> u64
+    requires { ⌜ before < 0x8000_0000_0000_0000 ⌝ }
+    ensures { λ r. ⌜ placedAt r ≡ orElse (reachIn before base size address) (placedAt place) ⌝ }
+{
+    let distance = std::num::wrapping_sub_u64(address, base);
+    if size <= distance {
         return place;
-    };
-    here
+    }
+    before + distance / 4096
 }
 
 // One pass over the banks: judges them, adds up their granules and finds the address.
@@ -74,7 +84,7 @@ pub fn pass_over(granules: &[u64; 33], address: u64) -> Pass
     }
     let mut low: u64 = 0;
     let mut before: u64 = 0;
-    let mut place = Granule::Nothing;
+    let mut place: u64 = 0xFFFF_FFFF_FFFF_FFFF;
     for i in 0..(count as usize) {
         let base = granules[1 + 2 * i];
         let size = granules[2 + 2 * i];
@@ -90,7 +100,7 @@ pub fn pass_over(granules: &[u64; 33], address: u64) -> Pass
     }
     Pass {
         granules: before,
-        place,
+        place: granule_in(place),
     }
 }
 
