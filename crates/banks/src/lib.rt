@@ -64,11 +64,11 @@ fn place_in(place: u64, before: u64, base: u64, size: u64, address: u64) -> u64
     requires { ⌜ before < 0x8000_0000_0000_0000 ⌝ }
     ensures { λ r. ⌜ placedAt r ≡ orElse (reachIn before base size address) (placedAt place) ⌝ }
 {
-    let distance = std::num::wrapping_sub_u64(address, base);
-    if size <= distance {
+    let offset = std::num::wrapping_sub_u64(address, base);
+    if size <= offset {
         return place;
     }
-    before + distance / 4096
+    before + offset / 4096
 }
 
 // One pass over the banks: judges them, adds up their granules and finds the address.

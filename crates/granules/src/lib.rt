@@ -106,8 +106,8 @@ fn shift_list(
     if n == 0 {
         return codes::answered(Code::Ok, 0, 0);
     }
-    let up = codes::is_up(state);
-    if !up {
+    let is_up = codes::is_up(state);
+    if !is_up {
         return codes::answered(Code::Unk, 0, 0);
     }
     let params = codes::up_of(state);
@@ -146,7 +146,8 @@ pub fn delegate(state: Record, granules: &[u64; 33], table: &mut [u8], address: 
 pub fn undelegate(state: Record, granules: &[u64; 33], table: &mut [u8], address: u64) -> Answer
     ensures { λ r. ⌜ movedTo r (now (table .exit)) ≡ undelegateOf state (now (granules .entry)) (record { bytes = now (table .entry) }) address ⌝ }
 {
-    if !codes::is_up(state) {
+    let up = codes::is_up(state);
+    if !up {
         return codes::answered(Code::Unk, 0, 0);
     }
     let params = codes::up_of(state);
