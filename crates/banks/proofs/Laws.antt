@@ -13,12 +13,13 @@ use borrow.Author.Tests.{leb-true, ltb-true, eqb-true, le-leb, lt-ltb, le-ltb, e
 use Rattle.words.specs.Tests.{both, Yes}
 use Rattle.words.specs.Word.{wordAt}
 use Rattle.words.proofs.Tests.{both-l, both-r, both-of, same-test}
+use Rattle.entries.specs.Entry.{bankOk}
 use Rattle.codes.specs.declared.Code.the-variants.{Ok}
 use Rattle.banks.specs.declared.Granule.{Granule}
 use Rattle.banks.specs.declared.Granule.the-variants.{Nothing, At}
-use Rattle.banks.specs.Banks.{Granules, Bank, banksBy, bankAt, countOf, banksOf, ascend, banksOk, recordOk, total, granuleCount, holds, indexIn, placeIn, orElse, placeAmong, placeOf, granuleAt, addressIn, addressOf, singleRange, foundIn, foundAt, setUpCode, setUpOf}
+use Rattle.banks.specs.Banks.{Granules, Bank, banksBy, bankAt, countOf, banksOf, ascend, banksOk, recordOk, follows, total, granuleCount, holds, indexIn, placeIn, orElse, placeAmong, placeOf, granuleAt, addressIn, addressOf, singleRange, reachIn, reachAmong, onlyAt, foundIn, foundAt, setUpCode, setUpOf}
 use Rattle.banks.proofs.Making.{banks-some, made-one, made-good}
-use Rattle.banks.proofs.Passing.{Follows, follows-is, or-nothing}
+use Rattle.banks.proofs.Passing.{Follows, follows-is, or-nothing, reach-place, reach-among}
 
 -- ---- how an answer came about
 nowhere : (i : ℕ) → Nothing ≡ At i → ⊥
@@ -210,9 +211,9 @@ unfolding foundAt granuleAt placeOf foundIn both
 judged-once g n addr = go (recordOk g) refl
   where
     go : (k : Bool) → recordOk g ≡ k
-        → cond (both (ltb 0 (granuleCount g)) (both (eqb (addr % 4096) 0) (eqb (granuleCount g) n))) (cond (leb (countOf g) 16) (placeAmong 0 (banksOf g) addr) Nothing) Nothing
+        → cond (both (ltb 0 (granuleCount g)) (both (eqb (addr % 4096) 0) (eqb (granuleCount g) n))) (cond (leb (countOf g) 16) (reachAmong 0 (banksOf g) addr) Nothing) Nothing
         ≡ cond (both (eqb (addr % 4096) 0) (eqb (granuleCount g) n)) (cond k (placeAmong 0 (banksOf g) addr) Nothing) Nothing
-    go true e = simp (lt-ltb 0 (granuleCount g) (some-granules g e), ok-few g e)
+    go true e = simp (lt-ltb 0 (granuleCount g) (some-granules g e), ok-few g e, reach-among 0 0 (banksOf g) addr (ok-ascends g e))
     go false e = simp (le-ltb 0 (granuleCount g) (no-granules g e)) (sym (cond-none (both (eqb (addr % 4096) 0) (eqb (granuleCount g) n))))
 
 -- ---- one bank: "01's single range is the case of one bank that the set-up takes"
@@ -225,22 +226,22 @@ holds-same base size addr f m =
     (λ h. let u : base ≤ addr = leb-true _ _ (both-l _ _ h) in let k : addr < base + size = ltb-true _ _ (both-r _ _ h) in both-of _ _ (le-leb base addr u) (lt-ltb ((addr - base) / 4096) (size / 4096) (omega arith)))
     (λ h. let u : base ≤ addr = leb-true _ _ (both-l _ _ h) in let k : (addr - base) / 4096 < size / 4096 = ltb-true _ _ (both-r _ _ h) in both-of _ _ (le-leb base addr u) (lt-ltb addr (base + size) (omega arith)))
 
-module _ (g : Granules) (one : countOf g ≡ 1) (ok : Yes (recordOk g)) where
-  only-bank : banksOf g ≡ bankAt g 0 ∷ []
-  unfolding banksBy
-  only-bank = rw one
+only-bank : (g : Granules) → countOf g ≡ 1 → banksOf g ≡ bankAt g 0 ∷ []
+unfolding banksBy
+only-bank g one = rw one
 
+module _ (g : Granules) (one : countOf g ≡ 1) (ok : Yes (recordOk g)) where
   only-follows : Follows 0 (getD g 1 0) (getD g 2 0)
   unfolding ascend
-  only-follows = let a : Yes (ascend 0 (bankAt g 0 ∷ [])) = rw only-bank at (ok-ascends g ok) in follows-is 0 (getD g 1 0) (getD g 2 0) (both-l _ _ a)
+  only-follows = let a : Yes (ascend 0 (bankAt g 0 ∷ [])) = rw (only-bank g one) at (ok-ascends g ok) in follows-is 0 (getD g 1 0) (getD g 2 0) (both-l _ _ a)
 
   only-granules : granuleCount g ≡ getD g 2 0 / 4096
   unfolding granuleCount total
-  only-granules = rw (ok, only-bank) (omega arith)
+  only-granules = rw (ok, only-bank g one) (omega arith)
 
   only-place : (addr : ℕ) → placeOf g addr ≡ placeIn 0 (getD g 1 0) (getD g 2 0) addr
   unfolding placeOf placeAmong
-  only-place addr = rw (ok, only-bank) (or-nothing _)
+  only-place addr = rw (ok, only-bank g one) (or-nothing _)
 
   pub one-bank : (addr : ℕ) → granuleAt g (granuleCount g) addr ≡ singleRange (getD g 1 0) (granuleCount g) addr
   unfolding granuleAt placeIn both
@@ -251,6 +252,37 @@ module _ (g : Granules) (one : countOf g ≡ 1) (ok : Yes (recordOk g)) where
           ≡ cond (both k (both (leb (getD g 1 0) addr) (ltb ((addr - getD g 1 0) / 4096) (getD g 2 0 / 4096)))) (At ((addr - getD g 1 0) / 4096)) Nothing
       go true e = rw (holds-same (getD g 1 0) (getD g 2 0) addr only-follows (eqb-true _ _ e), zero-add)
       go false e = refl
+
+-- without a loop, as `granule_of` goes
+both-true : (b : Bool) → both b true ≡ b
+unfolding both
+both-true true = refl
+both-true false = refl
+
+neither : (a : Bool) (x : Granule) → cond (both a false) x Nothing ≡ Nothing
+unfolding both
+neither true x = refl
+neither false x = refl
+
+module _ (g : Granules) (one : countOf g ≡ 1) where
+  only-ok : recordOk g ≡ bankOk (getD g 1 0) (getD g 2 0)
+  unfolding recordOk banksOk ascend follows both
+  only-ok = rw (only-bank g one, one, le-leb 0 (getD g 1 0) (omega arith)) (both-true (bankOk (getD g 1 0) (getD g 2 0)))
+
+  pub only-at : (n addr : ℕ) → granuleAt g n addr ≡ onlyAt (getD g 1 0) (getD g 2 0) n addr
+  unfolding granuleAt placeOf onlyAt both
+  only-at n addr = go (bankOk (getD g 1 0) (getD g 2 0)) refl
+    where
+      go : (k : Bool) → bankOk (getD g 1 0) (getD g 2 0) ≡ k
+          → cond (both (eqb (addr % 4096) 0) (eqb (granuleCount g) n)) (placeOf g addr) Nothing
+          ≡ cond (both (eqb (addr % 4096) 0) (both k (eqb (getD g 2 0 / 4096) n))) (reachIn 0 (getD g 1 0) (getD g 2 0) addr) Nothing
+      go true e =
+          let ok = only-ok ∙ e in
+          let f = only-follows g one ok in
+          rw (only-granules g one ok, only-place g one ok addr, reach-place 0 (getD g 1 0) (getD g 2 0) addr (omega (arith, f .ends)))
+      go false e =
+          let no : recordOk g ≡ false = only-ok ∙ e in
+          rw no (cond-none (both (eqb (addr % 4096) 0) (eqb (granuleCount g) n)) ∙ sym (neither (eqb (addr % 4096) 0) _))
 
 -- of a record that the set-up made of one bank, in a table of the length that it was made for
 pub one-bank-made : (shown : List ℕ) (n : ℕ) (g : Granules) → length shown ≡ 16 → setUpCode shown n ≡ Ok → (addr : ℕ) → granuleAt (setUpOf shown n g .granules) n addr ≡ singleRange (wordAt 0 shown) n addr

@@ -1,7 +1,7 @@
 -- The granule record of several banks. 02, E2: "The granule record shall hold the banks, not one start address; the table is the
 -- banks' granules joined in bank order. An address in a hole is not a granule address." Assumes nothing.
-use Prim.Native.Nat.{ℕ, zero, suc, _+_, _-_, _*_, _/_, _%_}
-use mathlib.Core.Bool.{Bool, true, false, cond}
+use Prim.Native.Nat.{ℕ, zero, suc, _+_, _-_, _*_, _/_, _%_, _^_}
+use mathlib.Core.Bool.{Bool, true, cond}
 use mathlib.Core.List.{List, [], _∷_, _++_}
 use lib.ListN.{length, getD, replicate}
 use lib.Dec.{leb, ltb, eqb}
@@ -107,10 +107,29 @@ addressOf g i = addressIn (banksOf g) i
 abbrev pub singleRange : ℕ → ℕ → ℕ → Granule
 singleRange start n addr = cond (both (eqb (start % 4096) 0) (both (eqb (addr % 4096) 0) (both (leb start addr) (ltb ((addr - start) / 4096) n)))) (At ((addr - start) / 4096)) Nothing
 
--- ---- the granule of an address, for a list of addresses, which asks once for the number m of the record's granules
--- in banks that are not judged again, up to 16
+-- ---- the same as the code finds it
+-- by one comparison in 64 bits, where an address below base is far behind the bank: for a bank that meets the reader's rule it is `placeIn`
+unfoldable pub distance : ℕ → ℕ → ℕ
+distance base addr = cond (leb base addr) (addr - base) (addr + 2 ^ 64 - base)
+
+unfoldable pub reachIn : ℕ → ℕ → ℕ → ℕ → Granule
+reachIn before base size addr = cond (ltb (distance base addr) size) (At (before + distance base addr / 4096)) Nothing
+
+unfoldable pub reachAmong : ℕ → List Bank → ℕ → Granule
+reachAmong before [] addr = Nothing
+reachAmong before (b ∷ bs) addr = orElse (reachIn before (b .base) (b .size) addr) (reachAmong (before + b .size / 4096) bs addr)
+
+-- a granule as a word: all ones for none
+unfoldable pub placedAt : ℕ → Granule
+placedAt p = cond (eqb p 0xFFFFFFFFFFFFFFFF) Nothing (At p)
+
+-- of a record with one bank
+unfoldable pub onlyAt : ℕ → ℕ → ℕ → ℕ → Granule
+onlyAt base size n addr = cond (both (eqb (addr % 4096) 0) (both (bankOk base size) (eqb (size / 4096) n))) (reachIn 0 base size addr) Nothing
+
+-- for a list of addresses, which asks once for the number m of the record's granules: in banks that are not judged again, up to 16
 unfoldable pub foundIn : Granules → ℕ → Granule
-foundIn g addr = cond (leb (countOf g) 16) (placeAmong 0 (banksOf g) addr) Nothing
+foundIn g addr = cond (leb (countOf g) 16) (reachAmong 0 (banksOf g) addr) Nothing
 
 unfoldable pub foundAt : Granules → ℕ → ℕ → ℕ → Granule
 foundAt g m n addr = cond (both (ltb 0 m) (both (eqb (addr % 4096) 0) (eqb m n))) (foundIn g addr) Nothing

@@ -5,7 +5,7 @@ use entries::Bits;
 ghost use mathlib.Core.Path.{_≡_};
 ghost use Prim.Native.Nat.{_/_, _<_, _≤_};
 ghost use Rattle.entries.specs.Entry.{bankOk};
-ghost use Rattle.banks.specs.Banks.{follows, orElse, placeIn, granuleCount, placeOf, placedIn, granuleAt, foundIn, foundAt, recordFrom, SetUp, setUpOf};
+ghost use Rattle.banks.specs.Banks.{follows, orElse, granuleCount, placeOf, placedIn, granuleAt, placedAt, reachIn, foundIn, foundAt, recordFrom, SetUp, setUpOf};
 
 // The granule that an address falls on.
 pub enum Granule {
@@ -36,22 +36,39 @@ fn bank_follows(low: u64, base: u64, size: u64) -> bool
     bank_ok(base, size)
 }
 
-// The place found already; else the address's place in a bank, behind the granules of the banks before.
-fn place_in(place: Granule, before: u64, base: u64, size: u64, address: u64) -> Granule
+// The address's place in a bank that meets the reader's rule, by one comparison, behind the granules of the banks before.
+fn reach_in(before: u64, base: u64, size: u64, address: u64) -> Granule
     requires { ⌜ before < 0x8000_0000_0000_0000 ⌝ }
-    ensures { λ r. ⌜ r ≡ orElse place (placeIn before base size address) ⌝ }
+    ensures { λ r. ⌜ r ≡ reachIn before base size address ⌝ }
 {
-    let Granule::Nothing = place else {
-        return place;
-    };
-    if address < base {
+    let distance = std::num::wrapping_sub_u64(address, base);
+    if size <= distance {
         return Granule::Nothing;
     }
-    if size <= address - base {
-        return Granule::Nothing;
-    }
-    let at = before + (address - base) / 4096;
+    let at = before + distance / 4096;
     Granule::At(at as usize)
+}
+
+// The granule that a word stands for: all ones for none. The pass keeps its place so, in one register.
+fn placed_granule(place: u64) -> Granule
+    ensures { λ r. ⌜ r ≡ placedAt place ⌝ }
+{
+    if place == 0xFFFF_FFFF_FFFF_FFFF {
+        return Granule::Nothing;
+    }
+    Granule::At(place as usize)
+}
+
+// The address's place in a bank that meets the reader's rule; where it is none, the place found before.
+fn place_in(place: u64, before: u64, base: u64, size: u64, address: u64) -> u64
+    requires { ⌜ before < 0x8000_0000_0000_0000 ⌝ }
+    ensures { λ r. ⌜ placedAt r ≡ orElse (reachIn before base size address) (placedAt place) ⌝ }
+{
+    let offset = std::num::wrapping_sub_u64(address, base);
+    if size <= offset {
+        return place;
+    }
+    before + offset / 4096
 }
 
 // One pass over the banks: judges them, adds up their granules and finds the address.
@@ -67,7 +84,7 @@ pub fn pass_over(granules: &[u64; 33], address: u64) -> Pass
     }
     let mut low: u64 = 0;
     let mut before: u64 = 0;
-    let mut place = Granule::Nothing;
+    let mut place: u64 = 0xFFFF_FFFF_FFFF_FFFF;
     for i in 0..(count as usize) {
         let base = granules[1 + 2 * i];
         let size = granules[2 + 2 * i];
@@ -83,7 +100,7 @@ pub fn pass_over(granules: &[u64; 33], address: u64) -> Pass
     }
     Pass {
         granules: before,
-        place,
+        place: placed_granule(place),
     }
 }
 
@@ -128,6 +145,9 @@ fn find(granules: &[u64; 33], address: u64) -> Granule
     ensures { λ r. ⌜ r ≡ foundIn (now (granules .entry)) address ⌝ }
 {
     let count = granules[0];
+    if count == 1 {
+        return reach_in(0, granules[1], granules[2], address);
+    }
     if 16 < count {
         return Granule::Nothing;
     }
@@ -135,7 +155,7 @@ fn find(granules: &[u64; 33], address: u64) -> Granule
     for i in 0..(count as usize) {
         let base = granules[1 + 2 * i];
         let size = granules[2 + 2 * i];
-        let place = place_in(Granule::Nothing, before, base, size, address);
+        let place = reach_in(before, base, size, address);
         let Granule::Nothing = place else {
             return place;
         };
