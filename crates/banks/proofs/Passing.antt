@@ -13,7 +13,7 @@ use Rattle.words.proofs.Tests.{both-l, both-r, same-test}
 use Rattle.entries.specs.Entry.{bankOk}
 use Rattle.banks.specs.declared.Granule.{Granule}
 use Rattle.banks.specs.declared.Granule.the-variants.{Nothing, At}
-use Rattle.banks.specs.Banks.{Granules, Bank, banksBy, bankAt, countOf, banksOf, follows, ascend, banksOk, recordOk, total, granuleCount, holds, placeIn, orElse, placeAmong, placeOf, distance, reachIn, reachAmong}
+use Rattle.banks.specs.Banks.{Granules, Bank, banksBy, bankAt, countOf, banksOf, follows, ascend, banksOk, recordOk, total, granuleCount, holds, indexBy, indexIn, placeIn, orElse, placeAmong, placeOf, distance, reachIn, reachAmong}
 
 -- ---- a bank that follows
 pub record Follows (low base size : ℕ) : Type 0 where
@@ -76,8 +76,8 @@ reach-place before base size addr h = go (decLt addr base)
         (λ k. let e : addr - base < size = ltb-true _ _ k in lt-ltb addr (base + size) (omega arith))
         (λ k. let e : addr < base + size = ltb-true _ _ k in lt-ltb (addr - base) size (omega arith))
 
-    go : Dec (addr < base) → cond (ltb (cond (leb base addr) (addr - base) (addr + 2 ^ 64 - base)) size) (At (before + cond (leb base addr) (addr - base) (addr + 2 ^ 64 - base) / 4096)) Nothing
-        ≡ cond (both (leb base addr) (ltb addr (base + size))) (At (before + (addr - base) / 4096)) Nothing
+    go : Dec (addr < base) → cond (ltb (cond (leb base addr) (addr - base) (addr + 2 ^ 64 - base)) size) (At (indexBy before (cond (leb base addr) (addr - base) (addr + 2 ^ 64 - base)))) Nothing
+        ≡ cond (both (leb base addr) (ltb addr (base + size))) (At (indexIn before base addr)) Nothing
     go (yes y) = rw (lt-leb base addr y, le-ltb (addr + 2 ^ 64 - base) size (omega arith))
     go (no y) = let l : base ≤ addr = omega arith in rw (le-leb base addr l, same l)
 
@@ -105,7 +105,7 @@ place-below : (before base size addr k : ℕ) → placeIn before base size addr 
 unfolding placeIn holds
 place-below before base size addr k h = go (both (leb base addr) (ltb addr (base + size))) refl h
   where
-    go : (b : Bool) → both (leb base addr) (ltb addr (base + size)) ≡ b → cond b (At (before + (addr - base) / 4096)) Nothing ≡ At k → addr < base + size
+    go : (b : Bool) → both (leb base addr) (ltb addr (base + size)) ≡ b → cond b (At (indexIn before base addr)) Nothing ≡ At k → addr < base + size
     go true e h = ltb-true _ _ (both-r _ _ e)
     go false e h = absurd (let z : _≡_ {A = ℕ} 0 1 = cc in omega arith)
 

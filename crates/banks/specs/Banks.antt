@@ -67,8 +67,11 @@ unfoldable pub holds : ℕ → ℕ → ℕ → Bool
 holds base size addr = both (leb base addr) (ltb addr (base + size))
 
 -- in one bank, behind the granules of the banks before: "the table is the banks' granules joined in bank order"
+abbrev pub indexBy : ℕ → ℕ → ℕ
+indexBy before offset = before + offset / 4096
+
 abbrev pub indexIn : ℕ → ℕ → ℕ → ℕ
-indexIn before base addr = before + (addr - base) / 4096
+indexIn before base addr = indexBy before (addr - base)
 
 unfoldable pub placeIn : ℕ → ℕ → ℕ → ℕ → Granule
 placeIn before base size addr = cond (holds base size addr) (At (indexIn before base addr)) Nothing
@@ -113,7 +116,7 @@ unfoldable pub distance : ℕ → ℕ → ℕ
 distance base addr = cond (leb base addr) (addr - base) (addr + 2 ^ 64 - base)
 
 unfoldable pub reachIn : ℕ → ℕ → ℕ → ℕ → Granule
-reachIn before base size addr = cond (ltb (distance base addr) size) (At (before + distance base addr / 4096)) Nothing
+reachIn before base size addr = cond (ltb (distance base addr) size) (At (indexBy before (distance base addr))) Nothing
 
 unfoldable pub reachAmong : ℕ → List Bank → ℕ → Granule
 reachAmong before [] addr = Nothing
