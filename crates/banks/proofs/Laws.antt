@@ -17,7 +17,7 @@ use Rattle.entries.specs.Entry.{bankOk}
 use Rattle.codes.specs.declared.Code.the-variants.{Ok}
 use Rattle.banks.specs.declared.Granule.{Granule}
 use Rattle.banks.specs.declared.Granule.the-variants.{Nothing, At}
-use Rattle.banks.specs.Banks.{Granules, Bank, banksBy, bankAt, countOf, banksOf, ascend, banksOk, recordOk, follows, total, granuleCount, holds, indexIn, placeIn, orElse, placeAmong, placeOf, granuleAt, addressIn, addressOf, singleRange, reachIn, reachAmong, onlyAt, foundIn, foundAt, setUpCode, setUpOf}
+use Rattle.banks.specs.Banks.{Granules, Bank, banksBy, bankAt, countOf, banksOf, ascend, banksOk, recordOk, follows, total, granuleCount, holds, indexIn, placeIn, orElse, placeAmong, placeOf, granuleAt, addressIn, addressOf, singleRange, reachIn, reachAmong, foundIn, foundAt, setUpCode, setUpOf}
 use Rattle.banks.proofs.Making.{banks-some, made-one, made-good}
 use Rattle.banks.proofs.Passing.{Follows, follows-is, or-nothing, reach-place, reach-among}
 
@@ -252,37 +252,6 @@ module _ (g : Granules) (one : countOf g ≡ 1) (ok : Yes (recordOk g)) where
           ≡ cond (both k (both (leb (getD g 1 0) addr) (ltb ((addr - getD g 1 0) / 4096) (getD g 2 0 / 4096)))) (At ((addr - getD g 1 0) / 4096)) Nothing
       go true e = rw (holds-same (getD g 1 0) (getD g 2 0) addr only-follows (eqb-true _ _ e), zero-add)
       go false e = refl
-
--- without a loop, as `granule_of` goes
-both-true : (b : Bool) → both b true ≡ b
-unfolding both
-both-true true = refl
-both-true false = refl
-
-neither : (a : Bool) (x : Granule) → cond (both a false) x Nothing ≡ Nothing
-unfolding both
-neither true x = refl
-neither false x = refl
-
-module _ (g : Granules) (one : countOf g ≡ 1) where
-  only-ok : recordOk g ≡ bankOk (getD g 1 0) (getD g 2 0)
-  unfolding recordOk banksOk ascend follows both
-  only-ok = rw (only-bank g one, one, le-leb 0 (getD g 1 0) (omega arith)) (both-true (bankOk (getD g 1 0) (getD g 2 0)))
-
-  pub only-at : (n addr : ℕ) → granuleAt g n addr ≡ onlyAt (getD g 1 0) (getD g 2 0) n addr
-  unfolding granuleAt placeOf onlyAt both
-  only-at n addr = go (bankOk (getD g 1 0) (getD g 2 0)) refl
-    where
-      go : (k : Bool) → bankOk (getD g 1 0) (getD g 2 0) ≡ k
-          → cond (both (eqb (addr % 4096) 0) (eqb (granuleCount g) n)) (placeOf g addr) Nothing
-          ≡ cond (both (eqb (addr % 4096) 0) (both k (eqb (getD g 2 0 / 4096) n))) (reachIn 0 (getD g 1 0) (getD g 2 0) addr) Nothing
-      go true e =
-          let ok = only-ok ∙ e in
-          let f = only-follows g one ok in
-          rw (only-granules g one ok, only-place g one ok addr, reach-place 0 (getD g 1 0) (getD g 2 0) addr (omega (arith, f .ends)))
-      go false e =
-          let no : recordOk g ≡ false = only-ok ∙ e in
-          rw no (cond-none (both (eqb (addr % 4096) 0) (eqb (granuleCount g) n)) ∙ sym (neither (eqb (addr % 4096) 0) _))
 
 -- of a record that the set-up made of one bank, in a table of the length that it was made for
 pub one-bank-made : (shown : List ℕ) (n : ℕ) (g : Granules) → length shown ≡ 16 → setUpCode shown n ≡ Ok → (addr : ℕ) → granuleAt (setUpOf shown n g .granules) n addr ≡ singleRange (wordAt 0 shown) n addr

@@ -126,10 +126,6 @@ reachAmong before (b ∷ bs) addr = orElse (reachIn before (b .base) (b .size) a
 unfoldable pub placedAt : ℕ → Granule
 placedAt p = cond (eqb p 0xFFFFFFFFFFFFFFFF) Nothing (At p)
 
--- of a record with one bank
-unfoldable pub onlyAt : ℕ → ℕ → ℕ → ℕ → Granule
-onlyAt base size n addr = cond (both (eqb (addr % 4096) 0) (both (bankOk base size) (eqb (size / 4096) n))) (reachIn 0 base size addr) Nothing
-
 -- for a list of addresses, which asks once for the number m of the record's granules: in banks that are not judged again, up to 16
 unfoldable pub foundIn : Granules → ℕ → Granule
 foundIn g addr = cond (leb (countOf g) 16) (reachAmong 0 (banksOf g) addr) Nothing
