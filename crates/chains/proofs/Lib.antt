@@ -3,3 +3,4 @@ pub mod Runs
 pub mod Singles
 pub mod Queues
 pub mod Tables
+pub mod Books

@@ -7,3 +7,4 @@ pub mod Order
 pub mod Values
 pub mod Changes
 pub mod Shared
+pub mod Books
