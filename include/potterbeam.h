@@ -23,17 +23,21 @@
  *   stack; the test rust/tests/stack.rs fails where a figure is exceeded. It is measured, not proved. All fit 1 KiB.
  * - The figure behind "AArch64" is static: the frame of the function and of all that it calls, in the archive that tools/aarch64 builds and
  *   that fails to build where a figure is exceeded. It is without the words that a call takes on the stack (pbeam_call 88 bytes) and
- *   without what the platform's memcpy and memset take.
+ *   without what the platform's memcpy, memmove and memset take.
  *
  * potterbeam_types.h has a struct for each image, lists that are counted in entries, and one struct for all that pbeam_call takes. The
  * functions here take plain words and count them: two banks are 4.
  *
  * What the library cannot check, and EL3 has to do:
  *
- * The boot record. EL3 keeps one of its own, apart from the monitor's: every command takes B and the agreed minor from it. EL3 gets it
- *   up with pbeam_cold_boot, over the registers and the page that it is about to hand to the monitor, before it enters the monitor,
- *   since the monitor may call EL3 while it boots. Before each warm boot it calls pbeam_warm_boot. Both sides check the same, so both
- *   records hold the same. A record that EL3 finds closed means: do not enter the monitor.
+ * The boot record. EL3 keeps one of its own, apart from the monitor's: every command takes B, the agreed minor and the kept bytes from it.
+ *   EL3 gets it up with pbeam_cold_boot, over the registers and the page that it is about to hand to the monitor, before it enters the
+ *   monitor, since the monitor may call EL3 while it boots. Before each warm boot it calls pbeam_warm_boot. Both sides check the same, so
+ *   both records hold the same. A record that EL3 finds closed means: do not enter the monitor.
+ * Kept bytes. With K kept bytes in EL3's record no command writes below B + K, so a manifest that lies there can be read at any later boot.
+ *   pbeam_kept_for says how many bytes a manifest takes; with 0 the first command may overwrite it. No register carries K: the monitor
+ *   finds the same number with pbeam_kept_for on the same page, and puts its buffers at B + K and above. The monitor itself may still write
+ *   there: only the commands are held to it.
  * Boot errors. The monitor ends each boot with RMM_BOOT_COMPLETE (0xC40001CF, the code in x1). That call is the platform's: pbeam_call
  *   answers PBEAM_X0_UNK. If x1 is not 0, EL3 closes its record with pbeam_close and lets no CPU enter the monitor again. Every
  *   command but 0xC400018F is PBEAM_X0_UNK from then on.
@@ -49,8 +53,11 @@
  * 0xC400018F does not return to the monitor, so `out` goes nowhere. The Non-secure world gets x0 to x4 (002). 002 names err_code alone, which
  *   is the value of `work`: it goes into x0. Which of the monitor's registers go into x1 to x4 is the platform's; we suggest x2 to x5.
  * Hand-made images. Any words are taken, and no call touches more than it is lent; but an answer is only as true as the words.
- *   - A record that is up is believed: B says which addresses are in the page, the minor which commands there are. Neither is checked.
+ *   - A record that is up is believed: B says which addresses are in the page, the kept bytes which of them are free, the minor which
+ *     commands there are. None is checked; with more than 4,095 kept bytes every buffer is outside.
  *   - A session that has sent as much as its token or more: the next call that goes on is OK with hunk 0 and rest 0, and ends it.
+ *   - A granule record is judged by each call that takes it: one that pbeam_set_up_granules would not have made has no granules. One that it
+ *     would have made is believed, whatever memory the board has.
  *   - A request in the queue with ids above 32 bits, or with any ids: pbeam_oldest shows them as they stand, and pbeam_sign takes it. A
  *     push never puts one there.
  */
@@ -241,18 +248,25 @@
 /* ---- Images: sizes in words, and word numbers. All zero: fresh record, idle session, empty queue. ---- */
 
 /* Boot record. Only boot writes it. */
-#define PBEAM_STATE_WORDS 4
+#define PBEAM_STATE_WORDS 5
 #define PBEAM_STATE_KIND 0
 #define PBEAM_STATE_CPUS 1  /* x2 of the cold boot; 0 when not up */
 #define PBEAM_STATE_BASE 2  /* B; 0 when not up */
 #define PBEAM_STATE_MINOR 3 /* agreed minor; 0 when not up */
+#define PBEAM_STATE_KEPT 4  /* K, the number of kept bytes at the page's start; 0 when not up */
 #define PBEAM_STATE_FRESH 0
 #define PBEAM_STATE_UP 1
 #define PBEAM_STATE_CLOSED 2 /* as written; any other number is read as closed too */
 
-/* Granule record: the address G of the table's first granule. */
-#define PBEAM_GRANULES_WORDS 1
-#define PBEAM_GRANULES_START 0
+/* Granule record: the number of banks of memory, then base and size of each (PBEAM_BANK_WORDS). The words behind the last bank count for
+ * nothing. pbeam_set_up_granules makes it, and no other function writes it.
+ * Granule i of the table is granule i of the banks, joined in their order: an address between two banks is on no granule. A record has no
+ * granules, so that no address is on one, unless pbeam_set_up_granules would take its banks: 1 to 16 of them, each as the reader accepts
+ * it, each beginning at or after the end of the one before. All zero has none. */
+#define PBEAM_GRANULES_WORDS 33
+#define PBEAM_GRANULES_COUNT 0
+#define PBEAM_GRANULES_FIRST_BANK 1
+#define PBEAM_GRANULES_BANKS_MOST 16
 
 /* Token session. */
 #define PBEAM_SESSION_WORDS 3
@@ -401,6 +415,21 @@ uint64_t pbeam_word(const uint8_t *page, size_t page_len, const uint64_t view[PB
                     size_t word);
 
 /*
+ * pbeam_kept_for: how many bytes at the page's start the manifest takes: the number of kept bytes to give pbeam_cold_boot, so that no
+ *          command overwrites it.
+ * Takes    the view that pbeam_read made of the page as PBEAM_EDITION_LAST.
+ * Answers  the highest end of the core and of the arrays, as an offset in the page, rounded up to a multiple of 8: from 16 to 4,096. Of a
+ *          view that no reading made: the core is that of its edition, below 1 taken as 1 and above 4 as 4, and entries that do not lie
+ *          within 4,096 bytes do not count; so it is never above 4,096.
+ * Leaves   the view as it was.
+ * Stack    96 bytes; AArch64 0
+ * With so many kept bytes pbeam_read gives the same answer and the same view after any commands (proved), as the edition that the view was
+ * read as, and so as an older one. What plat_data points at is not counted: where that is to be kept too, take the larger number.
+ */
+PBEAM_NONNULL(1)
+uint64_t pbeam_kept_for(const uint64_t view[PBEAM_VIEW_WORDS]);
+
+/*
  * pbeam_listing: what a page shows, as text: a line for version and edition, one for plat_data, and for each section its number of entries
  *          with a line an entry, or that it is absent.
  * Takes    the page, base and edition as pbeam_read, and a room for the text.
@@ -438,20 +467,23 @@ uint32_t pbeam_write(uint64_t base, uint64_t edition, const uint64_t *dram, size
 
 /*
  * pbeam_cold_boot: the first boot after a reset.
- * Takes    the boot record; x0 the CPU, x1 the version offered, x2 the number of CPUs, x3 = B; the monitor's maximum of CPUs; the
- *          page at B, which is read as PBEAM_EDITION_LAST.
+ * Takes    the boot record; x0 the CPU, x1 the version offered, x2 the number of CPUs, x3 = B; the monitor's maximum of CPUs; K = kept, the
+ *          number of bytes at the page's start that no command may write (0: none; pbeam_kept_for: those of the manifest); the page at B,
+ *          which is read as PBEAM_EDITION_LAST.
  * Answers  PBEAM_BOOT_DONE, or by the first check that fails:
  *          PBEAM_BOOT_STATE        record not fresh
  *          PBEAM_BOOT_VERSION      x1 above 32 bits; bit 31 set, major not 0, or minor 0
  *          PBEAM_BOOT_CPUS         x2 above most
  *          PBEAM_BOOT_CPU          x0 not below x2; so with x2 = 0 always
+ *          PBEAM_MANIFEST_PLACE    K above 4,096
  *          PBEAM_MANIFEST_PLACE, PBEAM_MANIFEST_VERSION, PBEAM_MANIFEST_RULES  as pbeam_read
- * Leaves   the page as it was. state: up, with x2, B and the agreed minor; refused: closed, for good.
+ * Leaves   the page as it was. state: up, with x2, B, the agreed minor and K; refused: closed, for good.
  * Stack    416 bytes; AArch64 432
- * The view is not kept: read the page with pbeam_read before a command writes into it.
+ * The view is not kept. With K = 0 read the page with pbeam_read before a command writes into it. K need not cover the manifest; with K =
+ * 4,096 every buffer is outside.
  */
 PBEAM_NONNULL(1)
-int32_t pbeam_cold_boot(uint64_t state[PBEAM_STATE_WORDS], uint64_t x0, uint64_t x1, uint64_t x2, uint64_t x3, uint64_t most,
+int32_t pbeam_cold_boot(uint64_t state[PBEAM_STATE_WORDS], uint64_t x0, uint64_t x1, uint64_t x2, uint64_t x3, uint64_t most, uint64_t kept,
                         const uint8_t *page, size_t page_len);
 
 /*
@@ -460,7 +492,7 @@ int32_t pbeam_cold_boot(uint64_t state[PBEAM_STATE_WORDS], uint64_t x0, uint64_t
  * Answers  PBEAM_BOOT_DONE, or by the first check that fails:
  *          PBEAM_BOOT_STATE        record not up
  *          PBEAM_BOOT_CPU          x0 not below the cold boot's x2
- * Leaves   state: up, as it was; refused: closed, for good. A CPU may warm boot twice.
+ * Leaves   state: up, as it was, kept bytes too; refused: closed, for good. A CPU may warm boot twice.
  * Stack    32 bytes; AArch64 16
  */
 PBEAM_NONNULL(1)
@@ -495,15 +527,31 @@ uint64_t pbeam_agreed_minor(uint64_t version);
  */
 bool pbeam_is_later(uint64_t a, uint64_t b);
 
-/* ---- Runtime commands. A buffer is `size` bytes at physical address pa. It is outside when pa is below B or not below B + 4,096,
- * and too long when size exceeds B + 4,096 - pa. B and the agreed minor are those of the boot record. ---- */
+/* ---- Runtime commands. A buffer is `size` bytes at physical address pa. It is outside when pa is below B + K or not below B + 4,096,
+ * and too long when size exceeds B + 4,096 - pa. B, K (the number of kept bytes) and the agreed minor are those of the boot record. ---- */
+
+/*
+ * pbeam_set_up_granules: the granule record of the banks that a manifest shows. Once, before the first command that takes the record.
+ * Takes    room for the record; the banks' bytes, as pbeam_array or pbeam_array_of with PBEAM_DRAM gives their place in the page
+ *          (PBEAM_BANK_BYTES a bank); and the length of the granule table.
+ * Answers  PBEAM_X0_OK, or PBEAM_X0_INVAL if there is no bank, a part of one or more than PBEAM_GRANULES_BANKS_MOST; if a bank breaks the
+ *          reader's rule (base and size multiples of 4,096, size not 0, base + size at most 2^52); if a bank begins before the end of the
+ *          one before it (they may touch); or if table_len is not the sum of the sizes over PBEAM_GRANULE_BYTES.
+ * Leaves   on OK the record, with 0 in the words behind its last bank. With PBEAM_X0_INVAL no record is made: the words stay as they were.
+ * Stack    384 bytes; AArch64 0
+ * It needs no boot record and keeps no pointer: the page may be overwritten afterwards. The reader accepts more than this: banks in any order,
+ * overlapping ones, up to 249. Such a board has no record, and its commands answer PBEAM_X0_BAD_ADDR.
+ */
+PBEAM_NONNULL(1)
+uint64_t pbeam_set_up_granules(uint64_t granules[PBEAM_GRANULES_WORDS], const uint8_t *banks, size_t banks_len, uint64_t table_len);
 
 /*
  * pbeam_delegate (0xC40001B0): a granule goes from Non-secure to Realm.
  * Takes    the boot record, the granule record, the granule table, and the granule's address.
  * Answers  out: x0 PBEAM_X0_OK, or by the first check that fails:
  *          PBEAM_X0_UNK       record not up
- *          PBEAM_X0_BAD_ADDR  G or address not a multiple of 4,096, or address on no granule of the table
+ *          PBEAM_X0_BAD_ADDR  address not a multiple of 4,096, or on no granule of the record's banks; the granule record one without
+ *                             granules; the table of another length than the record's granules: then every address
  *          PBEAM_X0_BAD_PAS   the granule's byte is not PBEAM_GRANULE_NON_SECURE
  * Leaves   on OK that byte as PBEAM_GRANULE_REALM, and every other byte as it was. Refused, the table as it was.
  * Stack    64 bytes; AArch64 0
@@ -531,7 +579,7 @@ void pbeam_undelegate(const uint64_t state[PBEAM_STATE_WORDS], const uint64_t gr
  *          also when x0 is a refusal: so x1 is the index of the refused address. x2 0. An empty list is OK with 0, up or not.
  * Leaves   as x1 single calls would: the granules before the refused address are Realm and stay so; no other byte changes. An address
  *          that comes twice is refused with PBEAM_X0_BAD_PAS the second time.
- * Stack    64 bytes; AArch64 0
+ * Stack    192 bytes; AArch64 0
  * The bytes alone are changed: the change in hardware is the platform's, for the first x1 addresses, on a refusal too.
  */
 PBEAM_NONNULL(1, 2, 7)
@@ -540,7 +588,7 @@ void pbeam_delegate_list(const uint64_t state[PBEAM_STATE_WORDS], const uint64_t
 
 /*
  * pbeam_undelegate_list: the same from Realm to Non-secure, each address as pbeam_undelegate takes it.
- * Stack    64 bytes; AArch64 0
+ * Stack    192 bytes; AArch64 0
  */
 PBEAM_NONNULL(1, 2, 7)
 void pbeam_undelegate_list(const uint64_t state[PBEAM_STATE_WORDS], const uint64_t granules[PBEAM_GRANULES_WORDS], uint8_t *table,
@@ -707,7 +755,7 @@ size_t pbeam_responses(const uint64_t queue[PBEAM_QUEUE_WORDS]);
  *          other id: PBEAM_X0_UNK. Every command but PBEAM_ID_FORWARD: PBEAM_X0_UNK while the record is not up.
  * Leaves   what the command leaves; all else as it was. Only PBEAM_ID_PLATFORM_TOKEN reads or writes the session, only
  *          PBEAM_ID_TOKEN_SIGNING the queue.
- * Stack    512 bytes with PBEAM_ID_TOKEN_SIGNING, 416 bytes with any other id; AArch64 432
+ * Stack    528 bytes with PBEAM_ID_TOKEN_SIGNING, 416 bytes with any other id; AArch64 432
  */
 PBEAM_NONNULL(1, 2, 3, 6, 17, 18, 19)
 void pbeam_call(const uint64_t state[PBEAM_STATE_WORDS], uint64_t session[PBEAM_SESSION_WORDS], uint64_t queue[PBEAM_QUEUE_WORDS],

@@ -5,9 +5,11 @@
 //! image as the library, by the same rules ("in place"); `tests/inplace.rs` holds it to them. Reader and writer are timed against the
 //! reference and against a second reader and writer, written for speed ("by hand"); `tests/fast.rs` holds it to the reference.
 //!
-//! With the argument `manifest` only these are timed.
+//! With the argument `manifest` only these are timed, with `granules` only granule records and moves.
 
-use potterbeam_tests::exports::{Exports, QueueImage, RecordImage, Registers, SessionImage, Work};
+use potterbeam_tests::exports::{
+    Exports, GranulesImage, QueueImage, RecordImage, Registers, SessionImage, Work,
+};
 use potterbeam_tests::fast;
 use potterbeam_tests::images::record_of;
 use potterbeam_tests::inplace;
@@ -15,7 +17,6 @@ use potterbeam_tests::kit::{ffi, Kit};
 use potterbeam_tests::model::Model;
 use potterbeam_tests::reference::boot::Record;
 use potterbeam_tests::reference::codes::Outcome;
-use potterbeam_tests::reference::granules::{delegate, undelegate};
 use potterbeam_tests::reference::layout::PAGE;
 use potterbeam_tests::reference::queue::Queue;
 use potterbeam_tests::reference::reader::read;
@@ -75,7 +76,7 @@ struct Up {
 
 impl Up {
     fn new() -> Up {
-        let image = hidden([1, 8, BASE, 5]);
+        let image = hidden([1, 8, BASE, 5, 0]);
         let record = record_of(&image);
         Up { image, record }
     }
@@ -156,6 +157,20 @@ fn compare_reading(name: &str, base: u64, edition: u64, lists: Lists) {
     assert_eq!(view, theirs);
 }
 
+/// What the manifest of a view takes of the page.
+fn compare_kept_for() {
+    let (mut page, mut view) = (Page([0; PAGE]), [0; 15]);
+    write(BASE, 4, [&BANK, &CONSOLE, &BANK, &BANK], &mut page.0).expect("written");
+    assert_eq!(Kit::read(page.lent(), BASE, 4, &mut view), 0);
+    assert_eq!(Kit::kept_for(&view), fast::kept_for(&view));
+    compare(
+        "kept bytes of a view",
+        1,
+        side(|| see(Kit::kept_for(&view))),
+        vec![("by hand", side(|| see(fast::kept_for(&view))))],
+    );
+}
+
 /// A writing, and the answer that all sides give.
 fn compare_writing(name: &str, base: u64, edition: u64, lists: Lists, answer: u32) {
     let [mut first, mut second, mut third] = [(); 3].map(|()| Page([0; PAGE]));
@@ -212,88 +227,65 @@ fn compare_manifests() {
 
 // ---- Granules ----
 
-#[inline(never)]
-fn native_delegate(record: &Record, start: u64, table: &mut [u8], address: u64) -> Outcome {
-    delegate(*record, start, table, address)
+/// A record of so many banks, with 512 granules in all and a hole of one behind each bank; and the addresses of its granules.
+fn banks(count: u64) -> (GranulesImage, Vec<u64>) {
+    let (mut record, mut addresses) = ([0; 33], Vec::new());
+    record[0] = count;
+    let size = 512 / count * 4096;
+    for (i, bank) in (0..count).zip(record[1..].chunks_exact_mut(2)) {
+        let base = 0x8_8000_0000 + i * (size + 4096);
+        bank.copy_from_slice(&[base, size]);
+        addresses.extend((base..base + size).step_by(4096));
+    }
+    (hidden(record), addresses)
 }
 
-#[inline(never)]
-fn native_undelegate(record: &Record, start: u64, table: &mut [u8], address: u64) -> Outcome {
-    undelegate(*record, start, table, address)
-}
-
-fn compare_granules() {
-    let Up { image, record } = Up::new();
-    let [start, address, length] = hidden([0, 77 * 4096, 512]);
+/// A single granule in the last bank, to Realm and back.
+fn compare_granules(count: u64) {
+    let (Up { image, .. }, (record, addresses)) = (Up::new(), banks(count));
+    let [address, length] = hidden([addresses[500], 512]);
     let [mut ours, mut theirs] = [(); 2].map(|()| vec![0; length as usize]);
     compare(
-        "delegate, undelegate",
+        &format!("delegate, undelegate, {}", several(count)),
         2,
         side(|| {
             let mut out = [0; 3];
-            Kit::delegate(&image, &[start], &mut ours, address, &mut out);
+            Kit::delegate(&image, &record, &mut ours, address, &mut out);
             see(out[0]);
-            Kit::undelegate(&image, &[start], &mut ours, address, &mut out);
+            Kit::undelegate(&image, &record, &mut ours, address, &mut out);
             see(out[0]);
         }),
         vec![(
-            "native",
+            "in place",
             side(|| {
-                see(native_delegate(&record, start, &mut theirs, address).expect("done")[0]);
-                see(native_undelegate(&record, start, &mut theirs, address).expect("done")[0]);
+                let mut out = [0; 3];
+                inplace::delegate(&image, &record, &mut theirs, address, &mut out);
+                see(out[0]);
+                inplace::undelegate(&image, &record, &mut theirs, address, &mut out);
+                see(out[0]);
             }),
         )],
     );
     assert_eq!(ours, theirs);
 }
 
-/// A list by hand: what does not depend on the address is looked at once, and the rest where it lies.
-#[inline(never)]
-fn native_delegate_list(
-    state: &[u64; 4],
-    start: u64,
-    table: &mut [u8],
-    list: &[u64],
-    out: &mut [u64; 3],
-) {
-    *out = [0; 3];
-    if list.is_empty() {
-        return;
-    }
-    if state[0] != 1 {
-        out[0] = -1i64 as u64;
-        return;
-    }
-    for (done, &address) in list.iter().enumerate() {
-        let index = address.wrapping_sub(start) / 4096;
-        let code =
-            if (start | address) % 4096 != 0 || address < start || index >= table.len() as u64 {
-                -2i64
-            } else if table[index as usize] != 0 {
-                -3
-            } else {
-                table[index as usize] = 1;
-                continue;
-            };
-        *out = [code as u64, done as u64, 0];
-        return;
-    }
-    out[1] = list.len() as u64;
+fn several(count: u64) -> String {
+    format!("{count} bank{}", if count == 1 { "" } else { "s" })
 }
 
-/// 200 granules handed over in one call, against a list by hand and against 200 single calls.
-fn compare_lists() {
-    let Up { image, .. } = Up::new();
-    let [start, length] = hidden([0x8_8000_0000, 512]);
-    let list: Vec<u64> = (0..200).map(|i| start + 4096 * (2 * i + 1)).collect();
+/// 200 granules over all banks handed over in one call, against a list by hand and against 200 single calls.
+fn compare_lists(count: u64) {
+    let (Up { image, .. }, (record, addresses)) = (Up::new(), banks(count));
+    let [length] = hidden([512]);
+    let list: Vec<u64> = (0..200).map(|i| addresses[2 * i + i / 2]).collect();
     let [mut ours, mut theirs, mut singly] = [(); 3].map(|()| vec![0; length as usize]);
     compare(
-        "delegate a list of 200",
+        &format!("delegate a list of 200, {}", several(count)),
         1,
         side(|| {
             let mut out = [0; 3];
             ours.fill(0);
-            Kit::delegate_list(&image, &[start], &mut ours, &list, &mut out);
+            Kit::delegate_list(&image, &record, &mut ours, &list, &mut out);
             see(out[1]);
         }),
         vec![
@@ -302,7 +294,7 @@ fn compare_lists() {
                 side(|| {
                     let mut out = [0; 3];
                     theirs.fill(0);
-                    native_delegate_list(&image, start, &mut theirs, &list, &mut out);
+                    inplace::delegate_list(&image, &record, &mut theirs, &list, &mut out);
                     see(out[1]);
                 }),
             ),
@@ -312,7 +304,7 @@ fn compare_lists() {
                     let mut out = [0; 3];
                     singly.fill(0);
                     for &address in &list {
-                        Kit::delegate(&image, &[start], &mut singly, address, &mut out);
+                        Kit::delegate(&image, &record, &mut singly, address, &mut out);
                         see(out[0]);
                     }
                 }),
@@ -322,6 +314,31 @@ fn compare_lists() {
     assert_eq!(ours, theirs);
     assert_eq!(ours, singly);
     assert_eq!(ours.iter().filter(|&&byte| byte == 1).count(), 200);
+}
+
+fn compare_set_up(count: u64) {
+    let (record, _) = banks(count);
+    let words = record[1..=2 * count as usize].iter();
+    let shown: Vec<u8> = words.flat_map(|word| word.to_le_bytes()).collect();
+    let [length] = hidden([512]);
+    let [mut ours, mut theirs] = [[0; 33]; 2];
+    compare(
+        &format!("set up {}", several(count)),
+        1,
+        side(|| {
+            see(Kit::set_up_granules(&mut ours, &shown, length));
+            see(ours[2]);
+        }),
+        vec![(
+            "in place",
+            side(|| {
+                see(inplace::set_up(&mut theirs, &shown, length));
+                see(theirs[2]);
+            }),
+        )],
+    );
+    assert_eq!(ours, theirs);
+    assert_eq!(ours, record);
 }
 
 // ---- Token ----
@@ -529,7 +546,7 @@ struct Desk {
     session: SessionImage,
     queue: QueueImage,
     page: Box<Page>,
-    start: u64,
+    granules: GranulesImage,
     table: Vec<u8>,
     key: Vec<u8>,
     token: Vec<u8>,
@@ -541,7 +558,7 @@ struct Desk {
 
 impl Desk {
     fn new() -> Desk {
-        let [start, table, key, token, busy, width] = hidden([0, 512, 97, 4096, 0, 15]);
+        let [table, key, token, busy, width] = hidden([512, 97, 4096, 0, 15]);
         let mut page = Box::new(Page([0; PAGE]));
         page.0[24] = 1;
         Desk {
@@ -549,7 +566,7 @@ impl Desk {
             session: [0; 3],
             queue: [0; 210],
             page,
-            start,
+            granules: banks(1).0,
             table: vec![0; table as usize],
             key: vec![0x5A; key as usize],
             token: vec![0xA5; token as usize],
@@ -569,7 +586,7 @@ impl Desk {
                 &mut self.queue,
                 self.page.0.as_mut_ptr(),
                 PAGE,
-                &[self.start],
+                &self.granules,
                 self.table.as_mut_ptr(),
                 self.table.len(),
                 self.key.as_ptr(),
@@ -594,7 +611,7 @@ impl Desk {
             &mut self.session,
             &mut self.queue,
             &mut self.page.0,
-            &[self.start],
+            &self.granules,
             &mut self.table,
             &self.key,
             &self.token,
@@ -646,7 +663,7 @@ fn compare_call(name: &str, x0: i64, x: [u64; 5], set: impl Fn(&mut Desk)) {
 }
 
 fn compare_calls() {
-    let at = 77 * 4096;
+    let at = 0x8_8000_0000 + 77 * 4096;
     let none = |_: &mut Desk| {};
     let one_response = |desk: &mut Desk| {
         desk.queue[1] = 1;
@@ -699,29 +716,35 @@ fn compare_calls() {
 // ---- Cold boot ----
 
 #[inline(never)]
-fn in_place_cold_boot(state: &mut RecordImage, x: [u64; 4], most: u64, page: &[u8]) -> i32 {
-    Model::cold_boot(state, x, most, page)
+fn in_place_cold_boot(
+    state: &mut RecordImage,
+    x: [u64; 4],
+    most: u64,
+    kept: u64,
+    page: &[u8],
+) -> i32 {
+    Model::cold_boot(state, x, most, kept, page)
 }
 
 fn compare_cold_boot() {
     let mut page = Page([0; PAGE]);
     write(BASE, 2, [&BANK, &[], &[], &[]], &mut page.0).expect("written");
-    let (x, [most]) = (hidden([0, 5, 8, BASE]), hidden([8]));
+    let (x, [most, kept]) = (hidden([0, 5, 8, BASE]), hidden([8, 56]));
     let page = &*page.lent();
-    let [mut ours, mut theirs] = [[0; 4]; 2];
+    let [mut ours, mut theirs] = [[0; 5]; 2];
     compare(
         "cold boot with example 14's page",
         1,
         side(|| {
-            ours = [0; 4];
-            assert_eq!(Kit::cold_boot(&mut ours, x, most, page), 0);
+            ours = [0; 5];
+            assert_eq!(Kit::cold_boot(&mut ours, x, most, kept, page), 0);
             see(ours[3]);
         }),
         vec![(
             "in place",
             side(|| {
-                theirs = [0; 4];
-                assert_eq!(in_place_cold_boot(&mut theirs, x, most, page), 0);
+                theirs = [0; 5];
+                assert_eq!(in_place_cold_boot(&mut theirs, x, most, kept, page), 0);
                 see(theirs[3]);
             }),
         )],
@@ -1042,17 +1065,31 @@ fn compare_collections(message: &[u8], largest: u32, total: u32) {
     );
 }
 
+fn compare_all_granules() {
+    for count in [1, 16] {
+        compare_granules(count);
+        compare_lists(count);
+        compare_set_up(count);
+    }
+}
+
+fn compare_pages() {
+    compare_manifests();
+    compare_kept_for();
+}
+
 fn main() {
     println!("Best of {RUNS} runs, in turn. No page, table or image is cleared before a call.");
     println!("ns a call                              library reference  ratio  reference's state");
-    compare_manifests();
-    if std::env::args().nth(1).as_deref() == Some("manifest") {
-        return;
+    let only = std::env::args().nth(1);
+    match only.as_deref() {
+        Some("manifest") => return compare_pages(),
+        Some("granules") => return compare_all_granules(),
+        _ => compare_pages(),
     }
     compare_cold_boot();
     compare_calls();
-    compare_granules();
-    compare_lists();
+    compare_all_granules();
     compare_token(64);
     compare_token(4096);
     compare_queue(0);

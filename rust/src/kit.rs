@@ -51,6 +51,7 @@ pub mod ffi {
             entry: usize,
             word: usize,
         ) -> u64;
+        pub fn pbeam_kept_for(view: *const ViewImage) -> u64;
         pub fn pbeam_listing(
             page: *const u8,
             page_len: usize,
@@ -80,6 +81,7 @@ pub mod ffi {
             x2: u64,
             x3: u64,
             most: u64,
+            kept: u64,
             page: *const u8,
             page_len: usize,
         ) -> i32;
@@ -88,6 +90,12 @@ pub mod ffi {
         pub fn pbeam_version_accepted(version: u64) -> bool;
         pub fn pbeam_agreed_minor(version: u64) -> u64;
         pub fn pbeam_is_later(a: u64, b: u64) -> bool;
+        pub fn pbeam_set_up_granules(
+            granules: *mut GranulesImage,
+            banks: *const u8,
+            banks_len: usize,
+            table_len: u64,
+        ) -> u64;
         pub fn pbeam_delegate(
             state: *const RecordImage,
             granules: *const GranulesImage,
@@ -266,6 +274,11 @@ impl Exports for Kit {
     }
 
     #[inline]
+    fn kept_for(view: &ViewImage) -> u64 {
+        unsafe { ffi::pbeam_kept_for(view) }
+    }
+
+    #[inline]
     fn listing(page: &[u8], base: u64, edition: u64, text: &mut [u8]) -> usize {
         let (page, page_len) = lend(page);
         let (text, text_len) = lend_mut(text);
@@ -299,10 +312,10 @@ impl Exports for Kit {
     }
 
     #[inline]
-    fn cold_boot(state: &mut RecordImage, x: [u64; 4], most: u64, page: &[u8]) -> i32 {
+    fn cold_boot(state: &mut RecordImage, x: [u64; 4], most: u64, kept: u64, page: &[u8]) -> i32 {
         let [x0, x1, x2, x3] = x;
         let (page, page_len) = lend(page);
-        unsafe { ffi::pbeam_cold_boot(state, x0, x1, x2, x3, most, page, page_len) }
+        unsafe { ffi::pbeam_cold_boot(state, x0, x1, x2, x3, most, kept, page, page_len) }
     }
 
     #[inline]
@@ -328,6 +341,12 @@ impl Exports for Kit {
     #[inline]
     fn is_later(a: u64, b: u64) -> bool {
         unsafe { ffi::pbeam_is_later(a, b) }
+    }
+
+    #[inline]
+    fn set_up_granules(granules: &mut GranulesImage, banks: &[u8], in_table: u64) -> u64 {
+        let (banks, banks_len) = lend(banks);
+        unsafe { ffi::pbeam_set_up_granules(granules, banks, banks_len, in_table) }
     }
 
     #[inline]
@@ -497,7 +516,7 @@ impl Exports for Kit {
         let (key, key_len) = lend(lent.key);
         let (token, token_len) = lend(lent.token);
         let (public, public_len) = lend(lent.public_key);
-        let (granules, busy, width) = (&lent.granules, lent.busy, lent.width);
+        let (granules, busy, width) = (lent.granules, lent.busy, lent.width);
         unsafe {
             ffi::pbeam_call(
                 state, session, queue, page, page_len, granules, table, table_len, key, key_len,

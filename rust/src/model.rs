@@ -9,12 +9,13 @@ use crate::images::{
     part_of, put_moves, queue_of, record_of, record_words, registers, request_words, session_of,
     session_words, view_words,
 };
+use crate::reference::banks::set_up;
 use crate::reference::boot::{boot_code, BootError, Record};
 use crate::reference::codes::{Answer, Outcome};
 use crate::reference::features::{features, forward, key_update};
 use crate::reference::granules::{delegate, delegate_list, undelegate, undelegate_list};
 use crate::reference::key::realm_key;
-use crate::reference::layout::{accepted_minor, ENTRY_WORDS};
+use crate::reference::layout::{accepted_minor, Edition, ENTRY_WORDS, PAGE, SECTIONS};
 use crate::reference::listing::list;
 use crate::reference::queue::Queue;
 use crate::reference::reader::{array, read, shown_word};
@@ -60,6 +61,13 @@ impl Exports for Model {
         }
     }
 
+    fn kept_for(view: &ViewImage) -> u64 {
+        let edition = Edition::new(view[1].clamp(1, 4)).expect("an edition");
+        let parts = (0..SECTIONS).filter_map(|section| part_of(PAGE, view, section));
+        let end = parts.map(|part| part.end).fold(edition.core(), usize::max);
+        (end as u64 + 7) / 8 * 8
+    }
+
     fn listing(page: &[u8], base: u64, edition: u64, text: &mut [u8]) -> usize {
         let mut whole = String::new();
         list(&mut whole, page, base, edition).expect("a string takes any text");
@@ -72,8 +80,8 @@ impl Exports for Model {
         write(base, edition, lists, page).map_or_else(|refusal| refusal as u32, |()| 0)
     }
 
-    fn cold_boot(state: &mut RecordImage, x: [u64; 4], most: u64, page: &[u8]) -> i32 {
-        boot(state, |record| record.cold(x, most, page))
+    fn cold_boot(state: &mut RecordImage, x: [u64; 4], most: u64, kept: u64, page: &[u8]) -> i32 {
+        boot(state, |record| record.cold(x, most, kept, page))
     }
 
     fn warm_boot(state: &mut RecordImage, x: [u64; 4]) -> i32 {
@@ -96,6 +104,15 @@ impl Exports for Model {
         a > b
     }
 
+    fn set_up_granules(granules: &mut GranulesImage, banks: &[u8], in_table: u64) -> u64 {
+        let made = set_up(banks, in_table);
+        if let Ok(record) = made {
+            *granules = record;
+        }
+        let [x0, ..] = answered(made.map(|_| [0, 0]));
+        x0
+    }
+
     fn delegate(
         state: &RecordImage,
         granules: &GranulesImage,
@@ -103,7 +120,7 @@ impl Exports for Model {
         at: u64,
         out: &mut Registers,
     ) {
-        *out = answered(delegate(record_of(state), granules[0], table, at));
+        *out = answered(delegate(record_of(state), granules, table, at));
     }
 
     fn undelegate(
@@ -113,7 +130,7 @@ impl Exports for Model {
         at: u64,
         out: &mut Registers,
     ) {
-        *out = answered(undelegate(record_of(state), granules[0], table, at));
+        *out = answered(undelegate(record_of(state), granules, table, at));
     }
 
     fn delegate_list(
@@ -123,7 +140,7 @@ impl Exports for Model {
         addresses: &[u64],
         out: &mut Registers,
     ) {
-        let listed = delegate_list(record_of(state), granules[0], table, addresses);
+        let listed = delegate_list(record_of(state), granules, table, addresses);
         *out = registers(Answer::from(listed));
     }
 
@@ -134,7 +151,7 @@ impl Exports for Model {
         addresses: &[u64],
         out: &mut Registers,
     ) {
-        let listed = undelegate_list(record_of(state), granules[0], table, addresses);
+        let listed = undelegate_list(record_of(state), granules, table, addresses);
         *out = registers(Answer::from(listed));
     }
 
@@ -300,7 +317,7 @@ fn native<'a>(lent: &'a mut Lent) -> runtime::Lent<'a> {
     runtime::Lent {
         page: lent.page,
         table: lent.table,
-        start: lent.granules[0],
+        banks: lent.granules,
         realm_key: lent.key,
         public_key: lent.public_key,
         token: lent.token,

@@ -1,7 +1,7 @@
 //! 02, E14: the books on granules. A long random sequence of delegations, undelegations, lists and other calls, with forged records and
 //! refusals among them. The books are kept beside the library, from its answers alone, and compared with the table after every call.
 
-use potterbeam_tests::exports::{Exports, Lent, RecordImage, Registers};
+use potterbeam_tests::exports::{Exports, GranulesImage, Lent, RecordImage, Registers};
 use potterbeam_tests::images::{record_of, record_words};
 use potterbeam_tests::kit::Kit;
 use potterbeam_tests::random::calls::Scene;
@@ -27,6 +27,18 @@ fn realms(table: &[u8]) -> u64 {
     table.iter().filter(|&&byte| byte == REALM).count() as u64
 }
 
+/// The granule that an accepted call named: the banks' granules are joined in bank order.
+fn place(granules: &GranulesImage, address: u64) -> usize {
+    let mut before = 0;
+    for bank in granules[1..].chunks(2).take(granules[0] as usize) {
+        if (bank[0]..bank[0] + bank[1]).contains(&address) {
+            return ((before + address - bank[0]) / 4096) as usize;
+        }
+        before += bank[1];
+    }
+    panic!("accepted, and in no bank: {address:#x}");
+}
+
 impl Books {
     fn open(table: &[u8]) -> Books {
         Books {
@@ -40,7 +52,7 @@ impl Books {
     /// Enters accepted calls on these addresses.
     fn enter(&mut self, scene: &Scene, id: u64, addresses: &[u64]) {
         for address in addresses {
-            let granule = &mut self.bytes[((address - scene.start) / 4096) as usize];
+            let granule = &mut self.bytes[place(&scene.granules, *address)];
             if id == DELEGATE {
                 self.delegated += 1;
                 *granule = REALM;
@@ -72,10 +84,12 @@ fn done<'a>(out: &Registers, addresses: &'a [u64], is_list: bool) -> &'a [u64] {
 /// A list of granules in one call.
 fn list(scene: &mut Scene, record: &RecordImage, id: u64, addresses: &[u64]) -> Registers {
     let mut out = [7; 3];
-    let granules = [scene.start];
+    let Scene {
+        granules, table, ..
+    } = scene;
     match id {
-        DELEGATE => Kit::delegate_list(record, &granules, &mut scene.table, addresses, &mut out),
-        _ => Kit::undelegate_list(record, &granules, &mut scene.table, addresses, &mut out),
+        DELEGATE => Kit::delegate_list(record, granules, table, addresses, &mut out),
+        _ => Kit::undelegate_list(record, granules, table, addresses, &mut out),
     }
     out
 }
@@ -87,7 +101,7 @@ fn call(random: &mut Random, scene: &mut Scene, record: &RecordImage, x: &[u64; 
     let mut queue = random.queue_image();
     let mut lent = Lent {
         page: &mut scene.page,
-        granules: [scene.start],
+        granules: &scene.granules,
         table: &mut scene.table,
         key: &scene.realm_key,
         token: &scene.token,

@@ -2,14 +2,15 @@
 //! sequences with forged images between.
 
 use potterbeam_tests::exports::{
-    Exports, Lent, QueueImage, RecordImage, Registers, RequestImage, SessionImage, Work,
+    Exports, GranulesImage, Lent, QueueImage, RecordImage, Registers, RequestImage, SessionImage,
+    Work,
 };
 use potterbeam_tests::images::{record_of, record_words, session_of};
 use potterbeam_tests::inplace;
 use potterbeam_tests::model::Model;
 use potterbeam_tests::random::calls::Scene;
 use potterbeam_tests::random::Random;
-use potterbeam_tests::reference::runtime::{Call, TOKEN_SIGN};
+use potterbeam_tests::reference::runtime::{Call, DELEGATE, TOKEN_SIGN};
 use std::collections::BTreeMap;
 
 const SCENES: usize = 4_000;
@@ -29,12 +30,18 @@ struct Memory {
     returned: usize,
 }
 
+/// A move of the granule at an address, or of those at a list.
+type Move<T> = fn(&RecordImage, &GranulesImage, &mut [u8], T, &mut Registers);
+
 /// How often each answer was met, by the id or the name of the step.
 type Met = BTreeMap<(u64, i64), u64>;
 
 const SIGN: u64 = 1;
 const SIGNING: u64 = 2;
 const OLDEST: u64 = 3;
+const MOVE: u64 = 4;
+const LIST: u64 = 5;
+const SET_UP: u64 = 6;
 
 impl Memory {
     fn new(random: &mut Random, scene: &Scene) -> Memory {
@@ -73,7 +80,7 @@ impl Memory {
 fn model_call(m: &mut Memory, scene: &Scene, busy: u64, x: &[u64; 5]) {
     let mut lent = Lent {
         page: &mut m.page,
-        granules: [scene.start],
+        granules: &scene.granules,
         table: &mut m.table,
         key: &scene.realm_key,
         token: &scene.token,
@@ -92,7 +99,7 @@ fn in_place_call(m: &mut Memory, scene: &Scene, busy: u64, x: &[u64; 5]) {
         &mut m.session,
         &mut m.queue,
         &mut m.page,
-        &[scene.start],
+        &scene.granules,
         &mut m.table,
         &scene.realm_key,
         &scene.token,
@@ -107,7 +114,7 @@ fn in_place_call(m: &mut Memory, scene: &Scene, busy: u64, x: &[u64; 5]) {
 
 /// One call on each side; answers which.
 fn step(random: &mut Random, scene: &mut Scene, model: &mut Memory, ours: &mut Memory) -> u64 {
-    match random.below(6) {
+    match random.below(9) {
         0 => {
             let signature = random.signature();
             Model::sign(&mut model.queue, &signature, &mut model.out);
@@ -127,6 +134,58 @@ fn step(random: &mut Random, scene: &mut Scene, model: &mut Memory, ours: &mut M
             let Memory { page, out, .. } = ours;
             inplace::token_signing(&ours.record, &mut ours.queue, page, key, x, out);
             SIGNING
+        }
+        3 => {
+            let [at, ..] = random.registers(DELEGATE, scene);
+            let (theirs, mine): (Move<u64>, Move<u64>) = match random.one_in(2) {
+                true => (Model::delegate, inplace::delegate),
+                false => (Model::undelegate, inplace::undelegate),
+            };
+            theirs(
+                &model.record,
+                &scene.granules,
+                &mut model.table,
+                at,
+                &mut model.out,
+            );
+            mine(
+                &ours.record,
+                &scene.granules,
+                &mut ours.table,
+                at,
+                &mut ours.out,
+            );
+            MOVE
+        }
+        4 => {
+            let list = random.granules(scene);
+            let (theirs, mine): (Move<&[u64]>, Move<&[u64]>) = match random.one_in(2) {
+                true => (Model::delegate_list, inplace::delegate_list),
+                false => (Model::undelegate_list, inplace::undelegate_list),
+            };
+            theirs(
+                &model.record,
+                &scene.granules,
+                &mut model.table,
+                &list,
+                &mut model.out,
+            );
+            mine(
+                &ours.record,
+                &scene.granules,
+                &mut ours.table,
+                &list,
+                &mut ours.out,
+            );
+            LIST
+        }
+        5 => {
+            let (shown, in_table) = random.shown_banks();
+            let (mut theirs, mut mine) = (scene.granules, scene.granules);
+            model.out[0] = Model::set_up_granules(&mut theirs, &shown, in_table);
+            ours.out[0] = inplace::set_up(&mut mine, &shown, in_table);
+            assert_eq!(mine, theirs);
+            SET_UP
         }
         _ => {
             let Call { id, x } = random.call(scene);
@@ -172,7 +231,10 @@ fn the_same_as_the_model() {
 
 /// Every answer of every command was met often.
 fn expect(met: &Met) {
-    let expected: [(u64, &[i64]); 11] = [
+    let expected: [(u64, &[i64]); 14] = [
+        (MOVE, &[0, -1, -2, -3]),
+        (LIST, &[0, -1, -2, -3]),
+        (SET_UP, &[0, -5]),
         (SIGN, &[0, -5, -6]),
         (SIGNING, &[0, -1, -5, -6]),
         (OLDEST, &[0, 1, 2, 3, 4, 5, 6, 7, 8]),

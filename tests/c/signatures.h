@@ -12,14 +12,16 @@ struct signatures {
     void (*array_of)(bytes, size_t, words, size_t, uint64_t *);
     size_t (*count)(bytes, size_t, words, size_t);
     uint64_t (*word)(bytes, size_t, words, size_t, size_t, size_t);
+    uint64_t (*kept_for)(words);
     size_t (*listing)(bytes, size_t, uint64_t, uint64_t, uint8_t *, size_t);
     uint32_t (*write)(uint64_t, uint64_t, words, size_t, words, size_t, words, size_t, words, size_t, uint8_t *, size_t);
-    int32_t (*cold_boot)(uint64_t *, uint64_t, uint64_t, uint64_t, uint64_t, uint64_t, bytes, size_t);
+    int32_t (*cold_boot)(uint64_t *, uint64_t, uint64_t, uint64_t, uint64_t, uint64_t, uint64_t, bytes, size_t);
     int32_t (*warm_boot)(uint64_t *, uint64_t, uint64_t, uint64_t, uint64_t);
     void (*close)(uint64_t *);
     bool (*version_accepted)(uint64_t);
     uint64_t (*agreed_minor)(uint64_t);
     bool (*is_later)(uint64_t, uint64_t);
+    uint64_t (*set_up_granules)(uint64_t *, bytes, size_t, uint64_t);
     void (*delegate)(words, words, uint8_t *, size_t, uint64_t, uint64_t *);
     void (*undelegate)(words, words, uint8_t *, size_t, uint64_t, uint64_t *);
     void (*delegate_list)(words, words, uint8_t *, size_t, words, size_t, uint64_t *);
@@ -40,10 +42,10 @@ struct signatures {
 
 #define SIGNATURES                                                                                                             \
     {                                                                                                                          \
-        pbeam_read, pbeam_array, pbeam_array_of, pbeam_count, pbeam_word, pbeam_listing, pbeam_write, pbeam_cold_boot,         \
-            pbeam_warm_boot, pbeam_close, pbeam_version_accepted, pbeam_agreed_minor, pbeam_is_later, pbeam_delegate,          \
-            pbeam_undelegate, pbeam_delegate_list, pbeam_undelegate_list, pbeam_realm_key, pbeam_platform_token,               \
-            pbeam_challenge, pbeam_features,                                                                                   \
+        pbeam_read, pbeam_array, pbeam_array_of, pbeam_count, pbeam_word, pbeam_kept_for, pbeam_listing, pbeam_write,          \
+            pbeam_cold_boot, pbeam_warm_boot, pbeam_close, pbeam_version_accepted, pbeam_agreed_minor, pbeam_is_later,         \
+            pbeam_set_up_granules, pbeam_delegate, pbeam_undelegate, pbeam_delegate_list, pbeam_undelegate_list,               \
+            pbeam_realm_key, pbeam_platform_token, pbeam_challenge, pbeam_features,                                            \
             pbeam_token_signing, pbeam_key_update, pbeam_forward, pbeam_sign, pbeam_oldest, pbeam_responses,                   \
             pbeam_call                                                                                                         \
     }

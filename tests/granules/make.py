@@ -1,13 +1,15 @@
 #!/usr/bin/env python3
-"""Run vectors for lists of granules, made from docs/01-scope.md and docs/02-change-requests.md
-(E1, E8) alone.
+"""Run vectors for setting up the granule record and for lists of granules, made from
+docs/01-scope.md and docs/02-change-requests.md (E1, E2, E8) alone.
 
 Run from the repository's root:  python3 tests/granules/make.py
-It rewrites crates/granule_vectors/data/c000, c001, .. (8-byte words: the record's state, cpus,
-base and minor, of which the last three count only when it is up; 0 to delegate or 1 to
-undelegate, G, the length of the table and of the list; then the table, the addresses, and the
-table at exit), crates/granule_vectors/stdout (what the program has to print for them in order)
-and tests/granules/CASES.md (what each case is for). The same run always gives the same bytes.
+It rewrites crates/granule_vectors/data/c000, c001, .. (8-byte words: the boot record's state, cpus,
+base, minor and kept bytes, of which the last four count only when it is up; 0 to delegate, 1 to
+undelegate or 2 to set up; where the granule record stands in the file, the length of the table, and
+of the list or of the banks in bytes; then, of a list, the table, the addresses, and the table at
+exit, else the banks' bytes; at last the granule record: how many of its words are given, and
+these), crates/granule_vectors/stdout (what the program has to print for them in order) and
+tests/granules/CASES.md (what each case is for). The same run always gives the same bytes.
 With a folder as its argument it writes them below that folder.
 """
 
@@ -20,26 +22,32 @@ HERE = Path(__file__).resolve().parent
 
 sys.dont_write_bytecode = True
 sys.path.insert(0, str(HERE.parent))
+from banks import (MANY, TWO, addresses_of, bank_ok, banks_in, faults, granule_at, one, record_of,
+                   set_up, shown, stored, words)
 from vectors import write_all
 
 WORD = 2**64
+ONES = WORD - 1
+TOP = 2**52                             # where memory ends
 BASE = 0x80000000                       # B, that every record keeps
 STATES = ("fresh", "up", "closed")      # a file has the index
-DELEGATE, UNDELEGATE = 0, 1             # the byte that a granule must have
-NAMES = ("delegate", "undelegate")
-CODES = {"OK": 0, "UNK": -1, "BAD_ADDR": -2, "BAD_PAS": -3}
-Case = namedtuple("Case", "text state direction g table addresses")
+DELEGATE, UNDELEGATE, SET_UP = range(3)  # of a move, the byte that a granule must have
+NAMES = ("delegate", "undelegate", "set up")
+CODES = {"OK": 0, "UNK": -1, "BAD_ADDR": -2, "BAD_PAS": -3, "INVAL": -5}
+Case = namedtuple("Case", "text state direction record table addresses")
+# Of a set-up the record is the one lent before, and the table's length may be any number.
+SetUp = namedtuple("SetUp", "text record length banks")
 Answer = namedtuple("Answer", "code done table")
 
 
 # ---- The rules. All arithmetic is on plain numbers. ----
 
 def single(case, table, address):
-    """01, and 02, E8: the code of one call, and the granule that it names."""
-    index = (address - case.g) // 4096
+    """01, with the granules of 02, E2, and E8: the code of one call, and the granule that it names."""
+    index = granule_at(case.record, len(table), address)
     if case.state != "up":
         return "UNK", None
-    if case.g % 4096 or address % 4096 or not 0 <= index < len(table):
+    if index is None:
         return "BAD_ADDR", None
     if case.direction == UNDELEGATE and address == BASE:
         return "BAD_ADDR", None
@@ -59,14 +67,22 @@ def run(case):
 
 def file_of(case):
     """The bytes of a case's file."""
-    words = (STATES.index(case.state), 8, BASE, 5, case.direction, case.g,
-             len(case.table), len(case.addresses))
-    return (b"".join(word.to_bytes(8, "little") for word in words) + case.table
-            + b"".join(word.to_bytes(8, "little") for word in case.addresses) + run(case).table)
+    if isinstance(case, SetUp):
+        up, direction, length, count = (0, 0, 0, 0, 0), SET_UP, case.length, len(case.banks)
+        body = case.banks
+    else:
+        up, direction = (STATES.index(case.state), 8, BASE, 5, 0), case.direction
+        length, count = len(case.table), len(case.addresses)
+        body = case.table + words(*case.addresses) + run(case).table
+    return words(*up, direction, 72 + len(body), length, count) + body + stored(case.record)
 
 
 def expected(n, case):
     """What the program prints for one case."""
+    if isinstance(case, SetUp):
+        code, record = set_up(case.banks, case.length, case.record)
+        return (f"case {n:03}\nset_up {CODES[code] % WORD:016x}\n"
+                f"record{''.join(f' {word:x}' for word in record)}\n")
     answer = run(case)
     registers = (CODES[answer.code] % WORD, answer.done, 0)
     return (f"case {n:03}\nregisters {' '.join(f'{word:016x}' for word in registers)}\n"
@@ -76,7 +92,8 @@ def expected(n, case):
 # ---- The case list ----
 
 GROUPS, NOTED = [], set()               # (heading, [case, ..]); the files of all cases so far
-G = 0x880000000
+G = TWO[0][0]
+OLD = (3, *range(0x1001, 0x1021))       # what is lent for a record before the set-up
 
 
 def at(*indices, g=G):
@@ -84,24 +101,173 @@ def at(*indices, g=G):
     return [g + 4096 * i for i in indices]
 
 
-def add(code, done, direction, text, addresses, state="up", g=G, table=None):
-    """Note a list with the code and the number done that it has to give; None if not said."""
-    table = bytes([direction]) * 8 if table is None else bytes(table)
-    case = Case(f"{NAMES[direction]}: {text}", state, direction, g, table, addresses)
-    answer = run(case)
-    assert (code, done) in ((None, None), answer[:2]), (case.text, answer[:2])
+def note(case):
     if file_of(case) not in NOTED:
         NOTED.add(file_of(case))
         GROUPS[-1][1].append(case)
 
 
+def add(code, done, direction, text, addresses, state="up", record=None, table=None):
+    """Note a list with the code and the number done that it has to give; None if not said. Unless
+    said otherwise the record has one bank at G, with the table's granules."""
+    table = bytes([direction]) * 8 if table is None else bytes(table)
+    record = one(G, len(table)) if record is None else record
+    case = Case(f"{NAMES[direction]}: {text}", state, direction, record, table, addresses)
+    answer = run(case)
+    assert (code, done) in ((None, None), answer[:2]), (case.text, answer[:2])
+    note(case)
+
+
+def make(code, text, banks, length=None, record=OLD):
+    """Note a set-up with the code that it has to give: from bytes, or from banks; unless said
+    otherwise for a table of as many granules as their sizes have."""
+    if length is None:
+        length = sum(size // 4096 for _, size in banks)
+    data = banks if isinstance(banks, bytes) else shown(banks)
+    case = SetUp(f"set up: {text}", record, length, data)
+    found, _ = set_up(data, length, record)
+    assert code in (None, found), (case.text, found)
+    note(case)
+
+
+def set_up_counts():
+    """Set-up: how many banks, and parts of one"""
+    usual = [(G + 8192 * i, 4096) for i in range(249)]
+    for n in (1, 2, 3, 15, 16):
+        make("OK", f"{n} banks", usual[:n])
+    for n in (0, 17, 32, 249):
+        make("INVAL", f"{n} banks", usual[:n])
+    for n in (1, 8, 15, 17, 24, 31, 255, 257, 263, 271):
+        data = shown(usual[:18])[:n]
+        make("INVAL", f"{n} bytes, for the whole banks' granules", data, n // 16)
+        make("INVAL", f"{n} bytes, for a granule more", data, n // 16 + 1)
+    make("INVAL", "no bank, for a table of 1", b"", 1)
+    make("INVAL", "16 banks and 1 byte", shown(usual[:16]) + b"\0", 16)
+    make("OK", "16 banks of 1, 2, 3, .. granules", MANY)
+    make("INVAL", "the same, for 16 granules", MANY, 16)
+
+
+def set_up_order():
+    """Set-up: banks beside, on and behind each other"""
+    a, b, size = G, G + 0x100000, 0x100000
+    for text, code, banks in (
+            ("touching", "OK", [(a, size), (b, size)]),
+            ("a hole of one granule", "OK", TWO),
+            ("a hole of one granule, 16 banks", "OK", [(G + 8192 * i, 4096) for i in range(16)]),
+            ("touching, 16 banks", "OK", [(G + 4096 * i, 4096) for i in range(16)]),
+            ("equal", "INVAL", [(a, size), (a, size)]),
+            ("equal bases, the second longer", "INVAL", [(a, size), (a, 2 * size)]),
+            ("overlapping by one granule", "INVAL", [(a, size + 4096), (b, size)]),
+            ("overlapping by all but one granule", "INVAL", [(a, size), (a + 4096, size)]),
+            ("the second inside the first", "INVAL", [(a, 4 * size), (b, size)]),
+            ("descending", "INVAL", [(b, size), (a, size)]),
+            ("descending, touching", "INVAL", [(a + 4096, 4096), (a, 4096)]),
+            ("the third overlaps the first alone", "INVAL",
+             [(a, size), (b, size), (a + 4096, 4096)]),
+            ("the third below the first two", "INVAL", [(a, size), (b, size), (0, 4096)]),
+            ("the last two of 16 swapped", "INVAL", MANY[:14] + [MANY[15], MANY[14]]),
+            ("the first two of 16 swapped", "INVAL", [MANY[1], MANY[0]] + MANY[2:]),
+            ("the last of 16 overlaps the one before", "INVAL",
+             MANY[:15] + [(MANY[14][0] + 4096, 4096)])):
+        make(code, text, banks)
+        if code == "INVAL" and len(banks) == 2:     # the granules that the two cover together
+            covered = len(set(addresses_of(banks)))
+            make(code, f"{text}; for the granules covered", banks, covered)
+
+
+def set_up_rule():
+    """Set-up: a bank that breaks the reader's rule, alone, as the first and the last of 16"""
+    for text, bank in (
+            ("base 1 too high", (G + 1, 4096)), ("base 8 too low", (G - 8, 4096)),
+            ("base 2,048 too high", (G + 2048, 4096)), ("size 1 too high", (G, 4097)),
+            ("size 1 too low", (G, 4095)), ("size 6,144", (G, 6144)), ("size 1", (G, 1)),
+            ("size 0", (G, 0)), ("base and size 0", (0, 0)),
+            ("end one granule above 2^52", (TOP - 4096, 8192)), ("base 2^52", (TOP, 4096)),
+            ("size 2^52 + 4,096 from 0", (0, TOP + 4096)),
+            ("base 2^63", (2**63, 4096)), ("size 2^63 from 0", (0, 2**63)),
+            ("base 2^64 - 4,096, whose end wraps to 0", (WORD - 4096, 4096)),
+            ("base 2^64 - 4,096, whose end wraps to 4,096", (WORD - 4096, 8192)),
+            ("base 4,096, size 2^64 - 4,096: the end wraps to 0", (4096, WORD - 4096)),
+            ("all ones", (ONES, ONES))):
+        make("INVAL", text, [bank])
+        make("INVAL", f"{text}; for one granule", [bank], 1)
+        make("INVAL", f"{text}; the last of 16", MANY[:15] + [bank])
+        make("INVAL", f"{text}; the first of 16", [bank] + MANY[1:])
+    for text, banks in (
+            ("a bank to 2^52 exactly", [(TOP - 4096, 4096)]), ("all memory", [(0, TOP)]),
+            ("all memory in two banks", [(0, TOP - 4096), (TOP - 4096, 4096)]),
+            ("a bank at 0", [(0, 4096)]),
+            ("the last of 16 to 2^52 exactly", MANY[:15] + [(TOP - 8192, 8192)])):
+        make("OK", text, banks)
+
+
+def set_up_sums():
+    """Set-up: the table's length"""
+    for text, banks in (("one bank", [(G, 8 * 4096)]), ("two banks", TWO), ("16 banks", MANY),
+                        ("all memory", [(0, TOP)])):
+        n = sum(size // 4096 for _, size in banks)
+        make("OK", f"{text}, {n:,} granules", banks, n)
+        for length in (0, n - 1, n + 1, n + 2**32, n + 2**52, n + 2**63, ONES, 4096 * n):
+            make("INVAL", f"{text}, a table of {length:,}", banks, length)
+    make("INVAL", "two banks, the first one's granules", TWO, 5)
+    make("INVAL", "two banks, the second one's granules", TWO, 3)
+    make("INVAL", "two banks, the hole counted", TWO, 9)
+    for text, banks in (                # sums of sizes that come to 4,096 modulo 2^64
+            ("sizes 2^63, 2^63 and 4,096", [(0, 2**63), (2**63, 2**63), (0, 4096)]),
+            ("sizes 2^64 - 4,096 and 8,192", [(0, WORD - 4096), (G, 8192)]),
+            ("sizes 8,192 and 2^64 - 4,096", [(G, 8192), (G + 8192, WORD - 4096)]),
+            ("16 of size 2^60", [(2**60 * i, 2**60) for i in range(16)])):
+        total = sum(size for _, size in banks)
+        make("INVAL", f"{text}: the sum wraps", banks, total % WORD // 4096)
+        make("INVAL", f"{text}: the sum as it is", banks, total // 4096 % WORD)
+        make("INVAL", f"{text}: for one granule", banks, 1)
+
+
+def set_up_lent():
+    """Set-up: whatever was lent for the record before"""
+    for text, record in (("nothing", ()), ("a good record", record_of(MANY)),
+                         ("all ones", (ONES,) * 33), ("a count of 17", (17, *record_of(MANY)[1:]))):
+        make("OK", f"two banks, {text} lent before", TWO, record=record)
+        make("OK", f"16 banks, {text} lent before", MANY, record=record)
+        for why, banks, length in (("no bank", [], 0), ("a table one short", TWO, 7),
+                                   ("overlap", [TWO[0], TWO[0]], 10),
+                                   ("18 banks", MANY + TWO, 144)):
+            make("INVAL", f"{why}, {text} lent before", banks, length, record=record)
+
+
+def set_up_pages():
+    """Set-up: the banks of pages that the reader accepts, whatever their order and number"""
+    usual = [(G + 8192 * i, 4096) for i in range(249)]
+    for text, banks in (("249 banks", usual), ("17 banks", usual[:17]),
+                        ("two banks, the higher first", TWO[::-1]),
+                        ("one bank twice", TWO[:1] * 2), ("bank inside another",
+                                                          [(G, 16 * 4096), (G + 4096, 4096)])):
+        assert len(banks) <= 249 and all(bank_ok(*bank) for bank in banks)
+        make("INVAL", f"a page's {text}", banks, record=())
+    make("INVAL", "a page without a bank", [], record=())
+    field = HERE.parent / "reader" / "field" / "fvp-2.12.1.in"
+    held = banks_in(dram_of(field.read_bytes()))
+    make("OK", f"the banks of {field.stem}", held, record=())
+    make("INVAL", f"the banks of {field.stem}, a table of the first", held, held[0][1] // 4096,
+         record=())
+
+
+def dram_of(raw):
+    """The array of dram on a page that firmware wrote, behind 8 bytes of B."""
+    base, page = (int.from_bytes(raw[:8], "little"), raw[8:])
+    count, pointer = (int.from_bytes(page[at:at + 8], "little") for at in (16, 24))
+    return page[pointer - base:][:16 * count]
+
+
 def empty():
-    """Empty lists, whatever the record and the table"""
+    """Empty lists, whatever the records and the table"""
     for way in (DELEGATE, UNDELEGATE):
         for state in STATES:
             add("OK", 0, way, f"empty, record {state}", [], state=state)
         add("OK", 0, way, "empty, an empty table", [], table=b"")
-        add("OK", 0, way, "empty, G 1 too high", [], g=G + 1)
+        add("OK", 0, way, "empty, a bank 1 too high", [], record=one(G + 1, 8))
+        add("OK", 0, way, "empty, a count of 17", [], record=(17, G, 4096))
+        add("OK", 0, way, "empty, a table one long", [], record=one(G, 7))
 
 
 def whole():
@@ -112,9 +278,77 @@ def whole():
         add("OK", 8, way, "all of 8, the last first", at(*range(7, -1, -1)))
         add("OK", 200, way, "200 of 600", at(*range(0, 600, 3)), table=bytes([way]) * 600)
         add("OK", 600, way, "all of 600", at(*range(600)), table=bytes([way]) * 600)
-        add("OK", 2, way, "G = 0", at(1, 0, g=0), g=0)
-        top = WORD - 4096
-        add("OK", 1, way, "G = 2^64 - 4,096", [top], g=top, table=[way])
+        add("OK", 2, way, "a bank at 0", at(1, 0, g=0), record=one(0, 8))
+        add("OK", 1, way, "a bank to 2^52 exactly", [TOP - 4096], record=one(TOP - 4096, 1),
+            table=[way])
+
+
+def banks():
+    """Several banks: lists over all granules, and over the edges of each bank"""
+    for way in (DELEGATE, UNDELEGATE):
+        for text, held in (("two", TWO), ("16", MANY), ("16 that touch", [
+                (G + 4096 * i, 4096) for i in range(16)])):
+            record, every = record_of(held), addresses_of(held)
+            table = bytes([way]) * len(every)
+            same = {"record": record, "table": table}
+            add("OK", len(every), way, f"{text} banks, every granule", every, **same)
+            add("OK", len(every), way, f"{text} banks, the last granule first", every[::-1], **same)
+            ends = sorted({edge for base, size in held for edge in (base, base + size - 4096)})
+            add("OK", len(ends), way, f"{text} banks, first and last granule of each", ends, **same)
+            for address in sorted({edge for base, size in held
+                                   for edge in (base - 4096, base + size)} - set(every)):
+                add("BAD_ADDR", 2, way, f"{text} banks, a hole at granule "
+                    f"{(address - G) // 4096} from G", [every[0], every[-1], address], **same)
+            add("BAD_ADDR", 1, way, f"{text} banks, 1 above a bank's last granule",
+                [every[0], held[1][0] + held[1][1] - 4095], **same)
+            for n in (len(every) - 1, len(every) + 1, len(every) + 256, 0):
+                add("BAD_ADDR", 0, way, f"{text} banks, a table of {n}", every, record=record,
+                    table=bytes([way]) * n)
+            mixed = bytearray(table)
+            mixed[-1] = 1 - way
+            add("BAD_PAS", len(every) - 1, way, f"{text} banks, the last granule's byte wrong",
+                every, record=record, table=mixed)
+
+
+FORGED = (                              # text, record, granules of a table beside it
+    ("a count of 0", (0, G, 4096), 1), ("a count of 0 and an empty table", (0, G, 4096), 0),
+    ("a count of 17, banks as for 16", (17, *record_of(MANY)[1:]), 136),
+    ("a count of 17, one bank", (17, G, 8 * 4096), 8),
+    ("a count of 2^32 + 1", (2**32 + 1, G, 8 * 4096), 8),
+    ("a count of 2^63 + 1", (2**63 + 1, G, 8 * 4096), 8),
+    ("a count of 2^64 - 1", (ONES, G, 8 * 4096), 8),
+    ("all ones", (ONES,) * 33, 8), ("all zero", (), 8), ("all zero and an empty table", (), 0),
+    ("two banks counted, the second all zero", (2, G, 8 * 4096), 8),
+    ("the second bank 1 too high", (2, G, 4 * 4096, G + 0x10001, 4 * 4096), 8),
+    ("the second bank of size 0", (2, G, 8 * 4096, G + 0x100000, 0), 8),
+    ("the second bank beyond 2^52", (2, G, 4 * 4096, TOP, 4 * 4096), 8),
+    ("the second bank wraps", (2, G, 8 * 4096, WORD - 4096, 8192), 10),
+    ("overlap", (2, G, 4 * 4096, G + 4096, 4 * 4096), 8),
+    ("overlap, for the granules covered", (2, G, 4 * 4096, G + 4096, 4 * 4096), 5),
+    ("a bank twice", (2, G, 4 * 4096, G, 4 * 4096), 8),
+    ("descending", (2, G + 0x10000, 4 * 4096, G, 4 * 4096), 8),
+    ("the last of 16 broken", (*record_of(MANY)[:32], 1), 120),
+    ("the last of 16 on the one before", (*record_of(MANY)[:31], MANY[14][0], 4096), 121),
+    ("the first bank 8 too high", (1, G + 8, 8 * 4096), 8),
+    ("a size that is no multiple of 4,096", (1, G, 8 * 4096 + 512), 8))
+
+
+def forged():
+    """Records made by hand that the set-up would refuse have no granules"""
+    for way in (DELEGATE, UNDELEGATE):
+        for text, record, n in FORGED:
+            add("BAD_ADDR", 0, way, text, at(0, 1), record=record, table=bytes([way]) * n)
+        for state in ("fresh", "closed"):
+            add("UNK", 0, way, f"a count of 17, record {state}", at(0), state=state,
+                record=(17, G, 8 * 4096))
+        # What stands behind the count counts for nothing.
+        for text, rest in (("all ones", (ONES,) * 30), ("a bank over the first", (G, 4096)),
+                           ("a bank below", (0, 4096)), ("a broken bank", (1, 1))):
+            add("OK", 8, way, f"one bank, behind it {text}", at(*range(8)),
+                record=(*one(G, 8), *rest))
+        for base in (0, G + 0x100000):
+            add("BAD_ADDR", 1, way, f"one bank, behind it one at 0x{base:x}, which is named",
+                [G, base], record=(*one(G, 8), base, 4096))
 
 
 def records():
@@ -124,6 +358,8 @@ def records():
             add("UNK", 0, way, f"record {state}", at(0, 1, 2), state=state)
             add("UNK", 0, way, f"record {state}, the address not aligned", [G + 1], state=state)
             add("UNK", 0, way, f"record {state}, the byte wrong", at(0), state=state, table=[9])
+            add("UNK", 0, way, f"record {state}, a table one long", at(0), state=state,
+                record=one(G, 7))
 
 
 def stopped():
@@ -143,7 +379,7 @@ def stopped():
                 code, done = ("OK", 5) if byte == way else ("BAD_PAS", i)
                 add(code, done, way, f"the {where} of five has byte {byte}", good, table=table)
         add("BAD_ADDR", 0, way, "an empty table", good, table=b"")
-        add("BAD_ADDR", 0, way, "G 8 too high", good, g=G + 8)
+        add("BAD_ADDR", 0, way, "the bank 8 too high", good, record=one(G + 8, 8))
         add("BAD_ADDR", 2, way, "two bad ones, the first answers", good[:2] + [G + 1] + good[:1])
         add("BAD_PAS", 2, way, "a repeat before one not aligned", good[:2] + good[:1] + [G + 1])
 
@@ -160,50 +396,66 @@ def repeats():
 
 
 def shared_tables():
-    """Where the shared page is among the granules: the text, G, its index, and the granules."""
-    return [(f"B the {where} granule", BASE - 4096 * i, i, 8)
-            for where, i in (("first", 0), ("middle", 3), ("last", 7))]
+    """Where the shared page is among the granules: the text, the banks, and its index."""
+    places = (("first", 0), ("middle", 2), ("last", 4))
+    return [(f"B the {where} granule of a bank", [(BASE - 4096 * i, 5 * 4096)], i)
+            for where, i in places] + [
+        (f"B the {where} granule of the second bank",
+         [(BASE - 4096 * (i + 4), 3 * 4096), (BASE - 4096 * i, 5 * 4096)], 3 + i)
+        for where, i in places]
 
 
 def shared():
     """02, E8: the shared page alone. It is not undelegated, whatever its byte"""
-    for text, g, i, n in shared_tables():
+    for text, held, i in shared_tables():
+        record, n = record_of(held), len(addresses_of(held))
         for byte in range(4):
             for way in (DELEGATE, UNDELEGATE):
                 table = [way] * n
                 table[i] = byte
                 code = "BAD_ADDR" if way == UNDELEGATE else "BAD_PAS" if byte else "OK"
-                add(code, int(code == "OK"), way, f"{text}, byte {byte}", [BASE], g=g, table=table)
+                add(code, int(code == "OK"), way, f"{text}, byte {byte}", [BASE], record=record,
+                    table=table)
         for state in ("fresh", "closed"):
-            add("UNK", 0, UNDELEGATE, f"{text}, record {state}", [BASE], state=state, g=g)
-        add("BAD_ADDR", 0, UNDELEGATE, f"{text}: one byte above B", [BASE + 1], g=g)
+            add("UNK", 0, UNDELEGATE, f"{text}, record {state}", [BASE], state=state,
+                record=record, table=[1] * n)
+        add("BAD_ADDR", 0, UNDELEGATE, f"{text}: one byte above B", [BASE + 1], record=record,
+            table=[1] * n)
+    hole = record_of([(BASE - 4 * 4096, 4 * 4096), (BASE + 4096, 4 * 4096)])
     for way in (DELEGATE, UNDELEGATE):
-        add("BAD_ADDR", 0, way, "B in no granule of the table", [BASE])
-        add("BAD_ADDR", 0, way, "B one past the table", [BASE], g=BASE - 8 * 4096)
-        add("BAD_ADDR", 0, way, "B, an empty table", [BASE], g=BASE, table=b"")
+        add("BAD_ADDR", 0, way, "B in no bank", [BASE])
+        add("BAD_ADDR", 0, way, "B in a hole", [BASE], record=hole)
+        add("OK", 2, way, "the granules beside the hole at B", [BASE - 4096, BASE + 4096],
+            record=hole)
+        add("BAD_ADDR", 0, way, "B one past the table", [BASE], record=one(BASE - 8 * 4096, 8))
+        add("BAD_ADDR", 0, way, "B, an empty table", [BASE], record=one(BASE, 8), table=b"")
         add("OK", 2, way, "the granules before and behind B", [BASE - 4096, BASE + 4096],
-            g=BASE - 4096)
+            record=one(BASE - 4096, 8))
 
 
 def shared_lists():
     """02, E8: lists with the shared page in them; what comes before it is done"""
-    for text, g, i, n in shared_tables():
-        others = [g + 4096 * k for k in range(n) if k != i][:4]
+    for text, held, i in shared_tables():
+        addresses = addresses_of(held)
+        n, given = len(addresses), {"record": record_of(held)}
+        others = [address for address in addresses if address != BASE][:4]
         for where, at_index in (("first", 0), ("in the middle", 2), ("last", 4)):
             picks = others[:at_index] + [BASE] + others[at_index:]
-            add("BAD_ADDR", at_index, UNDELEGATE, f"{text}, {where} of five", picks, g=g)
-            add("OK", 5, DELEGATE, f"{text}, {where} of five", picks, g=g)
-            bad = [g + 4096 * k + 1 for k in range(2)]
+            add("BAD_ADDR", at_index, UNDELEGATE, f"{text}, {where} of five", picks,
+                table=[1] * n, **given)
+            add("OK", 5, DELEGATE, f"{text}, {where} of five", picks, table=[0] * n, **given)
             add("BAD_ADDR", at_index, UNDELEGATE, f"{text}, {where}, then one not aligned",
-                others[:at_index] + [BASE] + bad, g=g)
-        add("BAD_PAS", 1, UNDELEGATE, f"{text}, behind a repeat", [*others[:1] * 2, BASE], g=g)
+                others[:at_index] + [BASE, addresses[0] + 1, addresses[1] + 1], table=[1] * n,
+                **given)
+        add("BAD_PAS", 1, UNDELEGATE, f"{text}, behind a repeat", [*others[:1] * 2, BASE],
+            table=[1] * n, **given)
         add("BAD_ADDR", 1, UNDELEGATE, f"{text}, before a repeat", [*others[:1], BASE, *others[:1]],
-            g=g)
-        add("BAD_PAS", 1, DELEGATE, f"{text}, twice", [BASE, BASE], g=g)
+            table=[1] * n, **given)
+        add("BAD_PAS", 1, DELEGATE, f"{text}, twice", [BASE, BASE], table=[0] * n, **given)
         table = [1] * n
         table[i] = 0
-        add("BAD_ADDR", 2, UNDELEGATE, f"{text}, its byte 0, behind two", [*others[:2], BASE], g=g,
-            table=table)
+        add("BAD_ADDR", 2, UNDELEGATE, f"{text}, its byte 0, behind two", [*others[:2], BASE],
+            table=table, **given)
 
 
 def random_lists():
@@ -218,34 +470,73 @@ def random_lists():
         add(None, None, way, f"random {i}", at(*picks), table=table)
 
 
+def random_banks():
+    """Random banks: lists over them, and set-ups"""
+    dice = Random(12)
+    for i in range(60):
+        low, held = 4096 * dice.randrange(2**30), []
+        for _ in range(1 + dice.randrange(16)):
+            low += 4096 * dice.choice((0, 0, 1, 2, dice.randrange(2**20)))
+            held.append((low, 4096 * (1 + dice.randrange(6))))
+            low += held[-1][1]
+        every, way = addresses_of(held), i % 2
+        table = [dice.choice((way, way, way, way, 1 - way, 2)) for _ in every]
+        good = [address for k, address in enumerate(every) if table[k] == way]
+        dice.shuffle(good)
+        others = [dice.choice(every), dice.choice(every) + 4096, low, held[0][0] - 4096]
+        picks = good[:dice.randrange(40)] + [dice.choice(others)] * dice.randrange(2)
+        if i % 8 == 7:                  # a bank changed by hand
+            k, far = dice.randrange(len(held)), dice.choice((-8192, -4096, 1, 4096))
+            held[k] = (max(held[k][0] + far, 0), held[k][1])
+        add(None, None, way, f"random banks {i}", picks, record=record_of(held), table=table)
+        make(None, f"random banks {i}", held)
+        if i % 4 == 3:
+            dice.shuffle(held)
+            make(None, f"random banks {i}, shuffled", held)
+
+
 # ---- Output ----
 
 def check():
-    """A list changes one byte for each address done; every code occurs in both directions."""
+    """A list changes one byte for each address done; every code occurs in both directions; the
+    set-up has each fault."""
     cases = [case for _, group in GROUPS for case in group]
-    for case in cases:
+    moves = [case for case in cases if isinstance(case, Case)]
+    for case in moves:
         answer = run(case)
         changed = [i for i, byte in enumerate(answer.table) if byte != case.table[i]]
-        done = [(address - case.g) // 4096 for address in case.addresses[:answer.done]]
+        done = [granule_at(case.record, len(case.table), address)
+                for address in case.addresses[:answer.done]]
         assert changed == sorted(done) and len(case.addresses) <= 600, case.text
         assert (answer.code == "OK") == (answer.done == len(case.addresses)), case.text
-    assert len(cases) <= 1000
-    for way, name in enumerate(NAMES):
-        tally = Counter(run(case).code for case in cases if case.direction == way)
-        assert set(tally) == set(CODES), tally
-        print(f"{name}:", ", ".join(f"{n} {code}" for code, n in sorted(tally.items())))
+    assert len(cases) <= 1000 and max(len(file_of(case)) for case in cases) <= 8192
+    for way in (DELEGATE, UNDELEGATE):
+        tally = Counter(run(case).code for case in moves if case.direction == way)
+        assert set(tally) == set(CODES) - {"INVAL"}, tally
+        print(f"{NAMES[way]}:", ", ".join(f"{n} {code}" for code, n in sorted(tally.items())))
+    ups = [case for case in cases if isinstance(case, SetUp)]
+    alone = {", ".join(faults(banks_in(case.banks))) for case in ups if len(case.banks) % 16 == 0}
+    assert {"", "no bank", "more than 16", "rule", "order", "overlap"} <= alone, alone
+    tally = Counter(set_up(case.banks, case.length, case.record)[0] for case in ups)
+    print(f"set up: {tally['OK']} OK, {tally['INVAL']} INVAL")
     print(f"{len(cases)} cases")
 
 
 def case_of(n, case):
     """The file of a case, what the program prints for it, and its row of CASES.md."""
-    answer = run(case)
-    return file_of(case), expected(n, case), case.text, f"`{answer.code}`, {answer.done} done"
+    if isinstance(case, SetUp):
+        answer = f"`{set_up(case.banks, case.length, case.record)[0]}`"
+    else:
+        answer = f"`{run(case).code}`, {run(case).done} done"
+    return file_of(case), expected(n, case), case.text, answer
 
 
 if __name__ == "__main__":
-    for group in (empty, whole, records, stopped, repeats, random_lists, shared, shared_lists):
+    for group in (set_up_counts, set_up_order, set_up_rule, set_up_sums, set_up_lent, set_up_pages,
+                  empty, whole, banks, forged, records, stopped, repeats, random_lists,
+                  random_banks, shared, shared_lists):
         GROUPS.append((group.__doc__, []))
         group()
     check()
-    write_all("granule_vectors", "granules", "Granule list", "What | Answer", GROUPS, case_of)
+    write_all("granule_vectors", "granules", "Granule record and list", "What | Answer", GROUPS,
+              case_of)

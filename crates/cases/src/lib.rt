@@ -38,6 +38,18 @@ pub fn length_at(input: &[u8], at: usize, most: usize) -> usize
     words::smaller(words::word_at(input, at), most as u64) as usize
 }
 
+// The granule record of a case, by the word at `at`: the offset where it stands. There is how many of its words are given, then these;
+// the others are 0.
+pub fn granules_at(input: &[u8], at: usize) -> [u64; 33] {
+    let from = length_at(input, at, 40000);
+    let given = length_at(input, from, 33);
+    let mut granules = [0u64; 33];
+    for i in 0..given {
+        granules[i] = words::word_at(input, from + 8 + 8 * i);
+    }
+    granules
+}
+
 // Whether two runs of bytes are the same.
 pub fn same(a: &[u8], b: &[u8]) -> bool
     ensures { λ r. ⌜ r ≡ sameBytes (now (a .entry)) (now (b .entry)) ⌝ }
@@ -78,6 +90,7 @@ pub fn record_at(input: &[u8]) -> Record
         cpus: words::word_at(input, 8),
         base: words::word_at(input, 16),
         minor: words::word_at(input, 24),
+        kept: words::word_at(input, 32),
     };
     if state == 1 {
         return Record::Up(params);

@@ -10,6 +10,7 @@ use Rattle.codes.specs.Codes.{isOk, x0Of, extended, answerOf}
 use Rattle.codes.specs.declared.Answer.{Answer}
 use Rattle.codes.specs.declared.Code.{Code}
 use Rattle.codes.specs.declared.Code.the-variants.{Ok, Unk, BadAddr, BadPas, Inval, Again}
+use Rattle.granules.specs.Granules.{tableOf}
 use Rattle.granules.specs.Changes.{RealmAt}
 use Rattle.granules.proofs.Done.{ok-code}
 use Rattle.attest.specs.Key.{keyed, realmKeyOf}
@@ -26,10 +27,10 @@ use Rattle.runtime.proofs.Shared.{shared-stays, signing-buffer}
 use Rattle.queue.specs.Queue.{Lists}
 use Rattle.signing.specs.Signing.{signingOf}
 use Rattle.signing.specs.OnImage.{signingOn}
-use Rattle.images.specs.Image.{recordOf, granulesOf, isSet, sessionOf, registerWords}
+use Rattle.images.specs.Image.{recordOf, isSet, sessionOf, registerWords}
 use Rattle.queue_image.specs.Image.{listsIn}
 use Rattle.queue_image.specs.Steps.{imageStep}
-use Rattle.potterbeam.specs.Exports.{moveLeft, callLeft, callLent, callIn, tokenIn, tokenLeft, signingIn, signingLeft}
+use Rattle.potterbeam.specs.Exports.{moveLeft, CallLeft, callLeft, callLent, callIn, tokenIn, tokenLeft, signingIn, signingLeft}
 use Rattle.potterbeam.proofs.Refusals.{Tells, token-tells, signing-tells}
 use Rattle.chains.specs.Chain.{Lent, lentWorld, lentOn, commandLeft}
 use Rattle.chains.specs.Exported.{Exported, pbeam-delegate, pbeam-undelegate, pbeam-delegate-list, pbeam-undelegate-list, pbeam-realm-key, pbeam-platform-token, pbeam-features, pbeam-token-signing, pbeam-key-update, pbeam-forward, pbeam-call, pbeam-sign, exportLeft, commandOf, allExported, exportUnder, RealmIn, baseIn, ExportsIntoRealm}
@@ -37,21 +38,21 @@ use Rattle.chains.proofs.Singles.{single}
 
 -- ---- the table alone
 module _ (granules : List ℕ) where
-  command-table : (m : Lent) (c : Command) → commandLeft granules m c .table ≡ nextOf (granulesOf granules) (lentWorld m) c .table .bytes
+  command-table : (m : Lent) (c : Command) → tableOf (commandLeft granules m c .table) (commandLeft granules m c .words) ≡ nextOf granules (lentWorld m) c .table
   unfolding commandLeft callIn callLeft moveLeft stepOf afterMove afterSign
   command-table m (call c) = refl
   command-table m (sign s) = refl
   command-table m (list r d l) = refl
 
-  pub export-table : (m : Lent) (e : Exported) → nextOf (granulesOf granules) (lentWorld m) (commandOf e) .table ≡ record { bytes = exportLeft granules m e .table }
-  export-table m e = ap (λ (b : List ℕ). record { bytes = b }) (sym (command-table m (commandOf e))) ∙ ap (λ l. record { bytes = l .table }) (sym (single granules m e))
+  pub export-table : (m : Lent) (e : Exported) → nextOf granules (lentWorld m) (commandOf e) .table ≡ tableOf (exportLeft granules m e .table) (exportLeft granules m e .words)
+  export-table m e = sym (command-table m (commandOf e)) ∙ ap (λ (l : CallLeft). tableOf (l .table) (l .words)) (sym (single granules m e))
 
-  -- any sequence of exports leaves the table that the sequence of their commands leaves, from any world with that table
-  pub exports-table : (w : World) (m : Lent) (es : List Exported) → w .table ≡ lentWorld m .table → worldAfter (granulesOf granules) w (map commandOf es) .table ≡ record { bytes = allExported granules m es .table }
+  -- any sequence of exports leaves the table, with its words, that the sequence of their commands leaves, from any world with that table
+  pub exports-table : (w : World) (m : Lent) (es : List Exported) → w .table ≡ lentWorld m .table → worldAfter granules w (map commandOf es) .table ≡ tableOf (allExported granules m es .table) (allExported granules m es .words)
   unfolding worldAfter allExported
   exports-table w m [] h = h
   exports-table w m (e ∷ es) h =
-      exports-table (nextOf (granulesOf granules) w (commandOf e)) (lentOn (exportLeft granules m e)) es (same-table (granulesOf granules) w (lentWorld m) h (commandOf e) ∙ export-table m e)
+      exports-table (nextOf granules w (commandOf e)) (lentOn (exportLeft granules m e)) es (same-table granules w (lentWorld m) h (commandOf e) ∙ export-table m e)
 
 -- ---- 02, E8
 command-under : (image : List ℕ) (e : Exported) → commandOf (exportUnder image e) ≡ under (recordOf image) (commandOf e)
@@ -94,9 +95,9 @@ module _ (granules image : List ℕ) (m : Lent) (es : List Exported) (r : RealmI
   -- too.": any sequence of exports, with whatever images of session and queue
   pub exports-shared-stays : RealmIn granules (baseIn image) after
   exports-shared-stays =
-      subst (RealmAt (granulesOf granules) (baseIn image))
-      (ap (λ (cs : List Command). worldAfter (granulesOf granules) (lentWorld m) cs .table) (commands-under image es) ∙ exports-table granules (lentWorld m) m (map (exportUnder image) es) refl)
-      (shared-stays (recordOf image) (granulesOf granules) (lentWorld m) (map commandOf es) r)
+      subst (RealmAt granules (baseIn image))
+      (ap (λ (cs : List Command). worldAfter granules (lentWorld m) cs .table) (commands-under image es) ∙ exports-table granules (lentWorld m) m (map (exportUnder image) es) refl)
+      (shared-stays (recordOf image) granules (lentWorld m) (map commandOf es) r)
 
   -- whenever a realm key, a hunk or a response is then written, the page's granule is Realm
   pub exports-into-realm : ExportsIntoRealm granules image after

@@ -7,6 +7,7 @@ use lib.ListN.{getD, take}
 use lib.Dec.{eqb}
 use Rattle.codes.specs.Codes.{upOf}
 use Rattle.range.specs.Buffers.{BufferIn}
+use Rattle.granules.specs.Granules.{tableOf}
 use Rattle.granules.specs.Changes.{Change, change, RealmAt}
 use Rattle.granules.specs.Books.{leaves}
 use Rattle.granules.specs.declared.Direction.{Direction}
@@ -16,7 +17,7 @@ use Rattle.runtime.specs.Step.{Command, call, sign, list, kindOf}
 use Rattle.runtime.specs.Changes.{ofMove}
 use Rattle.runtime.specs.declared.Kind.{Kind}
 use Rattle.runtime.specs.declared.Kind.the-variants.{ForwardError, Delegate, Undelegate, RealmKey, PlatformToken, Features, TokenSigning, KeyUpdate, Unlisted}
-use Rattle.images.specs.Image.{recordOf, granulesOf, registerWords, workWords}
+use Rattle.images.specs.Image.{recordOf, registerWords, workWords}
 use Rattle.potterbeam.specs.Exports.{moveIn, moveListIn, TokenLeft, tokenIn, SigningLeft, signingIn, SignLeft, signIn, CallLeft, callLent, callIn}
 use Rattle.chains.specs.Chain.{Lent, movesLeft, lentOn}
 
@@ -37,24 +38,24 @@ pub data Exported : Type 0 where
 
 -- ---- what it leaves: what is not lent to it is as it was, and counts as zeros where it is an answer
 abbrev tokensLeft : TokenLeft → Lent → CallLeft
-tokensLeft l m = record { out = l .out; work = 0 ∷ 0 ∷ []; page = l .page; table = m .table; session = l .session; queue = m .queue }
+tokensLeft l m = record { out = l .out; work = 0 ∷ 0 ∷ []; page = l .page; table = m .table; words = m .words; session = l .session; queue = m .queue }
 
 abbrev signingsLeft : SigningLeft → Lent → CallLeft
-signingsLeft l m = record { out = l .out; work = 0 ∷ 0 ∷ []; page = l .page; table = m .table; session = m .session; queue = l .queue }
+signingsLeft l m = record { out = l .out; work = 0 ∷ 0 ∷ []; page = l .page; table = m .table; words = m .words; session = m .session; queue = l .queue }
 
 abbrev signsLeft : SignLeft → Lent → CallLeft
-signsLeft l m = record { out = l .out; work = 0 ∷ 0 ∷ []; page = m .page; table = m .table; session = m .session; queue = l .queue }
+signsLeft l m = record { out = l .out; work = 0 ∷ 0 ∷ []; page = m .page; table = m .table; words = m .words; session = m .session; queue = l .queue }
 
 -- registers, work and the page
 abbrev answersLeft : List ℕ → List ℕ → List ℕ → Lent → CallLeft
-answersLeft out work page m = record { out = out; work = work; page = page; table = m .table; session = m .session; queue = m .queue }
+answersLeft out work page m = record { out = out; work = work; page = page; table = m .table; words = m .words; session = m .session; queue = m .queue }
 
 -- pbeam_forward has no registers: the number that it answers is to be forwarded, which the dispatcher says by 2 in the work
 unfoldable pub exportLeft : List ℕ → Lent → Exported → CallLeft
-exportLeft granules m (pbeam-delegate state address) = movesLeft (moveIn Direction.Delegate state granules (m .table) address) m
-exportLeft granules m (pbeam-undelegate state address) = movesLeft (moveIn Direction.Undelegate state granules (m .table) address) m
-exportLeft granules m (pbeam-delegate-list state addresses) = movesLeft (moveListIn Direction.Delegate state granules (m .table) addresses) m
-exportLeft granules m (pbeam-undelegate-list state addresses) = movesLeft (moveListIn Direction.Undelegate state granules (m .table) addresses) m
+exportLeft granules m (pbeam-delegate state address) = movesLeft (moveIn Direction.Delegate state granules (m .table) (m .words) address) m
+exportLeft granules m (pbeam-undelegate state address) = movesLeft (moveIn Direction.Undelegate state granules (m .table) (m .words) address) m
+exportLeft granules m (pbeam-delegate-list state addresses) = movesLeft (moveListIn Direction.Delegate state granules (m .table) (m .words) addresses) m
+exportLeft granules m (pbeam-undelegate-list state addresses) = movesLeft (moveListIn Direction.Undelegate state granules (m .table) (m .words) addresses) m
 exportLeft granules m (pbeam-realm-key state key pa size curve) =
     answersLeft (registerWords (realmKeyOf (recordOf state) (m .page) key pa size curve .answer)) (0 ∷ 0 ∷ []) (realmKeyOf (recordOf state) (m .page) key pa size curve .page) m
 exportLeft granules m (pbeam-platform-token state token busy pa size csize) = tokensLeft (tokenIn state (m .session) (m .page) token busy pa size csize) m
@@ -63,7 +64,7 @@ exportLeft granules m (pbeam-token-signing state key opcode pa size curve) = sig
 exportLeft granules m (pbeam-key-update state width mecid) =
     answersLeft (registerWords (updateOf (recordOf state) width mecid .answer)) (workWords (updateOf (recordOf state) width mecid .work)) (m .page) m
 exportLeft granules m (pbeam-forward state x1) = answersLeft (0 ∷ 0 ∷ 0 ∷ []) (2 ∷ forwardOf (recordOf state) x1 ∷ []) (m .page) m
-exportLeft granules m (pbeam-call state x busy key token public width) = callIn granules (m .session) (m .queue) (m .page) (m .table) (callLent state x busy key token public width)
+exportLeft granules m (pbeam-call state x busy key token public width) = callIn granules (m .session) (m .queue) (m .page) (m .table) (m .words) (callLent state x busy key token public width)
 exportLeft granules m (pbeam-sign signature) = signsLeft (signIn (m .queue) signature) m
 
 -- ---- the command that it is: a call with the id and the registers, nothing else being lent; the signer's own step; or a list of granules
@@ -118,7 +119,7 @@ exportUnder image (pbeam-sign signature) = pbeam-sign signature
 
 -- an address is Realm in a lent table, with the image of the granule record
 abbrev pub RealmIn : List ℕ → ℕ → Lent → Type 0
-RealmIn granules addr m = RealmAt (granulesOf granules) addr (record { bytes = m .table })
+RealmIn granules addr m = RealmAt granules addr (tableOf (m .table) (m .words))
 
 -- the base that the image of a boot record keeps
 abbrev pub baseIn : List ℕ → ℕ

@@ -5,8 +5,10 @@ use mathlib.Core.Path.{_≡_, refl}
 use mathlib.Core.List.{List, [], _∷_, _++_}
 use native.Mathlib.Omega.{arith}
 use lib.ListN.{length, getD, replicate}
+use lib.Dec.{leb, ltb}
 use borrow.Author.Tests.{eqb-true, le-ltb, lt-ltb, le-leb, lt-leb}
 use Rattle.words.specs.Tests.{both, either, every}
+use Rattle.words.proofs.Tests.{either-r}
 use Rattle.versions.specs.Version.{minorOf, majorOf, aboveOf, versionOk, later, agreed}
 use Rattle.words.specs.Word.{leOf, leBytes, part, numAt, joined}
 use Rattle.versions.specs.Edition.{sectionCount, core, editionOk}
@@ -20,9 +22,9 @@ use Rattle.boot.specs.declared.Record.the-variants.{Up}
 use Rattle.codes.specs.Codes.{extended, x0Of, answerOf, unless, fails, isUp, whenUp}
 use Rattle.codes.specs.declared.Code.the-variants.{Ok, BadAddr, BadPas, Inval}
 use Rattle.range.specs.Range.{outside, tooLong}
-use Rattle.granules.specs.Granules.{granuleAt, GranuleTable, fromByte, guarded, granuleCode, moveCode, movedBy, moveOf, delegateOf}
-use Rattle.granules.specs.declared.Granules.{Granules}
-use Rattle.granules.specs.declared.Granule.the-variants.{At}
+use Rattle.granules.specs.Granules.{GranuleTable, fromByte, guarded, granuleCode, moveCode, movedBy, moveOf, delegateOf}
+use Rattle.banks.specs.Banks.{Granules, granuleAt}
+use Rattle.banks.specs.declared.Granule.the-variants.{At}
 use Rattle.features.specs.Features.{updateCode}
 use Rattle.writer.specs.Write.{Made, no-page, a-page, writerGate, writeOf}
 
@@ -67,9 +69,9 @@ pub record Examples : Type 0 where
   pub e5 : (isPage (making 4 (banks 249) []) ≡ true) × (making 4 (banks 250) [] ≡ no-page 5)
   -- "6* Edition 4: 83 consoles fit, 84 do not; edition 3 holds 84."
   pub e6 : (isPage (making 4 [] (consoles 83)) ≡ true) × (making 4 [] (consoles 84) ≡ no-page 5) × (isPage (making 3 [] (consoles 84)) ≡ true)
-  -- "7* pa = B + 4,095, size 1 is inside; size 2 too long."
-  pub e7 : (u : Params) → (outside u (u .base + 4095) ≡ false) × (tooLong u (u .base + 4095) 1 ≡ false) × (tooLong u (u .base + 4095) 2 ≡ true)
-  -- "8* pa = B + 4,096, size 0 is outside."
+  -- "7* pa = B + 4,095, size 1 is inside; size 2 too long." With 02, E5, where not every byte is kept.
+  pub e7 : (u : Params) → u .kept ≤ 4095 → (outside u (u .base + 4095) ≡ false) × (tooLong u (u .base + 4095) 1 ≡ false) × (tooLong u (u .base + 4095) 2 ≡ true)
+  -- "8* pa = B + 4,096, size 0 is outside." Whatever K is.
   pub e8 : (u : Params) → outside u (u .base + 4096) ≡ true
   -- "9* Code -2 in x0 is 0xFFFFFFFFFFFFFFFE."
   pub e9 : x0Of BadAddr ≡ 0xFFFFFFFFFFFFFFFE
@@ -100,12 +102,12 @@ examples = record {
   e4-holds = refl;
   e5 = (refl, refl);
   e6 = (refl, refl, refl);
-  e7 = λ u. (
-    rw (le-ltb (u .base + 4095) (u .base) (omega arith), lt-leb (u .base + 4096) (u .base + 4095) (omega arith)),
+  e7 = λ u k. (
+    rw (le-ltb (u .base + 4095) (u .base + u .kept) (omega arith), lt-leb (u .base + 4096) (u .base + 4095) (omega arith)),
     le-ltb (u .base + 4096 - (u .base + 4095)) 1 (omega arith),
     lt-ltb (u .base + 4096 - (u .base + 4095)) 2 (omega arith),
   );
-  e8 = λ u. rw (le-ltb (u .base + 4096) (u .base) (omega arith), le-leb (u .base + 4096) (u .base + 4096) (omega arith));
+  e8 = λ u. either-r (ltb (u .base + 4096) (u .base + u .kept)) (leb (u .base + 4096) (u .base + 4096)) (le-leb (u .base + 4096) (u .base + 4096) (omega arith));
   e9 = refl;
   e10 = granted;
   e11 = λ u. (λ h. rw (le-ltb (u .minor) 5 h), refl);

@@ -10,17 +10,19 @@ use borrow.Author.Tests.{eqb-true, eqb-false, eq-eqb, ne-eqb}
 use Rattle.boot.specs.declared.Record.{Record}
 use Rattle.codes.specs.Codes.{answerOf}
 use Rattle.codes.specs.declared.Code.the-variants.{Ok}
-use Rattle.granules.specs.Granules.{granuleAt, GranuleTable, fromByte, toByte, Moved, moveOf}
+use Rattle.banks.specs.Banks.{Granules, granuleAt}
+use Rattle.banks.specs.declared.Granule.{Granule}
+use Rattle.banks.specs.declared.Granule.the-variants.{Nothing, At}
+use Rattle.banks.proofs.Laws.{index-below}
+use Rattle.realm_words.specs.Bits.{realmBit}
+use Rattle.realm_words.specs.Answers.{realms}
+use Rattle.granules.specs.Granules.{GranuleTable, fromByte, toByte, Moved, moveOf}
 use Rattle.granules.specs.Acts.{MoveActed}
 use Rattle.granules.specs.Lists.{moveListOf, doneOf}
 use Rattle.granules.specs.Changes.{Change, change}
-use Rattle.granules.specs.Books.{realmOne, realms, delegations, undelegations, leaves, Names, NoneNames, nil, cons, Books}
-use Rattle.granules.specs.declared.Granules.{Granules}
-use Rattle.granules.specs.declared.Granule.{Granule}
-use Rattle.granules.specs.declared.Granule.the-variants.{Nothing, At}
+use Rattle.granules.specs.Books.{delegations, undelegations, leaves, Names, NoneNames, nil, cons, Books}
 use Rattle.granules.specs.declared.Direction.{Direction}
 use Rattle.granules.specs.declared.Direction.the-variants.{Delegate, Undelegate}
-use Rattle.granules.proofs.Moving.{granule-in}
 use Rattle.granules.proofs.Acts.{move-acts}
 use Rattle.granules.proofs.Done.{list-is}
 use Rattle.granules.proofs.Changes.{list-by}
@@ -34,7 +36,7 @@ realms-same (x ∷ xs) [] n h = absurd (omega arith)
 realms-same (x ∷ xs) (y ∷ ys) n h = rw (h 0, realms-same xs ys (omega arith) (λ j. h (suc j)))
 
 realms-one : (xs ys : List ℕ) (i : ℕ) → i < length xs → length xs ≡ length ys → ((j : ℕ) → (j ≡ i → ⊥) → getD xs j 0 ≡ getD ys j 0) →
-    realms ys + realmOne (getD xs i 0) ≡ realms xs + realmOne (getD ys i 0)
+    realms ys + realmBit (getD xs i 0) ≡ realms xs + realmBit (getD ys i 0)
 unfolding realms
 realms-one [] ys i l n h = absurd (omega arith)
 realms-one (x ∷ xs) [] i l n h = absurd (omega arith)
@@ -131,13 +133,13 @@ byte-left g d t after a m e i = rw (m .own) (go (eqb i (m .granule)) refl)
     go true k = rw (k, eqb-true i (m .granule) k) (m .becomes ∙ e)
     go false k = rw k (m .others i (eqb-false i (m .granule) k))
 
-moved-realms : (g : Granules) (d : Direction) (t after : GranuleTable) (a : ℕ) → MoveActed g d t after a → realms (after .bytes) + realmOne (fromByte d) ≡ realms (t .bytes) + realmOne (toByte d)
+moved-realms : (g : Granules) (d : Direction) (t after : GranuleTable) (a : ℕ) → MoveActed g d t after a → realms (after .bytes) + realmBit (fromByte d) ≡ realms (t .bytes) + realmBit (toByte d)
 moved-realms g d t after a m =
-    let e = realms-one (t .bytes) (after .bytes) (m .granule) (granule-in g (length (t .bytes)) a (m .granule) (m .own)) (sym (m .whole)) (λ j n. sym (m .others j n)) in
+    let e = realms-one (t .bytes) (after .bytes) (m .granule) (index-below g (length (t .bytes)) a (m .granule) (m .own)) (sym (m .whole)) (λ j n. sym (m .others j n)) in
     rw (m .was, m .becomes) at e
 
 account-one : (g : Granules) (d : Direction) (t after : GranuleTable) (a : ℕ) → MoveActed g d t after a → Account g t (change d a ∷ []) after
-unfolding delegations undelegations leftBy fromByte toByte
+unfolding delegations undelegations leftBy fromByte toByte realmBit
 account-one g Delegate t after a m = record { balance = omega (arith, moved-realms g Delegate t after a m); whole = m .whole; left = byte-left g Delegate t after a m refl }
 account-one g Undelegate t after a m = record { balance = omega (arith, moved-realms g Undelegate t after a m); whole = m .whole; left = byte-left g Undelegate t after a m refl }
 

@@ -6,14 +6,16 @@ use lib.ListN.{length, getD}
 use Rattle.boot.specs.declared.Record.{Record}
 use Rattle.codes.specs.Codes.{upOf}
 use Rattle.codes.specs.declared.Code.the-variants.{Ok}
-use Rattle.granules.specs.Granules.{granuleAt, GranuleTable, fromByte, moveOf}
+use Rattle.granules.specs.Granules.{GranuleTable, fromByte, moveOf}
+use Rattle.banks.specs.Banks.{granuleAt}
 use Rattle.granules.specs.Acts.{MoveActed}
 use Rattle.granules.specs.Changes.{RealmAt}
-use Rattle.granules.specs.declared.Granules.{Granules}
-use Rattle.granules.specs.declared.Granule.the-variants.{At}
+use Rattle.banks.specs.Banks.{Granules}
+use Rattle.banks.specs.declared.Granule.the-variants.{At}
 use Rattle.granules.specs.declared.Direction.{Direction}
 use Rattle.granules.specs.declared.Direction.the-variants.{Delegate, Undelegate}
-use Rattle.granules.proofs.Acts.{granule-one, move-only, move-acts}
+use Rattle.granules.proofs.Acts.{move-only, move-acts}
+use Rattle.banks.proofs.Laws.{one-address}
 
 -- a call at another granule leaves it
 other-stays : (g : Granules) (d : Direction) (t after : GranuleTable) (a addr : ℕ) → MoveActed g d t after a → (r : RealmAt g addr t) → (a ≡ addr → ⊥) → RealmAt g addr after
@@ -21,7 +23,7 @@ other-stays g d t after a addr m r n =
     record {
       granule = r .granule;
       own = rw (m .whole) (r .own);
-      realm = m .others (r .granule) (λ e. n (granule-one g (length (t .bytes)) a addr (m .granule) (m .own) (r .own ∙ ap At e))) ∙ r .realm;
+      realm = m .others (r .granule) (λ e. n (one-address g (length (t .bytes)) a addr (m .granule) (m .own) (r .own ∙ ap At e))) ∙ r .realm;
     }
 
 one-index : (i j : ℕ) → At i ≡ At j → i ≡ j
@@ -38,4 +40,4 @@ realm-taken g t after a addr m r e =
 -- "If it was Realm at boot it is Realm after any later calls on that table with the same boot and granule records.": after one call
 pub shared-kept : (s : Record) (g : Granules) (d : Direction) (t : GranuleTable) (a : ℕ) → moveOf s g d t a .answer .code ≡ Ok → RealmAt g (upOf s .base) t → RealmAt g (upOf s .base) (moveOf s g d t a .table)
 shared-kept s g Delegate t a h r = let m = move-acts s g Delegate t a h in other-stays g Delegate t _ a (upOf s .base) m r (realm-taken g t _ a (upOf s .base) m r)
-shared-kept s g Undelegate t a h r = other-stays g Undelegate t _ a (upOf s .base) (move-acts s g Undelegate t a h) r (move-only s g Undelegate t a h .1 refl)
+shared-kept s g Undelegate t a h r = other-stays g Undelegate t _ a (upOf s .base) (move-acts s g Undelegate t a h) r (move-only s g Undelegate t a h .2 refl)

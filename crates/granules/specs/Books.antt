@@ -1,26 +1,18 @@
 -- 02, E14: "The books on granules. Operators expect them to balance." Assumes nothing.
 use Prim.Native.Nat.{ℕ, _+_}
 use mathlib.Core.Path.{_≡_}
-use mathlib.Core.Bool.{cond}
 use mathlib.Core.List.{List, [], _∷_, _++_}
 use lib.ListN.{length, getD}
-use lib.Dec.{eqb}
-use Rattle.granules.specs.Granules.{granuleAt, GranuleTable}
+use Rattle.banks.specs.Banks.{Granules, granuleCount, granuleAt}
+use Rattle.banks.specs.declared.Granule.the-variants.{At}
+use Rattle.realm_words.specs.Answers.{realmCountOf, realms}
+use Rattle.realm_words.specs.declared.Number.{Number}
+use Rattle.granules.specs.Granules.{GranuleTable}
 use Rattle.granules.specs.Changes.{Change}
-use Rattle.granules.specs.declared.Granules.{Granules}
-use Rattle.granules.specs.declared.Granule.the-variants.{At}
 use Rattle.granules.specs.declared.Direction.{Direction}
 use Rattle.granules.specs.declared.Direction.the-variants.{Delegate, Undelegate}
 
--- ---- the numbers
--- "the number of Realm bytes": of all bytes of the table, also where the record has no granule
-abbrev pub realmOne : ℕ → ℕ
-realmOne b = cond (eqb b 1) 1 0
-
-unfoldable pub realms : List ℕ → ℕ
-realms [] = 0
-realms (b ∷ t) = realmOne b + realms t
-
+-- ---- the numbers: "the number of Realm bytes" is `realms`, of all bytes of the table, also where the record has no granule
 -- "accepted delegations", "accepted undelegations"
 abbrev pub gains : Direction → ℕ
 gains Delegate = 1
@@ -65,3 +57,11 @@ pub record Books (g : Granules) (t : GranuleTable) (cs : List Change) (after : G
   pub none : (i : ℕ) → NoneNames g (length (t .bytes)) i cs → getD (after .bytes) i 0 ≡ getD (t .bytes) i 0
   -- a byte of the table that no address names stays
   pub unnamed : (i : ℕ) → ((a : ℕ) → granuleAt g (length (t .bytes)) a ≡ At i → ⊥) → getD (after .bytes) i 0 ≡ getD (t .bytes) i 0
+
+-- the same of the number that the words answer (02, E6): some numbers at the start and at the end, not INVAL, which balance
+pub record CountBooks (g : Granules) (t : GranuleTable) (cs : List Change) (after : GranuleTable) : Type 0 where
+  pub first : ℕ
+  pub final : ℕ
+  pub at-start : realmCountOf (t .words) (granuleCount g) ≡ Number.Is first
+  pub at-end : realmCountOf (after .words) (granuleCount g) ≡ Number.Is final
+  pub balance : first + delegations cs ≡ undelegations cs + final

@@ -1,40 +1,36 @@
 -- What an enum of the code stands for, and its image. Assumes nothing.
 use Prim.Native.Nat.{ℕ}
-use mathlib.Core.Path.{_≡_, refl, sym, ap, _∙_}
+use mathlib.Core.Path.{_≡_, refl, ap, _∙_}
 use mathlib.Core.List.{List}
+use lib.ListN.{replicate}
+use lib.IntN.{pos}
 use Rattle.reader.specs.Answer.{readOf}
-use Rattle.reader.specs.Reading.{readingAnswer, readingOf}
+use Rattle.reader.specs.Reading.{refusalNumber, readingAnswer, viewAt, readingOf}
+use Rattle.reader.specs.declared.Refusal.{Refusal}
 use Rattle.reader.specs.declared.Reading.{Reading}
 use Rattle.reader.specs.declared.Reading.the-variants.{Accepted, Refused}
-use Rattle.reader.proofs.Whole.{reading-answer, reading-placed}
-use Rattle.boot.specs.Boot.{codeIn, numberIn}
+use Rattle.reader.proofs.Whole.{reading-answer}
+use Rattle.boot.specs.Boot.{codeIn}
 use Rattle.writer.specs.Write.{Made}
 use Rattle.writer.specs.Wrote.{madeBy as madeOf}
 use Rattle.writer.specs.declared.Wrote.{Wrote}
 use Rattle.writer.specs.declared.Wrote.the-variants.{Page, Place, Edition, Lists, Late, Room}
-use Rattle.images.specs.Image.{viewWords, answerWords, readingWords, madeNumber, wroteNumber}
+use Rattle.images.specs.Image.{viewWords, answerWords, madeNumber, wroteNumber}
 
--- ---- the reader's answer
-number-in : (page : List ℕ) (r : Reading) → numberIn r ≡ codeIn (readingAnswer page r)
-unfolding numberIn codeIn readingAnswer
-number-in page (Accepted v) = refl
-number-in page (Refused c) = refl
-
+-- ---- the reader's answer, by the enum that it gives
 module _ (e base : ℕ) (page : List ℕ) where
-  words-in : (r : Reading) → r ≡ readingOf e base page → readingWords r ≡ answerWords base page (readingAnswer page r)
-  unfolding readingWords answerWords readingAnswer
-  words-in (Accepted v) h = ap viewWords (reading-placed e base page v h)
-  words-in (Refused c) h = refl
+  answer : (r : Reading) → r ≡ readingOf e base page → readingAnswer page r ≡ readOf e base page
+  answer r h = ap (readingAnswer page) h ∙ reading-answer e base page
 
-  module _ (r : Reading) (h : r ≡ readingOf e base page) where
-    answer : readingAnswer page r ≡ readOf e base page
-    answer = ap (readingAnswer page) h ∙ reading-answer e base page
+  pub shown-answer : (w v : ℕ) → Accepted (viewAt w v base page) ≡ readingOf e base page →
+      (pos 0 ≡ codeIn (readOf e base page)) × (viewWords (viewAt w v base page) ≡ answerWords base page (readOf e base page))
+  unfolding codeIn answerWords readingAnswer viewAt
+  shown-answer w v h = rw (← answer _ h) (refl, refl)
 
-    pub reading-code : numberIn r ≡ codeIn (readOf e base page)
-    reading-code = number-in page r ∙ ap codeIn answer
-
-    pub reading-words : readingWords r ≡ answerWords base page (readOf e base page)
-    reading-words = words-in r h ∙ ap (answerWords base page) answer
+  pub refused-answer : (c : Refusal) → Refused c ≡ readingOf e base page →
+      (refusalNumber c ≡ codeIn (readOf e base page)) × (replicate 15 0 ≡ answerWords base page (readOf e base page))
+  unfolding codeIn answerWords readingAnswer
+  refused-answer c h = rw (← answer _ h) (refl, refl)
 
 -- ---- the writer's answer
 made-number : (page : List ℕ) (x : Wrote) → wroteNumber x ≡ madeNumber (madeOf page x)

@@ -11,11 +11,8 @@ use Rattle.codes.specs.Codes.{unless}
 use Rattle.codes.specs.declared.Answer.{Answer}
 use Rattle.codes.specs.declared.Work.{Work}
 use Rattle.codes.specs.declared.Work.the-variants.{Nothing, Reprogram}
-use Rattle.granules.specs.declared.Granules.{Granules}
 use Rattle.reader.specs.Answer.{ReaderAnswer, refused, shows}
 use Rattle.reader.specs.Reading.{viewAt}
-use Rattle.reader.specs.declared.Reading.{Reading}
-use Rattle.reader.specs.declared.Reading.the-variants.{Accepted, Refused}
 use Rattle.reader.specs.declared.Section.{Section}
 use Rattle.reader.specs.declared.Section.the-variants.{Absent, Empty, Entries}
 use Rattle.reader.specs.declared.View.{View}
@@ -31,17 +28,13 @@ use Rattle.writer.specs.declared.Wrote.the-variants.{Page, Place, Edition, List
 unfoldable pub recordOf : List ℕ → Record
 recordOf w =
     cond (eqb (getD w 0 0) 0) Fresh
-    (cond (eqb (getD w 0 0) 1) (Up (record { cpus = getD w 1 0; base = getD w 2 0; minor = getD w 3 0 }))
+    (cond (eqb (getD w 0 0) 1) (Up (record { cpus = getD w 1 0; base = getD w 2 0; minor = getD w 3 0; kept = getD w 4 0 }))
     Closed)
 
 unfoldable pub recordWords : Record → List ℕ
-recordWords Fresh = 0 ∷ 0 ∷ 0 ∷ 0 ∷ []
-recordWords (Up u) = 1 ∷ u .cpus ∷ u .base ∷ u .minor ∷ []
-recordWords Closed = 2 ∷ 0 ∷ 0 ∷ 0 ∷ []
-
--- ---- the granule record: the address of the table's first granule
-unfoldable pub granulesOf : List ℕ → Granules
-granulesOf w = record { start = getD w 0 0 }
+recordWords Fresh = 0 ∷ 0 ∷ 0 ∷ 0 ∷ 0 ∷ []
+recordWords (Up u) = 1 ∷ u .cpus ∷ u .base ∷ u .minor ∷ u .kept ∷ []
+recordWords Closed = 2 ∷ 0 ∷ 0 ∷ 0 ∷ 0 ∷ []
 
 -- ---- a flag as a number: any but 0 is set
 unfoldable pub isSet : ℕ → Bool
@@ -114,11 +107,6 @@ viewWords v =
 unfoldable pub answerWords : ℕ → List ℕ → ReaderAnswer → List ℕ
 answerWords base page (refused c) = replicate 15 0
 answerWords base page (shows w e q s) = viewWords (viewAt w e base page)
-
--- the same of the reader's enum
-unfoldable pub readingWords : Reading → List ℕ
-readingWords (Refused c) = replicate 15 0
-readingWords (Accepted v) = viewWords v
 
 -- ---- the number of the writer's answer: 0, or 1 to 5 for W1 to W5
 unfoldable pub madeNumber : Made → ℕ

@@ -5,10 +5,11 @@ use boot::Record;
 use codes::Answer;
 use codes::Code;
 use codes::Work;
-use granules::Granules;
-use reader::Reading;
 use reader::Section;
 use reader::View;
+use realm_words::Agreement;
+use realm_words::Hit;
+use realm_words::Number;
 use runtime::Reply;
 use token::Session;
 use words::Span;
@@ -16,12 +17,12 @@ use writer::Wrote;
 ghost use mathlib.Core.Path.{_≡_};
 ghost use Prim.Native.Nat.{_+_, _≤_};
 ghost use lib.ListN.{length};
-ghost use Rattle.boot.specs.Boot.{numberIn};
 ghost use Rattle.codes.specs.Codes.{ifOk};
 ghost use Rattle.runtime.specs.Step.{replyCode};
-ghost use Rattle.images.specs.Image.{recordOf, recordWords, granulesOf, isSet, sessionOf, sessionWords, registerWords, workWords, sectionIn, sectionWords, viewOf, viewWords, spanWords, readingWords, wroteNumber, replyRegisters, replyWords};
+ghost use Rattle.images.specs.Image.{recordOf, recordWords, isSet, sessionOf, sessionWords, registerWords, workWords, sectionIn, viewOf, spanWords, wroteNumber, replyRegisters, replyWords};
+ghost use Rattle.images.specs.Realm.{numberX0, numberWords, hitX0, hitWords, agreementX0, builtX0};
 
-pub fn record_of(image: &[u64; 4]) -> Record
+pub fn record_of(image: &[u64; 5]) -> Record
     ensures { λ r. ⌜ r ≡ recordOf (now (image .entry)) ⌝ }
 {
     if image[0] == 0 {
@@ -32,25 +33,20 @@ pub fn record_of(image: &[u64; 4]) -> Record
             cpus: image[1],
             base: image[2],
             minor: image[3],
+            kept: image[4],
         });
     }
     Record::Closed
 }
 
-pub fn record_words(state: Record) -> [u64; 4]
+pub fn record_words(state: Record) -> [u64; 5]
     ensures { λ r. ⌜ r ≡ recordWords state ⌝ }
 {
     match state {
-        Record::Fresh => [0, 0, 0, 0],
-        Record::Up(params) => [1, params.cpus, params.base, params.minor],
-        Record::Closed => [2, 0, 0, 0],
+        Record::Fresh => [0, 0, 0, 0, 0],
+        Record::Up(params) => [1, params.cpus, params.base, params.minor, params.kept],
+        Record::Closed => [2, 0, 0, 0, 0],
     }
-}
-
-pub fn granules_of(image: &[u64; 1]) -> Granules
-    ensures { λ r. ⌜ r ≡ granulesOf (now (image .entry)) ⌝ }
-{
-    Granules { start: image[0] }
 }
 
 pub fn session_of(image: &[u64; 3]) -> Session
@@ -125,16 +121,6 @@ fn section_in(image: &[u64; 15], at: usize) -> Section
     }
 }
 
-fn section_words(section: Section) -> [u64; 3]
-    ensures { λ r. ⌜ r ≡ sectionWords section ⌝ }
-{
-    match section {
-        Section::Absent => [0, 0, 0],
-        Section::Empty => [1, 0, 0],
-        Section::Entries { at, count } => [2, at as u64, count as u64],
-    }
-}
-
 pub fn view_of(image: &[u64; 15]) -> View
     ensures { λ r. ⌜ r ≡ viewOf (now (image .entry)) ⌝ }
 {
@@ -146,56 +132,6 @@ pub fn view_of(image: &[u64; 15]) -> View
         console: section_in(image, 6),
         ncoh: section_in(image, 9),
         coh: section_in(image, 12),
-    }
-}
-
-pub fn view_words(view: View) -> [u64; 15]
-    ensures { λ r. ⌜ r ≡ viewWords view ⌝ }
-{
-    let dram = view.dram;
-    let console = view.console;
-    let ncoh = view.ncoh;
-    let coh = view.coh;
-    let a = section_words(dram);
-    let b = section_words(console);
-    let c = section_words(ncoh);
-    let d = section_words(coh);
-    [
-        view.minor,
-        view.edition,
-        view.plat,
-        a[0],
-        a[1],
-        a[2],
-        b[0],
-        b[1],
-        b[2],
-        c[0],
-        c[1],
-        c[2],
-        d[0],
-        d[1],
-        d[2],
-    ]
-}
-
-// The view of a reading; zeros where the page is refused.
-pub fn reading_words(reading: Reading) -> [u64; 15]
-    ensures { λ r. ⌜ r ≡ readingWords reading ⌝ }
-{
-    match reading {
-        Reading::Accepted(view) => view_words(view),
-        Reading::Refused(_) => [0u64; 15],
-    }
-}
-
-// The number of a reading: 0, or the code.
-pub fn reading_number(reading: Reading) -> i32
-    ensures { λ r. ⌜ r ≡ numberIn reading ⌝ }
-{
-    match reading {
-        Reading::Accepted(_) => 0,
-        Reading::Refused(code) => reader::number(code),
     }
 }
 
@@ -245,4 +181,65 @@ pub fn reply_words(reply: Reply) -> [u64; 2]
         Reply::Forward(error) => [2, error],
         Reply::Back { answer: _, work } => work_words(work),
     }
+}
+
+// How many Realm granules there are: x0 of the code, and the number, 0 if refused.
+pub fn number_x0(number: Number) -> u64
+    ensures { λ r. ⌜ r ≡ numberX0 number ⌝ }
+{
+    match number {
+        Number::Inval => codes::x0(Code::Inval),
+        Number::Is(_) => codes::x0(Code::Ok),
+    }
+}
+
+pub fn number_words(number: Number) -> [u64; 1]
+    ensures { λ r. ⌜ r ≡ numberWords number ⌝ }
+{
+    match number {
+        Number::Inval => [0],
+        Number::Is(n) => [n],
+    }
+}
+
+// The next Realm granule: x0 of the code, or 1 if there is none, and its index, 0 without one.
+pub fn hit_x0(hit: Hit) -> u64
+    ensures { λ r. ⌜ r ≡ hitX0 hit ⌝ }
+{
+    match hit {
+        Hit::Inval => codes::x0(Code::Inval),
+        Hit::Nothing => 1,
+        Hit::At(_) => codes::x0(Code::Ok),
+    }
+}
+
+pub fn hit_words(hit: Hit) -> [u64; 1]
+    ensures { λ r. ⌜ r ≡ hitWords hit ⌝ }
+{
+    match hit {
+        Hit::Inval => [0],
+        Hit::Nothing => [0],
+        Hit::At(index) => [index as u64],
+    }
+}
+
+// Whether words and table agree: x0 of the code, or 1 if they do not.
+pub fn agreement_x0(agreement: Agreement) -> u64
+    ensures { λ r. ⌜ r ≡ agreementX0 agreement ⌝ }
+{
+    match agreement {
+        Agreement::Inval => codes::x0(Code::Inval),
+        Agreement::No => 1,
+        Agreement::Yes => codes::x0(Code::Ok),
+    }
+}
+
+// Whether words were built, as x0 of the code.
+pub fn built_x0(done: bool) -> u64
+    ensures { λ r. ⌜ r ≡ builtX0 done ⌝ }
+{
+    if done {
+        return codes::x0(Code::Ok);
+    }
+    codes::x0(Code::Inval)
 }

@@ -17,11 +17,10 @@ use Rattle.entries.specs.Array.{wordsAt, entryPlace}
 use Rattle.entries.proofs.Entries.{word-in}
 use Rattle.entries.proofs.Flags.{shown-plain, shown-word}
 use Rattle.reader.specs.Answer.{empty, full, ReaderAnswer, refused, shows, bytesIn, lookIn, lookOf, countIn, entryCount, entryWord, wordIn, readOf}
-use Rattle.reader.specs.Reading.{sectionOf, shownAs, readingAnswer, viewAt, readingOf}
+use Rattle.reader.specs.Reading.{sectionOf, shownAs, readingAnswer, viewAt, readingOf, sectionRead}
 use Rattle.reader.specs.declared.Section.{Section}
 use Rattle.reader.specs.declared.Section.the-variants.{Absent, Empty, Entries}
 use Rattle.reader.specs.declared.View.{View}
-use Rattle.reader.specs.declared.Refusal.{Refusal}
 use Rattle.reader.specs.declared.Reading.{Reading}
 use Rattle.reader.specs.declared.Reading.the-variants.{Accepted, Refused}
 use Rattle.reader.proofs.Whole.{reading-answer, reading-placed}
@@ -160,13 +159,16 @@ module _ (r base k : ℕ) (page : List ℕ) where
   answer-of : (x : Reading) → x ≡ readingOf r base page → readingAnswer page x ≡ readOf r base page
   answer-of x h = ap (readingAnswer page) h ∙ reading-answer r base page
 
-  pub place-accepted : (v : View) → Accepted v ≡ readingOf r base page →
-      (spanOf k (sectionOf v k) (length page) ≡ spanIn base page (readOf r base page) k) × (lookIn (readingAnswer page (Accepted v)) k ≡ lookOf r base page k)
-  unfolding lookOf spanIn readingAnswer
-  place-accepted v h =
+  -- of the section that is read alone, by the reading
+  place-by : (x : Reading) → x ≡ readingOf r base page →
+      (spanOf k (sectionRead x k) (length page) ≡ spanIn base page (readOf r base page) k) × (spanned (spanOf k (sectionRead x k) (length page)) page ≡ lookOf r base page k)
+  unfolding lookOf lookIn spanOf spanIn readingAnswer sectionRead
+  place-by (Accepted v) h =
       let g = answer-of (Accepted v) h in
-      (ap (λ x. spanOf k (sectionOf x k) (length page)) (reading-placed r base page v h) ∙ ap (λ x. spanIn base page x k) g, rw g)
+      let p : spanOf k (sectionOf v k) (length page) ≡ spanIn base page (readOf r base page) k = ap (λ x. spanOf k (sectionOf x k) (length page)) (reading-placed r base page v h) ∙ ap (λ x. spanIn base page x k) g in
+      (p, place-view page v k ∙ ap (λ x. lookIn x k) g)
+  place-by (Refused c) h = rw (← answer-of (Refused c) h) (refl, span-none page)
 
-  pub place-refused : (c : Refusal) → Refused c ≡ readingOf r base page → (noSpan ≡ spanIn base page (readOf r base page) k) × (spanned noSpan page ≡ lookOf r base page k)
-  unfolding lookOf lookIn spanIn readingAnswer
-  place-refused c h = rw (← answer-of (Refused c) h) (refl, span-none page)
+  pub place-read : (spanOf k (sectionRead (readingOf r base page) k) (length page) ≡ spanIn base page (readOf r base page) k) ×
+      (spanned (spanOf k (sectionRead (readingOf r base page) k) (length page)) page ≡ lookOf r base page k)
+  place-read = place-by (readingOf r base page) refl

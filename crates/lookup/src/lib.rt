@@ -3,14 +3,17 @@
 use reader::Reading;
 use reader::Section;
 use reader::View;
+use versions::Edition;
 use words::Span;
 ghost use mathlib.Core.Path.{_≡_};
+ghost use Prim.Native.Nat.{_≤_, max};
 ghost use lib.ListN.{length};
 ghost use Rattle.words.specs.Word.{spanned, onFrom};
 ghost use Rattle.reader.specs.Answer.{lookIn, lookOf, countIn, wordIn, readOf};
 ghost use Rattle.reader.specs.Reading.{sectionOf, readingAnswer};
 ghost use Rattle.entries.specs.Entry.{isHidden};
 ghost use Rattle.lookup.specs.Lookup.{spanOf, spanIn, countOf, wordOf};
+ghost use Rattle.lookup.specs.Kept.{endOf, keptFor};
 
 // Where count entries of section k at an offset lie in a page of so many bytes; nowhere where they do not lie within it.
 fn place_at(room: usize, k: usize, at: usize, count: usize) -> Span
@@ -129,11 +132,7 @@ pub fn place(page: &[u8], base: u64, edition: u64, k: usize) -> Span
     ensures { λ r. ⌜ r ≡ spanIn base (now (page .entry)) (readOf edition base (now (page .entry))) k ⌝ }
     ensures { λ r. ⌜ spanned r (now (page .entry)) ≡ lookOf edition base (now (page .entry)) k ⌝ }
 {
-    let reading = reader::read(page, base, edition);
-    let Reading::Accepted(view) = reading else {
-        return Span { at: 0, len: 0 };
-    };
-    place_of(page, view, k)
+    place_in(page.len(), reader::section_read(page, base, edition, k), k)
 }
 
 // The array lookup: the array of section k as the part of the page that holds it.
@@ -142,4 +141,36 @@ pub fn array(page: &[u8], base: u64, edition: u64, k: usize) -> &[u8]
     ensures { λ r. ⌜ r .ptr ≡ onFrom (page .entry .ptr) (spanIn base (now (page .entry)) (readOf edition base (now (page .entry))) k .at) ⌝ }
 {
     words::part_of(page, place(page, base, edition, k))
+}
+
+fn larger(a: u64, b: u64) -> u64
+    ensures { λ r. ⌜ r ≡ max a b ⌝ }
+{
+    if a < b {
+        return b;
+    }
+    a
+}
+
+// Where the array of section k of a view ends in a page of 4,096 bytes; 0 where it lies nowhere.
+fn end_of(view: View, k: usize) -> u64
+    ensures { λ r. ⌜ (r ≡ endOf view k) × (r ≤ 4096) ⌝ }
+{
+    let place = place_in(4096, reader::section_of(view, k), k);
+    (place.at + place.len) as u64
+}
+
+// How many bytes the manifest of a view takes from the page's start: the highest end of core and arrays, rounded up to 8. With so many kept
+// bytes at cold boot, no runtime command changes what a reader of the view's edition sees. At most 4,096 of any view.
+pub fn kept_for(view: View) -> u64
+    ensures { λ r. ⌜ (r ≡ keptFor view) × (r ≤ 4096) ⌝ }
+{
+    let edition = Edition {
+        minor: view.edition,
+    };
+    let mut end = edition.core_size();
+    for k in 0..4usize {
+        end = larger(end, end_of(view, k));
+    }
+    8 * ((end + 7) / 8)
 }

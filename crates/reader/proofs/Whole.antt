@@ -1,7 +1,7 @@
 -- The whole answer, return by return. Assumes nothing.
 use Prim.Native.Nat.{ℕ, zero, suc, _+_, _-_, _≤_, _<_, min}
 use mathlib.Core.Path.{_≡_, refl, sym, ap, fun-ext, _∙_}
-use mathlib.Core.Bool.{Bool, true, false}
+use mathlib.Core.Bool.{Bool, true, false, true≢false}
 use mathlib.Core.List.{List}
 use native.Mathlib.Omega.{arith}
 use native.Mathlib.Decide.{decLt}
@@ -19,13 +19,16 @@ use Rattle.sections.specs.Section.{wordsIn, inRange, rulesAt}
 use Rattle.sections.specs.Steps.{okAt, okTo}
 use Rattle.sections.proofs.Sections.{placed, range-low, range-high, array-in, ok-in-range, ok-each, rules-sections}
 use Rattle.reader.specs.Answer.{Shown, ReaderAnswer, shows, shown, shownSec, platShown, allShown, readerGate, judge, readOf}
-use Rattle.reader.specs.Reading.{sectionOf, shownAs, readingAnswer, sectionAt, viewAt, readingGate, readingOf}
+use Rattle.reader.specs.Reading.{sectionOf, shownAs, readingAnswer, sectionAt, viewAt, readingGate, readingOf, verdictOf, sectionRead}
 use Rattle.reader.specs.declared.Section.{Section}
 use Rattle.reader.specs.declared.Section.the-variants.{Absent, Empty, Entries}
 use Rattle.reader.specs.declared.View.{View}
+use Rattle.reader.specs.declared.Refusal.{Refusal}
 use Rattle.reader.specs.declared.Refusal.the-variants.{Place, Version, Rules}
 use Rattle.reader.specs.declared.Reading.{Reading}
 use Rattle.reader.specs.declared.Reading.the-variants.{Accepted, Refused}
+use Rattle.reader.specs.declared.Verdict.{Verdict}
+use Rattle.reader.specs.declared.Verdict.the-variants.{Fine, Refused as Wrong}
 
 -- ---- what is shown of one section
 module _ (w e base k : ℕ) (page : List ℕ) where
@@ -113,6 +116,52 @@ gate-view true true true u v h = ap (λ x. viewIn x u) h
 gate-view true true false u v h = ap (λ x. viewIn x u) h
 gate-view true false o u v h = ap (λ x. viewIn x u) h
 gate-view false q o u v h = ap (λ x. viewIn x u) h
+
+-- ---- what the verdict tells of the reading
+abbrev isFine : Verdict → Bool
+isFine (Fine w) = true
+isFine (Wrong c) = false
+
+abbrev minorIn : Verdict → ℕ
+minorIn (Fine w) = w
+minorIn (Wrong c) = 0
+
+abbrev codeOr : Verdict → Refusal
+codeOr (Fine w) = Rules
+codeOr (Wrong c) = c
+
+verdict-refused : (c : Refusal) (x : Reading) → Wrong c ≡ verdictOf x → Refused c ≡ x
+unfolding verdictOf
+verdict-refused c (Refused d) h = ap (λ v. Refused (codeOr v)) h
+verdict-refused c (Accepted v) h = absurd (true≢false (sym (ap isFine h)))
+
+gate-fine : (p q o : Bool) (u : View) (w : ℕ) → Fine w ≡ verdictOf (readingGate p q o u) → (Yes p) × (Yes o) × (w ≡ u .minor) × (Accepted u ≡ readingGate p q o u)
+unfolding readingGate verdictOf
+gate-fine true true true u w h = (refl, refl, ap minorIn h, refl)
+gate-fine true true false u w h = absurd (true≢false (ap isFine h))
+gate-fine true false o u w h = absurd (true≢false (ap isFine h))
+gate-fine false q o u w h = absurd (true≢false (ap isFine h))
+
+module _ (r base : ℕ) (page : List ℕ) where
+  pub refused-reads : (c : Refusal) → Wrong c ≡ verdictOf (readingOf r base page) → Refused c ≡ readingOf r base page
+  refused-reads c h = verdict-refused c (readingOf r base page) h
+
+  -- a page that is found fine is of the right length, keeps its rules, and is shown
+  pub fine-reads : (w : ℕ) → Fine w ≡ verdictOf (readingOf r base page) →
+      (length page ≡ 4096) × (rulesAt w (min r w) base page ≡ true) × (Accepted (viewAt w (min r w) base page) ≡ readingOf r base page)
+  unfolding readingOf viewAt
+  fine-reads w h =
+      let g = gate-fine _ _ _ _ w h in
+      rw (g .2) (placed base (length page) (g .0) .0, g .1, g .3)
+
+  -- and its sections are the page's own
+  pub fine-section : (w k : ℕ) → Fine w ≡ verdictOf (readingOf r base page) → sectionAt (min r w) base page k ≡ sectionRead (readingOf r base page) k
+  unfolding sectionRead
+  fine-section w k h = sym (section-view w (min r w) base page k) ∙ ap (λ x. sectionRead x k) (fine-reads w h .2)
+
+  pub refused-section : (c : Refusal) (k : ℕ) → Wrong c ≡ verdictOf (readingOf r base page) → Absent ≡ sectionRead (readingOf r base page) k
+  unfolding sectionRead
+  refused-section c k h = ap (λ x. sectionRead x k) (refused-reads c h)
 
 module _ (r base : ℕ) (page : List ℕ) where
   pub reading-answer : readingAnswer page (readingOf r base page) ≡ readOf r base page

@@ -21,6 +21,8 @@ use Rattle.reader.specs.declared.Refusal.{Refusal}
 use Rattle.reader.specs.declared.Refusal.the-variants.{Place, Version, Rules}
 use Rattle.reader.specs.declared.Reading.{Reading}
 use Rattle.reader.specs.declared.Reading.the-variants.{Accepted, Refused}
+use Rattle.reader.specs.declared.Verdict.{Verdict}
+use Rattle.reader.specs.declared.Verdict.the-variants.{Fine, Refused as Wrong}
 
 -- 01's codes
 abbrev pub refusalNumber : Refusal → ℤ
@@ -80,3 +82,13 @@ readingOf r base page =
     readingGate (placeOk base (length page)) (both (editionOk r) (versionOk (versionAt page)))
     (rulesAt (minorOf (versionAt page)) (min r (minorOf (versionAt page))) base page)
     (viewAt (minorOf (versionAt page)) (min r (minorOf (versionAt page))) base page)
+
+-- the verdict in it: the minor of a page that is accepted, or the code
+unfoldable pub verdictOf : Reading → Verdict
+verdictOf (Accepted v) = Fine (v .minor)
+verdictOf (Refused c) = Wrong c
+
+-- section k of a reading: absent where the page is refused
+unfoldable pub sectionRead : Reading → ℕ → Section
+sectionRead (Accepted v) k = sectionOf v k
+sectionRead (Refused c) k = Absent

@@ -2,11 +2,11 @@
 use versions::Edition;
 ghost use mathlib.Core.Path.{_≡_};
 ghost use mathlib.Core.Bool.{true};
-ghost use Prim.Native.Nat.{_<_};
+ghost use Prim.Native.Nat.{min, _<_};
 ghost use lib.ListN.{length};
 ghost use Rattle.versions.specs.Edition.{sectionCount};
 ghost use Rattle.sections.specs.Steps.{okAt, okTo};
-ghost use Rattle.reader.specs.Reading.{refusalNumber, sectionOf, sectionAt, viewAt, readingOf};
+ghost use Rattle.reader.specs.Reading.{refusalNumber, sectionOf, sectionAt, viewAt, readingOf, verdictOf, sectionRead};
 
 // What is shown of a section: not in the edition, 24 zero bytes, or so many entries at an offset of the page.
 pub enum Section {
@@ -35,6 +35,12 @@ pub enum Refusal {
 
 pub enum Reading {
     Accepted(View),
+    Refused(Refusal),
+}
+
+// The verdict alone: the minor of a page that is accepted, or why it is refused.
+pub enum Verdict {
+    Fine(u64),
     Refused(Refusal),
 }
 
@@ -83,30 +89,65 @@ fn view_at(page: &[u8], base: u64, minor: u64, e: Edition) -> View
     }
 }
 
+// The edition that a reader of an edition reads a page of that minor as: the smaller.
+pub fn edition_read(edition: u64, minor: u64) -> Edition
+    ensures { λ r. ⌜ r .minor ≡ min edition minor ⌝ }
+{
+    Edition {
+        minor: words::smaller(edition, minor),
+    }
+}
+
+// Judges a lent page at a base, as a reader of an edition: the first code in the order of the checks, or that none holds.
+pub fn judge_page(page: &[u8], base: u64, edition: u64) -> Verdict
+    ensures { λ r. ⌜ r ≡ verdictOf (readingOf edition base (now (page .entry))) ⌝ }
+{
+    if !sections::place_ok(base, page.len()) {
+        return Verdict::Refused(Refusal::Place);
+    }
+    if !versions::is_edition(edition) {
+        return Verdict::Refused(Refusal::Version);
+    }
+    let version = sections::version_at(page);
+    if !versions::is_accepted(version) {
+        return Verdict::Refused(Refusal::Version);
+    }
+    let minor = versions::minor(version);
+    let e = edition_read(edition, minor);
+    if !sections::page_ok(page, base, minor, e) {
+        return Verdict::Refused(Refusal::Rules);
+    }
+    Verdict::Fine(minor)
+}
+
 // Reads a lent page at a base, as a reader of an edition: all that it shows, or the first code in the order of the checks. The
 // view's places are those that the page's own pointers name.
 pub fn read(page: &[u8], base: u64, edition: u64) -> Reading
     ensures { λ r. ⌜ r ≡ readingOf edition base (now (page .entry)) ⌝ }
 {
-    if !sections::place_ok(base, page.len()) {
-        return Reading::Refused(Refusal::Place);
+    match judge_page(page, base, edition) {
+        Verdict::Fine(w) => {
+            let e = edition_read(edition, w);
+            let view = view_at(page, base, w, e);
+            Reading::Accepted(view)
+        }
+        Verdict::Refused(code) => Reading::Refused(code),
     }
-    if !versions::is_edition(edition) {
-        return Reading::Refused(Refusal::Version);
-    }
-    let version = sections::version_at(page);
-    if !versions::is_accepted(version) {
-        return Reading::Refused(Refusal::Version);
-    }
-    let minor = versions::minor(version);
-    let e = Edition {
-        minor: words::smaller(edition, minor),
+}
+
+// Section k of a lent page at a base, as a reader of an edition reads it, without its view: absent where it refuses the page, and so is a
+// number above 3.
+pub fn section_read(page: &[u8], base: u64, edition: u64, k: usize) -> Section
+    ensures { λ r. ⌜ r ≡ sectionRead (readingOf edition base (now (page .entry))) k ⌝ }
+{
+    let verdict = judge_page(page, base, edition);
+    let Verdict::Fine(w) = verdict else {
+        return Section::Absent;
     };
-    if !sections::page_ok(page, base, minor, e) {
-        return Reading::Refused(Refusal::Rules);
+    if 3 < k {
+        return Section::Absent;
     }
-    let view = view_at(page, base, minor, e);
-    Reading::Accepted(view)
+    section_at(page, base, w, edition_read(edition, w), k as u8)
 }
 
 // Section k of a view; a number above 3 is absent.

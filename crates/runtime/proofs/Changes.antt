@@ -10,7 +10,7 @@ use Rattle.codes.specs.declared.Code.the-variants.{Ok}
 use Rattle.granules.specs.Granules.{GranuleTable, moveOf, delegateOf, undelegateOf}
 use Rattle.granules.specs.Lists.{moveListOf}
 use Rattle.granules.specs.Changes.{Change, change}
-use Rattle.granules.specs.declared.Granules.{Granules}
+use Rattle.banks.specs.Banks.{Granules}
 use Rattle.granules.specs.declared.Direction.{Direction}
 use Rattle.granules.proofs.Changes.{call-by, list-by}
 use Rattle.runtime.specs.declared.Kind.{Kind}

@@ -10,7 +10,7 @@ use Rattle.range.specs.Buffers.{BufferIn}
 use Rattle.range.proofs.Buffers.{passed-in}
 use Rattle.granules.specs.Granules.{GranuleTable}
 use Rattle.granules.specs.Changes.{Change, RealmAt}
-use Rattle.granules.specs.declared.Granules.{Granules}
+use Rattle.banks.specs.Banks.{Granules}
 use Rattle.granules.proofs.Done.{ok-code}
 use Rattle.granules.proofs.Shared.{shared-kept}
 use Rattle.attest.proofs.Acts.{key-only}

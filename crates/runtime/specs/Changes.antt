@@ -9,7 +9,7 @@ use Rattle.codes.specs.Codes.{upOf}
 use Rattle.range.specs.Buffers.{BufferIn}
 use Rattle.granules.specs.Lists.{doneOf}
 use Rattle.granules.specs.Changes.{Change, change, RealmAt}
-use Rattle.granules.specs.declared.Granules.{Granules}
+use Rattle.banks.specs.Banks.{Granules}
 use Rattle.granules.specs.declared.Direction.{Direction}
 use Rattle.runtime.specs.declared.Kind.{Kind}
 use Rattle.runtime.specs.declared.Kind.the-variants.{ForwardError, Delegate, Undelegate, RealmKey, PlatformToken, Features, TokenSigning, KeyUpdate, Unlisted}

@@ -1,12 +1,11 @@
 // Runs the runtime's operations that the numbered cases of data/ describe, in turn, up to the first case that is missing. A case
-// is 8-byte words: the record (0 fresh, 1 up, 2 closed, then what it keeps), G, MECIDWidthm1, the session (0 idle, 1 sending, then
-// whole and sent), the places of page, table, realm key, public key and queue, the number of operations; then the operations.
+// is 8-byte words: the boot record (0 fresh, 1 up, 2 closed, then what it keeps), where the granule record stands (see
+// `cases::granules_at`), MECIDWidthm1, the session (0 idle, 1 sending, then whole and sent), the places of page, table, realm key, public key and queue, the number of operations; then the operations.
 // A place is an offset in the file and a length. An operation: its kind (0 call, 1 signer's step, 2 challenge lookup, 3 oldest
 // request), function id, x1 to x4, busy, the places of token and signature, and what is to change in page and table: each an offset
 // there, and the place of the new bytes. Prints each answer and the state after it, and at the end of a case the whole queue.
 use codes::Answer;
 use codes::Work;
-use granules::Granules;
 use libc::STDOUT_FILENO;
 use queue::Queue;
 use queue::Request;
@@ -55,12 +54,12 @@ fn queue_at(bytes: &[u8]) -> Queue {
 }
 
 fn session_at(input: &[u8]) -> Session {
-    if words::word_at(input, 48) == 0 {
+    if words::word_at(input, 56) == 0 {
         return Session::Idle;
     }
     Session::Sending {
-        whole: words::word_at(input, 56),
-        sent: words::word_at(input, 64),
+        whole: words::word_at(input, 64),
+        sent: words::word_at(input, 72),
     }
 }
 
@@ -220,14 +219,12 @@ fn print_state(state: State) {
 fn call(input: &[u8], at: usize, page: &mut [u8], table: &mut [u8], state: State) -> State
     requires { ⌜ at ≤ 40000 ⌝ }
 {
-    let granules = Granules {
-        start: words::word_at(input, 32),
-    };
+    let granules = cases::granules_at(input, 40);
     let session = state.session;
     let queue = state.queue;
     let stepped = runtime::call(
         cases::record_at(input),
-        granules,
+        &granules,
         words::word_at(input, at + 8),
         words::word_at(input, at + 16),
         words::word_at(input, at + 24),
@@ -235,13 +232,13 @@ fn call(input: &[u8], at: usize, page: &mut [u8], table: &mut [u8], state: State
         words::word_at(input, at + 40),
         page,
         table,
-        lent(input, 104),
+        lent(input, 112),
         words::word_at(input, at + 48) != 0,
         lent(input, at + 56),
         session,
         queue,
-        lent(input, 120),
-        words::word_at(input, 40),
+        lent(input, 128),
+        words::word_at(input, 48),
     );
     let reply = stepped.reply;
     print_reply(reply);
@@ -307,7 +304,7 @@ fn lay(input: &[u8], at: usize, expected: &mut [u8])
 fn state_at(input: &[u8]) -> State {
     State {
         session: session_at(input),
-        queue: queue_at(lent(input, 136)),
+        queue: queue_at(lent(input, 144)),
     }
 }
 
@@ -327,9 +324,9 @@ fn print_operations(
     wanted: &mut [u8],
 ) -> Queue {
     let mut state = state_at(input);
-    let count = cases::length_at(input, 152, 250);
+    let count = cases::length_at(input, 160, 250);
     for i in 0..count {
-        let at = 160 + 136 * i;
+        let at = 168 + 136 * i;
         state = operate(input, at, page, table, state);
         print_state(state);
         print_change(input, at + 88, b", page", page, expected);
@@ -353,8 +350,8 @@ fn print_lent(
     table: &mut [u8],
     wanted: &mut [u8],
 ) {
-    fill(page, expected, lent(input, 72));
-    fill(table, wanted, lent(input, 88));
+    fill(page, expected, lent(input, 80));
+    fill(table, wanted, lent(input, 96));
     let queue = print_operations(input, page, expected, table, wanted);
     print_queue(queue);
 }
@@ -364,8 +361,8 @@ fn print_case(input: &[u8]) {
     let mut expected = [0u8; 4200];
     let mut table = [0u8; 600];
     let mut wanted = [0u8; 600];
-    let n = cases::length_at(input, 80, 4200);
-    let t = cases::length_at(input, 96, 600);
+    let n = cases::length_at(input, 88, 4200);
+    let t = cases::length_at(input, 104, 600);
     print_lent(
         input,
         &mut page[..n],

@@ -5,6 +5,7 @@ ghost use mathlib.Core.Path.{_≡_};
 ghost use Prim.Native.Nat.{ℕ, _+_, _≤_, _<_};
 ghost use lib.ListN.{length};
 ghost use Rattle.words.specs.Tests.{both};
+ghost use Rattle.versions.specs.Edition.{core};
 ghost use Rattle.sections.specs.Page.{placeOk, versionAt, paddingAt, countAt, pointerAt, checkAt, mkPlat};
 ghost use Rattle.sections.specs.Section.{platOk, nothing, rulesAt};
 ghost use Rattle.sections.specs.Steps.{okAt, okTo, endOf, apartAt, apartTo};
@@ -60,15 +61,15 @@ pub fn check_at(page: &[u8], k: u8) -> u64
     words::word_at(page, 32 + 24 * (k as usize))
 }
 
-// The rule of the platform pointer, of a page read as edition e.
-fn plat_ok(base: u64, e: Edition, plat: u64) -> bool
-    requires { ⌜ base ≤ 0x10_0000_0000_0000 ⌝ }
+// The rule of the platform pointer, of a page read as edition e. Here and below size is that of the edition's core, told once.
+fn plat_ok(base: u64, e: Edition, size: u64, plat: u64) -> bool
+    requires { ⌜ (base ≤ 0x10_0000_0000_0000) × (size ≡ core (e .minor)) × (size ≤ 112) ⌝ }
     ensures { λ r. ⌜ r ≡ platOk (e .minor) base (mkPlat plat) ⌝ }
 {
     if plat == 0 {
         return true;
     }
-    if plat < base + e.core_size() {
+    if plat < base + size {
         return false;
     }
     if base + 4096 <= plat {
@@ -94,8 +95,8 @@ fn is_nothing(count: u64, pointer: u64, check: u64) -> bool
 }
 
 // The rule of section k by itself, on a page of that minor read as edition e. That the array ends within the page is for `sound_at` to say.
-fn section_ok(page: &[u8], base: u64, minor: u64, e: Edition, k: u8) -> bool
-    requires { ⌜ (length (now page) ≡ 4096) × (base ≤ 0x10_0000_0000_0000) ⌝ }
+fn section_ok(page: &[u8], base: u64, minor: u64, e: Edition, size: u64, k: u8) -> bool
+    requires { ⌜ (length (now page) ≡ 4096) × (base ≤ 0x10_0000_0000_0000) × (size ≡ core (e .minor)) × (size ≤ 112) ⌝ }
     ensures { λ r. ⌜ r ≡ okAt minor (e .minor) base k (now (page .entry)) ⌝ }
 {
     let count = count_at(page, k);
@@ -104,7 +105,7 @@ fn section_ok(page: &[u8], base: u64, minor: u64, e: Edition, k: u8) -> bool
     if is_nothing(count, pointer, check) {
         return true;
     }
-    if pointer < base + e.core_size() {
+    if pointer < base + size {
         return false;
     }
     let at = (pointer - base) as usize;
@@ -112,12 +113,12 @@ fn section_ok(page: &[u8], base: u64, minor: u64, e: Edition, k: u8) -> bool
 }
 
 // The rule of each of the first n sections by itself.
-fn sections_ok(page: &[u8], base: u64, minor: u64, e: Edition, n: u8) -> bool
-    requires { ⌜ (length (now page) ≡ 4096) × (base ≤ 0x10_0000_0000_0000) ⌝ }
+fn sections_ok(page: &[u8], base: u64, minor: u64, e: Edition, size: u64, n: u8) -> bool
+    requires { ⌜ (length (now page) ≡ 4096) × (base ≤ 0x10_0000_0000_0000) × (size ≡ core (e .minor)) × (size ≤ 112) ⌝ }
     ensures { λ r. ⌜ r ≡ okTo minor (e .minor) base n (now (page .entry)) ⌝ }
 {
     for k in 0..n {
-        if !section_ok(page, base, minor, e, k) {
+        if !section_ok(page, base, minor, e, size, k) {
             return false;
         }
     }
@@ -170,14 +171,15 @@ fn rules_ok(page: &[u8], base: u64, minor: u64, e: Edition) -> bool
     requires { ⌜ (length (now page) ≡ 4096) × (base ≤ 0x10_0000_0000_0000) ⌝ }
     ensures { λ r. ⌜ r ≡ rulesAt minor (e .minor) base (now (page .entry)) ⌝ }
 {
+    let size = e.core_size();
     if padding_at(page) != 0 {
         return false;
     }
-    if !plat_ok(base, e, words::word_at(page, 8)) {
+    if !plat_ok(base, e, size, words::word_at(page, 8)) {
         return false;
     }
     let n = e.sections();
-    if !sections_ok(page, base, minor, e, n) {
+    if !sections_ok(page, base, minor, e, size, n) {
         return false;
     }
     all_apart(page, n)

@@ -17,7 +17,7 @@ use potterbeam_tests::reference::runtime::{
 const STEPS: usize = 40;
 
 /// One kind of step.
-type Step = fn(&mut Pair, &mut Scene);
+pub type Step = fn(&mut Pair, &mut Scene);
 
 /// Runs scenes of these steps until each export was called often enough.
 fn run(pair: &mut Pair, steps: &[Step], names: &[&str]) {
@@ -25,6 +25,7 @@ fn run(pair: &mut Pair, steps: &[Step], names: &[&str]) {
         let mut scene = pair.random.scene();
         pair.load(|random, m| {
             m.table.load(&scene.table, random.index(8));
+            m.images.granules.words = scene.granules;
             m.images.record.words = random.record_image();
             m.images.session.words = random.session_image(scene.token.len() as u64);
             m.images.queue.words = random.queue_image();
@@ -86,12 +87,12 @@ fn note(pair: &mut Pair, scene: &mut Scene, name: &'static str, case: u64) {
 }
 
 fn delegate(pair: &mut Pair, scene: &mut Scene) {
-    let (start, [at, ..]) = (scene.start, registers(pair, scene, DELEGATE));
-    check!(pair, "pbeam_delegate", (start, at), |S, m| {
+    let [at, ..] = registers(pair, scene, DELEGATE);
+    check!(pair, "pbeam_delegate", (at), |S, m| {
         let (images, table) = (&mut m.images, m.table.lent_mut());
         S::delegate(
             &images.record.words,
-            &[start],
+            &images.granules.words,
             table,
             at,
             &mut images.out.words,
@@ -101,12 +102,12 @@ fn delegate(pair: &mut Pair, scene: &mut Scene) {
 }
 
 fn undelegate(pair: &mut Pair, scene: &mut Scene) {
-    let (start, [at, ..]) = (scene.start, registers(pair, scene, UNDELEGATE));
-    check!(pair, "pbeam_undelegate", (start, at), |S, m| {
+    let [at, ..] = registers(pair, scene, UNDELEGATE);
+    check!(pair, "pbeam_undelegate", (at), |S, m| {
         let (images, table) = (&mut m.images, m.table.lent_mut());
         S::undelegate(
             &images.record.words,
-            &[start],
+            &images.granules.words,
             table,
             at,
             &mut images.out.words,
@@ -123,12 +124,12 @@ fn note_list(pair: &mut Pair, name: &'static str) {
 }
 
 fn delegate_list(pair: &mut Pair, scene: &mut Scene) {
-    let (start, list) = (scene.start, pair.random.granules(scene));
-    check!(pair, "pbeam_delegate_list", (start, list), |S, m| {
+    let list = pair.random.granules(scene);
+    check!(pair, "pbeam_delegate_list", (list), |S, m| {
         let (images, table) = (&mut m.images, m.table.lent_mut());
         S::delegate_list(
             &images.record.words,
-            &[start],
+            &images.granules.words,
             table,
             &list,
             &mut images.out.words,
@@ -138,12 +139,12 @@ fn delegate_list(pair: &mut Pair, scene: &mut Scene) {
 }
 
 fn undelegate_list(pair: &mut Pair, scene: &mut Scene) {
-    let (start, list) = (scene.start, pair.random.granules(scene));
-    check!(pair, "pbeam_undelegate_list", (start, list), |S, m| {
+    let list = pair.random.granules(scene);
+    check!(pair, "pbeam_undelegate_list", (list), |S, m| {
         let (images, table) = (&mut m.images, m.table.lent_mut());
         S::undelegate_list(
             &images.record.words,
-            &[start],
+            &images.granules.words,
             table,
             &list,
             &mut images.out.words,
@@ -152,7 +153,7 @@ fn undelegate_list(pair: &mut Pair, scene: &mut Scene) {
     note_list(pair, "pbeam_undelegate_list");
 }
 
-fn realm_key(pair: &mut Pair, scene: &mut Scene) {
+pub fn realm_key(pair: &mut Pair, scene: &mut Scene) {
     let [pa, size, curve, _] = registers(pair, scene, REALM_KEY);
     let (key, x) = (&scene.realm_key, [pa, size, curve]);
     check!(pair, "pbeam_realm_key", (key, x), |S, m| {
@@ -162,7 +163,7 @@ fn realm_key(pair: &mut Pair, scene: &mut Scene) {
     note(pair, scene, "pbeam_realm_key", 0);
 }
 
-fn platform_token(pair: &mut Pair, scene: &mut Scene) {
+pub fn platform_token(pair: &mut Pair, scene: &mut Scene) {
     let [pa, size, csize, _] = registers(pair, scene, PLAT_TOKEN);
     let busy = busy(pair, scene);
     let (token, x) = (&scene.token, [pa, size, csize]);
@@ -181,7 +182,7 @@ fn platform_token(pair: &mut Pair, scene: &mut Scene) {
     note_forged_session(pair, "pbeam_platform_token");
 }
 
-fn challenge(pair: &mut Pair, scene: &mut Scene) {
+pub fn challenge(pair: &mut Pair, scene: &mut Scene) {
     let [pa, size, csize, _] = registers(pair, scene, PLAT_TOKEN);
     let x = [pa, size, csize];
     check!(pair, "pbeam_challenge", (x), |S, m| {
@@ -203,7 +204,7 @@ fn features(pair: &mut Pair, scene: &mut Scene) {
     note(pair, scene, "pbeam_features", 0);
 }
 
-fn token_signing(pair: &mut Pair, scene: &mut Scene) {
+pub fn token_signing(pair: &mut Pair, scene: &mut Scene) {
     let x = registers(pair, scene, TOKEN_SIGN);
     let key = &scene.public_key;
     check!(pair, "pbeam_token_signing", (key, x), |S, m| {
@@ -237,7 +238,7 @@ fn forward(pair: &mut Pair, scene: &mut Scene) {
     pair.meet("pbeam_forward", 0, i64::from(pair.model.returned != 0));
 }
 
-fn sign(pair: &mut Pair, _: &mut Scene) {
+pub fn sign(pair: &mut Pair, _: &mut Scene) {
     let signature = pair.random.signature();
     check!(pair, "pbeam_sign", (signature), |S, m| {
         let images = &mut m.images;
@@ -263,15 +264,16 @@ fn oldest(pair: &mut Pair, _: &mut Scene) {
     pair.meet("pbeam_oldest", 0, pair.model.returned);
 }
 
-fn call(pair: &mut Pair, scene: &mut Scene) {
+pub fn call(pair: &mut Pair, scene: &mut Scene) {
     let Call { id, x } = pair.random.call(scene);
     load_page(pair, scene);
     let (busy, [x1, x2, x3, x4]) = (busy(pair, scene), x);
     let x = [id, x1, x2, x3, x4];
     check!(pair, "pbeam_call", (scene, busy, x), |S, m| {
+        let images = &mut m.images;
         let mut lent = Lent {
             page: m.page.lent_mut(),
-            granules: [scene.start],
+            granules: &images.granules.words,
             table: m.table.lent_mut(),
             key: &scene.realm_key,
             token: &scene.token,
@@ -279,7 +281,6 @@ fn call(pair: &mut Pair, scene: &mut Scene) {
             public_key: &scene.public_key,
             width: scene.width,
         };
-        let images = &mut m.images;
         let (session, queue) = (&mut images.session.words, &mut images.queue.words);
         let (out, work) = (&mut images.out.words, &mut images.work.words);
         S::call(

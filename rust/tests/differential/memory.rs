@@ -73,7 +73,8 @@ impl<const N: usize> Default for Image<N> {
 
 #[derive(Clone, Copy, Debug, Default, PartialEq, Eq)]
 pub struct Images {
-    pub record: Image<4>,
+    pub record: Image<5>,
+    pub granules: Image<33>,
     pub session: Image<3>,
     pub queue: Image<210>,
     pub view: Image<15>,
@@ -118,6 +119,7 @@ impl Memory {
             ("page", format!("{:02x?}", self.page)),
             ("table", format!("{:02x?}", self.table)),
             ("record", format!("{:x?}", images.record)),
+            ("granules", format!("{:x?}", images.granules)),
             ("session", format!("{:x?}", images.session)),
             ("queue", format!("{:x?}", images.queue)),
             ("view", format!("{:x?}", images.view)),

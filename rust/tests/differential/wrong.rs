@@ -33,6 +33,7 @@ fn every_bit_counts() {
         seen("table", |m| m.table.cells_mut()[at] ^= 1);
     }
     image_seen("record", |m| &mut m.images.record);
+    image_seen("granules", |m| &mut m.images.granules);
     image_seen("session", |m| &mut m.images.session);
     image_seen("queue", |m| &mut m.images.queue);
     image_seen("view", |m| &mut m.images.view);

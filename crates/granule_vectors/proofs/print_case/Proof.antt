@@ -6,6 +6,15 @@ use borrow.Author.Needs.{needs}
 use Rattle.granule_vectors.proofs.print_case.Statement.{statement}
 use Rattle.granule_vectors.proofs.print_case.Tie as tie
 
+word-at-requires : tie.Need-word-at-requires
+word-at-requires c κs = search needs
+
+print-set-up-requires : tie.Need-print-set-up-requires
+print-set-up-requires c κs = search needs
+
+returns : tie.Need-returns
+returns c = search needs
+
 length-at-requires : tie.Need-length-at-requires
 length-at-requires c κs = search needs
 
@@ -27,13 +36,16 @@ slice-aggregate-print-lent-2 c = sym (length-take-le _ _ (search needs))
 print-lent-requires : tie.Need-print-lent-requires
 print-lent-requires c κs = (simp length-take (omega arith), simp length-take (omega arith))
 
-returns : tie.Need-returns
-returns c = search needs
+returns-2 : tie.Need-returns-2
+returns-2 c = search needs
 
 pub print-case-spec : {M : Type 1} → statement M
 print-case-spec =
     tie.close
     (tie.spec
+    word-at-requires
+    print-set-up-requires
+    returns
     length-at-requires
     length-at-requires-2
     array-borrow-prefix-table
@@ -41,4 +53,4 @@ print-case-spec =
     array-borrow-prefix-list
     slice-aggregate-print-lent-2
     print-lent-requires
-    returns)
+    returns-2)

@@ -1,39 +1,27 @@
-use mathlib.Core.Path.{sym, _∙_}
-use Rattle.words.specs.Word.{noSpan}
-use Rattle.lookup.proofs.Lookups.{place-accepted, place-refused}
+use mathlib.Core.Path.{_≡_, ap, _∙_}
+use lib.ListN.{length}
+use Rattle.words.specs.Word.{spanned}
+use Rattle.reader.specs.Reading.{readingOf, sectionRead}
+use Rattle.lookup.specs.Lookup.{spanOf}
+use Rattle.lookup.proofs.Lookups.{place-read}
 use borrow.Author.Needs.{needs}
 use Rattle.lookup.proofs.place.Statement.{statement}
 use Rattle.lookup.proofs.place.Tie as tie
-use Rattle.lookup.proofs.place_of.Reads as place-of-reads
-use Rattle.reader.proofs.read.Reads as read-reads
+use Rattle.lookup.proofs.place_in.Reads as place-in-reads
+use Rattle.reader.proofs.section_read.Reads as section-read-reads
 
-read-requires : tie.Need-read-requires
-read-requires c κs = search needs
+section-read-requires : tie.Need-section-read-requires
+section-read-requires c κs = search needs
 
-enum-known-reading : tie.Need-enum-known-reading
-enum-known-reading c = search needs
-
-enum-told : tie.Need-enum-told
-enum-told c = search needs
+place-in-requires : tie.Need-place-in-requires
+place-in-requires c κs = search needs
 
 returns : tie.Need-returns
-unfolding noSpan
 returns c =
-    let a = c .before .before .before .before .args in
-    let g = c .enum-told .given in
-    place-refused (a .edition) (a .base) (a .k) (a .page .now) (g .0 .0) (sym (g .1) ∙ c .before .before .read .ensures)
-
-place-of-requires : tie.Need-place-of-requires
-place-of-requires c κs = search needs
-
-returns-2 : tie.Need-returns-2
-returns-2 c =
-    let a = c .before .before .before .before .before .before .args in
-    let g = c .before .before .reading .given in
-    let q = place-accepted (a .edition) (a .base) (a .k) (a .page .now) (g .0 .0) (sym (g .1) ∙ c .before .before .before .before .read .ensures) in
-    (c .place-of .ensures .0 ∙ q .0, c .place-of .ensures .1 ∙ q .1)
+    let a = c .before .before .before .args in
+    let q = place-read (a .edition) (a .base) (a .k) (a .page .now) in
+    let e : c .place-in .result ≡ spanOf (a .k) (sectionRead (readingOf (a .edition) (a .base) (a .page .now)) (a .k)) (length (a .page .now)) = c .place-in .ensures ∙ ap (λ s. spanOf (a .k) s (length (a .page .now))) (c .before .section-read .ensures) in
+    (e ∙ q .0, ap (λ p. spanned p (a .page .now)) e ∙ q .1)
 
 pub place-spec : {M : Type 1} → statement M
-place-spec =
-    tie.close
-    (tie.spec read-requires enum-known-reading enum-told returns place-of-requires returns-2)
+place-spec = tie.close (tie.spec section-read-requires place-in-requires returns)

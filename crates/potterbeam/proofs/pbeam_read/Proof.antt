@@ -1,30 +1,61 @@
 use mir.Val.{toZ, ofZ}
 use mir.Syntax.{w32}
-use mathlib.Core.Path.{_≡_, _∙_}
-use Rattle.images.proofs.Answers.{reading-code, reading-words}
+use mathlib.Core.Path.{_≡_, sym, _∙_}
+use Rattle.reader.proofs.Whole.{fine-reads, refused-reads}
+use Rattle.images.proofs.Answers.{shown-answer, refused-answer}
 use borrow.Author.Needs.{needs}
 use Rattle.potterbeam.proofs.pbeam_read.Statement.{statement}
 use Rattle.potterbeam.proofs.pbeam_read.Tie as tie
-use Rattle.images.proofs.reading_number.Reads as reading-number-reads
-use Rattle.images.proofs.reading_words.Reads as reading-words-reads
-use Rattle.reader.proofs.read.Reads as read-reads
+use Rattle.potterbeam.proofs.show.Reads as show-reads
+use Rattle.reader.proofs.edition_read.Reads as edition-read-reads
+use Rattle.reader.proofs.judge_page.Reads as judge-page-reads
+use Rattle.reader.proofs.number.Reads as number-reads
 
-read-requires : tie.Need-read-requires
-read-requires c κs = search needs
+judge-page-requires : tie.Need-judge-page-requires
+judge-page-requires c κs = search needs
 
-reading-words-requires : tie.Need-reading-words-requires
-reading-words-requires c κs = search needs
+enum-known-w : tie.Need-enum-known-w
+enum-known-w c = search needs
 
-reading-number-requires : tie.Need-reading-number-requires
-reading-number-requires c κs = search needs
+edition-read-requires : tie.Need-edition-read-requires
+edition-read-requires c κs = search needs
+
+show-requires : tie.Need-show-requires
+show-requires c κs =
+    let a = c .before .before .before .before .before .before .before .args in
+    let f = fine-reads (a .edition) (a .base) (a .page .now) _ (sym (c .before .before .before .w .given .1) ∙ c .before .before .before .before .before .judge-page .ensures) in
+    (f .0, search needs, rw (c .before .edition-read .ensures) (f .1))
+
+enum-known-code : tie.Need-enum-known-code
+enum-known-code c = search needs
+
+number-requires : tie.Need-number-requires
+number-requires c κs = search needs
 
 returns : tie.Need-returns
 returns c =
-    let a = c .before .before .before .before .args in
-    let e = c .before .before .read .ensures in
-    let q : toZ w32 (ofZ w32 (c .reading-number .result)) ≡ c .reading-number .result = search needs in
-    (q ∙ c .reading-number .ensures ∙ reading-code (a .edition) (a .base) (a .page .now) _ e, c .before .reading-words .ensures ∙ reading-words (a .edition) (a .base) (a .page .now) _ e)
+    let a = c .before .before .before .before .before .before .before .before .args in
+    let f = fine-reads (a .edition) (a .base) (a .page .now) _ (sym (c .before .before .before .before .w .given .1) ∙ c .before .before .before .before .before .before .judge-page .ensures) in
+    let g = shown-answer (a .edition) (a .base) (a .page .now) _ _ (f .2) in
+    (g .0, c .show .ensures ∙ rw (c .before .before .edition-read .ensures) (g .1))
+
+returns-2 : tie.Need-returns-2
+returns-2 c =
+    let a = c .before .before .before .before .before .before .before .args in
+    let h = refused-reads (a .edition) (a .base) (a .page .now) _ (sym (c .before .before .before .code .given .1) ∙ c .before .before .before .before .before .judge-page .ensures) in
+    let g = refused-answer (a .edition) (a .base) (a .page .now) _ h in
+    let q : toZ w32 (ofZ w32 (c .number .result)) ≡ c .number .result = search needs in
+    (q ∙ c .number .ensures ∙ g .0, g .1)
 
 pub pbeam-read-spec : {M : Type 1} → statement M
 pbeam-read-spec =
-    tie.close (tie.spec read-requires reading-words-requires reading-number-requires returns)
+    tie.close
+    (tie.spec
+    judge-page-requires
+    enum-known-w
+    edition-read-requires
+    show-requires
+    enum-known-code
+    number-requires
+    returns
+    returns-2)

@@ -1,0 +1,56 @@
+-- The view of an accepted page, put word by word from the page's core. Assumes nothing.
+use Prim.Native.Nat.{ℕ, _+_, _*_, _≤_, _<_}
+use mathlib.Core.Path.{_≡_, refl, sym, ap, _∙_}
+use mathlib.Core.Bool.{true}
+use mathlib.Core.List.{List, [], _∷_, _++_}
+use native.Mathlib.Omega.{arith}
+use native.Mathlib.Nat.{zero-add}
+use lib.ListN.{length}
+use Rattle.words.specs.Word.{part, wordAt, splice}
+use Rattle.words.proofs.Read.{num-part}
+use Rattle.words.proofs.Store.{splice-splice, bytes-in, laid-all}
+use Rattle.versions.specs.Edition.{sectionCount}
+use Rattle.sections.specs.Page.{countAt, pointerAt}
+use Rattle.sections.specs.Section.{rulesAt}
+use Rattle.sections.proofs.Sections.{range-low, ok-in-range, ok-each, rules-sections}
+use Rattle.reader.specs.Reading.{sectionAt}
+use Rattle.reader.specs.declared.View.{View}
+use Rattle.images.specs.Image.{sectionWords, viewWords}
+
+-- ---- the core, a part of the page
+core-word : (off : ℕ) (page : List ℕ) → off + 8 ≤ 112 → wordAt off (part 0 112 page) ≡ wordAt off page
+core-word off page h = num-part 8 0 112 off page h ∙ ap (λ (n : ℕ). wordAt n page) (zero-add off)
+
+pub core-plat : (page : List ℕ) → wordAt 8 (part 0 112 page) ≡ wordAt 8 page
+core-plat page = core-word 8 page (omega arith)
+
+pub core-section : (e base k : ℕ) (page : List ℕ) → k ≤ 3 → sectionAt e base (part 0 112 page) k ≡ sectionAt e base page k
+unfolding sectionAt
+core-section e base k page h = rw (core-word (16 + 24 * k) page (omega arith), core-word (24 + 24 * k) page (omega arith))
+
+-- an array of a page whose rules hold begins at or above the base
+pub core-base : (w e base k : ℕ) (page : List ℕ) → rulesAt w e base page ≡ true → k ≤ 3 → k < sectionCount e → (countAt k (part 0 112 page) ≡ 0 → ⊥) → base ≤ pointerAt k (part 0 112 page)
+core-base w e base k page o m h z =
+    let c : countAt k (part 0 112 page) ≡ countAt k page = core-word (16 + 24 * k) page (omega arith) in
+    let p : pointerAt k (part 0 112 page) ≡ pointerAt k page = core-word (24 + 24 * k) page (omega arith) in
+    let g = ok-in-range w e base k page (ok-each w e base page (sectionCount e) k (rules-sections w e base page o) h) (λ y. z (c ∙ y)) in
+    let l = range-low e base k (countAt k page) (pointerAt k page) g in
+    omega arith
+
+-- ---- three words by three
+laid-next : (xs ys l m : List ℕ) (n : ℕ) → m ≡ splice 0 xs l → n ≡ length xs → splice n ys m ≡ splice 0 (xs ++ ys) l
+laid-next xs ys l m n e f = rw (e, f) (rw zero-add at (splice-splice 0 xs l (omega arith) ys))
+
+pub view-laid : (v : View) (l : List ℕ) → length l ≡ 15 → (a b c d e : List ℕ) → a ≡ splice 0 (v .minor ∷ v .edition ∷ v .plat ∷ []) l →
+    b ≡ splice 3 (sectionWords (v .dram)) a → c ≡ splice 6 (sectionWords (v .console)) b → d ≡ splice 9 (sectionWords (v .ncoh)) c → e ≡ splice 12 (sectionWords (v .coh)) d → e ≡ viewWords v
+unfolding sectionWords viewWords
+view-laid v l n a b c d e f g h i j =
+    let w = v .minor ∷ v .edition ∷ v .plat ∷ [] in
+    let x = w ++ sectionWords (v .dram) in
+    let y = x ++ sectionWords (v .console) in
+    let z = y ++ sectionWords (v .ncoh) in
+    let one : b ≡ splice 0 x l = g ∙ laid-next w (sectionWords (v .dram)) l a 3 f refl in
+    let two : c ≡ splice 0 y l = h ∙ laid-next x (sectionWords (v .console)) l b 6 one refl in
+    let three : d ≡ splice 0 z l = i ∙ laid-next y (sectionWords (v .ncoh)) l c 9 two refl in
+    let four : e ≡ splice 0 (viewWords v) l = j ∙ laid-next z (sectionWords (v .coh)) l d 12 three refl in
+    four ∙ sym (bytes-in 0 (viewWords v) l (omega arith)) ∙ laid-all (viewWords v) l (omega arith)

@@ -1,0 +1,88 @@
+use mathlib.Core.Bool.{true}
+use mathlib.Core.Path.{_≡_, sym, ap, _∙_}
+use Prim.Native.Nat.{min}
+use lib.ListN.{length}
+use borrow.Author.Tests.{not-true, not-false}
+use Rattle.words.specs.Tests.{both}
+use Rattle.versions.specs.Version.{minorOf}
+use Rattle.sections.specs.Page.{placeOk, versionAt}
+use Rattle.reader.specs.Reading.{viewAt, verdictOf}
+use Rattle.reader.specs.declared.Verdict.the-variants.{Fine}
+use Rattle.reader.proofs.Whole.{read-place, read-edition, read-version, read-rules, read-shows}
+use borrow.Author.Needs.{needs}
+use Rattle.reader.proofs.judge_page.Statement.{statement}
+use Rattle.reader.proofs.judge_page.Tie as tie
+
+place-ok-requires : tie.Need-place-ok-requires
+place-ok-requires c κs = search needs
+
+returns : tie.Need-returns
+unfolding verdictOf
+returns c =
+    let a = c .before .before .before .args in
+    ap verdictOf (read-place (a .edition) (a .base) (a .page .now) (sym (c .before .place-ok .ensures) ∙ not-true _ (c .if1 .taken)))
+
+is-edition-requires : tie.Need-is-edition-requires
+is-edition-requires c κs = search needs
+
+returns-2 : tie.Need-returns-2
+unfolding verdictOf
+returns-2 c =
+    let a = c .before .before .before .before .before .args in
+    ap verdictOf (read-edition (a .edition) (a .base) (a .page .now) (sym (c .before .before .before .place-ok .ensures) ∙ not-false _ (c .before .before .if1 .left)) (sym (c .before .is-edition .ensures) ∙ not-true _ (c .if2 .taken)))
+
+version-at-requires : tie.Need-version-at-requires
+version-at-requires c κs = search needs
+
+is-accepted-requires : tie.Need-is-accepted-requires
+is-accepted-requires c κs = search needs
+
+returns-3 : tie.Need-returns-3
+unfolding verdictOf
+returns-3 c =
+    let a = c .before .before .before .before .before .before .before .before .args in
+    ap verdictOf (read-version (a .edition) (a .base) (a .page .now) (sym (c .before .before .before .before .before .before .place-ok .ensures) ∙ not-false _ (c .before .before .before .before .before .if1 .left)) (sym (c .before .before .before .before .is-edition .ensures) ∙ not-false _ (c .before .before .before .if2 .left)) (rw (← c .before .before .version-at .ensures) (sym (c .before .is-accepted .ensures) ∙ not-true _ (c .if3 .taken))))
+
+minor-requires : tie.Need-minor-requires
+minor-requires c κs = search needs
+
+edition-read-requires : tie.Need-edition-read-requires
+edition-read-requires c κs = search needs
+
+page-ok-requires : tie.Need-page-ok-requires
+page-ok-requires c κs = search needs
+
+returns-4 : tie.Need-returns-4
+unfolding verdictOf both
+returns-4 c =
+    let a = c .before .before .before .before .before .before .before .before .before .before .before .before .args in
+    let w : c .before .before .before .minor .result ≡ minorOf (versionAt (a .page .now)) = c .before .before .before .minor .ensures .0 ∙ rw (c .before .before .before .before .before .before .version-at .ensures) in
+    let m : c .before .before .edition-read .result .minor ≡ min (a .edition) (minorOf (versionAt (a .page .now))) = c .before .before .edition-read .ensures ∙ rw w in
+    let p : placeOk (a .base) (length (a .page .now)) ≡ true = sym (c .before .before .before .before .before .before .before .before .before .before .place-ok .ensures) ∙ not-false _ (c .before .before .before .before .before .before .before .before .before .if1 .left) in
+    ap verdictOf (read-rules (a .edition) (a .base) (a .page .now) p (sym (c .before .before .before .before .before .before .before .before .is-edition .ensures) ∙ not-false _ (c .before .before .before .before .before .before .before .if2 .left)) (rw (← c .before .before .before .before .before .before .version-at .ensures) (sym (c .before .before .before .before .before .is-accepted .ensures) ∙ not-false _ (c .before .before .before .before .if3 .left))) (rw (← m, ← w) (rw p at (sym (c .before .page-ok .ensures) ∙ not-true _ (c .if4 .taken)))))
+
+returns-5 : tie.Need-returns-5
+unfolding verdictOf viewAt both
+returns-5 c =
+    let a = c .before .before .before .before .before .before .before .before .before .before .before .before .args in
+    let w : c .before .before .before .minor .result ≡ minorOf (versionAt (a .page .now)) = c .before .before .before .minor .ensures .0 ∙ rw (c .before .before .before .before .before .before .version-at .ensures) in
+    let m : c .before .before .edition-read .result .minor ≡ min (a .edition) (minorOf (versionAt (a .page .now))) = c .before .before .edition-read .ensures ∙ rw w in
+    let p : placeOk (a .base) (length (a .page .now)) ≡ true = sym (c .before .before .before .before .before .before .before .before .before .before .place-ok .ensures) ∙ not-false _ (c .before .before .before .before .before .before .before .before .before .if1 .left) in
+    ap Fine w ∙ ap verdictOf (read-shows (a .edition) (a .base) (a .page .now) p (sym (c .before .before .before .before .before .before .before .before .is-edition .ensures) ∙ not-false _ (c .before .before .before .before .before .before .before .if2 .left)) (rw (← c .before .before .before .before .before .before .version-at .ensures) (sym (c .before .before .before .before .before .is-accepted .ensures) ∙ not-false _ (c .before .before .before .before .if3 .left))) (rw (← m, ← w) (rw p at (sym (c .before .page-ok .ensures) ∙ not-false _ (c .if4 .left)))))
+
+pub judge-page-spec : {M : Type 1} → statement M
+judge-page-spec =
+    tie.close
+    (tie.spec
+    place-ok-requires
+    returns
+    is-edition-requires
+    returns-2
+    version-at-requires
+    is-accepted-requires
+    returns-3
+    minor-requires
+    edition-read-requires
+    page-ok-requires
+    returns-4
+    returns-5)

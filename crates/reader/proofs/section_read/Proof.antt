@@ -1,0 +1,67 @@
+use Prim.Native.Nat.{min}
+use mathlib.Core.Path.{sym, ap, _∙_}
+use native.Mathlib.Omega.{arith}
+use Rattle.versions.proofs.Editions.{section-count-most}
+use Rattle.sections.proofs.Sections.{ok-each, rules-sections}
+use Rattle.reader.specs.Reading.{sectionAt}
+use Rattle.reader.proofs.Whole.{section-absent, fine-reads, fine-section, refused-section}
+use borrow.Author.Needs.{needs}
+use Rattle.reader.proofs.section_read.Statement.{statement}
+use Rattle.reader.proofs.section_read.Tie as tie
+use Rattle.reader.proofs.edition_read.Reads as edition-read-reads
+use Rattle.reader.proofs.judge_page.Reads as judge-page-reads
+use Rattle.reader.proofs.section_at.Reads as section-at-reads
+
+judge-page-requires : tie.Need-judge-page-requires
+judge-page-requires c κs = search needs
+
+enum-known-verdict : tie.Need-enum-known-verdict
+enum-known-verdict c = search needs
+
+enum-told : tie.Need-enum-told
+enum-told c = search needs
+
+returns : tie.Need-returns
+returns c =
+    let a = c .before .before .before .before .args in
+    refused-section (a .edition) (a .base) (a .page .now) _ (a .k) (sym (c .enum-told .given .1) ∙ c .before .before .judge-page .ensures)
+
+returns-2 : tie.Need-returns-2
+returns-2 c =
+    let a = c .before .before .before .before .before .before .args in
+    let g = c .before .before .verdict .given in
+    section-absent (min (a .edition) (g .0 .0)) (a .base) (a .k) (a .page .now) (omega (arith, section-count-most (min (a .edition) (g .0 .0))))
+    ∙ fine-section (a .edition) (a .base) (a .page .now) (g .0 .0) (a .k) (sym (g .1) ∙ c .before .before .before .before .judge-page .ensures)
+
+edition-read-requires : tie.Need-edition-read-requires
+edition-read-requires c κs = search needs
+
+cast-section-at : tie.Need-cast-section-at
+cast-section-at c = search needs
+
+section-at-requires : tie.Need-section-at-requires
+section-at-requires c κs =
+    let a = c .before .before .before .before .before .before .before .args in
+    let f = fine-reads (a .edition) (a .base) (a .page .now) _ (sym (c .before .before .before .verdict .given .1) ∙ c .before .before .before .before .before .judge-page .ensures) in
+    (f .0, ok-each _ _ _ _ _ _ (rules-sections _ _ _ _ (rw (c .edition-read .ensures) (f .1))))
+
+returns-3 : tie.Need-returns-3
+returns-3 c =
+    let a = c .before .before .before .before .before .before .before .before .args in
+    let g = c .before .before .before .before .verdict .given in
+    c .section-at .ensures ∙ ap (λ e. sectionAt e (a .base) (a .page .now) (a .k)) (c .before .edition-read .ensures)
+    ∙ fine-section (a .edition) (a .base) (a .page .now) (g .0 .0) (a .k) (sym (g .1) ∙ c .before .before .before .before .before .before .judge-page .ensures)
+
+pub section-read-spec : {M : Type 1} → statement M
+section-read-spec =
+    tie.close
+    (tie.spec
+    judge-page-requires
+    enum-known-verdict
+    enum-told
+    returns
+    returns-2
+    edition-read-requires
+    cast-section-at
+    section-at-requires
+    returns-3)
