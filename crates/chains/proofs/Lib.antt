@@ -5,3 +5,4 @@ pub mod Queues
 pub mod Reread
 pub mod Tables
 pub mod Agreement
+pub mod Books

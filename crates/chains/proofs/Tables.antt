@@ -10,7 +10,7 @@ use Rattle.codes.specs.Codes.{isOk, x0Of, extended, answerOf}
 use Rattle.codes.specs.declared.Answer.{Answer}
 use Rattle.codes.specs.declared.Code.{Code}
 use Rattle.codes.specs.declared.Code.the-variants.{Ok, Unk, BadAddr, BadPas, Inval, Again}
-use Rattle.granules.specs.Granules.{GranuleTable, tableOf}
+use Rattle.granules.specs.Granules.{tableOf}
 use Rattle.granules.specs.Changes.{RealmAt}
 use Rattle.granules.proofs.Done.{ok-code}
 use Rattle.attest.specs.Key.{keyed, realmKeyOf}
@@ -19,7 +19,7 @@ use Rattle.token.specs.Token.{tokenOf}
 use Rattle.token.specs.Calls.{tokenStepOf, tokenAccepted}
 use Rattle.token.specs.declared.Session.{Session}
 use Rattle.token.proofs.Acts.{token-only}
-use Rattle.runtime.specs.Step.{World, Command, call, sign, list, afterMove, afterSign, callOf, stepOf}
+use Rattle.runtime.specs.Step.{World, Command, call, sign, list, afterMove, afterSign, stepOf}
 use Rattle.runtime.specs.Run.{nextOf, worldAfter}
 use Rattle.runtime.specs.Changes.{under}
 use Rattle.runtime.proofs.Changes.{same-table}
@@ -33,7 +33,7 @@ use Rattle.queue_image.specs.Steps.{imageStep}
 use Rattle.potterbeam.specs.Exports.{moveLeft, CallLeft, callLeft, callLent, callIn, tokenIn, tokenLeft, signingIn, signingLeft}
 use Rattle.potterbeam.proofs.Refusals.{Tells, token-tells, signing-tells}
 use Rattle.chains.specs.Chain.{Lent, lentWorld, lentOn, commandLeft}
-use Rattle.chains.specs.Exported.{Exported, pbeam-delegate, pbeam-undelegate, pbeam-delegate-list, pbeam-undelegate-list, pbeam-realm-key, pbeam-platform-token, pbeam-features, pbeam-token-signing, pbeam-key-update, pbeam-forward, pbeam-call, pbeam-sign, exportLeft, commandOf, allExported, exportUnder, RealmIn, baseIn, LentIntoRealm, ExportsIntoRealm}
+use Rattle.chains.specs.Exported.{Exported, pbeam-delegate, pbeam-undelegate, pbeam-delegate-list, pbeam-undelegate-list, pbeam-realm-key, pbeam-platform-token, pbeam-features, pbeam-token-signing, pbeam-key-update, pbeam-forward, pbeam-call, pbeam-sign, exportLeft, commandOf, allExported, exportUnder, RealmIn, baseIn, ExportsIntoRealm}
 use Rattle.chains.proofs.Singles.{single}
 
 -- ---- the table alone
@@ -44,7 +44,7 @@ module _ (granules : List ℕ) where
   command-table m (sign s) = refl
   command-table m (list r d l) = refl
 
-  export-table : (m : Lent) (e : Exported) → nextOf granules (lentWorld m) (commandOf e) .table ≡ tableOf (exportLeft granules m e .table) (exportLeft granules m e .words)
+  pub export-table : (m : Lent) (e : Exported) → nextOf granules (lentWorld m) (commandOf e) .table ≡ tableOf (exportLeft granules m e .table) (exportLeft granules m e .words)
   export-table m e = sym (command-table m (commandOf e)) ∙ ap (λ (l : CallLeft). tableOf (l .table) (l .words)) (sym (single granules m e))
 
   -- any sequence of exports leaves the table, with its words, that the sequence of their commands leaves, from any world with that table
@@ -75,7 +75,7 @@ commands-under image [] = refl
 commands-under image (e ∷ es) = ap₂ (λ c cs. c ∷ cs) (sym (command-under image e)) (commands-under image es)
 
 -- x0 is 0: the code is OK
-zero-ok : (k : Code) → isOk k ≡ eqb (x0Of k) 0
+pub zero-ok : (k : Code) → isOk k ≡ eqb (x0Of k) 0
 unfolding x0Of extended
 zero-ok Ok = refl
 zero-ok Unk = refl

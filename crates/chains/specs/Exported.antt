@@ -1,16 +1,20 @@
 -- Every export of a runtime command, and of the signer's step: what it leaves, and which of the runtime's commands it is. Assumes nothing.
 use Prim.Native.Nat.{ℕ}
 use mathlib.Core.Path.{_≡_}
-use mathlib.Core.List.{List, [], _∷_}
-use lib.ListN.{getD}
+use mathlib.Core.Bool.{cond}
+use mathlib.Core.List.{List, [], _∷_, _++_, map}
+use lib.ListN.{getD, take}
+use lib.Dec.{eqb}
 use Rattle.codes.specs.Codes.{upOf}
 use Rattle.range.specs.Buffers.{BufferIn}
 use Rattle.granules.specs.Granules.{tableOf}
-use Rattle.granules.specs.Changes.{RealmAt}
+use Rattle.granules.specs.Changes.{Change, change, RealmAt}
+use Rattle.granules.specs.Books.{leaves}
 use Rattle.granules.specs.declared.Direction.{Direction}
 use Rattle.attest.specs.Key.{realmKeyOf}
 use Rattle.features.specs.Features.{featuresOf, updateOf, forwardOf}
-use Rattle.runtime.specs.Step.{Command, call, sign, list}
+use Rattle.runtime.specs.Step.{Command, call, sign, list, kindOf}
+use Rattle.runtime.specs.Changes.{ofMove}
 use Rattle.runtime.specs.declared.Kind.{Kind}
 use Rattle.runtime.specs.declared.Kind.the-variants.{ForwardError, Delegate, Undelegate, RealmKey, PlatformToken, Features, TokenSigning, KeyUpdate, Unlisted}
 use Rattle.images.specs.Image.{recordOf, registerWords, workWords}
@@ -135,3 +139,37 @@ pub record ExportsIntoRealm (granules image : List ℕ) (m : Lent) : Type 0 wher
   pub key : (key : List ℕ) (pa size curve : ℕ) → Oks granules m (pbeam-realm-key image key pa size curve) → LentIntoRealm granules image m pa size
   pub hunk : (token : List ℕ) (busy pa size csize : ℕ) → Oks granules m (pbeam-platform-token image token busy pa size csize) → LentIntoRealm granules image m pa size
   pub response : (key : List ℕ) (opcode pa size curve : ℕ) → Oks granules m (pbeam-token-signing image key opcode pa size curve) → LentIntoRealm granules image m pa size
+
+-- ---- 02, E14: the accepted calls on granules, as the words of out tell of them: x0 is 0, or of a list the first x1 addresses
+abbrev whenZero : ℕ → List Change → List Change
+whenZero x0 l = cond (eqb x0 0) l []
+
+unfoldable pub changesTold : List ℕ → Exported → List Change
+changesTold out (pbeam-delegate state address) = whenZero (getD out 0 0) (change Direction.Delegate address ∷ [])
+changesTold out (pbeam-undelegate state address) = whenZero (getD out 0 0) (change Direction.Undelegate address ∷ [])
+changesTold out (pbeam-delegate-list state addresses) = map (change Direction.Delegate) (take (getD out 1 0) addresses)
+changesTold out (pbeam-undelegate-list state addresses) = map (change Direction.Undelegate) (take (getD out 1 0) addresses)
+changesTold out (pbeam-realm-key state key pa size curve) = []
+changesTold out (pbeam-platform-token state token busy pa size csize) = []
+changesTold out (pbeam-features state index) = []
+changesTold out (pbeam-token-signing state key opcode pa size curve) = []
+changesTold out (pbeam-key-update state width mecid) = []
+changesTold out (pbeam-forward state x1) = []
+changesTold out (pbeam-call state x busy key token public width) = whenZero (getD out 0 0) (ofMove (kindOf (getD x 0 0)) (getD x 1 0))
+changesTold out (pbeam-sign signature) = []
+
+-- those of a sequence, in order
+unfoldable pub allTold : List ℕ → Lent → List Exported → List Change
+allTold granules m [] = []
+allTold granules m (e ∷ es) = changesTold (exportLeft granules m e .out) e ++ allTold granules (lentOn (exportLeft granules m e)) es
+
+-- none of them is of this address
+pub data NoneAt (addr : ℕ) : List Change → Type 0 where
+  nowhere : NoneAt addr []
+  elsewhere : (c : Change) (cs : List Change) → (c .address ≡ addr → ⊥) → NoneAt addr cs → NoneAt addr (c ∷ cs)
+
+-- "Each granule's byte is the one the last accepted call naming it left, or the starting byte if none did.", by the address that it is
+-- called with: of granule i
+pub record ByAddress (granules : List ℕ) (m : Lent) (es : List Exported) (addr i : ℕ) : Type 0 where
+  pub last : (before : List Change) (d : Direction) (behind : List Change) → allTold granules m es ≡ before ++ change d addr ∷ behind → NoneAt addr behind → getD (allExported granules m es .table) i 0 ≡ leaves d
+  pub none : NoneAt addr (allTold granules m es) → getD (allExported granules m es .table) i 0 ≡ getD (m .table) i 0

@@ -1,13 +1,13 @@
 -- What holds of each accepted call holds of any call and of any list. Assumes nothing.
 use Prim.Native.Nat.{ℕ}
-use mathlib.Core.Path.{_≡_, refl, sym, ap}
+use mathlib.Core.Path.{_≡_, refl}
 use mathlib.Core.Bool.{Bool, true, false, cond}
 use mathlib.Core.List.{List, [], _∷_, _++_, map}
 use lib.ListN.{take}
 use Rattle.boot.specs.declared.Record.{Record}
 use Rattle.codes.specs.Codes.{isOk}
 use Rattle.codes.specs.declared.Code.the-variants.{Ok}
-use Rattle.granules.specs.Granules.{GranuleTable, Moved, moveOf}
+use Rattle.granules.specs.Granules.{GranuleTable, moveOf}
 use Rattle.granules.specs.Lists.{moveListOf, doneBy, doneOf, tableBy}
 use Rattle.granules.specs.Changes.{Change, change}
 use Rattle.banks.specs.Banks.{Granules}

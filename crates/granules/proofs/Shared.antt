@@ -26,7 +26,7 @@ other-stays g d t after a addr m r n =
       realm = m .others (r .granule) (λ e. n (one-address g (length (t .bytes)) a addr (m .granule) (m .own) (r .own ∙ ap At e))) ∙ r .realm;
     }
 
-pub one-index : (i j : ℕ) → At i ≡ At j → i ≡ j
+one-index : (i j : ℕ) → At i ≡ At j → i ≡ j
 one-index i j h = cc
 
 -- a granule that is Realm is not delegated

@@ -2,3 +2,4 @@ pub mod Granules
 pub mod Acts
 pub mod Lists
 pub mod Changes
+pub mod Books

@@ -18,7 +18,7 @@ use Rattle.realm_words.specs.Bits.{bitOf, bitAt, withBit, putBit, realmB
 use Rattle.realm_words.specs.Answers.{bothFit, sameWords, marked, firstMarked, realmCountOf, realmNextOf, realmAgreeOf, realmBuildOf, realmAt, realms, nextRealm}
 use Rattle.realm_words.proofs.Bits.{bit-same, bit-other, with-zero, with-suc}
 use Rattle.realm_words.proofs.Packing.{realm-le, bit-agrees, words-length}
-use Rattle.realm_words.proofs.Agreeing.{same-is, is-same}
+use Rattle.realm_words.proofs.Agreeing.{fits, same-is, is-same}
 
 -- ---- the same marks give the same answers
 marked-same : (f g : ℕ → ℕ) (n : ℕ) → ((i : ℕ) → i < n → f i ≡ g i) → marked f n ≡ marked g n
@@ -128,6 +128,15 @@ agree-told t ws n = go (bothFit t ws n) (sameWords ws (realmWords t)) refl
     go true true e h = same-is ws (realmWords t) e
     go true false e h = let z : _≡_ {A = ℕ} 0 1 = cc in absurd (omega arith)
     go false s e h = let z : _≡_ {A = ℕ} 0 1 = cc in absurd (omega arith)
+
+-- nor of a table of another length
+pub agree-sized : (t ws : List ℕ) (n : ℕ) → realmAgreeOf t ws n ≡ Agreement.Yes → length t ≡ n
+unfolding realmAgreeOf
+agree-sized t ws n = go (bothFit t ws n) refl
+  where
+    go : (b : Bool) → bothFit t ws n ≡ b → cond b (cond (sameWords ws (realmWords t)) Agreement.Yes Agreement.No) Agreement.Inval ≡ Agreement.Yes → length t ≡ n
+    go true e h = fits t ws n e .table-fit
+    go false e h = let z : _≡_ {A = ℕ} 0 1 = cc in absurd (omega arith)
 
 -- build makes agreement, whatever the words were
 pub build-agrees : (t ws : List ℕ) → length ws ≡ wordsFor (length t) → realmBuildOf t ws (length t) ≡ record { done = true; words = realmWords t }

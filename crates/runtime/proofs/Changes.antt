@@ -1,9 +1,10 @@
 -- What holds of each accepted call on a granule holds of any command, and of any sequence. Assumes nothing.
 use Prim.Native.Nat.{ℕ}
-use mathlib.Core.Path.{_≡_, refl, sym, ap}
+use mathlib.Core.Path.{_≡_, ap}
 use mathlib.Core.Bool.{Bool, true, false, cond}
 use mathlib.Core.List.{List, [], _∷_, _++_, map}
 use Rattle.boot.specs.declared.Record.{Record}
+use Rattle.boot.specs.declared.Record.the-variants.{Fresh}
 use Rattle.codes.specs.Codes.{isOk}
 use Rattle.codes.specs.declared.Code.the-variants.{Ok}
 use Rattle.granules.specs.Granules.{GranuleTable, moveOf, delegateOf, undelegateOf}
@@ -42,16 +43,22 @@ module _ (R : GranuleTable → List Change → GranuleTable → Type 0) (none : 
   kind-by Unlisted w c one = nothing (isOk (replyCode (callBy Unlisted g w c .reply))) (w .table)
 
   -- the record that a command comes with, s where it comes with none
-  recordIn : Record → Command → Record
+  pub recordIn : Record → Command → Record
   recordIn s (call c) = c .state
   recordIn s (sign x) = s
   recordIn s (list r d l) = r
 
-  command-by : (s : Record) (w : World) (c : Command) → One (recordIn s c) → R (w .table) (changesOf g w c) (nextOf g w c .table)
+  pub command-by : (s : Record) (w : World) (c : Command) → One (recordIn s c) → R (w .table) (changesOf g w c) (nextOf g w c .table)
   unfolding recordIn changesOf stepOf callOf afterMove afterSign
   command-by s w (call c) one = kind-by (kindOf (c .id)) w c one
   command-by s w (sign x) one = none (w .table)
   command-by s w (list r d l) one = list-by R none join r g d (one d) (w .table) l
+
+  -- any sequence, whatever boot record each command comes with
+  pub run-by : ((s : Record) → One s) → (w : World) (cs : List Command) → R (w .table) (gathered g (changesOf g) w cs) (worldAfter g w cs .table)
+  unfolding gathered worldAfter
+  run-by one w [] = none (w .table)
+  run-by one w (c ∷ cs) = join _ _ _ _ _ (command-by Fresh w c (one (recordIn Fresh c))) (run-by one (nextOf g w c) cs)
 
   -- any sequence with one boot record
   under-one : (s : Record) (c : Command) → One s → One (recordIn s (under s c))

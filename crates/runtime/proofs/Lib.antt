@@ -9,3 +9,4 @@ pub mod Kept
 pub mod Changes
 pub mod Shared
 pub mod Agreement
+pub mod Books

@@ -1,8 +1,8 @@
 -- 02, E8: the shared page stays Realm over any sequence of commands, and what is written to it goes into Realm memory. Assumes nothing.
 use Prim.Native.Nat.{ℕ}
-use mathlib.Core.Path.{_≡_, refl, sym, ap, _∙_}
+use mathlib.Core.Path.{_≡_, sym, _∙_}
 use mathlib.Core.Bool.{true, false≢true}
-use mathlib.Core.List.{List, [], _∷_, map}
+use mathlib.Core.List.{List, map}
 use Rattle.boot.specs.declared.Record.{Record}
 use Rattle.codes.specs.Codes.{upOf, isOk, answerOf}
 use Rattle.codes.specs.declared.Code.the-variants.{Ok}
@@ -20,9 +20,9 @@ use Rattle.queue.specs.Queue.{Lists, SigningStep}
 use Rattle.signing.specs.Signing.{signingOf}
 use Rattle.signing.specs.declared.Opcode.{Opcode}
 use Rattle.signing.proofs.Signings.{signing-by}
-use Rattle.runtime.specs.Step.{World, Call, Command, call, kindOf, afterKey, afterToken, afterSigning, callBy, callOf, stepOf, replyCode}
-use Rattle.runtime.specs.Run.{accepted, worldAfter, tokenCall}
-use Rattle.runtime.specs.Changes.{callUnder, under, IntoRealm, WritesIntoRealm}
+use Rattle.runtime.specs.Step.{World, Call, Command, kindOf, afterKey, afterToken, afterSigning, callBy, callOf, stepOf, replyCode}
+use Rattle.runtime.specs.Run.{worldAfter, tokenCall}
+use Rattle.runtime.specs.Changes.{callUnder, under, WritesIntoRealm}
 use Rattle.runtime.proofs.Changes.{under-by}
 
 -- "If it was Realm at boot it is Realm after any later calls on that table with the same boot and granule records. E1's lists obey this
