@@ -45,6 +45,7 @@ struct signatures {
         pbeam_read, pbeam_array, pbeam_array_of, pbeam_count, pbeam_word, pbeam_kept_for, pbeam_listing, pbeam_write,          \
             pbeam_cold_boot, pbeam_warm_boot, pbeam_close, pbeam_version_accepted, pbeam_agreed_minor, pbeam_is_later,         \
             pbeam_set_up_granules, pbeam_delegate, pbeam_undelegate, pbeam_delegate_list, pbeam_undelegate_list,               \
+            pbeam_realm_count, pbeam_realm_next, pbeam_realm_agrees, pbeam_realm_build,                                        \
             pbeam_realm_key, pbeam_platform_token, pbeam_challenge, pbeam_features,                                            \
             pbeam_token_signing, pbeam_key_update, pbeam_forward, pbeam_sign, pbeam_oldest, pbeam_responses,                   \
             pbeam_call                                                                                                         \
