@@ -22,7 +22,7 @@ use Rattle.boot.specs.declared.Record.the-variants.{Up}
 use Rattle.codes.specs.Codes.{extended, x0Of, answerOf, unless, fails, isUp, whenUp}
 use Rattle.codes.specs.declared.Code.the-variants.{Ok, BadAddr, BadPas, Inval}
 use Rattle.range.specs.Range.{outside, tooLong}
-use Rattle.granules.specs.Granules.{GranuleTable, fromByte, guarded, granuleCode, moveCode, movedBy, moveOf, delegateOf}
+use Rattle.granules.specs.Granules.{GranuleTable, fromByte, guarded, granuleCode, moveCode, movedBy, fitting, whenFit, moveOf, delegateOf}
 use Rattle.banks.specs.Banks.{Granules, granuleAt}
 use Rattle.banks.specs.declared.Granule.the-variants.{At}
 use Rattle.features.specs.Features.{updateCode}
@@ -75,8 +75,8 @@ pub record Examples : Type 0 where
   pub e8 : (u : Params) → outside u (u .base + 4096) ≡ true
   -- "9* Code -2 in x0 is 0xFFFFFFFFFFFFFFFE."
   pub e9 : x0Of BadAddr ≡ 0xFFFFFFFFFFFFFFFE
-  -- "10* Delegating a Realm granule: BAD_PAS."
-  pub e10 : (u : Params) (g : Granules) (t : GranuleTable) (addr i : ℕ) → granuleAt g (length (t .bytes)) addr ≡ At i → getD (t .bytes) i 0 ≡ 1 →
+  -- "10* Delegating a Realm granule: BAD_PAS." (02, E6: with as many words as the record's granules ask for)
+  pub e10 : (u : Params) (g : Granules) (t : GranuleTable) (addr i : ℕ) → fitting g t ≡ true → granuleAt g (length (t .bytes)) addr ≡ At i → getD (t .bytes) i 0 ≡ 1 →
       delegateOf (Up u) g t addr ≡ record { answer = answerOf BadPas 0 0; table = t }
   -- "11* m = 7: mecid 255 passes, 256 does not."
   pub e11 : (u : Params) → (5 ≤ u .minor → updateCode u 7 255 ≡ Ok) × (updateCode u 7 256 ≡ Inval)
@@ -85,10 +85,10 @@ check-one : (s : ℕ) → s < 2 ^ 64 → checkOk 1 0x80000028 bank s ≡ true �
 unfolding checkOk sum
 check-one s h t = let e : (1 + 0x80000028 + (0x90000000 + (0x10000000 + 0)) + s) % 2 ^ 64 ≡ 0 = eqb-true _ _ t in omega arith
 
-granted : (u : Params) (g : Granules) (t : GranuleTable) (addr i : ℕ) → granuleAt g (length (t .bytes)) addr ≡ At i → getD (t .bytes) i 0 ≡ 1 →
+granted : (u : Params) (g : Granules) (t : GranuleTable) (addr i : ℕ) → fitting g t ≡ true → granuleAt g (length (t .bytes)) addr ≡ At i → getD (t .bytes) i 0 ≡ 1 →
     delegateOf (Up u) g t addr ≡ record { answer = answerOf BadPas 0 0; table = t }
-unfolding moveOf movedBy moveCode granuleCode guarded fromByte whenUp isUp unless fails
-granted u g t addr i f b = rw (f, b)
+unfolding moveOf movedBy moveCode granuleCode guarded fromByte whenFit whenUp isUp unless fails
+granted u g t addr i w f b = rw (w, f, b)
 
 pub examples : Examples
 unfolding later agreed readWith readOf judge readerGate allShown rules clearBefore apart extent secOk nothing platOk platAt mkPlat secAt mkSec size numAt part leBytes leOf versionOk aboveOf majorOf minorOf checkOk sum both either every joined isPage writeOf writerGate placeOk editionOk descriptionOk listOk noneLate used platBytes descriptionOf four core sectionCount wordsPerEntry entriesOk entryOk entryRule bankOk consoleOk flagsOk outside tooLong x0Of extended updateCode fails unless

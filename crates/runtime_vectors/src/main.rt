@@ -1,7 +1,7 @@
 // Runs the runtime's operations that the numbered cases of data/ describe, in turn, up to the first case that is missing. A case
 // is 8-byte words: the boot record (0 fresh, 1 up, 2 closed, then what it keeps), where the granule record stands (see
-// `cases::granules_at`), MECIDWidthm1, the session (0 idle, 1 sending, then whole and sent), the places of page, table, realm key, public key and queue, the number of operations; then the operations.
-// A place is an offset in the file and a length. An operation: its kind (0 call, 1 signer's step, 2 challenge lookup, 3 oldest
+// `cases::granules_at`) with the realm words behind it, MECIDWidthm1, the session (0 idle, 1 sending, then whole and sent), the places of
+// page, table, realm key, public key and queue, the number of operations; then the operations. A place is an offset in the file and a length. An operation: its kind (0 call, 1 signer's step, 2 challenge lookup, 3 oldest
 // request), function id, x1 to x4, busy, the places of token and signature, and what is to change in page and table: each an offset
 // there, and the place of the new bytes. Prints each answer and the state after it, and at the end of a case the whole queue.
 use codes::Answer;
@@ -17,6 +17,7 @@ use runtime::Reply;
 use token::Session;
 use words::Span;
 ghost use Prim.Native.Nat.{_≤_};
+ghost use lib.ListN.{length};
 
 // What goes from one operation to the next.
 struct State {
@@ -216,7 +217,14 @@ fn print_state(state: State) {
 
 // ---- The operations ----
 
-fn call(input: &[u8], at: usize, page: &mut [u8], table: &mut [u8], state: State) -> State
+fn call(
+    input: &[u8],
+    at: usize,
+    page: &mut [u8],
+    table: &mut [u8],
+    words: &mut [u64],
+    state: State,
+) -> State
     requires { ⌜ at ≤ 40000 ⌝ }
 {
     let granules = cases::granules_at(input, 40);
@@ -232,6 +240,7 @@ fn call(input: &[u8], at: usize, page: &mut [u8], table: &mut [u8], state: State
         words::word_at(input, at + 40),
         page,
         table,
+        words,
         lent(input, 112),
         words::word_at(input, at + 48) != 0,
         lent(input, at + 56),
@@ -266,12 +275,19 @@ fn sign(input: &[u8], at: usize, state: State) -> State
 }
 
 // An operation whose words stand at an offset of the case.
-fn operate(input: &[u8], at: usize, page: &mut [u8], table: &mut [u8], state: State) -> State
+fn operate(
+    input: &[u8],
+    at: usize,
+    page: &mut [u8],
+    table: &mut [u8],
+    words: &mut [u64],
+    state: State,
+) -> State
     requires { ⌜ at ≤ 40000 ⌝ }
 {
     let kind = words::word_at(input, at);
     if kind == 0 {
-        return call(input, at, page, table, state);
+        return call(input, at, page, table, words, state);
     }
     if kind == 1 {
         return sign(input, at, state);
@@ -322,16 +338,18 @@ fn print_operations(
     expected: &mut [u8],
     table: &mut [u8],
     wanted: &mut [u8],
+    words: &mut [u64],
 ) -> Queue {
     let mut state = state_at(input);
     let count = cases::length_at(input, 160, 250);
     for i in 0..count {
         let at = 168 + 136 * i;
-        state = operate(input, at, page, table, state);
+        state = operate(input, at, page, table, words, state);
         print_state(state);
         print_change(input, at + 88, b", page", page, expected);
         print_change(input, at + 112, b", table", table, wanted);
-        print(b"\n");
+        print(b", ");
+        cases::print_words(words);
     }
     state.queue
 }
@@ -342,17 +360,21 @@ fn fill(held: &mut [u8], expected: &mut [u8], bytes: &[u8]) {
     words::copy(expected, bytes);
 }
 
-// A case, with room for page and table, and for what is expected of them.
+// A case, with room for page, table and words, and for what is expected of the first two.
 fn print_lent(
     input: &[u8],
     page: &mut [u8],
     expected: &mut [u8],
     table: &mut [u8],
     wanted: &mut [u8],
-) {
+    words: &mut [u64],
+)
+    requires { ⌜ length (now words) ≤ 600 ⌝ }
+{
     fill(page, expected, lent(input, 80));
     fill(table, wanted, lent(input, 96));
-    let queue = print_operations(input, page, expected, table, wanted);
+    cases::fill_words(input, 40, words);
+    let queue = print_operations(input, page, expected, table, wanted, words);
     print_queue(queue);
 }
 
@@ -361,14 +383,17 @@ fn print_case(input: &[u8]) {
     let mut expected = [0u8; 4200];
     let mut table = [0u8; 600];
     let mut wanted = [0u8; 600];
+    let mut words = [0u64; 80];
     let n = cases::length_at(input, 88, 4200);
     let t = cases::length_at(input, 104, 600);
+    let w = cases::length_at(input, cases::words_at(input, 40), 80);
     print_lent(
         input,
         &mut page[..n],
         &mut expected[..n],
         &mut table[..t],
         &mut wanted[..t],
+        &mut words[..w],
     );
 }
 

@@ -9,20 +9,20 @@ Inv-loop granules i₀ t4 t5 i = i ≤ 33
 abbrev μ-loop : tie.MeasureT-loop
 μ-loop granules i₀ t4 t5 i = 33 - i
 
-slice-aggregate-write-all : tie.Need-slice-aggregate-write-all Inv-loop μ-loop
-slice-aggregate-write-all c = search needs
+slice-aggregate-print : tie.Need-slice-aggregate-print Inv-loop μ-loop
+slice-aggregate-print c = search needs
 
-write-all-requires : tie.Need-write-all-requires Inv-loop μ-loop
-write-all-requires c κs = search needs
+print-requires : tie.Need-print-requires Inv-loop μ-loop
+print-requires c κs = search needs
 
 loop-holds : tie.Need-loop-holds Inv-loop μ-loop
 loop-holds c = search needs
 
-slice-aggregate-write-all-2 : tie.Need-slice-aggregate-write-all-2 Inv-loop μ-loop
-slice-aggregate-write-all-2 c = search needs
+slice-aggregate-print-2 : tie.Need-slice-aggregate-print-2 Inv-loop μ-loop
+slice-aggregate-print-2 c = search needs
 
-write-all-requires-2 : tie.Need-write-all-requires-2 Inv-loop μ-loop
-write-all-requires-2 c κs = search needs
+print-requires-2 : tie.Need-print-requires-2 Inv-loop μ-loop
+print-requires-2 c κs = search needs
 
 mul-print-hex : tie.Need-mul-print-hex Inv-loop μ-loop
 mul-print-hex c = search needs
@@ -42,11 +42,11 @@ loop-less c = search needs
 loop-again : tie.Need-loop-again Inv-loop μ-loop
 loop-again c = search needs
 
-slice-aggregate-write-all-3 : tie.Need-slice-aggregate-write-all-3 Inv-loop μ-loop
-slice-aggregate-write-all-3 c = search needs
+slice-aggregate-print-3 : tie.Need-slice-aggregate-print-3 Inv-loop μ-loop
+slice-aggregate-print-3 c = search needs
 
-write-all-requires-3 : tie.Need-write-all-requires-3 Inv-loop μ-loop
-write-all-requires-3 c κs = search needs
+print-requires-3 : tie.Need-print-requires-3 Inv-loop μ-loop
+print-requires-3 c κs = search needs
 
 returns : tie.Need-returns Inv-loop μ-loop
 returns c = search needs
@@ -57,17 +57,17 @@ print-record-spec =
     (tie.spec
     Inv-loop
     μ-loop
-    slice-aggregate-write-all
-    write-all-requires
+    slice-aggregate-print
+    print-requires
     loop-holds
-    slice-aggregate-write-all-2
-    write-all-requires-2
+    slice-aggregate-print-2
+    print-requires-2
     mul-print-hex
     element-copy-out-print-hex
     print-hex-requires
     add-i
     loop-less
     loop-again
-    slice-aggregate-write-all-3
-    write-all-requires-3
+    slice-aggregate-print-3
+    print-requires-3
     returns)

@@ -1,10 +1,9 @@
 use Prim.Native.Nat.{_-_, _≤_}
-use mathlib.Core.Path.{_≡_, refl}
-use native.Mathlib.Omega.{arith}
+use mathlib.Core.Path.{_≡_}
 use lib.ListN.{length}
 use borrow.Author.Needs.{needs}
-use Rattle.granule_vectors.proofs.read_list.Statement.{statement}
-use Rattle.granule_vectors.proofs.read_list.Tie as tie
+use Rattle.cases.proofs.read_words.Statement.{statement}
+use Rattle.cases.proofs.read_words.Tie as tie
 
 abbrev Inv-loop : tie.InvT-loop
 Inv-loop bytes list₀ i₀ i-end list i = (length list ≡ length list₀) × (i ≤ length list₀)
@@ -42,8 +41,8 @@ same-length c = search needs
 returns : tie.Need-returns Inv-loop μ-loop
 returns c = search needs
 
-pub read-list-spec : {M : Type 1} → statement M
-read-list-spec =
+pub read-words-spec : {M : Type 1} → statement M
+read-words-spec =
     tie.close
     (tie.spec
     Inv-loop
