@@ -571,8 +571,7 @@ void pbeam_delegate(const uint64_t state[PBEAM_STATE_WORDS], const uint64_t gran
 /*
  * pbeam_undelegate (0xC40001B1): a granule goes from Realm to Non-secure.
  * As pbeam_delegate, with PBEAM_X0_BAD_PAS where the byte is not PBEAM_GRANULE_REALM; on OK it becomes PBEAM_GRANULE_NON_SECURE, and its
- * bit is cleared. Before
- * that check the shared page, address B, is PBEAM_X0_BAD_ADDR whatever its byte: it has to stay Realm.
+ * bit is cleared. Before that check the shared page, address B, is PBEAM_X0_BAD_ADDR whatever its byte: it has to stay Realm.
  * Stack    64 bytes; AArch64 0
  */
 PBEAM_NONNULL(1, 2, 8)
@@ -584,8 +583,8 @@ void pbeam_undelegate(const uint64_t state[PBEAM_STATE_WORDS], const uint64_t gr
  *          that is refused. It has no function id: which call of the monitor's brings a list is the platform's.
  * Takes    what pbeam_delegate takes, with a list of addresses (any number, none too) in place of one.
  * Answers  out: x0 PBEAM_X0_OK, or the code that pbeam_delegate gives for the address that is refused; x1 the number of granules done,
- *          also when x0 is a refusal: so x1 is the index of the refused address. x2 0. PBEAM_X0_INVAL of the words comes first, an empty list's too;
- *          then an empty list is OK with 0, up or not.
+ *          also when x0 is a refusal: so x1 is the index of the refused address. x2 0. PBEAM_X0_INVAL of the words comes first, for an empty
+ *          list too; then an empty list is OK with 0, up or not.
  * Leaves   as x1 single calls would: the granules before the refused address are Realm and stay so; no other byte or bit changes. An address
  *          that comes twice is refused with PBEAM_X0_BAD_PAS the second time.
  * Stack    192 bytes; AArch64 0

@@ -718,7 +718,8 @@ static inline size_t pbeam_words_for(size_t granules)
     return granules / PBEAM_REALM_WORD_GRANULES + (granules % PBEAM_REALM_WORD_GRANULES != 0);
 }
 
-/* pbeam_realm_build: the context's Realm words, from its granule table. Answers PBEAM_X0_OK, or PBEAM_X0_INVAL with the words as they were. */
+/* pbeam_realm_build: the context's Realm words, from its granule table. Answers PBEAM_X0_OK, or PBEAM_X0_INVAL with the words as they
+ * were. */
 PBEAM_NONNULL(1)
 static inline uint64_t pbeam_context_build_words(pbeam_context_t *context)
 {
