@@ -1,7 +1,7 @@
 // Runs the runtime's operations that the numbered cases of data/ describe, in turn, up to the first case that is missing. A case
 // is 8-byte words: the boot record (0 fresh, 1 up, 2 closed, then what it keeps), where the granule record stands (see
-// `cases::granules_at`) with the realm words behind it, MECIDWidthm1, the session (0 idle, 1 sending, then whole and sent), the places of
-// page, table, realm key, public key and queue, the number of operations; then the operations. A place is an offset in the file and a length. An operation: its kind (0 call, 1 signer's step, 2 challenge lookup, 3 oldest
+// `cases::granules_at`) with the realm words behind it, MECIDWidthm1, the session (0 idle, 1 sending, then whole and sent), the places of page, table, realm key, public key and queue, the number of operations; then the operations.
+// A place is an offset in the file and a length. An operation: its kind (0 call, 1 signer's step, 2 challenge lookup, 3 oldest
 // request), function id, x1 to x4, busy, the places of token and signature, and what is to change in page and table: each an offset
 // there, and the place of the new bytes. Prints each answer and the state after it, and at the end of a case the whole queue.
 use codes::Answer;
