@@ -411,7 +411,9 @@ impl Exports for Kit {
     ) {
         let (table, table_len) = lend_mut(table);
         let (words, words_len) = lend_mut(words);
-        unsafe { ffi::pbeam_undelegate(state, granules, table, table_len, words, words_len, at, out) }
+        unsafe {
+            ffi::pbeam_undelegate(state, granules, table, table_len, words, words_len, at, out)
+        }
     }
 
     #[inline]
@@ -427,7 +429,9 @@ impl Exports for Kit {
         let (words, words_len) = lend_mut(words);
         let (addresses, length) = lend(addresses);
         unsafe {
-            ffi::pbeam_delegate_list(state, granules, table, table_len, words, words_len, addresses, length, out)
+            ffi::pbeam_delegate_list(
+                state, granules, table, table_len, words, words_len, addresses, length, out,
+            )
         }
     }
 
@@ -444,7 +448,9 @@ impl Exports for Kit {
         let (words, words_len) = lend_mut(words);
         let (addresses, length) = lend(addresses);
         unsafe {
-            ffi::pbeam_undelegate_list(state, granules, table, table_len, words, words_len, addresses, length, out)
+            ffi::pbeam_undelegate_list(
+                state, granules, table, table_len, words, words_len, addresses, length, out,
+            )
         }
     }
 
@@ -596,8 +602,9 @@ impl Exports for Kit {
         let (granules, busy, width) = (lent.granules, lent.busy, lent.width);
         unsafe {
             ffi::pbeam_call(
-                state, session, queue, page, page_len, granules, table, table_len, words, words_len, key, key_len,
-                token, token_len, busy, public, public_len, width, x, out, work,
+                state, session, queue, page, page_len, granules, table, table_len, words,
+                words_len, key, key_len, token, token_len, busy, public, public_len, width, x, out,
+                work,
             )
         }
     }

@@ -1002,9 +1002,12 @@ fn realm_words(header: &mut Header) {
             Kit::realm_build(&one, &table, words) as i64
         });
     }
-    header.within(("pbeam_realm_build", "a short table"), &empty, INVAL, |words| {
-        Kit::realm_build(&one, &table[1..], words) as i64
-    });
+    header.within(
+        ("pbeam_realm_build", "a short table"),
+        &empty,
+        INVAL,
+        |words| Kit::realm_build(&one, &table[1..], words) as i64,
+    );
 }
 
 fn signer(header: &mut Header) {

@@ -171,8 +171,7 @@ fn note_words(pair: &mut Pair, name: &'static str) {
 fn realm_count(pair: &mut Pair, _: &mut Scene) {
     check!(pair, "pbeam_realm_count", (), |S, m| {
         let (images, words) = (&mut m.images, m.words.lent());
-        m.returned =
-            S::realm_count(&images.granules.words, words, &mut images.number.words) as i64;
+        m.returned = S::realm_count(&images.granules.words, words, &mut images.number.words) as i64;
     });
     note_words(pair, "pbeam_realm_count");
 }
@@ -180,7 +179,9 @@ fn realm_count(pair: &mut Pair, _: &mut Scene) {
 fn realm_next(pair: &mut Pair, scene: &mut Scene) {
     let index = match pair.random.below(4) {
         0 => pair.random.edge(),
-        1 => 64 * scene.words.len() as u64 - pair.random.below(64).min(64 * scene.words.len() as u64),
+        1 => {
+            64 * scene.words.len() as u64 - pair.random.below(64).min(64 * scene.words.len() as u64)
+        }
         _ => pair.random.below(scene.table.len() as u64 + 2),
     };
     check!(pair, "pbeam_realm_next", (index), |S, m| {
