@@ -315,6 +315,55 @@ fn find(banks: &[u64], at: u64) -> u64 {
     NOWHERE
 }
 
+// ---- Realm words ----
+
+/// How many Realm granules the words tell of.
+#[inline(never)]
+pub fn realm_count(granules: &GranulesImage, words: &[u64], number: &mut [u64; 1]) -> u64 {
+    let (granules, _) = pass(granules, 0);
+    if !fit(granules, words) {
+        number[0] = 0;
+        return Answer::from(Err(Error::Inval)).x0;
+    }
+    let (whole, last) = words.split_at((granules / 64) as usize);
+    let ones = |word: &u64| u64::from(word.count_ones());
+    let spare = u64::MAX << (granules % 64);
+    number[0] = whole.iter().map(ones).sum::<u64>();
+    number[0] += last.first().map_or(0, |word| ones(&(word & !spare)));
+    0
+}
+
+/// The first Realm granule at or after an index; 1 if there is none.
+#[inline(never)]
+pub fn realm_next(
+    granules: &GranulesImage,
+    words: &[u64],
+    index: u64,
+    found: &mut [u64; 1],
+) -> u64 {
+    let (granules, _) = pass(granules, 0);
+    found[0] = 0;
+    if !fit(granules, words) || index >= granules {
+        return Answer::from(Err(Error::Inval)).x0;
+    }
+    let first = (index / 64) as usize;
+    let mut bits = words[first] & u64::MAX << (index % 64);
+    let mut at = first;
+    while bits == 0 {
+        at += 1;
+        match words.get(at) {
+            Some(&word) => bits = word,
+            None => return 1,
+        }
+    }
+    let hit = 64 * at as u64 + u64::from(bits.trailing_zeros());
+    if hit >= granules {
+        return 1;
+    }
+    found[0] = hit;
+    0
+}
+
 // ---- Platform token ----
 
 #[inline]
