@@ -11,7 +11,7 @@ use potterbeam_tests::model::Model;
 use potterbeam_tests::random::calls::Scene;
 use potterbeam_tests::random::Random;
 use potterbeam_tests::reference::runtime::{Call, DELEGATE, TOKEN_SIGN};
-use std::collections::BTreeMap;
+use std::collections::{BTreeMap, BTreeSet};
 
 const SCENES: usize = 4_000;
 const STEPS: usize = 40;
@@ -211,6 +211,35 @@ fn step(random: &mut Random, scene: &mut Scene, model: &mut Memory, ours: &mut M
 fn load_page(scene: &Scene, model: &mut Memory, ours: &mut Memory) {
     model.page.copy_from_slice(&scene.page);
     ours.page.copy_from_slice(&scene.page);
+}
+
+/// Count and next, which the benchmark times, on words and records of any kind.
+#[test]
+fn realm_words_are_the_same() {
+    let (mut random, mut met) = (Random::new(6), BTreeSet::new());
+    for _ in 0..20_000 {
+        let scene = random.scene();
+        let (granules, mut words) = (&scene.granules, scene.words.clone());
+        match random.below(8) {
+            0 => words.iter_mut().for_each(|word| *word = u64::MAX),
+            1 => words.iter_mut().for_each(|word| *word = 0),
+            2 => words.push(1),
+            _ => {}
+        }
+        let index = random.below(64 * words.len() as u64 + 3);
+        let [mut theirs, mut ours] = [[7]; 2];
+        let said = Model::realm_count(granules, &words, &mut theirs);
+        assert_eq!(inplace::realm_count(granules, &words, &mut ours), said);
+        assert_eq!(ours, theirs, "{words:x?}");
+        let said = Model::realm_next(granules, &words, index, &mut theirs);
+        assert_eq!(
+            inplace::realm_next(granules, &words, index, &mut ours),
+            said
+        );
+        assert_eq!(ours, theirs, "{words:x?}, {index}");
+        met.insert(said as i64);
+    }
+    assert_eq!(met, BTreeSet::from([0, 1, -5]));
 }
 
 #[test]
