@@ -17,8 +17,8 @@
  * - Lent buffers must not overlap. (Two that the call only reads may.)
  * - There is no lock. One image, page or table is used by one call at a time; different ones may be used at the same time.
  * - The first check that fails decides the answer. The checks stand below in their order.
- * - A refused runtime command puts its code into x0 and 0 into x1 and x2, and leaves page, table, session and queue as they were,
- *   whatever they hold. A refused list of granules differs: x1 is the number done, and these stay done.
+ * - A refused runtime command puts its code into x0 and 0 into x1 and x2, and leaves page, table, words, session and queue as they
+ *   were, whatever they hold. A refused list of granules differs: x1 is the number done, and these stay done.
  * - "Stack" bounds what a call was seen to write on x86-64, accepted or refused, with its return address and the words that it takes on the
  *   stack; the test rust/tests/stack.rs fails where a figure is exceeded. It is measured, not proved. All fit 1 KiB.
  * - The figure behind "AArch64" is static: the frame of the function and of all that it calls, in the archive that tools/aarch64 builds and
@@ -267,6 +267,11 @@
 #define PBEAM_GRANULES_COUNT 0
 #define PBEAM_GRANULES_FIRST_BANK 1
 #define PBEAM_GRANULES_BANKS_MOST 16
+
+/* Realm words: how many granules a word has a bit for, and what pbeam_realm_next and pbeam_realm_agrees answer beside the codes. */
+#define PBEAM_REALM_WORD_GRANULES 64
+#define PBEAM_REALM_NONE 1   /* no Realm granule at or after the index */
+#define PBEAM_REALM_DIFFER 1 /* words and table do not agree */
 
 /* Token session. */
 #define PBEAM_SESSION_WORDS 3
@@ -547,52 +552,104 @@ uint64_t pbeam_set_up_granules(uint64_t granules[PBEAM_GRANULES_WORDS], const ui
 
 /*
  * pbeam_delegate (0xC40001B0): a granule goes from Non-secure to Realm.
- * Takes    the boot record, the granule record, the granule table, and the granule's address.
+ * Takes    the boot record, the granule record, the granule table, the Realm words, and the granule's address.
  * Answers  out: x0 PBEAM_X0_OK, or by the first check that fails:
+ *          PBEAM_X0_INVAL     words_len is not the record's granules over 64, rounded up (0 for a record without granules)
  *          PBEAM_X0_UNK       record not up
  *          PBEAM_X0_BAD_ADDR  address not a multiple of 4,096, or on no granule of the record's banks; the granule record one without
  *                             granules; the table of another length than the record's granules: then every address
  *          PBEAM_X0_BAD_PAS   the granule's byte is not PBEAM_GRANULE_NON_SECURE
- * Leaves   on OK that byte as PBEAM_GRANULE_REALM, and every other byte as it was. Refused, the table as it was.
- * Stack    64 bytes; AArch64 0
+ * Leaves   on OK that byte as PBEAM_GRANULE_REALM and its bit in the words set, and every other byte and bit as it was. Refused, table and
+ *          words as they were.
+ * Stack    256 bytes; AArch64 0
  * The byte alone is changed: the change in hardware is the platform's, after an OK.
  */
-PBEAM_NONNULL(1, 2, 6)
+PBEAM_NONNULL(1, 2, 8)
 void pbeam_delegate(const uint64_t state[PBEAM_STATE_WORDS], const uint64_t granules[PBEAM_GRANULES_WORDS], uint8_t *table,
-                    size_t table_len, uint64_t address, uint64_t out[PBEAM_OUT_WORDS]);
+                    size_t table_len, uint64_t *words, size_t words_len, uint64_t address, uint64_t out[PBEAM_OUT_WORDS]);
 
 /*
  * pbeam_undelegate (0xC40001B1): a granule goes from Realm to Non-secure.
- * As pbeam_delegate, with PBEAM_X0_BAD_PAS where the byte is not PBEAM_GRANULE_REALM; on OK it becomes PBEAM_GRANULE_NON_SECURE. Before
- * that check the shared page, address B, is PBEAM_X0_BAD_ADDR whatever its byte: it has to stay Realm.
- * Stack    64 bytes; AArch64 0
+ * As pbeam_delegate, with PBEAM_X0_BAD_PAS where the byte is not PBEAM_GRANULE_REALM; on OK it becomes PBEAM_GRANULE_NON_SECURE, and its
+ * bit is cleared. Before that check the shared page, address B, is PBEAM_X0_BAD_ADDR whatever its byte: it has to stay Realm.
+ * Stack    256 bytes; AArch64 0
  */
-PBEAM_NONNULL(1, 2, 6)
+PBEAM_NONNULL(1, 2, 8)
 void pbeam_undelegate(const uint64_t state[PBEAM_STATE_WORDS], const uint64_t granules[PBEAM_GRANULES_WORDS], uint8_t *table,
-                      size_t table_len, uint64_t address, uint64_t out[PBEAM_OUT_WORDS]);
+                      size_t table_len, uint64_t *words, size_t words_len, uint64_t address, uint64_t out[PBEAM_OUT_WORDS]);
 
 /*
  * pbeam_delegate_list: the granules at a list of addresses go from Non-secure to Realm, one by one in the list's order, up to the first
  *          that is refused. It has no function id: which call of the monitor's brings a list is the platform's.
  * Takes    what pbeam_delegate takes, with a list of addresses (any number, none too) in place of one.
  * Answers  out: x0 PBEAM_X0_OK, or the code that pbeam_delegate gives for the address that is refused; x1 the number of granules done,
- *          also when x0 is a refusal: so x1 is the index of the refused address. x2 0. An empty list is OK with 0, up or not.
- * Leaves   as x1 single calls would: the granules before the refused address are Realm and stay so; no other byte changes. An address
+ *          also when x0 is a refusal: so x1 is the index of the refused address. x2 0. PBEAM_X0_INVAL of the words comes first, for an empty
+ *          list too; then an empty list is OK with 0, up or not.
+ * Leaves   as x1 single calls would: the granules before the refused address are Realm and stay so; no other byte or bit changes. An address
  *          that comes twice is refused with PBEAM_X0_BAD_PAS the second time.
- * Stack    192 bytes; AArch64 0
+ * Stack    256 bytes; AArch64 0
  * The bytes alone are changed: the change in hardware is the platform's, for the first x1 addresses, on a refusal too.
  */
-PBEAM_NONNULL(1, 2, 7)
+PBEAM_NONNULL(1, 2, 9)
 void pbeam_delegate_list(const uint64_t state[PBEAM_STATE_WORDS], const uint64_t granules[PBEAM_GRANULES_WORDS], uint8_t *table,
-                         size_t table_len, const uint64_t *addresses, size_t addresses_len, uint64_t out[PBEAM_OUT_WORDS]);
+                         size_t table_len, uint64_t *words, size_t words_len, const uint64_t *addresses, size_t addresses_len,
+                         uint64_t out[PBEAM_OUT_WORDS]);
 
 /*
  * pbeam_undelegate_list: the same from Realm to Non-secure, each address as pbeam_undelegate takes it.
- * Stack    192 bytes; AArch64 0
+ * Stack    256 bytes; AArch64 0
  */
-PBEAM_NONNULL(1, 2, 7)
+PBEAM_NONNULL(1, 2, 9)
 void pbeam_undelegate_list(const uint64_t state[PBEAM_STATE_WORDS], const uint64_t granules[PBEAM_GRANULES_WORDS], uint8_t *table,
-                           size_t table_len, const uint64_t *addresses, size_t addresses_len, uint64_t out[PBEAM_OUT_WORDS]);
+                           size_t table_len, uint64_t *words, size_t words_len, const uint64_t *addresses, size_t addresses_len,
+                           uint64_t out[PBEAM_OUT_WORDS]);
+
+/* ---- Realm words: a bit beside each byte of the granule table. Granule i is bit i mod 64 of word i / 64, set where its byte is
+ * PBEAM_GRANULE_REALM; the spare bits of the last word are 0. There are as many words as the record's granules over 64, rounded up;
+ * with any other number every function below, and delegation, answers PBEAM_X0_INVAL. Delegation keeps words and table in agreement
+ * where they agreed before; pbeam_realm_build makes them agree. None of these looks at the boot record. ---- */
+
+/*
+ * pbeam_realm_count: how many granules are Realm, from the words alone: a board does not stall over a walk of the table.
+ * Takes    the granule record, the words, and room for a number.
+ * Answers  PBEAM_X0_OK with the number, or PBEAM_X0_INVAL with 0. Set spare bits are not counted.
+ * Stack    32 bytes; AArch64 96
+ */
+PBEAM_NONNULL(1, 4)
+uint64_t pbeam_realm_count(const uint64_t granules[PBEAM_GRANULES_WORDS], const uint64_t *words, size_t words_len, uint64_t number[1]);
+
+/*
+ * pbeam_realm_next: the first Realm granule at or after an index, from the words alone, stopping at the first hit.
+ * Takes    the granule record, the words, the index to begin at, and room for the index found.
+ * Answers  PBEAM_X0_OK with the index; PBEAM_REALM_NONE with 0 where there is none; PBEAM_X0_INVAL with 0, also for an index that is not
+ *          below the record's granules. To go through all: begin at 0, then at the index found + 1, while that is below the granules.
+ * Stack    32 bytes; AArch64 96
+ */
+PBEAM_NONNULL(1, 5)
+uint64_t pbeam_realm_next(const uint64_t granules[PBEAM_GRANULES_WORDS], const uint64_t *words, size_t words_len, uint64_t index,
+                          uint64_t found[1]);
+
+/*
+ * pbeam_realm_agrees: whether the words are those of the table, spare bits too. It walks the table.
+ * Takes    the granule record, the granule table and the words.
+ * Answers  PBEAM_X0_OK where they agree, PBEAM_REALM_DIFFER where they do not, or PBEAM_X0_INVAL, also for a table of another length than
+ *          the record's granules.
+ * Stack    96 bytes; AArch64 96
+ */
+PBEAM_NONNULL(1)
+uint64_t pbeam_realm_agrees(const uint64_t granules[PBEAM_GRANULES_WORDS], const uint8_t *table, size_t table_len, const uint64_t *words,
+                            size_t words_len);
+
+/*
+ * pbeam_realm_build: makes the words of a table. Once, before the first command that takes them; whatever the words held.
+ * Takes    the granule record, the granule table and the words.
+ * Answers  PBEAM_X0_OK, or PBEAM_X0_INVAL, also for a table of another length than the record's granules.
+ * Leaves   on OK the words of the table, spare bits 0. With PBEAM_X0_INVAL the words as they were.
+ * Stack    96 bytes; AArch64 96
+ */
+PBEAM_NONNULL(1)
+uint64_t pbeam_realm_build(const uint64_t granules[PBEAM_GRANULES_WORDS], const uint8_t *table, size_t table_len, uint64_t *words,
+                           size_t words_len);
 
 /*
  * pbeam_realm_key (0xC40001B2): the realm attestation key.
@@ -745,24 +802,25 @@ size_t pbeam_responses(const uint64_t queue[PBEAM_QUEUE_WORDS]);
 
 /*
  * pbeam_call: every command by its function id.
- * Takes    the boot record, session, queue and page; the granule record and the granule table; the realm key;
+ * Takes    the boot record, session, queue and page; the granule record, the granule table and the Realm words; the realm key;
  *          the platform token and the busy flag; the public key of token signing; width = MECIDWidthm1; and call, the registers:
  *            PBEAM_ID_FORWARD x1 err_code; PBEAM_ID_DELEGATE, PBEAM_ID_UNDELEGATE x1 address; PBEAM_ID_REALM_KEY x1 pa, x2 size, x3 curve;
  *            PBEAM_ID_PLATFORM_TOKEN x1 pa, x2 size, x3 c_size; PBEAM_ID_FEATURES x1 index; PBEAM_ID_TOKEN_SIGNING x1 opcode, x2 pa, x3 size,
  *            x4 curve; PBEAM_ID_KEY_UPDATE x1 mecid.
  *          What a command does not need may be of any content, and a slice empty.
  * Answers  out and work as the command. PBEAM_ID_FORWARD: out all zero, work (PBEAM_WORK_FORWARD, err_code), for any boot record. Any
- *          other id: PBEAM_X0_UNK. Every command but PBEAM_ID_FORWARD: PBEAM_X0_UNK while the record is not up.
+ *          other id: PBEAM_X0_UNK. Every command but PBEAM_ID_FORWARD: PBEAM_X0_UNK while the record is not up. The words' number is checked
+ *          before that, by PBEAM_ID_DELEGATE and PBEAM_ID_UNDELEGATE alone: no other id looks at the words.
  * Leaves   what the command leaves; all else as it was. Only PBEAM_ID_PLATFORM_TOKEN reads or writes the session, only
  *          PBEAM_ID_TOKEN_SIGNING the queue.
- * Stack    528 bytes with PBEAM_ID_TOKEN_SIGNING, 416 bytes with any other id; AArch64 432
+ * Stack    640 bytes with PBEAM_ID_TOKEN_SIGNING, 544 bytes with any other id; AArch64 432
  */
-PBEAM_NONNULL(1, 2, 3, 6, 17, 18, 19)
+PBEAM_NONNULL(1, 2, 3, 6, 19, 20, 21)
 void pbeam_call(const uint64_t state[PBEAM_STATE_WORDS], uint64_t session[PBEAM_SESSION_WORDS], uint64_t queue[PBEAM_QUEUE_WORDS],
                 uint8_t *page, size_t page_len, const uint64_t granules[PBEAM_GRANULES_WORDS], uint8_t *table, size_t table_len,
-                const uint8_t *key, size_t key_len, const uint8_t *token, size_t token_len, uint64_t busy, const uint8_t *public_key,
-                size_t public_len, uint64_t width, const uint64_t call[PBEAM_CALL_WORDS], uint64_t out[PBEAM_OUT_WORDS],
-                uint64_t work[PBEAM_WORK_WORDS]);
+                uint64_t *words, size_t words_len, const uint8_t *key, size_t key_len, const uint8_t *token, size_t token_len,
+                uint64_t busy, const uint8_t *public_key, size_t public_len, uint64_t width, const uint64_t call[PBEAM_CALL_WORDS],
+                uint64_t out[PBEAM_OUT_WORDS], uint64_t work[PBEAM_WORK_WORDS]);
 
 #ifdef __cplusplus
 }

@@ -168,6 +168,8 @@ typedef struct {
     pbeam_granules_t granules; /* pbeam_context_set_up_granules, before the first command; all zero: no granule */
     uint8_t *table;          /* a byte a granule of its banks; NULL: no granule */
     size_t table_count;
+    uint64_t *words;         /* a bit a granule; pbeam_context_build_words, before the first command; NULL: none */
+    size_t words_count;
     pbeam_bytes_t realm_key;
     pbeam_bytes_t token;     /* see "The platform token" in potterbeam.h */
     pbeam_bytes_t public_key;
@@ -710,6 +712,43 @@ static inline uint64_t pbeam_context_set_up_granules(pbeam_context_t *context, c
     return pbeam_set_up_granules(context->granules.words, banks.at, banks.length, context->table == NULL ? 0 : context->table_count);
 }
 
+/* How many Realm words a table of so many granules has. */
+static inline size_t pbeam_words_for(size_t granules)
+{
+    return granules / PBEAM_REALM_WORD_GRANULES + (granules % PBEAM_REALM_WORD_GRANULES != 0);
+}
+
+/* pbeam_realm_build: the context's Realm words, from its granule table. Answers PBEAM_X0_OK, or PBEAM_X0_INVAL with the words as they
+ * were. */
+PBEAM_NONNULL(1)
+static inline uint64_t pbeam_context_build_words(pbeam_context_t *context)
+{
+    return pbeam_realm_build(context->granules.words, context->table, context->table == NULL ? 0 : context->table_count,
+                             context->words, context->words == NULL ? 0 : context->words_count);
+}
+
+/* pbeam_realm_agrees: whether the context's words are those of its table. Answers as pbeam_realm_agrees. */
+PBEAM_NONNULL(1)
+static inline uint64_t pbeam_context_words_agree(const pbeam_context_t *context)
+{
+    return pbeam_realm_agrees(context->granules.words, context->table, context->table == NULL ? 0 : context->table_count,
+                              context->words, context->words == NULL ? 0 : context->words_count);
+}
+
+/* pbeam_realm_count: how many granules of the context are Realm. Answers as pbeam_realm_count. */
+PBEAM_NONNULL(1, 2)
+static inline uint64_t pbeam_context_realm_count(const pbeam_context_t *context, uint64_t *number)
+{
+    return pbeam_realm_count(context->granules.words, context->words, context->words == NULL ? 0 : context->words_count, number);
+}
+
+/* pbeam_realm_next: the first Realm granule of the context at or after an index. Answers as pbeam_realm_next. */
+PBEAM_NONNULL(1, 3)
+static inline uint64_t pbeam_context_realm_next(const pbeam_context_t *context, uint64_t index, uint64_t *found)
+{
+    return pbeam_realm_next(context->granules.words, context->words, context->words == NULL ? 0 : context->words_count, index, found);
+}
+
 /* pbeam_call: one command. */
 PBEAM_NONNULL(1, 2, 3, 4)
 static inline void pbeam_context_call(pbeam_context_t *context, const pbeam_call_t *call, pbeam_registers_t *out, pbeam_work_t *work)
@@ -719,7 +758,8 @@ static inline void pbeam_context_call(pbeam_context_t *context, const pbeam_call
     const pbeam_bytes_t public_key = pbeam_bytes(context->public_key.at, context->public_key.length);
     pbeam_call(context->record.words, context->session.words, context->queue.words,
                context->page == NULL ? NULL : context->page->bytes, context->page == NULL ? 0 : PBEAM_PAGE_BYTES,
-               context->granules.words, context->table, context->table == NULL ? 0 : context->table_count, realm_key.at,
+               context->granules.words, context->table, context->table == NULL ? 0 : context->table_count, context->words,
+               context->words == NULL ? 0 : context->words_count, realm_key.at,
                realm_key.length, token.at, token.length, context->busy, public_key.at, public_key.length, context->mecid_width,
                call->words, out->words, work->words);
 }
@@ -731,7 +771,8 @@ static inline void pbeam_context_delegate_list(pbeam_context_t *context, const u
                                                pbeam_registers_t *out)
 {
     pbeam_delegate_list(context->record.words, context->granules.words, context->table,
-                        context->table == NULL ? 0 : context->table_count, addresses, addresses == NULL ? 0 : count, out->words);
+                        context->table == NULL ? 0 : context->table_count, context->words,
+                        context->words == NULL ? 0 : context->words_count, addresses, addresses == NULL ? 0 : count, out->words);
 }
 
 PBEAM_NONNULL(1, 4)
@@ -739,7 +780,8 @@ static inline void pbeam_context_undelegate_list(pbeam_context_t *context, const
                                                  pbeam_registers_t *out)
 {
     pbeam_undelegate_list(context->record.words, context->granules.words, context->table,
-                          context->table == NULL ? 0 : context->table_count, addresses, addresses == NULL ? 0 : count, out->words);
+                          context->table == NULL ? 0 : context->table_count, context->words,
+                          context->words == NULL ? 0 : context->words_count, addresses, addresses == NULL ? 0 : count, out->words);
 }
 
 /* pbeam_challenge: the challenge of a call that starts a token session; (0, 0) for any other call. Answers as pbeam_challenge. */

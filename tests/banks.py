@@ -1,6 +1,7 @@
-"""The granule record of several banks, as docs/02-change-requests.md (E2) has it. A record is given
-by its first words: how many banks, then base and size of each; the words behind those given are 0.
-All arithmetic is on plain numbers."""
+"""The granule record of several banks and the realm words beside a table, as
+docs/02-change-requests.md (E2, E6) has them. A record is given by its first words: how many banks,
+then base and size of each; the words behind those given are 0. All arithmetic is on plain numbers.
+"""
 
 WORDS = 33
 MOST = 16
@@ -35,10 +36,12 @@ def words(*numbers):
     return b"".join(number.to_bytes(8, "little") for number in numbers)
 
 
-def stored(record):
-    """A record as a case's file has it: the number of words given, then these."""
+def stored(record, lent=None):
+    """A record as a case's file has it, the number of words given, then these; and behind it, if
+    they are lent, the realm words in the same way."""
     assert len(record) <= WORDS
-    return words(len(record), *record)
+    behind = b"" if lent is None else words(len(lent), *lent)
+    return words(len(record), *record) + behind
 
 
 def whole(record):
@@ -74,6 +77,47 @@ def granules(record):
     if banks is None or faults(banks):
         return []
     return [range(base, base + size, 4096) for base, size in banks]
+
+
+def granules_of(record):
+    """How many granules a record has."""
+    return sum(map(len, granules(record)))
+
+
+def needed(n):
+    """02, E6: how many realm words so many granules have, 64 a word."""
+    return n // 64 + (n % 64 > 0)
+
+
+def fit(record, lent):
+    """02, E6: whether realm words are as many as the record's granules need."""
+    return len(lent) == needed(granules_of(record))
+
+
+def realm_words(table):
+    """02, E6: the words of a table. Granule i is bit i mod 64 of word i / 64, set where its byte is
+    1; the spare bits are 0."""
+    lent = [0] * needed(len(table))
+    for i, byte in enumerate(table):
+        lent[i // 64] += (byte == 1) << i % 64
+    return tuple(lent)
+
+
+def usual_words(record, table):
+    """As many words as the record needs: those of the table, as far as they go."""
+    n = needed(granules_of(record))
+    return (*realm_words(table), *[0] * n)[:n]
+
+
+def put_bit(lent, i, bit):
+    """The words with granule i's bit written."""
+    word = lent[i // 64] & ~(1 << i % 64) | bit << i % 64
+    return (*lent[:i // 64], word, *lent[i // 64 + 1:])
+
+
+def words_line(lent):
+    """Realm words as the programs print them."""
+    return "words" + "".join(f" {word:016x}" for word in lent)
 
 
 def granule_at(record, n, address):

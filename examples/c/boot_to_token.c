@@ -2,13 +2,14 @@
  * From boot to a signed token: EL3 firmware on one side, the monitor (RMM) on the other, the page between them.
  *
  *   1  EL3 writes a manifest with two banks and a console, and sets up its granule record from what the manifest shows: the table has a byte
- *      for each granule of the two.
+ *      for each granule of the two. From the table it builds the Realm words, a bit for each granule.
  *   2  EL3 enters the monitor: cold boot on CPU 0, with so many kept bytes that no command overwrites the manifest. The monitor lists what
  *      the manifest shows, and reports with RMM_BOOT_COMPLETE.
  *   3  Warm boot on CPU 1: the monitor reads the manifest again.
  *   4  The monitor delegates a granule, and tries the same one again: a refusal. It delegates one of the second bank; an address in the hole
  *      between the banks is refused. EL3 hands over 200 granules of guest memory in one call; a second list runs into the granule that is
- *      Realm already, and says how many it did before.
+ *      Realm already, and says how many it did before. Before and after, the words tell EL3 how many granules are Realm and which is the
+ *      first, without a walk over the table.
  *   5  It draws the platform token, 100 bytes through a buffer of 64. The platform takes its time: AGAIN, and the monitor asks again. In
  *      mid-session the monitor starts anew, is told AGAIN, and goes on: it still gets the rest of the first token. Then it gets the new one.
  *      A buffer in the kept bytes is refused, and the manifest is still there.
@@ -51,12 +52,13 @@ struct token {
 static struct {
     pbeam_context_t context; /* EL3's own record is in it: B, the agreed minor and the kept bytes of every command come from there */
     uint8_t table[GRANULES];
+    uint64_t words[GRANULES / PBEAM_REALM_WORD_GRANULES]; /* GRANULES is a multiple of 64 */
     struct token tokens[2];  /* the one that a session is lent, and one to make the next */
     size_t lent;             /* which of them is lent */
     uint64_t non_secure[5];  /* x0 to x4 of the Non-secure world */
 } el3;
 
-/* A spin lock on a board: session, queue, table and page are used by one call at a time. */
+/* A spin lock on a board: session, queue, table, words and page are used by one call at a time. */
 static void el3_lock(void) {}
 static void el3_unlock(void) {}
 
@@ -205,6 +207,30 @@ static bool el3_set_up_granules(void)
     printf("EL3: set up %" PRIu64 " banks, %" PRIu64 " granules: %s\n", el3.context.granules.words[PBEAM_GRANULES_COUNT],
            pbeam_view_granules(&page, &view), pbeam_x0_text(x0));
     return x0 == PBEAM_X0_OK;
+}
+
+/* The Realm words of the table, as it is now: a bit for each granule. From here on every command keeps them so. */
+static bool el3_build_words(void)
+{
+    const uint64_t x0 = pbeam_context_build_words(&el3.context);
+    printf("EL3: build %zu Realm words: %s\n", el3.context.words_count, pbeam_x0_text(x0));
+    return x0 == PBEAM_X0_OK;
+}
+
+/* How many granules are Realm, and the first of them from granule 3 on: both from the words alone. Answers whether there are so many. */
+static bool el3_count_realm(uint64_t want)
+{
+    uint64_t number, next, x0;
+    el3_lock();
+    (void)pbeam_context_realm_count(&el3.context, &number); /* the words fit: they were built */
+    x0 = pbeam_context_realm_next(&el3.context, 3, &next);
+    el3_unlock();
+    printf("EL3: %" PRIu64 " granules are Realm, ", number);
+    if (x0 == PBEAM_X0_OK)
+        printf("from granule 3 on the first is %" PRIu64 "\n", next);
+    else
+        printf("none from granule 3 on\n");
+    return number == want;
 }
 
 /* Guest memory goes to Realm, so many granules from one on, in one call. It has no function id of its own: a board gives it one of the
@@ -428,22 +454,28 @@ static bool boot(void)
     el3.context.page = &page;
     el3.context.table = el3.table;
     el3.context.table_count = GRANULES;
+    el3.context.words = el3.words;
+    el3.context.words_count = pbeam_words_for(GRANULES);
     el3.context.mecid_width = PBEAM_WIDTH_MOST;
     /* This board has no realm key and no public key: both stay empty. */
-    return el3_write_manifest() && el3_set_up_granules() && el3_boot_first_cpu() && el3_boot_next_cpu(1);
+    return el3_write_manifest() && el3_set_up_granules() && el3_build_words() && el3_boot_first_cpu() && el3_boot_next_cpu(1);
 }
 
 int main(void)
 {
     const uint64_t granule = MEMORY + 2 * PBEAM_GRANULE_BYTES;
     uint64_t done;
-    if (!boot())
+    if (!boot() || !el3_count_realm(0))
         return 1;
     if (monitor_delegate(granule) != E_RMM_OK || monitor_delegate(granule) != E_RMM_BAD_PAS) /* it is Realm already */
         return 1;
     if (monitor_delegate(HIGH) != E_RMM_OK || monitor_delegate(MEMORY + MEMORY_BYTES) != E_RMM_BAD_ADDR) /* the hole behind the first bank */
         return 1;
+    if (!el3_count_realm(2))
+        return 1;
     if (!el3_hand_over(300, &done) || el3_hand_over(0, &done) || done != 2) /* granule 2 is Realm already */
+        return 1;
+    if (!el3_count_realm(2 + GUEST_GRANULES + 2) || pbeam_context_words_agree(&el3.context) != PBEAM_X0_OK)
         return 1;
     if (!monitor_draw_token(0x41, 0x91) || !monitor_draw_token(0x91, 0))
         return 1;

@@ -37,6 +37,7 @@ static volatile uint64_t second_done; /* it has booted */
 static struct {
     pbeam_context_t kit; /* EL3's own boot record is in it */
     uint8_t table[GRANULES];
+    uint64_t words[(GRANULES + 63) / 64]; /* a bit a granule of the table */
     struct context worlds[CPUS][WORLDS];
     uint64_t most_stack, overflows;
 } el3;
@@ -110,7 +111,8 @@ static bool write_manifest(void)
     return refusal == PBEAM_WRITE_PAGE;
 }
 
-/* The granule record, of the banks that the manifest shows. Of a refused page the view shows no bank, which is refused here. */
+/* The granule record, of the banks that the manifest shows, and the Realm words of the table. Of a refused page the view shows no bank, which
+ * is refused here. */
 static bool set_up_granules(void)
 {
     pbeam_view_t view;
@@ -119,7 +121,7 @@ static bool set_up_granules(void)
     x0 = pbeam_context_set_up_granules(&el3.kit, el3.kit.page, &view);
     say("EL3: sets up %d banks, %d granules: %s\n", pbeam_view_count(el3.kit.page, &view, PBEAM_DRAM),
         pbeam_view_granules(el3.kit.page, &view), pbeam_x0_text(x0));
-    return x0 == PBEAM_X0_OK;
+    return x0 == PBEAM_X0_OK && pbeam_context_build_words(&el3.kit) == PBEAM_X0_OK;
 }
 
 /* A world's first entry. */
@@ -163,6 +165,8 @@ static struct context *first_cpu(void)
     el3.kit.page = (pbeam_page_t *)PAGE;
     el3.kit.table = el3.table;
     el3.kit.table_count = GRANULES;
+    el3.kit.words = el3.words;
+    el3.kit.words_count = pbeam_words_for(GRANULES);
     platform_start(&el3.kit);
     if (!write_manifest() || !set_up_granules())
         end(EXIT_NO_BOOT);
@@ -221,14 +225,29 @@ static struct context *boot_complete(uint64_t cpu, struct context *from)
 
 /* ---- SMCs ---- */
 
+/* How many granules are Realm, from the words alone, and the first of them. */
+static void say_realm(void)
+{
+    uint64_t number, first;
+    (void)pbeam_context_realm_count(&el3.kit, &number); /* the words fit: they were built */
+    if (pbeam_context_realm_next(&el3.kit, 0, &first) == PBEAM_X0_OK)
+        say("EL3: %d granules are Realm, the first is granule %d\n", number, first);
+    else
+        say("EL3: %d granules are Realm\n", number);
+}
+
 /* The hardware's part, after a command. */
 static void act(const pbeam_call_t *call, const pbeam_registers_t *out, const pbeam_work_t *work)
 {
     const uint64_t id = call->words[PBEAM_CALL_ID], granule = call->words[PBEAM_CALL_X1];
-    if (pbeam_registers_code(out) == E_RMM_OK && id == RMM_GTSI_DELEGATE)
+    if (pbeam_registers_code(out) == E_RMM_OK && id == RMM_GTSI_DELEGATE) {
         protection_to_realm(granule);
-    if (pbeam_registers_code(out) == E_RMM_OK && id == RMM_GTSI_UNDELEGATE)
+        say_realm();
+    }
+    if (pbeam_registers_code(out) == E_RMM_OK && id == RMM_GTSI_UNDELEGATE) {
         protection_to_non_secure(granule);
+        say_realm();
+    }
     if (pbeam_work_is(work, PBEAM_WORK_REPROGRAM))
         say("EL3: a new key for mecid %d\n", pbeam_work_value(work));
 }
@@ -288,6 +307,10 @@ _Noreturn static void off(uint64_t wrong)
     if (settings() & SET_STACK)
         say("EL3: stack: %d bytes at most\n", el3.most_stack);
     say("EL3: off; %d wrong, %d over the stack of %d bytes\n", wrong, el3.overflows, (uint64_t)EL3_STACK);
+    if (pbeam_context_words_agree(&el3.kit) != PBEAM_X0_OK) {
+        say("EL3: the Realm words are not those of the table\n");
+        end(EXIT_WRONG);
+    }
     if (wrong != 0 || el3.overflows != 0)
         end(EXIT_WRONG);
     end(pbeam_record_is_up(&el3.kit.record) ? EXIT_GOOD : EXIT_NO_BOOT);

@@ -245,28 +245,30 @@ fn compare_granules(count: u64) {
     let (Up { image, .. }, (record, addresses)) = (Up::new(), banks(count));
     let [address, length] = hidden([addresses[500], 512]);
     let [mut ours, mut theirs] = [(); 2].map(|()| vec![0; length as usize]);
+    let [mut words, mut their_words] = [(); 2].map(|()| vec![0; length as usize / 64]);
     compare(
         &format!("delegate, undelegate, {}", several(count)),
         2,
         side(|| {
             let mut out = [0; 3];
-            Kit::delegate(&image, &record, &mut ours, address, &mut out);
+            Kit::delegate(&image, &record, &mut ours, &mut words, address, &mut out);
             see(out[0]);
-            Kit::undelegate(&image, &record, &mut ours, address, &mut out);
+            Kit::undelegate(&image, &record, &mut ours, &mut words, address, &mut out);
             see(out[0]);
         }),
         vec![(
             "in place",
             side(|| {
                 let mut out = [0; 3];
-                inplace::delegate(&image, &record, &mut theirs, address, &mut out);
+                let words = &mut their_words;
+                inplace::delegate(&image, &record, &mut theirs, words, address, &mut out);
                 see(out[0]);
-                inplace::undelegate(&image, &record, &mut theirs, address, &mut out);
+                inplace::undelegate(&image, &record, &mut theirs, words, address, &mut out);
                 see(out[0]);
             }),
         )],
     );
-    assert_eq!(ours, theirs);
+    assert_eq!((ours, words), (theirs, their_words));
 }
 
 fn several(count: u64) -> String {
@@ -279,13 +281,15 @@ fn compare_lists(count: u64) {
     let [length] = hidden([512]);
     let list: Vec<u64> = (0..200).map(|i| addresses[2 * i + i / 2]).collect();
     let [mut ours, mut theirs, mut singly] = [(); 3].map(|()| vec![0; length as usize]);
+    let [mut words, mut their_words, mut single_words] =
+        [(); 3].map(|()| vec![0; length as usize / 64]);
     compare(
         &format!("delegate a list of 200, {}", several(count)),
         1,
         side(|| {
             let mut out = [0; 3];
             ours.fill(0);
-            Kit::delegate_list(&image, &record, &mut ours, &list, &mut out);
+            Kit::delegate_list(&image, &record, &mut ours, &mut words, &list, &mut out);
             see(out[1]);
         }),
         vec![
@@ -294,7 +298,8 @@ fn compare_lists(count: u64) {
                 side(|| {
                     let mut out = [0; 3];
                     theirs.fill(0);
-                    inplace::delegate_list(&image, &record, &mut theirs, &list, &mut out);
+                    let words = &mut their_words;
+                    inplace::delegate_list(&image, &record, &mut theirs, words, &list, &mut out);
                     see(out[1]);
                 }),
             ),
@@ -304,7 +309,8 @@ fn compare_lists(count: u64) {
                     let mut out = [0; 3];
                     singly.fill(0);
                     for &address in &list {
-                        Kit::delegate(&image, &record, &mut singly, address, &mut out);
+                        let words = &mut single_words;
+                        Kit::delegate(&image, &record, &mut singly, words, address, &mut out);
                         see(out[0]);
                     }
                 }),
@@ -313,6 +319,7 @@ fn compare_lists(count: u64) {
     );
     assert_eq!(ours, theirs);
     assert_eq!(ours, singly);
+    assert!(words == their_words && words == single_words);
     assert_eq!(ours.iter().filter(|&&byte| byte == 1).count(), 200);
 }
 
@@ -339,6 +346,63 @@ fn compare_set_up(count: u64) {
     );
     assert_eq!(ours, theirs);
     assert_eq!(ours, record);
+}
+
+/// The Realm words of 16 GiB in one bank: how many granules are Realm, and the next one behind an empty stretch, against Rust with
+/// `count_ones` and `trailing_zeros`; the count also against a walk over the table's bytes.
+fn compare_realm_words() {
+    let [granules, base] = hidden([(16 << 30) / 4096, 0x8_8000_0000]);
+    let mut record = [0; 33];
+    record[..3].copy_from_slice(&[1, base, 4096 * granules]);
+    let mut table: Vec<u8> = (0..granules).map(|i| u8::from(i * i % 7 < 3)).collect();
+    let mut words = vec![0; granules as usize / 64];
+    assert_eq!(Kit::realm_build(&record, &table, &mut words), 0);
+    let [mut ours, mut theirs] = [[0]; 2];
+    compare(
+        "count the Realm granules of 16 GiB",
+        1,
+        side(|| {
+            assert_eq!(Kit::realm_count(&record, &words, &mut ours), 0);
+            see(ours[0]);
+        }),
+        vec![
+            (
+                "in place",
+                side(|| {
+                    assert_eq!(inplace::realm_count(&record, &words, &mut theirs), 0);
+                    see(theirs[0]);
+                }),
+            ),
+            ("a walk over the table", side(|| see(walked(&table)))),
+        ],
+    );
+    assert_eq!((ours, ours[0]), (theirs, walked(&table)));
+    table.fill(0);
+    table[granules as usize - 1] = 1;
+    assert_eq!(Kit::realm_build(&record, &table, &mut words), 0);
+    let [index] = hidden([1]);
+    compare(
+        "the next one, 16 GiB of none before",
+        1,
+        side(|| {
+            assert_eq!(Kit::realm_next(&record, &words, index, &mut ours), 0);
+            see(ours[0]);
+        }),
+        vec![(
+            "in place",
+            side(|| {
+                assert_eq!(inplace::realm_next(&record, &words, index, &mut theirs), 0);
+                see(theirs[0]);
+            }),
+        )],
+    );
+    assert_eq!((ours, ours[0]), (theirs, granules - 1));
+}
+
+/// What the words spare a board: how many bytes of the table are 1.
+#[inline(never)]
+fn walked(table: &[u8]) -> u64 {
+    table.iter().filter(|&&byte| byte == 1).count() as u64
 }
 
 // ---- Token ----
@@ -548,6 +612,7 @@ struct Desk {
     page: Box<Page>,
     granules: GranulesImage,
     table: Vec<u8>,
+    words: Vec<u64>,
     key: Vec<u8>,
     token: Vec<u8>,
     busy: u64,
@@ -568,6 +633,7 @@ impl Desk {
             page,
             granules: banks(1).0,
             table: vec![0; table as usize],
+            words: vec![0; table as usize / 64],
             key: vec![0x5A; key as usize],
             token: vec![0xA5; token as usize],
             busy,
@@ -589,6 +655,8 @@ impl Desk {
                 &self.granules,
                 self.table.as_mut_ptr(),
                 self.table.len(),
+                self.words.as_mut_ptr(),
+                self.words.len(),
                 self.key.as_ptr(),
                 self.key.len(),
                 self.token.as_ptr(),
@@ -613,6 +681,7 @@ impl Desk {
             &mut self.page.0,
             &self.granules,
             &mut self.table,
+            &mut self.words,
             &self.key,
             &self.token,
             self.busy,
@@ -1071,6 +1140,7 @@ fn compare_all_granules() {
         compare_lists(count);
         compare_set_up(count);
     }
+    compare_realm_words();
 }
 
 fn compare_pages() {

@@ -26,6 +26,8 @@ pub struct Lent<'a> {
     pub page: &'a mut [u8],
     pub granules: &'a GranulesImage,
     pub table: &'a mut [u8],
+    /// A bit a granule.
+    pub words: &'a mut [u64],
     pub key: &'a [u8],
     pub token: &'a [u8],
     pub busy: u64,
@@ -63,6 +65,7 @@ pub trait Exports {
         state: &RecordImage,
         granules: &GranulesImage,
         table: &mut [u8],
+        words: &mut [u64],
         at: u64,
         out: &mut Registers,
     );
@@ -70,6 +73,7 @@ pub trait Exports {
         state: &RecordImage,
         granules: &GranulesImage,
         table: &mut [u8],
+        words: &mut [u64],
         at: u64,
         out: &mut Registers,
     );
@@ -77,6 +81,7 @@ pub trait Exports {
         state: &RecordImage,
         granules: &GranulesImage,
         table: &mut [u8],
+        words: &mut [u64],
         addresses: &[u64],
         out: &mut Registers,
     );
@@ -84,9 +89,21 @@ pub trait Exports {
         state: &RecordImage,
         granules: &GranulesImage,
         table: &mut [u8],
+        words: &mut [u64],
         addresses: &[u64],
         out: &mut Registers,
     );
+
+    /// How many Realm granules the words tell of, in `number`. Answers x0: OK, or INVAL with a 0.
+    fn realm_count(granules: &GranulesImage, words: &[u64], number: &mut [u64; 1]) -> u64;
+    /// The first Realm granule at or after an index, in `found`. Answers x0: OK, or INVAL, or 1 for none, both with a 0.
+    fn realm_next(granules: &GranulesImage, words: &[u64], index: u64, found: &mut [u64; 1])
+        -> u64;
+    /// Whether words and table agree: 0 yes, 1 no, or x0 of INVAL.
+    fn realm_agrees(granules: &GranulesImage, table: &[u8], words: &[u64]) -> u64;
+    /// Makes the words of a table. Answers x0: OK, or INVAL with the words as they were.
+    fn realm_build(granules: &GranulesImage, table: &[u8], words: &mut [u64]) -> u64;
+
     /// x: pa, size, curve.
     fn realm_key(
         state: &RecordImage,

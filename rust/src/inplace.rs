@@ -44,6 +44,7 @@ pub fn call(
     page: &mut [u8],
     granules: &GranulesImage,
     table: &mut [u8],
+    words: &mut [u64],
     key: &[u8],
     token: &[u8],
     busy: u64,
@@ -64,8 +65,8 @@ pub fn call(
             *work = [1, mecid];
             [0; 2]
         }),
-        DELEGATE => moved(state, granules, table, x1, 0),
-        UNDELEGATE => moved(state, granules, table, x1, 1),
+        DELEGATE => moved(state, granules, table, words, x1, 0),
+        UNDELEGATE => moved(state, granules, table, words, x1, 1),
         REALM_KEY => realm_key(record, page, key, x1, x2, x3),
         PLAT_TOKEN => send(state, session, page, token, busy, [x1, x2, x3]),
         FEATURES => features(record, x1),
@@ -115,10 +116,11 @@ pub fn delegate(
     state: &RecordImage,
     granules: &GranulesImage,
     table: &mut [u8],
+    words: &mut [u64],
     at: u64,
     out: &mut Registers,
 ) {
-    *out = registers(Answer::from(moved(state, granules, table, at, 0)));
+    *out = registers(Answer::from(moved(state, granules, table, words, at, 0)));
 }
 
 #[inline(never)]
@@ -126,10 +128,11 @@ pub fn undelegate(
     state: &RecordImage,
     granules: &GranulesImage,
     table: &mut [u8],
+    words: &mut [u64],
     at: u64,
     out: &mut Registers,
 ) {
-    *out = registers(Answer::from(moved(state, granules, table, at, 1)));
+    *out = registers(Answer::from(moved(state, granules, table, words, at, 1)));
 }
 
 #[inline(never)]
@@ -137,10 +140,11 @@ pub fn delegate_list(
     state: &RecordImage,
     granules: &GranulesImage,
     table: &mut [u8],
+    words: &mut [u64],
     list: &[u64],
     out: &mut Registers,
 ) {
-    moved_list(state, granules, table, list, 0, out);
+    moved_list(state, granules, table, words, list, 0, out);
 }
 
 #[inline(never)]
@@ -148,10 +152,11 @@ pub fn undelegate_list(
     state: &RecordImage,
     granules: &GranulesImage,
     table: &mut [u8],
+    words: &mut [u64],
     list: &[u64],
     out: &mut Registers,
 ) {
-    moved_list(state, granules, table, list, 1, out);
+    moved_list(state, granules, table, words, list, 1, out);
 }
 
 /// The set-up of a record from the bytes of banks.
@@ -180,29 +185,38 @@ fn moved(
     state: &RecordImage,
     granules: &GranulesImage,
     table: &mut [u8],
+    words: &mut [u64],
     at: u64,
     from: u8,
 ) -> Outcome {
+    let (count, place) = pass(granules, at);
+    if !fit(count, words) {
+        return Err(Error::Inval);
+    }
     if state[0] != 1 {
         return Err(Error::Unk);
     }
-    if at % 4096 != 0 || is_shared(state, at, from) {
+    if at % 4096 != 0 || count != table.len() as u64 || is_shared(state, at, from) {
         return Err(Error::BadAddr);
     }
-    let (count, place) = pass(granules, at);
-    if count != table.len() as u64 {
-        return Err(Error::BadAddr);
-    }
-    turned(table, place, from)
+    turned(table, words, place, from)
+}
+
+/// Whether there are so many words as granules ask for.
+#[inline]
+fn fit(granules: u64, words: &[u64]) -> bool {
+    (granules + 63) / 64 == words.len() as u64
 }
 
 #[inline]
-fn turned(table: &mut [u8], place: u64, from: u8) -> Outcome {
+fn turned(table: &mut [u8], words: &mut [u64], place: u64, from: u8) -> Outcome {
     let byte = table.get_mut(place as usize).ok_or(Error::BadAddr)?;
     if *byte != from {
         return Err(Error::BadPas);
     }
     *byte = 1 - from;
+    let (word, bit) = (&mut words[place as usize / 64], place % 64);
+    *word = *word & !(1 << bit) | u64::from(1 - from) << bit;
     Ok([0; 2])
 }
 
@@ -212,11 +226,17 @@ fn moved_list(
     state: &RecordImage,
     granules: &GranulesImage,
     table: &mut [u8],
+    words: &mut [u64],
     list: &[u64],
     from: u8,
     out: &mut Registers,
 ) {
     *out = [0; 3];
+    let (count, _) = pass(granules, 0);
+    if !fit(count, words) {
+        out[0] = Answer::from(Err(Error::Inval)).x0;
+        return;
+    }
     if list.is_empty() {
         return;
     }
@@ -224,7 +244,6 @@ fn moved_list(
         out[0] = Answer::from(Err(Error::Unk)).x0;
         return;
     }
-    let (count, _) = pass(granules, 0);
     let banks = match count == table.len() as u64 {
         true => banks_of(granules).unwrap_or(&[]),
         false => &[],
@@ -234,7 +253,7 @@ fn moved_list(
             true => NOWHERE,
             false => find(banks, at),
         };
-        if let Err(error) = turned(table, place, from) {
+        if let Err(error) = turned(table, words, place, from) {
             *out = [Answer::from(Err(error)).x0, done as u64, 0];
             return;
         }
@@ -294,6 +313,55 @@ fn find(banks: &[u64], at: u64) -> u64 {
         before += bank[1] / 4096;
     }
     NOWHERE
+}
+
+// ---- Realm words ----
+
+/// How many Realm granules the words tell of.
+#[inline(never)]
+pub fn realm_count(granules: &GranulesImage, words: &[u64], number: &mut [u64; 1]) -> u64 {
+    let (granules, _) = pass(granules, 0);
+    if !fit(granules, words) {
+        number[0] = 0;
+        return Answer::from(Err(Error::Inval)).x0;
+    }
+    let (whole, last) = words.split_at((granules / 64) as usize);
+    let ones = |word: &u64| u64::from(word.count_ones());
+    let spare = u64::MAX << (granules % 64);
+    number[0] = whole.iter().map(ones).sum::<u64>();
+    number[0] += last.first().map_or(0, |word| ones(&(word & !spare)));
+    0
+}
+
+/// The first Realm granule at or after an index; 1 if there is none.
+#[inline(never)]
+pub fn realm_next(
+    granules: &GranulesImage,
+    words: &[u64],
+    index: u64,
+    found: &mut [u64; 1],
+) -> u64 {
+    let (granules, _) = pass(granules, 0);
+    found[0] = 0;
+    if !fit(granules, words) || index >= granules {
+        return Answer::from(Err(Error::Inval)).x0;
+    }
+    let first = (index / 64) as usize;
+    let mut bits = words[first] & u64::MAX << (index % 64);
+    let mut at = first;
+    while bits == 0 {
+        at += 1;
+        match words.get(at) {
+            Some(&word) => bits = word,
+            None => return 1,
+        }
+    }
+    let hit = 64 * at as u64 + u64::from(bits.trailing_zeros());
+    if hit >= granules {
+        return 1;
+    }
+    found[0] = hit;
+    0
 }
 
 // ---- Platform token ----

@@ -101,6 +101,8 @@ pub mod ffi {
             granules: *const GranulesImage,
             table: *mut u8,
             table_len: usize,
+            words: *mut u64,
+            words_len: usize,
             address: u64,
             out: *mut Registers,
         );
@@ -109,6 +111,8 @@ pub mod ffi {
             granules: *const GranulesImage,
             table: *mut u8,
             table_len: usize,
+            words: *mut u64,
+            words_len: usize,
             address: u64,
             out: *mut Registers,
         );
@@ -117,6 +121,8 @@ pub mod ffi {
             granules: *const GranulesImage,
             table: *mut u8,
             table_len: usize,
+            words: *mut u64,
+            words_len: usize,
             addresses: *const u64,
             addresses_len: usize,
             out: *mut Registers,
@@ -126,10 +132,39 @@ pub mod ffi {
             granules: *const GranulesImage,
             table: *mut u8,
             table_len: usize,
+            words: *mut u64,
+            words_len: usize,
             addresses: *const u64,
             addresses_len: usize,
             out: *mut Registers,
         );
+        pub fn pbeam_realm_count(
+            granules: *const GranulesImage,
+            words: *const u64,
+            words_len: usize,
+            number: *mut [u64; 1],
+        ) -> u64;
+        pub fn pbeam_realm_next(
+            granules: *const GranulesImage,
+            words: *const u64,
+            words_len: usize,
+            index: u64,
+            found: *mut [u64; 1],
+        ) -> u64;
+        pub fn pbeam_realm_agrees(
+            granules: *const GranulesImage,
+            table: *const u8,
+            table_len: usize,
+            words: *const u64,
+            words_len: usize,
+        ) -> u64;
+        pub fn pbeam_realm_build(
+            granules: *const GranulesImage,
+            table: *const u8,
+            table_len: usize,
+            words: *mut u64,
+            words_len: usize,
+        ) -> u64;
         pub fn pbeam_realm_key(
             state: *const RecordImage,
             page: *mut u8,
@@ -202,6 +237,8 @@ pub mod ffi {
             granules: *const GranulesImage,
             table: *mut u8,
             table_len: usize,
+            words: *mut u64,
+            words_len: usize,
             key: *const u8,
             key_len: usize,
             token: *const u8,
@@ -354,11 +391,13 @@ impl Exports for Kit {
         state: &RecordImage,
         granules: &GranulesImage,
         table: &mut [u8],
+        words: &mut [u64],
         at: u64,
         out: &mut Registers,
     ) {
         let (table, table_len) = lend_mut(table);
-        unsafe { ffi::pbeam_delegate(state, granules, table, table_len, at, out) }
+        let (words, words_len) = lend_mut(words);
+        unsafe { ffi::pbeam_delegate(state, granules, table, table_len, words, words_len, at, out) }
     }
 
     #[inline]
@@ -366,11 +405,15 @@ impl Exports for Kit {
         state: &RecordImage,
         granules: &GranulesImage,
         table: &mut [u8],
+        words: &mut [u64],
         at: u64,
         out: &mut Registers,
     ) {
         let (table, table_len) = lend_mut(table);
-        unsafe { ffi::pbeam_undelegate(state, granules, table, table_len, at, out) }
+        let (words, words_len) = lend_mut(words);
+        unsafe {
+            ffi::pbeam_undelegate(state, granules, table, table_len, words, words_len, at, out)
+        }
     }
 
     #[inline]
@@ -378,13 +421,17 @@ impl Exports for Kit {
         state: &RecordImage,
         granules: &GranulesImage,
         table: &mut [u8],
+        words: &mut [u64],
         addresses: &[u64],
         out: &mut Registers,
     ) {
         let (table, table_len) = lend_mut(table);
+        let (words, words_len) = lend_mut(words);
         let (addresses, length) = lend(addresses);
         unsafe {
-            ffi::pbeam_delegate_list(state, granules, table, table_len, addresses, length, out)
+            ffi::pbeam_delegate_list(
+                state, granules, table, table_len, words, words_len, addresses, length, out,
+            )
         }
     }
 
@@ -393,14 +440,49 @@ impl Exports for Kit {
         state: &RecordImage,
         granules: &GranulesImage,
         table: &mut [u8],
+        words: &mut [u64],
         addresses: &[u64],
         out: &mut Registers,
     ) {
         let (table, table_len) = lend_mut(table);
+        let (words, words_len) = lend_mut(words);
         let (addresses, length) = lend(addresses);
         unsafe {
-            ffi::pbeam_undelegate_list(state, granules, table, table_len, addresses, length, out)
+            ffi::pbeam_undelegate_list(
+                state, granules, table, table_len, words, words_len, addresses, length, out,
+            )
         }
+    }
+
+    #[inline]
+    fn realm_count(granules: &GranulesImage, words: &[u64], number: &mut [u64; 1]) -> u64 {
+        let (words, words_len) = lend(words);
+        unsafe { ffi::pbeam_realm_count(granules, words, words_len, number) }
+    }
+
+    #[inline]
+    fn realm_next(
+        granules: &GranulesImage,
+        words: &[u64],
+        index: u64,
+        found: &mut [u64; 1],
+    ) -> u64 {
+        let (words, words_len) = lend(words);
+        unsafe { ffi::pbeam_realm_next(granules, words, words_len, index, found) }
+    }
+
+    #[inline]
+    fn realm_agrees(granules: &GranulesImage, table: &[u8], words: &[u64]) -> u64 {
+        let (table, table_len) = lend(table);
+        let (words, words_len) = lend(words);
+        unsafe { ffi::pbeam_realm_agrees(granules, table, table_len, words, words_len) }
+    }
+
+    #[inline]
+    fn realm_build(granules: &GranulesImage, table: &[u8], words: &mut [u64]) -> u64 {
+        let (table, table_len) = lend(table);
+        let (words, words_len) = lend_mut(words);
+        unsafe { ffi::pbeam_realm_build(granules, table, table_len, words, words_len) }
     }
 
     #[inline]
@@ -513,14 +595,16 @@ impl Exports for Kit {
     ) {
         let (page, page_len) = lend_mut(lent.page);
         let (table, table_len) = lend_mut(lent.table);
+        let (words, words_len) = lend_mut(lent.words);
         let (key, key_len) = lend(lent.key);
         let (token, token_len) = lend(lent.token);
         let (public, public_len) = lend(lent.public_key);
         let (granules, busy, width) = (lent.granules, lent.busy, lent.width);
         unsafe {
             ffi::pbeam_call(
-                state, session, queue, page, page_len, granules, table, table_len, key, key_len,
-                token, token_len, busy, public, public_len, width, x, out, work,
+                state, session, queue, page, page_len, granules, table, table_len, words,
+                words_len, key, key_len, token, token_len, busy, public, public_len, width, x, out,
+                work,
             )
         }
     }

@@ -19,6 +19,7 @@ use crate::reference::layout::{accepted_minor, Edition, ENTRY_WORDS, PAGE, SECTI
 use crate::reference::listing::list;
 use crate::reference::queue::Queue;
 use crate::reference::reader::{array, read, shown_word};
+use crate::reference::realm_words;
 use crate::reference::runtime::{self, call, Call, Reply, State, PLAT_TOKEN, TOKEN_SIGN};
 use crate::reference::signing::{token_sign, SignCall};
 use crate::reference::token::{challenge, challenge_checks, TokenCall};
@@ -117,30 +118,33 @@ impl Exports for Model {
         state: &RecordImage,
         granules: &GranulesImage,
         table: &mut [u8],
+        words: &mut [u64],
         at: u64,
         out: &mut Registers,
     ) {
-        *out = answered(delegate(record_of(state), granules, table, at));
+        *out = answered(delegate(record_of(state), granules, table, words, at));
     }
 
     fn undelegate(
         state: &RecordImage,
         granules: &GranulesImage,
         table: &mut [u8],
+        words: &mut [u64],
         at: u64,
         out: &mut Registers,
     ) {
-        *out = answered(undelegate(record_of(state), granules, table, at));
+        *out = answered(undelegate(record_of(state), granules, table, words, at));
     }
 
     fn delegate_list(
         state: &RecordImage,
         granules: &GranulesImage,
         table: &mut [u8],
+        words: &mut [u64],
         addresses: &[u64],
         out: &mut Registers,
     ) {
-        let listed = delegate_list(record_of(state), granules, table, addresses);
+        let listed = delegate_list(record_of(state), granules, table, words, addresses);
         *out = registers(Answer::from(listed));
     }
 
@@ -148,11 +152,51 @@ impl Exports for Model {
         state: &RecordImage,
         granules: &GranulesImage,
         table: &mut [u8],
+        words: &mut [u64],
         addresses: &[u64],
         out: &mut Registers,
     ) {
-        let listed = undelegate_list(record_of(state), granules, table, addresses);
+        let listed = undelegate_list(record_of(state), granules, table, words, addresses);
         *out = registers(Answer::from(listed));
+    }
+
+    fn realm_count(granules: &GranulesImage, words: &[u64], number: &mut [u64; 1]) -> u64 {
+        let counted = realm_words::count(granules, words);
+        *number = [counted.unwrap_or(0)];
+        let [x0, ..] = answered(counted.map(|_| [0, 0]));
+        x0
+    }
+
+    fn realm_next(
+        granules: &GranulesImage,
+        words: &[u64],
+        index: u64,
+        found: &mut [u64; 1],
+    ) -> u64 {
+        let next = realm_words::next(granules, words, index);
+        *found = [next.ok().flatten().unwrap_or(0)];
+        match next {
+            Ok(None) => 1,
+            other => {
+                let [x0, ..] = answered(other.map(|_| [0, 0]));
+                x0
+            }
+        }
+    }
+
+    fn realm_agrees(granules: &GranulesImage, table: &[u8], words: &[u64]) -> u64 {
+        match realm_words::agrees(granules, table, words) {
+            Ok(false) => 1,
+            other => {
+                let [x0, ..] = answered(other.map(|_| [0, 0]));
+                x0
+            }
+        }
+    }
+
+    fn realm_build(granules: &GranulesImage, table: &[u8], words: &mut [u64]) -> u64 {
+        let [x0, ..] = answered(realm_words::build(granules, table, words).map(|()| [0, 0]));
+        x0
     }
 
     fn realm_key(
@@ -317,6 +361,7 @@ fn native<'a>(lent: &'a mut Lent) -> runtime::Lent<'a> {
     runtime::Lent {
         page: lent.page,
         table: lent.table,
+        words: lent.words,
         banks: lent.granules,
         realm_key: lent.key,
         public_key: lent.public_key,

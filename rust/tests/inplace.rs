@@ -11,7 +11,7 @@ use potterbeam_tests::model::Model;
 use potterbeam_tests::random::calls::Scene;
 use potterbeam_tests::random::Random;
 use potterbeam_tests::reference::runtime::{Call, DELEGATE, TOKEN_SIGN};
-use std::collections::BTreeMap;
+use std::collections::{BTreeMap, BTreeSet};
 
 const SCENES: usize = 4_000;
 const STEPS: usize = 40;
@@ -24,6 +24,7 @@ struct Memory {
     queue: QueueImage,
     page: Vec<u8>,
     table: Vec<u8>,
+    words: Vec<u64>,
     out: Registers,
     work: Work,
     request: RequestImage,
@@ -31,7 +32,7 @@ struct Memory {
 }
 
 /// A move of the granule at an address, or of those at a list.
-type Move<T> = fn(&RecordImage, &GranulesImage, &mut [u8], T, &mut Registers);
+type Move<T> = fn(&RecordImage, &GranulesImage, &mut [u8], &mut [u64], T, &mut Registers);
 
 /// How often each answer was met, by the id or the name of the step.
 type Met = BTreeMap<(u64, i64), u64>;
@@ -51,6 +52,7 @@ impl Memory {
             queue: random.queue_image(),
             page: scene.page.clone(),
             table: scene.table.clone(),
+            words: scene.words.clone(),
             // Stale, so that a word that is not written shows.
             out: [7; 3],
             work: [7; 2],
@@ -82,6 +84,7 @@ fn model_call(m: &mut Memory, scene: &Scene, busy: u64, x: &[u64; 5]) {
         page: &mut m.page,
         granules: &scene.granules,
         table: &mut m.table,
+        words: &mut m.words,
         key: &scene.realm_key,
         token: &scene.token,
         busy,
@@ -101,6 +104,7 @@ fn in_place_call(m: &mut Memory, scene: &Scene, busy: u64, x: &[u64; 5]) {
         &mut m.page,
         &scene.granules,
         &mut m.table,
+        &mut m.words,
         &scene.realm_key,
         &scene.token,
         busy,
@@ -145,6 +149,7 @@ fn step(random: &mut Random, scene: &mut Scene, model: &mut Memory, ours: &mut M
                 &model.record,
                 &scene.granules,
                 &mut model.table,
+                &mut model.words,
                 at,
                 &mut model.out,
             );
@@ -152,6 +157,7 @@ fn step(random: &mut Random, scene: &mut Scene, model: &mut Memory, ours: &mut M
                 &ours.record,
                 &scene.granules,
                 &mut ours.table,
+                &mut ours.words,
                 at,
                 &mut ours.out,
             );
@@ -167,6 +173,7 @@ fn step(random: &mut Random, scene: &mut Scene, model: &mut Memory, ours: &mut M
                 &model.record,
                 &scene.granules,
                 &mut model.table,
+                &mut model.words,
                 &list,
                 &mut model.out,
             );
@@ -174,6 +181,7 @@ fn step(random: &mut Random, scene: &mut Scene, model: &mut Memory, ours: &mut M
                 &ours.record,
                 &scene.granules,
                 &mut ours.table,
+                &mut ours.words,
                 &list,
                 &mut ours.out,
             );
@@ -205,6 +213,35 @@ fn load_page(scene: &Scene, model: &mut Memory, ours: &mut Memory) {
     ours.page.copy_from_slice(&scene.page);
 }
 
+/// Count and next, which the benchmark times, on words and records of any kind.
+#[test]
+fn realm_words_are_the_same() {
+    let (mut random, mut met) = (Random::new(6), BTreeSet::new());
+    for _ in 0..20_000 {
+        let scene = random.scene();
+        let (granules, mut words) = (&scene.granules, scene.words.clone());
+        match random.below(8) {
+            0 => words.iter_mut().for_each(|word| *word = u64::MAX),
+            1 => words.iter_mut().for_each(|word| *word = 0),
+            2 => words.push(1),
+            _ => {}
+        }
+        let index = random.below(64 * words.len() as u64 + 3);
+        let [mut theirs, mut ours] = [[7]; 2];
+        let said = Model::realm_count(granules, &words, &mut theirs);
+        assert_eq!(inplace::realm_count(granules, &words, &mut ours), said);
+        assert_eq!(ours, theirs, "{words:x?}");
+        let said = Model::realm_next(granules, &words, index, &mut theirs);
+        assert_eq!(
+            inplace::realm_next(granules, &words, index, &mut ours),
+            said
+        );
+        assert_eq!(ours, theirs, "{words:x?}, {index}");
+        met.insert(said as i64);
+    }
+    assert_eq!(met, BTreeSet::from([0, 1, -5]));
+}
+
 #[test]
 fn the_same_as_the_model() {
     let (mut random, mut met) = (Random::new(31), Met::new());
@@ -232,15 +269,15 @@ fn the_same_as_the_model() {
 /// Every answer of every command was met often.
 fn expect(met: &Met) {
     let expected: [(u64, &[i64]); 14] = [
-        (MOVE, &[0, -1, -2, -3]),
-        (LIST, &[0, -1, -2, -3]),
+        (MOVE, &[0, -1, -2, -3, -5]),
+        (LIST, &[0, -1, -2, -3, -5]),
         (SET_UP, &[0, -5]),
         (SIGN, &[0, -5, -6]),
         (SIGNING, &[0, -1, -5, -6]),
         (OLDEST, &[0, 1, 2, 3, 4, 5, 6, 7, 8]),
         (0xC400_018F, &[0]),
-        (0xC400_01B0, &[0, -1, -2, -3]),
-        (0xC400_01B1, &[0, -1, -2, -3]),
+        (0xC400_01B0, &[0, -1, -2, -3, -5]),
+        (0xC400_01B1, &[0, -1, -2, -3, -5]),
         (0xC400_01B2, &[0, -1, -2, -5]),
         (0xC400_01B3, &[0, -1, -2, -5, -6]),
         (0xC400_01B4, &[0, -1, -5]),

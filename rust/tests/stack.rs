@@ -296,6 +296,7 @@ fn kit_measured() -> Header {
     }
     set_ups(&mut header);
     granule_lists(&mut header);
+    realm_words(&mut header);
     challenges(&mut header);
     signer(&mut header);
     header.is_measured();
@@ -549,6 +550,7 @@ struct Board {
     page: Vec<u8>,
     granules: GranulesImage,
     table: Vec<u8>,
+    words: Vec<u64>,
     secret: Vec<u8>,
     busy: u64,
     out: [u64; 3],
@@ -570,6 +572,7 @@ impl Board {
             page,
             granules: in_banks(1, 2),
             table: vec![0, 1],
+            words: vec![2],
             secret: vec![7; 100],
             busy: 0,
             out: [0; 3],
@@ -604,7 +607,13 @@ fn calls() -> Vec<(&'static str, Board, [u64; 5], i64)> {
     let many = || {
         Board::with(|board| (board.granules, board.table) = (in_banks(16, 2), [0, 1].repeat(16)))
     };
-    let broken = || Board::with(|board| board.granules[0] = 17);
+    let broken = || {
+        Board::with(|board| {
+            board.granules[0] = 17;
+            board.words.clear();
+        })
+    };
+    let unfit = || Board::with(|board| board.words.clear());
     let old = || Board::with(|board| board.state[3] = 3);
     let short = || Board::with(|board| board.page.truncate(PAGE - 1));
     let bare = || Board::with(|board| board.secret.clear());
@@ -628,6 +637,12 @@ fn calls() -> Vec<(&'static str, Board, [u64; 5], i64)> {
             broken(),
             [DELEGATE, MEMORY, 0, 0, 0],
             BAD_ADDR,
+        ),
+        (
+            "delegate, words",
+            unfit(),
+            [DELEGATE, MEMORY, 0, 0, 0],
+            INVAL,
         ),
         (
             "delegate, record",
@@ -820,10 +835,12 @@ fn direct(header: &mut Header, what: &str, board: &Board, x: &[u64; 5], x0: i64)
     };
     match id {
         DELEGATE => measure("pbeam_delegate", &|b| {
-            Kit::delegate(&b.state, &b.granules, &mut b.table, x1, &mut b.out)
+            let (table, words) = (&mut b.table, &mut b.words);
+            Kit::delegate(&b.state, &b.granules, table, words, x1, &mut b.out)
         }),
         UNDELEGATE => measure("pbeam_undelegate", &|b| {
-            Kit::undelegate(&b.state, &b.granules, &mut b.table, x1, &mut b.out)
+            let (table, words) = (&mut b.table, &mut b.words);
+            Kit::undelegate(&b.state, &b.granules, table, words, x1, &mut b.out)
         }),
         REALM_KEY => measure("pbeam_realm_key", &|b| {
             Kit::realm_key(&b.state, &mut b.page, &b.secret, [x1, x2, x3], &mut b.out)
@@ -864,6 +881,7 @@ fn dispatched(header: &mut Header, what: &str, board: &Board, x: &[u64; 5], x0: 
             page: &mut board.page,
             granules: &board.granules,
             table: &mut board.table,
+            words: &mut board.words,
             key: &board.secret,
             token: &board.secret,
             busy: board.busy,
@@ -946,19 +964,50 @@ fn granule_lists(header: &mut Header) {
         let lent = |byte| {
             let mut table = vec![byte; 256];
             table.iter_mut().skip(spoilt).take(1).for_each(|b| *b = 2);
-            (table, [0; 3])
+            (table, vec![0; 4], [0; 3])
         };
         let name = "pbeam_delegate_list";
-        header.within((name, what), &lent(0), x0, |(table, out)| {
-            Kit::delegate_list(&state, &granules, table, &list, out);
+        header.within((name, what), &lent(0), x0, |(table, words, out)| {
+            Kit::delegate_list(&state, &granules, table, words, &list, out);
             out[0] as i64
         });
         let name = "pbeam_undelegate_list";
-        header.within((name, what), &lent(1), x0, |(table, out)| {
-            Kit::undelegate_list(&state, &granules, table, &list, out);
+        header.within((name, what), &lent(1), x0, |(table, words, out)| {
+            Kit::undelegate_list(&state, &granules, table, words, &list, out);
             out[0] as i64
         });
     }
+}
+
+fn realm_words(header: &mut Header) {
+    let (one, table) = (in_banks(1, 256), vec![1; 256]);
+    let empty = vec![0u64; 4];
+    for (what, words, index, next) in [
+        ("all clear", vec![0; 4], 0, 1),
+        ("the last alone", vec![0, 0, 0, 1 << 63], 3, OK),
+        ("a word too few", vec![0; 3], 0, INVAL),
+    ] {
+        let fits = if words.len() == 4 { OK } else { INVAL };
+        header.within(("pbeam_realm_count", what), &[7], fits, |number| {
+            Kit::realm_count(&one, &words, number) as i64
+        });
+        header.within(("pbeam_realm_next", what), &[7], next, |found| {
+            Kit::realm_next(&one, &words, index, found) as i64
+        });
+        let agrees = if words.len() == 4 { 1 } else { INVAL };
+        header.within(("pbeam_realm_agrees", what), &(), agrees, |()| {
+            Kit::realm_agrees(&one, &table, &words) as i64
+        });
+        header.within(("pbeam_realm_build", what), &words, fits, |words| {
+            Kit::realm_build(&one, &table, words) as i64
+        });
+    }
+    header.within(
+        ("pbeam_realm_build", "a short table"),
+        &empty,
+        INVAL,
+        |words| Kit::realm_build(&one, &table[1..], words) as i64,
+    );
 }
 
 fn signer(header: &mut Header) {

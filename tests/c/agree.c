@@ -22,6 +22,8 @@
 
 /* One bank at MEMORY, of 4 granules; checks with another table make their own. */
 static const uint64_t granules[ROOM] = {1, MEMORY, 4 * 4096};
+/* Realm words for up to 64 granules. */
+static uint64_t words[1];
 static unsigned long checks;
 
 static void same(int line, const char *what, uint64_t is, const char *beside, uint64_t want)
@@ -447,9 +449,9 @@ static void check_codes(void)
     up(state, 5);
     pbeam_features(state, 0, out);
     SAME(PBEAM_X0_OK, out[PBEAM_OUT_X0]);
-    pbeam_delegate(state, granules, table, 4, MEMORY + 1, out);
+    pbeam_delegate(state, granules, table, 4, words, 1, MEMORY + 1, out);
     SAME(PBEAM_X0_BAD_ADDR, out[PBEAM_OUT_X0]);
-    pbeam_delegate(state, granules, table, 4, MEMORY, out);
+    pbeam_delegate(state, granules, table, 4, words, 1, MEMORY, out);
     SAME(PBEAM_X0_BAD_PAS, out[PBEAM_OUT_X0]);
     pbeam_features(state, 1, out);
     SAME(PBEAM_X0_INVAL, out[PBEAM_OUT_X0]);
@@ -464,9 +466,9 @@ static uint64_t delegate(const uint64_t state[ROOM], uint8_t *table, size_t i, i
 {
     uint64_t out[ROOM];
     if (back)
-        pbeam_undelegate(state, granules, table, 4, MEMORY + i * PBEAM_GRANULE_BYTES, out);
+        pbeam_undelegate(state, granules, table, 4, words, 1, MEMORY + i * PBEAM_GRANULE_BYTES, out);
     else
-        pbeam_delegate(state, granules, table, 4, MEMORY + i * PBEAM_GRANULE_BYTES, out);
+        pbeam_delegate(state, granules, table, 4, words, 1, MEMORY + i * PBEAM_GRANULE_BYTES, out);
     return out[0];
 }
 
@@ -510,18 +512,20 @@ static void check_granule_record(const uint64_t state[ROOM])
     uint64_t record[ROOM], out[ROOM];
     uint8_t table[2] = {0, 0};
     SAME(set_up(record, 2, 2), PBEAM_X0_OK);
-    pbeam_delegate(state, record, table, 2, MEMORY + 4096, out); /* the hole */
+    pbeam_delegate(state, record, table, 2, words, 1, MEMORY + 4096, out); /* the hole */
     SAME(out[0], PBEAM_X0_BAD_ADDR);
-    pbeam_delegate(state, record, table, 2, MEMORY + 8192, out);
+    pbeam_delegate(state, record, table, 2, words, 1, MEMORY + 8192, out);
     SAME(out[0], PBEAM_X0_OK);
     SAME(get(table, 2), 0x100);
-    pbeam_delegate(state, record, table, 1, MEMORY, out); /* a table one short */
+    pbeam_delegate(state, record, table, 1, words, 1, MEMORY, out); /* a table one short */
     SAME(out[0], PBEAM_X0_BAD_ADDR);
     record[PBEAM_GRANULES_FIRST_BANK + PBEAM_BANK_WORDS + PBEAM_BANK_BASE] = MEMORY; /* on the first */
-    pbeam_delegate(state, record, table, 2, MEMORY, out);
+    pbeam_delegate(state, record, table, 2, words, 1, MEMORY, out); /* no granules, so no words */
+    SAME(out[0], PBEAM_X0_INVAL);
+    pbeam_delegate(state, record, table, 2, NULL, 0, MEMORY, out);
     SAME(out[0], PBEAM_X0_BAD_ADDR);
     record[PBEAM_GRANULES_COUNT] = 1; /* the second counts for nothing */
-    pbeam_delegate(state, record, table, 1, MEMORY, out);
+    pbeam_delegate(state, record, table, 1, words, 1, MEMORY, out);
     SAME(out[0], PBEAM_X0_OK);
 }
 
@@ -532,16 +536,16 @@ static void check_granule_lists(const uint64_t state[ROOM])
     uint64_t out[ROOM];
     uint8_t table[4] = {PBEAM_GRANULE_NON_SECURE, PBEAM_GRANULE_NON_SECURE, PBEAM_GRANULE_REALM, 9};
     guard(out);
-    pbeam_delegate_list(state, granules, table, 4, list, 3, out);
+    pbeam_delegate_list(state, granules, table, 4, words, 1, list, 3, out);
     SAME(PBEAM_OUT_WORDS, written(out));
     SAME(out[PBEAM_OUT_X0], PBEAM_X0_BAD_PAS);
     SAME(out[PBEAM_OUT_X1], 2);
     SAME(table[0] + table[1] + table[2], 3 * PBEAM_GRANULE_REALM);
-    pbeam_undelegate_list(state, granules, table, 4, list, 3, out);
+    pbeam_undelegate_list(state, granules, table, 4, words, 1, list, 3, out);
     SAME(out[PBEAM_OUT_X0], PBEAM_X0_OK);
     SAME(out[PBEAM_OUT_X1], 3);
     SAME(table[0] + table[1] + table[2], PBEAM_GRANULE_NON_SECURE);
-    pbeam_delegate_list(state, granules, table, 4, NULL, 0, out);
+    pbeam_delegate_list(state, granules, table, 4, words, 1, NULL, 0, out);
     SAME(out[PBEAM_OUT_X0], PBEAM_X0_OK);
     SAME(out[PBEAM_OUT_X1], 0);
 }
@@ -552,15 +556,53 @@ static void check_shared_page(const uint64_t state[ROOM])
     const uint64_t record[ROOM] = {1, BASE, 2 * PBEAM_GRANULE_BYTES}, list[2] = {BASE + PBEAM_GRANULE_BYTES, BASE};
     uint64_t out[ROOM];
     uint8_t table[2] = {PBEAM_GRANULE_NON_SECURE, PBEAM_GRANULE_NON_SECURE};
-    pbeam_delegate_list(state, record, table, 2, list, 2, out);
+    pbeam_delegate_list(state, record, table, 2, words, 1, list, 2, out);
     SAME(out[PBEAM_OUT_X0], PBEAM_X0_OK);
-    pbeam_undelegate(state, record, table, 2, BASE, out);
+    pbeam_undelegate(state, record, table, 2, words, 1, BASE, out);
     SAME(out[PBEAM_OUT_X0], PBEAM_X0_BAD_ADDR);
-    pbeam_undelegate_list(state, record, table, 2, list, 2, out);
+    pbeam_undelegate_list(state, record, table, 2, words, 1, list, 2, out);
     SAME(out[PBEAM_OUT_X0], PBEAM_X0_BAD_ADDR);
     SAME(out[PBEAM_OUT_X1], 1);
     SAME(table[0], PBEAM_GRANULE_REALM);
     SAME(table[1], PBEAM_GRANULE_NON_SECURE);
+}
+
+/* The words have a bit for each granule; their number is checked before all else, and spare bits count for nothing. */
+static void check_realm_words(const uint64_t state[ROOM])
+{
+    const uint64_t record[ROOM] = {1, MEMORY, 66 * PBEAM_GRANULE_BYTES};
+    uint64_t out[ROOM], number[ROOM], bits[ROOM];
+    uint8_t table[66] = {PBEAM_GRANULE_REALM};
+    table[65] = PBEAM_GRANULE_REALM;
+    guard(bits);
+    SAME(pbeam_realm_build(record, table, 66, bits, 1), PBEAM_X0_INVAL);
+    SAME(pbeam_realm_build(record, table, 65, bits, 2), PBEAM_X0_INVAL);
+    SAME(written(bits), 0);
+    SAME(pbeam_realm_build(record, table, 66, bits, 2), PBEAM_X0_OK);
+    SAME(written(bits), 2);
+    SAME(bits[0], 1);
+    SAME(bits[65 / PBEAM_REALM_WORD_GRANULES], 1 << 65 % PBEAM_REALM_WORD_GRANULES);
+    guard(number);
+    SAME(pbeam_realm_count(record, bits, 2, number), PBEAM_X0_OK);
+    SAME(written(number), 1);
+    SAME(number[0], 2);
+    SAME(pbeam_realm_next(record, bits, 2, 1, number), PBEAM_X0_OK);
+    SAME(number[0], 65);
+    SAME(pbeam_realm_agrees(record, table, 66, bits, 2), PBEAM_X0_OK);
+    pbeam_undelegate(state, record, table, 66, bits, 2, MEMORY + 65 * PBEAM_GRANULE_BYTES, out);
+    SAME(out[0], PBEAM_X0_OK);
+    SAME(bits[1], 0);
+    SAME(pbeam_realm_next(record, bits, 2, 1, number), PBEAM_REALM_NONE);
+    SAME(number[0], 0);
+    SAME(pbeam_realm_next(record, bits, 2, 66, number), PBEAM_X0_INVAL);
+    bits[1] = 4; /* a spare bit */
+    SAME(pbeam_realm_agrees(record, table, 66, bits, 2), PBEAM_REALM_DIFFER);
+    SAME(pbeam_realm_count(record, bits, 2, number), PBEAM_X0_OK);
+    SAME(number[0], 1);
+    SAME(pbeam_realm_count(record, bits, 3, number), PBEAM_X0_INVAL);
+    SAME(number[0], 0);
+    pbeam_delegate_list(state, record, table, 66, bits, 3, NULL, 0, out);
+    SAME(out[0], PBEAM_X0_INVAL);
 }
 
 static void check_granules(void)
@@ -580,6 +622,7 @@ static void check_granules(void)
     check_granule_record(state);
     check_granule_lists(state);
     check_shared_page(state);
+    check_realm_words(state);
     /* Root and Secure are alike to the library: 01 gives them these numbers. */
     SAME(PBEAM_GRANULE_ROOT, 2);
     SAME(PBEAM_GRANULE_SECURE, 3);
@@ -1096,7 +1139,7 @@ static void check_hand_made_images(void)
 /* ---- Dispatcher ---- */
 
 static struct {
-    uint64_t state[ROOM], session[ROOM], queue[ROOM], call[ROOM], out[ROOM], work[ROOM];
+    uint64_t state[ROOM], session[ROOM], queue[ROOM], call[ROOM], out[ROOM], work[ROOM], words[1];
     uint8_t table[4];
 } board;
 
@@ -1111,8 +1154,8 @@ static uint64_t dispatch(uint64_t id, uint64_t x1, uint64_t x2, uint64_t x3, uin
     board.call[PBEAM_CALL_X2] = x2;
     board.call[PBEAM_CALL_X3] = x3;
     board.call[PBEAM_CALL_X4] = x4;
-    pbeam_call(board.state, board.session, board.queue, page, LEN, granules, board.table, 4, key, sizeof key, token, sizeof token, 0,
-            public_key, sizeof public_key, 15, board.call, board.out, board.work);
+    pbeam_call(board.state, board.session, board.queue, page, LEN, granules, board.table, 4, board.words, 1, key,
+            sizeof key, token, sizeof token, 0, public_key, sizeof public_key, 15, board.call, board.out, board.work);
     SAME(PBEAM_OUT_WORDS, written(board.out));
     SAME(PBEAM_WORK_WORDS, written(board.work));
     return board.out[PBEAM_OUT_X0];

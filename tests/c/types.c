@@ -389,6 +389,7 @@ static const pbeam_bank_t two_banks[] = {{MEMORY, 2 * 4096}, {UINT64_C(0x8800000
 static void set_up(void)
 {
     static uint8_t table[3];
+    static uint64_t realm[1];
     static const pbeam_lists_t banks = {two_banks, 2, NULL, 0, NULL, 0, NULL, 0};
     pbeam_view_t view;
     static const uint8_t realm_key[] = {0x11, 0x12, 0x13}, token[] = {0x21, 0x22, 0x23, 0x24}, public_key[] = {0x31, 0x32};
@@ -408,6 +409,12 @@ static void set_up(void)
     context.table_count = sizeof table;
     SAME(pbeam_context_set_up_granules(&context, &page, &view), PBEAM_X0_OK);
     SAME(context.granules.words[PBEAM_GRANULES_COUNT], 2);
+    realm[0] = UINT64_C(0xEEEEEEEEEEEEEEEE);
+    SAME(pbeam_context_build_words(&context), PBEAM_X0_INVAL); /* no words yet */
+    context.words = realm;
+    context.words_count = pbeam_words_for(sizeof table);
+    SAME(pbeam_context_build_words(&context), PBEAM_X0_OK);
+    SAME(realm[0], 0);
     context.realm_key = pbeam_bytes(realm_key, sizeof realm_key);
     context.token = pbeam_bytes(token, sizeof token);
     context.public_key = pbeam_bytes(public_key, sizeof public_key);
@@ -422,9 +429,13 @@ static void check_empty_context(void)
     memset(&context, 0, sizeof context);
     SAME(called(pbeam_call_delegate(0)), E_RMM_UNK);
     SAME(called(pbeam_call_platform_token(BASE, 64, 48)), E_RMM_UNK);
+    SAME(pbeam_context_build_words(&context), PBEAM_X0_OK); /* no granule needs no word */
+    SAME(pbeam_context_words_agree(&context), PBEAM_X0_OK);
     set_up();
     context.page = NULL;
     context.table = NULL;
+    SAME(pbeam_context_build_words(&context), PBEAM_X0_INVAL);
+    SAME(pbeam_context_words_agree(&context), PBEAM_X0_INVAL);
     context.realm_key.at = NULL;
     SAME(called(pbeam_call_realm_key(BASE, 8)), E_RMM_UNK);
     SAME(called(pbeam_call_delegate(MEMORY)), E_RMM_BAD_ADDR);
@@ -432,6 +443,49 @@ static void check_empty_context(void)
     SAME(pbeam_place_length(&place), 0);
     context.page = &page;
     SAME(called(pbeam_call_realm_key(BASE, 8)), E_RMM_UNK); /* no key */
+}
+
+/* The words follow the table, bit by bit; without them, or with another number, each call is INVAL. */
+static void check_words(void)
+{
+    static uint64_t other[2];
+    uint64_t *const realm = context.words, number = 9, found = 9;
+    const uint64_t list[1] = {MEMORY};
+    for (size_t n = 0; n < 200; n++)
+        SAME(pbeam_words_for(n), (n + 63) / 64);
+    SAME(pbeam_words_for(SIZE_MAX), SIZE_MAX / 64 + 1);
+    SAME(realm[0], 6); /* granules 1 and 2 */
+    SAME(pbeam_context_words_agree(&context), PBEAM_X0_OK);
+    SAME(pbeam_context_realm_count(&context, &number), PBEAM_X0_OK);
+    SAME(number, 2);
+    SAME(pbeam_context_realm_next(&context, 0, &found), PBEAM_X0_OK);
+    SAME(found, 1);
+    SAME(pbeam_context_realm_next(&context, 2, &found), PBEAM_X0_OK);
+    SAME(found, 2);
+    SAME(pbeam_context_realm_next(&context, 3, &found), PBEAM_X0_INVAL);
+    realm[0] = 10; /* at odds with the table, and a spare bit */
+    SAME(pbeam_context_words_agree(&context), PBEAM_REALM_DIFFER);
+    SAME(pbeam_context_realm_count(&context, &number), PBEAM_X0_OK);
+    SAME(number, 1);
+    SAME(pbeam_context_realm_next(&context, 2, &found), PBEAM_REALM_NONE);
+    SAME(pbeam_context_build_words(&context), PBEAM_X0_OK);
+    SAME(realm[0], 6);
+    for (size_t n = 0; n < 3; n++) {
+        context.words = n == 1 ? NULL : other;
+        context.words_count = n;
+        SAME(called(pbeam_call_delegate(MEMORY)), E_RMM_INVAL);
+        pbeam_context_delegate_list(&context, list, 1, &out);
+        SAME(pbeam_registers_code(&out), E_RMM_INVAL);
+        pbeam_context_undelegate_list(&context, NULL, 0, &out);
+        SAME(pbeam_registers_code(&out), E_RMM_INVAL);
+        SAME(pbeam_context_words_agree(&context), PBEAM_X0_INVAL);
+        SAME(pbeam_context_build_words(&context), PBEAM_X0_INVAL);
+        SAME(pbeam_context_realm_count(&context, &number), PBEAM_X0_INVAL);
+        SAME(pbeam_context_realm_next(&context, 0, &found), PBEAM_X0_INVAL);
+        SAME(number | found | other[0] | other[1], 0);
+    }
+    context.words = realm;
+    context.words_count = 1;
 }
 
 /* A list counts what was done before its refusal, and needs a table. */
@@ -443,10 +497,12 @@ static void check_lists(void)
     SAME(pbeam_registers_code(&out), E_RMM_BAD_PAS);
     SAME(pbeam_registers_x1(&out), 2);
     SAME(pbeam_get16(table), 0x0101);
+    SAME(context.words[0], 3);
     pbeam_context_undelegate_list(&context, list, 2, &out);
     SAME(pbeam_registers_code(&out), E_RMM_OK);
     SAME(pbeam_registers_x1(&out), 2);
     SAME(pbeam_get16(table), 0);
+    SAME(context.words[0], 0);
     pbeam_context_delegate_list(&context, NULL, 7, &out); /* no list: an empty one */
     SAME(pbeam_registers_code(&out), E_RMM_OK);
     SAME(pbeam_registers_x1(&out), 0);
@@ -466,6 +522,7 @@ static void check_commands(void)
     SAME(called(pbeam_call_delegate(MEMORY + 2 * 4096)), E_RMM_BAD_ADDR); /* behind the first bank */
     SAME(called(pbeam_call_delegate(two_banks[1].base)), E_RMM_OK);
     SAME(context.table[2], PBEAM_GRANULE_REALM);
+    check_words();
     SAME(called(pbeam_call_undelegate(two_banks[1].base)), E_RMM_OK);
     SAME(called(pbeam_call_undelegate(MEMORY + 4096)), E_RMM_OK);
     check_lists();

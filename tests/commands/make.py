@@ -1,15 +1,16 @@
 #!/usr/bin/env python3
 """Run vectors for six runtime commands, made from docs/01-scope.md and docs/02-change-requests.md
-(E2, E5, E8) alone.
+(E2, E5, E6, E8) alone.
 
 Run from the repository's root:  python3 tests/commands/make.py
 It rewrites crates/command_vectors/data/c000, c001, .. (8-byte words: the record's state, cpus,
 base, minor and kept bytes, of which the last four count only when it is up; function id, x1, x2,
 x3, where the granule record stands in the file, m, the lengths of table, key and page; then the
-bytes of these three, those of table and page at exit, and the granule record: how many of its words
-are given, and these), crates/command_vectors/stdout (what the program has to print for them in order) and
-tests/commands/CASES.md (what each case is for). The same run always gives the same bytes.
-With a folder as its argument it writes them below that folder.
+bytes of these three, those of table and page at exit, the granule record: how many of its words are
+given, and these; and the realm words in the same way), crates/command_vectors/stdout (what the
+program has to print for them in order) and tests/commands/CASES.md (what each case is for). The
+same run always gives the same bytes. With a folder as its argument it writes them below that
+folder.
 """
 
 import sys
@@ -22,8 +23,8 @@ HERE = Path(__file__).resolve().parent
 
 sys.dont_write_bytecode = True
 sys.path.insert(0, str(HERE.parent))
-from banks import (MANY, TWO, addresses_of, granule_at, granule_fails, meant, one, record_of,
-                   stored, words)
+from banks import (MANY, TWO, addresses_of, fit, granule_at, granule_fails, meant, needed, one,
+                   put_bit, realm_words, record_of, stored, usual_words, words, words_line)
 from vectors import write_all
 
 PAGE = 4096
@@ -34,18 +35,20 @@ FORWARD, DELEGATE, UNDELEGATE = 0xC400018F, 0xC40001B0, 0xC40001B1
 KEY, FEATURES, UPDATE = 0xC40001B2, 0xC40001B4, 0xC40001B6
 GRANULE = (DELEGATE, UNDELEGATE)        # the index is the byte that the command asks for
 CODES = {"OK": 0, "UNK": -1, "BAD_ADDR": -2, "BAD_PAS": -3, "INVAL": -5}
-GRANULE_CHECKS = {"not up": "UNK", "banks": "BAD_ADDR", "table": "BAD_ADDR", "address": "BAD_ADDR",
-                  "off": "BAD_ADDR", "byte": "BAD_PAS"}
-SHARED_CHECKS = {"not up": "UNK", "banks": "BAD_ADDR", "table": "BAD_ADDR", "address": "BAD_ADDR",
-                 "off": "BAD_ADDR", "shared": "BAD_ADDR", "byte": "BAD_PAS"}       # 02, E8
+GRANULE_CHECKS = {"words": "INVAL", "not up": "UNK", "banks": "BAD_ADDR", "table": "BAD_ADDR",
+                  "address": "BAD_ADDR", "off": "BAD_ADDR", "byte": "BAD_PAS"}
+SHARED_CHECKS = {"words": "INVAL", "not up": "UNK", "banks": "BAD_ADDR", "table": "BAD_ADDR",
+                 "address": "BAD_ADDR", "off": "BAD_ADDR", "shared": "BAD_ADDR",   # 02, E8
+                 "byte": "BAD_PAS"}
 CHECKS = {                              # the checks of each command in 01's order, with the code
     FORWARD: {}, DELEGATE: GRANULE_CHECKS, UNDELEGATE: SHARED_CHECKS,
     KEY: {"not up": "UNK", "length": "UNK", "outside": "BAD_ADDR", "too long": "INVAL",
           "curve": "INVAL", "key": "UNK"},
     FEATURES: {"not up": "UNK", "index": "INVAL", "minor": "UNK"},
     UPDATE: {"not up": "UNK", "mecid": "INVAL", "width": "UNK", "minor": "UNK"}}
-Case = namedtuple("Case", "text state cpus base minor kept id x1 x2 x3 record m table key page")
-Answer = namedtuple("Answer", "code registers told table page")
+Case = namedtuple("Case", "text state cpus base minor kept id x1 x2 x3 record m table key page "
+                          "lent")
+Answer = namedtuple("Answer", "code registers told table page lent")
 
 
 # ---- The commands, from 01's and 02's text. All arithmetic is on plain numbers. ----
@@ -54,6 +57,7 @@ def failing(case):
     """Every check that fails, in 01's order. The first of them gives the answer."""
     end, index = case.base + PAGE, meant(case.record, len(case.table), case.x1)
     fails = granule_fails(case.record, len(case.table), case.x1) | {
+        "words": not fit(case.record, case.lent),
         "not up": case.state != "up",
         "length": len(case.page) != PAGE,
         "outside": case.x1 < case.base + case.kept or case.x1 >= end,
@@ -70,15 +74,18 @@ def failing(case):
 
 
 def run(case):
-    """The answer: code, x0 to x2, what is told beside them, table and page at exit."""
+    """The answer: code, x0 to x2, what is told beside them, table, page and words at exit."""
     table, page, x1, told = bytearray(case.table), bytearray(case.page), 0, None
+    lent = case.lent
     if case.id == FORWARD:
-        return Answer("forward", None, case.x1, bytes(table), bytes(page))
+        return Answer("forward", None, case.x1, bytes(table), bytes(page), lent)
     codes = [CHECKS[case.id][name] for name in failing(case)]
     code = codes[0] if codes else "OK"
     if code == "OK":
         if case.id in GRANULE:
-            table[granule_at(case.record, len(table), case.x1)] = 1 if case.id == DELEGATE else 0
+            index = granule_at(case.record, len(table), case.x1)
+            table[index] = 1 if case.id == DELEGATE else 0
+            lent = put_bit(lent, index, table[index])
         elif case.id == KEY:
             offset, x1 = case.x1 - case.base, len(case.key)
             page[offset:offset + x1] = case.key
@@ -86,7 +93,7 @@ def run(case):
             x1 = 1
         else:
             told = case.x1
-    return Answer(code, (CODES[code] % WORD, x1, 0), told, bytes(table), bytes(page))
+    return Answer(code, (CODES[code] % WORD, x1, 0), told, bytes(table), bytes(page), lent)
 
 
 def file_of(case):
@@ -95,7 +102,7 @@ def file_of(case):
     body = b"".join(lent) + answer.table + answer.page
     head = words(STATES.index(case.state), case.cpus, case.base, case.minor, case.kept, case.id,
                  case.x1, case.x2, case.x3, 112 + len(body), case.m, *map(len, lent))
-    return head + body + stored(case.record)
+    return head + body + stored(case.record, case.lent)
 
 
 def expected(number_of_case, case):
@@ -106,7 +113,7 @@ def expected(number_of_case, case):
         text += f"registers {' '.join(f'{word:016x}' for word in answer.registers)}\n"
     if answer.told is not None:
         text += f"{'forward' if case.id == FORWARD else 'reprogram'} {answer.told:016x}\n"
-    return text + "table as expected\npage as expected\n"
+    return text + f"table as expected\npage as expected\n{words_line(answer.lent)}\n"
 
 
 # ---- The case list ----
@@ -136,12 +143,13 @@ def show(n):
 
 
 def add(outcome, command, text, **changes):
-    """Note a case, unless the same is there already: the usual input with these changes, and a
-    record of one bank with the table's granules unless one is said. Its outcome is "OK", or all
-    checks that fail with commas between; None if that is not said."""
-    lent = {**ALL, **USUAL[command], **changes}
-    lent.setdefault("record", one(G, len(lent["table"])))
-    case = Case(**lent, id=command, text=f"{command % 4096:X}: {text}")
+    """Note a case, unless the same is there already: the usual input with these changes, a record
+    of one bank with the table's granules unless one is said, and words that fit. Its outcome is
+    "OK", or all checks that fail with commas between; None if that is not said."""
+    given = {**ALL, **USUAL[command], **changes}
+    given.setdefault("record", one(G, len(given["table"])))
+    given.setdefault("lent", usual_words(given["record"], given["table"]))
+    case = Case(**given, id=command, text=f"{command % 4096:X}: {text}")
     found = ", ".join(failing(case)) or "OK"
     assert outcome in (None, found), (case.text, outcome, found)
     if file_of(case) not in NOTED:
@@ -385,6 +393,7 @@ def together():
                 granules_fail(command, (first, second))
         granules_fail(command, ("not up", "banks", "table", "address", "off"))
         granules_fail(command, ("not up", "banks", "table", "address", "byte"))
+        granules_fail(command, ("words", "not up", "banks", "table", "address", "off"))
     late, names = {"x1": ONES, "x2": 0, "x3": 1}, "outside, too long, curve, key"
     add(f"not up, length, {names}", KEY, "all", state="fresh", page=b"", **late)
     add(f"length, {names}", KEY, "all but the first", page=b"", **late)
@@ -401,9 +410,10 @@ def granules_fail(command, names):
     banks = [(G, 8 * 4096)] + [(G + 0x100000, 0)] * ("banks" in names)
     address += 2**40 * ("off" in names) + 8 * ("address" in names)
     byte = 2 if "byte" in names else GRANULE.index(command)
-    add(", ".join(names), command, " and ".join(names), state=state, record=record_of(banks),
-        base=address if "shared" in names else B, x1=address,
-        table=bytes([byte]) * (9 if "table" in names else 8))
+    table, record = bytes([byte]) * (9 if "table" in names else 8), record_of(banks)
+    add(", ".join(names), command, " and ".join(names), state=state, record=record,
+        base=address if "shared" in names else B, x1=address, table=table,
+        lent=usual_words(record, table) + (ONES,) * ("words" in names))
 
 
 def random_inputs():
@@ -480,11 +490,45 @@ def shared_page():
     add("off, shared", UNDELEGATE, "B one past the table", base=G + 8 * 4096, x1=G + 8 * 4096)
     add("shared", UNDELEGATE, "B = 0, the first granule", base=0, x1=0, record=one(0, 8))
     add("address, shared", UNDELEGATE, "B not aligned", base=G + 4096 + 8, x1=G + 4096 + 8)
-    for other in ("not up", "banks", "table", "address", "off"):
+    for other in ("words", "not up", "banks", "table", "address", "off"):
         granules_fail(UNDELEGATE, (other, "shared"))
     hole = record_of([(G, 4 * 4096), (G + 5 * 4096, 4 * 4096)])
     add("off, shared", UNDELEGATE, "B in a hole", base=G + 4 * 4096, x1=G + 4 * 4096, record=hole)
     add("shared", UNDELEGATE, "B behind the hole", base=G + 5 * 4096, x1=G + 5 * 4096, record=hole)
+
+
+def word_numbers():
+    """02, E6: words of each length, one too few and one too many; other commands do not mind"""
+    for n, command in product((0, 1, 63, 64, 65, 127, 128), GRANULE):
+        table = bytes([GRANULE.index(command)]) * n
+        held, last = realm_words(table), {"x1": G + 4096 * (n - 1), "table": table}
+        if n:
+            add("OK", command, f"{n} granules, {needed(n)} words", **last)
+            add("words", command, f"{n} granules, one word too few", lent=held[1:], **last)
+        add("words" if n else "words, banks, off", command, f"{n} granules, one word too many",
+            lent=(*held, 0), **last)
+    for command in GRANULE:
+        add("words, not up", command, "no word, record fresh", state="fresh", lent=())
+        add("words, not up", command, "80 words, record closed", state="closed", lent=(ONES,) * 80)
+        add("table", command, "a table of 65, the one word of the record's 64", record=one(G, 64),
+            table=bytes([GRANULE.index(command)]) * 65)
+    for command in (FORWARD, KEY, FEATURES, UPDATE):
+        add("OK", command, "two words for five granules", lent=(ONES,) * 2)
+
+
+def odd_words():
+    """02, E6: words at odds with the table: it decides, and the granule's bit alone is written"""
+    for command in GRANULE:
+        table = bytes([GRANULE.index(command)]) * 130
+        held = realm_words(table)
+        for i in (0, 64, 129):
+            for text, lent in (("flipped", tuple(ONES - word for word in held)),
+                               ("its bit alone wrong", put_bit(held, i, table[i] ^ 1))):
+                if text == "flipped" or i == 64:
+                    add("OK", command, f"granule {i}, words {text}", x1=G + 4096 * i, table=table,
+                        lent=lent)
+        add("byte", command, "byte 2, every bit set", x1=G + 4096, table=b"\2" * 130,
+            lent=(ONES,) * 3)
 
 
 # ---- Output ----
@@ -492,18 +536,20 @@ def shared_page():
 def build_all():
     for group in (examples, forwarding, records, page_lengths, granule_addresses, granule_banks,
                   granule_records, granule_bytes, key_ranges, keys_and_curves, features,
-                  key_updates, together, random_inputs, kept_bytes, shared_page):
+                  key_updates, together, random_inputs, kept_bytes, shared_page, word_numbers,
+                  odd_words):
         GROUPS.append((group.__doc__, []))
         group()
 
 
 def check_exit(case):
-    """What holds of registers, table and page at exit."""
-    code, registers, told, table, page = run(case)
+    """What holds of registers, table, page and words at exit."""
+    code, registers, told, table, page, lent = run(case)
     assert len(case.table) <= 600 and len(case.key) <= 4200 and len(case.page) <= 4200
     assert told == (case.x1 if (case.id, code) in ((FORWARD, "forward"), (UPDATE, "OK")) else None)
     assert table == case.table or case.id in GRANULE and code == "OK", case.text
     assert page == case.page or case.id == KEY and code == "OK", case.text
+    assert lent == case.lent or case.id in GRANULE and code == "OK", case.text
     if code not in ("OK", "forward"):
         assert registers == (WORD + CODES[code], 0, 0), case.text
     elif case.id in GRANULE:
@@ -511,6 +557,9 @@ def check_exit(case):
         assert i is not None and len(table) == len(case.table), case.text
         assert table[:i] + table[i + 1:] == case.table[:i] + case.table[i + 1:], case.text
         assert (case.table[i], table[i]) == ((0, 1) if case.id == DELEGATE else (1, 0)), case.text
+        bits = [(old ^ new) & ~((k == i // 64) << i % 64)
+                for k, (old, new) in enumerate(zip(case.lent, lent))]
+        assert lent[i // 64] >> i % 64 & 1 == table[i] and not any(bits), case.text
     elif case.id == KEY:
         start, k = case.x1 - case.base, len(case.key)
         assert 0 <= start and start + k <= start + case.x2 <= PAGE == len(page), case.text

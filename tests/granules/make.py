@@ -1,16 +1,17 @@
 #!/usr/bin/env python3
-"""Run vectors for setting up the granule record and for lists of granules, made from
-docs/01-scope.md and docs/02-change-requests.md (E1, E2, E8) alone.
+"""Run vectors for setting up the granule record, for lists of granules and for questions to the
+realm words, made from docs/01-scope.md and docs/02-change-requests.md (E1, E2, E6, E8) alone.
 
 Run from the repository's root:  python3 tests/granules/make.py
 It rewrites crates/granule_vectors/data/c000, c001, .. (8-byte words: the boot record's state, cpus,
 base, minor and kept bytes, of which the last four count only when it is up; 0 to delegate, 1 to
-undelegate or 2 to set up; where the granule record stands in the file, the length of the table, and
-of the list or of the banks in bytes; then, of a list, the table, the addresses, and the table at
-exit, else the banks' bytes; at last the granule record: how many of its words are given, and
-these), crates/granule_vectors/stdout (what the program has to print for them in order) and
-tests/granules/CASES.md (what each case is for). The same run always gives the same bytes.
-With a folder as its argument it writes them below that folder.
+undelegate, 2 to set up or 3 to ask the words; where the granule record stands in the file, the
+length of the table, and of the list, or of the banks in bytes, or the index to ask from; then, of a
+list, the table, the addresses, and the table at exit, of a question the table, else the banks'
+bytes; at last the granule record: how many of its words are given, and these; and, but for a
+set-up, the realm words in the same way), crates/granule_vectors/stdout (what the program has to
+print for them in order) and tests/granules/CASES.md (what each case is for). The same run always
+gives the same bytes. With a folder as its argument it writes them below that folder.
 """
 
 import sys
@@ -22,8 +23,9 @@ HERE = Path(__file__).resolve().parent
 
 sys.dont_write_bytecode = True
 sys.path.insert(0, str(HERE.parent))
-from banks import (MANY, TWO, addresses_of, bank_ok, banks_in, faults, granule_at, one, record_of,
-                   set_up, shown, stored, words)
+from banks import (MANY, TWO, addresses_of, bank_ok, banks_in, faults, fit, granule_at,
+                   granules_of, needed, one, put_bit, realm_words, record_of, set_up, shown, stored,
+                   usual_words, words, words_line)
 from vectors import write_all
 
 WORD = 2**64
@@ -31,19 +33,22 @@ ONES = WORD - 1
 TOP = 2**52                             # where memory ends
 BASE = 0x80000000                       # B, that every record keeps
 STATES = ("fresh", "up", "closed")      # a file has the index
-DELEGATE, UNDELEGATE, SET_UP = range(3)  # of a move, the byte that a granule must have
+DELEGATE, UNDELEGATE, SET_UP, ASK = range(4)    # of a move, the byte that a granule must have
 NAMES = ("delegate", "undelegate", "set up")
 CODES = {"OK": 0, "UNK": -1, "BAD_ADDR": -2, "BAD_PAS": -3, "INVAL": -5}
-Case = namedtuple("Case", "text state direction record table addresses")
+Case = namedtuple("Case", "text state direction record table addresses lent")
 # Of a set-up the record is the one lent before, and the table's length may be any number.
 SetUp = namedtuple("SetUp", "text record length banks")
-Answer = namedtuple("Answer", "code done table")
+Ask = namedtuple("Ask", "text record table index lent")
+Answer = namedtuple("Answer", "code done table lent")
+# None is INVAL; of the next one, "none" is an answer of its own.
+Told = namedtuple("Told", "count next agrees built")
 
 
 # ---- The rules. All arithmetic is on plain numbers. ----
 
 def single(case, table, address):
-    """01, with the granules of 02, E2, and E8: the code of one call, and the granule that it names."""
+    """01, with the granules of 02, E2, and E8: the code of one call, and the granule it names."""
     index = granule_at(case.record, len(table), address)
     if case.state != "up":
         return "UNK", None
@@ -55,26 +60,45 @@ def single(case, table, address):
 
 
 def run(case):
-    """02, E1: single calls in list order up to the first refusal; x1 counts those done."""
-    table = bytearray(case.table)
+    """02, E1: single calls in list order up to the first refusal; x1 counts those done. 02, E6:
+    INVAL first if the words do not fit; each granule's bit is written with its byte."""
+    table, lent = bytearray(case.table), case.lent
+    if not fit(case.record, lent):
+        return Answer("INVAL", 0, case.table, lent)
     for done, address in enumerate(case.addresses):
         code, index = single(case, table, address)
         if code != "OK":
-            return Answer(code, done, bytes(table))
+            return Answer(code, done, bytes(table), lent)
         table[index] = 1 - case.direction
-    return Answer("OK", len(case.addresses), bytes(table))
+        lent = put_bit(lent, index, 1 - case.direction)
+    return Answer("OK", len(case.addresses), bytes(table), lent)
+
+
+def ask(case):
+    """02, E6: the answers to all four questions."""
+    n, lent = granules_of(case.record), case.lent
+    if not fit(case.record, lent):
+        return Told(None, None, None, None)
+    hits = [i for i in range(n) if lent[i // 64] >> i % 64 & 1]
+    later = [i for i in hits if i >= case.index]
+    hit = None if case.index >= n else later[0] if later else "none"
+    made = realm_words(case.table) if len(case.table) == n else None
+    return Told(len(hits), hit, None if made is None else "yes" if made == lent else "no", made)
 
 
 def file_of(case):
     """The bytes of a case's file."""
     if isinstance(case, SetUp):
         up, direction, length, count = (0, 0, 0, 0, 0), SET_UP, case.length, len(case.banks)
-        body = case.banks
+        body, lent = case.banks, None
+    elif isinstance(case, Ask):
+        up, direction, length, count = (0, 0, 0, 0, 0), ASK, len(case.table), case.index
+        body, lent = case.table, case.lent
     else:
         up, direction = (STATES.index(case.state), 8, BASE, 5, 0), case.direction
         length, count = len(case.table), len(case.addresses)
-        body = case.table + words(*case.addresses) + run(case).table
-    return words(*up, direction, 72 + len(body), length, count) + body + stored(case.record)
+        body, lent = case.table + words(*case.addresses) + run(case).table, case.lent
+    return words(*up, direction, 72 + len(body), length, count) + body + stored(case.record, lent)
 
 
 def expected(n, case):
@@ -83,10 +107,16 @@ def expected(n, case):
         code, record = set_up(case.banks, case.length, case.record)
         return (f"case {n:03}\nset_up {CODES[code] % WORD:016x}\n"
                 f"record{''.join(f' {word:x}' for word in record)}\n")
+    if isinstance(case, Ask):
+        told = ask(case)
+        count, hit, agrees = ("INVAL" if said is None else said for said in told[:3])
+        built = "INVAL" if told.built is None else "OK"
+        return (f"case {n:03}\ncount {count}\nnext {hit}\nagrees {agrees}\nbuild {built}\n"
+                f"{words_line(case.lent if told.built is None else told.built)}\n")
     answer = run(case)
     registers = (CODES[answer.code] % WORD, answer.done, 0)
     return (f"case {n:03}\nregisters {' '.join(f'{word:016x}' for word in registers)}\n"
-            "table as expected\n")
+            f"table as expected\n{words_line(answer.lent)}\n")
 
 
 # ---- The case list ----
@@ -107,15 +137,33 @@ def note(case):
         GROUPS[-1][1].append(case)
 
 
-def add(code, done, direction, text, addresses, state="up", record=None, table=None):
+def add(code, done, direction, text, addresses, state="up", record=None, table=None, lent=None):
     """Note a list with the code and the number done that it has to give; None if not said. Unless
-    said otherwise the record has one bank at G, with the table's granules."""
+    said otherwise the record has one bank at G, with the table's granules, and the words fit."""
     table = bytes([direction]) * 8 if table is None else bytes(table)
     record = one(G, len(table)) if record is None else record
-    case = Case(f"{NAMES[direction]}: {text}", state, direction, record, table, addresses)
+    lent = usual_words(record, table) if lent is None else tuple(lent)
+    case = Case(f"{NAMES[direction]}: {text}", state, direction, record, table, addresses, lent)
     answer = run(case)
     assert (code, done) in ((None, None), answer[:2]), (case.text, answer[:2])
     note(case)
+
+
+def question(text, table, index, record=None, lent=None, **said):
+    """Note a question, with the answers that are said."""
+    record = of_length(len(table)) if record is None else record
+    lent = usual_words(record, table) if lent is None else tuple(lent)
+    case = Ask(f"ask: {text}", record, bytes(table), index, lent)
+    told = ask(case)._asdict()
+    assert all(told[name] == value for name, value in said.items()), (text, told)
+    note(case)
+
+
+def of_length(n):
+    """A record of n granules: in two banks where there are two."""
+    if n < 2:
+        return one(G, n) if n else ()
+    return record_of([(G, 4096), (G + 8192, 4096 * (n - 1))])
 
 
 def make(code, text, banks, length=None, record=OLD):
@@ -458,6 +506,149 @@ def shared_lists():
             table=table, **given)
 
 
+SIZES = (0, 1, 63, 64, 65, 127, 128, 4096)
+
+
+def sized(n):
+    """A table of n granules with some Realm ones: the last hit is not the last granule, if it can
+    be; other bytes than 0 and 1 are there too."""
+    table = bytearray(2 * (i % 3 == 0) + 255 * (i % 5 == 1) & 255 for i in range(n))
+    for i in (0, 5, 62, 63, 64, 100, 126, 1000, 4000):
+        if i < n - 1 or (i, n) == (0, 1):
+            table[i] = 1
+    return bytes(table)
+
+
+def word_lists():
+    """02, E6: lists with words of each length, one word too few and one too many, up or not"""
+    for n in SIZES:
+        record = of_length(n)
+        every = [address for bank in (record[1:3], record[3:5]) if bank
+                 for address in addresses_of([bank])]
+        picks = [every[i] for i in sorted({0, 1, 62, 63, 64, 65, 126, 127, 4032, n - 2, n - 1})
+                 if 0 <= i < n]
+        for way in (DELEGATE, UNDELEGATE):
+            same = {"record": record, "table": bytes([way]) * n}
+            add("OK", len(picks), way, f"{n:,} granules, {needed(n)} words", picks, **same)
+            for what, lent in (("one word too few", realm_words(same["table"])[1:]),
+                               ("one word too many", (*realm_words(same["table"]), 0))):
+                if len(lent) == needed(n):
+                    continue
+                add("INVAL", 0, way, f"{n:,} granules, {what}", picks, lent=lent, **same)
+                if n in (0, 1, 64, 65) and way == n % 2:
+                    add("INVAL", 0, way, f"{n:,} granules, {what}, an empty list", [], lent=lent,
+                        **same)
+                    add("INVAL", 0, way, f"{n:,} granules, {what}, record fresh", picks,
+                        state="fresh", lent=lent, **same)
+    for way in (DELEGATE, UNDELEGATE):
+        for text, lent in (("no word", ()), ("80 words", (ONES,) * 80)):
+            add("INVAL", 0, way, f"{text} for 8 granules, an empty list, record closed", [],
+                state="closed", lent=lent)
+        for text, record in (("no bank", ()), ("a count of 17", (17, *record_of(MANY)[1:]))):
+            add("INVAL", 0, way, f"{text}, a table of 136, its three words", at(0), record=record,
+                table=bytes([way]) * 136, lent=(0, 0, 0))
+        add("BAD_ADDR", 0, way, "a table of 65, the one word of the record's 64", at(0),
+            record=one(G, 64), table=bytes([way]) * 65)
+        add("INVAL", 0, way, "a table of 65, its two words, the record's 64 have one", at(0),
+            record=one(G, 64), table=bytes([way]) * 65, lent=(0, 0))
+
+
+def odd_words():
+    """02, E6: words at odds with the table, which decides; the granule's bit alone is written"""
+    indices = (0, 63, 64, 127, 128, 129)
+    for way in (DELEGATE, UNDELEGATE):
+        table = bytearray([way]) * 130
+        flipped = tuple(ONES - word for word in realm_words(table))
+        for text, lent in (("all zero", (0,) * 3), ("all ones", (ONES,) * 3),
+                           ("the table's, flipped", flipped),
+                           ("the table's, spare bits set", (*realm_words(table)[:2], ONES - 3)),
+                           ("junk", (0x0123456789ABCDEF, 0xA5A5A5A5A5A5A5A5, 0x5A5A5A5A5A5A5A5A))):
+            add("OK", 6, way, f"words {text}", at(*indices), table=table, lent=lent)
+            if text != "all ones":
+                add("BAD_PAS", 2, way, f"words {text}, then a repeat", at(128, 63, 128, 64),
+                    table=table, lent=lent)
+        mixed = bytearray(table)
+        mixed[64] = 1 - way             # its bit says that it is still to be done
+        add("BAD_PAS", 1, way, "the bit right, the byte wrong", at(63, 64), table=mixed,
+            lent=realm_words(table))
+        mixed[65] = 2
+        add("BAD_PAS", 1, way, "byte 2", at(63, 65), table=mixed, lent=(ONES,) * 3)
+        add("BAD_ADDR", 1, way, "words at odds, an address off the table", at(64, 130),
+            table=table, lent=flipped)
+        add("UNK", 0, way, "words at odds, record closed", at(64), state="closed", table=table,
+            lent=flipped)
+
+
+def questions():
+    """02, E6: how many, the next one, agreement and build, at each index that counts"""
+    for n in SIZES:
+        table, held = sized(n), realm_words(sized(n))
+        hits = [i for i, byte in enumerate(table) if byte == 1]
+        last = hits[-1] if hits else 0
+        for text, index in (("0", 0), ("at a hit", last), ("behind a hit", (hits or [0])[0] + 1),
+                            ("behind the last hit", last + 1), ("the last granule", n - 1),
+                            ("the number of granules", n),
+                            ("the last spare bit", 64 * len(held) - 1), ("2^64 - 1", ONES)):
+            if 0 <= index and (index < ONES or n in (0, 64, 65)):
+                question(f"{n:,} granules, index {text}", table, index, count=len(hits),
+                         agrees="yes", built=held)
+        if n == 0:
+            question("no granule, a word", b"", 0, lent=(0,), count=None, built=None)
+            continue
+        for text, lent in (("one word too few", held[1:]), ("one word too many", (*held, 0))):
+            question(f"{n:,} granules, {text}", table, 0, lent=lent, count=None, next=None,
+                     agrees=None, built=None)
+        question(f"{n:,} granules, none Realm", bytes([255] * n), 0, count=0, next="none",
+                 agrees="yes")
+        question(f"{n:,} granules, the last alone Realm", bytes(n - 1) + b"\1", 0, count=1,
+                 next=n - 1)
+        junk = tuple((0x9E3779B97F4A7C15 * (i + 1)) % WORD for i in range(len(held)))
+        question(f"{n:,} granules, junk in the words", table, n // 2, lent=junk, agrees="no",
+                 built=held)
+
+
+def spare_bits():
+    """02, E6: set spare bits are not counted and not hit; they do not agree; build clears them"""
+    for n in (1, 63, 65, 127):
+        table, k = bytes(n), needed(n)
+        spare = (*[0] * (k - 1), ONES - (1 << n % 64) + 1)
+        for index, hit in ((0, "none"), (n - 1, "none"), (n, None)):
+            question(f"{n} granules, every spare bit set, index {index}", table, index, lent=spare,
+                     count=0, next=hit, agrees="no", built=(0,) * k)
+    for n, bit in ((65, 1), (127, 63)):
+        question(f"{n} granules Realm, spare bit {bit} of the last word set", bytes([1] * n), 64,
+                 lent=put_bit(realm_words([1] * n), 64 + bit, 1), count=n, agrees="no",
+                 built=realm_words([1] * n))
+    for n in (64, 128):
+        question(f"{n} granules, every bit set", bytes(n), n - 1, lent=(ONES,) * needed(n), count=n,
+                 next=n - 1, agrees="no", built=(0,) * needed(n))
+        question(f"{n} granules Realm", bytes([1] * n), n - 1, count=n, next=n - 1, agrees="yes")
+
+
+def odd_tables():
+    """02, E6: agreement and build with a table of another length, and one bit or byte off"""
+    record = of_length(65)
+    for n in (0, 64, 66, 128, 130):
+        question(f"65 granules, a table of {n}", bytes([1] * n), 3, record=record, lent=(8, 1),
+                 count=2, next=3, agrees=None, built=None)
+    question("no granule, a table of 1", b"\1", 0, record=(), lent=(), count=0, next=None,
+             agrees=None, built=None)
+    question("a count of 17, no word", bytes(8), 0, record=(17, G, 8 * 4096), count=0, next=None,
+             agrees=None, built=None)
+    question("a count of 17, no word, no table", b"", 0, record=(17, G, 8 * 4096), count=0,
+             next=None, agrees="yes", built=())
+    for i in (0, 63, 64):
+        lent = put_bit(realm_words(bytes(65)), i, 1)
+        question(f"65 granules, bit {i} set alone", bytes(65), i, lent=lent, count=1, next=i,
+                 agrees="no", built=(0, 0))
+        for byte in (2, 3, 129, 255):
+            table = bytearray(65)
+            table[i] = byte
+            if i == 64 or byte == 255:
+                question(f"65 granules, byte {byte} at {i}, its bit set", table, 0, lent=lent,
+                         count=1, next=i, agrees="no", built=(0, 0))
+
+
 def random_lists():
     """Random lists"""
     dice = Random(11)
@@ -473,7 +664,7 @@ def random_lists():
 def random_banks():
     """Random banks: lists over them, and set-ups"""
     dice = Random(12)
-    for i in range(60):
+    for i in range(56):
         low, held = 4096 * dice.randrange(2**30), []
         for _ in range(1 + dice.randrange(16)):
             low += 4096 * dice.choice((0, 0, 1, 2, dice.randrange(2**20)))
@@ -508,17 +699,29 @@ def check():
         done = [granule_at(case.record, len(case.table), address)
                 for address in case.addresses[:answer.done]]
         assert changed == sorted(done) and len(case.addresses) <= 600, case.text
-        assert (answer.code == "OK") == (answer.done == len(case.addresses)), case.text
-    assert len(cases) <= 1000 and max(len(file_of(case)) for case in cases) <= 8192
+        bits = [(answer.lent[i // 64] ^ case.lent[i // 64]) >> i % 64 & 1
+                for i in range(64 * len(case.lent))]
+        assert not any(bit and i not in done for i, bit in enumerate(bits)), case.text
+        if case.lent == realm_words(case.table):        # agreement is kept
+            assert answer.lent == realm_words(answer.table), case.text
+        whole = answer.done == len(case.addresses)
+        assert answer.code == "INVAL" or (answer.code == "OK") == whole, case.text
+    assert len(cases) <= 1000 and max(len(file_of(case)) for case in cases) <= 12288
     for way in (DELEGATE, UNDELEGATE):
         tally = Counter(run(case).code for case in moves if case.direction == way)
-        assert set(tally) == set(CODES) - {"INVAL"}, tally
+        assert set(tally) == set(CODES), tally
         print(f"{NAMES[way]}:", ", ".join(f"{n} {code}" for code, n in sorted(tally.items())))
     ups = [case for case in cases if isinstance(case, SetUp)]
     alone = {", ".join(faults(banks_in(case.banks))) for case in ups if len(case.banks) % 16 == 0}
     assert {"", "no bank", "more than 16", "rule", "order", "overlap"} <= alone, alone
     tally = Counter(set_up(case.banks, case.length, case.record)[0] for case in ups)
     print(f"set up: {tally['OK']} OK, {tally['INVAL']} INVAL")
+    asked = [ask(case) for case in cases if isinstance(case, Ask)]
+    for told in asked:                  # the first two questions look at the words alone
+        assert (told.count is None) <= (told.next is None) and (told.agrees is None) == (
+            told.built is None), told
+    assert {told.agrees for told in asked} == {"yes", "no", None}
+    print(f"ask: {len(asked)}")
     print(f"{len(cases)} cases")
 
 
@@ -526,6 +729,10 @@ def case_of(n, case):
     """The file of a case, what the program prints for it, and its row of CASES.md."""
     if isinstance(case, SetUp):
         answer = f"`{set_up(case.banks, case.length, case.record)[0]}`"
+    elif isinstance(case, Ask):
+        count, hit, agrees, built = ask(case)
+        said = (count, hit, agrees, None if built is None else "OK")
+        answer = ", ".join("`INVAL`" if item is None else str(item) for item in said)
     else:
         answer = f"`{run(case).code}`, {run(case).done} done"
     return file_of(case), expected(n, case), case.text, answer
@@ -534,7 +741,8 @@ def case_of(n, case):
 if __name__ == "__main__":
     for group in (set_up_counts, set_up_order, set_up_rule, set_up_sums, set_up_lent, set_up_pages,
                   empty, whole, banks, forged, records, stopped, repeats, random_lists,
-                  random_banks, shared, shared_lists):
+                  random_banks, shared, shared_lists, word_lists, odd_words, questions, spare_bits,
+                  odd_tables):
         GROUPS.append((group.__doc__, []))
         group()
     check()

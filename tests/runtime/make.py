@@ -1,7 +1,7 @@
 #!/usr/bin/env python3
 """Run vectors for the runtime as a whole, made from docs/01-scope.md and docs/02-change-requests.md
-(E2, E5, E8) alone: every call goes through the dispatcher; the platform token, token signing, the
-challenge lookup, the signer's own step and the oldest request are tried at each edge, in sequences
+(E2, E5, E6, E8) alone: every call goes through the dispatcher; the platform token, token signing,
+the challenge lookup, the signer's own step and the oldest request are tried at each edge, in sequences
 on one state.
 
 Run from the repository's root:  python3 tests/runtime/make.py
@@ -9,8 +9,8 @@ It rewrites crates/runtime_vectors/data/c000, c001, .. (8-byte words: the record
 base, minor and kept bytes; where the granule record stands in the file, m; the session: 0 or 1,
 whole, sent; the places of page, table, realm key, public key and queue, a place being an offset in
 the file and a length; the number of operations; then the operations, the bytes that the places
-name, and the granule record: how many of its words are given, and these),
-crates/runtime_vectors/stdout (what the program has to print for them in order) and
+name, the granule record: how many of its words are given, and these; and the realm words in the
+same way), crates/runtime_vectors/stdout (what the program has to print for them in order) and
 tests/runtime/CASES.md (what each case is for). The same run always gives the same bytes. With a
 folder as its argument it writes them below that folder.
 """
@@ -25,8 +25,8 @@ HERE = Path(__file__).resolve().parent
 
 sys.dont_write_bytecode = True
 sys.path[:0] = [str(HERE.parent), str(HERE.parent / "reader")]
-from banks import (MANY, TWO, addresses_of, granule_at, granule_fails, meant, one, record_of,
-                   stored, words)
+from banks import (MANY, TWO, addresses_of, fit, granule_at, granule_fails, meant, one, put_bit,
+                   realm_words, record_of, stored, usual_words, words, words_line)
 from make import field_pages, full, kept_for, read
 from vectors import write_all
 
@@ -46,8 +46,9 @@ Request = namedtuple("Request", "algorithm granule ticket hashid hash")
 Response = namedtuple("Response", "granule ticket length signature")
 # One side of the queue as it is stored: its places, of which the first `count` wait.
 Line = namedtuple("Line", "places count")
-World = namedtuple("World", "state cpus base minor kept record m key public page table session requests "
-                            "responses")
+# Where no realm words are said, `lent` None, the case is given those that fit.
+World = namedtuple("World", "state cpus base minor kept record m key public page table session "
+                            "requests responses lent")
 Op = namedtuple("Op", "kind id x1 x2 x3 x4 busy token signature")
 Check = namedtuple("Check", "name code fails")
 Answer = namedtuple("Answer", "fails code x1 x2 told after")
@@ -138,9 +139,7 @@ def granule_checks(w, op):
 
 
 def command_checks(w, op):
-    """The checks of a listed command, after those of record and page."""
-    if op.id in (DELEGATE, UNDELEGATE):
-        return granule_checks(w, op)
+    """The checks of the other listed commands, after those of record and page."""
     if op.id == KEY:
         return range_checks(w, op.x1, op.x2, "BAD_ADDR") + [
             Check("curve", "INVAL", op.x3 != 0),
@@ -156,7 +155,11 @@ def command_checks(w, op):
 
 
 def checks(w, op):
-    """The checks of an operation in 01's order."""
+    """The checks of an operation in 01's order. 02, E6: the words' number is looked at first, by
+    delegate and undelegate alone."""
+    if op.kind == CALL and op.id in (DELEGATE, UNDELEGATE):
+        return [Check("words", "INVAL", not fit(w.record, w.lent)),
+                Check("not up", "UNK", w.state != "up"), *granule_checks(w, op)]
     up = Check("not up", "UNK", w.state != "up")
     length = Check("length", "UNK", len(w.page) != PAGE)
     if op.kind == SIGN:
@@ -227,7 +230,8 @@ def accepted(w, op):
                                                    responses=joined(w.responses, response)))
     if op.id in (DELEGATE, UNDELEGATE):
         i, byte = granule_at(w.record, len(w.table), op.x1), bytes([op.id == DELEGATE])
-        return 0, 0, None, w._replace(table=w.table[:i] + byte + w.table[i + 1:])
+        return 0, 0, None, w._replace(table=w.table[:i] + byte + w.table[i + 1:],
+                                      lent=put_bit(w.lent, i, byte[0]))
     if op.id == KEY:
         return len(w.key), 0, None, written(w, op.x1, w.key)
     if op.id == TOKEN:
@@ -305,7 +309,7 @@ def file_of(case):
     w = case.start
     head = words(STATES.index(w.state), w.cpus, w.base, w.minor, w.kept, pool_at + len(pool), w.m,
                  w.session is not None, *(w.session or (0, 0)))
-    return head + places + words(len(case.ops)) + ops + bytes(pool) + stored(w.record)
+    return head + places + words(len(case.ops)) + ops + bytes(pool) + stored(w.record, w.lent)
 
 
 def hexes(*numbers):
@@ -335,7 +339,7 @@ def expected(number_of_case, case):
         session = "idle" if w.session is None else f"{w.session[0]} {w.session[1]}"
         text += answer_text(answer)
         text += f"session {session}, queue {w.requests.count} {w.responses.count}"
-        text += ", page same, table same\n"
+        text += f", page same, table same, {words_line(w.lent)}\n"
     last = case.answers[-1].after
     for r in waiting(last.requests):
         text += "request" + request_text(r)
@@ -398,7 +402,7 @@ def page_of(*items, base=LENT):
 # 40 requests of tickets 0, 1, .. in a row; from 3,200 on there is room for what is written.
 ASKED = page_of(0, b"".join(request_bytes(request(n), 17 * n % 256) for n in range(40)))
 ALL = World("up", 8, B, 5, 0, one(G, 5), 15, SECRET[:96], OTHER[:97], LENT[:PAGE],
-            bytes([0, 1, 2, 3, 255]), None, EMPTY, EMPTY)
+            bytes([0, 1, 2, 3, 255]), None, EMPTY, EMPTY, None)
 
 
 def show(n):
@@ -418,6 +422,8 @@ def add(text, world, *steps):
     """Note a case, unless the same is there already. A step is an operation with its outcome: ""
     if it is accepted, or all checks that fail with commas between ("too long.." leaves those after
     it unsaid), None if that is not said; and, where told, x1 and x2."""
+    if world.lent is None:
+        world = world._replace(lent=usual_words(world.record, world.table))
     w, ops, answers = world, [], []
     for outcome, op, registers in steps:
         answer = step(w, op)
@@ -911,6 +917,13 @@ def identities():
                          ("a count of 2^64 - 1", (ONES, *one(G, 5)[1:]))):
         each(f"{text}, which only 0xC40001B0 and B1 mind", world._replace(record=record),
              (DELEGATE, UNDELEGATE), "banks, table, off")
+    for text, lent in (("no word", ()), ("a word too many", (ONES, ONES))):
+        each(f"{text}, which only 0xC40001B0 and B1 mind", world._replace(lent=lent),
+             (DELEGATE, UNDELEGATE), "words")
+        add(f"{text}, which 0xC40001B0 and B1 mind before the record", world._replace(
+            lent=lent, state="closed"), *(
+                usual(command, outcome="words, not up" if command in (DELEGATE, UNDELEGATE)
+                      else "" if command == FORWARD else "not up") for command in LISTED))
     for state in STATES:
         add(f"ids that are not listed, record {state}", world._replace(state=state),
             *(call("id", other, 0, 0, 0, 0) for other in near),
@@ -1102,7 +1115,14 @@ def random_sequences():
                      table=bytes(pick(3) for _ in range(granules)),
                      session=one_of(None, None, (whole, pick(whole)), (whole, pick(whole)),
                                     (whole, whole + pick(9))),
-                     requests=line(stored_request), responses=line(stored_response))
+                     requests=line(stored_request), responses=line(stored_response),
+                     lent=random_words(len(addresses_of(held))))
+
+    def random_words(n):
+        """Mostly those that fit; else any bits, or a word more or less."""
+        k = (n + 63) // 64
+        return one_of(None, None, None, tuple(pick(WORD) for _ in range(k)),
+                      tuple(pick(WORD) for _ in range(one_of(k, k, k, k + 1, k - 1))))
 
     def token_op(w, tokens):
         pa = w.base + one_of(pick(4096), 2000 + pick(2000), 2000 + pick(2000), 4090 + pick(8))
@@ -1131,7 +1151,7 @@ def random_sequences():
             command, one_of(*granule_edges(w.record)) + pick(9) // 8)
         return call(None, command, min(x1, ONES), one_of(140, pick(200)), pick(8) // 7)
 
-    for i in range(200):
+    for i in range(170):
         w = world()
         whole = w.session[0] if w.session else 1 + pick(300)
         main = some(whole)
@@ -1290,7 +1310,8 @@ def random_kept():
 def shared_page():
     """02, E8: the shared page stays Realm, so keys, hunks and responses go into Realm memory"""
     for where, i in (("first", 0), ("middle", 2), ("last", 4)):
-        world = start(page=ASKED, record=one(B - 4096 * i, 5), table=bytes([1] * 5), responses=responses(1))
+        world = start(page=ASKED, record=one(B - 4096 * i, 5), table=bytes([1] * 5),
+                      responses=responses(1))
         add(f"B the {where} granule: undelegated, then written to", world,
             call("shared", UNDELEGATE, B), call("", KEY, B + 3400, 96, 0),
             call("shared", UNDELEGATE, B),
@@ -1304,13 +1325,52 @@ def shared_page():
                 call("not up, shared", UNDELEGATE, B), call("not up, byte", DELEGATE, B))
 
 
+def words_of_each_length():
+    """02, E6: the words beside tables of each length, one too few and one too many"""
+    for n in (0, 1, 63, 64, 65, 127, 128):
+        world = start(record=one(G, n) if n else (), table=bytes(n))
+        picks = [G + 4096 * i for i in (0, 1, 62, 63, 64, 65, 126, 127) if i < n]
+        there = [call("", DELEGATE, at) for at in picks]
+        back = [call("", UNDELEGATE, at) for at in picks[::-1]]
+        if n:
+            add(f"{n} granules: to Realm, again, and back", world, *there,
+                *(call("byte", DELEGATE, at) for at in picks), *back)
+        for what, lent in (("one word too few", (ONES,) * ((n + 63) // 64 - 1)),
+                           ("one word too many", (ONES,) * ((n + 63) // 64 + 1))):
+            if n == 0 and not lent:
+                continue
+            fails = "words" if n else "words, banks, off"
+            add(f"{n} granules: {what}", world._replace(lent=lent), call(fails, DELEGATE, G),
+                call("words..", UNDELEGATE, G), call("", FORWARD, 1), call("", FEATURES, 0),
+                call("words..", DELEGATE, G + 1))
+
+
+def odd_words():
+    """02, E6: words at odds with the table: it decides, and the granule's bit alone is written"""
+    table = bytes((0, 1, 2, 255)[i % 4] for i in range(130))
+    held = realm_words(table)
+    steps = [call("", DELEGATE, G), call("byte", DELEGATE, G), call("", UNDELEGATE, G),
+             call("", DELEGATE, G + 4096 * 64), call("", DELEGATE, G + 4096 * 128),
+             call("", UNDELEGATE, G + 4096 * 129), call("byte", UNDELEGATE, G + 4096 * 63),
+             call("byte", DELEGATE, G + 4096 * 66), call("off", DELEGATE, G + 4096 * 130),
+             call("address", UNDELEGATE, G + 4097), call("", KEY, PA, 96, 0)]
+    for text, lent in (("all zero", (0,) * 3), ("all ones", (ONES,) * 3),
+                       ("flipped", tuple(ONES - word for word in held)),
+                       ("right but for a spare bit", (*held[:2], held[2] + 2**63)),
+                       ("right", held)):
+        add(f"words {text}", start(record=one(G, 130), table=table, lent=lent), *steps)
+    add("a table of another length than the record's", start(record=one(G, 130), table=table[:129],
+                                                             lent=held),
+        call("table", DELEGATE, G), call("table", UNDELEGATE, G + 4096))
+
+
 # ---- Output ----
 
 def build_all():
     for group in (examples, buffers, challenge_sizes, tokens, whole_tokens, sessions, challenges,
                   signing_edges, pushes, pulls, signer, rounds, forged, identities, banks, pairs,
                   mixed, random_sequences, kept_bytes, kept_and_room, kept_pairs, kept_manifests,
-                  random_kept, shared_page):
+                  random_kept, shared_page, words_of_each_length, odd_words):
         GROUPS.append((group.__doc__, []))
         group()
 
@@ -1324,10 +1384,13 @@ def check_step(w, op, answer):
         return
     kept = [name for name in World._fields if getattr(w, name) == getattr(after, name)]
     free = {SIGN: ("requests", "responses")}.get(op.kind) or {
-        DELEGATE: ("table",), UNDELEGATE: ("table",), KEY: ("page",), TOKEN: ("page", "session"),
-        SIGNING: ("page", "requests", "responses"), FEATURES: (), UPDATE: ()}[op.id]
+        DELEGATE: ("table", "lent"), UNDELEGATE: ("table", "lent"), KEY: ("page",),
+        TOKEN: ("page", "session"), SIGNING: ("page", "requests", "responses"), FEATURES: (),
+        UPDATE: ()}[op.id]
     assert set(kept) | set(free) == set(World._fields), (op, kept)
     assert len(after.page) == len(w.page) and len(after.table) == len(w.table)
+    if w.lent == realm_words(w.table):          # agreement is kept
+        assert after.lent == realm_words(after.table), op
     if op.kind == CALL and op.id == TOKEN:
         sent = 0 if op.x3 or w.session is None else min(w.session[1], len(op.token))
         at = op.x1 - w.base

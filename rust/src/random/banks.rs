@@ -3,7 +3,9 @@
 use super::pages::Reading;
 use super::Random;
 use crate::exports::GranulesImage;
+use crate::reference::banks::granules;
 use crate::reference::layout::PAGE;
+use crate::reference::realm_words::put;
 use crate::reference::writer::write;
 
 /// Memory ends at 2^52.
@@ -24,6 +26,28 @@ impl Random {
             _ => {}
         }
         (record, in_table)
+    }
+
+    /// Words for a record and a table: mostly those of the table, some at odds with it, with spare bits set, or too many or too few.
+    pub fn words(&mut self, record: &GranulesImage, table: &[u8]) -> Vec<u64> {
+        let number = granules(record).div_ceil(64).min(512) as usize;
+        let mut words = vec![0; number];
+        for (granule, &state) in table.iter().enumerate().take(64 * number) {
+            put(&mut words, granule, state == 1);
+        }
+        match self.below(8) {
+            0 => words.iter_mut().for_each(|word| *word ^= self.edge()),
+            1 => words.fill_with(|| self.pick(&[0, u64::MAX, 1 << 63])),
+            2 if number > 0 => words[number - 1] |= u64::MAX << self.below(64),
+            _ => {}
+        }
+        match self.below(12) {
+            0 => words.push(self.edge()),
+            1 => drop(words.pop()),
+            2 => words = vec![u64::MAX; self.index(4)],
+            _ => {}
+        }
+        words
     }
 
     /// Up to 16 good banks of a few granules, some touching, some to the end of memory.

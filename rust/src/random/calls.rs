@@ -48,6 +48,7 @@ pub struct Scene {
     pub state: State,
     pub page: Vec<u8>,
     pub table: Vec<u8>,
+    pub words: Vec<u64>,
     pub granules: GranulesImage,
     pub realm_key: Vec<u8>,
     pub public_key: Vec<u8>,
@@ -84,6 +85,7 @@ impl Scene {
                 let mut lent = Lent {
                     page: &mut self.page,
                     table: &mut self.table,
+                    words: &mut self.words,
                     banks: &self.granules,
                     realm_key: &self.realm_key,
                     public_key: &self.public_key,
@@ -120,6 +122,7 @@ impl Random {
             0 => self.pick(&[0, 79, 4095, 4097]),
             _ => PAGE,
         };
+        let table = self.table(in_table);
         let mut scene = Scene {
             state: State {
                 record: self.record(),
@@ -127,7 +130,8 @@ impl Random {
                 queue: self.queue(),
             },
             page: self.bytes(page_length),
-            table: self.table(in_table),
+            words: Vec::new(),
+            table,
             granules,
             realm_key: self.key(),
             public_key: self.key(),
@@ -138,6 +142,7 @@ impl Random {
         if self.one_in(3) {
             self.share(&mut scene);
         }
+        scene.words = self.words(&scene.granules, &scene.table);
         scene
     }
 

@@ -1,22 +1,37 @@
-//! Delegate and undelegate, of one granule and over lists, with a table of one byte a granule.
+//! Delegate and undelegate, of one granule and over lists, with a table of one byte a granule and words of one bit.
 
 use super::banks::{index, BankWords};
 use super::boot::Record;
 use super::codes::{need_up, Error, Outcome};
+use super::realm_words::{need_fit, put};
 
 const NON_SECURE: u8 = 0;
 const REALM: u8 = 1;
 
 /// From Non-secure to Realm. The table is the granules of the banks, joined in bank order.
 #[inline]
-pub fn delegate(record: Record, banks: &BankWords, table: &mut [u8], address: u64) -> Outcome {
-    change(record, banks, table, address, NON_SECURE, REALM)
+pub fn delegate(
+    record: Record,
+    banks: &BankWords,
+    table: &mut [u8],
+    words: &mut [u64],
+    address: u64,
+) -> Outcome {
+    need_fit(banks, words)?;
+    change(record, banks, table, words, address, NON_SECURE, REALM)
 }
 
 /// From Realm to Non-secure; the shared page is refused.
 #[inline]
-pub fn undelegate(record: Record, banks: &BankWords, table: &mut [u8], address: u64) -> Outcome {
-    change(record, banks, table, address, REALM, NON_SECURE)
+pub fn undelegate(
+    record: Record,
+    banks: &BankWords,
+    table: &mut [u8],
+    words: &mut [u64],
+    address: u64,
+) -> Outcome {
+    need_fit(banks, words)?;
+    change(record, banks, table, words, address, REALM, NON_SECURE)
 }
 
 /// How a list ended: the number of granules done, and the code of the one that was refused.
@@ -27,9 +42,15 @@ pub fn delegate_list(
     record: Record,
     banks: &BankWords,
     table: &mut [u8],
+    words: &mut [u64],
     addresses: &[u64],
 ) -> Listed {
-    in_turn(addresses, |address| delegate(record, banks, table, address))
+    if let Err(error) = need_fit(banks, words) {
+        return (0, Err(error));
+    }
+    in_turn(addresses, |address| {
+        delegate(record, banks, table, words, address)
+    })
 }
 
 /// From Realm to Non-secure, in the same way.
@@ -37,10 +58,14 @@ pub fn undelegate_list(
     record: Record,
     banks: &BankWords,
     table: &mut [u8],
+    words: &mut [u64],
     addresses: &[u64],
 ) -> Listed {
+    if let Err(error) = need_fit(banks, words) {
+        return (0, Err(error));
+    }
     in_turn(addresses, |address| {
-        undelegate(record, banks, table, address)
+        undelegate(record, banks, table, words, address)
     })
 }
 
@@ -60,6 +85,7 @@ fn change(
     record: Record,
     banks: &BankWords,
     table: &mut [u8],
+    words: &mut [u64],
     address: u64,
     from: u8,
     to: u8,
@@ -75,5 +101,6 @@ fn change(
         return Err(Error::BadPas);
     }
     *state = to;
+    put(words, at, to == REALM);
     Ok([0, 0])
 }

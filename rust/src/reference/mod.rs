@@ -12,6 +12,7 @@ pub mod layout;
 pub mod listing;
 pub mod queue;
 pub mod reader;
+pub mod realm_words;
 pub mod runtime;
 pub mod signing;
 pub mod state_blob;

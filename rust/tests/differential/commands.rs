@@ -25,6 +25,7 @@ fn run(pair: &mut Pair, steps: &[Step], names: &[&str]) {
         let mut scene = pair.random.scene();
         pair.load(|random, m| {
             m.table.load(&scene.table, random.index(8));
+            m.words.load(&scene.words);
             m.images.granules.words = scene.granules;
             m.images.record.words = random.record_image();
             m.images.session.words = random.session_image(scene.token.len() as u64);
@@ -90,10 +91,12 @@ fn delegate(pair: &mut Pair, scene: &mut Scene) {
     let [at, ..] = registers(pair, scene, DELEGATE);
     check!(pair, "pbeam_delegate", (at), |S, m| {
         let (images, table) = (&mut m.images, m.table.lent_mut());
+        let words = m.words.lent_mut();
         S::delegate(
             &images.record.words,
             &images.granules.words,
             table,
+            words,
             at,
             &mut images.out.words,
         );
@@ -105,10 +108,12 @@ fn undelegate(pair: &mut Pair, scene: &mut Scene) {
     let [at, ..] = registers(pair, scene, UNDELEGATE);
     check!(pair, "pbeam_undelegate", (at), |S, m| {
         let (images, table) = (&mut m.images, m.table.lent_mut());
+        let words = m.words.lent_mut();
         S::undelegate(
             &images.record.words,
             &images.granules.words,
             table,
+            words,
             at,
             &mut images.out.words,
         );
@@ -127,10 +132,12 @@ fn delegate_list(pair: &mut Pair, scene: &mut Scene) {
     let list = pair.random.granules(scene);
     check!(pair, "pbeam_delegate_list", (list), |S, m| {
         let (images, table) = (&mut m.images, m.table.lent_mut());
+        let words = m.words.lent_mut();
         S::delegate_list(
             &images.record.words,
             &images.granules.words,
             table,
+            words,
             &list,
             &mut images.out.words,
         );
@@ -142,15 +149,88 @@ fn undelegate_list(pair: &mut Pair, scene: &mut Scene) {
     let list = pair.random.granules(scene);
     check!(pair, "pbeam_undelegate_list", (list), |S, m| {
         let (images, table) = (&mut m.images, m.table.lent_mut());
+        let words = m.words.lent_mut();
         S::undelegate_list(
             &images.record.words,
             &images.granules.words,
             table,
+            words,
             &list,
             &mut images.out.words,
         );
     });
     note_list(pair, "pbeam_undelegate_list");
+}
+
+/// Notes what an export on the words answered.
+fn note_words(pair: &mut Pair, name: &'static str) {
+    let answer = pair.model.returned;
+    pair.meet(name, 0, answer);
+}
+
+fn realm_count(pair: &mut Pair, _: &mut Scene) {
+    check!(pair, "pbeam_realm_count", (), |S, m| {
+        let (images, words) = (&mut m.images, m.words.lent());
+        m.returned = S::realm_count(&images.granules.words, words, &mut images.number.words) as i64;
+    });
+    note_words(pair, "pbeam_realm_count");
+}
+
+fn realm_next(pair: &mut Pair, scene: &mut Scene) {
+    let index = match pair.random.below(4) {
+        0 => pair.random.edge(),
+        1 => {
+            64 * scene.words.len() as u64 - pair.random.below(64).min(64 * scene.words.len() as u64)
+        }
+        _ => pair.random.below(scene.table.len() as u64 + 2),
+    };
+    check!(pair, "pbeam_realm_next", (index), |S, m| {
+        let (images, words) = (&mut m.images, m.words.lent());
+        let found = &mut images.number.words;
+        m.returned = S::realm_next(&images.granules.words, words, index, found) as i64;
+    });
+    note_words(pair, "pbeam_realm_next");
+}
+
+fn realm_agrees(pair: &mut Pair, _: &mut Scene) {
+    check!(pair, "pbeam_realm_agrees", (), |S, m| {
+        let (table, words) = (m.table.lent(), m.words.lent());
+        m.returned = S::realm_agrees(&m.images.granules.words, table, words) as i64;
+    });
+    note_words(pair, "pbeam_realm_agrees");
+}
+
+fn realm_build(pair: &mut Pair, _: &mut Scene) {
+    check!(pair, "pbeam_realm_build", (), |S, m| {
+        let (table, words) = (m.table.lent(), m.words.lent_mut());
+        m.returned = S::realm_build(&m.images.granules.words, table, words) as i64;
+    });
+    note_words(pair, "pbeam_realm_build");
+}
+
+/// What the words tell before and after moves.
+#[test]
+fn realm_words() {
+    let mut pair = Pair::new(30);
+    let steps: [Step; 8] = [
+        delegate,
+        undelegate,
+        delegate_list,
+        undelegate_list,
+        realm_count,
+        realm_next,
+        realm_agrees,
+        realm_build,
+    ];
+    let names = [
+        "pbeam_realm_count",
+        "pbeam_realm_next",
+        "pbeam_realm_agrees",
+        "pbeam_realm_build",
+    ];
+    run(&mut pair, &steps, &names);
+    let met = |name: &str| pair.met.keys().filter(|met| met.0 == name).count();
+    assert_eq!(names.map(met), [2, 3, 3, 2]);
 }
 
 pub fn realm_key(pair: &mut Pair, scene: &mut Scene) {
@@ -275,6 +355,7 @@ pub fn call(pair: &mut Pair, scene: &mut Scene) {
             page: m.page.lent_mut(),
             granules: &images.granules.words,
             table: m.table.lent_mut(),
+            words: m.words.lent_mut(),
             key: &scene.realm_key,
             token: &scene.token,
             busy,
@@ -395,12 +476,12 @@ fn single_commands() {
     ];
     run(&mut pair, &steps, &names);
     pair.expect(&[
-        ("pbeam_delegate", 0, &[0, -1, -2, -3]),
-        ("pbeam_undelegate", 0, &[0, -1, -2, -3]),
-        ("pbeam_delegate_list", 0, &[0, -1, -2, -3]),
+        ("pbeam_delegate", 0, &[0, -1, -2, -3, -5]),
+        ("pbeam_undelegate", 0, &[0, -1, -2, -3, -5]),
+        ("pbeam_delegate_list", 0, &[0, -1, -2, -3, -5]),
         ("pbeam_delegate_list", 1, &[0, 1]),
         ("pbeam_delegate_list", 2, &[0, 1]),
-        ("pbeam_undelegate_list", 0, &[0, -1, -2, -3]),
+        ("pbeam_undelegate_list", 0, &[0, -1, -2, -3, -5]),
         ("pbeam_undelegate_list", 1, &[0, 1]),
         ("pbeam_undelegate_list", 2, &[0, 1]),
         ("pbeam_realm_key", 0, &[0, -1, -2, -5]),
@@ -420,8 +501,8 @@ fn calls_by_id() {
     pair.expect(&[
         ("pbeam_call", 0, &[-1]),
         ("pbeam_call", REQ_COMPLETE, &[0]),
-        ("pbeam_call", DELEGATE, &[0, -1, -2, -3]),
-        ("pbeam_call", UNDELEGATE, &[0, -1, -2, -3]),
+        ("pbeam_call", DELEGATE, &[0, -1, -2, -3, -5]),
+        ("pbeam_call", UNDELEGATE, &[0, -1, -2, -3, -5]),
         ("pbeam_call", REALM_KEY, &[0, -1, -2, -5]),
         ("pbeam_call", PLAT_TOKEN, &[0, -1, -2, -5, -6]),
         ("pbeam_call", FEATURES, &[0, -1, -5]),

@@ -109,27 +109,60 @@ fn boot() {
 
 // ---- Commands ----
 
+const INVAL: u64 = -5i64 as u64;
+
+fn ask(banks: &GranulesImage, table: &[u8], realm: &mut [u64], index: u64) -> Told {
+    let ([mut number, mut found], fits) = ([[7]; 2], |x0| x0 != INVAL);
+    let count = fits(Kit::realm_count(banks, realm, &mut number)).then_some(number[0]);
+    let next = Kit::realm_next(banks, realm, index, &mut found);
+    let agrees = Kit::realm_agrees(banks, table, realm);
+    (
+        count,
+        fits(next).then_some((next == 0).then_some(found[0])),
+        fits(agrees).then_some(agrees == 0),
+        fits(Kit::realm_build(banks, table, realm)),
+    )
+}
+
 fn print_list(out: &mut String, input: &[u8]) {
-    if word_at(input, 40) == 2 {
-        return print_set_up(out, input, Kit::set_up_granules);
+    match word_at(input, 40) {
+        2 => return print_set_up(out, input, Kit::set_up_granules),
+        3 => return print_questions(out, input, ask),
+        _ => {}
     }
     let (record, banks) = (record_words(record_at(input)), &granules_at(input, 48));
+    let mut realm = realm_words_at(input, 48);
     let [in_table, length] = [56, 64].map(|at| size_at(input, at));
     let mut rest = &input[72..];
     let mut table = take(&mut rest, in_table).to_vec();
     let list = words(take(&mut rest, 8 * length));
     let mut registers = [0; 3];
     match word_at(input, 40) {
-        0 => Kit::delegate_list(&record, banks, &mut table, &list, &mut registers),
-        _ => Kit::undelegate_list(&record, banks, &mut table, &list, &mut registers),
+        0 => Kit::delegate_list(
+            &record,
+            banks,
+            &mut table,
+            &mut realm,
+            &list,
+            &mut registers,
+        ),
+        _ => Kit::undelegate_list(
+            &record,
+            banks,
+            &mut table,
+            &mut realm,
+            &list,
+            &mut registers,
+        ),
     }
     print_registers(out, registers);
     print_same(out, "table", &table, take(&mut rest, in_table));
+    print_realm_words(out, &realm);
 }
 
 #[test]
 fn granules() {
-    compare("granule_vectors", 801, print_list);
+    compare("granule_vectors", 997, print_list);
 }
 
 fn print_command(out: &mut String, input: &[u8]) {
@@ -141,9 +174,10 @@ fn print_command(out: &mut String, input: &[u8]) {
     let key = take(&mut rest, in_key);
     let mut page = take(&mut rest, in_page).to_vec();
     let (mut registers, mut work) = ([0; 3], [0; 2]);
+    let mut realm = realm_words_at(input, 72);
     match id {
-        0xC400_01B0 => Kit::delegate(&record, banks, &mut table, x1, &mut registers),
-        0xC400_01B1 => Kit::undelegate(&record, banks, &mut table, x1, &mut registers),
+        0xC400_01B0 => Kit::delegate(&record, banks, &mut table, &mut realm, x1, &mut registers),
+        0xC400_01B1 => Kit::undelegate(&record, banks, &mut table, &mut realm, x1, &mut registers),
         0xC400_01B2 => Kit::realm_key(&record, &mut page, key, [x1, x2, x3], &mut registers),
         0xC400_01B4 => Kit::features(&record, x1, &mut registers),
         0xC400_01B6 => Kit::key_update(&record, width, x1, &mut registers, &mut work),
@@ -159,11 +193,12 @@ fn print_command(out: &mut String, input: &[u8]) {
     }
     print_same(out, "table", &table, take(&mut rest, in_table));
     print_same(out, "page", &page, take(&mut rest, in_page));
+    print_realm_words(out, &realm);
 }
 
 #[test]
 fn commands() {
-    compare("command_vectors", 927, print_command);
+    compare("command_vectors", 1000, print_command);
 }
 
 // ---- The runtime ----
@@ -213,6 +248,7 @@ fn call_by_id(out: &mut String, input: &[u8], step: &[u8], images: &mut Images, 
         page: &mut held.page,
         granules: &granules_at(input, 40),
         table: &mut held.table,
+        words: &mut held.realm,
         key: lent(input, 112),
         token: lent_by(input, step, 56),
         busy: word_at(step, 48),
@@ -285,5 +321,5 @@ fn print_runtime(out: &mut String, input: &[u8]) {
 
 #[test]
 fn runtime() {
-    compare("runtime_vectors", 995, print_runtime);
+    compare("runtime_vectors", 994, print_runtime);
 }

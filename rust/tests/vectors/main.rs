@@ -16,6 +16,7 @@ use potterbeam_tests::reference::layout::word_at;
 use potterbeam_tests::reference::listing::{list, list_input};
 use potterbeam_tests::reference::queue::{Queue, Request, Response, Ring, PLACES};
 use potterbeam_tests::reference::reader::array;
+use potterbeam_tests::reference::realm_words;
 use potterbeam_tests::reference::runtime::{call, Call, Lent, Reply, State, TOKEN_SIGN};
 use potterbeam_tests::reference::token::{challenge, Session, TokenCall};
 use potterbeam_tests::reference::writer::write;
@@ -90,6 +91,21 @@ fn granules_at(input: &[u8], at: usize) -> GranulesImage {
         *word = word_at(cell, 0);
     }
     record
+}
+
+/// The realm words, behind the granule record: how many, then these.
+fn realm_words_at(input: &[u8], at: usize) -> Vec<u64> {
+    let stored = &input[size_at(input, at)..];
+    let behind = &stored[8 + 8 * size_at(stored, 0)..];
+    words(&behind[8..][..8 * size_at(behind, 0)])
+}
+
+fn print_realm_words(out: &mut String, realm: &[u64]) {
+    out.push_str("words");
+    for word in realm {
+        write!(out, " {word:016x}").unwrap();
+    }
+    out.push('\n');
 }
 
 /// Takes so many bytes off the front.
@@ -272,11 +288,52 @@ fn print_set_up(out: &mut String, input: &[u8], set_up: SetUp) {
 /// A set-up of a record from the bytes of banks, for a table of so many granules.
 type SetUp = fn(&mut GranulesImage, &[u8], u64) -> u64;
 
+/// What the questions to realm words answer: how many, the next one, agreement, and whether they were built. INVAL is None; the next
+/// one is a granule, or none.
+type Told = (Option<u64>, Option<Option<u64>>, Option<bool>, bool);
+
+fn print_told(out: &mut String, (count, next, agrees, built): Told) {
+    let inval = || "INVAL".to_string();
+    let count = count.map_or_else(inval, |count| count.to_string());
+    let hit = |hit: Option<u64>| hit.map_or("none".to_string(), |hit| hit.to_string());
+    let next = next.map_or_else(inval, hit);
+    let agrees = agrees.map_or("INVAL", |agrees| if agrees { "yes" } else { "no" });
+    let built = if built { "OK" } else { "INVAL" };
+    writeln!(
+        out,
+        "count {count}\nnext {next}\nagrees {agrees}\nbuild {built}"
+    )
+    .unwrap();
+}
+
+/// A side's answers to the questions; it builds the words at last.
+type Asked = fn(&GranulesImage, &[u8], &mut [u64], u64) -> Told;
+
+fn print_questions(out: &mut String, input: &[u8], asked: Asked) {
+    let (banks, mut realm) = (granules_at(input, 48), realm_words_at(input, 48));
+    let table = &input[72..][..size_at(input, 56)];
+    let told = asked(&banks, table, &mut realm, word_at(input, 64));
+    print_told(out, told);
+    print_realm_words(out, &realm);
+}
+
+fn ask(banks: &GranulesImage, table: &[u8], realm: &mut [u64], index: u64) -> Told {
+    (
+        realm_words::count(banks, realm).ok(),
+        realm_words::next(banks, realm, index).ok(),
+        realm_words::agrees(banks, table, realm).ok(),
+        realm_words::build(banks, table, realm).is_ok(),
+    )
+}
+
 fn print_list(out: &mut String, input: &[u8]) {
-    if word_at(input, 40) == 2 {
-        return print_set_up(out, input, Model::set_up_granules);
+    match word_at(input, 40) {
+        2 => return print_set_up(out, input, Model::set_up_granules),
+        3 => return print_questions(out, input, ask),
+        _ => {}
     }
     let (record, banks) = (record_at(input), &granules_at(input, 48));
+    let mut realm = realm_words_at(input, 48);
     let [in_table, length] = [56, 64].map(|at| size_at(input, at));
     let mut rest = &input[72..];
     let mut table = take(&mut rest, in_table).to_vec();
@@ -284,18 +341,19 @@ fn print_list(out: &mut String, input: &[u8]) {
         .map(|_| word_at(take(&mut rest, 8), 0))
         .collect();
     let listed = match word_at(input, 40) {
-        0 => delegate_list(record, banks, &mut table, &list),
-        _ => undelegate_list(record, banks, &mut table, &list),
+        0 => delegate_list(record, banks, &mut table, &mut realm, &list),
+        _ => undelegate_list(record, banks, &mut table, &mut realm, &list),
     };
     let Answer { x0, x1, x2 } = Answer::from(listed);
     writeln!(out, "registers {x0:016x} {x1:016x} {x2:016x}").unwrap();
     let differs = table != take(&mut rest, in_table);
     writeln!(out, "table {}as expected", not_if(differs)).unwrap();
+    print_realm_words(out, &realm);
 }
 
 #[test]
 fn granule_vectors() {
-    compare("granule_vectors", 801, print_list);
+    compare("granule_vectors", 997, print_list);
 }
 
 // ---- Single commands ----
@@ -308,9 +366,10 @@ fn print_command(out: &mut String, input: &[u8]) {
     let mut table = take(&mut rest, in_table).to_vec();
     let key = take(&mut rest, in_key);
     let mut page = take(&mut rest, in_page).to_vec();
+    let mut realm = realm_words_at(input, 72);
     match id {
-        0xC400_01B0 => print_padded(out, delegate(record, banks, &mut table, x1)),
-        0xC400_01B1 => print_padded(out, undelegate(record, banks, &mut table, x1)),
+        0xC400_01B0 => print_padded(out, delegate(record, banks, &mut table, &mut realm, x1)),
+        0xC400_01B1 => print_padded(out, undelegate(record, banks, &mut table, &mut realm, x1)),
         0xC400_01B2 => print_padded(out, realm_key(record, &mut page, key, x1, x2, x3)),
         0xC400_01B4 => print_padded(out, features(record, x1)),
         0xC400_01B6 => {
@@ -326,6 +385,7 @@ fn print_command(out: &mut String, input: &[u8]) {
     let page_differs = page != take(&mut rest, in_page);
     writeln!(out, "table {}as expected", not_if(table_differs)).unwrap();
     writeln!(out, "page {}as expected", not_if(page_differs)).unwrap();
+    print_realm_words(out, &realm);
 }
 
 fn print_padded(out: &mut String, outcome: Outcome) {
@@ -335,7 +395,7 @@ fn print_padded(out: &mut String, outcome: Outcome) {
 
 #[test]
 fn command_vectors() {
-    compare("command_vectors", 927, print_command);
+    compare("command_vectors", 1000, print_command);
 }
 
 // ---- The runtime ----
@@ -456,11 +516,12 @@ fn print_state(out: &mut String, state: &State) {
     write!(out, ", queue {} {}", counts[0], counts[1]).unwrap();
 }
 
-/// Page and table, as they are held or as they are expected.
+/// Page and table, as they are held or as they are expected; and the realm words, which are printed.
 #[derive(Clone, PartialEq)]
 struct Memory {
     page: Vec<u8>,
     table: Vec<u8>,
+    realm: Vec<u64>,
 }
 
 /// The queue holds what waits and nothing else: no count above eight, no length above 104.
@@ -475,6 +536,7 @@ fn operate(out: &mut String, input: &[u8], step: &[u8], state: &mut State, memor
             let mut lent = Lent {
                 page: &mut memory.page,
                 table: &mut memory.table,
+                words: &mut memory.realm,
                 banks: &granules_at(input, 40),
                 realm_key: lent(input, 112),
                 public_key: lent(input, 128),
@@ -546,6 +608,7 @@ fn print_steps<T>(
     let mut held = Memory {
         page: lent(input, 80).to_vec(),
         table: lent(input, 96).to_vec(),
+        realm: realm_words_at(input, 40),
     };
     let mut expected = held.clone();
     for step in input[168..].chunks_exact(136).take(size_at(input, 160)) {
@@ -555,7 +618,8 @@ fn print_steps<T>(
         print_state(out, &state(held_state));
         let page = same_or_differs(held.page == expected.page);
         let table = same_or_differs(held.table == expected.table);
-        writeln!(out, ", page {page}, table {table}").unwrap();
+        write!(out, ", page {page}, table {table}, ").unwrap();
+        print_realm_words(out, &held.realm);
     }
     print_queue(out, &state(held_state).queue);
 }
@@ -571,5 +635,5 @@ fn print_runtime(out: &mut String, input: &[u8]) {
 
 #[test]
 fn runtime_vectors() {
-    compare("runtime_vectors", 995, print_runtime);
+    compare("runtime_vectors", 994, print_runtime);
 }
