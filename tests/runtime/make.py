@@ -46,7 +46,8 @@ Request = namedtuple("Request", "algorithm granule ticket hashid hash")
 Response = namedtuple("Response", "granule ticket length signature")
 # One side of the queue as it is stored: its places, of which the first `count` wait.
 Line = namedtuple("Line", "places count")
-# Where no realm words are said, `lent` None, the case is given those that fit.
+# Where no realm words are said, `lent` None, the case is given those that fit, or none if it moves no
+# granule: no other command looks at them, and the program may print 1 MiB in all.
 World = namedtuple("World", "state cpus base minor kept record m key public page table session "
                             "requests responses lent")
 Op = namedtuple("Op", "kind id x1 x2 x3 x4 busy token signature")
@@ -423,7 +424,8 @@ def add(text, world, *steps):
     if it is accepted, or all checks that fail with commas between ("too long.." leaves those after
     it unsaid), None if that is not said; and, where told, x1 and x2."""
     if world.lent is None:
-        world = world._replace(lent=usual_words(world.record, world.table))
+        moves = any(op.kind == CALL and op.id in (DELEGATE, UNDELEGATE) for _, op, _ in steps)
+        world = world._replace(lent=usual_words(world.record, world.table) if moves else ())
     w, ops, answers = world, [], []
     for outcome, op, registers in steps:
         answer = step(w, op)
@@ -1151,7 +1153,7 @@ def random_sequences():
             command, one_of(*granule_edges(w.record)) + pick(9) // 8)
         return call(None, command, min(x1, ONES), one_of(140, pick(200)), pick(8) // 7)
 
-    for i in range(170):
+    for i in range(110):
         w = world()
         whole = w.session[0] if w.session else 1 + pick(300)
         main = some(whole)
