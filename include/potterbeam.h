@@ -543,7 +543,7 @@ bool pbeam_is_later(uint64_t a, uint64_t b);
  *          reader's rule (base and size multiples of 4,096, size not 0, base + size at most 2^52); if a bank begins before the end of the
  *          one before it (they may touch); or if table_len is not the sum of the sizes over PBEAM_GRANULE_BYTES.
  * Leaves   on OK the record, with 0 in the words behind its last bank. With PBEAM_X0_INVAL no record is made: the words stay as they were.
- * Stack    384 bytes; AArch64 0
+ * Stack    384 bytes; AArch64 336
  * It needs no boot record and keeps no pointer: the page may be overwritten afterwards. The reader accepts more than this: banks in any order,
  * overlapping ones, up to 249. Such a board has no record, and its commands answer PBEAM_X0_BAD_ADDR.
  */
@@ -561,7 +561,7 @@ uint64_t pbeam_set_up_granules(uint64_t granules[PBEAM_GRANULES_WORDS], const ui
  *          PBEAM_X0_BAD_PAS   the granule's byte is not PBEAM_GRANULE_NON_SECURE
  * Leaves   on OK that byte as PBEAM_GRANULE_REALM and its bit in the words set, and every other byte and bit as it was. Refused, table and
  *          words as they were.
- * Stack    256 bytes; AArch64 0
+ * Stack    256 bytes; AArch64 96
  * The byte alone is changed: the change in hardware is the platform's, after an OK.
  */
 PBEAM_NONNULL(1, 2, 8)
@@ -572,7 +572,7 @@ void pbeam_delegate(const uint64_t state[PBEAM_STATE_WORDS], const uint64_t gran
  * pbeam_undelegate (0xC40001B1): a granule goes from Realm to Non-secure.
  * As pbeam_delegate, with PBEAM_X0_BAD_PAS where the byte is not PBEAM_GRANULE_REALM; on OK it becomes PBEAM_GRANULE_NON_SECURE, and its
  * bit is cleared. Before that check the shared page, address B, is PBEAM_X0_BAD_ADDR whatever its byte: it has to stay Realm.
- * Stack    256 bytes; AArch64 0
+ * Stack    256 bytes; AArch64 96
  */
 PBEAM_NONNULL(1, 2, 8)
 void pbeam_undelegate(const uint64_t state[PBEAM_STATE_WORDS], const uint64_t granules[PBEAM_GRANULES_WORDS], uint8_t *table,
@@ -587,7 +587,7 @@ void pbeam_undelegate(const uint64_t state[PBEAM_STATE_WORDS], const uint64_t gr
  *          list too; then an empty list is OK with 0, up or not.
  * Leaves   as x1 single calls would: the granules before the refused address are Realm and stay so; no other byte or bit changes. An address
  *          that comes twice is refused with PBEAM_X0_BAD_PAS the second time.
- * Stack    256 bytes; AArch64 0
+ * Stack    256 bytes; AArch64 144
  * The bytes alone are changed: the change in hardware is the platform's, for the first x1 addresses, on a refusal too.
  */
 PBEAM_NONNULL(1, 2, 9)
@@ -597,7 +597,7 @@ void pbeam_delegate_list(const uint64_t state[PBEAM_STATE_WORDS], const uint64_t
 
 /*
  * pbeam_undelegate_list: the same from Realm to Non-secure, each address as pbeam_undelegate takes it.
- * Stack    256 bytes; AArch64 0
+ * Stack    256 bytes; AArch64 144
  */
 PBEAM_NONNULL(1, 2, 9)
 void pbeam_undelegate_list(const uint64_t state[PBEAM_STATE_WORDS], const uint64_t granules[PBEAM_GRANULES_WORDS], uint8_t *table,
@@ -613,7 +613,7 @@ void pbeam_undelegate_list(const uint64_t state[PBEAM_STATE_WORDS], const uint64
  * pbeam_realm_count: how many granules are Realm, from the words alone: a board does not stall over a walk of the table.
  * Takes    the granule record, the words, and room for a number.
  * Answers  PBEAM_X0_OK with the number, or PBEAM_X0_INVAL with 0. Set spare bits are not counted.
- * Stack    32 bytes; AArch64 96
+ * Stack    32 bytes; AArch64 0
  */
 PBEAM_NONNULL(1, 4)
 uint64_t pbeam_realm_count(const uint64_t granules[PBEAM_GRANULES_WORDS], const uint64_t *words, size_t words_len, uint64_t number[1]);
@@ -623,7 +623,7 @@ uint64_t pbeam_realm_count(const uint64_t granules[PBEAM_GRANULES_WORDS], const 
  * Takes    the granule record, the words, the index to begin at, and room for the index found.
  * Answers  PBEAM_X0_OK with the index; PBEAM_REALM_NONE with 0 where there is none; PBEAM_X0_INVAL with 0, also for an index that is not
  *          below the record's granules. To go through all: begin at 0, then at the index found + 1, while that is below the granules.
- * Stack    32 bytes; AArch64 96
+ * Stack    32 bytes; AArch64 0
  */
 PBEAM_NONNULL(1, 5)
 uint64_t pbeam_realm_next(const uint64_t granules[PBEAM_GRANULES_WORDS], const uint64_t *words, size_t words_len, uint64_t index,
@@ -634,7 +634,7 @@ uint64_t pbeam_realm_next(const uint64_t granules[PBEAM_GRANULES_WORDS], const u
  * Takes    the granule record, the granule table and the words.
  * Answers  PBEAM_X0_OK where they agree, PBEAM_REALM_DIFFER where they do not, or PBEAM_X0_INVAL, also for a table of another length than
  *          the record's granules.
- * Stack    96 bytes; AArch64 96
+ * Stack    96 bytes; AArch64 0
  */
 PBEAM_NONNULL(1)
 uint64_t pbeam_realm_agrees(const uint64_t granules[PBEAM_GRANULES_WORDS], const uint8_t *table, size_t table_len, const uint64_t *words,
@@ -645,7 +645,7 @@ uint64_t pbeam_realm_agrees(const uint64_t granules[PBEAM_GRANULES_WORDS], const
  * Takes    the granule record, the granule table and the words.
  * Answers  PBEAM_X0_OK, or PBEAM_X0_INVAL, also for a table of another length than the record's granules.
  * Leaves   on OK the words of the table, spare bits 0. With PBEAM_X0_INVAL the words as they were.
- * Stack    96 bytes; AArch64 96
+ * Stack    96 bytes; AArch64 0
  */
 PBEAM_NONNULL(1)
 uint64_t pbeam_realm_build(const uint64_t granules[PBEAM_GRANULES_WORDS], const uint8_t *table, size_t table_len, uint64_t *words,
@@ -813,7 +813,7 @@ size_t pbeam_responses(const uint64_t queue[PBEAM_QUEUE_WORDS]);
  *          before that, by PBEAM_ID_DELEGATE and PBEAM_ID_UNDELEGATE alone: no other id looks at the words.
  * Leaves   what the command leaves; all else as it was. Only PBEAM_ID_PLATFORM_TOKEN reads or writes the session, only
  *          PBEAM_ID_TOKEN_SIGNING the queue.
- * Stack    640 bytes with PBEAM_ID_TOKEN_SIGNING, 544 bytes with any other id; AArch64 432
+ * Stack    640 bytes with PBEAM_ID_TOKEN_SIGNING, 544 bytes with any other id; AArch64 528
  */
 PBEAM_NONNULL(1, 2, 3, 6, 19, 20, 21)
 void pbeam_call(const uint64_t state[PBEAM_STATE_WORDS], uint64_t session[PBEAM_SESSION_WORDS], uint64_t queue[PBEAM_QUEUE_WORDS],

@@ -225,7 +225,7 @@ static bool el3_count_realm(uint64_t want)
     (void)pbeam_context_realm_count(&el3.context, &number); /* the words fit: they were built */
     x0 = pbeam_context_realm_next(&el3.context, 3, &next);
     el3_unlock();
-    printf("EL3: %" PRIu64 " granules are Realm, ", number);
+    printf("EL3: Realm granules: %" PRIu64 ", ", number);
     if (x0 == PBEAM_X0_OK)
         printf("from granule 3 on the first is %" PRIu64 "\n", next);
     else

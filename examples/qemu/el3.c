@@ -231,9 +231,9 @@ static void say_realm(void)
     uint64_t number, first;
     (void)pbeam_context_realm_count(&el3.kit, &number); /* the words fit: they were built */
     if (pbeam_context_realm_next(&el3.kit, 0, &first) == PBEAM_X0_OK)
-        say("EL3: %d granules are Realm, the first is granule %d\n", number, first);
+        say("EL3: Realm granules: %d, the first is granule %d\n", number, first);
     else
-        say("EL3: %d granules are Realm\n", number);
+        say("EL3: Realm granules: %d\n", number);
 }
 
 /* The hardware's part, after a command. */

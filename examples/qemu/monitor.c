@@ -14,7 +14,7 @@
 
 #define CPUS_MOST 8 /* what the monitor is built for */
 
-#define KEPT 192            /* bytes of the manifest: core, a bank, a console, a region */
+#define KEPT 208            /* bytes of the manifest: core, two banks, a console, a region */
 #define TOKEN_AT (KEPT + 1) /* offsets in the page */
 #define KEY_AT 0x903
 #define SIGN_AT 0xA05

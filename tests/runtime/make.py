@@ -46,7 +46,8 @@ Request = namedtuple("Request", "algorithm granule ticket hashid hash")
 Response = namedtuple("Response", "granule ticket length signature")
 # One side of the queue as it is stored: its places, of which the first `count` wait.
 Line = namedtuple("Line", "places count")
-# Where no realm words are said, `lent` None, the case is given those that fit.
+# Where no realm words are said, `lent` None, the case is given those that fit, or none if it moves no
+# granule: no other command looks at them, and the program may print 1 MiB in all.
 World = namedtuple("World", "state cpus base minor kept record m key public page table session "
                             "requests responses lent")
 Op = namedtuple("Op", "kind id x1 x2 x3 x4 busy token signature")
@@ -339,13 +340,13 @@ def expected(number_of_case, case):
         session = "idle" if w.session is None else f"{w.session[0]} {w.session[1]}"
         text += answer_text(answer)
         text += f"session {session}, queue {w.requests.count} {w.responses.count}"
-        text += f", page same, table same, {words_line(w.lent)}\n"
+        text += ", page same, table same\n"
     last = case.answers[-1].after
     for r in waiting(last.requests):
         text += "request" + request_text(r)
     for r in waiting(last.responses):
         text += f"response{hexes(r.granule, r.ticket)} {r.length} {signature_of(r).hex()}\n"
-    return text
+    return text + f"{words_line(last.lent)}\n"
 
 
 # ---- The case list ----
@@ -423,7 +424,8 @@ def add(text, world, *steps):
     if it is accepted, or all checks that fail with commas between ("too long.." leaves those after
     it unsaid), None if that is not said; and, where told, x1 and x2."""
     if world.lent is None:
-        world = world._replace(lent=usual_words(world.record, world.table))
+        moves = any(op.kind == CALL and op.id in (DELEGATE, UNDELEGATE) for _, op, _ in steps)
+        world = world._replace(lent=usual_words(world.record, world.table) if moves else ())
     w, ops, answers = world, [], []
     for outcome, op, registers in steps:
         answer = step(w, op)

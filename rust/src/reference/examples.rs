@@ -80,7 +80,7 @@ fn example_9_sign_extension() {
 fn example_10_delegating_a_realm_granule() {
     let banks = set_up(&[[0; 8], 4096u64.to_le_bytes()].concat(), 1).expect("a bank at 0");
     assert_eq!(
-        delegate(Record::Up(UP), &banks, &mut [1], 0),
+        delegate(Record::Up(UP), &banks, &mut [1], &mut [1], 0),
         Err(Error::BadPas)
     );
 }
