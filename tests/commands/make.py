@@ -24,6 +24,7 @@ sys.dont_write_bytecode = True
 sys.path.insert(0, str(HERE.parent))
 from banks import (MANY, TWO, addresses_of, granule_at, granule_fails, meant, one, record_of,
                    stored, words)
+from realm import bits, fits, fitting, put, stored_words, words_text
 from vectors import write_all
 
 PAGE = 4096
@@ -34,7 +35,7 @@ FORWARD, DELEGATE, UNDELEGATE = 0xC400018F, 0xC40001B0, 0xC40001B1
 KEY, FEATURES, UPDATE = 0xC40001B2, 0xC40001B4, 0xC40001B6
 GRANULE = (DELEGATE, UNDELEGATE)        # the index is the byte that the command asks for
 CODES = {"OK": 0, "UNK": -1, "BAD_ADDR": -2, "BAD_PAS": -3, "INVAL": -5}
-GRANULE_CHECKS = {"not up": "UNK", "banks": "BAD_ADDR", "table": "BAD_ADDR", "address": "BAD_ADDR",
+GRANULE_CHECKS = {"words": "INVAL", "not up": "UNK", "banks": "BAD_ADDR", "table": "BAD_ADDR", "address": "BAD_ADDR",
                   "off": "BAD_ADDR", "byte": "BAD_PAS"}
 CHECKS = {                              # the checks of each command in 01's order, with the code
     FORWARD: {}, DELEGATE: GRANULE_CHECKS, UNDELEGATE: GRANULE_CHECKS,
@@ -42,8 +43,8 @@ CHECKS = {                              # the checks of each command in 01's ord
           "curve": "INVAL", "key": "UNK"},
     FEATURES: {"not up": "UNK", "index": "INVAL", "minor": "UNK"},
     UPDATE: {"not up": "UNK", "mecid": "INVAL", "width": "UNK", "minor": "UNK"}}
-Case = namedtuple("Case", "text state cpus base minor id x1 x2 x3 record m table key page")
-Answer = namedtuple("Answer", "code registers told table page")
+Case = namedtuple("Case", "text state cpus base minor id x1 x2 x3 record m table key page words")
+Answer = namedtuple("Answer", "code registers told table page words")
 
 
 # ---- The commands, from 01's text. All arithmetic is on plain numbers. ----
@@ -52,6 +53,7 @@ def failing(case):
     """Every check that fails, in 01's order. The first of them gives the answer."""
     end, index = case.base + PAGE, meant(case.record, len(case.table), case.x1)
     fails = granule_fails(case.record, len(case.table), case.x1) | {
+        "words": not fits(case.words, case.record),
         "not up": case.state != "up",
         "length": len(case.page) != PAGE,
         "outside": case.x1 < case.base or case.x1 >= end,
@@ -69,13 +71,15 @@ def failing(case):
 def run(case):
     """The answer: code, x0 to x2, what is told beside them, table and page at exit."""
     table, page, x1, told = bytearray(case.table), bytearray(case.page), 0, None
+    held = case.words
     if case.id == FORWARD:
-        return Answer("forward", None, case.x1, bytes(table), bytes(page))
+        return Answer("forward", None, case.x1, bytes(table), bytes(page), held)
     codes = [CHECKS[case.id][name] for name in failing(case)]
     code = codes[0] if codes else "OK"
     if code == "OK":
         if case.id in GRANULE:
-            table[granule_at(case.record, len(table), case.x1)] = 1 if case.id == DELEGATE else 0
+            index, byte = granule_at(case.record, len(table), case.x1), int(case.id == DELEGATE)
+            table[index], held = byte, put(held, index, byte)
         elif case.id == KEY:
             offset, x1 = case.x1 - case.base, len(case.key)
             page[offset:offset + x1] = case.key
@@ -83,7 +87,7 @@ def run(case):
             x1 = 1
         else:
             told = case.x1
-    return Answer(code, (CODES[code] % WORD, x1, 0), told, bytes(table), bytes(page))
+    return Answer(code, (CODES[code] % WORD, x1, 0), told, bytes(table), bytes(page), held)
 
 
 def file_of(case):
@@ -92,7 +96,7 @@ def file_of(case):
     body = b"".join(lent) + answer.table + answer.page
     head = words(STATES.index(case.state), case.cpus, case.base, case.minor, case.id, case.x1,
                  case.x2, case.x3, 104 + len(body), case.m, *map(len, lent))
-    return head + body + stored(case.record)
+    return head + body + stored(case.record) + stored_words(case.words)
 
 
 def expected(number_of_case, case):
@@ -103,7 +107,7 @@ def expected(number_of_case, case):
         text += f"registers {' '.join(f'{word:016x}' for word in answer.registers)}\n"
     if answer.told is not None:
         text += f"{'forward' if case.id == FORWARD else 'reprogram'} {answer.told:016x}\n"
-    return text + "table as expected\npage as expected\n"
+    return text + "table as expected\npage as expected\n" + words_text(answer.words)
 
 
 # ---- The case list ----
@@ -138,6 +142,7 @@ def add(outcome, command, text, **changes):
     checks that fail with commas between; None if that is not said."""
     lent = {**ALL, **USUAL[command], **changes}
     lent.setdefault("record", one(G, len(lent["table"])))
+    lent.setdefault("words", fitting(lent["record"], lent["table"]))
     case = Case(**lent, id=command, text=f"{command % 4096:X}: {text}")
     found = ", ".join(failing(case)) or "OK"
     assert outcome in (None, found), (case.text, outcome, found)
@@ -296,6 +301,29 @@ def granule_bytes():
                 x1=G + 4096 * table.index(value), table=table, key=b"", page=b"")
 
 
+def granule_words():
+    """Realm words: how many, and the bit that is written"""
+    for command in GRANULE:
+        for text, held in (("no word", ()), ("two words for 8 granules", (0, 0)),
+                           ("80 words for 8 granules", (ONES,) * 80)):
+            add("words", command, text, words=held)
+            add("words, not up", command, f"{text}, record closed", words=held, state="closed")
+        for n, index in ((1, 0), (63, 62), (64, 0), (64, 63), (65, 63), (65, 64), (127, 126),
+                         (128, 64), (128, 127), (129, 128), (600, 599)):
+            far = -(-n // 64)
+            for text, held in (("clear", (0,) * far), ("set, spare ones too", (ONES,) * far)):
+                add("OK", command, f"granule {index} of {n}, all bits {text}", words=held,
+                    x1=G + 4096 * index, table=right_at(command, index, n))
+            for text, more in (("few", far - 1), ("many", far + 1)):
+                add("words", command, f"granule {index} of {n}, one word too {text}",
+                    words=(0,) * more, x1=G + 4096 * index, table=right_at(command, index, n))
+        for held in (0, 4, ONES):
+            add("byte", command, f"the byte decides, not the words: {show(held)}", words=(held,),
+                table=b"\2" * 8)
+    for command in (FORWARD, KEY, FEATURES, UPDATE):
+        add("OK", command, "no word: only 0xC40001B0 and B1 mind", words=())
+
+
 def key_ranges():
     """Realm key: pa and size, also with forged bases"""
     for base in (B, 0, B + 1, WORD - 4096, WORD - 2048, ONES):
@@ -382,6 +410,7 @@ def together():
                 granules_fail(command, (first, second))
         granules_fail(command, ("not up", "banks", "table", "address", "off"))
         granules_fail(command, ("not up", "banks", "table", "address", "byte"))
+        granules_fail(command, ("words", "not up", "banks", "table", "address", "off"))
     late, names = {"x1": ONES, "x2": 0, "x3": 1}, "outside, too long, curve, key"
     add(f"not up, length, {names}", KEY, "all", state="fresh", page=b"", **late)
     add(f"length, {names}", KEY, "all but the first", page=b"", **late)
@@ -398,8 +427,9 @@ def granules_fail(command, names):
     banks = [(G, 8 * 4096)] + [(G + 0x100000, 0)] * ("banks" in names)
     address += 2**40 * ("off" in names) + 8 * ("address" in names)
     byte = 2 if "byte" in names else GRANULE.index(command)
-    add(", ".join(names), command, " and ".join(names), state=state, record=record_of(banks),
-        x1=address, table=bytes([byte]) * (9 if "table" in names else 8))
+    table, record = bytes([byte]) * (9 if "table" in names else 8), record_of(banks)
+    add(", ".join(names), command, " and ".join(names), state=state, record=record, x1=address,
+        table=table, words=fitting(record, table) + (0,) * ("words" in names))
 
 
 def random_inputs():
@@ -431,7 +461,7 @@ def random_inputs():
 
 def build_all():
     for group in (examples, forwarding, records, page_lengths, granule_addresses, granule_banks,
-                  granule_records, granule_bytes,
+                  granule_records, granule_bytes, granule_words,
                   key_ranges, keys_and_curves, features, key_updates, together, random_inputs):
         GROUPS.append((group.__doc__, []))
         group()
@@ -439,7 +469,8 @@ def build_all():
 
 def check_exit(case):
     """What holds of registers, table and page at exit."""
-    code, registers, told, table, page = run(case)
+    code, registers, told, table, page, held = run(case)
+    assert held == case.words or case.id in GRANULE and code == "OK", case.text
     assert len(case.table) <= 600 and len(case.key) <= 4200 and len(case.page) <= 4200
     assert told == (case.x1 if (case.id, code) in ((FORWARD, "forward"), (UPDATE, "OK")) else None)
     assert table == case.table or case.id in GRANULE and code == "OK", case.text
@@ -451,6 +482,8 @@ def check_exit(case):
         assert i is not None and len(table) == len(case.table), case.text
         assert table[:i] + table[i + 1:] == case.table[:i] + case.table[i + 1:], case.text
         assert (case.table[i], table[i]) == ((0, 1) if case.id == DELEGATE else (1, 0)), case.text
+        changed = bits(held) ^ bits(case.words)
+        assert bits(held) >> i & 1 == table[i] and changed in (0, 1 << i), case.text
     elif case.id == KEY:
         start, k = case.x1 - case.base, len(case.key)
         assert 0 <= start and start + k <= start + case.x2 <= PAGE == len(page), case.text

@@ -1,13 +1,15 @@
 #!/usr/bin/env python3
-"""Run vectors for setting up the granule record and for lists of granules, made from
-docs/01-scope.md and docs/02-change-requests.md (E1, E2) alone.
+"""Run vectors for setting up the granule record, for lists of granules and for questions to realm
+words, made from docs/01-scope.md and docs/02-change-requests.md (E1, E2, E6) alone.
 
 Run from the repository's root:  python3 tests/granules/make.py
 It rewrites crates/granule_vectors/data/c000, c001, .. (8-byte words: the boot record's state, cpus,
-base and minor, of which the last three count only when it is up; 0 to delegate, 1 to undelegate or
-2 to set up; where the granule record stands in the file, the length of the table, and of the list
-or of the banks in bytes; then, of a list, the table, the addresses, and the table at exit, else the
-banks' bytes; at last the granule record: how many of its words are given, and these),
+base and minor, of which the last three count only when it is up; 0 to delegate, 1 to undelegate,
+2 to set up or 3 to ask; where the granule record stands in the file, the length of the table, and
+of the list or of the banks in bytes, or the index to ask from; then, of a list, the table, the
+addresses, and the table at exit, of a question the table, else the banks' bytes; at last the
+granule record: how many of its words are given, and these; and the realm words: how many, and
+these),
 crates/granule_vectors/stdout (what the program has to print for them in order) and
 tests/granules/CASES.md (what each case is for). The same run always gives the same bytes.
 With a folder as its argument it writes them below that folder.
@@ -24,19 +26,22 @@ sys.dont_write_bytecode = True
 sys.path.insert(0, str(HERE.parent))
 from banks import (MANY, TWO, addresses_of, bank_ok, banks_in, faults, granule_at, one, record_of,
                    set_up, shown, stored, words)
+from realm import (agrees, bits, built, counted, fits, fitting, next_one, put, stored_words,
+                   words_for, words_text)
 from vectors import write_all
 
 WORD = 2**64
 ONES = WORD - 1
 TOP = 2**52                             # where memory ends
 STATES = ("fresh", "up", "closed")      # a file has the index
-DELEGATE, UNDELEGATE, SET_UP = range(3)  # of a move, the byte that a granule must have
-NAMES = ("delegate", "undelegate", "set up")
+DELEGATE, UNDELEGATE, SET_UP, ASK = range(4)    # of a move, the byte that a granule must have
+NAMES = ("delegate", "undelegate", "set up", "ask")
 CODES = {"OK": 0, "UNK": -1, "BAD_ADDR": -2, "BAD_PAS": -3, "INVAL": -5}
-Case = namedtuple("Case", "text state direction record table addresses")
+Case = namedtuple("Case", "text state direction record table addresses words")
 # Of a set-up the record is the one lent before, and the table's length may be any number.
 SetUp = namedtuple("SetUp", "text record length banks")
-Answer = namedtuple("Answer", "code done table")
+Ask = namedtuple("Ask", "text record table words index")
+Answer = namedtuple("Answer", "code done table words")
 
 
 # ---- The rules. All arithmetic is on plain numbers. ----
@@ -52,26 +57,34 @@ def single(case, table, address):
 
 
 def run(case):
-    """02, E1: single calls in list order up to the first refusal; x1 counts those done."""
-    table = bytearray(case.table)
+    """02, E1: single calls in list order up to the first refusal; x1 counts those done. E6: before
+    all else, of an empty list too, the number of the words."""
+    table, held = bytearray(case.table), case.words
+    if not fits(held, case.record):
+        return Answer("INVAL", 0, bytes(table), held)
     for done, address in enumerate(case.addresses):
         code, index = single(case, table, address)
         if code != "OK":
-            return Answer(code, done, bytes(table))
+            return Answer(code, done, bytes(table), held)
         table[index] = 1 - case.direction
-    return Answer("OK", len(case.addresses), bytes(table))
+        held = put(held, index, table[index])
+    return Answer("OK", len(case.addresses), bytes(table), held)
 
 
 def file_of(case):
     """The bytes of a case's file."""
+    held = b"" if isinstance(case, SetUp) else stored_words(case.words)
     if isinstance(case, SetUp):
         up, direction, length, count = (0, 0, 0, 0), SET_UP, case.length, len(case.banks)
         body = case.banks
+    elif isinstance(case, Ask):
+        up, direction, length, count = (0, 0, 0, 0), ASK, len(case.table), case.index
+        body = case.table
     else:
         up, direction = (STATES.index(case.state), 8, 0x80000000, 5), case.direction
         length, count = len(case.table), len(case.addresses)
         body = case.table + words(*case.addresses) + run(case).table
-    return words(*up, direction, 64 + len(body), length, count) + body + stored(case.record)
+    return words(*up, direction, 64 + len(body), length, count) + body + stored(case.record) + held
 
 
 def expected(n, case):
@@ -80,10 +93,25 @@ def expected(n, case):
         code, record = set_up(case.banks, case.length, case.record)
         return (f"case {n:03}\nset_up {CODES[code] % WORD:016x}\n"
                 f"record{''.join(f' {word:x}' for word in record)}\n")
+    if isinstance(case, Ask):
+        return f"case {n:03}\n{asked(case)}{words_text(built(case.words, case.record, case.table)[0])}"
     answer = run(case)
     registers = (CODES[answer.code] % WORD, answer.done, 0)
     return (f"case {n:03}\nregisters {' '.join(f'{word:016x}' for word in registers)}\n"
-            "table as expected\n")
+            f"table as expected\n{words_text(answer.words)}")
+
+
+def asked(case):
+    """The answers to the four questions, in turn."""
+    def shown(answer):
+        return "INVAL" if answer is None else answer
+
+    yes = agrees(case.words, case.record, case.table)
+    done = built(case.words, case.record, case.table)[1]
+    return (f"count {shown(counted(case.words, case.record))}\n"
+            f"next {shown(next_one(case.words, case.record, case.index))}\n"
+            f"agrees {shown(yes if yes is None else 'yes' if yes else 'no')}\n"
+            f"build {'OK' if done else 'INVAL'}\n")
 
 
 # ---- The case list ----
@@ -104,12 +132,13 @@ def note(case):
         GROUPS[-1][1].append(case)
 
 
-def add(code, done, direction, text, addresses, state="up", record=None, table=None):
+def add(code, done, direction, text, addresses, state="up", record=None, table=None, words=None):
     """Note a list with the code and the number done that it has to give; None if not said. Unless
-    said otherwise the record has one bank at G, with the table's granules."""
+    said otherwise the record has one bank at G, with the table's granules, and the words agree."""
     table = bytes([direction]) * 8 if table is None else bytes(table)
     record = one(G, len(table)) if record is None else record
-    case = Case(f"{NAMES[direction]}: {text}", state, direction, record, table, addresses)
+    words = fitting(record, table) if words is None else words
+    case = Case(f"{NAMES[direction]}: {text}", state, direction, record, table, addresses, words)
     answer = run(case)
     assert (code, done) in ((None, None), answer[:2]), (case.text, answer[:2])
     note(case)
@@ -417,6 +446,106 @@ def random_banks():
             make(None, f"random banks {i}, shuffled", held)
 
 
+def ask(text, table, words, index, record=None):
+    """Note a question to words; unless said otherwise of the table's granules."""
+    record = one(G, len(table)) if record is None else record
+    note(Ask(f"ask: {text}", record, bytes(table), tuple(words), index))
+
+
+SIZES = (0, 1, 63, 64, 65, 127, 128, 4096)
+
+
+def lists_on_words():
+    """Lists and the realm words: how many there are, and the bits that are written"""
+    for way in (DELEGATE, UNDELEGATE):
+        for state in STATES:
+            for text, held in (("none", ()), ("one too many", (0, 0))):
+                add("INVAL", 0, way, f"words: {text}, record {state}", at(0, 1), state=state,
+                    words=held)
+                add("INVAL", 0, way, f"words: {text}, an empty list, record {state}", [],
+                    state=state, words=held)
+        add("INVAL", 0, way, "one word for an empty table and no bank", [], table=b"", record=(),
+            words=(0,))
+        add("INVAL", 0, way, "one word for a count of 17", at(0), record=(17, G, 8 * 4096),
+            words=(0,))
+        add("BAD_ADDR", 0, way, "the record's words, a table of another length", at(0),
+            record=one(G, 65), words=(0, 0))
+        add("INVAL", 0, way, "the table's words, a record of another length", at(0),
+            record=one(G, 65), words=(0,))
+        for n in (1, 64, 65):
+            far, table = words_for(n), bytes([way]) * n
+            picks = at(*sorted({0, n // 2, min(n - 1, 63), min(n - 1, 64), n - 1}))
+            for text, held in (("clear", (0,) * far), ("set, spare ones too", (ONES,) * far)):
+                add("OK", len(picks), way, f"{n} granules, all bits {text}", picks, table=table,
+                    words=held)
+                add("BAD_ADDR", len(picks), way, f"{n} granules, all bits {text}, one past the end",
+                    picks + at(n), table=table, words=held)
+            for text, more in (("few", far - 1), ("many", far + 1)):
+                add("INVAL", 0, way, f"{n} granules, one word too {text}", picks, table=table,
+                    words=(0,) * more)
+        add("BAD_PAS", 2, way, "words at odds with the table: the table decides", at(0, 2, 1),
+            table=[way, 1 - way, way] + [2] * 5, words=(0x5A,))
+
+
+def questions():
+    """Questions to realm words: how many, which is next, do they agree, build"""
+    for n in SIZES:
+        far, last = words_for(n), max(n - 1, 0)
+        table = bytes(1 if i % 7 in (2, 5) else i % 5 * (i % 5 != 1) for i in range(n))
+        for text, held, indices in (
+                ("agreeing", fitting(one(G, n), table), (0, n // 2, n)),
+                ("set, spare ones too", (ONES,) * far, (last, max(64 * far - 1, 0)))):
+            for index in sorted(set(indices)):
+                ask(f"{n:,} granules, bits {text}, from {index:,}", table, held, index)
+        for text, more in (("few", far - 1), ("many", far + 1)):
+            if more >= 0:
+                ask(f"{n:,} granules, one word too {text}", table, (ONES,) * more, 0)
+        if n:
+            end = put((0,) * far, last, 1)
+            ask(f"{n:,} granules, only the last one's bit", bytes(n), end, 0)
+            ask(f"{n:,} granules, all but the last one's bit, from that", bytes(n),
+                put((ONES,) * far, last, 0), last)
+        if n % 64:
+            ask(f"{n:,} granules, a spare bit alone", bytes(n), put((0,) * far, n, 1), 0)
+        for length in (n - 1, n + 1):
+            if 0 <= length:
+                ask(f"{n:,} granules, a table of {length:,}", bytes(length), (ONES,) * far, 0,
+                    record=one(G, n))
+    for index in (8, 9, 63, 64, 2**32, 2**63, ONES):
+        ask(f"8 granules, from {index:,}", bytes([1] * 8), (255,), index)
+    for text, record, n in FORGED[::3]:
+        ask(f"{text}, no word", bytes([1]) * n, (), 0, record=record)
+        ask(f"{text}, words for its table", bytes([1]) * n, (ONES,) * max(words_for(n), 1), 0,
+            record=record)
+    for byte in (0, 1, 2, 3, 4, 255):
+        ask(f"byte {byte}, bit set", [byte], (1,), 0)
+        ask(f"byte {byte}, bit clear", [byte], (0,), 0)
+    for text, held in (("two", TWO), ("16", MANY)):
+        table = bytes(1 - i % 3 % 2 for i in range(len(addresses_of(held))))
+        ask(f"{text} banks, agreeing", table, fitting(record_of(held), table), 1,
+            record=record_of(held))
+        ask(f"{text} banks, build over junk", table,
+            (0xA5A5A5A5A5A5A5A5,) * words_for(len(table)), len(table) - 1, record=record_of(held))
+
+
+def random_words():
+    """Random realm words: questions, and lists on them"""
+    dice = Random(13)
+    for i in range(20):
+        n = dice.choice((1 + dice.randrange(70), 1 + dice.randrange(300), dice.choice(SIZES[1:])))
+        table = bytes(dice.choice((0, 1, 1, 2)) for _ in range(n))
+        sparse = dice.choice((1, 3, 20))
+        held = tuple(dice.getrandbits(64) & (1 << dice.randrange(64)) * (dice.randrange(sparse) < 1)
+                     if sparse > 1 else dice.getrandbits(64) for _ in range(words_for(n)))
+        ask(f"random {i}", table, dice.choice((held, held, fitting(one(G, n), table))),
+            dice.randrange(n + 2))
+        if n <= 600:
+            picks = at(*(dice.randrange(n) for _ in range(dice.randrange(12))))
+            way = i % 2
+            good = [a for a in picks if table[(a - G) // 4096] == way]
+            add(None, None, way, f"random words {i}", good + picks[:1], table=table, words=held)
+
+
 # ---- Output ----
 
 def check():
@@ -430,11 +559,14 @@ def check():
         done = [granule_at(case.record, len(case.table), address)
                 for address in case.addresses[:answer.done]]
         assert changed == sorted(done) and len(case.addresses) <= 600, case.text
-        assert (answer.code == "OK") == (answer.done == len(case.addresses)), case.text
-    assert len(cases) <= 1000 and max(len(file_of(case)) for case in cases) <= 8192
+        assert (answer.code == "OK") == (answer.done == len(case.addresses)
+                                         and fits(case.words, case.record)), case.text
+        assert bits(answer.words) ^ bits(case.words) | sum(1 << i for i in done) == sum(
+            1 << i for i in done), case.text
+    assert len(cases) <= 1000 and max(len(file_of(case)) for case in cases) <= 12288
     for way in (DELEGATE, UNDELEGATE):
         tally = Counter(run(case).code for case in moves if case.direction == way)
-        assert set(tally) == set(CODES) - {"INVAL"}, tally
+        assert set(tally) == set(CODES), tally
         print(f"{NAMES[way]}:", ", ".join(f"{n} {code}" for code, n in sorted(tally.items())))
     ups = [case for case in cases if isinstance(case, SetUp)]
     alone = {", ".join(faults(banks_in(case.banks))) for case in ups if len(case.banks) % 16 == 0}
@@ -448,6 +580,8 @@ def case_of(n, case):
     """The file of a case, what the program prints for it, and its row of CASES.md."""
     if isinstance(case, SetUp):
         answer = f"`{set_up(case.banks, case.length, case.record)[0]}`"
+    elif isinstance(case, Ask):
+        answer = ", ".join(f"{line}" for line in asked(case).split("\n")[:-1])
     else:
         answer = f"`{run(case).code}`, {run(case).done} done"
     return file_of(case), expected(n, case), case.text, answer
@@ -456,7 +590,7 @@ def case_of(n, case):
 if __name__ == "__main__":
     for group in (set_up_counts, set_up_order, set_up_rule, set_up_sums, set_up_lent, set_up_pages,
                   empty, whole, banks, forged, records, stopped, repeats, random_lists,
-                  random_banks):
+                  random_banks, lists_on_words, questions, random_words):
         GROUPS.append((group.__doc__, []))
         group()
     check()

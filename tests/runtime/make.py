@@ -26,6 +26,7 @@ sys.dont_write_bytecode = True
 sys.path.insert(0, str(HERE.parent))
 from banks import (MANY, TWO, addresses_of, granule_at, granule_fails, meant, one, record_of,
                    stored, words)
+from realm import fits, fitting, put, stored_words, words_text
 from vectors import write_all
 
 PAGE = 4096
@@ -45,7 +46,7 @@ Response = namedtuple("Response", "granule ticket length signature")
 # One side of the queue as it is stored: its places, of which the first `count` wait.
 Line = namedtuple("Line", "places count")
 World = namedtuple("World", "state cpus base minor record m key public page table session requests "
-                            "responses")
+                            "responses words")
 Op = namedtuple("Op", "kind id x1 x2 x3 x4 busy token signature")
 Check = namedtuple("Check", "name code fails")
 Answer = namedtuple("Answer", "fails code x1 x2 told after")
@@ -135,9 +136,7 @@ def granule_checks(w, op):
 
 
 def command_checks(w, op):
-    """The checks of a listed command, after those of record and page."""
-    if op.id in (DELEGATE, UNDELEGATE):
-        return granule_checks(w, op)
+    """The checks of a command but for delegation, after those of record and page."""
     if op.id == KEY:
         return range_checks(w, op.x1, op.x2, "BAD_ADDR") + [
             Check("curve", "INVAL", op.x3 != 0),
@@ -166,6 +165,8 @@ def checks(w, op):
         return []
     if op.id not in LISTED:
         return [Check("id", "UNK", True)]
+    if op.id in (DELEGATE, UNDELEGATE):     # 02, E6: before all others
+        return [Check("words", "INVAL", not fits(w.words, w.record)), up] + granule_checks(w, op)
     return [up] + [length] * (op.id in (KEY, TOKEN, SIGNING)) + command_checks(w, op)
 
 
@@ -224,7 +225,8 @@ def accepted(w, op):
                                                    responses=joined(w.responses, response)))
     if op.id in (DELEGATE, UNDELEGATE):
         i, byte = granule_at(w.record, len(w.table), op.x1), bytes([op.id == DELEGATE])
-        return 0, 0, None, w._replace(table=w.table[:i] + byte + w.table[i + 1:])
+        return 0, 0, None, w._replace(table=w.table[:i] + byte + w.table[i + 1:],
+                                      words=put(w.words, i, byte[0]))
     if op.id == KEY:
         return len(w.key), 0, None, written(w, op.x1, w.key)
     if op.id == TOKEN:
@@ -302,7 +304,8 @@ def file_of(case):
     w = case.start
     head = words(STATES.index(w.state), w.cpus, w.base, w.minor, pool_at + len(pool), w.m,
                  w.session is not None, *(w.session or (0, 0)))
-    return head + places + words(len(case.ops)) + ops + bytes(pool) + stored(w.record)
+    return head + places + words(len(case.ops)) + ops + bytes(pool) + stored(w.record) \
+        + stored_words(w.words)
 
 
 def hexes(*numbers):
@@ -338,7 +341,7 @@ def expected(number_of_case, case):
         text += "request" + request_text(r)
     for r in waiting(last.responses):
         text += f"response{hexes(r.granule, r.ticket)} {r.length} {signature_of(r).hex()}\n"
-    return text
+    return text + words_text(last.words)
 
 
 # ---- The case list ----
@@ -395,7 +398,7 @@ def page_of(*items, base=LENT):
 # 40 requests of tickets 0, 1, .. in a row; from 3,200 on there is room for what is written.
 ASKED = page_of(0, b"".join(request_bytes(request(n), 17 * n % 256) for n in range(40)))
 ALL = World("up", 8, B, 5, one(G, 5), 15, SECRET[:96], OTHER[:97], LENT[:PAGE],
-            bytes([0, 1, 2, 3, 255]), None, EMPTY, EMPTY)
+            bytes([0, 1, 2, 3, 255]), None, EMPTY, EMPTY, None)
 
 
 def show(n):
@@ -415,6 +418,8 @@ def add(text, world, *steps):
     """Note a case, unless the same is there already. A step is an operation with its outcome: ""
     if it is accepted, or all checks that fail with commas between ("too long.." leaves those after
     it unsaid), None if that is not said; and, where told, x1 and x2."""
+    if world.words is None:             # unless said otherwise those that agree with the table
+        world = world._replace(words=fitting(world.record, world.table))
     w, ops, answers = world, [], []
     for outcome, op, registers in steps:
         answer = step(w, op)
@@ -1142,12 +1147,37 @@ def random_sequences():
         add(f"random sequence {i}", w, *steps)
 
 
+def realm_words():
+    """Realm words: their number is checked before all else, in 0xC40001B0 and B1 alone"""
+    world = start(page=ASKED)
+    for text, held in (("none", ()), ("one too many", (1, 2)), ("80", (ONES,) * 80)):
+        for state in STATES:
+            add(f"words: {text}, record {state}", world._replace(state=state, words=held), *(
+                usual(command, outcome=None) for command in LISTED))
+        for name, changes in (("a table one long", {"record": one(G, 4)}),
+                              ("no bank", {"record": ()})):
+            add(f"words: {text}, {name}", world._replace(words=held, **changes), *(
+                usual(command, outcome=None) for command in LISTED))
+    for n in (1, 64, 65, 128):
+        usual_words = start(record=one(G, n), table=bytes(n))
+        far = -(-n // 64)
+        for text, held in (("one too few", (ONES,) * (far - 1)), ("one too many", (0,) * (far + 1)),
+                           ("spare and other bits set", (ONES,) * far), ("agreeing", None)):
+            add(f"{n} granules, words: {text}", usual_words._replace(words=held), *(
+                call(None, command, G + 4096 * i) for i in sorted({0, n // 2, n - 1, n, 63, 64})
+                for command in (DELEGATE, UNDELEGATE, DELEGATE)[:2 + (i < n - 1)]))
+    add("words at odds with the table: the table decides, and the bit is written",
+        start(words=(0b10101,)), call("", DELEGATE, G), call("byte", DELEGATE, G),
+        call("", UNDELEGATE, G + 4096), call("byte", UNDELEGATE, G + 2 * 4096),
+        call("byte", DELEGATE, G + 4 * 4096), call("", UNDELEGATE, G), call("", DELEGATE, G))
+
+
 # ---- Output ----
 
 def build_all():
     for group in (examples, buffers, challenge_sizes, tokens, whole_tokens, sessions, challenges,
                   signing_edges, pushes, pulls, signer, rounds, forged, identities, banks, pairs,
-                  mixed, random_sequences):
+                  mixed, random_sequences, realm_words):
         GROUPS.append((group.__doc__, []))
         group()
 
@@ -1161,10 +1191,11 @@ def check_step(w, op, answer):
         return
     kept = [name for name in World._fields if getattr(w, name) == getattr(after, name)]
     free = {SIGN: ("requests", "responses")}.get(op.kind) or {
-        DELEGATE: ("table",), UNDELEGATE: ("table",), KEY: ("page",), TOKEN: ("page", "session"),
+        DELEGATE: ("table", "words"), UNDELEGATE: ("table", "words"), KEY: ("page",), TOKEN: ("page", "session"),
         SIGNING: ("page", "requests", "responses"), FEATURES: (), UPDATE: ()}[op.id]
     assert set(kept) | set(free) == set(World._fields), (op, kept)
     assert len(after.page) == len(w.page) and len(after.table) == len(w.table)
+    assert len(after.words) == len(w.words)
     if op.kind == CALL and op.id == TOKEN:
         sent = 0 if op.x3 or w.session is None else min(w.session[1], len(op.token))
         at = op.x1 - w.base
