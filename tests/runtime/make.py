@@ -47,7 +47,7 @@ Response = namedtuple("Response", "granule ticket length signature")
 # One side of the queue as it is stored: its places, of which the first `count` wait.
 Line = namedtuple("Line", "places count")
 # Where no realm words are said, `lent` None, the case is given those that fit, or none if it moves no
-# granule: no other command looks at them, and the program may print 1 MiB in all.
+# granule: no other command looks at them.
 World = namedtuple("World", "state cpus base minor kept record m key public page table session "
                             "requests responses lent")
 Op = namedtuple("Op", "kind id x1 x2 x3 x4 busy token signature")
@@ -340,13 +340,13 @@ def expected(number_of_case, case):
         session = "idle" if w.session is None else f"{w.session[0]} {w.session[1]}"
         text += answer_text(answer)
         text += f"session {session}, queue {w.requests.count} {w.responses.count}"
-        text += f", page same, table same, {words_line(w.lent)}\n"
+        text += ", page same, table same\n"
     last = case.answers[-1].after
     for r in waiting(last.requests):
         text += "request" + request_text(r)
     for r in waiting(last.responses):
         text += f"response{hexes(r.granule, r.ticket)} {r.length} {signature_of(r).hex()}\n"
-    return text
+    return text + words_line(last.lent) + "\n"
 
 
 # ---- The case list ----
@@ -1153,7 +1153,7 @@ def random_sequences():
             command, one_of(*granule_edges(w.record)) + pick(9) // 8)
         return call(None, command, min(x1, ONES), one_of(140, pick(200)), pick(8) // 7)
 
-    for i in range(110):
+    for i in range(165):
         w = world()
         whole = w.session[0] if w.session else 1 + pick(300)
         main = some(whole)
@@ -1424,6 +1424,7 @@ def check():
             tally.setdefault(what(op), Counter())[answer.code] += 1
             w = answer.after
     assert len(cases) <= 1000
+    assert sum(len(expected(n, case)) for n, case in enumerate(cases)) <= 2**20   # what it may print
     assert set(tally["0xC40001B3"]) == {"OK", "UNK", "BAD_ADDR", "INVAL", "AGAIN"}
     for name in ("push", "pull", "key"):
         assert set(tally[f"signing {name}"]) == {"OK", "UNK", "INVAL", "AGAIN"}

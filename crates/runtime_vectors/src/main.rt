@@ -3,7 +3,7 @@
 // `cases::granules_at`) with the realm words behind it, MECIDWidthm1, the session (0 idle, 1 sending, then whole and sent), the places of page, table, realm key, public key and queue, the number of operations; then the operations.
 // A place is an offset in the file and a length. An operation: its kind (0 call, 1 signer's step, 2 challenge lookup, 3 oldest
 // request), function id, x1 to x4, busy, the places of token and signature, and what is to change in page and table: each an offset
-// there, and the place of the new bytes. Prints each answer and the state after it, and at the end of a case the whole queue.
+// there, and the place of the new bytes. Prints each answer and the state after it, and at the end of a case the whole queue and the words.
 use codes::Answer;
 use codes::Work;
 use libc::STDOUT_FILENO;
@@ -348,8 +348,7 @@ fn print_operations(
         print_state(state);
         print_change(input, at + 88, b", page", page, expected);
         print_change(input, at + 112, b", table", table, wanted);
-        print(b", ");
-        cases::print_words(words);
+        print(b"\n");
     }
     state.queue
 }
@@ -358,6 +357,21 @@ fn print_operations(
 fn fill(held: &mut [u8], expected: &mut [u8], bytes: &[u8]) {
     words::copy(held, bytes);
     words::copy(expected, bytes);
+}
+
+// The operations of a case, on what is lent.
+fn print_whole(
+    input: &[u8],
+    page: &mut [u8],
+    expected: &mut [u8],
+    table: &mut [u8],
+    wanted: &mut [u8],
+    words: &mut [u64],
+) {
+    fill(page, expected, lent(input, 80));
+    fill(table, wanted, lent(input, 96));
+    let queue = print_operations(input, page, expected, table, wanted, words);
+    print_queue(queue);
 }
 
 // A case, with room for page, table and words, and for what is expected of the first two.
@@ -371,11 +385,9 @@ fn print_lent(
 )
     requires { ⌜ length (now words) ≤ 600 ⌝ }
 {
-    fill(page, expected, lent(input, 80));
-    fill(table, wanted, lent(input, 96));
     cases::fill_words(input, 40, words);
-    let queue = print_operations(input, page, expected, table, wanted, words);
-    print_queue(queue);
+    print_whole(input, page, expected, table, wanted, words);
+    cases::print_words(words);
 }
 
 fn print_case(input: &[u8]) {

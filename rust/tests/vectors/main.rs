@@ -618,10 +618,10 @@ fn print_steps<T>(
         print_state(out, &state(held_state));
         let page = same_or_differs(held.page == expected.page);
         let table = same_or_differs(held.table == expected.table);
-        write!(out, ", page {page}, table {table}, ").unwrap();
-        print_realm_words(out, &held.realm);
+        writeln!(out, ", page {page}, table {table}").unwrap();
     }
     print_queue(out, &state(held_state).queue);
+    print_realm_words(out, &held.realm);
 }
 
 fn print_runtime(out: &mut String, input: &[u8]) {
@@ -635,5 +635,5 @@ fn print_runtime(out: &mut String, input: &[u8]) {
 
 #[test]
 fn runtime_vectors() {
-    compare("runtime_vectors", 934, print_runtime);
+    compare("runtime_vectors", 989, print_runtime);
 }
