@@ -1,8 +1,8 @@
 #!/usr/bin/env python3
 """Run vectors for the runtime as a whole, made from docs/01-scope.md and docs/02-change-requests.md
 (E2, E5, E6, E8) alone: every call goes through the dispatcher; the platform token, token signing,
-the challenge lookup, the signer's own step and the oldest request are tried at each edge, in sequences
-on one state.
+the challenge lookup, the signer's own step and the oldest request are tried at each edge, in
+sequences on one state.
 
 Run from the repository's root:  python3 tests/runtime/make.py
 It rewrites crates/runtime_vectors/data/c000, c001, .. (8-byte words: the record's state, cpus,
@@ -46,8 +46,8 @@ Request = namedtuple("Request", "algorithm granule ticket hashid hash")
 Response = namedtuple("Response", "granule ticket length signature")
 # One side of the queue as it is stored: its places, of which the first `count` wait.
 Line = namedtuple("Line", "places count")
-# Where no realm words are said, `lent` None, the case is given those that fit, or none if it moves no
-# granule: no other command looks at them, and the program may print 1 MiB in all.
+# Where no realm words are said, `lent` None, the case is given those that fit, or none if it moves
+# no granule: no other command looks at them.
 World = namedtuple("World", "state cpus base minor kept record m key public page table session "
                             "requests responses lent")
 Op = namedtuple("Op", "kind id x1 x2 x3 x4 busy token signature")
@@ -346,7 +346,7 @@ def expected(number_of_case, case):
         text += "request" + request_text(r)
     for r in waiting(last.responses):
         text += f"response{hexes(r.granule, r.ticket)} {r.length} {signature_of(r).hex()}\n"
-    return text + f"{words_line(last.lent)}\n"
+    return text + words_line(last.lent) + "\n"
 
 
 # ---- The case list ----
@@ -1153,7 +1153,7 @@ def random_sequences():
             command, one_of(*granule_edges(w.record)) + pick(9) // 8)
         return call(None, command, min(x1, ONES), one_of(140, pick(200)), pick(8) // 7)
 
-    for i in range(170):
+    for i in range(165):
         w = world()
         whole = w.session[0] if w.session else 1 + pick(300)
         main = some(whole)
@@ -1424,6 +1424,8 @@ def check():
             tally.setdefault(what(op), Counter())[answer.code] += 1
             w = answer.after
     assert len(cases) <= 1000
+    # A program may print no more.
+    assert sum(len(expected(n, case)) for n, case in enumerate(cases)) <= 2**20
     assert set(tally["0xC40001B3"]) == {"OK", "UNK", "BAD_ADDR", "INVAL", "AGAIN"}
     for name in ("push", "pull", "key"):
         assert set(tally[f"signing {name}"]) == {"OK", "UNK", "INVAL", "AGAIN"}

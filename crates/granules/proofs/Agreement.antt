@@ -1,11 +1,10 @@
 -- 02, E6: "If words and table agree the answers equal those of the full walk". Delegation and undelegation, and lists of them, keep
 -- agreement, refused or not. Assumes nothing.
-use Prim.Native.Nat.{ℕ, suc, _<_}
-use mathlib.Core.Path.{_≡_, refl, sym, ap, _∙_}
-use mathlib.Core.Bool.{Bool, true, false, cond}
+use Prim.Native.Nat.{ℕ, _<_}
+use mathlib.Core.Path.{_≡_, refl, sym, subst}
 use mathlib.Core.List.{List, [], _∷_}
 use native.Mathlib.Omega.{arith}
-use lib.ListN.{length}
+use lib.ListN.{length, take}
 use Rattle.banks.specs.Banks.{Granules, granuleCount, granuleAt}
 use Rattle.banks.specs.declared.Granule.{Granule}
 use Rattle.banks.specs.declared.Granule.the-variants.{Nothing, At}
@@ -15,12 +14,12 @@ use Rattle.realm_words.specs.Answers.{realmCountOf, realmNextOf, realms, nextRe
 use Rattle.realm_words.specs.declared.Number.{Number}
 use Rattle.realm_words.proofs.Laws.{count-agrees, next-agrees, words-put}
 use Rattle.boot.specs.declared.Record.{Record}
-use Rattle.codes.specs.Codes.{upOf, whenUp, isOk}
-use Rattle.codes.specs.declared.Code.the-variants.{Inval}
+use Rattle.codes.specs.Codes.{upOf, whenUp}
 use Rattle.codes.proofs.Gates.{if-ok-by}
-use Rattle.granules.specs.Granules.{GranuleTable, Agrees, moveCode, granuleSet, moved, Moved, movedBy, fitting, whenFit, moveOf}
-use Rattle.granules.specs.Lists.{onward, listBy, moveListOf}
+use Rattle.granules.specs.Granules.{GranuleTable, Agrees, moveCode, granuleSet, moved, Moved, movedBy, whenFit, moveOf}
+use Rattle.granules.specs.Lists.{moveListOf, doneBy, tableBy}
 use Rattle.granules.specs.declared.Direction.{Direction}
+use Rattle.granules.proofs.Done.{list-is}
 
 -- ---- the answers
 module _ (g : Granules) (t : GranuleTable) (n : granuleCount g ≡ length (t .bytes)) (a : Agrees t) where
@@ -45,19 +44,13 @@ module _ (s : Record) (g : Granules) (d : Direction) where
 
 -- ---- what each single call keeps, a list keeps
 module _ (s : Record) (g : Granules) (d : Direction) (P : GranuleTable → Type 0) (keeps : (t : GranuleTable) (addr : ℕ) → P t → P (moveOf s g d t addr .table)) where
-  either-holds : (b : Bool) (x y : Moved) → P (x .table) → P (y .table) → P (cond b x y .table)
-  either-holds true x y p q = p
-  either-holds false x y p q = q
-
-  by-holds : (k : ℕ) (t : GranuleTable) (l : List ℕ) → P t → P (listBy (moveOf s g d) k t l .table)
-  unfolding listBy onward
-  by-holds k t [] p = p
-  by-holds k t (a ∷ l) p =
-      either-holds (isOk (moveOf s g d t a .answer .code)) _ _ (by-holds (suc k) (moveOf s g d t a .table) l (keeps t a p)) (keeps t a p)
+  tables-hold : (t : GranuleTable) (l : List ℕ) → P t → P (tableBy (moveOf s g d) t l)
+  unfolding tableBy
+  tables-hold t [] p = p
+  tables-hold t (a ∷ l) p = tables-hold (moveOf s g d t a .table) l (keeps t a p)
 
   pub list-holds : (t : GranuleTable) (l : List ℕ) → P t → P (moveListOf s g d t l .table)
-  unfolding moveListOf movedBy
-  list-holds t l p = either-holds (fitting g t) (listBy (moveOf s g d) 0 t l) (movedBy Inval t t) (by-holds 0 t l p) p
+  list-holds t l p = subst (λ (m : Moved). P (m .table)) (sym (list-is s g d t l)) (tables-hold t (take (doneBy (moveOf s g d) t l) l) p)
 
 pub list-keeps : (s : Record) (g : Granules) (d : Direction) (t : GranuleTable) (l : List ℕ) → Agrees t → Agrees (moveListOf s g d t l .table)
 list-keeps s g d t l a = list-holds s g d Agrees (λ x addr p. move-keeps s g d x addr p) t l a
