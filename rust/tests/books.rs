@@ -21,6 +21,8 @@ struct Books {
     delegated: u64,
     undelegated: u64,
     bytes: Vec<u8>,
+    /// Words and table agreed at the start, so the words' number balances too.
+    agreed: bool,
 }
 
 fn realms(table: &[u8]) -> u64 {
@@ -40,12 +42,13 @@ fn place(granules: &GranulesImage, address: u64) -> usize {
 }
 
 impl Books {
-    fn open(table: &[u8]) -> Books {
+    fn open(scene: &Scene) -> Books {
         Books {
-            at_start: realms(table),
+            at_start: realms(&scene.table),
             delegated: 0,
             undelegated: 0,
-            bytes: table.to_vec(),
+            bytes: scene.table.clone(),
+            agreed: Kit::realm_agrees(&scene.granules, &scene.table, &scene.words) == 0,
         }
     }
 
@@ -63,12 +66,18 @@ impl Books {
         }
     }
 
-    fn compare(&self, table: &[u8]) {
-        assert_eq!(
-            self.at_start + self.delegated,
-            self.undelegated + realms(table)
-        );
-        assert_eq!(self.bytes, table);
+    fn compare(&self, scene: &Scene) {
+        let (came, gone) = (self.at_start + self.delegated, self.undelegated);
+        assert_eq!(came, gone + realms(&scene.table));
+        assert_eq!(self.bytes, scene.table);
+        if self.agreed {
+            let mut number = [7];
+            assert_eq!(
+                Kit::realm_count(&scene.granules, &scene.words, &mut number),
+                0
+            );
+            assert_eq!(came, gone + number[0]);
+        }
     }
 }
 
@@ -85,11 +94,14 @@ fn done<'a>(out: &Registers, addresses: &'a [u64], is_list: bool) -> &'a [u64] {
 fn list(scene: &mut Scene, record: &RecordImage, id: u64, addresses: &[u64]) -> Registers {
     let mut out = [7; 3];
     let Scene {
-        granules, table, ..
+        granules,
+        table,
+        words,
+        ..
     } = scene;
     match id {
-        DELEGATE => Kit::delegate_list(record, granules, table, addresses, &mut out),
-        _ => Kit::undelegate_list(record, granules, table, addresses, &mut out),
+        DELEGATE => Kit::delegate_list(record, granules, table, words, addresses, &mut out),
+        _ => Kit::undelegate_list(record, granules, table, words, addresses, &mut out),
     }
     out
 }
@@ -103,6 +115,7 @@ fn call(random: &mut Random, scene: &mut Scene, record: &RecordImage, x: &[u64; 
         page: &mut scene.page,
         granules: &scene.granules,
         table: &mut scene.table,
+        words: &mut scene.words,
         key: &scene.realm_key,
         token: &scene.token,
         busy: u64::from(scene.busy),
@@ -157,21 +170,23 @@ fn step(random: &mut Random, scene: &mut Scene, books: &mut Books) -> (&'static 
 fn books_balance() {
     let mut random = Random::new(14);
     let mut met: BTreeMap<(&str, i64), u64> = BTreeMap::new();
-    let (mut delegated, mut undelegated) = (0, 0);
+    let (mut delegated, mut undelegated, mut agreed) = (0, 0, 0);
     for _ in 0..SCENES {
         let mut scene = random.scene();
-        let mut books = Books::open(&scene.table);
+        let mut books = Books::open(&scene);
         for _ in 0..STEPS {
             if random.one_in(16) {
                 scene.state.record = record_of(&random.record_image());
             }
             let answer = step(&mut random, &mut scene, &mut books);
             *met.entry(answer).or_insert(0) += 1;
-            books.compare(&scene.table);
+            books.compare(&scene);
         }
         delegated += books.delegated;
         undelegated += books.undelegated;
+        agreed += u64::from(books.agreed);
     }
+    assert!(agreed > SCENES as u64 / 4, "words agreed {agreed} times");
     for kind in ["list", "single"] {
         for code in [0, -1, -2, -3] {
             assert!(met.contains_key(&(kind, code)), "no {kind} with {code}");
