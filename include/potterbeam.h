@@ -36,7 +36,8 @@
  *   both records hold the same. A record that EL3 finds closed means: do not enter the monitor.
  * Kept bytes. With K kept bytes in EL3's record no command writes below B + K, so a manifest that lies there can be read at any later boot.
  *   pbeam_kept_for says how many bytes a manifest takes; with 0 the first command may overwrite it. No register carries K: the monitor
- *   finds the same number with pbeam_kept_for on the same page, and puts its buffers at B + K and above. The monitor itself may still write
+ *   finds the same number with pbeam_kept_for on the same page, and puts its buffers at B + K and above. If EL3 takes another K it has
+ *   to tell the monitor. The monitor itself may still write
  *   there: only the commands are held to it.
  * Boot errors. The monitor ends each boot with RMM_BOOT_COMPLETE (0xC40001CF, the code in x1). That call is the platform's: pbeam_call
  *   answers PBEAM_X0_UNK. If x1 is not 0, EL3 closes its record with pbeam_close and lets no CPU enter the monitor again. Every
@@ -428,8 +429,8 @@ uint64_t pbeam_word(const uint8_t *page, size_t page_len, const uint64_t view[PB
  *          within 4,096 bytes do not count; so it is never above 4,096.
  * Leaves   the view as it was.
  * Stack    96 bytes; AArch64 0
- * With so many kept bytes pbeam_read gives the same answer and the same view after any commands (proved), as the edition that the view was
- * read as, and so as an older one. What plat_data points at is not counted: where that is to be kept too, take the larger number.
+ * With so many kept bytes pbeam_read gives the same answer and the same view after any commands, as the edition that the view was read as
+ * (proved). What plat_data points at is not counted: where that is to be kept too, take a larger number, and tell the monitor.
  */
 PBEAM_NONNULL(1)
 uint64_t pbeam_kept_for(const uint64_t view[PBEAM_VIEW_WORDS]);

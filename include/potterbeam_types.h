@@ -403,7 +403,7 @@ static inline uint64_t pbeam_view_plat_data(const pbeam_view_t *view)
     return view->words[PBEAM_VIEW_PLAT_DATA];
 }
 
-/* pbeam_kept_for: how many bytes at the page's start the manifest takes. */
+/* pbeam_kept_for: how many bytes at the page's start the manifest takes, of a view that was read as PBEAM_EDITION_LAST. */
 PBEAM_NONNULL(1)
 static inline uint64_t pbeam_view_kept(const pbeam_view_t *view)
 {

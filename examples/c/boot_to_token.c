@@ -197,7 +197,7 @@ static bool el3_write_manifest(void)
     return refusal == PBEAM_WRITE_PAGE; /* on a board: clean the cache, the monitor may read it with its MMU off */
 }
 
-/* The granule record, of the banks that the manifest shows. Now: the first token may overwrite the page. */
+/* The granule record, of the banks that the manifest shows. Now: it is what the commands take. */
 static bool el3_set_up_granules(void)
 {
     pbeam_view_t view;

@@ -106,6 +106,22 @@ fn list(scene: &mut Scene, record: &RecordImage, id: u64, addresses: &[u64]) -> 
     out
 }
 
+/// One granule, by the export of its command.
+fn single(scene: &mut Scene, record: &RecordImage, id: u64, at: u64) -> Registers {
+    let mut out = [7; 3];
+    let Scene {
+        granules,
+        table,
+        words,
+        ..
+    } = scene;
+    match id {
+        DELEGATE => Kit::delegate(record, granules, table, words, at, &mut out),
+        _ => Kit::undelegate(record, granules, table, words, at, &mut out),
+    }
+    out
+}
+
 /// A call by function id.
 fn call(random: &mut Random, scene: &mut Scene, record: &RecordImage, x: &[u64; 5]) -> Registers {
     let (mut out, mut work) = ([7; 3], [7; 2]);
@@ -150,7 +166,10 @@ fn step(random: &mut Random, scene: &mut Scene, books: &mut Books) -> (&'static 
         }
         2 => {
             let [at, ..] = random.registers(id, scene);
-            let out = call(random, scene, &record, &[id, at, 0, 0, 0]);
+            let out = match random.one_in(2) {
+                true => single(scene, &record, id, at),
+                false => call(random, scene, &record, &[id, at, 0, 0, 0]),
+            };
             books.enter(scene, id, done(&out, &[at], false));
             ("single", out[0] as i64)
         }
@@ -188,7 +207,7 @@ fn books_balance() {
     }
     assert!(agreed > SCENES as u64 / 4, "words agreed {agreed} times");
     for kind in ["list", "single"] {
-        for code in [0, -1, -2, -3] {
+        for code in [0, -1, -2, -3, -5] {
             assert!(met.contains_key(&(kind, code)), "no {kind} with {code}");
         }
     }

@@ -148,8 +148,8 @@ pub extern "C" fn pbeam_word(
     lookup::word_of(page, images::view_of(view), section, entry, word)
 }
 
-// How many bytes the manifest of a view takes from the page's start: with so many kept bytes at cold boot it is read the same after any
-// runtime commands. At most 4,096.
+// How many bytes the manifest of a view takes from the page's start: with so many kept bytes at cold boot it is read the same, as the
+// edition of the view, after any runtime commands. At most 4,096.
 #[no_mangle]
 pub extern "C" fn pbeam_kept_for(view: &[u64; 15]) -> u64
     ensures { λ r. ⌜ (r ≡ keptFor (viewOf (now (view .entry)))) × (r ≤ 4096) ⌝ }
