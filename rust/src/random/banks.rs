@@ -30,7 +30,7 @@ impl Random {
 
     /// Words for a record and a table: mostly those of the table, some at odds with it, with spare bits set, or too many or too few.
     pub fn words(&mut self, record: &GranulesImage, table: &[u8]) -> Vec<u64> {
-        let number = granules(record).div_ceil(64).min(512) as usize;
+        let number = ((granules(record) + 63) / 64).min(512) as usize;
         let mut words = vec![0; number];
         for (granule, &state) in table.iter().enumerate().take(64 * number) {
             put(&mut words, granule, state == 1);

@@ -7,7 +7,7 @@ use super::codes::Error;
 #[inline]
 pub fn need_fit(banks: &BankWords, words: &[u64]) -> Result<u64, Error> {
     let granules = granules(banks);
-    match granules.div_ceil(64) == words.len() as u64 {
+    match (granules + 63) / 64 == words.len() as u64 {
         true => Ok(granules),
         false => Err(Error::Inval),
     }
