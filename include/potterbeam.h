@@ -17,23 +17,28 @@
  * - Lent buffers must not overlap. (Two that the call only reads may.)
  * - There is no lock. One image, page or table is used by one call at a time; different ones may be used at the same time.
  * - The first check that fails decides the answer. The checks stand below in their order.
- * - A refused runtime command puts its code into x0 and 0 into x1 and x2, and leaves page, table, session and queue as they were,
- *   whatever they hold. A refused list of granules differs: x1 is the number done, and these stay done.
+ * - A refused runtime command puts its code into x0 and 0 into x1 and x2, and leaves page, table, words, session and queue as they
+ *   were, whatever they hold. A refused list of granules differs: x1 is the number done, and these stay done.
  * - "Stack" bounds what a call was seen to write on x86-64, accepted or refused, with its return address and the words that it takes on the
  *   stack; the test rust/tests/stack.rs fails where a figure is exceeded. It is measured, not proved. All fit 1 KiB.
  * - The figure behind "AArch64" is static: the frame of the function and of all that it calls, in the archive that tools/aarch64 builds and
  *   that fails to build where a figure is exceeded. It is without the words that a call takes on the stack (pbeam_call 88 bytes) and
- *   without what the platform's memcpy and memset take.
+ *   without what the platform's memcpy, memmove and memset take.
  *
  * potterbeam_types.h has a struct for each image, lists that are counted in entries, and one struct for all that pbeam_call takes. The
  * functions here take plain words and count them: two banks are 4.
  *
  * What the library cannot check, and EL3 has to do:
  *
- * The boot record. EL3 keeps one of its own, apart from the monitor's: every command takes B and the agreed minor from it. EL3 gets it
- *   up with pbeam_cold_boot, over the registers and the page that it is about to hand to the monitor, before it enters the monitor,
- *   since the monitor may call EL3 while it boots. Before each warm boot it calls pbeam_warm_boot. Both sides check the same, so both
- *   records hold the same. A record that EL3 finds closed means: do not enter the monitor.
+ * The boot record. EL3 keeps one of its own, apart from the monitor's: every command takes B, the agreed minor and the kept bytes from it.
+ *   EL3 gets it up with pbeam_cold_boot, over the registers and the page that it is about to hand to the monitor, before it enters the
+ *   monitor, since the monitor may call EL3 while it boots. Before each warm boot it calls pbeam_warm_boot. Both sides check the same, so
+ *   both records hold the same. A record that EL3 finds closed means: do not enter the monitor.
+ * Kept bytes. With K kept bytes in EL3's record no command writes below B + K, so a manifest that lies there can be read at any later boot.
+ *   pbeam_kept_for says how many bytes a manifest takes; with 0 the first command may overwrite it. No register carries K: the monitor
+ *   finds the same number with pbeam_kept_for on the same page, and puts its buffers at B + K and above. If EL3 takes another K it has
+ *   to tell the monitor. The monitor itself may still write
+ *   there: only the commands are held to it.
  * Boot errors. The monitor ends each boot with RMM_BOOT_COMPLETE (0xC40001CF, the code in x1). That call is the platform's: pbeam_call
  *   answers PBEAM_X0_UNK. If x1 is not 0, EL3 closes its record with pbeam_close and lets no CPU enter the monitor again. Every
  *   command but 0xC400018F is PBEAM_X0_UNK from then on.
@@ -49,8 +54,11 @@
  * 0xC400018F does not return to the monitor, so `out` goes nowhere. The Non-secure world gets x0 to x4 (002). 002 names err_code alone, which
  *   is the value of `work`: it goes into x0. Which of the monitor's registers go into x1 to x4 is the platform's; we suggest x2 to x5.
  * Hand-made images. Any words are taken, and no call touches more than it is lent; but an answer is only as true as the words.
- *   - A record that is up is believed: B says which addresses are in the page, the minor which commands there are. Neither is checked.
+ *   - A record that is up is believed: B says which addresses are in the page, the kept bytes which of them are free, the minor which
+ *     commands there are. None is checked; with more than 4,095 kept bytes every buffer is outside.
  *   - A session that has sent as much as its token or more: the next call that goes on is OK with hunk 0 and rest 0, and ends it.
+ *   - A granule record is judged by each call that takes it: one that pbeam_set_up_granules would not have made has no granules. One that it
+ *     would have made is believed, whatever memory the board has.
  *   - A request in the queue with ids above 32 bits, or with any ids: pbeam_oldest shows them as they stand, and pbeam_sign takes it. A
  *     push never puts one there.
  */
@@ -260,18 +268,30 @@
 /* ---- Images: sizes in words, and word numbers. All zero: fresh record, idle session, empty queue. ---- */
 
 /* Boot record. Only boot writes it. */
-#define PBEAM_STATE_WORDS 4
+#define PBEAM_STATE_WORDS 5
 #define PBEAM_STATE_KIND 0
 #define PBEAM_STATE_CPUS 1  /* x2 of the cold boot; 0 when not up */
 #define PBEAM_STATE_BASE 2  /* B; 0 when not up */
 #define PBEAM_STATE_MINOR 3 /* agreed minor; 0 when not up */
+#define PBEAM_STATE_KEPT 4  /* K, the number of kept bytes at the page's start; 0 when not up */
 #define PBEAM_STATE_FRESH 0
 #define PBEAM_STATE_UP 1
 #define PBEAM_STATE_CLOSED 2 /* as written; any other number is read as closed too */
 
-/* Granule record: the address G of the table's first granule. */
-#define PBEAM_GRANULES_WORDS 1
-#define PBEAM_GRANULES_START 0
+/* Granule record: the number of banks of memory, then base and size of each (PBEAM_BANK_WORDS). The words behind the last bank count for
+ * nothing. pbeam_set_up_granules makes it, and no other function writes it.
+ * Granule i of the table is granule i of the banks, joined in their order: an address between two banks is on no granule. A record has no
+ * granules, so that no address is on one, unless pbeam_set_up_granules would take its banks: 1 to 16 of them, each as the reader accepts
+ * it, each beginning at or after the end of the one before. All zero has none. */
+#define PBEAM_GRANULES_WORDS 33
+#define PBEAM_GRANULES_COUNT 0
+#define PBEAM_GRANULES_FIRST_BANK 1
+#define PBEAM_GRANULES_BANKS_MOST 16
+
+/* Realm words: how many granules a word has a bit for, and what pbeam_realm_next and pbeam_realm_agrees answer beside the codes. */
+#define PBEAM_REALM_WORD_GRANULES 64
+#define PBEAM_REALM_NONE 1   /* no Realm granule at or after the index */
+#define PBEAM_REALM_DIFFER 1 /* words and table do not agree */
 
 /* Token session. */
 #define PBEAM_SESSION_WORDS 3
@@ -485,6 +505,22 @@ PBEAM_NONNULL(4)
 size_t pbeam_field_next(const uint8_t *page, size_t page_len, size_t cursor, uint64_t field[PBEAM_FIELD_WORDS]);
 
 /*
+ * pbeam_kept_for: how many bytes at the page's start the manifest takes: the number of kept bytes to give pbeam_cold_boot, so that no
+ *          command overwrites it.
+ * Takes    a page, and the view that pbeam_read made of it as PBEAM_EDITION_LAST.
+ * Answers  the highest end of the core, of the arrays and of the fields with their end mark, as an offset in the page, rounded up to a
+ *          multiple of 8: from 16 to 4,096. Of a view that no reading made: the core is that of its edition, below 1 taken as 1 and above
+ *          4 as 4, entries that do not lie within 4,096 bytes do not count, and broken fields count to the page's end; so it is never
+ *          above 4,096.
+ * Leaves   page and view as they were.
+ * Stack    96 bytes; AArch64 0
+ * With so many kept bytes pbeam_read gives the same answer and the same view after any commands, as the edition that the view was read as
+ * (proved).
+ */
+PBEAM_NONNULL(3)
+uint64_t pbeam_kept_for(const uint8_t *page, size_t page_len, const uint64_t view[PBEAM_VIEW_WORDS]);
+
+/*
  * pbeam_listing: what a page shows, as text: a line for version and edition, one for plat_data, one a field, and for each section its
  *          number of entries with a line an entry, or that it is absent.
  * Takes    the page, base and edition as pbeam_read, and a room for the text.
@@ -526,20 +562,23 @@ uint32_t pbeam_write(uint64_t base, uint64_t edition, const uint64_t *dram, size
 
 /*
  * pbeam_cold_boot: the first boot after a reset.
- * Takes    the boot record; x0 the CPU, x1 the version offered, x2 the number of CPUs, x3 = B; the monitor's maximum of CPUs; the
- *          page at B, which is read as PBEAM_EDITION_LAST.
+ * Takes    the boot record; x0 the CPU, x1 the version offered, x2 the number of CPUs, x3 = B; the monitor's maximum of CPUs; K = kept, the
+ *          number of bytes at the page's start that no command may write (0: none; pbeam_kept_for: those of the manifest); the page at B,
+ *          which is read as PBEAM_EDITION_LAST.
  * Answers  PBEAM_BOOT_DONE, or by the first check that fails:
  *          PBEAM_BOOT_STATE        record not fresh
  *          PBEAM_BOOT_VERSION      x1 above 32 bits; bit 31 set, major not 0, or minor 0
  *          PBEAM_BOOT_CPUS         x2 above most
  *          PBEAM_BOOT_CPU          x0 not below x2; so with x2 = 0 always
+ *          PBEAM_MANIFEST_PLACE    K above 4,096
  *          PBEAM_MANIFEST_PLACE, PBEAM_MANIFEST_VERSION, PBEAM_MANIFEST_RULES  as pbeam_read
- * Leaves   the page as it was. state: up, with x2, B and the agreed minor; refused: closed, for good.
+ * Leaves   the page as it was. state: up, with x2, B, the agreed minor and K; refused: closed, for good.
  * Stack    416 bytes; AArch64 432
- * The view is not kept: read the page with pbeam_read before a command writes into it.
+ * The view is not kept. With K = 0 read the page with pbeam_read before a command writes into it. K need not cover the manifest; with K =
+ * 4,096 every buffer is outside.
  */
 PBEAM_NONNULL(1)
-int32_t pbeam_cold_boot(uint64_t state[PBEAM_STATE_WORDS], uint64_t x0, uint64_t x1, uint64_t x2, uint64_t x3, uint64_t most,
+int32_t pbeam_cold_boot(uint64_t state[PBEAM_STATE_WORDS], uint64_t x0, uint64_t x1, uint64_t x2, uint64_t x3, uint64_t most, uint64_t kept,
                         const uint8_t *page, size_t page_len);
 
 /*
@@ -548,7 +587,7 @@ int32_t pbeam_cold_boot(uint64_t state[PBEAM_STATE_WORDS], uint64_t x0, uint64_t
  * Answers  PBEAM_BOOT_DONE, or by the first check that fails:
  *          PBEAM_BOOT_STATE        record not up
  *          PBEAM_BOOT_CPU          x0 not below the cold boot's x2
- * Leaves   state: up, as it was; refused: closed, for good. A CPU may warm boot twice.
+ * Leaves   state: up, as it was, kept bytes too; refused: closed, for good. A CPU may warm boot twice.
  * Stack    32 bytes; AArch64 16
  */
 PBEAM_NONNULL(1)
@@ -583,55 +622,124 @@ uint64_t pbeam_agreed_minor(uint64_t version);
  */
 bool pbeam_is_later(uint64_t a, uint64_t b);
 
-/* ---- Runtime commands. A buffer is `size` bytes at physical address pa. It is outside when pa is below B or not below B + 4,096,
- * and too long when size exceeds B + 4,096 - pa. B and the agreed minor are those of the boot record. ---- */
+/* ---- Runtime commands. A buffer is `size` bytes at physical address pa. It is outside when pa is below B + K or not below B + 4,096,
+ * and too long when size exceeds B + 4,096 - pa. B, K (the number of kept bytes) and the agreed minor are those of the boot record. ---- */
+
+/*
+ * pbeam_set_up_granules: the granule record of the banks that a manifest shows. Once, before the first command that takes the record.
+ * Takes    room for the record; the banks' bytes, as pbeam_array or pbeam_array_of with PBEAM_DRAM gives their place in the page
+ *          (PBEAM_BANK_BYTES a bank); and the length of the granule table.
+ * Answers  PBEAM_X0_OK, or PBEAM_X0_INVAL if there is no bank, a part of one or more than PBEAM_GRANULES_BANKS_MOST; if a bank breaks the
+ *          reader's rule (base and size multiples of 4,096, size not 0, base + size at most 2^52); if a bank begins before the end of the
+ *          one before it (they may touch); or if table_len is not the sum of the sizes over PBEAM_GRANULE_BYTES.
+ * Leaves   on OK the record, with 0 in the words behind its last bank. With PBEAM_X0_INVAL no record is made: the words stay as they were.
+ * Stack    384 bytes; AArch64 336
+ * It needs no boot record and keeps no pointer: the page may be overwritten afterwards. The reader accepts more than this: banks in any order,
+ * overlapping ones, up to 249. Such a board has no record, and its commands answer PBEAM_X0_BAD_ADDR.
+ */
+PBEAM_NONNULL(1)
+uint64_t pbeam_set_up_granules(uint64_t granules[PBEAM_GRANULES_WORDS], const uint8_t *banks, size_t banks_len, uint64_t table_len);
 
 /*
  * pbeam_delegate (0xC40001B0): a granule goes from Non-secure to Realm.
- * Takes    the boot record, the granule record, the granule table, and the granule's address.
+ * Takes    the boot record, the granule record, the granule table, the Realm words, and the granule's address.
  * Answers  out: x0 PBEAM_X0_OK, or by the first check that fails:
+ *          PBEAM_X0_INVAL     words_len is not the record's granules over 64, rounded up (0 for a record without granules)
  *          PBEAM_X0_UNK       record not up
- *          PBEAM_X0_BAD_ADDR  G or address not a multiple of 4,096, or address on no granule of the table
+ *          PBEAM_X0_BAD_ADDR  address not a multiple of 4,096, or on no granule of the record's banks; the granule record one without
+ *                             granules; the table of another length than the record's granules: then every address
  *          PBEAM_X0_BAD_PAS   the granule's byte is not PBEAM_GRANULE_NON_SECURE
- * Leaves   on OK that byte as PBEAM_GRANULE_REALM, and every other byte as it was. Refused, the table as it was.
- * Stack    64 bytes; AArch64 0
+ * Leaves   on OK that byte as PBEAM_GRANULE_REALM and its bit in the words set, and every other byte and bit as it was. Refused, table and
+ *          words as they were.
+ * Stack    128 bytes; AArch64 0
  * The byte alone is changed: the change in hardware is the platform's, after an OK.
  */
-PBEAM_NONNULL(1, 2, 6)
+PBEAM_NONNULL(1, 2, 8)
 void pbeam_delegate(const uint64_t state[PBEAM_STATE_WORDS], const uint64_t granules[PBEAM_GRANULES_WORDS], uint8_t *table,
-                    size_t table_len, uint64_t address, uint64_t out[PBEAM_OUT_WORDS]);
+                    size_t table_len, uint64_t *words, size_t words_len, uint64_t address, uint64_t out[PBEAM_OUT_WORDS]);
 
 /*
  * pbeam_undelegate (0xC40001B1): a granule goes from Realm to Non-secure.
- * As pbeam_delegate, with PBEAM_X0_BAD_PAS where the byte is not PBEAM_GRANULE_REALM; on OK it becomes PBEAM_GRANULE_NON_SECURE.
- * Stack    64 bytes; AArch64 0
+ * As pbeam_delegate, with PBEAM_X0_BAD_PAS where the byte is not PBEAM_GRANULE_REALM; on OK it becomes PBEAM_GRANULE_NON_SECURE, and its
+ * bit is cleared. Before that check the shared page, address B, is PBEAM_X0_BAD_ADDR whatever its byte: it has to stay Realm.
+ * Stack    128 bytes; AArch64 0
  */
-PBEAM_NONNULL(1, 2, 6)
+PBEAM_NONNULL(1, 2, 8)
 void pbeam_undelegate(const uint64_t state[PBEAM_STATE_WORDS], const uint64_t granules[PBEAM_GRANULES_WORDS], uint8_t *table,
-                      size_t table_len, uint64_t address, uint64_t out[PBEAM_OUT_WORDS]);
+                      size_t table_len, uint64_t *words, size_t words_len, uint64_t address, uint64_t out[PBEAM_OUT_WORDS]);
 
 /*
  * pbeam_delegate_list: the granules at a list of addresses go from Non-secure to Realm, one by one in the list's order, up to the first
  *          that is refused. It has no function id: which call of the monitor's brings a list is the platform's.
  * Takes    what pbeam_delegate takes, with a list of addresses (any number, none too) in place of one.
  * Answers  out: x0 PBEAM_X0_OK, or the code that pbeam_delegate gives for the address that is refused; x1 the number of granules done,
- *          also when x0 is a refusal: so x1 is the index of the refused address. x2 0. An empty list is OK with 0, up or not.
- * Leaves   as x1 single calls would: the granules before the refused address are Realm and stay so; no other byte changes. An address
+ *          also when x0 is a refusal: so x1 is the index of the refused address. x2 0. PBEAM_X0_INVAL of the words comes first, for an empty
+ *          list too; then an empty list is OK with 0, up or not.
+ * Leaves   as x1 single calls would: the granules before the refused address are Realm and stay so; no other byte or bit changes. An address
  *          that comes twice is refused with PBEAM_X0_BAD_PAS the second time.
- * Stack    64 bytes; AArch64 0
+ * Stack    256 bytes; AArch64 144
  * The bytes alone are changed: the change in hardware is the platform's, for the first x1 addresses, on a refusal too.
  */
-PBEAM_NONNULL(1, 2, 7)
+PBEAM_NONNULL(1, 2, 9)
 void pbeam_delegate_list(const uint64_t state[PBEAM_STATE_WORDS], const uint64_t granules[PBEAM_GRANULES_WORDS], uint8_t *table,
-                         size_t table_len, const uint64_t *addresses, size_t addresses_len, uint64_t out[PBEAM_OUT_WORDS]);
+                         size_t table_len, uint64_t *words, size_t words_len, const uint64_t *addresses, size_t addresses_len,
+                         uint64_t out[PBEAM_OUT_WORDS]);
 
 /*
  * pbeam_undelegate_list: the same from Realm to Non-secure, each address as pbeam_undelegate takes it.
- * Stack    64 bytes; AArch64 0
+ * Stack    256 bytes; AArch64 144
  */
-PBEAM_NONNULL(1, 2, 7)
+PBEAM_NONNULL(1, 2, 9)
 void pbeam_undelegate_list(const uint64_t state[PBEAM_STATE_WORDS], const uint64_t granules[PBEAM_GRANULES_WORDS], uint8_t *table,
-                           size_t table_len, const uint64_t *addresses, size_t addresses_len, uint64_t out[PBEAM_OUT_WORDS]);
+                           size_t table_len, uint64_t *words, size_t words_len, const uint64_t *addresses, size_t addresses_len,
+                           uint64_t out[PBEAM_OUT_WORDS]);
+
+/* ---- Realm words: a bit beside each byte of the granule table. Granule i is bit i mod 64 of word i / 64, set where its byte is
+ * PBEAM_GRANULE_REALM; the spare bits of the last word are 0. There are as many words as the record's granules over 64, rounded up;
+ * with any other number every function below, and delegation, answers PBEAM_X0_INVAL. Delegation keeps words and table in agreement
+ * where they agreed before; pbeam_realm_build makes them agree. None of these looks at the boot record. ---- */
+
+/*
+ * pbeam_realm_count: how many granules are Realm, from the words alone: a board does not stall over a walk of the table.
+ * Takes    the granule record, the words, and room for a number.
+ * Answers  PBEAM_X0_OK with the number, or PBEAM_X0_INVAL with 0. Set spare bits are not counted.
+ * Stack    32 bytes; AArch64 0
+ */
+PBEAM_NONNULL(1, 4)
+uint64_t pbeam_realm_count(const uint64_t granules[PBEAM_GRANULES_WORDS], const uint64_t *words, size_t words_len, uint64_t number[1]);
+
+/*
+ * pbeam_realm_next: the first Realm granule at or after an index, from the words alone, stopping at the first hit.
+ * Takes    the granule record, the words, the index to begin at, and room for the index found.
+ * Answers  PBEAM_X0_OK with the index; PBEAM_REALM_NONE with 0 where there is none; PBEAM_X0_INVAL with 0, also for an index that is not
+ *          below the record's granules. To go through all: begin at 0, then at the index found + 1, while that is below the granules.
+ * Stack    32 bytes; AArch64 0
+ */
+PBEAM_NONNULL(1, 5)
+uint64_t pbeam_realm_next(const uint64_t granules[PBEAM_GRANULES_WORDS], const uint64_t *words, size_t words_len, uint64_t index,
+                          uint64_t found[1]);
+
+/*
+ * pbeam_realm_agrees: whether the words are those of the table, spare bits too. It walks the table.
+ * Takes    the granule record, the granule table and the words.
+ * Answers  PBEAM_X0_OK where they agree, PBEAM_REALM_DIFFER where they do not, or PBEAM_X0_INVAL, also for a table of another length than
+ *          the record's granules.
+ * Stack    96 bytes; AArch64 0
+ */
+PBEAM_NONNULL(1)
+uint64_t pbeam_realm_agrees(const uint64_t granules[PBEAM_GRANULES_WORDS], const uint8_t *table, size_t table_len, const uint64_t *words,
+                            size_t words_len);
+
+/*
+ * pbeam_realm_build: makes the words of a table. Once, before the first command that takes them; whatever the words held.
+ * Takes    the granule record, the granule table and the words.
+ * Answers  PBEAM_X0_OK, or PBEAM_X0_INVAL, also for a table of another length than the record's granules.
+ * Leaves   on OK the words of the table, spare bits 0. With PBEAM_X0_INVAL the words as they were.
+ * Stack    96 bytes; AArch64 0
+ */
+PBEAM_NONNULL(1)
+uint64_t pbeam_realm_build(const uint64_t granules[PBEAM_GRANULES_WORDS], const uint8_t *table, size_t table_len, uint64_t *words,
+                           size_t words_len);
 
 /*
  * pbeam_realm_key (0xC40001B2): the realm attestation key.
@@ -784,24 +892,25 @@ size_t pbeam_responses(const uint64_t queue[PBEAM_QUEUE_WORDS]);
 
 /*
  * pbeam_call: every command by its function id.
- * Takes    the boot record, session, queue and page; the granule record and the granule table; the realm key;
+ * Takes    the boot record, session, queue and page; the granule record, the granule table and the Realm words; the realm key;
  *          the platform token and the busy flag; the public key of token signing; width = MECIDWidthm1; and call, the registers:
  *            PBEAM_ID_FORWARD x1 err_code; PBEAM_ID_DELEGATE, PBEAM_ID_UNDELEGATE x1 address; PBEAM_ID_REALM_KEY x1 pa, x2 size, x3 curve;
  *            PBEAM_ID_PLATFORM_TOKEN x1 pa, x2 size, x3 c_size; PBEAM_ID_FEATURES x1 index; PBEAM_ID_TOKEN_SIGNING x1 opcode, x2 pa, x3 size,
  *            x4 curve; PBEAM_ID_KEY_UPDATE x1 mecid.
  *          What a command does not need may be of any content, and a slice empty.
  * Answers  out and work as the command. PBEAM_ID_FORWARD: out all zero, work (PBEAM_WORK_FORWARD, err_code), for any boot record. Any
- *          other id: PBEAM_X0_UNK. Every command but PBEAM_ID_FORWARD: PBEAM_X0_UNK while the record is not up.
+ *          other id: PBEAM_X0_UNK. Every command but PBEAM_ID_FORWARD: PBEAM_X0_UNK while the record is not up. The words' number is checked
+ *          before that, by PBEAM_ID_DELEGATE and PBEAM_ID_UNDELEGATE alone: no other id looks at the words.
  * Leaves   what the command leaves; all else as it was. Only PBEAM_ID_PLATFORM_TOKEN reads or writes the session, only
  *          PBEAM_ID_TOKEN_SIGNING the queue.
- * Stack    512 bytes with PBEAM_ID_TOKEN_SIGNING, 416 bytes with any other id; AArch64 432
+ * Stack    544 bytes with PBEAM_ID_TOKEN_SIGNING, 448 bytes with any other id; AArch64 432
  */
-PBEAM_NONNULL(1, 2, 3, 6, 17, 18, 19)
+PBEAM_NONNULL(1, 2, 3, 6, 19, 20, 21)
 void pbeam_call(const uint64_t state[PBEAM_STATE_WORDS], uint64_t session[PBEAM_SESSION_WORDS], uint64_t queue[PBEAM_QUEUE_WORDS],
                 uint8_t *page, size_t page_len, const uint64_t granules[PBEAM_GRANULES_WORDS], uint8_t *table, size_t table_len,
-                const uint8_t *key, size_t key_len, const uint8_t *token, size_t token_len, uint64_t busy, const uint8_t *public_key,
-                size_t public_len, uint64_t width, const uint64_t call[PBEAM_CALL_WORDS], uint64_t out[PBEAM_OUT_WORDS],
-                uint64_t work[PBEAM_WORK_WORDS]);
+                uint64_t *words, size_t words_len, const uint8_t *key, size_t key_len, const uint8_t *token, size_t token_len,
+                uint64_t busy, const uint8_t *public_key, size_t public_len, uint64_t width, const uint64_t call[PBEAM_CALL_WORDS],
+                uint64_t out[PBEAM_OUT_WORDS], uint64_t work[PBEAM_WORK_WORDS]);
 
 #ifdef __cplusplus
 }

@@ -171,9 +171,11 @@ typedef struct {
     pbeam_session_t session;
     pbeam_queue_t queue;
     pbeam_page_t *page;      /* NULL: no page, so the commands that need it answer PBEAM_X0_UNK */
-    pbeam_granules_t granules;
-    uint8_t *table;          /* a byte a granule; NULL: no granule */
+    pbeam_granules_t granules; /* pbeam_context_set_up_granules, before the first command; all zero: no granule */
+    uint8_t *table;          /* a byte a granule of its banks; NULL: no granule */
     size_t table_count;
+    uint64_t *words;         /* a bit a granule; pbeam_context_build_words, before the first command; NULL: none */
+    size_t words_count;
     pbeam_bytes_t realm_key;
     pbeam_bytes_t token;     /* see "The platform token" in potterbeam.h */
     pbeam_bytes_t public_key;
@@ -190,8 +192,8 @@ typedef struct {
 } pbeam_response_t;
 
 PBEAM_ASSERT(sizeof(pbeam_page_t) == 4096, "a page");
-PBEAM_ASSERT(sizeof(pbeam_record_t) == 32, "a boot record");
-PBEAM_ASSERT(sizeof(pbeam_granules_t) == 8, "a granule record");
+PBEAM_ASSERT(sizeof(pbeam_record_t) == 40, "a boot record");
+PBEAM_ASSERT(sizeof(pbeam_granules_t) == 264, "a granule record");
 PBEAM_ASSERT(sizeof(pbeam_session_t) == 24, "a session");
 PBEAM_ASSERT(sizeof(pbeam_queue_t) == 1680, "a queue");
 PBEAM_ASSERT(sizeof(pbeam_request_t) == 80, "a request");
@@ -264,7 +266,7 @@ static inline const char *pbeam_boot_text(int32_t code)
     case PBEAM_BOOT_VERSION: return "the version of the boot interface is not accepted";
     case PBEAM_BOOT_CPUS: return "more CPUs than the monitor supports";
     case PBEAM_BOOT_CPU: return "the CPU's index is not below the number of CPUs";
-    case PBEAM_MANIFEST_PLACE: return "the page's length or base is wrong";
+    case PBEAM_MANIFEST_PLACE: return "the page's length or base is wrong, or more bytes are kept than it has";
     case PBEAM_MANIFEST_VERSION: return "the version of the manifest is not accepted";
     case PBEAM_MANIFEST_RULES: return "the manifest breaks a rule";
     default: return "no boot code";
@@ -303,7 +305,7 @@ static inline const char *pbeam_x0_text(uint64_t x0)
     switch (x0) {
     case PBEAM_X0_OK: return "OK";
     case PBEAM_X0_UNK: return "UNK: not served, or the platform has nothing to give";
-    case PBEAM_X0_BAD_ADDR: return "BAD_ADDR: outside the page, or on no granule of the table";
+    case PBEAM_X0_BAD_ADDR: return "BAD_ADDR: outside the page or in its kept bytes, on no granule of the table, or the shared page to be undelegated";
     case PBEAM_X0_BAD_PAS: return "BAD_PAS: the granule is in another state than the command needs";
     case PBEAM_X0_INVAL: return "INVAL: an argument is not allowed";
     case PBEAM_X0_AGAIN: return "AGAIN: busy, full or nothing there yet; call again later";
@@ -426,6 +428,13 @@ PBEAM_NONNULL(1)
 static inline uint64_t pbeam_view_plat_data(const pbeam_view_t *view)
 {
     return view->words[PBEAM_VIEW_PLAT_DATA];
+}
+
+/* pbeam_kept_for: how many bytes at the page's start the manifest takes, of a view that was read as PBEAM_EDITION_LAST. */
+PBEAM_NONNULL(1)
+static inline uint64_t pbeam_view_kept(const pbeam_view_t *view)
+{
+    return pbeam_kept_for(view->words);
 }
 
 /* PBEAM_VIEW_ABSENT, PBEAM_VIEW_EMPTY or PBEAM_VIEW_ENTRIES; a section's number above 3 is absent. */
@@ -617,11 +626,12 @@ static inline void pbeam_record_close(pbeam_record_t *record)
     pbeam_close(record->words);
 }
 
-/* pbeam_cold_boot. */
-PBEAM_NONNULL(1, 2, 4)
-static inline int32_t pbeam_record_cold_boot(pbeam_record_t *record, const pbeam_cold_t *x, uint64_t most, const pbeam_page_t *page)
+/* pbeam_cold_boot. `kept`: how many bytes at the page's start no command may write; pbeam_view_kept says what a manifest takes. */
+PBEAM_NONNULL(1, 2, 5)
+static inline int32_t pbeam_record_cold_boot(pbeam_record_t *record, const pbeam_cold_t *x, uint64_t most, uint64_t kept,
+                                             const pbeam_page_t *page)
 {
-    return pbeam_cold_boot(record->words, x->cpu, x->version, x->cpus, x->base, most, page->bytes, sizeof page->bytes);
+    return pbeam_cold_boot(record->words, x->cpu, x->version, x->cpus, x->base, most, kept, page->bytes, sizeof page->bytes);
 }
 
 /* pbeam_warm_boot. */
@@ -654,6 +664,13 @@ PBEAM_NONNULL(1)
 static inline uint64_t pbeam_record_minor(const pbeam_record_t *record)
 {
     return record->words[PBEAM_STATE_MINOR];
+}
+
+/* The number of kept bytes: the first buffer begins at so many bytes behind B. */
+PBEAM_NONNULL(1)
+static inline uint64_t pbeam_record_kept(const pbeam_record_t *record)
+{
+    return record->words[PBEAM_STATE_KEPT];
 }
 
 /* ---- Registers of a call ---- */
@@ -782,12 +799,63 @@ static inline bool pbeam_session_is_sending(const pbeam_session_t *session)
     return session->words[PBEAM_SESSION_KIND] != PBEAM_SESSION_IDLE;
 }
 
-/* Where the granule table starts: G. */
-static inline pbeam_granules_t pbeam_granules_from(uint64_t start)
+/* How many granules the banks of an accepted page have: the length that the table must have. */
+PBEAM_NONNULL(1, 2)
+static inline uint64_t pbeam_view_granules(const pbeam_page_t *page, const pbeam_view_t *view)
 {
-    pbeam_granules_t granules;
-    granules.words[PBEAM_GRANULES_START] = start;
+    uint64_t granules = 0;
+    for (size_t i = 0; i < pbeam_view_count(page, view, PBEAM_DRAM); i++)
+        granules += pbeam_view_dram(page, view, i).size / PBEAM_GRANULE_BYTES;
     return granules;
+}
+
+/* pbeam_set_up_granules: the context's granule record, from the banks that a view of the page shows, for the table that the context has.
+ * Answers PBEAM_X0_OK, or PBEAM_X0_INVAL with the record as it was. */
+PBEAM_NONNULL(1, 2, 3)
+static inline uint64_t pbeam_context_set_up_granules(pbeam_context_t *context, const pbeam_page_t *page, const pbeam_view_t *view)
+{
+    pbeam_place_t place;
+    pbeam_bytes_t banks;
+    pbeam_view_array(page, view, PBEAM_DRAM, &place);
+    banks = pbeam_bytes(page->bytes + pbeam_place_offset(&place), pbeam_place_length(&place));
+    return pbeam_set_up_granules(context->granules.words, banks.at, banks.length, context->table == NULL ? 0 : context->table_count);
+}
+
+/* How many Realm words a table of so many granules has. */
+static inline size_t pbeam_words_for(size_t granules)
+{
+    return granules / PBEAM_REALM_WORD_GRANULES + (granules % PBEAM_REALM_WORD_GRANULES != 0);
+}
+
+/* pbeam_realm_build: the context's Realm words, from its granule table. Answers PBEAM_X0_OK, or PBEAM_X0_INVAL with the words as they
+ * were. */
+PBEAM_NONNULL(1)
+static inline uint64_t pbeam_context_build_words(pbeam_context_t *context)
+{
+    return pbeam_realm_build(context->granules.words, context->table, context->table == NULL ? 0 : context->table_count,
+                             context->words, context->words == NULL ? 0 : context->words_count);
+}
+
+/* pbeam_realm_agrees: whether the context's words are those of its table. Answers as pbeam_realm_agrees. */
+PBEAM_NONNULL(1)
+static inline uint64_t pbeam_context_words_agree(const pbeam_context_t *context)
+{
+    return pbeam_realm_agrees(context->granules.words, context->table, context->table == NULL ? 0 : context->table_count,
+                              context->words, context->words == NULL ? 0 : context->words_count);
+}
+
+/* pbeam_realm_count: how many granules of the context are Realm. Answers as pbeam_realm_count. */
+PBEAM_NONNULL(1, 2)
+static inline uint64_t pbeam_context_realm_count(const pbeam_context_t *context, uint64_t *number)
+{
+    return pbeam_realm_count(context->granules.words, context->words, context->words == NULL ? 0 : context->words_count, number);
+}
+
+/* pbeam_realm_next: the first Realm granule of the context at or after an index. Answers as pbeam_realm_next. */
+PBEAM_NONNULL(1, 3)
+static inline uint64_t pbeam_context_realm_next(const pbeam_context_t *context, uint64_t index, uint64_t *found)
+{
+    return pbeam_realm_next(context->granules.words, context->words, context->words == NULL ? 0 : context->words_count, index, found);
 }
 
 /* pbeam_call: one command. */
@@ -799,7 +867,8 @@ static inline void pbeam_context_call(pbeam_context_t *context, const pbeam_call
     const pbeam_bytes_t public_key = pbeam_bytes(context->public_key.at, context->public_key.length);
     pbeam_call(context->record.words, context->session.words, context->queue.words,
                context->page == NULL ? NULL : context->page->bytes, context->page == NULL ? 0 : PBEAM_PAGE_BYTES,
-               context->granules.words, context->table, context->table == NULL ? 0 : context->table_count, realm_key.at,
+               context->granules.words, context->table, context->table == NULL ? 0 : context->table_count, context->words,
+               context->words == NULL ? 0 : context->words_count, realm_key.at,
                realm_key.length, token.at, token.length, context->busy, public_key.at, public_key.length, context->mecid_width,
                call->words, out->words, work->words);
 }
@@ -811,7 +880,8 @@ static inline void pbeam_context_delegate_list(pbeam_context_t *context, const u
                                                pbeam_registers_t *out)
 {
     pbeam_delegate_list(context->record.words, context->granules.words, context->table,
-                        context->table == NULL ? 0 : context->table_count, addresses, addresses == NULL ? 0 : count, out->words);
+                        context->table == NULL ? 0 : context->table_count, context->words,
+                        context->words == NULL ? 0 : context->words_count, addresses, addresses == NULL ? 0 : count, out->words);
 }
 
 PBEAM_NONNULL(1, 4)
@@ -819,7 +889,8 @@ static inline void pbeam_context_undelegate_list(pbeam_context_t *context, const
                                                  pbeam_registers_t *out)
 {
     pbeam_undelegate_list(context->record.words, context->granules.words, context->table,
-                          context->table == NULL ? 0 : context->table_count, addresses, addresses == NULL ? 0 : count, out->words);
+                          context->table == NULL ? 0 : context->table_count, context->words,
+                          context->words == NULL ? 0 : context->words_count, addresses, addresses == NULL ? 0 : count, out->words);
 }
 
 /* pbeam_challenge: the challenge of a call that starts a token session; (0, 0) for any other call. Answers as pbeam_challenge. */

@@ -1,16 +1,22 @@
 /*
  * From boot to a signed token: EL3 firmware on one side, the monitor (RMM) on the other, the page between them.
  *
- *   1  EL3 writes a manifest with two banks and a console, and with the board's name and serial.
- *   2  EL3 enters the monitor: cold boot on CPU 0. The monitor lists what the manifest shows, and reports with RMM_BOOT_COMPLETE.
- *   3  Warm boot on CPU 1.
- *   4  The monitor delegates a granule, and tries the same one again: a refusal. EL3 hands over 200 granules of guest memory in one call; a
- *      second list runs into the granule that is Realm already, and says how many it did before.
+ *   1  EL3 writes a manifest with two banks, a console, and the board's name and serial, and sets up its granule record from what the manifest shows: the table has a byte
+ *      for each granule of the two. From the table it builds the Realm words, a bit for each granule.
+ *   2  EL3 enters the monitor: cold boot on CPU 0, with so many kept bytes that no command overwrites the manifest. The monitor lists what
+ *      the manifest shows, and reports with RMM_BOOT_COMPLETE.
+ *   3  Warm boot on CPU 1: the monitor reads the manifest again.
+ *   4  The monitor delegates a granule, and tries the same one again: a refusal. It delegates one of the second bank; an address in the hole
+ *      between the banks is refused. EL3 hands over 200 granules of guest memory in one call; a second list runs into the granule that is
+ *      Realm already, and says how many it did before. Before and after, the words tell EL3 how many granules are Realm and which is the
+ *      first, without a walk over the table.
  *   5  It draws the platform token, 100 bytes through a buffer of 64. The platform takes its time: AGAIN, and the monitor asks again. In
  *      mid-session the monitor starts anew, is told AGAIN, and goes on: it still gets the rest of the first token. Then it gets the new one.
+ *      A buffer in the kept bytes is refused, and the manifest is still there.
  *   6  It completes an RMI call of the Non-secure world.
  *   7  It has a token signed: push, the signer's step, pull.
- *   8  A warm boot that the monitor reports as failed: EL3 closes its record and serves nothing more.
+ *   8  A second warm boot of CPU 1 finds the manifest as it was. Then a warm boot that the monitor reports as failed: EL3 closes its record
+ *      and serves nothing more.
  *
  * On a board the two sides are two programs. Here the entry to the monitor and its SMCs are plain C calls, and what would be cryptography
  * is a fill of bytes. el3_smc is the handler to take over; el3_choose_token is its part for a platform that can be busy.
@@ -22,13 +28,16 @@
 #include "potterbeam_types.h"
 
 #define BASE UINT64_C(0x80000000)       /* B: the page's physical address */
-#define MEMORY UINT64_C(0x90000000)     /* the first granule of the granule table */
-#define GRANULES 512
+#define MEMORY UINT64_C(0x90000000)     /* the first bank */
+#define MEMORY_BYTES UINT64_C(0x10000000)
+#define HIGH UINT64_C(0x880000000)      /* the second */
+#define HIGH_BYTES UINT64_C(0x80000000)
+#define GRANULES ((MEMORY_BYTES + HIGH_BYTES) / PBEAM_GRANULE_BYTES) /* of this board; a byte each */
 #define GUEST_GRANULES 200
 #define CPUS 3
 #define CPUS_MOST 8                     /* what the monitor is built for */
 #define TOKEN_BYTES 100
-#define BUFFER_BYTES 64                 /* the monitor's buffer for the token, at the page's start */
+#define BUFFER_BYTES 64                 /* the monitor's buffer for the token, behind the kept bytes */
 #define SIGNATURE_BYTES 96              /* an ECDSA signature on SECP384R1 */
 
 static pbeam_page_t page; /* the shared page; on a board both sides map it */
@@ -41,14 +50,15 @@ struct token {
 };
 
 static struct {
-    pbeam_context_t context; /* EL3's own record is in it: B and the agreed minor of every command come from there */
+    pbeam_context_t context; /* EL3's own record is in it: B, the agreed minor and the kept bytes of every command come from there */
     uint8_t table[GRANULES];
+    uint64_t words[GRANULES / PBEAM_REALM_WORD_GRANULES]; /* GRANULES is a multiple of 64 */
     struct token tokens[2];  /* the one that a session is lent, and one to make the next */
     size_t lent;             /* which of them is lent */
     uint64_t non_secure[5];  /* x0 to x4 of the Non-secure world */
 } el3;
 
-/* A spin lock on a board: session, queue, table and page are used by one call at a time. */
+/* A spin lock on a board: session, queue, table, words and page are used by one call at a time. */
 static void el3_lock(void) {}
 static void el3_unlock(void) {}
 
@@ -172,8 +182,8 @@ static void el3_sign_oldest(void)
 static bool el3_write_manifest(void)
 {
     static const pbeam_bank_t banks[] = {
-        {.base = UINT64_C(0x90000000), .size = UINT64_C(0x10000000)},
-        {.base = UINT64_C(0x880000000), .size = UINT64_C(0x80000000)},
+        {.base = MEMORY, .size = MEMORY_BYTES},
+        {.base = HIGH, .size = HIGH_BYTES},
     };
     pbeam_console_t console = {.base = UINT64_C(0x1C0C0000), .map_pages = 1, .clk_in_hz = 24000000, .baud_rate = 115200};
     static const uint8_t name[] = {'D', 'K', '-', '1'}, serial[PBEAM_SERIAL_BYTES] = {0x20, 0x26, 0x11, 0x16, 0, 0, 0, 7};
@@ -191,6 +201,42 @@ static bool el3_write_manifest(void)
     refusal = pbeam_manifest_write(BASE, PBEAM_EDITION_LAST, &lists, &page);
     printf("EL3: write a manifest of edition %d: %s\n", PBEAM_EDITION_LAST, pbeam_write_text(refusal));
     return refusal == PBEAM_WRITE_PAGE; /* on a board: clean the cache, the monitor may read it with its MMU off */
+}
+
+/* The granule record, of the banks that the manifest shows. Now: it is what the commands take. */
+static bool el3_set_up_granules(void)
+{
+    pbeam_view_t view;
+    uint64_t x0;
+    (void)pbeam_manifest_read(&page, BASE, PBEAM_EDITION_LAST, &view); /* of a refused page the view shows no bank, which is refused here */
+    x0 = pbeam_context_set_up_granules(&el3.context, &page, &view);
+    printf("EL3: set up %" PRIu64 " banks, %" PRIu64 " granules: %s\n", el3.context.granules.words[PBEAM_GRANULES_COUNT],
+           pbeam_view_granules(&page, &view), pbeam_x0_text(x0));
+    return x0 == PBEAM_X0_OK;
+}
+
+/* The Realm words of the table, as it is now: a bit for each granule. From here on every command keeps them so. */
+static bool el3_build_words(void)
+{
+    const uint64_t x0 = pbeam_context_build_words(&el3.context);
+    printf("EL3: build %zu Realm words: %s\n", el3.context.words_count, pbeam_x0_text(x0));
+    return x0 == PBEAM_X0_OK;
+}
+
+/* How many granules are Realm, and the first of them from granule 3 on: both from the words alone. Answers whether there are so many. */
+static bool el3_count_realm(uint64_t want)
+{
+    uint64_t number, next, x0;
+    el3_lock();
+    (void)pbeam_context_realm_count(&el3.context, &number); /* the words fit: they were built */
+    x0 = pbeam_context_realm_next(&el3.context, 3, &next);
+    el3_unlock();
+    printf("EL3: Realm granules: %" PRIu64 ", ", number);
+    if (x0 == PBEAM_X0_OK)
+        printf("from granule 3 on the first is %" PRIu64 "\n", next);
+    else
+        printf("none from granule 3 on\n");
+    return number == want;
 }
 
 /* Guest memory goes to Realm, so many granules from one on, in one call. It has no function id of its own: a board gives it one of the
@@ -218,7 +264,10 @@ static void monitor_warm_boot(uint64_t cpu);
 static bool el3_boot_first_cpu(void)
 {
     const pbeam_cold_t x = {.cpu = 0, .version = PBEAM_INTERFACE_MINOR, .cpus = CPUS, .base = BASE}; /* version 0.5 */
-    int32_t code = pbeam_record_cold_boot(&el3.context.record, &x, CPUS, &page);
+    pbeam_view_t view;
+    int32_t code;
+    (void)pbeam_manifest_read(&page, BASE, PBEAM_EDITION_LAST, &view); /* a refused page is refused again by the cold boot */
+    code = pbeam_record_cold_boot(&el3.context.record, &x, CPUS, pbeam_view_kept(&view), &page);
     if (code == E_RMM_BOOT_SUCCESS)
         monitor_cold_boot(&x);
     else
@@ -240,6 +289,7 @@ static bool el3_boot_next_cpu(uint64_t cpu)
 
 static struct {
     pbeam_record_t record; /* the monitor's own */
+    pbeam_view_t view;     /* of the manifest, as the first boot read it */
     bool out_of_memory;    /* an error that the library knows nothing of */
 } monitor;
 
@@ -282,17 +332,39 @@ static void monitor_list(const pbeam_view_t *view)
     }
 }
 
-static void monitor_cold_boot(const pbeam_cold_t *x)
+/* The manifest, read anew: whether it shows what the first boot found. */
+static bool monitor_manifest_is_whole(void)
 {
     pbeam_view_t view;
-    int32_t code = pbeam_record_cold_boot(&monitor.record, x, CPUS_MOST, &page);
+    const int32_t code = pbeam_manifest_read(&page, BASE, PBEAM_EDITION_LAST, &view);
+    const bool same = code == PBEAM_READ_ACCEPTED && memcmp(&view, &monitor.view, sizeof view) == 0;
+    printf("monitor: the manifest is %s\n", same ? "as it was" : "damaged");
+    return same;
+}
+
+/* Where the monitor's buffers begin: behind what is kept. */
+static uint64_t monitor_buffer(void)
+{
+    return BASE + pbeam_record_kept(&monitor.record);
+}
+
+static uint8_t *monitor_bytes(void)
+{
+    return page.bytes + pbeam_record_kept(&monitor.record);
+}
+
+/* No register says how many bytes EL3 keeps: the page does, to both sides. */
+static void monitor_cold_boot(const pbeam_cold_t *x)
+{
+    int32_t code;
+    (void)pbeam_manifest_read(&page, x->base, PBEAM_EDITION_LAST, &monitor.view); /* the cold boot answers for a refused page */
+    code = pbeam_record_cold_boot(&monitor.record, x, CPUS_MOST, pbeam_view_kept(&monitor.view), &page);
     printf("monitor: cold boot of CPU %" PRIu64 ": %s\n", x->cpu, pbeam_boot_text(code));
     if (code == E_RMM_BOOT_SUCCESS) {
-        printf("monitor: %" PRIu64 " CPUs, page at 0x%" PRIx64 ", agreed minor %" PRIu64 "\n", pbeam_record_cpus(&monitor.record),
-               pbeam_record_base(&monitor.record), pbeam_record_minor(&monitor.record));
-        /* The record does not keep the manifest, and the first command may overwrite it: read it now. */
-        code = pbeam_manifest_read(&page, x->base, PBEAM_EDITION_LAST, &view);
-        monitor_list(&view);
+        printf("monitor: %" PRIu64 " CPUs, page at 0x%" PRIx64 ", agreed minor %" PRIu64 ", %" PRIu64 " bytes kept\n",
+               pbeam_record_cpus(&monitor.record), pbeam_record_base(&monitor.record), pbeam_record_minor(&monitor.record),
+               pbeam_record_kept(&monitor.record));
+        monitor_list(&monitor.view);
     }
     monitor_boot_complete(code);
 }
@@ -300,7 +372,7 @@ static void monitor_cold_boot(const pbeam_cold_t *x)
 static void monitor_warm_boot(uint64_t cpu)
 {
     int32_t code = pbeam_record_warm_boot(&monitor.record, cpu);
-    if (code == E_RMM_BOOT_SUCCESS && monitor.out_of_memory)
+    if (code == E_RMM_BOOT_SUCCESS && (monitor.out_of_memory || !monitor_manifest_is_whole()))
         code = E_RMM_BOOT_ERR_UNKNOWN;
     printf("monitor: warm boot of CPU %" PRIu64 ": %s\n", cpu, code == E_RMM_BOOT_SUCCESS ? "done" : "failed");
     monitor_boot_complete(code);
@@ -317,8 +389,8 @@ static int32_t monitor_delegate(uint64_t address)
 static pbeam_registers_t monitor_token(uint64_t c_size, int fill)
 {
     pbeam_registers_t out;
-    memset(page.bytes, fill, (size_t)c_size);
-    out = monitor_smc(pbeam_call_platform_token(BASE, BUFFER_BYTES, c_size), 0);
+    memset(monitor_bytes(), fill, (size_t)c_size);
+    out = monitor_smc(pbeam_call_platform_token(monitor_buffer(), BUFFER_BYTES, c_size), 0);
     printf("monitor: token, c_size %" PRIu64 ": %s", c_size, pbeam_x0_text(pbeam_registers_x0(&out)));
     if (pbeam_registers_code(&out) == E_RMM_OK)
         printf(", hunk %" PRIu64 ", rest %" PRIu64, pbeam_registers_x1(&out), pbeam_registers_x2(&out));
@@ -337,7 +409,7 @@ static bool monitor_draw_token(int fill, int other)
     while (pbeam_registers_code(&out) == E_RMM_OK) {
         const size_t hunk = (size_t)pbeam_registers_x1(&out);
         for (size_t i = 0; i < hunk; i++)
-            wrong += page.bytes[i] != (uint8_t)((size_t)fill + have + i);
+            wrong += monitor_bytes()[i] != (uint8_t)((size_t)fill + have + i);
         have += hunk;
         if (pbeam_registers_x2(&out) == 0)
             break;
@@ -347,6 +419,14 @@ static bool monitor_draw_token(int fill, int other)
     }
     printf("monitor: a token of %zu bytes, %zu of them wrong\n", have, wrong);
     return have == TOKEN_BYTES && wrong == 0;
+}
+
+/* A start one byte below the buffer: its first byte is a kept one. */
+static bool monitor_token_in_manifest(void)
+{
+    const pbeam_registers_t out = monitor_smc(pbeam_call_platform_token(monitor_buffer() - 1, BUFFER_BYTES, PBEAM_CHALLENGE_SHA384), 0);
+    printf("monitor: token, one byte below: %s\n", pbeam_x0_text(pbeam_registers_x0(&out)));
+    return pbeam_registers_code(&out) == E_RMM_BAD_ADDR;
 }
 
 /* The RMI call of the Non-secure world ends with RMI_SUCCESS (0) and two results. */
@@ -362,18 +442,18 @@ static bool monitor_push(uint64_t granule, uint64_t ticket)
     uint8_t hash[PBEAM_HASH_BYTES];
     pbeam_registers_t out;
     memset(hash, 0x3D, sizeof hash);
-    pbeam_put_request(page.bytes, granule, ticket, hash);
-    out = monitor_smc(pbeam_call_push(BASE, PBEAM_REQUEST_BYTES), 0);
+    pbeam_put_request(monitor_bytes(), granule, ticket, hash);
+    out = monitor_smc(pbeam_call_push(monitor_buffer(), PBEAM_REQUEST_BYTES), 0);
     printf("monitor: push a request: %s\n", pbeam_x0_text(pbeam_registers_x0(&out)));
     return pbeam_registers_code(&out) == E_RMM_OK;
 }
 
 static int32_t monitor_pull(void)
 {
-    const pbeam_registers_t out = monitor_smc(pbeam_call_pull(BASE, PBEAM_RESPONSE_BYTES_MOST), 0);
+    const pbeam_registers_t out = monitor_smc(pbeam_call_pull(monitor_buffer(), PBEAM_RESPONSE_BYTES_MOST), 0);
     pbeam_response_t response;
     printf("monitor: pull a response: %s\n", pbeam_x0_text(pbeam_registers_x0(&out)));
-    if (pbeam_registers_code(&out) == E_RMM_OK && pbeam_get_response(page.bytes, PBEAM_RESPONSE_BYTES_MOST, &response))
+    if (pbeam_registers_code(&out) == E_RMM_OK && pbeam_get_response(monitor_bytes(), PBEAM_RESPONSE_BYTES_MOST, &response))
         printf("monitor: response: granule 0x%" PRIx64 ", ticket %" PRIu64 ", signature of %d bytes, the first 0x%02x\n",
                response.rec_granule, response.req_ticket, response.sig_len, response.signature_buf[0]);
     return pbeam_registers_code(&out);
@@ -384,25 +464,34 @@ static int32_t monitor_pull(void)
 static bool boot(void)
 {
     el3.context.page = &page;
-    el3.context.granules = pbeam_granules_from(MEMORY);
     el3.context.table = el3.table;
     el3.context.table_count = GRANULES;
+    el3.context.words = el3.words;
+    el3.context.words_count = pbeam_words_for(GRANULES);
     el3.context.mecid_width = PBEAM_WIDTH_MOST;
     /* This board has no realm key and no public key: both stay empty. */
-    return el3_write_manifest() && el3_boot_first_cpu() && el3_boot_next_cpu(1);
+    return el3_write_manifest() && el3_set_up_granules() && el3_build_words() && el3_boot_first_cpu() && el3_boot_next_cpu(1);
 }
 
 int main(void)
 {
     const uint64_t granule = MEMORY + 2 * PBEAM_GRANULE_BYTES;
     uint64_t done;
-    if (!boot())
+    if (!boot() || !el3_count_realm(0))
         return 1;
     if (monitor_delegate(granule) != E_RMM_OK || monitor_delegate(granule) != E_RMM_BAD_PAS) /* it is Realm already */
         return 1;
+    if (monitor_delegate(HIGH) != E_RMM_OK || monitor_delegate(MEMORY + MEMORY_BYTES) != E_RMM_BAD_ADDR) /* the hole behind the first bank */
+        return 1;
+    if (!el3_count_realm(2))
+        return 1;
     if (!el3_hand_over(300, &done) || el3_hand_over(0, &done) || done != 2) /* granule 2 is Realm already */
         return 1;
+    if (!el3_count_realm(2 + GUEST_GRANULES + 2) || pbeam_context_words_agree(&el3.context) != PBEAM_X0_OK)
+        return 1;
     if (!monitor_draw_token(0x41, 0x91) || !monitor_draw_token(0x91, 0))
+        return 1;
+    if (!monitor_token_in_manifest() || !monitor_manifest_is_whole())
         return 1;
     if (!monitor_complete_rmi())
         return 1;
@@ -410,6 +499,8 @@ int main(void)
         return 1;
     el3_sign_oldest();
     if (monitor_pull() != E_RMM_OK)
+        return 1;
+    if (!el3_boot_next_cpu(1)) /* the monitor reads the manifest again */
         return 1;
     monitor.out_of_memory = true;
     if (el3_boot_next_cpu(2) || el3_boot_next_cpu(1)) /* after the first error no CPU enters the monitor */

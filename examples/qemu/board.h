@@ -12,12 +12,19 @@
 #define SET_BROKEN 1          /* the manifest's checksum is broken before the monitor is entered */
 #define SET_WRONG 2           /* the monitor expects a wrong answer */
 #define SET_STACK 4           /* the stack of each command is printed */
-#define MEMORY 0x44000000     /* the bank of the manifest, and the first granule of the granule table */
-#define MEMORY_BYTES 0x0C000000
-#define GRANULES 16
+#define SET_OLDER 8           /* EL3 offers an older interface, which has no token signing and no key update */
+#define MEMORY 0x44000000     /* the first bank of the manifest, and the first granule of the granule table */
+#define MEMORY_BYTES 0x04000000
+#define HIGH 0x4A000000       /* the second bank; what lies between them is on no granule */
+#define HIGH_BYTES 0x06000000
+#define GRANULES ((MEMORY_BYTES + HIGH_BYTES) / 4096) /* of both banks, a byte each in the table */
 #define CPUS 2
 
 #define SYSTEM_OFF 0x84000008 /* PSCI; here x1 is the number of wrong results */
+
+/* An OEM call, for the test alone: what the platform gives from now on. x1 and x2 are the lengths of realm key and token, x3 is
+ * MECIDWidthm1. OK, or INVAL for more bytes than there are. */
+#define PLATFORM_GIVES 0xC3000001
 
 /* Lengths of what the platform gives: keys and signatures as those of SECP384R1 are. */
 #define TOKEN_BYTES 100

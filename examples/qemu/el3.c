@@ -37,6 +37,7 @@ static volatile uint64_t second_done; /* it has booted */
 static struct {
     pbeam_context_t kit; /* EL3's own boot record is in it */
     uint8_t table[GRANULES];
+    uint64_t words[(GRANULES + 63) / 64]; /* a bit a granule of the table */
     struct context worlds[CPUS][WORLDS];
     uint64_t most_stack, overflows;
 } el3;
@@ -97,13 +98,13 @@ static void stack_check(uint64_t cpu, const char *what, uint64_t number)
 
 static bool write_manifest(void)
 {
-    static const pbeam_bank_t bank = {.base = MEMORY, .size = MEMORY_BYTES};
+    static const pbeam_bank_t banks[] = {{.base = MEMORY, .size = MEMORY_BYTES}, {.base = HIGH, .size = HIGH_BYTES}};
     static const pbeam_region_t pci = {.base = 0x10000000, .size = 0x2EFF0000};
     pbeam_console_t console = {.base = UART, .map_pages = 1, .clk_in_hz = 24000000, .baud_rate = 115200};
     static const uint8_t name[] = {'v', 'i', 'r', 't'}, serial[PBEAM_SERIAL_BYTES] = {0x20, 0x26, 0x11, 0x16, 0, 0, 0, 7};
     static uint8_t fields[32];
     pbeam_lists_t lists = {
-        .dram = &bank, .dram_count = 1, .console = &console, .console_count = 1, .coh = &pci, .coh_count = 1};
+        .dram = banks, .dram_count = sizeof banks / sizeof banks[0], .console = &console, .console_count = 1, .coh = &pci, .coh_count = 1};
     size_t used = 0;
     uint32_t refusal;
     if (!pbeam_console_set_name(&console, "pl011") ||
@@ -114,6 +115,19 @@ static bool write_manifest(void)
     refusal = pbeam_manifest_write(PAGE, PBEAM_EDITION_LAST, &lists, el3.kit.page);
     say("EL3: CPU 0 at level %d writes the manifest: %s\n", level(), pbeam_write_text(refusal));
     return refusal == PBEAM_WRITE_PAGE;
+}
+
+/* The granule record, of the banks that the manifest shows, and the Realm words of the table. Of a refused page the view shows no bank, which
+ * is refused here. */
+static bool set_up_granules(void)
+{
+    pbeam_view_t view;
+    uint64_t x0;
+    (void)pbeam_manifest_read(el3.kit.page, PAGE, PBEAM_EDITION_LAST, &view);
+    x0 = pbeam_context_set_up_granules(&el3.kit, el3.kit.page, &view);
+    say("EL3: sets up %d banks, %d granules: %s\n", pbeam_view_count(el3.kit.page, &view, PBEAM_DRAM),
+        pbeam_view_granules(el3.kit.page, &view), pbeam_x0_text(x0));
+    return x0 == PBEAM_X0_OK && pbeam_context_build_words(&el3.kit) == PBEAM_X0_OK;
 }
 
 /* A world's first entry. */
@@ -129,13 +143,18 @@ static struct context *enter(uint64_t cpu, enum world world, uint64_t x0)
     return to;
 }
 
-/* EL3's own record goes up before the monitor is entered, over the registers and the page that it hands over. */
+/* EL3's own record goes up before the monitor is entered, over the registers and the page that it hands over. It keeps the bytes that the
+ * manifest takes: no command writes there. */
 static struct context *cold_boot(void)
 {
-    const pbeam_cold_t x = {.cpu = 0, .version = PBEAM_INTERFACE_MINOR, .cpus = CPUS, .base = PAGE};
+    const uint64_t offered = settings() & SET_OLDER ? PBEAM_SIGNING_MINOR - 1 : PBEAM_INTERFACE_MINOR; /* a version of major 0 */
+    const pbeam_cold_t x = {.cpu = 0, .version = offered, .cpus = CPUS, .base = PAGE};
     struct context *to = enter(0, WORLD_MONITOR, x.cpu);
-    const int32_t code = pbeam_record_cold_boot(&el3.kit.record, &x, CPUS, el3.kit.page);
-    say("EL3: cold boot of its own record: %s\n", pbeam_boot_text(code));
+    pbeam_view_t view;
+    int32_t code;
+    (void)pbeam_manifest_read(el3.kit.page, PAGE, PBEAM_EDITION_LAST, &view); /* the cold boot answers for a refused page */
+    code = pbeam_record_cold_boot(&el3.kit.record, &x, CPUS, pbeam_view_kept(&view), el3.kit.page);
+    say("EL3: cold boot of its own record: %s, %d bytes kept\n", pbeam_boot_text(code), pbeam_record_kept(&el3.kit.record));
     if (code != E_RMM_BOOT_SUCCESS)
         end(EXIT_NO_BOOT);
     if (settings() & SET_BROKEN)
@@ -150,12 +169,12 @@ static struct context *first_cpu(void)
 {
     console_on();
     el3.kit.page = (pbeam_page_t *)PAGE;
-    el3.kit.granules = pbeam_granules_from(MEMORY);
     el3.kit.table = el3.table;
     el3.kit.table_count = GRANULES;
-    el3.kit.mecid_width = PBEAM_WIDTH_MOST;
-    platform_realm_key(&el3.kit);
-    if (!write_manifest())
+    el3.kit.words = el3.words;
+    el3.kit.words_count = pbeam_words_for(GRANULES);
+    platform_start(&el3.kit);
+    if (!write_manifest() || !set_up_granules())
         end(EXIT_NO_BOOT);
     return cold_boot();
 }
@@ -212,14 +231,29 @@ static struct context *boot_complete(uint64_t cpu, struct context *from)
 
 /* ---- SMCs ---- */
 
+/* How many granules are Realm, from the words alone, and the first of them. */
+static void say_realm(void)
+{
+    uint64_t number, first;
+    (void)pbeam_context_realm_count(&el3.kit, &number); /* the words fit: they were built */
+    if (pbeam_context_realm_next(&el3.kit, 0, &first) == PBEAM_X0_OK)
+        say("EL3: Realm granules: %d, the first is granule %d\n", number, first);
+    else
+        say("EL3: Realm granules: %d\n", number);
+}
+
 /* The hardware's part, after a command. */
 static void act(const pbeam_call_t *call, const pbeam_registers_t *out, const pbeam_work_t *work)
 {
     const uint64_t id = call->words[PBEAM_CALL_ID], granule = call->words[PBEAM_CALL_X1];
-    if (pbeam_registers_code(out) == E_RMM_OK && id == RMM_GTSI_DELEGATE)
+    if (pbeam_registers_code(out) == E_RMM_OK && id == RMM_GTSI_DELEGATE) {
         protection_to_realm(granule);
-    if (pbeam_registers_code(out) == E_RMM_OK && id == RMM_GTSI_UNDELEGATE)
+        say_realm();
+    }
+    if (pbeam_registers_code(out) == E_RMM_OK && id == RMM_GTSI_UNDELEGATE) {
         protection_to_non_secure(granule);
+        say_realm();
+    }
     if (pbeam_work_is(work, PBEAM_WORK_REPROGRAM))
         say("EL3: a new key for mecid %d\n", pbeam_work_value(work));
 }
@@ -251,6 +285,17 @@ static struct context *command(uint64_t cpu, struct context *from)
     return from;
 }
 
+/* PLATFORM_GIVES. A product has no such call. */
+static struct context *change_platform(struct context *from)
+{
+    const bool done = platform_gives(&el3.kit, from->x[1], from->x[2], from->x[3]);
+    const uint64_t out[3] = {done ? PBEAM_X0_OK : PBEAM_X0_INVAL};
+    if (done)
+        say("EL3: has a realm key of %d bytes, tokens of %d, MECIDWidthm1 %d\n", from->x[1], from->x[2], from->x[3]);
+    memcpy(from->x, out, sizeof out);
+    return from;
+}
+
 /* A call of the host: the monitor's last call, RMM_BOOT_COMPLETE or RMM_RMI_REQ_COMPLETE, comes back to it with the host's registers. */
 static struct context *from_host(uint64_t cpu, struct context *from)
 {
@@ -268,6 +313,10 @@ _Noreturn static void off(uint64_t wrong)
     if (settings() & SET_STACK)
         say("EL3: stack: %d bytes at most\n", el3.most_stack);
     say("EL3: off; %d wrong, %d over the stack of %d bytes\n", wrong, el3.overflows, (uint64_t)EL3_STACK);
+    if (pbeam_context_words_agree(&el3.kit) != PBEAM_X0_OK) {
+        say("EL3: the Realm words are not those of the table\n");
+        end(EXIT_WRONG);
+    }
     if (wrong != 0 || el3.overflows != 0)
         end(EXIT_WRONG);
     end(pbeam_record_is_up(&el3.kit.record) ? EXIT_GOOD : EXIT_NO_BOOT);
@@ -279,7 +328,11 @@ static struct context *serve(uint64_t cpu, enum world world, struct context *fro
         off(from->x[1]);
     if (world == WORLD_HOST)
         return from_host(cpu, from);
-    return from->x[0] == RMM_BOOT_COMPLETE ? boot_complete(cpu, from) : command(cpu, from);
+    switch (from->x[0]) {
+    case RMM_BOOT_COMPLETE: return boot_complete(cpu, from);
+    case PLATFORM_GIVES: return change_platform(from);
+    default: return command(cpu, from);
+    }
 }
 
 struct context *el3_lower(struct context *from, uint64_t esr)

@@ -27,6 +27,8 @@ static void read_granule(uint64_t status)
 
 static void granules(void)
 {
+    call("delegate the last granule of the second bank", RMI_GRANULE_DELEGATE, HIGH + HIGH_BYTES - 4096, RMI_SUCCESS, 0);
+    call("undelegate it", RMI_GRANULE_UNDELEGATE, HIGH + HIGH_BYTES - 4096, RMI_SUCCESS, 0);
     read_granule(0);
     call("delegate a granule", RMI_GRANULE_DELEGATE, MEMORY, RMI_SUCCESS, 0);
     read_granule(NOT_THIS_WORLD);
@@ -46,7 +48,10 @@ _Noreturn void cold(void)
     say("host: at level %d\n", level());
     call("version", RMI_VERSION, 0, RMI_SUCCESS, 0x10000);
     granules();
-    tokens();
+    if (settings() & SET_OLDER)
+        call("refusals", RMI_REFUSALS, 0, RMI_SUCCESS, 0);
+    else
+        tokens();
     call("undelegate the granule", RMI_GRANULE_UNDELEGATE, MEMORY, RMI_SUCCESS, 0);
     read_granule(0);
     call("a call that the monitor does not know", RMI_REPORT + 1, 0, RMI_ERROR_INPUT, 0);

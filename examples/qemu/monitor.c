@@ -2,8 +2,8 @@
  * A stand-in for the monitor (RMM), at EL2. It boots from x0 to x3, draws a token while it boots, as 002 lets it, and then serves the
  * host's calls. Every answer of EL3 is compared with what the interface wants; what differs is printed and counted.
  *
- * The buffers lie at odd addresses in the upper half of the page, so that no word in them is aligned, and so that the manifest in the lower
- * half can be read again at the end.
+ * The buffers lie at odd addresses, so that no word in them is aligned, and behind the kept bytes, where the manifest is: it is read again
+ * after the token, at the warm boot and at the end.
  */
 #include "potterbeam_types.h"
 
@@ -14,7 +14,8 @@
 
 #define CPUS_MOST 8 /* what the monitor is built for */
 
-#define TOKEN_AT 0x801 /* offsets in the page */
+#define KEPT 208            /* bytes of the manifest: core, two banks, a console, a region */
+#define TOKEN_AT (KEPT + 1) /* offsets in the page */
 #define KEY_AT 0x903
 #define SIGN_AT 0xA05
 #define TOKEN_BUFFER 64
@@ -52,6 +53,8 @@ static void take_all(const struct step *steps, size_t count)
         take(&steps[i]);
 }
 
+#define TAKE_ALL(steps) take_all(steps, sizeof(steps) / sizeof(steps)[0])
+
 static void bytes_are(const char *what, const uint8_t *at, size_t count, uint8_t first, uint8_t step)
 {
     for (size_t i = 0; i < count; i++)
@@ -64,7 +67,7 @@ static void list_manifest(void)
 {
     pbeam_view_t view;
     const int32_t code = pbeam_manifest_read(page, PAGE, PBEAM_EDITION_LAST, &view);
-    const pbeam_bank_t bank = pbeam_view_dram(page, &view, 0);
+    const pbeam_bank_t bank = pbeam_view_dram(page, &view, 0), high = pbeam_view_dram(page, &view, 1);
     const pbeam_region_t region = pbeam_view_region(page, &view, PBEAM_COH, 0);
     const pbeam_console_t console = pbeam_view_console(page, &view, 0);
     const pbeam_bytes_t board = pbeam_view_board_name(page, &view), serial = pbeam_view_serial(page, &view);
@@ -74,11 +77,13 @@ static void list_manifest(void)
         of_board[i] = (char)board.at[i];
     of_board[board.length] = '\0';
     say("monitor: manifest 0.%d: %s\n", pbeam_view_minor(&view), pbeam_read_text(code));
-    say("monitor: bank 0x%x + 0x%x, device region 0x%x + 0x%x\n", bank.base, bank.size, region.base, region.size);
+    say("monitor: banks 0x%x + 0x%x, 0x%x + 0x%x\n", bank.base, bank.size, high.base, high.size);
+    say("monitor: device region 0x%x + 0x%x\n", region.base, region.size);
     say("monitor: console %s at 0x%x, %d baud\n", name, console.base, console.baud_rate);
     say("monitor: board %s, serial 0x%x\n", of_board, serial.length == PBEAM_SERIAL_BYTES ? pbeam_get64(serial.at) : 0);
     expect("manifest", (uint64_t)(int64_t)code, PBEAM_READ_ACCEPTED);
     expect("bank", bank.base, MEMORY);
+    expect("second bank", high.base, HIGH);
     expect("console", console.base, UART);
     expect("name", board.length, 4);
 }
@@ -99,30 +104,48 @@ static void draw_token(void)
     take(&other);
     take(&rest);
     bytes_are("token's byte", buffer, TOKEN_BYTES - TOKEN_BUFFER, (uint8_t)(0xC4 + TOKEN_BUFFER), 1);
+    list_manifest(); /* no hunk was written over it */
+}
+
+static bool has_signing(void)
+{
+    return pbeam_record_minor(&record) >= PBEAM_SIGNING_MINOR;
 }
 
 static void prepare(void)
 {
-    static const struct step steps[] = {
+    static const struct step key = {"realm key", {RMM_ATTEST_GET_REALM_KEY, PAGE + KEY_AT, 200}, {PBEAM_X0_OK, REALM_KEY_BYTES}};
+    static const struct step signing[] = {
         {"features", {RMM_EL3_FEATURES}, {PBEAM_X0_OK, PBEAM_FEATURE_TOKEN_SIGNING}},
-        {"realm key", {RMM_ATTEST_GET_REALM_KEY, PAGE + KEY_AT, 200}, {PBEAM_X0_OK, REALM_KEY_BYTES}},
         {"public key, too early", {RMM_EL3_TOKEN_SIGN, PBEAM_OPCODE_KEY, PAGE + SIGN_AT, PUBLIC_KEY_BYTES}, {PBEAM_X0_AGAIN}},
     };
-    take_all(steps, sizeof steps / sizeof steps[0]);
+    if (has_signing())
+        TAKE_ALL(signing);
+    take(&key);
     bytes_are("realm key's byte", page->bytes + KEY_AT, REALM_KEY_BYTES, 0x21, 0);
     draw_token();
 }
 
 static void serve(uint64_t x[8]);
 
+/* While EL3's record is not up. */
+static const struct step after_error[] = {
+    {"delegate after the error", {RMM_GTSI_DELEGATE, MEMORY}, {PBEAM_X0_UNK}},
+    {"undelegate after the error", {RMM_GTSI_UNDELEGATE, MEMORY}, {PBEAM_X0_UNK}},
+    {"realm key after the error", {RMM_ATTEST_GET_REALM_KEY, PAGE + KEY_AT, 200}, {PBEAM_X0_UNK}},
+    {"token after the error", {RMM_ATTEST_GET_PLAT_TOKEN, PAGE + TOKEN_AT, TOKEN_BUFFER, 48}, {PBEAM_X0_UNK}},
+    {"features after the error", {RMM_EL3_FEATURES}, {PBEAM_X0_UNK}},
+    {"public key after the error", {RMM_EL3_TOKEN_SIGN, PBEAM_OPCODE_KEY, PAGE + SIGN_AT, PUBLIC_KEY_BYTES}, {PBEAM_X0_UNK}},
+    {"key update after the error", {RMM_MECID_KEY_UPDATE, 9}, {PBEAM_X0_UNK}},
+};
+
 /* The answer of RMM_BOOT_COMPLETE is the host's first call. After an error there is none: EL3 serves nothing more. */
 _Noreturn static void boot_complete(int32_t code)
 {
-    static const struct step after_error = {"delegate after the error", {RMM_GTSI_DELEGATE, MEMORY}, {PBEAM_X0_UNK}};
     uint64_t x[8] = {RMM_BOOT_COMPLETE, (uint64_t)(int64_t)code};
     smc(x);
     if (code != E_RMM_BOOT_SUCCESS) {
-        take(&after_error);
+        TAKE_ALL(after_error);
         off();
     }
     for (;;)
@@ -132,12 +155,17 @@ _Noreturn static void boot_complete(int32_t code)
 _Noreturn void cold(uint64_t x0, uint64_t x1, uint64_t x2, uint64_t x3)
 {
     const pbeam_cold_t x = {.cpu = x0, .version = x1, .cpus = x2, .base = x3};
-    const int32_t code = pbeam_record_cold_boot(&record, &x, CPUS_MOST, (const pbeam_page_t *)x3);
+    const pbeam_page_t *lent = (const pbeam_page_t *)x3;
+    pbeam_view_t view;
+    int32_t code;
+    (void)pbeam_manifest_read(lent, x3, PBEAM_EDITION_LAST, &view); /* the cold boot answers for a refused page */
+    code = pbeam_record_cold_boot(&record, &x, CPUS_MOST, pbeam_view_kept(&view), lent);
     say("monitor: CPU %d at level %d%s, cold boot: %s\n", x0, level(), has_rme() ? " of the Realm world" : "", pbeam_boot_text(code));
     if (code == E_RMM_BOOT_SUCCESS) {
-        say("monitor: %d CPUs, page at 0x%x, agreed minor %d\n", pbeam_record_cpus(&record), pbeam_record_base(&record),
-            pbeam_record_minor(&record));
-        list_manifest(); /* before a command writes into the page */
+        say("monitor: %d CPUs, page at 0x%x, agreed minor %d, %d bytes kept\n", pbeam_record_cpus(&record), pbeam_record_base(&record),
+            pbeam_record_minor(&record), pbeam_record_kept(&record));
+        expect("kept bytes", pbeam_record_kept(&record), KEPT);
+        list_manifest();
         expect_read("EL3's memory", SECURE_RAM, NO_ACCESS);
         prepare();
     }
@@ -148,6 +176,7 @@ _Noreturn void warm(uint64_t x0)
 {
     const int32_t code = pbeam_record_warm_boot(&record, x0);
     say("monitor: CPU %d at level %d, warm boot: %s\n", x0, level(), pbeam_boot_text(code));
+    list_manifest();
     boot_complete(code);
 }
 
@@ -230,7 +259,7 @@ static uint64_t drain(void)
     return RMI_SUCCESS;
 }
 
-/* Commands wrote into their buffers and nowhere else: the manifest is still there. */
+/* After all commands the manifest is still there. */
 static uint64_t report(uint64_t *result)
 {
     list_manifest();
@@ -269,16 +298,20 @@ static void serve(uint64_t x[8])
 #define AT(offset) (PAGE + (offset))
 
 static const struct step refused[] = {
-    {"delegate outside the table", {RMM_GTSI_DELEGATE, MEMORY + GRANULES * PBEAM_GRANULE_BYTES}, {PBEAM_X0_BAD_ADDR}},
+    {"delegate between the banks", {RMM_GTSI_DELEGATE, MEMORY + MEMORY_BYTES}, {PBEAM_X0_BAD_ADDR}},
+    {"delegate behind the banks", {RMM_GTSI_DELEGATE, HIGH + HIGH_BYTES}, {PBEAM_X0_BAD_ADDR}},
     {"delegate in mid-granule", {RMM_GTSI_DELEGATE, MEMORY + 8}, {PBEAM_X0_BAD_ADDR}},
     {"delegate a Realm granule", {RMM_GTSI_DELEGATE, MEMORY}, {PBEAM_X0_BAD_PAS}},
-    {"undelegate outside the table", {RMM_GTSI_UNDELEGATE, MEMORY - PBEAM_GRANULE_BYTES}, {PBEAM_X0_BAD_ADDR}},
+    {"undelegate before the banks", {RMM_GTSI_UNDELEGATE, MEMORY - PBEAM_GRANULE_BYTES}, {PBEAM_X0_BAD_ADDR}},
+    {"undelegate right before the second", {RMM_GTSI_UNDELEGATE, HIGH - PBEAM_GRANULE_BYTES}, {PBEAM_X0_BAD_ADDR}},
     {"undelegate a Non-secure granule", {RMM_GTSI_UNDELEGATE, MEMORY + PBEAM_GRANULE_BYTES}, {PBEAM_X0_BAD_PAS}},
     {"realm key outside the page", {RMM_ATTEST_GET_REALM_KEY, OUTSIDE, 96}, {PBEAM_X0_BAD_ADDR}},
+    {"realm key in the kept bytes", {RMM_ATTEST_GET_REALM_KEY, AT(KEPT - 1), 96}, {PBEAM_X0_BAD_ADDR}},
     {"realm key past the page", {RMM_ATTEST_GET_REALM_KEY, AT(4095), 2}, {PBEAM_X0_INVAL}},
     {"realm key of another curve", {RMM_ATTEST_GET_REALM_KEY, AT(KEY_AT), 96, 1}, {PBEAM_X0_INVAL}},
     {"realm key into too small a buffer", {RMM_ATTEST_GET_REALM_KEY, AT(KEY_AT), REALM_KEY_BYTES - 1}, {PBEAM_X0_UNK}},
     {"token outside the page", TOKEN(PAGE - 1, 64, 48), {PBEAM_X0_BAD_ADDR}},
+    {"token in the kept bytes", TOKEN(AT(KEPT - 1), 64, 48), {PBEAM_X0_BAD_ADDR}},
     {"token past the page", TOKEN(AT(4033), 64, 48), {PBEAM_X0_INVAL}},
     {"token for 33 bytes of challenge", TOKEN(AT(TOKEN_AT), 64, 33), {PBEAM_X0_INVAL}},
     {"token for more challenge than buffer", TOKEN(AT(TOKEN_AT), 47, 48), {PBEAM_X0_INVAL}},
@@ -286,6 +319,9 @@ static const struct step refused[] = {
     {"features, register 1", {RMM_EL3_FEATURES, 1}, {PBEAM_X0_INVAL}},
     {"signing with opcode 4", SIGN(4, AT(SIGN_AT), 80, 0), {PBEAM_X0_INVAL}},
     {"push outside the page", SIGN(PBEAM_OPCODE_PUSH, OUTSIDE, 80, 0), {PBEAM_X0_INVAL}},
+    {"push in the kept bytes", SIGN(PBEAM_OPCODE_PUSH, PAGE, 80, 0), {PBEAM_X0_INVAL}},
+    {"pull into the kept bytes", SIGN(PBEAM_OPCODE_PULL, AT(KEPT - 1), 122, 0), {PBEAM_X0_INVAL}},
+    {"public key into the kept bytes", SIGN(PBEAM_OPCODE_KEY, PAGE, PUBLIC_KEY_BYTES, 0), {PBEAM_X0_INVAL}},
     {"push past the page", SIGN(PBEAM_OPCODE_PUSH, AT(SIGN_AT), ROOM + 1, 0), {PBEAM_X0_INVAL}},
     {"push of 79 bytes", SIGN(PBEAM_OPCODE_PUSH, AT(SIGN_AT), 79, 0), {PBEAM_X0_INVAL}},
     {"public key of another curve", SIGN(PBEAM_OPCODE_KEY, AT(SIGN_AT), PUBLIC_KEY_BYTES, 1), {PBEAM_X0_INVAL}},
@@ -295,6 +331,50 @@ static const struct step refused[] = {
     {"key update of mecid 9", {RMM_MECID_KEY_UPDATE, 9}, {PBEAM_X0_OK}},
     {"a call that no one knows", {UINT64_C(0xC40001B7), 1, 2, 3, 4}, {PBEAM_X0_UNK}},
 };
+
+/* Refusals that depend on what the platform gives, which EL3 changes by its call for the test. A session outlives those within it. */
+#define GIVES(key_bytes, token_bytes, width) {PLATFORM_GIVES, key_bytes, token_bytes, width}
+
+static const struct step refused_by_platform[] = {
+    {"platform to give no realm key", GIVES(0, TOKEN_BYTES, PBEAM_WIDTH_MOST), {PBEAM_X0_OK}},
+    {"realm key that is not there", {RMM_ATTEST_GET_REALM_KEY, AT(KEY_AT), 96}, {PBEAM_X0_UNK}},
+    {"platform to give empty tokens", GIVES(REALM_KEY_BYTES, 0, PBEAM_WIDTH_MOST), {PBEAM_X0_OK}},
+    {"token for a challenge", TOKEN(AT(TOKEN_AT), TOKEN_BUFFER, 48), {PBEAM_X0_AGAIN}},
+    {"token that is empty", TOKEN(AT(TOKEN_AT), TOKEN_BUFFER, 48), {PBEAM_X0_UNK}},
+    {"platform to give whole tokens", GIVES(REALM_KEY_BYTES, TOKEN_BYTES, PBEAM_WIDTH_MOST), {PBEAM_X0_OK}},
+    {"token for a challenge", TOKEN(AT(TOKEN_AT), TOKEN_BUFFER, 48), {PBEAM_X0_AGAIN}},
+    {"token for the same challenge", TOKEN(AT(TOKEN_AT), TOKEN_BUFFER, 48), {PBEAM_X0_OK, TOKEN_BUFFER, TOKEN_BYTES - TOKEN_BUFFER}},
+    {"platform to give shorter tokens", GIVES(REALM_KEY_BYTES, TOKEN_BYTES - 1, PBEAM_WIDTH_MOST), {PBEAM_X0_OK}},
+    {"token of another length goes on", TOKEN(AT(TOKEN_AT), TOKEN_BUFFER, 0), {PBEAM_X0_UNK}},
+    {"platform to give whole tokens, mecids of 8 bits", GIVES(REALM_KEY_BYTES, TOKEN_BYTES, 7), {PBEAM_X0_OK}},
+    {"token goes on", TOKEN(AT(TOKEN_AT), TOKEN_BUFFER, 0), {PBEAM_X0_OK, TOKEN_BYTES - TOKEN_BUFFER}},
+    {"key update of mecid 256", {RMM_MECID_KEY_UPDATE, 256}, {PBEAM_X0_INVAL}},
+    {"key update of mecid 255", {RMM_MECID_KEY_UPDATE, 255}, {PBEAM_X0_OK}},
+    {"platform to give mecids of 17 bits", GIVES(REALM_KEY_BYTES, TOKEN_BYTES, PBEAM_WIDTH_MOST + 1), {PBEAM_X0_OK}},
+    {"key update with too great a width", {RMM_MECID_KEY_UPDATE, 9}, {PBEAM_X0_UNK}},
+    {"platform to give more than it has", GIVES(REALM_KEY_BYTES, TOKEN_BYTES + 1, PBEAM_WIDTH_MOST), {PBEAM_X0_INVAL}},
+    {"platform to give all as before", GIVES(REALM_KEY_BYTES, TOKEN_BYTES, PBEAM_WIDTH_MOST), {PBEAM_X0_OK}},
+};
+
+/* What an interface without token signing does not serve. The checks of the arguments come first. */
+static const struct step refused_by_older[] = {
+    {"features, register 1", {RMM_EL3_FEATURES, 1}, {PBEAM_X0_INVAL}},
+    {"features", {RMM_EL3_FEATURES}, {PBEAM_X0_UNK}},
+    {"signing with opcode 4", SIGN(4, AT(SIGN_AT), 80, 0), {PBEAM_X0_INVAL}},
+    {"push a request", SIGN(PBEAM_OPCODE_PUSH, AT(SIGN_AT), PBEAM_REQUEST_BYTES, 0), {PBEAM_X0_UNK}},
+    {"pull a response", SIGN(PBEAM_OPCODE_PULL, AT(SIGN_AT), PBEAM_RESPONSE_BYTES_MOST, 0), {PBEAM_X0_UNK}},
+    {"public key", SIGN(PBEAM_OPCODE_KEY, AT(SIGN_AT), PUBLIC_KEY_BYTES, 0), {PBEAM_X0_UNK}},
+    {"key update of mecid 65,536", {RMM_MECID_KEY_UPDATE, 65536}, {PBEAM_X0_INVAL}},
+    {"key update of mecid 9", {RMM_MECID_KEY_UPDATE, 9}, {PBEAM_X0_UNK}},
+};
+
+static void platform_refusals(void)
+{
+    uint8_t *buffer = page->bytes + TOKEN_AT;
+    memset(buffer, 0x3E, 48);
+    TAKE_ALL(refused_by_platform);
+    bytes_are("token's byte", buffer, TOKEN_BYTES - TOKEN_BUFFER, 0x3E + TOKEN_BUFFER, 1);
+}
 
 /* A push whose request has other ids. */
 static void push_other(const char *what, size_t id)
@@ -321,7 +401,12 @@ static void fill_queue(void)
 
 static uint64_t refusals(void)
 {
-    take_all(refused, sizeof refused / sizeof refused[0]);
+    if (!has_signing()) {
+        TAKE_ALL(refused_by_older);
+        return RMI_SUCCESS;
+    }
+    TAKE_ALL(refused);
+    platform_refusals();
     push_other("push for another algorithm", PBEAM_REQUEST_ALGORITHM);
     push_other("push for another hash", PBEAM_REQUEST_HASH_ID);
     fill_queue();

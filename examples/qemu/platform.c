@@ -4,11 +4,22 @@
 #include "console.h"
 
 static uint8_t realm_key[REALM_KEY_BYTES], public_key[PUBLIC_KEY_BYTES];
+static size_t token_length; /* of every token that is lent */
 
-void platform_realm_key(pbeam_context_t *kit)
+bool platform_gives(pbeam_context_t *kit, uint64_t key_bytes, uint64_t token_bytes, uint64_t width)
+{
+    if (key_bytes > REALM_KEY_BYTES || token_bytes > TOKEN_BYTES)
+        return false;
+    kit->realm_key = pbeam_bytes(realm_key, key_bytes);
+    token_length = token_bytes;
+    kit->mecid_width = width;
+    return true;
+}
+
+void platform_start(pbeam_context_t *kit)
 {
     memset(realm_key, 0x21, sizeof realm_key);
-    kit->realm_key = pbeam_bytes(realm_key, sizeof realm_key);
+    (void)platform_gives(kit, REALM_KEY_BYTES, TOKEN_BYTES, PBEAM_WIDTH_MOST);
 }
 
 /* The part that makes tokens is slow: it answers at the second asking. */
@@ -19,7 +30,7 @@ static struct {
 
 /* The one that a session is lent, and one to make the next. */
 static uint8_t tokens[2][TOKEN_BYTES];
-static size_t lent, lent_length;
+static size_t lent;
 
 static bool same(const uint8_t *a, const uint8_t *b, size_t n)
 {
@@ -49,7 +60,7 @@ bool platform_choose_token(pbeam_context_t *kit, const pbeam_call_t *call)
 {
     pbeam_place_t place;
     kit->busy = false;
-    kit->token = pbeam_bytes(tokens[lent], lent_length);
+    kit->token = pbeam_bytes(tokens[lent], token_length);
     /* The challenge stands where the first hunk will be written, so it is looked at before the call. */
     (void)pbeam_context_challenge(kit, call, &place);
     if (pbeam_place_length(&place) == 0)
@@ -58,14 +69,13 @@ bool platform_choose_token(pbeam_context_t *kit, const pbeam_call_t *call)
         kit->busy = true;
         return false;
     }
-    kit->token = pbeam_bytes(tokens[1 - lent], TOKEN_BYTES);
+    kit->token = pbeam_bytes(tokens[1 - lent], token_length);
     return true;
 }
 
 void platform_token_is_lent(void)
 {
     lent = 1 - lent;
-    lent_length = TOKEN_BYTES;
 }
 
 /* The signature begins with the first byte of the hash, so that the monitor can tell whose it is. */

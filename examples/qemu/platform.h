@@ -4,8 +4,11 @@
 
 #include "potterbeam_types.h"
 
-/* The realm key into the context, at the start. */
-void platform_realm_key(pbeam_context_t *kit);
+/* At the start: makes the realm key, and gives all that there is. */
+void platform_start(pbeam_context_t *kit);
+
+/* What the platform gives from now on: so many bytes of the realm key and of a token, and this MECIDWidthm1. Answers whether it can. */
+bool platform_gives(pbeam_context_t *kit, uint64_t key_bytes, uint64_t token_bytes, uint64_t width);
 
 /* Before a call for the token: which token it is lent, and whether the platform is busy. Answers whether it is a new one. */
 bool platform_choose_token(pbeam_context_t *kit, const pbeam_call_t *call);

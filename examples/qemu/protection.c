@@ -22,11 +22,22 @@ static void forget_all(void)
     __asm__ volatile("dsb sy; sys #6, c8, c7, #4; dsb sy; isb" ::: "memory"); /* TLBI PAALL */
 }
 
-static void set(uint64_t granule, uint64_t world)
+static void put(uint64_t granule, uint64_t world)
 {
     uint64_t *word = &level1[granule >> 16 & 16383];
     const uint64_t shift = 4 * (granule >> 12 & 15);
     *word = (*word & ~(ANY << shift)) | world << shift;
+}
+
+static void put_bank(uint64_t base, uint64_t size)
+{
+    for (uint64_t at = base; at < base + size; at += GRANULE_BYTES)
+        put(at, NON_SECURE);
+}
+
+static void set(uint64_t granule, uint64_t world)
+{
+    put(granule, world);
     forget_all();
 }
 
@@ -36,8 +47,8 @@ static void make_tables(void)
         level1[i] = ~UINT64_C(0);
     level0[0] = level0[2] = level0[3] = BLOCK_OF_ANY;
     level0[1] = (uint64_t)level1 | TABLE; /* 0x40000000 to 0x7FFFFFFF: DRAM */
-    for (uint64_t i = 0; i < GRANULES; i++)
-        set(MEMORY + i * GRANULE_BYTES, NON_SECURE);
+    put_bank(MEMORY, MEMORY_BYTES);
+    put_bank(HIGH, HIGH_BYTES);
 }
 
 void protection_on(uint64_t cpu)

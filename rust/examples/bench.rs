@@ -5,9 +5,11 @@
 //! image as the library, by the same rules ("in place"); `tests/inplace.rs` holds it to them. Reader and writer are timed against the
 //! reference and against a second reader and writer, written for speed ("by hand"); `tests/fast.rs` holds it to the reference.
 //!
-//! With the argument `manifest` only these are timed.
+//! With the argument `manifest` only these are timed, with `granules` only granule records and moves.
 
-use potterbeam_tests::exports::{Exports, QueueImage, RecordImage, Registers, SessionImage, Work};
+use potterbeam_tests::exports::{
+    Exports, GranulesImage, QueueImage, RecordImage, Registers, SessionImage, Work,
+};
 use potterbeam_tests::fast;
 use potterbeam_tests::images::record_of;
 use potterbeam_tests::inplace;
@@ -16,7 +18,6 @@ use potterbeam_tests::model::Model;
 use potterbeam_tests::reference::boot::Record;
 use potterbeam_tests::reference::codes::Outcome;
 use potterbeam_tests::reference::fields::split_field;
-use potterbeam_tests::reference::granules::{delegate, undelegate};
 use potterbeam_tests::reference::layout::PAGE;
 use potterbeam_tests::reference::queue::Queue;
 use potterbeam_tests::reference::reader::{pointed, read};
@@ -76,7 +77,7 @@ struct Up {
 
 impl Up {
     fn new() -> Up {
-        let image = hidden([1, 8, BASE, 5]);
+        let image = hidden([1, 8, BASE, 5, 0]);
         let record = record_of(&image);
         Up { image, record }
     }
@@ -155,6 +156,20 @@ fn compare_reading(name: &str, base: u64, edition: u64, lists: Lists, fields: &[
         ],
     );
     assert_eq!(view, theirs);
+}
+
+/// What the manifest of a view takes of the page.
+fn compare_kept_for() {
+    let (mut page, mut view) = (Page([0; PAGE]), [0; 15]);
+    write(BASE, 4, [&BANK, &CONSOLE, &BANK, &BANK], &mut page.0).expect("written");
+    assert_eq!(Kit::read(page.lent(), BASE, 4, &mut view), 0);
+    assert_eq!(Kit::kept_for(&view), fast::kept_for(&view));
+    compare(
+        "kept bytes of a view",
+        1,
+        side(|| see(Kit::kept_for(&view))),
+        vec![("by hand", side(|| see(fast::kept_for(&view))))],
+    );
 }
 
 /// A writing, and the answer that all sides give.
@@ -290,88 +305,69 @@ fn compare_walk(name: &str, edition: u64, lists: Lists, fields: &[u8]) {
 
 // ---- Granules ----
 
-#[inline(never)]
-fn native_delegate(record: &Record, start: u64, table: &mut [u8], address: u64) -> Outcome {
-    delegate(*record, start, table, address)
+/// A record of so many banks, with 512 granules in all and a hole of one behind each bank; and the addresses of its granules.
+fn banks(count: u64) -> (GranulesImage, Vec<u64>) {
+    let (mut record, mut addresses) = ([0; 33], Vec::new());
+    record[0] = count;
+    let size = 512 / count * 4096;
+    for (i, bank) in (0..count).zip(record[1..].chunks_exact_mut(2)) {
+        let base = 0x8_8000_0000 + i * (size + 4096);
+        bank.copy_from_slice(&[base, size]);
+        addresses.extend((base..base + size).step_by(4096));
+    }
+    (hidden(record), addresses)
 }
 
-#[inline(never)]
-fn native_undelegate(record: &Record, start: u64, table: &mut [u8], address: u64) -> Outcome {
-    undelegate(*record, start, table, address)
-}
-
-fn compare_granules() {
-    let Up { image, record } = Up::new();
-    let [start, address, length] = hidden([0, 77 * 4096, 512]);
+/// A single granule in the last bank, to Realm and back.
+fn compare_granules(count: u64) {
+    let (Up { image, .. }, (record, addresses)) = (Up::new(), banks(count));
+    let [address, length] = hidden([addresses[500], 512]);
     let [mut ours, mut theirs] = [(); 2].map(|()| vec![0; length as usize]);
+    let [mut words, mut their_words] = [(); 2].map(|()| vec![0; length as usize / 64]);
     compare(
-        "delegate, undelegate",
+        &format!("delegate, undelegate, {}", several(count)),
         2,
         side(|| {
             let mut out = [0; 3];
-            Kit::delegate(&image, &[start], &mut ours, address, &mut out);
+            Kit::delegate(&image, &record, &mut ours, &mut words, address, &mut out);
             see(out[0]);
-            Kit::undelegate(&image, &[start], &mut ours, address, &mut out);
+            Kit::undelegate(&image, &record, &mut ours, &mut words, address, &mut out);
             see(out[0]);
         }),
         vec![(
-            "native",
+            "in place",
             side(|| {
-                see(native_delegate(&record, start, &mut theirs, address).expect("done")[0]);
-                see(native_undelegate(&record, start, &mut theirs, address).expect("done")[0]);
+                let mut out = [0; 3];
+                let words = &mut their_words;
+                inplace::delegate(&image, &record, &mut theirs, words, address, &mut out);
+                see(out[0]);
+                inplace::undelegate(&image, &record, &mut theirs, words, address, &mut out);
+                see(out[0]);
             }),
         )],
     );
-    assert_eq!(ours, theirs);
+    assert_eq!((ours, words), (theirs, their_words));
 }
 
-/// A list by hand: what does not depend on the address is looked at once, and the rest where it lies.
-#[inline(never)]
-fn native_delegate_list(
-    state: &[u64; 4],
-    start: u64,
-    table: &mut [u8],
-    list: &[u64],
-    out: &mut [u64; 3],
-) {
-    *out = [0; 3];
-    if list.is_empty() {
-        return;
-    }
-    if state[0] != 1 {
-        out[0] = -1i64 as u64;
-        return;
-    }
-    for (done, &address) in list.iter().enumerate() {
-        let index = address.wrapping_sub(start) / 4096;
-        let code =
-            if (start | address) % 4096 != 0 || address < start || index >= table.len() as u64 {
-                -2i64
-            } else if table[index as usize] != 0 {
-                -3
-            } else {
-                table[index as usize] = 1;
-                continue;
-            };
-        *out = [code as u64, done as u64, 0];
-        return;
-    }
-    out[1] = list.len() as u64;
+fn several(count: u64) -> String {
+    format!("{count} bank{}", if count == 1 { "" } else { "s" })
 }
 
-/// 200 granules handed over in one call, against a list by hand and against 200 single calls.
-fn compare_lists() {
-    let Up { image, .. } = Up::new();
-    let [start, length] = hidden([0x8_8000_0000, 512]);
-    let list: Vec<u64> = (0..200).map(|i| start + 4096 * (2 * i + 1)).collect();
+/// 200 granules over all banks handed over in one call, against a list by hand and against 200 single calls.
+fn compare_lists(count: u64) {
+    let (Up { image, .. }, (record, addresses)) = (Up::new(), banks(count));
+    let [length] = hidden([512]);
+    let list: Vec<u64> = (0..200).map(|i| addresses[2 * i + i / 2]).collect();
     let [mut ours, mut theirs, mut singly] = [(); 3].map(|()| vec![0; length as usize]);
+    let [mut words, mut their_words, mut single_words] =
+        [(); 3].map(|()| vec![0; length as usize / 64]);
     compare(
-        "delegate a list of 200",
+        &format!("delegate a list of 200, {}", several(count)),
         1,
         side(|| {
             let mut out = [0; 3];
             ours.fill(0);
-            Kit::delegate_list(&image, &[start], &mut ours, &list, &mut out);
+            Kit::delegate_list(&image, &record, &mut ours, &mut words, &list, &mut out);
             see(out[1]);
         }),
         vec![
@@ -380,7 +376,8 @@ fn compare_lists() {
                 side(|| {
                     let mut out = [0; 3];
                     theirs.fill(0);
-                    native_delegate_list(&image, start, &mut theirs, &list, &mut out);
+                    let words = &mut their_words;
+                    inplace::delegate_list(&image, &record, &mut theirs, words, &list, &mut out);
                     see(out[1]);
                 }),
             ),
@@ -390,7 +387,8 @@ fn compare_lists() {
                     let mut out = [0; 3];
                     singly.fill(0);
                     for &address in &list {
-                        Kit::delegate(&image, &[start], &mut singly, address, &mut out);
+                        let words = &mut single_words;
+                        Kit::delegate(&image, &record, &mut singly, words, address, &mut out);
                         see(out[0]);
                     }
                 }),
@@ -399,7 +397,90 @@ fn compare_lists() {
     );
     assert_eq!(ours, theirs);
     assert_eq!(ours, singly);
+    assert!(words == their_words && words == single_words);
     assert_eq!(ours.iter().filter(|&&byte| byte == 1).count(), 200);
+}
+
+fn compare_set_up(count: u64) {
+    let (record, _) = banks(count);
+    let words = record[1..=2 * count as usize].iter();
+    let shown: Vec<u8> = words.flat_map(|word| word.to_le_bytes()).collect();
+    let [length] = hidden([512]);
+    let [mut ours, mut theirs] = [[0; 33]; 2];
+    compare(
+        &format!("set up {}", several(count)),
+        1,
+        side(|| {
+            see(Kit::set_up_granules(&mut ours, &shown, length));
+            see(ours[2]);
+        }),
+        vec![(
+            "in place",
+            side(|| {
+                see(inplace::set_up(&mut theirs, &shown, length));
+                see(theirs[2]);
+            }),
+        )],
+    );
+    assert_eq!(ours, theirs);
+    assert_eq!(ours, record);
+}
+
+/// The Realm words of 16 GiB in one bank: how many granules are Realm, and the next one behind an empty stretch, against Rust with
+/// `count_ones` and `trailing_zeros`; the count also against a walk over the table's bytes.
+fn compare_realm_words() {
+    let [granules, base] = hidden([(16 << 30) / 4096, 0x8_8000_0000]);
+    let mut record = [0; 33];
+    record[..3].copy_from_slice(&[1, base, 4096 * granules]);
+    let mut table: Vec<u8> = (0..granules).map(|i| u8::from(i * i % 7 < 3)).collect();
+    let mut words = vec![0; granules as usize / 64];
+    assert_eq!(Kit::realm_build(&record, &table, &mut words), 0);
+    let [mut ours, mut theirs] = [[0]; 2];
+    compare(
+        "count the Realm granules of 16 GiB",
+        1,
+        side(|| {
+            assert_eq!(Kit::realm_count(&record, &words, &mut ours), 0);
+            see(ours[0]);
+        }),
+        vec![
+            (
+                "in place",
+                side(|| {
+                    assert_eq!(inplace::realm_count(&record, &words, &mut theirs), 0);
+                    see(theirs[0]);
+                }),
+            ),
+            ("a walk over the table", side(|| see(walked(&table)))),
+        ],
+    );
+    assert_eq!((ours, ours[0]), (theirs, walked(&table)));
+    table.fill(0);
+    table[granules as usize - 1] = 1;
+    assert_eq!(Kit::realm_build(&record, &table, &mut words), 0);
+    let [index] = hidden([1]);
+    compare(
+        "the next one, 16 GiB of none before",
+        1,
+        side(|| {
+            assert_eq!(Kit::realm_next(&record, &words, index, &mut ours), 0);
+            see(ours[0]);
+        }),
+        vec![(
+            "in place",
+            side(|| {
+                assert_eq!(inplace::realm_next(&record, &words, index, &mut theirs), 0);
+                see(theirs[0]);
+            }),
+        )],
+    );
+    assert_eq!((ours, ours[0]), (theirs, granules - 1));
+}
+
+/// What the words spare a board: how many bytes of the table are 1.
+#[inline(never)]
+fn walked(table: &[u8]) -> u64 {
+    table.iter().filter(|&&byte| byte == 1).count() as u64
 }
 
 // ---- Token ----
@@ -607,8 +688,9 @@ struct Desk {
     session: SessionImage,
     queue: QueueImage,
     page: Box<Page>,
-    start: u64,
+    granules: GranulesImage,
     table: Vec<u8>,
+    words: Vec<u64>,
     key: Vec<u8>,
     token: Vec<u8>,
     busy: u64,
@@ -619,7 +701,7 @@ struct Desk {
 
 impl Desk {
     fn new() -> Desk {
-        let [start, table, key, token, busy, width] = hidden([0, 512, 97, 4096, 0, 15]);
+        let [table, key, token, busy, width] = hidden([512, 97, 4096, 0, 15]);
         let mut page = Box::new(Page([0; PAGE]));
         page.0[24] = 1;
         Desk {
@@ -627,8 +709,9 @@ impl Desk {
             session: [0; 3],
             queue: [0; 210],
             page,
-            start,
+            granules: banks(1).0,
             table: vec![0; table as usize],
+            words: vec![0; table as usize / 64],
             key: vec![0x5A; key as usize],
             token: vec![0xA5; token as usize],
             busy,
@@ -647,9 +730,11 @@ impl Desk {
                 &mut self.queue,
                 self.page.0.as_mut_ptr(),
                 PAGE,
-                &[self.start],
+                &self.granules,
                 self.table.as_mut_ptr(),
                 self.table.len(),
+                self.words.as_mut_ptr(),
+                self.words.len(),
                 self.key.as_ptr(),
                 self.key.len(),
                 self.token.as_ptr(),
@@ -672,8 +757,9 @@ impl Desk {
             &mut self.session,
             &mut self.queue,
             &mut self.page.0,
-            &[self.start],
+            &self.granules,
             &mut self.table,
+            &mut self.words,
             &self.key,
             &self.token,
             self.busy,
@@ -724,7 +810,7 @@ fn compare_call(name: &str, x0: i64, x: [u64; 5], set: impl Fn(&mut Desk)) {
 }
 
 fn compare_calls() {
-    let at = 77 * 4096;
+    let at = 0x8_8000_0000 + 77 * 4096;
     let none = |_: &mut Desk| {};
     let one_response = |desk: &mut Desk| {
         desk.queue[1] = 1;
@@ -777,29 +863,35 @@ fn compare_calls() {
 // ---- Cold boot ----
 
 #[inline(never)]
-fn in_place_cold_boot(state: &mut RecordImage, x: [u64; 4], most: u64, page: &[u8]) -> i32 {
-    Model::cold_boot(state, x, most, page)
+fn in_place_cold_boot(
+    state: &mut RecordImage,
+    x: [u64; 4],
+    most: u64,
+    kept: u64,
+    page: &[u8],
+) -> i32 {
+    Model::cold_boot(state, x, most, kept, page)
 }
 
 fn compare_cold_boot() {
     let mut page = Page([0; PAGE]);
     write(BASE, 2, [&BANK, &[], &[], &[]], &[], &mut page.0).expect("written");
-    let (x, [most]) = (hidden([0, 5, 8, BASE]), hidden([8]));
+    let (x, [most, kept]) = (hidden([0, 5, 8, BASE]), hidden([8, 56]));
     let page = &*page.lent();
-    let [mut ours, mut theirs] = [[0; 4]; 2];
+    let [mut ours, mut theirs] = [[0; 5]; 2];
     compare(
         "cold boot with example 14's page",
         1,
         side(|| {
-            ours = [0; 4];
-            assert_eq!(Kit::cold_boot(&mut ours, x, most, page), 0);
+            ours = [0; 5];
+            assert_eq!(Kit::cold_boot(&mut ours, x, most, kept, page), 0);
             see(ours[3]);
         }),
         vec![(
             "in place",
             side(|| {
-                theirs = [0; 4];
-                assert_eq!(in_place_cold_boot(&mut theirs, x, most, page), 0);
+                theirs = [0; 5];
+                assert_eq!(in_place_cold_boot(&mut theirs, x, most, kept, page), 0);
                 see(theirs[3]);
             }),
         )],
@@ -1120,17 +1212,32 @@ fn compare_collections(message: &[u8], largest: u32, total: u32) {
     );
 }
 
+fn compare_all_granules() {
+    for count in [1, 16] {
+        compare_granules(count);
+        compare_lists(count);
+        compare_set_up(count);
+    }
+    compare_realm_words();
+}
+
+fn compare_pages() {
+    compare_manifests();
+    compare_kept_for();
+}
+
 fn main() {
     println!("Best of {RUNS} runs, in turn. No page, table or image is cleared before a call.");
     println!("ns a call                              library reference  ratio  reference's state");
-    compare_manifests();
-    if std::env::args().nth(1).as_deref() == Some("manifest") {
-        return;
+    let only = std::env::args().nth(1);
+    match only.as_deref() {
+        Some("manifest") => return compare_pages(),
+        Some("granules") => return compare_all_granules(),
+        _ => compare_pages(),
     }
     compare_cold_boot();
     compare_calls();
-    compare_granules();
-    compare_lists();
+    compare_all_granules();
     compare_token(64);
     compare_token(4096);
     compare_queue(0);

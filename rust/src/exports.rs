@@ -1,10 +1,10 @@
 //! The library's exports as Rust sees them: the words that each image has, and one signature for the library (`kit`) and for the
 //! reference on the same images (`model`), so that a test or a benchmark can put either in the other's place.
 
-/// The boot record: 0 fresh, 1 up, any other number closed; then x2, B and the agreed minor when up.
-pub type RecordImage = [u64; 4];
-/// The granule record: G.
-pub type GranulesImage = [u64; 1];
+/// The boot record: 0 fresh, 1 up, any other number closed; then x2, B, the agreed minor and the number of kept bytes when up.
+pub type RecordImage = [u64; 5];
+/// The granule record: the number of banks, then base and size of each.
+pub type GranulesImage = [u64; 33];
 /// The token session: 0 idle, any other number sending; then the token's length at the start, and how much of it is sent.
 pub type SessionImage = [u64; 3];
 /// The signing queue: two counts, eight requests of 10 words, eight responses of 16.
@@ -26,8 +26,10 @@ pub type Work = [u64; 2];
 #[derive(Debug)]
 pub struct Lent<'a> {
     pub page: &'a mut [u8],
-    pub granules: GranulesImage,
+    pub granules: &'a GranulesImage,
     pub table: &'a mut [u8],
+    /// A bit a granule.
+    pub words: &'a mut [u64],
     pub key: &'a [u8],
     pub token: &'a [u8],
     pub busy: u64,
@@ -52,11 +54,13 @@ pub trait Exports {
     fn field_start(page: &[u8], view: &ViewImage) -> usize;
     /// The field at a cursor, and the cursor behind it.
     fn field_next(page: &[u8], cursor: usize, field: &mut FieldImage) -> usize;
+    /// How many bytes at the page's start the manifest of the view takes.
+    fn kept_for(page: &[u8], view: &ViewImage) -> u64;
     /// The length of the whole text, of which as much as fits is written.
     fn listing(page: &[u8], base: u64, edition: u64, text: &mut [u8]) -> usize;
     fn write(base: u64, edition: u64, lists: [&[u64]; 4], fields: &[u8], page: &mut [u8]) -> u32;
 
-    fn cold_boot(state: &mut RecordImage, x: [u64; 4], most: u64, page: &[u8]) -> i32;
+    fn cold_boot(state: &mut RecordImage, x: [u64; 4], most: u64, kept: u64, page: &[u8]) -> i32;
     fn warm_boot(state: &mut RecordImage, x: [u64; 4]) -> i32;
 
     fn close(state: &mut RecordImage);
@@ -65,10 +69,14 @@ pub trait Exports {
     fn agreed_minor(version: u64) -> u64;
     fn is_later(a: u64, b: u64) -> bool;
 
+    /// The banks as the array lookup gives them. Answers x0: OK, or INVAL with the record as it was.
+    fn set_up_granules(granules: &mut GranulesImage, banks: &[u8], in_table: u64) -> u64;
+
     fn delegate(
         state: &RecordImage,
         granules: &GranulesImage,
         table: &mut [u8],
+        words: &mut [u64],
         at: u64,
         out: &mut Registers,
     );
@@ -76,6 +84,7 @@ pub trait Exports {
         state: &RecordImage,
         granules: &GranulesImage,
         table: &mut [u8],
+        words: &mut [u64],
         at: u64,
         out: &mut Registers,
     );
@@ -83,6 +92,7 @@ pub trait Exports {
         state: &RecordImage,
         granules: &GranulesImage,
         table: &mut [u8],
+        words: &mut [u64],
         addresses: &[u64],
         out: &mut Registers,
     );
@@ -90,9 +100,21 @@ pub trait Exports {
         state: &RecordImage,
         granules: &GranulesImage,
         table: &mut [u8],
+        words: &mut [u64],
         addresses: &[u64],
         out: &mut Registers,
     );
+
+    /// How many Realm granules the words tell of, in `number`. Answers x0: OK, or INVAL with a 0.
+    fn realm_count(granules: &GranulesImage, words: &[u64], number: &mut [u64; 1]) -> u64;
+    /// The first Realm granule at or after an index, in `found`. Answers x0: OK, or INVAL, or 1 for none, both with a 0.
+    fn realm_next(granules: &GranulesImage, words: &[u64], index: u64, found: &mut [u64; 1])
+        -> u64;
+    /// Whether words and table agree: 0 yes, 1 no, or x0 of INVAL.
+    fn realm_agrees(granules: &GranulesImage, table: &[u8], words: &[u64]) -> u64;
+    /// Makes the words of a table. Answers x0: OK, or INVAL with the words as they were.
+    fn realm_build(granules: &GranulesImage, table: &[u8], words: &mut [u64]) -> u64;
+
     /// x: pa, size, curve.
     fn realm_key(
         state: &RecordImage,

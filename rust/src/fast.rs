@@ -26,6 +26,24 @@ pub fn read(page: &[u8], base: u64, edition: u64, view: &mut ViewImage) -> i32 {
     code
 }
 
+/// `pbeam_kept_for`. A count or an offset that no page has is passed over, so that no sum wraps.
+#[inline(never)]
+pub fn kept_for(view: &ViewImage) -> u64 {
+    const CORE: [u64; 5] = [16, 16, 40, 64, 112];
+    let mut end = CORE[view[1].min(4) as usize];
+    for (k, section) in view[3..].chunks_exact(3).enumerate() {
+        let (kind, offset, count) = (section[0], section[1], section[2]);
+        let size = if k == CONSOLE { 48 } else { 16 };
+        if kind > 1 && offset <= PAGE as u64 && (1..=256).contains(&count) {
+            let past = offset + count * size;
+            if past <= PAGE as u64 {
+                end = end.max(past);
+            }
+        }
+    }
+    (end + 7) & !7
+}
+
 /// Writes what the page shows as far as it is judged.
 #[inline]
 fn judge(page: &[u8], base: u64, edition: u64, view: &mut ViewImage) -> Result<(), i32> {

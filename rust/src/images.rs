@@ -19,10 +19,15 @@ const RESPONSES: usize = REQUESTS + PLACES * REQUEST;
 
 #[inline]
 pub fn record_of(image: &RecordImage) -> Record {
-    let [tag, cpus, base, minor] = *image;
+    let [tag, cpus, base, minor, kept] = *image;
     match tag {
         0 => Record::Fresh,
-        1 => Record::Up(Kept { cpus, base, minor }),
+        1 => Record::Up(Kept {
+            cpus,
+            base,
+            minor,
+            kept,
+        }),
         _ => Record::Closed,
     }
 }
@@ -30,9 +35,14 @@ pub fn record_of(image: &RecordImage) -> Record {
 #[inline]
 pub fn record_words(record: Record) -> RecordImage {
     match record {
-        Record::Fresh => [0; 4],
-        Record::Up(Kept { cpus, base, minor }) => [1, cpus, base, minor],
-        Record::Closed => [2, 0, 0, 0],
+        Record::Fresh => [0; 5],
+        Record::Up(Kept {
+            cpus,
+            base,
+            minor,
+            kept,
+        }) => [1, cpus, base, minor, kept],
+        Record::Closed => [2, 0, 0, 0, 0],
     }
 }
 

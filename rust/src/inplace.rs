@@ -11,7 +11,6 @@ use crate::exports::{
 use crate::images::{record_of, registers, session_of, session_words};
 use crate::reference::codes::{buffer, need_page, need_up, Answer, Error, Outcome};
 use crate::reference::features::{features, forward, key_update};
-use crate::reference::granules::{delegate, undelegate};
 use crate::reference::key::realm_key;
 use crate::reference::layout::{half_at, word_at};
 use crate::reference::queue::{PLACES, SIGNATURE};
@@ -29,6 +28,9 @@ const RESPONSES: usize = REQUESTS + PLACES * REQUEST;
 /// Words of a response before its signature, and its bytes in the page before it.
 const HEAD: usize = 3;
 const HEAD_BYTES: usize = 18;
+/// The most banks of a granule record, and where memory ends.
+const BANKS: u64 = 16;
+const MEMORY_END: u64 = 1 << 52;
 /// Bytes of a request in the page.
 const REQUEST_BYTES: usize = 80;
 
@@ -42,6 +44,7 @@ pub fn call(
     page: &mut [u8],
     granules: &GranulesImage,
     table: &mut [u8],
+    words: &mut [u64],
     key: &[u8],
     token: &[u8],
     busy: u64,
@@ -62,8 +65,8 @@ pub fn call(
             *work = [1, mecid];
             [0; 2]
         }),
-        DELEGATE => delegate(record, granules[0], table, x1),
-        UNDELEGATE => undelegate(record, granules[0], table, x1),
+        DELEGATE => moved(state, granules, table, words, x1, 0),
+        UNDELEGATE => moved(state, granules, table, words, x1, 1),
         REALM_KEY => realm_key(record, page, key, x1, x2, x3),
         PLAT_TOKEN => send(state, session, page, token, busy, [x1, x2, x3]),
         FEATURES => features(record, x1),
@@ -106,6 +109,261 @@ pub fn oldest(queue: &QueueImage, request: &mut RequestImage) -> usize {
     }
 }
 
+// ---- Granules ----
+
+#[inline(never)]
+pub fn delegate(
+    state: &RecordImage,
+    granules: &GranulesImage,
+    table: &mut [u8],
+    words: &mut [u64],
+    at: u64,
+    out: &mut Registers,
+) {
+    *out = registers(Answer::from(moved(state, granules, table, words, at, 0)));
+}
+
+#[inline(never)]
+pub fn undelegate(
+    state: &RecordImage,
+    granules: &GranulesImage,
+    table: &mut [u8],
+    words: &mut [u64],
+    at: u64,
+    out: &mut Registers,
+) {
+    *out = registers(Answer::from(moved(state, granules, table, words, at, 1)));
+}
+
+#[inline(never)]
+pub fn delegate_list(
+    state: &RecordImage,
+    granules: &GranulesImage,
+    table: &mut [u8],
+    words: &mut [u64],
+    list: &[u64],
+    out: &mut Registers,
+) {
+    moved_list(state, granules, table, words, list, 0, out);
+}
+
+#[inline(never)]
+pub fn undelegate_list(
+    state: &RecordImage,
+    granules: &GranulesImage,
+    table: &mut [u8],
+    words: &mut [u64],
+    list: &[u64],
+    out: &mut Registers,
+) {
+    moved_list(state, granules, table, words, list, 1, out);
+}
+
+/// The set-up of a record from the bytes of banks.
+#[inline(never)]
+pub fn set_up(granules: &mut GranulesImage, shown: &[u8], in_table: u64) -> u64 {
+    let refused = Answer::from(Err(Error::Inval)).x0;
+    if shown.is_empty() || shown.len() % 16 != 0 || shown.len() as u64 > 16 * BANKS {
+        return refused;
+    }
+    let mut made = [0; 33];
+    made[0] = shown.len() as u64 / 16;
+    for (word, cell) in made[1..].iter_mut().zip(shown.chunks_exact(8)) {
+        *word = word_at(cell, 0);
+    }
+    let (count, _) = pass(&made, 0);
+    if count == 0 || count != in_table {
+        return refused;
+    }
+    *granules = made;
+    0
+}
+
+/// A granule whose byte is this one gets the other of 0 and 1.
+#[inline]
+fn moved(
+    state: &RecordImage,
+    granules: &GranulesImage,
+    table: &mut [u8],
+    words: &mut [u64],
+    at: u64,
+    from: u8,
+) -> Outcome {
+    let (count, place) = pass(granules, at);
+    if !fit(count, words) {
+        return Err(Error::Inval);
+    }
+    if state[0] != 1 {
+        return Err(Error::Unk);
+    }
+    if at % 4096 != 0 || count != table.len() as u64 || is_shared(state, at, from) {
+        return Err(Error::BadAddr);
+    }
+    turned(table, words, place, from)
+}
+
+/// Whether there are so many words as granules ask for.
+#[inline]
+fn fit(granules: u64, words: &[u64]) -> bool {
+    (granules + 63) / 64 == words.len() as u64
+}
+
+#[inline]
+fn turned(table: &mut [u8], words: &mut [u64], place: u64, from: u8) -> Outcome {
+    let byte = table.get_mut(place as usize).ok_or(Error::BadAddr)?;
+    if *byte != from {
+        return Err(Error::BadPas);
+    }
+    *byte = 1 - from;
+    let (word, bit) = (&mut words[place as usize / 64], place % 64);
+    *word = *word & !(1 << bit) | u64::from(1 - from) << bit;
+    Ok([0; 2])
+}
+
+/// A list: what does not depend on the address is looked at once, the banks too.
+#[inline]
+fn moved_list(
+    state: &RecordImage,
+    granules: &GranulesImage,
+    table: &mut [u8],
+    words: &mut [u64],
+    list: &[u64],
+    from: u8,
+    out: &mut Registers,
+) {
+    *out = [0; 3];
+    let (count, _) = pass(granules, 0);
+    if !fit(count, words) {
+        out[0] = Answer::from(Err(Error::Inval)).x0;
+        return;
+    }
+    if list.is_empty() {
+        return;
+    }
+    if state[0] != 1 {
+        out[0] = Answer::from(Err(Error::Unk)).x0;
+        return;
+    }
+    let banks = match count == table.len() as u64 {
+        true => banks_of(granules).unwrap_or(&[]),
+        false => &[],
+    };
+    for (done, &at) in list.iter().enumerate() {
+        let place = match is_shared(state, at, from) {
+            true => NOWHERE,
+            false => find(banks, at),
+        };
+        if let Err(error) = turned(table, words, place, from) {
+            *out = [Answer::from(Err(error)).x0, done as u64, 0];
+            return;
+        }
+    }
+    out[1] = list.len() as u64;
+}
+
+/// The shared page's granule, which is not undelegated.
+#[inline]
+fn is_shared(state: &RecordImage, at: u64, from: u8) -> bool {
+    from == 1 && at == state[2]
+}
+
+/// No granule has this index.
+const NOWHERE: u64 = u64::MAX;
+
+/// The banks' words; none if there are too many.
+#[inline]
+fn banks_of(granules: &GranulesImage) -> Option<&[u64]> {
+    let count = granules[0];
+    (count <= BANKS).then(|| &granules[1..1 + 2 * count as usize])
+}
+
+/// One pass over the banks: how many granules they have, none if the set-up would refuse them; and the granule of an address.
+#[inline]
+fn pass(granules: &GranulesImage, at: u64) -> (u64, u64) {
+    let banks = banks_of(granules).unwrap_or(&[]);
+    let (mut low, mut before, mut place) = (0, 0, NOWHERE);
+    for bank in banks.chunks_exact(2) {
+        let (base, size) = (bank[0], bank[1]);
+        let inside = size <= MEMORY_END && base <= MEMORY_END - size;
+        if (base | size) % 4096 != 0 || size == 0 || base < low || !inside {
+            return (0, NOWHERE);
+        }
+        let offset = at.wrapping_sub(base);
+        if offset < size {
+            place = before + offset / 4096;
+        }
+        before += size / 4096;
+        low = base + size;
+    }
+    (before, place)
+}
+
+/// The granule of an address in banks that were judged.
+#[inline]
+fn find(banks: &[u64], at: u64) -> u64 {
+    if at % 4096 != 0 {
+        return NOWHERE;
+    }
+    let mut before = 0;
+    for bank in banks.chunks_exact(2) {
+        let offset = at.wrapping_sub(bank[0]);
+        if offset < bank[1] {
+            return before + offset / 4096;
+        }
+        before += bank[1] / 4096;
+    }
+    NOWHERE
+}
+
+// ---- Realm words ----
+
+/// How many Realm granules the words tell of.
+#[inline(never)]
+pub fn realm_count(granules: &GranulesImage, words: &[u64], number: &mut [u64; 1]) -> u64 {
+    let (granules, _) = pass(granules, 0);
+    if !fit(granules, words) {
+        number[0] = 0;
+        return Answer::from(Err(Error::Inval)).x0;
+    }
+    let (whole, last) = words.split_at((granules / 64) as usize);
+    let ones = |word: &u64| u64::from(word.count_ones());
+    let spare = u64::MAX << (granules % 64);
+    number[0] = whole.iter().map(ones).sum::<u64>();
+    number[0] += last.first().map_or(0, |word| ones(&(word & !spare)));
+    0
+}
+
+/// The first Realm granule at or after an index; 1 if there is none.
+#[inline(never)]
+pub fn realm_next(
+    granules: &GranulesImage,
+    words: &[u64],
+    index: u64,
+    found: &mut [u64; 1],
+) -> u64 {
+    let (granules, _) = pass(granules, 0);
+    found[0] = 0;
+    if !fit(granules, words) || index >= granules {
+        return Answer::from(Err(Error::Inval)).x0;
+    }
+    let first = (index / 64) as usize;
+    let mut bits = words[first] & u64::MAX << (index % 64);
+    let mut at = first;
+    while bits == 0 {
+        at += 1;
+        match words.get(at) {
+            Some(&word) => bits = word,
+            None => return 1,
+        }
+    }
+    let hit = 64 * at as u64 + u64::from(bits.trailing_zeros());
+    if hit >= granules {
+        return 1;
+    }
+    found[0] = hit;
+    0
+}
+
 // ---- Platform token ----
 
 #[inline]
@@ -145,7 +403,7 @@ fn signing(
     if !(1..=3).contains(&opcode) {
         return Err(Error::Inval);
     }
-    let room = buffer(kept.base, pa, size).map_err(|_| Error::Inval)?;
+    let room = buffer(kept, pa, size).map_err(|_| Error::Inval)?;
     if opcode == 3 && curve != 0 {
         return Err(Error::Inval);
     }

@@ -75,6 +75,7 @@ pub mod ffi {
             cursor: usize,
             field: *mut FieldImage,
         ) -> usize;
+        pub fn pbeam_kept_for(page: *const u8, page_len: usize, view: *const ViewImage) -> u64;
         pub fn pbeam_listing(
             page: *const u8,
             page_len: usize,
@@ -106,6 +107,7 @@ pub mod ffi {
             x2: u64,
             x3: u64,
             most: u64,
+            kept: u64,
             page: *const u8,
             page_len: usize,
         ) -> i32;
@@ -114,11 +116,19 @@ pub mod ffi {
         pub fn pbeam_version_accepted(version: u64) -> bool;
         pub fn pbeam_agreed_minor(version: u64) -> u64;
         pub fn pbeam_is_later(a: u64, b: u64) -> bool;
+        pub fn pbeam_set_up_granules(
+            granules: *mut GranulesImage,
+            banks: *const u8,
+            banks_len: usize,
+            table_len: u64,
+        ) -> u64;
         pub fn pbeam_delegate(
             state: *const RecordImage,
             granules: *const GranulesImage,
             table: *mut u8,
             table_len: usize,
+            words: *mut u64,
+            words_len: usize,
             address: u64,
             out: *mut Registers,
         );
@@ -127,6 +137,8 @@ pub mod ffi {
             granules: *const GranulesImage,
             table: *mut u8,
             table_len: usize,
+            words: *mut u64,
+            words_len: usize,
             address: u64,
             out: *mut Registers,
         );
@@ -135,6 +147,8 @@ pub mod ffi {
             granules: *const GranulesImage,
             table: *mut u8,
             table_len: usize,
+            words: *mut u64,
+            words_len: usize,
             addresses: *const u64,
             addresses_len: usize,
             out: *mut Registers,
@@ -144,10 +158,39 @@ pub mod ffi {
             granules: *const GranulesImage,
             table: *mut u8,
             table_len: usize,
+            words: *mut u64,
+            words_len: usize,
             addresses: *const u64,
             addresses_len: usize,
             out: *mut Registers,
         );
+        pub fn pbeam_realm_count(
+            granules: *const GranulesImage,
+            words: *const u64,
+            words_len: usize,
+            number: *mut [u64; 1],
+        ) -> u64;
+        pub fn pbeam_realm_next(
+            granules: *const GranulesImage,
+            words: *const u64,
+            words_len: usize,
+            index: u64,
+            found: *mut [u64; 1],
+        ) -> u64;
+        pub fn pbeam_realm_agrees(
+            granules: *const GranulesImage,
+            table: *const u8,
+            table_len: usize,
+            words: *const u64,
+            words_len: usize,
+        ) -> u64;
+        pub fn pbeam_realm_build(
+            granules: *const GranulesImage,
+            table: *const u8,
+            table_len: usize,
+            words: *mut u64,
+            words_len: usize,
+        ) -> u64;
         pub fn pbeam_realm_key(
             state: *const RecordImage,
             page: *mut u8,
@@ -220,6 +263,8 @@ pub mod ffi {
             granules: *const GranulesImage,
             table: *mut u8,
             table_len: usize,
+            words: *mut u64,
+            words_len: usize,
             key: *const u8,
             key_len: usize,
             token: *const u8,
@@ -322,6 +367,12 @@ impl Exports for Kit {
     }
 
     #[inline]
+    fn kept_for(page: &[u8], view: &ViewImage) -> u64 {
+        let (page, page_len) = lend(page);
+        unsafe { ffi::pbeam_kept_for(page, page_len, view) }
+    }
+
+    #[inline]
     fn listing(page: &[u8], base: u64, edition: u64, text: &mut [u8]) -> usize {
         let (page, page_len) = lend(page);
         let (text, text_len) = lend_mut(text);
@@ -358,10 +409,10 @@ impl Exports for Kit {
     }
 
     #[inline]
-    fn cold_boot(state: &mut RecordImage, x: [u64; 4], most: u64, page: &[u8]) -> i32 {
+    fn cold_boot(state: &mut RecordImage, x: [u64; 4], most: u64, kept: u64, page: &[u8]) -> i32 {
         let [x0, x1, x2, x3] = x;
         let (page, page_len) = lend(page);
-        unsafe { ffi::pbeam_cold_boot(state, x0, x1, x2, x3, most, page, page_len) }
+        unsafe { ffi::pbeam_cold_boot(state, x0, x1, x2, x3, most, kept, page, page_len) }
     }
 
     #[inline]
@@ -390,15 +441,23 @@ impl Exports for Kit {
     }
 
     #[inline]
+    fn set_up_granules(granules: &mut GranulesImage, banks: &[u8], in_table: u64) -> u64 {
+        let (banks, banks_len) = lend(banks);
+        unsafe { ffi::pbeam_set_up_granules(granules, banks, banks_len, in_table) }
+    }
+
+    #[inline]
     fn delegate(
         state: &RecordImage,
         granules: &GranulesImage,
         table: &mut [u8],
+        words: &mut [u64],
         at: u64,
         out: &mut Registers,
     ) {
         let (table, table_len) = lend_mut(table);
-        unsafe { ffi::pbeam_delegate(state, granules, table, table_len, at, out) }
+        let (words, words_len) = lend_mut(words);
+        unsafe { ffi::pbeam_delegate(state, granules, table, table_len, words, words_len, at, out) }
     }
 
     #[inline]
@@ -406,11 +465,15 @@ impl Exports for Kit {
         state: &RecordImage,
         granules: &GranulesImage,
         table: &mut [u8],
+        words: &mut [u64],
         at: u64,
         out: &mut Registers,
     ) {
         let (table, table_len) = lend_mut(table);
-        unsafe { ffi::pbeam_undelegate(state, granules, table, table_len, at, out) }
+        let (words, words_len) = lend_mut(words);
+        unsafe {
+            ffi::pbeam_undelegate(state, granules, table, table_len, words, words_len, at, out)
+        }
     }
 
     #[inline]
@@ -418,13 +481,17 @@ impl Exports for Kit {
         state: &RecordImage,
         granules: &GranulesImage,
         table: &mut [u8],
+        words: &mut [u64],
         addresses: &[u64],
         out: &mut Registers,
     ) {
         let (table, table_len) = lend_mut(table);
+        let (words, words_len) = lend_mut(words);
         let (addresses, length) = lend(addresses);
         unsafe {
-            ffi::pbeam_delegate_list(state, granules, table, table_len, addresses, length, out)
+            ffi::pbeam_delegate_list(
+                state, granules, table, table_len, words, words_len, addresses, length, out,
+            )
         }
     }
 
@@ -433,14 +500,49 @@ impl Exports for Kit {
         state: &RecordImage,
         granules: &GranulesImage,
         table: &mut [u8],
+        words: &mut [u64],
         addresses: &[u64],
         out: &mut Registers,
     ) {
         let (table, table_len) = lend_mut(table);
+        let (words, words_len) = lend_mut(words);
         let (addresses, length) = lend(addresses);
         unsafe {
-            ffi::pbeam_undelegate_list(state, granules, table, table_len, addresses, length, out)
+            ffi::pbeam_undelegate_list(
+                state, granules, table, table_len, words, words_len, addresses, length, out,
+            )
         }
+    }
+
+    #[inline]
+    fn realm_count(granules: &GranulesImage, words: &[u64], number: &mut [u64; 1]) -> u64 {
+        let (words, words_len) = lend(words);
+        unsafe { ffi::pbeam_realm_count(granules, words, words_len, number) }
+    }
+
+    #[inline]
+    fn realm_next(
+        granules: &GranulesImage,
+        words: &[u64],
+        index: u64,
+        found: &mut [u64; 1],
+    ) -> u64 {
+        let (words, words_len) = lend(words);
+        unsafe { ffi::pbeam_realm_next(granules, words, words_len, index, found) }
+    }
+
+    #[inline]
+    fn realm_agrees(granules: &GranulesImage, table: &[u8], words: &[u64]) -> u64 {
+        let (table, table_len) = lend(table);
+        let (words, words_len) = lend(words);
+        unsafe { ffi::pbeam_realm_agrees(granules, table, table_len, words, words_len) }
+    }
+
+    #[inline]
+    fn realm_build(granules: &GranulesImage, table: &[u8], words: &mut [u64]) -> u64 {
+        let (table, table_len) = lend(table);
+        let (words, words_len) = lend_mut(words);
+        unsafe { ffi::pbeam_realm_build(granules, table, table_len, words, words_len) }
     }
 
     #[inline]
@@ -553,14 +655,16 @@ impl Exports for Kit {
     ) {
         let (page, page_len) = lend_mut(lent.page);
         let (table, table_len) = lend_mut(lent.table);
+        let (words, words_len) = lend_mut(lent.words);
         let (key, key_len) = lend(lent.key);
         let (token, token_len) = lend(lent.token);
         let (public, public_len) = lend(lent.public_key);
-        let (granules, busy, width) = (&lent.granules, lent.busy, lent.width);
+        let (granules, busy, width) = (lent.granules, lent.busy, lent.width);
         unsafe {
             ffi::pbeam_call(
-                state, session, queue, page, page_len, granules, table, table_len, key, key_len,
-                token, token_len, busy, public, public_len, width, x, out, work,
+                state, session, queue, page, page_len, granules, table, table_len, words,
+                words_len, key, key_len, token, token_len, busy, public, public_len, width, x, out,
+                work,
             )
         }
     }

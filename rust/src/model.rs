@@ -9,16 +9,18 @@ use crate::images::{
     part_of, put_moves, queue_of, record_of, record_words, registers, request_words, session_of,
     session_words, view_words,
 };
+use crate::reference::banks::set_up;
 use crate::reference::boot::{boot_code, BootError, Record};
 use crate::reference::codes::{Answer, Outcome};
 use crate::reference::features::{features, forward, key_update};
 use crate::reference::fields::{fields_end, split_field, Field};
 use crate::reference::granules::{delegate, delegate_list, undelegate, undelegate_list};
 use crate::reference::key::realm_key;
-use crate::reference::layout::{accepted_minor, ENTRY_WORDS};
+use crate::reference::layout::{accepted_minor, Edition, ENTRY_WORDS, PAGE, SECTIONS};
 use crate::reference::listing::list;
 use crate::reference::queue::Queue;
 use crate::reference::reader::{array, fields, pointed, read, shown_word};
+use crate::reference::realm_words;
 use crate::reference::runtime::{self, call, Call, Reply, State, PLAT_TOKEN, TOKEN_SIGN};
 use crate::reference::signing::{token_sign, SignCall};
 use crate::reference::token::{challenge, challenge_checks, TokenCall};
@@ -100,6 +102,14 @@ impl Exports for Model {
         }
     }
 
+    fn kept_for(page: &[u8], view: &ViewImage) -> u64 {
+        let edition = Edition::new(view[1].clamp(1, 4)).expect("an edition");
+        let parts = (0..SECTIONS).filter_map(|section| part_of(PAGE, view, section));
+        let end = parts.map(|part| part.end).fold(edition.core(), usize::max);
+        let end = end.max(fields_reach(page, view[2]));
+        (end as u64 + 7) / 8 * 8
+    }
+
     fn listing(page: &[u8], base: u64, edition: u64, text: &mut [u8]) -> usize {
         let mut whole = String::new();
         list(&mut whole, page, base, edition).expect("a string takes any text");
@@ -112,8 +122,8 @@ impl Exports for Model {
         write(base, edition, lists, fields, page).map_or_else(|refusal| refusal as u32, |()| 0)
     }
 
-    fn cold_boot(state: &mut RecordImage, x: [u64; 4], most: u64, page: &[u8]) -> i32 {
-        boot(state, |record| record.cold(x, most, page))
+    fn cold_boot(state: &mut RecordImage, x: [u64; 4], most: u64, kept: u64, page: &[u8]) -> i32 {
+        boot(state, |record| record.cold(x, most, kept, page))
     }
 
     fn warm_boot(state: &mut RecordImage, x: [u64; 4]) -> i32 {
@@ -136,34 +146,46 @@ impl Exports for Model {
         a > b
     }
 
+    fn set_up_granules(granules: &mut GranulesImage, banks: &[u8], in_table: u64) -> u64 {
+        let made = set_up(banks, in_table);
+        if let Ok(record) = made {
+            *granules = record;
+        }
+        let [x0, ..] = answered(made.map(|_| [0, 0]));
+        x0
+    }
+
     fn delegate(
         state: &RecordImage,
         granules: &GranulesImage,
         table: &mut [u8],
+        words: &mut [u64],
         at: u64,
         out: &mut Registers,
     ) {
-        *out = answered(delegate(record_of(state), granules[0], table, at));
+        *out = answered(delegate(record_of(state), granules, table, words, at));
     }
 
     fn undelegate(
         state: &RecordImage,
         granules: &GranulesImage,
         table: &mut [u8],
+        words: &mut [u64],
         at: u64,
         out: &mut Registers,
     ) {
-        *out = answered(undelegate(record_of(state), granules[0], table, at));
+        *out = answered(undelegate(record_of(state), granules, table, words, at));
     }
 
     fn delegate_list(
         state: &RecordImage,
         granules: &GranulesImage,
         table: &mut [u8],
+        words: &mut [u64],
         addresses: &[u64],
         out: &mut Registers,
     ) {
-        let listed = delegate_list(record_of(state), granules[0], table, addresses);
+        let listed = delegate_list(record_of(state), granules, table, words, addresses);
         *out = registers(Answer::from(listed));
     }
 
@@ -171,11 +193,51 @@ impl Exports for Model {
         state: &RecordImage,
         granules: &GranulesImage,
         table: &mut [u8],
+        words: &mut [u64],
         addresses: &[u64],
         out: &mut Registers,
     ) {
-        let listed = undelegate_list(record_of(state), granules[0], table, addresses);
+        let listed = undelegate_list(record_of(state), granules, table, words, addresses);
         *out = registers(Answer::from(listed));
+    }
+
+    fn realm_count(granules: &GranulesImage, words: &[u64], number: &mut [u64; 1]) -> u64 {
+        let counted = realm_words::count(granules, words);
+        *number = [counted.unwrap_or(0)];
+        let [x0, ..] = answered(counted.map(|_| [0, 0]));
+        x0
+    }
+
+    fn realm_next(
+        granules: &GranulesImage,
+        words: &[u64],
+        index: u64,
+        found: &mut [u64; 1],
+    ) -> u64 {
+        let next = realm_words::next(granules, words, index);
+        *found = [next.ok().flatten().unwrap_or(0)];
+        match next {
+            Ok(None) => 1,
+            other => {
+                let [x0, ..] = answered(other.map(|_| [0, 0]));
+                x0
+            }
+        }
+    }
+
+    fn realm_agrees(granules: &GranulesImage, table: &[u8], words: &[u64]) -> u64 {
+        match realm_words::agrees(granules, table, words) {
+            Ok(false) => 1,
+            other => {
+                let [x0, ..] = answered(other.map(|_| [0, 0]));
+                x0
+            }
+        }
+    }
+
+    fn realm_build(granules: &GranulesImage, table: &[u8], words: &mut [u64]) -> u64 {
+        let [x0, ..] = answered(realm_words::build(granules, table, words).map(|()| [0, 0]));
+        x0
     }
 
     fn realm_key(
@@ -340,7 +402,8 @@ fn native<'a>(lent: &'a mut Lent) -> runtime::Lent<'a> {
     runtime::Lent {
         page: lent.page,
         table: lent.table,
-        start: lent.granules[0],
+        words: lent.words,
+        banks: lent.granules,
         realm_key: lent.key,
         public_key: lent.public_key,
         token: lent.token,

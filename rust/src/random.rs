@@ -1,6 +1,7 @@
 //! Inputs by chance, the same for the same seed. The generators know the rules only as far as it takes to come near their edges;
 //! whether an input is accepted is for the two sides to say.
 
+pub mod banks;
 pub mod boots;
 pub mod calls;
 pub mod forged;

@@ -1,5 +1,5 @@
 //! The reader and the writer that are written for speed, against the reference: the code and every word or byte, of random pages and
-//! lists and of the pages that real firmware wrote.
+//! lists and of the pages that real firmware wrote; and what a view's manifest takes of the page.
 
 use potterbeam_tests::exports::Exports;
 use potterbeam_tests::fast;
@@ -56,6 +56,20 @@ fn random_lists() {
     }
     println!("fast::write: {met:?}");
     assert!((0..6).all(|answer| met[&answer] > CALLS / 500));
+}
+
+/// Views that were read, and forged ones.
+#[test]
+fn random_views() {
+    let mut random = Random::new(33);
+    for _ in 0..CALLS {
+        let (reading, mut view) = (random.valid_page(), [0; 15]);
+        Model::read(&reading.page, reading.base, reading.edition, &mut view);
+        for _ in 0..3 {
+            assert_eq!(fast::kept_for(&view), Model::kept_for(&view), "{view:x?}");
+            random.forge_view(&mut view);
+        }
+    }
 }
 
 /// The pages of firmware and the reader's run vectors: 8 bytes of B, then the page. A vector has its edition before.

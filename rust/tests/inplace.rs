@@ -2,15 +2,16 @@
 //! sequences with forged images between.
 
 use potterbeam_tests::exports::{
-    Exports, Lent, QueueImage, RecordImage, Registers, RequestImage, SessionImage, Work,
+    Exports, GranulesImage, Lent, QueueImage, RecordImage, Registers, RequestImage, SessionImage,
+    Work,
 };
 use potterbeam_tests::images::{record_of, record_words, session_of};
 use potterbeam_tests::inplace;
 use potterbeam_tests::model::Model;
 use potterbeam_tests::random::calls::Scene;
 use potterbeam_tests::random::Random;
-use potterbeam_tests::reference::runtime::{Call, TOKEN_SIGN};
-use std::collections::BTreeMap;
+use potterbeam_tests::reference::runtime::{Call, DELEGATE, TOKEN_SIGN};
+use std::collections::{BTreeMap, BTreeSet};
 
 const SCENES: usize = 4_000;
 const STEPS: usize = 40;
@@ -23,11 +24,15 @@ struct Memory {
     queue: QueueImage,
     page: Vec<u8>,
     table: Vec<u8>,
+    words: Vec<u64>,
     out: Registers,
     work: Work,
     request: RequestImage,
     returned: usize,
 }
+
+/// A move of the granule at an address, or of those at a list.
+type Move<T> = fn(&RecordImage, &GranulesImage, &mut [u8], &mut [u64], T, &mut Registers);
 
 /// How often each answer was met, by the id or the name of the step.
 type Met = BTreeMap<(u64, i64), u64>;
@@ -35,6 +40,9 @@ type Met = BTreeMap<(u64, i64), u64>;
 const SIGN: u64 = 1;
 const SIGNING: u64 = 2;
 const OLDEST: u64 = 3;
+const MOVE: u64 = 4;
+const LIST: u64 = 5;
+const SET_UP: u64 = 6;
 
 impl Memory {
     fn new(random: &mut Random, scene: &Scene) -> Memory {
@@ -44,6 +52,7 @@ impl Memory {
             queue: random.queue_image(),
             page: scene.page.clone(),
             table: scene.table.clone(),
+            words: scene.words.clone(),
             // Stale, so that a word that is not written shows.
             out: [7; 3],
             work: [7; 2],
@@ -73,8 +82,9 @@ impl Memory {
 fn model_call(m: &mut Memory, scene: &Scene, busy: u64, x: &[u64; 5]) {
     let mut lent = Lent {
         page: &mut m.page,
-        granules: [scene.start],
+        granules: &scene.granules,
         table: &mut m.table,
+        words: &mut m.words,
         key: &scene.realm_key,
         token: &scene.token,
         busy,
@@ -92,8 +102,9 @@ fn in_place_call(m: &mut Memory, scene: &Scene, busy: u64, x: &[u64; 5]) {
         &mut m.session,
         &mut m.queue,
         &mut m.page,
-        &[scene.start],
+        &scene.granules,
         &mut m.table,
+        &mut m.words,
         &scene.realm_key,
         &scene.token,
         busy,
@@ -107,7 +118,7 @@ fn in_place_call(m: &mut Memory, scene: &Scene, busy: u64, x: &[u64; 5]) {
 
 /// One call on each side; answers which.
 fn step(random: &mut Random, scene: &mut Scene, model: &mut Memory, ours: &mut Memory) -> u64 {
-    match random.below(6) {
+    match random.below(9) {
         0 => {
             let signature = random.signature();
             Model::sign(&mut model.queue, &signature, &mut model.out);
@@ -128,6 +139,62 @@ fn step(random: &mut Random, scene: &mut Scene, model: &mut Memory, ours: &mut M
             inplace::token_signing(&ours.record, &mut ours.queue, page, key, x, out);
             SIGNING
         }
+        3 => {
+            let [at, ..] = random.registers(DELEGATE, scene);
+            let (theirs, mine): (Move<u64>, Move<u64>) = match random.one_in(2) {
+                true => (Model::delegate, inplace::delegate),
+                false => (Model::undelegate, inplace::undelegate),
+            };
+            theirs(
+                &model.record,
+                &scene.granules,
+                &mut model.table,
+                &mut model.words,
+                at,
+                &mut model.out,
+            );
+            mine(
+                &ours.record,
+                &scene.granules,
+                &mut ours.table,
+                &mut ours.words,
+                at,
+                &mut ours.out,
+            );
+            MOVE
+        }
+        4 => {
+            let list = random.granules(scene);
+            let (theirs, mine): (Move<&[u64]>, Move<&[u64]>) = match random.one_in(2) {
+                true => (Model::delegate_list, inplace::delegate_list),
+                false => (Model::undelegate_list, inplace::undelegate_list),
+            };
+            theirs(
+                &model.record,
+                &scene.granules,
+                &mut model.table,
+                &mut model.words,
+                &list,
+                &mut model.out,
+            );
+            mine(
+                &ours.record,
+                &scene.granules,
+                &mut ours.table,
+                &mut ours.words,
+                &list,
+                &mut ours.out,
+            );
+            LIST
+        }
+        5 => {
+            let (shown, in_table) = random.shown_banks();
+            let (mut theirs, mut mine) = (scene.granules, scene.granules);
+            model.out[0] = Model::set_up_granules(&mut theirs, &shown, in_table);
+            ours.out[0] = inplace::set_up(&mut mine, &shown, in_table);
+            assert_eq!(mine, theirs);
+            SET_UP
+        }
         _ => {
             let Call { id, x } = random.call(scene);
             let ([x1, x2, x3, x4], busy) = (x, u64::from(scene.busy) << random.below(64));
@@ -144,6 +211,35 @@ fn step(random: &mut Random, scene: &mut Scene, model: &mut Memory, ours: &mut M
 fn load_page(scene: &Scene, model: &mut Memory, ours: &mut Memory) {
     model.page.copy_from_slice(&scene.page);
     ours.page.copy_from_slice(&scene.page);
+}
+
+/// Count and next, which the benchmark times, on words and records of any kind.
+#[test]
+fn realm_words_are_the_same() {
+    let (mut random, mut met) = (Random::new(6), BTreeSet::new());
+    for _ in 0..20_000 {
+        let scene = random.scene();
+        let (granules, mut words) = (&scene.granules, scene.words.clone());
+        match random.below(8) {
+            0 => words.iter_mut().for_each(|word| *word = u64::MAX),
+            1 => words.iter_mut().for_each(|word| *word = 0),
+            2 => words.push(1),
+            _ => {}
+        }
+        let index = random.below(64 * words.len() as u64 + 3);
+        let [mut theirs, mut ours] = [[7]; 2];
+        let said = Model::realm_count(granules, &words, &mut theirs);
+        assert_eq!(inplace::realm_count(granules, &words, &mut ours), said);
+        assert_eq!(ours, theirs, "{words:x?}");
+        let said = Model::realm_next(granules, &words, index, &mut theirs);
+        assert_eq!(
+            inplace::realm_next(granules, &words, index, &mut ours),
+            said
+        );
+        assert_eq!(ours, theirs, "{words:x?}, {index}");
+        met.insert(said as i64);
+    }
+    assert_eq!(met, BTreeSet::from([0, 1, -5]));
 }
 
 #[test]
@@ -172,13 +268,16 @@ fn the_same_as_the_model() {
 
 /// Every answer of every command was met often.
 fn expect(met: &Met) {
-    let expected: [(u64, &[i64]); 11] = [
+    let expected: [(u64, &[i64]); 14] = [
+        (MOVE, &[0, -1, -2, -3, -5]),
+        (LIST, &[0, -1, -2, -3, -5]),
+        (SET_UP, &[0, -5]),
         (SIGN, &[0, -5, -6]),
         (SIGNING, &[0, -1, -5, -6]),
         (OLDEST, &[0, 1, 2, 3, 4, 5, 6, 7, 8]),
         (0xC400_018F, &[0]),
-        (0xC400_01B0, &[0, -1, -2, -3]),
-        (0xC400_01B1, &[0, -1, -2, -3]),
+        (0xC400_01B0, &[0, -1, -2, -3, -5]),
+        (0xC400_01B1, &[0, -1, -2, -3, -5]),
         (0xC400_01B2, &[0, -1, -2, -5]),
         (0xC400_01B3, &[0, -1, -2, -5, -6]),
         (0xC400_01B4, &[0, -1, -5]),

@@ -113,7 +113,7 @@ fn boots_meet_every_code() {
         for _ in 0..4 {
             let boot = random.boot(record);
             let (next, answer) = match boot.cold {
-                true => record.cold(boot.x, boot.most, &boot.page),
+                true => record.cold(boot.x, boot.most, boot.kept, &boot.page),
                 false => record.warm(boot.x),
             };
             record = next;

@@ -9,7 +9,7 @@
 
 #![cfg(target_arch = "x86_64")]
 
-use potterbeam_tests::exports::{Exports, Lent, QueueImage, RecordImage};
+use potterbeam_tests::exports::{Exports, GranulesImage, Lent, QueueImage, RecordImage};
 use potterbeam_tests::kit::Kit;
 use potterbeam_tests::model::Model;
 use potterbeam_tests::reference::layout::PAGE;
@@ -25,7 +25,7 @@ const BASE: u64 = 0x8000_0000;
 const MEMORY: u64 = 0x9000_0000;
 const BANK: [u64; 2] = [0x9000_0000, 0x1000_0000];
 const CONSOLE: [u64; 6] = [0x1c0c_0000, 1, 0x7061_7274, 24_000_000, 115_200, 0];
-const UP: [u64; 4] = [1, 8, BASE, 5];
+const UP: RecordImage = [1, 8, BASE, 5, 0];
 
 /// The most that a call on a boot path may take: half of a boot stack of 2 KiB.
 const BOOT: usize = 1024;
@@ -317,7 +317,9 @@ fn kit_measured() -> Header {
         direct(&mut header, what, &board, &x, x0);
         dispatched(&mut header, what, &board, &x, x0);
     }
+    set_ups(&mut header);
     granule_lists(&mut header);
+    realm_words(&mut header);
     challenges(&mut header);
     signer(&mut header);
     header.is_measured();
@@ -342,9 +344,11 @@ fn reading(header: &mut Header, what: &str, page: &[u8], code: i32) {
 }
 
 fn cold_booting(header: &mut Header, what: &str, page: &[u8], code: i32) {
-    header.within(("pbeam_cold_boot", what), &[0; 4], code, |state| {
-        Kit::cold_boot(state, [0, 5, 8, BASE], 8, page)
-    });
+    for kept in [0, 112, 4096] {
+        header.within(("pbeam_cold_boot", what), &[0; 5], code, |state| {
+            Kit::cold_boot(state, [0, 5, 8, BASE], 8, kept, page)
+        });
+    }
 }
 
 /// By a view of the page, and by views that no reading made.
@@ -362,6 +366,12 @@ fn looking_up(header: &mut Header) {
         header.within(("pbeam_count", what), &(), count, |()| {
             Kit::count(&page, &view, 1)
         });
+        header.within(
+            ("pbeam_kept_for", what),
+            &(),
+            Model::kept_for(&view),
+            |()| Kit::kept_for(&view),
+        );
         let word = if count == 0 { 0 } else { CONSOLE[4] };
         header.within(("pbeam_word", what), &(), word, |()| {
             Kit::word(&page, &view, 1, 82, 4)
@@ -432,20 +442,21 @@ fn writing(header: &mut Header) {
 /// The boots that no page decides.
 fn refused_boots(header: &mut Header) {
     let page = consoles(1);
-    for (what, state, x, code) in [
-        ("record not fresh", UP, [0, 5, 8, BASE], -1),
-        ("version", [0; 4], [0, 0, 8, BASE], -2),
-        ("number of CPUs", [0; 4], [0, 5, 9, BASE], -3),
-        ("CPU", [0; 4], [8, 5, 8, BASE], -4),
-        ("B", [0; 4], [0, 5, 8, 1], -5),
+    for (what, state, x, kept, code) in [
+        ("record not fresh", UP, [0, 5, 8, BASE], 0, -1),
+        ("version", [0; 5], [0, 0, 8, BASE], 0, -2),
+        ("number of CPUs", [0; 5], [0, 5, 9, BASE], 0, -3),
+        ("CPU", [0; 5], [8, 5, 8, BASE], 0, -4),
+        ("kept bytes", [0; 5], [0, 5, 8, BASE], 4097, -5),
+        ("B", [0; 5], [0, 5, 8, 1], 0, -5),
     ] {
         header.within(("pbeam_cold_boot", what), &state, code, |state| {
-            Kit::cold_boot(state, x, 8, &page)
+            Kit::cold_boot(state, x, 8, kept, &page)
         });
     }
     for (what, state, cpu, code) in [
         ("accepted", UP, 7, 0),
-        ("record not up", [0; 4], 0, -1),
+        ("record not up", [0; 5], 0, -1),
         ("CPU", UP, 8, -4),
     ] {
         header.within(("pbeam_warm_boot", what), &state, code, |state| {
@@ -539,8 +550,8 @@ fn cold_boot_fits_a_boot_stack() {
             page_of([&BANK, &CONSOLE, &BANK, &BANK]),
         ),
     ] {
-        boot_stack(what, &[0; 4], |state| {
-            Kit::cold_boot(state, [0, 5, 8, BASE], 8, &page)
+        boot_stack(what, &[0; 5], |state| {
+            Kit::cold_boot(state, [0, 5, 8, BASE], 8, 4096, &page)
         });
     }
     for name in ["pbeam_read", "pbeam_write", "pbeam_cold_boot"] {
@@ -600,7 +611,9 @@ struct Board {
     session: [u64; 3],
     queue: QueueImage,
     page: Vec<u8>,
-    table: [u8; 2],
+    granules: GranulesImage,
+    table: Vec<u8>,
+    words: Vec<u64>,
     secret: Vec<u8>,
     busy: u64,
     out: [u64; 3],
@@ -620,7 +633,9 @@ impl Board {
             session: [1, 100, 64],
             queue,
             page,
-            table: [0, 1],
+            granules: in_banks(1, 2),
+            table: vec![0, 1],
+            words: vec![2],
             secret: vec![7; 100],
             busy: 0,
             out: [0; 3],
@@ -635,10 +650,33 @@ impl Board {
     }
 }
 
+/// A record of so many banks of so many granules, with a hole of one behind each; the last bank ends where one of 2 granules at MEMORY
+/// would, so that the same addresses name its last two.
+fn in_banks(count: u64, granules: u64) -> GranulesImage {
+    let mut record = [0; 33];
+    record[0] = count;
+    let end = MEMORY + 2 * 4096;
+    for (i, bank) in (1..=count).rev().zip(record[1..].chunks_exact_mut(2)) {
+        bank.copy_from_slice(&[end + 4096 - i * 4096 * (granules + 1), 4096 * granules]);
+    }
+    record
+}
+
 /// Calls with their code: each command accepted and refused at each kind of check, and with queues from empty to full.
 fn calls() -> Vec<(&'static str, Board, [u64; 5], i64)> {
     let board = || Board::new(1, 1);
-    let fresh = || Board::with(|board| board.state = [0; 4]);
+    let fresh = || Board::with(|board| board.state = [0; 5]);
+    let keeping = || Board::with(|board| board.state[4] = 1);
+    let many = || {
+        Board::with(|board| (board.granules, board.table) = (in_banks(16, 2), [0, 1].repeat(16)))
+    };
+    let broken = || {
+        Board::with(|board| {
+            board.granules[0] = 17;
+            board.words.clear();
+        })
+    };
+    let unfit = || Board::with(|board| board.words.clear());
     let old = || Board::with(|board| board.state[3] = 3);
     let short = || Board::with(|board| board.page.truncate(PAGE - 1));
     let bare = || Board::with(|board| board.secret.clear());
@@ -651,6 +689,24 @@ fn calls() -> Vec<(&'static str, Board, [u64; 5], i64)> {
     let key = [SIGNING, 3, BASE, 100, 0];
     vec![
         ("delegate", board(), [DELEGATE, MEMORY, 0, 0, 0], OK),
+        (
+            "delegate, 16 banks",
+            many(),
+            [DELEGATE, MEMORY, 0, 0, 0],
+            OK,
+        ),
+        (
+            "delegate, 17 banks",
+            broken(),
+            [DELEGATE, MEMORY, 0, 0, 0],
+            BAD_ADDR,
+        ),
+        (
+            "delegate, words",
+            unfit(),
+            [DELEGATE, MEMORY, 0, 0, 0],
+            INVAL,
+        ),
         (
             "delegate, record",
             fresh(),
@@ -672,6 +728,12 @@ fn calls() -> Vec<(&'static str, Board, [u64; 5], i64)> {
         (
             "undelegate",
             board(),
+            [UNDELEGATE, MEMORY + 4096, 0, 0, 0],
+            OK,
+        ),
+        (
+            "undelegate, 16 banks",
+            many(),
             [UNDELEGATE, MEMORY + 4096, 0, 0, 0],
             OK,
         ),
@@ -713,6 +775,12 @@ fn calls() -> Vec<(&'static str, Board, [u64; 5], i64)> {
             BAD_ADDR,
         ),
         (
+            "realm key, kept bytes",
+            keeping(),
+            [REALM_KEY, BASE, 4096, 0, 0],
+            BAD_ADDR,
+        ),
+        (
             "realm key, too long",
             board(),
             [REALM_KEY, BASE, 4097, 0, 0],
@@ -740,6 +808,12 @@ fn calls() -> Vec<(&'static str, Board, [u64; 5], i64)> {
             "token, outside",
             board(),
             [TOKEN, BASE - 1, 64, 64, 0],
+            BAD_ADDR,
+        ),
+        (
+            "token, kept bytes",
+            keeping(),
+            [TOKEN, BASE, 64, 64, 0],
             BAD_ADDR,
         ),
         ("token, c_size", board(), [TOKEN, BASE, 64, 33, 0], INVAL),
@@ -790,6 +864,7 @@ fn calls() -> Vec<(&'static str, Board, [u64; 5], i64)> {
             INVAL,
         ),
         ("signing, outside", board(), [SIGNING, 1, end, 80, 0], INVAL),
+        ("signing, kept bytes", keeping(), pull, INVAL),
         ("signing, record", fresh(), push, UNK),
         ("signing, minor", old(), push, UNK),
         ("key update", board(), [KEY_UPDATE, 7, 0, 0, 0], OK),
@@ -823,10 +898,12 @@ fn direct(header: &mut Header, what: &str, board: &Board, x: &[u64; 5], x0: i64)
     };
     match id {
         DELEGATE => measure("pbeam_delegate", &|b| {
-            Kit::delegate(&b.state, &[MEMORY], &mut b.table, x1, &mut b.out)
+            let (table, words) = (&mut b.table, &mut b.words);
+            Kit::delegate(&b.state, &b.granules, table, words, x1, &mut b.out)
         }),
         UNDELEGATE => measure("pbeam_undelegate", &|b| {
-            Kit::undelegate(&b.state, &[MEMORY], &mut b.table, x1, &mut b.out)
+            let (table, words) = (&mut b.table, &mut b.words);
+            Kit::undelegate(&b.state, &b.granules, table, words, x1, &mut b.out)
         }),
         REALM_KEY => measure("pbeam_realm_key", &|b| {
             Kit::realm_key(&b.state, &mut b.page, &b.secret, [x1, x2, x3], &mut b.out)
@@ -865,8 +942,9 @@ fn dispatched(header: &mut Header, what: &str, board: &Board, x: &[u64; 5], x0: 
     let bytes = header.within(("pbeam_call", what), board, x0, |board| {
         let mut lent = Lent {
             page: &mut board.page,
-            granules: [MEMORY],
+            granules: &board.granules,
             table: &mut board.table,
+            words: &mut board.words,
             key: &board.secret,
             token: &board.secret,
             busy: board.busy,
@@ -893,7 +971,7 @@ fn challenges(header: &mut Header) {
     for (what, state, x, place) in [
         ("a start", UP, [BASE + 8, 64, 48], [8, 48]),
         ("no start", UP, [BASE, 64, 0], [0, 0]),
-        ("record", [0; 4], [BASE, 64, 48], [0, 0]),
+        ("record", [0; 5], [BASE, 64, 48], [0, 0]),
         ("outside", UP, [BASE + 4096, 64, 48], [0, 0]),
     ] {
         header.within(("pbeam_challenge", what), &[1; 2], place, |place| {
@@ -903,33 +981,96 @@ fn challenges(header: &mut Header) {
     }
 }
 
-fn granule_lists(header: &mut Header) {
-    let fresh = [0; 4];
-    let up = Board::new(0, 0).state;
-    for (what, state, count, spoilt, x0) in [
-        ("empty", up, 0, 0, OK),
-        ("200 granules", up, 200, 256, OK),
-        ("the last refused", up, 200, 199, BAD_PAS),
-        ("past the table", up, 257, 256, BAD_ADDR),
-        ("record", fresh, 200, 256, UNK),
+fn set_ups(header: &mut Header) {
+    let shown = |record: GranulesImage, count: usize| -> Vec<u8> {
+        let words = record[1..=2 * count].iter();
+        words.flat_map(|word: &u64| word.to_le_bytes()).collect()
+    };
+    let (one, many) = (shown(in_banks(1, 2), 1), shown(in_banks(16, 2), 16));
+    for (what, banks, in_table, x0) in [
+        ("one bank", &one[..], 2, OK),
+        ("16 banks", &many, 32, OK),
+        ("a table one long", &many, 33, INVAL),
+        ("no bank", &[], 0, INVAL),
+        ("a part of a bank", &many[..255], 30, INVAL),
+        ("17 banks", &many.repeat(2)[..272], 34, INVAL),
     ] {
-        let list: Vec<u64> = (0..count).map(|i| MEMORY + 4096 * i).collect();
+        let name = "pbeam_set_up_granules";
+        header.within((name, what), &[7; 33], x0, |record| {
+            Kit::set_up_granules(record, banks, in_table) as i64
+        });
+    }
+}
+
+/// The address of each granule.
+fn addresses(record: &GranulesImage) -> Vec<u64> {
+    let banks = record[1..].chunks_exact(2).take(record[0] as usize);
+    let granules = |bank: &[u64]| (bank[0]..bank[0] + bank[1]).step_by(4096);
+    banks.flat_map(granules).collect()
+}
+
+fn granule_lists(header: &mut Header) {
+    let fresh = [0; 5];
+    let up = Board::new(0, 0).state;
+    let (one, many) = (in_banks(1, 256), in_banks(16, 16));
+    for (what, state, granules, count, spoilt, x0) in [
+        ("empty", up, one, 0, 0, OK),
+        ("200 granules", up, one, 200, 256, OK),
+        ("16 banks, all granules", up, many, 256, 256, OK),
+        ("the last refused", up, one, 200, 199, BAD_PAS),
+        ("past the table", up, one, 257, 256, BAD_ADDR),
+        ("record", fresh, one, 200, 256, UNK),
+    ] {
+        let mut list = addresses(&granules);
+        list.push(1);
+        list.truncate(count);
         let lent = |byte| {
             let mut table = vec![byte; 256];
             table.iter_mut().skip(spoilt).take(1).for_each(|b| *b = 2);
-            (table, [0; 3])
+            (table, vec![0; 4], [0; 3])
         };
         let name = "pbeam_delegate_list";
-        header.within((name, what), &lent(0), x0, |(table, out)| {
-            Kit::delegate_list(&state, &[MEMORY], table, &list, out);
+        header.within((name, what), &lent(0), x0, |(table, words, out)| {
+            Kit::delegate_list(&state, &granules, table, words, &list, out);
             out[0] as i64
         });
         let name = "pbeam_undelegate_list";
-        header.within((name, what), &lent(1), x0, |(table, out)| {
-            Kit::undelegate_list(&state, &[MEMORY], table, &list, out);
+        header.within((name, what), &lent(1), x0, |(table, words, out)| {
+            Kit::undelegate_list(&state, &granules, table, words, &list, out);
             out[0] as i64
         });
     }
+}
+
+fn realm_words(header: &mut Header) {
+    let (one, table) = (in_banks(1, 256), vec![1; 256]);
+    let empty = vec![0u64; 4];
+    for (what, words, index, next) in [
+        ("all clear", vec![0; 4], 0, 1),
+        ("the last alone", vec![0, 0, 0, 1 << 63], 3, OK),
+        ("a word too few", vec![0; 3], 0, INVAL),
+    ] {
+        let fits = if words.len() == 4 { OK } else { INVAL };
+        header.within(("pbeam_realm_count", what), &[7], fits, |number| {
+            Kit::realm_count(&one, &words, number) as i64
+        });
+        header.within(("pbeam_realm_next", what), &[7], next, |found| {
+            Kit::realm_next(&one, &words, index, found) as i64
+        });
+        let agrees = if words.len() == 4 { 1 } else { INVAL };
+        header.within(("pbeam_realm_agrees", what), &(), agrees, |()| {
+            Kit::realm_agrees(&one, &table, &words) as i64
+        });
+        header.within(("pbeam_realm_build", what), &words, fits, |words| {
+            Kit::realm_build(&one, &table, words) as i64
+        });
+    }
+    header.within(
+        ("pbeam_realm_build", "a short table"),
+        &empty,
+        INVAL,
+        |words| Kit::realm_build(&one, &table[1..], words) as i64,
+    );
 }
 
 fn signer(header: &mut Header) {

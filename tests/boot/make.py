@@ -1,11 +1,13 @@
 #!/usr/bin/env python3
-"""Run vectors for the cold and warm boot checks, made from docs/01-scope.md alone.
+"""Run vectors for the cold and warm boot checks, made from docs/01-scope.md and
+docs/02-change-requests.md (E5) alone.
 
 Run from the repository's root:  python3 tests/boot/make.py
-It rewrites crates/boot_vectors/data/c000, c001, .. (8-byte words: the record's state, cpus, base
-and minor, the number of steps; then for each step its kind, x0 to x3, the monitor's maximum, the
-page's length, the page), crates/boot_vectors/stdout (what the program has to print for them in
-order) and tests/boot/CASES.md (what each case is for). The same run always gives the same bytes.
+It rewrites crates/boot_vectors/data/c000, c001, .. (8-byte words: the record's state, cpus, base,
+minor and kept bytes, the number of steps; then for each step its kind, x0 to x3, the monitor's
+maximum, the kept bytes, the page's length, the page), crates/boot_vectors/stdout (what the program
+has to print for them in order) and tests/boot/CASES.md (what each case is for). The same run always
+gives the same bytes.
 With a folder as its argument it writes them below that folder.
 """
 
@@ -20,18 +22,19 @@ HERE = Path(__file__).resolve().parent
 sys.dont_write_bytecode = True
 sys.path[:0] = [str(HERE.parent), str(HERE.parent / "reader")]
 from make import (B, CHOICE, HEAD, JUNK, NAME, PAGE, PLACE, SAMPLE, SERIAL, TOP, WORD, Page,
-                  broken, example_14, field, field_pages, full, read, with_entry)
+                  broken, example_14, field, field_pages, full, kept_for, read, with_entry)
 from vectors import write_all
 
 ONES = WORD - 1
 STATES, KINDS = ("fresh", "up", "closed"), ("cold", "warm")     # a file has the index
-Record = namedtuple("Record", "state cpus base minor")
-Step = namedtuple("Step", "kind x0 x1 x2 x3 most page")
+# What is kept last is K, the number of bytes at the page's start that no command may write.
+Record = namedtuple("Record", "state cpus base minor kept", defaults=(0,))
+Step = namedtuple("Step", "kind x0 x1 x2 x3 most kept page")
 Case = namedtuple("Case", "text record steps answers")          # answers as run gives them
 FRESH, UP, CLOSED = Record("fresh", 0, 0, 0), Record("up", 8, B, 4), Record("closed", 0, 0, 0)
 
 
-# ---- Boot, from 01's text in 01's order. All arithmetic is on plain numbers. ----
+# ---- Boot, from 01's and 02's text in their order. All arithmetic is on plain numbers. ----
 
 def code_of(record, step):
     """The code of the first check that fails, 0 if none does."""
@@ -46,6 +49,8 @@ def code_of(record, step):
         return -3
     if step.x0 >= step.x2:
         return -4
+    if step.kept > PAGE:
+        return -5
     answer, _ = read(4, step.x3, step.page)
     return answer if isinstance(answer, int) else 0
 
@@ -58,7 +63,7 @@ def run(record, steps):
         if code != 0:
             record = CLOSED
         elif step.kind == "cold":
-            record = Record("up", step.x2, step.x3, min(5, step.x1 % 2**16))
+            record = Record("up", step.x2, step.x3, min(5, step.x1 % 2**16), step.kept)
         answers.append((code, record))
     return answers
 
@@ -88,15 +93,16 @@ name = "{:#x}".format               # how a number is shown in a text
 
 
 def cold(page=None, **other):
-    """A cold boot that a fresh record accepts (CPU 0 of 8, version 0.4, a full page), but for
-    the page and the registers given. B is right for a page under construction."""
+    """A cold boot that a fresh record accepts (CPU 0 of 8, version 0.4, no kept bytes, a full
+    page), but for the page and the registers given. B is right for a page under construction."""
     page = full() if page is None else page
-    registers = {"x0": 0, "x1": 4, "x2": 8, "x3": getattr(page, "b", B), "most": 8, **other}
+    registers = {"x0": 0, "x1": 4, "x2": 8, "x3": getattr(page, "b", B), "most": 8,
+                 "kept": 0, **other}
     return Step("cold", **registers, page=bytes(getattr(page, "data", page)))
 
 
-def warm(x0=0, x1=0, x2=0, x3=0, most=0):
-    return Step("warm", x0, x1, x2, x3, most, b"")
+def warm(x0=0, x1=0, x2=0, x3=0, most=0, kept=0):
+    return Step("warm", x0, x1, x2, x3, most, kept, b"")
 
 
 def add(codes, text, *steps, record=FRESH, kept=None):
@@ -319,11 +325,81 @@ def random_sequences():
         add(None, f"{first.state}: {', '.join(step.kind for step in steps)}", *steps, record=first)
 
 
+KEPT = (0, 1, 112, 4095, 4096)      # numbers of kept bytes that are accepted
+TOO_MANY = (4097, 2**32, 2**63, ONES)
+
+
+def kept_bytes():
+    """The number of kept bytes K: 4,096 at most; a warm boot keeps it"""
+    for n in KEPT:
+        add([0, 0, 0], f"K = {n:,}; two warm boots keep it", cold(kept=n), warm(7), warm(),
+            kept=(8, B, 4, n))
+    for n in TOO_MANY:
+        add([-5, -1, -1], f"K = {name(n)}, then a good cold boot, a warm boot",
+            cold(kept=n), cold(), warm())
+    add([0, 0], "a warm boot's own K is not looked at", cold(kept=112),
+        warm(1, ONES, ONES, ONES, ONES, 4097), kept=(8, B, 4, 112))
+    for text, page in (("no section filled, 0.1", Page(1)), ("no section filled, 0.4", Page()),
+                       ("example 14's page", example_14()), ("a full page", full()),
+                       ("a full page, 0.9", full(9)), ("a full page, 0.2", full(2))):
+        n = kept_for(min(4, page.data[0]), B, page.data)
+        add([0, 0, 0], f"{text}: K = {n:,}, what its manifest takes", cold(page, kept=n), warm(),
+            warm(1), kept=(8, B, 4, n))
+    for b in (4096, TOP - 4096):
+        for n in (4095, 4096, 4097):
+            add([-5 if n > 4096 else 0], f"B = {name(b)}, K = {n:,}", cold(full(b=b), kept=n),
+                kept=None if n > 4096 else (8, b, 4, n))
+
+
+def kept_bytes_at_once():
+    """Too many kept bytes with another check broken: K comes after -4 and before the page"""
+    for i, n in enumerate((4097, ONES)):
+        for code in WAYS:
+            step, text = spoiled(i, code)
+            add([max(code, -5)], f"{code} and -5: {text}, K = {name(n)}", step._replace(kept=n))
+        for record in (UP, CLOSED):
+            add([-1], f"-1 and -5: {record.state}, K = {name(n)}", cold(kept=n), record=record)
+        add([-5], f"-5 to -7, K = {name(n)}", spoiled(1, -5, -6, -7)[0]._replace(kept=n))
+        add([-2], f"-2 to -7, K = {name(n)}", spoiled(1, *WAYS)[0]._replace(kept=n))
+    for code in WAYS:                       # K itself is good: it changes no code
+        step, text = spoiled(2, code)
+        add([code, -1], f"{text}, K = 4,096; a closed record keeps nothing",
+            step._replace(kept=4096), warm())
+    add([0, -4, -1], "K = 112, closed by a warm boot", cold(kept=112), warm(8), warm())
+    add([0, -1, -1], "K = 112, closed by a second cold boot", cold(kept=112), cold(kept=8), warm())
+
+
+def forged_kept_bytes():
+    """Records that are up with any number of kept bytes"""
+    for n in (1, 112, *KEPT[3:], *TOO_MANY):
+        add([0, 0, 0], f"K = {name(n)}: three warm boots", *map(warm, (0, 7, 7)),
+            record=UP._replace(kept=n), kept=(8, B, 4, n))
+        add([0, -4, -1], f"K = {name(n)}: closed by the second warm boot", *map(warm, (0, 8, 0)),
+            record=UP._replace(kept=n))
+    for n in (0, ONES):
+        add([-1, -1], f"all that is kept {name(n)}: cold, then warm boot", cold(kept=112), warm(),
+            record=Record("up", n, n, n, n))
+    add([0] * 6, "all that is kept 2^64 - 1: six good warm boots", *map(warm, range(6)),
+        record=Record("up", ONES, ONES, ONES, ONES), kept=(ONES,) * 4)
+
+
+def random_kept_bytes():
+    """Random sequences with kept bytes"""
+    dice = Random(5)
+    for i in range(20):
+        n = dice.choice((dice.randrange(4097), dice.randrange(4097), dice.getrandbits(64)))
+        page = full(1 + dice.randrange(9), 4096 * dice.randrange(1, 2**40), JUNK)
+        steps = [cold(page, x0=dice.randrange(9), x1=1 + dice.randrange(9), kept=n)]
+        steps += [warm(dice.randrange(9), kept=dice.getrandbits(64)) for _ in range(i % 5)]
+        add(None, f"K = {name(n)}: {', '.join(step.kind for step in steps)}", *steps)
+
+
 # ---- Output ----
 
 def build_all():
     for group in (versions, processors, bases_and_lengths, manifests, several_at_once, warm_boots,
-                  sequences, forged_records, random_sequences, fields):
+                  sequences, forged_records, random_sequences, kept_bytes, kept_bytes_at_once,
+                  forged_kept_bytes, random_kept_bytes, fields):
         GROUPS.append((group.__doc__, []))
         group()
 
@@ -338,7 +414,7 @@ def check():
         tally.update((step.kind, code) for step, (code, _) in zip(case.steps, case.answers))
         assert 1 <= len(case.steps) <= 6 and len(file_of(case)) <= 32000
         assert all(len(step.page) <= (4200 if step.kind == "cold" else 0) for step in case.steps)
-    assert len({file_of(case) for case in cases}) == len(cases) <= 300
+    assert len({file_of(case) for case in cases}) == len(cases) <= 400
     assert {code for kind, code in tally if kind == "cold"} == {0, *range(-7, 0)}
     assert {code for kind, code in tally if kind == "warm"} == {0, -1, -4}
     print(f"{len(cases)} cases, steps by code:",

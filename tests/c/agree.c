@@ -20,7 +20,10 @@
 #define ROOM 512
 #define GUARD UINT64_C(0xA5C3A5C3A5C3A5C3)
 
-static const uint64_t granules[ROOM] = {MEMORY};
+/* One bank at MEMORY, of 4 granules; checks with another table make their own. */
+static const uint64_t granules[ROOM] = {1, MEMORY, 4 * 4096};
+/* Realm words for up to 64 granules. */
+static uint64_t words[1];
 static unsigned long checks;
 
 static void same(int line, const char *what, uint64_t is, const char *beside, uint64_t want)
@@ -446,7 +449,7 @@ static void up(uint64_t state[ROOM], uint64_t minor)
 {
     make(4);
     memset(state, 0, ROOM * sizeof state[0]);
-    SAME(pbeam_cold_boot(state, 0, minor, 3, BASE, 8, page, LEN), 0);
+    SAME(pbeam_cold_boot(state, 0, minor, 3, BASE, 8, 0, page, LEN), 0);
 }
 
 static void check_state(void)
@@ -454,35 +457,43 @@ static void check_state(void)
     uint64_t state[ROOM];
     make(4);
     guard(state);
-    SAME(PBEAM_BOOT_STATE, pbeam_cold_boot(state, 0, 4, 3, BASE, 8, page, LEN));
+    SAME(PBEAM_BOOT_STATE, pbeam_cold_boot(state, 0, 4, 3, BASE, 8, 0, page, LEN));
     SAME(PBEAM_STATE_WORDS, written(state));
     SAME(state[PBEAM_STATE_KIND], PBEAM_STATE_CLOSED);
     guard(state);
     state[PBEAM_STATE_KIND] = PBEAM_STATE_FRESH;
-    SAME(PBEAM_BOOT_DONE, pbeam_cold_boot(state, 0, 4, 3, BASE, 8, page, LEN));
+    SAME(PBEAM_BOOT_DONE, pbeam_cold_boot(state, 0, 4, 3, BASE, 8, 112, page, LEN));
     SAME(PBEAM_STATE_WORDS, written(state));
     SAME(state[PBEAM_STATE_KIND], PBEAM_STATE_UP);
     SAME(state[PBEAM_STATE_CPUS], 3);
     SAME(state[PBEAM_STATE_BASE], BASE);
     SAME(state[PBEAM_STATE_MINOR], 4);
+    SAME(state[PBEAM_STATE_KEPT], 112);
+    SAME(PBEAM_BOOT_DONE, pbeam_warm_boot(state, 2, 9, 9, 9));
     SAME(PBEAM_BOOT_DONE, pbeam_warm_boot(state, 2, 9, 9, 9));
     SAME(state[PBEAM_STATE_KIND], PBEAM_STATE_UP);
+    SAME(state[PBEAM_STATE_KEPT], 112);
     SAME(PBEAM_BOOT_CPU, pbeam_warm_boot(state, 3, 0, 0, 0));
     SAME(state[PBEAM_STATE_KIND], PBEAM_STATE_CLOSED);
     SAME(PBEAM_BOOT_STATE, pbeam_warm_boot(state, 0, 0, 0, 0));
     memset(state, 0, sizeof state);
-    SAME(PBEAM_BOOT_DONE, pbeam_cold_boot(state, 0, 0xFFFF, 3, BASE, 8, page, LEN));
+    SAME(PBEAM_BOOT_DONE, pbeam_cold_boot(state, 0, 0xFFFF, 3, BASE, 8, 0, page, LEN));
     SAME(PBEAM_INTERFACE_MINOR, state[PBEAM_STATE_MINOR]);
 }
 
-/* A cold boot of a fresh record that is refused: it closes the record. */
-static int32_t refused_boot(uint64_t x0, uint64_t x1, uint64_t x2, uint64_t x3)
+/* A cold boot of a fresh record that is refused: it closes the record, which keeps nothing. */
+static int32_t refused_with(uint64_t x0, uint64_t x1, uint64_t x2, uint64_t x3, uint64_t kept)
 {
     uint64_t state[ROOM] = {0};
-    int32_t code = pbeam_cold_boot(state, x0, x1, x2, x3, 8, page, LEN);
+    int32_t code = pbeam_cold_boot(state, x0, x1, x2, x3, 8, kept, page, LEN);
     SAME(state[PBEAM_STATE_KIND], PBEAM_STATE_CLOSED);
-    SAME(state[PBEAM_STATE_CPUS] | state[PBEAM_STATE_BASE] | state[PBEAM_STATE_MINOR], 0);
+    SAME(state[PBEAM_STATE_CPUS] | state[PBEAM_STATE_BASE] | state[PBEAM_STATE_MINOR] | state[PBEAM_STATE_KEPT], 0);
     return code;
+}
+
+static int32_t refused_boot(uint64_t x0, uint64_t x1, uint64_t x2, uint64_t x3)
+{
+    return refused_with(x0, x1, x2, x3, 112);
 }
 
 static void check_boot_codes(void)
@@ -492,9 +503,13 @@ static void check_boot_codes(void)
     SAME(PBEAM_BOOT_VERSION, refused_boot(0, UINT64_C(0x100000005), 3, BASE));
     SAME(PBEAM_BOOT_CPUS, refused_boot(0, 5, 9, BASE));
     SAME(PBEAM_BOOT_CPU, refused_boot(3, 5, 3, BASE));
+    SAME(PBEAM_BOOT_CPU, refused_with(3, 5, 3, BASE, 4097));
+    SAME(PBEAM_MANIFEST_PLACE, refused_with(0, 5, 3, BASE, 4097));
+    SAME(PBEAM_MANIFEST_PLACE, refused_with(0, 5, 3, BASE, UINT64_MAX));
     SAME(PBEAM_MANIFEST_PLACE, refused_boot(0, 5, 3, 0));
     put(page, 0, 4);
     SAME(PBEAM_MANIFEST_VERSION, refused_boot(0, 5, 3, BASE));
+    SAME(PBEAM_MANIFEST_PLACE, refused_with(0, 5, 3, BASE, 4097));
     put(page, 4, 8);
     page[4] = 1;
     SAME(PBEAM_MANIFEST_RULES, refused_boot(0, 5, 3, BASE));
@@ -505,7 +520,7 @@ static void check_boot_codes(void)
 static void check_codes(void)
 {
     uint64_t state[ROOM], session[ROOM] = {0}, out[ROOM];
-    uint8_t table[1] = {1};
+    uint8_t table[4] = {1};
     SAME(PBEAM_X0_OK, (int64_t)PBEAM_OK);
     SAME(PBEAM_X0_UNK, (int64_t)PBEAM_UNK);
     SAME(PBEAM_X0_BAD_ADDR, (int64_t)PBEAM_BAD_ADDR);
@@ -520,9 +535,9 @@ static void check_codes(void)
     up(state, 5);
     pbeam_features(state, 0, out);
     SAME(PBEAM_X0_OK, out[PBEAM_OUT_X0]);
-    pbeam_delegate(state, granules, table, 1, MEMORY + 1, out);
+    pbeam_delegate(state, granules, table, 4, words, 1, MEMORY + 1, out);
     SAME(PBEAM_X0_BAD_ADDR, out[PBEAM_OUT_X0]);
-    pbeam_delegate(state, granules, table, 1, MEMORY, out);
+    pbeam_delegate(state, granules, table, 4, words, 1, MEMORY, out);
     SAME(PBEAM_X0_BAD_PAS, out[PBEAM_OUT_X0]);
     pbeam_features(state, 1, out);
     SAME(PBEAM_X0_INVAL, out[PBEAM_OUT_X0]);
@@ -537,24 +552,67 @@ static uint64_t delegate(const uint64_t state[ROOM], uint8_t *table, size_t i, i
 {
     uint64_t out[ROOM];
     if (back)
-        pbeam_undelegate(state, granules, table, 4, MEMORY + i * PBEAM_GRANULE_BYTES, out);
+        pbeam_undelegate(state, granules, table, 4, words, 1, MEMORY + i * PBEAM_GRANULE_BYTES, out);
     else
-        pbeam_delegate(state, granules, table, 4, MEMORY + i * PBEAM_GRANULE_BYTES, out);
+        pbeam_delegate(state, granules, table, 4, words, 1, MEMORY + i * PBEAM_GRANULE_BYTES, out);
     return out[0];
 }
 
-/* G is taken from its word, whatever stands around it. */
+/* The set-up's answer for so many banks of one granule, with holes of one, for a table of so many. */
+static uint64_t set_up(uint64_t record[ROOM], size_t count, uint64_t table_len)
+{
+    uint8_t banks[17 * 16];
+    for (size_t i = 0; i < count; i++) {
+        put(banks + 16 * i, MEMORY + i * 8192, 8);
+        put(banks + 16 * i + 8, 4096, 8);
+    }
+    guard(record);
+    return pbeam_set_up_granules(record, banks, 16 * count, table_len);
+}
+
+/* What the set-up writes, and what it refuses. */
+static void check_set_up(void)
+{
+    uint64_t record[ROOM];
+    size_t most = 0;
+    for (size_t n = 1; n <= 17; n++)
+        most = set_up(record, n, n) == PBEAM_X0_OK ? n : most;
+    SAME(PBEAM_GRANULES_BANKS_MOST, most);
+    SAME(set_up(record, 2, 2), PBEAM_X0_OK);
+    SAME(PBEAM_GRANULES_WORDS, written(record));
+    SAME(record[PBEAM_GRANULES_COUNT], 2);
+    SAME(record[PBEAM_GRANULES_FIRST_BANK + PBEAM_BANK_BASE], MEMORY);
+    SAME(record[PBEAM_GRANULES_FIRST_BANK + PBEAM_BANK_SIZE], 4096);
+    SAME(record[PBEAM_GRANULES_FIRST_BANK + PBEAM_BANK_WORDS + PBEAM_BANK_BASE], MEMORY + 8192);
+    SAME(record[PBEAM_GRANULES_FIRST_BANK + 2 * PBEAM_BANK_WORDS], 0);
+    SAME(PBEAM_GRANULES_WORDS, PBEAM_GRANULES_FIRST_BANK + PBEAM_BANK_WORDS * PBEAM_GRANULES_BANKS_MOST);
+    SAME(set_up(record, 2, 1), PBEAM_X0_INVAL);
+    SAME(set_up(record, 0, 0), PBEAM_X0_INVAL);
+    SAME(pbeam_set_up_granules(record, NULL, 0, 0), PBEAM_X0_INVAL);
+    SAME(written(record), 0);
+}
+
+/* Granules are those of the banks; a record by hand is judged. */
 static void check_granule_record(const uint64_t state[ROOM])
 {
-    uint64_t words[2 * ROOM], out[ROOM];
-    uint64_t *record = words + ROOM;
-    uint8_t table[1] = {0};
-    guard(words);
-    guard(record);
-    record[PBEAM_GRANULES_START] = MEMORY;
-    pbeam_delegate(state, record, table, 1, MEMORY, out);
+    uint64_t record[ROOM], out[ROOM];
+    uint8_t table[2] = {0, 0};
+    SAME(set_up(record, 2, 2), PBEAM_X0_OK);
+    pbeam_delegate(state, record, table, 2, words, 1, MEMORY + 4096, out); /* the hole */
+    SAME(out[0], PBEAM_X0_BAD_ADDR);
+    pbeam_delegate(state, record, table, 2, words, 1, MEMORY + 8192, out);
     SAME(out[0], PBEAM_X0_OK);
-    SAME(PBEAM_GRANULES_WORDS, PBEAM_GRANULES_START + 1);
+    SAME(get(table, 2), 0x100);
+    pbeam_delegate(state, record, table, 1, words, 1, MEMORY, out); /* a table one short */
+    SAME(out[0], PBEAM_X0_BAD_ADDR);
+    record[PBEAM_GRANULES_FIRST_BANK + PBEAM_BANK_WORDS + PBEAM_BANK_BASE] = MEMORY; /* on the first */
+    pbeam_delegate(state, record, table, 2, words, 1, MEMORY, out); /* no granules, so no words */
+    SAME(out[0], PBEAM_X0_INVAL);
+    pbeam_delegate(state, record, table, 2, NULL, 0, MEMORY, out);
+    SAME(out[0], PBEAM_X0_BAD_ADDR);
+    record[PBEAM_GRANULES_COUNT] = 1; /* the second counts for nothing */
+    pbeam_delegate(state, record, table, 1, words, 1, MEMORY, out);
+    SAME(out[0], PBEAM_X0_OK);
 }
 
 /* A list: its addresses are whole words, x1 counts those done, and nothing past the three registers is written. */
@@ -562,20 +620,75 @@ static void check_granule_lists(const uint64_t state[ROOM])
 {
     const uint64_t list[3] = {MEMORY + PBEAM_GRANULE_BYTES, MEMORY, MEMORY + 2 * PBEAM_GRANULE_BYTES};
     uint64_t out[ROOM];
-    uint8_t table[3] = {PBEAM_GRANULE_NON_SECURE, PBEAM_GRANULE_NON_SECURE, PBEAM_GRANULE_REALM};
+    uint8_t table[4] = {PBEAM_GRANULE_NON_SECURE, PBEAM_GRANULE_NON_SECURE, PBEAM_GRANULE_REALM, 9};
     guard(out);
-    pbeam_delegate_list(state, granules, table, 3, list, 3, out);
+    pbeam_delegate_list(state, granules, table, 4, words, 1, list, 3, out);
     SAME(PBEAM_OUT_WORDS, written(out));
     SAME(out[PBEAM_OUT_X0], PBEAM_X0_BAD_PAS);
     SAME(out[PBEAM_OUT_X1], 2);
     SAME(table[0] + table[1] + table[2], 3 * PBEAM_GRANULE_REALM);
-    pbeam_undelegate_list(state, granules, table, 3, list, 3, out);
+    pbeam_undelegate_list(state, granules, table, 4, words, 1, list, 3, out);
     SAME(out[PBEAM_OUT_X0], PBEAM_X0_OK);
     SAME(out[PBEAM_OUT_X1], 3);
     SAME(table[0] + table[1] + table[2], PBEAM_GRANULE_NON_SECURE);
-    pbeam_delegate_list(state, granules, table, 3, NULL, 0, out);
+    pbeam_delegate_list(state, granules, table, 4, words, 1, NULL, 0, out);
     SAME(out[PBEAM_OUT_X0], PBEAM_X0_OK);
     SAME(out[PBEAM_OUT_X1], 0);
+}
+
+/* The shared page stays Realm: the granule at B is not undelegated, alone or in a list; the one behind it is. */
+static void check_shared_page(const uint64_t state[ROOM])
+{
+    const uint64_t record[ROOM] = {1, BASE, 2 * PBEAM_GRANULE_BYTES}, list[2] = {BASE + PBEAM_GRANULE_BYTES, BASE};
+    uint64_t out[ROOM];
+    uint8_t table[2] = {PBEAM_GRANULE_NON_SECURE, PBEAM_GRANULE_NON_SECURE};
+    pbeam_delegate_list(state, record, table, 2, words, 1, list, 2, out);
+    SAME(out[PBEAM_OUT_X0], PBEAM_X0_OK);
+    pbeam_undelegate(state, record, table, 2, words, 1, BASE, out);
+    SAME(out[PBEAM_OUT_X0], PBEAM_X0_BAD_ADDR);
+    pbeam_undelegate_list(state, record, table, 2, words, 1, list, 2, out);
+    SAME(out[PBEAM_OUT_X0], PBEAM_X0_BAD_ADDR);
+    SAME(out[PBEAM_OUT_X1], 1);
+    SAME(table[0], PBEAM_GRANULE_REALM);
+    SAME(table[1], PBEAM_GRANULE_NON_SECURE);
+}
+
+/* The words have a bit for each granule; their number is checked before all else, and spare bits count for nothing. */
+static void check_realm_words(const uint64_t state[ROOM])
+{
+    const uint64_t record[ROOM] = {1, MEMORY, 66 * PBEAM_GRANULE_BYTES};
+    uint64_t out[ROOM], number[ROOM], bits[ROOM];
+    uint8_t table[66] = {PBEAM_GRANULE_REALM};
+    table[65] = PBEAM_GRANULE_REALM;
+    guard(bits);
+    SAME(pbeam_realm_build(record, table, 66, bits, 1), PBEAM_X0_INVAL);
+    SAME(pbeam_realm_build(record, table, 65, bits, 2), PBEAM_X0_INVAL);
+    SAME(written(bits), 0);
+    SAME(pbeam_realm_build(record, table, 66, bits, 2), PBEAM_X0_OK);
+    SAME(written(bits), 2);
+    SAME(bits[0], 1);
+    SAME(bits[65 / PBEAM_REALM_WORD_GRANULES], 1 << 65 % PBEAM_REALM_WORD_GRANULES);
+    guard(number);
+    SAME(pbeam_realm_count(record, bits, 2, number), PBEAM_X0_OK);
+    SAME(written(number), 1);
+    SAME(number[0], 2);
+    SAME(pbeam_realm_next(record, bits, 2, 1, number), PBEAM_X0_OK);
+    SAME(number[0], 65);
+    SAME(pbeam_realm_agrees(record, table, 66, bits, 2), PBEAM_X0_OK);
+    pbeam_undelegate(state, record, table, 66, bits, 2, MEMORY + 65 * PBEAM_GRANULE_BYTES, out);
+    SAME(out[0], PBEAM_X0_OK);
+    SAME(bits[1], 0);
+    SAME(pbeam_realm_next(record, bits, 2, 1, number), PBEAM_REALM_NONE);
+    SAME(number[0], 0);
+    SAME(pbeam_realm_next(record, bits, 2, 66, number), PBEAM_X0_INVAL);
+    bits[1] = 4; /* a spare bit */
+    SAME(pbeam_realm_agrees(record, table, 66, bits, 2), PBEAM_REALM_DIFFER);
+    SAME(pbeam_realm_count(record, bits, 2, number), PBEAM_X0_OK);
+    SAME(number[0], 1);
+    SAME(pbeam_realm_count(record, bits, 3, number), PBEAM_X0_INVAL);
+    SAME(number[0], 0);
+    pbeam_delegate_list(state, record, table, 66, bits, 3, NULL, 0, out);
+    SAME(out[0], PBEAM_X0_INVAL);
 }
 
 static void check_granules(void)
@@ -591,8 +704,11 @@ static void check_granules(void)
         SAME(delegate(state, table, i, 0), PBEAM_X0_BAD_PAS);
         SAME(delegate(state, table, i, 1), PBEAM_X0_BAD_PAS);
     }
+    check_set_up();
     check_granule_record(state);
     check_granule_lists(state);
+    check_shared_page(state);
+    check_realm_words(state);
     /* Root and Secure are alike to the library: 01 gives them these numbers. */
     SAME(PBEAM_GRANULE_ROOT, 2);
     SAME(PBEAM_GRANULE_SECURE, 3);
@@ -635,7 +751,79 @@ static void check_versions_and_close(void)
     up(state, 5);
     pbeam_close(state);
     SAME(state[PBEAM_STATE_KIND], PBEAM_STATE_CLOSED);
-    SAME(state[PBEAM_STATE_KIND + 1] | state[PBEAM_STATE_KIND + 2] | state[PBEAM_STATE_KIND + 3], 0);
+    for (size_t i = 1; i < PBEAM_STATE_WORDS; i++)
+        SAME(state[PBEAM_STATE_KIND + i], 0);
+}
+
+/* ---- Kept bytes ---- */
+
+/* The core's end, or that of the last array. A view that no reading made is no error, and is never more than a page. */
+static void check_kept_for(void)
+{
+    uint64_t view[ROOM];
+    make(1);
+    pbeam_read(page, LEN, BASE, 4, view);
+    SAME(PBEAM_CORE_BYTES_1, pbeam_kept_for(view));
+    make(2);
+    pbeam_read(page, LEN, BASE, 4, view);
+    SAME(PBEAM_CORE_BYTES_2 + 32, pbeam_kept_for(view));
+    make(4);
+    pbeam_read(page, LEN, BASE, 4, view);
+    SAME(PBEAM_CORE_BYTES_4 + 192, pbeam_kept_for(view));
+    pbeam_read(page, LEN, BASE, 3, view); /* what an older reader needs is all that it reads */
+    SAME(PBEAM_CORE_BYTES_4 + 80, pbeam_kept_for(view));
+    for (size_t i = 0; i < ROOM; i++)
+        view[i] = UINT64_MAX;
+    SAME(PBEAM_CORE_BYTES_4, pbeam_kept_for(view));
+    view[PBEAM_VIEW_SECTIONS + PBEAM_VIEW_SECTION_OFFSET] = 3;
+    view[PBEAM_VIEW_SECTIONS + PBEAM_VIEW_SECTION_COUNT] = 255;
+    SAME(pbeam_kept_for(view), 4088); /* 3 + 16 * 255 is 4,083 */
+    memset(view, 0, sizeof view);
+    SAME(PBEAM_CORE_BYTES_1, pbeam_kept_for(view));
+}
+
+/* The code of each command with a buffer of 64 bytes at pa, and of the lookup. */
+static void buffer_at(const uint64_t state[ROOM], uint64_t pa, uint64_t others, uint64_t signing_code)
+{
+    static const uint8_t key[] = {0x11};
+    uint64_t out[ROOM], session[ROOM] = {0}, queue[ROOM] = {0}, place[ROOM];
+    pbeam_realm_key(state, page, LEN, key, 1, pa, 64, PBEAM_CURVE_SECP384R1, out);
+    SAME(out[PBEAM_OUT_X0], others);
+    SAME(pbeam_challenge(state, page, LEN, pa, 64, 48, place), others);
+    pbeam_platform_token(state, session, page, LEN, key, 1, 0, pa, 64, 48, out);
+    SAME(out[PBEAM_OUT_X0], others);
+    queue[PBEAM_QUEUE_RESPONSES] = 1;
+    pbeam_token_signing(state, queue, page, LEN, key, 1, PBEAM_OPCODE_PULL, pa, 64, 0, out);
+    SAME(out[PBEAM_OUT_X0], signing_code);
+    pbeam_token_signing(state, queue, page, LEN, key, 1, PBEAM_OPCODE_KEY, pa, 64, PBEAM_CURVE_SECP384R1, out);
+    SAME(out[PBEAM_OUT_X0], signing_code);
+    SAME(pbeam_challenge(state, page, LEN, pa, 0, 0, place), others); /* a buffer of no bytes is no way around it */
+}
+
+/* The manifest is read the same after commands at every edge of the kept bytes. */
+static void check_kept_bytes(void)
+{
+    uint64_t state[ROOM], view[ROOM], again[ROOM], kept;
+    make(4);
+    guard(again);
+    memset(state, 0, sizeof state);
+    guard(view);
+    pbeam_read(page, LEN, BASE, 4, view);
+    kept = pbeam_kept_for(view);
+    SAME(PBEAM_BOOT_DONE, pbeam_cold_boot(state, 0, 5, 3, BASE, 8, kept, page, LEN));
+    SAME(PBEAM_BOOT_DONE, pbeam_warm_boot(state, 1, 0, 0, 0));
+    SAME(PBEAM_BOOT_DONE, pbeam_warm_boot(state, 1, 0, 0, 0));
+    buffer_at(state, BASE, PBEAM_X0_BAD_ADDR, PBEAM_X0_INVAL);
+    buffer_at(state, BASE + kept - 1, PBEAM_X0_BAD_ADDR, PBEAM_X0_INVAL);
+    buffer_at(state, BASE + kept, PBEAM_X0_OK, PBEAM_X0_OK);
+    buffer_at(state, BASE + LEN - 64, PBEAM_X0_OK, PBEAM_X0_OK);
+    buffer_at(state, BASE + LEN, PBEAM_X0_BAD_ADDR, PBEAM_X0_INVAL);
+    SAME(PBEAM_READ_ACCEPTED, pbeam_read(page, LEN, BASE, 4, again));
+    SAME(memcmp(view, again, sizeof view), 0);
+    state[PBEAM_STATE_KEPT] = UINT64_MAX - BASE + 1; /* B + K is 2^64 */
+    buffer_at(state, BASE, PBEAM_X0_BAD_ADDR, PBEAM_X0_INVAL);
+    state[PBEAM_STATE_KEPT] = 4096;
+    buffer_at(state, BASE + LEN - 1, PBEAM_X0_BAD_ADDR, PBEAM_X0_INVAL);
 }
 
 static void check_challenge_sizes(void)
@@ -1037,8 +1225,8 @@ static void check_hand_made_images(void)
 /* ---- Dispatcher ---- */
 
 static struct {
-    uint64_t state[ROOM], session[ROOM], queue[ROOM], call[ROOM], out[ROOM], work[ROOM];
-    uint8_t table[2];
+    uint64_t state[ROOM], session[ROOM], queue[ROOM], call[ROOM], out[ROOM], work[ROOM], words[1];
+    uint8_t table[4];
 } board;
 
 static uint64_t dispatch(uint64_t id, uint64_t x1, uint64_t x2, uint64_t x3, uint64_t x4)
@@ -1052,8 +1240,8 @@ static uint64_t dispatch(uint64_t id, uint64_t x1, uint64_t x2, uint64_t x3, uin
     board.call[PBEAM_CALL_X2] = x2;
     board.call[PBEAM_CALL_X3] = x3;
     board.call[PBEAM_CALL_X4] = x4;
-    pbeam_call(board.state, board.session, board.queue, page, LEN, granules, board.table, 2, key, sizeof key, token, sizeof token, 0,
-            public_key, sizeof public_key, 15, board.call, board.out, board.work);
+    pbeam_call(board.state, board.session, board.queue, page, LEN, granules, board.table, 4, board.words, 1, key,
+            sizeof key, token, sizeof token, 0, public_key, sizeof public_key, 15, board.call, board.out, board.work);
     SAME(PBEAM_OUT_WORDS, written(board.out));
     SAME(PBEAM_WORK_WORDS, written(board.work));
     return board.out[PBEAM_OUT_X0];
@@ -1112,6 +1300,8 @@ int main(int argc, char **argv)
     check_granules();
     check_realm_key();
     check_versions_and_close();
+    check_kept_for();
+    check_kept_bytes();
     check_challenge_sizes();
     check_session();
     check_features();

@@ -43,5 +43,8 @@ uint64_t mistakes(pbeam_context_t *context, pbeam_page_t *page, const pbeam_bank
 #if MISTAKE == 9 /* incompatible pointer type */
     pbeam_record_warm_boot(&context->session, 0);
 #endif
+#if MISTAKE == 10 /* incompatible pointer type */
+    pbeam_context_set_up_granules(context, page, &request);
+#endif
     return pbeam_queue_oldest(&context->queue, &request) + lists.dram_count + view[0] + page->bytes[0];
 }

@@ -352,24 +352,30 @@ static void check_version(void)
 static void check_record(void)
 {
     pbeam_record_t record;
+    pbeam_view_t view;
     const pbeam_cold_t x = {2, 4, 3, BASE};
     memset(&record, 0xA5, sizeof record);
     SAME(pbeam_record_is_up(&record), false);
     pbeam_record_reset(&record);
     SAME(pbeam_manifest_write(BASE, 4, &lists, &page), PBEAM_WRITE_PAGE);
-    SAME(pbeam_record_cold_boot(&record, &x, 3, &page), PBEAM_BOOT_DONE);
+    SAME(pbeam_manifest_read(&page, BASE, 4, &view), PBEAM_READ_ACCEPTED);
+    SAME(pbeam_view_kept(&view), pbeam_kept_for(view.words));
+    SAME(pbeam_record_cold_boot(&record, &x, 3, pbeam_view_kept(&view), &page), PBEAM_BOOT_DONE);
     SAME(pbeam_record_is_up(&record), true);
     SAME(pbeam_record_cpus(&record), 3);
     SAME(pbeam_record_base(&record), BASE);
     SAME(pbeam_record_minor(&record), 4);
+    SAME(pbeam_record_kept(&record), pbeam_kept_for(view.words));
     SAME(pbeam_record_warm_boot(&record, 1), PBEAM_BOOT_DONE);
     SAME(pbeam_record_is_up(&record), true);
     pbeam_record_close(&record);
     SAME(record.words[PBEAM_STATE_KIND], PBEAM_STATE_CLOSED);
-    SAME(record.words[1] | record.words[2] | record.words[3], 0);
+    SAME(record.words[1] | record.words[2] | record.words[3] | record.words[4], 0);
     SAME(pbeam_record_warm_boot(&record, 1), PBEAM_BOOT_STATE);
     pbeam_record_reset(&record);
-    SAME(pbeam_record_cold_boot(&record, &x, 2, &page), PBEAM_BOOT_CPUS);
+    SAME(pbeam_record_cold_boot(&record, &x, 2, 4096, &page), PBEAM_BOOT_CPUS);
+    pbeam_record_reset(&record);
+    SAME(pbeam_record_cold_boot(&record, &x, 3, 4097, &page), PBEAM_MANIFEST_PLACE);
 }
 
 /* ---- Registers ---- */
@@ -428,20 +434,39 @@ static int32_t called(pbeam_call_t call)
     return pbeam_registers_code(&out);
 }
 
+/* The page of a board with two banks, of 2 granules and of 1. */
+static const pbeam_bank_t two_banks[] = {{MEMORY, 2 * 4096}, {UINT64_C(0x880000000), 4096}};
+
 /* Each thing that is lent differs, so that one in another's place shows. */
 static void set_up(void)
 {
     static uint8_t table[3];
+    static uint64_t realm[1];
+    static const pbeam_lists_t banks = {two_banks, 2, NULL, 0, NULL, 0, NULL, 0};
+    pbeam_view_t view;
     static const uint8_t realm_key[] = {0x11, 0x12, 0x13}, token[] = {0x21, 0x22, 0x23, 0x24}, public_key[] = {0x31, 0x32};
     const pbeam_cold_t x = {0, 5, 1, BASE};
     memset(&context, 0, sizeof context);
-    pbeam_manifest_write(BASE, 4, &lists, &page);
-    SAME(pbeam_record_cold_boot(&context.record, &x, 1, &page), PBEAM_BOOT_DONE);
+    pbeam_manifest_write(BASE, 4, &banks, &page);
+    SAME(pbeam_record_cold_boot(&context.record, &x, 1, 0, &page), PBEAM_BOOT_DONE);
     memset(table, 0, sizeof table);
     context.page = &page;
-    context.granules = pbeam_granules_from(MEMORY);
+    SAME(pbeam_manifest_read(&page, BASE, 4, &view), PBEAM_READ_ACCEPTED);
+    SAME(pbeam_view_granules(&page, &view), sizeof table);
+    SAME(pbeam_context_set_up_granules(&context, &page, &view), PBEAM_X0_INVAL); /* no table yet */
     context.table = table;
+    context.table_count = sizeof table + 1;
+    SAME(pbeam_context_set_up_granules(&context, &page, &view), PBEAM_X0_INVAL);
+    SAME(context.granules.words[PBEAM_GRANULES_COUNT], 0);
     context.table_count = sizeof table;
+    SAME(pbeam_context_set_up_granules(&context, &page, &view), PBEAM_X0_OK);
+    SAME(context.granules.words[PBEAM_GRANULES_COUNT], 2);
+    realm[0] = UINT64_C(0xEEEEEEEEEEEEEEEE);
+    SAME(pbeam_context_build_words(&context), PBEAM_X0_INVAL); /* no words yet */
+    context.words = realm;
+    context.words_count = pbeam_words_for(sizeof table);
+    SAME(pbeam_context_build_words(&context), PBEAM_X0_OK);
+    SAME(realm[0], 0);
     context.realm_key = pbeam_bytes(realm_key, sizeof realm_key);
     context.token = pbeam_bytes(token, sizeof token);
     context.public_key = pbeam_bytes(public_key, sizeof public_key);
@@ -456,9 +481,13 @@ static void check_empty_context(void)
     memset(&context, 0, sizeof context);
     SAME(called(pbeam_call_delegate(0)), E_RMM_UNK);
     SAME(called(pbeam_call_platform_token(BASE, 64, 48)), E_RMM_UNK);
+    SAME(pbeam_context_build_words(&context), PBEAM_X0_OK); /* no granule needs no word */
+    SAME(pbeam_context_words_agree(&context), PBEAM_X0_OK);
     set_up();
     context.page = NULL;
     context.table = NULL;
+    SAME(pbeam_context_build_words(&context), PBEAM_X0_INVAL);
+    SAME(pbeam_context_words_agree(&context), PBEAM_X0_INVAL);
     context.realm_key.at = NULL;
     SAME(called(pbeam_call_realm_key(BASE, 8)), E_RMM_UNK);
     SAME(called(pbeam_call_delegate(MEMORY)), E_RMM_BAD_ADDR);
@@ -466,6 +495,49 @@ static void check_empty_context(void)
     SAME(pbeam_place_length(&place), 0);
     context.page = &page;
     SAME(called(pbeam_call_realm_key(BASE, 8)), E_RMM_UNK); /* no key */
+}
+
+/* The words follow the table, bit by bit; without them, or with another number, each call is INVAL. */
+static void check_words(void)
+{
+    static uint64_t other[2];
+    uint64_t *const realm = context.words, number = 9, found = 9;
+    const uint64_t list[1] = {MEMORY};
+    for (size_t n = 0; n < 200; n++)
+        SAME(pbeam_words_for(n), (n + 63) / 64);
+    SAME(pbeam_words_for(SIZE_MAX), SIZE_MAX / 64 + 1);
+    SAME(realm[0], 6); /* granules 1 and 2 */
+    SAME(pbeam_context_words_agree(&context), PBEAM_X0_OK);
+    SAME(pbeam_context_realm_count(&context, &number), PBEAM_X0_OK);
+    SAME(number, 2);
+    SAME(pbeam_context_realm_next(&context, 0, &found), PBEAM_X0_OK);
+    SAME(found, 1);
+    SAME(pbeam_context_realm_next(&context, 2, &found), PBEAM_X0_OK);
+    SAME(found, 2);
+    SAME(pbeam_context_realm_next(&context, 3, &found), PBEAM_X0_INVAL);
+    realm[0] = 10; /* at odds with the table, and a spare bit */
+    SAME(pbeam_context_words_agree(&context), PBEAM_REALM_DIFFER);
+    SAME(pbeam_context_realm_count(&context, &number), PBEAM_X0_OK);
+    SAME(number, 1);
+    SAME(pbeam_context_realm_next(&context, 2, &found), PBEAM_REALM_NONE);
+    SAME(pbeam_context_build_words(&context), PBEAM_X0_OK);
+    SAME(realm[0], 6);
+    for (size_t n = 0; n < 3; n++) {
+        context.words = n == 1 ? NULL : other;
+        context.words_count = n;
+        SAME(called(pbeam_call_delegate(MEMORY)), E_RMM_INVAL);
+        pbeam_context_delegate_list(&context, list, 1, &out);
+        SAME(pbeam_registers_code(&out), E_RMM_INVAL);
+        pbeam_context_undelegate_list(&context, NULL, 0, &out);
+        SAME(pbeam_registers_code(&out), E_RMM_INVAL);
+        SAME(pbeam_context_words_agree(&context), PBEAM_X0_INVAL);
+        SAME(pbeam_context_build_words(&context), PBEAM_X0_INVAL);
+        SAME(pbeam_context_realm_count(&context, &number), PBEAM_X0_INVAL);
+        SAME(pbeam_context_realm_next(&context, 0, &found), PBEAM_X0_INVAL);
+        SAME(number | found | other[0] | other[1], 0);
+    }
+    context.words = realm;
+    context.words_count = 1;
 }
 
 /* A list counts what was done before its refusal, and needs a table. */
@@ -477,10 +549,12 @@ static void check_lists(void)
     SAME(pbeam_registers_code(&out), E_RMM_BAD_PAS);
     SAME(pbeam_registers_x1(&out), 2);
     SAME(pbeam_get16(table), 0x0101);
+    SAME(context.words[0], 3);
     pbeam_context_undelegate_list(&context, list, 2, &out);
     SAME(pbeam_registers_code(&out), E_RMM_OK);
     SAME(pbeam_registers_x1(&out), 2);
     SAME(pbeam_get16(table), 0);
+    SAME(context.words[0], 0);
     pbeam_context_delegate_list(&context, NULL, 7, &out); /* no list: an empty one */
     SAME(pbeam_registers_code(&out), E_RMM_OK);
     SAME(pbeam_registers_x1(&out), 0);
@@ -497,7 +571,11 @@ static void check_commands(void)
     set_up();
     SAME(called(pbeam_call_delegate(MEMORY + 4096)), E_RMM_OK);
     SAME(pbeam_get16(context.table), 0x0100);
-    SAME(called(pbeam_call_delegate(MEMORY + 3 * 4096)), E_RMM_BAD_ADDR);
+    SAME(called(pbeam_call_delegate(MEMORY + 2 * 4096)), E_RMM_BAD_ADDR); /* behind the first bank */
+    SAME(called(pbeam_call_delegate(two_banks[1].base)), E_RMM_OK);
+    SAME(context.table[2], PBEAM_GRANULE_REALM);
+    check_words();
+    SAME(called(pbeam_call_undelegate(two_banks[1].base)), E_RMM_OK);
     SAME(called(pbeam_call_undelegate(MEMORY + 4096)), E_RMM_OK);
     check_lists();
     SAME(called(pbeam_call_realm_key(BASE + 64, 8)), E_RMM_OK);

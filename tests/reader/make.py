@@ -137,6 +137,16 @@ def broken(r, b, page):
     return found
 
 
+def kept_for(e, b, page):
+    """02, E5: how many bytes at the page's start a manifest takes that a reader accepts as
+    edition e: the highest end of its core and arrays, up to a multiple of 8."""
+    ends = [CORE[e]]
+    for k in range(4):
+        count, pointer, _ = head(page, k) if SINCE[k] <= e else (0, b, 0)
+        ends.append(pointer - b + count * ENTRY[k] if count else 0)
+    return -(-max(ends) // 8) * 8
+
+
 def read(r, b, page):
     """The reader's answer: a code, or w, e, plat_data, the fields and for each section None if
     absent, [] if empty, or its entries; and beside it the bytes that the lookup gives for each

@@ -1,15 +1,18 @@
 #!/usr/bin/env python3
-"""Run vectors for the runtime as a whole, made from docs/01-scope.md alone: every call goes through
-the dispatcher; the platform token, token signing, the challenge lookup, the signer's own step and
-the oldest request are tried at each edge, in sequences on one state.
+"""Run vectors for the runtime as a whole, made from docs/01-scope.md and docs/02-change-requests.md
+(E2, E5, E6, E8) alone: every call goes through the dispatcher; the platform token, token signing,
+the challenge lookup, the signer's own step and the oldest request are tried at each edge, in
+sequences on one state.
 
 Run from the repository's root:  python3 tests/runtime/make.py
-It rewrites crates/runtime_vectors/data/c000, c001, .. (8-byte words: the record's state, cpus, base
-and minor; G, m; the session: 0 or 1, whole, sent; the places of page, table, realm key, public key
-and queue, a place being an offset in the file and a length; the number of operations; then the
-operations, and the bytes that the places name), crates/runtime_vectors/stdout (what the program has
-to print for them in order) and tests/runtime/CASES.md (what each case is for). The same run always
-gives the same bytes. With a folder as its argument it writes them below that folder.
+It rewrites crates/runtime_vectors/data/c000, c001, .. (8-byte words: the record's state, cpus,
+base, minor and kept bytes; where the granule record stands in the file, m; the session: 0 or 1,
+whole, sent; the places of page, table, realm key, public key and queue, a place being an offset in
+the file and a length; the number of operations; then the operations, the bytes that the places
+name, the granule record: how many of its words are given, and these; and the realm words in the
+same way), crates/runtime_vectors/stdout (what the program has to print for them in order) and
+tests/runtime/CASES.md (what each case is for). The same run always gives the same bytes. With a
+folder as its argument it writes them below that folder.
 """
 
 import sys
@@ -21,7 +24,10 @@ from random import Random
 HERE = Path(__file__).resolve().parent
 
 sys.dont_write_bytecode = True
-sys.path.insert(0, str(HERE.parent))
+sys.path[:0] = [str(HERE.parent), str(HERE.parent / "reader")]
+from banks import (MANY, TWO, addresses_of, fit, granule_at, granule_fails, meant, one, put_bit,
+                   realm_words, record_of, stored, usual_words, words, words_line)
+from make import field_pages, full, kept_for, read
 from vectors import write_all
 
 PAGE = 4096
@@ -40,15 +46,17 @@ Request = namedtuple("Request", "algorithm granule ticket hashid hash")
 Response = namedtuple("Response", "granule ticket length signature")
 # One side of the queue as it is stored: its places, of which the first `count` wait.
 Line = namedtuple("Line", "places count")
-World = namedtuple("World", "state cpus base minor g m key public page table session requests "
-                            "responses")
+# Where no realm words are said, `lent` None, the case is given those that fit, or none if it moves
+# no granule: no other command looks at them.
+World = namedtuple("World", "state cpus base minor kept record m key public page table session "
+                            "requests responses lent")
 Op = namedtuple("Op", "kind id x1 x2 x3 x4 busy token signature")
 Check = namedtuple("Check", "name code fails")
 Answer = namedtuple("Answer", "fails code x1 x2 told after")
 Case = namedtuple("Case", "text start ops answers")
 
 
-# ---- The operations, from 01's text. All arithmetic is on plain numbers. ----
+# ---- The operations, from 01's and 02's text. All arithmetic is on plain numbers. ----
 
 def waiting(line):
     """What waits, oldest first. There are eight places, so that a higher count stands for eight."""
@@ -76,7 +84,7 @@ def request_at(w, pa):
 
 def range_checks(w, pa, size, outside):
     end = w.base + PAGE
-    return [Check("outside", outside, pa < w.base or pa >= end),
+    return [Check("outside", outside, pa < w.base + w.kept or pa >= end),
             Check("too long", "INVAL", size > end - pa)]
 
 
@@ -123,17 +131,16 @@ def signing_checks(w, op):
 
 
 def granule_checks(w, op):
-    index = (op.x1 - w.g) // 4096
-    off = not 0 <= index < len(w.table)
-    return [Check("G", "BAD_ADDR", w.g % 4096 != 0),
-            Check("address", "BAD_ADDR", op.x1 % 4096 != 0), Check("off", "BAD_ADDR", off),
-            Check("byte", "BAD_PAS", not off and w.table[index] != (op.id == UNDELEGATE))]
+    index, n = meant(w.record, len(w.table), op.x1), len(w.table)
+    wrong = index is not None and w.table[index] != (op.id == UNDELEGATE)
+    fails = granule_fails(w.record, n, op.x1)
+    return [*(Check(name, "BAD_ADDR", fail) for name, fail in fails.items()),
+            Check("shared", "BAD_ADDR", op.id == UNDELEGATE and op.x1 == w.base),     # 02, E8
+            Check("byte", "BAD_PAS", wrong)]
 
 
 def command_checks(w, op):
-    """The checks of a listed command, after those of record and page."""
-    if op.id in (DELEGATE, UNDELEGATE):
-        return granule_checks(w, op)
+    """The checks of the other listed commands, after those of record and page."""
     if op.id == KEY:
         return range_checks(w, op.x1, op.x2, "BAD_ADDR") + [
             Check("curve", "INVAL", op.x3 != 0),
@@ -149,7 +156,11 @@ def command_checks(w, op):
 
 
 def checks(w, op):
-    """The checks of an operation in 01's order."""
+    """The checks of an operation in 01's order. 02, E6: the words' number is looked at first, by
+    delegate and undelegate alone."""
+    if op.kind == CALL and op.id in (DELEGATE, UNDELEGATE):
+        return [Check("words", "INVAL", not fit(w.record, w.lent)),
+                Check("not up", "UNK", w.state != "up"), *granule_checks(w, op)]
     up = Check("not up", "UNK", w.state != "up")
     length = Check("length", "UNK", len(w.page) != PAGE)
     if op.kind == SIGN:
@@ -219,8 +230,9 @@ def accepted(w, op):
         return 0, 0, None, only_waiting(w._replace(requests=without_oldest(w.requests),
                                                    responses=joined(w.responses, response)))
     if op.id in (DELEGATE, UNDELEGATE):
-        i, byte = (op.x1 - w.g) // 4096, bytes([op.id == DELEGATE])
-        return 0, 0, None, w._replace(table=w.table[:i] + byte + w.table[i + 1:])
+        i, byte = granule_at(w.record, len(w.table), op.x1), bytes([op.id == DELEGATE])
+        return 0, 0, None, w._replace(table=w.table[:i] + byte + w.table[i + 1:],
+                                      lent=put_bit(w.lent, i, byte[0]))
     if op.id == KEY:
         return len(w.key), 0, None, written(w, op.x1, w.key)
     if op.id == TOKEN:
@@ -251,10 +263,6 @@ def step(w, op):
 
 # ---- What a case's file holds, and what the program prints ----
 
-def words(*numbers):
-    return b"".join(n.to_bytes(8, "little") for n in numbers)
-
-
 def image_of(requests, responses):
     """The queue as a file has it; nothing if it is empty, with nothing in its places."""
     if (requests, responses) == (EMPTY, EMPTY):
@@ -278,9 +286,10 @@ def change(before, after):
 
 
 def file_of(case):
-    """The bytes of a case's file: words, and after them a pool of bytes, each run but once."""
+    """The bytes of a case's file: words, after them a pool of bytes, each run but once, and the
+    granule record."""
     w, pool = case.start, bytearray()
-    pool_at = 160 + 136 * len(case.ops)
+    pool_at = 168 + 136 * len(case.ops)
 
     def place(data):
         found = pool.find(data)
@@ -289,18 +298,19 @@ def file_of(case):
             pool.extend(data)
         return pool_at + found, len(data)
 
-    file = words(STATES.index(w.state), w.cpus, w.base, w.minor, w.g, w.m,
-                 w.session is not None, *(w.session or (0, 0)))
-    for data in (w.page, w.table, w.key, w.public, image_of(w.requests, w.responses)):
-        file += words(*place(data))
-    file += words(len(case.ops))
+    places = b"".join(words(*place(data)) for data in (
+        w.page, w.table, w.key, w.public, image_of(w.requests, w.responses)))
+    ops = b""
     for op, answer in zip(case.ops, case.answers):
         page_at, page = change(w.page, answer.after.page)
         table_at, table = change(w.table, answer.after.table)
-        file += words(op.kind, op.id, op.x1, op.x2, op.x3, op.x4, op.busy, *place(op.token),
-                      *place(op.signature), page_at, *place(page), table_at, *place(table))
+        ops += words(op.kind, op.id, op.x1, op.x2, op.x3, op.x4, op.busy, *place(op.token),
+                     *place(op.signature), page_at, *place(page), table_at, *place(table))
         w = answer.after
-    return file + bytes(pool)
+    w = case.start
+    head = words(STATES.index(w.state), w.cpus, w.base, w.minor, w.kept, pool_at + len(pool), w.m,
+                 w.session is not None, *(w.session or (0, 0)))
+    return head + places + words(len(case.ops)) + ops + bytes(pool) + stored(w.record, w.lent)
 
 
 def hexes(*numbers):
@@ -336,7 +346,7 @@ def expected(number_of_case, case):
         text += "request" + request_text(r)
     for r in waiting(last.responses):
         text += f"response{hexes(r.granule, r.ticket)} {r.length} {signature_of(r).hex()}\n"
-    return text
+    return text + words_line(last.lent) + "\n"
 
 
 # ---- The case list ----
@@ -392,8 +402,8 @@ def page_of(*items, base=LENT):
 
 # 40 requests of tickets 0, 1, .. in a row; from 3,200 on there is room for what is written.
 ASKED = page_of(0, b"".join(request_bytes(request(n), 17 * n % 256) for n in range(40)))
-ALL = World("up", 8, B, 5, G, 15, SECRET[:96], OTHER[:97], LENT[:PAGE], bytes([0, 1, 2, 3, 255]),
-            None, EMPTY, EMPTY)
+ALL = World("up", 8, B, 5, 0, one(G, 5), 15, SECRET[:96], OTHER[:97], LENT[:PAGE],
+            bytes([0, 1, 2, 3, 255]), None, EMPTY, EMPTY, None)
 
 
 def show(n):
@@ -413,6 +423,9 @@ def add(text, world, *steps):
     """Note a case, unless the same is there already. A step is an operation with its outcome: ""
     if it is accepted, or all checks that fail with commas between ("too long.." leaves those after
     it unsaid), None if that is not said; and, where told, x1 and x2."""
+    if world.lent is None:
+        moves = any(op.kind == CALL and op.id in (DELEGATE, UNDELEGATE) for _, op, _ in steps)
+        world = world._replace(lent=usual_words(world.record, world.table) if moves else ())
     w, ops, answers = world, [], []
     for outcome, op, registers in steps:
         answer = step(w, op)
@@ -900,6 +913,19 @@ def identities():
     each("no token lent, which only 0xC40001B3 minds", world, (TOKEN,), "token", token=b"")
     each("no realm key, which only 0xC40001B2 minds", world._replace(key=b""), (KEY,), "key")
     each("no public key, which none of these minds", world._replace(public=b""), (), "")
+    each("a table one long, which only 0xC40001B0 and B1 mind", world._replace(record=one(G, 4)),
+         (DELEGATE, UNDELEGATE), "table")
+    for text, record in (("a count of 17", (17, *one(G, 5)[1:])), ("no bank", ()),
+                         ("a count of 2^64 - 1", (ONES, *one(G, 5)[1:]))):
+        each(f"{text}, which only 0xC40001B0 and B1 mind", world._replace(record=record),
+             (DELEGATE, UNDELEGATE), "banks, table, off")
+    for text, lent in (("no word", ()), ("a word too many", (ONES, ONES))):
+        each(f"{text}, which only 0xC40001B0 and B1 mind", world._replace(lent=lent),
+             (DELEGATE, UNDELEGATE), "words")
+        add(f"{text}, which 0xC40001B0 and B1 mind before the record", world._replace(
+            lent=lent, state="closed"), *(
+                usual(command, outcome="words, not up" if command in (DELEGATE, UNDELEGATE)
+                      else "" if command == FORWARD else "not up") for command in LISTED))
     for state in STATES:
         add(f"ids that are not listed, record {state}", world._replace(state=state),
             *(call("id", other, 0, 0, 0, 0) for other in near),
@@ -920,6 +946,36 @@ def identities():
     for m, mecid, name in ((7, 255, ""), (7, 256, "mecid"), (15, 65535, ""), (15, 65536, "mecid"),
                            (16, 65535, "width"), (16, 65536, "mecid, width")):
         add(f"0xC40001B6: m = {m}, mecid {mecid:,}", world._replace(m=m), call(name, UPDATE, mecid))
+
+
+def banks():
+    """Several banks: granules to and fro, the edges of each bank, tables of other lengths"""
+    for text, held in (("two banks", TWO), ("16 banks", MANY)):
+        every = addresses_of(held)
+        n = len(every)
+        world = start(record=record_of(held), table=bytes(n))
+        add(f"{text}: every granule to Realm", world, *(call("", DELEGATE, at) for at in every))
+        ends = sorted({edge for base, size in held for edge in (base, base + size - 4096)})
+        add(f"{text}: first and last granule of each bank, to and fro, and again", world,
+            *(call(outcome, command, at) for at in ends for outcome, command in (
+                ("", DELEGATE), ("byte", DELEGATE), ("", UNDELEGATE), ("byte", UNDELEGATE))))
+        holes = sorted({edge for base, size in held for edge in (base - 4096, base + size)}
+                       - set(every))
+        add(f"{text}: holes, below and above, and the last byte of each bank", world,
+            *(call("off", command, at) for at in holes for command in (DELEGATE, UNDELEGATE)),
+            *(call("address", DELEGATE, base + size - 1) for base, size in held))
+        for what, length in (("one short", n - 1), ("one long", n + 1)):
+            add(f"{text}: a table {what}", world._replace(table=bytes(length)),
+                *(call(None, DELEGATE, at) for at in ends + holes))
+        add(f"{text}: the last one broken", world._replace(record=(*record_of(held)[:-1], 0)),
+            *(call(None, DELEGATE, at) for at in ends + holes))
+        add(f"{text}: a broken bank behind the count", world._replace(
+            record=(1, *record_of(held)[1:3], 1, 1), table=bytes(held[0][1] // 4096)),
+            call("", DELEGATE, held[0][0]), call("off", DELEGATE, held[1][0]))
+    add("two banks that overlap", start(record=(2, G, 8192, G + 4096, 3 * 4096), table=bytes(5)),
+        *(call("banks", DELEGATE, at) for at in (G, G + 4096)))
+    add("a bank to 2^52 exactly", start(record=one(2**52 - 8192, 2), table=bytes(2)),
+        call("", DELEGATE, 2**52 - 4096), call("off", DELEGATE, 2**52), call("off", DELEGATE, 0))
 
 
 def search(text, names, worlds, ops, impossible=(), each=""):
@@ -1041,18 +1097,34 @@ def random_sequences():
         return request_bytes(request(pick(2**16), algorithm=pick(12) // 11,
                                      hashid=1 + pick(12) // 11), pick(256))
 
+    def bank_list():
+        low, held = 4096 * pick(2**pick(39)), []
+        for _ in range(1 + pick(one_of(1, 3, 16))):
+            low += 4096 * one_of(0, 1, pick(2**pick(30)))
+            held.append((low, 4096 * (1 + pick(6))))
+            low += held[-1][1]
+        return held
+
     def world():
-        whole, slots = 1 + pick(300), b"".join(slot() for _ in range(24))
+        whole, slots, held = 1 + pick(300), b"".join(slot() for _ in range(24)), bank_list()
+        granules = len(addresses_of(held)) + one_of(*[0] * 12, 1)
         return start(state=one_of(*["up"] * 18, "fresh", "closed"), cpus=pick(9),
                      base=one_of(B, B, B, 4096 * pick(2**40), pick(2**pick(65))),
-                     minor=one_of(3, 4, 5, 5, 5, 5, 5, ONES), g=4096 * pick(2**pick(40)),
+                     minor=one_of(3, 4, 5, 5, 5, 5, 5, ONES), record=record_of(held),
                      m=pick(18), key=some(pick(140)),
                      public=some(one_of(0, pick(140), pick(140))),
                      page=page_of(0, slots)[:one_of(*[PAGE] * 15, 4095)],
-                     table=bytes(pick(3) for _ in range(1 + pick(20))),
+                     table=bytes(pick(3) for _ in range(granules)),
                      session=one_of(None, None, (whole, pick(whole)), (whole, pick(whole)),
                                     (whole, whole + pick(9))),
-                     requests=line(stored_request), responses=line(stored_response))
+                     requests=line(stored_request), responses=line(stored_response),
+                     lent=random_words(len(addresses_of(held))))
+
+    def random_words(n):
+        """Mostly those that fit; else any bits, or a word more or less."""
+        k = (n + 63) // 64
+        return one_of(None, None, None, tuple(pick(WORD) for _ in range(k)),
+                      tuple(pick(WORD) for _ in range(one_of(k, k, k, k + 1, k - 1))))
 
     def token_op(w, tokens):
         pa = w.base + one_of(pick(4096), 2000 + pick(2000), 2000 + pick(2000), 4090 + pick(8))
@@ -1070,14 +1142,18 @@ def random_sequences():
         size = one_of(80, 128, 128, 140, 79 + pick(3), 110 + pick(15), pick(200), 4096)
         return call(None, SIGNING, opcode, min(pa, ONES), size, one_of(0, 0, 0, pick(2)))
 
+    def granule_edges(record):
+        held = [record[k:k + 2] for k in range(1, len(record), 2)]
+        return addresses_of(held) + [base + size for base, size in held]
+
     def other_op(w):
         command = one_of(FORWARD, DELEGATE, DELEGATE, UNDELEGATE, UNDELEGATE, KEY, FEATURES, UPDATE,
                          0xC40001B7 + pick(9))
         x1 = {KEY: w.base + pick(4100), FEATURES: pick(5) // 4, UPDATE: pick(2**pick(18))}.get(
-            command, w.g + 4096 * pick(len(w.table) + 1) + pick(9) // 8)
+            command, one_of(*granule_edges(w.record)) + pick(9) // 8)
         return call(None, command, min(x1, ONES), one_of(140, pick(200)), pick(8) // 7)
 
-    for i in range(200):
+    for i in range(165):
         w = world()
         whole = w.session[0] if w.session else 1 + pick(300)
         main = some(whole)
@@ -1091,12 +1167,212 @@ def random_sequences():
         add(f"random sequence {i}", w, *steps)
 
 
+KEPT = (0, 1, 112, 4095, 4096, 4097, ONES)
+
+
+def around(kept, base=B):
+    """Addresses at the end of the kept bytes, at the page's edges, and where B + K wraps to."""
+    end = base + kept
+    pas = {base - 1, base, end - 1, end, end + 1, base + 4095, base + 4096, end % WORD,
+           (end - 1) % WORD}
+    return [pa for pa in sorted(pas) if 0 <= pa < WORD]
+
+
+def kept_bytes():
+    """Kept bytes: a buffer that begins below B + K is outside, in each command and the lookup"""
+    def fails(w, pa, size, *others):
+        outside, long = pa < w.base + w.kept or pa >= w.base + PAGE, pa + size > w.base + PAGE
+        return ", ".join(["outside"] * outside + ["too long"] * long + [*others])
+
+    for kept in KEPT:
+        w = start(kept=kept, session=(100, 0), key=SECRET[:1], public=OTHER[:1],
+                  responses=responses(2))
+        steps = []
+        for pa, n in product(around(kept), (0, 1)):
+            empty = n == 0
+            steps += [
+                send_token(fails(w, pa, n), 0, n, pa), challenge(fails(w, pa, n), 0, n, pa),
+                challenge(fails(w, pa, n, "above"), 32, n, pa),
+                call(fails(w, pa, n, *["key"] * empty), KEY, pa, n, 0),
+                push(fails(w, pa, n, "short.."), size=n, pa=pa),
+                pull(fails(w, pa, n, "no room"), n, pa),
+                public(fails(w, pa, n, *["long key"] * empty), n, pa)]
+        add(f"K = {show(kept)}: each edge, sizes 0 and 1, each command and the lookup", w, *steps)
+
+
+def kept_and_room():
+    """Kept bytes: buffers with room behind them, and forged records"""
+    sizes = {"token": 64, "challenge": 64, "push": 80, "pull": NEED, "key": 97, "realm key": 96}
+    ops = {"token": lambda o, pa, n: send_token(o, 48, n, pa),
+           "challenge": lambda o, pa, n: challenge(o, 48, n, pa),
+           "push": lambda o, pa, n: push(o, size=n, pa=pa),
+           "pull": lambda o, pa, n: pull(o, n, pa), "key": lambda o, pa, n: public(o, n, pa),
+           "realm key": lambda o, pa, n: call(o, KEY, pa, n, 0)}
+    for name, op in ops.items():
+        n = sizes[name]
+        for kept in (1, 112, PAGE - n - 1, PAGE - n):
+            page = page_of(kept, request_bytes(request(1))) if name == "push" else LENT[:PAGE]
+            w = start(kept=kept, page=page, responses=responses(2))
+            add(f"{name}: K = {kept:,}: 1 below B + K, at it, 1 byte too long", w,
+                op("outside..", B + kept - 1, n), op("outside..", B, n),
+                op("too long", B + kept, PAGE - kept + 1), op("", B + kept, n))
+        add(f"{name}: B = 2^64 - 4,096, K = {PAGE - n:,}", start(
+            base=WORD - 4096, kept=PAGE - n, page=page_of(PAGE - n, request_bytes(request(1))),
+            responses=responses(1)), op("outside..", ONES - n, n), op("", WORD - n, n))
+    for base, kept in ((B, 4097), (B, WORD - B), (B, WORD - B + 64), (2**63, 2**63 + 5), (ONES, 1),
+                       (ONES, ONES), (WORD - 4096, 4096), (1, ONES)):
+        w = start(base=base, kept=kept, page=page_of(64, request_bytes(request(1))),
+                  responses=responses(1))
+        add(f"B = {show(base)}, K = {show(kept)}: all is outside", w,
+            *(op("outside..", pa, size) for name, op in ops.items() for size in (0, sizes[name])
+              for pa in (base, base + 64, base + 4095) if pa < WORD))
+
+
+def kept_pairs():
+    """Kept bytes: outside by K and one more check: the first in 01's order answers"""
+    first, pas = ("not up", "length"), (PA, B + 0x2FF, B)       # the last two are kept
+    fresh = {"state": "fresh"}
+    worlds = [start(kept=0x300, session=session, page=page, **state) for session, page, state in
+              product(((100, 64), None), (ASKED, ASKED[:4095]), ({}, fresh))]
+    search("token", (*first, "busy", "outside", "too long", "c_size", "above", "no session",
+                     "token"), worlds, [send_token(None, *rest)[1] for rest in product(
+                         (0, 48, 65, 33), (64, 20, 4097), pas, (SECRET[:100], b"", SECRET[:99]),
+                         (False, True))], each="outside")
+    search("challenge", (*first, "outside", "too long", "c_size", "above"), worlds,
+           [challenge(None, *rest)[1] for rest in product((48, 65, 33), (64, 20, 4097), pas)],
+           each="outside")
+    search("realm key", (*first, "outside", "too long", "curve", "key"), worlds,
+           [call(None, KEY, *rest)[1] for rest in product(pas, (128, 95, 4097), (0, 1))],
+           each="outside")
+    asked = [page_of(0, b"".join(request_bytes(request(1, algorithm=a, hashid=h))
+                                 for _ in range(40))) for a, h in product((0, 1), (1, 2))]
+    worlds = [start(kept=0x300, page=(page + LENT)[:length], minor=minor, public=key,
+                    requests=requests(count), responses=responses(1 - count // 8), **state)
+              for page, length, minor, key, count, state in product(
+                  asked, (PAGE, PAGE + 1), (5, 3), (OTHER[:97], b""), (2, 8), ({}, fresh))]
+
+    def signing_pairs(text, opcode, *names):
+        search(text, (*first, *names), worlds,
+               [call(None, SIGNING, opcode, pa, size, curve)[1] for pa, size, curve in product(
+                   (PA, B), (128, 80, 79, 4, 4097), (0, 1))], each="outside")
+
+    add("opcode 4: opcode and outside", worlds[0], call("opcode, outside", SIGNING, 4, B, 80, 0))
+    signing_pairs("push", PUSH, "outside", "too long", "minor", "short", "algorithm", "hash id",
+                  "full")
+    signing_pairs("pull", PULL, "outside", "too long", "minor", "no response", "no room")
+    signing_pairs("key", PUBLIC, "outside", "too long", "curve", "minor", "no key", "long key")
+
+
+def kept_manifests():
+    """A manifest in the kept bytes is read the same after all commands"""
+    pages = [("a full page", B, full().data), ("a full page, 0.9", B, full(9).data),
+             ("a full page, 0.2", B, full(2).data)]
+    pages += [(f"field page {stem}", b, page) for stem, b, page, _ in field_pages()
+              if not isinstance(read(4, b, page)[0], int)]
+    for text, b, page in pages:
+        page, before = bytes(page), read(4, b, page)
+        kept = kept_for(min(4, page[0]), b, page)
+        ask = page_of(PAGE - 80, request_bytes(request(1)), base=page)
+        steps = []
+        for pa in (b, b + 16, b + kept - 1, b + kept, b + kept + 8):
+            steps += [send_token(None, 48, 128, pa), send_token(None, 0, 128, pa),
+                      call(None, KEY, pa, 96, 0), challenge(None, 48, 64, pa),
+                      pull(None, 122, pa), public(None, 128, pa)]
+        steps += [push("", pa=b + PAGE - 80), sign(), pull("", 122, b + kept)]
+        case = add(f"{text}: K = {kept:,}", start(base=b, kept=kept, page=ask,
+                                                  responses=responses(3)), *steps)
+        last = case.answers[-1].after.page
+        assert last[:kept] == ask[:kept] and last != ask, text
+        assert read(4, b, last) == before == read(4, b, ask), text
+        one_less = add(f"{text}: K = {kept - 8:,} does not cover it", start(
+            base=b, kept=kept - 8, page=ask), send_token("", 48, 128, b + kept - 8))
+        assert read(4, b, one_less.answers[-1].after.page)[0] == -7, text
+
+
+def random_kept():
+    """Random sequences with kept bytes"""
+    dice = Random(33)
+    for i in range(20):
+        base = dice.choice((B, 4096 * dice.randrange(1, 2**40), dice.getrandbits(64)))
+        kept = dice.choice((dice.randrange(4097), dice.randrange(600), 4000, dice.getrandbits(64)))
+        w, steps = start(base=base, kept=kept, page=ASKED, responses=responses(4),
+                         requests=requests(2)), []
+        for _ in range(12):
+            near = kept + dice.randrange(-2, 3), dice.randrange(4097), kept + dice.randrange(900)
+            pa = min(max(base + dice.choice(near), 0), ONES)
+            n = dice.choice((0, 1, 64, 80, 128, 200))
+            steps.append(dice.choice((
+                send_token(None, dice.choice((0, 32, 48)), n, pa), challenge(None, 32, n, pa),
+                call(None, KEY, pa, n, 0), push(None, size=n, pa=pa), pull(None, n, pa),
+                public(None, n, pa))))
+        case = add(f"random sequence {i}: B = {show(base)}, K = {show(kept)}", w, *steps)
+        assert case.answers[-1].after.page[:kept] == w.page[:kept], i
+
+
+def shared_page():
+    """02, E8: the shared page stays Realm, so keys, hunks and responses go into Realm memory"""
+    for where, i in (("first", 0), ("middle", 2), ("last", 4)):
+        world = start(page=ASKED, record=one(B - 4096 * i, 5), table=bytes([1] * 5),
+                      responses=responses(1))
+        add(f"B the {where} granule: undelegated, then written to", world,
+            call("shared", UNDELEGATE, B), call("", KEY, B + 3400, 96, 0),
+            call("shared", UNDELEGATE, B),
+            send_token("", 48, pa=B + 3300, registers=(64, 36)), pull("", 200, B + 3200),
+            call("byte", DELEGATE, B), call("shared", UNDELEGATE, B), public("", 97, B + 3700))
+        add(f"B the {where} granule, Non-secure: delegated once", world._replace(
+            table=bytes(k != i for k in range(5))), call("shared, byte", UNDELEGATE, B),
+            call("", DELEGATE, B), call("shared", UNDELEGATE, B), call("", KEY, B + 3400, 96, 0))
+        for state in ("fresh", "closed"):
+            add(f"B the {where} granule, record {state}", world._replace(state=state),
+                call("not up, shared", UNDELEGATE, B), call("not up, byte", DELEGATE, B))
+
+
+def words_of_each_length():
+    """02, E6: the words beside tables of each length, one too few and one too many"""
+    for n in (0, 1, 63, 64, 65, 127, 128):
+        world = start(record=one(G, n) if n else (), table=bytes(n))
+        picks = [G + 4096 * i for i in (0, 1, 62, 63, 64, 65, 126, 127) if i < n]
+        there = [call("", DELEGATE, at) for at in picks]
+        back = [call("", UNDELEGATE, at) for at in picks[::-1]]
+        if n:
+            add(f"{n} granules: to Realm, again, and back", world, *there,
+                *(call("byte", DELEGATE, at) for at in picks), *back)
+        for what, lent in (("one word too few", (ONES,) * ((n + 63) // 64 - 1)),
+                           ("one word too many", (ONES,) * ((n + 63) // 64 + 1))):
+            if n == 0 and not lent:
+                continue
+            fails = "words" if n else "words, banks, off"
+            add(f"{n} granules: {what}", world._replace(lent=lent), call(fails, DELEGATE, G),
+                call("words..", UNDELEGATE, G), call("", FORWARD, 1), call("", FEATURES, 0),
+                call("words..", DELEGATE, G + 1))
+
+
+def odd_words():
+    """02, E6: words at odds with the table: it decides, and the granule's bit alone is written"""
+    table = bytes((0, 1, 2, 255)[i % 4] for i in range(130))
+    held = realm_words(table)
+    steps = [call("", DELEGATE, G), call("byte", DELEGATE, G), call("", UNDELEGATE, G),
+             call("", DELEGATE, G + 4096 * 64), call("", DELEGATE, G + 4096 * 128),
+             call("", UNDELEGATE, G + 4096 * 129), call("byte", UNDELEGATE, G + 4096 * 63),
+             call("byte", DELEGATE, G + 4096 * 66), call("off", DELEGATE, G + 4096 * 130),
+             call("address", UNDELEGATE, G + 4097), call("", KEY, PA, 96, 0)]
+    for text, lent in (("all zero", (0,) * 3), ("all ones", (ONES,) * 3),
+                       ("flipped", tuple(ONES - word for word in held)),
+                       ("right but for a spare bit", (*held[:2], held[2] + 2**63)),
+                       ("right", held)):
+        add(f"words {text}", start(record=one(G, 130), table=table, lent=lent), *steps)
+    add("a table of another length than the record's", start(record=one(G, 130), table=table[:129],
+                                                             lent=held),
+        call("table", DELEGATE, G), call("table", UNDELEGATE, G + 4096))
+
+
 # ---- Output ----
 
 def build_all():
     for group in (examples, buffers, challenge_sizes, tokens, whole_tokens, sessions, challenges,
-                  signing_edges, pushes, pulls, signer, rounds, forged, identities, pairs, mixed,
-                  random_sequences):
+                  signing_edges, pushes, pulls, signer, rounds, forged, identities, banks, pairs,
+                  mixed, random_sequences, kept_bytes, kept_and_room, kept_pairs, kept_manifests,
+                  random_kept, shared_page, words_of_each_length, odd_words):
         GROUPS.append((group.__doc__, []))
         group()
 
@@ -1110,10 +1386,13 @@ def check_step(w, op, answer):
         return
     kept = [name for name in World._fields if getattr(w, name) == getattr(after, name)]
     free = {SIGN: ("requests", "responses")}.get(op.kind) or {
-        DELEGATE: ("table",), UNDELEGATE: ("table",), KEY: ("page",), TOKEN: ("page", "session"),
-        SIGNING: ("page", "requests", "responses"), FEATURES: (), UPDATE: ()}[op.id]
+        DELEGATE: ("table", "lent"), UNDELEGATE: ("table", "lent"), KEY: ("page",),
+        TOKEN: ("page", "session"), SIGNING: ("page", "requests", "responses"), FEATURES: (),
+        UPDATE: ()}[op.id]
     assert set(kept) | set(free) == set(World._fields), (op, kept)
     assert len(after.page) == len(w.page) and len(after.table) == len(w.table)
+    if w.lent == realm_words(w.table):          # agreement is kept
+        assert after.lent == realm_words(after.table), op
     if op.kind == CALL and op.id == TOKEN:
         sent = 0 if op.x3 or w.session is None else min(w.session[1], len(op.token))
         at = op.x1 - w.base
@@ -1145,6 +1424,8 @@ def check():
             tally.setdefault(what(op), Counter())[answer.code] += 1
             w = answer.after
     assert len(cases) <= 1000
+    # A program may print no more.
+    assert sum(len(expected(n, case)) for n, case in enumerate(cases)) <= 2**20
     assert set(tally["0xC40001B3"]) == {"OK", "UNK", "BAD_ADDR", "INVAL", "AGAIN"}
     for name in ("push", "pull", "key"):
         assert set(tally[f"signing {name}"]) == {"OK", "UNK", "INVAL", "AGAIN"}

@@ -18,29 +18,30 @@ use Rattle.boot.specs.declared.Record.the-variants.{Fresh, Up, Closed}
 use Rattle.boot.proofs.Booting.{kept-up}
 
 -- the checks of a cold boot that pass hand on the page's code
-cold-passes : (f v m n : Bool) (c : ℤ) → f ≡ true → v ≡ true → m ≡ true → n ≡ true → coldGate f v m n c ≡ c
+cold-passes : (f v m n k : Bool) (c : ℤ) → f ≡ true → v ≡ true → m ≡ true → n ≡ true → k ≡ true → coldGate f v m n k c ≡ c
 unfolding coldGate
-cold-passes f v m n c a b d e = rw (a, b, d, e, coldGate)
+cold-passes f v m n k c a b d e g = rw (a, b, d, e, g, coldGate)
 
 -- Cold boot of a fresh record with a version from 1 to 65,535 (minor 1 or more, all else 0), x2 at most the monitor's maximum, x0 below x2,
--- and a page at x3 that a reader of edition 4 accepts: 0, and "it keeps x2, B and the agreed minor when up", the minor being "the smaller of
--- 5 and the offered minor".
-pub cold-acts : (x0 x1 x2 x3 most : ℕ) (page : List ℕ) (w e : ℕ) (q : PlatShown) (s : ℕ → Shown) → 1 ≤ x1 → x1 < 2 ^ 16 → x2 ≤ most → x0 < x2 → readOf 4 x3 page ≡ shows w e q s →
-    (coldCode Fresh x0 x1 x2 x3 most page ≡ pos 0) × (coldNext Fresh x0 x1 x2 x3 most page ≡ Up (record { cpus = x2; base = x3; minor = min 5 x1 }))
+-- K at most 4,096 and a page at x3 that a reader of edition 4 accepts: 0, and "it keeps x2, B and the agreed minor when up", the minor being
+-- "the smaller of 5 and the offered minor", and K.
+pub cold-acts : (x0 x1 x2 x3 most kept : ℕ) (page : List ℕ) (w e : ℕ) (q : PlatShown) (s : ℕ → Shown) → 1 ≤ x1 → x1 < 2 ^ 16 → x2 ≤ most → x0 < x2 → kept ≤ 4096 → readOf 4 x3 page ≡ shows w e q s →
+    (coldCode Fresh x0 x1 x2 x3 most kept page ≡ pos 0) × (coldNext Fresh x0 x1 x2 x3 most kept page ≡ Up (record { cpus = x2; base = x3; minor = min 5 x1; kept = kept }))
 unfolding coldNext coldCode isFresh codeIn after paramsOf agreed
-cold-acts x0 x1 x2 x3 most page w e q s a b m n r =
+cold-acts x0 x1 x2 x3 most kept page w e q s a b m n k r =
     let v = version-of x1 a b in
-    let k : coldCode Fresh x0 x1 x2 x3 most page ≡ pos 0 = cold-passes _ _ _ _ _ refl v (le-leb x2 most m) (lt-ltb x0 x2 n) ∙ ap codeIn r in
-    (k, ap (λ (c : ℤ). after c (Up (paramsOf x1 x2 x3))) k ∙ rw (version-minor x1 v .0))
+    let z : coldCode Fresh x0 x1 x2 x3 most kept page ≡ pos 0 = cold-passes _ _ _ _ _ _ refl v (le-leb x2 most m) (lt-ltb x0 x2 n) (le-leb kept 4096 k) ∙ ap codeIn r in
+    (z, ap (λ (c : ℤ). after c (Up (paramsOf x1 x2 x3 kept))) z ∙ rw (version-minor x1 v .0))
 
 -- and only then
-cold-passed : (f v m n : Bool) (c : ℤ) → coldGate f v m n c ≡ pos 0 → (f ≡ true) × (v ≡ true) × (m ≡ true) × (n ≡ true) × (c ≡ pos 0)
+cold-passed : (f v m n k : Bool) (c : ℤ) → coldGate f v m n k c ≡ pos 0 → (f ≡ true) × (v ≡ true) × (m ≡ true) × (n ≡ true) × (k ≡ true) × (c ≡ pos 0)
 unfolding coldGate
-cold-passed true true true true c h = (refl, refl, refl, refl, h)
-cold-passed true true true false c h = let z : _≡_ {A = ℕ} 0 1 = cc in absurd (omega arith)
-cold-passed true true false n c h = let z : _≡_ {A = ℕ} 0 1 = cc in absurd (omega arith)
-cold-passed true false m n c h = let z : _≡_ {A = ℕ} 0 1 = cc in absurd (omega arith)
-cold-passed false v m n c h = let z : _≡_ {A = ℕ} 0 1 = cc in absurd (omega arith)
+cold-passed true true true true true c h = (refl, refl, refl, refl, refl, h)
+cold-passed true true true true false c h = let z : _≡_ {A = ℕ} 0 1 = cc in absurd (omega arith)
+cold-passed true true true false k c h = let z : _≡_ {A = ℕ} 0 1 = cc in absurd (omega arith)
+cold-passed true true false n k c h = let z : _≡_ {A = ℕ} 0 1 = cc in absurd (omega arith)
+cold-passed true false m n k c h = let z : _≡_ {A = ℕ} 0 1 = cc in absurd (omega arith)
+cold-passed false v m n k c h = let z : _≡_ {A = ℕ} 0 1 = cc in absurd (omega arith)
 
 fresh-is : (s : Record) → isFresh s ≡ true → s ≡ Fresh
 unfolding isFresh
@@ -48,13 +49,13 @@ fresh-is Fresh h = refl
 fresh-is (Up u) h = absurd (false≢true h)
 fresh-is Closed h = absurd (false≢true h)
 
-pub cold-only : (s : Record) (x0 x1 x2 x3 most : ℕ) (page : List ℕ) → coldCode s x0 x1 x2 x3 most page ≡ pos 0 →
-    (s ≡ Fresh) × (1 ≤ x1) × (x1 < 2 ^ 16) × (x2 ≤ most) × (x0 < x2) × (codeIn (readOf 4 x3 page) ≡ pos 0)
+pub cold-only : (s : Record) (x0 x1 x2 x3 most kept : ℕ) (page : List ℕ) → coldCode s x0 x1 x2 x3 most kept page ≡ pos 0 →
+    (s ≡ Fresh) × (1 ≤ x1) × (x1 < 2 ^ 16) × (x2 ≤ most) × (x0 < x2) × (kept ≤ 4096) × (codeIn (readOf 4 x3 page) ≡ pos 0)
 unfolding coldCode minorOf
-cold-only s x0 x1 x2 x3 most page h =
-    let p = cold-passed _ _ _ _ _ h in
+cold-only s x0 x1 x2 x3 most kept page h =
+    let p = cold-passed _ _ _ _ _ _ h in
     let v = version-minor x1 (p .1) in
-    (fresh-is s (p .0), v .1, omega (arith, v .0), leb-true _ _ (p .2), ltb-true _ _ (p .3), p .4)
+    (fresh-is s (p .0), v .1, omega (arith, v .0), leb-true _ _ (p .2), ltb-true _ _ (p .3), leb-true _ _ (p .4), p .5)
 
 -- Warm boot of a record that is up, x0 below the cold boot's x2: 0, and the record as it was. So "A CPU may warm boot twice."
 pub warm-acts : (u : Params) (x0 : ℕ) → x0 < u .cpus → (warmCode (Up u) x0 ≡ pos 0) × (warmNext (Up u) x0 ≡ Up u)

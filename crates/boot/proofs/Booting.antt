@@ -24,36 +24,41 @@ closes Place s = refl
 closes BadVersion s = refl
 closes Rules s = refl
 
-module _ (s : Record) (x0 x1 x2 x3 most : ℕ) (page : List ℕ) where
-  pub cold-state : isFresh s ≡ false → (minus 1 ≡ coldCode s x0 x1 x2 x3 most page) × (Closed ≡ coldNext s x0 x1 x2 x3 most page)
+module _ (s : Record) (x0 x1 x2 x3 most kept : ℕ) (page : List ℕ) where
+  pub cold-state : isFresh s ≡ false → (minus 1 ≡ coldCode s x0 x1 x2 x3 most kept page) × (Closed ≡ coldNext s x0 x1 x2 x3 most kept page)
   unfolding coldNext coldCode coldGate after
   cold-state h = rw h (refl, refl)
 
   module _ (h : isFresh s ≡ true) where
-    pub cold-version : versionOk x1 ≡ false → (minus 2 ≡ coldCode s x0 x1 x2 x3 most page) × (Closed ≡ coldNext s x0 x1 x2 x3 most page)
+    pub cold-version : versionOk x1 ≡ false → (minus 2 ≡ coldCode s x0 x1 x2 x3 most kept page) × (Closed ≡ coldNext s x0 x1 x2 x3 most kept page)
     unfolding coldNext coldCode coldGate after
     cold-version v = rw (h, v) (refl, refl)
 
     module _ (v : versionOk x1 ≡ true) where
-      pub cold-cpus : most < x2 → (minus 3 ≡ coldCode s x0 x1 x2 x3 most page) × (Closed ≡ coldNext s x0 x1 x2 x3 most page)
+      pub cold-cpus : most < x2 → (minus 3 ≡ coldCode s x0 x1 x2 x3 most kept page) × (Closed ≡ coldNext s x0 x1 x2 x3 most kept page)
       unfolding coldNext coldCode coldGate after
       cold-cpus m = rw (h, v, lt-leb x2 most m) (refl, refl)
 
       module _ (m : x2 ≤ most) where
-        pub cold-cpu : x2 ≤ x0 → (minus 4 ≡ coldCode s x0 x1 x2 x3 most page) × (Closed ≡ coldNext s x0 x1 x2 x3 most page)
+        pub cold-cpu : x2 ≤ x0 → (minus 4 ≡ coldCode s x0 x1 x2 x3 most kept page) × (Closed ≡ coldNext s x0 x1 x2 x3 most kept page)
         unfolding coldNext coldCode coldGate after
         cold-cpu n = rw (h, v, le-leb x2 most m, le-ltb x0 x2 n) (refl, refl)
 
         module _ (n : x0 < x2) where
-          pub cold-refused : (c : Refusal) → Refused c ≡ readingOf 4 x3 page →
-              (refusalNumber c ≡ coldCode s x0 x1 x2 x3 most page) × (Closed ≡ coldNext s x0 x1 x2 x3 most page)
-          unfolding coldNext coldCode coldGate codeIn readingAnswer
-          cold-refused c e = rw (h, v, le-leb x2 most m, lt-ltb x0 x2 n, ← reading-answer 4 x3 page, ← e) (refl, closes c (Up (paramsOf x1 x2 x3)))
+          pub cold-kept : 4096 < kept → (minus 5 ≡ coldCode s x0 x1 x2 x3 most kept page) × (Closed ≡ coldNext s x0 x1 x2 x3 most kept page)
+          unfolding coldNext coldCode coldGate after
+          cold-kept k = rw (h, v, le-leb x2 most m, lt-ltb x0 x2 n, lt-leb kept 4096 k) (refl, refl)
 
-          pub cold-up : (w : View) → Accepted w ≡ readingOf 4 x3 page →
-              (pos 0 ≡ coldCode s x0 x1 x2 x3 most page) × (Up (paramsOf x1 x2 x3) ≡ coldNext s x0 x1 x2 x3 most page)
-          unfolding coldNext coldCode coldGate codeIn readingAnswer after
-          cold-up w e = rw (h, v, le-leb x2 most m, lt-ltb x0 x2 n, ← reading-answer 4 x3 page, ← e) (refl, refl)
+          module _ (k : kept ≤ 4096) where
+            pub cold-refused : (c : Refusal) → Refused c ≡ readingOf 4 x3 page →
+                (refusalNumber c ≡ coldCode s x0 x1 x2 x3 most kept page) × (Closed ≡ coldNext s x0 x1 x2 x3 most kept page)
+            unfolding coldNext coldCode coldGate codeIn readingAnswer
+            cold-refused c e = rw (h, v, le-leb x2 most m, lt-ltb x0 x2 n, le-leb kept 4096 k, ← reading-answer 4 x3 page, ← e) (refl, closes c (Up (paramsOf x1 x2 x3 kept)))
+
+            pub cold-up : (w : View) → Accepted w ≡ readingOf 4 x3 page →
+                (pos 0 ≡ coldCode s x0 x1 x2 x3 most kept page) × (Up (paramsOf x1 x2 x3 kept) ≡ coldNext s x0 x1 x2 x3 most kept page)
+            unfolding coldNext coldCode coldGate codeIn readingAnswer after
+            cold-up w e = rw (h, v, le-leb x2 most m, lt-ltb x0 x2 n, le-leb kept 4096 k, ← reading-answer 4 x3 page, ← e) (refl, refl)
 
 module _ (cpus x0 : ℕ) (s : Record) where
   pub kept-not : cpus ≤ x0 → (minus 4 ≡ cpuCode cpus x0) × (Closed ≡ after (cpuCode cpus x0) s)

@@ -1,5 +1,6 @@
 -- Cold and warm boot. 01, Codes: "The boot record is fresh, up or closed; it keeps x2, B and the agreed minor when up. Any boot
--- error closes it for good." Assumes nothing.
+-- error closes it for good." 02, E5: "Cold boot shall take a number K of kept bytes at the start of the page, and the boot record keeps
+-- it." Assumes nothing.
 use Prim.Native.Nat.{ℕ}
 use mathlib.Core.Bool.{Bool, true, false, cond}
 use mathlib.Core.List.{List}
@@ -41,30 +42,32 @@ isFresh (Up u) = false
 isFresh Closed = false
 
 -- "in this order of checks": -1 the record is not fresh, -2 "x1 above 32 bits or version not accepted", -3 "x2 above the
--- monitor's maximum", -4 "x0 not below x2", then the page: "Cold boot reads as edition 4."
-unfoldable pub coldGate : Bool → Bool → Bool → Bool → ℤ → ℤ
-coldGate true true true true c = c
-coldGate true true true false c = minus 4
-coldGate true true false n c = minus 3
-coldGate true false m n c = minus 2
-coldGate false v m n c = minus 1
+-- monitor's maximum", -4 "x0 not below x2", then the page. 02, E5: "K above 4,096 is -5 at cold boot, with the other page checks."
+-- 01: "Cold boot reads as edition 4."
+unfoldable pub coldGate : Bool → Bool → Bool → Bool → Bool → ℤ → ℤ
+coldGate true true true true true c = c
+coldGate true true true true false c = minus 5
+coldGate true true true false k c = minus 4
+coldGate true true false n k c = minus 3
+coldGate true false m n k c = minus 2
+coldGate false v m n k c = minus 1
 
--- x0 is the CPU, x1 the version offered, x2 the number of CPUs, x3 the base B, most the monitor's maximum
-unfoldable pub coldCode : Record → ℕ → ℕ → ℕ → ℕ → ℕ → List ℕ → ℤ
-coldCode s x0 x1 x2 x3 most page =
-    coldGate (isFresh s) (versionOk x1) (leb x2 most) (ltb x0 x2) (codeIn (readOf 4 x3 page))
+-- x0 is the CPU, x1 the version offered, x2 the number of CPUs, x3 the base B, most the monitor's maximum, kept K
+unfoldable pub coldCode : Record → ℕ → ℕ → ℕ → ℕ → ℕ → ℕ → List ℕ → ℤ
+coldCode s x0 x1 x2 x3 most kept page =
+    coldGate (isFresh s) (versionOk x1) (leb x2 most) (ltb x0 x2) (leb kept 4096) (codeIn (readOf 4 x3 page))
 
 -- the record after a boot: the one given if the code is 0, else closed
 unfoldable pub after : ℤ → Record → Record
 after (pos n) s = s
 after (negsuc n) s = Closed
 
--- "it keeps x2, B and the agreed minor when up"
-unfoldable pub paramsOf : ℕ → ℕ → ℕ → Params
-paramsOf x1 x2 x3 = record { cpus = x2; base = x3; minor = agreed x1 }
+-- "it keeps x2, B and the agreed minor when up"; 02, E5: K, "and the boot record keeps it"
+unfoldable pub paramsOf : ℕ → ℕ → ℕ → ℕ → Params
+paramsOf x1 x2 x3 kept = record { cpus = x2; base = x3; minor = agreed x1; kept = kept }
 
-unfoldable pub coldNext : Record → ℕ → ℕ → ℕ → ℕ → ℕ → List ℕ → Record
-coldNext s x0 x1 x2 x3 most page = after (coldCode s x0 x1 x2 x3 most page) (Up (paramsOf x1 x2 x3))
+unfoldable pub coldNext : Record → ℕ → ℕ → ℕ → ℕ → ℕ → ℕ → List ℕ → Record
+coldNext s x0 x1 x2 x3 most kept page = after (coldCode s x0 x1 x2 x3 most kept page) (Up (paramsOf x1 x2 x3 kept))
 
 -- -4 "x0 not below the cold boot's x2"
 unfoldable pub cpuCode : ℕ → ℕ → ℤ

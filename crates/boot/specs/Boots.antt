@@ -4,14 +4,14 @@ use mathlib.Core.List.{List, [], _∷_}
 use Rattle.boot.specs.Boot.{coldNext, warmNext}
 use Rattle.boot.specs.declared.Record.{Record}
 
--- a boot: cold with its registers, the monitor's maximum and the page; warm with its registers
+-- a boot: cold with its registers, the monitor's maximum, K and the page; warm with its registers
 pub data Boot : Type 0 where
-  cold : ℕ → ℕ → ℕ → ℕ → ℕ → List ℕ → Boot
+  cold : ℕ → ℕ → ℕ → ℕ → ℕ → ℕ → List ℕ → Boot
   warm : ℕ → ℕ → ℕ → ℕ → Boot
 
 -- the record after one boot, and after a sequence of them
 unfoldable pub booted : Record → Boot → Record
-booted s (cold x0 x1 x2 x3 most page) = coldNext s x0 x1 x2 x3 most page
+booted s (cold x0 x1 x2 x3 most kept page) = coldNext s x0 x1 x2 x3 most kept page
 booted s (warm x0 x1 x2 x3) = warmNext s x0
 
 unfoldable pub allBooted : Record → List Boot → Record

@@ -3,11 +3,13 @@ use reader::Verdict;
 ghost use mathlib.Core.Path.{_≡_};
 ghost use Rattle.boot.specs.Boot.{bootNumber, numberIn, isFresh, coldCode, coldNext, after, cpuCode, warmCode, warmNext};
 
-// What a record that is up keeps of its cold boot: x2, the base B and the agreed interface minor.
+// What a record that is up keeps of its cold boot: x2, the base B, the agreed interface minor, and the number K of kept bytes at the
+// start of the page, which no runtime command writes.
 pub struct Params {
     pub cpus: u64,
     pub base: u64,
     pub minor: u64,
+    pub kept: u64,
 }
 
 // The boot record.
@@ -98,9 +100,19 @@ impl Record {
         Record::Fresh
     }
 
-    // Cold boot with x0 to x3 on a monitor of at most so many CPUs, and the manifest's page at x3, read as edition 4.
-    pub fn cold(self, x0: u64, x1: u64, x2: u64, x3: u64, most: u64, page: &[u8]) -> Booted
-        ensures { λ r. ⌜ (bootNumber (r .code) ≡ coldCode self x0 x1 x2 x3 most (now (page .entry))) × (r .next ≡ coldNext self x0 x1 x2 x3 most (now (page .entry))) ⌝ }
+    // Cold boot with x0 to x3 on a monitor of at most so many CPUs, with so many kept bytes at the start of the page, and the manifest's
+    // page at x3, read as edition 4.
+    pub fn cold(
+        self,
+        x0: u64,
+        x1: u64,
+        x2: u64,
+        x3: u64,
+        most: u64,
+        kept: u64,
+        page: &[u8],
+    ) -> Booted
+        ensures { λ r. ⌜ (bootNumber (r .code) ≡ coldCode self x0 x1 x2 x3 most kept (now (page .entry))) × (r .next ≡ coldNext self x0 x1 x2 x3 most kept (now (page .entry))) ⌝ }
     {
         if !is_fresh(self) {
             return failed(BootCode::State);
@@ -114,6 +126,9 @@ impl Record {
         if x2 <= x0 {
             return failed(BootCode::Cpu);
         }
+        if 4096 < kept {
+            return failed(BootCode::Manifest(reader::Refusal::Place));
+        }
         let verdict = reader::judge_page(page, x3, 4);
         let Verdict::Fine(_) = verdict else {
             return failed(code_of(verdict));
@@ -122,6 +137,7 @@ impl Record {
             cpus: x2,
             base: x3,
             minor: versions::agreed_minor(x1),
+            kept,
         };
         Booted {
             next: Record::Up(params),

@@ -1,6 +1,6 @@
 // Boots what the numbered cases of data/ describe, in turn, up to the first that is missing. A case is 8-byte words: the record
 // (0 fresh, 1 up, 2 closed, then what it keeps), the number of steps; each step is cold (0) or warm (1), x0 to x3, the monitor's
-// maximum, the page's length, and the page. Prints the code and the next record of each step.
+// maximum, K, the page's length, and the page. Prints the code and the next record of each step.
 use boot::Booted;
 use boot::Params;
 use boot::Record;
@@ -24,6 +24,7 @@ fn print_record(state: Record) {
             cases::print_word(params.cpus);
             cases::print_word(params.base);
             cases::print_word(params.minor);
+            cases::print_word(params.kept);
             io::write_all(STDOUT_FILENO, b"\n");
         }
         Record::Closed => {
@@ -63,20 +64,22 @@ fn boot_with(state: Record, input: &[u8], at: usize, page: &[u8]) -> Booted
     let x2 = words::word_at(input, at + 24);
     let x3 = words::word_at(input, at + 32);
     if words::word_at(input, at) == 0 {
-        return state.cold(x0, x1, x2, x3, words::word_at(input, at + 40), page);
+        let most = words::word_at(input, at + 40);
+        let kept = words::word_at(input, at + 48);
+        return state.cold(x0, x1, x2, x3, most, kept, page);
     }
     state.warm(x0, x1, x2, x3)
 }
 
 fn step(state: Record, input: &[u8], at: usize) -> Stepped
     requires { ⌜ at ≤ 100000 ⌝ }
-    ensures { λ r. ⌜ r .at ≤ at + 4256 ⌝ }
+    ensures { λ r. ⌜ r .at ≤ at + 4264 ⌝ }
 {
-    let n = cases::length_at(input, at + 48, 4200);
+    let n = cases::length_at(input, at + 56, 4200);
     let page = words::part_of(
         input,
         Span {
-            at: at + 56,
+            at: at + 64,
             len: n,
         },
     );
@@ -87,14 +90,14 @@ fn step(state: Record, input: &[u8], at: usize) -> Stepped
     print_record(next);
     Stepped {
         next,
-        at: at + 56 + n,
+        at: at + 64 + n,
     }
 }
 
 fn print_case(input: &[u8]) {
-    let steps = cases::length_at(input, 32, 20);
+    let steps = cases::length_at(input, 40, 20);
     let mut state = cases::record_at(input);
-    let mut at: usize = 40;
+    let mut at: usize = 48;
     for i in 0..steps {
         let done = step(state, input, at);
         state = done.next;

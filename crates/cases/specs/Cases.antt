@@ -16,8 +16,8 @@ sameTo n a b = every n (λ i. eqb (getD a i 0) (getD b i 0))
 unfoldable pub sameBytes : List ℕ → List ℕ → Bool
 sameBytes a b = both (eqb (length a) (length b)) (sameTo (length a) a b)
 
--- the record that the first four words of a case describe
+-- the record that the first five words of a case describe
 unfoldable pub recordAt : List ℕ → Record
 recordAt input =
-    cond (eqb (wordAt 0 input) 1) (Up (record { cpus = wordAt 8 input; base = wordAt 16 input; minor = wordAt 24 input }))
+    cond (eqb (wordAt 0 input) 1) (Up (record { cpus = wordAt 8 input; base = wordAt 16 input; minor = wordAt 24 input; kept = wordAt 32 input }))
     (cond (eqb (wordAt 0 input) 2) Closed Fresh)

@@ -2,8 +2,10 @@
 use boot::Params;
 use boot::Record;
 use libc::STDOUT_FILENO;
+use words::Span;
 ghost use mathlib.Core.Path.{_≡_};
 ghost use Prim.Native.Nat.{min, _≤_};
+ghost use lib.ListN.{length};
 ghost use Rattle.io.specs.Counts.{Counts};
 ghost use Rattle.words.specs.Word.{wordAt};
 ghost use Rattle.cases.specs.Cases.{recordAt, sameBytes};
@@ -36,6 +38,52 @@ pub fn length_at(input: &[u8], at: usize, most: usize) -> usize
     ensures { λ r. ⌜ (r ≡ min (wordAt at (now (input .entry))) most) × (r ≤ most) ⌝ }
 {
     words::smaller(words::word_at(input, at), most as u64) as usize
+}
+
+// The granule record of a case, by the word at `at`: the offset where it stands. There is how many of its words are given, then these;
+// the others are 0.
+pub fn granules_at(input: &[u8], at: usize) -> [u64; 33] {
+    let from = length_at(input, at, 40000);
+    let given = length_at(input, from, 33);
+    let mut granules = [0u64; 33];
+    for i in 0..given {
+        granules[i] = words::word_at(input, from + 8 + 8 * i);
+    }
+    granules
+}
+
+// Where the realm words of a case stand: behind its granule record. First how many there are, then these.
+pub fn words_at(input: &[u8], at: usize) -> usize
+    ensures { λ r. ⌜ r ≤ 40272 ⌝ }
+{
+    let from = length_at(input, at, 40000);
+    from + 8 + 8 * length_at(input, from, 33)
+}
+
+// Fills a list with the words that stand in bytes.
+pub fn read_words(bytes: &[u8], list: &mut [u64])
+    requires { ⌜ length (now list) ≤ 600 ⌝ }
+{
+    for i in 0..list.len() {
+        list[i] = words::word_at(bytes, 8 * i);
+    }
+}
+
+// Fills a list with the realm words of a case.
+pub fn fill_words(input: &[u8], at: usize, list: &mut [u64])
+    requires { ⌜ length (now list) ≤ 600 ⌝ }
+{
+    let from = words_at(input, at) + 8;
+    let len = 8 * list.len();
+    read_words(words::part_of(input, Span { at: from, len }), list);
+}
+
+pub fn print_words(list: &[u64]) {
+    io::write_all(STDOUT_FILENO, b"words");
+    for i in 0..list.len() {
+        print_word(list[i]);
+    }
+    io::write_all(STDOUT_FILENO, b"\n");
 }
 
 // Whether two runs of bytes are the same.
@@ -78,6 +126,7 @@ pub fn record_at(input: &[u8]) -> Record
         cpus: words::word_at(input, 8),
         base: words::word_at(input, 16),
         minor: words::word_at(input, 24),
+        kept: words::word_at(input, 32),
     };
     if state == 1 {
         return Record::Up(params);

@@ -12,7 +12,7 @@ use Rattle.boot.specs.declared.Record.{Record}
 use Rattle.codes.specs.Codes.{isOk, ifOk, answerOf, upOf}
 use Rattle.codes.specs.declared.Code.{Code}
 use Rattle.codes.specs.declared.Code.the-variants.{Ok}
-use Rattle.granules.specs.declared.Granules.{Granules}
+use Rattle.banks.specs.Banks.{Granules}
 use Rattle.range.specs.Range.{placeOf}
 use Rattle.token.specs.Token.{TokenStep, tokenOf}
 use Rattle.token.specs.declared.Session.{Session}
@@ -28,7 +28,7 @@ use Rattle.signing.proofs.Signings.{signing-by}
 use Rattle.runtime.specs.declared.Kind.{Kind}
 use Rattle.runtime.specs.declared.Kind.the-variants.{ForwardError, Delegate, Undelegate, RealmKey, PlatformToken, Features, TokenSigning, KeyUpdate, Unlisted}
 use Rattle.runtime.specs.Step.{Call, Step, kindOf, afterMove, afterKey, afterToken, afterSigning, afterUpdate, callBy, callOf, replyCode, needsOf}
-use Rattle.images.specs.Image.{recordOf, granulesOf, isSet, sessionOf, sessionWords}
+use Rattle.images.specs.Image.{recordOf, isSet, sessionOf, sessionWords}
 use Rattle.images.proofs.Inverse.{session-back}
 use Rattle.queue_image.specs.Image.{listsIn, areBytes}
 use Rattle.queue_image.specs.Steps.{imageStep}
@@ -92,10 +92,10 @@ module _ (image : List ℕ) (l : length image ≡ 210) (w : Yes (areWords image)
   sign-chain signature a = signer-becomes signature a .lists
 
 -- ---- any command: both images
-module _ (g : Granules) (session queue page table : List ℕ) (c : Call) where
+module _ (g : Granules) (session queue page table words : List ℕ) (c : Call) where
   -- the runtime's step from the world that the images stand for
   by : Kind → Step
-  by k = callBy k g (worldIn session queue page table) c
+  by k = callBy k g (worldIn session queue page table words) c
 
   session-by : (k : Kind) → sessionOf (sessionLeft (needsOf k) (replyCode (by k .reply)) (by k .next .session) session) ≡ by k .next .session
   unfolding by needsOf sessionLeft tokenLeft callBy afterMove afterKey afterToken afterSigning afterUpdate replyCode
@@ -122,13 +122,13 @@ module _ (g : Granules) (session queue page table : List ℕ) (c : Call) where
   queue-by l w a KeyUpdate = as-it-was queue l w
   queue-by l w a Unlisted = as-it-was queue l w
 
-module _ (granules session queue page table : List ℕ) (c : Call) (l : length queue ≡ 210) (w : Yes (areWords queue)) (a : Yes (areBytes page)) where
-  pub call-becomes : Becomes queue (callIn granules session queue page table c .queue) (callOf (granulesOf granules) (worldIn session queue page table) c .next .queue)
+module _ (granules session queue page table words : List ℕ) (c : Call) (l : length queue ≡ 210) (w : Yes (areWords queue)) (a : Yes (areBytes page)) where
+  pub call-becomes : Becomes queue (callIn granules session queue page table words c .queue) (callOf granules (worldIn session queue page table words) c .next .queue)
   unfolding callIn callLeft callOf by
-  call-becomes = queue-by (granulesOf granules) session queue page table c l w a (kindOf (c .id))
+  call-becomes = queue-by granules session queue page table words c l w a (kindOf (c .id))
 
   -- all that a call leaves stands for the next world
-  pub call-chain : worldIn (callIn granules session queue page table c .session) (callIn granules session queue page table c .queue) (callIn granules session queue page table c .page) (callIn granules session queue page table c .table)
-      ≡ callOf (granulesOf granules) (worldIn session queue page table) c .next
+  pub call-chain : worldIn (callIn granules session queue page table words c .session) (callIn granules session queue page table words c .queue) (callIn granules session queue page table words c .page) (callIn granules session queue page table words c .table) (callIn granules session queue page table words c .words)
+      ≡ callOf granules (worldIn session queue page table words) c .next
   unfolding callIn callLeft callOf by
-  call-chain = rw (session-by (granulesOf granules) session queue page table c (kindOf (c .id)), queue-by (granulesOf granules) session queue page table c l w a (kindOf (c .id)) .lists)
+  call-chain = rw (session-by granules session queue page table words c (kindOf (c .id)), queue-by granules session queue page table words c l w a (kindOf (c .id)) .lists)

@@ -1,4 +1,4 @@
--- Any sequence of exported calls, each on the images, the page and the table that the one before it left, is a sequence of the runtime's
+-- Any sequence of exported calls, each on the images, the page, the table and its words that the one before it left, is a sequence of the runtime's
 -- steps. Assumes nothing.
 use Prim.Native.Nat.{ℕ}
 use mathlib.Core.Path.{_≡_, refl, ap, _∙_}
@@ -15,7 +15,7 @@ use Rattle.codes.specs.Codes.{ifOk}
 use Rattle.codes.specs.declared.Code.{Code}
 use Rattle.codes.specs.declared.Code.the-variants.{Ok}
 use Rattle.codes.proofs.Gates.{if-ok-by}
-use Rattle.granules.specs.declared.Granules.{Granules}
+use Rattle.banks.specs.Banks.{Granules}
 use Rattle.attest.specs.Key.{keyCode, keyed, realmKeyOf}
 use Rattle.token.specs.Token.{TokenStep, tokenCode, sendOf, keeps, settled, tokenOf}
 use Rattle.token.specs.declared.Session.{Session}
@@ -28,7 +28,6 @@ use Rattle.runtime.specs.declared.Kind.{Kind}
 use Rattle.runtime.specs.declared.Kind.the-variants.{ForwardError, Delegate, Undelegate, RealmKey, PlatformToken, Features, TokenSigning, KeyUpdate, Unlisted}
 use Rattle.runtime.specs.Step.{World, Call, Command, call, sign, list, kindOf, afterMove, afterKey, afterToken, afterSigning, afterUpdate, afterSign, callBy, callOf, stepOf}
 use Rattle.runtime.specs.Run.{worldAfter}
-use Rattle.images.specs.Image.{granulesOf}
 use Rattle.queue_image.specs.Image.{each, areBytes, responseFits, eightFit, queueFits, Exact}
 use Rattle.queue_image.proofs.Fits.{image-fits, each-append, low-bytes, part-bytes, splice-bytes}
 use Rattle.queue_image.proofs.Becomes.{Becomes, as-it-was}
@@ -104,15 +103,15 @@ module _ (granules : List ℕ) where
     unfolding sound
     queue-words = both-r _ _ (both-r _ _ h)
 
-    step-becomes : (c : Command) → Yes (ofBytes c) → Becomes (m .queue) (lentAfter granules m c .queue) (stepOf (granulesOf granules) (lentWorld m) c .next .queue)
+    step-becomes : (c : Command) → Yes (ofBytes c) → Becomes (m .queue) (lentAfter granules m c .queue) (stepOf granules (lentWorld m) c .next .queue)
     unfolding commandLeft stepOf afterMove afterSign ofBytes
-    step-becomes (call c) b = call-becomes granules (m .session) (m .queue) (m .page) (m .table) c queue-whole queue-words page-bytes
+    step-becomes (call c) b = call-becomes granules (m .session) (m .queue) (m .page) (m .table) (m .words) c queue-whole queue-words page-bytes
     step-becomes (sign s) b = signer-becomes (m .queue) queue-whole queue-words s b
     step-becomes (list r d l) b = as-it-was (m .queue) queue-whole queue-words
 
     step-bytes : (c : Command) → Yes (ofBytes c) → Yes (areBytes (lentAfter granules m c .page))
     unfolding commandLeft callIn callLeft callOf
-    step-bytes (call c) b = call-bytes (kindOf (c .id)) (granulesOf granules) (lentWorld m) c page-bytes (image-fits (m .queue) queue-whole queue-words) b
+    step-bytes (call c) b = call-bytes (kindOf (c .id)) granules (lentWorld m) c page-bytes (image-fits (m .queue) queue-whole queue-words) b
     step-bytes (sign s) b = page-bytes
     step-bytes (list r d l) b = page-bytes
 
@@ -120,18 +119,18 @@ module _ (granules : List ℕ) where
     unfolding sound
     step-sound c b = let n = step-becomes c b in both-of _ _ (step-bytes c b) (both-of _ _ (eq-eqb (length (lentAfter granules m c .queue)) 210 (n .whole)) (n .words))
 
-    step-chain : (c : Command) → Yes (ofBytes c) → lentWorld (lentAfter granules m c) ≡ stepOf (granulesOf granules) (lentWorld m) c .next
+    step-chain : (c : Command) → Yes (ofBytes c) → lentWorld (lentAfter granules m c) ≡ stepOf granules (lentWorld m) c .next
     unfolding commandLeft moveLeft stepOf afterMove afterSign ofBytes
-    step-chain (call c) b = call-chain granules (m .session) (m .queue) (m .page) (m .table) c queue-whole queue-words page-bytes
+    step-chain (call c) b = call-chain granules (m .session) (m .queue) (m .page) (m .table) (m .words) c queue-whole queue-words page-bytes
     step-chain (sign s) b = rw (sign-chain (m .queue) queue-whole queue-words s b)
     step-chain (list r d l) b = refl
 
-  run-sound : (m : Lent) (cs : List Command) → Yes (sound m) → Yes (each ofBytes cs) → lentWorld (allAfter granules m cs) ≡ worldAfter (granulesOf granules) (lentWorld m) cs
+  run-sound : (m : Lent) (cs : List Command) → Yes (sound m) → Yes (each ofBytes cs) → lentWorld (allAfter granules m cs) ≡ worldAfter granules (lentWorld m) cs
   unfolding allAfter worldAfter each
   run-sound m [] h b = refl
   run-sound m (c ∷ cs) h b =
       run-sound (lentAfter granules m c) cs (step-sound m h c (both-l _ _ b)) (both-r _ _ b)
-      ∙ ap (λ (w : World). worldAfter (granulesOf granules) w cs) (step-chain m h c (both-l _ _ b))
+      ∙ ap (λ (w : World). worldAfter granules w cs) (step-chain m h c (both-l _ _ b))
 
   exact-sound : (m : Lent) (cs : List Command) → Yes (sound m) → Yes (each ofBytes cs) → Exact (m .queue) → Exact (allAfter granules m cs .queue)
   unfolding allAfter each
@@ -144,7 +143,7 @@ module _ (granules : List ℕ) where
     unfolding sound
     lent-sound = both-of _ _ a (both-of _ _ (eq-eqb (length (m .queue)) 210 l) w)
 
-    pub run-chain : lentWorld (allAfter granules m cs) ≡ worldAfter (granulesOf granules) (lentWorld m) cs
+    pub run-chain : lentWorld (allAfter granules m cs) ≡ worldAfter granules (lentWorld m) cs
     run-chain = run-sound m cs lent-sound b
 
     -- what waits stays all that the queue's image holds

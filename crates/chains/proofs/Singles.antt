@@ -10,7 +10,7 @@ use Rattle.runtime.specs.declared.Kind.{Kind}
 use Rattle.runtime.specs.declared.Kind.the-variants.{ForwardError, Delegate, Undelegate, RealmKey, PlatformToken, Features, TokenSigning, KeyUpdate, Unlisted}
 use Rattle.runtime.specs.Step.{kindOf, afterMove, afterKey, afterToken, afterSigning, afterUpdate, callBy, callOf, replyCode, needsOf}
 use Rattle.runtime.specs.Run.{worldAfter}
-use Rattle.images.specs.Image.{granulesOf, workWords, replyRegisters, replyWords}
+use Rattle.images.specs.Image.{workWords, replyRegisters, replyWords}
 use Rattle.signing.specs.OnImage.{signingOn}
 use Rattle.queue_image.specs.Image.{each, areBytes, Exact}
 use Rattle.queue_image.specs.Steps.{imageStep}
@@ -22,7 +22,7 @@ use Rattle.chains.proofs.Runs.{run-chain, run-exact}
 module _ (granules : List ℕ) (m : Lent) where
   -- a call by the kind of its id
   dispatched-by : (k : Kind) (state x : List ℕ) (busy : ℕ) (key token public : List ℕ) (width : ℕ) → kindOf (getD x 0 0) ≡ k →
-      callIn granules (m .session) (m .queue) (m .page) (m .table) (callLent state x busy key token public width) ≡ exportLeft granules m (exportFor k state x busy key token public width)
+      callIn granules (m .session) (m .queue) (m .page) (m .table) (m .words) (callLent state x busy key token public width) ≡ exportLeft granules m (exportFor k state x busy key token public width)
   unfolding exportFor exportLeft callIn callLent callLeft callOf callBy needsOf afterMove afterKey afterToken afterSigning afterUpdate sessionLeft queueLeft replyRegisters replyWords workWords replyCode moveIn moveLeft tokenIn tokenLeft signingIn signingLeft signingOn imageStep
   dispatched-by ForwardError state x busy key token public width e = rw e
   dispatched-by Delegate state x busy key token public width e = rw e
@@ -65,7 +65,7 @@ exports-commands granules m (e ∷ es) =
 
 -- from an image of 210 words and a page of bytes, with bytes lent to each
 module _ (granules : List ℕ) (m : Lent) (es : List Exported) (l : length (m .queue) ≡ 210) (w : Yes (areWords (m .queue))) (a : Yes (areBytes (m .page))) (b : Yes (each ofBytes (map commandOf es))) where
-  pub exports-chain : lentWorld (allExported granules m es) ≡ worldAfter (granulesOf granules) (lentWorld m) (map commandOf es)
+  pub exports-chain : lentWorld (allExported granules m es) ≡ worldAfter granules (lentWorld m) (map commandOf es)
   exports-chain = ap lentWorld (exports-commands granules m es) ∙ run-chain granules m (map commandOf es) l w a b
 
   pub exports-exact : Exact (m .queue) → Exact (allExported granules m es .queue)

@@ -1,11 +1,11 @@
--- Sequences of exported calls, each on the images, the page and the table that the one before it left. Assumes nothing.
+-- Sequences of exported calls, each on the images, the page, the table and its words that the one before it left. Assumes nothing.
 use Prim.Native.Nat.{ℕ}
 use mathlib.Core.Bool.{Bool, true}
 use mathlib.Core.List.{List, [], _∷_}
 use Rattle.words.specs.Tests.{both}
+use Rattle.granules.specs.Granules.{tableOf}
 use Rattle.granules.specs.Lists.{moveListOf}
 use Rattle.runtime.specs.Step.{World, Command, call, sign, list}
-use Rattle.images.specs.Image.{granulesOf}
 use Rattle.queue_image.specs.Image.{areBytes}
 use Rattle.potterbeam.specs.Exports.{MoveLeft, moveLeft, signIn, CallLeft, worldIn, callIn}
 
@@ -15,25 +15,26 @@ pub record Lent : Type 0 where
   pub queue : List ℕ
   pub page : List ℕ
   pub table : List ℕ
+  pub words : List ℕ
 
 -- the world that it stands for
 abbrev pub lentWorld : Lent → World
-lentWorld m = worldIn (m .session) (m .queue) (m .page) (m .table)
+lentWorld m = worldIn (m .session) (m .queue) (m .page) (m .table) (m .words)
 
--- what delegation leaves: all but the registers and the table is as it was
+-- what delegation leaves: all but the registers, the table and its words is as it was
 abbrev pub movesLeft : MoveLeft → Lent → CallLeft
-movesLeft l m = record { out = l .out; work = 0 ∷ 0 ∷ []; page = m .page; table = l .table; session = m .session; queue = m .queue }
+movesLeft l m = record { out = l .out; work = 0 ∷ 0 ∷ []; page = m .page; table = l .table; words = l .words; session = m .session; queue = m .queue }
 
 -- what a call of the dispatcher, the signer's own step, or a list of granules leaves; the granule record's image is one for all
 unfoldable pub commandLeft : List ℕ → Lent → Command → CallLeft
-commandLeft granules m (call c) = callIn granules (m .session) (m .queue) (m .page) (m .table) c
+commandLeft granules m (call c) = callIn granules (m .session) (m .queue) (m .page) (m .table) (m .words) c
 commandLeft granules m (sign s) =
-    record { out = signIn (m .queue) s .out; work = 0 ∷ 0 ∷ []; page = m .page; table = m .table; session = m .session; queue = signIn (m .queue) s .queue }
-commandLeft granules m (list r d l) = movesLeft (moveLeft (moveListOf r (granulesOf granules) d (record { bytes = m .table }) l)) m
+    record { out = signIn (m .queue) s .out; work = 0 ∷ 0 ∷ []; page = m .page; table = m .table; words = m .words; session = m .session; queue = signIn (m .queue) s .queue }
+commandLeft granules m (list r d l) = movesLeft (moveLeft (moveListOf r granules d (tableOf (m .table) (m .words)) l)) m
 
 -- so much of it is lent to the next
 abbrev pub lentOn : CallLeft → Lent
-lentOn l = record { session = l .session; queue = l .queue; page = l .page; table = l .table }
+lentOn l = record { session = l .session; queue = l .queue; page = l .page; table = l .table; words = l .words }
 
 abbrev pub lentAfter : List ℕ → Lent → Command → Lent
 lentAfter granules m c = lentOn (commandLeft granules m c)

@@ -1,11 +1,20 @@
 -- Every export of a runtime command, and of the signer's step: what it leaves, and which of the runtime's commands it is. Assumes nothing.
 use Prim.Native.Nat.{ℕ}
-use mathlib.Core.List.{List, [], _∷_}
-use lib.ListN.{getD}
+use mathlib.Core.Path.{_≡_}
+use mathlib.Core.Bool.{cond}
+use mathlib.Core.List.{List, [], _∷_, _++_, map}
+use lib.ListN.{getD, take}
+use lib.Dec.{eqb}
+use Rattle.codes.specs.Codes.{upOf}
+use Rattle.range.specs.Buffers.{BufferIn}
+use Rattle.granules.specs.Granules.{tableOf}
+use Rattle.granules.specs.Changes.{Change, change, RealmAt}
+use Rattle.granules.specs.Books.{leaves}
 use Rattle.granules.specs.declared.Direction.{Direction}
 use Rattle.attest.specs.Key.{realmKeyOf}
 use Rattle.features.specs.Features.{featuresOf, updateOf, forwardOf}
-use Rattle.runtime.specs.Step.{Command, call, sign, list}
+use Rattle.runtime.specs.Step.{Command, call, sign, list, kindOf}
+use Rattle.runtime.specs.Changes.{ofMove}
 use Rattle.runtime.specs.declared.Kind.{Kind}
 use Rattle.runtime.specs.declared.Kind.the-variants.{ForwardError, Delegate, Undelegate, RealmKey, PlatformToken, Features, TokenSigning, KeyUpdate, Unlisted}
 use Rattle.images.specs.Image.{recordOf, registerWords, workWords}
@@ -29,24 +38,24 @@ pub data Exported : Type 0 where
 
 -- ---- what it leaves: what is not lent to it is as it was, and counts as zeros where it is an answer
 abbrev tokensLeft : TokenLeft → Lent → CallLeft
-tokensLeft l m = record { out = l .out; work = 0 ∷ 0 ∷ []; page = l .page; table = m .table; session = l .session; queue = m .queue }
+tokensLeft l m = record { out = l .out; work = 0 ∷ 0 ∷ []; page = l .page; table = m .table; words = m .words; session = l .session; queue = m .queue }
 
 abbrev signingsLeft : SigningLeft → Lent → CallLeft
-signingsLeft l m = record { out = l .out; work = 0 ∷ 0 ∷ []; page = l .page; table = m .table; session = m .session; queue = l .queue }
+signingsLeft l m = record { out = l .out; work = 0 ∷ 0 ∷ []; page = l .page; table = m .table; words = m .words; session = m .session; queue = l .queue }
 
 abbrev signsLeft : SignLeft → Lent → CallLeft
-signsLeft l m = record { out = l .out; work = 0 ∷ 0 ∷ []; page = m .page; table = m .table; session = m .session; queue = l .queue }
+signsLeft l m = record { out = l .out; work = 0 ∷ 0 ∷ []; page = m .page; table = m .table; words = m .words; session = m .session; queue = l .queue }
 
 -- registers, work and the page
 abbrev answersLeft : List ℕ → List ℕ → List ℕ → Lent → CallLeft
-answersLeft out work page m = record { out = out; work = work; page = page; table = m .table; session = m .session; queue = m .queue }
+answersLeft out work page m = record { out = out; work = work; page = page; table = m .table; words = m .words; session = m .session; queue = m .queue }
 
 -- pbeam_forward has no registers: the number that it answers is to be forwarded, which the dispatcher says by 2 in the work
 unfoldable pub exportLeft : List ℕ → Lent → Exported → CallLeft
-exportLeft granules m (pbeam-delegate state address) = movesLeft (moveIn Direction.Delegate state granules (m .table) address) m
-exportLeft granules m (pbeam-undelegate state address) = movesLeft (moveIn Direction.Undelegate state granules (m .table) address) m
-exportLeft granules m (pbeam-delegate-list state addresses) = movesLeft (moveListIn Direction.Delegate state granules (m .table) addresses) m
-exportLeft granules m (pbeam-undelegate-list state addresses) = movesLeft (moveListIn Direction.Undelegate state granules (m .table) addresses) m
+exportLeft granules m (pbeam-delegate state address) = movesLeft (moveIn Direction.Delegate state granules (m .table) (m .words) address) m
+exportLeft granules m (pbeam-undelegate state address) = movesLeft (moveIn Direction.Undelegate state granules (m .table) (m .words) address) m
+exportLeft granules m (pbeam-delegate-list state addresses) = movesLeft (moveListIn Direction.Delegate state granules (m .table) (m .words) addresses) m
+exportLeft granules m (pbeam-undelegate-list state addresses) = movesLeft (moveListIn Direction.Undelegate state granules (m .table) (m .words) addresses) m
 exportLeft granules m (pbeam-realm-key state key pa size curve) =
     answersLeft (registerWords (realmKeyOf (recordOf state) (m .page) key pa size curve .answer)) (0 ∷ 0 ∷ []) (realmKeyOf (recordOf state) (m .page) key pa size curve .page) m
 exportLeft granules m (pbeam-platform-token state token busy pa size csize) = tokensLeft (tokenIn state (m .session) (m .page) token busy pa size csize) m
@@ -55,7 +64,7 @@ exportLeft granules m (pbeam-token-signing state key opcode pa size curve) = sig
 exportLeft granules m (pbeam-key-update state width mecid) =
     answersLeft (registerWords (updateOf (recordOf state) width mecid .answer)) (workWords (updateOf (recordOf state) width mecid .work)) (m .page) m
 exportLeft granules m (pbeam-forward state x1) = answersLeft (0 ∷ 0 ∷ 0 ∷ []) (2 ∷ forwardOf (recordOf state) x1 ∷ []) (m .page) m
-exportLeft granules m (pbeam-call state x busy key token public width) = callIn granules (m .session) (m .queue) (m .page) (m .table) (callLent state x busy key token public width)
+exportLeft granules m (pbeam-call state x busy key token public width) = callIn granules (m .session) (m .queue) (m .page) (m .table) (m .words) (callLent state x busy key token public width)
 exportLeft granules m (pbeam-sign signature) = signsLeft (signIn (m .queue) signature) m
 
 -- ---- the command that it is: a call with the id and the registers, nothing else being lent; the signer's own step; or a list of granules
@@ -92,3 +101,75 @@ exportFor Unlisted state x busy key token public width = pbeam-call state x busy
 unfoldable pub allExported : List ℕ → Lent → List Exported → Lent
 allExported granules m [] = m
 allExported granules m (e ∷ es) = allExported granules (lentOn (exportLeft granules m e)) es
+
+-- ---- 02, E8: "with the same boot .. records": an export that is lent this image of it; the signer's step takes none
+unfoldable pub exportUnder : List ℕ → Exported → Exported
+exportUnder image (pbeam-delegate state address) = pbeam-delegate image address
+exportUnder image (pbeam-undelegate state address) = pbeam-undelegate image address
+exportUnder image (pbeam-delegate-list state addresses) = pbeam-delegate-list image addresses
+exportUnder image (pbeam-undelegate-list state addresses) = pbeam-undelegate-list image addresses
+exportUnder image (pbeam-realm-key state key pa size curve) = pbeam-realm-key image key pa size curve
+exportUnder image (pbeam-platform-token state token busy pa size csize) = pbeam-platform-token image token busy pa size csize
+exportUnder image (pbeam-features state index) = pbeam-features image index
+exportUnder image (pbeam-token-signing state key opcode pa size curve) = pbeam-token-signing image key opcode pa size curve
+exportUnder image (pbeam-key-update state width mecid) = pbeam-key-update image width mecid
+exportUnder image (pbeam-forward state x1) = pbeam-forward image x1
+exportUnder image (pbeam-call state x busy key token public width) = pbeam-call image x busy key token public width
+exportUnder image (pbeam-sign signature) = pbeam-sign signature
+
+-- an address is Realm in a lent table, with the image of the granule record
+abbrev pub RealmIn : List ℕ → ℕ → Lent → Type 0
+RealmIn granules addr m = RealmAt granules addr (tableOf (m .table) (m .words))
+
+-- the base that the image of a boot record keeps
+abbrev pub baseIn : List ℕ → ℕ
+baseIn image = upOf (recordOf image) .base
+
+-- a buffer that is written to lies in the shared page, whose granule is then Realm
+pub record LentIntoRealm (granules image : List ℕ) (m : Lent) (pa size : ℕ) : Type 0 where
+  pub buffer : BufferIn (upOf (recordOf image)) (m .page) pa size
+  pub realm : RealmIn granules (baseIn image) m
+
+-- x0 is 0
+abbrev pub Oks : List ℕ → Lent → Exported → Type 0
+Oks granules m e = getD (exportLeft granules m e .out) 0 0 ≡ 0
+
+-- each export that writes to the page, where x0 is 0; a call of the dispatcher is one of them (`dispatcher-exports`)
+pub record ExportsIntoRealm (granules image : List ℕ) (m : Lent) : Type 0 where
+  pub key : (key : List ℕ) (pa size curve : ℕ) → Oks granules m (pbeam-realm-key image key pa size curve) → LentIntoRealm granules image m pa size
+  pub hunk : (token : List ℕ) (busy pa size csize : ℕ) → Oks granules m (pbeam-platform-token image token busy pa size csize) → LentIntoRealm granules image m pa size
+  pub response : (key : List ℕ) (opcode pa size curve : ℕ) → Oks granules m (pbeam-token-signing image key opcode pa size curve) → LentIntoRealm granules image m pa size
+
+-- ---- 02, E14: the accepted calls on granules, as the words of out tell of them: x0 is 0, or of a list the first x1 addresses
+abbrev whenZero : ℕ → List Change → List Change
+whenZero x0 l = cond (eqb x0 0) l []
+
+unfoldable pub changesTold : List ℕ → Exported → List Change
+changesTold out (pbeam-delegate state address) = whenZero (getD out 0 0) (change Direction.Delegate address ∷ [])
+changesTold out (pbeam-undelegate state address) = whenZero (getD out 0 0) (change Direction.Undelegate address ∷ [])
+changesTold out (pbeam-delegate-list state addresses) = map (change Direction.Delegate) (take (getD out 1 0) addresses)
+changesTold out (pbeam-undelegate-list state addresses) = map (change Direction.Undelegate) (take (getD out 1 0) addresses)
+changesTold out (pbeam-realm-key state key pa size curve) = []
+changesTold out (pbeam-platform-token state token busy pa size csize) = []
+changesTold out (pbeam-features state index) = []
+changesTold out (pbeam-token-signing state key opcode pa size curve) = []
+changesTold out (pbeam-key-update state width mecid) = []
+changesTold out (pbeam-forward state x1) = []
+changesTold out (pbeam-call state x busy key token public width) = whenZero (getD out 0 0) (ofMove (kindOf (getD x 0 0)) (getD x 1 0))
+changesTold out (pbeam-sign signature) = []
+
+-- those of a sequence, in order
+unfoldable pub allTold : List ℕ → Lent → List Exported → List Change
+allTold granules m [] = []
+allTold granules m (e ∷ es) = changesTold (exportLeft granules m e .out) e ++ allTold granules (lentOn (exportLeft granules m e)) es
+
+-- none of them is of this address
+pub data NoneAt (addr : ℕ) : List Change → Type 0 where
+  nowhere : NoneAt addr []
+  elsewhere : (c : Change) (cs : List Change) → (c .address ≡ addr → ⊥) → NoneAt addr cs → NoneAt addr (c ∷ cs)
+
+-- "Each granule's byte is the one the last accepted call naming it left, or the starting byte if none did.", by the address that it is
+-- called with: of granule i
+pub record ByAddress (granules : List ℕ) (m : Lent) (es : List Exported) (addr i : ℕ) : Type 0 where
+  pub last : (before : List Change) (d : Direction) (behind : List Change) → allTold granules m es ≡ before ++ change d addr ∷ behind → NoneAt addr behind → getD (allExported granules m es .table) i 0 ≡ leaves d
+  pub none : NoneAt addr (allTold granules m es) → getD (allExported granules m es .table) i 0 ≡ getD (m .table) i 0

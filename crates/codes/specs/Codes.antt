@@ -54,11 +54,11 @@ isUp Fresh = false
 isUp (Up u) = true
 isUp Closed = false
 
--- "B and the agreed minor come from the boot record"
+-- "B and the agreed minor come from the boot record", and with 02, E5 the number of kept bytes
 unfoldable pub upOf : Record → Params
-upOf Fresh = record { cpus = 0; base = 0; minor = 0 }
+upOf Fresh = record { cpus = 0; base = 0; minor = 0; kept = 0 }
 upOf (Up u) = u
-upOf Closed = record { cpus = 0; base = 0; minor = 0 }
+upOf Closed = record { cpus = 0; base = 0; minor = 0; kept = 0 }
 
 -- "while it is not up, every command but 0xC400018F answers UNK before its own checks"
 unfoldable pub whenUp : Record → Code → Code

@@ -102,6 +102,7 @@ pub fn up_of(state: Record) -> Params
         cpus: 0,
         base: 0,
         minor: 0,
+        kept: 0,
     };
     match state {
         Record::Fresh => none,

@@ -1,10 +1,10 @@
 // Runs the commands that the numbered cases of data/ describe, in turn, up to the first that is missing. A case is 8-byte words:
-// the record (0 fresh, 1 up, 2 closed, then what it keeps), the function id, x1 to x3, G, MECIDWidthm1, the lengths of table, key
-// and page; then these three, and table and page expected at exit. Prints the answer, and whether both are as expected.
+// the boot record (0 fresh, 1 up, 2 closed, then what it keeps), the function id, x1 to x3, where the granule record stands (see
+// `cases::granules_at`) with the realm words behind it, MECIDWidthm1, the lengths of table, key and page; then these three, and table and
+// page expected at exit. Prints the answer, whether both are as expected, and the words.
 use boot::Record;
 use codes::Answer;
 use codes::Work;
-use granules::Granules;
 use libc::STDOUT_FILENO;
 use words::Span;
 ghost use Prim.Native.Nat.{_≤_};
@@ -46,68 +46,82 @@ fn print_other(state: Record, id: u64, x1: u64, width: u64) {
 }
 
 // The command of a case, on the table, key and page that it lends.
-fn print_command(input: &[u8], table: &mut [u8], key: &[u8], page: &mut [u8]) {
+fn print_command(input: &[u8], table: &mut [u8], words: &mut [u64], key: &[u8], page: &mut [u8]) {
     let state = cases::record_at(input);
-    let granules = Granules {
-        start: words::word_at(input, 64),
-    };
-    let id = words::word_at(input, 32);
-    let x1 = words::word_at(input, 40);
+    let granules = cases::granules_at(input, 72);
+    let id = words::word_at(input, 40);
+    let x1 = words::word_at(input, 48);
     if id == 0xC400_01B0 {
-        print_answer(granules::delegate(state, granules, table, x1));
+        print_answer(granules::delegate(state, &granules, table, words, x1));
         return;
     }
     if id == 0xC400_01B1 {
-        print_answer(granules::undelegate(state, granules, table, x1));
+        print_answer(granules::undelegate(state, &granules, table, words, x1));
         return;
     }
     if id == 0xC400_01B2 {
-        let size = words::word_at(input, 48);
-        let curve = words::word_at(input, 56);
+        let size = words::word_at(input, 56);
+        let curve = words::word_at(input, 64);
         print_answer(attest::realm_key(state, page, key, x1, size, curve));
         return;
     }
-    print_other(state, id, x1, words::word_at(input, 72));
+    print_other(state, id, x1, words::word_at(input, 80));
 }
 
-// A case with its lends: table, a key of k bytes and page stand from 104 on, then table and page expected.
-fn print_lent(input: &[u8], table: &mut [u8], k: usize, page: &mut [u8])
-    requires { ⌜ (length (now table) ≤ 600) × (k ≤ 4200) × (length (now page) ≤ 4200) ⌝ }
+// Whether table and page are as the case expects them from an offset on, and the words.
+fn print_exit(input: &[u8], at: usize, table: &[u8], words: &[u64], page: &[u8])
+    requires { ⌜ (at ≤ 20000) × (length (now table) ≤ 600) ⌝ }
 {
     let t = table.len();
     let n = page.len();
-    let first = 104 + t + k;
-    let second = first + n;
-    let third = second + t;
-    words::copy(table, words::part_of(input, Span { at: 104, len: t }));
-    words::copy(page, words::part_of(input, Span { at: first, len: n }));
-    let key = words::part_of(
-        input,
-        Span {
-            at: 104 + t,
-            len: k,
-        },
-    );
-    print_command(input, table, key, page);
-    cases::print_same(
-        b"table",
-        table,
-        words::part_of(input, Span { at: second, len: t }),
-    );
+    cases::print_same(b"table", table, words::part_of(input, Span { at, len: t }));
     cases::print_same(
         b"page",
         page,
-        words::part_of(input, Span { at: third, len: n }),
+        words::part_of(input, Span { at: at + t, len: n }),
     );
+    cases::print_words(words);
+}
+
+// Fills what is lent: the table stands from 112 on, and the page from an offset on.
+fn fill(input: &[u8], at: usize, table: &mut [u8], words: &mut [u64], page: &mut [u8])
+    requires { ⌜ length (now words) ≤ 600 ⌝ }
+{
+    let t = table.len();
+    let n = page.len();
+    words::copy(table, words::part_of(input, Span { at: 112, len: t }));
+    words::copy(page, words::part_of(input, Span { at, len: n }));
+    cases::fill_words(input, 72, words);
+}
+
+// A case with its lends: table, a key of k bytes and page stand from 112 on, then table and page expected.
+fn print_lent(input: &[u8], table: &mut [u8], words: &mut [u64], k: usize, page: &mut [u8])
+    requires { ⌜ (length (now table) ≤ 600) × (length (now words) ≤ 600) × (k ≤ 4200) × (length (now page) ≤ 4200) ⌝ }
+{
+    let t = table.len();
+    let n = page.len();
+    let first = 112 + t + k;
+    fill(input, first, table, words, page);
+    let key = words::part_of(
+        input,
+        Span {
+            at: 112 + t,
+            len: k,
+        },
+    );
+    print_command(input, table, words, key, page);
+    print_exit(input, first + n, table, words, page);
 }
 
 fn print_case(input: &[u8]) {
     let mut table = [0u8; 600];
+    let mut words = [0u64; 80];
     let mut page = [0u8; 4200];
-    let t = cases::length_at(input, 80, 600);
-    let k = cases::length_at(input, 88, 4200);
-    let n = cases::length_at(input, 96, 4200);
-    print_lent(input, &mut table[..t], k, &mut page[..n]);
+    let t = cases::length_at(input, 88, 600);
+    let w = cases::length_at(input, cases::words_at(input, 72), 80);
+    let k = cases::length_at(input, 96, 4200);
+    let n = cases::length_at(input, 104, 4200);
+    print_lent(input, &mut table[..t], &mut words[..w], k, &mut page[..n]);
 }
 
 fn main() {

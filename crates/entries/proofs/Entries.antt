@@ -103,6 +103,18 @@ sum-two page at off i m acc x y t r h o e f g u v =
     let two : r ≡ sum (wordsOf (2 * i + 1 + 1) (part at m page)) % 2 ^ 64 = sum-step page at (off + 8) (2 * i + 1) m ((acc + x) % 2 ^ 64) y r (omega arith) (omega arith) one g (omega arith) in
     two ∙ ap (λ n. sum (wordsOf n (part at m page)) % 2 ^ 64) (let z : 2 * i + 1 + 1 ≡ 2 * (i + 1) = omega arith in z)
 
+-- what was found of n entries of a section is found of its count
+module _ (w k at n count : ℕ) (page : List ℕ) (s : ℕ) (ok : Bool) where
+  pub consoles-found : k ≡ 1 → n ≡ count → (s ≡ sumAt at (6 * n) page % 2 ^ 64) × (ok ≡ entriesAt w 1 at n page) →
+      (s ≡ sumAt at (wordsPerEntry k * count) page % 2 ^ 64) × (ok ≡ entriesAt w k at count page)
+  consoles-found h e f =
+      let p : wordsPerEntry k ≡ 6 = ap wordsPerEntry h ∙ per-one in
+      rw (p, ← e) (f .0, f .1 ∙ sym (ap (λ x. entriesAt w x at n page) h))
+
+  pub banks-found : (k ≡ 1 → ⊥) → n ≡ count → (s ≡ sumAt at (2 * n) page % 2 ^ 64) × (ok ≡ entriesAt w k at n page) →
+      (s ≡ sumAt at (wordsPerEntry k * count) page % 2 ^ 64) × (ok ≡ entriesAt w k at count page)
+  banks-found h e f = rw (per-other k h, ← e) f
+
 -- sums that wrap
 pub mod-left : (a b : ℕ) → (a % 2 ^ 64 + b) % 2 ^ 64 ≡ (a + b) % 2 ^ 64
 mod-left a b = omega arith

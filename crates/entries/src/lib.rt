@@ -198,13 +198,20 @@ fn find_consoles(page: &[u8], minor: u64, at: usize, count: usize) -> Found
     Found { sum, ok }
 }
 
-// Count entries of section k at an offset.
+// Count entries of section k at an offset. One entry is a call of its own: most boards have one bank or console, and of a number that it
+// knows the compiler makes no loop.
 fn find(page: &[u8], minor: u64, k: usize, at: usize, count: usize) -> Found
     requires { ⌜ at + size k count ≤ length (now page) ⌝ }
     ensures { λ r. ⌜ (r .sum ≡ sumAt at (wordsPerEntry k * count) (now (page .entry)) % 2 ^ 64) × (r .ok ≡ entriesAt minor k at count (now (page .entry))) ⌝ }
 {
     if k == 1 {
+        if count == 1 {
+            return find_consoles(page, minor, at, 1);
+        }
         return find_consoles(page, minor, at, count);
+    }
+    if count == 1 {
+        return find_banks(page, minor, k, at, 1);
     }
     find_banks(page, minor, k, at, count)
 }

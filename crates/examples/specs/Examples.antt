@@ -5,8 +5,10 @@ use mathlib.Core.Path.{_≡_, refl}
 use mathlib.Core.List.{List, [], _∷_, _++_}
 use native.Mathlib.Omega.{arith}
 use lib.ListN.{length, getD, replicate}
+use lib.Dec.{leb, ltb}
 use borrow.Author.Tests.{eqb-true, le-ltb, lt-ltb, le-leb, lt-leb}
 use Rattle.words.specs.Tests.{both, either, every}
+use Rattle.words.proofs.Tests.{either-r}
 use Rattle.versions.specs.Version.{minorOf, majorOf, aboveOf, versionOk, later, agreed}
 use Rattle.words.specs.Word.{leOf, leBytes, part, numAt, joined}
 use Rattle.versions.specs.Edition.{sectionCount, core, editionOk}
@@ -21,9 +23,9 @@ use Rattle.boot.specs.declared.Record.the-variants.{Up}
 use Rattle.codes.specs.Codes.{extended, x0Of, answerOf, unless, fails, isUp, whenUp}
 use Rattle.codes.specs.declared.Code.the-variants.{Ok, BadAddr, BadPas, Inval}
 use Rattle.range.specs.Range.{outside, tooLong}
-use Rattle.granules.specs.Granules.{granuleAt, GranuleTable, fromByte, granuleCode, moveCode, movedBy, moveOf, delegateOf}
-use Rattle.granules.specs.declared.Granules.{Granules}
-use Rattle.granules.specs.declared.Granule.the-variants.{At}
+use Rattle.granules.specs.Granules.{GranuleTable, fromByte, guarded, granuleCode, moveCode, movedBy, fitting, whenFit, moveOf, delegateOf}
+use Rattle.banks.specs.Banks.{Granules, granuleAt}
+use Rattle.banks.specs.declared.Granule.the-variants.{At}
 use Rattle.features.specs.Features.{updateCode}
 use Rattle.writer.specs.Write.{Made, no-page, a-page, writerGate, writeOf}
 
@@ -68,14 +70,14 @@ pub record Examples : Type 0 where
   pub e5 : (isPage (making 4 (banks 249) []) ≡ true) × (making 4 (banks 250) [] ≡ no-page 5)
   -- "6* Edition 4: 83 consoles fit, 84 do not; edition 3 holds 84."
   pub e6 : (isPage (making 4 [] (consoles 83)) ≡ true) × (making 4 [] (consoles 84) ≡ no-page 5) × (isPage (making 3 [] (consoles 84)) ≡ true)
-  -- "7* pa = B + 4,095, size 1 is inside; size 2 too long."
-  pub e7 : (u : Params) → (outside u (u .base + 4095) ≡ false) × (tooLong u (u .base + 4095) 1 ≡ false) × (tooLong u (u .base + 4095) 2 ≡ true)
-  -- "8* pa = B + 4,096, size 0 is outside."
+  -- "7* pa = B + 4,095, size 1 is inside; size 2 too long." With 02, E5, where not every byte is kept.
+  pub e7 : (u : Params) → u .kept ≤ 4095 → (outside u (u .base + 4095) ≡ false) × (tooLong u (u .base + 4095) 1 ≡ false) × (tooLong u (u .base + 4095) 2 ≡ true)
+  -- "8* pa = B + 4,096, size 0 is outside." Whatever K is.
   pub e8 : (u : Params) → outside u (u .base + 4096) ≡ true
   -- "9* Code -2 in x0 is 0xFFFFFFFFFFFFFFFE."
   pub e9 : x0Of BadAddr ≡ 0xFFFFFFFFFFFFFFFE
-  -- "10* Delegating a Realm granule: BAD_PAS."
-  pub e10 : (u : Params) (g : Granules) (t : GranuleTable) (addr i : ℕ) → granuleAt g (length (t .bytes)) addr ≡ At i → getD (t .bytes) i 0 ≡ 1 →
+  -- "10* Delegating a Realm granule: BAD_PAS." (02, E6: with as many words as the record's granules ask for)
+  pub e10 : (u : Params) (g : Granules) (t : GranuleTable) (addr i : ℕ) → fitting g t ≡ true → granuleAt g (length (t .bytes)) addr ≡ At i → getD (t .bytes) i 0 ≡ 1 →
       delegateOf (Up u) g t addr ≡ record { answer = answerOf BadPas 0 0; table = t }
   -- "11* m = 7: mecid 255 passes, 256 does not."
   pub e11 : (u : Params) → (5 ≤ u .minor → updateCode u 7 255 ≡ Ok) × (updateCode u 7 256 ≡ Inval)
@@ -84,10 +86,10 @@ check-one : (s : ℕ) → s < 2 ^ 64 → checkOk 1 0x80000028 bank s ≡ true �
 unfolding checkOk sum
 check-one s h t = let e : (1 + 0x80000028 + (0x90000000 + (0x10000000 + 0)) + s) % 2 ^ 64 ≡ 0 = eqb-true _ _ t in omega arith
 
-granted : (u : Params) (g : Granules) (t : GranuleTable) (addr i : ℕ) → granuleAt g (length (t .bytes)) addr ≡ At i → getD (t .bytes) i 0 ≡ 1 →
+granted : (u : Params) (g : Granules) (t : GranuleTable) (addr i : ℕ) → fitting g t ≡ true → granuleAt g (length (t .bytes)) addr ≡ At i → getD (t .bytes) i 0 ≡ 1 →
     delegateOf (Up u) g t addr ≡ record { answer = answerOf BadPas 0 0; table = t }
-unfolding moveOf movedBy moveCode granuleCode fromByte whenUp isUp unless fails
-granted u g t addr i f b = rw (f, b)
+unfolding moveOf movedBy moveCode granuleCode guarded fromByte whenFit whenUp isUp unless fails
+granted u g t addr i w f b = rw (w, f, b)
 
 pub examples : Examples
 unfolding later agreed readWith readOf judge readerGate allShown rules platClear platExtent taken foundAt clearBefore apart extent secOk nothing platOk platAt mkPlat secAt mkSec size numAt part leBytes leOf versionOk aboveOf majorOf minorOf checkOk sum both either every joined isPage writeOf writerGate placeOk editionOk descriptionOk tellable isBare scanOf judged scanAll scan fieldsOk lengthsOk count listsOk listOk noneLate used platBytes withMark descriptionOf four core sectionCount wordsPerEntry entriesOk entryOk entryRule bankOk consoleOk flagsOk outside tooLong x0Of extended updateCode fails unless
@@ -101,12 +103,12 @@ examples = record {
   e4-holds = refl;
   e5 = (refl, refl);
   e6 = (refl, refl, refl);
-  e7 = λ u. (
-    rw (le-ltb (u .base + 4095) (u .base) (omega arith), lt-leb (u .base + 4096) (u .base + 4095) (omega arith)),
+  e7 = λ u k. (
+    rw (le-ltb (u .base + 4095) (u .base + u .kept) (omega arith), lt-leb (u .base + 4096) (u .base + 4095) (omega arith)),
     le-ltb (u .base + 4096 - (u .base + 4095)) 1 (omega arith),
     lt-ltb (u .base + 4096 - (u .base + 4095)) 2 (omega arith),
   );
-  e8 = λ u. rw (le-ltb (u .base + 4096) (u .base) (omega arith), le-leb (u .base + 4096) (u .base + 4096) (omega arith));
+  e8 = λ u. either-r (ltb (u .base + 4096) (u .base + u .kept)) (leb (u .base + 4096) (u .base + 4096)) (le-leb (u .base + 4096) (u .base + 4096) (omega arith));
   e9 = refl;
   e10 = granted;
   e11 = λ u. (λ h. rw (le-ltb (u .minor) 5 h), refl);

@@ -1,76 +1,184 @@
-// Runs the lists of granules that the numbered cases of data/ describe, in turn, up to the first that is missing. A case is 8-byte
-// words: the record (0 fresh, 1 up, 2 closed, then what it keeps), 0 to delegate or 1 to undelegate, G, how many bytes the table has and
-// how many addresses the list; then the table, the addresses, and the table expected at exit. Prints the answer, and whether the table
-// is as expected.
+// Runs the lists of granules, the questions to realm words and the set-ups that the numbered cases of data/ describe, in turn, up to the
+// first that is missing. A case is 8-byte words: the boot record (0 fresh, 1 up, 2 closed, then what it keeps); 0 to delegate, 1 to
+// undelegate, 2 to set up or 3 to ask; where the granule record stands (see `cases::granules_at`), with the realm words behind it; the
+// table's length; how many addresses the list has, how many bytes the banks, or the index to ask from. Then the table, and of a list the
+// addresses and the table expected at exit: prints the answer, whether the table is as expected, and the words. Of questions to the
+// words: prints how many, the next one, whether words and table agree, whether they were built, and the words. Of a set-up, the banks:
+// prints the code and the record at exit.
 use boot::Record;
 use codes::Answer;
-use granules::Granules;
 use libc::STDOUT_FILENO;
+use realm_words::Agreement;
+use realm_words::Hit;
+use realm_words::Number;
 use words::Span;
 ghost use Prim.Native.Nat.{_≤_};
 ghost use lib.ListN.{length};
 
+fn print(text: &[u8]) {
+    io::write_all(STDOUT_FILENO, text);
+}
+
 fn print_answer(answer: Answer) {
-    io::write_all(STDOUT_FILENO, b"registers");
+    print(b"registers");
     cases::print_word(answer.x0);
     cases::print_word(answer.x1);
     cases::print_word(answer.x2);
-    io::write_all(STDOUT_FILENO, b"\n");
+    print(b"\n");
 }
 
-// The addresses, which stand in so many bytes.
-fn read_list(bytes: &[u8], list: &mut [u64])
-    requires { ⌜ length (now list) ≤ 600 ⌝ }
-{
-    for i in 0..list.len() {
-        list[i] = words::word_at(bytes, 8 * i);
-    }
-}
-
-fn print_moves(state: Record, granules: Granules, direction: u64, table: &mut [u8], list: &[u64]) {
+fn print_moves(
+    state: Record,
+    granules: &[u64; 33],
+    direction: u64,
+    table: &mut [u8],
+    words: &mut [u64],
+    list: &[u64],
+) {
     if direction == 0 {
-        print_answer(granules::delegate_list(state, granules, table, list));
+        print_answer(granules::delegate_list(state, granules, table, words, list));
         return;
     }
-    print_answer(granules::undelegate_list(state, granules, table, list));
+    print_answer(granules::undelegate_list(state, granules, table, words, list));
 }
 
-// A case with its lends: the table stands from 64 on, then the addresses, then the table expected.
-fn print_lent(input: &[u8], table: &mut [u8], list: &mut [u64])
-    requires { ⌜ (length (now table) ≤ 600) × (length (now list) ≤ 600) ⌝ }
+// A list with its lends: the table stands from 72 on, then the addresses, then the table expected.
+fn print_list(input: &[u8], table: &mut [u8], words: &mut [u64], list: &mut [u64])
+    requires { ⌜ (length (now table) ≤ 4200) × (length (now list) ≤ 600) ⌝ }
 {
     let t = table.len();
     let k = 8 * list.len();
-    words::copy(table, words::part_of(input, Span { at: 64, len: t }));
-    read_list(words::part_of(input, Span { at: 64 + t, len: k }), list);
-    let granules = Granules {
-        start: words::word_at(input, 40),
-    };
-    let direction = words::word_at(input, 32);
-    print_moves(cases::record_at(input), granules, direction, table, list);
+    cases::read_words(words::part_of(input, Span { at: 72 + t, len: k }), list);
+    let granules = cases::granules_at(input, 48);
+    let direction = words::word_at(input, 40);
+    print_moves(
+        cases::record_at(input),
+        &granules,
+        direction,
+        table,
+        words,
+        list,
+    );
     cases::print_same(
         b"table",
         table,
         words::part_of(
             input,
             Span {
-                at: 64 + t + k,
+                at: 72 + t + k,
                 len: t,
             },
         ),
     );
+    cases::print_words(words);
+}
+
+// ---- The realm words ----
+
+fn print_number(number: Number) {
+    match number {
+        Number::Inval => print(b"count INVAL\n"),
+        Number::Is(n) => {
+            print(b"count ");
+            io::print_decimal(STDOUT_FILENO, n);
+            print(b"\n");
+        }
+    }
+}
+
+fn print_hit(hit: Hit) {
+    match hit {
+        Hit::Inval => print(b"next INVAL\n"),
+        Hit::Nothing => print(b"next none\n"),
+        Hit::At(index) => {
+            print(b"next ");
+            io::print_decimal(STDOUT_FILENO, index as u64);
+            print(b"\n");
+        }
+    }
+}
+
+fn print_agreement(agreement: Agreement) {
+    match agreement {
+        Agreement::Inval => print(b"agrees INVAL\n"),
+        Agreement::No => print(b"agrees no\n"),
+        Agreement::Yes => print(b"agrees yes\n"),
+    }
+}
+
+fn print_built(done: bool) {
+    if done {
+        print(b"build OK\n");
+        return;
+    }
+    print(b"build INVAL\n");
+}
+
+// Asks all four of the words: how many, which is next at or after the index that the case has, whether they agree; then builds them.
+fn print_realm(input: &[u8], table: &[u8], words: &mut [u64]) {
+    let granules = cases::granules_at(input, 48);
+    let n = banks::granule_count(&granules) as usize;
+    let index = words::word_at(input, 64) as usize;
+    print_number(realm_words::count(words, n));
+    print_hit(realm_words::next(words, n, index));
+    print_agreement(realm_words::agrees(table, words, n));
+    print_built(realm_words::build(table, words, n));
+    cases::print_words(words);
+}
+
+// ---- The set-up ----
+
+fn print_record(granules: &[u64; 33]) {
+    print(b"record");
+    for i in 0..33usize {
+        print(b" ");
+        io::print_hex(STDOUT_FILENO, granules[i], 1);
+    }
+    print(b"\n");
+}
+
+// A set-up: the banks stand from 72 on.
+fn print_set_up(input: &[u8]) {
+    let mut granules = cases::granules_at(input, 48);
+    let n = cases::length_at(input, 64, 4096);
+    let shown = words::part_of(input, Span { at: 72, len: n });
+    let code = banks::set_up(shown, words::word_at(input, 56), &mut granules);
+    print(b"set_up");
+    cases::print_word(codes::x0(code));
+    print(b"\n");
+    print_record(&granules);
+}
+
+// A list, or all questions to the words, with room for them.
+fn print_lent(input: &[u8], table: &mut [u8], words: &mut [u64], list: &mut [u64])
+    requires { ⌜ (length (now table) ≤ 4200) × (length (now words) ≤ 600) × (length (now list) ≤ 600) ⌝ }
+{
+    let t = table.len();
+    words::copy(table, words::part_of(input, Span { at: 72, len: t }));
+    cases::fill_words(input, 48, words);
+    if words::word_at(input, 40) == 3 {
+        print_realm(input, table, words);
+        return;
+    }
+    print_list(input, table, words, list);
 }
 
 fn print_case(input: &[u8]) {
-    let mut table = [0u8; 600];
+    if words::word_at(input, 40) == 2 {
+        print_set_up(input);
+        return;
+    }
+    let mut table = [0u8; 4200];
+    let mut words = [0u64; 80];
     let mut list = [0u64; 600];
-    let t = cases::length_at(input, 48, 600);
-    let n = cases::length_at(input, 56, 600);
-    print_lent(input, &mut table[..t], &mut list[..n]);
+    let t = cases::length_at(input, 56, 4200);
+    let w = cases::length_at(input, cases::words_at(input, 48), 80);
+    let n = cases::length_at(input, 64, 600);
+    print_lent(input, &mut table[..t], &mut words[..w], &mut list[..n]);
 }
 
 fn main() {
-    let mut input = [0u8; 8192];
+    let mut input = [0u8; 12288];
     for n in 0..1000u64 {
         let length = cases::load(n, &mut input);
         if length == 0 {

@@ -1,78 +1,104 @@
 -- When delegation is OK, and what an OK did. Assumes nothing.
-use Prim.Native.Nat.{ℕ, _+_, _*_, _%_, _≤_, _<_}
+use Prim.Native.Nat.{ℕ, _/_, _<_}
 use mathlib.Core.Path.{_≡_, refl, sym, ap, _∙_}
-use mathlib.Core.Bool.{true, false≢true}
+use mathlib.Core.Bool.{true, false, false≢true}
 use native.Mathlib.Omega.{arith}
 use lib.ListN.{length, getD, length-set}
 use lib.Seq.{getD-set-same, getD-set-other}
-use borrow.Author.Tests.{leb-true, eqb-true, eq-eqb, le-leb, lt-ltb}
-use Rattle.words.proofs.Tests.{both-l, both-r, both-of}
+use borrow.Author.Tests.{eqb-true, eqb-false, eq-eqb, ne-eqb}
+use Rattle.words.specs.Tests.{Yes}
+use Rattle.banks.specs.Banks.{Granules, recordOk, granuleCount, granuleAt, addressOf}
 use Rattle.boot.specs.declared.Params.{Params}
 use Rattle.boot.specs.declared.Record.{Record}
 use Rattle.codes.specs.Codes.{isUp, upOf, isOk, whenUp, answerOf}
-use Rattle.codes.specs.declared.Code.the-variants.{Ok}
-use Rattle.codes.proofs.Gates.{unless-ok}
-use Rattle.granules.specs.Granules.{granuleOf, falls, granuleAt, GranuleTable, fromByte, toByte, granuleCode, moveCode, granuleSet, moved, Moved, movedBy, moveOf, movedTo}
+use Rattle.codes.specs.declared.Code.the-variants.{Ok, BadAddr}
+use Rattle.codes.proofs.Gates.{fails-ok, unless-ok}
+use Rattle.realm_words.specs.Bits.{wordsFor}
+use Rattle.realm_words.proofs.Laws.{realm-lt, put-same, put-other, put-length}
+use Rattle.banks.proofs.Laws.{falls, index-below, index-named, one-address}
+use Rattle.granules.specs.Granules.{GranuleTable, fromByte, toByte, guarded, granuleCode, moveCode, granuleSet, moved, Moved, movedBy, moveAt, whenFit, fitting, moveOf, movedTo}
 use Rattle.granules.specs.Acts.{MoveActed}
-use Rattle.granules.specs.declared.Granules.{Granules}
-use Rattle.granules.specs.declared.Granule.{Granule}
-use Rattle.granules.specs.declared.Granule.the-variants.{Nothing, At}
+use Rattle.banks.specs.declared.Granule.{Granule}
+use Rattle.banks.specs.declared.Granule.the-variants.{Nothing, At}
 use Rattle.granules.specs.declared.Direction.{Direction}
-use Rattle.granules.proofs.Moving.{granule-at, granule-in, move-ok, move-up}
+use Rattle.granules.specs.declared.Direction.the-variants.{Delegate, Undelegate}
+use Rattle.granules.proofs.Moving.{move-addr, move-guarded, move-ok, move-up}
 
--- ---- granule i of a table of n: its address is G + 4,096 i
+-- ---- granule i of a table: it is that of its bank's address, and of no other
 module _ (g : Granules) (n i : ℕ) where
-  granule-is : granuleOf g (g .start + 4096 * i) ≡ i
-  unfolding granuleOf
-  granule-is = omega arith
+  pub granule-on : Yes (recordOk g) → granuleCount g ≡ n → i < n → granuleAt g n (addressOf g i) ≡ At i
+  granule-on ok e h = rw (← e) (index-named g i ok (omega arith))
 
-  falls-on : g .start % 4096 ≡ 0 → i < n → falls g n (g .start + 4096 * i) ≡ true
-  unfolding falls
-  falls-on a h =
-      both-of _ _ (eq-eqb (g .start % 4096) 0 a)
-      (both-of _ _ (eq-eqb ((g .start + 4096 * i) % 4096) 0 (omega arith))
-      (both-of _ _ (le-leb (g .start) (g .start + 4096 * i) (omega arith))
-      (lt-ltb _ n (rw granule-is h))))
+  pub granule-address : (addr : ℕ) → granuleAt g n addr ≡ At i → addr ≡ addressOf g i
+  granule-address addr h =
+      let f = falls g n addr i h in
+      one-address g n addr (addressOf g i) i h (granule-on (f .ok) (f .count) (index-below g n addr i h))
 
-  pub granule-on : g .start % 4096 ≡ 0 → i < n → granuleAt g n (g .start + 4096 * i) ≡ At i
-  unfolding granuleAt
-  granule-on a h = rw (falls-on a h, granule-is)
+-- A refusal comes only where 01 and 02 give it: with as many words as the record's granules ask for, the record up and the address that
+-- of a granule of the table, not the shared page's if it is to be undelegated, whose byte is 0 (delegate) or 1 (undelegate), the answer is OK.
+pub move-passes : (s : Record) (g : Granules) (d : Direction) (t : GranuleTable) (addr i : ℕ) → length (t .words) ≡ wordsFor (granuleCount g) → isUp s ≡ true → granuleAt g (length (t .bytes)) addr ≡ At i →
+    (d ≡ Undelegate → addr ≡ upOf s .base → ⊥) → getD (t .bytes) i 0 ≡ fromByte d → moveOf s g d t addr .answer ≡ answerOf Ok 0 0
+unfolding movedTo guarded
+move-passes s g d t addr i f u e n b =
+    ap (λ (m : Moved). m .answer) (sym (move-ok (upOf s) g d (t .bytes) (t .words) addr i e (go d n) b (toByte d) refl ∙ move-up s g d t addr (eq-eqb (length (t .words)) (wordsFor (granuleCount g)) f) u))
+  where
+    go : (d : Direction) → (d ≡ Undelegate → addr ≡ upOf s .base → ⊥) → guarded (upOf s) d addr ≡ false
+    go Delegate n = refl
+    go Undelegate n = ne-eqb addr (upOf s .base) (n refl)
 
-  pub granule-address : (addr : ℕ) → granuleAt g n addr ≡ At i → addr ≡ g .start + 4096 * i
-  unfolding falls granuleOf
-  granule-address addr e =
-      let p = granule-at g n addr i e in
-      let a : g .start % 4096 ≡ 0 = eqb-true _ _ (both-l _ _ (p .0)) in
-      let b : addr % 4096 ≡ 0 = eqb-true _ _ (both-l _ _ (both-r _ _ (p .0))) in
-      let c : g .start ≤ addr = leb-true _ _ (both-l _ _ (both-r _ _ (both-r _ _ (p .0)))) in
-      omega (arith, p .1)
+-- 02, E8: with so many words and the record up, undelegating the shared page is BAD_ADDR, whatever the table
+pub shared-refused : (s : Record) (g : Granules) (t : GranuleTable) → length (t .words) ≡ wordsFor (granuleCount g) → isUp s ≡ true → moveOf s g Undelegate t (upOf s .base) ≡ record { answer = answerOf BadAddr 0 0; table = t }
+unfolding movedTo guarded
+shared-refused s g t f u = sym (go (granuleAt g (length (t .bytes)) (upOf s .base)) refl ∙ move-up s g Undelegate t (upOf s .base) (eq-eqb (length (t .words)) (wordsFor (granuleCount g)) f) u)
+  where
+    go : (k : Granule) → granuleAt g (length (t .bytes)) (upOf s .base) ≡ k → _≡_ {A = Moved} (record { answer = answerOf BadAddr 0 0; table = t }) (moveAt (upOf s) g Undelegate t (upOf s .base))
+    go Nothing e = move-addr (upOf s) g Undelegate (t .bytes) (t .words) (upOf s .base) e
+    go (At i) e = move-guarded (upOf s) g Undelegate (t .bytes) (t .words) (upOf s .base) i e (eq-eqb (upOf s .base) (upOf s .base) refl)
 
--- A refusal comes only where 01 gives it: with the record up and the address that of a granule of the table, whose byte is 0
--- (delegate) or 1 (undelegate), the answer is OK.
-pub move-passes : (s : Record) (g : Granules) (d : Direction) (t : GranuleTable) (addr i : ℕ) → isUp s ≡ true → granuleAt g (length (t .bytes)) addr ≡ At i → getD (t .bytes) i 0 ≡ fromByte d →
-    moveOf s g d t addr .answer ≡ answerOf Ok 0 0
-unfolding movedTo
-move-passes s g d t addr i u e b = ap (λ (m : Moved). m .answer) (sym (move-ok (upOf s) g d (t .bytes) addr i e b (toByte d) refl ∙ move-up s g d t addr u))
+-- the granule's bit is in one of the words
+word-of : (g : Granules) (t : GranuleTable) (addr i : ℕ) → length (t .words) ≡ wordsFor (granuleCount g) → granuleAt g (length (t .bytes)) addr ≡ At i → i / 64 < length (t .words)
+unfolding wordsFor
+word-of g t addr i f e =
+    let l : i < length (t .bytes) = index-below g (length (t .bytes)) addr i e in
+    let n : granuleCount g ≡ length (t .bytes) = falls g (length (t .bytes)) addr i e .count in
+    omega arith
 
-acted : (u : Params) (g : Granules) (d : Direction) (t : GranuleTable) (addr : ℕ) (k : Granule) → granuleAt g (length (t .bytes)) addr ≡ k → granuleCode u d t addr k ≡ Ok → MoveActed g d t (granuleSet d t k) addr
+acted : (u : Params) (g : Granules) (d : Direction) (t : GranuleTable) (addr : ℕ) (k : Granule) → length (t .words) ≡ wordsFor (granuleCount g) → granuleAt g (length (t .bytes)) addr ≡ k → granuleCode u d t addr k ≡ Ok → MoveActed g d t (granuleSet d t k) addr
 unfolding granuleCode granuleSet
-acted u g d t addr Nothing e h = absurd (false≢true (ap isOk h))
-acted u g d t addr (At i) e h =
+acted u g d t addr Nothing f e h = absurd (false≢true (ap isOk h))
+acted u g d t addr (At i) f e h =
     record {
       granule = i;
       own = e;
-      was = eqb-true _ _ (unless-ok _ _ _ refl h .0);
-      becomes = getD-set-same (t .bytes) i (toByte d) 0 (granule-in g (length (t .bytes)) addr i e);
+      was = eqb-true _ _ (unless-ok _ _ _ refl (fails-ok _ _ _ refl h .1) .0);
+      becomes = getD-set-same (t .bytes) i (toByte d) 0 (index-below g (length (t .bytes)) addr i e);
       others = λ j n. getD-set-other (t .bytes) i j _ 0 n;
       whole = length-set (t .bytes) i _;
+      bit = put-same (t .words) i _ (word-of g t addr i f e) (realm-lt (toByte d));
+      otherBits = λ j n. put-other (t .words) i j _ (realm-lt (toByte d)) n;
+      wholeWords = put-length (t .words) i _;
     }
 
--- and only with the record up; what else an OK tells is part of what it did
-pub move-only : (s : Record) (g : Granules) (d : Direction) (t : GranuleTable) (addr : ℕ) → moveOf s g d t addr .answer .code ≡ Ok → isUp s ≡ true
-unfolding moveOf movedBy whenUp answerOf
-move-only s g d t addr h = unless-ok _ _ _ refl h .0
+-- what an OK tells of the checks that no byte is looked at for
+free : (u : Params) (d : Direction) (t : GranuleTable) (addr : ℕ) (k : Granule) → granuleCode u d t addr k ≡ Ok → guarded u d addr ≡ false
+unfolding granuleCode
+free u d t addr Nothing h = absurd (false≢true (ap isOk h))
+free u d t addr (At i) h = fails-ok _ _ _ refl h .0
+
+pub move-free : (s : Record) (g : Granules) (d : Direction) (t : GranuleTable) (addr : ℕ) → moveOf s g d t addr .answer .code ≡ Ok → (fitting g t ≡ true) × (isUp s ≡ true) × (guarded (upOf s) d addr ≡ false)
+unfolding moveOf movedBy moveCode whenFit whenUp answerOf
+move-free s g d t addr h =
+    let p = unless-ok _ _ _ refl h in
+    let q = unless-ok _ _ _ refl (p .1) in
+    (p .0, q .0, free (upOf s) d t addr _ (q .1))
+
+-- and only with so many words, the record up, and not the shared page's to be undelegated; what else an OK tells is part of what it did
+pub move-only : (s : Record) (g : Granules) (d : Direction) (t : GranuleTable) (addr : ℕ) → moveOf s g d t addr .answer .code ≡ Ok →
+    (length (t .words) ≡ wordsFor (granuleCount g)) × (isUp s ≡ true) × (d ≡ Undelegate → addr ≡ upOf s .base → ⊥)
+unfolding guarded fitting
+move-only s g d t addr h = let p = move-free s g d t addr h in (eqb-true _ _ (p .0), p .1, λ e. eqb-false addr (upOf s .base) (rw e at (p .2)))
 
 -- "Then it becomes 1 or 0."
 pub move-acts : (s : Record) (g : Granules) (d : Direction) (t : GranuleTable) (addr : ℕ) → moveOf s g d t addr .answer .code ≡ Ok → MoveActed g d t (moveOf s g d t addr .table) addr
-unfolding moveOf movedBy moveCode moved whenUp answerOf
-move-acts s g d t addr h = rw h (acted _ g d t addr _ refl (unless-ok _ _ _ refl h .1))
+unfolding moveOf movedBy moveCode moved whenFit whenUp answerOf
+move-acts s g d t addr h = let p = unless-ok _ _ _ refl h in rw h (acted _ g d t addr _ (eqb-true _ _ (p .0)) refl (unless-ok _ _ _ refl (p .1) .1))

@@ -7,23 +7,22 @@ use native.Mathlib.Nat.{zero-add, add-zero, add-suc, suc-add}
 use native.Mathlib.Omega.{arith}
 use lib.Dec.{eqb}
 use lib.ListN.{length, take, getD}
-use borrow.Author.Tests.{eqb-true, eqb-false}
+use borrow.Author.Tests.{eqb-true, eqb-false, eq-eqb}
 use Rattle.boot.specs.declared.Record.{Record}
-use Rattle.codes.specs.Codes.{isUp, upOf, whenUp, isOk, answerOf}
+use Rattle.codes.specs.Codes.{isUp, upOf, isOk, unless, fails, answerOf}
 use Rattle.codes.specs.declared.Code.{Code}
 use Rattle.codes.specs.declared.Code.the-variants.{Ok, Unk, BadAddr, BadPas, Inval, Again}
-use Rattle.codes.proofs.Gates.{unless-ok}
-use Rattle.granules.specs.Granules.{GranuleTable, granuleAt, fromByte, toByte, Moved, movedBy, moveOf, movedTo}
+use Rattle.banks.specs.Banks.{Granules, granuleAt}
+use Rattle.granules.specs.Granules.{GranuleTable, fromByte, toByte, guarded, Moved, movedBy, fitting, whenFit, moveOf, movedTo}
 use Rattle.granules.specs.Acts.{MoveActed}
 use Rattle.granules.specs.Lists.{onward, listBy, moveListOf, doneBy, tableBy, codeBy, codeAt, Longest}
-use Rattle.granules.specs.declared.Granules.{Granules}
-use Rattle.granules.specs.declared.Granule.the-variants.{At}
+use Rattle.banks.specs.declared.Granule.the-variants.{At}
 use Rattle.granules.specs.declared.Direction.{Direction}
 use Rattle.granules.specs.declared.Direction.the-variants.{Delegate, Undelegate}
-use Rattle.granules.proofs.Moving.{move-refused, move-up, move-pas}
-use Rattle.granules.proofs.Acts.{move-acts}
+use Rattle.granules.proofs.Moving.{move-refused, move-unfit, move-up, move-pas, fit-kept}
+use Rattle.granules.proofs.Acts.{move-free, move-acts}
 
-ok-code : (k : Code) → isOk k ≡ true → k ≡ Ok
+pub ok-code : (k : Code) → isOk k ≡ true → k ≡ Ok
 ok-code Ok h = refl
 ok-code Unk h = absurd (false≢true h)
 ok-code BadAddr h = absurd (false≢true h)
@@ -74,14 +73,25 @@ module _ (f : GranuleTable → ℕ → Moved) where
 
 -- ---- the command's
 module _ (s : Record) (g : Granules) (d : Direction) where
-  stays : (t : GranuleTable) (a : ℕ) → isOk (moveOf s g d t a .answer .code) ≡ false → moveOf s g d t a .table ≡ t
+  pub stays : (t : GranuleTable) (a : ℕ) → isOk (moveOf s g d t a .answer .code) ≡ false → moveOf s g d t a .table ≡ t
   stays t a h = ap (λ (m : Moved). m .table) (move-refused s g d t a h)
 
-  -- "The result, the table and the number done equal single calls made in list order, stopping at the first refusal."
+  unfit-done : (t : GranuleTable) (l : List ℕ) → fitting g t ≡ false → doneBy (moveOf s g d) t l ≡ 0
+  unfolding doneBy movedBy answerOf
+  unfit-done t [] f = refl
+  unfit-done t (a ∷ l) f = rw (← move-unfit s g d t a f)
+
+  -- "The result, the table and the number done equal single calls made in list order, stopping at the first refusal.": with words that
+  -- are not as many as they must be none is done, and an empty list is INVAL too
   pub list-is : (t : GranuleTable) (l : List ℕ) → moveListOf s g d t l ≡
-      record { answer = answerOf (codeBy (moveOf s g d) t l) (doneBy (moveOf s g d) t l) 0; table = tableBy (moveOf s g d) t (take (doneBy (moveOf s g d) t l) l) }
-  unfolding moveListOf
-  list-is t l = list-by (moveOf s g d) stays 0 t l ∙ rw zero-add
+      record { answer = answerOf (whenFit g t (codeBy (moveOf s g d) t l)) (doneBy (moveOf s g d) t l) 0; table = tableBy (moveOf s g d) t (take (doneBy (moveOf s g d) t l) l) }
+  unfolding moveListOf movedBy tableBy whenFit unless fails
+  list-is t l = go (fitting g t) refl
+    where
+      go : (b : Bool) → fitting g t ≡ b → moveListOf s g d t l ≡
+          record { answer = answerOf (whenFit g t (codeBy (moveOf s g d) t l)) (doneBy (moveOf s g d) t l) 0; table = tableBy (moveOf s g d) t (take (doneBy (moveOf s g d) t l) l) }
+      go true f = rw f (list-by (moveOf s g d) stays 0 t l ∙ rw zero-add)
+      go false f = rw (f, unfit-done t l f)
 
   -- ---- an address that comes again
   -- the byte that a granule gets stays, whatever else the list does
@@ -101,24 +111,28 @@ module _ (s : Record) (g : Granules) (d : Direction) where
       go Undelegate h = absurd (omega arith)
 
   -- the single call of an address whose granule has the byte that it would get
-  marked-refused : (t : GranuleTable) (a i : ℕ) → isUp s ≡ true → granuleAt g (length (t .bytes)) a ≡ At i → getD (t .bytes) i 0 ≡ toByte d → moveOf s g d t a .answer .code ≡ BadPas
+  marked-refused : (t : GranuleTable) (a i : ℕ) → fitting g t ≡ true → isUp s ≡ true → guarded (upOf s) d a ≡ false → granuleAt g (length (t .bytes)) a ≡ At i → getD (t .bytes) i 0 ≡ toByte d → moveOf s g d t a .answer .code ≡ BadPas
   unfolding movedTo answerOf
-  marked-refused t a i u e h = ap (λ (m : Moved). m .answer .code) (sym (move-pas (upOf s) g d (t .bytes) a i e (λ b. differs (sym h ∙ b)) ∙ move-up s g d t a u))
+  marked-refused t a i f u n e h = ap (λ (m : Moved). m .answer .code) (sym (move-pas (upOf s) g d (t .bytes) (t .words) a i e n (λ b. differs (sym h ∙ b)) ∙ move-up s g d t a f u))
 
-  again-from : (u : isUp s ≡ true) (l : List ℕ) (t : GranuleTable) (j a i : ℕ) → granuleAt g (length (t .bytes)) a ≡ At i → getD (t .bytes) i 0 ≡ toByte d → getD l j 0 ≡ a → j < length l →
+  again-from : (l : List ℕ) (t : GranuleTable) (j a i : ℕ) → fitting g t ≡ true → (isUp s ≡ true) × (guarded (upOf s) d a ≡ false) → granuleAt g (length (t .bytes)) a ≡ At i → getD (t .bytes) i 0 ≡ toByte d → getD l j 0 ≡ a → j < length l →
       j ≤ doneBy (moveOf s g d) t l → (doneBy (moveOf s g d) t l ≡ j) × (codeBy (moveOf s g d) t l ≡ BadPas)
   unfolding doneBy codeBy
-  again-from u [] t j a i e h n m r = absurd (omega arith)
-  again-from u (b ∷ l) t zero a i e h n m r = rw (n, marked-refused t a i u e h) (refl, refl)
-  again-from u (b ∷ l) t (suc j) a i e h n m r =
+  again-from [] t j a i f u e h n m r = absurd (omega arith)
+  again-from (b ∷ l) t zero a i f u e h n m r = rw (n, marked-refused t a i f (u .0) (u .1) e h) (refl, refl)
+  again-from (b ∷ l) t (suc j) a i f u e h n m r =
       let k = first-done (moveOf s g d) t b l (omega arith) in
       let acts = move-acts s g d t b (ok-code _ k) in
-      let p = again-from u l (moveOf s g d t b .table) j a i (rw (acts .whole) e) (mark-stays t _ b i acts h) n (omega arith) (let q : suc j ≤ suc (doneBy (moveOf s g d) (moveOf s g d t b .table) l) = rw k at r in omega arith) in
+      let p = again-from l (moveOf s g d t b .table) j a i (fit-kept s g d t b f) u (rw (acts .whole) e) (mark-stays t _ b i acts h) n (omega arith) (let q : suc j ≤ suc (doneBy (moveOf s g d) (moveOf s g d t b .table) l) = rw k at r in omega arith) in
       rw k (ap suc (p .0), p .1)
 
-  ok-up : (t : GranuleTable) (a : ℕ) → moveOf s g d t a .answer .code ≡ Ok → isUp s ≡ true
-  unfolding moveOf movedBy whenUp answerOf
-  ok-up t a h = unless-ok _ _ _ refl h .0
+  ok-fit : (t : GranuleTable) (a : ℕ) → moveOf s g d t a .answer .code ≡ Ok → fitting g t ≡ true
+  ok-fit t a h = move-free s g d t a h .0
+
+  done-fit : (t : GranuleTable) (l : List ℕ) → 0 < doneBy (moveOf s g d) t l → fitting g t ≡ true
+  unfolding doneBy
+  done-fit t [] h = absurd (omega arith)
+  done-fit t (a ∷ l) h = ok-fit t a (ok-code _ (first-done (moveOf s g d) t a l h))
 
   again : (l : List ℕ) (t : GranuleTable) (i j : ℕ) → i < j → j < length l → getD l i 0 ≡ getD l j 0 → j ≤ doneBy (moveOf s g d) t l → (doneBy (moveOf s g d) t l ≡ j) × (codeBy (moveOf s g d) t l ≡ BadPas)
   unfolding doneBy codeBy
@@ -128,7 +142,7 @@ module _ (s : Record) (g : Granules) (d : Direction) where
       let k = first-done (moveOf s g d) t b l (omega arith) in
       let acts = move-acts s g d t b (ok-code _ k) in
       let q : suc j ≤ suc (doneBy (moveOf s g d) (moveOf s g d t b .table) l) = rw k at r in
-      let p = again-from (ok-up t b (ok-code _ k)) l (moveOf s g d t b .table) j b (acts .granule) (rw (acts .whole) (acts .own)) (acts .becomes) (sym e) (omega arith) (omega arith) in
+      let p = again-from l (moveOf s g d t b .table) j b (acts .granule) (fit-kept s g d t b (ok-fit t b (ok-code _ k))) (move-free s g d t b (ok-code _ k) .1, move-free s g d t b (ok-code _ k) .2) (rw (acts .whole) (acts .own)) (acts .becomes) (sym e) (omega arith) (omega arith) in
       rw k (ap suc (p .0), p .1)
   again (b ∷ l) t (suc i) (suc j) h m e r =
       let k = first-done (moveOf s g d) t b l (omega arith) in
@@ -140,4 +154,5 @@ module _ (s : Record) (g : Granules) (d : Direction) where
   -- and all calls before the j-th are accepted
   pub list-again : (t : GranuleTable) (l : List ℕ) (i j : ℕ) → i < j → j < length l → getD l i 0 ≡ getD l j 0 → j ≤ doneBy (moveOf s g d) t l →
       moveListOf s g d t l ≡ record { answer = answerOf BadPas j 0; table = tableBy (moveOf s g d) t (take j l) }
-  list-again t l i j h m e r = let p = again l t i j h m e r in list-is t l ∙ rw (p .0, p .1)
+  unfolding whenFit unless fails
+  list-again t l i j h m e r = let p = again l t i j h m e r in list-is t l ∙ rw (done-fit t l (omega arith), p .0, p .1)

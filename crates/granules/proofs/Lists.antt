@@ -9,12 +9,12 @@ use lib.ListN.{length, getD, drop}
 use lib.Seq.{drop-cons, drop-length}
 use Rattle.boot.specs.declared.Record.{Record}
 use Rattle.codes.specs.Codes.{isUp, upOf, isOk, answerOf}
-use Rattle.codes.specs.declared.Code.the-variants.{Ok, Unk}
-use Rattle.granules.specs.Granules.{GranuleTable, Moved, movedBy, moveAt, moveOf}
+use Rattle.codes.specs.declared.Code.the-variants.{Ok, Unk, Inval}
+use Rattle.banks.specs.Banks.{Granules}
+use Rattle.granules.specs.Granules.{GranuleTable, Moved, movedBy, moveAt, fitting, moveOf}
 use Rattle.granules.specs.Lists.{onward, listBy, moveListOf}
-use Rattle.granules.specs.declared.Granules.{Granules}
 use Rattle.granules.specs.declared.Direction.{Direction}
-use Rattle.granules.proofs.Moving.{move-down, move-up}
+use Rattle.granules.proofs.Moving.{move-down, move-up, fit-kept}
 
 -- ---- one more call
 onward-ok : (m : Moved) (k : ℕ) (rest : Moved) → isOk (m .answer .code) ≡ true → onward m k rest ≡ rest
@@ -46,25 +46,40 @@ module _ (f : GranuleTable → ℕ → Moved) (l : List ℕ) (i : ℕ) (t : Gran
     list-stop k = sym (here ∙ onward-stop m i _ k)
 
 -- ---- the record is looked at once
-same-list : (f h : GranuleTable → ℕ → Moved) → ((t : GranuleTable) (a : ℕ) → f t a ≡ h t a) → (k : ℕ) (t : GranuleTable) (l : List ℕ) → listBy f k t l ≡ listBy h k t l
-unfolding listBy
-same-list f h e k t [] = refl
-same-list f h e k t (a ∷ l) = ap (λ (m : Moved). onward m k (listBy f (suc k) (m .table) l)) (e t a) ∙ ap (onward (h t a) k) (same-list f h e (suc k) (h t a .table) l)
+-- two single calls that are one on tables of a kind, which the second leaves
+module _ (P : GranuleTable → Type 0) (f h : GranuleTable → ℕ → Moved) (e : (t : GranuleTable) (a : ℕ) → P t → f t a ≡ h t a) (kept : (t : GranuleTable) (a : ℕ) → P t → P (h t a .table)) where
+  same-list : (k : ℕ) (t : GranuleTable) (l : List ℕ) → P t → listBy f k t l ≡ listBy h k t l
+  unfolding listBy
+  same-list k t [] p = refl
+  same-list k t (a ∷ l) p = ap (λ (m : Moved). onward m k (listBy f (suc k) (m .table) l)) (e t a p) ∙ ap (onward (h t a) k) (same-list (suc k) (h t a .table) l (kept t a p))
 
 module _ (s : Record) (g : Granules) (d : Direction) (t : GranuleTable) where
-  pub list-up : isUp s ≡ true → (l : List ℕ) → listBy (moveAt (upOf s) g d) 0 t l ≡ moveListOf s g d t l
+  pub list-unfit : fitting g t ≡ false → (l : List ℕ) → movedBy Inval t t ≡ moveListOf s g d t l
   unfolding moveListOf
-  list-up h l = same-list (moveAt (upOf s) g d) (moveOf s g d) (λ t a. move-up s g d t a h) 0 t l
+  list-unfit f l = rw f
 
-  pub list-none : (l : List ℕ) → length l ≡ 0 → _≡_ {A = Moved} (record { answer = answerOf Ok 0 0; table = t }) (moveListOf s g d t l)
-  unfolding moveListOf listBy
-  list-none l h = go l h
-    where
-      go : (l : List ℕ) → length l ≡ 0 → _≡_ {A = Moved} (record { answer = answerOf Ok 0 0; table = t }) (listBy (moveOf s g d) 0 t l)
-      go [] h = refl
-      go (a ∷ l) h = absurd (omega arith)
+  module _ (f : fitting g t ≡ true) where
+    list-fit : (l : List ℕ) → listBy (moveOf s g d) 0 t l ≡ moveListOf s g d t l
+    unfolding moveListOf
+    list-fit l = rw f
 
-  pub list-down : isUp s ≡ false → (l : List ℕ) → (length l ≡ 0 → ⊥) → _≡_ {A = Moved} (record { answer = answerOf Unk 0 0; table = t }) (moveListOf s g d t l)
-  unfolding moveListOf listBy onward movedBy answerOf
-  list-down h [] n = absurd (n refl)
-  list-down h (a ∷ l) n = rw (← move-down s g d t a h)
+    pub list-up : isUp s ≡ true → (l : List ℕ) → listBy (moveAt (upOf s) g d) 0 t l ≡ moveListOf s g d t l
+    list-up h l =
+        same-list (λ x. fitting g x ≡ true) (moveAt (upOf s) g d) (moveOf s g d) (λ x a p. move-up s g d x a p h) (λ x a p. fit-kept s g d x a p) 0 t l f
+        ∙ list-fit l
+
+    pub list-none : (l : List ℕ) → length l ≡ 0 → _≡_ {A = Moved} (record { answer = answerOf Ok 0 0; table = t }) (moveListOf s g d t l)
+    unfolding listBy
+    list-none l h = go l h ∙ list-fit l
+      where
+        go : (l : List ℕ) → length l ≡ 0 → _≡_ {A = Moved} (record { answer = answerOf Ok 0 0; table = t }) (listBy (moveOf s g d) 0 t l)
+        go [] h = refl
+        go (a ∷ l) h = absurd (omega arith)
+
+    first-down : isUp s ≡ false → (a : ℕ) (l : List ℕ) → _≡_ {A = Moved} (record { answer = answerOf Unk 0 0; table = t }) (listBy (moveOf s g d) 0 t (a ∷ l))
+    unfolding listBy onward movedBy answerOf
+    first-down h a l = rw (← move-down s g d t a f h)
+
+    pub list-down : isUp s ≡ false → (l : List ℕ) → (length l ≡ 0 → ⊥) → _≡_ {A = Moved} (record { answer = answerOf Unk 0 0; table = t }) (moveListOf s g d t l)
+    list-down h [] n = absurd (n refl)
+    list-down h (a ∷ l) n = first-down h a l ∙ list-fit (a ∷ l)

@@ -1,75 +1,101 @@
 -- Delegation, return by return, and what a refusal leaves. Assumes nothing.
-use Prim.Native.Nat.{ℕ, _<_}
-use mathlib.Core.Path.{_≡_, refl}
-use mathlib.Core.Bool.{Bool, true, false, cond}
+use Prim.Native.Nat.{ℕ, _/_}
+use mathlib.Core.Path.{_≡_, refl, sym, ap, _∙_}
+use mathlib.Core.Bool.{Bool, true, false}
 use mathlib.Core.List.{List}
-use native.Mathlib.Omega.{arith}
 use lib.ListN.{length, getD, set, length-set}
-use borrow.Author.Tests.{ltb-true, eq-eqb, ne-eqb}
-use Rattle.words.proofs.Tests.{both-r}
+use lib.Dec.{eqb}
+use borrow.Author.Tests.{eq-eqb, ne-eqb}
+use Rattle.realm_words.specs.Bits.{realmBit, putBit, wordsFor}
+use Rattle.realm_words.specs.Answers.{wordsFit}
+use Rattle.banks.specs.Banks.{Granules, granuleCount, placeOf, placedIn, granuleAt, foundAt}
 use Rattle.boot.specs.declared.Params.{Params}
 use Rattle.boot.specs.declared.Record.{Record}
 use Rattle.codes.specs.Codes.{isUp, unless, fails, upOf, whenUp, isOk, answerOf}
-use Rattle.codes.specs.declared.Code.the-variants.{Ok, Unk, BadAddr, BadPas}
+use Rattle.codes.specs.declared.Code.{Code}
+use Rattle.codes.specs.declared.Code.the-variants.{Ok, Unk, BadAddr, BadPas, Inval}
 use Rattle.codes.proofs.Gates.{if-ok-by}
-use Rattle.granules.specs.Granules.{granuleOf, falls, granuleAt, GranuleTable, fromByte, toByte, granuleCode, moveCode, granuleSet, moved, movedBy, moveAt, moveOf, movedTo}
-use Rattle.granules.specs.declared.Granules.{Granules}
-use Rattle.granules.specs.declared.Granule.{Granule}
-use Rattle.granules.specs.declared.Granule.the-variants.{Nothing, At}
+use Rattle.banks.proofs.Laws.{index-below, judged-once}
+use Rattle.granules.specs.Granules.{Inside, GranuleTable, tableOf, fromByte, toByte, guarded, granuleCode, moveCode, granuleSet, moved, movedBy, moveAt, fitting, whenFit, moveOf, movedTo}
+use Rattle.banks.specs.declared.Granule.{Granule}
+use Rattle.banks.specs.declared.Granule.the-variants.{Nothing, At}
 use Rattle.granules.specs.declared.Direction.{Direction}
 
-pick : Bool → ℕ → Granule
-pick b i = cond b (At i) Nothing
+-- ---- the granule of an address by a record that was judged once and has m granules, and that it lies within the table
+pub found-is : (g : Granules) (m n addr : ℕ) (k : Granule) → m ≡ granuleCount g → k ≡ foundAt g m n addr → k ≡ granuleAt g n addr
+found-is g m n addr k c f = f ∙ ap (λ x. foundAt g x n addr) c ∙ judged-once g n addr
 
-pick-at : (b : Bool) (i j : ℕ) → pick b i ≡ At j → (b ≡ true) × (j ≡ i)
-unfolding pick
-pick-at true i j h = (refl, cc)
-pick-at false i j h = let z : _≡_ {A = ℕ} 0 1 = cc in absurd (omega arith)
+-- by one pass over the record, which found m granules and the place p
+pub placed-is : (g : Granules) (m n addr : ℕ) (p k : Granule) → m ≡ granuleCount g → p ≡ placeOf g addr → k ≡ placedIn m p n addr → k ≡ granuleAt g n addr
+unfolding granuleAt
+placed-is g m n addr p k c f e = e ∙ rw (c, f)
 
-module _ (g : Granules) (n addr : ℕ) where
-  pub granule-at : (i : ℕ) → granuleAt g n addr ≡ At i → (falls g n addr ≡ true) × (i ≡ granuleOf g addr)
-  unfolding granuleAt pick
-  granule-at i h = pick-at (falls g n addr) (granuleOf g addr) i h
+-- whether the words fit, by the m granules of the record
+pub fit-told : (g : Granules) (bytes words : List ℕ) (m : ℕ) (r b : Bool) → m ≡ granuleCount g → r ≡ wordsFit words m → r ≡ b → fitting g (tableOf bytes words) ≡ b
+fit-told g bytes words m r b c e h = ap (wordsFit words) (sym c) ∙ sym e ∙ h
 
-  -- what the rest asks of the granule record: a granule of the table is below its length
-  pub granule-in : (i : ℕ) → granuleAt g n addr ≡ At i → i < n
-  unfolding falls
-  granule-in i h = let p = granule-at i h in rw (p .1) (ltb-true _ _ (both-r _ _ (both-r _ _ (both-r _ _ (p .0)))))
+pub granule-inside : (g : Granules) (t : List ℕ) (addr : ℕ) (k : Granule) → k ≡ granuleAt g (length t) addr → Inside k t
+granule-inside g t addr k e i h = index-below g (length t) addr i (sym e ∙ h)
 
 -- ---- a record that is up
-module _ (u : Params) (g : Granules) (d : Direction) (t : List ℕ) (addr : ℕ) where
-  pub move-addr : granuleAt g (length t) addr ≡ Nothing → movedTo (answerOf BadAddr 0 0) t ≡ moveAt u g d (record { bytes = t }) addr
+module _ (u : Params) (g : Granules) (d : Direction) (t ws : List ℕ) (addr : ℕ) where
+  pub move-addr : granuleAt g (length t) addr ≡ Nothing → movedTo (answerOf BadAddr 0 0) t ws ≡ moveAt u g d (tableOf t ws) addr
   unfolding movedTo moveAt movedBy moveCode granuleCode moved granuleSet
   move-addr e = rw e
 
   module _ (i : ℕ) (e : granuleAt g (length t) addr ≡ At i) where
-    pub move-pas : (getD t i 0 ≡ fromByte d → ⊥) → movedTo (answerOf BadPas 0 0) t ≡ moveAt u g d (record { bytes = t }) addr
-    unfolding movedTo moveAt movedBy moveCode granuleCode moved granuleSet unless fails
-    move-pas n = rw (e, ne-eqb (getD t i 0) (fromByte d) n)
+    pub move-guarded : guarded u d addr ≡ true → movedTo (answerOf BadAddr 0 0) t ws ≡ moveAt u g d (tableOf t ws) addr
+    unfolding movedTo moveAt movedBy moveCode granuleCode moved granuleSet fails
+    move-guarded k = rw (e, k)
 
-    pub move-ok : getD t i 0 ≡ fromByte d → (v : ℕ) → v ≡ toByte d → movedTo (answerOf Ok 0 0) (set t i v) ≡ moveAt u g d (record { bytes = t }) addr
-    unfolding movedTo moveAt movedBy moveCode granuleCode moved granuleSet unless fails
-    move-ok b v y = rw (e, eq-eqb (getD t i 0) (fromByte d) b, y)
+    module _ (k : guarded u d addr ≡ false) where
+      pub move-pas : (getD t i 0 ≡ fromByte d → ⊥) → movedTo (answerOf BadPas 0 0) t ws ≡ moveAt u g d (tableOf t ws) addr
+      unfolding movedTo moveAt movedBy moveCode granuleCode moved granuleSet unless fails
+      move-pas n = rw (e, k, ne-eqb (getD t i 0) (fromByte d) n)
 
--- no call changes how many granules there are
-set-length : (d : Direction) (t : GranuleTable) (k : Granule) → length (granuleSet d t k .bytes) ≡ length (t .bytes)
-unfolding granuleSet
-set-length d t Nothing = refl
-set-length d t (At i) = length-set (t .bytes) i _
+      pub move-ok : getD t i 0 ≡ fromByte d → (v : ℕ) → v ≡ toByte d → movedTo (answerOf Ok 0 0) (set t i v) (putBit ws i (realmBit v)) ≡ moveAt u g d (tableOf t ws) addr
+      unfolding movedTo moveAt movedBy moveCode granuleCode moved granuleSet unless fails
+      move-ok b v y = rw (e, k, eq-eqb (getD t i 0) (fromByte d) b, y)
 
-pub move-length : (u : Params) (g : Granules) (d : Direction) (t : GranuleTable) (addr : ℕ) → length (moveAt u g d t addr .table .bytes) ≡ length (t .bytes)
-unfolding moveAt movedBy moved
-move-length u g d t addr = if-ok-by (λ (x : GranuleTable). length (x .bytes) ≡ length (t .bytes)) (moveCode u g d t addr) _ t (λ e. set-length d t _) (λ e. refl)
+-- no call changes how many bytes or words there are
+abbrev pub AsLong : GranuleTable → GranuleTable → Type 0
+AsLong t after = (length (after .bytes) ≡ length (t .bytes)) × (length (after .words) ≡ length (t .words))
+
+set-lengths : (d : Direction) (t : GranuleTable) (k : Granule) → AsLong t (granuleSet d t k)
+unfolding granuleSet putBit
+set-lengths d t Nothing = (refl, refl)
+set-lengths d t (At i) = (length-set (t .bytes) i _, length-set (t .words) (i / 64) _)
+
+by-lengths : (k : Code) (g : Granules) (d : Direction) (t : GranuleTable) (addr : ℕ) → AsLong t (movedBy k (moved g d t addr) t .table)
+unfolding movedBy moved
+by-lengths k g d t addr = if-ok-by (AsLong t) k _ t (λ e. set-lengths d t _) (λ e. (refl, refl))
+
+pub move-lengths : (u : Params) (g : Granules) (d : Direction) (t : GranuleTable) (addr : ℕ) → AsLong t (moveAt u g d t addr .table)
+unfolding moveAt
+move-lengths u g d t addr = by-lengths (moveCode u g d t addr) g d t addr
 
 -- ---- any record
 module _ (s : Record) (g : Granules) (d : Direction) (t : GranuleTable) (addr : ℕ) where
-  pub move-down : isUp s ≡ false → movedBy Unk t t ≡ moveOf s g d t addr
-  unfolding moveOf movedBy whenUp unless fails
-  move-down h = rw h
+  pub lengths-kept : AsLong t (moveOf s g d t addr .table)
+  unfolding moveOf
+  lengths-kept = by-lengths _ g d t addr
 
-  pub move-up : isUp s ≡ true → moveAt (upOf s) g d t addr ≡ moveOf s g d t addr
-  unfolding moveOf moveAt whenUp unless fails
-  move-up h = rw h
+  pub move-unfit : fitting g t ≡ false → movedBy Inval t t ≡ moveOf s g d t addr
+  unfolding moveOf movedBy whenFit unless fails
+  move-unfit h = rw h
+
+  module _ (f : fitting g t ≡ true) where
+    pub move-down : isUp s ≡ false → movedBy Unk t t ≡ moveOf s g d t addr
+    unfolding moveOf movedBy whenFit whenUp unless fails
+    move-down h = rw (f, h)
+
+    pub move-up : isUp s ≡ true → moveAt (upOf s) g d t addr ≡ moveOf s g d t addr
+    unfolding moveOf moveAt whenFit whenUp unless fails
+    move-up h = rw (f, h)
+
+    -- words that are as many as they must be stay so
+    pub fit-kept : fitting g (moveOf s g d t addr .table) ≡ true
+    fit-kept = ap (λ n. eqb n (wordsFor (granuleCount g))) (lengths-kept .1) ∙ f
 
 -- a refused move leaves the table as it was, with zeros in the other registers
 pub move-refused : (s : Record) (g : Granules) (d : Direction) (t : GranuleTable) (addr : ℕ) → isOk (moveOf s g d t addr .answer .code) ≡ false →

@@ -2,13 +2,14 @@
 use Prim.Native.Nat.{ℕ}
 use mathlib.Core.Path.{_≡_}
 use lib.ListN.{length, getD}
-use Rattle.granules.specs.Granules.{granuleAt, GranuleTable, fromByte, toByte}
-use Rattle.granules.specs.declared.Granules.{Granules}
-use Rattle.granules.specs.declared.Granule.the-variants.{At}
+use Rattle.banks.specs.Banks.{Granules, granuleAt}
+use Rattle.realm_words.specs.Bits.{bitAt, realmBit}
+use Rattle.granules.specs.Granules.{GranuleTable, fromByte, toByte}
+use Rattle.banks.specs.declared.Granule.the-variants.{At}
 use Rattle.granules.specs.declared.Direction.{Direction}
 
 -- The granule is the address's own, its byte was the one that it must have and is the one that it gets, and every
--- other byte is as it was
+-- other byte is as it was. 02, E6: so is its bit, whatever it was, and every other bit is as it was
 pub record MoveActed (g : Granules) (d : Direction) (t after : GranuleTable) (addr : ℕ) : Type 0 where
   pub granule : ℕ
   pub own : granuleAt g (length (t .bytes)) addr ≡ At granule
@@ -16,3 +17,6 @@ pub record MoveActed (g : Granules) (d : Direction) (t after : GranuleTable) (ad
   pub becomes : getD (after .bytes) granule 0 ≡ toByte d
   pub others : (j : ℕ) → (j ≡ granule → ⊥) → getD (after .bytes) j 0 ≡ getD (t .bytes) j 0
   pub whole : length (after .bytes) ≡ length (t .bytes)
+  pub bit : bitAt (after .words) granule ≡ realmBit (toByte d)
+  pub otherBits : (j : ℕ) → (j ≡ granule → ⊥) → bitAt (after .words) j ≡ bitAt (t .words) j
+  pub wholeWords : length (after .words) ≡ length (t .words)

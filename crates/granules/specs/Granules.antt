@@ -1,38 +1,32 @@
--- 0xC40001B0, B1: delegate, undelegate. 01: "The granule table is one byte a granule from address G: 0 Non-secure, 1 Realm, 2 Root,
--- 3 Secure; other bytes are none of these (house codes)." Assumes nothing.
-use Prim.Native.Nat.{ℕ, _-_, _/_, _%_}
-use mathlib.Core.Bool.{Bool, cond}
+-- 0xC40001B0, B1: delegate, undelegate. 01: "The granule table is one byte a granule ..: 0 Non-secure, 1 Realm, 2 Root, 3 Secure; other
+-- bytes are none of these (house codes)." Which granule an address falls on is said by the banks (02, E2). Assumes nothing.
+use Prim.Native.Nat.{ℕ, _<_}
+use mathlib.Core.Path.{_≡_}
+use mathlib.Core.Bool.{Bool, false}
 use mathlib.Core.List.{List}
 use lib.ListN.{length, getD, set}
-use lib.Dec.{leb, ltb, eqb}
-use Rattle.words.specs.Tests.{both}
+use lib.Dec.{eqb}
+use Rattle.banks.specs.Banks.{Granules, granuleCount, granuleAt}
+use Rattle.banks.specs.declared.Granule.{Granule}
+use Rattle.banks.specs.declared.Granule.the-variants.{Nothing, At}
+use Rattle.realm_words.specs.Bits.{realmBit, putBit, realmWords}
+use Rattle.realm_words.specs.Answers.{wordsFit}
 use Rattle.boot.specs.declared.Params.{Params}
 use Rattle.boot.specs.declared.Record.{Record}
 use Rattle.codes.specs.Codes.{unless, fails, upOf, whenUp, ifOk, answerOf}
 use Rattle.codes.specs.declared.Code.{Code}
-use Rattle.codes.specs.declared.Code.the-variants.{Ok, BadAddr, BadPas}
+use Rattle.codes.specs.declared.Code.the-variants.{Ok, BadAddr, BadPas, Inval}
 use Rattle.codes.specs.declared.Answer.{Answer}
-use Rattle.granules.specs.declared.Granules.{Granules}
-use Rattle.granules.specs.declared.Granule.{Granule}
-use Rattle.granules.specs.declared.Granule.the-variants.{Nothing, At}
 use Rattle.granules.specs.declared.Direction.{Direction}
 use Rattle.granules.specs.declared.Direction.the-variants.{Delegate, Undelegate}
 
--- ---- the granule that an address falls on
--- "G and the address are multiples of 4,096 and the address falls on a granule of the table", which has n
-unfoldable pub granuleOf : Granules → ℕ → ℕ
-granuleOf g addr = (addr - g .start) / 4096
-
-unfoldable pub falls : Granules → ℕ → ℕ → Bool
-falls g n addr = both (eqb (g .start % 4096) 0) (both (eqb (addr % 4096) 0) (both (leb (g .start) addr) (ltb (granuleOf g addr) n)))
-
--- both in one: nothing else asks for either
-unfoldable pub granuleAt : Granules → ℕ → ℕ → Granule
-granuleAt g n addr = cond (falls g n addr) (At (granuleOf g addr)) Nothing
-
--- ---- what delegation changes: the table's bytes
+-- ---- what delegation changes: the table's bytes, and the words. 02, E6: "Beside the table keep lent 64-bit words"
 pub record GranuleTable : Type 0 where
   pub bytes : List ℕ
+  pub words : List ℕ
+
+abbrev pub tableOf : List ℕ → List ℕ → GranuleTable
+tableOf bytes words = record { bytes = bytes; words = words }
 
 -- ---- a call
 -- the byte that a granule must have: "0 (delegate) or 1 (undelegate)"
@@ -45,19 +39,28 @@ unfoldable pub toByte : Direction → ℕ
 toByte Delegate = 1
 toByte Undelegate = 0
 
--- "BAD_ADDR unless .. the address falls on a granule of the table. BAD_PAS unless that byte is 0 (delegate) or 1 (undelegate).", u
--- being what the boot record keeps
+-- 02, E8: "Once the boot record is up, if the shared page is a granule of the table, undelegating it is refused.": the address is B, u
+-- being what the boot record keeps. Delegating it is as before.
+unfoldable pub guarded : Params → Direction → ℕ → Bool
+guarded u Delegate addr = false
+guarded u Undelegate addr = eqb addr (u .base)
+
+-- "BAD_ADDR unless .. the address falls on a granule of the table. BAD_PAS unless that byte is 0 (delegate) or 1 (undelegate).", amended
+-- by 02, E8: "BAD_ADDR for that granule, right after the granule address check"
 unfoldable pub granuleCode : Params → Direction → GranuleTable → ℕ → Granule → Code
 granuleCode u d t addr Nothing = BadAddr
-granuleCode u d t addr (At i) = fails (unless (eqb (getD (t .bytes) i 0) (fromByte d))) BadPas Ok
+granuleCode u d t addr (At i) =
+    fails (guarded u d addr) BadAddr
+    (fails (unless (eqb (getD (t .bytes) i 0) (fromByte d))) BadPas
+    Ok)
 
 unfoldable pub moveCode : Params → Granules → Direction → GranuleTable → ℕ → Code
 moveCode u g d t addr = granuleCode u d t addr (granuleAt g (length (t .bytes)) addr)
 
--- the table with that granule's byte set
+-- the table with that granule's byte set. 02, E6: "Delegate and undelegate write their granule's bit too and no other"
 unfoldable pub granuleSet : Direction → GranuleTable → Granule → GranuleTable
 granuleSet d t Nothing = t
-granuleSet d t (At i) = record { bytes = set (t .bytes) i (toByte d) }
+granuleSet d t (At i) = tableOf (set (t .bytes) i (toByte d)) (putBit (t .words) i (realmBit (toByte d)))
 
 unfoldable pub moved : Granules → Direction → GranuleTable → ℕ → GranuleTable
 moved g d t addr = granuleSet d t (granuleAt g (length (t .bytes)) addr)
@@ -70,12 +73,19 @@ pub record Moved : Type 0 where
 unfoldable pub movedBy : Code → GranuleTable → GranuleTable → Moved
 movedBy k new old = record { answer = answerOf k 0 0; table = ifOk k new old }
 
--- with a boot record that is up and keeps u
+-- with words that are as many as they must be, and a boot record that is up and keeps u
 unfoldable pub moveAt : Params → Granules → Direction → GranuleTable → ℕ → Moved
 moveAt u g d t addr = movedBy (moveCode u g d t addr) (moved g d t addr) t
 
+-- 02, E6: "INVAL, before all other checks of any call on words, .. if their number is not the record's granules over 64, rounded up"
+abbrev pub fitting : Granules → GranuleTable → Bool
+fitting g t = wordsFit (t .words) (granuleCount g)
+
+unfoldable pub whenFit : Granules → GranuleTable → Code → Code
+whenFit g t k = fails (unless (fitting g t)) Inval k
+
 unfoldable pub moveOf : Record → Granules → Direction → GranuleTable → ℕ → Moved
-moveOf s g d t addr = movedBy (whenUp s (moveCode (upOf s) g d t addr)) (moved g d t addr) t
+moveOf s g d t addr = movedBy (whenFit g t (whenUp s (moveCode (upOf s) g d t addr))) (moved g d t addr) t
 
 abbrev pub delegateOf : Record → Granules → GranuleTable → ℕ → Moved
 delegateOf s g t addr = moveOf s g Delegate t addr
@@ -83,6 +93,14 @@ delegateOf s g t addr = moveOf s g Delegate t addr
 abbrev pub undelegateOf : Record → Granules → GranuleTable → ℕ → Moved
 undelegateOf s g t addr = moveOf s g Undelegate t addr
 
--- what a call promises of the lent bytes
-unfoldable pub movedTo : Answer → List ℕ → Moved
-movedTo a bytes = record { answer = a; table = record { bytes = bytes } }
+-- what a call promises of the lent bytes and words
+unfoldable pub movedTo : Answer → List ℕ → List ℕ → Moved
+movedTo a bytes words = record { answer = a; table = tableOf bytes words }
+
+-- ---- "If words and table agree": 02, E6: "agreement, spare bits zero too"
+abbrev pub Agrees : GranuleTable → Type 0
+Agrees t = t .words ≡ realmWords (t .bytes)
+
+-- ---- a granule that lies within the table's bytes
+abbrev pub Inside : Granule → List ℕ → Type 0
+Inside k bytes = (i : ℕ) → k ≡ At i → i < length bytes

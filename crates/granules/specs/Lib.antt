@@ -1,3 +1,5 @@
 pub mod Granules
 pub mod Acts
 pub mod Lists
+pub mod Changes
+pub mod Books

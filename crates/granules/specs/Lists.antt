@@ -7,9 +7,9 @@ use lib.ListN.{length, take, getD}
 use Rattle.boot.specs.declared.Record.{Record}
 use Rattle.codes.specs.Codes.{isOk, ifOk, answerOf}
 use Rattle.codes.specs.declared.Code.{Code}
-use Rattle.codes.specs.declared.Code.the-variants.{Ok}
-use Rattle.granules.specs.Granules.{GranuleTable, Moved, moveOf}
-use Rattle.granules.specs.declared.Granules.{Granules}
+use Rattle.codes.specs.declared.Code.the-variants.{Ok, Inval}
+use Rattle.banks.specs.Banks.{Granules}
+use Rattle.granules.specs.Granules.{GranuleTable, Moved, movedBy, fitting, moveOf}
 use Rattle.granules.specs.declared.Direction.{Direction}
 use Rattle.granules.specs.declared.Direction.the-variants.{Delegate, Undelegate}
 
@@ -23,9 +23,10 @@ unfoldable pub listBy : (GranuleTable → ℕ → Moved) → ℕ → GranuleTabl
 listBy f k t [] = record { answer = answerOf Ok k 0; table = t }
 listBy f k t (a ∷ l) = onward (f t a) k (listBy f (suc k) (f t a .table) l)
 
--- a list of the command's own single calls. "An empty list is OK with 0, up or not."
+-- a list of the command's own single calls. "An empty list is OK with 0, up or not." 02, E6: "INVAL, before all other checks of any call
+-- on words, an empty list's too"
 unfoldable pub moveListOf : Record → Granules → Direction → GranuleTable → List ℕ → Moved
-moveListOf s g d t l = listBy (moveOf s g d) 0 t l
+moveListOf s g d t l = cond (fitting g t) (listBy (moveOf s g d) 0 t l) (movedBy Inval t t)
 
 abbrev pub delegateListOf : Record → Granules → GranuleTable → List ℕ → Moved
 delegateListOf s g t l = moveListOf s g Delegate t l

@@ -11,7 +11,6 @@ use Rattle.codes.specs.Codes.{unless}
 use Rattle.codes.specs.declared.Answer.{Answer}
 use Rattle.codes.specs.declared.Work.{Work}
 use Rattle.codes.specs.declared.Work.the-variants.{Nothing, Reprogram}
-use Rattle.granules.specs.declared.Granules.{Granules}
 use Rattle.lookup.specs.declared.FieldPlace.{FieldPlace}
 use Rattle.lookup.specs.declared.FieldPlace.the-variants as place
 use Rattle.reader.specs.Answer.{ReaderAnswer, refused, shows}
@@ -31,17 +30,13 @@ use Rattle.writer.specs.declared.Wrote.the-variants.{Page, Place, Edition, List
 unfoldable pub recordOf : List ℕ → Record
 recordOf w =
     cond (eqb (getD w 0 0) 0) Fresh
-    (cond (eqb (getD w 0 0) 1) (Up (record { cpus = getD w 1 0; base = getD w 2 0; minor = getD w 3 0 }))
+    (cond (eqb (getD w 0 0) 1) (Up (record { cpus = getD w 1 0; base = getD w 2 0; minor = getD w 3 0; kept = getD w 4 0 }))
     Closed)
 
 unfoldable pub recordWords : Record → List ℕ
-recordWords Fresh = 0 ∷ 0 ∷ 0 ∷ 0 ∷ []
-recordWords (Up u) = 1 ∷ u .cpus ∷ u .base ∷ u .minor ∷ []
-recordWords Closed = 2 ∷ 0 ∷ 0 ∷ 0 ∷ []
-
--- ---- the granule record: the address of the table's first granule
-unfoldable pub granulesOf : List ℕ → Granules
-granulesOf w = record { start = getD w 0 0 }
+recordWords Fresh = 0 ∷ 0 ∷ 0 ∷ 0 ∷ 0 ∷ []
+recordWords (Up u) = 1 ∷ u .cpus ∷ u .base ∷ u .minor ∷ u .kept ∷ []
+recordWords Closed = 2 ∷ 0 ∷ 0 ∷ 0 ∷ 0 ∷ []
 
 -- ---- a flag as a number: any but 0 is set
 unfoldable pub isSet : ℕ → Bool

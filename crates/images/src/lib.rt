@@ -5,10 +5,12 @@ use boot::Record;
 use codes::Answer;
 use codes::Code;
 use codes::Work;
-use granules::Granules;
 use lookup::FieldPlace;
 use reader::Section;
 use reader::View;
+use realm_words::Agreement;
+use realm_words::Hit;
+use realm_words::Number;
 use runtime::Reply;
 use token::Session;
 use words::Span;
@@ -18,9 +20,10 @@ ghost use Prim.Native.Nat.{_+_, _≤_};
 ghost use lib.ListN.{length};
 ghost use Rattle.codes.specs.Codes.{ifOk};
 ghost use Rattle.runtime.specs.Step.{replyCode};
-ghost use Rattle.images.specs.Image.{recordOf, recordWords, granulesOf, isSet, sessionOf, sessionWords, registerWords, workWords, sectionIn, viewOf, spanWords, fieldWords, wroteNumber, replyRegisters, replyWords};
+ghost use Rattle.images.specs.Image.{recordOf, recordWords, isSet, sessionOf, sessionWords, registerWords, workWords, sectionIn, viewOf, spanWords, fieldWords, wroteNumber, replyRegisters, replyWords};
+ghost use Rattle.images.specs.Realm.{numberX0, numberWords, hitX0, hitWords, agreementX0, builtX0};
 
-pub fn record_of(image: &[u64; 4]) -> Record
+pub fn record_of(image: &[u64; 5]) -> Record
     ensures { λ r. ⌜ r ≡ recordOf (now (image .entry)) ⌝ }
 {
     if image[0] == 0 {
@@ -31,25 +34,20 @@ pub fn record_of(image: &[u64; 4]) -> Record
             cpus: image[1],
             base: image[2],
             minor: image[3],
+            kept: image[4],
         });
     }
     Record::Closed
 }
 
-pub fn record_words(state: Record) -> [u64; 4]
+pub fn record_words(state: Record) -> [u64; 5]
     ensures { λ r. ⌜ r ≡ recordWords state ⌝ }
 {
     match state {
-        Record::Fresh => [0, 0, 0, 0],
-        Record::Up(params) => [1, params.cpus, params.base, params.minor],
-        Record::Closed => [2, 0, 0, 0],
+        Record::Fresh => [0, 0, 0, 0, 0],
+        Record::Up(params) => [1, params.cpus, params.base, params.minor, params.kept],
+        Record::Closed => [2, 0, 0, 0, 0],
     }
-}
-
-pub fn granules_of(image: &[u64; 1]) -> Granules
-    ensures { λ r. ⌜ r ≡ granulesOf (now (image .entry)) ⌝ }
-{
-    Granules { start: image[0] }
 }
 
 pub fn session_of(image: &[u64; 3]) -> Session
@@ -197,4 +195,65 @@ pub fn reply_words(reply: Reply) -> [u64; 2]
         Reply::Forward(error) => [2, error],
         Reply::Back { answer: _, work } => work_words(work),
     }
+}
+
+// How many Realm granules there are: x0 of the code, and the number, 0 if refused.
+pub fn number_x0(number: Number) -> u64
+    ensures { λ r. ⌜ r ≡ numberX0 number ⌝ }
+{
+    match number {
+        Number::Inval => codes::x0(Code::Inval),
+        Number::Is(_) => codes::x0(Code::Ok),
+    }
+}
+
+pub fn number_words(number: Number) -> [u64; 1]
+    ensures { λ r. ⌜ r ≡ numberWords number ⌝ }
+{
+    match number {
+        Number::Inval => [0],
+        Number::Is(n) => [n],
+    }
+}
+
+// The next Realm granule: x0 of the code, or 1 if there is none, and its index, 0 without one.
+pub fn hit_x0(hit: Hit) -> u64
+    ensures { λ r. ⌜ r ≡ hitX0 hit ⌝ }
+{
+    match hit {
+        Hit::Inval => codes::x0(Code::Inval),
+        Hit::Nothing => 1,
+        Hit::At(_) => codes::x0(Code::Ok),
+    }
+}
+
+pub fn hit_words(hit: Hit) -> [u64; 1]
+    ensures { λ r. ⌜ r ≡ hitWords hit ⌝ }
+{
+    match hit {
+        Hit::Inval => [0],
+        Hit::Nothing => [0],
+        Hit::At(index) => [index as u64],
+    }
+}
+
+// Whether words and table agree: x0 of the code, or 1 if they do not.
+pub fn agreement_x0(agreement: Agreement) -> u64
+    ensures { λ r. ⌜ r ≡ agreementX0 agreement ⌝ }
+{
+    match agreement {
+        Agreement::Inval => codes::x0(Code::Inval),
+        Agreement::No => 1,
+        Agreement::Yes => codes::x0(Code::Ok),
+    }
+}
+
+// Whether words were built, as x0 of the code.
+pub fn built_x0(done: bool) -> u64
+    ensures { λ r. ⌜ r ≡ builtX0 done ⌝ }
+{
+    if done {
+        return codes::x0(Code::Ok);
+    }
+    codes::x0(Code::Inval)
 }

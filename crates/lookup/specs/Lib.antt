@@ -1,2 +1,3 @@
 pub mod Lookup
 pub mod Fields
+pub mod Kept

@@ -5,8 +5,10 @@ use fields::Head;
 use reader::Reading;
 use reader::Section;
 use reader::View;
+use versions::Edition;
 use words::Span;
 ghost use mathlib.Core.Path.{_≡_};
+ghost use Prim.Native.Nat.{_≤_, max};
 ghost use lib.ListN.{length};
 ghost use Rattle.words.specs.Word.{spanned, spanStart, onFrom};
 ghost use Rattle.reader.specs.Answer.{lookIn, lookOf, countIn, wordIn, fieldsShown, readOf};
@@ -14,6 +16,7 @@ ghost use Rattle.reader.specs.Reading.{sectionOf, readingAnswer};
 ghost use Rattle.entries.specs.Entry.{isHidden};
 ghost use Rattle.lookup.specs.Lookup.{spanOf, spanIn, countOf, wordOf};
 ghost use Rattle.lookup.specs.Fields.{firstIn, restIn, nthIn, ofTag, valueIn, fieldAs, placeSpan, shownFrom, stepAt, startAt, nthPlace, tagPlace};
+ghost use Rattle.lookup.specs.Kept.{sectionEnd, keptFor};
 
 // A field that is asked for: its tag, and where its value lies in the page; or that there is no such field.
 pub enum FieldPlace {
@@ -274,4 +277,36 @@ pub fn value_of(page: &[u8], field: FieldPlace) -> &[u8]
     ensures { λ r. ⌜ r .ptr ≡ onFrom (page .entry .ptr) (spanStart (placeSpan field) (now (page .entry))) ⌝ }
 {
     words::part_of(page, span_of(field))
+}
+
+fn larger(a: u64, b: u64) -> u64
+    ensures { λ r. ⌜ r ≡ max a b ⌝ }
+{
+    if a < b {
+        return b;
+    }
+    a
+}
+
+// Where the array of section k of a view ends in a page of 4,096 bytes; 0 where it lies nowhere.
+fn end_of(view: View, k: usize) -> u64
+    ensures { λ r. ⌜ (r ≡ endOf view k) × (r ≤ 4096) ⌝ }
+{
+    let place = place_in(4096, reader::section_of(view, k), k);
+    (place.at + place.len) as u64
+}
+
+// How many bytes the manifest of a view takes from the page's start: the highest end of core and arrays, rounded up to 8. With so many kept
+// bytes at cold boot, no runtime command changes what a reader of the view's edition sees. At most 4,096 of any view.
+pub fn kept_for(view: View) -> u64
+    ensures { λ r. ⌜ (r ≡ keptFor view) × (r ≤ 4096) ⌝ }
+{
+    let edition = Edition {
+        minor: view.edition,
+    };
+    let mut end = edition.core_size();
+    for k in 0..4usize {
+        end = larger(end, end_of(view, k));
+    }
+    8 * ((end + 7) / 8)
 }

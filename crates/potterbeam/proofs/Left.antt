@@ -14,14 +14,14 @@ use Rattle.runtime.specs.Step.{plainWorld, Step, kindOf, afterToken, afterSigni
 use Rattle.runtime.specs.declared.Needs.{Needs}
 use Rattle.runtime.specs.declared.Reply.{Reply}
 use Rattle.runtime.proofs.Plain.{needs-session, needs-queue, plain-beside}
-use Rattle.images.specs.Image.{recordOf, granulesOf, isSet, sessionOf, sessionWords, registerWords, workWords, replyRegisters, replyWords}
+use Rattle.images.specs.Image.{recordOf, isSet, sessionOf, sessionWords, registerWords, workWords, replyRegisters, replyWords}
 use Rattle.queue_image.specs.Image.{listsIn}
 use Rattle.queue_image.specs.Steps.{ImageStep, imageStep}
 use Rattle.potterbeam.specs.Exports.{sessionAfter, MoveLeft, moveLeft, TokenLeft, tokenLeft, tokenIn, SigningLeft, signingLeft, signingIn, SignLeft, signLeft, sessionLeft, queueLeft, CallLeft, callLeft, callLent, callIn, PlainLeft, plainLeft, plainIn}
 
-pub move-left : (a : Answer) (out table : List ℕ) (m : Moved) → out ≡ registerWords a → movedTo a table ≡ m → _≡_ {A = MoveLeft} (record { out = out; table = table }) (moveLeft m)
+pub move-left : (a : Answer) (out table words : List ℕ) (m : Moved) → out ≡ registerWords a → movedTo a table words ≡ m → _≡_ {A = MoveLeft} (record { out = out; table = table; words = words }) (moveLeft m)
 unfolding moveLeft movedTo
-move-left a out table m h e = rw h (ap moveLeft e)
+move-left a out table words m h e = rw h (ap moveLeft e)
 
 pub token-left : (a : Answer) (s : Session) (image out page se : List ℕ) (t : TokenStep) → out ≡ registerWords a → se ≡ ifOk (a .code) (sessionWords s) image →
     record { answer = a; page = page; session = s } ≡ t → _≡_ {A = TokenLeft} (record { out = out; page = page; session = se }) (tokenLeft t image)
@@ -38,28 +38,28 @@ pub sign-left : (a : Answer) (out image : List ℕ) (s : SignImage) → out ≡ 
 unfolding signLeft
 sign-left a out image s h e = rw h (ap signLeft e)
 
-pub plain-left : (reply : Reply) (out work page table : List ℕ) (s : Step) → out ≡ replyRegisters reply → work ≡ replyWords reply → record { reply = reply; next = plainWorld page table } ≡ s →
-    _≡_ {A = PlainLeft} (record { out = out; work = work; page = page; table = table }) (plainLeft s)
+pub plain-left : (reply : Reply) (out work page table words : List ℕ) (s : Step) → out ≡ replyRegisters reply → work ≡ replyWords reply → record { reply = reply; next = plainWorld page table words } ≡ s →
+    _≡_ {A = PlainLeft} (record { out = out; work = work; page = page; table = table; words = words }) (plainLeft s)
 unfolding plainLeft
-plain-left reply out work page table s o w e = rw (o, w) (ap plainLeft e)
+plain-left reply out work page table words s o w e = rw (o, w) (ap plainLeft e)
 
 -- ---- any command, by the state that it uses
-module _ (granules session queue page table state x : List ℕ) (busy : ℕ) (key token public : List ℕ) (width : ℕ) where
+module _ (granules session queue page table words state x : List ℕ) (busy : ℕ) (key token public : List ℕ) (width : ℕ) where
   -- neither
-  pub left-plain : needsOf (kindOf (getD x 0 0)) ≡ Needs.Nothing → (l : PlainLeft) → l ≡ plainIn state granules page table x key width →
-      _≡_ {A = CallLeft} (record { out = l .out; work = l .work; page = l .page; table = l .table; session = session; queue = queue }) (callIn granules session queue page table (callLent state x busy key token public width))
+  pub left-plain : needsOf (kindOf (getD x 0 0)) ≡ Needs.Nothing → (l : PlainLeft) → l ≡ plainIn state granules page table words x key width →
+      _≡_ {A = CallLeft} (record { out = l .out; work = l .work; page = l .page; table = l .table; words = l .words; session = session; queue = queue }) (callIn granules session queue page table words (callLent state x busy key token public width))
   unfolding plainIn plainLeft callIn callLent callLeft sessionLeft queueLeft
   left-plain h l e =
-      rw (h, plain-beside (granulesOf granules) page table (sessionOf session) (listsIn queue) (recordOf state) (getD x 0 0) (getD x 1 0) (getD x 2 0) (getD x 3 0) (getD x 4 0) (isSet busy) key token public width h, e)
+      rw (h, plain-beside granules page table words (sessionOf session) (listsIn queue) (recordOf state) (getD x 0 0) (getD x 1 0) (getD x 2 0) (getD x 3 0) (getD x 4 0) (isSet busy) key token public width h, e)
 
   -- the session
   pub left-session : needsOf (kindOf (getD x 0 0)) ≡ Needs.Session → (l : TokenLeft) → l ≡ tokenIn state session page token busy (getD x 1 0) (getD x 2 0) (getD x 3 0) →
-      _≡_ {A = CallLeft} (record { out = l .out; work = 0 ∷ 0 ∷ []; page = l .page; table = table; session = l .session; queue = queue }) (callIn granules session queue page table (callLent state x busy key token public width))
+      _≡_ {A = CallLeft} (record { out = l .out; work = 0 ∷ 0 ∷ []; page = l .page; table = table; words = words; session = l .session; queue = queue }) (callIn granules session queue page table words (callLent state x busy key token public width))
   unfolding tokenIn tokenLeft callIn callLent callLeft sessionLeft queueLeft callOf callBy needsOf afterToken replyRegisters replyWords workWords replyCode
   left-session h l e = rw (needs-session (kindOf (getD x 0 0)) h, e)
 
   -- the queue
   pub left-queue : needsOf (kindOf (getD x 0 0)) ≡ Needs.Queue → (l : SigningLeft) → l ≡ signingIn state queue page public (getD x 1 0) (getD x 2 0) (getD x 3 0) (getD x 4 0) →
-      _≡_ {A = CallLeft} (record { out = l .out; work = 0 ∷ 0 ∷ []; page = l .page; table = table; session = session; queue = l .queue }) (callIn granules session queue page table (callLent state x busy key token public width))
+      _≡_ {A = CallLeft} (record { out = l .out; work = 0 ∷ 0 ∷ []; page = l .page; table = table; words = words; session = session; queue = l .queue }) (callIn granules session queue page table words (callLent state x busy key token public width))
   unfolding signingIn signingLeft signingOn imageStep callIn callLent callLeft sessionLeft queueLeft callOf callBy needsOf afterSigning replyRegisters replyWords workWords replyCode
   left-queue h l e = rw (needs-queue (kindOf (getD x 0 0)) h, e)

@@ -1,3 +1,4 @@
 pub mod Left
 pub mod Refusals
 pub mod Shown
+pub mod SetUp

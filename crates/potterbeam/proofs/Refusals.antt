@@ -1,19 +1,23 @@
 -- Demand 1 at the C edge. Assumes nothing.
 use Prim.Native.Nat.{ℕ}
 use mathlib.Core.Path.{_≡_, refl, sym, ap, _∙_}
-use mathlib.Core.Bool.{Bool, false}
+use mathlib.Core.Bool.{Bool, true, false, cond}
 use mathlib.Core.List.{List, [], _∷_}
 use lib.ListN.{take, getD}
-use Rattle.codes.specs.Codes.{isOk, ifOk, x0Of, extended, answerOf}
+use Rattle.codes.specs.Codes.{isOk, unless, fails, ifOk, x0Of, extended, answerOf}
 use Rattle.codes.specs.declared.Answer.{Answer}
 use Rattle.codes.specs.declared.Code.{Code}
 use Rattle.codes.specs.declared.Code.the-variants.{Ok, Unk, BadAddr, BadPas, Inval, Again}
 use Rattle.codes.specs.declared.Work.the-variants.{Nothing}
 use Rattle.codes.proofs.Gates.{if-ok-by}
-use Rattle.granules.specs.Granules.{Moved, movedBy, moveOf}
+use Rattle.granules.specs.Granules.{tableOf, Moved, movedBy, moveOf}
 use Rattle.granules.specs.Lists.{doneBy, tableBy}
 use Rattle.granules.specs.declared.Direction.{Direction}
-use Rattle.granules.specs.declared.Granules.{Granules}
+use Rattle.realm_words.specs.Bits.{realmWords}
+use Rattle.realm_words.specs.Answers.{bothFit, realmCountOf, realmNextOf, realmBuildOf}
+use Rattle.realm_words.specs.declared.Number.{Number}
+use Rattle.realm_words.specs.declared.Hit.{Hit}
+use Rattle.banks.specs.Banks.{Granules, granuleCount, countIn, takes, recordFrom, setUpCode, setUpOf}
 use Rattle.granules.proofs.Moving.{move-refused}
 use Rattle.granules.proofs.Done.{list-is}
 use Rattle.boot.specs.declared.Record.{Record}
@@ -38,15 +42,16 @@ use Rattle.runtime.specs.declared.Needs.{Needs}
 use Rattle.runtime.specs.Step.{World, Call, call, Step, kindOf, afterMove, afterKey, afterToken, afterSigning, afterUpdate, callBy, callOf, stepOf, replyCode, refusal, needsOf}
 use Rattle.runtime.specs.Run.{worldAfter, doneCalls}
 use Rattle.runtime.proofs.Refused.{refused}
-use Rattle.images.specs.Image.{recordOf, granulesOf, isSet, sessionOf, sessionWords, registerWords, workWords, replyRegisters, replyWords}
+use Rattle.images.specs.Image.{recordOf, isSet, sessionOf, sessionWords, registerWords, workWords, replyRegisters, replyWords}
+use Rattle.images.specs.Realm.{numberX0, numberWords, hitX0, hitWords, builtX0}
 use Rattle.queue_image.specs.Image.{listsIn}
 use Rattle.queue_image.specs.Steps.{imageStep}
-use Rattle.potterbeam.specs.Exports.{sessionAfter, moveLeft, moveIn, moveListIn, tokenLeft, tokenIn, signingLeft, signingIn, signLeft, signIn, sessionLeft, queueLeft, CallLeft, callLeft, worldIn, callIn}
+use Rattle.potterbeam.specs.Exports.{sessionAfter, SetUpLeft, setUpLeft, setUpIn, moveLeft, moveIn, moveListIn, buildLeft, buildIn, tokenLeft, tokenIn, signingLeft, signingIn, signLeft, signIn, sessionLeft, queueLeft, CallLeft, callLeft, worldIn, callIn}
 use Rattle.potterbeam.specs.Refusals.{Refuses, x0Alone, ExportsRefuse}
 
 -- ---- x0 is not 0: the code is not OK
 -- an answer's x0 is that of its code
-abbrev Tells : Answer → Type 0
+abbrev pub Tells : Answer → Type 0
 Tells a = a .x0 ≡ x0Of (a .code)
 
 code-of : (k : Code) → (x0Of k ≡ 0 → ⊥) → isOk k ≡ false
@@ -70,23 +75,32 @@ send-tells : (at : ℕ) (token : List ℕ) (i size : ℕ) (page : List ℕ) → 
 unfolding sendOf answerOf
 send-tells at token i size page = refl
 
-token-tells : (r : Record) (page : List ℕ) (s : Session) (busy : Bool) (token : List ℕ) (pa size c : ℕ) → Tells (tokenOf r page s busy token pa size c .answer)
+pub token-tells : (r : Record) (page : List ℕ) (s : Session) (busy : Bool) (token : List ℕ) (pa size c : ℕ) → Tells (tokenOf r page s busy token pa size c .answer)
 unfolding tokenOf
 token-tells r page s busy token pa size c = settled-tells _ _ page s (send-tells _ token _ size page)
 
-signing-tells : (r : Record) (page : List ℕ) (q : Lists) (key : List ℕ) (op pa size curve : ℕ) → Tells (signingOf r page q key op pa size curve .answer)
+pub signing-tells : (r : Record) (page : List ℕ) (q : Lists) (key : List ℕ) (op pa size curve : ℕ) → Tells (signingOf r page q key op pa size curve .answer)
 unfolding answerOf
 signing-tells r page q key op pa size curve =
     signing-by (λ (o : Opcode) (s : SigningStep). Tells (s .answer)) r page q key op pa size curve
     (record { refusal = λ o k e. refl; push = λ p e. refl; pull = λ p e. refl; public = λ p e. refl })
 
 -- ---- the exports
-delegation : (d : Direction) (state granules table : List ℕ) (address : ℕ) →
-    Refuses (moveIn d state granules table address .out) → moveIn d state granules table address ≡ record { out = x0Alone (moveIn d state granules table address .out); table = table }
+set-up : (granules banks : List ℕ) (n : ℕ) → (setUpIn granules banks n .x0 ≡ 0 → ⊥) → setUpIn granules banks n ≡ record { x0 = x0Of Inval; granules = granules }
+unfolding setUpIn setUpLeft setUpOf setUpCode fails unless x0Of extended
+set-up granules banks n h = go (takes banks n) h
+  where
+    go : (b : Bool) → (x0Of (fails (unless b) Inval Ok) ≡ 0 → ⊥) →
+        _≡_ {A = SetUpLeft} (record { x0 = x0Of (fails (unless b) Inval Ok); granules = ifOk (fails (unless b) Inval Ok) (recordFrom (countIn banks) banks) granules }) (record { x0 = x0Of Inval; granules = granules })
+    go true h = absurd (h refl)
+    go false h = refl
+
+delegation : (d : Direction) (state granules table words : List ℕ) (address : ℕ) →
+    Refuses (moveIn d state granules table words address .out) → moveIn d state granules table words address ≡ record { out = x0Alone (moveIn d state granules table words address .out); table = table; words = words }
 unfolding moveIn moveLeft registerWords moveOf movedBy answerOf
-delegation d state granules table address h =
-    let m : Moved = moveOf (recordOf state) (granulesOf granules) d (record { bytes = table }) address in
-    ap moveLeft (move-refused (recordOf state) (granulesOf granules) d (record { bytes = table }) address (refuses (m .answer) refl h))
+delegation d state granules table words address h =
+    let m : Moved = moveOf (recordOf state) granules d (tableOf table words) address in
+    ap moveLeft (move-refused (recordOf state) granules d (tableOf table words) address (refuses (m .answer) refl h))
 
 realm-key : (state page key : List ℕ) (pa size curve : ℕ) → Refuses (registerWords (realmKeyOf (recordOf state) page key pa size curve .answer)) →
     (registerWords (realmKeyOf (recordOf state) page key pa size curve .answer) ≡ x0Alone (registerWords (realmKeyOf (recordOf state) page key pa size curve .answer)))
@@ -183,39 +197,62 @@ queue-kept Needs.Session k new image f = refl
 queue-kept Needs.Queue k new image f = left-old k new image f
 
 -- what a refusal leaves: x0, and zeros in what is written
-abbrev kept : List ℕ → List ℕ → List ℕ → List ℕ → ℕ → CallLeft
-kept session queue page table x0 = record { out = x0 ∷ 0 ∷ 0 ∷ []; work = 0 ∷ 0 ∷ []; page = page; table = table; session = session; queue = queue }
+abbrev kept : List ℕ → List ℕ → List ℕ → List ℕ → List ℕ → ℕ → CallLeft
+kept session queue page table words x0 = record { out = x0 ∷ 0 ∷ 0 ∷ []; work = 0 ∷ 0 ∷ []; page = page; table = table; words = words; session = session; queue = queue }
 
 step-kept : (n : Needs) (st : Step) (w : World) (session new queue : List ℕ) → isOk (replyCode (st .reply)) ≡ false → st ≡ refusal 0 st w →
-    callLeft n st session new queue ≡ kept session queue (w .page) (w .table .bytes) (x0Of (replyCode (st .reply)))
+    callLeft n st session new queue ≡ kept session queue (w .page) (w .table .bytes) (w .table .words) (x0Of (replyCode (st .reply)))
 unfolding callLeft replyRegisters replyWords registerWords workWords answerOf replyCode
 step-kept n st w session new queue f e =
     let k : Code = replyCode (st .reply) in
     ap (λ (x : Step). callLeft n x session new queue) e ∙ rw (session-kept n k (w .session) session f, queue-kept n k new queue f)
 
-dispatched : (granules session queue page table : List ℕ) (c : Call) → Refuses (callIn granules session queue page table c .out) →
-    callIn granules session queue page table c ≡ kept session queue page table (getD (callIn granules session queue page table c .out) 0 0)
+dispatched : (granules session queue page table words : List ℕ) (c : Call) → Refuses (callIn granules session queue page table words c .out) →
+    callIn granules session queue page table words c ≡ kept session queue page table words (getD (callIn granules session queue page table words c .out) 0 0)
 unfolding callIn callLeft callOf stepOf doneCalls worldAfter
-dispatched granules session queue page table c h =
-    let g : Granules = granulesOf granules in
-    let w : World = worldIn session queue page table in
+dispatched granules session queue page table words c h =
+    let g : Granules = granules in
+    let w : World = worldIn session queue page table words in
     let st : Step = callOf g w c in
     let f : isOk (replyCode (st .reply)) ≡ false = reply-tells (kindOf (c .id)) g w c h in
     let q = step-kept (needsOf (kindOf (c .id))) st w session (signingDone (c .state) page queue (c .x1) (c .x2) (c .x3)) queue f (refused g w (call c) f) in
-    q ∙ ap (kept session queue page table) (sym (ap (λ (l : CallLeft). getD (l .out) 0 0) q))
+    q ∙ ap (kept session queue page table words) (sym (ap (λ (l : CallLeft). getD (l .out) 0 0) q))
 
 -- a list, whatever its code
-lists : (d : Direction) (state granules table addresses : List ℕ) →
-    let l = moveListIn d state granules table addresses in
-    let f = moveOf (recordOf state) (granulesOf granules) d in
-    let done = doneBy f (record { bytes = table }) addresses in
-    l ≡ record { out = getD (l .out) 0 0 ∷ done ∷ 0 ∷ []; table = tableBy f (record { bytes = table }) (take done addresses) .bytes }
+lists : (d : Direction) (state granules table words addresses : List ℕ) →
+    let l = moveListIn d state granules table words addresses in
+    let f = moveOf (recordOf state) granules d in
+    let done = doneBy f (tableOf table words) addresses in
+    let after = tableBy f (tableOf table words) (take done addresses) in
+    l ≡ record { out = getD (l .out) 0 0 ∷ done ∷ 0 ∷ []; table = after .bytes; words = after .words }
 unfolding moveListIn moveLeft registerWords answerOf
-lists d state granules table addresses = rw (list-is (recordOf state) (granulesOf granules) d (record { bytes = table }) addresses)
+lists d state granules table words addresses = rw (list-is (recordOf state) granules d (tableOf table words) addresses)
+
+-- ---- the realm words
+count-told : (a : Number) → (numberX0 a ≡ 0 → ⊥) → numberWords a ≡ 0 ∷ []
+unfolding numberX0 numberWords x0Of extended
+count-told Number.Inval h = refl
+count-told (Number.Is n) h = absurd (h refl)
+
+next-told : (a : Hit) → (hitX0 a ≡ 0 → ⊥) → hitWords a ≡ 0 ∷ []
+unfolding hitX0 hitWords x0Of extended
+next-told Hit.Inval h = refl
+next-told Hit.Nothing h = refl
+next-told (Hit.At i) h = absurd (h refl)
+
+build-told : (granules table words : List ℕ) → (buildIn granules table words .x0 ≡ 0 → ⊥) → buildIn granules table words ≡ record { x0 = x0Of Inval; words = words }
+unfolding buildIn buildLeft realmBuildOf builtX0 x0Of extended
+build-told granules table words h = go (bothFit table words (granuleCount granules)) h
+  where
+    go : (b : Bool) → (buildLeft (cond b (record { done = true; words = realmWords table }) (record { done = false; words = words })) .x0 ≡ 0 → ⊥) →
+        buildLeft (cond b (record { done = true; words = realmWords table }) (record { done = false; words = words })) ≡ record { x0 = x0Of Inval; words = words }
+    go true h = absurd (h refl)
+    go false h = refl
 
 pub exports-refuse : ExportsRefuse
 exports-refuse =
     record {
+      setUp = set-up;
       delegation = delegation;
       lists = lists;
       realmKey = realm-key;
@@ -225,4 +262,7 @@ exports-refuse =
       update = key-update;
       sign = signer;
       call = dispatched;
+      realmCount = λ words n. count-told (realmCountOf words n);
+      realmNext = λ words n index. next-told (realmNextOf words n index);
+      realmBuild = build-told;
     }

@@ -3,11 +3,13 @@
 use Prim.Native.Nat.{ℕ}
 use mathlib.Core.List.{List}
 use lib.ListN.{getD}
-use Rattle.codes.specs.Codes.{ifOk}
+use Rattle.codes.specs.Codes.{x0Of, ifOk}
 use Rattle.codes.specs.declared.Code.{Code}
 use Rattle.lists.specs.Description.{descriptionOf}
 use Rattle.writer.specs.Write.{Made, writeOf}
-use Rattle.granules.specs.Granules.{Moved, moveOf}
+use Rattle.banks.specs.Banks.{SetUp, setUpOf, granuleCount}
+use Rattle.realm_words.specs.Answers.{Built, realmBuildOf}
+use Rattle.granules.specs.Granules.{tableOf, Moved, moveOf}
 use Rattle.granules.specs.Lists.{moveListOf}
 use Rattle.granules.specs.declared.Direction.{Direction}
 use Rattle.token.specs.Token.{TokenStep, tokenOf}
@@ -16,7 +18,8 @@ use Rattle.responses.specs.OnImage.{SignImage, signOn}
 use Rattle.signing.specs.OnImage.{signingDone, signingOn}
 use Rattle.runtime.specs.Step.{World, worldOf, plainWorld, Call, callWith, plainCall, Step, kindOf, callOf, replyCode, needsOf, plainOf}
 use Rattle.runtime.specs.declared.Needs.{Needs}
-use Rattle.images.specs.Image.{recordOf, granulesOf, isSet, sessionOf, sessionWords, registerWords, replyRegisters, replyWords}
+use Rattle.images.specs.Image.{recordOf, isSet, sessionOf, sessionWords, registerWords, replyRegisters, replyWords}
+use Rattle.images.specs.Realm.{builtX0}
 use Rattle.queue_image.specs.Image.{listsIn}
 use Rattle.queue_image.specs.Steps.{ImageStep}
 
@@ -28,20 +31,43 @@ writeIn base n edition dram console ncoh coh fields = writeOf base n edition (de
 unfoldable pub sessionAfter : Code → Session → List ℕ → List ℕ
 sessionAfter k s image = ifOk k (sessionWords s) image
 
--- ---- delegation: the result registers and the table
+-- ---- the granule record's set-up: x0 and the record
+pub record SetUpLeft : Type 0 where
+  pub x0 : ℕ
+  pub granules : List ℕ
+
+unfoldable pub setUpLeft : SetUp → SetUpLeft
+setUpLeft s = record { x0 = x0Of (s .code); granules = s .granules }
+
+unfoldable pub setUpIn : List ℕ → List ℕ → ℕ → SetUpLeft
+setUpIn granules banks n = setUpLeft (setUpOf banks n granules)
+
+-- ---- delegation: the result registers, the table and its words
 pub record MoveLeft : Type 0 where
   pub out : List ℕ
   pub table : List ℕ
+  pub words : List ℕ
 
 unfoldable pub moveLeft : Moved → MoveLeft
-moveLeft m = record { out = registerWords (m .answer); table = m .table .bytes }
+moveLeft m = record { out = registerWords (m .answer); table = m .table .bytes; words = m .table .words }
 
-unfoldable pub moveIn : Direction → List ℕ → List ℕ → List ℕ → ℕ → MoveLeft
-moveIn d state granules table address = moveLeft (moveOf (recordOf state) (granulesOf granules) d (record { bytes = table }) address)
+unfoldable pub moveIn : Direction → List ℕ → List ℕ → List ℕ → List ℕ → ℕ → MoveLeft
+moveIn d state granules table words address = moveLeft (moveOf (recordOf state) granules d (tableOf table words) address)
 
 -- over a list of addresses
-unfoldable pub moveListIn : Direction → List ℕ → List ℕ → List ℕ → List ℕ → MoveLeft
-moveListIn d state granules table addresses = moveLeft (moveListOf (recordOf state) (granulesOf granules) d (record { bytes = table }) addresses)
+unfoldable pub moveListIn : Direction → List ℕ → List ℕ → List ℕ → List ℕ → List ℕ → MoveLeft
+moveListIn d state granules table words addresses = moveLeft (moveListOf (recordOf state) granules d (tableOf table words) addresses)
+
+-- ---- the words built: x0 and the words
+pub record BuildLeft : Type 0 where
+  pub x0 : ℕ
+  pub words : List ℕ
+
+unfoldable pub buildLeft : Built → BuildLeft
+buildLeft b = record { x0 = builtX0 (b .done); words = b .words }
+
+unfoldable pub buildIn : List ℕ → List ℕ → List ℕ → BuildLeft
+buildIn granules table words = buildLeft (realmBuildOf table words (granuleCount granules))
 
 -- ---- the platform token: the result registers, the page and the session's image
 pub record TokenLeft : Type 0 where
@@ -78,12 +104,13 @@ signLeft s = record { out = registerWords (s .answer); queue = s .image }
 unfoldable pub signIn : List ℕ → List ℕ → SignLeft
 signIn image signature = signLeft (signOn image signature)
 
--- ---- any command: the result registers, what the platform has to do, page and table, and both images
+-- ---- any command: the result registers, what the platform has to do, page, table and words, and both images
 pub record CallLeft : Type 0 where
   pub out : List ℕ
   pub work : List ℕ
   pub page : List ℕ
   pub table : List ℕ
+  pub words : List ℕ
   pub session : List ℕ
   pub queue : List ℕ
 
@@ -105,6 +132,7 @@ callLeft n s session new queue =
       work = replyWords (s .reply);
       page = s .next .page;
       table = s .next .table .bytes;
+      words = s .next .table .words;
       session = sessionLeft n (replyCode (s .reply)) (s .next .session) session;
       queue = queueLeft n (replyCode (s .reply)) new queue;
     }
@@ -114,13 +142,13 @@ unfoldable pub callLent : List ℕ → List ℕ → ℕ → List ℕ → List �
 callLent state x busy key token public width =
     callWith (recordOf state) (getD x 0 0) (getD x 1 0) (getD x 2 0) (getD x 3 0) (getD x 4 0) (isSet busy) key token public width
 
--- the world that two images, a page and a table stand for
-abbrev pub worldIn : List ℕ → List ℕ → List ℕ → List ℕ → World
-worldIn session queue page table = worldOf page table (sessionOf session) (listsIn queue)
+-- the world that two images, a page, a table and its words stand for
+abbrev pub worldIn : List ℕ → List ℕ → List ℕ → List ℕ → List ℕ → World
+worldIn session queue page table words = worldOf page table words (sessionOf session) (listsIn queue)
 
-unfoldable pub callIn : List ℕ → List ℕ → List ℕ → List ℕ → List ℕ → Call → CallLeft
-callIn granules session queue page table c =
-    callLeft (needsOf (kindOf (c .id))) (callOf (granulesOf granules) (worldIn session queue page table) c) session (signingDone (c .state) page queue (c .x1) (c .x2) (c .x3)) queue
+unfoldable pub callIn : List ℕ → List ℕ → List ℕ → List ℕ → List ℕ → List ℕ → Call → CallLeft
+callIn granules session queue page table words c =
+    callLeft (needsOf (kindOf (c .id))) (callOf granules (worldIn session queue page table words) c) session (signingDone (c .state) page queue (c .x1) (c .x2) (c .x3)) queue
 
 -- a call that uses neither image
 pub record PlainLeft : Type 0 where
@@ -128,10 +156,11 @@ pub record PlainLeft : Type 0 where
   pub work : List ℕ
   pub page : List ℕ
   pub table : List ℕ
+  pub words : List ℕ
 
 unfoldable pub plainLeft : Step → PlainLeft
-plainLeft s = record { out = replyRegisters (s .reply); work = replyWords (s .reply); page = s .next .page; table = s .next .table .bytes }
+plainLeft s = record { out = replyRegisters (s .reply); work = replyWords (s .reply); page = s .next .page; table = s .next .table .bytes; words = s .next .table .words }
 
-unfoldable pub plainIn : List ℕ → List ℕ → List ℕ → List ℕ → List ℕ → List ℕ → ℕ → PlainLeft
-plainIn state granules page table x key width =
-    plainLeft (plainOf (granulesOf granules) (plainWorld page table) (plainCall (recordOf state) (getD x 0 0) (getD x 1 0) (getD x 2 0) (getD x 3 0) key width))
+unfoldable pub plainIn : List ℕ → List ℕ → List ℕ → List ℕ → List ℕ → List ℕ → List ℕ → ℕ → PlainLeft
+plainIn state granules page table words x key width =
+    plainLeft (plainOf granules (plainWorld page table words) (plainCall (recordOf state) (getD x 0 0) (getD x 1 0) (getD x 2 0) (getD x 3 0) key width))

@@ -1,17 +1,22 @@
--- Demand 1 at the C edge. 01: "a refused call returns zero in the other result registers and changes no page, table, session or queue":
+-- Demand 1 at the C edge. 01: "a refused call returns zero in the other result registers and changes no page, table, session or queue";
+-- 02, E6: "no refusal changes a word":
 -- what a call of the exports leaves where x0 is not 0, whatever words were lent as an image. Assumes nothing.
 use Prim.Native.Nat.{ℕ}
 use mathlib.Core.Path.{_≡_}
 use mathlib.Core.List.{List, [], _∷_}
 use lib.ListN.{take, getD}
-use Rattle.granules.specs.Granules.{moveOf}
+use Rattle.codes.specs.Codes.{x0Of}
+use Rattle.codes.specs.declared.Code.the-variants.{Inval}
+use Rattle.realm_words.specs.Answers.{realmCountOf, realmNextOf}
+use Rattle.granules.specs.Granules.{tableOf, moveOf}
 use Rattle.granules.specs.Lists.{doneBy, tableBy}
 use Rattle.granules.specs.declared.Direction.{Direction}
 use Rattle.attest.specs.Key.{realmKeyOf}
 use Rattle.features.specs.Features.{featuresOf, updateOf}
 use Rattle.runtime.specs.Step.{Call}
-use Rattle.images.specs.Image.{recordOf, granulesOf, registerWords, workWords}
-use Rattle.potterbeam.specs.Exports.{moveIn, moveListIn, tokenIn, signingIn, signIn, callIn}
+use Rattle.images.specs.Image.{recordOf, registerWords, workWords}
+use Rattle.images.specs.Realm.{numberX0, numberWords, hitX0, hitWords}
+use Rattle.potterbeam.specs.Exports.{setUpIn, moveIn, moveListIn, buildIn, tokenIn, signingIn, signIn, callIn}
 
 -- the registers show a refusal
 abbrev pub Refuses : List ℕ → Type 0
@@ -22,17 +27,22 @@ abbrev pub x0Alone : List ℕ → List ℕ
 x0Alone out = getD out 0 0 ∷ 0 ∷ 0 ∷ []
 
 pub record ExportsRefuse : Type 0 where
+  -- pbeam_set_up_granules. 02, E2: "the set-up answers INVAL, with no record made"
+  pub setUp : (granules banks : List ℕ) (n : ℕ) →
+      let l = setUpIn granules banks n in
+      (l .x0 ≡ 0 → ⊥) → l ≡ record { x0 = x0Of Inval; granules = granules }
   -- pbeam_delegate, pbeam_undelegate
-  pub delegation : (d : Direction) (state granules table : List ℕ) (address : ℕ) →
-      let l = moveIn d state granules table address in
-      Refuses (l .out) → l ≡ record { out = x0Alone (l .out); table = table }
-  -- pbeam_delegate_list, pbeam_undelegate_list. 02, E1: each granule counts as a call of its own, so x1 is the number done, and the table is
-  -- that after the single calls of these; of an accepted list too
-  pub lists : (d : Direction) (state granules table addresses : List ℕ) →
-      let l = moveListIn d state granules table addresses in
-      let f = moveOf (recordOf state) (granulesOf granules) d in
-      let done = doneBy f (record { bytes = table }) addresses in
-      l ≡ record { out = getD (l .out) 0 0 ∷ done ∷ 0 ∷ []; table = tableBy f (record { bytes = table }) (take done addresses) .bytes }
+  pub delegation : (d : Direction) (state granules table words : List ℕ) (address : ℕ) →
+      let l = moveIn d state granules table words address in
+      Refuses (l .out) → l ≡ record { out = x0Alone (l .out); table = table; words = words }
+  -- pbeam_delegate_list, pbeam_undelegate_list. 02, E1: each granule counts as a call of its own, so x1 is the number done, and table and
+  -- words are those after the single calls of these; of an accepted list too
+  pub lists : (d : Direction) (state granules table words addresses : List ℕ) →
+      let l = moveListIn d state granules table words addresses in
+      let f = moveOf (recordOf state) granules d in
+      let done = doneBy f (tableOf table words) addresses in
+      let after = tableBy f (tableOf table words) (take done addresses) in
+      l ≡ record { out = getD (l .out) 0 0 ∷ done ∷ 0 ∷ []; table = after .bytes; words = after .words }
   -- pbeam_realm_key
   pub realmKey : (state page key : List ℕ) (pa size curve : ℕ) →
       let k = realmKeyOf (recordOf state) page key pa size curve in
@@ -60,6 +70,16 @@ pub record ExportsRefuse : Type 0 where
       let l = signIn queue signature in
       Refuses (l .out) → l ≡ record { out = x0Alone (l .out); queue = queue }
   -- pbeam_call
-  pub call : (granules session queue page table : List ℕ) (c : Call) →
-      let l = callIn granules session queue page table c in
-      Refuses (l .out) → l ≡ record { out = x0Alone (l .out); work = 0 ∷ 0 ∷ []; page = page; table = table; session = session; queue = queue }
+  pub call : (granules session queue page table words : List ℕ) (c : Call) →
+      let l = callIn granules session queue page table words c in
+      Refuses (l .out) → l ≡ record { out = x0Alone (l .out); work = 0 ∷ 0 ∷ []; page = page; table = table; words = words; session = session; queue = queue }
+  -- pbeam_realm_count, pbeam_realm_next: nothing is told. 02, E6: "no refusal changes a word": pbeam_realm_build
+  pub realmCount : (words : List ℕ) (n : ℕ) →
+      let a = realmCountOf words n in
+      (numberX0 a ≡ 0 → ⊥) → numberWords a ≡ 0 ∷ []
+  pub realmNext : (words : List ℕ) (n index : ℕ) →
+      let a = realmNextOf words n index in
+      (hitX0 a ≡ 0 → ⊥) → hitWords a ≡ 0 ∷ []
+  pub realmBuild : (granules table words : List ℕ) →
+      let l = buildIn granules table words in
+      (l .x0 ≡ 0 → ⊥) → l ≡ record { x0 = x0Of Inval; words = words }

@@ -17,6 +17,7 @@ ghost use Rattle.reader.specs.Reading.{sectionOf, readingAnswer, sectionAt, vie
 ghost use Rattle.reader.specs.declared.Reading.the-variants.{Accepted};
 ghost use Rattle.lookup.specs.Lookup.{spanOf, spanIn};
 ghost use Rattle.lookup.specs.Fields.{firstIn, restIn, nthIn, ofTag, fieldAs, shownFrom, stepAt, startAt, nthPlace, tagPlace};
+ghost use Rattle.lookup.specs.Kept.{keptFor};
 ghost use Rattle.text.specs.Text.{lay, listingOf};
 ghost use Rattle.lists.specs.Description.{descriptionOf};
 ghost use Rattle.writer.specs.Write.{descriptionFits};
@@ -24,6 +25,8 @@ ghost use Rattle.writer.specs.Wrote.{pageAfter};
 ghost use Rattle.versions.specs.Version.{versionOk, later, agreed};
 ghost use Rattle.boot.specs.declared.Record.the-variants.{Closed};
 ghost use Rattle.boot.specs.Boot.{codeIn, coldCode, coldNext, warmCode, warmNext};
+ghost use Rattle.banks.specs.Banks.{granuleCount};
+ghost use Rattle.realm_words.specs.Answers.{realmCountOf, realmNextOf, realmAgreeOf};
 ghost use Rattle.granules.specs.declared.Direction.{Direction};
 ghost use Rattle.attest.specs.Key.{realmKeyOf};
 ghost use mathlib.Core.Bool.{true, false};
@@ -31,8 +34,9 @@ ghost use Rattle.codes.specs.Codes.{x0Of};
 ghost use Rattle.token.specs.Token.{bufferCode, challengeSpan};
 ghost use Rattle.features.specs.Features.{featuresOf, updateOf, forwardOf};
 ghost use Rattle.images.specs.Image.{recordOf, recordWords, registerWords, workWords, sectionWords, viewOf, viewWords, answerWords, madeNumber, spanWords, fieldWords};
+ghost use Rattle.images.specs.Realm.{numberX0, numberWords, hitX0, hitWords, agreementX0};
 ghost use Rattle.queue_image.specs.Image.{listsIn, oldestWords};
-ghost use Rattle.potterbeam.specs.Exports.{writeIn, MoveLeft, moveIn, moveListIn, TokenLeft, tokenIn, SigningLeft, signingIn, SignLeft, signIn, PlainLeft, plainIn, CallLeft, callLent, callIn};
+ghost use Rattle.potterbeam.specs.Exports.{writeIn, SetUpLeft, setUpIn, MoveLeft, moveIn, moveListIn, BuildLeft, buildIn, TokenLeft, tokenIn, SigningLeft, signingIn, SignLeft, signIn, PlainLeft, plainIn, CallLeft, callLent, callIn};
 
 // ---- Manifest ----
 
@@ -193,6 +197,15 @@ pub extern "C" fn pbeam_field_next(page: &[u8], cursor: usize, field: &mut [u64;
     step.next
 }
 
+// How many bytes the manifest of a view takes from the page's start: with so many kept bytes at cold boot it is read the same, as the
+// edition of the view, after any runtime commands. At most 4,096.
+#[no_mangle]
+pub extern "C" fn pbeam_kept_for(view: &[u64; 15]) -> u64
+    ensures { λ r. ⌜ (r ≡ keptFor (viewOf (now (view .entry)))) × (r ≤ 4096) ⌝ }
+{
+    lookup::kept_for(images::view_of(view))
+}
+
 // The listing of a page at a base, as a reader of an edition reads it, as far as it fits. Answers the length of the whole text.
 #[no_mangle]
 pub extern "C" fn pbeam_listing(page: &[u8], base: u64, edition: u64, text: &mut [u8]) -> usize
@@ -250,21 +263,23 @@ pub extern "C" fn pbeam_is_later(a: u64, b: u64) -> bool
 
 // ---- Boot ----
 
-// Cold boot with x0 to x3 on a monitor of at most so many CPUs, and the manifest's page at x3. Answers 0 or the code.
+// Cold boot with x0 to x3 on a monitor of at most so many CPUs, with so many kept bytes at the start of the page, and the manifest's page at
+// x3. Answers 0 or the code.
 #[no_mangle]
 pub extern "C" fn pbeam_cold_boot(
-    image: &mut [u64; 4],
+    image: &mut [u64; 5],
     x0: u64,
     x1: u64,
     x2: u64,
     x3: u64,
     most: u64,
+    kept: u64,
     page: &[u8],
 ) -> i32
-    ensures { λ r. ⌜ r ≡ coldCode (recordOf (now (image .entry))) x0 x1 x2 x3 most (now (page .entry)) ⌝ }
-    ensures { λ r. ⌜ now (image .exit) ≡ recordWords (coldNext (recordOf (now (image .entry))) x0 x1 x2 x3 most (now (page .entry))) ⌝ }
+    ensures { λ r. ⌜ r ≡ coldCode (recordOf (now (image .entry))) x0 x1 x2 x3 most kept (now (page .entry)) ⌝ }
+    ensures { λ r. ⌜ now (image .exit) ≡ recordWords (coldNext (recordOf (now (image .entry))) x0 x1 x2 x3 most kept (now (page .entry))) ⌝ }
 {
-    let booted = images::record_of(image).cold(x0, x1, x2, x3, most, page);
+    let booted = images::record_of(image).cold(x0, x1, x2, x3, most, kept, page);
     let next = booted.next;
     *image = images::record_words(next);
     let code = booted.code;
@@ -273,7 +288,7 @@ pub extern "C" fn pbeam_cold_boot(
 
 // Warm boot with x0 to x3, of which only x0 counts. Answers 0 or the code.
 #[no_mangle]
-pub extern "C" fn pbeam_warm_boot(image: &mut [u64; 4], x0: u64, x1: u64, x2: u64, x3: u64) -> i32
+pub extern "C" fn pbeam_warm_boot(image: &mut [u64; 5], x0: u64, x1: u64, x2: u64, x3: u64) -> i32
     ensures { λ r. ⌜ r ≡ warmCode (recordOf (now (image .entry))) x0 ⌝ }
     ensures { λ r. ⌜ now (image .exit) ≡ recordWords (warmNext (recordOf (now (image .entry))) x0) ⌝ }
 {
@@ -286,10 +301,22 @@ pub extern "C" fn pbeam_warm_boot(image: &mut [u64; 4], x0: u64, x1: u64, x2: u6
 
 // Closes the record for good, whatever it was: for EL3, when the monitor reports that its boot failed.
 #[no_mangle]
-pub extern "C" fn pbeam_close(image: &mut [u64; 4])
+pub extern "C" fn pbeam_close(image: &mut [u64; 5])
     ensures { λ _. ⌜ now (image .exit) ≡ recordWords Closed ⌝ }
 {
     *image = images::record_words(Record::Closed);
+}
+
+// ---- Granule record ----
+
+// Sets up the granule record from the banks in a page, in the bytes that the array lookup gives, for a table of so many granules. Answers
+// 0, or the number of INVAL as x0 holds it, and leaves the record as it was.
+#[no_mangle]
+pub extern "C" fn pbeam_set_up_granules(granules: &mut [u64; 33], banks: &[u8], len: u64) -> u64
+    ensures { λ r. ⌜ _≡_ {A = SetUpLeft} (record { x0 = r; granules = now (granules .exit) })
+        (setUpIn (now (granules .entry)) (now (banks .entry)) len) ⌝ }
+{
+    codes::x0(banks::set_up(banks, len, granules))
 }
 
 // ---- Runtime commands ----
@@ -297,19 +324,21 @@ pub extern "C" fn pbeam_close(image: &mut [u64; 4])
 // 0xC40001B0: the granule at an address becomes Realm.
 #[no_mangle]
 pub extern "C" fn pbeam_delegate(
-    state: &[u64; 4],
-    granules: &[u64; 1],
+    state: &[u64; 5],
+    granules: &[u64; 33],
     table: &mut [u8],
+    words: &mut [u64],
     address: u64,
     out: &mut [u64; 3],
 )
-    ensures { λ _. ⌜ _≡_ {A = MoveLeft} (record { out = now (out .exit); table = now (table .exit) })
-        (moveIn Direction.Delegate (now (state .entry)) (now (granules .entry)) (now (table .entry)) address) ⌝ }
+    ensures { λ _. ⌜ _≡_ {A = MoveLeft} (record { out = now (out .exit); table = now (table .exit); words = now (words .exit) })
+        (moveIn Direction.Delegate (now (state .entry)) (now (granules .entry)) (now (table .entry)) (now (words .entry)) address) ⌝ }
 {
     *out = images::registers(granules::delegate(
         images::record_of(state),
-        images::granules_of(granules),
+        granules,
         table,
+        words,
         address,
     ));
 }
@@ -317,19 +346,21 @@ pub extern "C" fn pbeam_delegate(
 // 0xC40001B1: the granule at an address becomes Non-secure.
 #[no_mangle]
 pub extern "C" fn pbeam_undelegate(
-    state: &[u64; 4],
-    granules: &[u64; 1],
+    state: &[u64; 5],
+    granules: &[u64; 33],
     table: &mut [u8],
+    words: &mut [u64],
     address: u64,
     out: &mut [u64; 3],
 )
-    ensures { λ _. ⌜ _≡_ {A = MoveLeft} (record { out = now (out .exit); table = now (table .exit) })
-        (moveIn Direction.Undelegate (now (state .entry)) (now (granules .entry)) (now (table .entry)) address) ⌝ }
+    ensures { λ _. ⌜ _≡_ {A = MoveLeft} (record { out = now (out .exit); table = now (table .exit); words = now (words .exit) })
+        (moveIn Direction.Undelegate (now (state .entry)) (now (granules .entry)) (now (table .entry)) (now (words .entry)) address) ⌝ }
 {
     *out = images::registers(granules::undelegate(
         images::record_of(state),
-        images::granules_of(granules),
+        granules,
         table,
+        words,
         address,
     ));
 }
@@ -337,19 +368,21 @@ pub extern "C" fn pbeam_undelegate(
 // The granules at a list of addresses become Realm, one by one up to the first that is refused; x1 is how many did.
 #[no_mangle]
 pub extern "C" fn pbeam_delegate_list(
-    state: &[u64; 4],
-    granules: &[u64; 1],
+    state: &[u64; 5],
+    granules: &[u64; 33],
     table: &mut [u8],
+    words: &mut [u64],
     addresses: &[u64],
     out: &mut [u64; 3],
 )
-    ensures { λ _. ⌜ _≡_ {A = MoveLeft} (record { out = now (out .exit); table = now (table .exit) })
-        (moveListIn Direction.Delegate (now (state .entry)) (now (granules .entry)) (now (table .entry)) (now (addresses .entry))) ⌝ }
+    ensures { λ _. ⌜ _≡_ {A = MoveLeft} (record { out = now (out .exit); table = now (table .exit); words = now (words .exit) })
+        (moveListIn Direction.Delegate (now (state .entry)) (now (granules .entry)) (now (table .entry)) (now (words .entry)) (now (addresses .entry))) ⌝ }
 {
     *out = images::registers(granules::delegate_list(
         images::record_of(state),
-        images::granules_of(granules),
+        granules,
         table,
+        words,
         addresses,
     ));
 }
@@ -357,19 +390,21 @@ pub extern "C" fn pbeam_delegate_list(
 // The granules at a list of addresses become Non-secure, one by one up to the first that is refused; x1 is how many did.
 #[no_mangle]
 pub extern "C" fn pbeam_undelegate_list(
-    state: &[u64; 4],
-    granules: &[u64; 1],
+    state: &[u64; 5],
+    granules: &[u64; 33],
     table: &mut [u8],
+    words: &mut [u64],
     addresses: &[u64],
     out: &mut [u64; 3],
 )
-    ensures { λ _. ⌜ _≡_ {A = MoveLeft} (record { out = now (out .exit); table = now (table .exit) })
-        (moveListIn Direction.Undelegate (now (state .entry)) (now (granules .entry)) (now (table .entry)) (now (addresses .entry))) ⌝ }
+    ensures { λ _. ⌜ _≡_ {A = MoveLeft} (record { out = now (out .exit); table = now (table .exit); words = now (words .exit) })
+        (moveListIn Direction.Undelegate (now (state .entry)) (now (granules .entry)) (now (table .entry)) (now (words .entry)) (now (addresses .entry))) ⌝ }
 {
     *out = images::registers(granules::undelegate_list(
         images::record_of(state),
-        images::granules_of(granules),
+        granules,
         table,
+        words,
         addresses,
     ));
 }
@@ -377,7 +412,7 @@ pub extern "C" fn pbeam_undelegate_list(
 // 0xC40001B2: the realm key at pa.
 #[no_mangle]
 pub extern "C" fn pbeam_realm_key(
-    state: &[u64; 4],
+    state: &[u64; 5],
     page: &mut [u8],
     key: &[u8],
     pa: u64,
@@ -401,7 +436,7 @@ pub extern "C" fn pbeam_realm_key(
 // 0xC40001B3: the next hunk of the token at pa. The session's image is written where the call is accepted.
 #[no_mangle]
 pub extern "C" fn pbeam_platform_token(
-    state: &[u64; 4],
+    state: &[u64; 5],
     session: &mut [u64; 3],
     page: &mut [u8],
     token: &[u8],
@@ -434,7 +469,7 @@ pub extern "C" fn pbeam_platform_token(
 // Where the challenge of a start lies in the page. Answers x0 of the first check that the call fails, or OK.
 #[no_mangle]
 pub extern "C" fn pbeam_challenge(
-    state: &[u64; 4],
+    state: &[u64; 5],
     page: &[u8],
     pa: u64,
     size: u64,
@@ -451,7 +486,7 @@ pub extern "C" fn pbeam_challenge(
 
 // 0xC40001B4: the features at an index.
 #[no_mangle]
-pub extern "C" fn pbeam_features(state: &[u64; 4], index: u64, out: &mut [u64; 3])
+pub extern "C" fn pbeam_features(state: &[u64; 5], index: u64, out: &mut [u64; 3])
     ensures { λ _. ⌜ now (out .exit) ≡ registerWords (featuresOf (recordOf (now (state .entry))) index) ⌝ }
 {
     *out = images::registers(features::features(images::record_of(state), index));
@@ -461,7 +496,7 @@ pub extern "C" fn pbeam_features(state: &[u64; 4], index: u64, out: &mut [u64; 3
 // responses'; no other word of it changes.
 #[no_mangle]
 pub extern "C" fn pbeam_token_signing(
-    state: &[u64; 4],
+    state: &[u64; 5],
     queue: &mut [u64; 210],
     page: &mut [u8],
     key: &[u8],
@@ -482,7 +517,7 @@ pub extern "C" fn pbeam_token_signing(
 // 0xC40001B6: what the platform has to do goes into work.
 #[no_mangle]
 pub extern "C" fn pbeam_key_update(
-    state: &[u64; 4],
+    state: &[u64; 5],
     width: u64,
     mecid: u64,
     out: &mut [u64; 3],
@@ -500,7 +535,7 @@ pub extern "C" fn pbeam_key_update(
 
 // 0xC400018F: the error code that goes to the Non-secure world.
 #[no_mangle]
-pub extern "C" fn pbeam_forward(state: &[u64; 4], x1: u64) -> u64
+pub extern "C" fn pbeam_forward(state: &[u64; 5], x1: u64) -> u64
     ensures { λ r. ⌜ r ≡ forwardOf (recordOf (now (state .entry))) x1 ⌝ }
 {
     features::forward(images::record_of(state), x1)
@@ -535,32 +570,88 @@ pub extern "C" fn pbeam_responses(queue: &[u64; 210]) -> usize
     queue_image::responses_waiting(queue)
 }
 
+// ---- The realm words ----
+
+// How many Realm granules there are, by the words alone. Answers x0 of OK or INVAL.
+#[no_mangle]
+pub extern "C" fn pbeam_realm_count(
+    granules: &[u64; 33],
+    words: &[u64],
+    number: &mut [u64; 1],
+) -> u64
+    ensures { λ r. ⌜ r ≡ numberX0 (realmCountOf (now (words .entry)) (granuleCount (now (granules .entry)))) ⌝ }
+    ensures { λ _. ⌜ now (number .exit) ≡ numberWords (realmCountOf (now (words .entry)) (granuleCount (now (granules .entry)))) ⌝ }
+{
+    let n = banks::granule_count(granules);
+    let counted = realm_words::count(words, n as usize);
+    *number = images::number_words(counted);
+    images::number_x0(counted)
+}
+
+// The first Realm granule at or after an index, by the words alone. Answers x0 of OK or INVAL, or 1 if there is none.
+#[no_mangle]
+pub extern "C" fn pbeam_realm_next(
+    granules: &[u64; 33],
+    words: &[u64],
+    index: u64,
+    found: &mut [u64; 1],
+) -> u64
+    ensures { λ r. ⌜ r ≡ hitX0 (realmNextOf (now (words .entry)) (granuleCount (now (granules .entry))) index) ⌝ }
+    ensures { λ _. ⌜ now (found .exit) ≡ hitWords (realmNextOf (now (words .entry)) (granuleCount (now (granules .entry))) index) ⌝ }
+{
+    let n = banks::granule_count(granules);
+    let hit = realm_words::next(words, n as usize, index as usize);
+    *found = images::hit_words(hit);
+    images::hit_x0(hit)
+}
+
+// Whether words and table agree, spare bits too. Answers x0 of OK or INVAL, or 1 if they do not.
+#[no_mangle]
+pub extern "C" fn pbeam_realm_agrees(granules: &[u64; 33], table: &[u8], words: &[u64]) -> u64
+    ensures { λ r. ⌜ r ≡ agreementX0 (realmAgreeOf (now (table .entry)) (now (words .entry)) (granuleCount (now (granules .entry)))) ⌝ }
+{
+    let n = banks::granule_count(granules);
+    images::agreement_x0(realm_words::agrees(table, words, n as usize))
+}
+
+// Makes the words agree with the table. Answers x0 of OK or INVAL.
+#[no_mangle]
+pub extern "C" fn pbeam_realm_build(granules: &[u64; 33], table: &[u8], words: &mut [u64]) -> u64
+    ensures { λ r. ⌜ _≡_ {A = BuildLeft} (record { x0 = r; words = now (words .exit) })
+        (buildIn (now (granules .entry)) (now (table .entry)) (now (words .entry))) ⌝ }
+{
+    let n = banks::granule_count(granules);
+    images::built_x0(realm_words::build(table, words, n as usize))
+}
+
 // ---- Every command ----
 
 // A call that uses neither session nor queue.
 fn plain(
-    state: &[u64; 4],
+    state: &[u64; 5],
     page: &mut [u8],
-    granules: &[u64; 1],
+    granules: &[u64; 33],
     table: &mut [u8],
+    words: &mut [u64],
     key: &[u8],
     width: u64,
     call: &[u64; 5],
     out: &mut [u64; 3],
     work: &mut [u64; 2],
 )
-    ensures { λ _. ⌜ _≡_ {A = PlainLeft} (record { out = now (out .exit); work = now (work .exit); page = now (page .exit); table = now (table .exit) })
-        (plainIn (now (state .entry)) (now (granules .entry)) (now (page .entry)) (now (table .entry)) (now (call .entry)) (now (key .entry)) width) ⌝ }
+    ensures { λ _. ⌜ _≡_ {A = PlainLeft} (record { out = now (out .exit); work = now (work .exit); page = now (page .exit); table = now (table .exit); words = now (words .exit) })
+        (plainIn (now (state .entry)) (now (granules .entry)) (now (page .entry)) (now (table .entry)) (now (words .entry)) (now (call .entry)) (now (key .entry)) width) ⌝ }
 {
     let reply = runtime::plain_call(
         images::record_of(state),
-        images::granules_of(granules),
+        granules,
         call[0],
         call[1],
         call[2],
         call[3],
         page,
         table,
+        words,
         key,
         width,
     );
@@ -572,12 +663,13 @@ fn plain(
 // signing the queue's; each changes where the call is accepted.
 #[no_mangle]
 pub extern "C" fn pbeam_call(
-    state: &[u64; 4],
+    state: &[u64; 5],
     session: &mut [u64; 3],
     queue: &mut [u64; 210],
     page: &mut [u8],
-    granules: &[u64; 1],
+    granules: &[u64; 33],
     table: &mut [u8],
+    words: &mut [u64],
     key: &[u8],
     token: &[u8],
     busy: u64,
@@ -592,14 +684,26 @@ pub extern "C" fn pbeam_call(
       work = now (work .exit);
       page = now (page .exit);
       table = now (table .exit);
+      words = now (words .exit);
       session = now (session .exit);
       queue = now (queue .exit);
     })
-        (callIn (now (granules .entry)) (now (session .entry)) (now (queue .entry)) (now (page .entry)) (now (table .entry))
+        (callIn (now (granules .entry)) (now (session .entry)) (now (queue .entry)) (now (page .entry)) (now (table .entry)) (now (words .entry))
         (callLent (now (state .entry)) (now (call .entry)) busy (now (key .entry)) (now (token .entry)) (now (public .entry)) width)) ⌝ }
 {
     match runtime::needs_of(call[0]) {
-        Needs::Nothing => plain(state, page, granules, table, key, width, call, out, work),
+        Needs::Nothing => plain(
+            state,
+            page,
+            granules,
+            table,
+            words,
+            key,
+            width,
+            call,
+            out,
+            work,
+        ),
         Needs::Session => {
             *work = [0, 0];
             pbeam_platform_token(

@@ -2,7 +2,9 @@
 use Prim.Native.Nat.{ℕ, _+_, _-_, _<_, _≤_}
 use mathlib.Core.Path.{_≡_, refl}
 use mathlib.Core.Bool.{Bool, true, false, true≢false}
+use native.Mathlib.Nat.{add-zero}
 use native.Mathlib.Omega.{arith}
+use lib.Dec.{leb, ltb}
 use borrow.Author.Tests.{lt-ltb, le-ltb, le-leb, lt-leb, ltb-false, leb-false, eq-eqb, ne-eqb, eqb-true}
 use Rattle.words.specs.Tests.{either}
 use Rattle.boot.specs.declared.Params.{Params}
@@ -22,19 +24,19 @@ outside-refused BadAddress = refl
 outside-refused Invalid = refl
 
 module _ (u : Params) (out : OutsideAs) (pa size : ℕ) where
-  pub range-below : pa < u .base → rangeCode u out pa size ≡ outsideCode out
+  pub range-below : pa < u .base + u .kept → rangeCode u out pa size ≡ outsideCode out
   unfolding rangeCode outside either fails
-  range-below l = rw (lt-ltb pa (u .base) l)
+  range-below l = rw (lt-ltb pa (u .base + u .kept) l)
 
-  module _ (l : u .base ≤ pa) where
+  module _ (l : u .base + u .kept ≤ pa) where
     pub range-above : u .base + 4096 ≤ pa → rangeCode u out pa size ≡ outsideCode out
     unfolding rangeCode outside either fails
-    range-above h = rw (le-ltb pa (u .base) l, le-leb (u .base + 4096) pa h)
+    range-above h = rw (le-ltb pa (u .base + u .kept) l, le-leb (u .base + 4096) pa h)
 
     module _ (h : pa < u .base + 4096) where
       pub inside : outside u pa ≡ false
       unfolding outside either
-      inside = rw (le-ltb pa (u .base) l, lt-leb (u .base + 4096) pa h)
+      inside = rw (le-ltb pa (u .base + u .kept) l, lt-leb (u .base + 4096) pa h)
 
       pub range-long : u .base + 4096 - pa < size → rangeCode u out pa size ≡ Inval
       unfolding rangeCode tooLong fails
@@ -49,12 +51,22 @@ unfolding either
 neither true b h = absurd (true≢false h)
 neither false b h = (refl, h)
 
+-- a buffer that is not outside begins behind the kept bytes
+pub past-kept : (u : Params) (pa : ℕ) → outside u pa ≡ false → u .kept ≤ placeOf u pa
+unfolding outside placeOf
+past-kept u pa h = let a : u .base + u .kept ≤ pa = ltb-false _ _ (neither _ _ h .0) in omega arith
+
+-- 02, E5: "K = 0 gives 01 as it stands.": its range check
+pub kept-none : (u : Params) (pa : ℕ) → u .kept ≡ 0 → outside u pa ≡ either (ltb pa (u .base)) (leb (u .base + 4096) pa)
+unfolding outside
+kept-none u pa h = rw (h, add-zero)
+
 -- a buffer that is not outside and not too long lies in the page
 room-of : (u : Params) (pa size : ℕ) → outside u pa ≡ false → tooLong u pa size ≡ false → placeOf u pa + size ≤ 4096
 unfolding outside tooLong placeOf
 room-of u pa size h k =
     let p = neither _ _ h in
-    let a : u .base ≤ pa = ltb-false _ _ (p .0) in
+    let a : u .base + u .kept ≤ pa = ltb-false _ _ (p .0) in
     let b : pa < u .base + 4096 = leb-false _ _ (p .1) in
     let d : size ≤ u .base + 4096 - pa = ltb-false _ _ k in
     omega arith

@@ -6,11 +6,11 @@ use lib.ListN.{length, take, drop}
 use Rattle.words.specs.Word.{part}
 use Rattle.boot.specs.declared.Params.{Params}
 
--- No refusal of 01's range check, and none of the page's length: the page is 4,096 bytes long, pa is not below B and below B + 4,096, and the
--- size does not exceed B + 4,096 - pa.
+-- No refusal of the range check, and none of the page's length: the page is 4,096 bytes long, pa is not below B + K and below B + 4,096, and
+-- the size does not exceed B + 4,096 - pa.
 pub record BufferIn (u : Params) (page : List ℕ) (pa size : ℕ) : Type 0 where
   pub whole : length page ≡ 4096
-  pub from : u .base ≤ pa
+  pub from : u .base + u .kept ≤ pa
   pub below : pa < u .base + 4096
   pub fits : size ≤ u .base + 4096 - pa
 

@@ -12,9 +12,10 @@ use Rattle.codes.specs.declared.Code.the-variants.{Ok, Unk, BadAddr, Inval}
 use Rattle.range.specs.declared.OutsideAs.{OutsideAs}
 use Rattle.range.specs.declared.OutsideAs.the-variants.{BadAddress, Invalid}
 
--- "a buffer at pa of size s is outside when pa is below B or not below B + 4,096;"
+-- "a buffer at pa of size s is outside when pa is below B or not below B + 4,096;" 02, E5: "The range check counts a buffer that begins below
+-- B + K as outside."
 unfoldable pub outside : Params → ℕ → Bool
-outside u pa = either (ltb pa (u .base)) (leb (u .base + 4096) pa)
+outside u pa = either (ltb pa (u .base + u .kept)) (leb (u .base + 4096) pa)
 
 -- "it is too long when s exceeds B + 4,096 - pa."
 unfoldable pub tooLong : Params → ℕ → ℕ → Bool

@@ -22,7 +22,8 @@ fn outside_code(out: OutsideAs) -> Code
     }
 }
 
-// The range check of a buffer at pa of so many bytes, and its offset in the page. No sum is made: it might wrap.
+// The range check of a buffer at pa of so many bytes, and its offset in the page; a buffer that begins in the kept bytes is outside. No sum
+// is made: it might wrap.
 fn range_gate(params: Params, out: OutsideAs, pa: u64, size: u64) -> Gate
     ensures { λ r. ⌜ r ≡ gated (rangeCode params out pa size) (placeOf params pa) ⌝ }
 {
@@ -31,6 +32,9 @@ fn range_gate(params: Params, out: OutsideAs, pa: u64, size: u64) -> Gate
         return Gate::Stop(outside_code(out));
     }
     let at = pa - base;
+    if at < params.kept {
+        return Gate::Stop(outside_code(out));
+    }
     if 4096 <= at {
         return Gate::Stop(outside_code(out));
     }

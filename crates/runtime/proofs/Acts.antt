@@ -1,7 +1,7 @@
 -- Each command is reached by its id, with its registers. Assumes nothing.
 use Prim.Native.Nat.{ℕ}
 use mathlib.Core.Path.{_≡_, ap}
-use Rattle.granules.specs.declared.Granules.{Granules}
+use Rattle.banks.specs.Banks.{Granules}
 use Rattle.features.specs.Features.{forwardOf}
 use Rattle.runtime.specs.Step.{World, Call, kindOf, afterMove, afterKey, afterToken, afterSigning, afterUpdate, callBy, callOf}
 use Rattle.runtime.specs.Acts.{CallActed}

@@ -5,3 +5,8 @@ pub mod Refused
 pub mod Sessions
 pub mod Order
 pub mod Values
+pub mod Kept
+pub mod Changes
+pub mod Shared
+pub mod Agreement
+pub mod Books

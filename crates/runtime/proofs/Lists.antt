@@ -8,7 +8,7 @@ use Rattle.boot.specs.declared.Record.{Record}
 use Rattle.codes.specs.Codes.{answerOf}
 use Rattle.granules.specs.Granules.{moveOf}
 use Rattle.granules.specs.Lists.{tableBy, doneOf}
-use Rattle.granules.specs.declared.Granules.{Granules}
+use Rattle.banks.specs.Banks.{Granules}
 use Rattle.granules.specs.declared.Direction.{Direction}
 use Rattle.granules.proofs.Done.{list-is, longest}
 use Rattle.runtime.specs.Step.{World, withTable, list, kindOf, afterMove, callBy, callOf, stepOf, replyCode, refusal}

@@ -12,7 +12,7 @@ use Rattle.codes.specs.Codes.{isOk, upOf, answerOf}
 use Rattle.codes.proofs.Gates.{fails-ok}
 use Rattle.codes.specs.declared.Code.{Code}
 use Rattle.codes.specs.declared.Code.the-variants.{Ok, Unk, BadAddr, BadPas, Inval, Again}
-use Rattle.granules.specs.declared.Granules.{Granules}
+use Rattle.banks.specs.Banks.{Granules}
 use Rattle.queue.specs.declared.Request.{Request}
 use Rattle.queue.specs.Queue.{Signed, Lists, SigningStep, oldestRequest}
 use Rattle.requests.specs.Push.{requestOf, pushed}

@@ -5,7 +5,7 @@ use mathlib.Core.Bool.{Bool}
 use mathlib.Core.List.{List}
 use native.Mathlib.Omega.{arith}
 use Rattle.boot.specs.declared.Record.{Record}
-use Rattle.granules.specs.declared.Granules.{Granules}
+use Rattle.banks.specs.Banks.{Granules}
 use Rattle.token.specs.declared.Session.{Session}
 use Rattle.queue.specs.Queue.{Lists}
 use Rattle.runtime.specs.declared.Kind.{Kind}
@@ -41,9 +41,9 @@ needs-queue Unlisted h = let z : _≡_ {A = ℕ} 0 1 = cc in absurd (omega arith
 abbrev pub beside : Session → Lists → Step → Step
 beside s q x = record { reply = x .reply; next = withSession s (withQueue q (x .next)) }
 
-module _ (g : Granules) (page table : List ℕ) (s : Session) (q : Lists) (r : Record) (id x1 x2 x3 x4 : ℕ) (busy : Bool) (key token public : List ℕ) (width : ℕ) where
+module _ (g : Granules) (page table words : List ℕ) (s : Session) (q : Lists) (r : Record) (id x1 x2 x3 x4 : ℕ) (busy : Bool) (key token public : List ℕ) (width : ℕ) where
   plain-by : (k : Kind) → needsOf k ≡ Needs.Nothing →
-      callBy k g (worldOf page table s q) (callWith r id x1 x2 x3 x4 busy key token public width) ≡ beside s q (plainBy (needsOf k) k g (plainWorld page table) (plainCall r id x1 x2 x3 key width))
+      callBy k g (worldOf page table words s q) (callWith r id x1 x2 x3 x4 busy key token public width) ≡ beside s q (plainBy (needsOf k) k g (plainWorld page table words) (plainCall r id x1 x2 x3 key width))
   unfolding needsOf plainBy callBy afterMove afterKey afterUpdate
   plain-by ForwardError h = refl
   plain-by Delegate h = refl
@@ -57,6 +57,6 @@ module _ (g : Granules) (page table : List ℕ) (s : Session) (q : Lists) (r : R
 
   -- a call that uses neither is the same whatever they are
   pub plain-beside : needsOf (kindOf id) ≡ Needs.Nothing →
-      callOf g (worldOf page table s q) (callWith r id x1 x2 x3 x4 busy key token public width) ≡ beside s q (plainOf g (plainWorld page table) (plainCall r id x1 x2 x3 key width))
+      callOf g (worldOf page table words s q) (callWith r id x1 x2 x3 x4 busy key token public width) ≡ beside s q (plainOf g (plainWorld page table words) (plainCall r id x1 x2 x3 key width))
   unfolding callOf plainOf
   plain-beside h = plain-by (kindOf id) h

@@ -5,7 +5,7 @@ use lib.ListN.{length}
 use Rattle.codes.specs.Codes.{isOk, answerOf}
 use Rattle.codes.specs.declared.Answer.{Answer}
 use Rattle.granules.specs.Granules.{Moved}
-use Rattle.granules.specs.declared.Granules.{Granules}
+use Rattle.banks.specs.Banks.{Granules}
 use Rattle.granules.specs.declared.Direction.{Direction}
 use Rattle.granules.proofs.Moving.{move-refused}
 use Rattle.attest.specs.Key.{Keyed}
@@ -38,7 +38,7 @@ refused-by Unlisted g w c h = refl
 
 -- "a refused call returns zero in the other result registers and changes no page, table, session or queue": whatever the records,
 -- the world and the command, the signer's own step too. 02, E1: "Demand 1 counts each granule of a list as a call of its own, and x1
--- holds the number done on refusal too."
+-- holds the number done on refusal too." 02, E6: "no refusal changes a word": the table is its bytes and its words.
 pub refused : (g : Granules) (w : World) (c : Command) → isOk (replyCode (stepOf g w c .reply)) ≡ false → stepOf g w c ≡ refusal (length (doneCalls g w c)) (stepOf g w c) (worldAfter g w (doneCalls g w c))
 unfolding stepOf callOf afterSign afterMove replyCode doneCalls worldAfter
 refused g w (call c) h = refused-by (kindOf (c .id)) g w c h

@@ -2,7 +2,7 @@
 use mathlib.Core.Path.{_≡_, refl, sym, _∙_}
 use mathlib.Core.Bool.{true}
 use mathlib.Core.List.{List, [], _∷_, _++_}
-use Rattle.granules.specs.declared.Granules.{Granules}
+use Rattle.banks.specs.Banks.{Granules}
 use Rattle.token.specs.Calls.{TokenCall, tokenStepOf as tokenStep, runOf as tokenRun, tokenAccepted, oksOf, hunksOf, leftOf, GoesOn, Calls}
 use Rattle.token.proofs.Calls.{token-calls}
 use Rattle.runtime.specs.declared.Kind.{Kind}

@@ -7,7 +7,7 @@ use mathlib.Core.List.{List}
 use Rattle.codes.specs.Codes.{isOk}
 use Rattle.codes.specs.declared.Code.{Code}
 use Rattle.codes.proofs.Gates.{if-ok-by}
-use Rattle.granules.specs.declared.Granules.{Granules}
+use Rattle.banks.specs.Banks.{Granules}
 use Rattle.token.specs.declared.Session.{Session}
 use Rattle.queue.specs.declared.Queue.{Queue}
 use Rattle.queue.specs.Queue.{Lists, SigningStep, listsOf, queueNext}
@@ -29,9 +29,9 @@ unfolding signExit
 sign-lists q s = stands-for _ (signOf (listsOf q) s .queue) q (λ h. ap (λ (t : SignStep). t .queue) (sign-refused (listsOf q) s h))
 
 -- any call
-module _ (g : Granules) (page table : List ℕ) (session : Session) (q : Queue) (c : Call) where
+module _ (g : Granules) (page table words : List ℕ) (session : Session) (q : Queue) (c : Call) where
   abbrev before : World
-  before = worldOf page table session (listsOf q)
+  before = worldOf page table words session (listsOf q)
 
   by-kind : (k : Kind) → listsOf (exitBy (needsOf k) q (callBy k g before c) .queue) ≡ callBy k g before c .next .queue
   unfolding needsOf callBy exitBy queueBy replyCode afterMove afterKey afterToken afterSigning afterUpdate

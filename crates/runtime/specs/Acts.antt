@@ -2,7 +2,7 @@
 use mathlib.Core.Path.{_≡_}
 use Rattle.codes.specs.declared.Work.the-variants.{Nothing}
 use Rattle.granules.specs.Granules.{Moved, delegateOf, undelegateOf}
-use Rattle.granules.specs.declared.Granules.{Granules}
+use Rattle.banks.specs.Banks.{Granules}
 use Rattle.attest.specs.Key.{Keyed, realmKeyOf}
 use Rattle.token.specs.Token.{TokenStep, tokenOf}
 use Rattle.features.specs.Features.{featuresOf, updateOf}

@@ -1,3 +1,5 @@
 pub mod Acts
 pub mod Step
 pub mod Run
+pub mod Kept
+pub mod Changes

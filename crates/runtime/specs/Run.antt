@@ -8,7 +8,7 @@ use Rattle.range.specs.Range.{placeOf}
 use Rattle.codes.specs.Codes.{isOk, upOf}
 use Rattle.boot.specs.declared.Record.{Record}
 use Rattle.granules.specs.Lists.{doneOf}
-use Rattle.granules.specs.declared.Granules.{Granules}
+use Rattle.banks.specs.Banks.{Granules}
 use Rattle.granules.specs.declared.Direction.{Direction}
 use Rattle.token.specs.Calls.{TokenCall}
 use Rattle.queue.specs.declared.Request.{Request}

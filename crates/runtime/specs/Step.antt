@@ -10,9 +10,9 @@ use Rattle.codes.specs.declared.Code.{Code}
 use Rattle.codes.specs.declared.Code.the-variants.{Ok, Unk}
 use Rattle.codes.specs.declared.Work.{Work}
 use Rattle.codes.specs.declared.Work.the-variants.{Nothing}
-use Rattle.granules.specs.Granules.{GranuleTable, Moved, delegateOf, undelegateOf}
+use Rattle.granules.specs.Granules.{GranuleTable, tableOf, Moved, delegateOf, undelegateOf}
 use Rattle.granules.specs.Lists.{moveListOf}
-use Rattle.granules.specs.declared.Granules.{Granules}
+use Rattle.banks.specs.Banks.{Granules}
 use Rattle.granules.specs.declared.Direction.{Direction}
 use Rattle.attest.specs.Key.{Keyed, realmKeyOf}
 use Rattle.token.specs.Token.{TokenStep, tokenOf}
@@ -51,9 +51,9 @@ withSession s w = record { page = w .page; table = w .table; session = s; queue 
 abbrev pub withQueue : Lists → World → World
 withQueue q w = record { page = w .page; table = w .table; session = w .session; queue = q }
 
--- the world of a lent page and table, a session and a queue
-abbrev pub worldOf : List ℕ → List ℕ → Session → Lists → World
-worldOf page table s q = record { page = page; table = record { bytes = table }; session = s; queue = q }
+-- the world of a lent page, a table with its words, a session and a queue
+abbrev pub worldOf : List ℕ → List ℕ → List ℕ → Session → Lists → World
+worldOf page table words s q = record { page = page; table = tableOf table words; session = s; queue = q }
 
 -- a call of the interface: the boot record as it then is, the function id, the argument registers, and what the platform lends or
 -- says with it
@@ -163,12 +163,12 @@ needsOf TokenSigning = Needs.Queue
 needsOf KeyUpdate = Needs.Nothing
 needsOf Unlisted = Needs.Nothing
 
--- the world of a page and a table alone, and a call that lends no token and no public key
+-- the world of a page and a table with its words alone, and a call that lends no token and no public key
 abbrev pub noQueue : Lists
 noQueue = record { requests = []; responses = [] }
 
-abbrev pub plainWorld : List ℕ → List ℕ → World
-plainWorld page table = worldOf page table Idle noQueue
+abbrev pub plainWorld : List ℕ → List ℕ → List ℕ → World
+plainWorld page table words = worldOf page table words Idle noQueue
 
 abbrev pub plainCall : Record → ℕ → ℕ → ℕ → ℕ → List ℕ → ℕ → Call
 plainCall r id x1 x2 x3 key width = callWith r id x1 x2 x3 0 false key [] [] width
@@ -182,16 +182,17 @@ plainBy Needs.Queue k g w c = back (answerOf Unk 0 0) w
 unfoldable pub plainOf : Granules → World → Call → Step
 plainOf g w c = plainBy (needsOf (kindOf (c .id))) (kindOf (c .id)) g w c
 
--- ---- a call by value: the answer, page and table at exit, and the states handed back
+-- ---- a call by value: the answer, page, table and words at exit, and the states handed back
 pub record CallExit : Type 0 where
   pub reply : Reply
   pub page : List ℕ
   pub table : List ℕ
+  pub words : List ℕ
   pub session : Session
   pub queue : Queue
 
-abbrev pub callExit : Stepped → List ℕ → List ℕ → CallExit
-callExit r page table = record { reply = r .reply; page = page; table = table; session = r .session; queue = r .queue }
+abbrev pub callExit : Stepped → List ℕ → List ℕ → List ℕ → CallExit
+callExit r page table words = record { reply = r .reply; page = page; table = table; words = words; session = r .session; queue = r .queue }
 
 -- a command that does not use the queue hands it back as it was
 unfoldable pub queueBy : Needs → Code → Lists → Queue → Queue
@@ -205,6 +206,7 @@ exitBy n old s =
       reply = s .reply;
       page = s .next .page;
       table = s .next .table .bytes;
+      words = s .next .table .words;
       session = s .next .session;
       queue = queueBy n (replyCode (s .reply)) (s .next .queue) old;
     }

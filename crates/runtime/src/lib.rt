@@ -4,7 +4,6 @@ use codes::Answer;
 use codes::Code;
 use codes::Work;
 use features::Updated;
-use granules::Granules;
 use queue::Queue;
 use queue::Queued;
 use token::Session;
@@ -102,24 +101,25 @@ fn updated(done: Updated) -> Reply
 // A call that uses neither session nor queue. An id that uses either is answered as one that is not listed.
 pub fn plain_call(
     state: Record,
-    granules: Granules,
+    granules: &[u64; 33],
     id: u64,
     x1: u64,
     x2: u64,
     x3: u64,
     page: &mut [u8],
     table: &mut [u8],
+    words: &mut [u64],
     key: &[u8],
     width: u64,
 ) -> Reply
-    ensures { λ r. ⌜ _≡_ {A = Step} (record { reply = r; next = plainWorld (now (page .exit)) (now (table .exit)) })
-        (plainOf granules (plainWorld (now (page .entry)) (now (table .entry))) (plainCall state id x1 x2 x3 (now (key .entry)) width)) ⌝ }
+    ensures { λ r. ⌜ _≡_ {A = Step} (record { reply = r; next = plainWorld (now (page .exit)) (now (table .exit)) (now (words .exit)) })
+        (plainOf (now (granules .entry)) (plainWorld (now (page .entry)) (now (table .entry)) (now (words .entry))) (plainCall state id x1 x2 x3 (now (key .entry)) width)) ⌝ }
 {
     let kind = kind_of(id);
     match kind {
         Kind::ForwardError => Reply::Forward(features::forward(state, x1)),
-        Kind::Delegate => back(granules::delegate(state, granules, table, x1)),
-        Kind::Undelegate => back(granules::undelegate(state, granules, table, x1)),
+        Kind::Delegate => back(granules::delegate(state, granules, table, words, x1)),
+        Kind::Undelegate => back(granules::undelegate(state, granules, table, words, x1)),
         Kind::RealmKey => back(attest::realm_key(state, page, key, x1, x2, x3)),
         Kind::PlatformToken => back(codes::answered(Code::Unk, 0, 0)),
         Kind::Features => back(features::features(state, x1)),
@@ -155,11 +155,11 @@ fn after_signing(done: Queued, session: Session) -> Stepped
 }
 
 // A call of the interface: function id and argument registers, the boot record and the granule record, and what the platform
-// lends: page, granule table, realm key, platform token with its busy flag and session, signing queue with the public key,
+// lends: page, granule table with its words, realm key, platform token with its busy flag and session, signing queue with the public key,
 // MECIDWidthm1.
 pub fn call(
     state: Record,
-    granules: Granules,
+    granules: &[u64; 33],
     id: u64,
     x1: u64,
     x2: u64,
@@ -167,6 +167,7 @@ pub fn call(
     x4: u64,
     page: &mut [u8],
     table: &mut [u8],
+    words: &mut [u64],
     key: &[u8],
     busy: bool,
     token: &[u8],
@@ -175,13 +176,25 @@ pub fn call(
     public: &[u8],
     width: u64,
 ) -> Stepped
-    ensures { λ r. ⌜ callExit r (now (page .exit)) (now (table .exit)) ≡ exitBy (needsOf (kindOf id)) queue
-        (callOf granules (worldOf (now (page .entry)) (now (table .entry)) session (listsOf queue))
+    ensures { λ r. ⌜ callExit r (now (page .exit)) (now (table .exit)) (now (words .exit)) ≡ exitBy (needsOf (kindOf id)) queue
+        (callOf (now (granules .entry)) (worldOf (now (page .entry)) (now (table .entry)) (now (words .entry)) session (listsOf queue))
         (callWith state id x1 x2 x3 x4 busy (now (key .entry)) (now (token .entry)) (now (public .entry)) width)) ⌝ }
 {
     match needs_of(id) {
         Needs::Nothing => {
-            let reply = plain_call(state, granules, id, x1, x2, x3, page, table, key, width);
+            let reply = plain_call(
+                state,
+                granules,
+                id,
+                x1,
+                x2,
+                x3,
+                page,
+                table,
+                words,
+                key,
+                width,
+            );
             Stepped {
                 reply,
                 session,

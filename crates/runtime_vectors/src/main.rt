@@ -1,12 +1,11 @@
 // Runs the runtime's operations that the numbered cases of data/ describe, in turn, up to the first case that is missing. A case
-// is 8-byte words: the record (0 fresh, 1 up, 2 closed, then what it keeps), G, MECIDWidthm1, the session (0 idle, 1 sending, then
-// whole and sent), the places of page, table, realm key, public key and queue, the number of operations; then the operations.
+// is 8-byte words: the boot record (0 fresh, 1 up, 2 closed, then what it keeps), where the granule record stands (see
+// `cases::granules_at`) with the realm words behind it, MECIDWidthm1, the session (0 idle, 1 sending, then whole and sent), the places of page, table, realm key, public key and queue, the number of operations; then the operations.
 // A place is an offset in the file and a length. An operation: its kind (0 call, 1 signer's step, 2 challenge lookup, 3 oldest
 // request), function id, x1 to x4, busy, the places of token and signature, and what is to change in page and table: each an offset
-// there, and the place of the new bytes. Prints each answer and the state after it, and at the end of a case the whole queue.
+// there, and the place of the new bytes. Prints each answer and the state after it, and at the end of a case the whole queue and the words.
 use codes::Answer;
 use codes::Work;
-use granules::Granules;
 use libc::STDOUT_FILENO;
 use queue::Queue;
 use queue::Request;
@@ -18,6 +17,7 @@ use runtime::Reply;
 use token::Session;
 use words::Span;
 ghost use Prim.Native.Nat.{_≤_};
+ghost use lib.ListN.{length};
 
 // What goes from one operation to the next.
 struct State {
@@ -55,12 +55,12 @@ fn queue_at(bytes: &[u8]) -> Queue {
 }
 
 fn session_at(input: &[u8]) -> Session {
-    if words::word_at(input, 48) == 0 {
+    if words::word_at(input, 56) == 0 {
         return Session::Idle;
     }
     Session::Sending {
-        whole: words::word_at(input, 56),
-        sent: words::word_at(input, 64),
+        whole: words::word_at(input, 64),
+        sent: words::word_at(input, 72),
     }
 }
 
@@ -217,17 +217,22 @@ fn print_state(state: State) {
 
 // ---- The operations ----
 
-fn call(input: &[u8], at: usize, page: &mut [u8], table: &mut [u8], state: State) -> State
+fn call(
+    input: &[u8],
+    at: usize,
+    page: &mut [u8],
+    table: &mut [u8],
+    words: &mut [u64],
+    state: State,
+) -> State
     requires { ⌜ at ≤ 40000 ⌝ }
 {
-    let granules = Granules {
-        start: words::word_at(input, 32),
-    };
+    let granules = cases::granules_at(input, 40);
     let session = state.session;
     let queue = state.queue;
     let stepped = runtime::call(
         cases::record_at(input),
-        granules,
+        &granules,
         words::word_at(input, at + 8),
         words::word_at(input, at + 16),
         words::word_at(input, at + 24),
@@ -235,13 +240,14 @@ fn call(input: &[u8], at: usize, page: &mut [u8], table: &mut [u8], state: State
         words::word_at(input, at + 40),
         page,
         table,
-        lent(input, 104),
+        words,
+        lent(input, 112),
         words::word_at(input, at + 48) != 0,
         lent(input, at + 56),
         session,
         queue,
-        lent(input, 120),
-        words::word_at(input, 40),
+        lent(input, 128),
+        words::word_at(input, 48),
     );
     let reply = stepped.reply;
     print_reply(reply);
@@ -269,12 +275,19 @@ fn sign(input: &[u8], at: usize, state: State) -> State
 }
 
 // An operation whose words stand at an offset of the case.
-fn operate(input: &[u8], at: usize, page: &mut [u8], table: &mut [u8], state: State) -> State
+fn operate(
+    input: &[u8],
+    at: usize,
+    page: &mut [u8],
+    table: &mut [u8],
+    words: &mut [u64],
+    state: State,
+) -> State
     requires { ⌜ at ≤ 40000 ⌝ }
 {
     let kind = words::word_at(input, at);
     if kind == 0 {
-        return call(input, at, page, table, state);
+        return call(input, at, page, table, words, state);
     }
     if kind == 1 {
         return sign(input, at, state);
@@ -307,7 +320,7 @@ fn lay(input: &[u8], at: usize, expected: &mut [u8])
 fn state_at(input: &[u8]) -> State {
     State {
         session: session_at(input),
-        queue: queue_at(lent(input, 136)),
+        queue: queue_at(lent(input, 144)),
     }
 }
 
@@ -325,12 +338,13 @@ fn print_operations(
     expected: &mut [u8],
     table: &mut [u8],
     wanted: &mut [u8],
+    words: &mut [u64],
 ) -> Queue {
     let mut state = state_at(input);
-    let count = cases::length_at(input, 152, 250);
+    let count = cases::length_at(input, 160, 250);
     for i in 0..count {
-        let at = 160 + 136 * i;
-        state = operate(input, at, page, table, state);
+        let at = 168 + 136 * i;
+        state = operate(input, at, page, table, words, state);
         print_state(state);
         print_change(input, at + 88, b", page", page, expected);
         print_change(input, at + 112, b", table", table, wanted);
@@ -345,18 +359,35 @@ fn fill(held: &mut [u8], expected: &mut [u8], bytes: &[u8]) {
     words::copy(expected, bytes);
 }
 
-// A case, with room for page and table, and for what is expected of them.
+// The operations of a case, on what is lent.
+fn print_whole(
+    input: &[u8],
+    page: &mut [u8],
+    expected: &mut [u8],
+    table: &mut [u8],
+    wanted: &mut [u8],
+    words: &mut [u64],
+) {
+    fill(page, expected, lent(input, 80));
+    fill(table, wanted, lent(input, 96));
+    let queue = print_operations(input, page, expected, table, wanted, words);
+    print_queue(queue);
+}
+
+// A case, with room for page, table and words, and for what is expected of the first two.
 fn print_lent(
     input: &[u8],
     page: &mut [u8],
     expected: &mut [u8],
     table: &mut [u8],
     wanted: &mut [u8],
-) {
-    fill(page, expected, lent(input, 72));
-    fill(table, wanted, lent(input, 88));
-    let queue = print_operations(input, page, expected, table, wanted);
-    print_queue(queue);
+    words: &mut [u64],
+)
+    requires { ⌜ length (now words) ≤ 600 ⌝ }
+{
+    cases::fill_words(input, 40, words);
+    print_whole(input, page, expected, table, wanted, words);
+    cases::print_words(words);
 }
 
 fn print_case(input: &[u8]) {
@@ -364,14 +395,17 @@ fn print_case(input: &[u8]) {
     let mut expected = [0u8; 4200];
     let mut table = [0u8; 600];
     let mut wanted = [0u8; 600];
-    let n = cases::length_at(input, 80, 4200);
-    let t = cases::length_at(input, 96, 600);
+    let mut words = [0u64; 80];
+    let n = cases::length_at(input, 88, 4200);
+    let t = cases::length_at(input, 104, 600);
+    let w = cases::length_at(input, cases::words_at(input, 40), 80);
     print_lent(
         input,
         &mut page[..n],
         &mut expected[..n],
         &mut table[..t],
         &mut wanted[..t],
+        &mut words[..w],
     );
 }
 

@@ -6,6 +6,7 @@ ghost use mathlib.Core.Path.{_≡_};
 ghost use Prim.Native.Nat.{ℕ, _+_, _≤_, _<_};
 ghost use lib.ListN.{length};
 ghost use Rattle.words.specs.Tests.{both};
+ghost use Rattle.versions.specs.Edition.{core};
 ghost use Rattle.sections.specs.Page.{placeOk, versionAt, paddingAt, countAt, pointerAt, checkAt, foundAt, mkPlat};
 ghost use Rattle.sections.specs.Section.{nothing, rulesAt};
 ghost use Rattle.sections.specs.Steps.{platEnd, okAt, okTo, endOf, apartAt, apartTo, clearAt, clearFrom};
@@ -62,15 +63,15 @@ pub fn check_at(page: &[u8], k: u8) -> u64
 }
 
 // The rule of the platform pointer and of the fields that it points at, on a page read as edition e: how many bytes they take
-// through their end mark, none without a pointer; or that the rule is broken.
-fn plat_end(page: &[u8], base: u64, e: Edition, plat: u64) -> FieldsEnd
-    requires { ⌜ (length (now page) ≡ 4096) × (base ≤ 0x10_0000_0000_0000) ⌝ }
+// through their end mark, none without a pointer; or that the rule is broken. Here and below size is that of the edition's core, told once.
+fn plat_end(page: &[u8], base: u64, e: Edition, size: u64, plat: u64) -> FieldsEnd
+    requires { ⌜ (length (now page) ≡ 4096) × (base ≤ 0x10_0000_0000_0000) × (size ≡ core (e .minor)) × (size ≤ 112) ⌝ }
     ensures { λ r. ⌜ r ≡ platEnd (e .minor) base (mkPlat plat (foundAt base (now (page .entry)) plat)) ⌝ }
 {
     if plat == 0 {
         return FieldsEnd::Ended(0);
     }
-    if plat < base + e.core_size() {
+    if plat < base + size {
         return FieldsEnd::Broken;
     }
     if base + 4096 <= plat {
@@ -97,8 +98,8 @@ fn is_nothing(count: u64, pointer: u64, check: u64) -> bool
 }
 
 // The rule of section k by itself, on a page of that minor read as edition e. That the array ends within the page is for `sound_at` to say.
-fn section_ok(page: &[u8], base: u64, minor: u64, e: Edition, k: u8) -> bool
-    requires { ⌜ (length (now page) ≡ 4096) × (base ≤ 0x10_0000_0000_0000) ⌝ }
+fn section_ok(page: &[u8], base: u64, minor: u64, e: Edition, size: u64, k: u8) -> bool
+    requires { ⌜ (length (now page) ≡ 4096) × (base ≤ 0x10_0000_0000_0000) × (size ≡ core (e .minor)) × (size ≤ 112) ⌝ }
     ensures { λ r. ⌜ r ≡ okAt minor (e .minor) base k (now (page .entry)) ⌝ }
 {
     let count = count_at(page, k);
@@ -107,7 +108,7 @@ fn section_ok(page: &[u8], base: u64, minor: u64, e: Edition, k: u8) -> bool
     if is_nothing(count, pointer, check) {
         return true;
     }
-    if pointer < base + e.core_size() {
+    if pointer < base + size {
         return false;
     }
     let at = (pointer - base) as usize;
@@ -115,12 +116,12 @@ fn section_ok(page: &[u8], base: u64, minor: u64, e: Edition, k: u8) -> bool
 }
 
 // The rule of each of the first n sections by itself.
-fn sections_ok(page: &[u8], base: u64, minor: u64, e: Edition, n: u8) -> bool
-    requires { ⌜ (length (now page) ≡ 4096) × (base ≤ 0x10_0000_0000_0000) ⌝ }
+fn sections_ok(page: &[u8], base: u64, minor: u64, e: Edition, size: u64, n: u8) -> bool
+    requires { ⌜ (length (now page) ≡ 4096) × (base ≤ 0x10_0000_0000_0000) × (size ≡ core (e .minor)) × (size ≤ 112) ⌝ }
     ensures { λ r. ⌜ r ≡ okTo minor (e .minor) base n (now (page .entry)) ⌝ }
 {
     for k in 0..n {
-        if !section_ok(page, base, minor, e, k) {
+        if !section_ok(page, base, minor, e, size, k) {
             return false;
         }
     }
@@ -203,16 +204,17 @@ fn rules_ok(page: &[u8], base: u64, minor: u64, e: Edition) -> bool
     requires { ⌜ (length (now page) ≡ 4096) × (base ≤ 0x10_0000_0000_0000) ⌝ }
     ensures { λ r. ⌜ r ≡ rulesAt minor (e .minor) base (now (page .entry)) ⌝ }
 {
+    let size = e.core_size();
     if padding_at(page) != 0 {
         return false;
     }
     let plat = words::word_at(page, 8);
-    let told = plat_end(page, base, e, plat);
+    let told = plat_end(page, base, e, size, plat);
     let FieldsEnd::Ended(taken) = told else {
         return false;
     };
     let n = e.sections();
-    if !sections_ok(page, base, minor, e, n) {
+    if !sections_ok(page, base, minor, e, size, n) {
         return false;
     }
     if !all_apart(page, n) {

@@ -128,7 +128,7 @@ module _ (r : Record) (page : List ℕ) (q : Lists) (key : List ℕ) (pa size cu
   Told Key = (1 ≤ length key) × (length key ≤ size)
   Told Other = ⊥
 
-  public-told : publicCode size key ≡ Ok → (1 ≤ length key) × (length key ≤ size)
+  pub public-told : publicCode size key ≡ Ok → (1 ≤ length key) × (length key ≤ size)
   unfolding publicCode
   public-told h =
       let n = fails-ok _ _ _ refl h in

@@ -3,12 +3,13 @@
 use super::Random;
 use crate::reference::boot::{Kept, Record};
 
-/// A boot: cold or warm, x0 to x3, the monitor's maximum, and the page.
+/// A boot: cold or warm, x0 to x3, the monitor's maximum, the number of kept bytes, and the page.
 #[derive(Clone, Debug)]
 pub struct Boot {
     pub cold: bool,
     pub x: [u64; 4],
     pub most: u64,
+    pub kept: u64,
     pub page: Vec<u8>,
 }
 
@@ -22,11 +23,13 @@ impl Random {
                 cpus: self.edge(),
                 base: self.any_base(),
                 minor: self.edge(),
+                kept: self.kept(),
             }),
             _ => Record::Up(Kept {
                 cpus: self.between(1, 8),
                 base: self.base(),
                 minor: self.pick(&[1, 2, 3, 4, 4, 5, 5, 5, 5, 5]),
+                kept: self.kept_at_boot(),
             }),
         }
     }
@@ -65,6 +68,7 @@ impl Random {
             cold: true,
             x: [self.cpu(cpus), self.interface_version(), cpus, x3],
             most,
+            kept: self.kept(),
             page: reading.page,
         }
     }
@@ -74,7 +78,28 @@ impl Random {
             cold: false,
             x: [self.cpu(cpus), self.edge(), self.edge(), self.edge()],
             most: self.edge(),
+            kept: self.edge(),
             page: Vec::new(),
+        }
+    }
+
+    /// K, one in a few above a page.
+    fn kept(&mut self) -> u64 {
+        match self.below(10) {
+            0 => self.edge(),
+            1 => self.pick(&[4097, 1 << 32, 1 << 63, u64::MAX]),
+            _ => self.kept_at_boot(),
+        }
+    }
+
+    /// K as a cold boot takes it, mostly with room behind it.
+    fn kept_at_boot(&mut self) -> u64 {
+        match self.below(8) {
+            0 => self.pick(&[1, 8, 111, 112, 113]),
+            1 => self.below(2048),
+            2 => self.pick(&[3968, 4015, 4016, 4017, 4080]),
+            3 if self.one_in(4) => self.pick(&[4095, 4096]),
+            _ => 0,
         }
     }
 

@@ -2,6 +2,7 @@
 
 use super::pages::put;
 use super::Random;
+use crate::exports::GranulesImage;
 use crate::reference::codes::Answer;
 use crate::reference::layout::PAGE;
 use crate::reference::queue::{Queue, Request, Response, Ring};
@@ -47,8 +48,8 @@ pub struct Scene {
     pub state: State,
     pub page: Vec<u8>,
     pub table: Vec<u8>,
-    /// G.
-    pub start: u64,
+    pub words: Vec<u64>,
+    pub granules: GranulesImage,
     pub realm_key: Vec<u8>,
     pub public_key: Vec<u8>,
     pub token: Vec<u8>,
@@ -84,7 +85,8 @@ impl Scene {
                 let mut lent = Lent {
                     page: &mut self.page,
                     table: &mut self.table,
-                    start: self.start,
+                    words: &mut self.words,
+                    banks: &self.granules,
                     realm_key: &self.realm_key,
                     public_key: &self.public_key,
                     token: &self.token,
@@ -105,29 +107,53 @@ impl Scene {
     fn base(&self) -> u64 {
         self.state.record.up().map_or(0x8000_0000, |kept| kept.base)
     }
+
+    /// How many bytes at the page's start are kept.
+    fn kept(&self) -> u64 {
+        self.state.record.up().map_or(0, |kept| kept.kept)
+    }
 }
 
 impl Random {
     pub fn scene(&mut self) -> Scene {
         let token = self.token();
+        let (granules, in_table) = self.granule_record();
         let page_length = match self.below(16) {
             0 => self.pick(&[0, 79, 4095, 4097]),
             _ => PAGE,
         };
-        Scene {
+        let table = self.table(in_table);
+        let mut scene = Scene {
             state: State {
                 record: self.record(),
                 session: self.session(token.len() as u64),
                 queue: self.queue(),
             },
             page: self.bytes(page_length),
-            table: self.table(),
-            start: self.table_start(),
+            words: Vec::new(),
+            table,
+            granules,
             realm_key: self.key(),
             public_key: self.key(),
             token,
             busy: self.one_in(8),
             width: self.pick(&[0, 7, 14, 15, 15, 16, 63, 64, u64::MAX]),
+        };
+        if self.one_in(3) {
+            self.share(&mut scene);
+        }
+        scene.words = self.words(&scene.granules, &scene.table);
+        scene
+    }
+
+    /// Moves the banks so that the shared page is among the granules, or right behind a bank.
+    fn share(&mut self, scene: &mut Scene) {
+        let [base, size] = self.bank_of(&scene.granules);
+        let at = base.wrapping_add(4096 * self.below(size / 4096 + 1));
+        let by = scene.base().wrapping_sub(at);
+        let count = scene.granules[0].min(16) as usize;
+        for bank in scene.granules[1..=2 * count].chunks_mut(2) {
+            bank[0] = bank[0].wrapping_add(by);
         }
     }
 
@@ -213,30 +239,42 @@ impl Random {
         }
     }
 
+    /// An address on a granule of a bank, beside one, in a hole, or any.
     fn granule(&mut self, scene: &Scene) -> u64 {
-        let count = scene.table.len() as u64;
-        match self.below(10) {
-            0 => scene.start.wrapping_sub(self.pick(&[1, 4096])),
-            1 => scene.start.wrapping_add(4096 * count),
-            2 => scene.start.wrapping_add(self.below(4096 * count + 1)),
+        let [base, size] = self.bank_of(&scene.granules);
+        let in_bank = base.wrapping_add(4096 * self.below(size / 4096 + 1));
+        match self.below(14) {
+            0 => base.wrapping_sub(self.pick(&[1, 4096])),
+            1 => base.wrapping_add(size),
+            2 => base.wrapping_add(self.below(size.saturating_add(1))),
             3 => self.edge(),
-            // On a multiple of 4,096, even where G is on none.
-            4 => scene.start.wrapping_add(4096 * self.below(count + 1)) & !4095,
-            _ => scene.start.wrapping_add(4096 * self.below(count + 1)),
+            // On a multiple of 4,096, even where the bank is on none.
+            4 => in_bank & !4095,
+            5 => base,
+            6 => base.wrapping_add(size).wrapping_sub(4096),
+            7 | 8 => scene.base(),
+            _ => in_bank,
         }
+    }
+
+    /// One of the banks, counted or not.
+    fn bank_of(&mut self, granules: &GranulesImage) -> [u64; 2] {
+        let count = granules[0].clamp(1, 16) as usize;
+        let at = match self.below(12) {
+            0 => self.index(16),
+            _ => self.index(count),
+        };
+        [granules[1 + 2 * at], granules[2 + 2 * at]]
     }
 
     /// A list of granules' addresses: neighbours, often with one among them changed, or any.
     pub fn granules(&mut self, scene: &Scene) -> Vec<u64> {
-        let count = scene.table.len() as u64;
         let length = self.pick(&[0, 1, 2, 3, 5, 8, 20]);
         if self.below(3) == 0 {
             return (0..length).map(|_| self.granule(scene)).collect();
         }
-        let first = self.below(count + 1);
-        let mut list: Vec<u64> = (first..first + length)
-            .map(|i| scene.start.wrapping_add(4096 * (i % (count + 1))))
-            .collect();
+        let (first, step) = (self.granule(scene), self.pick(&[4096, 4096, 8192]));
+        let mut list: Vec<u64> = (0..length).map(|i| first.wrapping_add(step * i)).collect();
         if length > 0 && self.below(2) == 0 {
             let at = self.index(list.len());
             list[at] = self.granule(scene);
@@ -244,16 +282,19 @@ impl Random {
         list
     }
 
-    /// An address and a size, mostly in the page.
+    /// An address and a size, mostly in the page and behind the kept bytes.
     fn buffer(&mut self, scene: &Scene) -> (u64, u64) {
-        let base = scene.base();
+        let (base, kept) = (scene.base(), scene.kept());
+        let free = 4096 - kept.min(4095);
         let offset = match self.below(16) {
             0 => self.pick(&[u64::MAX, 4095, 4096, 4097]),
             1 => self.edge(),
             2 => 4096 - self.pick(&[1, 17, 18, 79, 80, 122]),
             3 => self.below(4096),
-            4 | 5 => 0,
-            _ => self.below(2048),
+            4 => kept,
+            5 => kept.wrapping_sub(self.pick(&[0, 1])),
+            6 => 0,
+            _ => kept.wrapping_add(self.below((free + 1) / 2)),
         };
         let room = 4096u64.saturating_sub(offset);
         let size = match self.below(8) {
@@ -301,9 +342,14 @@ impl Random {
         [opcode, pa, size, curve]
     }
 
-    /// Writes a request at an address, if it fits there: mostly with the ids that are allowed, and with anything in the holes.
+    /// Writes a request at an address, if it fits there behind the kept bytes: mostly with the ids that are allowed, and with anything in
+    /// the holes.
     fn put_request(&mut self, scene: &mut Scene, pa: u64) {
-        let offset = usize::try_from(pa.wrapping_sub(scene.base())).unwrap_or(usize::MAX);
+        let offset = pa.wrapping_sub(scene.base());
+        if offset < scene.kept() {
+            return;
+        }
+        let offset = usize::try_from(offset).unwrap_or(usize::MAX);
         let rest = scene.page.get_mut(offset..);
         let place = match rest.and_then(|rest| rest.get_mut(..80)) {
             Some(place) => place,
@@ -349,21 +395,9 @@ impl Random {
         self.bytes(length)
     }
 
-    fn table(&mut self) -> Vec<u8> {
-        let length = self.pick(&[0, 1, 2, 16, 512]);
+    fn table(&mut self, length: usize) -> Vec<u8> {
         let states = [0, 0, 0, 1, 1, 1, 2, 3, 4, 255];
         (0..length).map(|_| self.pick(&states)).collect()
-    }
-
-    /// G: any, but mostly on a granule.
-    fn table_start(&mut self) -> u64 {
-        match self.below(8) {
-            0 => 0,
-            1 => self.edge(),
-            2 => self.pick(&[u64::MAX - 4095, u64::MAX - 8191, 1 << 52]),
-            3 => 4096 * self.below(1 << 40) + self.between(1, 4095),
-            _ => 4096 * self.below(1 << 40),
-        }
     }
 
     /// A session on a token of this length, one in a few forged.

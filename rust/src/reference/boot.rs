@@ -1,6 +1,6 @@
 //! The boot record, cold and warm boot.
 
-use super::layout::{accepted_minor, Edition};
+use super::layout::{accepted_minor, Edition, PAGE};
 use super::reader::{read, Refusal};
 
 /// The newest minor of the boot interface that is spoken here.
@@ -14,6 +14,8 @@ pub struct Kept {
     pub base: u64,
     /// The agreed minor.
     pub minor: u64,
+    /// K: how many bytes at the page's start no buffer may begin in.
+    pub kept: u64,
 }
 
 #[derive(Clone, Copy, Debug, PartialEq, Eq)]
@@ -53,9 +55,15 @@ pub fn boot_code(answer: Result<(), BootError>) -> i32 {
 }
 
 impl Record {
-    /// A cold boot with registers x0 to x3, the monitor's maximum of CPUs, and the page at x3.
-    pub fn cold(self, x: [u64; 4], most: u64, page: &[u8]) -> (Record, Result<(), BootError>) {
-        closed_on_error(self.cold_kept(x, most, page))
+    /// A cold boot with registers x0 to x3, the monitor's maximum of CPUs, the number of kept bytes, and the page at x3.
+    pub fn cold(
+        self,
+        x: [u64; 4],
+        most: u64,
+        kept: u64,
+        page: &[u8],
+    ) -> (Record, Result<(), BootError>) {
+        closed_on_error(self.cold_kept(x, most, kept, page))
     }
 
     /// A warm boot of the CPU in x0. The other registers are ignored.
@@ -73,7 +81,7 @@ impl Record {
         }
     }
 
-    fn cold_kept(self, x: [u64; 4], most: u64, page: &[u8]) -> Result<Kept, BootError> {
+    fn cold_kept(self, x: [u64; 4], most: u64, kept: u64, page: &[u8]) -> Result<Kept, BootError> {
         let [cpu, version, cpus, base] = x;
         if self != Record::Fresh {
             return Err(BootError::Record);
@@ -86,9 +94,16 @@ impl Record {
         if cpu >= cpus {
             return Err(BootError::Cpu);
         }
+        if kept > PAGE as u64 {
+            return Err(BootError::Page(Refusal::Place));
+        }
         read(page, base, Edition::NEWEST.number()).map_err(BootError::Page)?;
-        let minor = u64::from(minor);
-        Ok(Kept { cpus, base, minor })
+        Ok(Kept {
+            cpus,
+            base,
+            minor: u64::from(minor),
+            kept,
+        })
     }
 
     #[inline]

@@ -64,12 +64,13 @@ pub fn need_page(page: &mut [u8]) -> Result<&mut [u8; PAGE], Error> {
     page.try_into().map_err(|_| Error::Unk)
 }
 
-/// The bytes of the page that a buffer takes, by the range check.
+/// The bytes of the page that a buffer takes, by the range check. One that begins in the kept bytes is outside.
 #[inline]
-pub fn buffer(base: u64, pa: u64, size: u64) -> Result<Range<usize>, Error> {
-    // Differences only: a sum of address and size could wrap.
+pub fn buffer(record: Kept, pa: u64, size: u64) -> Result<Range<usize>, Error> {
+    // Differences only: a sum of address and size, or of base and kept bytes, could wrap.
     let page = PAGE as u64;
-    let offset = pa.checked_sub(base).filter(|&offset| offset < page);
+    let offset = pa.checked_sub(record.base);
+    let offset = offset.filter(|offset| (record.kept..page).contains(offset));
     let offset = offset.ok_or(Error::BadAddr)?;
     if size > page - offset {
         return Err(Error::Inval);

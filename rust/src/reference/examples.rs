@@ -1,5 +1,6 @@
 //! The paper's numbered examples.
 
+use super::banks::set_up;
 use super::boot::{boot_code, Kept, Record};
 use super::codes::{buffer, Answer, Error};
 use super::entries::bank_sum;
@@ -13,11 +14,12 @@ use super::writer::{write, Unwritten};
 const BASE: u64 = 0x8000_0000;
 const BANK: [u64; 2] = [0x9000_0000, 0x1000_0000];
 const CONSOLE: [u64; 6] = [0x1c0c_0000, 1, 0, 0, 0, 0];
-const UP: Record = Record::Up(Kept {
+const UP: Kept = Kept {
     cpus: 8,
     base: BASE,
     minor: 5,
-});
+    kept: 0,
+};
 
 /// What the writer says to so many banks and consoles.
 fn written(edition: u64, banks: usize, consoles: usize) -> Result<(), Unwritten> {
@@ -61,9 +63,12 @@ fn examples_5_and_6_what_fits() {
 
 #[test]
 fn examples_7_and_8_range() {
-    assert_eq!(buffer(BASE, BASE + 4095, 1), Ok(4095..4096));
-    assert_eq!(buffer(BASE, BASE + 4095, 2), Err(Error::Inval));
-    assert_eq!(buffer(BASE, BASE + 4096, 0), Err(Error::BadAddr));
+    assert_eq!(buffer(UP, BASE + 4095, 1), Ok(4095..4096));
+    assert_eq!(buffer(UP, BASE + 4095, 2), Err(Error::Inval));
+    assert_eq!(buffer(UP, BASE + 4096, 0), Err(Error::BadAddr));
+    let kept = |kept| Kept { kept, ..UP };
+    assert_eq!(buffer(kept(4095), BASE + 4095, 1), Ok(4095..4096));
+    assert_eq!(buffer(kept(4096), BASE + 4095, 1), Err(Error::BadAddr));
 }
 
 #[test]
@@ -73,13 +78,17 @@ fn example_9_sign_extension() {
 
 #[test]
 fn example_10_delegating_a_realm_granule() {
-    assert_eq!(delegate(UP, 0, &mut [1], 0), Err(Error::BadPas));
+    let banks = set_up(&[[0; 8], 4096u64.to_le_bytes()].concat(), 1).expect("a bank at 0");
+    assert_eq!(
+        delegate(Record::Up(UP), &banks, &mut [1], &mut [1], 0),
+        Err(Error::BadPas)
+    );
 }
 
 #[test]
 fn example_11_mecid_width() {
-    assert_eq!(key_update(UP, 7, 255), Ok(255));
-    assert_eq!(key_update(UP, 7, 256), Err(Error::Inval));
+    assert_eq!(key_update(Record::Up(UP), 7, 255), Ok(255));
+    assert_eq!(key_update(Record::Up(UP), 7, 256), Err(Error::Inval));
 }
 
 #[test]
@@ -90,7 +99,7 @@ fn example_12_hunks_of_a_token() {
     let mut send = |c_size| {
         let (pa, size) = (BASE, 64);
         let call = TokenCall { pa, size, c_size };
-        let outcome = session.send(UP, &mut page, false, &token, call);
+        let outcome = session.send(Record::Up(UP), &mut page, false, &token, call);
         (outcome, session, page[..64].to_vec())
     };
     let (outcome, _, bytes) = send(48);
@@ -105,7 +114,7 @@ fn example_12_hunks_of_a_token() {
 #[test]
 fn example_13_no_cpu() {
     for x0 in [0, 1, u64::MAX] {
-        let (record, answer) = Record::Fresh.cold([x0, 5, 0, BASE], 8, &[]);
+        let (record, answer) = Record::Fresh.cold([x0, 5, 0, BASE], 8, 0, &[]);
         assert_eq!((record, boot_code(answer)), (Record::Closed, -4));
     }
 }

@@ -1,36 +1,71 @@
-//! Delegate and undelegate, of one granule and over lists, with a table of one byte a granule.
+//! Delegate and undelegate, of one granule and over lists, with a table of one byte a granule and words of one bit.
 
+use super::banks::{index, BankWords};
 use super::boot::Record;
 use super::codes::{need_up, Error, Outcome};
-use super::layout::GRANULE;
+use super::realm_words::{need_fit, put};
 
 const NON_SECURE: u8 = 0;
 const REALM: u8 = 1;
 
-/// From Non-secure to Realm. The table's first granule is at `start` (G).
+/// From Non-secure to Realm. The table is the granules of the banks, joined in bank order.
 #[inline]
-pub fn delegate(record: Record, start: u64, table: &mut [u8], address: u64) -> Outcome {
-    change(record, start, table, address, NON_SECURE, REALM)
+pub fn delegate(
+    record: Record,
+    banks: &BankWords,
+    table: &mut [u8],
+    words: &mut [u64],
+    address: u64,
+) -> Outcome {
+    need_fit(banks, words)?;
+    change(record, banks, table, words, address, NON_SECURE, REALM)
 }
 
-/// From Realm to Non-secure.
+/// From Realm to Non-secure; the shared page is refused.
 #[inline]
-pub fn undelegate(record: Record, start: u64, table: &mut [u8], address: u64) -> Outcome {
-    change(record, start, table, address, REALM, NON_SECURE)
+pub fn undelegate(
+    record: Record,
+    banks: &BankWords,
+    table: &mut [u8],
+    words: &mut [u64],
+    address: u64,
+) -> Outcome {
+    need_fit(banks, words)?;
+    change(record, banks, table, words, address, REALM, NON_SECURE)
 }
 
 /// How a list ended: the number of granules done, and the code of the one that was refused.
 pub type Listed = (u64, Result<(), Error>);
 
 /// From Non-secure to Realm, each address in its turn, up to the first that is refused.
-pub fn delegate_list(record: Record, start: u64, table: &mut [u8], addresses: &[u64]) -> Listed {
-    in_turn(addresses, |address| delegate(record, start, table, address))
+pub fn delegate_list(
+    record: Record,
+    banks: &BankWords,
+    table: &mut [u8],
+    words: &mut [u64],
+    addresses: &[u64],
+) -> Listed {
+    if let Err(error) = need_fit(banks, words) {
+        return (0, Err(error));
+    }
+    in_turn(addresses, |address| {
+        delegate(record, banks, table, words, address)
+    })
 }
 
 /// From Realm to Non-secure, in the same way.
-pub fn undelegate_list(record: Record, start: u64, table: &mut [u8], addresses: &[u64]) -> Listed {
+pub fn undelegate_list(
+    record: Record,
+    banks: &BankWords,
+    table: &mut [u8],
+    words: &mut [u64],
+    addresses: &[u64],
+) -> Listed {
+    if let Err(error) = need_fit(banks, words) {
+        return (0, Err(error));
+    }
     in_turn(addresses, |address| {
-        undelegate(record, start, table, address)
+        undelegate(record, banks, table, words, address)
     })
 }
 
@@ -46,21 +81,26 @@ fn in_turn(addresses: &[u64], mut one: impl FnMut(u64) -> Outcome) -> Listed {
 }
 
 #[inline]
-fn change(record: Record, start: u64, table: &mut [u8], address: u64, from: u8, to: u8) -> Outcome {
-    need_up(record)?;
-    let state = granule(start, table, address).ok_or(Error::BadAddr)?;
+fn change(
+    record: Record,
+    banks: &BankWords,
+    table: &mut [u8],
+    words: &mut [u64],
+    address: u64,
+    from: u8,
+    to: u8,
+) -> Outcome {
+    let kept = need_up(record)?;
+    let at = index(banks, table.len(), address).ok_or(Error::BadAddr)?;
+    // The shared page stays Realm.
+    if from == REALM && address == kept.base {
+        return Err(Error::BadAddr);
+    }
+    let state = &mut table[at];
     if *state != from {
         return Err(Error::BadPas);
     }
     *state = to;
+    put(words, at, to == REALM);
     Ok([0, 0])
-}
-
-#[inline]
-fn granule(start: u64, table: &mut [u8], address: u64) -> Option<&mut u8> {
-    if (start | address) % GRANULE != 0 {
-        return None;
-    }
-    let index = address.checked_sub(start)? / GRANULE;
-    table.get_mut(usize::try_from(index).ok()?)
 }

@@ -15,7 +15,7 @@ pub fn realm_key(
 ) -> Outcome {
     let kept = need_up(record)?;
     let page = need_page(page)?;
-    let room = buffer(kept.base, pa, size)?;
+    let room = buffer(kept, pa, size)?;
     if curve != 0 {
         return Err(Error::Inval);
     }

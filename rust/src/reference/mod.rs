@@ -1,6 +1,7 @@
 //! The rules of the RMM-EL3 interface, of H_TPM_COMM and of state blobs, in plain Rust. Nothing here shares code or definitions with
 //! the proved libraries.
 
+pub mod banks;
 pub mod boot;
 pub mod codes;
 pub mod entries;
@@ -12,6 +13,7 @@ pub mod layout;
 pub mod listing;
 pub mod queue;
 pub mod reader;
+pub mod realm_words;
 pub mod runtime;
 pub mod signing;
 pub mod state_blob;

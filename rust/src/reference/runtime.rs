@@ -1,5 +1,6 @@
 //! The dispatcher over all commands, by function id.
 
+use super::banks::BankWords;
 use super::boot::Record;
 use super::codes::{Answer, Error, Outcome};
 use super::features::{features, forward, key_update};
@@ -30,9 +31,11 @@ pub struct State {
 #[derive(Debug)]
 pub struct Lent<'a> {
     pub page: &'a mut [u8],
-    /// One byte a granule, from address `start` (G).
+    /// One byte a granule of these banks.
     pub table: &'a mut [u8],
-    pub start: u64,
+    /// One bit a granule.
+    pub words: &'a mut [u64],
+    pub banks: &'a BankWords,
     pub realm_key: &'a [u8],
     pub public_key: &'a [u8],
     pub token: &'a [u8],
@@ -76,8 +79,8 @@ pub fn call(state: &mut State, lent: &mut Lent, call: Call) -> Reply {
     let outcome = match call.id {
         REQ_COMPLETE => return Reply::Forward(forward(x1)),
         KEY_UPDATE => return reprogram(key_update(record, lent.width, x1)),
-        DELEGATE => delegate(record, lent.start, lent.table, x1),
-        UNDELEGATE => undelegate(record, lent.start, lent.table, x1),
+        DELEGATE => delegate(record, lent.banks, lent.table, lent.words, x1),
+        UNDELEGATE => undelegate(record, lent.banks, lent.table, lent.words, x1),
         REALM_KEY => realm_key(record, lent.page, lent.realm_key, x1, x2, x3),
         PLAT_TOKEN => {
             let (pa, size, c_size) = (x1, x2, x3);

@@ -42,7 +42,7 @@ pub fn token_sign(
         return Err(Error::Inval);
     }
     // Outside is INVAL here, not BAD_ADDR.
-    let room = buffer(kept.base, call.pa, call.size).map_err(|_| Error::Inval)?;
+    let room = buffer(kept, call.pa, call.size).map_err(|_| Error::Inval)?;
     if call.opcode == KEY && call.curve != 0 {
         return Err(Error::Inval);
     }

@@ -1,6 +1,6 @@
 //! The platform token, hunk by hunk, and the challenge.
 
-use super::boot::Record;
+use super::boot::{Kept, Record};
 use super::codes::{buffer, need_page, need_up, Error, Outcome};
 use super::layout::PAGE;
 use std::ops::Range;
@@ -23,8 +23,8 @@ pub struct TokenCall {
 impl TokenCall {
     /// The buffer, if all checks of the arguments alone hold.
     #[inline]
-    fn buffer(self, base: u64) -> Result<Range<usize>, Error> {
-        let room = buffer(base, self.pa, self.size)?;
+    fn buffer(self, kept: Kept) -> Result<Range<usize>, Error> {
+        let room = buffer(kept, self.pa, self.size)?;
         if !matches!(self.c_size, 0 | 32 | 48 | 64) || self.c_size > self.size {
             return Err(Error::Inval);
         }
@@ -48,7 +48,7 @@ impl Session {
         if busy {
             return Err(Error::Again);
         }
-        let room = call.buffer(kept.base)?;
+        let room = call.buffer(kept)?;
         let sent = self.sent_before(token, call.c_size)?;
         // Of a session that has sent too much nothing is left.
         let rest = usize::try_from(sent).map_or(&[][..], |sent| token.get(sent..).unwrap_or(&[]));
@@ -87,13 +87,13 @@ pub fn challenge_checks(record: Record, page: &[u8], call: TokenCall) -> Outcome
     if page.len() != PAGE {
         return Err(Error::Unk);
     }
-    call.buffer(kept.base).map(|_| [0; 2])
+    call.buffer(kept).map(|_| [0; 2])
 }
 
 /// The challenge of a start, as the part of the page that holds it; empty where the call's arguments would be refused.
 #[inline]
 pub fn challenge(record: Record, page: &[u8], call: TokenCall) -> &[u8] {
-    let room = need_up(record).and_then(|kept| call.buffer(kept.base));
+    let room = need_up(record).and_then(|kept| call.buffer(kept));
     match room {
         Ok(room) if page.len() == PAGE => &page[room][..call.c_size as usize],
         _ => &[],

@@ -18,7 +18,7 @@ fn boots() {
         pair.load(|random, m| {
             m.images.record.words = match random.below(4) {
                 0 => random.record_image(),
-                _ => [0; 4],
+                _ => [0; 5],
             };
         });
         if pair.random.one_in(8) {
@@ -46,12 +46,12 @@ fn boots() {
 }
 
 fn one(pair: &mut Pair, boot: &Boot) {
-    let &Boot { x, most, .. } = boot;
+    let &Boot { x, most, kept, .. } = boot;
     pair.load(|random, m| m.page.load(&boot.page, random.index(8)));
     let name = if boot.cold {
-        check!(pair, "pbeam_cold_boot", (x, most), |S, m| {
+        check!(pair, "pbeam_cold_boot", (x, most, kept), |S, m| {
             let record = &mut m.images.record.words;
-            m.returned = S::cold_boot(record, x, most, m.page.lent()).into();
+            m.returned = S::cold_boot(record, x, most, kept, m.page.lent()).into();
         });
         "pbeam_cold_boot"
     } else {

@@ -17,7 +17,7 @@ use potterbeam_tests::reference::runtime::{
 const STEPS: usize = 40;
 
 /// One kind of step.
-type Step = fn(&mut Pair, &mut Scene);
+pub type Step = fn(&mut Pair, &mut Scene);
 
 /// Runs scenes of these steps until each export was called often enough.
 fn run(pair: &mut Pair, steps: &[Step], names: &[&str]) {
@@ -25,6 +25,8 @@ fn run(pair: &mut Pair, steps: &[Step], names: &[&str]) {
         let mut scene = pair.random.scene();
         pair.load(|random, m| {
             m.table.load(&scene.table, random.index(8));
+            m.words.load(&scene.words);
+            m.images.granules.words = scene.granules;
             m.images.record.words = random.record_image();
             m.images.session.words = random.session_image(scene.token.len() as u64);
             m.images.queue.words = random.queue_image();
@@ -86,13 +88,15 @@ fn note(pair: &mut Pair, scene: &mut Scene, name: &'static str, case: u64) {
 }
 
 fn delegate(pair: &mut Pair, scene: &mut Scene) {
-    let (start, [at, ..]) = (scene.start, registers(pair, scene, DELEGATE));
-    check!(pair, "pbeam_delegate", (start, at), |S, m| {
+    let [at, ..] = registers(pair, scene, DELEGATE);
+    check!(pair, "pbeam_delegate", (at), |S, m| {
         let (images, table) = (&mut m.images, m.table.lent_mut());
+        let words = m.words.lent_mut();
         S::delegate(
             &images.record.words,
-            &[start],
+            &images.granules.words,
             table,
+            words,
             at,
             &mut images.out.words,
         );
@@ -101,13 +105,15 @@ fn delegate(pair: &mut Pair, scene: &mut Scene) {
 }
 
 fn undelegate(pair: &mut Pair, scene: &mut Scene) {
-    let (start, [at, ..]) = (scene.start, registers(pair, scene, UNDELEGATE));
-    check!(pair, "pbeam_undelegate", (start, at), |S, m| {
+    let [at, ..] = registers(pair, scene, UNDELEGATE);
+    check!(pair, "pbeam_undelegate", (at), |S, m| {
         let (images, table) = (&mut m.images, m.table.lent_mut());
+        let words = m.words.lent_mut();
         S::undelegate(
             &images.record.words,
-            &[start],
+            &images.granules.words,
             table,
+            words,
             at,
             &mut images.out.words,
         );
@@ -123,13 +129,15 @@ fn note_list(pair: &mut Pair, name: &'static str) {
 }
 
 fn delegate_list(pair: &mut Pair, scene: &mut Scene) {
-    let (start, list) = (scene.start, pair.random.granules(scene));
-    check!(pair, "pbeam_delegate_list", (start, list), |S, m| {
+    let list = pair.random.granules(scene);
+    check!(pair, "pbeam_delegate_list", (list), |S, m| {
         let (images, table) = (&mut m.images, m.table.lent_mut());
+        let words = m.words.lent_mut();
         S::delegate_list(
             &images.record.words,
-            &[start],
+            &images.granules.words,
             table,
+            words,
             &list,
             &mut images.out.words,
         );
@@ -138,13 +146,15 @@ fn delegate_list(pair: &mut Pair, scene: &mut Scene) {
 }
 
 fn undelegate_list(pair: &mut Pair, scene: &mut Scene) {
-    let (start, list) = (scene.start, pair.random.granules(scene));
-    check!(pair, "pbeam_undelegate_list", (start, list), |S, m| {
+    let list = pair.random.granules(scene);
+    check!(pair, "pbeam_undelegate_list", (list), |S, m| {
         let (images, table) = (&mut m.images, m.table.lent_mut());
+        let words = m.words.lent_mut();
         S::undelegate_list(
             &images.record.words,
-            &[start],
+            &images.granules.words,
             table,
+            words,
             &list,
             &mut images.out.words,
         );
@@ -152,7 +162,78 @@ fn undelegate_list(pair: &mut Pair, scene: &mut Scene) {
     note_list(pair, "pbeam_undelegate_list");
 }
 
-fn realm_key(pair: &mut Pair, scene: &mut Scene) {
+/// Notes what an export on the words answered.
+fn note_words(pair: &mut Pair, name: &'static str) {
+    let answer = pair.model.returned;
+    pair.meet(name, 0, answer);
+}
+
+fn realm_count(pair: &mut Pair, _: &mut Scene) {
+    check!(pair, "pbeam_realm_count", (), |S, m| {
+        let (images, words) = (&mut m.images, m.words.lent());
+        m.returned = S::realm_count(&images.granules.words, words, &mut images.number.words) as i64;
+    });
+    note_words(pair, "pbeam_realm_count");
+}
+
+fn realm_next(pair: &mut Pair, scene: &mut Scene) {
+    let index = match pair.random.below(4) {
+        0 => pair.random.edge(),
+        1 => {
+            64 * scene.words.len() as u64 - pair.random.below(64).min(64 * scene.words.len() as u64)
+        }
+        _ => pair.random.below(scene.table.len() as u64 + 2),
+    };
+    check!(pair, "pbeam_realm_next", (index), |S, m| {
+        let (images, words) = (&mut m.images, m.words.lent());
+        let found = &mut images.number.words;
+        m.returned = S::realm_next(&images.granules.words, words, index, found) as i64;
+    });
+    note_words(pair, "pbeam_realm_next");
+}
+
+fn realm_agrees(pair: &mut Pair, _: &mut Scene) {
+    check!(pair, "pbeam_realm_agrees", (), |S, m| {
+        let (table, words) = (m.table.lent(), m.words.lent());
+        m.returned = S::realm_agrees(&m.images.granules.words, table, words) as i64;
+    });
+    note_words(pair, "pbeam_realm_agrees");
+}
+
+fn realm_build(pair: &mut Pair, _: &mut Scene) {
+    check!(pair, "pbeam_realm_build", (), |S, m| {
+        let (table, words) = (m.table.lent(), m.words.lent_mut());
+        m.returned = S::realm_build(&m.images.granules.words, table, words) as i64;
+    });
+    note_words(pair, "pbeam_realm_build");
+}
+
+/// What the words tell before and after moves.
+#[test]
+fn realm_words() {
+    let mut pair = Pair::new(30);
+    let steps: [Step; 8] = [
+        delegate,
+        undelegate,
+        delegate_list,
+        undelegate_list,
+        realm_count,
+        realm_next,
+        realm_agrees,
+        realm_build,
+    ];
+    let names = [
+        "pbeam_realm_count",
+        "pbeam_realm_next",
+        "pbeam_realm_agrees",
+        "pbeam_realm_build",
+    ];
+    run(&mut pair, &steps, &names);
+    let met = |name: &str| pair.met.keys().filter(|met| met.0 == name).count();
+    assert_eq!(names.map(met), [2, 3, 3, 2]);
+}
+
+pub fn realm_key(pair: &mut Pair, scene: &mut Scene) {
     let [pa, size, curve, _] = registers(pair, scene, REALM_KEY);
     let (key, x) = (&scene.realm_key, [pa, size, curve]);
     check!(pair, "pbeam_realm_key", (key, x), |S, m| {
@@ -162,7 +243,7 @@ fn realm_key(pair: &mut Pair, scene: &mut Scene) {
     note(pair, scene, "pbeam_realm_key", 0);
 }
 
-fn platform_token(pair: &mut Pair, scene: &mut Scene) {
+pub fn platform_token(pair: &mut Pair, scene: &mut Scene) {
     let [pa, size, csize, _] = registers(pair, scene, PLAT_TOKEN);
     let busy = busy(pair, scene);
     let (token, x) = (&scene.token, [pa, size, csize]);
@@ -181,7 +262,7 @@ fn platform_token(pair: &mut Pair, scene: &mut Scene) {
     note_forged_session(pair, "pbeam_platform_token");
 }
 
-fn challenge(pair: &mut Pair, scene: &mut Scene) {
+pub fn challenge(pair: &mut Pair, scene: &mut Scene) {
     let [pa, size, csize, _] = registers(pair, scene, PLAT_TOKEN);
     let x = [pa, size, csize];
     check!(pair, "pbeam_challenge", (x), |S, m| {
@@ -203,7 +284,7 @@ fn features(pair: &mut Pair, scene: &mut Scene) {
     note(pair, scene, "pbeam_features", 0);
 }
 
-fn token_signing(pair: &mut Pair, scene: &mut Scene) {
+pub fn token_signing(pair: &mut Pair, scene: &mut Scene) {
     let x = registers(pair, scene, TOKEN_SIGN);
     let key = &scene.public_key;
     check!(pair, "pbeam_token_signing", (key, x), |S, m| {
@@ -237,7 +318,7 @@ fn forward(pair: &mut Pair, scene: &mut Scene) {
     pair.meet("pbeam_forward", 0, i64::from(pair.model.returned != 0));
 }
 
-fn sign(pair: &mut Pair, _: &mut Scene) {
+pub fn sign(pair: &mut Pair, _: &mut Scene) {
     let signature = pair.random.signature();
     check!(pair, "pbeam_sign", (signature), |S, m| {
         let images = &mut m.images;
@@ -263,23 +344,24 @@ fn oldest(pair: &mut Pair, _: &mut Scene) {
     pair.meet("pbeam_oldest", 0, pair.model.returned);
 }
 
-fn call(pair: &mut Pair, scene: &mut Scene) {
+pub fn call(pair: &mut Pair, scene: &mut Scene) {
     let Call { id, x } = pair.random.call(scene);
     load_page(pair, scene);
     let (busy, [x1, x2, x3, x4]) = (busy(pair, scene), x);
     let x = [id, x1, x2, x3, x4];
     check!(pair, "pbeam_call", (scene, busy, x), |S, m| {
+        let images = &mut m.images;
         let mut lent = Lent {
             page: m.page.lent_mut(),
-            granules: [scene.start],
+            granules: &images.granules.words,
             table: m.table.lent_mut(),
+            words: m.words.lent_mut(),
             key: &scene.realm_key,
             token: &scene.token,
             busy,
             public_key: &scene.public_key,
             width: scene.width,
         };
-        let images = &mut m.images;
         let (session, queue) = (&mut images.session.words, &mut images.queue.words);
         let (out, work) = (&mut images.out.words, &mut images.work.words);
         S::call(
@@ -394,12 +476,12 @@ fn single_commands() {
     ];
     run(&mut pair, &steps, &names);
     pair.expect(&[
-        ("pbeam_delegate", 0, &[0, -1, -2, -3]),
-        ("pbeam_undelegate", 0, &[0, -1, -2, -3]),
-        ("pbeam_delegate_list", 0, &[0, -1, -2, -3]),
+        ("pbeam_delegate", 0, &[0, -1, -2, -3, -5]),
+        ("pbeam_undelegate", 0, &[0, -1, -2, -3, -5]),
+        ("pbeam_delegate_list", 0, &[0, -1, -2, -3, -5]),
         ("pbeam_delegate_list", 1, &[0, 1]),
         ("pbeam_delegate_list", 2, &[0, 1]),
-        ("pbeam_undelegate_list", 0, &[0, -1, -2, -3]),
+        ("pbeam_undelegate_list", 0, &[0, -1, -2, -3, -5]),
         ("pbeam_undelegate_list", 1, &[0, 1]),
         ("pbeam_undelegate_list", 2, &[0, 1]),
         ("pbeam_realm_key", 0, &[0, -1, -2, -5]),
@@ -419,8 +501,8 @@ fn calls_by_id() {
     pair.expect(&[
         ("pbeam_call", 0, &[-1]),
         ("pbeam_call", REQ_COMPLETE, &[0]),
-        ("pbeam_call", DELEGATE, &[0, -1, -2, -3]),
-        ("pbeam_call", UNDELEGATE, &[0, -1, -2, -3]),
+        ("pbeam_call", DELEGATE, &[0, -1, -2, -3, -5]),
+        ("pbeam_call", UNDELEGATE, &[0, -1, -2, -3, -5]),
         ("pbeam_call", REALM_KEY, &[0, -1, -2, -5]),
         ("pbeam_call", PLAT_TOKEN, &[0, -1, -2, -5, -6]),
         ("pbeam_call", FEATURES, &[0, -1, -5]),

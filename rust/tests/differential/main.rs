@@ -7,8 +7,10 @@
 
 #[macro_use]
 mod pair;
+mod banks;
 mod boots;
 mod commands;
+mod kept;
 mod manifest;
 mod memory;
 mod wrong;

@@ -37,6 +37,7 @@ fn reader_and_lookups() {
         ("pbeam_field_of_tag", 0, &[0, 1]),
         ("pbeam_field_start", 0, &[0, 1]),
         ("pbeam_field_next", 0, &[0, 1]),
+        ("pbeam_kept_for", 0, &[0, 1]),
         ("pbeam_listing", 0, &[0, 1]),
     ]);
 }
@@ -91,11 +92,22 @@ fn listing(pair: &mut Pair, reading: &Reading) {
     pair.meet("pbeam_listing", 0, i64::from(room < whole));
 }
 
+/// What the view's manifest takes of the page. The answer noted is whether that is all of it.
+pub fn kept_for(pair: &mut Pair) -> u64 {
+    check!(pair, "pbeam_kept_for", (), |S, m| {
+        m.returned = S::kept_for(&m.images.view.words) as i64;
+    });
+    let kept = pair.model.returned as u64;
+    pair.meet("pbeam_kept_for", 0, i64::from(kept == 4096));
+    kept
+}
+
 /// The lookups in a view: the one that was read, or a forged one.
 fn look(pair: &mut Pair) {
     if pair.random.one_in(3) {
         pair.load(|random, m| random.forge_view(&mut m.images.view.words));
     }
+    kept_for(pair);
     let section = section(pair);
     check!(pair, "pbeam_array_of", (section), |S, m| {
         let view = &m.images.view.words;

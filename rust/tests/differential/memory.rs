@@ -47,6 +47,40 @@ impl Bytes {
     }
 }
 
+/// Words that are lent.
+#[derive(Clone, Debug, Default, PartialEq, Eq)]
+pub struct Words {
+    cells: Vec<u64>,
+}
+
+impl Words {
+    /// Lends these words.
+    pub fn load(&mut self, words: &[u64]) {
+        self.cells.clear();
+        self.cells.extend((0..WORDS).map(word_guard));
+        self.cells.extend_from_slice(words);
+        self.cells.extend((0..WORDS).map(word_guard));
+    }
+
+    pub fn lent(&self) -> &[u64] {
+        &self.cells[WORDS..self.cells.len() - WORDS]
+    }
+
+    pub fn lent_mut(&mut self) -> &mut [u64] {
+        let end = self.cells.len() - WORDS;
+        &mut self.cells[WORDS..end]
+    }
+
+    /// Every cell, those of the guards too.
+    pub fn cells_mut(&mut self) -> &mut [u64] {
+        &mut self.cells
+    }
+}
+
+fn word_guard(i: usize) -> u64 {
+    u64::from(guard(i)).wrapping_mul(0x0123_4567_89AB_CDEF)
+}
+
 /// No two neighbours are the same, so that a guard copied a place off shows.
 fn guard(i: usize) -> u8 {
     (i as u8).wrapping_mul(37) ^ 0x5A
@@ -73,7 +107,8 @@ impl<const N: usize> Default for Image<N> {
 
 #[derive(Clone, Copy, Debug, Default, PartialEq, Eq)]
 pub struct Images {
-    pub record: Image<4>,
+    pub record: Image<5>,
+    pub granules: Image<33>,
     pub session: Image<3>,
     pub queue: Image<210>,
     pub view: Image<15>,
@@ -82,6 +117,7 @@ pub struct Images {
     pub request: Image<10>,
     pub out: Image<3>,
     pub work: Image<2>,
+    pub number: Image<1>,
 }
 
 /// All that one side's calls work on.
@@ -89,6 +125,7 @@ pub struct Images {
 pub struct Memory {
     pub page: Bytes,
     pub table: Bytes,
+    pub words: Words,
     pub images: Images,
     /// What the call returned, sign-extended; 0 where it returns nothing.
     pub returned: i64,
@@ -98,6 +135,7 @@ impl Memory {
     pub fn copy_from(&mut self, other: &Memory) {
         self.page.copy_from(&other.page);
         self.table.copy_from(&other.table);
+        self.words.cells.clone_from(&other.words.cells);
         self.images = other.images;
         self.returned = other.returned;
     }
@@ -109,6 +147,7 @@ impl Memory {
         self.images.request = Image::default();
         self.images.out = Image::default();
         self.images.work = Image::default();
+        self.images.number = Image::default();
         self.returned = 0;
     }
 
@@ -119,7 +158,9 @@ impl Memory {
             ("returned", self.returned.to_string()),
             ("page", format!("{:02x?}", self.page)),
             ("table", format!("{:02x?}", self.table)),
+            ("words", format!("{:x?}", self.words)),
             ("record", format!("{:x?}", images.record)),
+            ("granules", format!("{:x?}", images.granules)),
             ("session", format!("{:x?}", images.session)),
             ("queue", format!("{:x?}", images.queue)),
             ("view", format!("{:x?}", images.view)),
@@ -128,6 +169,7 @@ impl Memory {
             ("request", format!("{:x?}", images.request)),
             ("out", format!("{:x?}", images.out)),
             ("work", format!("{:x?}", images.work)),
+            ("number", format!("{:x?}", images.number)),
         ]
     }
 }
@@ -137,5 +179,6 @@ pub fn blank() -> Memory {
     let mut memory = Memory::default();
     memory.page.load(&[0; PAGE], 0);
     memory.table.load(&[0; 16], 0);
+    memory.words.load(&[0; 3]);
     memory
 }

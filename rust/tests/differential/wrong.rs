@@ -32,7 +32,11 @@ fn every_bit_counts() {
     for at in [63, 64, 64 + 15, 64 + 16] {
         seen("table", |m| m.table.cells_mut()[at] ^= 1);
     }
+    for at in 1..6 {
+        seen("words", |m| m.words.cells_mut()[at] ^= 1 << 63);
+    }
     image_seen("record", |m| &mut m.images.record);
+    image_seen("granules", |m| &mut m.images.granules);
     image_seen("session", |m| &mut m.images.session);
     image_seen("queue", |m| &mut m.images.queue);
     image_seen("view", |m| &mut m.images.view);
@@ -41,6 +45,7 @@ fn every_bit_counts() {
     image_seen("request", |m| &mut m.images.request);
     image_seen("out", |m| &mut m.images.out);
     image_seen("work", |m| &mut m.images.work);
+    image_seen("number", |m| &mut m.images.number);
 }
 
 /// A call whose result depends on the side that makes it.

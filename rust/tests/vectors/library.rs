@@ -121,13 +121,13 @@ fn writer() {
 
 fn print_boots(out: &mut String, input: &[u8]) {
     let mut record = record_words(record_at(input));
-    let mut rest = &input[40..];
-    for _ in 0..word_at(input, 32) {
-        let step = take(&mut rest, 56);
-        let page = take(&mut rest, size_at(step, 48));
+    let mut rest = &input[48..];
+    for _ in 0..word_at(input, 40) {
+        let step = take(&mut rest, 64);
+        let page = take(&mut rest, size_at(step, 56));
         let x = [8, 16, 24, 32].map(|at| word_at(step, at));
         let code = match word_at(step, 0) {
-            0 => Kit::cold_boot(&mut record, x, word_at(step, 40), page),
+            0 => Kit::cold_boot(&mut record, x, word_at(step, 40), word_at(step, 48), page),
             _ => Kit::warm_boot(&mut record, x),
         };
         write!(out, "code {code}").unwrap();
@@ -137,44 +137,80 @@ fn print_boots(out: &mut String, input: &[u8]) {
 
 #[test]
 fn boot() {
-    compare("boot_vectors", 255, print_boots);
+    compare("boot_vectors", 345, print_boots);
 }
 
 // ---- Commands ----
 
+const INVAL: u64 = -5i64 as u64;
+
+fn ask(banks: &GranulesImage, table: &[u8], realm: &mut [u64], index: u64) -> Told {
+    let ([mut number, mut found], fits) = ([[7]; 2], |x0| x0 != INVAL);
+    let count = fits(Kit::realm_count(banks, realm, &mut number)).then_some(number[0]);
+    let next = Kit::realm_next(banks, realm, index, &mut found);
+    let agrees = Kit::realm_agrees(banks, table, realm);
+    (
+        count,
+        fits(next).then_some((next == 0).then_some(found[0])),
+        fits(agrees).then_some(agrees == 0),
+        fits(Kit::realm_build(banks, table, realm)),
+    )
+}
+
 fn print_list(out: &mut String, input: &[u8]) {
-    let record = record_words(record_at(input));
-    let [direction, start] = [32, 40].map(|at| word_at(input, at));
-    let [in_table, length] = [48, 56].map(|at| size_at(input, at));
-    let mut rest = &input[64..];
+    match word_at(input, 40) {
+        2 => return print_set_up(out, input, Kit::set_up_granules),
+        3 => return print_questions(out, input, ask),
+        _ => {}
+    }
+    let (record, banks) = (record_words(record_at(input)), &granules_at(input, 48));
+    let mut realm = realm_words_at(input, 48);
+    let [in_table, length] = [56, 64].map(|at| size_at(input, at));
+    let mut rest = &input[72..];
     let mut table = take(&mut rest, in_table).to_vec();
     let list = words(take(&mut rest, 8 * length));
     let mut registers = [0; 3];
-    match direction {
-        0 => Kit::delegate_list(&record, &[start], &mut table, &list, &mut registers),
-        _ => Kit::undelegate_list(&record, &[start], &mut table, &list, &mut registers),
+    match word_at(input, 40) {
+        0 => Kit::delegate_list(
+            &record,
+            banks,
+            &mut table,
+            &mut realm,
+            &list,
+            &mut registers,
+        ),
+        _ => Kit::undelegate_list(
+            &record,
+            banks,
+            &mut table,
+            &mut realm,
+            &list,
+            &mut registers,
+        ),
     }
     print_registers(out, registers);
     print_same(out, "table", &table, take(&mut rest, in_table));
+    print_realm_words(out, &realm);
 }
 
 #[test]
 fn granules() {
-    compare("granule_vectors", 166, print_list);
+    compare("granule_vectors", 997, print_list);
 }
 
 fn print_command(out: &mut String, input: &[u8]) {
-    let record = record_words(record_at(input));
-    let [id, x1, x2, x3, start, width] = [32, 40, 48, 56, 64, 72].map(|at| word_at(input, at));
-    let [in_table, in_key, in_page] = [80, 88, 96].map(|at| size_at(input, at));
-    let mut rest = &input[104..];
+    let (record, banks) = (record_words(record_at(input)), &granules_at(input, 72));
+    let [id, x1, x2, x3, width] = [40, 48, 56, 64, 80].map(|at| word_at(input, at));
+    let [in_table, in_key, in_page] = [88, 96, 104].map(|at| size_at(input, at));
+    let mut rest = &input[112..];
     let mut table = take(&mut rest, in_table).to_vec();
     let key = take(&mut rest, in_key);
     let mut page = take(&mut rest, in_page).to_vec();
     let (mut registers, mut work) = ([0; 3], [0; 2]);
+    let mut realm = realm_words_at(input, 72);
     match id {
-        0xC400_01B0 => Kit::delegate(&record, &[start], &mut table, x1, &mut registers),
-        0xC400_01B1 => Kit::undelegate(&record, &[start], &mut table, x1, &mut registers),
+        0xC400_01B0 => Kit::delegate(&record, banks, &mut table, &mut realm, x1, &mut registers),
+        0xC400_01B1 => Kit::undelegate(&record, banks, &mut table, &mut realm, x1, &mut registers),
         0xC400_01B2 => Kit::realm_key(&record, &mut page, key, [x1, x2, x3], &mut registers),
         0xC400_01B4 => Kit::features(&record, x1, &mut registers),
         0xC400_01B6 => Kit::key_update(&record, width, x1, &mut registers, &mut work),
@@ -190,11 +226,12 @@ fn print_command(out: &mut String, input: &[u8]) {
     }
     print_same(out, "table", &table, take(&mut rest, in_table));
     print_same(out, "page", &page, take(&mut rest, in_page));
+    print_realm_words(out, &realm);
 }
 
 #[test]
 fn commands() {
-    compare("command_vectors", 930, print_command);
+    compare("command_vectors", 1000, print_command);
 }
 
 // ---- The runtime ----
@@ -242,13 +279,14 @@ fn call_by_id(out: &mut String, input: &[u8], step: &[u8], images: &mut Images, 
     let x = [8, 16, 24, 32, 40].map(|at| word_at(step, at));
     let mut lent = LentTo {
         page: &mut held.page,
-        granules: [word_at(input, 32)],
+        granules: &granules_at(input, 40),
         table: &mut held.table,
-        key: lent(input, 104),
+        words: &mut held.realm,
+        key: lent(input, 112),
         token: lent_by(input, step, 56),
         busy: word_at(step, 48),
-        public_key: lent(input, 120),
-        width: word_at(input, 40),
+        public_key: lent(input, 128),
+        width: word_at(input, 48),
     };
     let Images {
         record,
@@ -303,7 +341,7 @@ fn operate(out: &mut String, input: &[u8], step: &[u8], images: &mut Images, hel
 
 fn print_runtime(out: &mut String, input: &[u8]) {
     let mut queue = [0; 210];
-    for (word, bytes) in queue.iter_mut().zip(lent(input, 136).chunks_exact(8)) {
+    for (word, bytes) in queue.iter_mut().zip(lent(input, 144).chunks_exact(8)) {
         *word = word_at(bytes, 0);
     }
     let mut images = Images {
@@ -316,5 +354,5 @@ fn print_runtime(out: &mut String, input: &[u8]) {
 
 #[test]
 fn runtime() {
-    compare("runtime_vectors", 840, print_runtime);
+    compare("runtime_vectors", 989, print_runtime);
 }

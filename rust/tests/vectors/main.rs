@@ -4,7 +4,9 @@
 
 mod library;
 
+use potterbeam_tests::exports::{Exports, GranulesImage};
 use potterbeam_tests::images::{queue_of, queue_words};
+use potterbeam_tests::model::Model;
 use potterbeam_tests::reference::boot::{boot_code, Kept, Record};
 use potterbeam_tests::reference::codes::{Answer, Outcome};
 use potterbeam_tests::reference::features::{features, forward, key_update};
@@ -15,6 +17,7 @@ use potterbeam_tests::reference::layout::word_at;
 use potterbeam_tests::reference::listing::{list, list_input};
 use potterbeam_tests::reference::queue::{Queue, Request, Response, Ring, PLACES};
 use potterbeam_tests::reference::reader::{array, fields, read};
+use potterbeam_tests::reference::realm_words;
 use potterbeam_tests::reference::runtime::{call, Call, Lent, Reply, State, TOKEN_SIGN};
 use potterbeam_tests::reference::token::{challenge, Session, TokenCall};
 use potterbeam_tests::reference::writer::write;
@@ -65,12 +68,45 @@ fn size_at(input: &[u8], at: usize) -> usize {
 }
 
 fn record_at(input: &[u8]) -> Record {
-    let [cpus, base, minor] = [8, 16, 24].map(|at| word_at(input, at));
+    let [cpus, base, minor, kept] = [8, 16, 24, 32].map(|at| word_at(input, at));
     match word_at(input, 0) {
         0 => Record::Fresh,
-        1 => Record::Up(Kept { cpus, base, minor }),
+        1 => Record::Up(Kept {
+            cpus,
+            base,
+            minor,
+            kept,
+        }),
         _ => Record::Closed,
     }
+}
+
+/// The granule record that stands where a word of the case says: how many of its words are given, then these. The rest are 0.
+fn granules_at(input: &[u8], at: usize) -> GranulesImage {
+    let stored = &input[size_at(input, at)..];
+    let mut record = [0; 33];
+    for (word, cell) in record[..size_at(stored, 0)]
+        .iter_mut()
+        .zip(stored[8..].chunks_exact(8))
+    {
+        *word = word_at(cell, 0);
+    }
+    record
+}
+
+/// The realm words, behind the granule record: how many, then these.
+fn realm_words_at(input: &[u8], at: usize) -> Vec<u64> {
+    let stored = &input[size_at(input, at)..];
+    let behind = &stored[8 + 8 * size_at(stored, 0)..];
+    words(&behind[8..][..8 * size_at(behind, 0)])
+}
+
+fn print_realm_words(out: &mut String, realm: &[u64]) {
+    out.push_str("words");
+    for word in realm {
+        write!(out, " {word:016x}").unwrap();
+    }
+    out.push('\n');
 }
 
 /// Takes so many bytes off the front.
@@ -230,13 +266,13 @@ fn writer_vectors() {
 
 fn print_boots(out: &mut String, input: &[u8]) {
     let mut record = record_at(input);
-    let mut rest = &input[40..];
-    for _ in 0..word_at(input, 32) {
-        let step = take(&mut rest, 56);
-        let page = take(&mut rest, size_at(step, 48));
+    let mut rest = &input[48..];
+    for _ in 0..word_at(input, 40) {
+        let step = take(&mut rest, 64);
+        let page = take(&mut rest, size_at(step, 56));
         let x = [8, 16, 24, 32].map(|at| word_at(step, at));
         let (next, answer) = match word_at(step, 0) {
-            0 => record.cold(x, word_at(step, 40), page),
+            0 => record.cold(x, word_at(step, 40), word_at(step, 48), page),
             _ => record.warm(x),
         };
         record = next;
@@ -248,8 +284,13 @@ fn print_boots(out: &mut String, input: &[u8]) {
 fn print_record(out: &mut String, record: Record) {
     match record {
         Record::Fresh => writeln!(out, " fresh"),
-        Record::Up(Kept { cpus, base, minor }) => {
-            writeln!(out, " up {cpus:016x} {base:016x} {minor:016x}")
+        Record::Up(Kept {
+            cpus,
+            base,
+            minor,
+            kept,
+        }) => {
+            writeln!(out, " up {cpus:016x} {base:016x} {minor:016x} {kept:016x}")
         }
         Record::Closed => writeln!(out, " closed"),
     }
@@ -258,48 +299,111 @@ fn print_record(out: &mut String, record: Record) {
 
 #[test]
 fn boot_vectors() {
-    compare("boot_vectors", 255, print_boots);
+    compare("boot_vectors", 345, print_boots);
 }
 
-// ---- Lists of granules ----
+// ---- Granule records and lists of granules ----
+
+/// The case has the record that is lent before, the table's length and the banks' bytes.
+fn print_set_up(out: &mut String, input: &[u8], set_up: SetUp) {
+    let mut record = granules_at(input, 48);
+    let x0 = set_up(
+        &mut record,
+        &input[72..][..size_at(input, 64)],
+        word_at(input, 56),
+    );
+    write!(out, "set_up {x0:016x}\nrecord").unwrap();
+    record
+        .iter()
+        .for_each(|word| write!(out, " {word:x}").unwrap());
+    out.push('\n');
+}
+
+/// A set-up of a record from the bytes of banks, for a table of so many granules.
+type SetUp = fn(&mut GranulesImage, &[u8], u64) -> u64;
+
+/// What the questions to realm words answer: how many, the next one, agreement, and whether they were built. INVAL is None; the next
+/// one is a granule, or none.
+type Told = (Option<u64>, Option<Option<u64>>, Option<bool>, bool);
+
+fn print_told(out: &mut String, (count, next, agrees, built): Told) {
+    let inval = || "INVAL".to_string();
+    let count = count.map_or_else(inval, |count| count.to_string());
+    let hit = |hit: Option<u64>| hit.map_or("none".to_string(), |hit| hit.to_string());
+    let next = next.map_or_else(inval, hit);
+    let agrees = agrees.map_or("INVAL", |agrees| if agrees { "yes" } else { "no" });
+    let built = if built { "OK" } else { "INVAL" };
+    writeln!(
+        out,
+        "count {count}\nnext {next}\nagrees {agrees}\nbuild {built}"
+    )
+    .unwrap();
+}
+
+/// A side's answers to the questions; it builds the words at last.
+type Asked = fn(&GranulesImage, &[u8], &mut [u64], u64) -> Told;
+
+fn print_questions(out: &mut String, input: &[u8], asked: Asked) {
+    let (banks, mut realm) = (granules_at(input, 48), realm_words_at(input, 48));
+    let table = &input[72..][..size_at(input, 56)];
+    let told = asked(&banks, table, &mut realm, word_at(input, 64));
+    print_told(out, told);
+    print_realm_words(out, &realm);
+}
+
+fn ask(banks: &GranulesImage, table: &[u8], realm: &mut [u64], index: u64) -> Told {
+    (
+        realm_words::count(banks, realm).ok(),
+        realm_words::next(banks, realm, index).ok(),
+        realm_words::agrees(banks, table, realm).ok(),
+        realm_words::build(banks, table, realm).is_ok(),
+    )
+}
 
 fn print_list(out: &mut String, input: &[u8]) {
-    let record = record_at(input);
-    let [direction, start] = [32, 40].map(|at| word_at(input, at));
-    let [in_table, length] = [48, 56].map(|at| size_at(input, at));
-    let mut rest = &input[64..];
+    match word_at(input, 40) {
+        2 => return print_set_up(out, input, Model::set_up_granules),
+        3 => return print_questions(out, input, ask),
+        _ => {}
+    }
+    let (record, banks) = (record_at(input), &granules_at(input, 48));
+    let mut realm = realm_words_at(input, 48);
+    let [in_table, length] = [56, 64].map(|at| size_at(input, at));
+    let mut rest = &input[72..];
     let mut table = take(&mut rest, in_table).to_vec();
     let list: Vec<u64> = (0..length)
         .map(|_| word_at(take(&mut rest, 8), 0))
         .collect();
-    let listed = match direction {
-        0 => delegate_list(record, start, &mut table, &list),
-        _ => undelegate_list(record, start, &mut table, &list),
+    let listed = match word_at(input, 40) {
+        0 => delegate_list(record, banks, &mut table, &mut realm, &list),
+        _ => undelegate_list(record, banks, &mut table, &mut realm, &list),
     };
     let Answer { x0, x1, x2 } = Answer::from(listed);
     writeln!(out, "registers {x0:016x} {x1:016x} {x2:016x}").unwrap();
     let differs = table != take(&mut rest, in_table);
     writeln!(out, "table {}as expected", not_if(differs)).unwrap();
+    print_realm_words(out, &realm);
 }
 
 #[test]
 fn granule_vectors() {
-    compare("granule_vectors", 166, print_list);
+    compare("granule_vectors", 997, print_list);
 }
 
 // ---- Single commands ----
 
 fn print_command(out: &mut String, input: &[u8]) {
-    let record = record_at(input);
-    let [id, x1, x2, x3, start, width] = [32, 40, 48, 56, 64, 72].map(|at| word_at(input, at));
-    let [in_table, in_key, in_page] = [80, 88, 96].map(|at| size_at(input, at));
-    let mut rest = &input[104..];
+    let (record, banks) = (record_at(input), &granules_at(input, 72));
+    let [id, x1, x2, x3, width] = [40, 48, 56, 64, 80].map(|at| word_at(input, at));
+    let [in_table, in_key, in_page] = [88, 96, 104].map(|at| size_at(input, at));
+    let mut rest = &input[112..];
     let mut table = take(&mut rest, in_table).to_vec();
     let key = take(&mut rest, in_key);
     let mut page = take(&mut rest, in_page).to_vec();
+    let mut realm = realm_words_at(input, 72);
     match id {
-        0xC400_01B0 => print_padded(out, delegate(record, start, &mut table, x1)),
-        0xC400_01B1 => print_padded(out, undelegate(record, start, &mut table, x1)),
+        0xC400_01B0 => print_padded(out, delegate(record, banks, &mut table, &mut realm, x1)),
+        0xC400_01B1 => print_padded(out, undelegate(record, banks, &mut table, &mut realm, x1)),
         0xC400_01B2 => print_padded(out, realm_key(record, &mut page, key, x1, x2, x3)),
         0xC400_01B4 => print_padded(out, features(record, x1)),
         0xC400_01B6 => {
@@ -315,6 +419,7 @@ fn print_command(out: &mut String, input: &[u8]) {
     let page_differs = page != take(&mut rest, in_page);
     writeln!(out, "table {}as expected", not_if(table_differs)).unwrap();
     writeln!(out, "page {}as expected", not_if(page_differs)).unwrap();
+    print_realm_words(out, &realm);
 }
 
 fn print_padded(out: &mut String, outcome: Outcome) {
@@ -324,7 +429,7 @@ fn print_padded(out: &mut String, outcome: Outcome) {
 
 #[test]
 fn command_vectors() {
-    compare("command_vectors", 930, print_command);
+    compare("command_vectors", 1000, print_command);
 }
 
 // ---- The runtime ----
@@ -371,11 +476,11 @@ fn queue_at(image: &[u8]) -> Queue {
 }
 
 fn session_at(input: &[u8]) -> Session {
-    match word_at(input, 48) {
+    match word_at(input, 56) {
         0 => Session::Idle,
         _ => Session::Sending {
-            whole: word_at(input, 56),
-            sent: word_at(input, 64),
+            whole: word_at(input, 64),
+            sent: word_at(input, 72),
         },
     }
 }
@@ -445,11 +550,12 @@ fn print_state(out: &mut String, state: &State) {
     write!(out, ", queue {} {}", counts[0], counts[1]).unwrap();
 }
 
-/// Page and table, as they are held or as they are expected.
+/// Page and table, as they are held or as they are expected; and the realm words, which are printed.
 #[derive(Clone, PartialEq)]
 struct Memory {
     page: Vec<u8>,
     table: Vec<u8>,
+    realm: Vec<u64>,
 }
 
 /// The queue holds what waits and nothing else: no count above eight, no length above 104.
@@ -464,12 +570,13 @@ fn operate(out: &mut String, input: &[u8], step: &[u8], state: &mut State, memor
             let mut lent = Lent {
                 page: &mut memory.page,
                 table: &mut memory.table,
-                start: word_at(input, 32),
-                realm_key: lent(input, 104),
-                public_key: lent(input, 120),
+                words: &mut memory.realm,
+                banks: &granules_at(input, 40),
+                realm_key: lent(input, 112),
+                public_key: lent(input, 128),
                 token: lent_by(input, step, 56),
                 busy: word_at(step, 48) != 0,
-                width: word_at(input, 40),
+                width: word_at(input, 48),
             };
             let id = word_at(step, 8);
             let x = [x1, x2, x3, x4];
@@ -533,11 +640,12 @@ fn print_steps<T>(
     state: fn(&T) -> State,
 ) {
     let mut held = Memory {
-        page: lent(input, 72).to_vec(),
-        table: lent(input, 88).to_vec(),
+        page: lent(input, 80).to_vec(),
+        table: lent(input, 96).to_vec(),
+        realm: realm_words_at(input, 40),
     };
     let mut expected = held.clone();
-    for step in input[160..].chunks_exact(136).take(size_at(input, 152)) {
+    for step in input[168..].chunks_exact(136).take(size_at(input, 160)) {
         operate(out, input, step, held_state, &mut held);
         lay(input, step, 88, &mut expected.page);
         lay(input, step, 112, &mut expected.table);
@@ -547,18 +655,19 @@ fn print_steps<T>(
         writeln!(out, ", page {page}, table {table}").unwrap();
     }
     print_queue(out, &state(held_state).queue);
+    print_realm_words(out, &held.realm);
 }
 
 fn print_runtime(out: &mut String, input: &[u8]) {
     let mut state = State {
         record: record_at(input),
         session: session_at(input),
-        queue: queue_at(lent(input, 136)),
+        queue: queue_at(lent(input, 144)),
     };
     print_steps(out, input, &mut state, operate, State::clone);
 }
 
 #[test]
 fn runtime_vectors() {
-    compare("runtime_vectors", 840, print_runtime);
+    compare("runtime_vectors", 989, print_runtime);
 }

@@ -4,7 +4,7 @@ use Rattle.boot_vectors.proofs.print_case.Statement.{statement}
 use Rattle.boot_vectors.proofs.print_case.Tie as tie
 
 abbrev Inv-loop : tie.InvT-loop
-Inv-loop input steps state₀ at₀ i₀ state at i = (i ≤ 20) × (i ≤ steps) × (steps ≤ 20) × (at ≤ 40 + 4256 * i)
+Inv-loop input steps state₀ at₀ i₀ state at i = (i ≤ 20) × (i ≤ steps) × (steps ≤ 20) × (at ≤ 48 + 4264 * i)
 
 abbrev μ-loop : tie.MeasureT-loop
 μ-loop input steps state₀ at₀ i₀ state at i = steps - i

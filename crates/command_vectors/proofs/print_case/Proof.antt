@@ -1,7 +1,7 @@
-use lib.Seq.{length-take-le}
 use mathlib.Core.Path.{sym}
 use native.Mathlib.Omega.{arith}
 use lib.ListN.{length-take}
+use lib.Seq.{length-take-le}
 use borrow.Author.Needs.{needs}
 use Rattle.command_vectors.proofs.print_case.Statement.{statement}
 use Rattle.command_vectors.proofs.print_case.Tie as tie
@@ -9,11 +9,17 @@ use Rattle.command_vectors.proofs.print_case.Tie as tie
 length-at-requires : tie.Need-length-at-requires
 length-at-requires c κs = search needs
 
+words-at-requires : tie.Need-words-at-requires
+words-at-requires c κs = search needs
+
 length-at-requires-2 : tie.Need-length-at-requires-2
 length-at-requires-2 c κs = search needs
 
 length-at-requires-3 : tie.Need-length-at-requires-3
 length-at-requires-3 c κs = search needs
+
+length-at-requires-4 : tie.Need-length-at-requires-4
+length-at-requires-4 c κs = search needs
 
 array-borrow-prefix-table : tie.Need-array-borrow-prefix-table
 array-borrow-prefix-table c = search needs
@@ -21,14 +27,20 @@ array-borrow-prefix-table c = search needs
 slice-aggregate-print-lent : tie.Need-slice-aggregate-print-lent
 slice-aggregate-print-lent c = sym (length-take-le _ _ (search needs))
 
-array-borrow-prefix-page : tie.Need-array-borrow-prefix-page
-array-borrow-prefix-page c = search needs
+array-borrow-prefix-words : tie.Need-array-borrow-prefix-words
+array-borrow-prefix-words c = search needs
 
 slice-aggregate-print-lent-2 : tie.Need-slice-aggregate-print-lent-2
 slice-aggregate-print-lent-2 c = sym (length-take-le _ _ (search needs))
 
+array-borrow-prefix-page : tie.Need-array-borrow-prefix-page
+array-borrow-prefix-page c = search needs
+
+slice-aggregate-print-lent-3 : tie.Need-slice-aggregate-print-lent-3
+slice-aggregate-print-lent-3 c = sym (length-take-le _ _ (search needs))
+
 print-lent-requires : tie.Need-print-lent-requires
-print-lent-requires c κs = (simp length-take (omega arith), search needs, simp length-take (omega arith))
+print-lent-requires c κs = (simp length-take (omega arith), simp length-take (omega arith), search needs, simp length-take (omega arith))
 
 returns : tie.Need-returns
 returns c = search needs
@@ -38,11 +50,15 @@ print-case-spec =
     tie.close
     (tie.spec
     length-at-requires
+    words-at-requires
     length-at-requires-2
     length-at-requires-3
+    length-at-requires-4
     array-borrow-prefix-table
     slice-aggregate-print-lent
-    array-borrow-prefix-page
+    array-borrow-prefix-words
     slice-aggregate-print-lent-2
+    array-borrow-prefix-page
+    slice-aggregate-print-lent-3
     print-lent-requires
     returns)

@@ -1,9 +1,7 @@
-use Prim.Native.Nat.{_*_, _%_, _^_}
-use mathlib.Core.Path.{_≡_, sym, ap, _∙_}
+use mathlib.Core.Path.{_≡_, refl, sym, ap}
 use native.Mathlib.Omega.{arith}
-use Rattle.entries.specs.Entry.{wordsPerEntry, size}
-use Rattle.entries.specs.Array.{entriesAt, sumAt}
-use Rattle.entries.proofs.Entries.{per-one, per-other, size-one, size-other}
+use Rattle.entries.specs.Entry.{size}
+use Rattle.entries.proofs.Entries.{size-one, size-other, consoles-found, banks-found}
 use Rattle.entries.proofs.find.Statement.{statement}
 use Rattle.entries.proofs.find.Tie as tie
 use Rattle.entries.proofs.find_banks.Reads as find-banks-reads
@@ -11,27 +9,55 @@ use Rattle.entries.proofs.find_consoles.Reads as find-consoles-reads
 
 find-consoles-requires : tie.Need-find-consoles-requires
 find-consoles-requires c κs =
-    let a = c .before .before .args in
-    let e : size (a .k) (a .count) ≡ size 1 (a .count) = ap (λ k. size k (a .count)) (c .if1 .taken) in
+    let a = c .before .before .before .args in
+    let e : size (a .k) (a .count) ≡ size 1 (a .count) = ap (λ k. size k (a .count)) (c .before .if1 .taken) in
     omega (arith, size-one (a .count))
 
 returns : tie.Need-returns
 returns c =
-    let a = c .before .before .before .args in
-    let e = c .find-consoles .ensures in
-    let p : wordsPerEntry (a .k) ≡ 6 = ap wordsPerEntry (c .before .if1 .taken) ∙ per-one in
-    (e .0 ∙ sym (ap (λ x. sumAt (a .at) (x * a .count) (a .page .now) % 2 ^ 64) p), e .1 ∙ sym (ap (λ k. entriesAt (a .minor) k (a .at) (a .count) (a .page .now)) (c .before .if1 .taken)))
+    let a = c .before .before .before .before .args in
+    consoles-found (a .minor) (a .k) (a .at) 1 (a .count) (a .page .now) _ _ (c .before .before .if1 .taken) (sym (c .before .if2 .taken)) (c .find-consoles .ensures)
 
-find-banks-requires : tie.Need-find-banks-requires
-find-banks-requires c κs =
-    let a = c .before .before .args in
-    (c .if1 .left, omega (arith, size-other (a .k) (a .count) (c .if1 .left)))
+find-consoles-requires-2 : tie.Need-find-consoles-requires-2
+find-consoles-requires-2 c κs =
+    let a = c .before .before .before .args in
+    let e : size (a .k) (a .count) ≡ size 1 (a .count) = ap (λ k. size k (a .count)) (c .before .if1 .taken) in
+    omega (arith, size-one (a .count))
 
 returns-2 : tie.Need-returns-2
 returns-2 c =
+    let a = c .before .before .before .before .args in
+    consoles-found (a .minor) (a .k) (a .at) (a .count) (a .count) (a .page .now) _ _ (c .before .before .if1 .taken) refl (c .find-consoles2 .ensures)
+
+find-banks-requires : tie.Need-find-banks-requires
+find-banks-requires c κs =
     let a = c .before .before .before .args in
-    let e = c .find-banks .ensures in
-    (e .0 ∙ sym (ap (λ x. sumAt (a .at) (x * a .count) (a .page .now) % 2 ^ 64) (per-other (a .k) (c .before .if1 .left))), e .1)
+    (c .before .if1 .left, omega (arith, size-other (a .k) (a .count) (c .before .if1 .left)))
+
+returns-3 : tie.Need-returns-3
+returns-3 c =
+    let a = c .before .before .before .before .args in
+    banks-found (a .minor) (a .k) (a .at) 1 (a .count) (a .page .now) _ _ (c .before .before .if1 .left) (sym (c .before .if3 .taken)) (c .find-banks .ensures)
+
+find-banks-requires-2 : tie.Need-find-banks-requires-2
+find-banks-requires-2 c κs =
+    let a = c .before .before .before .args in
+    (c .before .if1 .left, omega (arith, size-other (a .k) (a .count) (c .before .if1 .left)))
+
+returns-4 : tie.Need-returns-4
+returns-4 c =
+    let a = c .before .before .before .before .args in
+    banks-found (a .minor) (a .k) (a .at) (a .count) (a .count) (a .page .now) _ _ (c .before .before .if1 .left) refl (c .find-banks2 .ensures)
 
 pub find-spec : {M : Type 1} → statement M
-find-spec = tie.close (tie.spec find-consoles-requires returns find-banks-requires returns-2)
+find-spec =
+    tie.close
+    (tie.spec
+    find-consoles-requires
+    returns
+    find-consoles-requires-2
+    returns-2
+    find-banks-requires
+    returns-3
+    find-banks-requires-2
+    returns-4)

@@ -6,7 +6,7 @@ use Rattle.granule_vectors.proofs.main.Statement.{statement}
 use Rattle.granule_vectors.proofs.main.Tie as tie
 
 abbrev Inv-loop : tie.InvT-loop
-Inv-loop input₀ n₀ input n = (n ≤ 1000) × (length input ≡ 8192)
+Inv-loop input₀ n₀ input n = (n ≤ 1000) × (length input ≡ 12288)
 
 abbrev μ-loop : tie.MeasureT-loop
 μ-loop input₀ n₀ input n = 1000 - n

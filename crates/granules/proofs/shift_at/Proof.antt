@@ -1,13 +1,9 @@
 use mathlib.Core.Path.{sym, _∙_}
 use native.Mathlib.Omega.{arith}
-use lib.ListN.{length}
-use Rattle.granules.proofs.Moving.{granule-in, move-addr, move-pas, move-ok}
+use Rattle.granules.proofs.Moving.{move-addr, move-guarded, move-pas, move-ok}
 use borrow.Author.Needs.{needs}
 use Rattle.granules.proofs.shift_at.Statement.{statement}
 use Rattle.granules.proofs.shift_at.Tie as tie
-
-granule-of-requires : tie.Need-granule-of-requires
-granule-of-requires c κs = search needs
 
 enum-known-granule : tie.Need-enum-known-granule
 enum-known-granule c = search needs
@@ -18,7 +14,15 @@ enum-told c = search needs
 returns : tie.Need-returns
 returns c =
     let a = c .before .before .before .before .args in
-    move-addr (a .params) (a .granules) (a .direction) (a .table .now) (a .address) (sym (c .before .before .granule-of .ensures) ∙ c .enum-told .given .1)
+    λ g e. move-addr (a .params) g (a .direction) (a .table .now) (a .words .now) (a .address) (sym e ∙ c .enum-told .given .1)
+
+is-guarded-requires : tie.Need-is-guarded-requires
+is-guarded-requires c κs = search needs
+
+returns-2 : tie.Need-returns-2
+returns-2 c =
+    let a = c .before .before .before .before .before .before .before .args in
+    λ g e. move-guarded (a .params) g (a .direction) (a .table .now) (a .words .now) (a .address) _ (sym e ∙ c .before .before .before .granule .given .1) (sym (c .before .is-guarded .ensures) ∙ c .if1 .taken)
 
 from-byte-requires : tie.Need-from-byte-requires
 from-byte-requires c κs = search needs
@@ -27,40 +31,46 @@ to-byte-requires : tie.Need-to-byte-requires
 to-byte-requires c κs = search needs
 
 slice-read-held : tie.Need-slice-read-held
-slice-read-held c =
-    let a = c .before .before .before .before .before .before .before .before .args in
-    omega (arith, granule-in (a .granules) (length (a .table .now)) (a .address) _ (sym (c .before .before .before .before .before .before .granule-of .ensures) ∙ c .before .before .before .before .granule .given .1))
+slice-read-held c = omega (arith, c .before .before .before .before .before .before .before .before .before .before .pre _ (c .before .before .before .before .before .before .granule .given .1))
 
-returns-2 : tie.Need-returns-2
-returns-2 c =
-    let a = c .before .before .before .before .before .before .before .before .before .args in
-    move-pas (a .params) (a .granules) (a .direction) (a .table .now) (a .address) _ (sym (c .before .before .before .before .before .before .before .granule-of .ensures) ∙ c .before .before .before .before .before .granule .given .1) (rw (← c .before .before .before .from-byte .ensures) (c .if1 .taken))
+returns-3 : tie.Need-returns-3
+returns-3 c =
+    let a = c .before .before .before .before .before .before .before .before .before .before .before .args in
+    λ g e. move-pas (a .params) g (a .direction) (a .table .now) (a .words .now) (a .address) _ (sym e ∙ c .before .before .before .before .before .before .before .granule .given .1) (sym (c .before .before .before .before .before .is-guarded .ensures) ∙ c .before .before .before .before .if1 .left) (rw (← c .before .before .before .from-byte .ensures) (c .if2 .taken))
 
 slice-write-table : tie.Need-slice-write-table
-slice-write-table c =
-    let a = c .before .before .before .before .before .before .before .before .before .args in
-    omega (arith, granule-in (a .granules) (length (a .table .now)) (a .address) _ (sym (c .before .before .before .before .before .before .before .granule-of .ensures) ∙ c .before .before .before .before .before .granule .given .1))
+slice-write-table c = omega (arith, c .before .before .before .before .before .before .before .before .before .before .before .pre _ (c .before .before .before .before .before .before .before .granule .given .1))
+
+put-bit-requires : tie.Need-put-bit-requires
+put-bit-requires c κs = search needs
 
 same-length : tie.Need-same-length
 same-length c = search needs
 
-returns-3 : tie.Need-returns-3
-returns-3 c =
-    let a = c .before .before .before .before .before .before .before .before .before .args in
-    move-ok (a .params) (a .granules) (a .direction) (a .table .now) (a .address) _ (sym (c .before .before .before .before .before .before .before .granule-of .ensures) ∙ c .before .before .before .before .before .granule .given .1) (c .if1 .left ∙ c .before .before .before .from-byte .ensures) _ (c .before .before .to-byte .ensures)
+same-length-2 : tie.Need-same-length-2
+same-length-2 c = search needs
+
+returns-4 : tie.Need-returns-4
+returns-4 c =
+    let a = c .before .before .before .before .before .before .before .before .before .before .before .before .before .before .before .args in
+    λ g e. rw (c .before .before .put-bit .ensures)
+    (move-ok (a .params) g (a .direction) (a .table .now) (a .words .now) (a .address) _ (sym e ∙ c .before .before .before .before .before .before .before .before .before .before .before .granule .given .1) (sym (c .before .before .before .before .before .before .before .before .before .is-guarded .ensures) ∙ c .before .before .before .before .before .before .before .before .if1 .left) (c .before .before .before .before .if2 .left ∙ c .before .before .before .before .before .before .before .from-byte .ensures) _ (c .before .before .before .before .before .before .to-byte .ensures))
 
 pub shift-at-spec : {M : Type 1} → statement M
 shift-at-spec =
     tie.close
     (tie.spec
-    granule-of-requires
     enum-known-granule
     enum-told
     returns
+    is-guarded-requires
+    returns-2
     from-byte-requires
     to-byte-requires
     slice-read-held
-    returns-2
+    returns-3
     slice-write-table
+    put-bit-requires
     same-length
-    returns-3)
+    same-length-2
+    returns-4)

@@ -3,79 +3,117 @@ use mathlib.Core.Path.{_≡_, refl, sym, ap, _∙_}
 use native.Mathlib.Omega.{arith}
 use lib.ListN.{length, drop}
 use borrow.Author.Tests.{not-true, not-false}
-use Rattle.codes.specs.Codes.{answerOf}
-use Rattle.granules.specs.Granules.{Moved, moveAt, movedTo}
-use Rattle.granules.specs.Lists.{listBy}
-use Rattle.granules.proofs.Moving.{move-length}
-use Rattle.granules.proofs.Lists.{list-last, list-more, list-stop, list-up, list-none, list-down}
 use borrow.Author.Needs.{needs}
+use Rattle.codes.specs.Codes.{answerOf}
+use Rattle.granules.specs.Granules.{tableOf, Moved, movedBy, moveAt, movedTo}
+use Rattle.granules.specs.Lists.{listBy}
+use Rattle.granules.proofs.Moving.{found-is, fit-told, granule-inside, move-lengths}
+use Rattle.granules.proofs.Lists.{list-last, list-more, list-stop, list-up, list-none, list-down, list-unfit}
 use Rattle.granules.proofs.shift_list.Statement.{statement}
 use Rattle.granules.proofs.shift_list.Tie as tie
 
 abbrev Inv-loop : tie.InvT-loop
-Inv-loop granules direction table₀ addresses n up params i₀ table i = (i ≤ length addresses) × (length table ≡ length table₀) × (listBy (moveAt params granules direction) 0 (record { bytes = table₀ }) addresses ≡ listBy (moveAt params granules direction) i (record { bytes = table }) (drop i addresses))
+Inv-loop granules direction table₀ words₀ addresses count n up params i₀ table words i = (i ≤ length addresses) × (length table ≡ length table₀) × (length words ≡ length words₀) × (listBy (moveAt params granules direction) 0 (tableOf table₀ words₀) addresses ≡ listBy (moveAt params granules direction) i (tableOf table words) (drop i addresses))
 
 abbrev μ-loop : tie.MeasureT-loop
-μ-loop granules direction table₀ addresses n up params i₀ table i = length addresses - i
+μ-loop granules direction table₀ words₀ addresses count n up params i₀ table words i = length addresses - i
+
+granule-count-requires : tie.Need-granule-count-requires Inv-loop μ-loop
+granule-count-requires c κs = search needs
+
+words-fit-requires : tie.Need-words-fit-requires Inv-loop μ-loop
+words-fit-requires c κs = search needs
 
 answered-requires : tie.Need-answered-requires Inv-loop μ-loop
 answered-requires c κs = search needs
 
-returns : tie.Need-returns Inv-loop μ-loop
-unfolding movedTo
-returns c =
-    let a = c .before .before .before .before .args in
-    rw (c .answered .ensures) (list-none (a .state) (a .granules) (a .direction) (record { bytes = a .table .now }) (a .addresses .now) (c .before .if1 .taken))
+same-length : tie.Need-same-length Inv-loop μ-loop
+same-length c = search needs
 
-is-up-requires : tie.Need-is-up-requires Inv-loop μ-loop
-is-up-requires c κs = search needs
+returns : tie.Need-returns Inv-loop μ-loop
+unfolding movedTo movedBy
+returns c =
+    let a = c .before .before .before .before .before .before .before .before .args in
+    let f = fit-told (a .granules .now) (a .table .now) (a .words .now) _ _ _ (c .before .before .before .before .granule-count .ensures) (c .before .before .words-fit .ensures) (not-true _ (c .before .if1 .taken)) in
+    rw (c .answered .ensures) (list-unfit (a .state) (a .granules .now) (a .direction) (tableOf (a .table .now) (a .words .now)) f (a .addresses .now))
 
 answered-requires-2 : tie.Need-answered-requires-2 Inv-loop μ-loop
 answered-requires-2 c κs = search needs
 
+same-length-2 : tie.Need-same-length-2 Inv-loop μ-loop
+same-length-2 c = search needs
+
 returns-2 : tie.Need-returns-2 Inv-loop μ-loop
 unfolding movedTo
 returns-2 c =
-    let a = c .before .before .before .before .before .before .args in
-    rw (c .answered2 .ensures) (list-down (a .state) (a .granules) (a .direction) (record { bytes = a .table .now }) (sym (c .before .before .is-up .ensures) ∙ not-true _ (c .before .if2 .taken)) (a .addresses .now) (c .before .before .before .if1 .left))
+    let a = c .before .before .before .before .before .before .before .before .before .args in
+    let f = fit-told (a .granules .now) (a .table .now) (a .words .now) _ _ _ (c .before .before .before .before .before .granule-count .ensures) (c .before .before .before .words-fit .ensures) (not-false _ (c .before .before .if1 .left)) in
+    rw (c .answered2 .ensures) (list-none (a .state) (a .granules .now) (a .direction) (tableOf (a .table .now) (a .words .now)) f (a .addresses .now) (c .before .if2 .taken))
+
+is-up-requires : tie.Need-is-up-requires Inv-loop μ-loop
+is-up-requires c κs = search needs
+
+answered-requires-3 : tie.Need-answered-requires-3 Inv-loop μ-loop
+answered-requires-3 c κs = search needs
+
+same-length-3 : tie.Need-same-length-3 Inv-loop μ-loop
+same-length-3 c = search needs
+
+returns-3 : tie.Need-returns-3 Inv-loop μ-loop
+unfolding movedTo
+returns-3 c =
+    let a = c .before .before .before .before .before .before .before .before .before .before .before .args in
+    let f = fit-told (a .granules .now) (a .table .now) (a .words .now) _ _ _ (c .before .before .before .before .before .before .before .granule-count .ensures) (c .before .before .before .before .before .words-fit .ensures) (not-false _ (c .before .before .before .before .if1 .left)) in
+    rw (c .answered3 .ensures) (list-down (a .state) (a .granules .now) (a .direction) (tableOf (a .table .now) (a .words .now)) f (sym (c .before .before .is-up .ensures) ∙ not-true _ (c .before .if3 .taken)) (a .addresses .now) (c .before .before .before .if2 .left))
 
 up-of-requires : tie.Need-up-of-requires Inv-loop μ-loop
 up-of-requires c κs = search needs
 
 loop-holds : tie.Need-loop-holds Inv-loop μ-loop
-loop-holds c = (search needs, refl, refl)
+loop-holds c = (search needs, refl, refl, refl)
 
-mul-shift-at : tie.Need-mul-shift-at Inv-loop μ-loop
-mul-shift-at c = search needs
+mul-address : tie.Need-mul-address Inv-loop μ-loop
+mul-address c = search needs
 
-shared-slice-read-shift-at : tie.Need-shared-slice-read-shift-at Inv-loop μ-loop
-shared-slice-read-shift-at c = search needs
+shared-slice-read-address : tie.Need-shared-slice-read-address Inv-loop μ-loop
+shared-slice-read-address c = search needs
+
+find-granule-requires : tie.Need-find-granule-requires Inv-loop μ-loop
+find-granule-requires c κs = search needs
 
 shift-at-requires : tie.Need-shift-at-requires Inv-loop μ-loop
-shift-at-requires c κs = search needs
+shift-at-requires c κs =
+    let a = c .before .before .before .before .before .before .before .before .before .before .before .before .before .before .before .before .before .args in
+    let l = c .before .before .before .before .before .loop in
+    granule-inside (a .granules .now) (l .table) _ _ (found-is (a .granules .now) _ (length (l .table)) _ _ (c .before .before .before .before .before .before .before .before .before .before .before .before .before .granule-count .ensures) (c .before .before .find-granule .ensures))
 
 is-ok-requires : tie.Need-is-ok-requires Inv-loop μ-loop
 is-ok-requires c κs = search needs
 
-answered-requires-3 : tie.Need-answered-requires-3 Inv-loop μ-loop
-answered-requires-3 c κs = search needs
+answered-requires-4 : tie.Need-answered-requires-4 Inv-loop μ-loop
+answered-requires-4 c κs = search needs
 
-same-length : tie.Need-same-length Inv-loop μ-loop
-same-length c = search needs
+same-length-4 : tie.Need-same-length-4 Inv-loop μ-loop
+same-length-4 c = search needs
 
-returns-3 : tie.Need-returns-3 Inv-loop μ-loop
+same-length-5 : tie.Need-same-length-5 Inv-loop μ-loop
+same-length-5 c = search needs
+
+returns-4 : tie.Need-returns-4 Inv-loop μ-loop
 unfolding movedTo answerOf
-returns-3 c =
-    let a = c .before .before .before .before .before .before .before .before .before .before .before .before .before .before .before .before .args in
-    let l = c .before .before .before .before .before .before .before .before .before .loop in
-    rw (c .answered3 .ensures)
-    (list-stop (moveAt _ (a .granules) (a .direction)) (a .addresses .now) (l .i) (record { bytes = l .table }) (search needs) _ (c .before .before .before .before .before .shift-at .ensures) (sym (c .before .before .is-ok .ensures) ∙ not-true _ (c .before .if3 .taken))
-    ∙ sym (l .inv .2)
-    ∙ ap (λ u. listBy (moveAt u (a .granules) (a .direction)) 0 (record { bytes = a .table .now }) (a .addresses .now)) (c .before .before .before .before .before .before .before .before .before .before .up-of .ensures)
-    ∙ list-up (a .state) (a .granules) (a .direction) (record { bytes = a .table .now }) (sym (c .before .before .before .before .before .before .before .before .before .before .before .before .is-up .ensures) ∙ not-false _ (c .before .before .before .before .before .before .before .before .before .before .before .if2 .left)) (a .addresses .now))
+returns-4 c =
+    let a = c .before .before .before .before .before .before .before .before .before .before .before .before .before .before .before .before .before .before .before .before .before .before .before .before .before .args in
+    let l = c .before .before .before .before .before .before .before .before .before .before .before .before .before .loop in
+    let f = fit-told (a .granules .now) (a .table .now) (a .words .now) _ _ _ (c .before .before .before .before .before .before .before .before .before .before .before .before .before .before .before .before .before .before .before .before .before .granule-count .ensures) (c .before .before .before .before .before .before .before .before .before .before .before .before .before .before .before .before .before .before .before .words-fit .ensures) (not-false _ (c .before .before .before .before .before .before .before .before .before .before .before .before .before .before .before .before .before .before .if1 .left)) in
+    let e = found-is (a .granules .now) _ (length (l .table)) _ _ (c .before .before .before .before .before .before .before .before .before .before .before .before .before .before .before .before .before .before .before .before .before .granule-count .ensures) (c .before .before .before .before .before .before .before .before .before .before .find-granule .ensures) in
+    rw (c .answered4 .ensures)
+    (list-stop (moveAt _ (a .granules .now) (a .direction)) (a .addresses .now) (l .i) (tableOf (l .table) (l .words)) (search needs) _ (c .before .before .before .before .before .before .before .shift-at .ensures (a .granules .now) e) (sym (c .before .before .is-ok .ensures) ∙ not-true _ (c .before .if4 .taken))
+    ∙ sym (l .inv .3)
+    ∙ ap (λ u. listBy (moveAt u (a .granules .now) (a .direction)) 0 (tableOf (a .table .now) (a .words .now)) (a .addresses .now)) (c .before .before .before .before .before .before .before .before .before .before .before .before .before .before .up-of .ensures)
+    ∙ list-up (a .state) (a .granules .now) (a .direction) (tableOf (a .table .now) (a .words .now)) f (sym (c .before .before .before .before .before .before .before .before .before .before .before .before .before .before .before .before .is-up .ensures) ∙ not-false _ (c .before .before .before .before .before .before .before .before .before .before .before .before .before .before .before .if3 .left)) (a .addresses .now))
 
 add-i : tie.Need-add-i Inv-loop μ-loop
-add-i c = search needs
+add-i c = let s = c .before .before .before .before .before .before .before .before .before .before .before .before .before .before .before .before .before .before .before .before .before .before .before .before in search needs
 
 loop-less : tie.Need-loop-less Inv-loop μ-loop
 loop-less c = search needs
@@ -83,26 +121,36 @@ loop-less c = search needs
 loop-again : tie.Need-loop-again Inv-loop μ-loop
 unfolding movedTo answerOf
 loop-again c =
-    let a = c .before .before .before .before .before .before .before .before .before .before .before .before .before .before .before .args in
-    let l = c .before .before .before .before .before .before .before .before .loop in
-    (search needs, ap (λ (m : Moved). length (m .table .bytes)) (c .before .before .before .before .shift-at .ensures) ∙ move-length _ (a .granules) (a .direction) (record { bytes = l .table }) _ ∙ l .inv .1, l .inv .2 ∙ list-more (moveAt _ (a .granules) (a .direction)) (a .addresses .now) (l .i) (record { bytes = l .table }) (search needs) _ (c .before .before .before .before .shift-at .ensures) (sym (c .before .is-ok .ensures) ∙ not-false _ (c .if3 .left)))
+    let a = c .before .before .before .before .before .before .before .before .before .before .before .before .before .before .before .before .before .before .before .before .before .before .before .before .args in
+    let l = c .before .before .before .before .before .before .before .before .before .before .before .before .loop in
+    let m = c .before .before .before .before .before .before .shift-at .ensures (a .granules .now) (found-is (a .granules .now) _ (length (l .table)) _ _ (c .before .before .before .before .before .before .before .before .before .before .before .before .before .before .before .before .before .before .before .before .granule-count .ensures) (c .before .before .before .before .before .before .before .before .before .find-granule .ensures)) in
+    let n = move-lengths _ (a .granules .now) (a .direction) (tableOf (l .table) (l .words)) _ in (
+      search needs,
+      ap (λ (m : Moved). length (m .table .bytes)) m ∙ n .0 ∙ l .inv .1,
+      ap (λ (m : Moved). length (m .table .words)) m ∙ n .1 ∙ l .inv .2,
+      l .inv .3 ∙ list-more (moveAt _ (a .granules .now) (a .direction)) (a .addresses .now) (l .i) (tableOf (l .table) (l .words)) (search needs) _ m (sym (c .before .is-ok .ensures) ∙ not-false _ (c .if4 .left)),
+    )
 
-answered-requires-4 : tie.Need-answered-requires-4 Inv-loop μ-loop
-answered-requires-4 c κs = search needs
+answered-requires-5 : tie.Need-answered-requires-5 Inv-loop μ-loop
+answered-requires-5 c κs = search needs
 
-same-length-2 : tie.Need-same-length-2 Inv-loop μ-loop
-same-length-2 c = search needs
+same-length-6 : tie.Need-same-length-6 Inv-loop μ-loop
+same-length-6 c = search needs
 
-returns-4 : tie.Need-returns-4 Inv-loop μ-loop
+same-length-7 : tie.Need-same-length-7 Inv-loop μ-loop
+same-length-7 c = search needs
+
+returns-5 : tie.Need-returns-5 Inv-loop μ-loop
 unfolding movedTo
-returns-4 c =
-    let a = c .before .before .before .before .before .before .before .before .before .args in
+returns-5 c =
+    let a = c .before .before .before .before .before .before .before .before .before .before .before .before .before .before .args in
     let l = c .before .before .loop in
-    rw (c .answered4 .ensures)
-    (list-last (moveAt _ (a .granules) (a .direction)) (a .addresses .now) (l .i) (record { bytes = l .table }) (omega arith)
-    ∙ sym (l .inv .2)
-    ∙ ap (λ u. listBy (moveAt u (a .granules) (a .direction)) 0 (record { bytes = a .table .now }) (a .addresses .now)) (c .before .before .before .up-of .ensures)
-    ∙ list-up (a .state) (a .granules) (a .direction) (record { bytes = a .table .now }) (sym (c .before .before .before .before .before .is-up .ensures) ∙ not-false _ (c .before .before .before .before .if2 .left)) (a .addresses .now))
+    let f = fit-told (a .granules .now) (a .table .now) (a .words .now) _ _ _ (c .before .before .before .before .before .before .before .before .before .before .granule-count .ensures) (c .before .before .before .before .before .before .before .before .words-fit .ensures) (not-false _ (c .before .before .before .before .before .before .before .if1 .left)) in
+    rw (c .answered5 .ensures)
+    (list-last (moveAt _ (a .granules .now) (a .direction)) (a .addresses .now) (l .i) (tableOf (l .table) (l .words)) (omega arith)
+    ∙ sym (l .inv .3)
+    ∙ ap (λ u. listBy (moveAt u (a .granules .now) (a .direction)) 0 (tableOf (a .table .now) (a .words .now)) (a .addresses .now)) (c .before .before .before .up-of .ensures)
+    ∙ list-up (a .state) (a .granules .now) (a .direction) (tableOf (a .table .now) (a .words .now)) f (sym (c .before .before .before .before .before .is-up .ensures) ∙ not-false _ (c .before .before .before .before .if3 .left)) (a .addresses .now))
 
 pub shift-list-spec : {M : Type 1} → statement M
 shift-list-spec =
@@ -110,23 +158,33 @@ shift-list-spec =
     (tie.spec
     Inv-loop
     μ-loop
+    granule-count-requires
+    words-fit-requires
     answered-requires
+    same-length
     returns
-    is-up-requires
     answered-requires-2
+    same-length-2
     returns-2
+    is-up-requires
+    answered-requires-3
+    same-length-3
+    returns-3
     up-of-requires
     loop-holds
-    mul-shift-at
-    shared-slice-read-shift-at
+    mul-address
+    shared-slice-read-address
+    find-granule-requires
     shift-at-requires
     is-ok-requires
-    answered-requires-3
-    same-length
-    returns-3
+    answered-requires-4
+    same-length-4
+    same-length-5
+    returns-4
     add-i
     loop-less
     loop-again
-    answered-requires-4
-    same-length-2
-    returns-4)
+    answered-requires-5
+    same-length-6
+    same-length-7
+    returns-5)

@@ -29,11 +29,14 @@ element-copy-out-t13 c = search needs
 element-copy-out-t16 : tie.Need-element-copy-out-t16
 element-copy-out-t16 c = search needs
 
+element-copy-out-t19 : tie.Need-element-copy-out-t19
+element-copy-out-t19 c = search needs
+
 returns-2 : tie.Need-returns-2
 unfolding recordOf
 returns-2 c =
-    let w = c .before .before .before .before .before .before .before .args .image .now in
-    simp (ne-eqb (getD w 0 0) 0 (c .before .before .before .before .before .if1 .left), eq-eqb (getD w 0 0) 1 (c .before .before .before .if2 .taken))
+    let w = c .before .before .before .before .before .before .before .before .args .image .now in
+    simp (ne-eqb (getD w 0 0) 0 (c .before .before .before .before .before .before .if1 .left), eq-eqb (getD w 0 0) 1 (c .before .before .before .before .if2 .taken))
 
 returns-3 : tie.Need-returns-3
 unfolding recordOf
@@ -52,5 +55,6 @@ record-of-spec =
     element-copy-out-t10
     element-copy-out-t13
     element-copy-out-t16
+    element-copy-out-t19
     returns-2
     returns-3)

@@ -8,9 +8,6 @@ use Rattle.potterbeam.proofs.plain.Tie as tie
 record-of-requires : tie.Need-record-of-requires
 record-of-requires c κs = search needs
 
-granules-of-requires : tie.Need-granules-of-requires
-granules-of-requires c κs = search needs
-
 element-copy-out-plain-call : tie.Need-element-copy-out-plain-call
 element-copy-out-plain-call c = search needs
 
@@ -38,16 +35,18 @@ same-length c = search needs
 same-length-2 : tie.Need-same-length-2
 same-length-2 c = search needs
 
+same-length-3 : tie.Need-same-length-3
+same-length-3 c = search needs
+
 returns : tie.Need-returns
 unfolding plainIn
-returns c = plain-left _ _ _ _ _ _ (c .before .reply-registers .ensures) (c .reply-words .ensures) (c .before .before .before .before .before .before .plain-call .ensures ∙ rw (c .before .before .before .before .before .before .before .before .before .before .before .before .before .granules-of .ensures, c .before .before .before .before .before .before .before .before .before .before .before .before .before .before .record-of .ensures))
+returns c = plain-left _ _ _ _ _ _ _ (c .before .reply-registers .ensures) (c .reply-words .ensures) (c .before .before .before .before .before .before .before .before .plain-call .ensures ∙ rw (c .before .before .before .before .before .before .before .before .before .before .before .before .before .before .before .before .record-of .ensures))
 
 pub plain-spec : {M : Type 1} → statement M
 plain-spec =
     tie.close
     (tie.spec
     record-of-requires
-    granules-of-requires
     element-copy-out-plain-call
     element-copy-out-plain-call-2
     element-copy-out-plain-call-3
@@ -57,4 +56,5 @@ plain-spec =
     reply-words-requires
     same-length
     same-length-2
+    same-length-3
     returns)

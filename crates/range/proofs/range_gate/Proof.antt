@@ -22,22 +22,31 @@ outside-code-requires-2 c κs = search needs
 
 returns-2 : tie.Need-returns-2
 returns-2 c =
-    let a = c .before .before .before .args in
+    let a = c .before .before .before .before .args in
     rw (c .outside-code2 .ensures)
-    (stops (rangeCode (a .params) (a .out) (a .pa) (a .size)) (placeOf (a .params) (a .pa)) (outsideCode (a .out)) (range-above (a .params) (a .out) (a .pa) (a .size) (omega arith) (omega arith)) (outside-refused (a .out)))
+    (stops (rangeCode (a .params) (a .out) (a .pa) (a .size)) (placeOf (a .params) (a .pa)) (outsideCode (a .out)) (range-below (a .params) (a .out) (a .pa) (a .size) (omega arith)) (outside-refused (a .out)))
 
-sub-if3 : tie.Need-sub-if3
-sub-if3 c = search needs
+outside-code-requires-3 : tie.Need-outside-code-requires-3
+outside-code-requires-3 c κs = search needs
 
 returns-3 : tie.Need-returns-3
 returns-3 c =
-    let a = c .before .before .before .args in
-    stops (rangeCode (a .params) (a .out) (a .pa) (a .size)) (placeOf (a .params) (a .pa)) Inval (range-long (a .params) (a .out) (a .pa) (a .size) (omega arith) (omega arith) (omega arith)) refl
+    let a = c .before .before .before .before .before .args in
+    rw (c .outside-code3 .ensures)
+    (stops (rangeCode (a .params) (a .out) (a .pa) (a .size)) (placeOf (a .params) (a .pa)) (outsideCode (a .out)) (range-above (a .params) (a .out) (a .pa) (a .size) (omega arith) (omega arith)) (outside-refused (a .out)))
+
+sub-if4 : tie.Need-sub-if4
+sub-if4 c = search needs
 
 returns-4 : tie.Need-returns-4
-unfolding placeOf
 returns-4 c =
-    let a = c .before .before .before .args in
+    let a = c .before .before .before .before .before .args in
+    stops (rangeCode (a .params) (a .out) (a .pa) (a .size)) (placeOf (a .params) (a .pa)) Inval (range-long (a .params) (a .out) (a .pa) (a .size) (omega arith) (omega arith) (omega arith)) refl
+
+returns-5 : tie.Need-returns-5
+unfolding placeOf
+returns-5 c =
+    let a = c .before .before .before .before .before .args in
     goes (rangeCode (a .params) (a .out) (a .pa) (a .size)) (placeOf (a .params) (a .pa)) _ (range-ok (a .params) (a .out) (a .pa) (a .size) (omega arith) (omega arith) (omega arith)) refl
 
 pub range-gate-spec : {M : Type 1} → statement M
@@ -48,6 +57,8 @@ range-gate-spec =
     returns
     outside-code-requires-2
     returns-2
-    sub-if3
+    outside-code-requires-3
     returns-3
-    returns-4)
+    sub-if4
+    returns-4
+    returns-5)

@@ -44,36 +44,39 @@ same-length c = search needs
 same-length-2 : tie.Need-same-length-2
 same-length-2 c = search needs
 
-returns : tie.Need-returns
-unfolding exitBy queueBy
-returns c =
-    let a = c .before .before .before .before .before .before .before .before .before .before .before .before .before .before .before .args in
-    let n : needsOf (kindOf (a .id)) ≡ Nothing = sym (c .before .before .before .before .before .before .before .before .before .needs-of .ensures) ∙ c .before .before .before .before .before .before .before .enum-told .given .1 in
-    rw n
-    (ap (exitBy Nothing (a .queue))
-    (ap (beside (a .session) (listsOf (a .queue))) (c .before .before .before .before .plain-call .ensures)
-    ∙ sym (plain-beside (a .granules) (a .page .now) (a .table .now) (a .session) (listsOf (a .queue)) (a .state) (a .id) (a .x1) (a .x2) (a .x3) (a .x4) (a .busy) (a .key .now) (a .token .now) (a .public .now) (a .width) n)))
-
 same-length-3 : tie.Need-same-length-3
 same-length-3 c = search needs
 
-returns-2 : tie.Need-returns-2
-unfolding callOf callBy needsOf exitBy queueBy afterToken
-returns-2 c =
-    let a = c .before .before .before .before .before .before .before .before .before .before .before .before .before .args in
-    let h : kindOf (a .id) ≡ PlatformToken = needs-session _ (sym (c .before .before .before .before .before .before .before .needs-of .ensures) ∙ c .before .before .before .before .before .enum-told2 .given .1) in
-    rw (h, c .after-token .ensures) (ap (λ (t : TokenStep). exitBy Session (a .queue) (afterToken t (worldOf (a .page .now) (a .table .now) (a .session) (listsOf (a .queue))))) (c .before .before .before .platform-token .ensures))
+returns : tie.Need-returns
+unfolding exitBy queueBy
+returns c =
+    let a = c .before .before .before .before .before .before .before .before .before .before .before .before .before .before .before .before .before .before .before .args in
+    let n : needsOf (kindOf (a .id)) ≡ Nothing = sym (c .before .before .before .before .before .before .before .before .before .before .before .before .needs-of .ensures) ∙ c .before .before .before .before .before .before .before .before .before .before .enum-told .given .1 in
+    rw n
+    (ap (exitBy Nothing (a .queue))
+    (ap (beside (a .session) (listsOf (a .queue))) (c .before .before .before .before .before .before .plain-call .ensures)
+    ∙ sym (plain-beside (a .granules .now) (a .page .now) (a .table .now) (a .words .now) (a .session) (listsOf (a .queue)) (a .state) (a .id) (a .x1) (a .x2) (a .x3) (a .x4) (a .busy) (a .key .now) (a .token .now) (a .public .now) (a .width) n)))
 
 same-length-4 : tie.Need-same-length-4
 same-length-4 c = search needs
 
+returns-2 : tie.Need-returns-2
+unfolding callOf callBy needsOf exitBy queueBy afterToken
+returns-2 c =
+    let a = c .before .before .before .before .before .before .before .before .before .before .before .before .before .before .args in
+    let h : kindOf (a .id) ≡ PlatformToken = needs-session _ (sym (c .before .before .before .before .before .before .before .needs-of .ensures) ∙ c .before .before .before .before .before .enum-told2 .given .1) in
+    rw (h, c .after-token .ensures) (ap (λ (t : TokenStep). exitBy Session (a .queue) (afterToken t (worldOf (a .page .now) (a .table .now) (a .words .now) (a .session) (listsOf (a .queue))))) (c .before .before .before .platform-token .ensures))
+
+same-length-5 : tie.Need-same-length-5
+same-length-5 c = search needs
+
 returns-3 : tie.Need-returns-3
 unfolding callOf callBy needsOf exitBy queueBy replyCode afterSigning exitOf
 returns-3 c =
-    let a = c .before .before .before .before .before .before .before .before .before .before .before .before .before .args in
+    let a = c .before .before .before .before .before .before .before .before .before .before .before .before .before .before .args in
     let h : kindOf (a .id) ≡ TokenSigning = needs-queue _ (sym (c .before .before .before .before .before .before .before .needs-of .ensures) ∙ c .before .before .before .before .before .enum-told3 .given .1) in
     rw (h, c .after-signing .ensures)
-    (ap (λ (x : SigningExit). record { reply = Back (x .answer) Work.Nothing; page = x .page; table = a .table .now; session = a .session; queue = x .queue }) (c .before .before .before .token-signing .ensures))
+    (ap (λ (x : SigningExit). record { reply = Back (x .answer) Work.Nothing; page = x .page; table = a .table .now; words = a .words .now; session = a .session; queue = x .queue }) (c .before .before .before .token-signing .ensures))
 
 pub call-spec : {M : Type 1} → statement M
 call-spec =
@@ -90,8 +93,9 @@ call-spec =
     after-signing-requires
     same-length
     same-length-2
-    returns
     same-length-3
-    returns-2
+    returns
     same-length-4
+    returns-2
+    same-length-5
     returns-3)

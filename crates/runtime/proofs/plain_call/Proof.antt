@@ -90,64 +90,70 @@ back-requires-7 c κs = search needs
 returns : tie.Need-returns
 unfolding plainOf plainBy needsOf callBy
 returns c =
-    let h : kindOf (c .before .before .before .before .before .before .before .args .id) ≡ ForwardError = sym (c .before .before .before .kind-of .ensures) ∙ c .before .enum-told .given .1 in
+    let h : kindOf (c .before .before .before .before .before .before .before .before .args .id) ≡ ForwardError = sym (c .before .before .before .kind-of .ensures) ∙ c .before .enum-told .given .1 in
     rw (h, c .forward .ensures)
 
 same-length : tie.Need-same-length
 same-length c = search needs
 
-returns-2 : tie.Need-returns-2
-unfolding plainOf plainBy needsOf callBy afterMove movedTo
-returns-2 c =
-    let h : kindOf (c .before .before .before .before .before .before .before .before .before .before .before .args .id) ≡ Delegate = sym (c .before .before .before .before .before .before .before .kind-of .ensures) ∙ c .before .before .before .before .before .enum-told2 .given .1 in
-    rw (h, c .back .ensures, ← c .before .before .before .delegate .ensures)
-
 same-length-2 : tie.Need-same-length-2
 same-length-2 c = search needs
 
-returns-3 : tie.Need-returns-3
+returns-2 : tie.Need-returns-2
 unfolding plainOf plainBy needsOf callBy afterMove movedTo
-returns-3 c =
-    let h : kindOf (c .before .before .before .before .before .before .before .before .before .before .before .args .id) ≡ Undelegate = sym (c .before .before .before .before .before .before .before .kind-of .ensures) ∙ c .before .before .before .before .before .enum-told3 .given .1 in
-    rw (h, c .back2 .ensures, ← c .before .before .before .undelegate .ensures)
+returns-2 c =
+    let h : kindOf (c .before .before .before .before .before .before .before .before .before .before .before .before .before .before .before .args .id) ≡ Delegate = sym (c .before .before .before .before .before .before .before .before .before .before .kind-of .ensures) ∙ c .before .before .before .before .before .before .before .before .enum-told2 .given .1 in
+    rw (h, c .back .ensures, ← c .before .before .before .before .before .delegate .ensures)
 
 same-length-3 : tie.Need-same-length-3
 same-length-3 c = search needs
 
+same-length-4 : tie.Need-same-length-4
+same-length-4 c = search needs
+
+returns-3 : tie.Need-returns-3
+unfolding plainOf plainBy needsOf callBy afterMove movedTo
+returns-3 c =
+    let h : kindOf (c .before .before .before .before .before .before .before .before .before .before .before .before .before .before .before .args .id) ≡ Undelegate = sym (c .before .before .before .before .before .before .before .before .before .before .kind-of .ensures) ∙ c .before .before .before .before .before .before .before .before .enum-told3 .given .1 in
+    rw (h, c .back2 .ensures, ← c .before .before .before .before .before .undelegate .ensures)
+
+same-length-5 : tie.Need-same-length-5
+same-length-5 c = search needs
+
 returns-4 : tie.Need-returns-4
 unfolding plainOf plainBy needsOf callBy afterKey
 returns-4 c =
-    let h : kindOf (c .before .before .before .before .before .before .before .before .before .before .before .args .id) ≡ RealmKey = sym (c .before .before .before .before .before .before .before .kind-of .ensures) ∙ c .before .before .before .before .before .enum-told4 .given .1 in
+    let h : kindOf (c .before .before .before .before .before .before .before .before .before .before .before .before .args .id) ≡ RealmKey = sym (c .before .before .before .before .before .before .before .kind-of .ensures) ∙ c .before .before .before .before .before .enum-told4 .given .1 in
     rw (h, c .back3 .ensures, ← c .before .before .before .realm-key .ensures)
 
 returns-5 : tie.Need-returns-5
 unfolding plainOf plainBy needsOf callBy
 returns-5 c =
-    let h : kindOf (c .before .before .before .before .before .before .before .before .args .id) ≡ PlatformToken = sym (c .before .before .before .before .kind-of .ensures) ∙ c .before .before .enum-told5 .given .1 in
+    let h : kindOf (c .before .before .before .before .before .before .before .before .before .args .id) ≡ PlatformToken = sym (c .before .before .before .before .kind-of .ensures) ∙ c .before .before .enum-told5 .given .1 in
     rw (h, c .back4 .ensures, c .before .answered .ensures)
 
 returns-6 : tie.Need-returns-6
 unfolding plainOf plainBy needsOf callBy
 returns-6 c =
-    let h : kindOf (c .before .before .before .before .before .before .before .before .args .id) ≡ Features = sym (c .before .before .before .before .kind-of .ensures) ∙ c .before .before .enum-told6 .given .1 in
+    let h : kindOf (c .before .before .before .before .before .before .before .before .before .args .id) ≡ Features = sym (c .before .before .before .before .kind-of .ensures) ∙ c .before .before .enum-told6 .given .1 in
     rw (h, c .back5 .ensures, c .before .features .ensures)
 
 returns-7 : tie.Need-returns-7
 unfolding plainOf plainBy needsOf callBy
 returns-7 c =
-    let h : kindOf (c .before .before .before .before .before .before .before .before .args .id) ≡ TokenSigning = sym (c .before .before .before .before .kind-of .ensures) ∙ c .before .before .enum-told7 .given .1 in
+    let h : kindOf (c .before .before .before .before .before .before .before .before .before .args .id) ≡ TokenSigning = sym (c .before .before .before .before .kind-of .ensures) ∙ c .before .before .enum-told7 .given .1 in
     rw (h, c .back6 .ensures, c .before .answered2 .ensures)
 
 returns-8 : tie.Need-returns-8
 unfolding plainOf plainBy needsOf callBy afterUpdate
 returns-8 c =
-    let h : kindOf (c .before .before .before .before .before .before .before .before .args .id) ≡ KeyUpdate = sym (c .before .before .before .before .kind-of .ensures) ∙ c .before .before .enum-told8 .given .1 in
+    let h : kindOf (c .before .before .before .before .before .before .before .before .before .args .id) ≡ KeyUpdate = sym (c .before .before .before .before .kind-of .ensures) ∙ c .before .before .enum-told8 .given .1 in
     rw (h, c .updated .ensures, c .before .key-update .ensures)
 
 returns-9 : tie.Need-returns-9
 unfolding plainOf plainBy needsOf callBy
 returns-9 c =
-    let h : kindOf (c .before .before .before .before .before .before .before .before .args .id) ≡ Unlisted = sym (c .before .before .before .before .kind-of .ensures) ∙ c .before .before .enum-told9 .given .1 in
+    let h : kindOf (c .before .before .before .before .before .before .before .before .before .args .id) ≡ Unlisted = sym (c .before .before .before .before .kind-of .ensures) ∙ c .before .before .enum-told9 .given .1 in
     rw (h, c .back7 .ensures, c .before .answered3 .ensures)
 
 pub plain-call-spec : {M : Type 1} → statement M
@@ -183,10 +189,12 @@ plain-call-spec =
     back-requires-7
     returns
     same-length
-    returns-2
     same-length-2
-    returns-3
+    returns-2
     same-length-3
+    same-length-4
+    returns-3
+    same-length-5
     returns-4
     returns-5
     returns-6

@@ -1,3 +1,5 @@
+use native.Mathlib.Omega.{arith}
+use lib.ListN.{length-take}
 use lib.Seq.{length-take-le}
 use mathlib.Core.Path.{sym}
 use borrow.Author.Needs.{needs}
@@ -9,6 +11,12 @@ length-at-requires c κs = search needs
 
 length-at-requires-2 : tie.Need-length-at-requires-2
 length-at-requires-2 c κs = search needs
+
+words-at-requires : tie.Need-words-at-requires
+words-at-requires c κs = search needs
+
+length-at-requires-3 : tie.Need-length-at-requires-3
+length-at-requires-3 c κs = search needs
 
 array-borrow-prefix-page : tie.Need-array-borrow-prefix-page
 array-borrow-prefix-page c = search needs
@@ -34,8 +42,14 @@ array-borrow-prefix-wanted c = search needs
 slice-aggregate-print-lent-4 : tie.Need-slice-aggregate-print-lent-4
 slice-aggregate-print-lent-4 c = sym (length-take-le _ _ (search needs))
 
+array-borrow-prefix-words : tie.Need-array-borrow-prefix-words
+array-borrow-prefix-words c = search needs
+
+slice-aggregate-print-lent-5 : tie.Need-slice-aggregate-print-lent-5
+slice-aggregate-print-lent-5 c = sym (length-take-le _ _ (search needs))
+
 print-lent-requires : tie.Need-print-lent-requires
-print-lent-requires c κs = search needs
+print-lent-requires c κs = simp length-take (omega arith)
 
 returns : tie.Need-returns
 returns c = search needs
@@ -46,6 +60,8 @@ print-case-spec =
     (tie.spec
     length-at-requires
     length-at-requires-2
+    words-at-requires
+    length-at-requires-3
     array-borrow-prefix-page
     slice-aggregate-print-lent
     array-borrow-prefix-expected
@@ -54,5 +70,7 @@ print-case-spec =
     slice-aggregate-print-lent-3
     array-borrow-prefix-wanted
     slice-aggregate-print-lent-4
+    array-borrow-prefix-words
+    slice-aggregate-print-lent-5
     print-lent-requires
     returns)

@@ -6,11 +6,11 @@ use Rattle.runtime_vectors.proofs.print_operations.Statement.{statement
 use Rattle.runtime_vectors.proofs.print_operations.Tie as tie
 
 abbrev Inv-loop : tie.InvT-loop
-Inv-loop input page₀ expected₀ table₀ wanted₀ state₀ count i₀ t10 t11 t12 page expected table wanted state i =
-    (i ≤ count) × (count ≤ 250) × (length page ≡ length page₀) × (length expected ≡ length expected₀) × (length table ≡ length table₀) × (length wanted ≡ length wanted₀)
+Inv-loop input page₀ expected₀ table₀ wanted₀ words₀ state₀ count i₀ t11 t12 t13 page expected table wanted words state i =
+    (i ≤ count) × (count ≤ 250) × (length page ≡ length page₀) × (length expected ≡ length expected₀) × (length table ≡ length table₀) × (length wanted ≡ length wanted₀) × (length words ≡ length words₀)
 
 abbrev μ-loop : tie.MeasureT-loop
-μ-loop input page₀ expected₀ table₀ wanted₀ state₀ count i₀ t10 t11 t12 page expected table wanted state i =
+μ-loop input page₀ expected₀ table₀ wanted₀ words₀ state₀ count i₀ t11 t12 t13 page expected table wanted words state i =
     count - i
 
 state-at-requires : tie.Need-state-at-requires Inv-loop μ-loop
@@ -79,6 +79,9 @@ same-length-3 c = search needs
 same-length-4 : tie.Need-same-length-4 Inv-loop μ-loop
 same-length-4 c = search needs
 
+same-length-5 : tie.Need-same-length-5 Inv-loop μ-loop
+same-length-5 c = search needs
+
 returns : tie.Need-returns Inv-loop μ-loop
 returns c = search needs
 
@@ -110,4 +113,5 @@ print-operations-spec =
     same-length-2
     same-length-3
     same-length-4
+    same-length-5
     returns)

@@ -12,12 +12,15 @@ use native.Mathlib.Omega.{arith}
 use Rattle.sections.proofs.rules_ok.Statement.{statement}
 use Rattle.sections.proofs.rules_ok.Tie as tie
 
+core-size-requires : tie.Need-core-size-requires
+core-size-requires c κs = search needs
+
 padding-at-requires : tie.Need-padding-at-requires
 padding-at-requires c κs = search needs
 
 returns : tie.Need-returns
 returns c =
-    let a = c .before .before .before .args in
+    let a = c .before .before .before .before .args in
     sym (rules-padding (a .minor) (a .e .minor) (a .base) (a .page .now) (λ z. c .if1 .taken (c .before .padding-at .ensures ∙ z)))
 
 word-at-requires : tie.Need-word-at-requires
@@ -35,7 +38,7 @@ enum-told c = search needs
 returns-2 : tie.Need-returns-2
 unfolding platAt
 returns-2 c =
-    let a = c .before .before .before .before .before .before .before .args in
+    let a = c .before .before .before .before .before .before .before .before .args in
     let p : paddingAt (a .page .now) ≡ 0 = sym (c .before .before .before .before .before .padding-at .ensures) ∙ c .before .before .before .before .if1 .left in
     let q : Broken ≡ platEnd (a .e .minor) (a .base) (platAt (a .base) (a .page .now)) = rw (← c .before .before .before .word-at .ensures) (sym (c .enum-told .given .1) ∙ c .before .before .plat-end .ensures) in
     sym (rules-plat (a .minor) (a .e .minor) (a .base) (a .page .now) p (plat-broken (a .e .minor) (a .base) (platAt (a .base) (a .page .now)) q))
@@ -49,7 +52,7 @@ sections-ok-requires c κs = search needs
 returns-3 : tie.Need-returns-3
 unfolding platAt
 returns-3 c =
-    let a = c .before .before .before .before .before .before .before .before .before .before .before .args in
+    let a = c .before .before .before .before .before .before .before .before .before .before .before .before .args in
     let p : paddingAt (a .page .now) ≡ 0 = sym (c .before .before .before .before .before .before .before .before .before .padding-at .ensures) ∙ c .before .before .before .before .before .before .before .before .if1 .left in
     let g = c .before .before .before .before .told .given in
     let q : Ended (g .0 .0) ≡ platEnd (a .e .minor) (a .base) (platAt (a .base) (a .page .now)) = rw (← c .before .before .before .before .before .before .before .word-at .ensures) (sym (g .1) ∙ c .before .before .before .before .before .before .plat-end .ensures) in
@@ -59,7 +62,7 @@ returns-3 c =
 
 all-apart-requires : tie.Need-all-apart-requires
 all-apart-requires c κs =
-    let a = c .before .before .before .before .before .before .before .before .before .before .before .args in
+    let a = c .before .before .before .before .before .before .before .before .before .before .before .before .args in
     let p : paddingAt (a .page .now) ≡ 0 = sym (c .before .before .before .before .before .before .before .before .before .padding-at .ensures) ∙ c .before .before .before .before .before .before .before .before .if1 .left in
     let o : okTo (a .minor) (a .e .minor) (a .base) (sectionCount (a .e .minor)) (a .page .now) ≡ true = rw (← c .before .before .sections .ensures .0) (sym (c .before .sections-ok .ensures) ∙ not-false _ (c .if2 .left)) in (
       search needs,
@@ -71,7 +74,7 @@ all-apart-requires c κs =
 returns-4 : tie.Need-returns-4
 unfolding platAt
 returns-4 c =
-    let a = c .before .before .before .before .before .before .before .before .before .before .before .before .before .args in
+    let a = c .before .before .before .before .before .before .before .before .before .before .before .before .before .before .args in
     let p : paddingAt (a .page .now) ≡ 0 = sym (c .before .before .before .before .before .before .before .before .before .before .before .padding-at .ensures) ∙ c .before .before .before .before .before .before .before .before .before .before .if1 .left in
     let g = c .before .before .before .before .before .before .told .given in
     let q : Ended (g .0 .0) ≡ platEnd (a .e .minor) (a .base) (platAt (a .base) (a .page .now)) = rw (← c .before .before .before .before .before .before .before .before .before .word-at .ensures) (sym (g .1) ∙ c .before .before .before .before .before .before .before .before .plat-end .ensures) in
@@ -83,7 +86,7 @@ returns-4 c =
 add-end : tie.Need-add-end
 unfolding platAt mkPlat
 add-end c =
-    let a = c .before .before .before .before .before .before .before .before .before .before .before .before .before .args in
+    let a = c .before .before .before .before .before .before .before .before .before .before .before .before .before .before .args in
     let p : paddingAt (a .page .now) ≡ 0 = sym (c .before .before .before .before .before .before .before .before .before .before .before .padding-at .ensures) ∙ c .before .before .before .before .before .before .before .before .before .before .if1 .left in
     let g = c .before .before .before .before .before .before .told .given in
     let q : Ended (g .0 .0) ≡ platEnd (a .e .minor) (a .base) (platAt (a .base) (a .page .now)) = rw (← c .before .before .before .before .before .before .before .before .before .word-at .ensures) (sym (g .1) ∙ c .before .before .before .before .before .before .before .before .plat-end .ensures) in
@@ -92,7 +95,7 @@ add-end c =
 
 fields-clear-requires : tie.Need-fields-clear-requires
 fields-clear-requires c κs =
-    let a = c .before .before .before .before .before .before .before .before .before .before .before .before .before .args in
+    let a = c .before .before .before .before .before .before .before .before .before .before .before .before .before .before .args in
     let p : paddingAt (a .page .now) ≡ 0 = sym (c .before .before .before .before .before .before .before .before .before .before .before .padding-at .ensures) ∙ c .before .before .before .before .before .before .before .before .before .before .if1 .left in
     let o : okTo (a .minor) (a .e .minor) (a .base) (sectionCount (a .e .minor)) (a .page .now) ≡ true = rw (← c .before .before .before .before .sections .ensures .0) (sym (c .before .before .before .sections-ok .ensures) ∙ not-false _ (c .before .before .if2 .left)) in (
       search needs,
@@ -104,7 +107,7 @@ fields-clear-requires c κs =
 returns-5 : tie.Need-returns-5
 unfolding platAt mkPlat
 returns-5 c =
-    let a = c .before .before .before .before .before .before .before .before .before .before .before .before .before .before .args in
+    let a = c .before .before .before .before .before .before .before .before .before .before .before .before .before .before .before .args in
     let p : paddingAt (a .page .now) ≡ 0 = sym (c .before .before .before .before .before .before .before .before .before .before .before .before .padding-at .ensures) ∙ c .before .before .before .before .before .before .before .before .before .before .before .if1 .left in
     let g = c .before .before .before .before .before .before .before .told .given in
     let q : Ended (g .0 .0) ≡ platEnd (a .e .minor) (a .base) (platAt (a .base) (a .page .now)) = rw (← c .before .before .before .before .before .before .before .before .before .before .word-at .ensures) (sym (g .1) ∙ c .before .before .before .before .before .before .before .before .before .plat-end .ensures) in
@@ -117,6 +120,7 @@ pub rules-ok-spec : {M : Type 1} → statement M
 rules-ok-spec =
     tie.close
     (tie.spec
+    core-size-requires
     padding-at-requires
     returns
     word-at-requires

@@ -23,15 +23,12 @@ is-nothing-requires c κs = search needs
 returns : tie.Need-returns
 returns c = let a = c .before .before .before .before .before .before .args in sym (ok-nothing (a .minor) (a .e .minor) (a .base) (a .k) (a .page .now) (cc))
 
-core-size-requires : tie.Need-core-size-requires
-core-size-requires c κs = search needs
-
 add-if2 : tie.Need-add-if2
 add-if2 c = search needs
 
 returns-2 : tie.Need-returns-2
 returns-2 c =
-    let a = c .before .before .before .before .before .before .before .before .args in
+    let a = c .before .before .before .before .before .before .before .args in
     let l : pointerAt (a .k) (a .page .now) < a .base + core (a .e .minor) = omega arith in
     sym (ok-low (a .minor) (a .e .minor) (a .base) (a .k) (a .page .now) (cc) l)
 
@@ -43,7 +40,7 @@ sound-at-requires c κs = search needs
 
 returns-3 : tie.Need-returns-3
 returns-3 c =
-    let a = c .before .before .before .before .before .before .before .before .before .args in
+    let a = c .before .before .before .before .before .before .before .before .args in
     let l : a .base + core (a .e .minor) ≤ pointerAt (a .k) (a .page .now) = omega arith in
     cc (ok-placed (a .minor) (a .e .minor) (a .base) (a .k) (a .page .now) (cc) l (search needs))
 
@@ -56,7 +53,6 @@ section-ok-spec =
     check-at-requires
     is-nothing-requires
     returns
-    core-size-requires
     add-if2
     returns-2
     sub-at

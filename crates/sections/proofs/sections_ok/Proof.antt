@@ -10,10 +10,10 @@ use Rattle.sections.proofs.sections_ok.Statement.{statement}
 use Rattle.sections.proofs.sections_ok.Tie as tie
 
 abbrev Inv-loop : tie.InvT-loop
-Inv-loop page base minor e n k₀ k = (k ≤ n) × (okTo minor (e .minor) base k page ≡ true)
+Inv-loop page base minor e size n k₀ k = (k ≤ n) × (okTo minor (e .minor) base k page ≡ true)
 
 abbrev μ-loop : tie.MeasureT-loop
-μ-loop page base minor e n k₀ k = n - k
+μ-loop page base minor e size n k₀ k = n - k
 
 loop-holds : tie.Need-loop-holds Inv-loop μ-loop
 loop-holds c = let a = c .before .args in (search needs, ok-none (a .minor) (a .e .minor) (a .base) (a .page .now))

@@ -1,0 +1,170 @@
+-- The granule record of several banks. 02, E2: "The granule record shall hold the banks, not one start address; the table is the
+-- banks' granules joined in bank order. An address in a hole is not a granule address." Assumes nothing.
+use Prim.Native.Nat.{ℕ, zero, suc, _+_, _-_, _*_, _/_, _%_, _^_}
+use mathlib.Core.Bool.{Bool, true, cond}
+use mathlib.Core.List.{List, [], _∷_, _++_}
+use lib.ListN.{length, getD, replicate}
+use lib.Dec.{leb, ltb, eqb}
+use Rattle.words.specs.Tests.{both}
+use Rattle.words.specs.Word.{wordAt, wordsOf}
+use Rattle.entries.specs.Entry.{bankOk}
+use Rattle.codes.specs.Codes.{unless, fails, ifOk}
+use Rattle.codes.specs.declared.Code.{Code}
+use Rattle.codes.specs.declared.Code.the-variants.{Ok, Inval}
+use Rattle.banks.specs.declared.Granule.{Granule}
+use Rattle.banks.specs.declared.Granule.the-variants.{Nothing, At}
+
+-- the record, as its 33 words: how many banks, then base and size of each. Words behind those of the banks count for nothing.
+abbrev pub Granules : Type 0
+Granules = List ℕ
+
+pub record Bank : Type 0 where
+  pub base : ℕ
+  pub size : ℕ
+
+-- f i, f (i + 1), .. : n banks
+unfoldable pub banksBy : (ℕ → Bank) → ℕ → ℕ → List Bank
+banksBy f i zero = []
+banksBy f i (suc n) = f i ∷ banksBy f (suc i) n
+
+-- bank i of a record, behind the count and i pairs of words
+abbrev pub bankAt : Granules → ℕ → Bank
+bankAt g i = record { base = getD g (1 + 2 * i) 0; size = getD g (2 + 2 * i) 0 }
+
+abbrev pub countOf : Granules → ℕ
+countOf g = getD g 0 0
+
+abbrev pub banksOf : Granules → List Bank
+banksOf g = banksBy (bankAt g) 0 (countOf g)
+
+-- ---- which banks are taken
+-- the reader's rule for a bank, and at or after the end of the one before: else "banks not ascending or overlapping"
+unfoldable pub follows : ℕ → ℕ → ℕ → Bool
+follows low base size = both (leb low base) (bankOk base size)
+
+unfoldable pub ascend : ℕ → List Bank → Bool
+ascend low [] = true
+ascend low (b ∷ bs) = both (follows low (b .base) (b .size)) (ascend (b .base + b .size) bs)
+
+-- n banks, with none of "no bank, .. more than 16, a bank that breaks the reader's rule, banks not ascending or overlapping"
+unfoldable pub banksOk : ℕ → List Bank → Bool
+banksOk n bs = both (ltb 0 n) (both (leb n 16) (ascend 0 bs))
+
+unfoldable pub recordOk : Granules → Bool
+recordOk g = banksOk (countOf g) (banksOf g)
+
+-- the granules of banks: their sum
+unfoldable pub total : List Bank → ℕ
+total [] = 0
+total (b ∷ bs) = b .size / 4096 + total bs
+
+-- "later, a record whose banks the set-up would refuse has no granules"
+unfoldable pub granuleCount : Granules → ℕ
+granuleCount g = cond (recordOk g) (total (banksOf g)) 0
+
+-- ---- the granule that an address falls on
+unfoldable pub holds : ℕ → ℕ → ℕ → Bool
+holds base size addr = both (leb base addr) (ltb addr (base + size))
+
+-- in one bank, behind the granules of the banks before: "the table is the banks' granules joined in bank order"
+abbrev pub indexBy : ℕ → ℕ → ℕ
+indexBy before offset = before + offset / 4096
+
+abbrev pub indexIn : ℕ → ℕ → ℕ → ℕ
+indexIn before base addr = indexBy before (addr - base)
+
+unfoldable pub placeIn : ℕ → ℕ → ℕ → ℕ → Granule
+placeIn before base size addr = cond (holds base size addr) (At (indexIn before base addr)) Nothing
+
+unfoldable pub orElse : Granule → Granule → Granule
+orElse (At i) g = At i
+orElse Nothing g = g
+
+-- in the first of the banks that holds the address: "An address in a hole is not a granule address."
+unfoldable pub placeAmong : ℕ → List Bank → ℕ → Granule
+placeAmong before [] addr = Nothing
+placeAmong before (b ∷ bs) addr = orElse (placeIn before (b .base) (b .size) addr) (placeAmong (before + b .size / 4096) bs addr)
+
+unfoldable pub placeOf : Granules → ℕ → Granule
+placeOf g addr = cond (recordOk g) (placeAmong 0 (banksOf g) addr) Nothing
+
+-- in a table of n granules. 01: "BAD_ADDR unless .. the address are multiples of 4,096 and the address falls on a granule of the table."
+-- 02, E2: "Demand 2 reads "granule of the table" so", and "a table of another length makes every address BAD_ADDR"
+abbrev pub placedIn : ℕ → Granule → ℕ → ℕ → Granule
+placedIn m place n addr = cond (both (eqb (addr % 4096) 0) (eqb m n)) place Nothing
+
+unfoldable pub granuleAt : Granules → ℕ → ℕ → Granule
+granuleAt g n addr = placedIn (granuleCount g) (placeOf g addr) n addr
+
+-- ---- for the theorems
+-- the address of granule i, in banks and in a record's
+unfoldable pub addressIn : List Bank → ℕ → ℕ
+addressIn [] i = 0
+addressIn (b ∷ bs) i = cond (ltb i (b .size / 4096)) (b .base + 4096 * i) (addressIn bs (i - b .size / 4096))
+
+abbrev pub addressOf : Granules → ℕ → ℕ
+addressOf g i = addressIn (banksOf g) i
+
+-- 01's granule of an address, in a table of n granules from address G on: "BAD_ADDR unless G and the address are multiples of 4,096 and
+-- the address falls on a granule of the table."
+abbrev pub singleRange : ℕ → ℕ → ℕ → Granule
+singleRange start n addr = cond (both (eqb (start % 4096) 0) (both (eqb (addr % 4096) 0) (both (leb start addr) (ltb ((addr - start) / 4096) n)))) (At ((addr - start) / 4096)) Nothing
+
+-- ---- the same as the code finds it
+-- by one comparison in 64 bits, where an address below base is far behind the bank: for a bank that meets the reader's rule it is `placeIn`
+unfoldable pub distance : ℕ → ℕ → ℕ
+distance base addr = cond (leb base addr) (addr - base) (addr + 2 ^ 64 - base)
+
+unfoldable pub reachIn : ℕ → ℕ → ℕ → ℕ → Granule
+reachIn before base size addr = cond (ltb (distance base addr) size) (At (indexBy before (distance base addr))) Nothing
+
+unfoldable pub reachAmong : ℕ → List Bank → ℕ → Granule
+reachAmong before [] addr = Nothing
+reachAmong before (b ∷ bs) addr = orElse (reachIn before (b .base) (b .size) addr) (reachAmong (before + b .size / 4096) bs addr)
+
+-- a granule as a word: all ones for none
+unfoldable pub placedAt : ℕ → Granule
+placedAt p = cond (eqb p 0xFFFFFFFFFFFFFFFF) Nothing (At p)
+
+-- for a list of addresses, which asks once for the number m of the record's granules: in banks that are not judged again, up to 16
+unfoldable pub foundIn : Granules → ℕ → Granule
+foundIn g addr = cond (leb (countOf g) 16) (reachAmong 0 (banksOf g) addr) Nothing
+
+unfoldable pub foundAt : Granules → ℕ → ℕ → ℕ → Granule
+foundAt g m n addr = cond (both (ltb 0 m) (both (eqb (addr % 4096) 0) (eqb m n))) (foundIn g addr) Nothing
+
+-- ---- the set-up
+-- bank i of the banks that the reader shows, by the bytes of the array lookup: 16 bytes a bank, base and size
+abbrev pub bankIn : List ℕ → ℕ → Bank
+bankIn shown i = record { base = wordAt (16 * i) shown; size = wordAt (16 * i + 8) shown }
+
+abbrev pub banksIn : ℕ → List ℕ → List Bank
+banksIn n shown = banksBy (bankIn shown) 0 n
+
+abbrev pub countIn : List ℕ → ℕ
+countIn shown = length shown / 16
+
+-- none of "no bank, a part of a bank, more than 16, a bank that breaks the reader's rule, banks not ascending or overlapping, or a
+-- table length that differs from the sum"
+unfoldable pub takes : List ℕ → ℕ → Bool
+takes shown n =
+    both (eqb (length shown % 16) 0)
+    (both (banksOk (countIn shown) (banksIn (countIn shown) shown)) (eqb (total (banksIn (countIn shown) shown)) n))
+
+unfoldable pub setUpCode : List ℕ → ℕ → Code
+setUpCode shown n = fails (unless (takes shown n)) Inval Ok
+
+-- a record of n banks with the first i words of their bytes, and zeros behind; and the whole one
+unfoldable pub filled : ℕ → ℕ → List ℕ → Granules
+filled n i shown = n ∷ wordsOf i shown ++ replicate (32 - i) 0
+
+abbrev pub recordFrom : ℕ → List ℕ → Granules
+recordFrom n shown = filled n (2 * n) shown
+
+-- the answer, and the record's words at exit: "INVAL, with no record made", leaves them as they were
+pub record SetUp : Type 0 where
+  pub code : Code
+  pub granules : Granules
+
+unfoldable pub setUpOf : List ℕ → ℕ → Granules → SetUp
+setUpOf shown n g = record { code = setUpCode shown n; granules = ifOk (setUpCode shown n) (recordFrom (countIn shown) shown) g }

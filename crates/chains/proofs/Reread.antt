@@ -1,0 +1,158 @@
+-- 02, E5: a page whose manifest lies in the kept bytes is read with the same answer after any sequence of commands. Assumes nothing.
+use Prim.Native.Nat.{ℕ, _+_, _*_, _-_, _≤_, _<_, min}
+use mathlib.Core.Path.{_≡_, refl, sym, ap, _∙_, subst}
+use mathlib.Core.Bool.{false, false≢true}
+use mathlib.Core.Logic.{_⊎_, inl, inr}
+use mathlib.Core.List.{List, map}
+use native.Mathlib.Omega.{arith}
+use lib.ListN.{length, getD}
+use lib.Seq.{getD-take}
+use native.Mathlib.Decide.{decLt}
+use lib.IntN.{pos}
+use borrow.Author.Tests.{le-ltb, lt-ltb}
+use Rattle.words.specs.Tests.{Yes}
+use Rattle.words.specs.Word.{leOf, wordAt, numAt, areWords}
+use Rattle.words.proofs.Read.{part-same}
+use Rattle.words.proofs.Tests.{both-l, both-r, both-of, either-l, either-r}
+use Rattle.versions.specs.Version.{minorOf}
+use Rattle.versions.specs.Edition.{sectionCount, core}
+use Rattle.sections.specs.Page.{placeOk, versionAt}
+use Rattle.reader.specs.Answer.{Shown, PlatShown, ReaderAnswer, refused, shows, judge, namedBy, named, readOf}
+use Rattle.reader.specs.Reading.{sectionAt, viewAt}
+use Rattle.reader.proofs.Newer.{gate-shows}
+use Rattle.reader.proofs.Views.{shows-page}
+use Rattle.writer.proofs.Demand.{demand3}
+use Rattle.lookup.specs.Kept.{keptFor}
+use Rattle.lookup.proofs.Kept.{kept-covers}
+use Rattle.boot.specs.Boot.{coldCode, after, paramsOf, coldNext}
+use Rattle.boot.specs.Boots.{Boot, allBooted}
+use Rattle.boot.specs.declared.Params.{Params}
+use Rattle.boot.specs.declared.Record.{Record}
+use Rattle.boot.specs.declared.Record.the-variants.{Up, Closed}
+use Rattle.boot.proofs.Closing.{up-stays}
+use Rattle.codes.specs.Codes.{isUp}
+use Rattle.banks.specs.Banks.{Granules}
+use Rattle.runtime.specs.Step.{World, Command}
+use Rattle.runtime.specs.Run.{worldAfter}
+use Rattle.runtime.specs.Kept.{KeptTo, AllHave}
+use Rattle.runtime.proofs.Kept.{kept}
+use Rattle.images.specs.Image.{viewOf, viewWords, answerWords}
+use Rattle.images.proofs.Inverse.{view-back}
+use Rattle.queue_image.specs.Image.{each, areBytes}
+use Rattle.chains.specs.Chain.{Lent, lentWorld, ofBytes}
+use Rattle.chains.specs.Exported.{Exported, commandOf, allExported}
+use Rattle.chains.specs.Reread.{Covers}
+use Rattle.chains.proofs.Singles.{exports-chain}
+
+-- ---- kept bytes that cover the manifest
+-- the core is among them
+core-covered : (n r base : ℕ) (page : List ℕ) (w e : ℕ) (q : PlatShown) (t : ℕ → Shown) → readOf r base page ≡ shows w e q t → Covers n r base page → core e ≤ n
+unfolding readOf judge placeOk named namedBy core
+core-covered n r base page w e q t h c =
+    let g = gate-shows _ _ _ _ _ _ _ _ h .0 in
+    let p = shows-page r base page w e q t h in
+    let x : e ≡ min r (minorOf (versionAt page)) = p .edition ∙ ap (min r) (p .minor) in
+    let y : core e - 1 < n = c (core e - 1) (both-of _ _ (both-l _ _ (g .0)) (either-r _ _ (both-of _ _ (both-r _ _ (g .1)) (either-l _ _ (rw (← x) (lt-ltb (core e - 1) (core e) (omega arith))))))) in
+    omega arith
+
+module _ (n : ℕ) (page last : List ℕ) (k : KeptTo n page last) where
+  byte-same : (i : ℕ) → i < n → getD page i 0 ≡ getD last i 0
+  byte-same i h = sym (getD-take n page i 0 h) ∙ ap (λ (l : List ℕ). getD l i 0) (sym (k .bytes)) ∙ getD-take n last i 0 h
+
+  -- by the last statement of demand 3
+  kept-read : (r base : ℕ) → Covers n r base page → readOf r base last ≡ readOf r base page
+  kept-read r base c = sym (demand3 .unread r base page last (sym (k .whole)) (λ i y. byte-same i (c i y)))
+
+  -- and so the words that `pbeam_read` writes
+  word-same : (off : ℕ) → off + 8 ≤ n → wordAt off last ≡ wordAt off page
+  unfolding numAt
+  word-same off h = ap leOf (part-same off 8 last page (k .whole) (λ i a b. sym (byte-same i (omega arith))))
+
+  section-same : (e base j : ℕ) → core e ≤ n → sectionAt e base last j ≡ sectionAt e base page j
+  unfolding sectionAt core
+  section-same e base j h = go (decLt j (sectionCount e))
+    where
+      go : Dec (j < sectionCount e) → sectionAt e base last j ≡ sectionAt e base page j
+      go (yes l) = rw (word-same (16 + 24 * j) (omega arith), word-same (24 + 24 * j) (omega arith))
+      go (no l) = rw (le-ltb j (sectionCount e) (omega arith))
+
+  view-same : (w e base : ℕ) → core e ≤ n → viewAt w e base last ≡ viewAt w e base page
+  unfolding viewAt core
+  view-same w e base h =
+      rw (word-same 8 (omega arith), section-same e base 0 h, section-same e base 1 h, section-same e base 2 h, section-same e base 3 h)
+
+  view-read : (r base : ℕ) → Covers n r base page → answerWords base last (readOf r base last) ≡ answerWords base page (readOf r base page)
+  unfolding answerWords
+  view-read r base c = ap (answerWords base last) (kept-read r base c) ∙ go (readOf r base page) (λ w e q t h. core-covered n r base page w e q t h c)
+    where
+      go : (a : ReaderAnswer) → ((w e : ℕ) (q : PlatShown) (t : ℕ → Shown) → a ≡ shows w e q t → core e ≤ n) → answerWords base last a ≡ answerWords base page a
+      go (refused c) f = refl
+      go (shows w e q t) f = ap viewWords (view-same w e base (f w e q t refl))
+
+-- ---- after any commands
+-- "a page that cold boot accepted": with the record that it leaves, a reader of any edition gets the same answer again
+pub commands-reread : (g : Granules) (u : Params) (w : World) (cs : List Command) (r : ℕ) → AllHave (Up u) cs → Covers (u .kept) r (u .base) (w .page) →
+    readOf r (u .base) (worldAfter g w cs .page) ≡ readOf r (u .base) (w .page)
+commands-reread g u w cs r h c = kept-read (u .kept) (w .page) (worldAfter g w cs .page) (kept g u w cs h) r (u .base) c
+
+cold-up : (s : Record) (x0 x1 x2 x3 most n : ℕ) (page : List ℕ) → coldCode s x0 x1 x2 x3 most n page ≡ pos 0 → coldNext s x0 x1 x2 x3 most n page ≡ Up (paramsOf x1 x2 x3 n)
+unfolding coldNext after
+cold-up s x0 x1 x2 x3 most n page h = rw h
+
+pub cold-reread : (g : Granules) (s : Record) (x0 x1 x2 x3 most n : ℕ) (w : World) (cs : List Command) → coldCode s x0 x1 x2 x3 most n (w .page) ≡ pos 0 →
+    AllHave (coldNext s x0 x1 x2 x3 most n (w .page)) cs → (r : ℕ) → Covers n r x3 (w .page) → readOf r x3 (worldAfter g w cs .page) ≡ readOf r x3 (w .page)
+unfolding paramsOf
+cold-reread g s x0 x1 x2 x3 most n w cs e h r c =
+    commands-reread g (paramsOf x1 x2 x3 n) w cs r (subst (λ (b : Record). AllHave b cs) (cold-up s x0 x1 x2 x3 most n (w .page) e) h) c
+
+-- what a record that is up becomes by further boots is a record that those commands may have: as it was, or not up
+pub boots-keep : (u : Params) (bs : List Boot) → (allBooted (Up u) bs ≡ Up u) ⊎ (isUp (allBooted (Up u) bs) ≡ false)
+unfolding isUp
+boots-keep u bs = go (up-stays u bs)
+  where
+    go : (allBooted (Up u) bs ≡ Up u) ⊎ (allBooted (Up u) bs ≡ Closed) → (allBooted (Up u) bs ≡ Up u) ⊎ (isUp (allBooted (Up u) bs) ≡ false)
+    go (inl e) = inl e
+    go (inr e) = inr (ap isUp e)
+
+-- ---- the number that `kept_for` answers covers the manifest
+pub kept-for-covers : (r base : ℕ) (page : List ℕ) → Covers (keptFor (viewAt (minorOf (versionAt page)) (min r (minorOf (versionAt page))) base page)) r base page
+kept-for-covers r base page i y =
+    let w : ℕ = minorOf (versionAt page) in
+    let n : ℕ = keptFor (viewAt w (min r w) base page) in
+    go n (decLt i n) (λ h. false≢true (sym (kept-covers r base page i h) ∙ y))
+  where
+    go : (n : ℕ) → Dec (i < n) → (n ≤ i → ⊥) → i < n
+    go n (yes l) f = l
+    go n (no l) f = absurd (f (omega arith))
+
+-- of the view that `pbeam_read` writes, "the core and each array that its sections place within the page"
+pub view-covers : (r base : ℕ) (page : List ℕ) (w e : ℕ) (q : PlatShown) (t : ℕ → Shown) → readOf r base page ≡ shows w e q t →
+    Covers (keptFor (viewOf (answerWords base page (readOf r base page)))) r base page
+unfolding answerWords
+view-covers r base page w e q t h =
+    let p = shows-page r base page w e q t h in
+    rw (h, view-back (viewAt w e base page), p .edition, p .minor) (kept-for-covers r base page)
+
+-- ---- the same of any sequence of exports, from an image of 210 words and a page of bytes, with bytes lent to each
+module _ (granules : List ℕ) (m : Lent) (es : List Exported) (l : length (m .queue) ≡ 210) (v : Yes (areWords (m .queue))) (a : Yes (areBytes (m .page))) (b : Yes (each ofBytes (map commandOf es))) where
+  -- no kept byte of the lent page changes
+  pub exports-kept : (u : Params) → AllHave (Up u) (map commandOf es) → KeptTo (u .kept) (m .page) (allExported granules m es .page)
+  exports-kept u h = subst (λ (x : World). KeptTo (u .kept) (m .page) (x .page)) (sym (exports-chain granules m es l v a b)) (kept granules u (lentWorld m) (map commandOf es) h)
+
+  module _ (s : Record) (x0 x1 x2 x3 most n : ℕ) (e : coldCode s x0 x1 x2 x3 most n (m .page) ≡ pos 0) (h : AllHave (coldNext s x0 x1 x2 x3 most n (m .page)) (map commandOf es)) where
+    cold-kept : KeptTo n (m .page) (allExported granules m es .page)
+    unfolding paramsOf
+    cold-kept = exports-kept (paramsOf x1 x2 x3 n) (subst (λ (r : Record). AllHave r (map commandOf es)) (cold-up s x0 x1 x2 x3 most n (m .page) e) h)
+
+    -- A page that cold boot accepted with a number of kept bytes that covers what a reader's edition names: that reader's answer is the same
+    -- again, and so is the view.
+    pub exports-reread : (r : ℕ) → Covers n r x3 (m .page) →
+        (readOf r x3 (allExported granules m es .page) ≡ readOf r x3 (m .page))
+        × (answerWords x3 (allExported granules m es .page) (readOf r x3 (allExported granules m es .page)) ≡ answerWords x3 (m .page) (readOf r x3 (m .page)))
+    exports-reread r c = (kept-read n _ _ cold-kept r x3 c, view-read n _ _ cold-kept r x3 c)
+
+    -- `kept_for`: the number that it answers of the view that a reader of that edition shows is such a number
+    pub kept-for-reread : (r w t : ℕ) (q : PlatShown) (f : ℕ → Shown) → readOf r x3 (m .page) ≡ shows w t q f → n ≡ keptFor (viewOf (answerWords x3 (m .page) (readOf r x3 (m .page)))) →
+        (readOf r x3 (allExported granules m es .page) ≡ readOf r x3 (m .page))
+        × (answerWords x3 (allExported granules m es .page) (readOf r x3 (allExported granules m es .page)) ≡ answerWords x3 (m .page) (readOf r x3 (m .page)))
+    kept-for-reread r w t q f h k = exports-reread r (subst (λ (x : ℕ). Covers x r x3 (m .page)) (sym k) (view-covers r x3 (m .page) w t q f h))

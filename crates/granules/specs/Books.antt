@@ -1,0 +1,67 @@
+-- 02, E14: "The books on granules. Operators expect them to balance." Assumes nothing.
+use Prim.Native.Nat.{ℕ, _+_}
+use mathlib.Core.Path.{_≡_}
+use mathlib.Core.List.{List, [], _∷_, _++_}
+use lib.ListN.{length, getD}
+use Rattle.banks.specs.Banks.{Granules, granuleCount, granuleAt}
+use Rattle.banks.specs.declared.Granule.the-variants.{At}
+use Rattle.realm_words.specs.Answers.{realmCountOf, realms}
+use Rattle.realm_words.specs.declared.Number.{Number}
+use Rattle.granules.specs.Granules.{GranuleTable}
+use Rattle.granules.specs.Changes.{Change}
+use Rattle.granules.specs.declared.Direction.{Direction}
+use Rattle.granules.specs.declared.Direction.the-variants.{Delegate, Undelegate}
+
+-- ---- the numbers: "the number of Realm bytes" is `realms`, of all bytes of the table, also where the record has no granule
+-- "accepted delegations", "accepted undelegations"
+abbrev pub gains : Direction → ℕ
+gains Delegate = 1
+gains Undelegate = 0
+
+abbrev pub losses : Direction → ℕ
+losses Delegate = 0
+losses Undelegate = 1
+
+unfoldable pub delegations : List Change → ℕ
+delegations [] = 0
+delegations (c ∷ cs) = gains (c .way) + delegations cs
+
+unfoldable pub undelegations : List Change → ℕ
+undelegations [] = 0
+undelegations (c ∷ cs) = losses (c .way) + undelegations cs
+
+-- ---- the bytes
+-- the byte that an accepted call leaves: Realm or Non-secure
+abbrev pub leaves : Direction → ℕ
+leaves Delegate = 1
+leaves Undelegate = 0
+
+-- a call "naming it": its address falls on granule i of a table of n
+abbrev pub Names : Granules → ℕ → ℕ → Change → Type 0
+Names g n i c = granuleAt g n (c .address) ≡ At i
+
+-- every one of them names another granule, or none
+pub data NoneNames (g : Granules) (n i : ℕ) : List Change → Type 0 where
+  nil : NoneNames g n i []
+  cons : (c : Change) (cs : List Change) → (Names g n i c → ⊥) → NoneNames g n i cs → NoneNames g n i (c ∷ cs)
+
+-- ---- the books: from a table, by accepted calls in their order, to the table then
+pub record Books (g : Granules) (t : GranuleTable) (cs : List Change) (after : GranuleTable) : Type 0 where
+  -- "the number of Realm bytes at the end is that at the start, plus accepted delegations, less accepted undelegations"
+  pub balance : realms (t .bytes) + delegations cs ≡ undelegations cs + realms (after .bytes)
+  -- no granule comes or goes
+  pub whole : length (after .bytes) ≡ length (t .bytes)
+  -- "Each granule's byte is the one the last accepted call naming it left,"
+  pub last : (i : ℕ) (before : List Change) (c : Change) (behind : List Change) → cs ≡ before ++ c ∷ behind → Names g (length (t .bytes)) i c → NoneNames g (length (t .bytes)) i behind → getD (after .bytes) i 0 ≡ leaves (c .way)
+  -- "or the starting byte if none did."
+  pub none : (i : ℕ) → NoneNames g (length (t .bytes)) i cs → getD (after .bytes) i 0 ≡ getD (t .bytes) i 0
+  -- a byte of the table that no address names stays
+  pub unnamed : (i : ℕ) → ((a : ℕ) → granuleAt g (length (t .bytes)) a ≡ At i → ⊥) → getD (after .bytes) i 0 ≡ getD (t .bytes) i 0
+
+-- the same of the number that the words answer (02, E6): some numbers at the start and at the end, not INVAL, which balance
+pub record CountBooks (g : Granules) (t : GranuleTable) (cs : List Change) (after : GranuleTable) : Type 0 where
+  pub first : ℕ
+  pub final : ℕ
+  pub at-start : realmCountOf (t .words) (granuleCount g) ≡ Number.Is first
+  pub at-end : realmCountOf (after .words) (granuleCount g) ≡ Number.Is final
+  pub balance : first + delegations cs ≡ undelegations cs + final

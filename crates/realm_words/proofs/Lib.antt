@@ -1,0 +1,7 @@
+pub mod Agreeing
+pub mod Bits
+pub mod Counting
+pub mod Laws
+pub mod Looking
+pub mod Packing
+pub mod Trailing

@@ -1,0 +1,73 @@
+-- What is answered from the words, of n granules. Assumes nothing.
+use Prim.Native.Nat.{ℕ, zero, suc, _+_, _-_}
+use mathlib.Core.Bool.{Bool, true, false, cond}
+use mathlib.Core.List.{List, [], _∷_}
+use lib.ListN.{length, getD}
+use lib.Dec.{ltb, eqb}
+use Rattle.words.specs.Tests.{both}
+use Rattle.realm_words.specs.Bits.{bitAt, realmBit, wordsFor, realmWords}
+use Rattle.realm_words.specs.declared.Number.{Number}
+use Rattle.realm_words.specs.declared.Hit.{Hit}
+use Rattle.realm_words.specs.declared.Agreement.{Agreement}
+
+-- ---- the refusals
+-- 02, E6: "INVAL, before all other checks of any call on words, .. if their number is not the record's granules over 64, rounded up"
+abbrev pub wordsFit : List ℕ → ℕ → Bool
+wordsFit ws n = eqb (length ws) (wordsFor n)
+
+-- "then INVAL for .. a table of another length in agreement or build"
+abbrev pub bothFit : List ℕ → List ℕ → ℕ → Bool
+bothFit t ws n = both (wordsFit ws n) (eqb (length t) n)
+
+-- ---- "The number of Realm granules, and the first one at or after an index, are answered from the words alone"
+-- how many of the numbers below n are marked with 1 by f, which marks the others with 0
+unfoldable pub marked : (ℕ → ℕ) → ℕ → ℕ
+marked f zero = 0
+marked f (suc n) = marked f n + f n
+
+-- the first marked one of k numbers from i on. "No hit is a named answer."
+unfoldable pub firstMarked : (ℕ → ℕ) → ℕ → ℕ → Hit
+firstMarked f zero i = Hit.Nothing
+firstMarked f (suc k) i = cond (eqb (f i) 1) (Hit.At i) (firstMarked f k (suc i))
+
+-- "Set spare bits are not counted or hit.": only the bits of the n granules are asked for
+unfoldable pub realmCountOf : List ℕ → ℕ → Number
+realmCountOf ws n = cond (wordsFit ws n) (Number.Is (marked (bitAt ws) n)) Number.Inval
+
+-- "then INVAL for an index not below the granules"
+unfoldable pub realmNextOf : List ℕ → ℕ → ℕ → Hit
+realmNextOf ws n i = cond (both (wordsFit ws n) (ltb i n)) (firstMarked (bitAt ws) (n - i) i) Hit.Inval
+
+-- ---- "agreement, spare bits zero too, can be asked for, and a build call sets it up"
+unfoldable pub sameWords : List ℕ → List ℕ → Bool
+sameWords [] [] = true
+sameWords [] (y ∷ ys) = false
+sameWords (x ∷ xs) [] = false
+sameWords (x ∷ xs) (y ∷ ys) = both (eqb x y) (sameWords xs ys)
+
+unfoldable pub realmAgreeOf : List ℕ → List ℕ → ℕ → Agreement
+realmAgreeOf t ws n = cond (bothFit t ws n) (cond (sameWords ws (realmWords t)) Agreement.Yes Agreement.No) Agreement.Inval
+
+-- whether the words were built, and the words at exit
+pub record Built : Type 0 where
+  pub done : Bool
+  pub words : List ℕ
+
+unfoldable pub realmBuildOf : List ℕ → List ℕ → ℕ → Built
+realmBuildOf t ws n = cond (bothFit t ws n) (record { done = true; words = realmWords t }) (record { done = false; words = ws })
+
+-- ---- "the full walk" over the table
+-- a granule is marked where its byte is Realm
+abbrev pub realmAt : List ℕ → ℕ → ℕ
+realmAt t i = realmBit (getD t i 0)
+
+unfoldable pub realms : List ℕ → ℕ
+realms [] = 0
+realms (b ∷ t) = realmBit b + realms t
+
+abbrev pub nextRealm : List ℕ → ℕ → Hit
+nextRealm t i = firstMarked (realmAt t) (length t - i) i
+
+-- ---- as the loops go: a hit, if it is below n
+unfoldable pub hitBelow : ℕ → ℕ → Hit
+hitBelow n i = cond (ltb i n) (Hit.At i) Hit.Nothing

@@ -1,0 +1,237 @@
+// Words beside the granule table: granule i is bit i mod 64 of word i / 64, set where the table's byte is Realm; spare bits are zero.
+ghost use mathlib.Core.Path.{_≡_};
+ghost use Prim.Native.Nat.{_-_, _%_, _^_, _<_, _≤_};
+ghost use lib.ListN.{length, take, drop};
+ghost use lib.Count.{ones, trailingZeros};
+ghost use Rattle.realm_words.specs.Bits.{realmBit, packed, wordsFor, withBit, putBit};
+ghost use Rattle.realm_words.specs.Answers.{wordsFit, bothFit, realmCountOf, hitBelow, realmNextOf, realmAgreeOf, Built, realmBuildOf};
+
+// How many Realm granules there are.
+pub enum Number {
+    Inval,
+    Is(u64),
+}
+
+// The first Realm granule at or after an index.
+pub enum Hit {
+    Inval,
+    Nothing,
+    At(usize),
+}
+
+// Whether words and table agree.
+pub enum Agreement {
+    Inval,
+    No,
+    Yes,
+}
+
+// How many words so many granules have. Of the sum with 63 it might wrap.
+fn words_for(granules: usize) -> usize
+    ensures { λ r. ⌜ r ≡ wordsFor granules ⌝ }
+{
+    if granules % 64 == 0 {
+        return granules / 64;
+    }
+    granules / 64 + 1
+}
+
+// Whether the words are as many as so many granules have: the first check of every call on words.
+pub fn words_fit(words: &[u64], granules: usize) -> bool
+    ensures { λ r. ⌜ r ≡ wordsFit (now (words .entry)) granules ⌝ }
+{
+    if words.len() != words_for(granules) {
+        return false;
+    }
+    true
+}
+
+// ---- one word ----
+
+// The set bits of a word.
+fn ones_in(w: u64) -> u64
+    ensures { λ r. ⌜ (r ≡ ones w) × (r ≤ 64) ⌝ }
+{
+    u64::count_ones(w) as u64
+}
+
+// The lowest set bit of a word; 64 if none is set.
+fn first_bit(w: u64) -> usize
+    ensures { λ r. ⌜ (r ≡ trailingZeros 64 w) × (0 < w → r < 64) ⌝ }
+{
+    u64::trailing_zeros(w) as usize
+}
+
+// The bits of a word below bit k.
+fn low_bits(w: u64, k: usize) -> u64
+    requires { ⌜ k < 64 ⌝ }
+    ensures { λ r. ⌜ r ≡ w % 2 ^ k ⌝ }
+{
+    w & ((1u64 << k) - 1)
+}
+
+// The word with the bits below bit k masked out.
+fn high_bits(w: u64, k: usize) -> u64
+    requires { ⌜ k < 64 ⌝ }
+    ensures { λ r. ⌜ r ≡ w - w % 2 ^ k ⌝ }
+{
+    w - low_bits(w, k)
+}
+
+// The word with bit k written as a byte of the table has it, whatever the bit was.
+fn with_bit(w: u64, k: usize, byte: u8) -> u64
+    requires { ⌜ k < 64 ⌝ }
+    ensures { λ r. ⌜ r ≡ withBit w k (realmBit byte) ⌝ }
+{
+    let unit = 1u64 << k;
+    if byte == 1 {
+        return w | unit;
+    }
+    w - (w & unit)
+}
+
+// ---- a granule's bit ----
+
+// Writes a granule's bit as its byte has it; every other bit stays.
+pub fn put_bit(words: &mut [u64], index: usize, byte: u8)
+    ensures { λ _. ⌜ now (words .exit) ≡ putBit (now (words .entry)) index (realmBit byte) ⌝ }
+{
+    let at = index / 64;
+    if words.len() <= at {
+        return;
+    }
+    let word = words[at];
+    words[at] = with_bit(word, index % 64, byte);
+}
+
+// ---- answers from the words alone ----
+
+// How many Realm granules there are. Spare bits are not counted.
+pub fn count(words: &[u64], granules: usize) -> Number
+    ensures { λ r. ⌜ r ≡ realmCountOf (now (words .entry)) granules ⌝ }
+{
+    if !words_fit(words, granules) {
+        return Number::Inval;
+    }
+    let whole = granules / 64;
+    let mut sum: u64 = 0;
+    for at in 0..whole {
+        sum += ones_in(words[at]);
+    }
+    let rest = granules % 64;
+    if rest == 0 {
+        return Number::Is(sum);
+    }
+    Number::Is(sum + ones_in(low_bits(words[whole], rest)))
+}
+
+// The hit at an index, unless that is past the granules: a spare bit.
+fn hit_below(granules: usize, index: usize) -> Hit
+    ensures { λ r. ⌜ r ≡ hitBelow granules index ⌝ }
+{
+    if index < granules {
+        return Hit::At(index);
+    }
+    Hit::Nothing
+}
+
+// The first Realm granule at or after an index, up to the first word with a set bit there. Spare bits are not hit.
+pub fn next(words: &[u64], granules: usize, index: usize) -> Hit
+    ensures { λ r. ⌜ r ≡ realmNextOf (now (words .entry)) granules index ⌝ }
+{
+    if !words_fit(words, granules) {
+        return Hit::Inval;
+    }
+    if granules <= index {
+        return Hit::Inval;
+    }
+    let mut at = index / 64;
+    let mut bits = high_bits(words[at], index % 64);
+    while bits == 0 {
+        at += 1;
+        if words.len() <= at {
+            return Hit::Nothing;
+        }
+        bits = words[at];
+    }
+    hit_below(granules, at * 64 + first_bit(bits))
+}
+
+// ---- words and table ----
+
+// The bit of a byte of the table: 1 where it is Realm.
+fn realm_bit(byte: u8) -> u64
+    ensures { λ r. ⌜ (r ≡ realmBit byte) × (r ≤ 1) ⌝ }
+{
+    if byte == 1 {
+        return 1;
+    }
+    0
+}
+
+// The bits of at most 64 bytes as one number, the first byte's lowest.
+fn packed_of(block: &[u8]) -> u64
+    requires { ⌜ length (now block) ≤ 64 ⌝ }
+    ensures { λ r. ⌜ r ≡ packed (now (block .entry)) ⌝ }
+{
+    let mut bits: u64 = 0;
+    let mut i = block.len();
+    while 0 < i {
+        i -= 1;
+        bits = realm_bit(block[i]) + 2 * bits;
+    }
+    bits
+}
+
+// The word of the granules from an index on.
+fn word_from(table: &[u8], index: usize) -> u64
+    requires { ⌜ index ≤ length (now table) ⌝ }
+    ensures { λ r. ⌜ r ≡ packed (take 64 (drop index (now (table .entry)))) ⌝ }
+{
+    if table.len() - index < 64 {
+        return packed_of(&table[index..]);
+    }
+    let end = index + 64;
+    packed_of(&table[index..end])
+}
+
+// Whether words and table have the lengths that so many granules ask for.
+fn both_fit(table: &[u8], words: &[u64], granules: usize) -> bool
+    ensures { λ r. ⌜ r ≡ bothFit (now (table .entry)) (now (words .entry)) granules ⌝ }
+{
+    if !words_fit(words, granules) {
+        return false;
+    }
+    if table.len() != granules {
+        return false;
+    }
+    true
+}
+
+// Whether words and table agree, spare bits too.
+pub fn agrees(table: &[u8], words: &[u64], granules: usize) -> Agreement
+    ensures { λ r. ⌜ r ≡ realmAgreeOf (now (table .entry)) (now (words .entry)) granules ⌝ }
+{
+    if !both_fit(table, words, granules) {
+        return Agreement::Inval;
+    }
+    for i in 0..words.len() {
+        if words[i] != word_from(table, i * 64) {
+            return Agreement::No;
+        }
+    }
+    Agreement::Yes
+}
+
+// Makes the words agree with the table. Answers whether it did: where it refuses, no word changes.
+pub fn build(table: &[u8], words: &mut [u64], granules: usize) -> bool
+    ensures { λ r. ⌜ _≡_ {A = Built} (record { done = r; words = now (words .exit) }) (realmBuildOf (now (table .entry)) (now (words .entry)) granules) ⌝ }
+{
+    if !both_fit(table, words, granules) {
+        return false;
+    }
+    for i in 0..words.len() {
+        words[i] = word_from(table, i * 64);
+    }
+    true
+}
