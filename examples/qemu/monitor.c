@@ -14,7 +14,7 @@
 
 #define CPUS_MOST 8 /* what the monitor is built for */
 
-#define KEPT 208            /* bytes of the manifest: core, two banks, a console, a region */
+#define KEPT 232            /* bytes of the manifest: core, two banks, a console, a region, name and serial */
 #define TOKEN_AT (KEPT + 1) /* offsets in the page */
 #define KEY_AT 0x903
 #define SIGN_AT 0xA05
@@ -159,7 +159,7 @@ _Noreturn void cold(uint64_t x0, uint64_t x1, uint64_t x2, uint64_t x3)
     pbeam_view_t view;
     int32_t code;
     (void)pbeam_manifest_read(lent, x3, PBEAM_EDITION_LAST, &view); /* the cold boot answers for a refused page */
-    code = pbeam_record_cold_boot(&record, &x, CPUS_MOST, pbeam_view_kept(&view), lent);
+    code = pbeam_record_cold_boot(&record, &x, CPUS_MOST, pbeam_view_kept(lent, &view), lent);
     say("monitor: CPU %d at level %d%s, cold boot: %s\n", x0, level(), has_rme() ? " of the Realm world" : "", pbeam_boot_text(code));
     if (code == E_RMM_BOOT_SUCCESS) {
         say("monitor: %d CPUs, page at 0x%x, agreed minor %d, %d bytes kept\n", pbeam_record_cpus(&record), pbeam_record_base(&record),
