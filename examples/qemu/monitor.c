@@ -72,15 +72,18 @@ static void list_manifest(void)
     const pbeam_console_t console = pbeam_view_console(page, &view, 0);
     const pbeam_bytes_t board = pbeam_view_board_name(page, &view), serial = pbeam_view_serial(page, &view);
     char name[9], of_board[PBEAM_NAME_MOST + 1];
+    uint64_t number = 0;
     pbeam_console_text(&console, name);
     for (size_t i = 0; i < board.length; i++)
         of_board[i] = (char)board.at[i];
     of_board[board.length] = '\0';
+    for (size_t i = 0; i < serial.length; i++) /* as it is read, the first byte first */
+        number = number << 8 | serial.at[i];
     say("monitor: manifest 0.%d: %s\n", pbeam_view_minor(&view), pbeam_read_text(code));
     say("monitor: banks 0x%x + 0x%x, 0x%x + 0x%x\n", bank.base, bank.size, high.base, high.size);
     say("monitor: device region 0x%x + 0x%x\n", region.base, region.size);
     say("monitor: console %s at 0x%x, %d baud\n", name, console.base, console.baud_rate);
-    say("monitor: board %s, serial 0x%x\n", of_board, serial.length == PBEAM_SERIAL_BYTES ? pbeam_get64(serial.at) : 0);
+    say("monitor: board %s, serial 0x%x\n", of_board, number);
     expect("manifest", (uint64_t)(int64_t)code, PBEAM_READ_ACCEPTED);
     expect("bank", bank.base, MEMORY);
     expect("second bank", high.base, HIGH);
