@@ -262,7 +262,7 @@ fn of_fields(count: usize, length: u16) -> Vec<u8> {
 }
 
 /// A walk over all fields by the two steps of one side.
-fn walked(start: usize, next: impl Fn(usize, &mut FieldImage) -> usize) -> u64 {
+fn all_fields(start: usize, next: impl Fn(usize, &mut FieldImage) -> usize) -> u64 {
     let (mut field, mut cursor, mut sum) = ([0; 4], start, 0);
     loop {
         cursor = next(cursor, &mut field);
@@ -331,14 +331,14 @@ fn compare_fields(name: &str, edition: u64, lists: Lists, fields: &[u8]) {
         1,
         side(|| {
             let start = Kit::field_start(page, &view);
-            ours = walked(start, |cursor, field| Kit::field_next(page, cursor, field));
+            ours = all_fields(start, |cursor, field| Kit::field_next(page, cursor, field));
             see(ours);
         }),
         vec![(
             "by hand",
             side(|| {
                 let start = fast::field_start(page, &view);
-                theirs = walked(start, |cursor, field| fast::field_next(page, cursor, field));
+                theirs = all_fields(start, |cursor, field| fast::field_next(page, cursor, field));
                 see(theirs);
             }),
         )],
