@@ -227,7 +227,7 @@ fn compare_manifests() {
         compare_reading(name, base, edition, lists, &[]);
         compare_writing(&format!("write {name}"), base, edition, lists, &[], 0);
     }
-    // 02, E7: 4,000 bytes of fields, and fewer: the cost grows with the bytes.
+    // 02, E7: the cost grows with the bytes; a field in one piece, and fields of a byte each.
     let (small, none): (Lists, Lists) = ([&fvp, &uart, &[], &[]], [&[]; 4]);
     for (name, edition, lists, fields) in [
         ("name and serial", 3, small, board()),
@@ -238,8 +238,12 @@ fn compare_manifests() {
         ("4,000 bytes in a field", 1, none, of_fields(1, 3997)),
     ] {
         compare_reading(name, BASE, edition, lists, &fields);
-        compare_writing(&format!("write {name}"), BASE, edition, lists, &fields, 0);
-        compare_fields(name, edition, lists, &fields);
+        if !name.starts_with(['1', '2']) {
+            compare_writing(&format!("write {name}"), BASE, edition, lists, &fields, 0);
+        }
+        if ["name and serial", "4,000 bytes of fields"].contains(&name) {
+            compare_fields(name, edition, lists, &fields);
+        }
     }
     let (mut unsound, many) = (banks.clone(), BANK.repeat(250));
     unsound[497] = 1;
