@@ -454,7 +454,7 @@ uint64_t pbeam_word(const uint8_t *page, size_t page_len, const uint64_t view[PB
  * Answers  the number of fields; 0 where plat_data is 0, where an end mark stands alone and, by a view that no reading made, where the
  *          fields are broken or not in the lent page.
  * Leaves   page and view as they were.
- * Stack    256 bytes; AArch64 256
+ * Stack    32 bytes; AArch64 0
  */
 PBEAM_NONNULL(3)
 size_t pbeam_field_count(const uint8_t *page, size_t page_len, const uint64_t view[PBEAM_VIEW_WORDS]);
@@ -465,7 +465,7 @@ size_t pbeam_field_count(const uint8_t *page, size_t page_len, const uint64_t vi
  * Answers  nothing. field: 1, the tag, and offset and length of the value in the page; all zero where there is no such field. An empty
  *          value has an offset too.
  * Leaves   page and view as they were.
- * Stack    256 bytes; AArch64 256
+ * Stack    64 bytes; AArch64 0
  * Each call starts at the first field: to pass all of them, walk with pbeam_field_start and pbeam_field_next.
  */
 PBEAM_NONNULL(3, 5)
@@ -477,7 +477,7 @@ void pbeam_field(const uint8_t *page, size_t page_len, const uint64_t view[PBEAM
  * Takes    page and view as pbeam_field_count; the tag. PBEAM_TAG_END is no field's.
  * Answers  nothing. field: as pbeam_field.
  * Leaves   page and view as they were.
- * Stack    256 bytes; AArch64 256
+ * Stack    64 bytes; AArch64 0
  */
 PBEAM_NONNULL(3, 5)
 void pbeam_field_of_tag(const uint8_t *page, size_t page_len, const uint64_t view[PBEAM_VIEW_WORDS], uint8_t tag,
@@ -488,7 +488,7 @@ void pbeam_field_of_tag(const uint8_t *page, size_t page_len, const uint64_t vie
  * Takes    page and view as pbeam_field_count.
  * Answers  the cursor; page_len where pbeam_field_count answers 0 and there is no end mark to stand at.
  * Leaves   page and view as they were.
- * Stack    256 bytes; AArch64 256
+ * Stack    32 bytes; AArch64 0
  */
 PBEAM_NONNULL(3)
 size_t pbeam_field_start(const uint8_t *page, size_t page_len, const uint64_t view[PBEAM_VIEW_WORDS]);
@@ -498,7 +498,7 @@ size_t pbeam_field_start(const uint8_t *page, size_t page_len, const uint64_t vi
  * Takes    the page, and a cursor that pbeam_field_start or this function answered for it.
  * Answers  the cursor behind the field; page_len behind the last. field: as pbeam_field; all zero behind the last.
  * Leaves   the page as it was.
- * Stack    256 bytes; AArch64 256
+ * Stack    32 bytes; AArch64 0
  * A walk over all fields passes the page once. Any other cursor is taken as the offset of a field: none is found outside the page.
  */
 PBEAM_NONNULL(4)
@@ -513,7 +513,7 @@ size_t pbeam_field_next(const uint8_t *page, size_t page_len, size_t cursor, uin
  *          4 as 4, entries that do not lie within 4,096 bytes do not count, and broken fields count to the page's end; so it is never
  *          above 4,096.
  * Leaves   page and view as they were.
- * Stack    96 bytes; AArch64 0
+ * Stack    128 bytes; AArch64 32
  * With so many kept bytes pbeam_read gives the same answer and the same view after any commands, as the edition that the view was read as
  * (proved).
  */
@@ -552,7 +552,7 @@ size_t pbeam_listing(const uint8_t *page, size_t page_len, uint64_t base, uint64
  * Leaves   the whole page written: version, the sections, the arrays at once after the core in section order, then the fields with their
  *          end mark and plat_data at them, or plat_data 0 without fields; zero everywhere else; an empty list gives 24 zero bytes.
  *          Refused, the page stays as it was. Lists and fields stay as they were.
- * Stack    288 bytes; AArch64 208
+ * Stack    448 bytes; AArch64 576
  */
 uint32_t pbeam_write(uint64_t base, uint64_t edition, const uint64_t *dram, size_t dram_len, const uint64_t *console,
                      size_t console_len, const uint64_t *ncoh, size_t ncoh_len, const uint64_t *coh, size_t coh_len,

@@ -431,10 +431,10 @@ static inline uint64_t pbeam_view_plat_data(const pbeam_view_t *view)
 }
 
 /* pbeam_kept_for: how many bytes at the page's start the manifest takes, of a view that was read as PBEAM_EDITION_LAST. */
-PBEAM_NONNULL(1)
-static inline uint64_t pbeam_view_kept(const pbeam_view_t *view)
+PBEAM_NONNULL(1, 2)
+static inline uint64_t pbeam_view_kept(const pbeam_page_t *page, const pbeam_view_t *view)
 {
-    return pbeam_kept_for(view->words);
+    return pbeam_kept_for(page->bytes, sizeof page->bytes, view->words);
 }
 
 /* PBEAM_VIEW_ABSENT, PBEAM_VIEW_EMPTY or PBEAM_VIEW_ENTRIES; a section's number above 3 is absent. */

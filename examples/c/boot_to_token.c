@@ -1,8 +1,8 @@
 /*
  * From boot to a signed token: EL3 firmware on one side, the monitor (RMM) on the other, the page between them.
  *
- *   1  EL3 writes a manifest with two banks, a console, and the board's name and serial, and sets up its granule record from what the manifest shows: the table has a byte
- *      for each granule of the two. From the table it builds the Realm words, a bit for each granule.
+ *   1  EL3 writes a manifest with two banks, a console, and the board's name and serial, and sets up its granule record from what the
+ *      manifest shows: the table has a byte for each granule of the two. From the table it builds the Realm words, a bit for each granule.
  *   2  EL3 enters the monitor: cold boot on CPU 0, with so many kept bytes that no command overwrites the manifest. The monitor lists what
  *      the manifest shows, and reports with RMM_BOOT_COMPLETE.
  *   3  Warm boot on CPU 1: the monitor reads the manifest again.
@@ -267,7 +267,7 @@ static bool el3_boot_first_cpu(void)
     pbeam_view_t view;
     int32_t code;
     (void)pbeam_manifest_read(&page, BASE, PBEAM_EDITION_LAST, &view); /* a refused page is refused again by the cold boot */
-    code = pbeam_record_cold_boot(&el3.context.record, &x, CPUS, pbeam_view_kept(&view), &page);
+    code = pbeam_record_cold_boot(&el3.context.record, &x, CPUS, pbeam_view_kept(&page, &view), &page);
     if (code == E_RMM_BOOT_SUCCESS)
         monitor_cold_boot(&x);
     else
@@ -358,7 +358,7 @@ static void monitor_cold_boot(const pbeam_cold_t *x)
 {
     int32_t code;
     (void)pbeam_manifest_read(&page, x->base, PBEAM_EDITION_LAST, &monitor.view); /* the cold boot answers for a refused page */
-    code = pbeam_record_cold_boot(&monitor.record, x, CPUS_MOST, pbeam_view_kept(&monitor.view), &page);
+    code = pbeam_record_cold_boot(&monitor.record, x, CPUS_MOST, pbeam_view_kept(&page, &monitor.view), &page);
     printf("monitor: cold boot of CPU %" PRIu64 ": %s\n", x->cpu, pbeam_boot_text(code));
     if (code == E_RMM_BOOT_SUCCESS) {
         printf("monitor: %" PRIu64 " CPUs, page at 0x%" PRIx64 ", agreed minor %" PRIu64 ", %" PRIu64 " bytes kept\n",

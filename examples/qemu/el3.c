@@ -153,7 +153,7 @@ static struct context *cold_boot(void)
     pbeam_view_t view;
     int32_t code;
     (void)pbeam_manifest_read(el3.kit.page, PAGE, PBEAM_EDITION_LAST, &view); /* the cold boot answers for a refused page */
-    code = pbeam_record_cold_boot(&el3.kit.record, &x, CPUS, pbeam_view_kept(&view), el3.kit.page);
+    code = pbeam_record_cold_boot(&el3.kit.record, &x, CPUS, pbeam_view_kept(el3.kit.page, &view), el3.kit.page);
     say("EL3: cold boot of its own record: %s, %d bytes kept\n", pbeam_boot_text(code), pbeam_record_kept(&el3.kit.record));
     if (code != E_RMM_BOOT_SUCCESS)
         end(EXIT_NO_BOOT);

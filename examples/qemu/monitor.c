@@ -14,7 +14,7 @@
 
 #define CPUS_MOST 8 /* what the monitor is built for */
 
-#define KEPT 208            /* bytes of the manifest: core, two banks, a console, a region */
+#define KEPT 232            /* bytes of the manifest: core, two banks, a console, a region, name and serial */
 #define TOKEN_AT (KEPT + 1) /* offsets in the page */
 #define KEY_AT 0x903
 #define SIGN_AT 0xA05
@@ -72,15 +72,18 @@ static void list_manifest(void)
     const pbeam_console_t console = pbeam_view_console(page, &view, 0);
     const pbeam_bytes_t board = pbeam_view_board_name(page, &view), serial = pbeam_view_serial(page, &view);
     char name[9], of_board[PBEAM_NAME_MOST + 1];
+    uint64_t number = 0;
     pbeam_console_text(&console, name);
     for (size_t i = 0; i < board.length; i++)
         of_board[i] = (char)board.at[i];
     of_board[board.length] = '\0';
+    for (size_t i = 0; i < serial.length; i++) /* as it is read, the first byte first */
+        number = number << 8 | serial.at[i];
     say("monitor: manifest 0.%d: %s\n", pbeam_view_minor(&view), pbeam_read_text(code));
     say("monitor: banks 0x%x + 0x%x, 0x%x + 0x%x\n", bank.base, bank.size, high.base, high.size);
     say("monitor: device region 0x%x + 0x%x\n", region.base, region.size);
     say("monitor: console %s at 0x%x, %d baud\n", name, console.base, console.baud_rate);
-    say("monitor: board %s, serial 0x%x\n", of_board, serial.length == PBEAM_SERIAL_BYTES ? pbeam_get64(serial.at) : 0);
+    say("monitor: board %s, serial 0x%x\n", of_board, number);
     expect("manifest", (uint64_t)(int64_t)code, PBEAM_READ_ACCEPTED);
     expect("bank", bank.base, MEMORY);
     expect("second bank", high.base, HIGH);
@@ -159,7 +162,7 @@ _Noreturn void cold(uint64_t x0, uint64_t x1, uint64_t x2, uint64_t x3)
     pbeam_view_t view;
     int32_t code;
     (void)pbeam_manifest_read(lent, x3, PBEAM_EDITION_LAST, &view); /* the cold boot answers for a refused page */
-    code = pbeam_record_cold_boot(&record, &x, CPUS_MOST, pbeam_view_kept(&view), lent);
+    code = pbeam_record_cold_boot(&record, &x, CPUS_MOST, pbeam_view_kept(lent, &view), lent);
     say("monitor: CPU %d at level %d%s, cold boot: %s\n", x0, level(), has_rme() ? " of the Realm world" : "", pbeam_boot_text(code));
     if (code == E_RMM_BOOT_SUCCESS) {
         say("monitor: %d CPUs, page at 0x%x, agreed minor %d, %d bytes kept\n", pbeam_record_cpus(&record), pbeam_record_base(&record),

@@ -158,18 +158,26 @@ fn compare_reading(name: &str, base: u64, edition: u64, lists: Lists, fields: &[
     assert_eq!(view, theirs);
 }
 
-/// What the manifest of a view takes of the page.
+/// What the manifest of a view takes of the page, without and with fields.
 fn compare_kept_for() {
-    let (mut page, mut view) = (Page([0; PAGE]), [0; 15]);
-    write(BASE, 4, [&BANK, &CONSOLE, &BANK, &BANK], &mut page.0).expect("written");
-    assert_eq!(Kit::read(page.lent(), BASE, 4, &mut view), 0);
-    assert_eq!(Kit::kept_for(&view), fast::kept_for(&view));
-    compare(
-        "kept bytes of a view",
-        1,
-        side(|| see(Kit::kept_for(&view))),
-        vec![("by hand", side(|| see(fast::kept_for(&view))))],
-    );
+    for (name, fields) in [
+        ("kept bytes of a view", vec![]),
+        ("kept bytes, name and serial", board()),
+        ("kept bytes, 3,800 bytes of fields", of_fields(190, 17)),
+    ] {
+        let (mut page, mut view) = (Page([0; PAGE]), [0; 15]);
+        let lists: Lists = [&BANK, &CONSOLE, &BANK, &BANK];
+        write(BASE, 4, lists, &fields, &mut page.0).expect("written");
+        let page = &*page.lent();
+        assert_eq!(Kit::read(page, BASE, 4, &mut view), 0);
+        assert_eq!(Kit::kept_for(page, &view), fast::kept_for(page, &view));
+        compare(
+            name,
+            1,
+            side(|| see(Kit::kept_for(page, &view))),
+            vec![("by hand", side(|| see(fast::kept_for(page, &view))))],
+        );
+    }
 }
 
 /// A writing, and the answer that all sides give.

@@ -28,9 +28,13 @@ pub fn read(page: &[u8], base: u64, edition: u64, view: &mut ViewImage) -> i32 {
 
 /// `pbeam_kept_for`. A count or an offset that no page has is passed over, so that no sum wraps.
 #[inline(never)]
-pub fn kept_for(view: &ViewImage) -> u64 {
+pub fn kept_for(page: &[u8], view: &ViewImage) -> u64 {
     const CORE: [u64; 5] = [16, 16, 40, 64, 112];
     let mut end = CORE[view[1].min(4) as usize];
+    if view[2] != 0 {
+        let from = (view[2] % PAGE as u64) as usize;
+        end = end.max(fields_end(page, from).map_or(PAGE, |past| past.min(PAGE)) as u64);
+    }
     for (k, section) in view[3..].chunks_exact(3).enumerate() {
         let (kind, offset, count) = (section[0], section[1], section[2]);
         let size = if k == CONSOLE { 48 } else { 16 };

@@ -412,6 +412,16 @@ fn native<'a>(lent: &'a mut Lent) -> runtime::Lent<'a> {
     }
 }
 
+/// Where the fields end in a page, behind their mark; the page's end if they are broken, 0 without a pointer.
+fn fields_reach(page: &[u8], plat_data: u64) -> usize {
+    let start = (plat_data % PAGE as u64) as usize;
+    match (plat_data, fields_end(pointed(page, plat_data))) {
+        (0, _) => 0,
+        (_, Some(length)) => PAGE.min(start + length),
+        (_, None) => PAGE,
+    }
+}
+
 /// A field of the page. An empty value has a place too: behind its length.
 fn field_words(page: &[u8], field: &Field) -> FieldImage {
     let offset = field.value.as_ptr() as usize - page.as_ptr() as usize;

@@ -64,9 +64,11 @@ fn random_views() {
     let mut random = Random::new(33);
     for _ in 0..CALLS {
         let (reading, mut view) = (random.valid_page(), [0; 15]);
-        Model::read(&reading.page, reading.base, reading.edition, &mut view);
+        let page = &reading.page;
+        Model::read(page, reading.base, reading.edition, &mut view);
         for _ in 0..3 {
-            assert_eq!(fast::kept_for(&view), Model::kept_for(&view), "{view:x?}");
+            let kept = fast::kept_for(page, &view);
+            assert_eq!(kept, Model::kept_for(page, &view), "{view:x?}");
             random.forge_view(&mut view);
         }
     }

@@ -284,8 +284,8 @@ fn pages() -> Vec<(&'static str, Vec<u8>, i32)> {
         ),
         ("995 fields", page_with([&[]; 4], &fields(995)), 0),
         (
-            "a broken field",
-            spoilt(page_with([&[]; 4], &fields(995)), 115),
+            "995 fields, the last one broken",
+            spoilt(page_with([&[]; 4], &fields(995)), 4090),
             -7,
         ),
         ("page too short", vec![0; PAGE - 1], -5),
@@ -369,8 +369,8 @@ fn looking_up(header: &mut Header) {
         header.within(
             ("pbeam_kept_for", what),
             &(),
-            Model::kept_for(&view),
-            |()| Kit::kept_for(&view),
+            Model::kept_for(&page, &view),
+            |()| Kit::kept_for(&page, &view),
         );
         let word = if count == 0 { 0 } else { CONSOLE[4] };
         header.within(("pbeam_word", what), &(), word, |()| {
@@ -394,6 +394,10 @@ fn looking_up_fields(header: &mut Header) {
         });
         header.within(("pbeam_field_start", what), &(), start, |()| {
             Kit::field_start(&page, &view)
+        });
+        let kept = Model::kept_for(&page, &view);
+        header.within(("pbeam_kept_for", what), &(), kept, |()| {
+            Kit::kept_for(&page, &view)
         });
         header.within(("pbeam_field", what), &[0; 4], (), |field| {
             Kit::field(&page, &view, 994, field)

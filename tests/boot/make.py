@@ -208,6 +208,14 @@ def fields():
     page = full().words(8, B + PLACE[3])
     assert not broken(3, B, page.data)
     add([-7], "x1 = 3: fields in coh, edition 3 would accept", cold(page, x1=3))
+    for text, page in (
+            ("fields behind the arrays", full().facts(0x703, NAME, SERIAL)),
+            ("fields between the arrays", full().facts(0x281, NAME, SERIAL)),
+            ("0.1, fields alone", Page(1).facts(16, NAME, SERIAL)),
+            ("fields to the page's last byte", full().facts(4093 - len(NAME), NAME))):
+        n = kept_for(min(4, page.data[0]), B, page.data)
+        add([0, 0], f"{text}: K = {n:,}, what its manifest takes", cold(page, kept=n), warm(),
+            kept=(8, B, 4, n))
 
 
 # Three ways to break each check of cold boot and no other. Those of one index go together.

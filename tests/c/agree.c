@@ -757,29 +757,38 @@ static void check_versions_and_close(void)
 
 /* ---- Kept bytes ---- */
 
-/* The core's end, or that of the last array. A view that no reading made is no error, and is never more than a page. */
+/* The core's end, that of the last array, or that of the fields with their mark. A view that no reading made is no error, and is never
+ * more than a page. */
 static void check_kept_for(void)
 {
     uint64_t view[ROOM];
     make(1);
     pbeam_read(page, LEN, BASE, 4, view);
-    SAME(PBEAM_CORE_BYTES_1, pbeam_kept_for(view));
+    SAME(PBEAM_CORE_BYTES_1, pbeam_kept_for(page, LEN, view));
     make(2);
     pbeam_read(page, LEN, BASE, 4, view);
-    SAME(PBEAM_CORE_BYTES_2 + 32, pbeam_kept_for(view));
+    SAME(PBEAM_CORE_BYTES_2 + 32, pbeam_kept_for(page, LEN, view));
     make(4);
     pbeam_read(page, LEN, BASE, 4, view);
-    SAME(PBEAM_CORE_BYTES_4 + 192, pbeam_kept_for(view));
+    SAME(PBEAM_CORE_BYTES_4 + 192, pbeam_kept_for(page, LEN, view));
     pbeam_read(page, LEN, BASE, 3, view); /* what an older reader needs is all that it reads */
-    SAME(PBEAM_CORE_BYTES_4 + 80, pbeam_kept_for(view));
+    SAME(PBEAM_CORE_BYTES_4 + 80, pbeam_kept_for(page, LEN, view));
+    SAME(write_fact(9, 10), PBEAM_WRITE_PAGE);
+    pbeam_read(page, LEN, BASE, 4, view);
+    SAME(pbeam_kept_for(page, LEN, view), 32); /* 16 + 3 + 10 + 3 */
+    SAME(write_fact(9, 11), PBEAM_WRITE_PAGE);
+    SAME(pbeam_kept_for(page, LEN, view), 40);
+    SAME(pbeam_kept_for(page, 32, view), LEN); /* no end mark in what is lent */
     for (size_t i = 0; i < ROOM; i++)
         view[i] = UINT64_MAX;
-    SAME(PBEAM_CORE_BYTES_4, pbeam_kept_for(view));
+    SAME(pbeam_kept_for(page, LEN, view), LEN); /* B + 4,095: broken fields, all from the pointer on */
+    view[PBEAM_VIEW_PLAT_DATA] = 0;
+    SAME(PBEAM_CORE_BYTES_4, pbeam_kept_for(page, LEN, view));
     view[PBEAM_VIEW_SECTIONS + PBEAM_VIEW_SECTION_OFFSET] = 3;
     view[PBEAM_VIEW_SECTIONS + PBEAM_VIEW_SECTION_COUNT] = 255;
-    SAME(pbeam_kept_for(view), 4088); /* 3 + 16 * 255 is 4,083 */
+    SAME(pbeam_kept_for(page, LEN, view), 4088); /* 3 + 16 * 255 is 4,083 */
     memset(view, 0, sizeof view);
-    SAME(PBEAM_CORE_BYTES_1, pbeam_kept_for(view));
+    SAME(PBEAM_CORE_BYTES_1, pbeam_kept_for(page, LEN, view));
 }
 
 /* The code of each command with a buffer of 64 bytes at pa, and of the lookup. */
@@ -809,7 +818,7 @@ static void check_kept_bytes(void)
     memset(state, 0, sizeof state);
     guard(view);
     pbeam_read(page, LEN, BASE, 4, view);
-    kept = pbeam_kept_for(view);
+    kept = pbeam_kept_for(page, LEN, view);
     SAME(PBEAM_BOOT_DONE, pbeam_cold_boot(state, 0, 5, 3, BASE, 8, kept, page, LEN));
     SAME(PBEAM_BOOT_DONE, pbeam_warm_boot(state, 1, 0, 0, 0));
     SAME(PBEAM_BOOT_DONE, pbeam_warm_boot(state, 1, 0, 0, 0));

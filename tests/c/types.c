@@ -359,13 +359,13 @@ static void check_record(void)
     pbeam_record_reset(&record);
     SAME(pbeam_manifest_write(BASE, 4, &lists, &page), PBEAM_WRITE_PAGE);
     SAME(pbeam_manifest_read(&page, BASE, 4, &view), PBEAM_READ_ACCEPTED);
-    SAME(pbeam_view_kept(&view), pbeam_kept_for(view.words));
-    SAME(pbeam_record_cold_boot(&record, &x, 3, pbeam_view_kept(&view), &page), PBEAM_BOOT_DONE);
+    SAME(pbeam_view_kept(&page, &view), pbeam_kept_for(page.bytes, sizeof page.bytes, view.words));
+    SAME(pbeam_record_cold_boot(&record, &x, 3, pbeam_view_kept(&page, &view), &page), PBEAM_BOOT_DONE);
     SAME(pbeam_record_is_up(&record), true);
     SAME(pbeam_record_cpus(&record), 3);
     SAME(pbeam_record_base(&record), BASE);
     SAME(pbeam_record_minor(&record), 4);
-    SAME(pbeam_record_kept(&record), pbeam_kept_for(view.words));
+    SAME(pbeam_record_kept(&record), pbeam_view_kept(&page, &view));
     SAME(pbeam_record_warm_boot(&record, 1), PBEAM_BOOT_DONE);
     SAME(pbeam_record_is_up(&record), true);
     pbeam_record_close(&record);
@@ -442,7 +442,7 @@ static void set_up(void)
 {
     static uint8_t table[3];
     static uint64_t realm[1];
-    static const pbeam_lists_t banks = {two_banks, 2, NULL, 0, NULL, 0, NULL, 0};
+    static const pbeam_lists_t banks = {two_banks, 2, NULL, 0, NULL, 0, NULL, 0, {NULL, 0}};
     pbeam_view_t view;
     static const uint8_t realm_key[] = {0x11, 0x12, 0x13}, token[] = {0x21, 0x22, 0x23, 0x24}, public_key[] = {0x31, 0x32};
     const pbeam_cold_t x = {0, 5, 1, BASE};

@@ -139,8 +139,11 @@ def broken(r, b, page):
 
 def kept_for(e, b, page):
     """02, E5: how many bytes at the page's start a manifest takes that a reader accepts as
-    edition e: the highest end of its core and arrays, up to a multiple of 8."""
+    edition e: the highest end of its core, arrays and fields, up to a multiple of 8."""
     ends = [CORE[e]]
+    plat_data = number(page[8:16])
+    if plat_data:                   # 02, E7: through the end mark
+        ends.append(plat_data - b + fields_of(page[plat_data - b:])[1])
     for k in range(4):
         count, pointer, _ = head(page, k) if SINCE[k] <= e else (0, b, 0)
         ends.append(pointer - b + count * ENTRY[k] if count else 0)

@@ -27,7 +27,7 @@ sys.dont_write_bytecode = True
 sys.path[:0] = [str(HERE.parent), str(HERE.parent / "reader")]
 from banks import (MANY, TWO, addresses_of, fit, granule_at, granule_fails, meant, one, put_bit,
                    realm_words, record_of, stored, usual_words, words, words_line)
-from make import field_pages, full, kept_for, read
+from make import NAME, SERIAL, CHOICE, Page, field, field_pages, full, kept_for, read
 from vectors import write_all
 
 PAGE = 4096
@@ -1263,6 +1263,27 @@ def kept_pairs():
     signing_pairs("key", PUBLIC, "outside", "too long", "curve", "minor", "no key", "long key")
 
 
+def kept_manifest(text, b, page):
+    """Two cases: with the K of a page no command changes what is read; with 8 bytes less one does."""
+    page, before = bytes(page), read(4, b, page)
+    kept = kept_for(min(4, page[0]), b, page)
+    ask = page_of(PAGE - 80, request_bytes(request(1)), base=page)
+    steps = []
+    for pa in (b, b + 16, b + kept - 1, b + kept, b + kept + 8):
+        steps += [send_token(None, 48, 128, pa), send_token(None, 0, 128, pa),
+                  call(None, KEY, pa, 96, 0), challenge(None, 48, 64, pa),
+                  pull(None, 122, pa), public(None, 128, pa)]
+    steps += [push("", pa=b + PAGE - 80), sign(), pull("", 122, b + kept)]
+    case = add(f"{text}: K = {kept:,}", start(base=b, kept=kept, page=ask,
+                                              responses=responses(3)), *steps)
+    last = case.answers[-1].after.page
+    assert last[:kept] == ask[:kept] and last != ask, text
+    assert read(4, b, last) == before == read(4, b, ask), text
+    one_less = add(f"{text}: K = {kept - 8:,} does not cover it", start(
+        base=b, kept=kept - 8, page=ask), send_token("", 48, 128, b + kept - 8))
+    assert read(4, b, one_less.answers[-1].after.page)[0] == -7, text
+
+
 def kept_manifests():
     """A manifest in the kept bytes is read the same after all commands"""
     pages = [("a full page", B, full().data), ("a full page, 0.9", B, full(9).data),
@@ -1270,23 +1291,16 @@ def kept_manifests():
     pages += [(f"field page {stem}", b, page) for stem, b, page, _ in field_pages()
               if not isinstance(read(4, b, page)[0], int)]
     for text, b, page in pages:
-        page, before = bytes(page), read(4, b, page)
-        kept = kept_for(min(4, page[0]), b, page)
-        ask = page_of(PAGE - 80, request_bytes(request(1)), base=page)
-        steps = []
-        for pa in (b, b + 16, b + kept - 1, b + kept, b + kept + 8):
-            steps += [send_token(None, 48, 128, pa), send_token(None, 0, 128, pa),
-                      call(None, KEY, pa, 96, 0), challenge(None, 48, 64, pa),
-                      pull(None, 122, pa), public(None, 128, pa)]
-        steps += [push("", pa=b + PAGE - 80), sign(), pull("", 122, b + kept)]
-        case = add(f"{text}: K = {kept:,}", start(base=b, kept=kept, page=ask,
-                                                  responses=responses(3)), *steps)
-        last = case.answers[-1].after.page
-        assert last[:kept] == ask[:kept] and last != ask, text
-        assert read(4, b, last) == before == read(4, b, ask), text
-        one_less = add(f"{text}: K = {kept - 8:,} does not cover it", start(
-            base=b, kept=kept - 8, page=ask), send_token("", 48, 128, b + kept - 8))
-        assert read(4, b, one_less.answers[-1].after.page)[0] == -7, text
+        kept_manifest(text, b, page)
+
+
+def kept_fields():
+    """02, E7: fields in the kept bytes are read the same after all commands"""
+    for text, page in (
+            ("a full page, fields behind its arrays", full().facts(0x703, NAME, SERIAL, CHOICE)),
+            ("a full page, 0.9, fields between its arrays", full(9).facts(0x281, NAME, field(9))),
+            ("a 0.1 page of fields", Page(1).facts(16, SERIAL, *[field(4, b"ab")] * 9, NAME))):
+        kept_manifest(text, B, page.data)
 
 
 def random_kept():
@@ -1372,7 +1386,7 @@ def build_all():
     for group in (examples, buffers, challenge_sizes, tokens, whole_tokens, sessions, challenges,
                   signing_edges, pushes, pulls, signer, rounds, forged, identities, banks, pairs,
                   mixed, random_sequences, kept_bytes, kept_and_room, kept_pairs, kept_manifests,
-                  random_kept, shared_page, words_of_each_length, odd_words):
+                  random_kept, shared_page, words_of_each_length, odd_words, kept_fields):
         GROUPS.append((group.__doc__, []))
         group()
 

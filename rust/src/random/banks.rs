@@ -144,7 +144,7 @@ impl Random {
         }
         let (base, edition) = (self.base(), self.between(2, 4));
         let (mut page, words) = (vec![0; PAGE], banks.concat());
-        write(base, edition, [&words, &[], &[], &[]], &mut page).expect("written");
+        write(base, edition, [&words, &[], &[], &[]], &[], &mut page).expect("written");
         let reading = Reading {
             base,
             edition,

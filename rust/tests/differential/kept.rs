@@ -18,11 +18,13 @@ const BASE: u64 = 0x8000_0000;
 const BANK: [u64; 2] = [0x9000_0000, 0x1000_0000];
 const CONSOLE: [u64; 6] = [0x1c0c_0000, 1, 0x7061_7274, 24_000_000, 115_200, 0];
 
-/// What readers of editions 1 to 4 say of a page.
-fn shown(page: &[u8], base: u64) -> [(i32, ViewImage); 4] {
+/// What readers of editions 1 to 4 say of a page: code, view, and the listing, which has the fields too.
+fn shown(page: &[u8], base: u64) -> [(i32, ViewImage, Vec<u8>); 4] {
     [1, 2, 3, 4].map(|edition| {
-        let mut view = [0; 15];
-        (Kit::read(page, base, edition, &mut view), view)
+        let (mut view, mut text) = ([0; 15], vec![0; 12336]);
+        let length = Kit::listing(page, base, edition, &mut text);
+        text.truncate(length);
+        (Kit::read(page, base, edition, &mut view), view, text)
     })
 }
 
@@ -89,9 +91,10 @@ fn manifest_is_read_the_same_after_commands() {
         sign,
         challenge,
     ];
-    let mut written = 0;
+    let [mut written, mut with_fields] = [0; 2];
     while pair.calls("pbeam_call") < calls() {
         let (base, page) = accepted_page(&mut pair);
+        let fields = Kit::field_count(&page, &pair.kit.images.view.words);
         let kept = kept_for(&mut pair);
         boot(&mut pair, base, kept);
         let mut scene = scene_on(&mut pair, &page);
@@ -102,32 +105,40 @@ fn manifest_is_read_the_same_after_commands() {
         let kept = kept as usize;
         assert_eq!(scene.page[..kept], page[..kept]);
         assert_eq!(shown(&scene.page, base), shown(&page, base));
-        written += u64::from(scene.page != page);
+        if scene.page != page {
+            written += 1;
+            with_fields += u64::from(fields != 0);
+        }
     }
     assert!(
-        written > calls() / 100,
-        "only {written} pages were written into"
+        written > calls() / 100 && with_fields > calls() / 500,
+        "only {written} pages were written into, {with_fields} with fields"
     );
 }
 
-/// Numbers counted by hand: the core's end, or the end of the last array.
+/// Numbers counted by hand: the core's end, the end of the last array, or that of the fields with their mark.
 #[test]
 fn what_a_manifest_takes() {
     let (banks, consoles) = (BANK.repeat(249), CONSOLE.repeat(83));
-    let pages: [(u64, [&[u64]; 4], u64); 8] = [
-        (1, [&[], &[], &[], &[]], 16),
-        (2, [&[], &[], &[], &[]], 40),
-        (4, [&[], &[], &[], &[]], 112),
-        (2, [&BANK, &[], &[], &[]], 56),
-        (3, [&BANK, &CONSOLE, &[], &[]], 128),
-        (4, [&BANK, &CONSOLE, &BANK, &BANK], 208),
-        (4, [&banks, &[], &[], &[]], 4096),
-        (4, [&[], &consoles, &[], &[]], 4096),
+    let to_the_end = [&[7, 0x8a, 0x0f][..], &[9; 0xf8a]].concat();
+    let pages: [(u64, [&[u64]; 4], &[u8], u64); 12] = [
+        (1, [&[], &[], &[], &[]], &[], 16),
+        (2, [&[], &[], &[], &[]], &[], 40),
+        (4, [&[], &[], &[], &[]], &[], 112),
+        (2, [&BANK, &[], &[], &[]], &[], 56),
+        (3, [&BANK, &CONSOLE, &[], &[]], &[], 128),
+        (4, [&BANK, &CONSOLE, &BANK, &BANK], &[], 208),
+        (4, [&banks, &[], &[], &[]], &[], 4096),
+        (4, [&[], &consoles, &[], &[]], &[], 4096),
+        (1, [&[], &[], &[], &[]], &[9, 0, 0], 24),
+        (2, [&BANK, &[], &[], &[]], &[1, 2, 0, 80, 98], 64),
+        (2, [&BANK, &[], &[], &[]], &[1, 3, 0, 80, 98, 49], 72),
+        (4, [&[], &[], &[], &[]], &to_the_end, 4096),
     ];
-    for (edition, lists, expected) in pages {
+    for (edition, lists, fields, expected) in pages {
         let (mut page, mut view) = ([0; 4096], [0; 15]);
-        assert_eq!(Kit::write(BASE, edition, lists, &mut page), 0);
+        assert_eq!(Kit::write(BASE, edition, lists, fields, &mut page), 0);
         assert_eq!(Kit::read(&page, BASE, 4, &mut view), 0);
-        assert_eq!(Kit::kept_for(&view), expected);
+        assert_eq!(Kit::kept_for(&page, &view), expected);
     }
 }

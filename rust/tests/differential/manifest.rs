@@ -95,7 +95,7 @@ fn listing(pair: &mut Pair, reading: &Reading) {
 /// What the view's manifest takes of the page. The answer noted is whether that is all of it.
 pub fn kept_for(pair: &mut Pair) -> u64 {
     check!(pair, "pbeam_kept_for", (), |S, m| {
-        m.returned = S::kept_for(&m.images.view.words) as i64;
+        m.returned = S::kept_for(m.page.lent(), &m.images.view.words) as i64;
     });
     let kept = pair.model.returned as u64;
     pair.meet("pbeam_kept_for", 0, i64::from(kept == 4096));
