@@ -11,6 +11,9 @@ Inv-loop bytes list₀ i₀ i-end list i = (length list ≡ length list₀) × (
 abbrev μ-loop : tie.MeasureT-loop
 μ-loop bytes list₀ i₀ i-end list i = length list₀ - i
 
+returns : tie.Need-returns Inv-loop μ-loop
+returns c = search needs
+
 loop-holds : tie.Need-loop-holds Inv-loop μ-loop
 loop-holds c = search needs
 
@@ -38,8 +41,8 @@ loop-again c = search needs
 same-length : tie.Need-same-length Inv-loop μ-loop
 same-length c = search needs
 
-returns : tie.Need-returns Inv-loop μ-loop
-returns c = search needs
+returns-2 : tie.Need-returns-2 Inv-loop μ-loop
+returns-2 c = search needs
 
 pub read-words-spec : {M : Type 1} → statement M
 read-words-spec =
@@ -47,6 +50,7 @@ read-words-spec =
     (tie.spec
     Inv-loop
     μ-loop
+    returns
     loop-holds
     mul-word-at
     word-at-requires
@@ -56,4 +60,4 @@ read-words-spec =
     loop-less
     loop-again
     same-length
-    returns)
+    returns-2)
