@@ -84,7 +84,7 @@ fn lookups(random: &mut Random, page: &[u8], view: &[u64; 15]) {
 #[test]
 fn random_views() {
     let mut random = Random::new(33);
-    for _ in 0..CALLS {
+    for _ in 0..CALLS / 4 {
         let (reading, mut view) = (random.valid_page(), [0; 15]);
         let page = &reading.page;
         Model::read(page, reading.base, reading.edition, &mut view);
