@@ -88,24 +88,28 @@ fn fields_end(page: &[u8], from: usize) -> Option<usize> {
     pass(page, from, |_, _, _| ())
 }
 
-/// One pass over the fields from an offset on, each handed on as tag, offset and length of its value: where they end, behind their
-/// mark. A value that leaves the page leaves no room for the mark: so only the three bytes before a value are looked for in the page.
+/// One pass over the fields from an offset on, each handed on as tag, offset and length of its value, before it is known that the value
+/// lies in the page: where they end, behind their mark.
 #[inline]
 fn pass(page: &[u8], from: usize, mut each: impl FnMut(u8, usize, usize)) -> Option<usize> {
-    let (mut at, mut seen) = (from, 0u8);
+    let (mut rest, mut seen) = (page.get(from..)?, 0u8);
     loop {
-        let head = page.get(at..at + 3)?;
-        let (tag, length) = (head[0], usize::from(u16::from_le_bytes([head[1], head[2]])));
+        let (tag, low, high) = match *rest {
+            [tag, low, high, ..] => (tag, low, high),
+            _ => return None,
+        };
+        let length = usize::from(u16::from_le_bytes([low, high]));
+        let value = page.len() - rest.len() + 3;
         if tag <= 3 {
             if tag == 0 {
-                return (length == 0).then_some(at + 3);
+                return (length == 0).then_some(value);
             }
             if !may_follow(&mut seen, tag, length) {
                 return None;
             }
         }
-        each(tag, at + 3, length);
-        at += 3 + length;
+        each(tag, value, length);
+        rest = rest[3..].get(length..)?;
     }
 }
 
