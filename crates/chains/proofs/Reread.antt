@@ -121,7 +121,7 @@ module _ (g : Granules) (u : Params) (page : List ℕ) (r : ℕ) (c : Covers (u 
 
   next-kept : (w : World) (x : Command) → HasRecord (Up u) x → KeptTo (u .kept) page (w .page) → KeptTo (u .kept) page (nextOf g w x .page)
   unfolding AllHave worldAfter
-  next-kept w x h k = let t = kept g u w (x ∷ []) (h, unit) in record { bytes = t .bytes ∙ k .bytes; whole = t .whole ∙ k .whole }
+  next-kept w x h k = let t = kept g u w (x ∷ []) (h, tt) in record { bytes = t .bytes ∙ k .bytes; whole = t .whole ∙ k .whole }
 
   boots-read : (s : Record) (w : World) (es : List Event) → (s ≡ Up u) ⊎ (s ≡ Closed) → KeptTo (u .kept) page (w .page) → InTurn s es → ReadAtBoots g r (u .base) page w es
   unfolding InTurn ReadAtBoots
