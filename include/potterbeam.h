@@ -10,8 +10,8 @@
  * - Any number, page, list, table and image is taken as input. There is no condition on values; every call returns, and touches only
  *   what it is lent. The library allocates nothing and keeps nothing between calls.
  * - A slice is a pointer and a count of elements. The pointer may be NULL only where the count is 0. An image (state, granules, session,
- *   queue, view, place, field, out, work, request, call) is a pointer to a fixed number of 64-bit words and is never NULL, also where the call does
- *   not need it.
+ *   queue, view, place, field, out, work, request, call) is a pointer to a fixed number of 64-bit words and is never NULL, also where the
+ *   call does not need it.
  * - A page is lent by the address at which the caller sees it; B is only a number to the library. So a page needs no alignment in
  *   memory, and a caller that maps it elsewhere passes both. Words (uint64_t) are aligned as C asks.
  * - Lent buffers must not overlap. (Two that the call only reads may.)
@@ -37,8 +37,7 @@
  * Kept bytes. With K kept bytes in EL3's record no command writes below B + K, so a manifest that lies there can be read at any later boot.
  *   pbeam_kept_for says how many bytes a manifest takes; with 0 the first command may overwrite it. No register carries K: the monitor
  *   finds the same number with pbeam_kept_for on the same page, and puts its buffers at B + K and above. If EL3 takes another K it has
- *   to tell the monitor. The monitor itself may still write
- *   there: only the commands are held to it.
+ *   to tell the monitor. The monitor itself may still write there: only the commands are held to it.
  * Boot errors. The monitor ends each boot with RMM_BOOT_COMPLETE (0xC40001CF, the code in x1). That call is the platform's: pbeam_call
  *   answers PBEAM_X0_UNK. If x1 is not 0, EL3 closes its record with pbeam_close and lets no CPU enter the monitor again. Every
  *   command but 0xC400018F is PBEAM_X0_UNK from then on.
@@ -486,7 +485,8 @@ void pbeam_field_of_tag(const uint8_t *page, size_t page_len, const uint64_t vie
 /*
  * pbeam_field_start: the cursor at the first field, for pbeam_field_next.
  * Takes    page and view as pbeam_field_count.
- * Answers  the cursor; page_len where pbeam_field_count answers 0 and there is no end mark to stand at.
+ * Answers  the cursor; page_len where plat_data is 0 and, by a view that no reading made, where the fields are broken or not in the lent
+ *          page.
  * Leaves   page and view as they were.
  * Stack    32 bytes; AArch64 0
  */
@@ -499,7 +499,7 @@ size_t pbeam_field_start(const uint8_t *page, size_t page_len, const uint64_t vi
  * Answers  the cursor behind the field; page_len behind the last. field: as pbeam_field; all zero behind the last.
  * Leaves   the page as it was.
  * Stack    32 bytes; AArch64 0
- * A walk over all fields passes the page once. Any other cursor is taken as the offset of a field: none is found outside the page.
+ * A walk passes each field once. Any other cursor is taken as the offset of a field: none is found outside the page.
  */
 PBEAM_NONNULL(4)
 size_t pbeam_field_next(const uint8_t *page, size_t page_len, size_t cursor, uint64_t field[PBEAM_FIELD_WORDS]);

@@ -8,7 +8,7 @@
 //! With the argument `manifest` only these are timed, with `granules` only granule records and moves.
 
 use potterbeam_tests::exports::{
-    Exports, GranulesImage, QueueImage, RecordImage, Registers, SessionImage, Work,
+    Exports, FieldImage, GranulesImage, QueueImage, RecordImage, Registers, SessionImage, Work,
 };
 use potterbeam_tests::fast;
 use potterbeam_tests::images::record_of;
@@ -17,10 +17,9 @@ use potterbeam_tests::kit::{ffi, Kit};
 use potterbeam_tests::model::Model;
 use potterbeam_tests::reference::boot::Record;
 use potterbeam_tests::reference::codes::Outcome;
-use potterbeam_tests::reference::fields::split_field;
 use potterbeam_tests::reference::layout::PAGE;
 use potterbeam_tests::reference::queue::Queue;
-use potterbeam_tests::reference::reader::{pointed, read};
+use potterbeam_tests::reference::reader::read;
 use potterbeam_tests::reference::runtime::{
     DELEGATE, FEATURES, KEY_UPDATE, PLAT_TOKEN, REALM_KEY, REQ_COMPLETE, TOKEN_SIGN, UNDELEGATE,
 };
@@ -228,23 +227,23 @@ fn compare_manifests() {
         compare_reading(name, base, edition, lists, &[]);
         compare_writing(&format!("write {name}"), base, edition, lists, &[], 0);
     }
-    // 02, E7: 4,000 bytes of fields, and fewer: the cost grows with the bytes.
-    for (name, fields) in [
-        ("an FVP page, name and serial", board()),
-        ("1,000 bytes of fields", of_fields(50, 17)),
-        ("2,000 bytes of fields", of_fields(100, 17)),
-        ("4,000 bytes of fields", of_fields(200, 17)),
-        ("4,000 bytes, fields of 1 byte", of_fields(1000, 1)),
-        ("4,000 bytes in one field", of_fields(1, 3997)),
+    // 02, E7: the cost grows with the bytes; a field in one piece, and fields of a byte each.
+    let (small, none): (Lists, Lists) = ([&fvp, &uart, &[], &[]], [&[]; 4]);
+    for (name, edition, lists, fields) in [
+        ("name and serial", 3, small, board()),
+        ("1,000 bytes of fields", 1, none, of_fields(50, 17)),
+        ("2,000 bytes of fields", 1, none, of_fields(100, 17)),
+        ("4,000 bytes of fields", 1, none, of_fields(200, 17)),
+        ("4,000 bytes, fields of 1", 1, none, of_fields(1000, 1)),
+        ("4,000 bytes in a field", 1, none, of_fields(1, 3997)),
     ] {
-        let lists: Lists = match name.starts_with("an FVP") {
-            true => [&fvp, &uart, &[], &[]],
-            false => [&[]; 4],
-        };
-        let edition = if fields.len() < 100 { 3 } else { 1 };
         compare_reading(name, BASE, edition, lists, &fields);
-        compare_writing(&format!("write {name}"), BASE, edition, lists, &fields, 0);
-        compare_walk(name, edition, lists, &fields);
+        if !name.starts_with(['1', '2']) {
+            compare_writing(&format!("write {name}"), BASE, edition, lists, &fields, 0);
+        }
+        if ["name and serial", "4,000 bytes of fields"].contains(&name) {
+            compare_fields(name, edition, lists, &fields);
+        }
     }
     let (mut unsound, many) = (banks.clone(), BANK.repeat(250));
     unsound[497] = 1;
@@ -266,44 +265,84 @@ fn of_fields(count: usize, length: u16) -> Vec<u8> {
     field.repeat(count)
 }
 
-#[inline(never)]
-fn native_walk(page: &[u8], plat_data: u64) -> u64 {
-    let mut rest = pointed(page, plat_data);
-    let mut sum = 0;
-    while let Some((field, behind)) = split_field(rest).filter(|(field, _)| field.tag != 0) {
-        sum += field.value.len() as u64;
-        rest = behind;
+/// A walk over all fields by the two steps of one side.
+fn all_fields(start: usize, next: impl Fn(usize, &mut FieldImage) -> usize) -> u64 {
+    let (mut field, mut cursor, mut sum) = ([0; 4], start, 0);
+    loop {
+        cursor = next(cursor, &mut field);
+        if field[0] == 0 {
+            return sum;
+        }
+        sum += field[3];
     }
-    sum
 }
 
-/// All fields of a page that was read, by a cursor, and the first of a tag that is not there.
-fn compare_walk(name: &str, edition: u64, lists: Lists, fields: &[u8]) {
+/// The fields of a page that was read: how many, the last by its number, the first of a tag, which is there or not, and all by a
+/// cursor. A lookup judges the fields, since any view may come; the code by hand finds its field in that same pass.
+fn compare_fields(name: &str, edition: u64, lists: Lists, fields: &[u8]) {
     let (mut page, mut view) = (Page([0; PAGE]), [0; 15]);
     write(BASE, edition, lists, fields, &mut page.0).expect("written");
     let page = &*page.lent();
     assert_eq!(Kit::read(page, BASE, 4, &mut view), 0);
+    let last = Kit::field_count(page, &view) - 1;
+    compare(
+        &format!("count {name}"),
+        1,
+        side(|| see(Kit::field_count(page, &view) as u64)),
+        vec![(
+            "by hand",
+            side(|| see(fast::field_count(page, &view) as u64)),
+        )],
+    );
+    let [mut ours, mut theirs] = [[0; 4]; 2];
+    compare(
+        &format!("last of {name}"),
+        1,
+        side(|| {
+            Kit::field(page, &view, last, &mut ours);
+            see(ours[2]);
+        }),
+        vec![(
+            "by hand",
+            side(|| {
+                fast::field(page, &view, last, &mut theirs);
+                see(theirs[2]);
+            }),
+        )],
+    );
+    assert_eq!(ours, theirs);
+    for (what, tag) in [("first", page[(view[2] % 4096) as usize]), ("no tag", 200)] {
+        compare(
+            &format!("{what} of {name}"),
+            1,
+            side(|| {
+                Kit::field_of_tag(page, &view, tag, &mut ours);
+                see(ours[2]);
+            }),
+            vec![(
+                "by hand",
+                side(|| {
+                    fast::field_of_tag(page, &view, tag, &mut theirs);
+                    see(theirs[2]);
+                }),
+            )],
+        );
+        assert_eq!(ours, theirs);
+    }
     let [mut ours, mut theirs] = [0; 2];
     compare(
         &format!("walk {name}"),
         1,
         side(|| {
-            let mut field = [0; 4];
-            let mut cursor = Kit::field_start(page, &view);
-            ours = 0;
-            loop {
-                cursor = Kit::field_next(page, cursor, &mut field);
-                if field[0] == 0 {
-                    break;
-                }
-                ours += field[3];
-            }
+            let start = Kit::field_start(page, &view);
+            ours = all_fields(start, |cursor, field| Kit::field_next(page, cursor, field));
             see(ours);
         }),
         vec![(
-            "native",
+            "by hand",
             side(|| {
-                theirs = native_walk(page, view[2]);
+                let start = fast::field_start(page, &view);
+                theirs = all_fields(start, |cursor, field| fast::field_next(page, cursor, field));
                 see(theirs);
             }),
         )],

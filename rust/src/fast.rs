@@ -1,8 +1,8 @@
-//! The other side of the benchmark for reader and writer: hand-written for speed, with the parameters of the C functions. The view's words
+//! The other side of the benchmark for reader, field lookups and writer: hand-written for speed, with the parameters of the C functions. The view's words
 //! are written while the sections are judged, a list is added while it is judged, and the page is made in the order of addresses.
 //! `tests/fast.rs` holds it to the reference.
 
-use crate::exports::ViewImage;
+use crate::exports::{FieldImage, ViewImage};
 use crate::reference::entries::{bank_sum, console_sum};
 use crate::reference::layout::{
     accepted_minor, half_at, header_offset, placed, placed_mut, word_at, Edition, CONSOLE,
@@ -82,10 +82,16 @@ fn fields_apart(page: &[u8; PAGE], from: u64, view: &ViewImage) -> Option<()> {
     Some(())
 }
 
-/// Where the fields from an offset on end, behind their mark. A value that leaves the page leaves no room for the mark: so only the
-/// three bytes before a value are looked for in the page.
+/// Where the fields from an offset on end, behind their mark.
 #[inline]
 fn fields_end(page: &[u8], from: usize) -> Option<usize> {
+    pass(page, from, |_, _, _| ())
+}
+
+/// One pass over the fields from an offset on, each handed on as tag, offset and length of its value: where they end, behind their
+/// mark. A value that leaves the page leaves no room for the mark: so only the three bytes before a value are looked for in the page.
+#[inline]
+fn pass(page: &[u8], from: usize, mut each: impl FnMut(u8, usize, usize)) -> Option<usize> {
     let (mut at, mut seen) = (from, 0u8);
     loop {
         let head = page.get(at..at + 3)?;
@@ -98,8 +104,73 @@ fn fields_end(page: &[u8], from: usize) -> Option<usize> {
                 return None;
             }
         }
+        each(tag, at + 3, length);
         at += 3 + length;
     }
+}
+
+/// The same over the fields of a view; none without a pointer.
+#[inline]
+fn pass_view(page: &[u8], view: &ViewImage, each: impl FnMut(u8, usize, usize)) -> Option<usize> {
+    let from = (view[2] % PAGE as u64) as usize;
+    if view[2] == 0 {
+        return None;
+    }
+    pass(page, from, each)
+}
+
+/// `pbeam_field_count`.
+#[inline(never)]
+pub fn field_count(page: &[u8], view: &ViewImage) -> usize {
+    let mut count = 0;
+    let end = pass_view(page, view, |_, _, _| count += 1);
+    end.map_or(0, |_| count)
+}
+
+/// `pbeam_field`: found while the fields are judged, in one pass.
+#[inline(never)]
+pub fn field(page: &[u8], view: &ViewImage, index: usize, field: &mut FieldImage) {
+    let (mut left, mut found) = (index, [0; 4]);
+    let end = pass_view(page, view, |tag, at, length| {
+        if left == 0 {
+            found = [1, tag.into(), at as u64, length as u64];
+        }
+        left = left.wrapping_sub(1);
+    });
+    *field = end.map_or([0; 4], |_| found);
+}
+
+/// `pbeam_field_of_tag`: the same.
+#[inline(never)]
+pub fn field_of_tag(page: &[u8], view: &ViewImage, wanted: u8, field: &mut FieldImage) {
+    let mut found = [0; 4];
+    let end = pass_view(page, view, |tag, at, length| {
+        if tag == wanted && found[0] == 0 {
+            found = [1, tag.into(), at as u64, length as u64];
+        }
+    });
+    *field = end.map_or([0; 4], |_| found);
+}
+
+/// `pbeam_field_start`.
+#[inline(never)]
+pub fn field_start(page: &[u8], view: &ViewImage) -> usize {
+    let end = pass_view(page, view, |_, _, _| ());
+    end.map_or(page.len(), |_| (view[2] % PAGE as u64) as usize)
+}
+
+/// `pbeam_field_next`.
+#[inline(never)]
+pub fn field_next(page: &[u8], cursor: usize, field: &mut FieldImage) -> usize {
+    if let Some(&[tag, low, high, ..]) = page.get(cursor..) {
+        let length = usize::from(u16::from_le_bytes([low, high]));
+        if tag != 0 && length <= page.len() - cursor - 3 {
+            *field = [1, tag.into(), cursor as u64 + 3, length as u64];
+            return cursor + 3 + length;
+        }
+    }
+    *field = [0; 4];
+    page.len()
 }
 
 /// Whether a field of tag 1 to 3 may follow those seen, of which it becomes one.

@@ -1,5 +1,5 @@
 //! The reader and the writer that are written for speed, against the reference: the code and every word or byte, of random pages and
-//! lists and of the pages that real firmware wrote; and what a view's manifest takes of the page.
+//! lists and of the pages that real firmware wrote; what a view's manifest takes of the page, and the lookups of its fields.
 
 use potterbeam_tests::exports::Exports;
 use potterbeam_tests::fast;
@@ -58,17 +58,40 @@ fn random_lists() {
     assert!((0..6).all(|answer| met[&answer] > CALLS / 500));
 }
 
+/// The field lookups on both sides, and a step from some cursor.
+fn lookups(random: &mut Random, page: &[u8], view: &[u64; 15]) {
+    let [mut ours, mut theirs] = [[7; 4]; 2];
+    let count = Model::field_count(page, view);
+    assert_eq!(fast::field_count(page, view), count);
+    let index = random.index(count + 2);
+    fast::field(page, view, index, &mut ours);
+    Model::field(page, view, index, &mut theirs);
+    assert_eq!(ours, theirs, "{view:x?} {index}");
+    let tag = random.index(8) as u8;
+    fast::field_of_tag(page, view, tag, &mut ours);
+    Model::field_of_tag(page, view, tag, &mut theirs);
+    assert_eq!(ours, theirs, "{view:x?} {tag}");
+    let start = Model::field_start(page, view);
+    assert_eq!(fast::field_start(page, view), start);
+    for cursor in [start, random.index(4100), random.edge() as usize] {
+        let next = fast::field_next(page, cursor, &mut ours);
+        assert_eq!(next, Model::field_next(page, cursor, &mut theirs));
+        assert_eq!(ours, theirs, "{cursor}");
+    }
+}
+
 /// Views that were read, and forged ones.
 #[test]
 fn random_views() {
     let mut random = Random::new(33);
-    for _ in 0..CALLS {
+    for _ in 0..CALLS / 4 {
         let (reading, mut view) = (random.valid_page(), [0; 15]);
         let page = &reading.page;
         Model::read(page, reading.base, reading.edition, &mut view);
         for _ in 0..3 {
             let kept = fast::kept_for(page, &view);
             assert_eq!(kept, Model::kept_for(page, &view), "{view:x?}");
+            lookups(&mut random, page, &view);
             random.forge_view(&mut view);
         }
     }

@@ -53,6 +53,10 @@ impl Random {
         if self.one_in(4) {
             view.fill_with(|| self.view_word());
         }
+        if view[2] != 0 && self.one_in(3) {
+            // Fields from another byte on.
+            view[2] = view[2].wrapping_add(self.below(40));
+        }
         for _ in 0..self.between(1, 2) {
             view[self.index(15)] = self.view_word();
         }
