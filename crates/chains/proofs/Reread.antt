@@ -1,60 +1,47 @@
 -- 02, E5: a page whose manifest lies in the kept bytes is read with the same answer after any sequence of commands. Assumes nothing.
-use Prim.Native.Nat.{ℕ, _+_, _*_, _-_, _≤_, _<_, min}
+use Prim.Native.Nat.{ℕ, _+_, _*_, _/_, _≤_, _<_}
 use mathlib.Core.Path.{_≡_, refl, sym, ap, _∙_, subst}
 use mathlib.Core.Bool.{false, false≢true}
 use mathlib.Core.Logic.{_⊎_, inl, inr}
-use mathlib.Core.List.{List, map}
+use mathlib.Core.List.{List, [], _∷_, map}
 use native.Mathlib.Omega.{arith}
 use lib.ListN.{length, getD}
 use lib.Seq.{getD-take}
 use native.Mathlib.Decide.{decLt}
 use lib.IntN.{pos}
-use borrow.Author.Tests.{le-ltb, lt-ltb}
+use borrow.Author.Tests.{le-ltb}
 use Rattle.words.specs.Tests.{Yes}
 use Rattle.words.specs.Word.{leOf, wordAt, numAt, areWords}
 use Rattle.words.proofs.Read.{part-same}
-use Rattle.words.proofs.Tests.{both-l, both-r, both-of, either-l, either-r}
-use Rattle.versions.specs.Version.{minorOf}
 use Rattle.versions.specs.Edition.{sectionCount, core}
-use Rattle.sections.specs.Page.{placeOk, versionAt}
-use Rattle.reader.specs.Answer.{Shown, PlatShown, ReaderAnswer, refused, shows, judge, namedBy, named, readOf}
+use Rattle.reader.specs.Answer.{Shown, PlatShown, ReaderAnswer, refused, shows, readOf}
 use Rattle.reader.specs.Reading.{sectionAt, viewAt}
-use Rattle.reader.proofs.Newer.{gate-shows}
 use Rattle.reader.proofs.Views.{shows-page}
 use Rattle.writer.proofs.Demand.{demand3}
 use Rattle.lookup.specs.Kept.{keptFor}
 use Rattle.lookup.proofs.Kept.{kept-covers}
+use Rattle.lookup.proofs.Least.{accepted-place, accepted-fields, core-covered, kept-least}
 use Rattle.boot.specs.Boot.{coldCode, after, paramsOf, coldNext}
-use Rattle.boot.specs.Boots.{Boot, allBooted}
+use Rattle.boot.specs.Boots.{Boot, booted, allBooted}
 use Rattle.boot.specs.declared.Params.{Params}
 use Rattle.boot.specs.declared.Record.{Record}
 use Rattle.boot.specs.declared.Record.the-variants.{Up, Closed}
-use Rattle.boot.proofs.Closing.{up-stays}
+use Rattle.boot.proofs.Closing.{closed-stays, up-stays}
 use Rattle.codes.specs.Codes.{isUp}
 use Rattle.banks.specs.Banks.{Granules}
-use Rattle.runtime.specs.Step.{World, Command}
-use Rattle.runtime.specs.Run.{worldAfter}
-use Rattle.runtime.specs.Kept.{KeptTo, AllHave}
+use Rattle.runtime.specs.Step.{World, Command, call, sign, list}
+use Rattle.runtime.specs.Run.{nextOf, worldAfter}
+use Rattle.runtime.specs.Kept.{KeptTo, HasRecord, AllHave}
 use Rattle.runtime.proofs.Kept.{kept}
 use Rattle.images.specs.Image.{viewOf, viewWords, answerWords}
 use Rattle.images.proofs.Inverse.{view-back}
 use Rattle.queue_image.specs.Image.{each, areBytes}
 use Rattle.chains.specs.Chain.{Lent, lentWorld, ofBytes}
 use Rattle.chains.specs.Exported.{Exported, commandOf, allExported}
-use Rattle.chains.specs.Reread.{Covers}
+use Rattle.chains.specs.Reread.{Covers, ReadAgain, Event, boot, command, InTurn, ReadAtBoots}
 use Rattle.chains.proofs.Singles.{exports-chain}
 
 -- ---- kept bytes that cover the manifest
--- the core is among them
-core-covered : (n r base : ℕ) (page : List ℕ) (w e : ℕ) (q : PlatShown) (t : ℕ → Shown) → readOf r base page ≡ shows w e q t → Covers n r base page → core e ≤ n
-unfolding readOf judge placeOk named namedBy core
-core-covered n r base page w e q t h c =
-    let g = gate-shows _ _ _ _ _ _ _ _ h .0 in
-    let p = shows-page r base page w e q t h in
-    let x : e ≡ min r (minorOf (versionAt page)) = p .edition ∙ ap (min r) (p .minor) in
-    let y : core e - 1 < n = c (core e - 1) (both-of _ _ (both-l _ _ (g .0)) (either-r _ _ (both-of _ _ (both-r _ _ (g .1)) (either-l _ _ (rw (← x) (lt-ltb (core e - 1) (core e) (omega arith))))))) in
-    omega arith
-
 module _ (n : ℕ) (page last : List ℕ) (k : KeptTo n page last) where
   byte-same : (i : ℕ) → i < n → getD page i 0 ≡ getD last i 0
   byte-same i h = sym (getD-take n page i 0 h) ∙ ap (λ (l : List ℕ). getD l i 0) (sym (k .bytes)) ∙ getD-take n last i 0 h
@@ -83,7 +70,7 @@ module _ (n : ℕ) (page last : List ℕ) (k : KeptTo n page last) where
 
   view-read : (r base : ℕ) → Covers n r base page → answerWords base last (readOf r base last) ≡ answerWords base page (readOf r base page)
   unfolding answerWords
-  view-read r base c = ap (answerWords base last) (kept-read r base c) ∙ go (readOf r base page) (λ w e q t h. core-covered n r base page w e q t h c)
+  view-read r base c = ap (answerWords base last) (kept-read r base c) ∙ go (readOf r base page) (λ w e q t h. core-covered r base page w e q t h n c)
     where
       go : (a : ReaderAnswer) → ((w e : ℕ) (q : PlatShown) (t : ℕ → Shown) → a ≡ shows w e q t → core e ≤ n) → answerWords base last a ≡ answerWords base page a
       go (refused c) f = refl
@@ -114,24 +101,71 @@ boots-keep u bs = go (up-stays u bs)
     go (inl e) = inl e
     go (inr e) = inr (ap isUp e)
 
--- ---- the number that `kept_for` answers covers the manifest
-pub kept-for-covers : (r base : ℕ) (page : List ℕ) → Covers (keptFor (viewAt (minorOf (versionAt page)) (min r (minorOf (versionAt page))) base page)) r base page
-kept-for-covers r base page i y =
-    let w : ℕ = minorOf (versionAt page) in
-    let n : ℕ = keptFor (viewAt w (min r w) base page) in
-    go n (decLt i n) (λ h. false≢true (sym (kept-covers r base page i h) ∙ y))
-  where
-    go : (n : ℕ) → Dec (i < n) → (n ≤ i → ⊥) → i < n
-    go n (yes l) f = l
-    go n (no l) f = absurd (f (omega arith))
+-- ---- boots and commands
+module _ (g : Granules) (u : Params) (page : List ℕ) (r : ℕ) (c : Covers (u .kept) r (u .base) page) where
+  read-again : (w : World) → KeptTo (u .kept) page (w .page) → ReadAgain r (u .base) page (w .page)
+  read-again w k = record { answer = kept-read (u .kept) page (w .page) k r (u .base) c; view = view-read (u .kept) page (w .page) k r (u .base) c }
 
--- of the view that `pbeam_read` writes, "the core and each array that its sections place within the page"
-pub view-covers : (r base : ℕ) (page : List ℕ) (w e : ℕ) (q : PlatShown) (t : ℕ → Shown) → readOf r base page ≡ shows w e q t →
-    Covers (keptFor (viewOf (answerWords base page (readOf r base page)))) r base page
-unfolding answerWords
-view-covers r base page w e q t h =
-    let p = shows-page r base page w e q t h in
-    rw (h, view-back (viewAt w e base page), p .edition, p .minor) (kept-for-covers r base page)
+  has-record : (s : Record) (x : Command) → (s ≡ Up u) ⊎ (s ≡ Closed) → HasRecord s x → HasRecord (Up u) x
+  unfolding HasRecord isUp
+  has-record s (call d) (inl e) h = subst (λ (z : Record). (d .state ≡ z) ⊎ (isUp (d .state) ≡ false)) e h
+  has-record s (call d) (inr e) (inl h) = inr (ap isUp (h ∙ e))
+  has-record s (call d) (inr e) (inr h) = inr h
+  has-record s (sign d) e h = h
+  has-record s (list b d l) e h = h
+
+  boot-step : (s : Record) (b : Boot) → (s ≡ Up u) ⊎ (s ≡ Closed) → (booted s b ≡ Up u) ⊎ (booted s b ≡ Closed)
+  unfolding allBooted
+  boot-step s b (inl e) = rw e (up-stays u (b ∷ []))
+  boot-step s b (inr e) = inr (rw e (closed-stays (b ∷ [])))
+
+  next-kept : (w : World) (x : Command) → HasRecord (Up u) x → KeptTo (u .kept) page (w .page) → KeptTo (u .kept) page (nextOf g w x .page)
+  unfolding AllHave worldAfter
+  next-kept w x h k = let t = kept g u w (x ∷ []) (h, tt) in record { bytes = t .bytes ∙ k .bytes; whole = t .whole ∙ k .whole }
+
+  boots-read : (s : Record) (w : World) (es : List Event) → (s ≡ Up u) ⊎ (s ≡ Closed) → KeptTo (u .kept) page (w .page) → InTurn s es → ReadAtBoots g r (u .base) page w es
+  unfolding InTurn ReadAtBoots
+  boots-read s w [] e k t = read-again w k
+  boots-read s w (boot b ∷ es) e k t = (read-again w k, boots-read (booted s b) w es (boot-step s b e) k t)
+  boots-read s w (command x ∷ es) e k t = boots-read s (nextOf g w x) es e (next-kept w x (has-record s x e (t .0)) k) (t .1)
+
+-- "A monitor rereads the manifest at each warm boot": from a cold boot that accepts a page with a number of kept bytes that covers what a
+-- reader's edition names, over any boots and commands in any order, each command with the record as it then is, that reader's answer is the
+-- same at each boot
+pub boots-reread : (g : Granules) (s : Record) (x0 x1 x2 x3 most n : ℕ) (w : World) (es : List Event) → coldCode s x0 x1 x2 x3 most n (w .page) ≡ pos 0 →
+    InTurn (coldNext s x0 x1 x2 x3 most n (w .page)) es → (r : ℕ) → Covers n r x3 (w .page) → ReadAtBoots g r x3 (w .page) w es
+unfolding paramsOf
+boots-reread g s x0 x1 x2 x3 most n w es e t r c =
+    boots-read g (paramsOf x1 x2 x3 n) (w .page) r c _ w es (inl (cold-up s x0 x1 x2 x3 most n (w .page) e)) (record { bytes = refl; whole = refl }) t
+
+-- ---- the number that `kept_for` answers
+module _ (r base : ℕ) (page : List ℕ) (w e : ℕ) (q : PlatShown) (t : ℕ → Shown) (h : readOf r base page ≡ shows w e q t) where
+  -- it covers the manifest of a page that the reader accepts: "the core and each array that its sections place within the page", and the fields
+  pub kept-for-covers : Covers (keptFor (viewAt w e base page) page) r base page
+  kept-for-covers i y = go (decLt i (keptFor (viewAt w e base page) page))
+    where
+      past : keptFor (viewAt w e base page) page ≤ i → ⊥
+      past l =
+          let p = shows-page r base page w e q t h in
+          let o = accepted-place r base page w e q t h in
+          let f = accepted-fields r base page w e q t h in
+          false≢true (sym (kept-covers r base page o f i (rw (p .edition, p .minor) at l)) ∙ y)
+
+      go : Dec (i < keptFor (viewAt w e base page) page) → i < keptFor (viewAt w e base page) page
+      go (yes l) = l
+      go (no l) = absurd (past (omega arith))
+
+  view-is : viewOf (answerWords base page (readOf r base page)) ≡ viewAt w e base page
+  unfolding answerWords
+  view-is = rw (h, view-back (viewAt w e base page))
+
+  -- of the view that `pbeam_read` writes
+  pub view-covers : Covers (keptFor (viewOf (answerWords base page (readOf r base page))) page) r base page
+  view-covers = rw view-is kept-for-covers
+
+  -- and is the least multiple of 8 that does
+  pub view-least : (n : ℕ) → Covers n r base page → keptFor (viewOf (answerWords base page (readOf r base page))) page ≤ 8 * ((n + 7) / 8)
+  view-least n c = rw view-is (kept-least r base page w e q t h n c)
 
 -- ---- the same of any sequence of exports, from an image of 210 words and a page of bytes, with bytes lent to each
 module _ (granules : List ℕ) (m : Lent) (es : List Exported) (l : length (m .queue) ≡ 210) (v : Yes (areWords (m .queue))) (a : Yes (areBytes (m .page))) (b : Yes (each ofBytes (map commandOf es))) where
@@ -152,7 +186,7 @@ module _ (granules : List ℕ) (m : Lent) (es : List Exported) (l : length (m .q
     exports-reread r c = (kept-read n _ _ cold-kept r x3 c, view-read n _ _ cold-kept r x3 c)
 
     -- `kept_for`: the number that it answers of the view that a reader of that edition shows is such a number
-    pub kept-for-reread : (r w t : ℕ) (q : PlatShown) (f : ℕ → Shown) → readOf r x3 (m .page) ≡ shows w t q f → n ≡ keptFor (viewOf (answerWords x3 (m .page) (readOf r x3 (m .page)))) →
+    pub kept-for-reread : (r w t : ℕ) (q : PlatShown) (f : ℕ → Shown) → readOf r x3 (m .page) ≡ shows w t q f → n ≡ keptFor (viewOf (answerWords x3 (m .page) (readOf r x3 (m .page)))) (m .page) →
         (readOf r x3 (allExported granules m es .page) ≡ readOf r x3 (m .page))
         × (answerWords x3 (allExported granules m es .page) (readOf r x3 (allExported granules m es .page)) ≡ answerWords x3 (m .page) (readOf r x3 (m .page)))
     kept-for-reread r w t q f h k = exports-reread r (subst (λ (x : ℕ). Covers x r x3 (m .page)) (sym k) (view-covers r x3 (m .page) w t q f h))

@@ -61,11 +61,6 @@ pub span-fits : (p : Span) (k : ℕ) (s : Section) → p ≡ spanOf k s 4096 →
 unfolding sectionEnd spanEnd
 span-fits p k s e = rw e (end-most k s)
 
-pub highest-most : (v : View) (n : ℕ) → highestOf v n ≤ 4096
-unfolding highestOf core
-highest-most v zero = omega (arith, section-count-most (v .edition))
-highest-most v (suc n) = omega (arith, highest-most v n, end-most n (sectionOf v n))
-
 reach-case : (b : Bool) (n : ℕ) → cond b 0 (min 4096 n) ≤ 4096
 reach-case true n = omega arith
 reach-case false n = omega arith
@@ -74,9 +69,14 @@ pub reach-most : (q : ℕ) (page : List ℕ) → fieldsReach q page ≤ 4096
 unfolding fieldsReach
 reach-most q page = reach-case (eqb q 0) (q % 4096 + reach (scanOf (drop (q % 4096) page)))
 
+pub highest-most : (v : View) (page : List ℕ) (n : ℕ) → highestOf v page n ≤ 4096
+unfolding highestOf core
+highest-most v page zero = omega (arith, section-count-most (v .edition), reach-most (v .plat) page)
+highest-most v page (suc n) = omega (arith, highest-most v page n, end-most n (sectionOf v n))
+
 pub kept-most : (v : View) (page : List ℕ) → keptFor v page ≤ 4096
 unfolding keptFor
-kept-most v page = omega (arith, highest-most v 4, reach-most (v .plat) page)
+kept-most v page = omega (arith, highest-most v page 4)
 
 -- ---- where the fields end, as the pass over them tells
 told-broken : (s : Scanned) → toldOf s ≡ Broken → reach s ≡ 4096
@@ -111,20 +111,20 @@ module _ (q : ℕ) (page : List ℕ) where
     reach-ended n h l = rw (reach-there, told-ended (scanOf (drop (q % 4096) page)) n h) (omega arith)
 
 -- ---- it covers what a reader looks at
-core-within : (v : View) (n : ℕ) → core (v .edition) ≤ highestOf v n
-unfolding highestOf
-core-within v zero = omega arith
-core-within v (suc n) = omega (arith, core-within v n)
+module _ (v : View) (page : List ℕ) where
+  start-within : (n : ℕ) → max (core (v .edition)) (fieldsReach (v .plat) page) ≤ highestOf v page n
+  unfolding highestOf
+  start-within zero = omega arith
+  start-within (suc n) = omega (arith, start-within n)
 
-step-within : (v : View) (n k : ℕ) (b : Bool) → eqb k n ≡ b → k < suc n → (k < n → sectionEnd k (sectionOf v k) ≤ highestOf v n) →
-    sectionEnd k (sectionOf v k) ≤ highestOf v (suc n)
-unfolding highestOf
-step-within v n k true e h f = rw (eqb-true k n e) (omega arith)
-step-within v n k false e h f = let l : k < n = omega (arith, eqb-false k n e) in omega (arith, f l)
+  step-within : (n k : ℕ) (b : Bool) → eqb k n ≡ b → k < suc n → (k < n → sectionEnd k (sectionOf v k) ≤ highestOf v page n) → sectionEnd k (sectionOf v k) ≤ highestOf v page (suc n)
+  unfolding highestOf
+  step-within n k true e h f = rw (eqb-true k n e) (omega arith)
+  step-within n k false e h f = let l : k < n = omega (arith, eqb-false k n e) in omega (arith, f l)
 
-end-within : (v : View) (n k : ℕ) → k < n → sectionEnd k (sectionOf v k) ≤ highestOf v n
-end-within v zero k h = absurd (omega arith)
-end-within v (suc n) k h = step-within v n k (eqb k n) refl h (end-within v n k)
+  end-within : (n k : ℕ) → k < n → sectionEnd k (sectionOf v k) ≤ highestOf v page n
+  end-within zero k h = absurd (omega arith)
+  end-within (suc n) k h = step-within n k (eqb k n) refl h (end-within n k)
 
 pub section-is : (w e base : ℕ) (page : List ℕ) (k : ℕ) → k < 4 → sectionOf (viewAt w e base page) k ≡ sectionAt e base page k
 unfolding sectionOf viewAt
@@ -204,10 +204,10 @@ unfolding keptFor viewAt
 kept-covers r base page p o i h =
     let w : ℕ = minorOf (versionAt page) in
     let v : View = viewAt w (min r w) base page in
-    let c : core (min r w) ≤ highestOf v 4 = core-within v 4 in
+    let c : max (core (min r w)) (fieldsReach (wordAt 8 page) page) ≤ highestOf v page 4 = start-within v page 4 in
     let n = placed base (length page) p in
     others-unnamed r base page .gap i (omega arith)
     (λ k l.
     let f : k < 4 = omega (arith, section-count-most (min r w)) in
-    beside (min r w) base page i k l (rw (← section-is w (min r w) base page k f) (omega (arith, end-within v 4 k f))))
+    beside (min r w) base page i k l (rw (← section-is w (min r w) base page k f) (omega (arith, end-within v page 4 k f))))
     (fields-beside base page i (n .2) (n .0) o (omega arith))

@@ -102,14 +102,6 @@ module _ (r base : ℕ) (page : List ℕ) (w e : ℕ) (q : PlatShown) (t : ℕ �
         go (yes l) (no z) = rw (← section-empty e base k page l (omega arith)) (omega arith)
         go (yes l) (yes z) = last-covered k l (λ x. omega arith)
 
-    highest-covered : (m : ℕ) → m ≤ 4 → highestOf (viewAt w e base page) m ≤ n
-    unfolding highestOf viewAt
-    highest-covered zero l = core-covered
-    highest-covered (suc m) l =
-        let x = highest-covered m (omega arith) in
-        let y : sectionEnd m (sectionAt e base page m) ≤ n = array-covered m in
-        rw (section-is w e base page m (omega arith)) (omega arith)
-
     -- the end mark
     mark-covered : (wordAt 8 page ≡ 0 → ⊥) → fieldsReach (wordAt 8 page) page ≤ n
     unfolding namedBy inPlat inPage platOk platAt mkPlat
@@ -131,7 +123,15 @@ module _ (r base : ℕ) (page : List ℕ) (w e : ℕ) (q : PlatShown) (t : ℕ �
     fields-covered true z = let x = reach-none (wordAt 8 page) page (eqb-true _ _ z) in omega arith
     fields-covered false z = mark-covered (eqb-false _ _ z)
 
+    highest-covered : (m : ℕ) → m ≤ 4 → highestOf (viewAt w e base page) page m ≤ n
+    unfolding highestOf viewAt
+    highest-covered zero l = let x = core-covered in let y = fields-covered _ refl in omega arith
+    highest-covered (suc m) l =
+        let x = highest-covered m (omega arith) in
+        let y : sectionEnd m (sectionAt e base page m) ≤ n = array-covered m in
+        rw (section-is w e base page m (omega arith)) (omega arith)
+
     -- so no smaller multiple of 8 covers them
     pub kept-least : keptFor (viewAt w e base page) page ≤ 8 * ((n + 7) / 8)
-    unfolding keptFor viewAt
-    kept-least = let x = highest-covered 4 (omega arith) in let y = fields-covered _ refl in omega arith
+    unfolding keptFor
+    kept-least = let x = highest-covered 4 (omega arith) in omega arith

@@ -11,6 +11,7 @@ ghost use mathlib.Core.Path.{_≡_};
 ghost use Prim.Native.Nat.{_≤_, max};
 ghost use lib.ListN.{length};
 ghost use Rattle.words.specs.Word.{spanned, spanStart, onFrom};
+ghost use Rattle.versions.specs.Edition.{core};
 ghost use Rattle.reader.specs.Answer.{lookIn, lookOf, countIn, wordIn, fieldsShown, readOf};
 ghost use Rattle.reader.specs.Reading.{sectionOf, readingAnswer};
 ghost use Rattle.entries.specs.Entry.{isHidden};
@@ -314,23 +315,34 @@ fn fields_reach(page: &[u8], plat: u64) -> u64
     (at + n) as u64
 }
 
-// How many bytes the manifest of a view takes from the page's start: the highest end of core, arrays and fields, rounded up to 8. With so many
+// The higher end of the core of an edition and of the fields at a platform pointer.
+pub fn core_end(page: &[u8], edition: u64, plat: u64) -> u64
+    ensures { λ r. ⌜ (r ≡ max (core edition) (fieldsReach plat (now (page .entry)))) × (r ≤ 4096) ⌝ }
+{
+    let edition = Edition { minor: edition };
+    larger(edition.core_size(), fields_reach(page, plat))
+}
+
+// The higher of an end and of that of the array of a section k.
+pub fn higher_end(end: u64, section: Section, k: usize) -> u64
+    ensures { λ r. ⌜ r ≡ max end (sectionEnd k section) ⌝ }
+{
+    larger(end, section_end(section, k))
+}
+
+// How many bytes the manifest of a view takes from the page's start: the highest end of core, fields and arrays, rounded up to 8. With so many
 // kept bytes at cold boot, no runtime command changes what a reader of the view's edition sees. At most 4,096 of any view and page.
 pub fn kept_for(page: &[u8], view: View) -> u64
     ensures { λ r. ⌜ (r ≡ keptFor view (now (page .entry))) × (r ≤ 4096) ⌝ }
 {
-    let edition = Edition {
-        minor: view.edition,
-    };
     let dram = view.dram;
     let console = view.console;
     let ncoh = view.ncoh;
     let coh = view.coh;
-    let mut end = edition.core_size();
-    end = larger(end, section_end(dram, 0));
-    end = larger(end, section_end(console, 1));
-    end = larger(end, section_end(ncoh, 2));
-    end = larger(end, section_end(coh, 3));
-    end = larger(end, fields_reach(page, view.plat));
+    let mut end = core_end(page, view.edition, view.plat);
+    end = higher_end(end, dram, 0);
+    end = higher_end(end, console, 1);
+    end = higher_end(end, ncoh, 2);
+    end = higher_end(end, coh, 3);
     8 * ((end + 7) / 8)
 }

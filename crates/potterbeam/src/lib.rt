@@ -197,13 +197,13 @@ pub extern "C" fn pbeam_field_next(page: &[u8], cursor: usize, field: &mut [u64;
     step.next
 }
 
-// How many bytes the manifest of a view takes from the page's start: with so many kept bytes at cold boot it is read the same, as the
-// edition of the view, after any runtime commands. At most 4,096.
+// How many bytes the manifest of a view takes from the page's start, its fields too: with so many kept bytes at cold boot it is read the same,
+// as the edition of the view, after any runtime commands. At most 4,096.
 #[no_mangle]
-pub extern "C" fn pbeam_kept_for(view: &[u64; 15]) -> u64
-    ensures { λ r. ⌜ (r ≡ keptFor (viewOf (now (view .entry)))) × (r ≤ 4096) ⌝ }
+pub extern "C" fn pbeam_kept_for(page: &[u8], view: &[u64; 15]) -> u64
+    ensures { λ r. ⌜ (r ≡ keptFor (viewOf (now (view .entry))) (now (page .entry))) × (r ≤ 4096) ⌝ }
 {
-    lookup::kept_for(images::view_of(view))
+    images::kept_for(page, view)
 }
 
 // The listing of a page at a base, as a reader of an edition reads it, as far as it fits. Answers the length of the whole text.

@@ -41,8 +41,23 @@ loop-less c = search needs
 loop-again : tie.Need-loop-again Inv-loop μ-loop
 loop-again c = search needs
 
+read-requires : tie.Need-read-requires Inv-loop μ-loop
+read-requires c κs = search needs
+
+enum-known-reading : tie.Need-enum-known-reading Inv-loop μ-loop
+enum-known-reading c = search needs
+
+enum-told : tie.Need-enum-told Inv-loop μ-loop
+enum-told c = search needs
+
 returns : tie.Need-returns Inv-loop μ-loop
 returns c = search needs
+
+print-fields-requires : tie.Need-print-fields-requires Inv-loop μ-loop
+print-fields-requires c κs = search needs
+
+returns-2 : tie.Need-returns-2 Inv-loop μ-loop
+returns-2 c = search needs
 
 pub print-case-spec : {M : Type 1} → statement M
 print-case-spec =
@@ -60,4 +75,9 @@ print-case-spec =
     add-k
     loop-less
     loop-again
-    returns)
+    read-requires
+    enum-known-reading
+    enum-told
+    returns
+    print-fields-requires
+    returns-2)
