@@ -513,7 +513,7 @@ size_t pbeam_field_next(const uint8_t *page, size_t page_len, size_t cursor, uin
  *          4 as 4, entries that do not lie within 4,096 bytes do not count, and broken fields count to the page's end; so it is never
  *          above 4,096.
  * Leaves   page and view as they were.
- * Stack    128 bytes; AArch64 32
+ * Stack    64 bytes; AArch64 0
  * With so many kept bytes pbeam_read gives the same answer and the same view after any commands, as the edition that the view was read as
  * (proved).
  */
