@@ -55,13 +55,12 @@ fn queue_at(bytes: &[u8]) -> Queue {
 }
 
 fn session_at(input: &[u8]) -> Session {
-    if words::word_at(input, 56) == 0 {
-        return Session::Idle;
-    }
-    Session::Sending {
-        whole: words::word_at(input, 64),
-        sent: words::word_at(input, 72),
-    }
+    let image = [
+        words::word_at(input, 56),
+        words::word_at(input, 64),
+        words::word_at(input, 72),
+    ];
+    images::session_of(&image)
 }
 
 // ---- Printing ----
