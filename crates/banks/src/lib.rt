@@ -5,7 +5,7 @@ use entries::Bits;
 ghost use mathlib.Core.Path.{_≡_};
 ghost use Prim.Native.Nat.{_/_, _<_, _≤_};
 ghost use Rattle.entries.specs.Entry.{bankOk};
-ghost use Rattle.banks.specs.Banks.{follows, orElse, granuleCount, placeOf, placedIn, granuleAt, placedAt, reachIn, foundIn, foundAt, recordFrom, SetUp, setUpOf};
+ghost use Rattle.banks.specs.Banks.{follows, orElse, granuleCount, bankPlace, placedIn, granuleAt, placedAt, reachIn, foundIn, foundAt, recordFrom, SetUp, setUpOf};
 
 // The granule that an address falls on.
 pub enum Granule {
@@ -73,7 +73,7 @@ fn place_in(place: u64, before: u64, base: u64, size: u64, address: u64) -> u64
 
 // One pass over the banks: judges them, adds up their granules and finds the address.
 pub fn pass_over(granules: &[u64; 33], address: u64) -> Pass
-    ensures { λ r. ⌜ (r .granules ≡ granuleCount (now (granules .entry))) × (r .place ≡ placeOf (now (granules .entry)) address) ⌝ }
+    ensures { λ r. ⌜ (r .granules ≡ granuleCount (now (granules .entry))) × (r .place ≡ bankPlace (now (granules .entry)) address) ⌝ }
 {
     let count = granules[0];
     if 16 < count {
