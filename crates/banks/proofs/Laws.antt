@@ -17,7 +17,7 @@ use Rattle.entries.specs.Entry.{bankOk}
 use Rattle.codes.specs.declared.Code.the-variants.{Ok}
 use Rattle.banks.specs.declared.Granule.{Granule}
 use Rattle.banks.specs.declared.Granule.the-variants.{Nothing, At}
-use Rattle.banks.specs.Banks.{Granules, Bank, banksBy, bankAt, bankCount, banksOf, ascend, banksOk, recordOk, follows, total, granuleCount, holds, indexIn, placeIn, orElse, placeAmong, bankPlace, granuleAt, addressIn, addressOf, singleRange, reachIn, reachAmong, foundIn, foundAt, setUpCode, setUpOf}
+use Rattle.banks.specs.Banks.{Granules, Bank, banksBy, bankAt, bankCount, banksOf, ascend, banksOk, recordOk, follows, total, granuleCount, holds, indexIn, placeIn, orElse, placeAmong, bankPlace, granuleAt, addressIn, addressOf, singleRange, reachIn, reachAmong, onlyCount, onlyPlace, onlyBank, onlyAt, foundIn, foundAt, setUpCode, setUpOf}
 use Rattle.banks.proofs.Making.{banks-some, made-one, made-good}
 use Rattle.banks.proofs.Passing.{Follows, follows-is, or-nothing, reach-place, reach-among}
 
@@ -252,6 +252,56 @@ module _ (g : Granules) (one : bankCount g ≡ 1) (ok : Yes (recordOk g)) where
           ≡ cond (both k (both (leb (getD g 1 0) addr) (ltb ((addr - getD g 1 0) / 4096) (getD g 2 0 / 4096)))) (At ((addr - getD g 1 0) / 4096)) Nothing
       go true e = rw (holds-same (getD g 1 0) (getD g 2 0) addr only-follows (eqb-true _ _ e), zero-add)
       go false e = refl
+
+-- what a pass over one bank tells
+both-true : (b : Bool) → both b true ≡ b
+unfolding both
+both-true true = refl
+both-true false = refl
+
+module _ (g : Granules) (one : bankCount g ≡ 1) where
+  only-ok : recordOk g ≡ bankOk (getD g 1 0) (getD g 2 0)
+  unfolding recordOk banksOk ascend follows both
+  only-ok = rw (only-bank g one, one, le-leb 0 (getD g 1 0) (omega arith)) (both-true (bankOk (getD g 1 0) (getD g 2 0)))
+
+  pub only-count : onlyCount (getD g 1 0) (getD g 2 0) ≡ granuleCount g
+  unfolding onlyCount granuleCount
+  only-count = go (bankOk (getD g 1 0) (getD g 2 0)) refl
+    where
+      go : (k : Bool) → bankOk (getD g 1 0) (getD g 2 0) ≡ k → cond k (getD g 2 0 / 4096) 0 ≡ cond (recordOk g) (total (banksOf g)) 0
+      go true e = sym (only-granules g one (only-ok ∙ e))
+      go false e = rw (only-ok ∙ e)
+
+  pub only-pass-place : (addr : ℕ) → onlyPlace (getD g 1 0) (getD g 2 0) addr ≡ bankPlace g addr
+  unfolding onlyPlace bankPlace
+  only-pass-place addr = go (bankOk (getD g 1 0) (getD g 2 0)) refl
+    where
+      go : (k : Bool) → bankOk (getD g 1 0) (getD g 2 0) ≡ k → cond k (reachIn 0 (getD g 1 0) (getD g 2 0) addr) Nothing ≡ cond (recordOk g) (placeAmong 0 (banksOf g) addr) Nothing
+      go true e =
+          let ok = only-ok ∙ e in
+          let f = only-follows g one ok in
+          rw (reach-place 0 (getD g 1 0) (getD g 2 0) addr (omega (arith, f .ends))) (sym (only-place g one ok addr))
+      go false e = rw (only-ok ∙ e)
+
+-- of a record that is known to have one good bank of n granules
+module _ (g : Granules) (n : ℕ) (h : Yes (onlyBank g n)) where
+  bank-one : bankCount g ≡ 1
+  unfolding onlyBank
+  bank-one = eqb-true (bankCount g) 1 (both-l _ _ h)
+
+  bank-good : Yes (bankOk (getD g 1 0) (getD g 2 0))
+  unfolding onlyBank
+  bank-good = both-r _ _ (both-r _ _ h)
+
+  pub bank-granules : granuleCount g ≡ n
+  unfolding onlyBank
+  bank-granules = only-granules g bank-one (only-ok g bank-one ∙ bank-good) ∙ eqb-true (getD g 2 0 / 4096) n (both-l _ _ (both-r _ _ h))
+
+  pub bank-granule : (addr : ℕ) → onlyAt (getD g 1 0) (getD g 2 0) addr ≡ granuleAt g n addr
+  unfolding onlyAt granuleAt onlyPlace
+  bank-granule addr =
+      let p : reachIn 0 (getD g 1 0) (getD g 2 0) addr ≡ bankPlace g addr = rw bank-good at (only-pass-place g bank-one addr) in
+      rw (p, bank-granules, eq-eqb n n refl, both-true (eqb (addr % 4096) 0))
 
 -- of a record that the set-up made of one bank, in a table of the length that it was made for
 pub one-bank-made : (shown : List ℕ) (n : ℕ) (g : Granules) → length shown ≡ 16 → setUpCode shown n ≡ Ok → (addr : ℕ) → granuleAt (setUpOf shown n g .granules) n addr ≡ singleRange (wordAt 0 shown) n addr

@@ -126,6 +126,20 @@ reachAmong before (b ∷ bs) addr = orElse (reachIn before (b .base) (b .size) a
 unfoldable pub placedAt : ℕ → Granule
 placedAt p = cond (eqb p 0xFFFFFFFFFFFFFFFF) Nothing (At p)
 
+-- of a record with one bank
+unfoldable pub onlyCount : ℕ → ℕ → ℕ
+onlyCount base size = cond (bankOk base size) (size / 4096) 0
+
+unfoldable pub onlyPlace : ℕ → ℕ → ℕ → Granule
+onlyPlace base size addr = cond (bankOk base size) (reachIn 0 base size addr) Nothing
+
+-- whether a record has one bank, which meets the reader's rule and has n granules; and the granule of an address in it
+unfoldable pub onlyBank : Granules → ℕ → Bool
+onlyBank g n = both (eqb (bankCount g) 1) (both (eqb (getD g 2 0 / 4096) n) (bankOk (getD g 1 0) (getD g 2 0)))
+
+unfoldable pub onlyAt : ℕ → ℕ → ℕ → Granule
+onlyAt base size addr = cond (eqb (addr % 4096) 0) (reachIn 0 base size addr) Nothing
+
 -- for a list of addresses, which asks once for the number m of the record's granules: in banks that are not judged again, up to 16
 unfoldable pub foundIn : Granules → ℕ → Granule
 foundIn g addr = cond (leb (bankCount g) 16) (reachAmong 0 (banksOf g) addr) Nothing
