@@ -17,7 +17,7 @@ use Rattle.entries.specs.Entry.{bankOk}
 use Rattle.codes.specs.declared.Code.the-variants.{Ok}
 use Rattle.banks.specs.declared.Granule.{Granule}
 use Rattle.banks.specs.declared.Granule.the-variants.{Nothing, At}
-use Rattle.banks.specs.Banks.{Granules, Bank, banksBy, bankAt, countOf, banksOf, ascend, banksOk, recordOk, follows, total, granuleCount, holds, indexIn, placeIn, orElse, placeAmong, placeOf, granuleAt, addressIn, addressOf, singleRange, reachIn, reachAmong, foundIn, foundAt, setUpCode, setUpOf}
+use Rattle.banks.specs.Banks.{Granules, Bank, banksBy, bankAt, bankCount, banksOf, ascend, banksOk, recordOk, follows, total, granuleCount, holds, indexIn, placeIn, orElse, placeAmong, bankPlace, granuleAt, addressIn, addressOf, singleRange, reachIn, reachAmong, onlyCount, onlyPlace, onlyBank, onlyAt, foundIn, foundAt, setUpCode, setUpOf}
 use Rattle.banks.proofs.Making.{banks-some, made-one, made-good}
 use Rattle.banks.proofs.Passing.{Follows, follows-is, or-nothing, reach-place, reach-among}
 
@@ -48,14 +48,14 @@ ok-granules : (g : Granules) → Yes (recordOk g) → granuleCount g ≡ total (
 unfolding granuleCount
 ok-granules g k = rw k
 
-ok-few : (g : Granules) → Yes (recordOk g) → Yes (leb (countOf g) 16)
+ok-few : (g : Granules) → Yes (recordOk g) → Yes (leb (bankCount g) 16)
 unfolding recordOk banksOk
 ok-few g k = both-l _ _ (both-r _ _ k)
 
 pub falls : (g : Granules) (n addr i : ℕ) → granuleAt g n addr ≡ At i → Falls g n addr i
-unfolding granuleAt placeOf
+unfolding granuleAt bankPlace
 falls g n addr i h =
-    let p = cond-at (both (eqb (addr % 4096) 0) (eqb (granuleCount g) n)) (placeOf g addr) i h in
+    let p = cond-at (both (eqb (addr % 4096) 0) (eqb (granuleCount g) n)) (bankPlace g addr) i h in
     let q = cond-at (recordOk g) (placeAmong 0 (banksOf g) addr) i (p .1) in
     record {
       whole = eqb-true _ _ (both-l _ _ (p .0));
@@ -172,7 +172,7 @@ among-named low before (b ∷ bs) i a h = go (decLt i (b .size / 4096)) (among-n
         }
 
 pub index-named : (g : Granules) (i : ℕ) → Yes (recordOk g) → i < granuleCount g → granuleAt g (granuleCount g) (addressOf g i) ≡ At i
-unfolding granuleAt placeOf both
+unfolding granuleAt bankPlace both
 index-named g i ok h =
     let n = among-named 0 0 (banksOf g) i (ok-ascends g ok) (omega (arith, ok-granules g ok)) in
     rw (eq-eqb (addressOf g i % 4096) 0 (n .whole), eq-eqb (granuleCount g) (granuleCount g) refl, ok) (n .place ∙ ap At (zero-add i))
@@ -204,14 +204,14 @@ cond-none false = refl
 
 some-granules : (g : Granules) → Yes (recordOk g) → 0 < granuleCount g
 unfolding granuleCount recordOk
-some-granules g k = rw k (banks-some (countOf g) (bankAt g) k)
+some-granules g k = rw k (banks-some (bankCount g) (bankAt g) k)
 
 pub judged-once : (g : Granules) (n addr : ℕ) → foundAt g (granuleCount g) n addr ≡ granuleAt g n addr
-unfolding foundAt granuleAt placeOf foundIn both
+unfolding foundAt granuleAt bankPlace foundIn both
 judged-once g n addr = go (recordOk g) refl
   where
     go : (k : Bool) → recordOk g ≡ k
-        → cond (both (ltb 0 (granuleCount g)) (both (eqb (addr % 4096) 0) (eqb (granuleCount g) n))) (cond (leb (countOf g) 16) (reachAmong 0 (banksOf g) addr) Nothing) Nothing
+        → cond (both (ltb 0 (granuleCount g)) (both (eqb (addr % 4096) 0) (eqb (granuleCount g) n))) (cond (leb (bankCount g) 16) (reachAmong 0 (banksOf g) addr) Nothing) Nothing
         ≡ cond (both (eqb (addr % 4096) 0) (eqb (granuleCount g) n)) (cond k (placeAmong 0 (banksOf g) addr) Nothing) Nothing
     go true e = simp (lt-ltb 0 (granuleCount g) (some-granules g e), ok-few g e, reach-among 0 0 (banksOf g) addr (ok-ascends g e))
     go false e = simp (le-ltb 0 (granuleCount g) (no-granules g e)) (sym (cond-none (both (eqb (addr % 4096) 0) (eqb (granuleCount g) n))))
@@ -226,11 +226,11 @@ holds-same base size addr f m =
     (λ h. let u : base ≤ addr = leb-true _ _ (both-l _ _ h) in let k : addr < base + size = ltb-true _ _ (both-r _ _ h) in both-of _ _ (le-leb base addr u) (lt-ltb ((addr - base) / 4096) (size / 4096) (omega arith)))
     (λ h. let u : base ≤ addr = leb-true _ _ (both-l _ _ h) in let k : (addr - base) / 4096 < size / 4096 = ltb-true _ _ (both-r _ _ h) in both-of _ _ (le-leb base addr u) (lt-ltb addr (base + size) (omega arith)))
 
-only-bank : (g : Granules) → countOf g ≡ 1 → banksOf g ≡ bankAt g 0 ∷ []
+only-bank : (g : Granules) → bankCount g ≡ 1 → banksOf g ≡ bankAt g 0 ∷ []
 unfolding banksBy
 only-bank g one = rw one
 
-module _ (g : Granules) (one : countOf g ≡ 1) (ok : Yes (recordOk g)) where
+module _ (g : Granules) (one : bankCount g ≡ 1) (ok : Yes (recordOk g)) where
   only-follows : Follows 0 (getD g 1 0) (getD g 2 0)
   unfolding ascend
   only-follows = let a : Yes (ascend 0 (bankAt g 0 ∷ [])) = rw (only-bank g one) at (ok-ascends g ok) in follows-is 0 (getD g 1 0) (getD g 2 0) (both-l _ _ a)
@@ -239,8 +239,8 @@ module _ (g : Granules) (one : countOf g ≡ 1) (ok : Yes (recordOk g)) where
   unfolding granuleCount total
   only-granules = rw (ok, only-bank g one) (omega arith)
 
-  only-place : (addr : ℕ) → placeOf g addr ≡ placeIn 0 (getD g 1 0) (getD g 2 0) addr
-  unfolding placeOf placeAmong
+  only-place : (addr : ℕ) → bankPlace g addr ≡ placeIn 0 (getD g 1 0) (getD g 2 0) addr
+  unfolding bankPlace placeAmong
   only-place addr = rw (ok, only-bank g one) (or-nothing _)
 
   pub one-bank : (addr : ℕ) → granuleAt g (granuleCount g) addr ≡ singleRange (getD g 1 0) (granuleCount g) addr
@@ -252,6 +252,56 @@ module _ (g : Granules) (one : countOf g ≡ 1) (ok : Yes (recordOk g)) where
           ≡ cond (both k (both (leb (getD g 1 0) addr) (ltb ((addr - getD g 1 0) / 4096) (getD g 2 0 / 4096)))) (At ((addr - getD g 1 0) / 4096)) Nothing
       go true e = rw (holds-same (getD g 1 0) (getD g 2 0) addr only-follows (eqb-true _ _ e), zero-add)
       go false e = refl
+
+-- what a pass over one bank tells
+both-true : (b : Bool) → both b true ≡ b
+unfolding both
+both-true true = refl
+both-true false = refl
+
+module _ (g : Granules) (one : bankCount g ≡ 1) where
+  only-ok : recordOk g ≡ bankOk (getD g 1 0) (getD g 2 0)
+  unfolding recordOk banksOk ascend follows both
+  only-ok = rw (only-bank g one, one, le-leb 0 (getD g 1 0) (omega arith)) (both-true (bankOk (getD g 1 0) (getD g 2 0)))
+
+  pub only-count : onlyCount (getD g 1 0) (getD g 2 0) ≡ granuleCount g
+  unfolding onlyCount granuleCount
+  only-count = go (bankOk (getD g 1 0) (getD g 2 0)) refl
+    where
+      go : (k : Bool) → bankOk (getD g 1 0) (getD g 2 0) ≡ k → cond k (getD g 2 0 / 4096) 0 ≡ cond (recordOk g) (total (banksOf g)) 0
+      go true e = sym (only-granules g one (only-ok ∙ e))
+      go false e = rw (only-ok ∙ e)
+
+  pub only-pass-place : (addr : ℕ) → onlyPlace (getD g 1 0) (getD g 2 0) addr ≡ bankPlace g addr
+  unfolding onlyPlace bankPlace
+  only-pass-place addr = go (bankOk (getD g 1 0) (getD g 2 0)) refl
+    where
+      go : (k : Bool) → bankOk (getD g 1 0) (getD g 2 0) ≡ k → cond k (reachIn 0 (getD g 1 0) (getD g 2 0) addr) Nothing ≡ cond (recordOk g) (placeAmong 0 (banksOf g) addr) Nothing
+      go true e =
+          let ok = only-ok ∙ e in
+          let f = only-follows g one ok in
+          rw (reach-place 0 (getD g 1 0) (getD g 2 0) addr (omega (arith, f .ends))) (sym (only-place g one ok addr))
+      go false e = rw (only-ok ∙ e)
+
+-- of a record that is known to have one good bank of n granules
+module _ (g : Granules) (n : ℕ) (h : Yes (onlyBank g n)) where
+  bank-one : bankCount g ≡ 1
+  unfolding onlyBank
+  bank-one = eqb-true (bankCount g) 1 (both-l _ _ h)
+
+  bank-good : Yes (bankOk (getD g 1 0) (getD g 2 0))
+  unfolding onlyBank
+  bank-good = both-r _ _ (both-r _ _ h)
+
+  pub bank-granules : granuleCount g ≡ n
+  unfolding onlyBank
+  bank-granules = only-granules g bank-one (only-ok g bank-one ∙ bank-good) ∙ eqb-true (getD g 2 0 / 4096) n (both-l _ _ (both-r _ _ h))
+
+  pub bank-granule : (addr : ℕ) → onlyAt (getD g 1 0) (getD g 2 0) addr ≡ granuleAt g n addr
+  unfolding onlyAt granuleAt onlyPlace
+  bank-granule addr =
+      let p : reachIn 0 (getD g 1 0) (getD g 2 0) addr ≡ bankPlace g addr = rw bank-good at (only-pass-place g bank-one addr) in
+      rw (p, bank-granules, eq-eqb n n refl, both-true (eqb (addr % 4096) 0))
 
 -- of a record that the set-up made of one bank, in a table of the length that it was made for
 pub one-bank-made : (shown : List ℕ) (n : ℕ) (g : Granules) → length shown ≡ 16 → setUpCode shown n ≡ Ok → (addr : ℕ) → granuleAt (setUpOf shown n g .granules) n addr ≡ singleRange (wordAt 0 shown) n addr

@@ -15,16 +15,16 @@ use Rattle.words.proofs.Tests.{both-l, both-r}
 use Rattle.codes.specs.declared.Code.the-variants.{Ok, Inval}
 use Rattle.codes.proofs.Gates.{unless-ok}
 use Rattle.words.proofs.Read.{wordsOf-at, wordsOf-length, wordsOf-suc}
-use Rattle.banks.specs.Banks.{Granules, Bank, banksBy, bankAt, countOf, banksOf, ascend, banksOk, recordOk, total, granuleCount, bankIn, banksIn, countIn, takes, setUpCode, filled, recordFrom, setUpOf}
+use Rattle.banks.specs.Banks.{Granules, Bank, banksBy, bankAt, bankCount, banksOf, ascend, banksOk, recordOk, total, granuleCount, bankIn, banksIn, shownCount, takes, setUpCode, recordPart, recordFrom, setUpOf}
 use Rattle.banks.proofs.Passing.{Follows, follows-is}
 
 -- ---- the words, one by one
-pub fill-none : (n : ℕ) (shown : List ℕ) → n ∷ replicate 32 0 ≡ filled n 0 shown
-unfolding filled wordsOf
+pub fill-none : (n : ℕ) (shown : List ℕ) → n ∷ replicate 32 0 ≡ recordPart n 0 shown
+unfolding recordPart wordsOf
 fill-none n shown = refl
 
-pub fill-more : (n i : ℕ) (shown : List ℕ) → i < 32 → set (filled n i shown) (i + 1) (wordAt (8 * i) shown) ≡ filled n (i + 1) shown
-unfolding filled
+pub fill-more : (n i : ℕ) (shown : List ℕ) → i < 32 → set (recordPart n i shown) (i + 1) (wordAt (8 * i) shown) ≡ recordPart n (i + 1) shown
+unfolding recordPart
 fill-more n i shown h =
     let e : 32 - i ≡ suc (31 - i) = omega arith in
     let f : 32 - suc i ≡ 31 - i = omega arith in
@@ -32,7 +32,7 @@ fill-more n i shown h =
 
 -- ---- the banks of the record made
 word-in : (n i : ℕ) (shown : List ℕ) → i < 2 * n → getD (recordFrom n shown) (suc i) 0 ≡ wordAt (8 * i) shown
-unfolding filled
+unfolding recordPart
 word-in n i shown h = List·getD-append (wordsOf (2 * n) shown) (replicate (32 - 2 * n) 0) 0 i (rw (wordsOf-length (2 * n) shown) h) ∙ wordsOf-at (2 * n) shown i h
 
 pub banks-same : (f g : ℕ → Bank) (i n : ℕ) → ((j : ℕ) → j < i + n → f j ≡ g j) → banksBy f i n ≡ banksBy g i n
@@ -48,8 +48,8 @@ bank-made n shown j h =
     let e : 8 * (2 * j + 1) ≡ 16 * j + 8 = omega arith in
     rw (a, b, word-in n (2 * j) shown (omega arith), word-in n (2 * j + 1) shown (omega arith), d, e)
 
-count-made : (n : ℕ) (shown : List ℕ) → countOf (recordFrom n shown) ≡ n
-unfolding filled
+count-made : (n : ℕ) (shown : List ℕ) → bankCount (recordFrom n shown) ≡ n
+unfolding recordPart
 count-made n shown = refl
 
 pub banks-made : (n : ℕ) (shown : List ℕ) → banksOf (recordFrom n shown) ≡ banksIn n shown
@@ -84,27 +84,27 @@ banks-some (suc n) f h =
 
 -- the tests behind the first, by name
 abbrev fine : List ℕ → Bool
-fine shown = banksOk (countIn shown) (banksIn (countIn shown) shown)
+fine shown = banksOk (shownCount shown) (banksIn (shownCount shown) shown)
 
 abbrev sum : List ℕ → ℕ
-sum shown = total (banksIn (countIn shown) shown)
+sum shown = total (banksIn (shownCount shown) shown)
 
 module _ (shown : List ℕ) (n : ℕ) (whole : length shown % 16 ≡ 0) where
-  pub not-taken : (granuleCount (recordFrom (countIn shown) shown) ≡ n → ⊥) → takes shown n ≡ false
+  pub not-taken : (granuleCount (recordFrom (shownCount shown) shown) ≡ n → ⊥) → takes shown n ≡ false
   unfolding takes both
-  not-taken h = simp (eq-eqb (length shown % 16) 0 whole) (both-no (fine shown) (sum shown) n (λ e. h (granules-made (countIn shown) shown ∙ e)))
+  not-taken h = simp (eq-eqb (length shown % 16) 0 whole) (both-no (fine shown) (sum shown) n (λ e. h (granules-made (shownCount shown) shown ∙ e)))
 
-  pub taken : granuleCount (recordFrom (countIn shown) shown) ≡ n → (n ≡ 0 → ⊥) → takes shown n ≡ true
+  pub taken : granuleCount (recordFrom (shownCount shown) shown) ≡ n → (n ≡ 0 → ⊥) → takes shown n ≡ true
   unfolding takes both
-  taken h z = simp (eq-eqb (length shown % 16) 0 whole) (both-yes (fine shown) (sum shown) n (sym (granules-made (countIn shown) shown) ∙ h) z)
+  taken h z = simp (eq-eqb (length shown % 16) 0 whole) (both-yes (fine shown) (sum shown) n (sym (granules-made (shownCount shown) shown) ∙ h) z)
 
   pub none-taken : n ≡ 0 → takes shown n ≡ false
   unfolding takes both
-  none-taken z = simp (z, eq-eqb (length shown % 16) 0 whole) (both-zero (fine shown) (sum shown) (banks-some (countIn shown) (bankIn shown)))
+  none-taken z = simp (z, eq-eqb (length shown % 16) 0 whole) (both-zero (fine shown) (sum shown) (banks-some (shownCount shown) (bankIn shown)))
 
-  pub many-not : 16 < countIn shown → takes shown n ≡ false
+  pub many-not : 16 < shownCount shown → takes shown n ≡ false
   unfolding takes banksOk both
-  many-not h = simp (eq-eqb (length shown % 16) 0 whole, lt-ltb 0 (countIn shown) (omega arith), lt-leb (countIn shown) 16 h)
+  many-not h = simp (eq-eqb (length shown % 16) 0 whole, lt-ltb 0 (shownCount shown) (omega arith), lt-leb (shownCount shown) 16 h)
 
 pub part-not : (shown : List ℕ) (n : ℕ) → (length shown % 16 ≡ 0 → ⊥) → takes shown n ≡ false
 unfolding takes both
@@ -112,7 +112,7 @@ part-not shown n h = simp (ne-eqb (length shown % 16) 0 h)
 
 -- ---- what the set-up made
 module _ (shown : List ℕ) (n : ℕ) (g : Granules) (h : setUpCode shown n ≡ Ok) where
-  made-is : setUpOf shown n g .granules ≡ recordFrom (countIn shown) shown
+  made-is : setUpOf shown n g .granules ≡ recordFrom (shownCount shown) shown
   unfolding setUpOf
   made-is = rw h
 
@@ -131,11 +131,11 @@ module _ (shown : List ℕ) (n : ℕ) (g : Granules) (h : setUpCode shown n ≡ 
   -- a record that the set-up made is good, and has as many granules as the table
   pub made-good : Yes (recordOk (setUpOf shown n g .granules)) × (granuleCount (setUpOf shown n g .granules) ≡ n)
   unfolding recordOk
-  made-good = rw made-is (rw (banks-made (countIn shown) shown, count-made (countIn shown) shown) took-banks, granules-made (countIn shown) shown ∙ rw took-banks took-sum)
+  made-good = rw made-is (rw (banks-made (shownCount shown) shown, count-made (shownCount shown) shown) took-banks, granules-made (shownCount shown) shown ∙ rw took-banks took-sum)
 
 module _ (shown : List ℕ) (n : ℕ) (g : Granules) (l : length shown ≡ 16) (h : setUpCode shown n ≡ Ok) where
   -- of 16 bytes: one bank, whose base is their first word
-  pub made-one : (countOf (setUpOf shown n g .granules) ≡ 1) × (getD (setUpOf shown n g .granules) 1 0 ≡ wordAt 0 shown)
+  pub made-one : (bankCount (setUpOf shown n g .granules) ≡ 1) × (getD (setUpOf shown n g .granules) 1 0 ≡ wordAt 0 shown)
   made-one =
-      let c : countIn shown ≡ 1 = omega arith in
+      let c : shownCount shown ≡ 1 = omega arith in
       rw (made-is shown n g h, c) (count-made 1 shown, word-in 1 0 shown (omega arith))

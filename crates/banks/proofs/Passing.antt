@@ -13,7 +13,7 @@ use Rattle.words.proofs.Tests.{both-l, both-r, same-test}
 use Rattle.entries.specs.Entry.{bankOk}
 use Rattle.banks.specs.declared.Granule.{Granule}
 use Rattle.banks.specs.declared.Granule.the-variants.{Nothing, At}
-use Rattle.banks.specs.Banks.{Granules, Bank, banksBy, bankAt, countOf, banksOf, follows, ascend, banksOk, recordOk, total, granuleCount, holds, indexBy, indexIn, placeIn, orElse, placeAmong, placeOf, distance, reachIn, reachAmong}
+use Rattle.banks.specs.Banks.{Granules, Bank, banksBy, bankAt, bankCount, banksOf, follows, ascend, banksOk, recordOk, total, granuleCount, holds, indexBy, indexIn, placeIn, orElse, placeAmong, bankPlace, distance, reachIn, reachAmong}
 
 -- ---- a bank that follows
 pub record Follows (low base size : ℕ) : Type 0 where
@@ -116,17 +116,17 @@ found-below (At j) low before base size addr k f h e = let l : addr < low = h j 
 
 -- ---- the loop before bank i: all banks are judged, counted and searched by what is left
 abbrev pub left : List ℕ → ℕ → List Bank
-left g i = banksBy (bankAt g) i (countOf g - i)
+left g i = banksBy (bankAt g) i (bankCount g - i)
 
-pub left-more : (g : Granules) (i : ℕ) → i < countOf g → left g i ≡ bankAt g i ∷ left g (i + 1)
-left-more g i h = banks-more (bankAt g) (countOf g) i h
+pub left-more : (g : Granules) (i : ℕ) → i < bankCount g → left g i ≡ bankAt g i ∷ left g (i + 1)
+left-more g i h = banks-more (bankAt g) (bankCount g) i h
 
-pub left-none : (g : Granules) (i : ℕ) → countOf g ≤ i → left g i ≡ []
+pub left-none : (g : Granules) (i : ℕ) → bankCount g ≤ i → left g i ≡ []
 unfolding banksBy
-left-none g i h = let z : countOf g - i ≡ 0 = omega arith in rw z
+left-none g i h = let z : bankCount g - i ≡ 0 = omega arith in rw z
 
 pub left-all : (g : Granules) → left g 0 ≡ banksOf g
-left-all g = let z : countOf g - 0 ≡ countOf g = omega arith in rw z
+left-all g = let z : bankCount g - 0 ≡ bankCount g = omega arith in rw z
 
 pub record Stage (g : Granules) (addr i low before : ℕ) (place : Granule) : Type 0 where
   pub end-fits : low ≤ 2 ^ 52
@@ -139,7 +139,7 @@ pub record Stage (g : Granules) (addr i low before : ℕ) (place : Granule) : Ty
 pub stage-first : (g : Granules) (addr : ℕ) → Stage g addr 0 0 0 Nothing
 unfolding orElse
 stage-first g addr =
-    let z : countOf g - 0 ≡ countOf g = omega arith in
+    let z : bankCount g - 0 ≡ bankCount g = omega arith in
     record { end-fits = omega arith; count-fits = omega arith; judged = rw z; counted = rw z (omega arith); found = rw z; passed-by = λ k h. absurd (let y : _≡_ {A = ℕ} 0 1 = cc in omega arith) }
 
 -- ---- what the pass answers
@@ -150,41 +150,41 @@ both-none true false = refl
 both-none false b = refl
 
 module _ (g : Granules) (addr : ℕ) where
-  pub refused : recordOk g ≡ false → (0 ≡ granuleCount g) × (Nothing ≡ placeOf g addr)
-  unfolding granuleCount placeOf
+  pub refused : recordOk g ≡ false → (0 ≡ granuleCount g) × (Nothing ≡ bankPlace g addr)
+  unfolding granuleCount bankPlace
   refused h = (rw h, rw h)
 
-  pub many-refused : 16 < countOf g → recordOk g ≡ false
+  pub many-refused : 16 < bankCount g → recordOk g ≡ false
   unfolding recordOk banksOk both
-  many-refused h = simp (lt-ltb 0 (countOf g) (omega arith), lt-leb (countOf g) 16 h)
+  many-refused h = simp (lt-ltb 0 (bankCount g) (omega arith), lt-leb (bankCount g) 16 h)
 
   pub badly-refused : ascend 0 (banksOf g) ≡ false → recordOk g ≡ false
   unfolding recordOk banksOk
   badly-refused h = rw h (both-none _ _)
 
-  none-refused : countOf g ≡ 0 → recordOk g ≡ false
+  none-refused : bankCount g ≡ 0 → recordOk g ≡ false
   unfolding recordOk banksOk both
-  none-refused e = simp (le-ltb 0 (countOf g) (omega arith))
+  none-refused e = simp (le-ltb 0 (bankCount g) (omega arith))
 
-  none-total : countOf g ≡ 0 → total (banksOf g) ≡ 0
+  none-total : bankCount g ≡ 0 → total (banksOf g) ≡ 0
   unfolding banksBy total
   none-total e = rw e
 
-  none-place : countOf g ≡ 0 → placeAmong 0 (banksOf g) addr ≡ Nothing
+  none-place : bankCount g ≡ 0 → placeAmong 0 (banksOf g) addr ≡ Nothing
   unfolding banksBy placeAmong
   none-place e = rw e
 
-  pub passed : (n : ℕ) (place : Granule) → countOf g ≤ 16 → Yes (ascend 0 (banksOf g)) → total (banksOf g) ≡ n → placeAmong 0 (banksOf g) addr ≡ place → (n ≡ granuleCount g) × (place ≡ placeOf g addr)
-  unfolding granuleCount placeOf recordOk banksOk both
-  passed n place m a t p = go (countOf g) refl
+  pub passed : (n : ℕ) (place : Granule) → bankCount g ≤ 16 → Yes (ascend 0 (banksOf g)) → total (banksOf g) ≡ n → placeAmong 0 (banksOf g) addr ≡ place → (n ≡ granuleCount g) × (place ≡ bankPlace g addr)
+  unfolding granuleCount bankPlace recordOk banksOk both
+  passed n place m a t p = go (bankCount g) refl
     where
-      go : (k : ℕ) → countOf g ≡ k → (n ≡ granuleCount g) × (place ≡ placeOf g addr)
+      go : (k : ℕ) → bankCount g ≡ k → (n ≡ granuleCount g) × (place ≡ bankPlace g addr)
       go zero e = let f = refused (none-refused e) in (sym t ∙ none-total e ∙ f .0, sym p ∙ none-place e ∙ f .1)
-      go (suc k) e = simp (lt-ltb 0 (countOf g) (omega arith), le-leb (countOf g) 16 m, a) (sym t, sym p)
+      go (suc k) e = simp (lt-ltb 0 (bankCount g) (omega arith), le-leb (bankCount g) 16 m, a) (sym t, sym p)
 
 module _ (g : Granules) (addr i low before : ℕ) (place : Granule) (s : Stage g addr i low before place) where
   -- no bank is left
-  module _ (h : countOf g ≤ i) where
+  module _ (h : bankCount g ≤ i) where
     none-left : left g i ≡ []
     none-left = left-none g i h
 
@@ -201,7 +201,7 @@ module _ (g : Granules) (addr i low before : ℕ) (place : Granule) (s : Stage g
     stage-found = s .found ∙ rw none-left (or-nothing place)
 
   -- one bank more, with its two words as the code reads them
-  module _ (base size : ℕ) (h : i < countOf g) (b : base ≡ getD g (1 + 2 * i) 0) (z : size ≡ getD g (2 + 2 * i) 0) where
+  module _ (base size : ℕ) (h : i < bankCount g) (b : base ≡ getD g (1 + 2 * i) 0) (z : size ≡ getD g (2 + 2 * i) 0) where
     one-left : left g i ≡ record { base = base; size = size } ∷ left g (i + 1)
     one-left = left-more g i h ∙ rw (b, z)
 
@@ -226,11 +226,11 @@ module _ (g : Granules) (addr i low before : ℕ) (place : Granule) (s : Stage g
 
 -- ---- a search that stops at the first hit
 module _ (g : Granules) (addr i before : ℕ) where
-  pub seek-last : countOf g ≤ i → reachAmong before (left g i) addr ≡ Nothing
+  pub seek-last : bankCount g ≤ i → reachAmong before (left g i) addr ≡ Nothing
   unfolding reachAmong
   seek-last h = rw (left-none g i h)
 
-  module _ (h : i < countOf g) where
+  module _ (h : i < bankCount g) where
     pub seek-more : reachIn before (getD g (1 + 2 * i) 0) (getD g (2 + 2 * i) 0) addr ≡ Nothing
         → reachAmong before (left g i) addr ≡ reachAmong (before + getD g (2 + 2 * i) 0 / 4096) (left g (i + 1)) addr
     unfolding reachAmong orElse
@@ -241,6 +241,6 @@ module _ (g : Granules) (addr i before : ℕ) where
     seek-hit k n = rw (left-more g i h, n)
 
 -- in one bank
-pub seek-only : (g : Granules) (addr : ℕ) → countOf g ≡ 1 → reachAmong 0 (banksOf g) addr ≡ reachIn 0 (getD g 1 0) (getD g 2 0) addr
+pub seek-only : (g : Granules) (addr : ℕ) → bankCount g ≡ 1 → reachAmong 0 (banksOf g) addr ≡ reachIn 0 (getD g 1 0) (getD g 2 0) addr
 unfolding banksBy reachAmong
 seek-only g addr one = rw one (or-nothing _)

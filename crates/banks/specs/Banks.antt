@@ -31,11 +31,11 @@ banksBy f i (suc n) = f i ∷ banksBy f (suc i) n
 abbrev pub bankAt : Granules → ℕ → Bank
 bankAt g i = record { base = getD g (1 + 2 * i) 0; size = getD g (2 + 2 * i) 0 }
 
-abbrev pub countOf : Granules → ℕ
-countOf g = getD g 0 0
+abbrev pub bankCount : Granules → ℕ
+bankCount g = getD g 0 0
 
 abbrev pub banksOf : Granules → List Bank
-banksOf g = banksBy (bankAt g) 0 (countOf g)
+banksOf g = banksBy (bankAt g) 0 (bankCount g)
 
 -- ---- which banks are taken
 -- the reader's rule for a bank, and at or after the end of the one before: else "banks not ascending or overlapping"
@@ -51,7 +51,7 @@ unfoldable pub banksOk : ℕ → List Bank → Bool
 banksOk n bs = both (ltb 0 n) (both (leb n 16) (ascend 0 bs))
 
 unfoldable pub recordOk : Granules → Bool
-recordOk g = banksOk (countOf g) (banksOf g)
+recordOk g = banksOk (bankCount g) (banksOf g)
 
 -- the granules of banks: their sum
 unfoldable pub total : List Bank → ℕ
@@ -85,8 +85,8 @@ unfoldable pub placeAmong : ℕ → List Bank → ℕ → Granule
 placeAmong before [] addr = Nothing
 placeAmong before (b ∷ bs) addr = orElse (placeIn before (b .base) (b .size) addr) (placeAmong (before + b .size / 4096) bs addr)
 
-unfoldable pub placeOf : Granules → ℕ → Granule
-placeOf g addr = cond (recordOk g) (placeAmong 0 (banksOf g) addr) Nothing
+unfoldable pub bankPlace : Granules → ℕ → Granule
+bankPlace g addr = cond (recordOk g) (placeAmong 0 (banksOf g) addr) Nothing
 
 -- in a table of n granules. 01: "BAD_ADDR unless .. the address are multiples of 4,096 and the address falls on a granule of the table."
 -- 02, E2: "Demand 2 reads "granule of the table" so", and "a table of another length makes every address BAD_ADDR"
@@ -94,7 +94,7 @@ abbrev pub placedIn : ℕ → Granule → ℕ → ℕ → Granule
 placedIn m place n addr = cond (both (eqb (addr % 4096) 0) (eqb m n)) place Nothing
 
 unfoldable pub granuleAt : Granules → ℕ → ℕ → Granule
-granuleAt g n addr = placedIn (granuleCount g) (placeOf g addr) n addr
+granuleAt g n addr = placedIn (granuleCount g) (bankPlace g addr) n addr
 
 -- ---- for the theorems
 -- the address of granule i, in banks and in a record's
@@ -126,9 +126,23 @@ reachAmong before (b ∷ bs) addr = orElse (reachIn before (b .base) (b .size) a
 unfoldable pub placedAt : ℕ → Granule
 placedAt p = cond (eqb p 0xFFFFFFFFFFFFFFFF) Nothing (At p)
 
+-- of a record with one bank
+unfoldable pub onlyCount : ℕ → ℕ → ℕ
+onlyCount base size = cond (bankOk base size) (size / 4096) 0
+
+unfoldable pub onlyPlace : ℕ → ℕ → ℕ → Granule
+onlyPlace base size addr = cond (bankOk base size) (reachIn 0 base size addr) Nothing
+
+-- whether a record has one bank, which meets the reader's rule and has n granules; and the granule of an address in it
+unfoldable pub onlyBank : Granules → ℕ → Bool
+onlyBank g n = both (eqb (bankCount g) 1) (both (eqb (getD g 2 0 / 4096) n) (bankOk (getD g 1 0) (getD g 2 0)))
+
+unfoldable pub onlyAt : ℕ → ℕ → ℕ → Granule
+onlyAt base size addr = cond (eqb (addr % 4096) 0) (reachIn 0 base size addr) Nothing
+
 -- for a list of addresses, which asks once for the number m of the record's granules: in banks that are not judged again, up to 16
 unfoldable pub foundIn : Granules → ℕ → Granule
-foundIn g addr = cond (leb (countOf g) 16) (reachAmong 0 (banksOf g) addr) Nothing
+foundIn g addr = cond (leb (bankCount g) 16) (reachAmong 0 (banksOf g) addr) Nothing
 
 unfoldable pub foundAt : Granules → ℕ → ℕ → ℕ → Granule
 foundAt g m n addr = cond (both (ltb 0 m) (both (eqb (addr % 4096) 0) (eqb m n))) (foundIn g addr) Nothing
@@ -141,25 +155,25 @@ bankIn shown i = record { base = wordAt (16 * i) shown; size = wordAt (16 * i + 
 abbrev pub banksIn : ℕ → List ℕ → List Bank
 banksIn n shown = banksBy (bankIn shown) 0 n
 
-abbrev pub countIn : List ℕ → ℕ
-countIn shown = length shown / 16
+abbrev pub shownCount : List ℕ → ℕ
+shownCount shown = length shown / 16
 
 -- none of "no bank, a part of a bank, more than 16, a bank that breaks the reader's rule, banks not ascending or overlapping, or a
 -- table length that differs from the sum"
 unfoldable pub takes : List ℕ → ℕ → Bool
 takes shown n =
     both (eqb (length shown % 16) 0)
-    (both (banksOk (countIn shown) (banksIn (countIn shown) shown)) (eqb (total (banksIn (countIn shown) shown)) n))
+    (both (banksOk (shownCount shown) (banksIn (shownCount shown) shown)) (eqb (total (banksIn (shownCount shown) shown)) n))
 
 unfoldable pub setUpCode : List ℕ → ℕ → Code
 setUpCode shown n = fails (unless (takes shown n)) Inval Ok
 
 -- a record of n banks with the first i words of their bytes, and zeros behind; and the whole one
-unfoldable pub filled : ℕ → ℕ → List ℕ → Granules
-filled n i shown = n ∷ wordsOf i shown ++ replicate (32 - i) 0
+unfoldable pub recordPart : ℕ → ℕ → List ℕ → Granules
+recordPart n i shown = n ∷ wordsOf i shown ++ replicate (32 - i) 0
 
 abbrev pub recordFrom : ℕ → List ℕ → Granules
-recordFrom n shown = filled n (2 * n) shown
+recordFrom n shown = recordPart n (2 * n) shown
 
 -- the answer, and the record's words at exit: "INVAL, with no record made", leaves them as they were
 pub record SetUp : Type 0 where
@@ -167,4 +181,4 @@ pub record SetUp : Type 0 where
   pub granules : Granules
 
 unfoldable pub setUpOf : List ℕ → ℕ → Granules → SetUp
-setUpOf shown n g = record { code = setUpCode shown n; granules = ifOk (setUpCode shown n) (recordFrom (countIn shown) shown) g }
+setUpOf shown n g = record { code = setUpCode shown n; granules = ifOk (setUpCode shown n) (recordFrom (shownCount shown) shown) g }

@@ -5,7 +5,7 @@ use entries::Bits;
 ghost use mathlib.Core.Path.{_≡_};
 ghost use Prim.Native.Nat.{_/_, _<_, _≤_};
 ghost use Rattle.entries.specs.Entry.{bankOk};
-ghost use Rattle.banks.specs.Banks.{follows, orElse, granuleCount, placeOf, placedIn, granuleAt, placedAt, reachIn, foundIn, foundAt, recordFrom, SetUp, setUpOf};
+ghost use Rattle.banks.specs.Banks.{follows, orElse, granuleCount, bankPlace, placedIn, granuleAt, placedAt, reachIn, onlyCount, onlyPlace, onlyBank, onlyAt, foundIn, foundAt, recordFrom, SetUp, setUpOf};
 
 // The granule that an address falls on.
 pub enum Granule {
@@ -73,7 +73,7 @@ fn place_in(place: u64, before: u64, base: u64, size: u64, address: u64) -> u64
 
 // One pass over the banks: judges them, adds up their granules and finds the address.
 pub fn pass_over(granules: &[u64; 33], address: u64) -> Pass
-    ensures { λ r. ⌜ (r .granules ≡ granuleCount (now (granules .entry))) × (r .place ≡ placeOf (now (granules .entry)) address) ⌝ }
+    ensures { λ r. ⌜ (r .granules ≡ granuleCount (now (granules .entry))) × (r .place ≡ bankPlace (now (granules .entry)) address) ⌝ }
 {
     let count = granules[0];
     if 16 < count {
@@ -102,6 +102,56 @@ pub fn pass_over(granules: &[u64; 33], address: u64) -> Pass
         granules: before,
         place: placed_granule(place),
     }
+}
+
+// What a pass over one bank tells.
+fn only_pass(base: u64, size: u64, address: u64) -> Pass
+    ensures { λ r. ⌜ (r .granules ≡ onlyCount base size) × (r .place ≡ onlyPlace base size address) ⌝ }
+{
+    if !bank_ok(base, size) {
+        return Pass {
+            granules: 0,
+            place: Granule::Nothing,
+        };
+    }
+    let place = reach_in(0, base, size, address);
+    Pass {
+        granules: size / 4096,
+        place,
+    }
+}
+
+// The same as `pass_over`; a record of one bank, the usual one, takes no loop, for speed.
+pub fn pass_of(granules: &[u64; 33], address: u64) -> Pass
+    ensures { λ r. ⌜ (r .granules ≡ granuleCount (now (granules .entry))) × (r .place ≡ bankPlace (now (granules .entry)) address) ⌝ }
+{
+    if granules[0] == 1 {
+        return only_pass(granules[1], granules[2], address);
+    }
+    pass_over(granules, address)
+}
+
+// Whether a record has one bank, the usual case, which meets the reader's rule and has n granules.
+pub fn is_only(granules: &[u64; 33], n: usize) -> bool
+    ensures { λ r. ⌜ r ≡ onlyBank (now (granules .entry)) n ⌝ }
+{
+    if granules[0] != 1 {
+        return false;
+    }
+    if granules[2] / 4096 != n as u64 {
+        return false;
+    }
+    bank_ok(granules[1], granules[2])
+}
+
+// The granule that an address falls on in that bank.
+pub fn only_granule(base: u64, size: u64, address: u64) -> Granule
+    ensures { λ r. ⌜ r ≡ onlyAt base size address ⌝ }
+{
+    if address % 4096 != 0 {
+        return Granule::Nothing;
+    }
+    reach_in(0, base, size, address)
 }
 
 // How many granules a record has; none if the set-up would refuse its banks.

@@ -8,7 +8,7 @@ use lib.Dec.{eqb}
 use borrow.Author.Tests.{eq-eqb, ne-eqb}
 use Rattle.realm_words.specs.Bits.{realmBit, putBit, wordsFor}
 use Rattle.realm_words.specs.Answers.{wordsFit}
-use Rattle.banks.specs.Banks.{Granules, granuleCount, placeOf, placedIn, granuleAt, foundAt}
+use Rattle.banks.specs.Banks.{Granules, granuleCount, bankPlace, placedIn, granuleAt, foundAt}
 use Rattle.boot.specs.declared.Params.{Params}
 use Rattle.boot.specs.declared.Record.{Record}
 use Rattle.codes.specs.Codes.{isUp, unless, fails, upOf, whenUp, isOk, answerOf}
@@ -26,7 +26,7 @@ pub found-is : (g : Granules) (m n addr : ℕ) (k : Granule) → m ≡ granuleCo
 found-is g m n addr k c f = f ∙ ap (λ x. foundAt g x n addr) c ∙ judged-once g n addr
 
 -- by one pass over the record, which found m granules and the place p
-pub placed-is : (g : Granules) (m n addr : ℕ) (p k : Granule) → m ≡ granuleCount g → p ≡ placeOf g addr → k ≡ placedIn m p n addr → k ≡ granuleAt g n addr
+pub placed-is : (g : Granules) (m n addr : ℕ) (p k : Granule) → m ≡ granuleCount g → p ≡ bankPlace g addr → k ≡ placedIn m p n addr → k ≡ granuleAt g n addr
 unfolding granuleAt
 placed-is g m n addr p k c f e = e ∙ rw (c, f)
 

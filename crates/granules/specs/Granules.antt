@@ -2,18 +2,19 @@
 -- bytes are none of these (house codes)." Which granule an address falls on is said by the banks (02, E2). Assumes nothing.
 use Prim.Native.Nat.{ℕ, _<_}
 use mathlib.Core.Path.{_≡_}
-use mathlib.Core.Bool.{Bool, false}
+use mathlib.Core.Bool.{Bool, false, cond}
 use mathlib.Core.List.{List}
 use lib.ListN.{length, getD, set}
 use lib.Dec.{eqb}
-use Rattle.banks.specs.Banks.{Granules, granuleCount, granuleAt}
+use Rattle.words.specs.Tests.{both}
+use Rattle.banks.specs.Banks.{Granules, granuleCount, granuleAt, onlyBank}
 use Rattle.banks.specs.declared.Granule.{Granule}
 use Rattle.banks.specs.declared.Granule.the-variants.{Nothing, At}
 use Rattle.realm_words.specs.Bits.{realmBit, putBit, realmWords}
 use Rattle.realm_words.specs.Answers.{wordsFit}
 use Rattle.boot.specs.declared.Params.{Params}
 use Rattle.boot.specs.declared.Record.{Record}
-use Rattle.codes.specs.Codes.{unless, fails, upOf, whenUp, ifOk, answerOf}
+use Rattle.codes.specs.Codes.{unless, fails, isUp, upOf, whenUp, isOk, ifOk, answerOf}
 use Rattle.codes.specs.declared.Code.{Code}
 use Rattle.codes.specs.declared.Code.the-variants.{Ok, BadAddr, BadPas, Inval}
 use Rattle.codes.specs.declared.Answer.{Answer}
@@ -96,6 +97,19 @@ undelegateOf s g t addr = moveOf s g Undelegate t addr
 -- what a call promises of the lent bytes and words
 unfoldable pub movedTo : Answer → List ℕ → List ℕ → Moved
 movedTo a bytes words = record { answer = a; table = tableOf bytes words }
+
+-- ---- for speed: a call on a record of one bank
+-- whether nothing but the address is left to judge: the boot record is up, the one bank meets the reader's rule and has n granules, and so
+-- many are the words'
+unfoldable pub ready : Record → Granules → ℕ → List ℕ → Bool
+ready s g n ws = both (isUp s) (both (onlyBank g n) (wordsFit ws n))
+
+-- such a call that is accepted is done at once; of any other, nothing is done
+unfoldable pub atOnce : Record → Granules → Direction → GranuleTable → ℕ → Bool
+atOnce s g d t addr = both (ready s g (length (t .bytes)) (t .words)) (isOk (moveOf s g d t addr .answer .code))
+
+unfoldable pub leftAtOnce : Record → Granules → Direction → GranuleTable → ℕ → GranuleTable
+leftAtOnce s g d t addr = cond (atOnce s g d t addr) (moveOf s g d t addr .table) t
 
 -- ---- "If words and table agree": 02, E6: "agreement, spare bits zero too"
 abbrev pub Agrees : GranuleTable → Type 0

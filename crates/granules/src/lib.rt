@@ -5,12 +5,17 @@ use boot::Params;
 use boot::Record;
 use codes::Answer;
 use codes::Code;
+use realm_words::Held;
 ghost use mathlib.Core.Path.{_≡_};
-ghost use Rattle.codes.specs.Codes.{answerOf};
+ghost use Prim.Native.Nat.{_/_};
 ghost use lib.ListN.{length};
-ghost use Rattle.banks.specs.Banks.{Granules, granuleAt};
-ghost use Rattle.granules.specs.Granules.{tableOf, Inside, fromByte, toByte, guarded, moveAt, moveOf, delegateOf, undelegateOf, movedTo};
-ghost use Rattle.granules.specs.Lists.{moveListOf, delegateListOf, undelegateListOf};
+ghost use Rattle.words.specs.Tests.{Yes};
+ghost use Rattle.codes.specs.Codes.{answerOf};
+ghost use Rattle.banks.specs.Banks.{Granules, granuleAt, onlyBank};
+ghost use Rattle.realm_words.specs.Answers.{wordsFit};
+ghost use Rattle.realm_words.specs.Holding.{Holds};
+ghost use Rattle.granules.specs.Granules.{tableOf, Inside, fromByte, toByte, guarded, moveAt, moveOf, delegateOf, undelegateOf, movedTo, ready, atOnce, leftAtOnce};
+ghost use Rattle.granules.specs.Lists.{listBy, moveListOf, delegateListOf, undelegateListOf};
 
 // Which way a granule goes: from Non-secure to Realm, or back.
 pub enum Direction {
@@ -47,6 +52,12 @@ fn is_guarded(params: Params, direction: Direction, address: u64) -> bool
     }
 }
 
+// A move's code, and the word that is held behind it.
+struct Step {
+    code: Code,
+    held: Held,
+}
+
 // Moves the granule that an address falls on, by whichever granule record, with a boot record that is up and keeps these parameters.
 fn shift_at(
     params: Params,
@@ -55,40 +66,55 @@ fn shift_at(
     table: &mut [u8],
     words: &mut [u64],
     address: u64,
-) -> Code
-    requires { ⌜ Inside granule (now table) ⌝ }
+    held: Held,
+) -> Step
+    requires { ⌜ Inside granule (now table) × Holds (now words) held ⌝ }
     ensures { λ r. ⌜ ((g : Granules) → granule ≡ granuleAt g (length (now (table .entry))) address →
-        movedTo (answerOf r 0 0) (now (table .exit)) (now (words .exit)) ≡ moveAt params g direction (tableOf (now (table .entry)) (now (words .entry))) address) ⌝ }
+        movedTo (answerOf (r .code) 0 0) (now (table .exit)) (now (words .exit)) ≡ moveAt params g direction (tableOf (now (table .entry)) (now (words .entry))) address)
+        × Holds (now (words .exit)) (r .held) ⌝ }
 {
     let Granule::At(at) = granule else {
-        return Code::BadAddr; // no granule of the table
+        return Step {
+            code: Code::BadAddr, // no granule of the table
+            held,
+        };
     };
     if is_guarded(params, direction, address) {
-        return Code::BadAddr; // the shared page's
+        return Step {
+            code: Code::BadAddr, // the shared page's
+            held,
+        };
     }
     let from = from_byte(direction);
     let to = to_byte(direction);
-    let held = table[at];
-    if held != from {
-        return Code::BadPas;
+    let byte = table[at];
+    if byte != from {
+        return Step {
+            code: Code::BadPas,
+            held,
+        };
     }
     table[at] = to;
-    realm_words::put_bit(words, at, to);
-    Code::Ok
+    let next = realm_words::put_bit(words, held, at, to);
+    Step {
+        code: Code::Ok,
+        held: next,
+    }
 }
 
-// Moves the granule at an address. One pass over the banks gives the granules, by which the words are checked, and the place.
+// Moves the granule at an address. One pass over the banks gives the granules, by which the words are checked, and the place. The parameters
+// stand in the order in which an export has them, so that it hands them on where they are.
 fn shift(
-    state: Record,
     granules: &[u64; 33],
-    direction: Direction,
     table: &mut [u8],
     words: &mut [u64],
     address: u64,
+    state: Record,
+    direction: Direction,
 ) -> Answer
     ensures { λ r. ⌜ movedTo r (now (table .exit)) (now (words .exit)) ≡ moveOf state (now (granules .entry)) direction (tableOf (now (table .entry)) (now (words .entry))) address ⌝ }
 {
-    let pass = banks::pass_over(granules, address);
+    let pass = banks::pass_of(granules, address);
     let count = pass.granules;
     if !realm_words::words_fit(words, count as usize) {
         return codes::answered(Code::Inval, 0, 0);
@@ -98,7 +124,9 @@ fn shift(
     }
     let params = codes::up_of(state);
     let granule = banks::granule_in(pass, table.len(), address);
-    let code = shift_at(params, granule, direction, table, words, address);
+    let held = realm_words::nothing_held(words);
+    let step = shift_at(params, granule, direction, table, words, address, held);
+    let code = step.code;
     codes::answered(code, 0, 0)
 }
 
@@ -128,16 +156,99 @@ fn shift_list(
         return codes::answered(Code::Unk, 0, 0);
     }
     let params = codes::up_of(state);
+    let mut held = realm_words::nothing_held(words);
     for i in 0..n {
         let address = addresses[i];
         let granule = banks::find_granule(granules, count, table.len(), address);
-        let code = shift_at(params, granule, direction, table, words, address);
+        let step = shift_at(params, granule, direction, table, words, address, held);
+        let code = step.code;
         if !codes::is_ok(code) {
             return codes::answered(code, i as u64, 0);
         }
+        held = step.held;
     }
     codes::answered(Code::Ok, n as u64, 0)
 }
+
+// ---- one bank, the usual case: without a loop over banks, for speed ----
+
+// Whether the words are as many as the granules of a bank of that size ask for.
+fn bank_fits(words: &[u64], size: u64) -> bool
+    ensures { λ r. ⌜ r ≡ wordsFit (now (words .entry)) (size / 4096) ⌝ }
+{
+    if words.len() as u64 != (size / 4096 + 63) / 64 {
+        return false;
+    }
+    true
+}
+
+// Whether nothing but the address is left to judge, in a table of n granules.
+fn is_ready(state: Record, granules: &[u64; 33], n: usize, words: &[u64]) -> bool
+    ensures { λ r. ⌜ r ≡ ready state (now (granules .entry)) n (now (words .entry)) ⌝ }
+{
+    if !codes::is_up(state) {
+        return false;
+    }
+    if !banks::is_only(granules, n) {
+        return false;
+    }
+    bank_fits(words, granules[2])
+}
+
+// Moves the granule at an address if that is accepted, and says so; else nothing is changed, and the call is left to `delegate` and
+// `undelegate`. Says so of any record that does not have one bank.
+pub fn moved_at_once(
+    state: Record,
+    granules: &[u64; 33],
+    direction: Direction,
+    table: &mut [u8],
+    words: &mut [u64],
+    address: u64,
+) -> bool
+    ensures { λ r. ⌜ (r ≡ atOnce state (now (granules .entry)) direction (tableOf (now (table .entry)) (now (words .entry))) address)
+        × (tableOf (now (table .exit)) (now (words .exit)) ≡ leftAtOnce state (now (granules .entry)) direction (tableOf (now (table .entry)) (now (words .entry))) address) ⌝ }
+{
+    if !is_ready(state, granules, table.len(), words) {
+        return false;
+    }
+    let params = codes::up_of(state);
+    let granule = banks::only_granule(granules[1], granules[2], address);
+    let held = realm_words::nothing_held(words);
+    let step = shift_at(params, granule, direction, table, words, address, held);
+    let code = step.code;
+    codes::is_ok(code)
+}
+
+// The list of a call that is ready.
+fn only_list(
+    params: Params,
+    granules: &[u64; 33],
+    direction: Direction,
+    table: &mut [u8],
+    words: &mut [u64],
+    addresses: &[u64],
+) -> Answer
+    requires { ⌜ Yes (onlyBank (now granules) (length (now table))) ⌝ }
+    ensures { λ r. ⌜ movedTo r (now (table .exit)) (now (words .exit)) ≡ listBy (moveAt params (now (granules .entry)) direction) 0 (tableOf (now (table .entry)) (now (words .entry))) (now (addresses .entry)) ⌝ }
+{
+    let base = granules[1];
+    let size = granules[2];
+    let n = addresses.len();
+    let mut held = realm_words::nothing_held(words);
+    for i in 0..n {
+        let address = addresses[i];
+        let granule = banks::only_granule(base, size, address);
+        let step = shift_at(params, granule, direction, table, words, address, held);
+        let code = step.code;
+        if !codes::is_ok(code) {
+            return codes::answered(code, i as u64, 0);
+        }
+        held = step.held;
+    }
+    codes::answered(Code::Ok, n as u64, 0)
+}
+
+// ---- the commands ----
 
 // 0xC40001B0: the granule at an address becomes Realm, if it is Non-secure.
 pub fn delegate(
@@ -149,7 +260,7 @@ pub fn delegate(
 ) -> Answer
     ensures { λ r. ⌜ movedTo r (now (table .exit)) (now (words .exit)) ≡ delegateOf state (now (granules .entry)) (tableOf (now (table .entry)) (now (words .entry))) address ⌝ }
 {
-    shift(state, granules, Direction::Delegate, table, words, address)
+    shift(granules, table, words, address, state, Direction::Delegate)
 }
 
 // 0xC40001B1: the granule at an address becomes Non-secure, if it is Realm.
@@ -163,12 +274,12 @@ pub fn undelegate(
     ensures { λ r. ⌜ movedTo r (now (table .exit)) (now (words .exit)) ≡ undelegateOf state (now (granules .entry)) (tableOf (now (table .entry)) (now (words .entry))) address ⌝ }
 {
     shift(
-        state,
         granules,
-        Direction::Undelegate,
         table,
         words,
         address,
+        state,
+        Direction::Undelegate,
     )
 }
 
@@ -182,6 +293,17 @@ pub fn delegate_list(
 ) -> Answer
     ensures { λ r. ⌜ movedTo r (now (table .exit)) (now (words .exit)) ≡ delegateListOf state (now (granules .entry)) (tableOf (now (table .entry)) (now (words .entry))) (now (addresses .entry)) ⌝ }
 {
+    if is_ready(state, granules, table.len(), words) {
+        let params = codes::up_of(state);
+        return only_list(
+            params,
+            granules,
+            Direction::Delegate,
+            table,
+            words,
+            addresses,
+        );
+    }
     shift_list(
         state,
         granules,
@@ -202,6 +324,17 @@ pub fn undelegate_list(
 ) -> Answer
     ensures { λ r. ⌜ movedTo r (now (table .exit)) (now (words .exit)) ≡ undelegateListOf state (now (granules .entry)) (tableOf (now (table .entry)) (now (words .entry))) (now (addresses .entry)) ⌝ }
 {
+    if is_ready(state, granules, table.len(), words) {
+        let params = codes::up_of(state);
+        return only_list(
+            params,
+            granules,
+            Direction::Undelegate,
+            table,
+            words,
+            addresses,
+        );
+    }
     shift_list(
         state,
         granules,

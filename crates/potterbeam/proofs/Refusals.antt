@@ -17,7 +17,7 @@ use Rattle.realm_words.specs.Bits.{realmWords}
 use Rattle.realm_words.specs.Answers.{bothFit, realmCountOf, realmNextOf, realmBuildOf}
 use Rattle.realm_words.specs.declared.Number.{Number}
 use Rattle.realm_words.specs.declared.Hit.{Hit}
-use Rattle.banks.specs.Banks.{Granules, granuleCount, countIn, takes, recordFrom, setUpCode, setUpOf}
+use Rattle.banks.specs.Banks.{Granules, granuleCount, shownCount, takes, recordFrom, setUpCode, setUpOf}
 use Rattle.granules.proofs.Moving.{move-refused}
 use Rattle.granules.proofs.Done.{list-is}
 use Rattle.boot.specs.declared.Record.{Record}
@@ -91,7 +91,7 @@ unfolding setUpIn setUpLeft setUpOf setUpCode fails unless x0Of extended
 set-up granules banks n h = go (takes banks n) h
   where
     go : (b : Bool) → (x0Of (fails (unless b) Inval Ok) ≡ 0 → ⊥) →
-        _≡_ {A = SetUpLeft} (record { x0 = x0Of (fails (unless b) Inval Ok); granules = ifOk (fails (unless b) Inval Ok) (recordFrom (countIn banks) banks) granules }) (record { x0 = x0Of Inval; granules = granules })
+        _≡_ {A = SetUpLeft} (record { x0 = x0Of (fails (unless b) Inval Ok); granules = ifOk (fails (unless b) Inval Ok) (recordFrom (shownCount banks) banks) granules }) (record { x0 = x0Of Inval; granules = granules })
     go true h = absurd (h refl)
     go false h = refl
 

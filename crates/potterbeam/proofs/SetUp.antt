@@ -58,7 +58,7 @@ unfolding secAt mkSec size wordsPerEntry
 section-short base page = let h : length (secAt base page 0 .bytes) ≤ 8 * (2 * countAt 0 page) = array-short base page (pointerAt 0 page) (8 * (2 * countAt 0 page)) in omega arith
 
 abbrev AlikeOf : ReaderAnswer → Type 0
-AlikeOf a = banksIn (banks.countIn (lookIn a 0)) (lookIn a 0) ≡ shownBanks a
+AlikeOf a = banksIn (banks.shownCount (lookIn a 0)) (lookIn a 0) ≡ shownBanks a
 
 gate-alike : (p v o : Bool) (a : ReaderAnswer) → AlikeOf a → AlikeOf (readerGate p v o a)
 unfolding readerGate lookIn wordIn countIn banksBy
@@ -68,11 +68,11 @@ gate-alike true false o a h = refl
 gate-alike false v o a h = refl
 
 -- the banks in the bytes that the array lookup gives of a page are those that the reader shows: of a refused page none
-pub banks-shown : (r base : ℕ) (page : List ℕ) → banksIn (banks.countIn (lookOf r base page 0)) (lookOf r base page 0) ≡ shownBanks (readOf r base page)
+pub banks-shown : (r base : ℕ) (page : List ℕ) → banksIn (banks.shownCount (lookOf r base page 0)) (lookOf r base page 0) ≡ shownBanks (readOf r base page)
 unfolding lookOf readOf judge allShown lookIn wordIn countIn
 banks-shown r base page = gate-alike _ _ _ _ (section-alike _ _ (secAt base page 0) (section-short base page))
 
 -- so a record set up from them has these banks
 pub set-up-banks : (r base : ℕ) (page : List ℕ) (n : ℕ) (g : Granules) → setUpCode (lookOf r base page 0) n ≡ Ok → banksOf (setUpOf (lookOf r base page 0) n g .granules) ≡ shownBanks (readOf r base page)
 unfolding setUpOf
-set-up-banks r base page n g h = rw h (banks-made (banks.countIn (lookOf r base page 0)) (lookOf r base page 0) ∙ banks-shown r base page)
+set-up-banks r base page n g h = rw h (banks-made (banks.shownCount (lookOf r base page 0)) (lookOf r base page 0) ∙ banks-shown r base page)

@@ -1,6 +1,7 @@
 pub mod Agreeing
 pub mod Bits
 pub mod Counting
+pub mod Holding
 pub mod Laws
 pub mod Looking
 pub mod Packing

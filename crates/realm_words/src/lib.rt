@@ -3,7 +3,8 @@ ghost use mathlib.Core.Path.{_≡_};
 ghost use Prim.Native.Nat.{_-_, _%_, _^_, _<_, _≤_};
 ghost use lib.ListN.{length, take, drop};
 ghost use lib.Count.{ones, trailingZeros};
-ghost use Rattle.realm_words.specs.Bits.{realmBit, packed, wordsFor, withBit, putBit};
+ghost use Rattle.realm_words.specs.Bits.{realmBit, packed, wordsFor, withBit};
+ghost use Rattle.realm_words.specs.Holding.{noneHeld, wordBy, putBy, heldBy};
 ghost use Rattle.realm_words.specs.Answers.{wordsFit, bothFit, realmCountOf, hitBelow, realmNextOf, realmAgreeOf, Built, realmBuildOf};
 
 // How many Realm granules there are.
@@ -92,16 +93,44 @@ fn with_bit(w: u64, k: usize, byte: u8) -> u64
 
 // ---- a granule's bit ----
 
-// Writes a granule's bit as its byte has it; every other bit stays.
-pub fn put_bit(words: &mut [u64], index: usize, byte: u8)
-    ensures { λ _. ⌜ now (words .exit) ≡ putBit (now (words .entry)) index (realmBit byte) ⌝ }
+// A word that is held from one call to the next: granules of a list share words, and to read one again would wait for the store before.
+pub struct Held {
+    pub at: usize,
+    pub word: u64,
+}
+
+// None of the words, as the one behind the last.
+pub fn nothing_held(words: &[u64]) -> Held
+    ensures { λ r. ⌜ r ≡ noneHeld (now (words .entry)) ⌝ }
+{
+    Held {
+        at: words.len(),
+        word: 0,
+    }
+}
+
+// A word, read unless it is the one held.
+fn word_by(words: &[u64], held: Held, at: usize) -> u64
+    requires { ⌜ at < length (now words) ⌝ }
+    ensures { λ r. ⌜ r ≡ wordBy (now (words .entry)) held at ⌝ }
+{
+    if at == held.at {
+        return held.word;
+    }
+    words[at]
+}
+
+// Writes a granule's bit as its byte has it; every other bit stays. The word written is the one held then.
+pub fn put_bit(words: &mut [u64], held: Held, index: usize, byte: u8) -> Held
+    ensures { λ r. ⌜ (now (words .exit) ≡ putBy (now (words .entry)) held index (realmBit byte)) × (r ≡ heldBy (now (words .entry)) held index (realmBit byte)) ⌝ }
 {
     let at = index / 64;
     if words.len() <= at {
-        return;
+        return held;
     }
-    let word = words[at];
-    words[at] = with_bit(word, index % 64, byte);
+    let word = with_bit(word_by(words, held, at), index % 64, byte);
+    words[at] = word;
+    Held { at, word }
 }
 
 // ---- answers from the words alone ----

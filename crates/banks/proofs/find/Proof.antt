@@ -3,7 +3,7 @@ use mathlib.Core.Path.{_≡_, sym, ap, _∙_}
 use native.Mathlib.Omega.{arith}
 use borrow.Author.Tests.{lt-leb, le-leb}
 use borrow.Author.Needs.{needs}
-use Rattle.banks.specs.Banks.{banksOf, countOf, reachAmong, foundIn}
+use Rattle.banks.specs.Banks.{banksOf, bankCount, reachAmong, foundIn}
 use Rattle.banks.proofs.Passing.{left, left-all, seek-only, seek-last, seek-more, seek-hit}
 use Rattle.banks.proofs.find.Statement.{statement}
 use Rattle.banks.proofs.find.Tie as tie
@@ -30,11 +30,11 @@ returns : tie.Need-returns Inv-loop μ-loop
 unfolding foundIn
 returns c =
     let a = c .before .before .before .before .before .args in
-    simp (le-leb (countOf (a .granules .now)) 16 (search needs)) (c .reach-in .ensures ∙ sym (seek-only (a .granules .now) (a .address) (c .before .before .before .if1 .taken)))
+    simp (le-leb (bankCount (a .granules .now)) 16 (search needs)) (c .reach-in .ensures ∙ sym (seek-only (a .granules .now) (a .address) (c .before .before .before .if1 .taken)))
 
 returns-2 : tie.Need-returns-2 Inv-loop μ-loop
 unfolding foundIn
-returns-2 c = let a = c .before .before .before .args in simp (lt-leb (countOf (a .granules .now)) 16 (search needs))
+returns-2 c = let a = c .before .before .before .args in simp (lt-leb (bankCount (a .granules .now)) 16 (search needs))
 
 loop-holds : tie.Need-loop-holds Inv-loop μ-loop
 loop-holds c = let a = c .before .before .before .args in (search needs, search needs, ap (λ l. reachAmong 0 l (a .address)) (sym (left-all (a .granules .now))))
@@ -78,7 +78,7 @@ returns-3 c =
     let a = c .before .before .before .before .before .before .before .before .before .before .args in
     let l = c .before .before .before .before .before .before .loop in
     let t = c .enum-told2 .given .1 in
-    simp (le-leb (countOf (a .granules .now)) 16 (search needs)) (t ∙ sym (l .inv .2 ∙ seek-hit (a .granules .now) (a .address) (l .i) (l .before) (search needs) _ (sym (c .before .before .reach-in2 .ensures) ∙ t)))
+    simp (le-leb (bankCount (a .granules .now)) 16 (search needs)) (t ∙ sym (l .inv .2 ∙ seek-hit (a .granules .now) (a .address) (l .i) (l .before) (search needs) _ (sym (c .before .before .reach-in2 .ensures) ∙ t)))
 
 granules-in-requires : tie.Need-granules-in-requires Inv-loop μ-loop
 granules-in-requires c κs = search needs
@@ -103,7 +103,7 @@ unfolding foundIn
 returns-4 c =
     let a = c .before .before .before .before .before .args in
     let l = c .before .loop in
-    simp (le-leb (countOf (a .granules .now)) 16 (search needs)) (sym (l .inv .2 ∙ seek-last (a .granules .now) (a .address) (l .i) (l .before) (search needs)))
+    simp (le-leb (bankCount (a .granules .now)) 16 (search needs)) (sym (l .inv .2 ∙ seek-last (a .granules .now) (a .address) (l .i) (l .before) (search needs)))
 
 pub find-spec : {M : Type 1} → statement M
 find-spec =

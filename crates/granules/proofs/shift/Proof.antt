@@ -1,13 +1,14 @@
 use mathlib.Core.Path.{sym, ap, _∙_}
 use borrow.Author.Tests.{not-true, not-false}
-use borrow.Author.Needs.{needs}
+use Rattle.realm_words.proofs.Holding.{none-holds}
 use Rattle.granules.specs.Granules.{tableOf, movedBy, moveAt, movedTo}
 use Rattle.granules.proofs.Moving.{placed-is, fit-told, granule-inside, move-unfit, move-down, move-up}
+use borrow.Author.Needs.{needs}
 use Rattle.granules.proofs.shift.Statement.{statement}
 use Rattle.granules.proofs.shift.Tie as tie
 
-pass-over-requires : tie.Need-pass-over-requires
-pass-over-requires c κs = search needs
+pass-of-requires : tie.Need-pass-of-requires
+pass-of-requires c κs = search needs
 
 words-fit-requires : tie.Need-words-fit-requires
 words-fit-requires c κs = search needs
@@ -22,8 +23,7 @@ returns : tie.Need-returns
 unfolding movedTo movedBy
 returns c =
     let a = c .before .before .before .before .before .before .before .args in
-    let f = fit-told (a .granules .now) (a .table .now) (a .words .now) _ _ _ (c .before .before .before .before .pass-over .ensures .0) (c .before .before .words-fit .ensures) (not-true _ (c .before .if1 .taken)) in
-    rw (c .answered .ensures) (move-unfit (a .state) (a .granules .now) (a .direction) (tableOf (a .table .now) (a .words .now)) (a .address) f)
+    rw (c .answered .ensures) (move-unfit (a .state) (a .granules .now) (a .direction) (tableOf (a .table .now) (a .words .now)) (a .address) (fit-told (a .granules .now) (a .table .now) (a .words .now) _ _ _ (c .before .before .before .before .pass-of .ensures .0) (c .before .before .words-fit .ensures) (not-true _ (c .before .if1 .taken))))
 
 is-up-requires : tie.Need-is-up-requires
 is-up-requires c κs = search needs
@@ -38,8 +38,7 @@ returns-2 : tie.Need-returns-2
 unfolding movedTo movedBy
 returns-2 c =
     let a = c .before .before .before .before .before .before .before .before .before .args in
-    let f = fit-told (a .granules .now) (a .table .now) (a .words .now) _ _ _ (c .before .before .before .before .before .before .pass-over .ensures .0) (c .before .before .before .before .words-fit .ensures) (not-false _ (c .before .before .before .if1 .left)) in
-    rw (c .answered2 .ensures) (move-down (a .state) (a .granules .now) (a .direction) (tableOf (a .table .now) (a .words .now)) (a .address) f (sym (c .before .before .is-up .ensures) ∙ not-true _ (c .before .if2 .taken)))
+    rw (c .answered2 .ensures) (move-down (a .state) (a .granules .now) (a .direction) (tableOf (a .table .now) (a .words .now)) (a .address) (fit-told (a .granules .now) (a .table .now) (a .words .now) _ _ _ (c .before .before .before .before .before .before .pass-of .ensures .0) (c .before .before .before .before .words-fit .ensures) (not-false _ (c .before .before .before .if1 .left))) (sym (c .before .before .is-up .ensures) ∙ not-true _ (c .before .if2 .taken)))
 
 up-of-requires : tie.Need-up-of-requires
 up-of-requires c κs = search needs
@@ -47,11 +46,13 @@ up-of-requires c κs = search needs
 granule-in-requires : tie.Need-granule-in-requires
 granule-in-requires c κs = search needs
 
+nothing-held-requires : tie.Need-nothing-held-requires
+nothing-held-requires c κs = search needs
+
 shift-at-requires : tie.Need-shift-at-requires
 shift-at-requires c κs =
-    let a = c .before .before .before .before .before .before .before .before .before .before .before .before .args in
-    let p = c .before .before .before .before .before .before .before .before .before .pass-over .ensures in
-    granule-inside (a .granules .now) (a .table .now) (a .address) _ (placed-is (a .granules .now) _ _ (a .address) _ _ (p .0) (p .1) (c .before .before .granule-in .ensures))
+    let a = c .before .before .before .before .before .before .before .before .before .before .before .before .before .before .args in
+    (granule-inside (a .granules .now) (a .table .now) (a .address) _ (placed-is (a .granules .now) _ _ (a .address) _ _ (c .before .before .before .before .before .before .before .before .before .before .before .pass-of .ensures .0) (c .before .before .before .before .before .before .before .before .before .before .before .pass-of .ensures .1) (c .before .before .before .before .granule-in .ensures)), rw (c .before .before .nothing-held .ensures) (none-holds (a .words .now)))
 
 answered-requires-3 : tie.Need-answered-requires-3
 answered-requires-3 c κs = search needs
@@ -64,19 +65,17 @@ same-length-4 c = search needs
 
 returns-3 : tie.Need-returns-3
 returns-3 c =
-    let a = c .before .before .before .before .before .before .before .before .before .before .before .before .before .before .before .before .before .before .args in
-    let p = c .before .before .before .before .before .before .before .before .before .before .before .before .before .before .before .pass-over .ensures in
-    let f = fit-told (a .granules .now) (a .table .now) (a .words .now) _ _ _ (c .before .before .before .before .before .before .before .before .before .before .before .before .before .before .before .pass-over .ensures .0) (c .before .before .before .before .before .before .before .before .before .before .before .before .before .words-fit .ensures) (not-false _ (c .before .before .before .before .before .before .before .before .before .before .before .before .if1 .left)) in
+    let a = c .before .before .before .before .before .before .before .before .before .before .before .before .before .before .before .before .before .before .before .before .args in
     rw (c .answered3 .ensures)
-    (c .before .before .before .before .before .shift-at .ensures (a .granules .now) (placed-is (a .granules .now) _ _ (a .address) _ _ (p .0) (p .1) (c .before .before .before .before .before .before .before .before .granule-in .ensures))
-    ∙ ap (λ u. moveAt u (a .granules .now) (a .direction) (tableOf (a .table .now) (a .words .now)) (a .address)) (c .before .before .before .before .before .before .before .before .before .up-of .ensures)
-    ∙ move-up (a .state) (a .granules .now) (a .direction) (tableOf (a .table .now) (a .words .now)) (a .address) f (sym (c .before .before .before .before .before .before .before .before .before .before .before .is-up .ensures) ∙ not-false _ (c .before .before .before .before .before .before .before .before .before .before .if2 .left)))
+    (c .before .before .before .before .before .shift-at .ensures .0 (a .granules .now) (placed-is (a .granules .now) _ _ (a .address) _ _ (c .before .before .before .before .before .before .before .before .before .before .before .before .before .before .before .before .before .pass-of .ensures .0) (c .before .before .before .before .before .before .before .before .before .before .before .before .before .before .before .before .before .pass-of .ensures .1) (c .before .before .before .before .before .before .before .before .before .before .granule-in .ensures))
+    ∙ ap (λ u. moveAt u (a .granules .now) (a .direction) (tableOf (a .table .now) (a .words .now)) (a .address)) (c .before .before .before .before .before .before .before .before .before .before .before .up-of .ensures)
+    ∙ move-up (a .state) (a .granules .now) (a .direction) (tableOf (a .table .now) (a .words .now)) (a .address) (fit-told (a .granules .now) (a .table .now) (a .words .now) _ _ _ (c .before .before .before .before .before .before .before .before .before .before .before .before .before .before .before .before .before .pass-of .ensures .0) (c .before .before .before .before .before .before .before .before .before .before .before .before .before .before .before .words-fit .ensures) (not-false _ (c .before .before .before .before .before .before .before .before .before .before .before .before .before .before .if1 .left))) (sym (c .before .before .before .before .before .before .before .before .before .before .before .before .before .is-up .ensures) ∙ not-false _ (c .before .before .before .before .before .before .before .before .before .before .before .before .if2 .left)))
 
 pub shift-spec : {M : Type 1} → statement M
 shift-spec =
     tie.close
     (tie.spec
-    pass-over-requires
+    pass-of-requires
     words-fit-requires
     answered-requires
     same-length
@@ -87,6 +86,7 @@ shift-spec =
     returns-2
     up-of-requires
     granule-in-requires
+    nothing-held-requires
     shift-at-requires
     answered-requires-3
     same-length-3

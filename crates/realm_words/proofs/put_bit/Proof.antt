@@ -1,20 +1,21 @@
 use Prim.Native.Nat.{_/_}
 use mathlib.Core.Path.{sym}
+use lib.ListN.{length}
 use lib.Seq.{set-out}
+use borrow.Author.Tests.{lt-ltb, le-ltb}
 use borrow.Author.Needs.{needs}
-use Rattle.realm_words.specs.Bits.{putBit}
+use Rattle.realm_words.specs.Holding.{putBy, heldBy}
 use Rattle.realm_words.proofs.put_bit.Statement.{statement}
 use Rattle.realm_words.proofs.put_bit.Tie as tie
 
 returns : tie.Need-returns
-unfolding putBit
-returns c = let a = c .before .before .args in sym (set-out (a .words .now) (a .index / 64) _ (search needs))
+unfolding putBy heldBy
+returns c =
+    let a = c .before .before .args in
+    (sym (set-out (a .words .now) (a .index / 64) _ (search needs)), rw (le-ltb (a .index / 64) (length (a .words .now)) (search needs)))
 
-mul-word : tie.Need-mul-word
-mul-word c = search needs
-
-slice-read-word : tie.Need-slice-read-word
-slice-read-word c = search needs
+word-by-requires : tie.Need-word-by-requires
+word-by-requires c κs = search needs
 
 with-bit-requires : tie.Need-with-bit-requires
 with-bit-requires c κs = search needs
@@ -29,16 +30,18 @@ same-length : tie.Need-same-length
 same-length c = search needs
 
 returns-2 : tie.Need-returns-2
-unfolding putBit
-returns-2 c = rw (c .with-bit .ensures)
+unfolding putBy heldBy
+returns-2 c =
+    let a = c .before .before .before .before .before .args in
+    let w = c .before .word-by .ensures in
+    (rw (c .with-bit .ensures, w), rw (c .with-bit .ensures, w, lt-ltb (a .index / 64) (length (a .words .now)) (search needs)))
 
 pub put-bit-spec : {M : Type 1} → statement M
 put-bit-spec =
     tie.close
     (tie.spec
     returns
-    mul-word
-    slice-read-word
+    word-by-requires
     with-bit-requires
     mul-words
     slice-write-words

@@ -1,0 +1,61 @@
+-- A call on a record of one bank, for speed: what is known where nothing but the address is left to judge. Assumes nothing.
+use Prim.Native.Nat.{ℕ, _/_}
+use mathlib.Core.Path.{_≡_, refl, sym, ap, _∙_}
+use mathlib.Core.Bool.{Bool, true, false, cond}
+use mathlib.Core.List.{List}
+use lib.ListN.{length, getD}
+use borrow.Author.Tests.{eqb-true}
+use Rattle.words.specs.Tests.{both, Yes}
+use Rattle.words.proofs.Tests.{both-l, both-r}
+use Rattle.realm_words.specs.Answers.{wordsFit}
+use Rattle.boot.specs.declared.Record.{Record}
+use Rattle.codes.specs.Codes.{isUp, upOf, isOk, answerOf}
+use Rattle.codes.specs.declared.Code.{Code}
+use Rattle.banks.specs.Banks.{Granules, granuleCount, granuleAt, onlyBank, onlyAt}
+use Rattle.banks.specs.declared.Granule.{Granule}
+use Rattle.banks.proofs.Laws.{bank-granules, bank-granule}
+use Rattle.granules.specs.Granules.{GranuleTable, tableOf, Moved, moveAt, moveOf, movedTo, fitting, ready, atOnce, leftAtOnce}
+use Rattle.granules.specs.declared.Direction.{Direction}
+use Rattle.granules.proofs.Moving.{move-up, move-refused}
+
+pub bank-size : (g : Granules) (n : ℕ) → Yes (onlyBank g n) → getD g 2 0 / 4096 ≡ n
+unfolding onlyBank
+bank-size g n h = eqb-true (getD g 2 0 / 4096) n (both-l _ _ (both-r _ _ h))
+
+-- the granule of an address in the one bank, in a table that is as long as the one that was judged
+pub only-is : (g : Granules) (n : ℕ) (t : List ℕ) (addr : ℕ) (k : Granule) → Yes (onlyBank g n) → length t ≡ n → k ≡ onlyAt (getD g 1 0) (getD g 2 0) addr → k ≡ granuleAt g (length t) addr
+only-is g n t addr k h l e = e ∙ bank-granule g n h addr ∙ ap (λ m. granuleAt g m addr) (sym l)
+
+module _ (s : Record) (g : Granules) (n : ℕ) (ws : List ℕ) (r : Yes (ready s g n ws)) where
+  pub ready-up : isUp s ≡ true
+  unfolding ready
+  ready-up = both-l _ _ r
+
+  pub ready-bank : Yes (onlyBank g n)
+  unfolding ready
+  ready-bank = both-l _ _ (both-r _ _ r)
+
+  ready-words : Yes (wordsFit ws n)
+  unfolding ready
+  ready-words = both-r _ _ (both-r _ _ r)
+
+pub ready-fits : (s : Record) (g : Granules) (t ws : List ℕ) → Yes (ready s g (length t) ws) → fitting g (tableOf t ws) ≡ true
+ready-fits s g t ws r = ap (wordsFit ws) (bank-granules g (length t) (ready-bank s g (length t) ws r)) ∙ ready-words s g (length t) ws r
+
+-- ---- what such a call leaves
+module _ (s : Record) (g : Granules) (d : Direction) (t ws : List ℕ) (addr : ℕ) where
+  pub not-ready : ready s g (length t) ws ≡ false → (false ≡ atOnce s g d (tableOf t ws) addr) × (tableOf t ws ≡ leftAtOnce s g d (tableOf t ws) addr)
+  unfolding leftAtOnce atOnce both
+  not-ready h = (rw h, rw h)
+
+  pub left-ready : Yes (ready s g (length t) ws) → (k : Code) (b w : List ℕ) (q : Bool) → movedTo (answerOf k 0 0) b w ≡ moveAt (upOf s) g d (tableOf t ws) addr → q ≡ isOk k →
+      (q ≡ atOnce s g d (tableOf t ws) addr) × (tableOf b w ≡ leftAtOnce s g d (tableOf t ws) addr)
+  unfolding leftAtOnce atOnce both movedTo answerOf
+  left-ready r k b w q m e = (rw r (e ∙ ap (λ (x : Moved). isOk (x .answer .code)) is), rw r (go (isOk (moveOf s g d (tableOf t ws) addr .answer .code)) refl))
+    where
+      is : movedTo (answerOf k 0 0) b w ≡ moveOf s g d (tableOf t ws) addr
+      is = m ∙ move-up s g d (tableOf t ws) addr (ready-fits s g t ws r) (ready-up s g (length t) ws r)
+
+      go : (o : Bool) → isOk (moveOf s g d (tableOf t ws) addr .answer .code) ≡ o → tableOf b w ≡ cond o (moveOf s g d (tableOf t ws) addr .table) (tableOf t ws)
+      go true o = ap (λ (x : Moved). x .table) is
+      go false o = ap (λ (x : Moved). x .table) is ∙ ap (λ (x : Moved). x .table) (move-refused s g d (tableOf t ws) addr o)

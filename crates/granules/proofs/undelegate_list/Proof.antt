@@ -1,0 +1,60 @@
+use mathlib.Core.Path.{sym, ap, _∙_}
+use Rattle.granules.specs.Granules.{tableOf, moveAt}
+use Rattle.granules.specs.Lists.{listBy}
+use Rattle.granules.specs.declared.Direction.the-variants.{Undelegate}
+use Rattle.granules.proofs.Lists.{list-up}
+use Rattle.granules.proofs.Ready.{ready-bank, ready-fits, ready-up}
+use borrow.Author.Needs.{needs}
+use Rattle.granules.proofs.undelegate_list.Statement.{statement}
+use Rattle.granules.proofs.undelegate_list.Tie as tie
+
+is-ready-requires : tie.Need-is-ready-requires
+is-ready-requires c κs = search needs
+
+up-of-requires : tie.Need-up-of-requires
+up-of-requires c κs = search needs
+
+only-list-requires : tie.Need-only-list-requires
+only-list-requires c κs =
+    let a = c .before .before .before .before .before .before .before .before .before .args in
+    ready-bank (a .state) (a .granules .now) _ (a .words .now) (sym (c .before .before .before .before .is-ready .ensures) ∙ c .before .before .before .if1 .taken)
+
+same-length : tie.Need-same-length
+same-length c = search needs
+
+same-length-2 : tie.Need-same-length-2
+same-length-2 c = search needs
+
+returns : tie.Need-returns
+returns c =
+    let a = c .before .before .before .before .before .before .before .before .before .before .before .before .before .before .args in
+    c .before .before .before .before .only-list .ensures
+    ∙ ap (λ u. listBy (moveAt u (a .granules .now) Undelegate) 0 (tableOf (a .table .now) (a .words .now)) (a .addresses .now)) (c .before .before .before .before .before .before .before .up-of .ensures)
+    ∙ list-up (a .state) (a .granules .now) Undelegate (tableOf (a .table .now) (a .words .now)) (ready-fits (a .state) (a .granules .now) (a .table .now) (a .words .now) (sym (c .before .before .before .before .before .before .before .before .before .is-ready .ensures) ∙ c .before .before .before .before .before .before .before .before .if1 .taken)) (ready-up (a .state) (a .granules .now) _ (a .words .now) (sym (c .before .before .before .before .before .before .before .before .before .is-ready .ensures) ∙ c .before .before .before .before .before .before .before .before .if1 .taken)) (a .addresses .now)
+
+shift-list-requires : tie.Need-shift-list-requires
+shift-list-requires c κs = search needs
+
+same-length-3 : tie.Need-same-length-3
+same-length-3 c = search needs
+
+same-length-4 : tie.Need-same-length-4
+same-length-4 c = search needs
+
+returns-2 : tie.Need-returns-2
+returns-2 c = c .before .before .before .before .shift-list .ensures
+
+pub undelegate-list-spec : {M : Type 1} → statement M
+undelegate-list-spec =
+    tie.close
+    (tie.spec
+    is-ready-requires
+    up-of-requires
+    only-list-requires
+    same-length
+    same-length-2
+    returns
+    shift-list-requires
+    same-length-3
+    same-length-4
+    returns-2)
