@@ -1,6 +1,6 @@
 -- 02, E5: of a page that a reader accepts, the kept bytes of its view are the fewest that cover what it looks at, up to a multiple of 8. Assumes
 -- nothing.
-use Prim.Native.Nat.{ℕ, zero, suc, _+_, _-_, _*_, _/_, _%_, _≤_, _<_, min, max}
+use Prim.Native.Nat.{ℕ, zero, suc, _+_, _-_, _*_, _/_, _%_, _≤_, _<_, min}
 use mathlib.Core.Path.{_≡_, refl, sym, ap, _∙_}
 use mathlib.Core.Bool.{Bool, true, false, false≢true}
 use mathlib.Core.List.{List}
@@ -8,7 +8,7 @@ use native.Mathlib.Omega.{arith}
 use native.Mathlib.Decide.{decLt}
 use lib.ListN.{length, drop}
 use lib.Dec.{eqb}
-use borrow.Author.Tests.{ltb-true, leb-true, eqb-true, eqb-false, le-leb, lt-ltb, eq-eqb}
+use borrow.Author.Tests.{ltb-true, leb-true, eqb-true, eqb-false, le-leb, lt-ltb}
 use Rattle.words.specs.Tests.{Yes}
 use Rattle.words.specs.Word.{wordAt, noSpan}
 use Rattle.words.proofs.Tests.{both-l, both-r, both-of, either-l, either-r, either-cases, some-of}
@@ -23,8 +23,6 @@ use Rattle.sections.specs.Section.{platOk, inRange, rulesAt}
 use Rattle.sections.proofs.Sections.{placed, range-low, range-high, ok-in-range, ok-each, rules-sections, rules-pointer}
 use Rattle.reader.specs.Answer.{Shown, PlatShown, shows, judge, readOf, inArray, inPlat, namedBy, named}
 use Rattle.reader.specs.Reading.{sectionAt, viewAt}
-use Rattle.reader.specs.declared.Section.the-variants.{Absent, Empty}
-use Rattle.reader.specs.declared.View.{View}
 use Rattle.reader.proofs.Newer.{gate-shows}
 use Rattle.reader.proofs.Views.{shows-page}
 use Rattle.reader.proofs.Whole.{section-absent, section-empty}

@@ -1,4 +1,4 @@
-use mathlib.Core.Path.{_≡_, ap}
+use mathlib.Core.Path.{ap}
 use native.Mathlib.Omega.{arith}
 use Rattle.lookup.specs.Kept.{spanEnd, sectionEnd}
 use Rattle.lookup.proofs.Kept.{span-fits}
