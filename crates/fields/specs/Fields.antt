@@ -78,12 +78,14 @@ fieldsIn broken = []
 fieldsIn (ended fs n) = fs
 fieldsIn (bare fs) = []
 
--- ---- how a field is shown: "shown as raw fields", its tag and its value's bytes
+-- ---- how a field is shown: E7: "shown as raw fields", its tag and its value's bytes; E10: "show the console choice as withdrawn without its
+-- value"
 pub data FieldShown : Type 0 where
   raw : ℕ → List ℕ → FieldShown
+  withdrawn : FieldShown
 
 unfoldable pub shownField : Field → FieldShown
-shownField f = raw (f .tag) (f .value)
+shownField f = cond (eqb (f .tag) 3) withdrawn (raw (f .tag) (f .value))
 
 unfoldable pub shownFields : List Field → List FieldShown
 shownFields [] = []
