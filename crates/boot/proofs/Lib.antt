@@ -1,3 +1,4 @@
 pub mod Booting
 pub mod Closing
 pub mod Acts
+pub mod Plain

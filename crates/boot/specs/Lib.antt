@@ -1,3 +1,4 @@
 pub mod Boot
 pub mod Boots
 pub mod Acts
+pub mod Plain

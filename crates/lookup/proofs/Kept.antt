@@ -1,22 +1,31 @@
 -- 02, E5: the kept bytes of a view cover all that a reader of its edition looks at, and are never above 4,096. Assumes nothing.
-use Prim.Native.Nat.{ℕ, zero, suc, _+_, _-_, _*_, _/_, _≤_, _<_, min, max}
-use mathlib.Core.Path.{_≡_, refl}
-use mathlib.Core.Bool.{Bool, true, false, cond}
-use mathlib.Core.Logic.{inl, inr}
+use Prim.Native.Nat.{ℕ, zero, suc, _+_, _-_, _*_, _/_, _%_, _≤_, _<_, min, max}
+use mathlib.Core.Path.{_≡_, refl, sym, ap, _∙_}
+use mathlib.Core.Bool.{Bool, true, false, cond, false≢true}
+use mathlib.Core.Logic.{_⊎_, inl, inr}
 use mathlib.Core.List.{List}
 use native.Mathlib.Nat.{mul-zero}
 use native.Mathlib.Omega.{arith}
+use lib.ListN.{length, drop, length-drop}
 use lib.Dec.{leb, ltb, eqb}
-use borrow.Author.Tests.{leb-true, ltb-true, ltb-false, eqb-true, eqb-false, ne-eqb}
-use Rattle.words.specs.Word.{noSpan, spanAt}
+use borrow.Author.Tests.{leb-true, ltb-true, ltb-false, eqb-true, eqb-false, eq-eqb, ne-eqb}
+use Rattle.words.specs.Tests.{Yes}
+use Rattle.words.specs.Word.{wordAt, noSpan, spanAt}
 use Rattle.words.specs.declared.Span.{Span}
 use Rattle.words.proofs.Tests.{both-l, both-r}
 use Rattle.versions.specs.Version.{minorOf}
 use Rattle.versions.specs.Edition.{sectionCount, core}
+use Rattle.versions.proofs.Editions.{section-count-most}
 use Rattle.entries.specs.Entry.{size}
-use Rattle.sections.specs.Page.{versionAt, countAt, pointerAt, inPage}
+use Rattle.fields.specs.Fields.{Scanned, broken, ended, bare, isEnded, taken, reach, scanOf}
+use Rattle.fields.specs.Steps.{toldOf}
+use Rattle.fields.specs.declared.FieldsEnd.the-variants.{Broken, Ended}
+use Rattle.fields.proofs.Scans.{never}
+use Rattle.fields.proofs.Same.{taken-room}
+use Rattle.sections.specs.Page.{placeOk, versionAt, countAt, pointerAt, inPage, foundAt}
+use Rattle.sections.proofs.Sections.{placed}
 use Rattle.reader.specs.Answer.{named}
-use Rattle.reader.specs.Gaps.{BesideArray}
+use Rattle.reader.specs.Gaps.{BesideArray, BesideFields}
 use Rattle.reader.specs.Reading.{sectionOf, sectionAt, viewAt}
 use Rattle.reader.specs.declared.Section.{Section}
 use Rattle.reader.specs.declared.Section.the-variants.{Absent, Empty, Entries}
@@ -24,7 +33,7 @@ use Rattle.reader.specs.declared.View.{View}
 use Rattle.reader.proofs.Gaps.{others-unnamed}
 use Rattle.reader.proofs.Whole.{section-entries}
 use Rattle.lookup.specs.Lookup.{spanOf}
-use Rattle.lookup.specs.Kept.{spanEnd, endOf, highestOf, keptFor}
+use Rattle.lookup.specs.Kept.{spanEnd, sectionEnd, highestOf, fieldsReach, keptFor}
 use Rattle.lookup.proofs.Lookups.{place-in}
 
 -- ---- never above 4,096
@@ -42,36 +51,64 @@ unfolding spanAt
 fits-end true at n h = at-end (eqb n 0) at n (leb-true (at + n) 4096 h)
 fits-end false at n h = omega (arith, none-end)
 
-span-most : (k : ℕ) (s : Section) → spanEnd (spanOf k s 4096) ≤ 4096
-unfolding spanOf
-span-most k Absent = omega (arith, none-end)
-span-most k Empty = omega (arith, none-end)
-span-most k (Entries at count) = fits-end (leb (at + size k count) 4096) at (size k count) refl
+pub end-most : (k : ℕ) (s : Section) → sectionEnd k s ≤ 4096
+unfolding sectionEnd spanOf
+end-most k Absent = omega (arith, none-end)
+end-most k Empty = omega (arith, none-end)
+end-most k (Entries at count) = fits-end (leb (at + size k count) 4096) at (size k count) refl
 
 pub span-fits : (p : Span) (k : ℕ) (s : Section) → p ≡ spanOf k s 4096 → p .at + p .len ≤ 4096
-unfolding spanEnd
-span-fits p k s e = rw e (span-most k s)
-
-pub end-most : (v : View) (k : ℕ) → endOf v k ≤ 4096
-unfolding endOf
-end-most v k = span-most k (sectionOf v k)
-
-few-sections : (e : ℕ) → sectionCount e ≤ 4
-unfolding sectionCount
-few-sections zero = omega arith
-few-sections (suc zero) = omega arith
-few-sections (suc (suc zero)) = omega arith
-few-sections (suc (suc (suc zero))) = omega arith
-few-sections (suc (suc (suc (suc n)))) = omega arith
+unfolding sectionEnd spanEnd
+span-fits p k s e = rw e (end-most k s)
 
 pub highest-most : (v : View) (n : ℕ) → highestOf v n ≤ 4096
 unfolding highestOf core
-highest-most v zero = omega (arith, few-sections (v .edition))
-highest-most v (suc n) = omega (arith, highest-most v n, end-most v n)
+highest-most v zero = omega (arith, section-count-most (v .edition))
+highest-most v (suc n) = omega (arith, highest-most v n, end-most n (sectionOf v n))
 
-pub kept-most : (v : View) → keptFor v ≤ 4096
+reach-case : (b : Bool) (n : ℕ) → cond b 0 (min 4096 n) ≤ 4096
+reach-case true n = omega arith
+reach-case false n = omega arith
+
+pub reach-most : (q : ℕ) (page : List ℕ) → fieldsReach q page ≤ 4096
+unfolding fieldsReach
+reach-most q page = reach-case (eqb q 0) (q % 4096 + reach (scanOf (drop (q % 4096) page)))
+
+pub kept-most : (v : View) (page : List ℕ) → keptFor v page ≤ 4096
 unfolding keptFor
-kept-most v = omega (arith, highest-most v 4)
+kept-most v page = omega (arith, highest-most v 4, reach-most (v .plat) page)
+
+-- ---- where the fields end, as the pass over them tells
+told-broken : (s : Scanned) → toldOf s ≡ Broken → reach s ≡ 4096
+unfolding toldOf reach
+told-broken broken h = refl
+told-broken (ended fs n) h = never (cc)
+told-broken (bare fs) h = refl
+
+told-ended : (s : Scanned) (n : ℕ) → toldOf s ≡ Ended n → reach s ≡ n
+unfolding toldOf reach
+told-ended broken n h = never (cc)
+told-ended (ended fs m) n h = cc
+told-ended (bare fs) n h = never (cc)
+
+module _ (q : ℕ) (page : List ℕ) where
+  pub reach-none : q ≡ 0 → 0 ≡ fieldsReach q page
+  unfolding fieldsReach
+  reach-none z = rw (eq-eqb q 0 z)
+
+  module _ (z : q ≡ 0 → ⊥) where
+    pub reach-there : fieldsReach q page ≡ min 4096 (q % 4096 + reach (scanOf (drop (q % 4096) page)))
+    unfolding fieldsReach
+    reach-there = rw (ne-eqb q 0 z)
+
+    pub reach-broken : toldOf (scanOf (drop (q % 4096) page)) ≡ Broken → 4096 ≡ fieldsReach q page
+    reach-broken h = rw (reach-there, told-broken (scanOf (drop (q % 4096) page)) h) (omega arith)
+
+    pub reach-past : (n : ℕ) → toldOf (scanOf (drop (q % 4096) page)) ≡ Ended n → 4096 - q % 4096 < n → 4096 ≡ fieldsReach q page
+    reach-past n h l = rw (reach-there, told-ended (scanOf (drop (q % 4096) page)) n h) (omega arith)
+
+    pub reach-ended : (n : ℕ) → toldOf (scanOf (drop (q % 4096) page)) ≡ Ended n → n ≤ 4096 - q % 4096 → q % 4096 + n ≡ fieldsReach q page
+    reach-ended n h l = rw (reach-there, told-ended (scanOf (drop (q % 4096) page)) n h) (omega arith)
 
 -- ---- it covers what a reader looks at
 core-within : (v : View) (n : ℕ) → core (v .edition) ≤ highestOf v n
@@ -79,16 +116,17 @@ unfolding highestOf
 core-within v zero = omega arith
 core-within v (suc n) = omega (arith, core-within v n)
 
-step-within : (v : View) (n k : ℕ) (b : Bool) → eqb k n ≡ b → k < suc n → (k < n → endOf v k ≤ highestOf v n) → endOf v k ≤ highestOf v (suc n)
+step-within : (v : View) (n k : ℕ) (b : Bool) → eqb k n ≡ b → k < suc n → (k < n → sectionEnd k (sectionOf v k) ≤ highestOf v n) →
+    sectionEnd k (sectionOf v k) ≤ highestOf v (suc n)
 unfolding highestOf
 step-within v n k true e h f = rw (eqb-true k n e) (omega arith)
 step-within v n k false e h f = let l : k < n = omega (arith, eqb-false k n e) in omega (arith, f l)
 
-end-within : (v : View) (n k : ℕ) → k < n → endOf v k ≤ highestOf v n
+end-within : (v : View) (n k : ℕ) → k < n → sectionEnd k (sectionOf v k) ≤ highestOf v n
 end-within v zero k h = absurd (omega arith)
 end-within v (suc n) k h = step-within v n k (eqb k n) refl h (end-within v n k)
 
-section-is : (w e base : ℕ) (page : List ℕ) (k : ℕ) → k < 4 → sectionOf (viewAt w e base page) k ≡ sectionAt e base page k
+pub section-is : (w e base : ℕ) (page : List ℕ) (k : ℕ) → k < 4 → sectionOf (viewAt w e base page) k ≡ sectionAt e base page k
 unfolding sectionOf viewAt
 section-is w e base page zero h = refl
 section-is w e base page (suc zero) h = refl
@@ -101,32 +139,75 @@ unfolding size
 size-none k count h = rw (h, mul-zero)
 
 -- where an array of the edition that lies within the page ends
-array-end : (w e base : ℕ) (page : List ℕ) (k : ℕ) → k < sectionCount e → (size k (countAt k page) ≡ 0 → ⊥) → inPage base (pointerAt k page) (size k (countAt k page)) ≡ true →
-    base + endOf (viewAt w e base page) k ≡ pointerAt k page + size k (countAt k page)
-unfolding endOf spanEnd spanAt inPage
-array-end w e base page k h n p =
+pub array-end : (e base : ℕ) (page : List ℕ) (k : ℕ) → k < sectionCount e → (size k (countAt k page) ≡ 0 → ⊥) → inPage base (pointerAt k page) (size k (countAt k page)) ≡ true →
+    base + sectionEnd k (sectionAt e base page k) ≡ pointerAt k page + size k (countAt k page)
+unfolding sectionEnd spanEnd spanAt inPage
+array-end e base page k h n p =
     let a : base ≤ pointerAt k page = leb-true _ _ (both-l _ _ p) in
     let b : pointerAt k page + size k (countAt k page) ≤ base + 4096 = leb-true _ _ (both-r _ _ p) in
-    let s = section-is w e base page k (omega (arith, few-sections e)) in
     let t = section-entries e base k page h (λ c. n (size-none k (countAt k page) c)) in
-    rw (s, ← t, place-in k (pointerAt k page - base) (countAt k page) 4096 (omega arith), ne-eqb (size k (countAt k page)) 0 n) (omega arith)
+    rw (← t, place-in k (pointerAt k page - base) (countAt k page) 4096 (omega arith), ne-eqb (size k (countAt k page)) 0 n) (omega arith)
 
-beside-by : (w e base : ℕ) (page : List ℕ) (i k : ℕ) (z p l : Bool) → eqb (size k (countAt k page)) 0 ≡ z → inPage base (pointerAt k page) (size k (countAt k page)) ≡ p → ltb (base + i) (pointerAt k page) ≡ l →
-    k < sectionCount e → endOf (viewAt w e base page) k ≤ i → BesideArray base page i k
-beside-by w e base page i k z p true a b c h m = inl (ltb-true _ _ c)
-beside-by w e base page i k true p false a b c h m = inr (inl (let x : size k (countAt k page) ≡ 0 = eqb-true _ _ a in let y : pointerAt k page ≤ base + i = ltb-false _ _ c in omega arith))
-beside-by w e base page i k false false false a b c h m = inr (inr b)
-beside-by w e base page i k false true false a b c h m = inr (inl (let x = array-end w e base page k h (eqb-false _ _ a) b in omega arith))
+beside-by : (e base : ℕ) (page : List ℕ) (i k : ℕ) (z p l : Bool) → eqb (size k (countAt k page)) 0 ≡ z → inPage base (pointerAt k page) (size k (countAt k page)) ≡ p → ltb (base + i) (pointerAt k page) ≡ l →
+    k < sectionCount e → sectionEnd k (sectionAt e base page k) ≤ i → BesideArray base page i k
+beside-by e base page i k z p true a b c h m = inl (ltb-true _ _ c)
+beside-by e base page i k true p false a b c h m = inr (inl (let x : size k (countAt k page) ≡ 0 = eqb-true _ _ a in let y : pointerAt k page ≤ base + i = ltb-false _ _ c in omega arith))
+beside-by e base page i k false false false a b c h m = inr (inr b)
+beside-by e base page i k false true false a b c h m = inr (inl (let x = array-end e base page k h (eqb-false _ _ a) b in omega arith))
 
-beside : (w e base : ℕ) (page : List ℕ) (i k : ℕ) → k < sectionCount e → endOf (viewAt w e base page) k ≤ i → BesideArray base page i k
-beside w e base page i k = beside-by w e base page i k _ _ _ refl refl refl
+beside : (e base : ℕ) (page : List ℕ) (i k : ℕ) → k < sectionCount e → sectionEnd k (sectionAt e base page k) ≤ i → BesideArray base page i k
+beside e base page i k = beside-by e base page i k _ _ _ refl refl refl
 
--- no byte from K on is named, for a reader of any edition, K being that of the view that it makes of the page
-pub kept-covers : (r base : ℕ) (page : List ℕ) (i : ℕ) → keptFor (viewAt (minorOf (versionAt page)) (min r (minorOf (versionAt page))) base page) ≤ i → named r base page i ≡ false
+-- ---- the fields that a pointer into a page finds
+found-none : (base q : ℕ) (page : List ℕ) → q ≡ 0 → q + reach (foundAt base page q) ≡ 0
+unfolding foundAt reach
+found-none base q page z = rw (eq-eqb q 0 z) (omega arith)
+
+pub found-there : (base q : ℕ) (page : List ℕ) → base % 4096 ≡ 0 → (q ≡ 0 → ⊥) → inPage base q 1 ≡ true → (q ≡ base + q % 4096) × (foundAt base page q ≡ scanOf (drop (q % 4096) page))
+unfolding foundAt inPage
+found-there base q page m z p =
+    let a : base ≤ q = leb-true _ _ (both-l _ _ p) in
+    let b : q + 1 ≤ base + 4096 = leb-true _ _ (both-r _ _ p) in
+    let x : q - base ≡ q % 4096 = omega arith in
+    (omega arith, rw (ne-eqb q 0 z, p, x))
+
+ended-taken : (s : Scanned) → isEnded s ≡ true → reach s ≡ taken s
+unfolding isEnded reach taken
+ended-taken broken h = absurd (false≢true h)
+ended-taken (ended fs n) h = refl
+ended-taken (bare fs) h = absurd (false≢true h)
+
+-- where they end, if they are not broken
+pub fields-end : (base q : ℕ) (page : List ℕ) → base % 4096 ≡ 0 → length page ≡ 4096 → (q ≡ 0 → ⊥) → inPage base q 1 ≡ true → isEnded (foundAt base page q) ≡ true →
+    base + fieldsReach q page ≡ q + reach (foundAt base page q)
+fields-end base q page m l z p o =
+    let f = found-there base q page m z p in
+    let s : Scanned = scanOf (drop (q % 4096) page) in
+    let x : reach s ≡ taken s = ended-taken s (ap isEnded (sym (f .1)) ∙ o) in
+    let r : taken s ≤ length (drop (q % 4096) page) = taken-room (drop (q % 4096) page) in
+    rw (f .1, reach-there q page z) (omega (arith, f .0, length-drop (q % 4096) page))
+
+fields-by : (base q : ℕ) (page : List ℕ) (i : ℕ) (z p : Bool) → eqb q 0 ≡ z → inPage base q 1 ≡ p → base % 4096 ≡ 0 → length page ≡ 4096 → isEnded (foundAt base page q) ≡ true → fieldsReach q page ≤ i →
+    (base + i < q) ⊎ ((q + reach (foundAt base page q) ≤ base + i) ⊎ (inPage base q 1 ≡ false))
+fields-by base q page i true p a b m l o h = inr (inl (let x = found-none base q page (eqb-true _ _ a) in omega arith))
+fields-by base q page i false false a b m l o h = inr (inr b)
+fields-by base q page i false true a b m l o h = inr (inl (let x = fields-end base q page m l (eqb-false _ _ a) b o in omega arith))
+
+fields-beside : (base : ℕ) (page : List ℕ) (i : ℕ) → base % 4096 ≡ 0 → length page ≡ 4096 → isEnded (foundAt base page (wordAt 8 page)) ≡ true → fieldsReach (wordAt 8 page) page ≤ i → BesideFields base page i
+fields-beside base page i = fields-by base (wordAt 8 page) page i _ _ refl refl
+
+-- No byte from K on is named, for a reader of any edition, K being that of the view that it makes of the page: of a page at a place that it may
+-- have, with fields that are not broken, or no pointer.
+pub kept-covers : (r base : ℕ) (page : List ℕ) → Yes (placeOk base (length page)) → isEnded (foundAt base page (wordAt 8 page)) ≡ true → (i : ℕ) →
+    keptFor (viewAt (minorOf (versionAt page)) (min r (minorOf (versionAt page))) base page) page ≤ i → named r base page i ≡ false
 unfolding keptFor viewAt
-kept-covers r base page i h =
+kept-covers r base page p o i h =
     let w : ℕ = minorOf (versionAt page) in
     let v : View = viewAt w (min r w) base page in
     let c : core (min r w) ≤ highestOf v 4 = core-within v 4 in
+    let n = placed base (length page) p in
     others-unnamed r base page .gap i (omega arith)
-    (λ k l. beside w (min r w) base page i k l (omega (arith, end-within v 4 k (omega (arith, few-sections (min r w))))))
+    (λ k l.
+    let f : k < 4 = omega (arith, section-count-most (min r w)) in
+    beside (min r w) base page i k l (rw (← section-is w (min r w) base page k f) (omega (arith, end-within v 4 k f))))
+    (fields-beside base page i (n .2) (n .0) o (omega arith))

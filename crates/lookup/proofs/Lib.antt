@@ -1,3 +1,4 @@
 pub mod Lookups
 pub mod Fields
 pub mod Kept
+pub mod Least

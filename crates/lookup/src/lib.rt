@@ -16,7 +16,7 @@ ghost use Rattle.reader.specs.Reading.{sectionOf, readingAnswer};
 ghost use Rattle.entries.specs.Entry.{isHidden};
 ghost use Rattle.lookup.specs.Lookup.{spanOf, spanIn, countOf, wordOf};
 ghost use Rattle.lookup.specs.Fields.{firstIn, restIn, nthIn, ofTag, valueIn, fieldAs, placeSpan, shownFrom, stepAt, startAt, nthPlace, tagPlace};
-ghost use Rattle.lookup.specs.Kept.{sectionEnd, keptFor};
+ghost use Rattle.lookup.specs.Kept.{sectionEnd, fieldsReach, keptFor};
 
 // A field that is asked for: its tag, and where its value lies in the page; or that there is no such field.
 pub enum FieldPlace {
@@ -288,25 +288,49 @@ fn larger(a: u64, b: u64) -> u64
     a
 }
 
-// Where the array of section k of a view ends in a page of 4,096 bytes; 0 where it lies nowhere.
-fn end_of(view: View, k: usize) -> u64
-    ensures { λ r. ⌜ (r ≡ endOf view k) × (r ≤ 4096) ⌝ }
+// Where the array of a section k ends in a page of 4,096 bytes; 0 where it lies nowhere.
+fn section_end(section: Section, k: usize) -> u64
+    ensures { λ r. ⌜ (r ≡ sectionEnd k section) × (r ≤ 4096) ⌝ }
 {
-    let place = place_in(4096, reader::section_of(view, k), k);
+    let place = place_in(4096, section, k);
     (place.at + place.len) as u64
 }
 
-// How many bytes the manifest of a view takes from the page's start: the highest end of core and arrays, rounded up to 8. With so many kept
-// bytes at cold boot, no runtime command changes what a reader of the view's edition sees. At most 4,096 of any view.
-pub fn kept_for(view: View) -> u64
-    ensures { λ r. ⌜ (r ≡ keptFor view) × (r ≤ 4096) ⌝ }
+// Where the fields at a platform pointer end: 0 without a pointer, 4,096 where they are broken or end behind it.
+fn fields_reach(page: &[u8], plat: u64) -> u64
+    ensures { λ r. ⌜ (r ≡ fieldsReach plat (now (page .entry))) × (r ≤ 4096) ⌝ }
+{
+    if plat == 0 {
+        return 0;
+    }
+    let at = (plat % 4096) as usize;
+    let told = fields::scan_at(page, at);
+    let FieldsEnd::Ended(n) = told else {
+        return 4096;
+    };
+    if 4096 - at < n {
+        return 4096;
+    }
+    (at + n) as u64
+}
+
+// How many bytes the manifest of a view takes from the page's start: the highest end of core, arrays and fields, rounded up to 8. With so many
+// kept bytes at cold boot, no runtime command changes what a reader of the view's edition sees. At most 4,096 of any view and page.
+pub fn kept_for(page: &[u8], view: View) -> u64
+    ensures { λ r. ⌜ (r ≡ keptFor view (now (page .entry))) × (r ≤ 4096) ⌝ }
 {
     let edition = Edition {
         minor: view.edition,
     };
+    let dram = view.dram;
+    let console = view.console;
+    let ncoh = view.ncoh;
+    let coh = view.coh;
     let mut end = edition.core_size();
-    for k in 0..4usize {
-        end = larger(end, end_of(view, k));
-    }
+    end = larger(end, section_end(dram, 0));
+    end = larger(end, section_end(console, 1));
+    end = larger(end, section_end(ncoh, 2));
+    end = larger(end, section_end(coh, 3));
+    end = larger(end, fields_reach(page, view.plat));
     8 * ((end + 7) / 8)
 }

@@ -51,11 +51,6 @@ unfolding either
 neither true b h = absurd (true≢false h)
 neither false b h = (refl, h)
 
--- a buffer that is not outside begins behind the kept bytes
-pub past-kept : (u : Params) (pa : ℕ) → outside u pa ≡ false → u .kept ≤ placeOf u pa
-unfolding outside placeOf
-past-kept u pa h = let a : u .base + u .kept ≤ pa = ltb-false _ _ (neither _ _ h .0) in omega arith
-
 -- 02, E5: "K = 0 gives 01 as it stands.": its range check
 pub kept-none : (u : Params) (pa : ℕ) → u .kept ≡ 0 → outside u pa ≡ either (ltb pa (u .base)) (leb (u .base + 4096) pa)
 unfolding outside

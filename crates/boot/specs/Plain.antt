@@ -1,0 +1,21 @@
+-- 01's cold boot as it stands, with no number of kept bytes. Assumes nothing.
+use Prim.Native.Nat.{ℕ}
+use mathlib.Core.Bool.{Bool, true, false}
+use mathlib.Core.List.{List}
+use lib.Dec.{leb, ltb}
+use lib.IntN.{ℤ}
+use Rattle.versions.specs.Version.{versionOk}
+use Rattle.reader.specs.Answer.{minus, readOf}
+use Rattle.boot.specs.Boot.{codeIn, isFresh}
+use Rattle.boot.specs.declared.Record.{Record}
+
+-- "in this order of checks": -1, -2, -3, -4, then the page's own code
+unfoldable pub plainGate : Bool → Bool → Bool → Bool → ℤ → ℤ
+plainGate true true true true c = c
+plainGate true true true false c = minus 4
+plainGate true true false n c = minus 3
+plainGate true false m n c = minus 2
+plainGate false v m n c = minus 1
+
+unfoldable pub plainCode : Record → ℕ → ℕ → ℕ → ℕ → ℕ → List ℕ → ℤ
+plainCode s x0 x1 x2 x3 most page = plainGate (isFresh s) (versionOk x1) (leb x2 most) (ltb x0 x2) (codeIn (readOf 4 x3 page))
