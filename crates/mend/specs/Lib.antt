@@ -1,0 +1,3 @@
+pub mod Mend
+pub mod Steps
+pub mod Promise
