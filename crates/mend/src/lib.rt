@@ -13,6 +13,7 @@ ghost use Rattle.words.specs.Word.{leBytes, bytesOf};
 ghost use Rattle.sections.specs.Page.{placeOk, paddingAt, platAt};
 ghost use Rattle.mend.specs.Mend.{minorAt, changesOf, pageTo, mendedOf, mendedPage};
 ghost use Rattle.mend.specs.Steps.{zeroed, platKept, sectionGoes};
+ghost use Rattle.mend.specs.Report.{mendedNumber, flagWord, reportWords};
 
 // Which of the six parts were changed.
 pub struct Changes {
@@ -124,4 +125,40 @@ pub fn mend(page: &mut [u8], base: u64) -> Mended
     let minor = versions::minor(version);
     let e = reader::edition_read(4, minor);
     Mended::Done(mend_parts(page, base, minor, e))
+}
+
+// The answer's number: 0, or that of the code.
+pub fn number(mended: Mended) -> i32
+    ensures { λ r. ⌜ r ≡ mendedNumber mended ⌝ }
+{
+    match mended {
+        Mended::Done(_) => 0,
+        Mended::Refused(code) => reader::number(code),
+    }
+}
+
+fn flag(changed: bool) -> u64
+    ensures { λ r. ⌜ r ≡ flagWord changed ⌝ }
+{
+    if changed {
+        return 1;
+    }
+    0
+}
+
+// A word for each of the six parts: 1 where it was changed. All zero where the page was refused.
+pub fn report_words(mended: Mended) -> [u64; 6]
+    ensures { λ r. ⌜ r ≡ reportWords mended ⌝ }
+{
+    match mended {
+        Mended::Done(changes) => [
+            flag(changes.padding),
+            flag(changes.plat),
+            flag(changes.dram),
+            flag(changes.console),
+            flag(changes.ncoh),
+            flag(changes.coh),
+        ],
+        Mended::Refused(_) => [0u64; 6],
+    }
 }
