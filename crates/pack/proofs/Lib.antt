@@ -1,0 +1,4 @@
+pub mod Fields
+pub mod Spans
+pub mod Room
+pub mod Made
