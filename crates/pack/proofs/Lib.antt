@@ -2,3 +2,5 @@ pub mod Fields
 pub mod Spans
 pub mod Room
 pub mod Made
+pub mod Moves
+pub mod Kept

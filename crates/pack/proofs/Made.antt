@@ -141,7 +141,7 @@ module _ (base : ℕ) (page : List ℕ) (w : ℕ) (early : w ≤ 4) (t : rulesAt
   unfolding toldBy retold platShown platAt mkPlat
   told-fields = refl
 
-  told-room : length page ≡ 4096 → used w (toldBy base page w) ≤ 4096
+  pub told-room : length page ≡ 4096 → used w (toldBy base page w) ≤ 4096
   unfolding used platBytes addedUp core
   told-room n =
       let c = section-count-most w in

@@ -1,3 +1,7 @@
+use mathlib.Core.Path.{ap}
+use Prim.Native.Nat.{ℕ, _%_}
+use Rattle.pack.proofs.Moves.{array-lent}
+use native.Mathlib.Omega.{arith}
 use borrow.Author.Needs.{needs}
 use Rattle.pack.proofs.array_of.Statement.{statement}
 use Rattle.pack.proofs.array_of.Tie as tie
@@ -21,7 +25,9 @@ part-result-end : tie.Need-part-result-end
 part-result-end c = search needs
 
 returns : tie.Need-returns
-returns c = ?
+returns c =
+    let a = c .before .before .before .before .args in
+    array-lent (a .page .now) (a .k) _ _ (λ i. omega (arith, c .before .before .before .shared-slice-known .given i)) (c .before .before .before .before .pre .0 .inside) (ap (λ (x : ℕ). x % 4096) (c .before .before .pointer-at .ensures)) (c .before .array-size .ensures .0)
 
 pub array-of-spec : {M : Type 1} → statement M
 array-of-spec =
