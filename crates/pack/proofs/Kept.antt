@@ -1,7 +1,7 @@
 -- The fields that are kept, as bytes of the page they stand in. Assumes nothing.
 use Prim.Native.Nat.{ℕ, _+_, _-_, _%_, _≤_, _<_}
 use mathlib.Core.Path.{_≡_, refl, sym, ap, _∙_}
-use mathlib.Core.Bool.{Bool, true, false}
+use mathlib.Core.Bool.{Bool, true, false, cond}
 use mathlib.Core.List.{List, [], _∷_, _++_, append-nil, append-assoc}
 use native.Mathlib.Omega.{arith}
 use types.Run.{OneOf}
@@ -98,3 +98,11 @@ module _ (page : List ℕ) where
   pub place-some : (q : ℕ) → q ≡ wordAt 8 page → (q ≡ 0 → ⊥) → q % 4096 ≡ fieldsPlace page
   unfolding fieldsPlace
   place-some q e z = rw (← e, ne-eqb q 0 z)
+
+  pub place-most : length page ≡ 4096 → fieldsPlace page ≤ 4096
+  unfolding fieldsPlace
+  place-most n = go (eqb (wordAt 8 page) 0)
+    where
+      go : (b : Bool) → cond b (length page) (wordAt 8 page % 4096) ≤ 4096
+      go true = omega arith
+      go false = omega arith

@@ -4,3 +4,5 @@ pub mod Room
 pub mod Made
 pub mod Moves
 pub mod Kept
+pub mod Whole
+pub mod Answers

@@ -5,8 +5,10 @@ use reader::Refusal;
 use reader::Verdict;
 use versions::Edition;
 ghost use mathlib.Core.Path.{_≡_};
+ghost use mathlib.Core.Bool.{cond};
 ghost use Prim.Native.Nat.{ℕ, _+_, _*_, _≤_, _<_};
 ghost use lib.ListN.{length};
+ghost use lib.Dec.{eqb};
 ghost use Rattle.words.specs.Word.{bytesOf, joined, splice};
 ghost use Rattle.versions.specs.Edition.{sectionCount};
 ghost use Rattle.entries.specs.Entry.{size};
@@ -133,6 +135,17 @@ fn put_fields(page: &[u8], from: usize, at: usize, target: &mut [u8]) -> usize
     }
 }
 
+// The platform pointer: where the fields are put; 0 where there are none.
+fn plat_pointer(base: u64, at: usize, end: usize) -> u64
+    requires { ⌜ (base ≤ 0x10_0000_0000_0000) × (at ≤ 4096) ⌝ }
+    ensures { λ r. ⌜ r ≡ cond (eqb at end) 0 (base + at) ⌝ }
+{
+    if at == end {
+        return 0;
+    }
+    base + (at as u64)
+}
+
 // Makes the whole page from one of minor e: sections, arrays, fields, version and platform pointer, zero behind them.
 fn put_page(page: &[u8], base: u64, e: Edition, target: &mut [u8])
     requires { ⌜ (length (now page) ≡ 4096) × (length (now target) ≡ 4096) × (base ≤ 0x10_0000_0000_0000)
@@ -147,17 +160,6 @@ fn put_page(page: &[u8], base: u64, e: Edition, target: &mut [u8])
     let head = [e.minor, plat_pointer(base, behind, end)];
     words::put_words(target, 0, &head);
     words::clear(&mut target[end..]);
-}
-
-// The platform pointer: where the fields are put; 0 where there are none.
-fn plat_pointer(base: u64, at: usize, end: usize) -> u64
-    requires { ⌜ (base ≤ 0x10_0000_0000_0000) × (at ≤ 4096) ⌝ }
-    ensures { λ r. ⌜ ((at ≡ end) → r ≡ 0) × (((at ≡ end) → ⊥) → r ≡ base + at) ⌝ }
-{
-    if at == end {
-        return 0;
-    }
-    base + (at as u64)
 }
 
 // Packs a page of a base into a target for the same base: what a reader of edition 4 shows of it, written at the page's own minor, without
