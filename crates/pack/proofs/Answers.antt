@@ -1,46 +1,46 @@
 -- The packer's answer, return by return, and what an accepted page gives the code. Assumes nothing.
 use Prim.Native.Nat.{ℕ, zero, suc, _+_, _-_, _*_, _%_, min, _≤_, _<_}
-use mathlib.Core.Path.{_≡_, refl, sym, ap, fun-ext, _∙_}
-use mathlib.Core.Bool.{Bool, true, false, cond}
+use mathlib.Core.Path.{_≡_, sym, ap, fun-ext, _∙_}
+use mathlib.Core.Bool.{true, false, cond}
 use mathlib.Core.List.{List, []}
 use native.Mathlib.Omega.{arith}
 use native.Mathlib.Decide.{decLt}
-use lib.ListN.{length, drop}
-use lib.Dec.{leb, ltb, eqb}
+use lib.ListN.{length}
+use lib.Dec.{leb, ltb}
 use borrow.Author.Tests.{leb-true, ltb-true, eqb-true, le-leb, lt-leb, lt-ltb, le-ltb, eq-eqb, ne-eqb}
-use Rattle.words.specs.Tests.{Yes, both, either}
-use Rattle.words.specs.Word.{wordAt, part, wordsOf}
+use Rattle.words.specs.Tests.{Yes, both}
+use Rattle.words.specs.Word.{wordAt, wordsOf}
 use Rattle.words.proofs.Tests.{both-l, both-r, both-of, either-cases}
 use Rattle.versions.specs.Edition.{sectionCount, core}
 use Rattle.entries.specs.Entry.{wordsPerEntry, size, checkOk}
 use Rattle.entries.specs.Array.{wordsAt, soundOf}
 use Rattle.entries.proofs.Entries.{not-zero}
 use Rattle.entries.proofs.Flags.{shown-plain}
-use Rattle.fields.specs.Fields.{ended, scanOf, fieldsIn, shownFields, taken}
-use Rattle.fields.specs.Steps.{toldOf, fieldsFrom}
+use Rattle.fields.specs.Fields.{fieldsIn, shownFields, taken}
+use Rattle.fields.specs.Steps.{fieldsFrom}
 use Rattle.fields.specs.declared.FieldsEnd.the-variants as fieldsEnd
 use Rattle.fields.proofs.Walks.{from-out, from-told}
 use Rattle.sections.specs.Page.{placeOk, countAt, pointerAt, checkAt, inPage, mkSec, secAt, mkPlat, foundAt, platAt}
-use Rattle.sections.specs.Section.{nothing, inRange, secOk, wordsIn, platOk, rulesAt}
+use Rattle.sections.specs.Section.{nothing, secOk, wordsIn, platOk, rulesAt}
 use Rattle.sections.specs.Steps.{okAt, platEnd}
 use Rattle.sections.proofs.Sections.{placed, range-low, range-high, array-in, ok-in-range, ok-each, rules-sections, rules-pointer, plat-in}
-use Rattle.reader.specs.Answer.{Shown, absent, empty, full, PlatShown, ReaderAnswer, refused, shows, minus, readOf}
+use Rattle.reader.specs.Answer.{Shown, PlatShown, shows, minus, readOf}
 use Rattle.reader.specs.Reading.{refusalNumber, readingAnswer, viewAt, readingOf, verdictOf}
 use Rattle.reader.specs.Views.{PageShown}
 use Rattle.reader.specs.declared.Refusal.{Refusal}
-use Rattle.reader.specs.declared.Reading.the-variants.{Accepted, Refused}
+use Rattle.reader.specs.declared.Reading.the-variants.{Refused}
 use Rattle.reader.specs.declared.Verdict.the-variants as verdict
 use Rattle.reader.proofs.Whole.{reading-answer, refused-reads, fine-reads}
 use Rattle.reader.proofs.Views.{shows-page}
 use Rattle.lists.specs.Description.{Description, used}
-use Rattle.writer.specs.Write.{Made, no-page, a-page, pageOf}
+use Rattle.writer.specs.Write.{no-page, a-page, pageOf}
 use Rattle.writer.specs.Wrote.{pageAfter}
 use Rattle.writer.proofs.Checks.{w-place}
 use Rattle.pack.specs.Pack.{entriesIn, fieldsKept, retold, Packed, stopped, written, packed, packOf, packedBy, targetAfter}
 use Rattle.pack.specs.Steps.{arrayWords, Movable, fieldsPlace, keptFrom, retoldAt}
 use Rattle.pack.specs.declared.Packing.{Packing}
 use Rattle.pack.specs.declared.Packing.the-variants as packing
-use Rattle.pack.proofs.Made.{toldBy, told-room, opened, pack-page}
+use Rattle.pack.proofs.Made.{told-room, opened, pack-page}
 
 -- ---- a section whose rule holds can be moved
 size-none : (k c : ℕ) → c ≡ 0 → size k c ≡ 0

@@ -1,14 +1,13 @@
 -- Bytes and arrays moved from page to page. Assumes nothing.
 use Prim.Native.Nat.{ℕ, zero, suc, _+_, _-_, _*_, _/_, _%_, _^_, _≤_, _<_}
 use mathlib.Core.Path.{_≡_, refl, sym, ap, _∙_}
-use mathlib.Core.List.{List, [], _∷_, _++_, append-nil, append-assoc}
+use mathlib.Core.List.{List, [], _∷_, _++_, append-nil}
 use native.Mathlib.Omega.{arith}
 use native.Mathlib.Nat.{add-zero, add-suc}
 use native.Mathlib.Numerals.{add-one}
 use lib.ListN.{length, take, drop, getD, length-append, length-drop, length-take, take-append-drop}
 use lib.Seq.{length-take-le, getD-drop, drop-drop, take-add, paste-zero}
 use borrow.Author.Tests.{eqb-true}
-use Rattle.words.specs.Tests.{Yes}
 use Rattle.words.specs.Word.{leOf, leBytes, part, wordsOf, bytesOf, joined, splice, laid}
 use Rattle.words.proofs.Read.{wordsOf-length}
 use Rattle.words.proofs.Lists.{bytesOf-length, bytesOf-append, joined-length}

@@ -1,5 +1,5 @@
 -- The packed page as a whole: its steps one behind the other are the page that the writer makes. Assumes nothing.
-use Prim.Native.Nat.{ℕ, zero, suc, _+_, _-_, _*_, _%_, _≤_, _<_}
+use Prim.Native.Nat.{ℕ, _+_, _-_, _*_, _≤_, _<_}
 use mathlib.Core.Path.{_≡_, refl, sym, ap, _∙_}
 use mathlib.Core.Bool.{Bool, true, false, cond, true≢false}
 use mathlib.Core.List.{List, [], _∷_, _++_, append-assoc}
@@ -7,16 +7,16 @@ use native.Mathlib.Omega.{arith}
 use native.Mathlib.Nat.{add-assoc, zero-add}
 use lib.ListN.{length, take, drop, replicate, length-append, length-drop}
 use lib.Seq.{length-take-le, drop-at}
-use lib.Dec.{eqb, ltb}
+use lib.Dec.{eqb}
 use borrow.Author.Tests.{lt-ltb, le-ltb, eq-eqb, eqb-true}
-use Rattle.words.specs.Word.{bytesOf, joined, splice, laid, wordAt}
+use Rattle.words.specs.Word.{bytesOf, joined, splice, laid}
 use Rattle.words.proofs.Lists.{bytesOf-length, bytesOf-append, joined-length}
 use Rattle.words.proofs.Store.{splice-splice, bytes-in, words-in}
 use Rattle.versions.specs.Edition.{sectionCount, core}
 use Rattle.versions.proofs.Editions.{section-count-most}
-use Rattle.lists.specs.Description.{Description, platBytes, used}
+use Rattle.lists.specs.Description.{platBytes, used}
 use Rattle.lists.proofs.Lists.{marked-more}
-use Rattle.writer.specs.Write.{descriptor, arrayAddress, descriptorAt, pointTo, platWord, coreWords, pageOf}
+use Rattle.writer.specs.Write.{arrayAddress, descriptorAt, pointTo, platWord, coreWords, pageOf}
 use Rattle.writer.proofs.Given.{desc-length}
 use Rattle.writer.proofs.Pages.{page-law}
 use Rattle.pack.specs.Steps.{arrayWords, sectionMoved, fieldsPlace, keptFrom, retoldAt}

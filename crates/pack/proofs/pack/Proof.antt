@@ -8,7 +8,6 @@ use Rattle.writer.specs.Wrote.{pageAfter}
 use Rattle.pack.specs.Pack.{stopped, written, packedBy, targetAfter}
 use Rattle.pack.specs.declared.Packing.the-variants as packing
 use Rattle.pack.proofs.Answers.{refused-packs, late-packs, target-packs, page-packs, page-ready, packs-not, packs-page}
-use native.Mathlib.Omega.{arith}
 use borrow.Author.Needs.{needs}
 use Rattle.pack.proofs.pack.Statement.{statement}
 use Rattle.pack.proofs.pack.Tie as tie
