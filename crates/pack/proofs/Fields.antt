@@ -77,19 +77,6 @@ kept-three (f ∷ fs) = go (eqb (f .tag) 3) refl (kept-three fs)
     go true e r = r
     go false e r = rw (e, r)
 
--- and of fields with none withdrawn all are kept
-kept-all : (fs : List Field) → count 3 fs ≡ 0 → keptOf fs ≡ fs
-unfolding count keptOf
-kept-all [] h = refl
-kept-all (f ∷ fs) h = go (eqb (f .tag) 3) refl (kept-all fs)
-  where
-    go : (b : Bool) → eqb (f .tag) 3 ≡ b → (count 3 fs ≡ 0 → keptOf fs ≡ fs) → cond b (keptOf fs) (f ∷ keptOf fs) ≡ f ∷ fs
-    go true e r = absurd (let z : 1 + count 3 fs ≡ 0 = rw e at h in let y : ⊥ = omega arith in y)
-    go false e r = ap {B = List Field} (λ x. f ∷ x) (r (let z : 0 + count 3 fs ≡ 0 = rw e at h in omega arith))
-
-pub kept-again : (fs : List Field) → keptOf (keptOf fs) ≡ keptOf fs
-kept-again fs = kept-all (keptOf fs) (kept-three fs)
-
 -- ---- they are read back
 read-length : (t n : ℕ) (rest : List ℕ) → n < 2 ^ 16 → numAt 2 1 (t ∷ (leBytes 2 n ++ rest)) ≡ n
 unfolding numAt part leBytes leOf

@@ -78,7 +78,7 @@ Each base page w k =
     ⊎ ((k < sectionCount w) × (0 < countAt k page) × (toldBy base page w .lists k ≡ wordsIn k (secAt base page k)))
 
 module _ (base : ℕ) (page : List ℕ) (w : ℕ) (early : w ≤ 4) (t : rulesAt w w base page ≡ true) where
-  rule-at : (k : ℕ) → k < sectionCount w → okAt w w base k page ≡ true
+  pub rule-at : (k : ℕ) → k < sectionCount w → okAt w w base k page ≡ true
   rule-at k l = ok-each w w base page (sectionCount w) k (rules-sections w w base page t) l
 
   -- outside the edition nothing
@@ -86,15 +86,23 @@ module _ (base : ℕ) (page : List ℕ) (w : ℕ) (early : w ≤ 4) (t : rulesAt
   unfolding toldBy retold shown entriesIn
   told-late k l = rw (le-ltb k (sectionCount w) l)
 
+  -- within it nothing, or the words of an array that was read
+  module _ (k : ℕ) (l : k < sectionCount w) where
+    pub told-none : countAt k page ≡ 0 → toldBy base page w .lists k ≡ []
+    unfolding toldBy retold shown shownSec entriesIn secAt mkSec
+    told-none c = rw (lt-ltb k (sectionCount w) l, eq-eqb (countAt k page) 0 c)
+
+    pub told-some : 0 < countAt k page → toldBy base page w .lists k ≡ wordsIn k (secAt base page k)
+    unfolding toldBy retold shown shownSec entriesIn secAt mkSec
+    told-some c = rw (lt-ltb k (sectionCount w) l, ne-eqb (countAt k page) 0 (λ z. omega arith), shown-plain w k early (wordsIn k (secAt base page k)))
+
   pub told-each : (k : ℕ) → Each base page w k
-  unfolding toldBy retold shown shownSec entriesIn secAt mkSec
   told-each k = go (decLt k (sectionCount w)) (decLt 0 (countAt k page))
     where
       go : Dec (k < sectionCount w) → Dec (0 < countAt k page) → Each base page w k
       go (no l) c = inl (told-late k (omega arith))
-      go (yes l) (no c) = inl (rw (lt-ltb k (sectionCount w) l, eq-eqb (countAt k page) 0 (omega arith)))
-      go (yes l) (yes c) =
-          inr (l, c, rw (lt-ltb k (sectionCount w) l, ne-eqb (countAt k page) 0 (λ z. omega arith), shown-plain w k early (wordsIn k (secAt base page k))))
+      go (yes l) (no c) = inl (told-none k l (omega arith))
+      go (yes l) (yes c) = inr (l, c, told-some k l c)
 
   pub words-length : (k : ℕ) → length (wordsIn k (secAt base page k)) ≡ wordsPerEntry k * countAt k page
   unfolding wordsIn secAt mkSec
@@ -137,7 +145,7 @@ module _ (base : ℕ) (page : List ℕ) (w : ℕ) (early : w ≤ 4) (t : rulesAt
   unfolding spanLength
   fields-span = rw (le-ltb (sectionCount w) (sectionCount w) (omega arith))
 
-  told-fields : (toldBy base page w .fields) ≡ fieldsKept (shownFields (fieldsIn (foundAt base page (wordAt 8 page))))
+  pub told-fields : (toldBy base page w .fields) ≡ fieldsKept (shownFields (fieldsIn (foundAt base page (wordAt 8 page))))
   unfolding toldBy retold platShown platAt mkPlat
   told-fields = refl
 
@@ -169,19 +177,23 @@ shows-each : (w w' e e' : ℕ) (q q' : PlatShown) (s s' : ℕ → Shown) → sho
 shows-each w w' e e' q q' s s' h = (cc, cc, cc, cc)
 
 module _ (base : ℕ) (page : List ℕ) (w e : ℕ) (q : PlatShown) (s : ℕ → Shown) (h : readOf 4 base page ≡ shows w e q s) (early : w ≤ 4) where
-  pub opened : Yes (placeOk base (length page)) × (1 ≤ w) × (rulesAt w w base page ≡ true) × (retold q s ≡ toldBy base page w)
-  unfolding readOf judge allShown rulesAt toldBy
+  pub opened : Yes (placeOk base (length page)) × (1 ≤ w) × (rulesAt w w base page ≡ true) × (platShown (platAt base page) ≡ q) × ((λ k. shown w w k (secAt base page k)) ≡ s)
+  unfolding readOf judge allShown rulesAt
   opened =
       let g = gate-shows _ _ _ _ _ _ _ _ h in
       let i = shows-each _ w _ e _ q _ s (g .1) in
       let m : min 4 w ≡ w = omega arith in
       let v = version-minor (versionAt page) (both-r _ _ (g .0 .1)) in
       let n : versionAt page ≡ w = sym (v .0) ∙ i .0 in
-      (g .0 .0, rw n at (v .1), rw (i .0, m) at (g .0 .2), rw (← i .2, ← i .3, i .0, m))
+      (g .0 .0, rw n at (v .1), rw (i .0, m) at (g .0 .2), i .2, rw (i .0, m) at (i .3))
+
+  pub told-is : retold q s ≡ toldBy base page w
+  unfolding toldBy
+  told-is = rw (← opened .3, ← opened .4)
 
   -- the writer makes its page of what is shown: none of W2 to W5
   pub pack-made : writeOf base 4096 w (retold q s) ≡ a-page (pageOf base w (retold q s))
-  pack-made = rw (opened .3) (told-made base page w early (opened .2) (opened .0) (opened .1))
+  pack-made = rw told-is (told-made base page w early (opened .2) (opened .0) (opened .1))
 
   -- so no refusal is left but the target's
   pub pack-page : packOf base 4096 page ≡ written (a-page (pageOf base w (retold q s)))
