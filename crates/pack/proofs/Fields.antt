@@ -1,19 +1,19 @@
 -- Fields without the withdrawn ones: as bytes they are read back as they are, and they are no longer than what they were read from. Assumes
 -- nothing.
-use Prim.Native.Nat.{ℕ, zero, suc, _+_, _-_, _*_, _/_, _%_, _^_, _≤_, _<_}
-use mathlib.Core.Path.{_≡_, refl, sym, ap, _∙_}
+use Prim.Native.Nat.{ℕ, zero, suc, _+_, _-_, _/_, _%_, _^_, _≤_, _<_}
+use mathlib.Core.Path.{_≡_, refl, ap, _∙_}
 use mathlib.Core.Bool.{Bool, true, false, cond, false≢true}
 use mathlib.Core.List.{List, [], _∷_, _++_}
 use native.Mathlib.Omega.{arith}
-use lib.ListN.{length, getD, drop, length-append, length-drop}
+use lib.ListN.{length, drop, length-append}
 use lib.Seq.{take-at, drop-at}
 use lib.Dec.{leb, ltb, eqb, lit≤}
-use borrow.Author.Tests.{leb-true, ltb-true, ltb-false, eqb-true, le-leb, le-ltb, ne-eqb, eq-eqb}
+use borrow.Author.Tests.{leb-true, ltb-true, eqb-true, le-leb, le-ltb, ne-eqb, eq-eqb}
 use Rattle.words.specs.Tests.{Yes, both}
 use Rattle.words.specs.Word.{leOf, leBytes, part, numAt}
 use Rattle.words.proofs.Tests.{both-l, both-r, both-of}
 use Rattle.fields.specs.Fields.{Field, mkField, Scanned, broken, ended, bare, push, step, scan, scanAll, scanOf, judged, lengthOk, lengthsOk, count, fieldsOk, fieldsIn, raw, withdrawn, shownField, shownFields, taken, endMark}
-use Rattle.fields.proofs.Scans.{never, scan-step, step-ended, part-length}
+use Rattle.fields.proofs.Scans.{never, scan-step}
 use Rattle.fields.proofs.Rules.{listed, judged-passed}
 use Rattle.sections.specs.Page.{inPage, foundAt}
 use Rattle.lists.specs.Description.{withMark}

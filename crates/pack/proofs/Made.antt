@@ -1,7 +1,7 @@
 -- What is shown of a page can be written again: the writer makes its page. Assumes nothing.
-use Prim.Native.Nat.{ℕ, zero, suc, _+_, _-_, _*_, _/_, _%_, _^_, min, _≤_, _<_}
+use Prim.Native.Nat.{ℕ, zero, suc, _+_, _-_, _*_, _/_, _%_, min, _≤_, _<_}
 use mathlib.Core.Path.{_≡_, refl, sym, ap, _∙_}
-use mathlib.Core.Bool.{Bool, true, false, false≢true}
+use mathlib.Core.Bool.{true}
 use mathlib.Core.Logic.{_⊎_, inl, inr}
 use mathlib.Core.List.{List, [], _++_}
 use native.Mathlib.Decide.{decLt, decLe}
@@ -10,11 +10,10 @@ use lib.Dec.{ltb, eqb, lit≤}
 use lib.ListN.{length, length-append}
 use borrow.Author.Tests.{eqb-true, le-leb, lt-ltb, le-ltb, eq-eqb, ne-eqb}
 use Rattle.words.specs.Tests.{Yes, both, either, every}
-use Rattle.words.specs.Word.{wordAt, wordsOf, joined}
+use Rattle.words.specs.Word.{wordAt, joined}
 use Rattle.words.proofs.Tests.{both-l, both-r, both-of, either-l, either-r, either-cases, every-of}
 use Rattle.words.proofs.Read.{wordsOf-length}
-use Rattle.versions.specs.Version.{minorOf}
-use Rattle.versions.specs.Edition.{sectionCount, core, editionOk}
+use Rattle.versions.specs.Edition.{sectionCount, core}
 use Rattle.versions.proofs.Versions.{version-minor}
 use Rattle.versions.proofs.Editions.{section-count-most, edition-of}
 use Rattle.entries.specs.Entry.{wordsPerEntry, size, entriesOk}
@@ -24,16 +23,16 @@ use Rattle.fields.specs.Fields.{bare, scanOf, fieldsIn, shownFields, isBare, ta
 use Rattle.sections.specs.Page.{placeOk, versionAt, countAt, secAt, mkSec, foundAt, mkPlat, platAt}
 use Rattle.sections.specs.Section.{nothing, wordsIn, secOk, rulesAt}
 use Rattle.sections.specs.Steps.{okAt}
-use Rattle.sections.proofs.Sections.{placed, ok-each, rules-sections}
-use Rattle.reader.specs.Answer.{Shown, empty, full, PlatShown, shows, shown, shownSec, platShown, allShown, judge, readOf}
+use Rattle.sections.proofs.Sections.{placed, rules-at}
+use Rattle.sections.proofs.Spans.{addedUp}
+use Rattle.sections.proofs.Room.{spanLength, arrays-fit}
+use Rattle.reader.specs.Answer.{Shown, empty, PlatShown, shows, shown, shownSec, platShown, allShown, judge, readOf}
 use Rattle.reader.proofs.Newer.{gate-shows}
 use Rattle.lists.specs.Description.{Description, listOk, listsOk, tellable, fieldsTold, noneLate, platBytes, used}
 use Rattle.writer.specs.Write.{a-page, writeOf, pageOf}
 use Rattle.writer.proofs.Checks.{w-made}
 use Rattle.pack.specs.Pack.{entriesIn, fieldsKept, retold, written, packed, packOf}
 use Rattle.pack.proofs.Fields.{keptOf, kept-told, kept-three, found-fits}
-use Rattle.pack.proofs.Spans.{addedUp}
-use Rattle.pack.proofs.Room.{spanLength, arrays-fit}
 
 -- ---- a list of whole entries that keep their rule
 none-ok : (w k : ℕ) → Yes (listOk w k [])
@@ -78,9 +77,6 @@ Each base page w k =
     ⊎ ((k < sectionCount w) × (0 < countAt k page) × (toldBy base page w .lists k ≡ wordsIn k (secAt base page k)))
 
 module _ (base : ℕ) (page : List ℕ) (w : ℕ) (early : w ≤ 4) (t : rulesAt w w base page ≡ true) where
-  pub rule-at : (k : ℕ) → k < sectionCount w → okAt w w base k page ≡ true
-  rule-at k l = ok-each w w base page (sectionCount w) k (rules-sections w w base page t) l
-
   -- outside the edition nothing
   pub told-late : (k : ℕ) → sectionCount w ≤ k → toldBy base page w .lists k ≡ []
   unfolding toldBy retold shown entriesIn
@@ -114,7 +110,7 @@ module _ (base : ℕ) (page : List ℕ) (w : ℕ) (early : w ≤ 4) (t : rulesAt
       either-cases _ _
       (λ n. absurd (let z : countAt k page ≡ 0 = eqb-true _ _ (both-l _ _ n) in let y : ⊥ = omega arith in y))
       (λ b. both-r _ _ (both-r _ _ (both-r _ _ (both-r _ _ b))))
-      (rule-at k l)
+      (rules-at w w base page t k l)
 
   told-list : (k : ℕ) → Each base page w k → Yes (listOk w k (toldBy base page w .lists k))
   told-list k (inl e) = rw e (none-ok w k)

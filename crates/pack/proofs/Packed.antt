@@ -1,9 +1,9 @@
 -- A packed page shows what the page before it shows, and packs to itself. Assumes nothing.
-use Prim.Native.Nat.{ℕ, zero, suc, _+_, _-_, _*_, min, _≤_, _<_}
-use mathlib.Core.Path.{_≡_, refl, sym, ap, _∙_, fun-ext}
+use Prim.Native.Nat.{ℕ, zero, suc, _-_, _*_, min, _≤_, _<_}
+use mathlib.Core.Path.{_≡_, refl, ap, _∙_, fun-ext}
 use mathlib.Core.Bool.{Bool, true, false, cond}
 use mathlib.Core.Logic.{inl, inr}
-use mathlib.Core.List.{List, [], _∷_, _++_}
+use mathlib.Core.List.{List, [], _∷_}
 use native.Mathlib.Decide.{decLt}
 use native.Mathlib.Nat.{not-suc-le-zero}
 use native.Mathlib.Omega.{arith}
@@ -14,7 +14,7 @@ use borrow.Author.Tests.{leb-true, le-leb, lt-leb, lt-ltb, le-ltb, eq-eqb, ne-eq
 use Rattle.words.specs.Tests.{Yes, both}
 use Rattle.words.specs.Word.{part, wordAt, bytesOf, areWords}
 use Rattle.words.proofs.Tests.{every-of}
-use Rattle.versions.specs.Edition.{sectionCount, core, editionOk}
+use Rattle.versions.specs.Edition.{sectionCount, editionOk}
 use Rattle.versions.proofs.Editions.{edition-of, edition-range}
 use Rattle.entries.specs.Entry.{wordsPerEntry, size}
 use Rattle.entries.proofs.Flags.{shown-plain}
@@ -22,12 +22,12 @@ use Rattle.fields.specs.Fields.{Field, FieldShown, raw, withdrawn, shownField, 
 use Rattle.fields.proofs.Scans.{part-length}
 use Rattle.sections.specs.Page.{placeOk, countAt, pointerAt, inPage, arrayAt, secAt, mkSec, mkPlat, foundAt, platAt}
 use Rattle.sections.specs.Section.{wordsIn, rulesAt}
-use Rattle.sections.proofs.Sections.{placed, range-low, range-high, array-in, ok-in-range}
-use Rattle.reader.specs.Answer.{Shown, empty, full, PlatShown, ReaderAnswer, refused, shows, minus, shown, shownSec, platShown, readerGate, judge, readOf, less}
+use Rattle.sections.proofs.Sections.{placed, range-low, range-high, array-in, ok-in-range, rules-at}
+use Rattle.reader.specs.Answer.{Shown, empty, full, PlatShown, ReaderAnswer, refused, shows, minus, shown, shownSec, platShown, readerGate, judge, readOf}
 use Rattle.reader.proofs.Newer.{newer-accepts}
 use Rattle.reader.proofs.Views.{shows-page}
-use Rattle.lists.specs.Description.{Description, fieldsTold}
-use Rattle.writer.specs.Write.{Made, no-page, a-page, writeOf, pageOf, descriptionFits, shownList, described, platDescribed}
+use Rattle.lists.specs.Description.{fieldsTold}
+use Rattle.writer.specs.Write.{Made, no-page, a-page, writeOf, descriptionFits, shownList, described, platDescribed}
 use Rattle.writer.specs.Wrote.{pageAfter}
 use Rattle.writer.proofs.Checks.{w-place}
 use Rattle.writer.proofs.Round.{round}
@@ -35,7 +35,7 @@ use Rattle.pack.specs.Pack.{fieldsKept, retold, Packed, stopped, written
 use Rattle.pack.specs.Packer.{remaining, repacked}
 use Rattle.pack.proofs.Fields.{keptOf}
 use Rattle.pack.proofs.Bytes.{Bytes, bytes-part, words-read, words-back}
-use Rattle.pack.proofs.Made.{toldBy, Each, rule-at, told-late, told-none, told-some, told-each, words-length, told-fields, told-scanned, opened, told-is}
+use Rattle.pack.proofs.Made.{toldBy, Each, told-none, told-some, told-each, words-length, told-scanned, opened, told-is}
 
 -- ---- the fields
 -- those that are kept are shown as the remaining ones
@@ -95,7 +95,7 @@ module _ (base : ℕ) (page : List ℕ) (w : ℕ) (early : w ≤ 4) (t : rulesAt
     bytes-length : 0 < countAt k page → length (secAt base page k .bytes) ≡ 8 * (wordsPerEntry k * countAt k page)
     unfolding secAt mkSec size
     bytes-length c =
-        let g = ok-in-range w w base k page (rule-at base page w early t k l) (λ z. omega arith) in
+        let g = ok-in-range w w base k page (rules-at w w base page t k l) (λ z. omega arith) in
         let lo = range-low w base k (countAt k page) (pointerAt k page) g in
         let hi = range-high w base k (countAt k page) (pointerAt k page) g in
         rw (array-in w base k (countAt k page) (pointerAt k page) g page) (part-length (pointerAt k page - base) _ page (omega arith))

@@ -1,6 +1,4 @@
 -- What 02, E11 asks of the packer, proved. Assumes nothing.
-use Prim.Native.Nat.{ℕ}
-use mathlib.Core.List.{List}
 use lib.ListN.{length}
 use Rattle.pack.specs.Pack.{packOf}
 use Rattle.pack.specs.Packer.{Packer}
