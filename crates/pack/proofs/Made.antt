@@ -1,15 +1,16 @@
 -- What is shown of a page can be written again: the writer makes its page. Assumes nothing.
-use Prim.Native.Nat.{ℕ, zero, suc, _+_, _-_, _*_, _/_, _%_, min, _≤_, _<_}
+use Prim.Native.Nat.{ℕ, zero, suc, _+_, _-_, _*_, min, _≤_, _<_}
 use mathlib.Core.Path.{_≡_, refl, sym, ap, _∙_}
 use mathlib.Core.Bool.{true}
 use mathlib.Core.Logic.{_⊎_, inl, inr}
 use mathlib.Core.List.{List, [], _++_}
 use native.Mathlib.Decide.{decLt, decLe}
+use native.Mathlib.Nat.{mul-mod-right, mul-div-right}
 use native.Mathlib.Omega.{arith}
 use lib.Dec.{ltb, eqb, lit≤}
 use lib.ListN.{length, length-append}
 use borrow.Author.Tests.{eqb-true, le-leb, lt-ltb, le-ltb, eq-eqb, ne-eqb}
-use Rattle.words.specs.Tests.{Yes, both, either, every}
+use Rattle.words.specs.Tests.{Yes, both, either}
 use Rattle.words.specs.Word.{wordAt, joined}
 use Rattle.words.proofs.Tests.{both-l, both-r, both-of, either-l, either-r, either-cases, every-of}
 use Rattle.words.proofs.Read.{wordsOf-length}
@@ -18,6 +19,7 @@ use Rattle.versions.proofs.Versions.{version-minor}
 use Rattle.versions.proofs.Editions.{section-count-most, edition-of}
 use Rattle.entries.specs.Entry.{wordsPerEntry, size, entriesOk}
 use Rattle.entries.specs.Array.{soundOf}
+use Rattle.entries.proofs.Entries.{per-range}
 use Rattle.entries.proofs.Flags.{shown-plain}
 use Rattle.fields.specs.Fields.{bare, scanOf, fieldsIn, shownFields, isBare, taken}
 use Rattle.sections.specs.Page.{placeOk, versionAt, countAt, secAt, mkSec, foundAt, mkPlat, platAt}
@@ -29,27 +31,22 @@ use Rattle.sections.proofs.Room.{spanLength, arrays-fit}
 use Rattle.reader.specs.Answer.{Shown, empty, PlatShown, shows, shown, shownSec, platShown, allShown, judge, readOf}
 use Rattle.reader.proofs.Newer.{gate-shows}
 use Rattle.lists.specs.Description.{Description, listOk, listsOk, tellable, fieldsTold, noneLate, platBytes, used}
+use Rattle.lists.proofs.Lists.{described-none}
 use Rattle.writer.specs.Write.{a-page, writeOf, pageOf}
 use Rattle.writer.proofs.Checks.{w-made}
 use Rattle.pack.specs.Pack.{entriesIn, fieldsKept, retold, written, packed, packOf}
 use Rattle.pack.proofs.Fields.{keptOf, kept-told, kept-three, found-fits}
 
 -- ---- a list of whole entries that keep their rule
-none-ok : (w k : ℕ) → Yes (listOk w k [])
-unfolding listOk wordsPerEntry entriesOk every
-none-ok w zero = both-of _ _ refl refl
-none-ok w (suc zero) = both-of _ _ refl refl
-none-ok w (suc (suc k)) = both-of _ _ refl refl
-
-pub some-words : (k c : ℕ) → (wordsPerEntry k * c % wordsPerEntry k ≡ 0) × (wordsPerEntry k * c / wordsPerEntry k ≡ c)
-unfolding wordsPerEntry
-some-words zero c = (omega arith, omega arith)
-some-words (suc zero) c = (omega arith, omega arith)
-some-words (suc (suc k)) c = (omega arith, omega arith)
+pub per-pos : (k : ℕ) → 0 < wordsPerEntry k
+per-pos k = omega (arith, per-range k)
 
 list-of : (w k c : ℕ) (ws : List ℕ) → length ws ≡ wordsPerEntry k * c → Yes (entriesOk w k c ws) → Yes (listOk w k ws)
 unfolding listOk
-list-of w k c ws e h = rw (e, some-words k c .0, some-words k c .1) (both-of _ _ refl h)
+list-of w k c ws e h = rw (e, mul-mod-right (wordsPerEntry k) c, mul-div-right c (per-pos k)) (both-of _ _ refl h)
+
+none-ok : (w k : ℕ) → Yes (listOk w k [])
+none-ok w k = list-of w k 0 [] refl (described-none w k [])
 
 -- ---- lists one behind the other: as long as their parts, and no longer for empty ones
 joined-most : (n : ℕ) (l : ℕ → List ℕ) (z : ℕ → ℕ) → ((k : ℕ) → k < n → 8 * length (l k) ≤ z k) → 8 * length (joined n l) ≤ addedUp n z

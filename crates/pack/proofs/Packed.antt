@@ -1,11 +1,11 @@
 -- A packed page shows what the page before it shows, and packs to itself. Assumes nothing.
-use Prim.Native.Nat.{ℕ, zero, suc, _-_, _*_, min, _≤_, _<_}
+use Prim.Native.Nat.{ℕ, _-_, _*_, min, _≤_, _<_}
 use mathlib.Core.Path.{_≡_, refl, ap, _∙_, fun-ext}
 use mathlib.Core.Bool.{Bool, true, false, cond}
 use mathlib.Core.Logic.{inl, inr}
 use mathlib.Core.List.{List, [], _∷_}
 use native.Mathlib.Decide.{decLt}
-use native.Mathlib.Nat.{not-suc-le-zero}
+use native.Mathlib.Nat.{not-suc-le-zero, mul-pos}
 use native.Mathlib.Omega.{arith}
 use lib.Dec.{eqb, leb, lit≤}
 use lib.ListN.{length}
@@ -35,7 +35,7 @@ use Rattle.pack.specs.Pack.{fieldsKept, retold, Packed, stopped, written
 use Rattle.pack.specs.Packer.{remaining, repacked}
 use Rattle.pack.proofs.Fields.{keptOf}
 use Rattle.pack.proofs.Bytes.{Bytes, bytes-part, words-read, words-back}
-use Rattle.pack.proofs.Made.{toldBy, Each, told-none, told-some, told-each, words-length, told-scanned, opened, told-is}
+use Rattle.pack.proofs.Made.{per-pos, toldBy, Each, told-none, told-some, told-each, words-length, told-scanned, opened, told-is}
 
 -- ---- the fields
 -- those that are kept are shown as the remaining ones
@@ -65,12 +65,6 @@ list-full (w ∷ ws) h = refl
 list-none : shownList [] ≡ empty
 unfolding shownList
 list-none = refl
-
-some-size : (k c : ℕ) → 0 < c → 0 < wordsPerEntry k * c
-unfolding wordsPerEntry
-some-size zero c h = omega arith
-some-size (suc zero) c h = omega arith
-some-size (suc (suc k)) c h = omega arith
 
 -- ---- one section of a page whose rules hold
 module _ (base : ℕ) (page : List ℕ) (w : ℕ) (early : w ≤ 4) (t : rulesAt w w base page ≡ true) (b : Bytes page) (n : length page ≡ 4096) where
@@ -119,7 +113,7 @@ module _ (base : ℕ) (page : List ℕ) (w : ℕ) (early : w ≤ 4) (t : rulesAt
         go (no c) = rw (told-none base page w early t k l (omega arith), empty-again (omega arith)) list-none
         go (yes c) =
             rw (told-some base page w early t k l c, full-again c)
-            (list-full (wordsIn k (secAt base page k)) (rw (words-length base page w early t k) (some-size k (countAt k page) c)) ∙ ap (full (wordsIn k (secAt base page k))) (bytes-back c))
+            (list-full (wordsIn k (secAt base page k)) (rw (words-length base page w early t k) (mul-pos (per-pos k) c)) ∙ ap (full (wordsIn k (secAt base page k))) (bytes-back c))
 
   -- it is described as it was shown
   pub shown-again : described w (toldBy base page w) ≡ (λ k. shown w w k (secAt base page k))
