@@ -1,5 +1,4 @@
 pub mod Fields
 pub mod Made
-pub mod Bytes
 pub mod Packed
 pub mod Packer

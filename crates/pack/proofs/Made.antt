@@ -21,7 +21,7 @@ use Rattle.entries.specs.Entry.{wordsPerEntry, size, entriesOk}
 use Rattle.entries.specs.Array.{soundOf}
 use Rattle.entries.proofs.Entries.{per-range}
 use Rattle.entries.proofs.Flags.{shown-plain}
-use Rattle.fields.specs.Fields.{bare, scanOf, fieldsIn, shownFields, isBare, taken}
+use Rattle.fields.specs.Fields.{bare, scanOf, fieldsIn, fieldsTold, shownFields, isBare, tellable, taken}
 use Rattle.sections.specs.Page.{placeOk, versionAt, countAt, secAt, mkSec, foundAt, mkPlat, platAt}
 use Rattle.sections.specs.Section.{nothing, wordsIn, secOk, rulesAt}
 use Rattle.sections.specs.Steps.{okAt}
@@ -30,7 +30,8 @@ use Rattle.sections.proofs.Spans.{addedUp}
 use Rattle.sections.proofs.Room.{spanLength, arrays-fit}
 use Rattle.reader.specs.Answer.{Shown, empty, PlatShown, shows, shown, shownSec, platShown, allShown, judge, readOf}
 use Rattle.reader.proofs.Newer.{gate-shows}
-use Rattle.lists.specs.Description.{Description, listOk, listsOk, tellable, fieldsTold, noneLate, platBytes, used}
+use Rattle.reader.proofs.Views.{shows-each}
+use Rattle.lists.specs.Description.{Description, listOk, listsOk, noneLate, platBytes, used}
 use Rattle.lists.proofs.Lists.{described-none}
 use Rattle.writer.specs.Write.{a-page, writeOf, pageOf}
 use Rattle.writer.proofs.Checks.{w-made}
@@ -46,7 +47,7 @@ unfolding listOk
 list-of w k c ws e h = rw (e, mul-mod-right (wordsPerEntry k) c, mul-div-right c (per-pos k)) (both-of _ _ refl h)
 
 none-ok : (w k : ℕ) → Yes (listOk w k [])
-none-ok w k = list-of w k 0 [] refl (described-none w k [])
+none-ok w k = list-of w k 0 [] (omega arith) (described-none w k [])
 
 -- ---- lists one behind the other: as long as their parts, and no longer for empty ones
 joined-most : (n : ℕ) (l : ℕ → List ℕ) (z : ℕ → ℕ) → ((k : ℕ) → k < n → 8 * length (l k) ≤ z k) → 8 * length (joined n l) ≤ addedUp n z
@@ -152,7 +153,7 @@ module _ (base : ℕ) (page : List ℕ) (w : ℕ) (early : w ≤ 4) (t : rulesAt
       let f = found-fits base page (wordAt 8 page) .1 in
       rw told-fields (omega (arith, fields-span))
 
-  -- ---- the fields may be told, whether or not tag 3 is refused
+  -- ---- the fields may be told: they keep the rules, take up every byte, and none is withdrawn
   pub told-scanned : scanOf (toldBy base page w .fields) ≡ bare (keptOf (fieldsIn (foundAt base page (wordAt 8 page))))
   told-scanned = rw told-fields (kept-told _ (found-fits base page (wordAt 8 page) .0))
 
@@ -166,9 +167,6 @@ module _ (base : ℕ) (page : List ℕ) (w : ℕ) (early : w ≤ 4) (t : rulesAt
       w-made base 4096 w (toldBy base page w) (rw (n .0) at p) (edition-of w lo early) told-lists told-tellable none-late (le-leb _ _ (told-room (n .0)))
 
 -- ---- of a page that a reader of edition 4 accepts
-shows-each : (w w' e e' : ℕ) (q q' : PlatShown) (s s' : ℕ → Shown) → shows w e q s ≡ shows w' e' q' s' → (w ≡ w') × (e ≡ e') × (q ≡ q') × (s ≡ s')
-shows-each w w' e e' q q' s s' h = (cc, cc, cc, cc)
-
 module _ (base : ℕ) (page : List ℕ) (w e : ℕ) (q : PlatShown) (s : ℕ → Shown) (h : readOf 4 base page ≡ shows w e q s) (early : w ≤ 4) where
   pub opened : Yes (placeOk base (length page)) × (1 ≤ w) × (rulesAt w w base page ≡ true) × (platShown (platAt base page) ≡ q) × ((λ k. shown w w k (secAt base page k)) ≡ s)
   unfolding readOf judge allShown rulesAt

@@ -14,11 +14,12 @@ use borrow.Author.Tests.{leb-true, le-leb, lt-leb, lt-ltb, le-ltb, eq-eqb, ne-eq
 use Rattle.words.specs.Tests.{Yes, both}
 use Rattle.words.specs.Word.{part, wordAt, bytesOf, areWords}
 use Rattle.words.proofs.Tests.{every-of}
+use Rattle.words.proofs.Bytes.{Bytes, bytes-part, words-read, words-back}
 use Rattle.versions.specs.Edition.{sectionCount, editionOk}
 use Rattle.versions.proofs.Editions.{edition-of, edition-range}
 use Rattle.entries.specs.Entry.{wordsPerEntry, size}
 use Rattle.entries.proofs.Flags.{shown-plain}
-use Rattle.fields.specs.Fields.{Field, FieldShown, raw, withdrawn, shownField, shownFields, fieldsIn}
+use Rattle.fields.specs.Fields.{Field, FieldShown, raw, withdrawn, shownField, shownFields, fieldsIn, fieldsTold}
 use Rattle.fields.proofs.Scans.{part-length}
 use Rattle.sections.specs.Page.{placeOk, countAt, pointerAt, inPage, arrayAt, secAt, mkSec, mkPlat, foundAt, platAt}
 use Rattle.sections.specs.Section.{wordsIn, rulesAt}
@@ -26,7 +27,6 @@ use Rattle.sections.proofs.Sections.{placed, range-low, range-high, array-in, o
 use Rattle.reader.specs.Answer.{Shown, empty, full, PlatShown, ReaderAnswer, refused, shows, minus, shown, shownSec, platShown, readerGate, judge, readOf}
 use Rattle.reader.proofs.Newer.{newer-accepts}
 use Rattle.reader.proofs.Views.{shows-page}
-use Rattle.lists.specs.Description.{fieldsTold}
 use Rattle.writer.specs.Write.{Made, no-page, a-page, writeOf, descriptionFits, shownList, described, platDescribed}
 use Rattle.writer.specs.Wrote.{pageAfter}
 use Rattle.writer.proofs.Checks.{w-place}
@@ -34,7 +34,6 @@ use Rattle.writer.proofs.Round.{round}
 use Rattle.pack.specs.Pack.{fieldsKept, retold, Packed, stopped, written, packed, packOf, targetAfter}
 use Rattle.pack.specs.Packer.{remaining, repacked}
 use Rattle.pack.proofs.Fields.{keptOf}
-use Rattle.pack.proofs.Bytes.{Bytes, bytes-part, words-read, words-back}
 use Rattle.pack.proofs.Made.{per-pos, toldBy, Each, told-none, told-some, told-each, words-length, told-scanned, opened, told-is}
 
 -- ---- the fields

@@ -10,16 +10,13 @@ use lib.Seq.{getD-drop}
 use borrow.Author.Tests.{ltb-false}
 use Rattle.words.specs.Word.{part, numAt}
 use Rattle.words.proofs.Lists.{joined-length}
+use Rattle.words.proofs.Bytes.{Bytes}
 use Rattle.fields.specs.Fields.{Field, mkField, Scanned, broken, ended, bare, step, scan, scanAll, scanOf, fieldsOk, fieldsIn, taken, raw, shownField, shownFields}
 use Rattle.fields.proofs.Scans.{never, step-ended, part-length}
 use Rattle.fields.proofs.Rules.{listed, judged-passed}
 use Rattle.sections.specs.Page.{inPage, foundAt}
 use Rattle.text.specs.Text.{newline, space, decimal, byteText, valueByte, valueText, fieldText, fieldsText}
 use Rattle.text.proofs.Lengths.{digits-length, decimal-most}
-
--- the page is one of bytes
-abbrev pub Bytes : List ℕ → Type 0
-Bytes bs = (i : ℕ) → getD bs i 0 < 256
 
 -- ---- one field
 byte-length : (v : List ℕ) (i : ℕ) → length (valueByte v i) ≡ 3

@@ -13,6 +13,7 @@ use borrow.Author.Tests.{lt-ltb, le-ltb, leb-true}
 use Rattle.words.specs.Tests.{Yes, both}
 use Rattle.words.specs.Word.{wordAt, part, joined}
 use Rattle.words.proofs.Tests.{both-l, both-r}
+use Rattle.words.proofs.Bytes.{Bytes}
 use Rattle.versions.specs.Version.{minorOf, versionOk}
 use Rattle.versions.specs.Edition.{sectionCount, core, editionOk}
 use Rattle.entries.specs.Entry.{wordsPerEntry, size, shownWords}
@@ -26,7 +27,7 @@ use Rattle.reader.specs.Answer.{Shown, empty, full, ReaderAnswer, refused, minu
 use Rattle.text.specs.Text.{lay, newline, space, dash, manifestText, readAsText, platformText, noneText, absentText, refusedText, titleText, placesIn, places, decimal, signedDecimal, hexText, nameText, wordText, gapText, partText, entryText, countText, stateText, sectionText, headText, pointerText, platText, fieldsText, listingOf, printed, listingRoom}
 use Rattle.text.proofs.Lay.{lay-whole}
 use Rattle.text.proofs.Lengths.{decimal-most, hex-length, name-length}
-use Rattle.text.proofs.FieldRoom.{Bytes, found-text}
+use Rattle.text.proofs.FieldRoom.{found-text}
 
 -- ---- an entry: a word takes at most 18 bytes, and one more for the space before it or the end of the line
 word-most : (k j w : ℕ) → length (wordText k j w) ≤ 18

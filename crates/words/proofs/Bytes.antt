@@ -1,4 +1,4 @@
--- Words that were read from bytes, each below 256: they are words, and written again they are those bytes. Assumes nothing.
+-- Lists of bytes: numbers read from them are small, and words read from them are, written again, those bytes. Assumes nothing.
 use Prim.Native.Nat.{ℕ, zero, suc, _+_, _*_, _/_, _%_, _^_, _≤_, _<_}
 use mathlib.Core.Path.{_≡_, refl}
 use mathlib.Core.List.{List, [], _∷_}
@@ -8,14 +8,15 @@ use lib.ListN.{length, take, drop, getD, length-drop, take-append-drop}
 use lib.Seq.{getD-drop}
 use lib.Dec.{lit≤}
 use borrow.Author.Tests.{lt-ltb}
 use Rattle.words.specs.Tests.{Yes}
 use Rattle.words.specs.Word.{leOf, leBytes, part, wordsOf, bytesOf, areWords}
 use Rattle.words.proofs.Tests.{both-of}
 
+-- each is below 256
 abbrev pub Bytes : List ℕ → Type 0
 Bytes bs = (i : ℕ) → getD bs i 0 < 256
 
-bytes-drop : (n : ℕ) (bs : List ℕ) → Bytes bs → Bytes (drop n bs)
+pub bytes-drop : (n : ℕ) (bs : List ℕ) → Bytes bs → Bytes (drop n bs)
 bytes-drop n bs b i = rw getD-drop (b (n + i))
 
 bytes-take : (n : ℕ) (bs : List ℕ) → Bytes bs → Bytes (take n bs)
@@ -28,7 +29,7 @@ pub bytes-part : (off n : ℕ) (bs : List ℕ) → Bytes bs → Bytes (part off 
 unfolding part
 bytes-part off n bs b = bytes-take n (drop off bs) (bytes-drop off bs b)
 
-number-below : (n : ℕ) (bs : List ℕ) → Bytes bs → leOf (take n bs) < 256 ^ n
+pub number-below : (n : ℕ) (bs : List ℕ) → Bytes bs → leOf (take n bs) < 256 ^ n
 unfolding leOf
 number-below zero bs b = lit≤ tt
 number-below (suc n) [] b = let i = number-below n [] b in rw pow-suc (omega arith)
