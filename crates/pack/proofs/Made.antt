@@ -1,5 +1,5 @@
 -- What is shown of a page can be written again: the writer makes its page. Assumes nothing.
-use Prim.Native.Nat.{ℕ, zero, suc, _+_, _-_, _*_, min, _≤_, _<_}
+use Prim.Native.Nat.{ℕ, zero, suc, _+_, _-_, _*_, _/_, _%_, min, _≤_, _<_}
 use mathlib.Core.Path.{_≡_, refl, sym, ap, _∙_}
 use mathlib.Core.Bool.{true}
 use mathlib.Core.Logic.{_⊎_, inl, inr}
@@ -42,9 +42,12 @@ use Rattle.pack.proofs.Fields.{keptOf, kept-told, kept-three, found-fit
 pub per-pos : (k : ℕ) → 0 < wordsPerEntry k
 per-pos k = omega (arith, per-range k)
 
+pub some-words : (k c : ℕ) → (wordsPerEntry k * c % wordsPerEntry k ≡ 0) × (wordsPerEntry k * c / wordsPerEntry k ≡ c)
+some-words k c = (mul-mod-right (wordsPerEntry k) c, mul-div-right c (per-pos k))
+
 list-of : (w k c : ℕ) (ws : List ℕ) → length ws ≡ wordsPerEntry k * c → Yes (entriesOk w k c ws) → Yes (listOk w k ws)
 unfolding listOk
-list-of w k c ws e h = rw (e, mul-mod-right (wordsPerEntry k) c, mul-div-right c (per-pos k)) (both-of _ _ refl h)
+list-of w k c ws e h = rw (e, some-words k c .0, some-words k c .1) (both-of _ _ refl h)
 
 none-ok : (w k : ℕ) → Yes (listOk w k [])
 none-ok w k = list-of w k 0 [] (omega arith) (described-none w k [])
@@ -143,7 +146,7 @@ module _ (base : ℕ) (page : List ℕ) (w : ℕ) (early : w ≤ 4) (t : rulesAt
   unfolding toldBy retold platShown platAt mkPlat
   told-fields = refl
 
-  told-room : length page ≡ 4096 → used w (toldBy base page w) ≤ 4096
+  pub told-room : length page ≡ 4096 → used w (toldBy base page w) ≤ 4096
   unfolding used platBytes addedUp core
   told-room n =
       let c = section-count-most w in
@@ -168,23 +171,20 @@ module _ (base : ℕ) (page : List ℕ) (w : ℕ) (early : w ≤ 4) (t : rulesAt
 
 -- ---- of a page that a reader of edition 4 accepts
 module _ (base : ℕ) (page : List ℕ) (w e : ℕ) (q : PlatShown) (s : ℕ → Shown) (h : readOf 4 base page ≡ shows w e q s) (early : w ≤ 4) where
-  pub opened : Yes (placeOk base (length page)) × (1 ≤ w) × (rulesAt w w base page ≡ true) × (platShown (platAt base page) ≡ q) × ((λ k. shown w w k (secAt base page k)) ≡ s)
-  unfolding readOf judge allShown rulesAt
+  pub opened : Yes (placeOk base (length page)) × (1 ≤ w) × (rulesAt w w base page ≡ true) × (retold q s ≡ toldBy base page w)
+      × (platShown (platAt base page) ≡ q) × ((λ k. shown w w k (secAt base page k)) ≡ s)
+  unfolding readOf judge allShown rulesAt toldBy
   opened =
       let g = gate-shows _ _ _ _ _ _ _ _ h in
       let i = shows-each _ w _ e _ q _ s (g .1) in
       let m : min 4 w ≡ w = omega arith in
       let v = version-minor (versionAt page) (both-r _ _ (g .0 .1)) in
       let n : versionAt page ≡ w = sym (v .0) ∙ i .0 in
-      (g .0 .0, rw n at (v .1), rw (i .0, m) at (g .0 .2), i .2, rw (i .0, m) at (i .3))
-
-  pub told-is : retold q s ≡ toldBy base page w
-  unfolding toldBy
-  told-is = rw (← opened .3, ← opened .4)
+      (g .0 .0, rw n at (v .1), rw (i .0, m) at (g .0 .2), rw (← i .2, ← i .3, i .0, m), i .2, rw (i .0, m) at (i .3))
 
   -- the writer makes its page of what is shown: none of W2 to W5
   pub pack-made : writeOf base 4096 w (retold q s) ≡ a-page (pageOf base w (retold q s))
-  pack-made = rw told-is (told-made base page w early (opened .2) (opened .0) (opened .1))
+  pack-made = rw (opened .3) (told-made base page w early (opened .2) (opened .0) (opened .1))
 
   -- so no refusal is left but the target's
   pub pack-page : packOf base 4096 page ≡ written (a-page (pageOf base w (retold q s)))

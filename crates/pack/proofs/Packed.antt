@@ -34,7 +34,7 @@ use Rattle.writer.proofs.Round.{round}
 use Rattle.pack.specs.Pack.{fieldsKept, retold, Packed, stopped, written, packed, packOf, targetAfter}
 use Rattle.pack.specs.Packer.{remaining, repacked}
 use Rattle.pack.proofs.Fields.{keptOf}
-use Rattle.pack.proofs.Made.{per-pos, toldBy, Each, told-none, told-some, told-each, words-length, told-scanned, opened, told-is}
+use Rattle.pack.proofs.Made.{per-pos, toldBy, Each, told-none, told-some, told-each, words-length, told-scanned, opened}
 
 -- ---- the fields
 -- those that are kept are shown as the remaining ones
@@ -135,18 +135,19 @@ no-edition r base page p e = rw (p, e)
 -- of a page that a reader of edition 4 accepts, with the page p that the writer makes from what it shows
 module _ (base n : ℕ) (page p : List ℕ) (b : Bytes page) (w e : ℕ) (q : PlatShown) (s : ℕ → Shown) (h : readOf 4 base page ≡ shows w e q s) (early : w ≤ 4)
     (m : writeOf base n w (retold q s) ≡ a-page p) where
-  before : Yes (placeOk base (length page)) × (1 ≤ w) × (rulesAt w w base page ≡ true) × (platShown (platAt base page) ≡ q) × ((λ k. shown w w k (secAt base page k)) ≡ s)
+  before : Yes (placeOk base (length page)) × (1 ≤ w) × (rulesAt w w base page ≡ true) × (retold q s ≡ toldBy base page w)
+      × (platShown (platAt base page) ≡ q) × ((λ k. shown w w k (secAt base page k)) ≡ s)
   before = opened base page w e q s h early
 
   plat-again : platDescribed base w (retold q s) .fields ≡ remaining (q .fields)
   unfolding platDescribed fieldsTold platShown platAt mkPlat
-  plat-again = rw (told-is base page w e q s h early, told-scanned base page w early (before .2), ← before .3) (remains (fieldsIn (foundAt base page (wordAt 8 page))))
+  plat-again = rw (before .3, told-scanned base page w early (before .2), ← before .4) (remains (fieldsIn (foundAt base page (wordAt 8 page))))
 
   described-again : described w (retold q s) ≡ s
-  described-again = rw (told-is base page w e q s h early) (shown-again base page w early (before .2) b (placed base (length page) (before .0) .0) ∙ before .4)
+  described-again = rw (before .3) (shown-again base page w early (before .2) b (placed base (length page) (before .0) .0) ∙ before .5)
 
   told-small : Yes (descriptionFits (retold q s))
-  told-small = rw (told-is base page w e q s h early) (told-fits base page w early (before .2) b (placed base (length page) (before .0) .0))
+  told-small = rw (before .3) (told-fits base page w early (before .2) b (placed base (length page) (before .0) .0))
 
   written-shows : readOf 4 base p ≡ shows w w (platDescribed base w (retold q s)) s
   written-shows =
