@@ -115,5 +115,16 @@ isBare broken = false
 isBare (ended fs n) = false
 isBare (bare fs) = true
 
+-- the fields that a description tells
+unfoldable pub fieldsTold : Scanned → List Field
+fieldsTold broken = []
+fieldsTold (ended fs n) = []
+fieldsTold (bare fs) = fs
+
+-- E7: "broken fields are -7 in the reader and W3 in the writer, there also any tag 0": fields that may be written keep the reader's rules
+-- and take up every byte, so that none is cut short and no tag is 0. E10: "W3 for a description with tag 3"
+unfoldable pub tellable : Scanned → Bool
+tellable s = both (isBare s) (eqb (count 3 (fieldsTold s)) 0)
+
 unfoldable pub endMark : List ℕ
 endMark = 0 ∷ 0 ∷ 0 ∷ []

@@ -1,52 +1,48 @@
 -- The packer's answer, return by return, and what an accepted page gives the code. Assumes nothing.
-use Prim.Native.Nat.{ℕ, zero, suc, _+_, _-_, _*_, _%_, min, _≤_, _<_}
+use Prim.Native.Nat.{ℕ, zero, suc, _+_, _-_, _*_, _%_, _≤_, _<_}
 use mathlib.Core.Path.{_≡_, sym, ap, fun-ext, _∙_}
-use mathlib.Core.Bool.{true, false, cond}
+use mathlib.Core.Bool.{true}
+use mathlib.Core.Logic.{_⊎_, inl, inr}
 use mathlib.Core.List.{List, []}
 use native.Mathlib.Omega.{arith}
 use native.Mathlib.Decide.{decLt}
 use lib.ListN.{length}
-use lib.Dec.{leb, ltb}
-use borrow.Author.Tests.{leb-true, ltb-true, eqb-true, le-leb, lt-leb, lt-ltb, le-ltb, eq-eqb, ne-eqb}
-use Rattle.words.specs.Tests.{Yes, both}
+use lib.Dec.{leb}
+use borrow.Author.Tests.{leb-true, ltb-true, eqb-true, le-leb, eq-eqb, ne-eqb}
+use Rattle.words.specs.Tests.{Yes}
 use Rattle.words.specs.Word.{wordAt, wordsOf}
 use Rattle.words.proofs.Tests.{both-l, both-r, both-of, either-cases}
 use Rattle.versions.specs.Edition.{sectionCount, core}
 use Rattle.entries.specs.Entry.{wordsPerEntry, size, checkOk}
 use Rattle.entries.specs.Array.{wordsAt, soundOf}
 use Rattle.entries.proofs.Entries.{not-zero}
-use Rattle.entries.proofs.Flags.{shown-plain}
 use Rattle.fields.specs.Fields.{fieldsIn, shownFields, taken}
 use Rattle.fields.specs.Steps.{fieldsFrom}
 use Rattle.fields.specs.declared.FieldsEnd.the-variants as fieldsEnd
 use Rattle.fields.proofs.Walks.{from-out, from-told}
-use Rattle.sections.specs.Page.{placeOk, countAt, pointerAt, checkAt, inPage, mkSec, secAt, mkPlat, foundAt, platAt}
+use Rattle.sections.specs.Page.{countAt, pointerAt, checkAt, inPage, mkSec, secAt, mkPlat, foundAt, platAt}
 use Rattle.sections.specs.Section.{nothing, secOk, wordsIn, platOk, rulesAt}
 use Rattle.sections.specs.Steps.{okAt, platEnd}
-use Rattle.sections.proofs.Sections.{placed, range-low, range-high, array-in, ok-in-range, ok-each, rules-sections, rules-pointer, plat-in}
+use Rattle.sections.proofs.Sections.{placed, range-low, range-high, array-in, ok-in-range, rules-at, rules-pointer, plat-in}
+use Rattle.sections.proofs.Room.{array-lies}
 use Rattle.reader.specs.Answer.{Shown, PlatShown, shows, minus, readOf}
 use Rattle.reader.specs.Reading.{refusalNumber, readingAnswer, viewAt, readingOf, verdictOf}
-use Rattle.reader.specs.Views.{PageShown}
 use Rattle.reader.specs.declared.Refusal.{Refusal}
 use Rattle.reader.specs.declared.Reading.the-variants.{Refused}
 use Rattle.reader.specs.declared.Verdict.the-variants as verdict
 use Rattle.reader.proofs.Whole.{reading-answer, refused-reads, fine-reads}
-use Rattle.reader.proofs.Views.{shows-page}
 use Rattle.lists.specs.Description.{Description, used}
 use Rattle.writer.specs.Write.{no-page, a-page, pageOf}
 use Rattle.writer.specs.Wrote.{pageAfter}
-use Rattle.writer.proofs.Checks.{w-place}
-use Rattle.pack.specs.Pack.{entriesIn, fieldsKept, retold, Packed, stopped, written, packed, packOf, packedBy, targetAfter}
+use Rattle.pack.specs.Pack.{fieldsKept, retold, Packed, stopped, written, packOf, packedBy, targetAfter}
 use Rattle.pack.specs.Steps.{arrayWords, Movable, fieldsPlace, keptFrom, retoldAt}
 use Rattle.pack.specs.declared.Packing.{Packing}
 use Rattle.pack.specs.declared.Packing.the-variants as packing
-use Rattle.pack.proofs.Made.{told-room, opened, pack-page}
+use Rattle.pack.proofs.Made.{toldBy, told-late, told-none, told-some, told-fields, told-room, opened, pack-page}
+use Rattle.pack.proofs.Packed.{pack-stops, pack-late, pack-target}
+use Rattle.pack.proofs.Whole.{list-in, list-out}
 
 -- ---- a section whose rule holds can be moved
-size-none : (k c : ℕ) → c ≡ 0 → size k c ≡ 0
-unfolding size
-size-none k c z = rw z (omega arith)
-
 size-some : (k c : ℕ) → (c ≡ 0 → ⊥) → 0 < size k c
 unfolding size wordsPerEntry
 size-some zero c h = omega (arith, not-zero c h)
@@ -71,18 +67,13 @@ module _ (w e base : ℕ) (page : List ℕ) (n : length page ≡ 4096) (m : base
   unfolding okAt secOk secAt mkSec nothing soundOf
   moved-sums z = either-cases _ _ (λ b. absurd (z (eqb-true _ _ (both-l _ _ b)))) (λ b. both-l _ _ (both-r _ _ (both-r _ _ (both-r _ _ b)))) o
 
-  moved-inside : Dec (0 < countAt k page) → pointerAt k page % 4096 + size k (countAt k page) ≤ length page
-  moved-inside (no z) = let s = size-none k (countAt k page) (omega arith) in omega arith
-  moved-inside (yes z) =
-      let y : (countAt k page ≡ 0 → ⊥) = λ q. omega arith in
-      let g = ok-in-range w e base k page o y in
-      let l = range-low e base k (countAt k page) (pointerAt k page) g in
-      let h = range-high e base k (countAt k page) (pointerAt k page) g in
-      let p = array-place y in
-      omega arith
+  moved-inside : (size k (countAt k page) ≡ 0) ⊎ ((base + core e ≤ pointerAt k page) × (pointerAt k page + size k (countAt k page) ≤ base + 4096)) →
+      pointerAt k page % 4096 + size k (countAt k page) ≤ length page
+  moved-inside (inl z) = omega arith
+  moved-inside (inr z) = omega (arith, z .0, z .1)
 
   pub movable : Movable page k
-  movable = record { inside = moved-inside (decLt 0 (countAt k page)); sums = λ z. rw (array-words z) at (moved-sums z) }
+  movable = record { inside = moved-inside (array-lies w e base page k o); sums = λ z. rw (array-words z) at (moved-sums z) }
 
 -- ---- the fields that a walk from their place passes are those that were found
 place-by : (base q : ℕ) (page : List ℕ) → q ≡ 0 → fieldsIn (foundAt base page q) ≡ []
@@ -120,60 +111,30 @@ array-none : (page : List ℕ) (k : ℕ) → countAt k page ≡ 0 → arrayWords
 unfolding arrayWords wordsAt wordsOf
 array-none page k z = rw (z, (let e : wordsPerEntry k * 0 ≡ 0 = omega arith in e))
 
-module _ (base : ℕ) (page : List ℕ) (w e : ℕ) (q : PlatShown) (s : ℕ → Shown) (h : readOf 4 base page ≡ shows w e q s) (early : w ≤ 4) where
-  at-base : (length page ≡ 4096) × (base % 4096 ≡ 0) × (base ≤ 0x10_0000_0000_0000)
-  at-base = let p = placed base (length page) (opened base page w e q s h early .0) in (p .0, p .2, omega arith)
-
-  same-edition : e ≡ w
-  same-edition = shows-page 4 base page w e q s h .edition ∙ (let m : min 4 w ≡ w = omega arith in m)
-
-  rule-at : (k : ℕ) → k < sectionCount w → okAt w w base k page ≡ true
-  rule-at k l = ok-each w w base page (sectionCount w) k (rules-sections w w base page (opened base page w e q s h early .2)) l
-
-  told-list : (k : ℕ) → entriesIn (s k) ≡ cond (ltb k (sectionCount w)) (arrayWords page k) []
-  unfolding entriesIn arrayWords
-  told-list k = go (shows-page 4 base page w e q s h) (decLt k (sectionCount w)) (decLt 0 (countAt k page))
+module _ (base : ℕ) (page : List ℕ) (w : ℕ) (early : w ≤ 4) (n : length page ≡ 4096) (m : base % 4096 ≡ 0) (t : rulesAt w w base page ≡ true) where
+  told-list : (k : ℕ) → toldBy base page w .lists k ≡ retoldAt w page .lists k
+  told-list k = go (decLt k (sectionCount w)) (decLt 0 (countAt k page))
     where
-      go : PageShown 4 base page w e q s → Dec (k < sectionCount w) → Dec (0 < countAt k page) → entriesIn (s k) ≡ cond (ltb k (sectionCount w)) (arrayWords page k) []
-      go v (no l) z = rw (v .later k (rw same-edition (omega arith)), le-ltb k (sectionCount w) (omega arith))
-      go v (yes l) (no z) =
-          let y : countAt k page ≡ 0 = omega arith in
-          rw (v .none k (rw same-edition l) y, lt-ltb k (sectionCount w) l) (sym (array-none page k y))
-      go v (yes l) (yes z) =
-          let y : (countAt k page ≡ 0 → ⊥) = λ x. omega arith in
-          rw (
-            v .entries k (rw same-edition l) y,
-            lt-ltb k (sectionCount w) l,
-            shown-plain w k early (wordsAt k (countAt k page) (pointerAt k page - base) page),
-            array-place w w base page (at-base .0) (at-base .1) k (rule-at k l) y,
-          )
+      go : Dec (k < sectionCount w) → Dec (0 < countAt k page) → toldBy base page w .lists k ≡ retoldAt w page .lists k
+      go (no l) z = told-late base page w early t k (omega arith) ∙ sym (list-out w page k (omega arith))
+      go (yes l) (no z) = told-none base page w early t k l (omega arith) ∙ sym (list-in w page k l ∙ array-none page k (omega arith))
+      go (yes l) (yes z) = told-some base page w early t k l z ∙ array-words w w base page n m k (rules-at w w base page t k l) (λ x. omega arith) ∙ sym (list-in w page k l)
 
-  told-kept : fieldsKept (q .fields) ≡ keptFrom (fieldsPlace page) page
-  unfolding keptFrom
-  told-kept =
-      let t = opened base page w e q s h early .2 in
-      ap fieldsKept (shows-page 4 base page w e q s h .fields ∙ ap shownFields (sym (fields-kept w w base page (at-base .0) (at-base .1) t (decLt 0 (wordAt 8 page)))))
+  told-kept : toldBy base page w .fields ≡ retoldAt w page .fields
+  unfolding retoldAt keptFrom
+  told-kept = told-fields base page w early t ∙ ap (λ fs. fieldsKept (shownFields fs)) (sym (fields-kept w w base page n m t (decLt 0 (wordAt 8 page))))
 
-  told-same : retold q s ≡ retoldAt w page
-  unfolding retold retoldAt
+  told-same : toldBy base page w ≡ retoldAt w page
+  unfolding toldBy retold retoldAt
   told-same =
-      ap {B = Description} (λ (l : ℕ → List ℕ). record { lists = l; fields = fieldsKept (q .fields) }) (fun-ext told-list)
-      ∙ ap {B = Description} (λ (fs : List ℕ). record { lists = λ k. cond (ltb k (sectionCount w)) (arrayWords page k) []; fields = fs }) told-kept
-
-  told-fits : used w (retoldAt w page) ≤ 4096
-  told-fits =
-      let o = opened base page w e q s h early in
-      rw (← told-same, o .3) (told-room base page w early (o .2) (at-base .0))
+      ap {B = Description} (λ (l : ℕ → List ℕ). record { lists = l; fields = toldBy base page w .fields }) (fun-ext told-list)
+      ∙ ap {B = Description} (λ (fs : List ℕ). record { lists = retoldAt w page .lists; fields = fs }) told-kept
 
 -- ---- by the verdict on the page
-not-placed : (base n : ℕ) → (n ≡ 4096 → ⊥) → placeOk base n ≡ false
-unfolding placeOk both
-not-placed base n h = rw (ne-eqb n 4096 h)
-
 module _ (base : ℕ) (page : List ℕ) where
   pub refused-packs : (n : ℕ) (c : Refusal) → verdict.Refused c ≡ verdictOf (readingOf 4 base page) → packOf base n page ≡ stopped (refusalNumber c)
-  unfolding packOf packed readingAnswer
-  refused-packs n c h = rw (← reading-answer 4 base page, ← refused-reads 4 base page c h)
+  unfolding readingAnswer
+  refused-packs n c h = pack-stops base n page (refusalNumber c) (sym (reading-answer 4 base page) ∙ ap (readingAnswer page) (sym (refused-reads 4 base page c h)))
 
   module _ (w : ℕ) (h : verdict.Fine w ≡ verdictOf (readingOf 4 base page)) where
     fine-shown : {P : Type 0} → ((e : ℕ) (q : PlatShown) (s : ℕ → Shown) → readOf 4 base page ≡ shows w e q s → P) → P
@@ -181,22 +142,26 @@ module _ (base : ℕ) (page : List ℕ) where
     fine-shown k = k _ _ _ (sym (reading-answer 4 base page) ∙ ap (readingAnswer page) (sym (fine-reads 4 base page w h .2)))
 
     pub late-packs : (n : ℕ) → 4 < w → packOf base n page ≡ stopped (minus 6)
-    unfolding packOf packed
-    late-packs n l = fine-shown (λ e q s r. rw (r, lt-leb w 4 l))
+    late-packs n l = fine-shown (λ e q s r. pack-late base n page w e q s r l)
 
     pub target-packs : (n : ℕ) → w ≤ 4 → (n ≡ 4096 → ⊥) → packOf base n page ≡ written (no-page 1)
-    unfolding packOf packed
-    target-packs n l z = fine-shown (λ e q s r. rw (r, le-leb w 4 l) (ap written (w-place base n w (retold q s) (not-placed base n z))))
+    target-packs n l z = fine-shown (λ e q s r. pack-target base n page w e q s r l z)
 
+    -- what the code makes is the page that the writer makes
     pub page-packs : (n : ℕ) → w ≤ 4 → n ≡ 4096 → packOf base n page ≡ written (a-page (pageOf base w (retoldAt w page)))
-    page-packs n l z = fine-shown (λ e q s r. rw z (pack-page base page w e q s r l) ∙ ap (λ (d : Description). written (a-page (pageOf base w d))) (told-same base page w e q s r l))
+    page-packs n l z =
+        fine-shown (λ e q s r.
+        let o = opened base page w e q s r l in
+        let p = placed base (length page) (o .0) in
+        rw z (pack-page base page w e q s r l) ∙ ap (λ (d : Description). written (a-page (pageOf base w d))) (o .3 ∙ told-same base page w l (p .0) (p .2) (o .2)))
 
-    -- what the code needs of the page
+    -- and of the page it finds all that it needs
     pub page-ready : w ≤ 4 → (length page ≡ 4096) × (base ≤ 0x10_0000_0000_0000) × ((k : ℕ) → k < sectionCount w → Movable page k) × (used w (retoldAt w page) ≤ 4096)
     page-ready l =
         fine-shown (λ e q s r.
-        let b = at-base base page w e q s r l in
-        (b .0, b .2, (λ k m. movable w w base page (b .0) (b .1) k (rule-at base page w e q s r l k m)), told-fits base page w e q s r l))
+        let o = opened base page w e q s r l in
+        let p = placed base (length page) (o .0) in
+        (p .0, omega arith, (λ k m. movable w w base page (p .0) (p .2) k (rules-at w w base page (o .2) k m)), rw (← told-same base page w l (p .0) (p .2) (o .2)) (told-room base page w l (o .2) (p .0))))
 
 -- ---- a refusal leaves the target as it was; else it is the page made
 pub packs-not : (r : Packing) (target : List ℕ) (m x : Packed) → packedBy target r ≡ x → target ≡ targetAfter target x → m ≡ x → (packedBy target r ≡ m) × (target ≡ targetAfter target m)

@@ -1,19 +1,19 @@
 -- Fields without the withdrawn ones: as bytes they are read back as they are, and they are no longer than what they were read from. Assumes
 -- nothing.
-use Prim.Native.Nat.{ℕ, zero, suc, _+_, _-_, _*_, _/_, _%_, _^_, _≤_, _<_}
-use mathlib.Core.Path.{_≡_, refl, sym, ap, _∙_}
+use Prim.Native.Nat.{ℕ, zero, suc, _+_, _-_, _/_, _%_, _^_, _≤_, _<_}
+use mathlib.Core.Path.{_≡_, refl, ap, _∙_}
 use mathlib.Core.Bool.{Bool, true, false, cond, false≢true}
 use mathlib.Core.List.{List, [], _∷_, _++_}
 use native.Mathlib.Omega.{arith}
-use lib.ListN.{length, getD, drop, length-append, length-drop}
+use lib.ListN.{length, drop, length-append}
 use lib.Seq.{take-at, drop-at}
 use lib.Dec.{leb, ltb, eqb, lit≤}
-use borrow.Author.Tests.{leb-true, ltb-true, ltb-false, eqb-true, le-leb, le-ltb, ne-eqb, eq-eqb}
+use borrow.Author.Tests.{leb-true, ltb-true, eqb-true, le-leb, le-ltb, ne-eqb, eq-eqb}
 use Rattle.words.specs.Tests.{Yes, both}
 use Rattle.words.specs.Word.{leOf, leBytes, part, numAt}
 use Rattle.words.proofs.Tests.{both-l, both-r, both-of}
 use Rattle.fields.specs.Fields.{Field, mkField, Scanned, broken, ended, bare, push, step, scan, scanAll, scanOf, judged, lengthOk, lengthsOk, count, fieldsOk, fieldsIn, raw, withdrawn, shownField, shownFields, taken, endMark}
-use Rattle.fields.proofs.Scans.{never, scan-step, step-ended, part-length}
+use Rattle.fields.proofs.Scans.{never, scan-step}
 use Rattle.fields.proofs.Rules.{listed, judged-passed}
 use Rattle.sections.specs.Page.{inPage, foundAt}
 use Rattle.lists.specs.Description.{withMark}
@@ -76,19 +76,6 @@ kept-three (f ∷ fs) = go (eqb (f .tag) 3) refl (kept-three fs)
     go : (b : Bool) → eqb (f .tag) 3 ≡ b → count 3 (keptOf fs) ≡ 0 → count 3 (cond b (keptOf fs) (f ∷ keptOf fs)) ≡ 0
     go true e r = r
     go false e r = rw (e, r)
-
--- and of fields with none withdrawn all are kept
-kept-all : (fs : List Field) → count 3 fs ≡ 0 → keptOf fs ≡ fs
-unfolding count keptOf
-kept-all [] h = refl
-kept-all (f ∷ fs) h = go (eqb (f .tag) 3) refl (kept-all fs)
-  where
-    go : (b : Bool) → eqb (f .tag) 3 ≡ b → (count 3 fs ≡ 0 → keptOf fs ≡ fs) → cond b (keptOf fs) (f ∷ keptOf fs) ≡ f ∷ fs
-    go true e r = absurd (let z : 1 + count 3 fs ≡ 0 = rw e at h in let y : ⊥ = omega arith in y)
-    go false e r = ap {B = List Field} (λ x. f ∷ x) (r (let z : 0 + count 3 fs ≡ 0 = rw e at h in omega arith))
-
-pub kept-again : (fs : List Field) → keptOf (keptOf fs) ≡ keptOf fs
-kept-again fs = kept-all (keptOf fs) (kept-three fs)
 
 -- ---- they are read back
 read-length : (t n : ℕ) (rest : List ℕ) → n < 2 ^ 16 → numAt 2 1 (t ∷ (leBytes 2 n ++ rest)) ≡ n

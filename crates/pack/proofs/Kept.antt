@@ -1,9 +1,10 @@
 -- The fields that are kept, as bytes of the page they stand in. Assumes nothing.
-use Prim.Native.Nat.{ℕ, _+_, _-_, _%_, _≤_, _<_}
-use mathlib.Core.Path.{_≡_, sym, ap, _∙_}
+use Prim.Native.Nat.{ℕ, suc, _+_, _-_, _*_, _/_, _%_, _≤_, _<_}
+use mathlib.Core.Path.{_≡_, ap, _∙_}
 use mathlib.Core.Bool.{Bool, true, false, cond}
 use mathlib.Core.List.{List, [], _∷_, _++_, append-assoc}
 use native.Mathlib.Omega.{arith}
+use native.Mathlib.Numerals.{add-one}
 use types.Run.{OneOf}
 use denote.Enum.Declared.{tagOf}
 use lib.ListN.{length, getD, length-append}
@@ -11,6 +12,8 @@ use lib.Seq.{drop-cons}
 use lib.Dec.{eqb}
 use borrow.Author.Tests.{eq-eqb, ne-eqb}
 use Rattle.words.specs.Word.{leBytes, part, numAt, wordAt, splice}
+use Rattle.words.proofs.Bytes.{Bytes}
+use Rattle.words.proofs.Read.{num-suc, num-one}
 use Rattle.words.proofs.Store.{splice-splice}
 use Rattle.fields.specs.Fields.{mkField, shownField, shownFields}
 use Rattle.fields.specs.Steps.{headOf, headAt}
@@ -21,7 +24,7 @@ use Rattle.fields.proofs.Scans.{never, head-room, part-length}
 use Rattle.fields.proofs.Walks.{from-stop, from-field}
 use Rattle.pack.specs.Pack.{fieldBytes, fieldsKept}
 use Rattle.pack.specs.Steps.{fieldsPlace, keptFrom}
-use Rattle.pack.proofs.Moves.{Bytes, number-bytes, bytes-part, part-add, part-join, part-none}
+use Rattle.pack.proofs.Moves.{part-add, part-join, part-none}
 
 -- ---- a field's tag and length stand before its value
 head-field : (a z e : Bool) (g : Head) (t v n x : ℕ) → headOf a z e g ≡ head.Field t v n x → g ≡ head.Field t v n x
@@ -42,8 +45,15 @@ unfolding part
 part-one at s h = rw (drop-cons s at 0 h)
 
 part-two : (at : ℕ) (s : List ℕ) → at + 2 ≤ length s → Bytes s → part at 2 s ≡ leBytes 2 (numAt 2 at s)
-unfolding numAt
-part-two at s h b = sym (rw (part-length at 2 s h) at (number-bytes (part at 2 s) (bytes-part at 2 s b)))
+unfolding leBytes
+part-two at s h b =
+    let x : getD s at 0 < 256 = b at in
+    let y : getD s (at + 1) 0 < 256 = b (at + 1) in
+    let m : numAt 2 at s ≡ getD s at 0 + 256 * getD s (at + 1) 0 = rw add-one (omega (arith, num-suc 1 at s, num-one (suc at) s)) in
+    let low : numAt 2 at s % 256 ≡ getD s at 0 = omega arith in
+    let rest : numAt 2 at s / 256 ≡ getD s (at + 1) 0 = omega arith in
+    let high : numAt 2 at s / 256 % 256 ≡ getD s (at + 1) 0 = rw rest (omega arith) in
+    part-add at 1 1 s ∙ rw (low, high, part-one at s (omega arith), part-one (at + 1) s (omega arith))
 
 module _ (at : ℕ) (page : List ℕ) {t v n x : ℕ} (e : headAt at page ≡ head.Field t v n x) where
   field-part : Bytes page → fieldBytes t (part v n page) ≡ part at (x - at) page

@@ -1,7 +1,7 @@
 pub mod Fields
-pub mod Spans
-pub mod Room
 pub mod Made
+pub mod Packed
+pub mod Packer
 pub mod Moves
 pub mod Kept
 pub mod Whole

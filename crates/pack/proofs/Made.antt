@@ -1,56 +1,56 @@
 -- What is shown of a page can be written again: the writer makes its page. Assumes nothing.
-use Prim.Native.Nat.{ℕ, zero, suc, _+_, _-_, _*_, _/_, _%_, _^_, min, _≤_, _<_}
+use Prim.Native.Nat.{ℕ, zero, suc, _+_, _-_, _*_, _/_, _%_, min, _≤_, _<_}
 use mathlib.Core.Path.{_≡_, refl, sym, ap, _∙_}
-use mathlib.Core.Bool.{Bool, true, false, false≢true}
+use mathlib.Core.Bool.{true}
 use mathlib.Core.Logic.{_⊎_, inl, inr}
 use mathlib.Core.List.{List, [], _++_}
 use native.Mathlib.Decide.{decLt, decLe}
+use native.Mathlib.Nat.{mul-mod-right, mul-div-right}
 use native.Mathlib.Omega.{arith}
 use lib.Dec.{ltb, eqb, lit≤}
 use lib.ListN.{length, length-append}
 use borrow.Author.Tests.{eqb-true, le-leb, lt-ltb, le-ltb, eq-eqb, ne-eqb}
-use Rattle.words.specs.Tests.{Yes, both, either, every}
-use Rattle.words.specs.Word.{wordAt, wordsOf, joined}
+use Rattle.words.specs.Tests.{Yes, both, either}
+use Rattle.words.specs.Word.{wordAt, joined}
 use Rattle.words.proofs.Tests.{both-l, both-r, both-of, either-l, either-r, either-cases, every-of}
 use Rattle.words.proofs.Read.{wordsOf-length}
-use Rattle.versions.specs.Version.{minorOf}
-use Rattle.versions.specs.Edition.{sectionCount, core, editionOk}
+use Rattle.versions.specs.Edition.{sectionCount, core}
 use Rattle.versions.proofs.Versions.{version-minor}
 use Rattle.versions.proofs.Editions.{section-count-most, edition-of}
 use Rattle.entries.specs.Entry.{wordsPerEntry, size, entriesOk}
 use Rattle.entries.specs.Array.{soundOf}
+use Rattle.entries.proofs.Entries.{per-range}
 use Rattle.entries.proofs.Flags.{shown-plain}
-use Rattle.fields.specs.Fields.{bare, scanOf, fieldsIn, shownFields, isBare, taken}
+use Rattle.fields.specs.Fields.{bare, scanOf, fieldsIn, fieldsTold, shownFields, isBare, tellable, taken}
 use Rattle.sections.specs.Page.{placeOk, versionAt, countAt, secAt, mkSec, foundAt, mkPlat, platAt}
 use Rattle.sections.specs.Section.{nothing, wordsIn, secOk, rulesAt}
 use Rattle.sections.specs.Steps.{okAt}
-use Rattle.sections.proofs.Sections.{placed, ok-each, rules-sections}
-use Rattle.reader.specs.Answer.{Shown, empty, full, PlatShown, shows, shown, shownSec, platShown, allShown, judge, readOf}
+use Rattle.sections.proofs.Sections.{placed, rules-at}
+use Rattle.sections.proofs.Spans.{addedUp}
+use Rattle.sections.proofs.Room.{spanLength, arrays-fit}
+use Rattle.reader.specs.Answer.{Shown, empty, PlatShown, shows, shown, shownSec, platShown, allShown, judge, readOf}
 use Rattle.reader.proofs.Newer.{gate-shows}
-use Rattle.lists.specs.Description.{Description, listOk, listsOk, tellable, fieldsTold, noneLate, platBytes, used}
+use Rattle.reader.proofs.Views.{shows-each}
+use Rattle.lists.specs.Description.{Description, listOk, listsOk, noneLate, platBytes, used}
+use Rattle.lists.proofs.Lists.{described-none}
 use Rattle.writer.specs.Write.{a-page, writeOf, pageOf}
 use Rattle.writer.proofs.Checks.{w-made}
 use Rattle.pack.specs.Pack.{entriesIn, fieldsKept, retold, written, packed, packOf}
 use Rattle.pack.proofs.Fields.{keptOf, kept-told, kept-three, found-fits}
-use Rattle.pack.proofs.Spans.{addedUp}
-use Rattle.pack.proofs.Room.{spanLength, arrays-fit}
 
 -- ---- a list of whole entries that keep their rule
-none-ok : (w k : ℕ) → Yes (listOk w k [])
-unfolding listOk wordsPerEntry entriesOk every
-none-ok w zero = both-of _ _ refl refl
-none-ok w (suc zero) = both-of _ _ refl refl
-none-ok w (suc (suc k)) = both-of _ _ refl refl
+pub per-pos : (k : ℕ) → 0 < wordsPerEntry k
+per-pos k = omega (arith, per-range k)
 
 pub some-words : (k c : ℕ) → (wordsPerEntry k * c % wordsPerEntry k ≡ 0) × (wordsPerEntry k * c / wordsPerEntry k ≡ c)
-unfolding wordsPerEntry
-some-words zero c = (omega arith, omega arith)
-some-words (suc zero) c = (omega arith, omega arith)
-some-words (suc (suc k)) c = (omega arith, omega arith)
+some-words k c = (mul-mod-right (wordsPerEntry k) c, mul-div-right c (per-pos k))
 
 list-of : (w k c : ℕ) (ws : List ℕ) → length ws ≡ wordsPerEntry k * c → Yes (entriesOk w k c ws) → Yes (listOk w k ws)
 unfolding listOk
 list-of w k c ws e h = rw (e, some-words k c .0, some-words k c .1) (both-of _ _ refl h)
+
+none-ok : (w k : ℕ) → Yes (listOk w k [])
+none-ok w k = list-of w k 0 [] (omega arith) (described-none w k [])
 
 -- ---- lists one behind the other: as long as their parts, and no longer for empty ones
 joined-most : (n : ℕ) (l : ℕ → List ℕ) (z : ℕ → ℕ) → ((k : ℕ) → k < n → 8 * length (l k) ≤ z k) → 8 * length (joined n l) ≤ addedUp n z
@@ -78,23 +78,28 @@ Each base page w k =
     ⊎ ((k < sectionCount w) × (0 < countAt k page) × (toldBy base page w .lists k ≡ wordsIn k (secAt base page k)))
 
 module _ (base : ℕ) (page : List ℕ) (w : ℕ) (early : w ≤ 4) (t : rulesAt w w base page ≡ true) where
-  rule-at : (k : ℕ) → k < sectionCount w → okAt w w base k page ≡ true
-  rule-at k l = ok-each w w base page (sectionCount w) k (rules-sections w w base page t) l
-
   -- outside the edition nothing
   pub told-late : (k : ℕ) → sectionCount w ≤ k → toldBy base page w .lists k ≡ []
   unfolding toldBy retold shown entriesIn
   told-late k l = rw (le-ltb k (sectionCount w) l)
 
+  -- within it nothing, or the words of an array that was read
+  module _ (k : ℕ) (l : k < sectionCount w) where
+    pub told-none : countAt k page ≡ 0 → toldBy base page w .lists k ≡ []
+    unfolding toldBy retold shown shownSec entriesIn secAt mkSec
+    told-none c = rw (lt-ltb k (sectionCount w) l, eq-eqb (countAt k page) 0 c)
+
+    pub told-some : 0 < countAt k page → toldBy base page w .lists k ≡ wordsIn k (secAt base page k)
+    unfolding toldBy retold shown shownSec entriesIn secAt mkSec
+    told-some c = rw (lt-ltb k (sectionCount w) l, ne-eqb (countAt k page) 0 (λ z. omega arith), shown-plain w k early (wordsIn k (secAt base page k)))
+
   pub told-each : (k : ℕ) → Each base page w k
-  unfolding toldBy retold shown shownSec entriesIn secAt mkSec
   told-each k = go (decLt k (sectionCount w)) (decLt 0 (countAt k page))
     where
       go : Dec (k < sectionCount w) → Dec (0 < countAt k page) → Each base page w k
       go (no l) c = inl (told-late k (omega arith))
-      go (yes l) (no c) = inl (rw (lt-ltb k (sectionCount w) l, eq-eqb (countAt k page) 0 (omega arith)))
-      go (yes l) (yes c) =
-          inr (l, c, rw (lt-ltb k (sectionCount w) l, ne-eqb (countAt k page) 0 (λ z. omega arith), shown-plain w k early (wordsIn k (secAt base page k))))
+      go (yes l) (no c) = inl (told-none k l (omega arith))
+      go (yes l) (yes c) = inr (l, c, told-some k l c)
 
   pub words-length : (k : ℕ) → length (wordsIn k (secAt base page k)) ≡ wordsPerEntry k * countAt k page
   unfolding wordsIn secAt mkSec
@@ -106,7 +111,7 @@ module _ (base : ℕ) (page : List ℕ) (w : ℕ) (early : w ≤ 4) (t : rulesAt
       either-cases _ _
       (λ n. absurd (let z : countAt k page ≡ 0 = eqb-true _ _ (both-l _ _ n) in let y : ⊥ = omega arith in y))
       (λ b. both-r _ _ (both-r _ _ (both-r _ _ (both-r _ _ b))))
-      (rule-at k l)
+      (rules-at w w base page t k l)
 
   told-list : (k : ℕ) → Each base page w k → Yes (listOk w k (toldBy base page w .lists k))
   told-list k (inl e) = rw e (none-ok w k)
@@ -137,7 +142,7 @@ module _ (base : ℕ) (page : List ℕ) (w : ℕ) (early : w ≤ 4) (t : rulesAt
   unfolding spanLength
   fields-span = rw (le-ltb (sectionCount w) (sectionCount w) (omega arith))
 
-  told-fields : (toldBy base page w .fields) ≡ fieldsKept (shownFields (fieldsIn (foundAt base page (wordAt 8 page))))
+  pub told-fields : (toldBy base page w .fields) ≡ fieldsKept (shownFields (fieldsIn (foundAt base page (wordAt 8 page))))
   unfolding toldBy retold platShown platAt mkPlat
   told-fields = refl
 
@@ -151,7 +156,7 @@ module _ (base : ℕ) (page : List ℕ) (w : ℕ) (early : w ≤ 4) (t : rulesAt
       let f = found-fits base page (wordAt 8 page) .1 in
       rw told-fields (omega (arith, fields-span))
 
-  -- ---- the fields may be told, whether or not tag 3 is refused
+  -- ---- the fields may be told: they keep the rules, take up every byte, and none is withdrawn
   pub told-scanned : scanOf (toldBy base page w .fields) ≡ bare (keptOf (fieldsIn (foundAt base page (wordAt 8 page))))
   told-scanned = rw told-fields (kept-told _ (found-fits base page (wordAt 8 page) .0))
 
@@ -165,11 +170,9 @@ module _ (base : ℕ) (page : List ℕ) (w : ℕ) (early : w ≤ 4) (t : rulesAt
       w-made base 4096 w (toldBy base page w) (rw (n .0) at p) (edition-of w lo early) told-lists told-tellable none-late (le-leb _ _ (told-room (n .0)))
 
 -- ---- of a page that a reader of edition 4 accepts
-shows-each : (w w' e e' : ℕ) (q q' : PlatShown) (s s' : ℕ → Shown) → shows w e q s ≡ shows w' e' q' s' → (w ≡ w') × (e ≡ e') × (q ≡ q') × (s ≡ s')
-shows-each w w' e e' q q' s s' h = (cc, cc, cc, cc)
-
 module _ (base : ℕ) (page : List ℕ) (w e : ℕ) (q : PlatShown) (s : ℕ → Shown) (h : readOf 4 base page ≡ shows w e q s) (early : w ≤ 4) where
   pub opened : Yes (placeOk base (length page)) × (1 ≤ w) × (rulesAt w w base page ≡ true) × (retold q s ≡ toldBy base page w)
+      × (platShown (platAt base page) ≡ q) × ((λ k. shown w w k (secAt base page k)) ≡ s)
   unfolding readOf judge allShown rulesAt toldBy
   opened =
       let g = gate-shows _ _ _ _ _ _ _ _ h in
@@ -177,7 +180,7 @@ module _ (base : ℕ) (page : List ℕ) (w e : ℕ) (q : PlatShown) (s : ℕ →
       let m : min 4 w ≡ w = omega arith in
       let v = version-minor (versionAt page) (both-r _ _ (g .0 .1)) in
       let n : versionAt page ≡ w = sym (v .0) ∙ i .0 in
-      (g .0 .0, rw n at (v .1), rw (i .0, m) at (g .0 .2), rw (← i .2, ← i .3, i .0, m))
+      (g .0 .0, rw n at (v .1), rw (i .0, m) at (g .0 .2), rw (← i .2, ← i .3, i .0, m), i .2, rw (i .0, m) at (i .3))
 
   -- the writer makes its page of what is shown: none of W2 to W5
   pub pack-made : writeOf base 4096 w (retold q s) ≡ a-page (pageOf base w (retold q s))

@@ -1,14 +1,15 @@
 -- Bytes and arrays moved from page to page. Assumes nothing.
-use Prim.Native.Nat.{ℕ, zero, suc, _+_, _-_, _*_, _/_, _%_, _^_, _≤_, _<_}
+use Prim.Native.Nat.{ℕ, zero, suc, _+_, _-_, _*_, _%_, _^_, _≤_, _<_}
 use mathlib.Core.Path.{_≡_, refl, sym, ap, _∙_}
 use mathlib.Core.List.{List, [], _∷_, _++_, append-nil}
 use native.Mathlib.Omega.{arith}
 use native.Mathlib.Nat.{add-zero, add-suc}
 use native.Mathlib.Numerals.{add-one}
-use lib.ListN.{length, take, drop, getD, length-append, length-drop, length-take, take-append-drop}
-use lib.Seq.{length-take-le, getD-drop, drop-drop, take-add, paste-zero}
+use lib.ListN.{length, take, drop, length-append, length-drop, length-take}
+use lib.Seq.{length-take-le, drop-drop, take-add, paste-zero}
 use borrow.Author.Tests.{eqb-true}
-use Rattle.words.specs.Word.{leOf, leBytes, part, wordsOf, bytesOf, joined, splice, laid}
+use Rattle.words.specs.Word.{part, bytesOf, joined, splice, laid}
+use Rattle.words.proofs.Bytes.{Bytes, bytes-part, words-back}
 use Rattle.words.proofs.Read.{wordsOf-length}
 use Rattle.words.proofs.Lists.{bytesOf-length, bytesOf-append, joined-length}
 use Rattle.words.proofs.Store.{splice-splice, words-in}
@@ -20,39 +21,6 @@ use Rattle.writer.proofs.Given.{desc-length}
 use Rattle.writer.proofs.Sums.{desc-none, desc-some}
 use Rattle.pack.specs.Steps.{arrayWords, Movable, sectionMoved}
 use Rattle.pack.proofs.Made.{some-words}
-
--- ---- bytes that are read as words are the bytes of those words
-abbrev pub Bytes : List ℕ → Type 0
-Bytes bs = (i : ℕ) → getD bs i 0 < 256
-
-pub number-bytes : (bs : List ℕ) → Bytes bs → leBytes (length bs) (leOf bs) ≡ bs
-unfolding leBytes leOf
-number-bytes [] h = refl
-number-bytes (b ∷ bs) h =
-    let l : b < 256 = h 0 in
-    rw ((let e : (b + 256 * leOf bs) % 256 ≡ b = omega arith in e), (let e : (b + 256 * leOf bs) / 256 ≡ leOf bs = omega arith in e), number-bytes bs (λ i. h (suc i)))
-
-bytes-take : (n : ℕ) (bs : List ℕ) → Bytes bs → Bytes (take n bs)
-bytes-take zero bs h i = omega arith
-bytes-take (suc n) [] h i = omega arith
-bytes-take (suc n) (b ∷ bs) h zero = h 0
-bytes-take (suc n) (b ∷ bs) h (suc i) = bytes-take n bs (λ j. h (suc j)) i
-
-bytes-drop : (n : ℕ) (bs : List ℕ) → Bytes bs → Bytes (drop n bs)
-bytes-drop n bs h i = rw getD-drop (h (n + i))
-
-pub bytes-part : (off n : ℕ) (bs : List ℕ) → Bytes bs → Bytes (part off n bs)
-unfolding part
-bytes-part off n bs h = bytes-take n (drop off bs) (bytes-drop off bs h)
-
-pub words-bytes : (n : ℕ) (bs : List ℕ) → length bs ≡ 8 * n → Bytes bs → bytesOf (wordsOf n bs) ≡ bs
-unfolding bytesOf wordsOf
-words-bytes zero [] l h = refl
-words-bytes zero (b ∷ bs) l h = absurd (let z : ⊥ = omega arith in z)
-words-bytes (suc n) bs l h =
-    let m : length (take 8 bs) ≡ 8 = length-take-le 8 bs (omega arith) in
-    let e : leBytes 8 (leOf (take 8 bs)) ≡ take 8 bs = rw m at (number-bytes (take 8 bs) (bytes-take 8 bs h)) in
-    rw (e, words-bytes n (drop 8 bs) (rw length-drop (omega arith)) (bytes-drop 8 bs h)) (take-append-drop 8 bs)
 
 -- ---- the array of a section
 none-left : (k c : ℕ) → wordsPerEntry k * c ≡ 0 → c ≡ 0
@@ -80,7 +48,7 @@ module _ (page : List ℕ) (k : ℕ) where
   array-part b h =
       let n = wordsPerEntry k * countAt k page in
       let at = pointerAt k page % 4096 in
-      sym (words-bytes n (part at (8 * n) page) (simp (length-take, length-drop) (omega arith)) (bytes-part at (8 * n) page b))
+      sym (words-back n (part at (8 * n) page) (bytes-part at (8 * n) page b) (simp (length-take, length-drop) (omega arith)))
 
   -- its three words with the array at another address
   pub moved-none : (p : ℕ) → countAt k page ≡ 0 → 0 ∷ 0 ∷ 0 ∷ [] ≡ descriptor k p (arrayWords page k)

@@ -24,11 +24,11 @@ use Rattle.pack.proofs.Moves.{joined-same, joined-rest}
 
 -- ---- the lists that the writer is told are the arrays of the page
 module _ (v : ℕ) (page : List ℕ) where
-  list-in : (k : ℕ) → k < sectionCount v → retoldAt v page .lists k ≡ arrayWords page k
+  pub list-in : (k : ℕ) → k < sectionCount v → retoldAt v page .lists k ≡ arrayWords page k
   unfolding retoldAt
   list-in k h = rw (lt-ltb k (sectionCount v) h)
 
-  list-out : (k : ℕ) → sectionCount v ≤ k → retoldAt v page .lists k ≡ []
+  pub list-out : (k : ℕ) → sectionCount v ≤ k → retoldAt v page .lists k ≡ []
   unfolding retoldAt
   list-out k h = rw (le-ltb k (sectionCount v) h)
 

@@ -1,38 +1,26 @@
 -- The arrays and the fields of a page whose rules hold take no more than what its core leaves. Assumes nothing.
 use Prim.Native.Nat.{ℕ, suc, _+_, _-_, _≤_, _<_}
 use mathlib.Core.Path.{_≡_}
-use mathlib.Core.Bool.{Bool, true, false, cond}
+use mathlib.Core.Bool.{true, cond}
 use mathlib.Core.Logic.{_⊎_, inl, inr}
-use mathlib.Core.List.{List, []}
+use mathlib.Core.List.{List}
 use native.Mathlib.Decide.{decLt}
 use native.Mathlib.Omega.{arith}
-use lib.Dec.{ltb, eqb}
-use lib.ListN.{length, drop, length-drop}
+use lib.Dec.{ltb}
+use lib.ListN.{length}
 use borrow.Author.Tests.{lt-ltb, le-ltb, eqb-true, leb-true, ltb-true, eq-eqb}
 use Rattle.words.specs.Word.{wordAt}
 use Rattle.words.proofs.Tests.{both-l, both-r, either-cases, every-at}
 use Rattle.versions.specs.Edition.{sectionCount, core}
 use Rattle.entries.specs.Entry.{size}
-use Rattle.fields.specs.Fields.{Scanned, broken, ended, scanOf, taken}
-use Rattle.fields.proofs.Same.{taken-room}
-use Rattle.sections.specs.Page.{countAt, pointerAt, inPage, mkSec, secAt, mkPlat, foundAt, platAt}
+use Rattle.fields.specs.Fields.{taken}
+use Rattle.sections.specs.Page.{countAt, pointerAt, mkSec, secAt, mkPlat, foundAt, platAt}
 use Rattle.sections.specs.Section.{nothing, secOk, platOk, rulesAt}
 use Rattle.sections.specs.Steps.{okAt, endOf, apartAt, clearTo, apartTo, clearAt, clearFrom}
-use Rattle.sections.proofs.Sections.{range-low, range-high, ok-each, rules-steps, rules-pointer}
-use Rattle.pack.proofs.Spans.{addedUp, NoneShared, AllWithin, spans-fit}
+use Rattle.sections.proofs.Sections.{range-low, range-high, found-within, rules-steps, rules-at, rules-pointer}
+use Rattle.sections.proofs.Spans.{addedUp, NoneShared, AllWithin, spans-fit}
 
 -- ---- where the fields lie
-taken-case : (b : Bool) (s t : Scanned) (n : ℕ) → taken s ≤ n → taken t ≤ n → taken (cond b s t) ≤ n
-taken-case true s t n x y = x
-taken-case false s t n x y = y
-
-taken-within : (base q : ℕ) (page : List ℕ) → length page ≡ 4096 → taken (foundAt base page q) ≤ 4096 - (q - base)
-unfolding foundAt taken
-taken-within base q page l =
-    taken-case (eqb q 0) (ended [] 0) (cond (inPage base q 1) (scanOf (drop (q - base) page)) broken) (4096 - (q - base)) (omega arith)
-    (taken-case (inPage base q 1) (scanOf (drop (q - base) page)) broken (4096 - (q - base))
-    (omega (arith, taken-room (drop (q - base) page), length-drop (q - base) page)) (omega arith))
-
 taken-none : (base q : ℕ) (page : List ℕ) → q ≡ 0 → taken (foundAt base page q) ≡ 0
 unfolding foundAt taken
 taken-none base q page z = rw (eq-eqb q 0 z)
@@ -47,7 +35,7 @@ fields-lie e base page n h =
     (λ b.
     let l : base + core e ≤ wordAt 8 page = leb-true _ _ (both-l _ _ b) in
     let u : wordAt 8 page < base + 4096 = ltb-true _ _ (both-l _ _ (both-r _ _ b)) in
-    inr (l, omega (arith, taken-within base (wordAt 8 page) page n)))
+    inr (l, omega (arith, found-within base (wordAt 8 page) page n)))
     h
 
 -- ---- where the arrays lie
@@ -91,9 +79,6 @@ module _ (w e base : ℕ) (page : List ℕ) where
   spanLength k = cond (ltb k (sectionCount e)) (size k (countAt k page)) (taken (foundAt base page (wordAt 8 page)))
 
   module _ (n : length page ≡ 4096) (h : rulesAt w e base page ≡ true) where
-    each : (k : ℕ) → k < sectionCount e → okAt w e base k page ≡ true
-    each k l = ok-each w e base page (sectionCount e) k (both-l _ _ (both-r _ _ (both-r _ _ (rw (rules-steps w e base page) at h)))) l
-
     rest-apart : (apartTo (sectionCount e) page ≡ true)
         × (clearFrom (wordAt 8 page) (wordAt 8 page + taken (foundAt base page (wordAt 8 page))) (sectionCount e) page ≡ true)
     rest-apart = let t = both-r _ _ (both-r _ _ (both-r _ _ (rw (rules-steps w e base page) at h))) in (both-l _ _ t, both-r _ _ t)
@@ -103,7 +88,7 @@ module _ (w e base : ℕ) (page : List ℕ) where
     spans-within k l = go (decLt k (sectionCount e))
       where
         go : Dec (k < sectionCount e) → (spanLength k ≡ 0) ⊎ ((base + core e ≤ spanFrom k) × (spanFrom k + spanLength k ≤ base + 4096))
-        go (yes m) = rw (lt-ltb k (sectionCount e) m) (array-lies k (each k m))
+        go (yes m) = rw (lt-ltb k (sectionCount e) m) (array-lies k (rules-at w e base page h k m))
         go (no m) = rw (le-ltb k (sectionCount e) (omega arith)) (fields-lie e base page n (rules-pointer w e base page h))
 
     spans-apart : NoneShared (suc (sectionCount e)) spanFrom spanLength
