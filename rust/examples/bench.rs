@@ -181,8 +181,9 @@ fn compare_kept_for() {
 
 /// A writing, and the answer that all sides give.
 fn compare_writing(name: &str, base: u64, edition: u64, lists: Lists, fields: &[u8], answer: u32) {
-    let [mut first, mut second, mut third] = [(); 3].map(|()| Page([0; PAGE]));
+    let [mut first, mut second, mut third, mut fourth] = [(); 4].map(|()| Page([0; PAGE]));
     let (ours, theirs, native) = (first.lent(), second.lent(), third.lent());
+    let narrow = fourth.lent();
     let [base, edition] = hidden([base, edition]);
     compare(
         name,
@@ -207,9 +208,17 @@ fn compare_writing(name: &str, base: u64, edition: u64, lists: Lists, fields: &[
                     see(u64::from(theirs[0]));
                 }),
             ),
+            (
+                "by hand, SSE2",
+                side(|| {
+                    let wrote = fast::write_sse2(base, edition, lists, fields, narrow);
+                    assert_eq!(wrote, answer);
+                    see(u64::from(narrow[0]));
+                }),
+            ),
         ],
     );
-    assert!(ours == theirs && ours == native);
+    assert!(ours == theirs && ours == native && ours == narrow);
 }
 
 fn compare_manifests() {

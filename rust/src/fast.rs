@@ -9,6 +9,7 @@ use crate::reference::layout::{
     ENTRY_WORDS, PAGE, SECTIONS,
 };
 use crate::reference::writer::Lists;
+use crate::sse2;
 
 const PLACE: i32 = -5;
 const VERSION: i32 = -6;
@@ -354,6 +355,23 @@ fn many_consoles(minor: u64, array: &[u8]) -> Option<u64> {
 /// `pbeam_write`.
 #[inline(never)]
 pub fn write(base: u64, edition: u64, lists: Lists, fields: &[u8], page: &mut [u8]) -> u32 {
+    write_by::<false>(base, edition, lists, fields, page)
+}
+
+/// The same, where the copy of the arrays is code of SSE2 as well: with the C library's memcpy it is of the widest vectors that the
+/// machine has, which no firmware gets.
+pub fn write_sse2(base: u64, edition: u64, lists: Lists, fields: &[u8], page: &mut [u8]) -> u32 {
+    write_by::<true>(base, edition, lists, fields, page)
+}
+
+#[inline]
+fn write_by<const SSE2: bool>(
+    base: u64,
+    edition: u64,
+    lists: Lists,
+    fields: &[u8],
+    page: &mut [u8],
+) -> u32 {
     let page = match placed_mut(page, base) {
         Some(page) => page,
         None => return 1,
@@ -381,7 +399,7 @@ pub fn write(base: u64, edition: u64, lists: Lists, fields: &[u8], page: &mut [u
     {
         return 5;
     }
-    fill(page, base, edition, lists, fields, sums);
+    fill::<SSE2>(page, base, edition, lists, fields, sums);
     0
 }
 
@@ -428,7 +446,7 @@ fn console_list(list: &[u64]) -> Option<u64> {
 
 /// The page of lists that were all checked: core, arrays in section order, zeros.
 #[inline]
-fn fill(
+fn fill<const SSE2: bool>(
     page: &mut [u8; PAGE],
     base: u64,
     edition: Edition,
@@ -437,7 +455,7 @@ fn fill(
     sums: [u64; SECTIONS],
 ) {
     let mut at = edition.core();
-    put(page, 0, &[edition.number(), 0]);
+    put::<SSE2>(page, 0, &[edition.number(), 0]);
     for k in 0..edition.sections() {
         let list = lists[k];
         let mut words = [0; 3];
@@ -447,13 +465,13 @@ fn fill(
             let total = count.wrapping_add(pointer).wrapping_add(sums[k]);
             words = [count, pointer, total.wrapping_neg()];
         }
-        put(page, header_offset(k), &words);
-        put(page, at, list);
+        put::<SSE2>(page, header_offset(k), &words);
+        put::<SSE2>(page, at, list);
         at += 8 * list.len();
     }
     if !fields.is_empty() {
-        put(page, 8, &[base + at as u64]);
-        page[at..at + fields.len()].copy_from_slice(fields);
+        put::<SSE2>(page, 8, &[base + at as u64]);
+        put_bytes::<SSE2>(&mut page[at..at + fields.len()], fields);
         at += fields.len();
     }
     page[at..].fill(0);
@@ -461,9 +479,20 @@ fn fill(
 
 /// Sets words of the page from an offset on.
 #[inline]
-fn put(page: &mut [u8; PAGE], at: usize, words: &[u64]) {
+fn put<const SSE2: bool>(page: &mut [u8; PAGE], at: usize, words: &[u64]) {
     let place = &mut page[at..at + 8 * words.len()];
-    for (cell, word) in place.chunks_exact_mut(8).zip(words) {
+    let done = if SSE2 {
+        sse2::copy_words(place, words)
+    } else {
+        0
+    };
+    for (cell, word) in place[8 * done..].chunks_exact_mut(8).zip(&words[done..]) {
         cell.copy_from_slice(&word.to_le_bytes());
     }
+}
+
+#[inline]
+fn put_bytes<const SSE2: bool>(place: &mut [u8], bytes: &[u8]) {
+    let done = if SSE2 { sse2::copy(place, bytes) } else { 0 };
+    place[done..].copy_from_slice(&bytes[done..]);
 }

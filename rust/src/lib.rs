@@ -28,5 +28,7 @@ pub mod random;
 #[forbid(unsafe_code)]
 pub mod reference;
 #[allow(unsafe_code)]
+mod sse2;
+#[allow(unsafe_code)]
 pub mod swtpm;
 pub mod tpm;

@@ -46,12 +46,13 @@ fn random_lists() {
             _ => random.valid_writing(),
         };
         let (base, edition, lists) = (writing.base, writing.edition, writing.lists());
-        let [mut ours, mut theirs] = [(); 2].map(|()| writing.page.clone());
+        let [mut ours, mut narrow, mut theirs] = [(); 3].map(|()| writing.page.clone());
         let fields = &writing.fields;
         let answer = fast::write(base, edition, lists, fields, &mut ours);
+        let by_sse2 = fast::write_sse2(base, edition, lists, fields, &mut narrow);
         let expected = Model::write(base, edition, lists, fields, &mut theirs);
-        assert_eq!(answer, expected);
-        assert!(ours == theirs, "{lists:x?} {fields:x?}");
+        assert_eq!((answer, by_sse2), (expected, expected));
+        assert!(ours == theirs && narrow == theirs, "{lists:x?} {fields:x?}");
         *met.entry(answer).or_insert(0) += 1;
     }
     println!("fast::write: {met:?}");
