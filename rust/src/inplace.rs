@@ -120,7 +120,7 @@ pub fn delegate(
     at: u64,
     out: &mut Registers,
 ) {
-    *out = registers(Answer::from(moved(state, granules, table, words, at, 0)));
+    move_to(state, granules, table, words, at, 0, out);
 }
 
 #[inline(never)]
@@ -132,7 +132,7 @@ pub fn undelegate(
     at: u64,
     out: &mut Registers,
 ) {
-    *out = registers(Answer::from(moved(state, granules, table, words, at, 1)));
+    move_to(state, granules, table, words, at, 1, out);
 }
 
 #[inline(never)]
@@ -179,7 +179,94 @@ pub fn set_up(granules: &mut GranulesImage, shown: &[u8], in_table: u64) -> u64 
     0
 }
 
-/// A granule whose byte is this one gets the other of 0 and 1.
+/// A granule whose byte is this one gets the other of 0 and 1. One bank and an accepted call, the usual case, end here; all else is a call
+/// of its own.
+#[inline]
+fn move_to(
+    state: &RecordImage,
+    granules: &GranulesImage,
+    table: &mut [u8],
+    words: &mut [u64],
+    at: u64,
+    from: u8,
+    out: &mut Registers,
+) {
+    match turned_at_once(state, granules, table, words, at, from) {
+        true => *out = [0; 3],
+        false => move_any(state, granules, table, words, at, from, out),
+    }
+}
+
+#[inline]
+fn turned_at_once(
+    state: &RecordImage,
+    granules: &GranulesImage,
+    table: &mut [u8],
+    words: &mut [u64],
+    at: u64,
+    from: u8,
+) -> bool {
+    if !is_ready(state, granules, table.len(), words.len()) || is_shared(state, at, from) {
+        return false;
+    }
+    let place = place_in(granules[1], granules[2], at);
+    let byte = match table.get_mut(place as usize) {
+        Some(byte) if *byte == from => byte,
+        _ => return false,
+    };
+    *byte = 1 - from;
+    let word = &mut words[place as usize / 64];
+    *word = with_bit(*word, place, 1 - from);
+    true
+}
+
+/// All but the address is judged: the boot record is up, and there is one good bank with so many granules as the table, and so many words.
+#[inline]
+fn is_ready(state: &RecordImage, granules: &GranulesImage, in_table: usize, words: usize) -> bool {
+    let (base, size) = (granules[1], granules[2]);
+    let last = base.wrapping_add(size).wrapping_sub(1);
+    let count = size / 4096;
+    granules[0] == 1
+        && state[0] == 1
+        && (base | size) & 0xFFE0_0000_0000_0FFF == 0
+        && (size.wrapping_sub(1) | last) >> 52 == 0
+        && count == in_table as u64
+        && (count + 63) / 64 == words as u64
+}
+
+/// The granule of an address in one bank.
+#[inline]
+fn place_in(base: u64, size: u64, at: u64) -> u64 {
+    let offset = at.wrapping_sub(base);
+    match at % 4096 == 0 && offset < size {
+        true => offset / 4096,
+        false => NOWHERE,
+    }
+}
+
+#[inline]
+fn with_bit(word: u64, place: u64, byte: u8) -> u64 {
+    match byte {
+        1 => word | 1 << (place % 64),
+        _ => word & !(1 << (place % 64)),
+    }
+}
+
+#[cold]
+#[inline(never)]
+fn move_any(
+    state: &RecordImage,
+    granules: &GranulesImage,
+    table: &mut [u8],
+    words: &mut [u64],
+    at: u64,
+    from: u8,
+    out: &mut Registers,
+) {
+    *out = registers(Answer::from(moved(state, granules, table, words, at, from)));
+}
+
+/// The same by whichever record.
 #[inline]
 fn moved(
     state: &RecordImage,
@@ -215,8 +302,8 @@ fn turned(table: &mut [u8], words: &mut [u64], place: u64, from: u8) -> Outcome 
         return Err(Error::BadPas);
     }
     *byte = 1 - from;
-    let (word, bit) = (&mut words[place as usize / 64], place % 64);
-    *word = *word & !(1 << bit) | u64::from(1 - from) << bit;
+    let word = &mut words[place as usize / 64];
+    *word = with_bit(*word, place, 1 - from);
     Ok([0; 2])
 }
 
@@ -232,6 +319,10 @@ fn moved_list(
     out: &mut Registers,
 ) {
     *out = [0; 3];
+    if is_ready(state, granules, table.len(), words.len()) {
+        let banks = (granules[1], granules[2]);
+        return only_moved(state, banks, table, words, list, from, out);
+    }
     let (count, _) = pass(granules, 0);
     if !fit(count, words) {
         out[0] = Answer::from(Err(Error::Inval)).x0;
@@ -257,6 +348,38 @@ fn moved_list(
             *out = [Answer::from(Err(error)).x0, done as u64, 0];
             return;
         }
+    }
+    out[1] = list.len() as u64;
+}
+
+/// A list in one bank: base and size stay in registers, and so does the word that is written, as long as granules share it.
+#[inline]
+fn only_moved(
+    state: &RecordImage,
+    (base, size): (u64, u64),
+    table: &mut [u8],
+    words: &mut [u64],
+    list: &[u64],
+    from: u8,
+    out: &mut Registers,
+) {
+    let (mut held, mut word) = (words.len(), 0);
+    for (done, &at) in list.iter().enumerate() {
+        let place = place_in(base, size, at);
+        let byte = match table.get_mut(place as usize) {
+            Some(byte) if !is_shared(state, at, from) => byte,
+            _ => return *out = [Answer::from(Err(Error::BadAddr)).x0, done as u64, 0],
+        };
+        if *byte != from {
+            return *out = [Answer::from(Err(Error::BadPas)).x0, done as u64, 0];
+        }
+        *byte = 1 - from;
+        let own = place as usize / 64;
+        if own != held {
+            (held, word) = (own, words[own]);
+        }
+        word = with_bit(word, place, 1 - from);
+        words[own] = word;
     }
     out[1] = list.len() as u64;
 }

@@ -6,7 +6,7 @@ use lib.ListN.{length, getD}
 use Rattle.boot.specs.declared.Record.{Record}
 use Rattle.codes.specs.Codes.{upOf}
 use Rattle.codes.specs.declared.Code.the-variants.{Ok}
-use Rattle.granules.specs.Granules.{GranuleTable, fromByte, moveOf}
+use Rattle.granules.specs.Granules.{GranuleTable, fromByte, toByte, moveOf}
 use Rattle.banks.specs.Banks.{granuleAt}
 use Rattle.granules.specs.Acts.{MoveActed}
 use Rattle.granules.specs.Changes.{RealmAt}
@@ -41,3 +41,14 @@ realm-taken g t after a addr m r e =
 pub shared-kept : (s : Record) (g : Granules) (d : Direction) (t : GranuleTable) (a : ℕ) → moveOf s g d t a .answer .code ≡ Ok → RealmAt g (upOf s .base) t → RealmAt g (upOf s .base) (moveOf s g d t a .table)
 shared-kept s g Delegate t a h r = let m = move-acts s g Delegate t a h in other-stays g Delegate t _ a (upOf s .base) m r (realm-taken g t _ a (upOf s .base) m r)
 shared-kept s g Undelegate t a h r = other-stays g Undelegate t _ a (upOf s .base) (move-acts s g Undelegate t a h) r (move-only s g Undelegate t a h .2 refl)
+
+-- "Delegating it is as before.": the granule that an address falls on is Realm once it is delegated
+pub delegated-realm : (s : Record) (g : Granules) (t : GranuleTable) (addr : ℕ) → moveOf s g Delegate t addr .answer .code ≡ Ok → RealmAt g addr (moveOf s g Delegate t addr .table)
+unfolding toByte
+delegated-realm s g t addr h =
+    let m = move-acts s g Delegate t addr h in
+    record {
+      granule = m .granule;
+      own = rw (m .whole) (m .own);
+      realm = m .becomes;
+    }

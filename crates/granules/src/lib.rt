@@ -186,7 +186,8 @@ fn bank_fits(words: &[u64], size: u64) -> bool
 fn is_ready(state: Record, granules: &[u64; 33], n: usize, words: &[u64]) -> bool
     ensures { λ r. ⌜ r ≡ ready state (now (granules .entry)) n (now (words .entry)) ⌝ }
 {
-    if !codes::is_up(state) {
+    let open = codes::is_up(state);
+    if !open {
         return false;
     }
     if !banks::is_only(granules, n) {
@@ -239,9 +240,9 @@ fn only_list(
         let address = addresses[i];
         let granule = banks::only_granule(base, size, address);
         let step = shift_at(params, granule, direction, table, words, address, held);
-        let code = step.code;
-        if !codes::is_ok(code) {
-            return codes::answered(code, i as u64, 0);
+        let told = step.code;
+        if !codes::is_ok(told) {
+            return codes::answered(told, i as u64, 0);
         }
         held = step.held;
     }

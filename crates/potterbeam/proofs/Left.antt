@@ -1,11 +1,19 @@
 -- What a call leaves, from what its parts promise. Assumes nothing.
 use Prim.Native.Nat.{ℕ}
-use mathlib.Core.Path.{_≡_, ap}
+use mathlib.Core.Path.{_≡_, sym, ap, _∙_}
+use mathlib.Core.Bool.{Bool, true, false}
 use mathlib.Core.List.{List, [], _∷_}
 use lib.ListN.{getD}
-use Rattle.codes.specs.Codes.{ifOk}
+use Rattle.words.specs.Tests.{both}
+use Rattle.words.proofs.Tests.{both-r}
+use Rattle.boot.specs.declared.Record.{Record}
+use Rattle.codes.specs.Codes.{isOk, ifOk, answerOf}
+use Rattle.codes.specs.declared.Code.the-variants.{Ok}
 use Rattle.codes.specs.declared.Answer.{Answer}
-use Rattle.granules.specs.Granules.{Moved, movedTo}
+use Rattle.banks.specs.Banks.{Granules}
+use Rattle.granules.specs.Granules.{GranuleTable, tableOf, Moved, movedBy, moveOf, movedTo, ready, atOnce, leftAtOnce}
+use Rattle.granules.specs.declared.Direction.{Direction}
+use Rattle.granules.proofs.Done.{ok-code}
 use Rattle.token.specs.Token.{TokenStep}
 use Rattle.token.specs.declared.Session.{Session}
 use Rattle.responses.specs.OnImage.{SignImage}
@@ -22,6 +30,24 @@ use Rattle.potterbeam.specs.Exports.{sessionAfter, MoveLeft, moveLeft, T
 pub move-left : (a : Answer) (out table words : List ℕ) (m : Moved) → out ≡ registerWords a → movedTo a table words ≡ m → _≡_ {A = MoveLeft} (record { out = out; table = table; words = words }) (moveLeft m)
 unfolding moveLeft movedTo
 move-left a out table words m h e = rw h (ap moveLeft e)
+
+-- of a call that was done at once, and of one that was not
+module _ (s : Record) (g : Granules) (d : Direction) (t : GranuleTable) (addr : ℕ) (b w : List ℕ) (r : Bool) (a : r ≡ atOnce s g d t addr) (l : tableOf b w ≡ leftAtOnce s g d t addr) where
+  done-at-once : r ≡ true → movedTo (answerOf Ok 0 0) b w ≡ moveOf s g d t addr
+  unfolding movedTo leftAtOnce atOnce moveOf movedBy answerOf
+  done-at-once y =
+      let o = ok-code (moveOf s g d t addr .answer .code) (both-r _ _ (sym a ∙ y)) in
+      rw (l, sym a ∙ y) (ap (λ k. record { answer = answerOf k 0 0; table = moveOf s g d t addr .table }) (sym o))
+
+  left-at-once : r ≡ false → tableOf b w ≡ t
+  unfolding leftAtOnce
+  left-at-once n = rw (l, sym a ∙ n)
+
+  pub done-moved : r ≡ true → (u : Record) → s ≡ u → movedTo (answerOf Ok 0 0) b w ≡ moveOf u g d t addr
+  done-moved y u q = done-at-once y ∙ ap (λ (x : Record). moveOf x g d t addr) q
+
+  pub left-moved : r ≡ false → (k u : Record) (m : Moved) → m ≡ moveOf k g d (tableOf b w) addr → k ≡ u → m ≡ moveOf u g d t addr
+  left-moved n k u m e q = e ∙ ap (λ (x : Record). moveOf x g d (tableOf b w) addr) q ∙ ap (λ (x : GranuleTable). moveOf u g d x addr) (left-at-once n)
 
 pub token-left : (a : Answer) (s : Session) (image out page se : List ℕ) (t : TokenStep) → out ≡ registerWords a → se ≡ ifOk (a .code) (sessionWords s) image →
     record { answer = a; page = page; session = s } ≡ t → _≡_ {A = TokenLeft} (record { out = out; page = page; session = se }) (tokenLeft t image)

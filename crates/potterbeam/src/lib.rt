@@ -345,7 +345,8 @@ pub extern "C" fn pbeam_set_up_granules(granules: &mut [u64; 33], banks: &[u8], 
 
 // ---- Runtime commands ----
 
-// 0xC40001B0: the granule at an address becomes Realm.
+// 0xC40001B0: the granule at an address becomes Realm. The usual call is done at once: what is left to do else is a call of its own, whose
+// arguments are made only then.
 #[no_mangle]
 pub extern "C" fn pbeam_delegate(
     state: &[u64; 5],
@@ -358,6 +359,17 @@ pub extern "C" fn pbeam_delegate(
     ensures { λ _. ⌜ _≡_ {A = MoveLeft} (record { out = now (out .exit); table = now (table .exit); words = now (words .exit) })
         (moveIn Direction.Delegate (now (state .entry)) (now (granules .entry)) (now (table .entry)) (now (words .entry)) address) ⌝ }
 {
+    if granules::moved_at_once(
+        images::record_of(state),
+        granules,
+        granules::Direction::Delegate,
+        table,
+        words,
+        address,
+    ) {
+        *out = [0, 0, 0];
+        return;
+    }
     *out = images::registers(granules::delegate(
         images::record_of(state),
         granules,
@@ -380,6 +392,17 @@ pub extern "C" fn pbeam_undelegate(
     ensures { λ _. ⌜ _≡_ {A = MoveLeft} (record { out = now (out .exit); table = now (table .exit); words = now (words .exit) })
         (moveIn Direction.Undelegate (now (state .entry)) (now (granules .entry)) (now (table .entry)) (now (words .entry)) address) ⌝ }
 {
+    if granules::moved_at_once(
+        images::record_of(state),
+        granules,
+        granules::Direction::Undelegate,
+        table,
+        words,
+        address,
+    ) {
+        *out = [0, 0, 0];
+        return;
+    }
     *out = images::registers(granules::undelegate(
         images::record_of(state),
         granules,
