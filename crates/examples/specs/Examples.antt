@@ -16,8 +16,8 @@ use Rattle.entries.specs.Entry.{wordsPerEntry, size, bankOk, flagsOk, consoleOk
 use Rattle.sections.specs.Page.{placeOk, mkSec, secAt, mkPlat, foundAt, platAt}
 use Rattle.sections.specs.Section.{platOk, nothing, secOk, extent, apart, clearBefore, platExtent, platClear, rules}
 use Rattle.reader.specs.Answer.{ReaderAnswer, refused, shows, allShown, readerGate, judge, readOf}
-use Rattle.fields.specs.Fields.{scan, scanAll, scanOf, judged, fieldsOk, lengthsOk, count, taken, isBare}
-use Rattle.lists.specs.Description.{four, descriptionOf, listOk, listsOk, tellable, descriptionOk, noneLate, withMark, platBytes, used}
+use Rattle.fields.specs.Fields.{scan, scanAll, scanOf, judged, fieldsOk, lengthsOk, count, taken, isBare, fieldsTold, tellable}
+use Rattle.lists.specs.Description.{four, descriptionOf, listOk, listsOk, descriptionOk, noneLate, withMark, platBytes, used}
 use Rattle.boot.specs.declared.Params.{Params}
 use Rattle.boot.specs.declared.Record.the-variants.{Up}
 use Rattle.codes.specs.Codes.{extended, x0Of, answerOf, unless, fails, isUp, whenUp}
@@ -92,7 +92,7 @@ unfolding moveOf movedBy moveCode granuleCode guarded fromByte whenFit whenUp is
 granted u g t addr i w f b = rw (w, f, b)
 
 pub examples : Examples
-unfolding later agreed readWith readOf judge readerGate allShown rules platClear platExtent taken foundAt clearBefore apart extent secOk nothing platOk platAt mkPlat secAt mkSec size numAt part leBytes leOf versionOk aboveOf majorOf minorOf checkOk sum both either every joined isPage writeOf writerGate placeOk editionOk descriptionOk tellable isBare scanOf judged scanAll scan fieldsOk lengthsOk count listsOk listOk noneLate used platBytes withMark descriptionOf four core sectionCount wordsPerEntry entriesOk entryOk entryRule bankOk consoleOk flagsOk outside tooLong x0Of extended updateCode fails unless
+unfolding later agreed readWith readOf judge readerGate allShown rules platClear platExtent taken foundAt clearBefore apart extent secOk nothing platOk platAt mkPlat secAt mkSec size numAt part leBytes leOf versionOk aboveOf majorOf minorOf checkOk sum both either every joined isPage writeOf writerGate placeOk editionOk descriptionOk tellable isBare fieldsTold scanOf judged scanAll scan fieldsOk lengthsOk count listsOk listOk noneLate used platBytes withMark descriptionOf four core sectionCount wordsPerEntry entriesOk entryOk entryRule bankOk consoleOk flagsOk outside tooLong x0Of extended updateCode fails unless
 examples = record {
   e1 = refl;
   e1-read = refl;

@@ -1,15 +1,17 @@
 -- Where one pass stops, as a loop over the fields goes. Assumes nothing.
 use Prim.Native.Nat.{ℕ, suc, _+_, _-_, _≤_, _<_}
 use mathlib.Core.Path.{_≡_, refl, ap, _∙_}
-use mathlib.Core.Bool.{Bool, true, false, cond}
+use mathlib.Core.Bool.{Bool, true, false, cond, not}
 use mathlib.Core.List.{List, _∷_}
 use native.Mathlib.Omega.{arith}
 use native.Mathlib.Nat.{zero-add, add-zero}
 use lib.ListN.{length, take, drop, drop-of-length-le, length-drop}
 use lib.Seq.{take-all}
-use Rattle.words.specs.Tests.{both}
+use lib.Dec.{eqb}
+use borrow.Author.Tests.{ne-eqb}
+use Rattle.words.specs.Tests.{both, either}
 use Rattle.words.specs.Word.{part}
-use Rattle.fields.specs.Fields.{Field, mkField, Scanned, broken, ended, bare, push, scan, scanAll, scanOf, judged, fieldsOk, lengthsOk, count, fieldsIn, isBare}
+use Rattle.fields.specs.Fields.{Field, mkField, Scanned, broken, ended, bare, push, scan, scanAll, scanOf, judged, fieldsOk, lengthsOk, count, fieldsIn, isBare, fieldsTold, tellable}
 use Rattle.fields.specs.Steps.{headAt, allowed, marked, noneSeen, stopOf, toldOf}
 use Rattle.fields.specs.declared.Head.the-variants as head
 use Rattle.fields.specs.declared.Seen.{Seen}
@@ -18,33 +20,37 @@ use Rattle.fields.specs.declared.FieldsEnd.the-variants as fieldsEnd
 use Rattle.fields.specs.declared.Stop.{Stop}
 use Rattle.fields.specs.declared.Stop.the-variants as stop
 use Rattle.fields.proofs.Scans.{follow, head-scan, head-room, part-length}
-use Rattle.fields.proofs.Rules.{okFrom, ok-start, ok-none, ok-not, ok-more}
+use Rattle.fields.proofs.Rules.{okFrom, ok-start, ok-none, ok-not, ok-more, either-false}
 
--- a stop that is counted from k on, with c fields before it
-unfoldable pub later : ℕ → ℕ → Stop → Stop
-later k c stop.Broken = stop.Broken
-later k c (stop.Mark n m) = stop.Mark (k + n) (c + m)
-later k c stop.Edge = stop.Edge
+-- a stop that is counted from k on, with c fields before it, and whether tag 3 is among these
+unfoldable pub later : ℕ → ℕ → Bool → Stop → Stop
+later k c b stop.Broken = stop.Broken
+later k c b (stop.Mark n m) = stop.Mark (k + n) (c + m)
+later k c b (stop.Edge a) = stop.Edge (either b a)
 
 -- where the pass stops if it has come to a place, c fields passed, with those marks
 unfoldable pub stopAt : ℕ → ℕ → Seen → List ℕ → Stop
-stopAt at c s bs = later at c (stopOf (judged (okFrom s) (scanAll (drop at bs))))
+stopAt at c s bs = later at c (s .console) (stopOf (judged (okFrom s) (scanAll (drop at bs))))
 
--- ---- what the stop tells: the reader of its extent, the writer whether there is no mark
+-- ---- what the stop tells: the reader of its extent, the writer whether there is no mark and no tag 3
 unfoldable pub extentOf : Stop → FieldsEnd
 extentOf stop.Broken = fieldsEnd.Broken
 extentOf (stop.Mark n m) = fieldsEnd.Ended n
-extentOf stop.Edge = fieldsEnd.Broken
+extentOf (stop.Edge a) = fieldsEnd.Broken
 
-unfoldable pub isEdge : Stop → Bool
-isEdge stop.Broken = false
-isEdge (stop.Mark n m) = false
-isEdge stop.Edge = true
+unfoldable pub isTold : Stop → Bool
+isTold stop.Broken = false
+isTold (stop.Mark n m) = false
+isTold (stop.Edge a) = not a
 
 unfoldable pub passedBy : Stop → ℕ
 passedBy stop.Broken = 0
 passedBy (stop.Mark n m) = m
-passedBy stop.Edge = 0
+passedBy (stop.Edge a) = 0
+
+not-not : (b : Bool) → not (not b) ≡ b
+not-not true = refl
+not-not false = refl
 
 pub extent-told : (s : Scanned) → extentOf (stopOf s) ≡ toldOf s
 unfolding extentOf stopOf toldOf
@@ -58,11 +64,11 @@ passed-told broken = refl
 passed-told (ended fs n) = refl
 passed-told (bare fs) = refl
 
-pub edge-bare : (s : Scanned) → isEdge (stopOf s) ≡ isBare s
-unfolding isEdge stopOf isBare
-edge-bare broken = refl
-edge-bare (ended fs n) = refl
-edge-bare (bare fs) = refl
+pub told-tellable : (s : Scanned) → isTold (stopOf s) ≡ tellable s
+unfolding isTold stopOf tellable isBare fieldsTold both
+told-tellable broken = refl
+told-tellable (ended fs n) = refl
+told-tellable (bare fs) = not-not (eqb (count 3 fs) 0)
 
 -- ---- from an offset on: past the end, and within as code lends it
 pub told-out : (at : ℕ) (bs : List ℕ) → length bs ≤ at → toldOf (scanOf (drop at bs)) ≡ fieldsEnd.Broken
@@ -85,18 +91,25 @@ push-not ok f broken h = refl
 push-not ok f (ended fs n) h = rw (h fs)
 push-not ok f (bare fs) h = rw (h fs)
 
-push-more : (ok ok' : List Field → Bool) (f : Field) (r : Scanned) (at c : ℕ) → ((fs : List Field) → ok (f ∷ fs) ≡ ok' fs) →
-    later at c (stopOf (judged ok (push f r))) ≡ later (at + 3 + length (f .value)) (c + 1) (stopOf (judged ok' r))
-unfolding judged push later stopOf
-push-more ok ok' f broken at c h = refl
-push-more ok ok' f (bare fs) at c h = rw (h fs) (go (ok' fs))
+-- tag 3 met now, seen before, or still to come
+met-more : (e b : Bool) (n : ℕ) → either b (not (eqb (cond e 1 0 + n) 0)) ≡ either (either e b) (not (eqb n 0))
+unfolding either
+met-more true true n = refl
+met-more true false n = rw (ne-eqb (1 + n) 0 (λ z. omega arith))
+met-more false b n = rw zero-add
+
+push-more : (ok ok' : List Field → Bool) (f : Field) (r : Scanned) (at c : ℕ) (seen : Bool) → ((fs : List Field) → ok (f ∷ fs) ≡ ok' fs) →
+    later at c seen (stopOf (judged ok (push f r))) ≡ later (at + 3 + length (f .value)) (c + 1) (either (eqb (f .tag) 3) seen) (stopOf (judged ok' r))
+unfolding judged push later stopOf count
+push-more ok ok' f broken at c seen h = refl
+push-more ok ok' f (bare fs) at c seen h = rw (h fs) (go (ok' fs))
   where
-    go : (b : Bool) → later at c (stopOf (cond b (bare (f ∷ fs)) broken)) ≡ later (at + 3 + length (f .value)) (c + 1) (stopOf (cond b (bare fs) broken))
-    go true = refl
+    go : (b : Bool) → later at c seen (stopOf (cond b (bare (f ∷ fs)) broken)) ≡ later (at + 3 + length (f .value)) (c + 1) (either (eqb (f .tag) 3) seen) (stopOf (cond b (bare fs) broken))
+    go true = ap stop.Edge (met-more (eqb (f .tag) 3) seen (count 3 fs))
     go false = refl
-push-more ok ok' f (ended fs n) at c h = rw (h fs) (go (ok' fs))
+push-more ok ok' f (ended fs n) at c seen h = rw (h fs) (go (ok' fs))
   where
-    go : (b : Bool) → later at c (stopOf (cond b (ended (f ∷ fs) (3 + length (f .value) + n)) broken)) ≡ later (at + 3 + length (f .value)) (c + 1) (stopOf (cond b (ended fs n) broken))
+    go : (b : Bool) → later at c seen (stopOf (cond b (ended (f ∷ fs) (3 + length (f .value) + n)) broken)) ≡ later (at + 3 + length (f .value)) (c + 1) (either (eqb (f .tag) 3) seen) (stopOf (cond b (ended fs n) broken))
     go true =
         let p : at + (3 + length (f .value) + n) ≡ at + 3 + length (f .value) + n = omega arith in
         let q : c + suc (length fs) ≡ c + 1 + length fs = omega arith in
@@ -104,19 +117,19 @@ push-more ok ok' f (ended fs n) at c h = rw (h fs) (go (ok' fs))
     go false = refl
 
 -- ---- the loop's laws: start, the four ways to leave, and one turn
-later-zero : (s : Stop) → later 0 0 s ≡ s
-unfolding later
+later-zero : (s : Stop) → later 0 0 false s ≡ s
+unfolding later either
 later-zero stop.Broken = refl
 later-zero (stop.Mark n m) = rw (zero-add, zero-add)
-later-zero stop.Edge = refl
+later-zero (stop.Edge a) = refl
 
 pub stop-start : (bs : List ℕ) → stopAt 0 0 noneSeen bs ≡ stopOf (scanOf bs)
-unfolding stopAt scanOf
+unfolding stopAt scanOf noneSeen
 stop-start bs = rw (later-zero, judged-same (okFrom noneSeen) fieldsOk (scanAll bs) ok-start)
 
-pub stop-edge : (at c : ℕ) (s : Seen) (bs : List ℕ) → length bs ≤ at → stopAt at c s bs ≡ stop.Edge
-unfolding stopAt scanAll scan judged stopOf later
-stop-edge at c s bs h = rw (drop-of-length-le bs h, ok-none s)
+pub stop-edge : (at c : ℕ) (s : Seen) (bs : List ℕ) → length bs ≤ at → stopAt at c s bs ≡ stop.Edge (s .console)
+unfolding stopAt scanAll scan judged stopOf later count
+stop-edge at c s bs h = rw (drop-of-length-le bs h, ok-none s, either-false (s .console))
 
 module _ (at c : ℕ) (s : Seen) (bs : List ℕ) (h : at < length bs) where
   pub stop-broken : headAt at bs ≡ head.Broken → stopAt at c s bs ≡ stop.Broken
@@ -136,9 +149,9 @@ module _ (at c : ℕ) (s : Seen) (bs : List ℕ) (h : at < length bs) where
     stop-not a = rw (head-scan at bs h, e, push-not (okFrom s) (mkField t (part v n bs)) (scanAll (drop x bs)) (λ fs. ok-not s (mkField t (part v n bs)) fs (rw value-length a)))
 
     pub stop-more : allowed s t n ≡ true → stopAt at c s bs ≡ stopAt x (c + 1) (marked s t) bs
-    unfolding stopAt follow mkField
+    unfolding stopAt follow mkField marked
     stop-more a =
         let r = head-room at bs e in
         let q : at + 3 + length (part v n bs) ≡ x = omega (arith, value-length) in
         rw (head-scan at bs h, e)
-        (push-more (okFrom s) (okFrom (marked s t)) (mkField t (part v n bs)) (scanAll (drop x bs)) at c (λ fs. ok-more s (mkField t (part v n bs)) fs (rw value-length a)) ∙ rw q)
+        (push-more (okFrom s) (okFrom (marked s t)) (mkField t (part v n bs)) (scanAll (drop x bs)) at c (s .console) (λ fs. ok-more s (mkField t (part v n bs)) fs (rw value-length a)) ∙ rw q)

@@ -78,12 +78,14 @@ fieldsIn broken = []
 fieldsIn (ended fs n) = fs
 fieldsIn (bare fs) = []
 
--- ---- how a field is shown: "shown as raw fields", its tag and its value's bytes
+-- ---- how a field is shown: E7: "shown as raw fields", its tag and its value's bytes; E10: "show the console choice as withdrawn without its
+-- value"
 pub data FieldShown : Type 0 where
   raw : ℕ → List ℕ → FieldShown
+  withdrawn : FieldShown
 
 unfoldable pub shownField : Field → FieldShown
-shownField f = raw (f .tag) (f .value)
+shownField f = cond (eqb (f .tag) 3) withdrawn (raw (f .tag) (f .value))
 
 unfoldable pub shownFields : List Field → List FieldShown
 shownFields [] = []
@@ -112,6 +114,17 @@ unfoldable pub isBare : Scanned → Bool
 isBare broken = false
 isBare (ended fs n) = false
 isBare (bare fs) = true
+
+-- the fields that a description tells
+unfoldable pub fieldsTold : Scanned → List Field
+fieldsTold broken = []
+fieldsTold (ended fs n) = []
+fieldsTold (bare fs) = fs
+
+-- E7: "broken fields are -7 in the reader and W3 in the writer, there also any tag 0": fields that may be written keep the reader's rules
+-- and take up every byte, so that none is cut short and no tag is 0. E10: "W3 for a description with tag 3"
+unfoldable pub tellable : Scanned → Bool
+tellable s = both (isBare s) (eqb (count 3 (fieldsTold s)) 0)
 
 unfoldable pub endMark : List ℕ
 endMark = 0 ∷ 0 ∷ 0 ∷ []

@@ -6,7 +6,7 @@ use lib.ListN.{length, getD}
 use lib.Dec.{ltb, eqb}
 use Rattle.words.specs.Tests.{both, either}
 use Rattle.words.specs.Word.{part, numAt}
-use Rattle.fields.specs.Fields.{Field, mkField, Scanned, broken, ended, bare, lengthOk}
+use Rattle.fields.specs.Fields.{Field, mkField, Scanned, broken, ended, bare, lengthOk, count}
 use Rattle.fields.specs.declared.Head.{Head}
 use Rattle.fields.specs.declared.Head.the-variants as head
 use Rattle.fields.specs.declared.Seen.{Seen}
@@ -44,7 +44,7 @@ allowed s t n = both (lengthOk t n) (not (isSeen s t))
 unfoldable pub stopOf : Scanned → Stop
 stopOf broken = stop.Broken
 stopOf (ended fs n) = stop.Mark n (length fs)
-stopOf (bare fs) = stop.Edge
+stopOf (bare fs) = stop.Edge (not (eqb (count 3 fs) 0))
 
 -- what a reader is told of it
 unfoldable pub toldOf : Scanned → FieldsEnd

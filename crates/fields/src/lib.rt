@@ -3,7 +3,7 @@ ghost use mathlib.Core.Path.{_≡_};
 ghost use Prim.Native.Nat.{_+_, _<_, _≤_};
 ghost use lib.ListN.{length, drop};
 ghost use Rattle.words.specs.Word.{numAt};
-ghost use Rattle.fields.specs.Fields.{lengthOk, scanOf, isBare, fieldsIn};
+ghost use Rattle.fields.specs.Fields.{lengthOk, scanOf, tellable, fieldsIn};
 ghost use Rattle.fields.specs.Steps.{headAt, isSeen, marked, noneSeen, allowed, stopOf, toldOf};
 
 // What stands at an offset: nothing whole, or a tag 0 with a length; the end mark; or a field, with the place and length of its
@@ -25,11 +25,12 @@ pub enum FieldsEnd {
     Ended(usize),
 }
 
-// Where a pass over fields stops: at a broken rule, behind an end mark with so many fields passed, or at the slice's end with no mark.
+// Where a pass over fields stops: at a broken rule, behind an end mark with so many fields passed, or at the slice's end with no mark,
+// with whether tag 3 was passed.
 enum Stop {
     Broken,
     Mark { end: usize, passed: usize },
-    Edge,
+    Edge { console: bool },
 }
 
 // Which of the tags 1 to 3 were passed.
@@ -198,7 +199,8 @@ fn walk(part: &[u8]) -> Stop
             }
         }
     }
-    Stop::Edge
+    let console = seen.console;
+    Stop::Edge { console }
 }
 
 // Judges the fields from the slice's start through their end mark; what stands behind the mark is not looked at.
@@ -209,7 +211,7 @@ pub fn scan(part: &[u8]) -> FieldsEnd
     match stop {
         Stop::Broken => FieldsEnd::Broken,
         Stop::Mark { end, passed: _ } => FieldsEnd::Ended(end),
-        Stop::Edge => FieldsEnd::Broken,
+        Stop::Edge { console: _ } => FieldsEnd::Broken,
     }
 }
 
@@ -223,15 +225,15 @@ pub fn scan_at(page: &[u8], at: usize) -> FieldsEnd
     scan(&page[at..])
 }
 
-// Whether a description may be written: fields that keep the rules up to its last byte, with no tag 0 among them.
+// Whether a description may be written: fields that keep the rules up to its last byte, with no tag 0 and no tag 3 among them.
 pub fn description_ok(description: &[u8]) -> bool
-    ensures { λ r. ⌜ r ≡ isBare (scanOf (now (description .entry))) ⌝ }
+    ensures { λ r. ⌜ r ≡ tellable (scanOf (now (description .entry))) ⌝ }
 {
     let stop = walk(description);
     match stop {
         Stop::Broken => false,
         Stop::Mark { end: _, passed: _ } => false,
-        Stop::Edge => true,
+        Stop::Edge { console } => !console,
     }
 }
 
@@ -243,6 +245,6 @@ pub fn count(part: &[u8]) -> usize
     match stop {
         Stop::Broken => 0,
         Stop::Mark { end: _, passed } => passed,
-        Stop::Edge => 0,
+        Stop::Edge { console: _ } => 0,
     }
 }

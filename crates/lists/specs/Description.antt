@@ -9,7 +9,7 @@ use Rattle.words.specs.Tests.{both, either, every}
 use Rattle.words.specs.Word.{joined}
 use Rattle.versions.specs.Edition.{sectionCount, core}
 use Rattle.entries.specs.Entry.{wordsPerEntry, entriesOk, sum}
-use Rattle.fields.specs.Fields.{Field, Scanned, broken, ended, bare, scanOf, isBare, endMark}
+use Rattle.fields.specs.Fields.{scanOf, tellable, endMark}
 use Rattle.lists.specs.declared.Totals.{Totals}
 use Rattle.lists.specs.declared.Sums.{Sums}
 use Rattle.lists.specs.declared.Sums.the-variants.{Unsound, Sound}
@@ -37,19 +37,8 @@ listOk v k ws = both (eqb (length ws % wordsPerEntry k) 0) (entriesOk v k (lengt
 unfoldable pub listsOk : ℕ → (ℕ → List ℕ) → Bool
 listsOk v l = every 4 (λ k. listOk v k (l k))
 
--- 02, E7: "broken fields are -7 in the reader and W3 in the writer, there also any tag 0": fields that may be written keep the reader's
--- rules and take up every byte, so that none is cut short and no tag is 0
-unfoldable pub tellable : Scanned → Bool
-tellable s = isBare s
-
 unfoldable pub descriptionOk : ℕ → Description → Bool
 descriptionOk v d = both (listsOk v (d .lists)) (tellable (scanOf (d .fields)))
-
--- the fields that a description tells
-unfoldable pub fieldsTold : Scanned → List Field
-fieldsTold broken = []
-fieldsTold (ended fs n) = []
-fieldsTold (bare fs) = fs
 
 -- the sums of the four lists' words modulo 2^64, which the checksums need; none where one of them is W3
 unfoldable pub totalsOf : List ℕ → List ℕ → List ℕ → List ℕ → Totals

@@ -7,8 +7,8 @@ ghost use Prim.Native.Nat.{_*_, _%_, _^_, _≤_};
 ghost use lib.ListN.{length, take};
 ghost use lib.Dec.{leb};
 ghost use Rattle.entries.specs.Entry.{entriesOk, sum};
-ghost use Rattle.fields.specs.Fields.{scanOf};
-ghost use Rattle.lists.specs.Description.{four, descriptionOf, listOk, sumsOf, tellable, noneLate, withMark, used};
+ghost use Rattle.fields.specs.Fields.{scanOf, tellable};
+ghost use Rattle.lists.specs.Description.{four, descriptionOf, listOk, sumsOf, noneLate, withMark, used};
 ghost use Rattle.lists.specs.Lengths.{sumTo, lateTo};
 
 // The sums of the four lists' words, modulo 2^64.

@@ -13,7 +13,8 @@ use types.Run.{OneOf}
 use denote.Enum.Declared.{tagOf}
 use borrow.Author.Tests.{eqb-true, eq-eqb, ne-eqb, le-leb}
 use Rattle.words.specs.Word.{part, spanned}
-use Rattle.fields.specs.Fields.{Field, mkField, Scanned, broken, ended, bare, scanOf, fieldsIn, isEnded, FieldShown, raw, shownField, shownFields}
+use Rattle.words.proofs.Tests.{same-test}
+use Rattle.fields.specs.Fields.{Field, mkField, Scanned, broken, ended, bare, scanOf, fieldsIn, isEnded, FieldShown, raw, withdrawn, shownField, shownFields}
 use Rattle.fields.specs.Steps.{headAt, fieldsFrom, toldOf}
 use Rattle.fields.specs.declared.Head.{Head}
 use Rattle.fields.specs.declared.Head.the-variants as head
@@ -21,15 +22,16 @@ use Rattle.fields.proofs.Head.{the-type}
 use Rattle.fields.specs.declared.FieldsEnd.{FieldsEnd}
 use Rattle.fields.specs.declared.FieldsEnd.the-variants as fieldsEnd
 use Rattle.fields.proofs.Scans.{never, head-room}
+use Rattle.fields.proofs.Rules.{no-test}
 use Rattle.fields.proofs.Stops.{told-out}
 use Rattle.fields.proofs.Walks.{none-told, from-stop, from-out, from-field, from-told}
 use Rattle.reader.specs.Answer.{fieldsShown}
 use Rattle.reader.specs.Reading.{fieldsOf, readingAnswer}
 use Rattle.reader.specs.declared.View.{View}
 use Rattle.reader.specs.declared.Reading.the-variants.{Accepted}
-use Rattle.lookup.specs.Fields.{Asked, noField, field, firstIn, restIn, nthIn, shownTag, shownValue, ofTag, valueIn, fieldAs, placeSpan, shownFrom, stepOf, stepAt, startAt, placeNth, tagOr, placeTagged, nthPlace, tagPlace}
+use Rattle.lookup.specs.Fields.{Asked, noField, field, firstIn, restIn, nthIn, shownTag, shownValue, ofTag, valueIn, fieldAs, isNothing, placeSpan, placeOf, shownFrom, stepOf, stepAt, startAt, placeNth, searchEnds, placeTagged, nthPlace, tagPlace}
 use Rattle.lookup.specs.declared.FieldPlace.{FieldPlace}
-use Rattle.lookup.specs.declared.FieldPlace.the-variants.{Raw, Nothing}
+use Rattle.lookup.specs.declared.FieldPlace.the-variants.{Raw, Withdrawn, Nothing}
 use Rattle.lookup.specs.declared.FieldStep.{FieldStep}
 
 -- ---- the fields of a view
@@ -118,6 +120,15 @@ pub lent-on : (at : ℕ) (page : List ℕ) → take (length page - at) (drop at 
 lent-on at page = take-all (length page - at) (drop at page) (rw length-drop (omega arith))
 
 -- ---- a step
+-- a field that lies within the page, as it is handed out and as it is shown
+place-first : (t v m : ℕ) (page : List ℕ) → v + m ≤ length page → fieldAs (placeOf t v m) page ≡ field (shownField (mkField t (part v m page)))
+unfolding placeOf fieldAs shownField mkField
+place-first t v m page h = go (eqb t 3)
+  where
+    go : (b : Bool) → fieldAs (cond b Withdrawn (Raw t v m)) page ≡ field (cond b withdrawn (raw t (part v m page)))
+    go true = refl
+    go false = rw (le-leb (v + m) (length page) h)
+
 step-by : (at : ℕ) (page : List ℕ) (d : Head) → headAt at page ≡ d →
     (fieldAs (stepOf d (length page) .field) page ≡ firstIn (shownFrom at page)) × (shownFrom (stepOf d (length page) .next) page ≡ restIn (shownFrom at page))
 unfolding stepOf fieldAs firstIn restIn shownFrom shownFields shownField mkField
@@ -125,7 +136,7 @@ step-by at page head.Broken e = rw (from-stop at page head.Broken e (inl refl), 
 step-by at page head.End e = rw (from-stop at page head.End e (inr refl), from-out (length page) page (omega arith)) (refl, refl)
 step-by at page (head.Field t v m x) e =
     let r = head-room at page e in
-    rw (from-field at page e, le-leb (v + m) (length page) (omega arith)) (refl, refl)
+    rw (from-field at page e) (place-first t v m page (omega arith), refl)
 
 pub step-shown : (at : ℕ) (page : List ℕ) →
     (fieldAs (stepAt at page .field) page ≡ firstIn (shownFrom at page)) × (shownFrom (stepAt at page .next) page ≡ restIn (shownFrom at page))
@@ -138,9 +149,14 @@ step-stop at page head.Broken e k = rw e
 step-stop at page head.End e k = rw e
 step-stop at page (head.Field t v m x) e k = absurd (⊎-elim (λ z. omega arith) (λ z. omega arith) k)
 
-pub step-field : (at : ℕ) (page : List ℕ) {t v m x : ℕ} → headAt at page ≡ head.Field t v m x → record { field = Raw t v m; next = x } ≡ stepAt at page
-unfolding stepAt stepOf
-step-field at page e = rw e
+module _ (at : ℕ) (page : List ℕ) {t v m x : ℕ} (e : headAt at page ≡ head.Field t v m x) where
+  pub step-field : (t ≡ 3 → ⊥) → record { field = Raw t v m; next = x } ≡ stepAt at page
+  unfolding stepAt stepOf placeOf
+  step-field h = rw (e, ne-eqb t 3 h)
+
+  pub step-withdrawn : t ≡ 3 → record { field = Withdrawn; next = x } ≡ stepAt at page
+  unfolding stepAt stepOf placeOf
+  step-withdrawn h = rw (e, eq-eqb t 3 h)
 
 -- what the code's step promises, by its equation
 pub stepped : (at : ℕ) (page : List ℕ) (s : FieldStep) → s ≡ stepAt at page →
@@ -148,21 +164,43 @@ pub stepped : (at : ℕ) (page : List ℕ) (s : FieldStep) → s ≡ stepAt at p
 stepped at page s h =
     (h, (ap (λ (x : FieldStep). fieldAs (x .field) page) h ∙ step-shown at page .0, ap (λ (x : FieldStep). shownFrom (x .next) page) h ∙ step-shown at page .1))
 
--- a field there is the first of those left
-raw-by : (at : ℕ) (page : List ℕ) (d : Head) → headAt at page ≡ d → {u a n : ℕ} → stepOf d (length page) .field ≡ Raw u a n →
-    shownFrom at page ≡ raw u (part a n page) ∷ shownFrom (stepOf d (length page) .next) page
-unfolding stepOf shownFrom shownFields shownField mkField
-raw-by at page head.Broken e h = never (cc)
-raw-by at page head.End e h = never (cc)
-raw-by at page (head.Field t v m x) e {u} {a} {n} h =
-    let p : t ≡ u = cc in
-    let q : v ≡ a = cc in
-    let r : m ≡ n = cc in
-    rw (← p, ← q, ← r, from-field at page e)
+-- what a place that stands for a field shows
+unfoldable pub placeShown : FieldPlace → List ℕ → FieldShown
+placeShown (Raw t at n) page = raw t (part at n page)
+placeShown Withdrawn page = withdrawn
+placeShown Nothing page = withdrawn
 
-pub step-raw : (at : ℕ) (page : List ℕ) {t v m : ℕ} → stepAt at page .field ≡ Raw t v m → shownFrom at page ≡ raw t (part v m page) ∷ shownFrom (stepAt at page .next) page
-unfolding stepAt
-step-raw at page h = raw-by at page (headAt at page) refl h
+place-shown : (t v m : ℕ) (page : List ℕ) → placeShown (placeOf t v m) page ≡ shownField (mkField t (part v m page))
+unfolding placeOf placeShown shownField mkField
+place-shown t v m page = go (eqb t 3)
+  where
+    go : (b : Bool) → placeShown (cond b Withdrawn (Raw t v m)) page ≡ cond b withdrawn (raw t (part v m page))
+    go true = refl
+    go false = refl
+
+-- a field there is the first of those left
+some-by : (at : ℕ) (page : List ℕ) (d : Head) → headAt at page ≡ d → isNothing (stepOf d (length page) .field) ≡ false →
+    (fieldAs (stepOf d (length page) .field) page ≡ field (placeShown (stepOf d (length page) .field) page))
+    × (shownFrom at page ≡ placeShown (stepOf d (length page) .field) page ∷ shownFrom (stepOf d (length page) .next) page)
+unfolding stepOf isNothing shownFrom shownFields
+some-by at page head.Broken e h = absurd (false≢true (sym h))
+some-by at page head.End e h = absurd (false≢true (sym h))
+some-by at page (head.Field t v m x) e h =
+    let r = head-room at page e in
+    rw (from-field at page e, place-shown t v m page) (place-first t v m page (omega arith), refl)
+
+module _ (at : ℕ) (page : List ℕ) (h : isNothing (stepAt at page .field) ≡ false) where
+  pub step-some : shownFrom at page ≡ placeShown (stepAt at page .field) page ∷ shownFrom (stepAt at page .next) page
+  unfolding stepAt
+  step-some = some-by at page (headAt at page) refl h .1
+
+  pub step-first : fieldAs (stepAt at page .field) page ≡ field (placeShown (stepAt at page .field) page)
+  unfolding stepAt
+  step-first = some-by at page (headAt at page) refl h .0
+
+  -- a walk comes to its end
+  pub step-less : length (shownFrom (stepAt at page .next) page) < length (shownFrom at page)
+  step-less = rw step-some (omega arith)
 
 -- no field there: none is left
 first-none : (fs : List FieldShown) → noField ≡ firstIn fs → fs ≡ []
@@ -170,9 +208,15 @@ unfolding firstIn
 first-none [] h = refl
 first-none (f ∷ fs) h = never (cc)
 
-pub step-none : (at : ℕ) (page : List ℕ) → stepAt at page .field ≡ Nothing → shownFrom at page ≡ []
+nothing-is : (f : FieldPlace) → isNothing f ≡ true → f ≡ Nothing
+unfolding isNothing
+nothing-is (Raw t v m) h = absurd (false≢true h)
+nothing-is Withdrawn h = absurd (false≢true h)
+nothing-is Nothing h = refl
+
+pub step-none : (at : ℕ) (page : List ℕ) → isNothing (stepAt at page .field) ≡ true → shownFrom at page ≡ []
 unfolding fieldAs
-step-none at page h = first-none (shownFrom at page) (sym (ap (λ f. fieldAs f page) h) ∙ step-shown at page .0)
+step-none at page h = first-none (shownFrom at page) (sym (ap (λ f. fieldAs f page) (nothing-is _ h)) ∙ step-shown at page .0)
 
 -- ---- field i, as a loop goes
 none-by : (at : ℕ) (page : List ℕ) (d : Head) → headAt at page ≡ d → shownFrom at page ≡ [] → stepOf d (length page) .field ≡ Nothing
@@ -186,17 +230,20 @@ unfolding stepAt
 none-step at page h = none-by at page (headAt at page) refl h
 
 none-next : (at : ℕ) (page : List ℕ) → stepAt at page .field ≡ Nothing → stepAt (stepAt at page .next) page .field ≡ Nothing
-unfolding restIn
-none-next at page h = none-step (stepAt at page .next) page (step-shown at page .1 ∙ ap restIn (step-none at page h))
+unfolding restIn isNothing
+none-next at page h = none-step (stepAt at page .next) page (step-shown at page .1 ∙ ap restIn (step-none at page (ap isNothing h)))
 
-pub nth-none : (i at : ℕ) (page : List ℕ) → stepAt at page .field ≡ Nothing → Nothing ≡ placeNth i at page
+none-nth : (i at : ℕ) (page : List ℕ) → stepAt at page .field ≡ Nothing → Nothing ≡ placeNth i at page
 unfolding placeNth
-nth-none zero at page h = sym h
-nth-none (suc i) at page h = nth-none i (stepAt at page .next) page (none-next at page h)
+none-nth zero at page h = sym h
+none-nth (suc i) at page h = none-nth i (stepAt at page .next) page (none-next at page h)
 
-pub nth-here : (i at : ℕ) (page : List ℕ) (f : FieldPlace) → i ≡ 0 → stepAt at page .field ≡ f → f ≡ placeNth i at page
+pub nth-none : (i at : ℕ) (page : List ℕ) → isNothing (stepAt at page .field) ≡ true → stepAt at page .field ≡ placeNth i at page
+nth-none i at page h = let e = nothing-is _ h in e ∙ none-nth i at page e
+
+pub nth-here : (i at : ℕ) (page : List ℕ) → i ≡ 0 → stepAt at page .field ≡ placeNth i at page
 unfolding placeNth
-nth-here i at page f z h = rw z (sym h)
+nth-here i at page z = rw z
 
 pub nth-later : (i at : ℕ) (page : List ℕ) → (i ≡ 0 → ⊥) → placeNth (i - 1) (stepAt at page .next) page ≡ placeNth i at page
 unfolding placeNth
@@ -213,41 +260,50 @@ unfolding nthPlace
 nth-place i v page = nth-shown i (startAt (v .plat) page) page ∙ ap (nthIn i) (started page v)
 
 -- ---- the first field of a tag, as a loop goes
-pub tag-none : (t at : ℕ) (page : List ℕ) → stepAt at page .field ≡ Nothing → Nothing ≡ placeTagged t (length (shownFrom at page)) at page
-unfolding placeTagged
-tag-none t at page h = rw (step-none at page h)
+pub eqb-sym : (m n : ℕ) → eqb m n ≡ eqb n m
+eqb-sym m n = same-test (eqb m n) (eqb n m) (λ h. eq-eqb n m (sym (eqb-true m n h))) (λ h. eq-eqb m n (sym (eqb-true n m h)))
 
-module _ (t at : ℕ) (page : List ℕ) {u v m : ℕ} (h : stepAt at page .field ≡ Raw u v m) where
-  pub tag-here : u ≡ t → Raw u v m ≡ placeTagged t (length (shownFrom at page)) at page
-  unfolding placeTagged tagOr
-  tag-here e = rw (step-raw at page h, h, eq-eqb u t e)
+ends-none : (t : ℕ) (f : FieldPlace) → isNothing f ≡ true → searchEnds t f ≡ true
+unfolding searchEnds
+ends-none t f h = rw (nothing-is f h)
 
-  pub tag-later : (u ≡ t → ⊥) → placeTagged t (length (shownFrom (stepAt at page .next) page)) (stepAt at page .next) page ≡ placeTagged t (length (shownFrom at page)) at page
-  unfolding placeTagged tagOr
-  tag-later e = rw (step-raw at page h, h, ne-eqb u t e)
+ends-tag : (t : ℕ) (f : FieldPlace) (page : List ℕ) → isNothing f ≡ false → searchEnds t f ≡ eqb (shownTag (placeShown f page)) t
+unfolding isNothing searchEnds placeShown shownTag
+ends-tag t (Raw u v m) page h = refl
+ends-tag t Withdrawn page h = refl
+ends-tag t Nothing page h = absurd (false≢true (sym h))
 
-  -- a walk comes to its end
-  pub step-less : length (shownFrom (stepAt at page .next) page) < length (shownFrom at page)
-  step-less = rw (step-raw at page h) (omega arith)
+pub goes-on : (t : ℕ) (f : FieldPlace) → searchEnds t f ≡ false → isNothing f ≡ false
+goes-on t f h = no-test (isNothing f) (λ y. false≢true (sym h ∙ ends-none t f y))
 
-  pub first-raw : fieldAs (Raw u v m) page ≡ field (raw u (part v m page))
-  unfolding firstIn
-  first-raw = ap (λ g. fieldAs g page) (sym h) ∙ step-shown at page .0 ∙ ap firstIn (step-raw at page h)
+module _ (t at : ℕ) (page : List ℕ) where
+  ends-by : (b : Bool) → isNothing (stepAt at page .field) ≡ b → searchEnds t (stepAt at page .field) ≡ true → stepAt at page .field ≡ placeTagged t (length (shownFrom at page)) at page
+  unfolding placeTagged
+  ends-by true n h = rw (step-none at page n) (nothing-is _ n)
+  ends-by false n h = rw (step-some at page n, h)
+
+  pub tag-here : searchEnds t (stepAt at page .field) ≡ true → stepAt at page .field ≡ placeTagged t (length (shownFrom at page)) at page
+  tag-here h = ends-by (isNothing (stepAt at page .field)) refl h
+
+  pub tag-later : searchEnds t (stepAt at page .field) ≡ false →
+      placeTagged t (length (shownFrom (stepAt at page .next) page)) (stepAt at page .next) page ≡ placeTagged t (length (shownFrom at page)) at page
+  unfolding placeTagged
+  tag-later h = rw (step-some at page (goes-on t (stepAt at page .field) h), h)
 
 tag-one : (t at : ℕ) (page : List ℕ) → ((x : ℕ) → suc (length (shownFrom x page)) ≡ length (shownFrom at page) → fieldAs (placeTagged t (length (shownFrom x page)) x page) page ≡ ofTag t (shownFrom x page)) →
-    (f : FieldPlace) → stepAt at page .field ≡ f → fieldAs (placeTagged t (length (shownFrom at page)) at page) page ≡ ofTag t (shownFrom at page)
-unfolding fieldAs ofTag shownTag
-tag-one t at page ih Nothing h = ap (λ g. fieldAs g page) (sym (tag-none t at page h)) ∙ rw (step-none at page h)
-tag-one t at page ih (Raw u v m) h = go (eqb u t) refl
+    (b : Bool) → isNothing (stepAt at page .field) ≡ b → fieldAs (placeTagged t (length (shownFrom at page)) at page) page ≡ ofTag t (shownFrom at page)
+unfolding fieldAs ofTag
+tag-one t at page ih true n = rw (← tag-here t at page (ends-none t _ n), nothing-is _ n, step-none at page n)
+tag-one t at page ih false n = go (searchEnds t (stepAt at page .field)) refl
   where
-    go : (b : Bool) → eqb u t ≡ b → fieldAs (placeTagged t (length (shownFrom at page)) at page) page ≡ ofTag t (shownFrom at page)
-    go true e = ap (λ g. fieldAs g page) (sym (tag-here t at page h (eqb-true u t e))) ∙ first-raw t at page h ∙ rw (step-raw at page h, e)
+    go : (b : Bool) → searchEnds t (stepAt at page .field) ≡ b → fieldAs (placeTagged t (length (shownFrom at page)) at page) page ≡ ofTag t (shownFrom at page)
+    go true e = ap (λ g. fieldAs g page) (sym (tag-here t at page e)) ∙ step-first at page n ∙ rw (step-some at page n, sym (ends-tag t _ page n) ∙ e)
     go false e =
-        ap (λ g. fieldAs g page) (sym (tag-later t at page h (λ z. false≢true (sym e ∙ eq-eqb u t z)))) ∙ ih (stepAt at page .next) (rw (step-raw at page h)) ∙ rw (step-raw at page h, e)
+        ap (λ g. fieldAs g page) (sym (tag-later t at page e)) ∙ ih (stepAt at page .next) (rw (step-some at page n)) ∙ rw (step-some at page n, sym (ends-tag t _ page n) ∙ e)
 
 tag-shown : (n t at : ℕ) (page : List ℕ) → n ≡ length (shownFrom at page) → fieldAs (placeTagged t (length (shownFrom at page)) at page) page ≡ ofTag t (shownFrom at page)
-tag-shown zero t at page h = tag-one t at page (λ x e. absurd (let z : ⊥ = omega arith in z)) (stepAt at page .field) refl
-tag-shown (suc n) t at page h = tag-one t at page (λ x e. tag-shown n t x page (omega arith)) (stepAt at page .field) refl
+tag-shown zero t at page h = tag-one t at page (λ x e. absurd (let z : ⊥ = omega arith in z)) (isNothing (stepAt at page .field)) refl
+tag-shown (suc n) t at page h = tag-one t at page (λ x e. tag-shown n t x page (omega arith)) (isNothing (stepAt at page .field)) refl
 
 pub tag-place : (t : ℕ) (v : View) (page : List ℕ) → fieldAs (tagPlace t v page) page ≡ ofTag t (fieldsShown (readingAnswer page (Accepted v)))
 unfolding tagPlace
@@ -260,6 +316,7 @@ cond-value true t v = refl
 cond-value false t v = refl
 
 pub value-there : (f : FieldPlace) (page : List ℕ) → spanned (placeSpan f) page ≡ valueIn (fieldAs f page)
-unfolding spanned placeSpan fieldAs part valueIn
+unfolding spanned placeSpan fieldAs part valueIn shownValue
 value-there (Raw t at n) page = cond-value (leb (at + n) (length page)) t (part at n page)
+value-there Withdrawn page = rw leb·zero
 value-there Nothing page = rw leb·zero

@@ -1,4 +1,5 @@
 pub mod Lookups
 pub mod Fields
+pub mod Consoles
 pub mod Kept
 pub mod Least

@@ -1,19 +1,19 @@
--- What can be asked of the fields that a page shows: "The writer takes a list of fields", and a reader shows one in page order (02, E7).
--- Assumes nothing.
+-- What can be asked of the fields that a page shows: "The writer takes a list of fields", and a reader shows one in page order (02, E7);
+-- "show the console choice as withdrawn without its value" (02, E10). Assumes nothing.
 use Prim.Native.Nat.{ℕ, zero, suc, _+_, _%_}
-use mathlib.Core.Bool.{cond}
+use mathlib.Core.Bool.{Bool, true, false, cond}
 use mathlib.Core.List.{List, [], _∷_}
 use lib.ListN.{length, drop}
 use lib.Dec.{leb, eqb}
 use Rattle.words.specs.Word.{part}
 use Rattle.words.specs.declared.Span.{Span}
-use Rattle.fields.specs.Fields.{FieldShown, raw, shownFields, scanOf, isEnded}
+use Rattle.fields.specs.Fields.{FieldShown, raw, withdrawn, shownFields, scanOf, isEnded}
 use Rattle.fields.specs.Steps.{headAt, fieldsFrom}
 use Rattle.fields.specs.declared.Head.{Head}
 use Rattle.fields.specs.declared.Head.the-variants as head
 use Rattle.reader.specs.declared.View.{View}
 use Rattle.lookup.specs.declared.FieldPlace.{FieldPlace}
-use Rattle.lookup.specs.declared.FieldPlace.the-variants.{Raw, Nothing}
+use Rattle.lookup.specs.declared.FieldPlace.the-variants.{Raw, Withdrawn, Nothing}
 use Rattle.lookup.specs.declared.FieldStep.{FieldStep}
 
 -- a field, or that there is none
@@ -36,9 +36,11 @@ nthIn (suc i) fs = nthIn i (restIn fs)
 
 unfoldable pub shownTag : FieldShown → ℕ
 shownTag (raw t v) = t
+shownTag withdrawn = 3
 
 unfoldable pub shownValue : FieldShown → List ℕ
 shownValue (raw t v) = v
+shownValue withdrawn = []
 
 -- the first field with a tag
 unfoldable pub ofTag : ℕ → List FieldShown → Asked
@@ -53,21 +55,33 @@ valueIn (field f) = shownValue f
 -- the field that a place stands for; a place that does not lie within the page stands for none
 unfoldable pub fieldAs : FieldPlace → List ℕ → Asked
 fieldAs (Raw t at n) page = cond (leb (at + n) (length page)) (field (raw t (part at n page))) noField
+fieldAs Withdrawn page = field withdrawn
 fieldAs Nothing page = noField
 
+unfoldable pub isNothing : FieldPlace → Bool
+isNothing (Raw t at n) = false
+isNothing Withdrawn = false
+isNothing Nothing = true
+
+-- where the value of a field lies; a withdrawn one has none to show
 unfoldable pub placeSpan : FieldPlace → Span
 placeSpan (Raw t at n) = record { at = at; len = n }
+placeSpan Withdrawn = record { at = 0; len = 0 }
 placeSpan Nothing = record { at = 0; len = 0 }
 
 -- the fields that are left at a cursor
 unfoldable pub shownFrom : ℕ → List ℕ → List FieldShown
 shownFrom at page = shownFields (fieldsFrom at page)
 
+-- a field on the page, as it is handed out
+unfoldable pub placeOf : ℕ → ℕ → ℕ → FieldPlace
+placeOf t at n = cond (eqb t 3) Withdrawn (Raw t at n)
+
 -- the field at a cursor, and the cursor behind it; behind the last one the cursor is the page's length
 unfoldable pub stepOf : Head → ℕ → FieldStep
 stepOf head.Broken n = record { field = Nothing; next = n }
 stepOf head.End n = record { field = Nothing; next = n }
-stepOf (head.Field t v m x) n = record { field = Raw t v m; next = x }
+stepOf (head.Field t v m x) n = record { field = placeOf t v m; next = x }
 
 unfoldable pub stepAt : ℕ → List ℕ → FieldStep
 stepAt at page = stepOf (headAt at page) (length page)
@@ -81,14 +95,18 @@ unfoldable pub placeNth : ℕ → ℕ → List ℕ → FieldPlace
 placeNth zero at page = stepAt at page .field
 placeNth (suc i) at page = placeNth i (stepAt at page .next) page
 
--- where the first of the next n fields with a tag lies
-unfoldable pub tagOr : ℕ → FieldPlace → FieldPlace → FieldPlace
-tagOr t (Raw u v m) p = cond (eqb u t) (Raw u v m) p
-tagOr t Nothing p = Nothing
+-- a search for a tag ends at a field that has it, and where no field is left
+unfoldable pub searchEnds : ℕ → FieldPlace → Bool
+searchEnds t (Raw u v m) = eqb u t
+searchEnds t Withdrawn = eqb 3 t
+searchEnds t Nothing = true
 
+-- where the first of the next n fields with a tag lies
 unfoldable pub placeTagged : ℕ → ℕ → ℕ → List ℕ → FieldPlace
 placeTagged t zero at page = Nothing
-placeTagged t (suc n) at page = tagOr t (stepAt at page .field) (placeTagged t n (stepAt at page .next) page)
+placeTagged t (suc n) at page =
+    let s = stepAt at page in
+    cond (searchEnds t (s .field)) (s .field) (placeTagged t n (s .next) page)
 
 -- the same of a view
 unfoldable pub nthPlace : ℕ → View → List ℕ → FieldPlace

@@ -1,3 +1,4 @@
 pub mod Lookup
 pub mod Fields
+pub mod Consoles
 pub mod Kept

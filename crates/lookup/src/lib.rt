@@ -16,12 +16,21 @@ ghost use Rattle.reader.specs.Answer.{lookIn, lookOf, countIn, wordIn, fieldsSh
 ghost use Rattle.reader.specs.Reading.{sectionOf, readingAnswer};
 ghost use Rattle.entries.specs.Entry.{isHidden};
 ghost use Rattle.lookup.specs.Lookup.{spanOf, spanIn, countOf, wordOf};
-ghost use Rattle.lookup.specs.Fields.{firstIn, restIn, nthIn, ofTag, valueIn, fieldAs, placeSpan, shownFrom, stepAt, startAt, nthPlace, tagPlace};
+ghost use Rattle.lookup.specs.Fields.{firstIn, restIn, nthIn, ofTag, valueIn, fieldAs, isNothing, searchEnds, placeSpan, shownFrom, stepAt, startAt, nthPlace, tagPlace};
+ghost use Rattle.lookup.specs.Consoles.{consoleNamed};
 ghost use Rattle.lookup.specs.Kept.{sectionEnd, fieldsReach, keptFor};
 
-// A field that is asked for: its tag, and where its value lies in the page; or that there is no such field.
+// A field that is asked for: its tag, and where its value lies in the page; the withdrawn field, tag 3, whose value is not shown; or that
+// there is no such field.
 pub enum FieldPlace {
     Raw { tag: u8, at: usize, len: usize },
+    Withdrawn,
+    Nothing,
+}
+
+// A console that is asked for by its name: its number, or that there is none.
+pub enum ConsoleFound {
+    At(usize),
     Nothing,
 }
 
@@ -142,6 +151,20 @@ pub fn word_of(page: &[u8], view: View, k: usize, i: usize, j: usize) -> u64
     word_in(page, view.minor, reader::section_of(view, k), k, i, j)
 }
 
+// The first console of a view whose name's 8 bytes are those given; a name that is shorter is padded with zeros by the caller.
+pub fn find_console(page: &[u8], view: View, name: &[u8; 8]) -> ConsoleFound
+    ensures { λ r. ⌜ r ≡ consoleNamed (readingAnswer (now (page .entry)) (Reading.Accepted view)) (now (name .entry)) ⌝ }
+{
+    let wanted = words::word_at(name, 0);
+    let count = count_of(page, view, 1);
+    for i in 0..count {
+        if word_of(page, view, 1, i, 2) == wanted {
+            return ConsoleFound::At(i);
+        }
+    }
+    ConsoleFound::Nothing
+}
+
 // Where the array of section k lies in a page at a base, as a reader of an edition finds it; nowhere where it refuses the page or
 // shows no entries.
 pub fn place(page: &[u8], base: u64, edition: u64, k: usize) -> Span
@@ -197,6 +220,12 @@ pub fn field_next(page: &[u8], cursor: usize) -> FieldStep
             next,
         };
     };
+    if tag == 3 {
+        return FieldStep {
+            field: FieldPlace::Withdrawn,
+            next,
+        };
+    }
     FieldStep {
         field: FieldPlace::Raw {
             tag,
@@ -222,6 +251,21 @@ pub fn field_count(page: &[u8], view: View) -> usize
     fields::count(&page[at..])
 }
 
+// Whether there is no such field.
+pub fn is_nothing(field: FieldPlace) -> bool
+    ensures { λ r. ⌜ r ≡ isNothing field ⌝ }
+{
+    match field {
+        FieldPlace::Raw {
+            tag: _,
+            at: _,
+            len: _,
+        } => false,
+        FieldPlace::Withdrawn => false,
+        FieldPlace::Nothing => true,
+    }
+}
+
 // Field i of a view, in page order.
 pub fn field_of(page: &[u8], view: View, i: usize) -> FieldPlace
     ensures { λ r. ⌜ r ≡ nthPlace i view (now (page .entry)) ⌝ }
@@ -232,18 +276,33 @@ pub fn field_of(page: &[u8], view: View, i: usize) -> FieldPlace
     loop {
         let step = field_next(page, cursor);
         let field = step.field;
-        let FieldPlace::Raw { tag, at, len } = field else {
-            return FieldPlace::Nothing;
-        };
+        if is_nothing(field) {
+            return field;
+        }
         if left == 0 {
-            return FieldPlace::Raw { tag, at, len };
+            return field;
         }
         left -= 1;
         cursor = step.next;
     }
 }
 
-// The first field of a view with a tag: the board name has tag 1, the serial tag 2.
+// Whether a search for a tag ends at a field: it has the tag, or there is none.
+fn search_ends(field: FieldPlace, tag: u8) -> bool
+    ensures { λ r. ⌜ r ≡ searchEnds tag field ⌝ }
+{
+    match field {
+        FieldPlace::Raw {
+            tag: own,
+            at: _,
+            len: _,
+        } => own == tag,
+        FieldPlace::Withdrawn => tag == 3,
+        FieldPlace::Nothing => true,
+    }
+}
+
+// The first field of a view with a tag: the board name has tag 1, the serial tag 2, the withdrawn field tag 3.
 pub fn field_of_tag(page: &[u8], view: View, tag: u8) -> FieldPlace
     ensures { λ r. ⌜ r ≡ tagPlace tag view (now (page .entry)) ⌝ }
     ensures { λ r. ⌜ fieldAs r (now (page .entry)) ≡ ofTag tag (fieldsShown (readingAnswer (now (page .entry)) (Reading.Accepted view))) ⌝ }
@@ -252,27 +311,25 @@ pub fn field_of_tag(page: &[u8], view: View, tag: u8) -> FieldPlace
     loop {
         let step = field_next(page, cursor);
         let field = step.field;
-        let FieldPlace::Raw { tag: own, at, len } = field else {
-            return FieldPlace::Nothing;
-        };
-        if own == tag {
-            return FieldPlace::Raw { tag: own, at, len };
+        if search_ends(field, tag) {
+            return field;
         }
         cursor = step.next;
     }
 }
 
-// Where the value of a field lies; nowhere where there is none.
+// Where the value of a field lies; nowhere where none is shown.
 fn span_of(field: FieldPlace) -> Span
     ensures { λ r. ⌜ r ≡ placeSpan field ⌝ }
 {
     match field {
         FieldPlace::Raw { tag: _, at, len } => Span { at, len },
+        FieldPlace::Withdrawn => Span { at: 0, len: 0 },
         FieldPlace::Nothing => Span { at: 0, len: 0 },
     }
 }
 
-// The value of a field, as the part of the page that holds it; empty where there is none.
+// The value of a field, as the part of the page that holds it; empty where none is shown.
 pub fn value_of(page: &[u8], field: FieldPlace) -> &[u8]
     ensures { λ r. ⌜ now r ≡ valueIn (fieldAs field (now (page .entry))) ⌝ }
     ensures { λ r. ⌜ r .ptr ≡ onFrom (page .entry .ptr) (spanStart (placeSpan field) (now (page .entry))) ⌝ }

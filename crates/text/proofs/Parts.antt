@@ -1,7 +1,7 @@
 -- Parts of the listing by what is shown. Assumes nothing.
 use Prim.Native.Nat.{ℕ, zero, suc, _+_, _-_, _≤_, _<_}
 use mathlib.Core.Path.{_≡_, refl, sym, ap, _∙_}
-use mathlib.Core.Bool.{Bool, true, false, cond}
+use mathlib.Core.Bool.{Bool, true, false, cond, false≢true}
 use mathlib.Core.Logic.{⊎-elim}
 use mathlib.Core.List.{List, [], _∷_, _++_}
 use native.Mathlib.Decide.{decLt}
@@ -26,14 +26,14 @@ use Rattle.reader.specs.declared.Refusal.the-variants.{Place}
 use Rattle.reader.specs.declared.Reading.{Reading}
 use Rattle.reader.specs.declared.Reading.the-variants.{Accepted, Refused}
 use Rattle.reader.proofs.Whole.{reading-answer}
-use Rattle.fields.specs.Fields.{raw}
 use Rattle.lookup.specs.Lookup.{wordOf}
-use Rattle.lookup.specs.Fields.{shownValue, valueIn, fieldAs, shownFrom, stepAt}
-use Rattle.lookup.specs.declared.FieldPlace.the-variants.{Raw}
+use Rattle.lookup.specs.Fields.{shownValue, valueIn, fieldAs, isNothing, shownFrom, stepAt}
+use Rattle.lookup.specs.declared.FieldPlace.{FieldPlace}
+use Rattle.lookup.specs.declared.FieldPlace.the-variants.{Raw, Withdrawn, Nothing}
 use Rattle.lookup.specs.declared.FieldStep.{FieldStep}
-use Rattle.lookup.proofs.Fields.{step-raw, first-raw}
+use Rattle.lookup.proofs.Fields.{placeShown, step-some, step-first}
 use Rattle.text.specs.Text.{newline, space, noneText, absentText, titleText, hexText, nameText, wordText, gapText, countText, stateText, sectionText, pointerText, fieldText, fieldsText, listingOf, printed}
-use Rattle.text.specs.Steps.{seen, refusalOf}
+use Rattle.text.specs.Steps.{seen, placeText, refusalOf}
 
 -- ---- the space before a word
 pub gap-none : (j : ℕ) → j ≡ 0 → [] ≡ gapText j
@@ -85,13 +85,19 @@ unfolding pointerText
 pointer-some p h = rw (ne-eqb p 0 h)
 
 -- ---- a field: its line, and those of the fields behind it
-pub fields-step : (at : ℕ) (page : List ℕ) (s : FieldStep) {t v m : ℕ} (vs : List ℕ) → s ≡ stepAt at page → s .field ≡ Raw t v m → vs ≡ valueIn (fieldAs (Raw t v m) page) →
-    fieldText (raw t vs) ++ fieldsText (shownFrom (s .next) page) ≡ fieldsText (shownFrom at page)
-unfolding fieldsText valueIn shownValue
-fields-step at page s {t} {v} {m} vs h f w =
-    let e : stepAt at page .field ≡ Raw t v m = ap (λ (x : FieldStep). x .field) (sym h) ∙ f in
-    let q : vs ≡ part v m page = w ∙ ap valueIn (first-raw 0 at page e) in
-    rw (q, h, step-raw at page e)
+place-line : (f : FieldPlace) (page vs : List ℕ) → isNothing f ≡ false → vs ≡ shownValue (placeShown f page) → placeText f vs ≡ fieldText (placeShown f page)
+unfolding isNothing shownValue placeShown placeText
+place-line (Raw t v m) page vs n w = rw w
+place-line Withdrawn page vs n w = refl
+place-line Nothing page vs n w = absurd (false≢true (sym n))
+
+pub fields-step : (at : ℕ) (page : List ℕ) (s : FieldStep) (vs : List ℕ) → s ≡ stepAt at page → isNothing (s .field) ≡ false → vs ≡ valueIn (fieldAs (s .field) page) →
+    placeText (s .field) vs ++ fieldsText (shownFrom (s .next) page) ≡ fieldsText (shownFrom at page)
+unfolding fieldsText valueIn
+fields-step at page s vs h f w =
+    let n : isNothing (stepAt at page .field) ≡ false = ap (λ (x : FieldStep). isNothing (x .field)) (sym h) ∙ f in
+    let q : vs ≡ shownValue (placeShown (stepAt at page .field) page) = w ∙ ap (λ (x : FieldStep). valueIn (fieldAs (x .field) page)) h ∙ ap valueIn (step-first at page n) in
+    rw (h, place-line (stepAt at page .field) page vs n q, step-some at page n)
 
 -- ---- a section that is absent, and one that is not
 count-shown : (k : ℕ) (b : Bool) (ws bs : List ℕ) → countText k (cond b (full ws bs) empty) ≡ stateText k (cond b (full ws bs) empty)

@@ -8,7 +8,10 @@ use Rattle.reader.specs.Reading.{refusalNumber, sectionOf, shownAs}
 use Rattle.reader.specs.declared.View.{View}
 use Rattle.reader.specs.declared.Reading.{Reading}
 use Rattle.reader.specs.declared.Reading.the-variants.{Accepted, Refused}
-use Rattle.text.specs.Text.{lay, listingOf, listingRoom}
+use Rattle.fields.specs.Fields.{raw, withdrawn}
+use Rattle.lookup.specs.declared.FieldPlace.{FieldPlace}
+use Rattle.lookup.specs.declared.FieldPlace.the-variants.{Raw, Withdrawn, Nothing}
+use Rattle.text.specs.Text.{lay, fieldText, listingOf, listingRoom}
 
 -- the largest offset, which stands for all that lie past it
 abbrev pub lastOffset : ℕ
@@ -31,6 +34,12 @@ pub record Listed (vs s : List ℕ) (r : ℕ) (t : List ℕ) : Type 0 where
 -- section k of a view, as it is shown with the page
 unfoldable pub seen : View → List ℕ → ℕ → Shown
 seen v page k = shownAs (v .minor) k (sectionOf v k) page
+
+-- the line of a field at a place, by its value; none where there is no field
+unfoldable pub placeText : FieldPlace → List ℕ → List ℕ
+placeText (Raw t at n) v = fieldText (raw t v)
+placeText Withdrawn v = fieldText withdrawn
+placeText Nothing v = []
 
 -- the line of a reading that refuses
 unfoldable pub refusalOf : Reading → List ℕ

@@ -9,7 +9,7 @@ use Rattle.io.specs.Digits.{digits}
 use Rattle.words.specs.Tests.{both}
 use Rattle.words.specs.Word.{leBytes, wordAt, joined}
 use Rattle.entries.specs.Entry.{wordsPerEntry}
-use Rattle.fields.specs.Fields.{FieldShown, raw}
+use Rattle.fields.specs.Fields.{FieldShown, raw, withdrawn}
 use Rattle.reader.specs.Answer.{Shown, absent, empty, full, ReaderAnswer, refused, shows, minus, readOf, entryWord, entryCount}
 
 -- vs over s from an offset on as far as it fits; the rest of s as it was
@@ -147,9 +147,14 @@ valueByte v i = space ++ byteText (getD v i 0)
 unfoldable pub valueText : List ℕ → List ℕ
 valueText v = joined (length v) (valueByte v)
 
--- "tag and length in decimal, then each byte of the value"
+-- `3 withdrawn`
+unfoldable pub withdrawnText : List ℕ
+withdrawnText = 51 ∷ 32 ∷ 119 ∷ 105 ∷ 116 ∷ 104 ∷ 100 ∷ 114 ∷ 97 ∷ 119 ∷ 110 ∷ []
+
+-- "tag and length in decimal, then each byte of the value"; 02, E10: "list it as `3 withdrawn`"
 unfoldable pub fieldText : FieldShown → List ℕ
 fieldText (raw t v) = decimal t ++ space ++ decimal (length v) ++ valueText v ++ newline
+fieldText withdrawn = withdrawnText ++ newline
 
 -- "one line a field in page order"
 unfoldable pub fieldsText : List FieldShown → List ℕ

@@ -14,7 +14,7 @@ ghost use Rattle.text.specs.Text.{stateText, titleText, sectionText, hea
 ghost use Rattle.fields.specs.Fields.{raw};
 ghost use Rattle.lookup.specs.Fields.{shownFrom};
 ghost use Rattle.words.specs.Word.{joined};
-ghost use Rattle.text.specs.Steps.{lastOffset, LaidOver, Listed, seen, refusalOf};
+ghost use Rattle.text.specs.Steps.{placeText, lastOffset, LaidOver, Listed, seen, refusalOf};
 
 // The offset n bytes on; the largest number stands for all that lie past it. No text reaches so far, but a step does not know that.
 fn past(at: usize, n: usize) -> usize
@@ -270,8 +270,8 @@ fn put_value(out: &mut [u8], at: usize, value: &[u8]) -> usize
     to
 }
 
-// A field: its tag, the length of its value and the value's bytes.
-fn put_field(out: &mut [u8], at: usize, tag: u8, value: &[u8]) -> usize
+// A field that is shown with its value: its tag, the length of the value and the value's bytes.
+fn put_raw(out: &mut [u8], at: usize, tag: u8, value: &[u8]) -> usize
     ensures { λ r. ⌜ LaidOver at (fieldText (raw tag (now (value .entry)))) (now (out .entry)) r (now (out .exit)) ⌝ }
 {
     let to = put_decimal(out, at, tag as u64);
@@ -279,6 +279,17 @@ fn put_field(out: &mut [u8], at: usize, tag: u8, value: &[u8]) -> usize
     let to = put_decimal(out, to, value.len() as u64);
     let to = put_value(out, to, value);
     put_end(out, to)
+}
+
+// A field at a place, with its value; nothing where there is no field.
+fn put_field(out: &mut [u8], at: usize, field: FieldPlace, value: &[u8]) -> usize
+    ensures { λ r. ⌜ LaidOver at (placeText field (now (value .entry))) (now (out .entry)) r (now (out .exit)) ⌝ }
+{
+    match field {
+        FieldPlace::Raw { tag, at: _, len: _ } => put_raw(out, at, tag, value),
+        FieldPlace::Withdrawn => put(out, at, b"3 withdrawn\n"),
+        FieldPlace::Nothing => at,
+    }
 }
 
 // The fields from a cursor on.
@@ -290,11 +301,11 @@ fn put_fields(out: &mut [u8], at: usize, page: &[u8], start: usize) -> usize
     loop {
         let step = lookup::field_next(page, cursor);
         let field = step.field;
-        let FieldPlace::Raw { tag, at: _, len: _ } = field else {
+        if lookup::is_nothing(field) {
             return to;
-        };
+        }
         let value = lookup::value_of(page, field);
-        to = put_field(out, to, tag, value);
+        to = put_field(out, to, field, value);
         cursor = step.next;
     }
 }

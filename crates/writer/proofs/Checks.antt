@@ -12,8 +12,8 @@ use Rattle.words.specs.Tests.{Yes, both, every}
 use Rattle.words.proofs.Lists.{words-below}
 use Rattle.versions.specs.Edition.{editionOk}
 use Rattle.sections.specs.Page.{placeOk}
-use Rattle.fields.specs.Fields.{scanOf}
-use Rattle.lists.specs.Description.{Description, four, descriptionOf, listsOk, tellable, descriptionOk, noneLate, used}
+use Rattle.fields.specs.Fields.{scanOf, tellable}
+use Rattle.lists.specs.Description.{Description, four, descriptionOf, listsOk, descriptionOk, noneLate, used}
 use Rattle.writer.specs.Write.{pageOf, Made, no-page, a-page, writerGate, writeOf, descriptionFits}
 use Rattle.writer.specs.Wrote.{madeBy, pageAfter}
 use Rattle.writer.specs.declared.Wrote.{Wrote}

@@ -16,13 +16,13 @@ use Rattle.versions.specs.Edition.{core}
 use Rattle.entries.specs.Entry.{wordsPerEntry, size, entriesOk, sum, checkOk}
 use Rattle.entries.proofs.Flags.{shown-plain}
 use Rattle.entries.specs.Array.{soundOf}
-use Rattle.fields.specs.Fields.{Field, Scanned, broken, ended, bare, scan, scanAll, scanOf, judged, fieldsOk, lengthsOk, count, isBare, isEnded, taken, fieldsIn, endMark}
+use Rattle.fields.specs.Fields.{Field, Scanned, broken, ended, bare, scan, scanAll, scanOf, judged, fieldsOk, lengthsOk, count, isBare, isEnded, taken, fieldsIn, fieldsTold, tellable, endMark}
 use Rattle.fields.proofs.Marks.{description-read}
 use Rattle.sections.specs.Page.{inPage, arrayAt, Sec, mkSec, mkPlat, foundAt}
 use Rattle.sections.specs.Section.{platOk, wordsIn, nothing, inRange, secOk, extent, apart, platExtent}
 use Rattle.sections.proofs.Sections.{array-in}
 use Rattle.reader.specs.Answer.{shownSec}
-use Rattle.lists.specs.Description.{listOk, tellable, fieldsTold, withMark}
+use Rattle.lists.specs.Description.{listOk, withMark}
 use Rattle.writer.specs.Write.{neg, descriptor, pointTo, shownList}
 
 -- ---- one section
@@ -141,7 +141,7 @@ unfolding withMark endMark
 mark-length b bs = length-append (b ∷ bs) endMark
 
 bare-told : (s : Scanned) → Yes (tellable s) → s ≡ bare (fieldsTold s)
-unfolding tellable isBare fieldsTold
+unfolding tellable isBare fieldsTold both
 bare-told broken t = absurd (false≢true t)
 bare-told (ended fs n) t = absurd (false≢true t)
 bare-told (bare fs) t = refl

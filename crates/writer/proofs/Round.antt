@@ -17,14 +17,14 @@ use Rattle.versions.specs.Version.{versionOk}
 use Rattle.versions.specs.Edition.{sectionCount, core, editionOk}
 use Rattle.versions.proofs.Versions.{version-of, version-minor}
 use Rattle.versions.proofs.Editions.{section-count-most, section-count-mono, edition-range}
-use Rattle.fields.specs.Fields.{scanOf}
+use Rattle.fields.specs.Fields.{scanOf, tellable}
 use Rattle.sections.specs.Page.{placeOk, versionAt, paddingAt, secAt, Plat, mkPlat, platAt}
 use Rattle.sections.specs.Section.{platOk, clearBefore, platClear, rules}
 use Rattle.sections.proofs.Sections.{placed}
 use Rattle.reader.specs.Answer.{shows, shown, platShown, allShown, judge, readOf}
 use Rattle.reader.proofs.Newer.{rules-mono, gate-true, shows-same}
 use Rattle.reader.proofs.Named.{rules-same}
-use Rattle.lists.specs.Description.{Description, listOk, listsOk, tellable, descriptionOk, withMark, platBytes, used}
+use Rattle.lists.specs.Description.{Description, listOk, listsOk, descriptionOk, withMark, platBytes, used}
 use Rattle.writer.specs.Write.{platWord, arrayAddress, descriptorAt, coreWords, filled, pageOf, no-page, a-page, writerGate, writeOf, descriptionFits, described, platDescribed}
 use Rattle.writer.proofs.Given.{given, desc-length, desc-words, sec-made, sec-ok, apart-of, shown-list, foundGiven, point-word, found-made, plat-made, clear-made, fields-made}
 

@@ -5,8 +5,8 @@ use lib.ListN.{length}
 use Rattle.words.specs.Tests.{Yes}
 use Rattle.versions.specs.Edition.{sectionCount, core}
 use Rattle.entries.specs.Entry.{wordsPerEntry, entryOk}
-use Rattle.fields.specs.Fields.{scanOf}
-use Rattle.lists.specs.Description.{Description, tellable, withMark}
+use Rattle.fields.specs.Fields.{scanOf, tellable}
+use Rattle.lists.specs.Description.{Description, withMark}
 
 -- none of W1 to W5: the place (n is the lent page's length), the edition, the lists' lengths and entries, the fields, the sections
 -- after the edition, the room

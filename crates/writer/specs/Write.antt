@@ -13,8 +13,8 @@ use Rattle.versions.specs.Edition.{sectionCount, core, editionOk}
 use Rattle.entries.specs.Entry.{wordsPerEntry, sum}
 use Rattle.sections.specs.Page.{placeOk}
 use Rattle.reader.specs.Answer.{Shown, absent, empty, full, PlatShown}
-use Rattle.fields.specs.Fields.{scanOf, shownFields}
-use Rattle.lists.specs.Description.{Description, descriptionOk, fieldsTold, noneLate, platBytes, used}
+use Rattle.fields.specs.Fields.{scanOf, fieldsTold, shownFields}
+use Rattle.lists.specs.Description.{Description, descriptionOk, noneLate, platBytes, used}
 
 -- the word that makes a sum 0 modulo 2^64
 unfoldable pub neg : ℕ → ℕ

@@ -1,4 +1,3 @@
-use Rattle.lists.specs.Description.{tellable}
 use borrow.Author.Needs.{needs}
 use Rattle.lists.proofs.fields_ok.Statement.{statement}
 use Rattle.lists.proofs.fields_ok.Tie as tie
@@ -7,7 +6,6 @@ description-ok-requires : tie.Need-description-ok-requires
 description-ok-requires c κs = search needs
 
 returns : tie.Need-returns
-unfolding tellable
 returns c = search needs
 
 pub fields-ok-spec : {M : Type 1} → statement M

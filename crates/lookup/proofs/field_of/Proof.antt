@@ -1,7 +1,7 @@
 use Prim.Native.Nat.{_-_}
 use mathlib.Core.Path.{_≡_, refl, sym, ap, _∙_}
 use native.Mathlib.Omega.{arith}
-use Rattle.lookup.specs.Fields.{fieldAs, placeNth, nthPlace}
+use Rattle.lookup.specs.Fields.{fieldAs, isNothing, placeNth, nthPlace}
 use Rattle.lookup.specs.declared.FieldStep.{FieldStep}
 use Rattle.lookup.proofs.Fields.{nth-none, nth-here, nth-later, nth-place}
 use borrow.Author.Needs.{needs}
@@ -23,28 +23,36 @@ loop-holds c = refl
 field-next-requires : tie.Need-field-next-requires Inv-loop μ-loop
 field-next-requires c κs = search needs
 
-enum-known-field : tie.Need-enum-known-field Inv-loop μ-loop
-enum-known-field c = search needs
-
-enum-told : tie.Need-enum-told Inv-loop μ-loop
-enum-told c = search needs
+is-nothing-requires : tie.Need-is-nothing-requires Inv-loop μ-loop
+is-nothing-requires c κs = search needs
 
 returns : tie.Need-returns Inv-loop μ-loop
 unfolding nthPlace
 returns c =
     let a = c .before .before .before .before .before .before .args in
     let l = c .before .before .before .loop in
-    let e = ap (λ (s : FieldStep). s .field) (sym (c .before .before .field-next .ensures .0)) ∙ c .enum-told .given .1 in
-    let r = nth-none (l .left) (l .cursor) (a .page .now) e ∙ l .inv ∙ ap (λ x. placeNth (a .i) x (a .page .now)) (c .before .before .before .before .fields-start .ensures .0) in
+    let s = c .before .before .field-next in
+    let n = ap (λ (x : FieldStep). isNothing (x .field)) (sym (s .ensures .0)) ∙ sym (c .before .is-nothing .ensures) ∙ c .if1 .taken in
+    let r =
+    ap (λ (x : FieldStep). x .field) (s .ensures .0)
+    ∙ nth-none (l .left) (l .cursor) (a .page .now) n
+    ∙ l .inv
+    ∙ ap (λ x. placeNth (a .i) x (a .page .now)) (c .before .before .before .before .fields-start .ensures .0)
+    in
     (r, ap (λ f. fieldAs f (a .page .now)) r ∙ nth-place (a .i) (a .view) (a .page .now))
 
 returns-2 : tie.Need-returns-2 Inv-loop μ-loop
 unfolding nthPlace
 returns-2 c =
-    let a = c .before .before .before .before .before .before .before .before .args in
-    let l = c .before .before .before .before .before .loop in
-    let e = ap (λ (s : FieldStep). s .field) (sym (c .before .before .before .before .field-next .ensures .0)) ∙ c .before .before .field .given .1 in
-    let r = nth-here (l .left) (l .cursor) (a .page .now) _ (search needs) e ∙ l .inv ∙ ap (λ x. placeNth (a .i) x (a .page .now)) (c .before .before .before .before .before .before .fields-start .ensures .0) in
+    let a = c .before .before .before .before .before .before .before .args in
+    let l = c .before .before .before .before .loop in
+    let s = c .before .before .before .field-next in
+    let r =
+    ap (λ (x : FieldStep). x .field) (s .ensures .0)
+    ∙ nth-here (l .left) (l .cursor) (a .page .now) (search needs)
+    ∙ l .inv
+    ∙ ap (λ x. placeNth (a .i) x (a .page .now)) (c .before .before .before .before .before .fields-start .ensures .0)
+    in
     (r, ap (λ f. fieldAs f (a .page .now)) r ∙ nth-place (a .i) (a .view) (a .page .now))
 
 sub-left : tie.Need-sub-left Inv-loop μ-loop
@@ -55,9 +63,9 @@ loop-less c = search needs
 
 loop-again : tie.Need-loop-again Inv-loop μ-loop
 loop-again c =
-    let a = c .before .before .before .before .before .before .before .before .args in
-    let l = c .before .before .before .before .before .loop in
-    ap (λ (s : FieldStep). placeNth (l .left - 1) (s .next) (a .page .now)) (c .before .before .before .before .field-next .ensures .0) ∙ nth-later (l .left) (l .cursor) (a .page .now) (search needs) ∙ l .inv
+    let a = c .before .before .before .before .before .before .before .args in
+    let l = c .before .before .before .before .loop in
+    ap (λ (s : FieldStep). placeNth (l .left - 1) (s .next) (a .page .now)) (c .before .before .before .field-next .ensures .0) ∙ nth-later (l .left) (l .cursor) (a .page .now) (search needs) ∙ l .inv
 
 pub field-of-spec : {M : Type 1} → statement M
 field-of-spec =
@@ -68,8 +76,7 @@ field-of-spec =
     fields-start-requires
     loop-holds
     field-next-requires
-    enum-known-field
-    enum-told
+    is-nothing-requires
     returns
     returns-2
     sub-left

@@ -1,11 +1,18 @@
-use Rattle.text.specs.Text.{space, fieldText}
-use Rattle.text.proofs.Lay.{wrote-then}
+use Rattle.text.specs.Text.{newline, withdrawnText, fieldText}
+use Rattle.text.specs.Steps.{placeText}
+use Rattle.text.proofs.Lay.{wrote-none}
 use borrow.Author.Needs.{needs}
 use Rattle.text.proofs.put_field.Statement.{statement}
 use Rattle.text.proofs.put_field.Tie as tie
 
-put-decimal-requires : tie.Need-put-decimal-requires
-put-decimal-requires c κs = search needs
+enum-known-field : tie.Need-enum-known-field
+enum-known-field c = search needs
+
+put-raw-requires : tie.Need-put-raw-requires
+put-raw-requires c κs = search needs
+
+enum-told : tie.Need-enum-told
+enum-told c = search needs
 
 slice-aggregate-put : tie.Need-slice-aggregate-put
 slice-aggregate-put c = search needs
@@ -13,38 +20,39 @@ slice-aggregate-put c = search needs
 put-requires : tie.Need-put-requires
 put-requires c κs = search needs
 
-put-decimal-requires-2 : tie.Need-put-decimal-requires-2
-put-decimal-requires-2 c κs = search needs
-
-put-value-requires : tie.Need-put-value-requires
-put-value-requires c κs = search needs
-
-put-end-requires : tie.Need-put-end-requires
-put-end-requires c κs = search needs
+enum-told-2 : tie.Need-enum-told-2
+enum-told-2 c = search needs
 
 same-length : tie.Need-same-length
 same-length c = search needs
 
 returns : tie.Need-returns
-unfolding fieldText space
-returns c =
-    wrote-then (search needs)
-    (wrote-then (search needs)
-    (wrote-then (search needs)
-    (wrote-then (search needs) (c .before .before .before .before .before .before .before .before .before .before .before .before .before .before .before .before .before .before .before .put-decimal .ensures) (c .before .before .before .before .before .before .before .before .before .before .before .before .before .before .put .ensures))
-    (c .before .before .before .before .before .before .before .before .before .before .put-decimal2 .ensures))
-    (c .before .before .before .before .before .before .put-value .ensures))
-    (c .before .before .put-end .ensures)
+unfolding placeText
+returns c = rw (c .before .before .before .before .before .field .given .1) (c .before .before .put-raw .ensures)
+
+same-length-2 : tie.Need-same-length-2
+same-length-2 c = search needs
+
+returns-2 : tie.Need-returns-2
+unfolding placeText fieldText withdrawnText newline
+returns-2 c = rw (c .before .before .before .before .before .enum-told .given .1) (c .before .before .put .ensures)
+
+returns-3 : tie.Need-returns-3
+unfolding placeText
+returns-3 c = let a = c .before .before .before .before .args in rw (c .enum-told2 .given .1) (wrote-none (a .at) (a .out .now) (search needs))
 
 pub put-field-spec : {M : Type 1} → statement M
 put-field-spec =
     tie.close
     (tie.spec
-    put-decimal-requires
+    enum-known-field
+    put-raw-requires
+    enum-told
     slice-aggregate-put
     put-requires
-    put-decimal-requires-2
-    put-value-requires
-    put-end-requires
+    enum-told-2
     same-length
-    returns)
+    returns
+    same-length-2
+    returns-2
+    returns-3)

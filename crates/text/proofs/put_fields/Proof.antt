@@ -2,7 +2,7 @@ use Prim.Native.Nat.{ℕ, _≤_}
 use mathlib.Core.Path.{_≡_, refl, sym, ap, _∙_}
 use mathlib.Core.List.{List}
 use lib.ListN.{length}
-use Rattle.lookup.specs.Fields.{shownFrom}
+use Rattle.lookup.specs.Fields.{isNothing, shownFrom}
 use Rattle.lookup.specs.declared.FieldStep.{FieldStep}
 use Rattle.lookup.proofs.Fields.{step-none, step-less}
 use Rattle.text.specs.Text.{fieldsText}
@@ -30,11 +30,8 @@ loop-holds c = (refl, search needs, λ r u p. p)
 field-next-requires : tie.Need-field-next-requires Inv-loop μ-loop
 field-next-requires c κs = search needs
 
-enum-known-field : tie.Need-enum-known-field Inv-loop μ-loop
-enum-known-field c = search needs
-
-enum-told : tie.Need-enum-told Inv-loop μ-loop
-enum-told c = search needs
+is-nothing-requires : tie.Need-is-nothing-requires Inv-loop μ-loop
+is-nothing-requires c κs = search needs
 
 same-length : tie.Need-same-length Inv-loop μ-loop
 same-length c = search needs
@@ -44,7 +41,7 @@ unfolding fieldsText
 returns c =
     let a = c .before .before .before .before .before .before .args in
     let l = c .before .before .before .loop in
-    let e = ap (λ (s : FieldStep). s .field) (sym (c .before .before .field-next .ensures .0)) ∙ c .enum-told .given .1 in
+    let e = ap (λ (s : FieldStep). isNothing (s .field)) (sym (c .before .before .field-next .ensures .0)) ∙ sym (c .before .is-nothing .ensures) ∙ c .if1 .taken in
     l .inv .2 _ _ (wrote-same (sym (ap fieldsText (step-none (l .cursor) (a .page .now) e))) (wrote-none (l .to) (l .out) (l .inv .1)))
 
 value-of-requires : tie.Need-value-of-requires Inv-loop μ-loop
@@ -55,17 +52,19 @@ put-field-requires c κs = search needs
 
 loop-less : tie.Need-loop-less Inv-loop μ-loop
 loop-less c =
-    let a = c .before .before .before .before .before .before .before .before .before .before .before .before .args in
-    let l = c .before .before .before .before .before .before .before .before .before .loop in
-    let e = ap (λ (s : FieldStep). s .field) (sym (c .before .before .before .before .before .before .before .before .field-next .ensures .0)) ∙ c .before .before .before .before .before .before .field .given .1 in
-    rw (c .before .before .before .before .before .before .before .before .field-next .ensures .0) (step-less 0 (l .cursor) (a .page .now) e)
+    let a = c .before .before .before .before .before .before .before .before .before .before .before .args in
+    let l = c .before .before .before .before .before .before .before .before .loop in
+    let s = c .before .before .before .before .before .before .before .field-next in
+    let e = ap (λ (x : FieldStep). isNothing (x .field)) (sym (s .ensures .0)) ∙ sym (c .before .before .before .before .before .before .is-nothing .ensures) ∙ c .before .before .before .before .before .if1 .left in
+    rw (s .ensures .0) (step-less (l .cursor) (a .page .now) e)
 
 loop-again : tie.Need-loop-again Inv-loop μ-loop
 loop-again c =
-    let a = c .before .before .before .before .before .before .before .before .before .before .before .before .args in
-    let l = c .before .before .before .before .before .before .before .before .before .loop in
-    let s = c .before .before .before .before .before .before .before .before .field-next in
-    let q = fields-step (l .cursor) (a .page .now) (s .result) _ (s .ensures .0) (c .before .before .before .before .before .before .field .given .1) (c .before .before .before .before .value-of .ensures .0) in
+    let a = c .before .before .before .before .before .before .before .before .before .before .before .args in
+    let l = c .before .before .before .before .before .before .before .before .loop in
+    let s = c .before .before .before .before .before .before .before .field-next in
+    let n = sym (c .before .before .before .before .before .before .is-nothing .ensures) ∙ c .before .before .before .before .before .if1 .left in
+    let q = fields-step (l .cursor) (a .page .now) (s .result) _ (s .ensures .0) n (c .before .before .before .before .value-of .ensures .0) in
     (search needs, omega (arith, c .before .before .put-field .ensures .cursor), λ r u p. l .inv .2 r u (wrote-same q (wrote-then (search needs) (c .before .before .put-field .ensures) p)))
 
 pub put-fields-spec : {M : Type 1} → statement M
@@ -76,8 +75,7 @@ put-fields-spec =
     μ-loop
     loop-holds
     field-next-requires
-    enum-known-field
-    enum-told
+    is-nothing-requires
     same-length
     returns
     value-of-requires

@@ -1,0 +1,61 @@
+-- Packing a page. 02, E11: "The new page is exactly what the writer makes, at the page's own minor, from what reader edition 4 shows, with fields
+-- kept in page order and withdrawn ones dropped." Assumes nothing.
+use Prim.Native.Nat.{ℕ}
+use mathlib.Core.Bool.{cond}
+use mathlib.Core.List.{List, [], _∷_, _++_}
+use lib.ListN.{length}
+use lib.Dec.{leb}
+use lib.IntN.{ℤ}
+use Rattle.words.specs.Word.{leBytes}
+use Rattle.fields.specs.Fields.{FieldShown, raw, withdrawn}
+use Rattle.reader.specs.Answer.{Shown, absent, empty, full, PlatShown, ReaderAnswer, refused, shows, minus, readOf}
+use Rattle.reader.specs.Reading.{refusalNumber}
+use Rattle.lists.specs.Description.{Description}
+use Rattle.writer.specs.Write.{Made, no-page, a-page, writeOf}
+use Rattle.writer.specs.Wrote.{pageAfter}
+use Rattle.pack.specs.declared.Packing.{Packing}
+use Rattle.pack.specs.declared.Packing.the-variants.{Page, Refused, Target}
+
+-- the words of the entries that are shown
+unfoldable pub entriesIn : Shown → List ℕ
+entriesIn absent = []
+entriesIn empty = []
+entriesIn (full ws bs) = ws
+
+-- a field as it stands on a page, and as the writer is told it
+unfoldable pub fieldBytes : ℕ → List ℕ → List ℕ
+fieldBytes t v = t ∷ (leBytes 2 (length v) ++ v)
+
+-- "with fields kept in page order and withdrawn ones dropped"
+unfoldable pub fieldsKept : List FieldShown → List ℕ
+fieldsKept [] = []
+fieldsKept (raw t v ∷ fs) = fieldBytes t v ++ fieldsKept fs
+fieldsKept (withdrawn ∷ fs) = fieldsKept fs
+
+-- what is shown, as the writer is told it
+unfoldable pub retold : PlatShown → (ℕ → Shown) → Description
+retold q s = record { lists = λ k. entriesIn (s k); fields = fieldsKept (q .fields) }
+
+-- "Refusals: the reader's codes; then -6 for minor 5 and above; then W1 for the target."
+pub data Packed : Type 0 where
+  stopped : ℤ → Packed
+  written : Made → Packed
+
+unfoldable pub packed : ℕ → ℕ → ReaderAnswer → Packed
+packed base n (refused c) = stopped c
+packed base n (shows w e q s) = cond (leb w 4) (written (writeOf base n w (retold q s))) (stopped (minus 6))
+
+-- of a page at base B, into a target of n bytes at the same base
+unfoldable pub packOf : ℕ → ℕ → List ℕ → Packed
+packOf base n page = packed base n (readOf 4 base page)
+
+-- ---- what the code's enum stands for, with the target at exit
+unfoldable pub packedBy : List ℕ → Packing → Packed
+packedBy target Page = written (a-page target)
+packedBy target (Refused c) = stopped (refusalNumber c)
+packedBy target Target = written (no-page 1)
+
+-- "The target is untouched.", or the page that was made
+unfoldable pub targetAfter : List ℕ → Packed → List ℕ
+targetAfter target (stopped c) = target
+targetAfter target (written m) = pageAfter target m
