@@ -1,6 +1,6 @@
 #!/usr/bin/env python3
 """Run vectors for the boot-manifest reader, made from the two papers alone: docs/01-scope.md and
-E3 and E7 of docs/02-change-requests.md.
+E3, E7 and E10 of docs/02-change-requests.md.
 
 Run from the repository's root:  python3 tests/reader/make.py
 It rewrites crates/reader_vectors/data/c000, c001, .. (8 bytes of reader edition, 8 bytes of B,
@@ -170,6 +170,7 @@ def read(r, b, page):
         lookups.append(bytes(page[offset:offset + count * ENTRY[k]]))
     plat_data = number(page[8:16])
     fields = fields_of(page[plat_data - b:])[0] if plat_data else []
+    fields = [(tag, None if tag == 3 else value) for tag, value in fields]  # 02, E10: withdrawn
     return (w, e, plat_data, fields, sections), lookups
 
 
@@ -181,7 +182,8 @@ def listing(answer):
     lines = [f"manifest 0.{w} read as {e}",
              f"platform 0x{plat_data:016x}" if plat_data else "platform none"]
     for tag, value in fields:
-        lines.append(" ".join([str(tag), str(len(value)), *[f"{byte:02x}" for byte in value]]))
+        lines.append(f"{tag} withdrawn" if value is None else
+                     " ".join([str(tag), str(len(value)), *[f"{byte:02x}" for byte in value]]))
     for k, section in enumerate(sections):
         lines.append(f"{NAMES[k]} {'absent' if section is None else len(section)}")
         for entry in section or []:
@@ -205,8 +207,12 @@ def mark(part):
 
 
 def shown_field(found):
-    """What follows on the line of a field lookup: the tag, the length and the mark of the value."""
-    return "".join(f" {tag} {len(v)} {mark(v):016x}\n" for tag, v in found) or " none\n"
+    """What follows on the line of a field lookup: the tag, the length and the mark of the value;
+    or that the field is withdrawn, or that there is none."""
+    if not found:
+        return " none\n"
+    tag, value = found[0]
+    return " withdrawn\n" if value is None else f" {tag} {len(value)} {mark(value):016x}\n"
 
 
 def asked(fields):
@@ -220,13 +226,28 @@ def asked(fields):
     return text
 
 
+ASKED = (b"pl011", b"uart-1ab", b"")
+
+
+def consoles_named(sections):
+    """The lines of the console lookup: the first console of some names, by its number."""
+    names = [entry[2].to_bytes(8, "little") for entry in sections[1] or []]
+    text = ""
+    for name in ASKED:
+        name = name.ljust(8, b"\0")
+        text += f"console {name.hex()} {names.index(name) if name in names else 'none'}\n"
+    return text
+
+
 def expected(number_of_case, r, b, page):
     """What the program prints for one case."""
     answer, lookups = read(r, b, page)
     text = f"case {number_of_case:03}\n" + listing(answer)
     for k, part in enumerate(lookups + [b""]):      # there is no section 4
         text += f"array {k} {len(part)} {mark(part):016x}\n"
-    return text if isinstance(answer, int) else text + asked(answer[3])
+    if isinstance(answer, int):
+        return text
+    return text + asked(answer[3]) + consoles_named(answer[4])
 
 
 # ---- The page builder ----
@@ -703,6 +724,41 @@ def field_repeats():
          full().facts(0x700, field(4, b"a"), NAME, field(4, b"b"), SERIAL, field(4), CHOICE))
 
 
+def withdrawn():
+    """02, E10: tag 3 is withdrawn"""
+    other = (field(4, b"\1"), field(33, b"\3\1\0\1"))
+    for order in permutations((CHOICE, *other)):
+        at = order.index(CHOICE)
+        good(f"tag 3 as field {at}", full(fill=JUNK).facts(0x700, *order))
+    good("tag 3 alone", full(fill=JUNK).facts(0x700, CHOICE))
+    for value in (1, 2, 3, 254):
+        good(f"tag 3 with the value {value}, all else the same",
+             full(fill=JUNK).facts(0x700, NAME, field(3, bytes([value])), SERIAL))
+    for length in (0, 2, 3):
+        bad("fields", f"tag 3 of {length} bytes", full(fill=JUNK).facts(0x700, NAME, field(3, JUNK[:length])))
+    bad("fields", "tag 3 twice with one value", full().facts(0x700, CHOICE, NAME, CHOICE))
+    for r in range(1, 5):
+        good(f"tag 3, edition {r}", full(fill=JUNK).facts(0x700, SERIAL, CHOICE), r)
+
+
+def console_names():
+    """02, E10: consoles picked by name"""
+    def named(*names):
+        return [(0x1C090000 + 4096 * i, 1, number(name), 1, 1, 0) for i, name in enumerate(names)]
+
+    for text, names in (
+            ("the one asked for is the last", (b"uart-1ac", b"pl012", b"pl011")),
+            ("two of one name", (b"pl010", b"pl011", b"pl011")),
+            ("a longer name", (b"pl011-b",)), ("a name with a byte behind its zeros", (b"pl011\0\0x",)),
+            ("names of 8 bytes", (b"uart-1aa", b"uart-1ab")), ("no name", (b"pl011", b"")),
+            ("capital letters", (b"PL011", b"UART-1AB")), ("a blank for a name", (b" ", b" pl011"))):
+        good(text, full(fill=JUNK, console=named(*names)))
+    good("two pl011, flags of later firmware",
+         full(5, fill=JUNK, console=[(*entry[:5], 7) for entry in named(b"x", b"pl011", b"pl011")]))
+    good("consoles that edition 2 does not read", full(), 2)
+    good("no console", full(only=(0, 2, 3)))
+
+
 def field_ends():
     """02, E7: the end mark, and fields up to the page's end"""
     for e, core in CORE.items():
@@ -911,7 +967,7 @@ def build_all():
                   section_heads, pointers, wrapping, overlaps, checksums, bank_entries,
                   console_entries, holes_and_order, fullest, later_sections, two_at_once,
                   console_flags, field_lengths, field_repeats, field_ends, fields_and_arrays,
-                  field_places, many_fields):
+                  field_places, many_fields, withdrawn, console_names):
         GROUPS.append((group.__doc__, []))
         group()
 

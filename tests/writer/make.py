@@ -61,11 +61,12 @@ def split(fields):
 
 
 def fields_sound(fields):
-    """Whether a description of fields is whole and keeps the reader's rules, with no tag 0."""
+    """Whether a description of fields is whole and keeps the reader's rules, with no tag 0 and, by
+    02, E10, no tag 3."""
     listed = split(fields)
     once = Counter(tag for tag, _, _ in listed if tag in ONCE)
     return max(once.values(), default=0) <= 1 and all(
-        tag != 0 and length == len(value)
+        tag not in (0, 3) and length == len(value)
         and (tag not in ONCE or ONCE[tag][0] <= length <= ONCE[tag][1])
         for tag, length, value in listed)
 
@@ -364,10 +365,11 @@ def field_rules():
     def alone(outcome, text, *fields, **other):
         add(outcome, text, filled(count=1), fields=b"".join(fields), **other)
 
-    alone("made", "name, serial, console and tag 4", NAME, SERIAL, CHOICE, field(4, b"x"))
+    alone("made", "name, serial and tag 4", NAME, SERIAL, field(4, b"x"))
+    alone("W3", "name, serial, tag 3 and tag 4", NAME, SERIAL, CHOICE, field(4, b"x"))
     for tag, (least, most) in ONCE.items():
         for length in sorted({least - 1, least, most, most + 1}):
-            alone("made" if least <= length <= most else "W3", f"tag {tag} of {length} bytes",
+            alone("made" if least <= length <= most and tag != 3 else "W3", f"tag {tag} of {length} bytes",
                   field(tag, JUNK[:length]))
     for tag in (4, 128, 255):
         for length in (0, 1, 33, 255, 256):
@@ -376,7 +378,12 @@ def field_rules():
         alone("W3", f"tag {tag} twice", one, one)
         alone("W3", f"tag {tag} twice, others between", one, field(4), field(9, b"ab"), one)
     alone("made", "tag 4 three times", field(4, b"a"), field(4), field(4, b"a"))
-    alone("made", "console, serial, tag 200 and name", CHOICE, SERIAL, field(200, b"ab"), NAME)
+    alone("made", "serial, tag 200 and name", SERIAL, field(200, b"ab"), NAME)
+    alone("W3", "tag 3, serial, tag 200 and name", CHOICE, SERIAL, field(200, b"ab"), NAME)
+    alone("W3", "serial, tag 200, name and tag 3", SERIAL, field(200, b"ab"), NAME, CHOICE)
+    for value in (0, 255):
+        alone("W3", f"tag 3 with the value {value}", field(3, bytes([value])))
+    alone("made", "a value that looks like tag 3", field(9, CHOICE))
     for text, fields in (
             ("an end mark alone", MARK), ("a name and an end mark", NAME + MARK),
             ("an end mark and a name", MARK + NAME),
@@ -422,7 +429,9 @@ def field_room():
     both("edition 4, 1, 1, 1 and 234 entries", amounts(1, 1, 1, 234), 160)
     add("W5", "edition 4: (60, 40, 60, 9) entries, to the last byte, and an empty field",
         amounts(60, 40, 60, 9), fields=field(9))
-    add("W5", "edition 4: 249 of dram and a console choice", amounts(249, 0, 0, 0), fields=CHOICE)
+    add("W5", "edition 4: 249 of dram and a field of 1 byte", amounts(249, 0, 0, 0),
+        fields=field(4, b"\1"))
+    add("W3 W5", "edition 4: 249 of dram and tag 3", amounts(249, 0, 0, 0), fields=CHOICE)
     for size, name in ((0, "empty fields"), (1, "fields of 1 byte")):
         n = (PAGE - CORE[4] - 3) // (3 + size)
         listed = [field(4 + i % 252, JUNK[i:i + size]) for i in range(n + 1)]
@@ -465,7 +474,7 @@ def random_fields():
         counts = [pick(12) if SINCE[k] <= edition else 0 for k in range(4)]
         listed = [field(4 + pick(252), value((0, 1, 2, 9, 40)[pick(5)]))
                   for _ in range((0, 1, 5, 40)[pick(4)])]
-        for tag, (least, most) in ONCE.items():
+        for tag, (least, most) in list(ONCE.items())[:2]:
             if pick(3):
                 one = field(tag, value(least + pick(most - least + 1)))
                 listed.insert(pick(len(listed) + 1), one)
@@ -492,6 +501,7 @@ def check_by_reader(case):
     faults = broken(4, case.b, bytes(case.length))
     assert ("W1" in refused) == any(code == -5 for code, _ in faults)
     assert ("W3" in refused) != (told is not None and told[1] == len(case.fields) + len(MARK)
+                                 and 3 not in [tag for tag, _ in told[0]]
                                  and all(8 * len(entry) == ENTRY[k] and entry_holds(4, k, entry)
                                          for k in range(4) for entry in listed[k]))
     if refused:

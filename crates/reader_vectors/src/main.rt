@@ -1,7 +1,8 @@
 // Reads the numbered cases of data/ in turn, up to the first that is missing. A case is 8 bytes of reader edition, 8 bytes of
 // B and a page of any length. Prints the listing of each, what the array lookup gives for sections 0 to 4 and, if the page is accepted,
-// what the field lookups give.
+// what the field lookups give and which consoles have some names.
 use libc::STDOUT_FILENO;
+use lookup::ConsoleFound;
 use lookup::FieldPlace;
 use reader::Reading;
 use reader::View;
@@ -43,16 +44,22 @@ fn print_number(name: &[u8], n: u64) {
     io::print_decimal(STDOUT_FILENO, n);
 }
 
-// The tag, the length and the mark of a field that was asked for.
+// The tag, the length and the mark of a field that was asked for; or that it is withdrawn, or that there is none.
 fn print_field(page: &[u8], field: FieldPlace) {
-    let FieldPlace::Raw { tag, at: _, len } = field else {
-        io::write_all(STDOUT_FILENO, b" none\n");
-        return;
-    };
-    print_number(b"", tag as u64);
-    print_number(b"", len as u64);
-    cases::print_word(mark(lookup::value_of(page, field)));
-    io::write_all(STDOUT_FILENO, b"\n");
+    match field {
+        FieldPlace::Raw { tag, at: _, len } => {
+            print_number(b"", tag as u64);
+            print_number(b"", len as u64);
+            cases::print_word(mark(lookup::value_of(page, field)));
+            io::write_all(STDOUT_FILENO, b"\n");
+        }
+        FieldPlace::Withdrawn => {
+            io::write_all(STDOUT_FILENO, b" withdrawn\n");
+        }
+        FieldPlace::Nothing => {
+            io::write_all(STDOUT_FILENO, b" none\n");
+        }
+    }
 }
 
 fn print_tag(page: &[u8], view: View, tag: u8) {
@@ -79,6 +86,26 @@ fn print_fields(page: &[u8], view: View) {
     print_index(page, view, n);
 }
 
+// The first console with a name, by its number.
+fn print_console(page: &[u8], view: View, text: &[u8], name: &[u8; 8]) {
+    io::write_all(STDOUT_FILENO, text);
+    match lookup::find_console(page, view, name) {
+        ConsoleFound::At(i) => {
+            print_number(b"", i as u64);
+            io::write_all(STDOUT_FILENO, b"\n");
+        }
+        ConsoleFound::Nothing => {
+            io::write_all(STDOUT_FILENO, b" none\n");
+        }
+    }
+}
+
+fn print_consoles(page: &[u8], view: View) {
+    print_console(page, view, b"console 706c303131000000", b"pl011\0\0\0");
+    print_console(page, view, b"console 756172742d316162", b"uart-1ab");
+    print_console(page, view, b"console 0000000000000000", b"\0\0\0\0\0\0\0\0");
+}
+
 fn print_case(edition: u64, base: u64, page: &[u8]) {
     let mut out = [0u8; 16384];
     let n = text::list(page, base, edition, &mut out);
@@ -91,6 +118,7 @@ fn print_case(edition: u64, base: u64, page: &[u8]) {
         return;
     };
     print_fields(page, view);
+    print_consoles(page, view);
 }
 
 fn print_input(input: &[u8]) {

@@ -56,6 +56,9 @@ returns c = search needs
 print-fields-requires : tie.Need-print-fields-requires Inv-loop μ-loop
 print-fields-requires c κs = search needs
 
+print-consoles-requires : tie.Need-print-consoles-requires Inv-loop μ-loop
+print-consoles-requires c κs = search needs
+
 returns-2 : tie.Need-returns-2 Inv-loop μ-loop
 returns-2 c = search needs
 
@@ -80,4 +83,5 @@ print-case-spec =
     enum-told
     returns
     print-fields-requires
+    print-consoles-requires
     returns-2)
