@@ -17,7 +17,7 @@ use Rattle.entries.specs.Entry.{bankOk}
 use Rattle.codes.specs.declared.Code.the-variants.{Ok}
 use Rattle.banks.specs.declared.Granule.{Granule}
 use Rattle.banks.specs.declared.Granule.the-variants.{Nothing, At}
-use Rattle.banks.specs.Banks.{Granules, Bank, banksBy, bankAt, bankCount, banksOf, ascend, banksOk, recordOk, follows, total, granuleCount, holds, indexIn, placeIn, orElse, placeAmong, bankPlace, granuleAt, addressIn, addressOf, singleRange, reachIn, reachAmong, onlyCount, onlyPlace, onlyBank, onlyAt, foundIn, foundAt, setUpCode, setUpOf}
+use Rattle.banks.specs.Banks.{Granules, Bank, banksBy, bankAt, bankCount, banksOf, ascend, banksOk, recordOk, follows, total, granuleCount, holds, indexIn, placeIn, orElse, placeAmong, bankPlace, granuleAt, addressIn, addressOf, singleRange, reachIn, reachAmong, onlyCount, onlyPlace, onlyBank, onlyAt, foundIn, granuleFound, setUpCode, setUpOf}
 use Rattle.banks.proofs.Making.{banks-some, made-one, made-good}
 use Rattle.banks.proofs.Passing.{Follows, follows-is, or-nothing, reach-place, reach-among}
 
@@ -206,8 +206,8 @@ some-granules : (g : Granules) → Yes (recordOk g) → 0 < granuleCount g
 unfolding granuleCount recordOk
 some-granules g k = rw k (banks-some (bankCount g) (bankAt g) k)
 
-pub judged-once : (g : Granules) (n addr : ℕ) → foundAt g (granuleCount g) n addr ≡ granuleAt g n addr
-unfolding foundAt granuleAt bankPlace foundIn both
+pub judged-once : (g : Granules) (n addr : ℕ) → granuleFound g (granuleCount g) n addr ≡ granuleAt g n addr
+unfolding granuleFound granuleAt bankPlace foundIn both
 judged-once g n addr = go (recordOk g) refl
   where
     go : (k : Bool) → recordOk g ≡ k

@@ -144,8 +144,8 @@ onlyAt base size addr = cond (eqb (addr % 4096) 0) (reachIn 0 base size addr) No
 unfoldable pub foundIn : Granules → ℕ → Granule
 foundIn g addr = cond (leb (bankCount g) 16) (reachAmong 0 (banksOf g) addr) Nothing
 
-unfoldable pub foundAt : Granules → ℕ → ℕ → ℕ → Granule
-foundAt g m n addr = cond (both (ltb 0 m) (both (eqb (addr % 4096) 0) (eqb m n))) (foundIn g addr) Nothing
+unfoldable pub granuleFound : Granules → ℕ → ℕ → ℕ → Granule
+granuleFound g m n addr = cond (both (ltb 0 m) (both (eqb (addr % 4096) 0) (eqb m n))) (foundIn g addr) Nothing
 
 -- ---- the set-up
 -- bank i of the banks that the reader shows, by the bytes of the array lookup: 16 bytes a bank, base and size

@@ -5,7 +5,7 @@ use entries::Bits;
 ghost use mathlib.Core.Path.{_≡_};
 ghost use Prim.Native.Nat.{_/_, _<_, _≤_};
 ghost use Rattle.entries.specs.Entry.{bankOk};
-ghost use Rattle.banks.specs.Banks.{follows, orElse, granuleCount, bankPlace, placedIn, granuleAt, placedAt, reachIn, onlyCount, onlyPlace, onlyBank, onlyAt, foundIn, foundAt, recordFrom, SetUp, setUpOf};
+ghost use Rattle.banks.specs.Banks.{follows, orElse, granuleCount, bankPlace, placedIn, granuleAt, placedAt, reachIn, onlyCount, onlyPlace, onlyBank, onlyAt, foundIn, granuleFound, recordFrom, SetUp, setUpOf};
 
 // The granule that an address falls on.
 pub enum Granule {
@@ -216,7 +216,7 @@ fn find(granules: &[u64; 33], address: u64) -> Granule
 
 // The same as `granule_of`, by the number of granules that `granule_count` gave for the record: a list of addresses asks for it once.
 pub fn find_granule(granules: &[u64; 33], count: u64, n: usize, address: u64) -> Granule
-    ensures { λ r. ⌜ r ≡ foundAt (now (granules .entry)) count n address ⌝ }
+    ensures { λ r. ⌜ r ≡ granuleFound (now (granules .entry)) count n address ⌝ }
 {
     if count == 0 {
         return Granule::Nothing;

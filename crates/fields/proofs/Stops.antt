@@ -12,7 +12,7 @@ use borrow.Author.Tests.{ne-eqb}
 use Rattle.words.specs.Tests.{both, either}
 use Rattle.words.specs.Word.{part}
 use Rattle.fields.specs.Fields.{Field, mkField, Scanned, broken, ended, bare, push, scan, scanAll, scanOf, judged, fieldsOk, lengthsOk, count, fieldsIn, isBare, fieldsTold, tellable}
-use Rattle.fields.specs.Steps.{headAt, allowed, marked, noneSeen, stopOf, toldOf}
+use Rattle.fields.specs.Steps.{headAt, allowed, seenWith, noneSeen, stopOf, endTold}
 use Rattle.fields.specs.declared.Head.the-variants as head
 use Rattle.fields.specs.declared.Seen.{Seen}
 use Rattle.fields.specs.declared.FieldsEnd.{FieldsEnd}
@@ -52,8 +52,8 @@ not-not : (b : Bool) → not (not b) ≡ b
 not-not true = refl
 not-not false = refl
 
-pub extent-told : (s : Scanned) → extentOf (stopOf s) ≡ toldOf s
-unfolding extentOf stopOf toldOf
+pub extent-told : (s : Scanned) → extentOf (stopOf s) ≡ endTold s
+unfolding extentOf stopOf endTold
 extent-told broken = refl
 extent-told (ended fs n) = refl
 extent-told (bare fs) = refl
@@ -71,11 +71,11 @@ told-tellable (ended fs n) = refl
 told-tellable (bare fs) = not-not (eqb (count 3 fs) 0)
 
 -- ---- from an offset on: past the end, and within as code lends it
-pub told-out : (at : ℕ) (bs : List ℕ) → length bs ≤ at → toldOf (scanOf (drop at bs)) ≡ fieldsEnd.Broken
-unfolding toldOf scanOf scanAll scan judged fieldsOk lengthsOk count both
+pub told-out : (at : ℕ) (bs : List ℕ) → length bs ≤ at → endTold (scanOf (drop at bs)) ≡ fieldsEnd.Broken
+unfolding endTold scanOf scanAll scan judged fieldsOk lengthsOk count both
 told-out at bs h = rw (drop-of-length-le bs h)
 
-pub told-lent : (at : ℕ) (bs : List ℕ) → toldOf (scanOf (take (length bs - at) (drop at bs))) ≡ toldOf (scanOf (drop at bs))
+pub told-lent : (at : ℕ) (bs : List ℕ) → endTold (scanOf (take (length bs - at) (drop at bs))) ≡ endTold (scanOf (drop at bs))
 told-lent at bs = rw (take-all (length bs - at) (drop at bs) (rw length-drop (omega arith)))
 
 -- ---- one field in front
@@ -148,10 +148,10 @@ module _ (at c : ℕ) (s : Seen) (bs : List ℕ) (h : at < length bs) where
     unfolding stopAt follow judged stopOf later mkField
     stop-not a = rw (head-scan at bs h, e, push-not (okFrom s) (mkField t (part v n bs)) (scanAll (drop x bs)) (λ fs. ok-not s (mkField t (part v n bs)) fs (rw value-length a)))
 
-    pub stop-more : allowed s t n ≡ true → stopAt at c s bs ≡ stopAt x (c + 1) (marked s t) bs
-    unfolding stopAt follow mkField marked
+    pub stop-more : allowed s t n ≡ true → stopAt at c s bs ≡ stopAt x (c + 1) (seenWith s t) bs
+    unfolding stopAt follow mkField seenWith
     stop-more a =
         let r = head-room at bs e in
         let q : at + 3 + length (part v n bs) ≡ x = omega (arith, value-length) in
         rw (head-scan at bs h, e)
-        (push-more (okFrom s) (okFrom (marked s t)) (mkField t (part v n bs)) (scanAll (drop x bs)) at c (s .console) (λ fs. ok-more s (mkField t (part v n bs)) fs (rw value-length a)) ∙ rw q)
+        (push-more (okFrom s) (okFrom (seenWith s t)) (mkField t (part v n bs)) (scanAll (drop x bs)) at c (s .console) (λ fs. ok-more s (mkField t (part v n bs)) fs (rw value-length a)) ∙ rw q)

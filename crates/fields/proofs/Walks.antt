@@ -12,7 +12,7 @@ use borrow.Author.Tests.{lt-ltb}
 use lib.ListN.{length, drop, drop-of-length-le}
 use Rattle.words.specs.Word.{part, numAt}
 use Rattle.fields.specs.Fields.{Field, mkField, Scanned, broken, ended, bare, push, scan, scanAll, scanOf, judged, fieldsOk, fieldsIn, isEnded}
-use Rattle.fields.specs.Steps.{headOf, headAt, toldOf, onward, walked, fieldsFrom}
+use Rattle.fields.specs.Steps.{headOf, headAt, endTold, walkedOn, walked, fieldsFrom}
 use Rattle.fields.specs.declared.Head.{Head}
 use Rattle.fields.specs.declared.Head.the-variants as head
 use Rattle.fields.proofs.Head.{the-type}
@@ -41,21 +41,21 @@ push-fields f (ended fs n) h = refl
 push-fields f (bare fs) h = absurd (false≢true h)
 
 -- ---- the loop's laws: the start, the ways to leave, and one turn
-told-ended : (s : Scanned) (n : ℕ) {P : Type 0} → toldOf s ≡ fieldsEnd.Ended n → ((fs : List Field) → s ≡ ended fs n → P) → P
-unfolding toldOf
+told-ended : (s : Scanned) (n : ℕ) {P : Type 0} → endTold s ≡ fieldsEnd.Ended n → ((fs : List Field) → s ≡ ended fs n → P) → P
+unfolding endTold
 told-ended broken n h k = never (cc)
 told-ended (ended fs m) n h k = k fs (cc)
 told-ended (bare fs) n h k = never (cc)
 
-pub left-start : (bs : List ℕ) (n : ℕ) → toldOf (scanOf bs) ≡ fieldsEnd.Ended n → (left 0 bs ≡ fieldsIn (scanOf bs)) × (ends 0 bs ≡ true)
+pub left-start : (bs : List ℕ) (n : ℕ) → endTold (scanOf bs) ≡ fieldsEnd.Ended n → (left 0 bs ≡ fieldsIn (scanOf bs)) × (ends 0 bs ≡ true)
 unfolding left ends isEnded scanOf
 left-start bs n h =
     told-ended (scanOf bs) n h (λ fs e.
     let j = judged-passed fieldsOk (scanAll bs) (ended fs n) (λ z. never (cc)) e in
     (ap fieldsIn (j .0 ∙ sym e), ap isEnded (j .0)))
 
-pub none-told : (s : Scanned) → toldOf s ≡ fieldsEnd.Broken → fieldsIn s ≡ []
-unfolding toldOf fieldsIn
+pub none-told : (s : Scanned) → endTold s ≡ fieldsEnd.Broken → fieldsIn s ≡ []
+unfolding endTold fieldsIn
 none-told broken h = refl
 none-told (ended fs n) h = never (cc)
 none-told (bare fs) h = refl
@@ -89,8 +89,8 @@ module _ (at : ℕ) (bs : List ℕ) {t v n x : ℕ} (e : headAt at bs ≡ head.F
 
 -- ---- walking from a place gives the fields that are left, in order
 walked-on : (n at : ℕ) (bs : List ℕ) → length bs ≤ at + suc n → ends at bs ≡ true →
-    ((x : ℕ) → length bs ≤ x + n → ends x bs ≡ true → walked n x bs ≡ left x bs) → (d : Head) → headAt at bs ≡ d → onward d bs (λ x. walked n x bs) ≡ left at bs
-unfolding onward
+    ((x : ℕ) → length bs ≤ x + n → ends x bs ≡ true → walked n x bs ≡ left x bs) → (d : Head) → headAt at bs ≡ d → walkedOn d bs (λ x. walked n x bs) ≡ left at bs
+unfolding walkedOn
 walked-on n at bs h g ih head.Broken e = sym (left-stop at bs head.Broken e (inl refl))
 walked-on n at bs h g ih head.End e = sym (left-stop at bs head.End e (inr refl))
 walked-on n at bs h g ih (head.Field t v m x) e =
@@ -104,9 +104,9 @@ walked-left (suc n) at bs h g = walked-on n at bs h g (λ x. walked-left n x bs)
 
 -- the cursor's law: from 0 on it passes the fields of the definition, in order
 pub walked-all : (bs : List ℕ) (fs : List Field) (m : ℕ) → scanOf bs ≡ ended fs m → walked (length bs) 0 bs ≡ fs
-unfolding toldOf fieldsIn
+unfolding endTold fieldsIn
 walked-all bs fs m h =
-    let s = left-start bs m (ap toldOf h) in
+    let s = left-start bs m (ap endTold h) in
     walked-left (length bs) 0 bs (omega arith) (s .1) ∙ s .0 ∙ ap fieldsIn h
 
 -- ---- a walk from any place, step by step
@@ -115,18 +115,18 @@ unfolding headAt headOf
 head-out at bs h = rw (lt-ltb (length bs) (at + 3 + numAt 2 (at + 1) bs) (omega arith))
 
 walked-out : (n at : ℕ) (bs : List ℕ) → length bs ≤ at → walked n at bs ≡ []
-unfolding walked onward
+unfolding walked walkedOn
 walked-out zero at bs h = refl
 walked-out (suc n) at bs h = rw (head-out at bs h)
 
 onward-same : (at n m : ℕ) (bs : List ℕ) → ((x : ℕ) → at < x → walked n x bs ≡ walked m x bs) → (d : Head) → headAt at bs ≡ d →
-    onward d bs (λ x. walked n x bs) ≡ onward d bs (λ x. walked m x bs)
-unfolding onward
+    walkedOn d bs (λ x. walked n x bs) ≡ walkedOn d bs (λ x. walked m x bs)
+unfolding walkedOn
 onward-same at n m bs h head.Broken e = refl
 onward-same at n m bs h head.End e = refl
 onward-same at n m bs h (head.Field t v k x) e = let r = head-room at bs e in rw (h x (omega arith))
 
-walked-step : (n m at : ℕ) (bs : List ℕ) → onward (headAt at bs) bs (λ x. walked n x bs) ≡ onward (headAt at bs) bs (λ x. walked m x bs) →
+walked-step : (n m at : ℕ) (bs : List ℕ) → walkedOn (headAt at bs) bs (λ x. walked n x bs) ≡ walkedOn (headAt at bs) bs (λ x. walked m x bs) →
     walked (suc n) at bs ≡ walked (suc m) at bs
 unfolding walked
 walked-step n m at bs p = p
@@ -138,11 +138,11 @@ walked-fuel (suc n) zero at bs h g = walked-out (suc n) at bs (omega arith) ∙ 
 walked-fuel (suc n) (suc m) at bs h g = walked-step n m at bs (onward-same at n m bs (λ x l. walked-fuel n m x bs (omega arith) (omega arith)) (headAt at bs) refl)
 
 by-step : (n at : ℕ) (bs : List ℕ) {t v m x : ℕ} → headAt at bs ≡ head.Field t v m x → walked (suc n) at bs ≡ mkField t (part v m bs) ∷ walked n x bs
-unfolding walked onward
+unfolding walked walkedOn
 by-step n at bs e = rw e
 
 by-stop : (n at : ℕ) (bs : List ℕ) (d : Head) → headAt at bs ≡ d → OneOf (0 ∷ 1 ∷ []) (tagOf the-type d) → walked n at bs ≡ []
-unfolding walked onward
+unfolding walked walkedOn
 by-stop zero at bs d e k = refl
 by-stop (suc n) at bs head.Broken e k = rw e
 by-stop (suc n) at bs head.End e k = rw e
@@ -163,7 +163,7 @@ from-field at bs {t} {v} {m} {x} e =
     walked-fuel (length bs) (suc (length bs)) at bs (omega arith) (omega arith) ∙ by-step (length bs) at bs e
 
 -- from where good fields stand it passes them, in order
-pub from-told : (at : ℕ) (bs : List ℕ) (n : ℕ) → toldOf (scanOf (drop at bs)) ≡ fieldsEnd.Ended n → fieldsFrom at bs ≡ fieldsIn (scanOf (drop at bs))
+pub from-told : (at : ℕ) (bs : List ℕ) (n : ℕ) → endTold (scanOf (drop at bs)) ≡ fieldsEnd.Ended n → fieldsFrom at bs ≡ fieldsIn (scanOf (drop at bs))
 unfolding fieldsFrom left ends isEnded scanOf
 from-told at bs n h =
     told-ended (scanOf (drop at bs)) n h (λ fs e.

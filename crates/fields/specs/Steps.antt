@@ -31,8 +31,8 @@ headAt at bs =
 unfoldable pub isSeen : Seen → ℕ → Bool
 isSeen s t = either (both (eqb t 1) (s .name)) (either (both (eqb t 2) (s .serial)) (both (eqb t 3) (s .console)))
 
-unfoldable pub marked : Seen → ℕ → Seen
-marked s t = record { name = either (eqb t 1) (s .name); serial = either (eqb t 2) (s .serial); console = either (eqb t 3) (s .console) }
+unfoldable pub seenWith : Seen → ℕ → Seen
+seenWith s t = record { name = either (eqb t 1) (s .name); serial = either (eqb t 2) (s .serial); console = either (eqb t 3) (s .console) }
 
 unfoldable pub noneSeen : Seen
 noneSeen = record { name = false; serial = false; console = false }
@@ -47,20 +47,20 @@ stopOf (ended fs n) = stop.Mark n (length fs)
 stopOf (bare fs) = stop.Edge (not (eqb (count 3 fs) 0))
 
 -- what a reader is told of it
-unfoldable pub toldOf : Scanned → FieldsEnd
-toldOf broken = fieldsEnd.Broken
-toldOf (ended fs n) = fieldsEnd.Ended n
-toldOf (bare fs) = fieldsEnd.Broken
+unfoldable pub endTold : Scanned → FieldsEnd
+endTold broken = fieldsEnd.Broken
+endTold (ended fs n) = fieldsEnd.Ended n
+endTold (bare fs) = fieldsEnd.Broken
 
 -- the fields that are passed by going from a place to the next, at most n of them
-unfoldable pub onward : Head → List ℕ → (ℕ → List Field) → List Field
-onward head.Broken bs go = []
-onward head.End bs go = []
-onward (head.Field t v n x) bs go = mkField t (part v n bs) ∷ go x
+unfoldable pub walkedOn : Head → List ℕ → (ℕ → List Field) → List Field
+walkedOn head.Broken bs go = []
+walkedOn head.End bs go = []
+walkedOn (head.Field t v n x) bs go = mkField t (part v n bs) ∷ go x
 
 unfoldable pub walked : ℕ → ℕ → List ℕ → List Field
 walked zero at bs = []
-walked (suc n) at bs = onward (headAt at bs) bs (λ x. walked n x bs)
+walked (suc n) at bs = walkedOn (headAt at bs) bs (λ x. walked n x bs)
 
 -- all fields that a walk from a place passes
 unfoldable pub fieldsFrom : ℕ → List ℕ → List Field

@@ -4,7 +4,7 @@ ghost use Prim.Native.Nat.{_+_, _<_, _≤_};
 ghost use lib.ListN.{length, drop};
 ghost use Rattle.words.specs.Word.{numAt};
 ghost use Rattle.fields.specs.Fields.{lengthOk, scanOf, tellable, fieldsIn};
-ghost use Rattle.fields.specs.Steps.{headAt, isSeen, marked, noneSeen, allowed, stopOf, toldOf};
+ghost use Rattle.fields.specs.Steps.{headAt, isSeen, seenWith, noneSeen, allowed, stopOf, endTold};
 
 // What stands at an offset: nothing whole, or a tag 0 with a length; the end mark; or a field, with the place and length of its
 // value and the place behind it.
@@ -133,7 +133,7 @@ fn none_seen() -> Seen
 }
 
 fn marked(seen: Seen, tag: u8) -> Seen
-    ensures { λ r. ⌜ r ≡ marked seen tag ⌝ }
+    ensures { λ r. ⌜ r ≡ seenWith seen tag ⌝ }
 {
     if tag == 1 {
         return Seen {
@@ -205,7 +205,7 @@ fn walk(part: &[u8]) -> Stop
 
 // Judges the fields from the slice's start through their end mark; what stands behind the mark is not looked at.
 pub fn scan(part: &[u8]) -> FieldsEnd
-    ensures { λ r. ⌜ r ≡ toldOf (scanOf (now (part .entry))) ⌝ }
+    ensures { λ r. ⌜ r ≡ endTold (scanOf (now (part .entry))) ⌝ }
 {
     let stop = walk(part);
     match stop {
@@ -217,7 +217,7 @@ pub fn scan(part: &[u8]) -> FieldsEnd
 
 // The same from an offset of a slice on: broken past its end.
 pub fn scan_at(page: &[u8], at: usize) -> FieldsEnd
-    ensures { λ r. ⌜ r ≡ toldOf (scanOf (drop at (now (page .entry)))) ⌝ }
+    ensures { λ r. ⌜ r ≡ endTold (scanOf (drop at (now (page .entry)))) ⌝ }
 {
     if page.len() < at {
         return FieldsEnd::Broken;

@@ -14,7 +14,7 @@ use Rattle.codes.specs.declared.Code.{Code}
 use Rattle.banks.specs.Banks.{Granules, granuleCount, granuleAt, onlyBank, onlyAt}
 use Rattle.banks.specs.declared.Granule.{Granule}
 use Rattle.banks.proofs.Laws.{bank-granules, bank-granule}
-use Rattle.granules.specs.Granules.{GranuleTable, tableOf, Moved, moveAt, moveOf, movedTo, fitting, ready, atOnce, leftAtOnce}
+use Rattle.granules.specs.Granules.{GranuleTable, tableOf, Moved, moveAt, moveOf, movedTo, fitting, readyFor, atOnce, leftAtOnce}
 use Rattle.granules.specs.declared.Direction.{Direction}
 use Rattle.granules.proofs.Moving.{move-up, move-refused}
 
@@ -26,29 +26,29 @@ bank-size g n h = eqb-true (getD g 2 0 / 4096) n (both-l _ _ (both-r _ _ h))
 pub only-is : (g : Granules) (n : ℕ) (t : List ℕ) (addr : ℕ) (k : Granule) → Yes (onlyBank g n) → length t ≡ n → k ≡ onlyAt (getD g 1 0) (getD g 2 0) addr → k ≡ granuleAt g (length t) addr
 only-is g n t addr k h l e = e ∙ bank-granule g n h addr ∙ ap (λ m. granuleAt g m addr) (sym l)
 
-module _ (s : Record) (g : Granules) (n : ℕ) (ws : List ℕ) (r : Yes (ready s g n ws)) where
+module _ (s : Record) (g : Granules) (n : ℕ) (ws : List ℕ) (r : Yes (readyFor s g n ws)) where
   pub ready-up : isUp s ≡ true
-  unfolding ready
+  unfolding readyFor
   ready-up = both-l _ _ r
 
   pub ready-bank : Yes (onlyBank g n)
-  unfolding ready
+  unfolding readyFor
   ready-bank = both-l _ _ (both-r _ _ r)
 
   ready-words : Yes (wordsFit ws n)
-  unfolding ready
+  unfolding readyFor
   ready-words = both-r _ _ (both-r _ _ r)
 
-pub ready-fits : (s : Record) (g : Granules) (t ws : List ℕ) → Yes (ready s g (length t) ws) → fitting g (tableOf t ws) ≡ true
+pub ready-fits : (s : Record) (g : Granules) (t ws : List ℕ) → Yes (readyFor s g (length t) ws) → fitting g (tableOf t ws) ≡ true
 ready-fits s g t ws r = ap (wordsFit ws) (bank-granules g (length t) (ready-bank s g (length t) ws r)) ∙ ready-words s g (length t) ws r
 
 -- ---- what such a call leaves
 module _ (s : Record) (g : Granules) (d : Direction) (t ws : List ℕ) (addr : ℕ) where
-  pub not-ready : ready s g (length t) ws ≡ false → (false ≡ atOnce s g d (tableOf t ws) addr) × (tableOf t ws ≡ leftAtOnce s g d (tableOf t ws) addr)
+  pub not-ready : readyFor s g (length t) ws ≡ false → (false ≡ atOnce s g d (tableOf t ws) addr) × (tableOf t ws ≡ leftAtOnce s g d (tableOf t ws) addr)
   unfolding leftAtOnce atOnce both
   not-ready h = (rw h, rw h)
 
-  pub left-ready : Yes (ready s g (length t) ws) → (k : Code) (b w : List ℕ) (q : Bool) → movedTo (answerOf k 0 0) b w ≡ moveAt (upOf s) g d (tableOf t ws) addr → q ≡ isOk k →
+  pub left-ready : Yes (readyFor s g (length t) ws) → (k : Code) (b w : List ℕ) (q : Bool) → movedTo (answerOf k 0 0) b w ≡ moveAt (upOf s) g d (tableOf t ws) addr → q ≡ isOk k →
       (q ≡ atOnce s g d (tableOf t ws) addr) × (tableOf b w ≡ leftAtOnce s g d (tableOf t ws) addr)
   unfolding leftAtOnce atOnce both movedTo answerOf
   left-ready r k b w q m e = (rw r (e ∙ ap (λ (x : Moved). isOk (x .answer .code)) is), rw r (go (isOk (moveOf s g d (tableOf t ws) addr .answer .code)) refl))

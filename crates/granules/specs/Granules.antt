@@ -101,12 +101,12 @@ movedTo a bytes words = record { answer = a; table = tableOf bytes words }
 -- ---- for speed: a call on a record of one bank
 -- whether nothing but the address is left to judge: the boot record is up, the one bank meets the reader's rule and has n granules, and so
 -- many are the words'
-unfoldable pub ready : Record → Granules → ℕ → List ℕ → Bool
-ready s g n ws = both (isUp s) (both (onlyBank g n) (wordsFit ws n))
+unfoldable pub readyFor : Record → Granules → ℕ → List ℕ → Bool
+readyFor s g n ws = both (isUp s) (both (onlyBank g n) (wordsFit ws n))
 
 -- such a call that is accepted is done at once; of any other, nothing is done
 unfoldable pub atOnce : Record → Granules → Direction → GranuleTable → ℕ → Bool
-atOnce s g d t addr = both (ready s g (length (t .bytes)) (t .words)) (isOk (moveOf s g d t addr .answer .code))
+atOnce s g d t addr = both (readyFor s g (length (t .bytes)) (t .words)) (isOk (moveOf s g d t addr .answer .code))
 
 unfoldable pub leftAtOnce : Record → Granules → Direction → GranuleTable → ℕ → GranuleTable
 leftAtOnce s g d t addr = cond (atOnce s g d t addr) (moveOf s g d t addr .table) t

@@ -14,7 +14,7 @@ ghost use Rattle.codes.specs.Codes.{answerOf};
 ghost use Rattle.banks.specs.Banks.{Granules, granuleAt, onlyBank};
 ghost use Rattle.realm_words.specs.Answers.{wordsFit};
 ghost use Rattle.realm_words.specs.Holding.{Holds};
-ghost use Rattle.granules.specs.Granules.{tableOf, Inside, fromByte, toByte, guarded, moveAt, moveOf, delegateOf, undelegateOf, movedTo, ready, atOnce, leftAtOnce};
+ghost use Rattle.granules.specs.Granules.{tableOf, Inside, fromByte, toByte, guarded, moveAt, moveOf, delegateOf, undelegateOf, movedTo, readyFor, atOnce, leftAtOnce};
 ghost use Rattle.granules.specs.Lists.{listBy, moveListOf, delegateListOf, undelegateListOf};
 
 // Which way a granule goes: from Non-secure to Realm, or back.
@@ -184,7 +184,7 @@ fn bank_fits(words: &[u64], size: u64) -> bool
 
 // Whether nothing but the address is left to judge, in a table of n granules.
 fn is_ready(state: Record, granules: &[u64; 33], n: usize, words: &[u64]) -> bool
-    ensures { λ r. ⌜ r ≡ ready state (now (granules .entry)) n (now (words .entry)) ⌝ }
+    ensures { λ r. ⌜ r ≡ readyFor state (now (granules .entry)) n (now (words .entry)) ⌝ }
 {
     let open = codes::is_up(state);
     if !open {

@@ -15,7 +15,7 @@ use borrow.Author.Tests.{eqb-true, eq-eqb, ne-eqb, le-leb}
 use Rattle.words.specs.Word.{part, spanned}
 use Rattle.words.proofs.Tests.{same-test}
 use Rattle.fields.specs.Fields.{Field, mkField, Scanned, broken, ended, bare, scanOf, fieldsIn, isEnded, FieldShown, raw, withdrawn, shownField, shownFields}
-use Rattle.fields.specs.Steps.{headAt, fieldsFrom, toldOf}
+use Rattle.fields.specs.Steps.{headAt, fieldsFrom, endTold}
 use Rattle.fields.specs.declared.Head.{Head}
 use Rattle.fields.specs.declared.Head.the-variants as head
 use Rattle.fields.proofs.Head.{the-type}
@@ -29,7 +29,7 @@ use Rattle.reader.specs.Answer.{fieldsShown}
 use Rattle.reader.specs.Reading.{fieldsOf, readingAnswer}
 use Rattle.reader.specs.declared.View.{View}
 use Rattle.reader.specs.declared.Reading.the-variants.{Accepted}
-use Rattle.lookup.specs.Fields.{Asked, noField, field, firstIn, restIn, nthIn, shownTag, shownValue, ofTag, valueIn, fieldAs, isNothing, placeSpan, placeOf, shownFrom, stepOf, stepAt, startAt, placeNth, searchEnds, placeTagged, nthPlace, tagPlace}
+use Rattle.lookup.specs.Fields.{Asked, noField, field, firstIn, restIn, nthIn, shownTag, shownValue, ofTag, valueIn, fieldAs, isNothing, placeSpan, fieldPlaceOf, shownFrom, fieldStepOf, stepAt, startAt, placeNth, searchEnds, placeTagged, nthPlace, tagPlace}
 use Rattle.lookup.specs.declared.FieldPlace.{FieldPlace}
 use Rattle.lookup.specs.declared.FieldPlace.the-variants.{Raw, Withdrawn, Nothing}
 use Rattle.lookup.specs.declared.FieldStep.{FieldStep}
@@ -50,14 +50,14 @@ fields-some : (q : ℕ) (page : List ℕ) → (q ≡ 0 → ⊥) → fieldsOf q p
 unfolding fieldsOf
 fields-some q page z = rw (ne-eqb q 0 z)
 
-told-not : (s : Scanned) → toldOf s ≡ fieldsEnd.Broken → isEnded s ≡ false
-unfolding toldOf isEnded
+told-not : (s : Scanned) → endTold s ≡ fieldsEnd.Broken → isEnded s ≡ false
+unfolding endTold isEnded
 told-not broken h = refl
 told-not (ended fs n) h = never (cc)
 told-not (bare fs) h = refl
 
-told-yes : (s : Scanned) (n : ℕ) → toldOf s ≡ fieldsEnd.Ended n → isEnded s ≡ true
-unfolding toldOf isEnded
+told-yes : (s : Scanned) (n : ℕ) → endTold s ≡ fieldsEnd.Ended n → isEnded s ≡ true
+unfolding endTold isEnded
 told-yes broken n h = never (cc)
 told-yes (ended fs m) n h = refl
 told-yes (bare fs) n h = never (cc)
@@ -68,15 +68,15 @@ module _ (page : List ℕ) (v : View) where
   unfolding startAt
   start-none z = rw (eq-eqb (v .plat) 0 z)
 
-  pub start-broken : (v .plat ≡ 0 → ⊥) → toldOf (scanOf (drop (v .plat % 4096) page)) ≡ fieldsEnd.Broken → length page ≡ startAt (v .plat) page
+  pub start-broken : (v .plat ≡ 0 → ⊥) → endTold (scanOf (drop (v .plat % 4096) page)) ≡ fieldsEnd.Broken → length page ≡ startAt (v .plat) page
   unfolding startAt
   start-broken z h = rw (ne-eqb (v .plat) 0 z, told-not (scanOf (drop (v .plat % 4096) page)) h)
 
-  pub start-there : (v .plat ≡ 0 → ⊥) → (n : ℕ) → toldOf (scanOf (drop (v .plat % 4096) page)) ≡ fieldsEnd.Ended n → v .plat % 4096 ≡ startAt (v .plat) page
+  pub start-there : (v .plat ≡ 0 → ⊥) → (n : ℕ) → endTold (scanOf (drop (v .plat % 4096) page)) ≡ fieldsEnd.Ended n → v .plat % 4096 ≡ startAt (v .plat) page
   unfolding startAt
   start-there z n h = rw (ne-eqb (v .plat) 0 z, told-yes (scanOf (drop (v .plat % 4096) page)) n h)
 
-  by-told : (v .plat ≡ 0 → ⊥) → (d : FieldsEnd) → toldOf (scanOf (drop (v .plat % 4096) page)) ≡ d → shownFrom (startAt (v .plat) page) page ≡ fieldsShown (readingAnswer page (Accepted v))
+  by-told : (v .plat ≡ 0 → ⊥) → (d : FieldsEnd) → endTold (scanOf (drop (v .plat % 4096) page)) ≡ d → shownFrom (startAt (v .plat) page) page ≡ fieldsShown (readingAnswer page (Accepted v))
   unfolding shownFrom
   by-told z fieldsEnd.Broken h =
       rw (← start-broken z h)
@@ -92,7 +92,7 @@ module _ (page : List ℕ) (v : View) where
   started = go (decLt 0 (v .plat))
     where
       go : Dec (0 < v .plat) → shownFrom (startAt (v .plat) page) page ≡ fieldsShown (readingAnswer page (Accepted v))
-      go (yes n) = by-told (λ z. omega arith) (toldOf (scanOf (drop (v .plat % 4096) page))) refl
+      go (yes n) = by-told (λ z. omega arith) (endTold (scanOf (drop (v .plat % 4096) page))) refl
       go (no n) =
           let z : v .plat ≡ 0 = omega arith in
           rw (← start-none z) (no-fields page v (fieldsFrom (length page) page) (fields-none (v .plat) page z ∙ sym (from-out (length page) page (omega arith))))
@@ -121,8 +121,8 @@ lent-on at page = take-all (length page - at) (drop at page) (rw length-drop (om
 
 -- ---- a step
 -- a field that lies within the page, as it is handed out and as it is shown
-place-first : (t v m : ℕ) (page : List ℕ) → v + m ≤ length page → fieldAs (placeOf t v m) page ≡ field (shownField (mkField t (part v m page)))
-unfolding placeOf fieldAs shownField mkField
+place-first : (t v m : ℕ) (page : List ℕ) → v + m ≤ length page → fieldAs (fieldPlaceOf t v m) page ≡ field (shownField (mkField t (part v m page)))
+unfolding fieldPlaceOf fieldAs shownField mkField
 place-first t v m page h = go (eqb t 3)
   where
     go : (b : Bool) → fieldAs (cond b Withdrawn (Raw t v m)) page ≡ field (cond b withdrawn (raw t (part v m page)))
@@ -130,8 +130,8 @@ place-first t v m page h = go (eqb t 3)
     go false = rw (le-leb (v + m) (length page) h)
 
 step-by : (at : ℕ) (page : List ℕ) (d : Head) → headAt at page ≡ d →
-    (fieldAs (stepOf d (length page) .field) page ≡ firstIn (shownFrom at page)) × (shownFrom (stepOf d (length page) .next) page ≡ restIn (shownFrom at page))
-unfolding stepOf fieldAs firstIn restIn shownFrom shownFields shownField mkField
+    (fieldAs (fieldStepOf d (length page) .field) page ≡ firstIn (shownFrom at page)) × (shownFrom (fieldStepOf d (length page) .next) page ≡ restIn (shownFrom at page))
+unfolding fieldStepOf fieldAs firstIn restIn shownFrom shownFields shownField mkField
 step-by at page head.Broken e = rw (from-stop at page head.Broken e (inl refl), from-out (length page) page (omega arith)) (refl, refl)
 step-by at page head.End e = rw (from-stop at page head.End e (inr refl), from-out (length page) page (omega arith)) (refl, refl)
 step-by at page (head.Field t v m x) e =
@@ -144,18 +144,18 @@ unfolding stepAt
 step-shown at page = step-by at page (headAt at page) refl
 
 pub step-stop : (at : ℕ) (page : List ℕ) (d : Head) → headAt at page ≡ d → OneOf (0 ∷ 1 ∷ []) (tagOf the-type d) → record { field = Nothing; next = length page } ≡ stepAt at page
-unfolding stepAt stepOf
+unfolding stepAt fieldStepOf
 step-stop at page head.Broken e k = rw e
 step-stop at page head.End e k = rw e
 step-stop at page (head.Field t v m x) e k = absurd (⊎-elim (λ z. omega arith) (λ z. omega arith) k)
 
 module _ (at : ℕ) (page : List ℕ) {t v m x : ℕ} (e : headAt at page ≡ head.Field t v m x) where
   pub step-field : (t ≡ 3 → ⊥) → record { field = Raw t v m; next = x } ≡ stepAt at page
-  unfolding stepAt stepOf placeOf
+  unfolding stepAt fieldStepOf fieldPlaceOf
   step-field h = rw (e, ne-eqb t 3 h)
 
   pub step-withdrawn : t ≡ 3 → record { field = Withdrawn; next = x } ≡ stepAt at page
-  unfolding stepAt stepOf placeOf
+  unfolding stepAt fieldStepOf fieldPlaceOf
   step-withdrawn h = rw (e, eq-eqb t 3 h)
 
 -- what the code's step promises, by its equation
@@ -170,8 +170,8 @@ placeShown (Raw t at n) page = raw t (part at n page)
 placeShown Withdrawn page = withdrawn
 placeShown Nothing page = withdrawn
 
-place-shown : (t v m : ℕ) (page : List ℕ) → placeShown (placeOf t v m) page ≡ shownField (mkField t (part v m page))
-unfolding placeOf placeShown shownField mkField
+place-shown : (t v m : ℕ) (page : List ℕ) → placeShown (fieldPlaceOf t v m) page ≡ shownField (mkField t (part v m page))
+unfolding fieldPlaceOf placeShown shownField mkField
 place-shown t v m page = go (eqb t 3)
   where
     go : (b : Bool) → placeShown (cond b Withdrawn (Raw t v m)) page ≡ cond b withdrawn (raw t (part v m page))
@@ -179,10 +179,10 @@ place-shown t v m page = go (eqb t 3)
     go false = refl
 
 -- a field there is the first of those left
-some-by : (at : ℕ) (page : List ℕ) (d : Head) → headAt at page ≡ d → isNothing (stepOf d (length page) .field) ≡ false →
-    (fieldAs (stepOf d (length page) .field) page ≡ field (placeShown (stepOf d (length page) .field) page))
-    × (shownFrom at page ≡ placeShown (stepOf d (length page) .field) page ∷ shownFrom (stepOf d (length page) .next) page)
-unfolding stepOf isNothing shownFrom shownFields
+some-by : (at : ℕ) (page : List ℕ) (d : Head) → headAt at page ≡ d → isNothing (fieldStepOf d (length page) .field) ≡ false →
+    (fieldAs (fieldStepOf d (length page) .field) page ≡ field (placeShown (fieldStepOf d (length page) .field) page))
+    × (shownFrom at page ≡ placeShown (fieldStepOf d (length page) .field) page ∷ shownFrom (fieldStepOf d (length page) .next) page)
+unfolding fieldStepOf isNothing shownFrom shownFields
 some-by at page head.Broken e h = absurd (false≢true (sym h))
 some-by at page head.End e h = absurd (false≢true (sym h))
 some-by at page (head.Field t v m x) e h =
@@ -219,8 +219,8 @@ unfolding fieldAs
 step-none at page h = first-none (shownFrom at page) (sym (ap (λ f. fieldAs f page) (nothing-is _ h)) ∙ step-shown at page .0)
 
 -- ---- field i, as a loop goes
-none-by : (at : ℕ) (page : List ℕ) (d : Head) → headAt at page ≡ d → shownFrom at page ≡ [] → stepOf d (length page) .field ≡ Nothing
-unfolding stepOf shownFrom shownFields
+none-by : (at : ℕ) (page : List ℕ) (d : Head) → headAt at page ≡ d → shownFrom at page ≡ [] → fieldStepOf d (length page) .field ≡ Nothing
+unfolding fieldStepOf shownFrom shownFields
 none-by at page head.Broken e h = refl
 none-by at page head.End e h = refl
 none-by at page (head.Field t v m x) e h = never (let z = rw (from-field at page e) at h in cc)

@@ -18,7 +18,7 @@ use Rattle.versions.specs.Edition.{sectionCount, core}
 use Rattle.versions.proofs.Editions.{section-count-most}
 use Rattle.entries.specs.Entry.{size}
 use Rattle.fields.specs.Fields.{Scanned, broken, ended, bare, isEnded, taken, reach, scanOf}
-use Rattle.fields.specs.Steps.{toldOf}
+use Rattle.fields.specs.Steps.{endTold}
 use Rattle.fields.specs.declared.FieldsEnd.the-variants.{Broken, Ended}
 use Rattle.fields.proofs.Scans.{never}
 use Rattle.fields.proofs.Same.{taken-room}
@@ -79,14 +79,14 @@ unfolding keptFor
 kept-most v page = omega (arith, highest-most v page 4)
 
 -- ---- where the fields end, as the pass over them tells
-told-broken : (s : Scanned) → toldOf s ≡ Broken → reach s ≡ 4096
-unfolding toldOf reach
+told-broken : (s : Scanned) → endTold s ≡ Broken → reach s ≡ 4096
+unfolding endTold reach
 told-broken broken h = refl
 told-broken (ended fs n) h = never (cc)
 told-broken (bare fs) h = refl
 
-told-ended : (s : Scanned) (n : ℕ) → toldOf s ≡ Ended n → reach s ≡ n
-unfolding toldOf reach
+told-ended : (s : Scanned) (n : ℕ) → endTold s ≡ Ended n → reach s ≡ n
+unfolding endTold reach
 told-ended broken n h = never (cc)
 told-ended (ended fs m) n h = cc
 told-ended (bare fs) n h = never (cc)
@@ -101,13 +101,13 @@ module _ (q : ℕ) (page : List ℕ) where
     unfolding fieldsReach
     reach-there = rw (ne-eqb q 0 z)
 
-    pub reach-broken : toldOf (scanOf (drop (q % 4096) page)) ≡ Broken → 4096 ≡ fieldsReach q page
+    pub reach-broken : endTold (scanOf (drop (q % 4096) page)) ≡ Broken → 4096 ≡ fieldsReach q page
     reach-broken h = rw (reach-there, told-broken (scanOf (drop (q % 4096) page)) h) (omega arith)
 
-    pub reach-past : (n : ℕ) → toldOf (scanOf (drop (q % 4096) page)) ≡ Ended n → 4096 - q % 4096 < n → 4096 ≡ fieldsReach q page
+    pub reach-past : (n : ℕ) → endTold (scanOf (drop (q % 4096) page)) ≡ Ended n → 4096 - q % 4096 < n → 4096 ≡ fieldsReach q page
     reach-past n h l = rw (reach-there, told-ended (scanOf (drop (q % 4096) page)) n h) (omega arith)
 
-    pub reach-ended : (n : ℕ) → toldOf (scanOf (drop (q % 4096) page)) ≡ Ended n → n ≤ 4096 - q % 4096 → q % 4096 + n ≡ fieldsReach q page
+    pub reach-ended : (n : ℕ) → endTold (scanOf (drop (q % 4096) page)) ≡ Ended n → n ≤ 4096 - q % 4096 → q % 4096 + n ≡ fieldsReach q page
     reach-ended n h l = rw (reach-there, told-ended (scanOf (drop (q % 4096) page)) n h) (omega arith)
 
 -- ---- it covers what a reader looks at

@@ -74,17 +74,17 @@ unfoldable pub shownFrom : ℕ → List ℕ → List FieldShown
 shownFrom at page = shownFields (fieldsFrom at page)
 
 -- a field on the page, as it is handed out
-unfoldable pub placeOf : ℕ → ℕ → ℕ → FieldPlace
-placeOf t at n = cond (eqb t 3) Withdrawn (Raw t at n)
+unfoldable pub fieldPlaceOf : ℕ → ℕ → ℕ → FieldPlace
+fieldPlaceOf t at n = cond (eqb t 3) Withdrawn (Raw t at n)
 
 -- the field at a cursor, and the cursor behind it; behind the last one the cursor is the page's length
-unfoldable pub stepOf : Head → ℕ → FieldStep
-stepOf head.Broken n = record { field = Nothing; next = n }
-stepOf head.End n = record { field = Nothing; next = n }
-stepOf (head.Field t v m x) n = record { field = placeOf t v m; next = x }
+unfoldable pub fieldStepOf : Head → ℕ → FieldStep
+fieldStepOf head.Broken n = record { field = Nothing; next = n }
+fieldStepOf head.End n = record { field = Nothing; next = n }
+fieldStepOf (head.Field t v m x) n = record { field = fieldPlaceOf t v m; next = x }
 
 unfoldable pub stepAt : ℕ → List ℕ → FieldStep
-stepAt at page = stepOf (headAt at page) (length page)
+stepAt at page = fieldStepOf (headAt at page) (length page)
 
 -- the cursor at the first field of a platform pointer; the page's length where there is no pointer, or broken fields
 unfoldable pub startAt : ℕ → List ℕ → ℕ

@@ -15,7 +15,7 @@ use Rattle.fields.specs.Fields.{taken}
 use Rattle.sections.specs.Page.{Sec, mkSec, Plat, mkPlat}
 use Rattle.sections.specs.Section.{platOk, nothing, secOk, Extent, extent, apart, clearBefore, platExtent, platClear, rules}
 use Rattle.reader.proofs.Named.{clear-same}
-use Rattle.mend.specs.Mend.{noPlat, noSec, platLeft, stays, left, keeps}
+use Rattle.mend.specs.Mend.{noPlat, noSec, platLeft, stays, left, keepsSection}
 
 -- ---- zero bytes keep every rule, and overlap nothing
 none-ok : (w e base k : ℕ) → Yes (secOk w e base k noSec)
@@ -80,8 +80,8 @@ module _ (w e base : ℕ) (q : Plat) where
 
 -- ---- all of them
 module _ (w e base : ℕ) (q : Plat) (f : ℕ → Sec) where
-  left-at : (n : ℕ) → left w e base q f (suc n) n ≡ cond (keeps w e base q f n) (f n) noSec
-  unfolding left keeps
+  left-at : (n : ℕ) → left w e base q f (suc n) n ≡ cond (keepsSection w e base q f n) (f n) noSec
+  unfolding left keepsSection
   left-at n = rw (eq-eqb n n refl)
 
   left-other : (n k : ℕ) → (k ≡ n → ⊥) → left w e base q f (suc n) k ≡ left w e base q f n k
@@ -95,23 +95,23 @@ module _ (w e base : ℕ) (q : Plat) (f : ℕ → Sec) where
   left-later (suc n) k h = left-other n k (λ z. omega arith) ∙ left-later n k (omega arith)
 
   -- one that was is kept or empty
-  pub left-before : (n k : ℕ) → k < n → left w e base q f n k ≡ cond (keeps w e base q f k) (f k) noSec
+  pub left-before : (n k : ℕ) → k < n → left w e base q f n k ≡ cond (keepsSection w e base q f k) (f k) noSec
   left-before zero k h = absurd (not-suc-le-zero h)
   left-before (suc n) k h = go (decLt k n) (left-before n k)
     where
-      go : Dec (k < n) → (k < n → left w e base q f n k ≡ cond (keeps w e base q f k) (f k) noSec) → left w e base q f (suc n) k ≡ cond (keeps w e base q f k) (f k) noSec
+      go : Dec (k < n) → (k < n → left w e base q f n k ≡ cond (keepsSection w e base q f k) (f k) noSec) → left w e base q f (suc n) k ≡ cond (keepsSection w e base q f k) (f k) noSec
       go (yes l) r = left-other n k (λ z. omega arith) ∙ r l
       go (no l) r = rw (let z : k ≡ n = omega arith in z) (left-at n)
 
   -- the sections that are left at last
   unfoldable pub lastOf : ℕ → Sec
-  lastOf k = cond (keeps w e base q f k) (f k) noSec
+  lastOf k = cond (keepsSection w e base q f k) (f k) noSec
 
-  last-yes : (k : ℕ) → Yes (keeps w e base q f k) → lastOf k ≡ f k
+  last-yes : (k : ℕ) → Yes (keepsSection w e base q f k) → lastOf k ≡ f k
   unfolding lastOf
   last-yes k h = rw h
 
-  last-no : (k : ℕ) → keeps w e base q f k ≡ false → lastOf k ≡ noSec
+  last-no : (k : ℕ) → keepsSection w e base q f k ≡ false → lastOf k ≡ noSec
   unfolding lastOf
   last-no k h = rw h
 
@@ -120,10 +120,10 @@ module _ (w e base : ℕ) (q : Plat) (f : ℕ → Sec) where
   left-last k j l = left-before k j l
 
   last-stays : (k : ℕ) → Yes (stays w e base q lastOf k)
-  unfolding keeps
-  last-stays k = go (keeps w e base q f k) refl
+  unfolding keepsSection
+  last-stays k = go (keepsSection w e base q f k) refl
     where
-      go : (b : Bool) → keeps w e base q f k ≡ b → Yes (stays w e base q lastOf k)
+      go : (b : Bool) → keepsSection w e base q f k ≡ b → Yes (stays w e base q lastOf k)
       go true h = rw (← stays-same w e base q (left w e base q f k) lastOf k (left-later k k (omega arith) ∙ sym (last-yes k h)) (λ j l. left-last k j l)) h
       go false h = none-stays w e base q lastOf k (last-no k h)
 
@@ -135,13 +135,13 @@ module _ (w e base : ℕ) (q : Plat) (f : ℕ → Sec) where
       (both-of _ _ (every-of (sectionCount e) _ (λ k l. stays-clear w e base q _ k (last-stays k))) (every-of (sectionCount e) _ (λ k l. stays-plat w e base q _ k (last-stays k))))))
 
   -- a kept section keeps its own rule
-  pub keeps-rule : (k : ℕ) → Yes (keeps w e base q f k) → Yes (secOk w e base k (f k))
-  unfolding keeps
+  pub keeps-rule : (k : ℕ) → Yes (keepsSection w e base q f k) → Yes (secOk w e base k (f k))
+  unfolding keepsSection
   keeps-rule k h = rw (← left-later k k (omega arith)) (stays-rule w e base q (left w e base q f k) k h)
 
   -- nothing goes where all rules hold
-  keeps-of : (k : ℕ) → ((j : ℕ) → j < k → left w e base q f k j ≡ f j) → Yes (stays w e base q f k) → Yes (keeps w e base q f k)
-  unfolding keeps
+  keeps-of : (k : ℕ) → ((j : ℕ) → j < k → left w e base q f k j ≡ f j) → Yes (stays w e base q f k) → Yes (keepsSection w e base q f k)
+  unfolding keepsSection
   keeps-of k r h = rw (stays-same w e base q (left w e base q f k) f k (left-later k k (omega arith)) r) h
 
   all-left : (pad : ℕ) → Yes (rules w e base pad q f) → (n : ℕ) → n ≤ sectionCount e → (k : ℕ) → k < n → left w e base q f n k ≡ f k
@@ -152,7 +152,7 @@ module _ (w e base : ℕ) (q : Plat) (f : ℕ → Sec) where
       go (yes x) r = left-other n k (λ z. omega arith) ∙ r k x
       go (no x) r = rw (let z : k ≡ n = omega arith in z) (left-at n ∙ cond-yes _ _ (keeps-of n r (rules-stays w e base q f pad t n l)))
 
-  pub keeps-all : (pad : ℕ) → Yes (rules w e base pad q f) → (k : ℕ) → k < sectionCount e → Yes (keeps w e base q f k)
+  pub keeps-all : (pad : ℕ) → Yes (rules w e base pad q f) → (k : ℕ) → k < sectionCount e → Yes (keepsSection w e base q f k)
   keeps-all pad t k l = keeps-of k (all-left pad t k (omega arith)) (rules-stays w e base q f pad t k l)
 
 -- ---- 02's sentence: a section is kept when it obeys its own rule and overlaps none that was kept before it
@@ -167,14 +167,14 @@ plat-cond true q a = refl
 plat-cond false q a = no-plat-apart a
 
 pub keeps-is : (w e base : ℕ) (q : Plat) (f : ℕ → Sec) (k : ℕ) →
-    keeps w e base (platLeft e base q) f k ≡ both (secOk w e base k (f k))
-    (both (every k (λ j. either (not (keeps w e base (platLeft e base q) f j)) (apart (extent k (f k)) (extent j (f j)))))
+    keepsSection w e base (platLeft e base q) f k ≡ both (secOk w e base k (f k))
+    (both (every k (λ j. either (not (keepsSection w e base (platLeft e base q) f j)) (apart (extent k (f k)) (extent j (f j)))))
     (either (not (platOk e base q)) (apart (platExtent q) (extent k (f k)))))
-unfolding keeps stays clearBefore platClear platLeft
+unfolding keepsSection stays clearBefore platClear platLeft
 keeps-is w e base q f k =
     rw (
       left-later w e base (platLeft e base q) f k k (omega arith),
-      every-same k (λ j. apart (extent k (f k)) (extent j (left w e base (platLeft e base q) f k j))) (λ j. either (not (keeps w e base (platLeft e base q) f j)) (apart (extent k (f k)) (extent j (f j))))
-          (λ j l. rw (left-before w e base (platLeft e base q) f k j l) (apart-cond (keeps w e base (platLeft e base q) f j) (extent k (f k)) j (f j))),
+      every-same k (λ j. apart (extent k (f k)) (extent j (left w e base (platLeft e base q) f k j))) (λ j. either (not (keepsSection w e base (platLeft e base q) f j)) (apart (extent k (f k)) (extent j (f j))))
+          (λ j l. rw (left-before w e base (platLeft e base q) f k j l) (apart-cond (keepsSection w e base (platLeft e base q) f j) (extent k (f k)) j (f j))),
       plat-cond (platOk e base q) q (extent k (f k)),
     )

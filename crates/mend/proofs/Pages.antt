@@ -24,7 +24,7 @@ use Rattle.sections.specs.Section.{platOk, wordsIn, nothing, inRange, secOk, Ex
 use Rattle.sections.specs.Steps.{okAt, endOf, clearAt, clearFrom, staysAt}
 use Rattle.sections.proofs.Sections.{range-low}
 use Rattle.reader.proofs.Gaps.{not-yes, some-not}
-use Rattle.mend.specs.Mend.{noPlat, noSec, platLeft, stays, left, keeps, minorAt, editionAt, platLeftAt, keepsAt, changed, partAt, ofPart, blank, pageTo}
+use Rattle.mend.specs.Mend.{noPlat, noSec, platLeft, stays, left, keepsSection, minorAt, editionAt, platLeftAt, keepsAt, changed, partAt, ofPart, blank, pageTo}
 use Rattle.mend.specs.Steps.{platKept, sectionGoes}
 use Rattle.mend.specs.declared.PlatKept.{PlatKept}
 use Rattle.mend.proofs.Kept.{left-later, left-before, keeps-rule}
@@ -237,7 +237,7 @@ module _ (base : ℕ) (page : List ℕ) (k : ℕ) where
 
   stays-to : k < sectionCount (editionAt page) →
       staysAt (minorAt page) (editionAt page) base k (platExtent (platLeftAt base page) .from) (platExtent (platLeftAt base page) .to) (pageTo (suc (suc k)) base page) ≡ keepsAt base page k
-  unfolding staysAt keepsAt keeps stays platClear
+  unfolding staysAt keepsAt keepsSection stays platClear
   stays-to m =
       rw (
         ok-to base page (suc (suc k)) k (omega arith),

@@ -21,7 +21,7 @@ use Rattle.sections.specs.Section.{platOk, platExtent}
 use Rattle.sections.specs.Steps.{platEnd, staysAt}
 use Rattle.sections.proofs.Sections.{placed, plat-broken, plat-ended}
 use Rattle.reader.specs.declared.Refusal.the-variants.{Place, Version}
-use Rattle.mend.specs.Mend.{noPlat, platLeft, minorAt, editionAt, changed, partAt, pageTo, changesOf, mendGate, mendedOf, mendedPage}
+use Rattle.mend.specs.Mend.{noPlat, platLeft, minorAt, editionAt, changed, partAt, pageTo, mendChanges, mendGate, mendedOf, mendedPage}
 use Rattle.mend.specs.Steps.{zeroed, platKept, sectionGoes}
 use Rattle.mend.specs.declared.Changes.{Changes}
 use Rattle.mend.specs.declared.PlatKept.{PlatKept}
@@ -141,6 +141,6 @@ module _ (base : ℕ) (page : List ℕ) where
     unfolding mendedOf mendGate mendedPage both
     mend-version v = (rw (h, v), rw (h, v))
 
-    pub mend-done : versionOk (versionAt page) ≡ true → (Done (changesOf base page) ≡ mendedOf base page) × (pageTo 6 base page ≡ mendedPage base page)
+    pub mend-done : versionOk (versionAt page) ≡ true → (Done (mendChanges base page) ≡ mendedOf base page) × (pageTo 6 base page ≡ mendedPage base page)
     unfolding mendedOf mendGate mendedPage both
     mend-done v = (rw (h, v), rw (h, v))

@@ -26,7 +26,7 @@ use Rattle.reader.specs.declared.Refusal.the-variants.{Place, Version, Rules}
 use Rattle.reader.proofs.Newer.{never, gate-shows, gate-true}
 use Rattle.reader.proofs.Named.{rules-same, view-same}
 use Rattle.reader.proofs.Gaps.{not-yes, some-not}
-use Rattle.mend.specs.Mend.{noPlat, noSec, platLeft, keeps, minorAt, editionAt, platLeftAt, keepsAt, changed, ofPart, pageTo, changesOf, mendGate, mendedOf, mendedPage}
+use Rattle.mend.specs.Mend.{noPlat, noSec, platLeft, keepsSection, minorAt, editionAt, platLeftAt, keepsAt, changed, ofPart, pageTo, mendChanges, mendGate, mendedOf, mendedPage}
 use Rattle.mend.specs.Promise.{Mends}
 use Rattle.mend.specs.declared.Changes.{Changes}
 use Rattle.mend.specs.declared.Mended.{Mended}
@@ -127,7 +127,7 @@ module _ (base : ℕ) (page : List ℕ) (w e : ℕ) (q : PlatShown) (s : ℕ →
 
   comes-out : (mendedPage base page ≡ page) × ((j : ℕ) → changed base page j ≡ false)
       × (mendedOf base page ≡ Done (record { padding = false; plat = false; dram = false; console = false; ncoh = false; coh = false }))
-  unfolding changesOf
+  unfolding mendChanges
   comes-out =
       let d = mend-done base page (passed .0) (passed .1) in
       (sym (d .1) ∙ page-same, none-changed, sym (d .0) ∙ rw (none-changed 0, none-changed 1, none-changed 2, none-changed 3, none-changed 4, none-changed 5))

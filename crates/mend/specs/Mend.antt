@@ -37,8 +37,8 @@ left w e base q f zero k = f k
 left w e base q f (suc n) k = cond (eqb k n) (cond (stays w e base q (left w e base q f n) n) (f n) noSec) (left w e base q f n k)
 
 -- section k is kept
-unfoldable pub keeps : ℕ → ℕ → ℕ → Plat → (ℕ → Sec) → ℕ → Bool
-keeps w e base q f k = stays w e base q (left w e base q f k) k
+unfoldable pub keepsSection : ℕ → ℕ → ℕ → Plat → (ℕ → Sec) → ℕ → Bool
+keepsSection w e base q f k = stays w e base q (left w e base q f k) k
 
 -- ---- of a page
 -- "the page's edition": the smaller of 4 and its minor
@@ -52,7 +52,7 @@ unfoldable pub platLeftAt : ℕ → List ℕ → Plat
 platLeftAt base page = platLeft (editionAt page) base (platAt base page)
 
 unfoldable pub keepsAt : ℕ → List ℕ → ℕ → Bool
-keepsAt base page k = keeps (minorAt page) (editionAt page) base (platLeftAt base page) (secAt base page) k
+keepsAt base page k = keepsSection (minorAt page) (editionAt page) base (platLeftAt base page) (secAt base page) k
 
 -- "It reports for each of the six whether it was changed; a section that the page's edition lacks is not touched and reports no." The six
 -- parts are numbered in their order: padding, pointer, and section k as part k + 2.
@@ -81,8 +81,8 @@ unfoldable pub pageTo : ℕ → ℕ → List ℕ → List ℕ
 pageTo n base page = blank (λ i. some n (λ j. both (changed base page j) (ofPart j i))) page
 
 -- ---- the answer
-unfoldable pub changesOf : ℕ → List ℕ → Changes
-changesOf base page =
+unfoldable pub mendChanges : ℕ → List ℕ → Changes
+mendChanges base page =
     record {
       padding = changed base page 0;
       plat = changed base page 1;
@@ -99,7 +99,7 @@ mendGate true false c = Refused Version
 mendGate false v c = Refused Place
 
 unfoldable pub mendedOf : ℕ → List ℕ → Mended
-mendedOf base page = mendGate (placeOk base (length page)) (versionOk (versionAt page)) (changesOf base page)
+mendedOf base page = mendGate (placeOk base (length page)) (versionOk (versionAt page)) (mendChanges base page)
 
 -- the page at exit
 unfoldable pub mendedPage : ℕ → List ℕ → List ℕ

@@ -14,7 +14,7 @@ use Rattle.reader.specs.Answer.{Shown, PlatShown, shown, platShown, refused, sh
 use Rattle.reader.specs.Reading.{refusalNumber}
 use Rattle.reader.specs.declared.Refusal.{Refusal}
 use Rattle.reader.specs.declared.Refusal.the-variants.{Place, Version}
-use Rattle.mend.specs.Mend.{noPlat, noSec, minorAt, editionAt, keepsAt, changed, ofPart, changesOf, mendedOf, mendedPage}
+use Rattle.mend.specs.Mend.{noPlat, noSec, minorAt, editionAt, keepsAt, changed, ofPart, mendChanges, mendedOf, mendedPage}
 use Rattle.mend.specs.declared.Changes.{Changes}
 use Rattle.mend.specs.declared.Mended.the-variants.{Done, Refused}
 

@@ -11,7 +11,7 @@ ghost use lib.Dec.{eqb};
 ghost use lib.ListN.{length};
 ghost use Rattle.words.specs.Word.{leBytes, bytesOf};
 ghost use Rattle.sections.specs.Page.{placeOk, paddingAt, platAt};
-ghost use Rattle.mend.specs.Mend.{minorAt, changesOf, pageTo, mendedOf, mendedPage};
+ghost use Rattle.mend.specs.Mend.{minorAt, mendChanges, pageTo, mendedOf, mendedPage};
 ghost use Rattle.mend.specs.Steps.{zeroed, platKept, sectionGoes};
 ghost use Rattle.mend.specs.Report.{mendedNumber, flagWord, reportWords};
 
@@ -92,7 +92,7 @@ fn mend_section(page: &mut [u8], base: u64, minor: u64, e: Edition, fields: Plat
 // The six parts in their order.
 fn mend_parts(page: &mut [u8], base: u64, minor: u64, e: Edition) -> Changes
     requires { ⌜ (placeOk base (length (now page)) ≡ true) × (minor ≡ minorAt (now page)) × (e .minor ≡ min 4 minor) ⌝ }
-    ensures { λ r. ⌜ (r ≡ changesOf base (now (page .entry))) × (now (page .exit) ≡ pageTo 6 base (now (page .entry))) ⌝ }
+    ensures { λ r. ⌜ (r ≡ mendChanges base (now (page .entry))) × (now (page .exit) ≡ pageTo 6 base (now (page .entry))) ⌝ }
 {
     let padding = mend_padding(page);
     let fields = mend_plat(page, base, e);

@@ -35,7 +35,7 @@ use Rattle.lists.specs.Description.{Description, listOk, listsOk, noneLate, pla
 use Rattle.lists.proofs.Lists.{described-none}
 use Rattle.writer.specs.Write.{a-page, writeOf, pageOf}
 use Rattle.writer.proofs.Checks.{w-made}
-use Rattle.pack.specs.Pack.{entriesIn, fieldsKept, retold, written, packed, packOf}
+use Rattle.pack.specs.Pack.{entriesIn, fieldsKept, retold, written, packedFrom, packOf}
 use Rattle.pack.proofs.Fields.{keptOf, kept-told, kept-three, found-fits}
 
 -- ---- a list of whole entries that keep their rule
@@ -188,5 +188,5 @@ module _ (base : ℕ) (page : List ℕ) (w e : ℕ) (q : PlatShown) (s : ℕ →
 
   -- so no refusal is left but the target's
   pub pack-page : packOf base 4096 page ≡ written (a-page (pageOf base w (retold q s)))
-  unfolding packOf packed
+  unfolding packOf packedFrom
   pack-page = rw (h, le-leb w 4 early) (ap written pack-made)

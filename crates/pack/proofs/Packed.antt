@@ -31,7 +31,7 @@ use Rattle.writer.specs.Write.{Made, no-page, a-page, writeOf, descriptionFits,
 use Rattle.writer.specs.Wrote.{pageAfter}
 use Rattle.writer.proofs.Checks.{w-place}
 use Rattle.writer.proofs.Round.{round}
-use Rattle.pack.specs.Pack.{fieldsKept, retold, Packed, stopped, written, packed, packOf, targetAfter}
+use Rattle.pack.specs.Pack.{fieldsKept, retold, Packed, stopped, written, packedFrom, packOf, targetAfter}
 use Rattle.pack.specs.Packer.{remaining, repacked}
 use Rattle.pack.proofs.Fields.{keptOf}
 use Rattle.pack.proofs.Made.{per-pos, toldBy, Each, told-none, told-some, told-each, words-length, told-scanned, opened}
@@ -178,7 +178,7 @@ module _ (base n : ℕ) (page p : List ℕ) (b : Bytes page) (w e : ℕ) (q : Pl
 
   -- packing it again makes the same page
   pub packs-again : packOf base n p ≡ written (a-page p)
-  unfolding packOf packed
+  unfolding packOf packedFrom
   packs-again = rw (newest-same, le-leb w 4 early, retold-again) (ap written m)
 
 -- ---- what the packer answers
@@ -190,9 +190,9 @@ cond-written true m z p h = (refl, cc)
 cond-written false m z p h = never-written h
 
 -- a page that was made was accepted, has a minor up to 4, and is the writer's
-made-by : (base n : ℕ) (a : ReaderAnswer) (p : List ℕ) {P : Type 0} → packed base n a ≡ written (a-page p) →
+made-by : (base n : ℕ) (a : ReaderAnswer) (p : List ℕ) {P : Type 0} → packedFrom base n a ≡ written (a-page p) →
     ((w e : ℕ) (q : PlatShown) (s : ℕ → Shown) → a ≡ shows w e q s → w ≤ 4 → writeOf base n w (retold q s) ≡ a-page p → P) → P
-unfolding packed
+unfolding packedFrom
 made-by base n (refused c) p h k = never-written h
 made-by base n (shows w e q s) p h k = let c = cond-written (leb w 4) (writeOf base n w (retold q s)) (minus 6) p h in k w e q s refl (leb-true w 4 (c .0)) (c .1)
 
@@ -207,16 +207,16 @@ module _ (base n : ℕ) (page p : List ℕ) (b : Bytes page) (h : packOf base n 
 
 -- ---- the refusals, in order
 pub pack-stops : (base n : ℕ) (page : List ℕ) (c : ℤ) → readOf 4 base page ≡ refused c → packOf base n page ≡ stopped c
-unfolding packOf packed
+unfolding packOf packedFrom
 pack-stops base n page c h = rw h
 
 module _ (base n : ℕ) (page : List ℕ) (w e : ℕ) (q : PlatShown) (s : ℕ → Shown) (h : readOf 4 base page ≡ shows w e q s) where
   pub pack-late : 4 < w → packOf base n page ≡ stopped (minus 6)
-  unfolding packOf packed
+  unfolding packOf packedFrom
   pack-late l = rw (h, lt-leb w 4 l)
 
   pub pack-target : w ≤ 4 → (n ≡ 4096 → ⊥) → packOf base n page ≡ written (no-page 1)
-  unfolding packOf packed placeOk both
+  unfolding packOf packedFrom placeOk both
   pack-target l t = rw (h, le-leb w 4 l) (ap written (w-place base n w (retold q s) (rw (ne-eqb n 4096 t))))
 
 pub pack-untouched : (lent : List ℕ) (m : Packed) → ((p : List ℕ) → m ≡ written (a-page p) → ⊥) → targetAfter lent m ≡ lent

@@ -41,13 +41,13 @@ pub data Packed : Type 0 where
   stopped : ℤ → Packed
   written : Made → Packed
 
-unfoldable pub packed : ℕ → ℕ → ReaderAnswer → Packed
-packed base n (refused c) = stopped c
-packed base n (shows w e q s) = cond (leb w 4) (written (writeOf base n w (retold q s))) (stopped (minus 6))
+unfoldable pub packedFrom : ℕ → ℕ → ReaderAnswer → Packed
+packedFrom base n (refused c) = stopped c
+packedFrom base n (shows w e q s) = cond (leb w 4) (written (writeOf base n w (retold q s))) (stopped (minus 6))
 
 -- of a page at base B, into a target of n bytes at the same base
 unfoldable pub packOf : ℕ → ℕ → List ℕ → Packed
-packOf base n page = packed base n (readOf 4 base page)
+packOf base n page = packedFrom base n (readOf 4 base page)
 
 -- ---- what the code's enum stands for, with the target at exit
 unfoldable pub packedBy : List ℕ → Packing → Packed

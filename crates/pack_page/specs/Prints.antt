@@ -12,8 +12,8 @@ use Rattle.writer.specs.Write.{no-page, a-page}
 use Rattle.pack.specs.Pack.{Packed, stopped, written, packOf}
 
 -- `refused -`
-unfoldable pub refusedText : List ℕ
-refusedText = 114 ∷ 101 ∷ 102 ∷ 117 ∷ 115 ∷ 101 ∷ 100 ∷ 32 ∷ 45 ∷ []
+unfoldable pub refusalLine : List ℕ
+refusalLine = 114 ∷ 101 ∷ 102 ∷ 117 ∷ 115 ∷ 101 ∷ 100 ∷ 32 ∷ 45 ∷ []
 
 -- what is refused: ` place`, ` version`, ` rules`
 unfoldable pub reasonText : ℕ → List ℕ
@@ -24,7 +24,7 @@ reasonText n =
 -- the line of a code: its one digit, and what is refused
 unfoldable pub refusedLine : ℤ → List ℕ
 refusedLine (pos n) = []
-refusedLine (negsuc n) = refusedText ++ ((48 + suc n) ∷ (reasonText (suc n) ++ (10 ∷ [])))
+refusedLine (negsuc n) = refusalLine ++ ((48 + suc n) ∷ (reasonText (suc n) ++ (10 ∷ [])))
 
 -- "standard output the packed page, or one line with the refusal"; a target of a page's length is never refused
 unfoldable pub outputOf : Packed → List ℕ
@@ -38,5 +38,5 @@ packPrinted input = outputOf (cond (eqb (length input) 4104) (packOf (wordAt 0 i
 
 -- Reading stops where the room is full or the input ends. So where n bytes were read into a room, they are the first bytes of the input,
 -- as many as the room holds. Of each such input, the first r bytes of t are all that is written.
-abbrev pub PrintsAll : List ℕ → ℕ → ℕ → List ℕ → Type 0
-PrintsAll room n r t = (input : List ℕ) → take n room ≡ take (length room) input → take r t ≡ packPrinted input
+abbrev pub PacksAll : List ℕ → ℕ → ℕ → List ℕ → Type 0
+PacksAll room n r t = (input : List ℕ) → take n room ≡ take (length room) input → take r t ≡ packPrinted input

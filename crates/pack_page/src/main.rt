@@ -9,7 +9,7 @@ ghost use Prim.Native.Nat.{_≤_, _<_};
 ghost use lib.ListN.{length, take};
 ghost use Rattle.io.specs.Counts.{Counts};
 ghost use Rattle.reader.specs.Reading.{refusalNumber};
-ghost use Rattle.pack_page.specs.Prints.{refusedLine, packPrinted, PrintsAll};
+ghost use Rattle.pack_page.specs.Prints.{refusedLine, packPrinted, PacksAll};
 
 // Puts a text at the start of a room that holds it, and answers its length.
 fn put(out: &mut [u8], text: &[u8]) -> usize
@@ -52,7 +52,7 @@ fn pack_input(input: &[u8], out: &mut [u8]) -> usize
 fn show(room: &[u8], n: usize, out: &mut [u8]) -> usize
     requires { ⌜ Counts n (now room) × (4104 < length (now room)) × (length (now out) ≡ 4096) ⌝ }
     ensures { λ r. ⌜ Counts r (now (out .exit)) ⌝ }
-    ensures { λ r. ⌜ PrintsAll (now (room .entry)) n r (now (out .exit)) ⌝ }
+    ensures { λ r. ⌜ PacksAll (now (room .entry)) n r (now (out .exit)) ⌝ }
 {
     pack_input(&room[..n], out)
 }

@@ -10,7 +10,7 @@ use lib.Seq.{getD-set-same, set-out}
 use lib.Dec.{ltb, eqb}
 use borrow.Author.Tests.{eqb-true, ltb-true, ltb-false}
 use Rattle.realm_words.specs.Bits.{withBit, putBit}
-use Rattle.realm_words.specs.Holding.{noneHeld, Holds, wordBy, bitBy, putBy, heldBy}
+use Rattle.realm_words.specs.Holding.{noneHeld, Holds, wordBy, bitBy, putBy, wordHeld}
 use Rattle.realm_words.specs.declared.Held.{Held}
 
 pub none-holds : (ws : List ℕ) → Holds ws (noneHeld ws)
@@ -29,8 +29,8 @@ module _ (ws : List ℕ) (h : Held) (own : Holds ws h) where
   unfolding putBy putBit
   put-own i v = rw (word-own (i / 64))
 
-  pub put-holds : (i v : ℕ) → Holds (putBy ws h i v) (heldBy ws h i v)
-  unfolding putBy heldBy
+  pub put-holds : (i v : ℕ) → Holds (putBy ws h i v) (wordHeld ws h i v)
+  unfolding putBy wordHeld
   put-holds i v = go (ltb (i / 64) (length ws)) refl
     where
       go : (b : Bool) → ltb (i / 64) (length ws) ≡ b → Holds (set ws (i / 64) (bitBy ws h i v)) (cond b (record { at = i / 64; word = bitBy ws h i v }) h)

@@ -29,5 +29,5 @@ bitBy ws h i v = withBit (wordBy ws h (i / 64)) (i % 64) v
 unfoldable pub putBy : List ℕ → Held → ℕ → ℕ → List ℕ
 putBy ws h i v = set ws (i / 64) (bitBy ws h i v)
 
-unfoldable pub heldBy : List ℕ → Held → ℕ → ℕ → Held
-heldBy ws h i v = cond (ltb (i / 64) (length ws)) (record { at = i / 64; word = bitBy ws h i v }) h
+unfoldable pub wordHeld : List ℕ → Held → ℕ → ℕ → Held
+wordHeld ws h i v = cond (ltb (i / 64) (length ws)) (record { at = i / 64; word = bitBy ws h i v }) h

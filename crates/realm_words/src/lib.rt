@@ -4,7 +4,7 @@ ghost use Prim.Native.Nat.{_-_, _%_, _^_, _<_, _≤_};
 ghost use lib.ListN.{length, take, drop};
 ghost use lib.Count.{ones, trailingZeros};
 ghost use Rattle.realm_words.specs.Bits.{realmBit, packed, wordsFor, withBit};
-ghost use Rattle.realm_words.specs.Holding.{noneHeld, wordBy, putBy, heldBy};
+ghost use Rattle.realm_words.specs.Holding.{noneHeld, wordBy, putBy, wordHeld};
 ghost use Rattle.realm_words.specs.Answers.{wordsFit, bothFit, realmCountOf, hitBelow, realmNextOf, realmAgreeOf, Built, realmBuildOf};
 
 // How many Realm granules there are.
@@ -122,7 +122,7 @@ fn word_by(words: &[u64], held: Held, at: usize) -> u64
 
 // Writes a granule's bit as its byte has it; every other bit stays. The word written is the one held then.
 pub fn put_bit(words: &mut [u64], held: Held, index: usize, byte: u8) -> Held
-    ensures { λ r. ⌜ (now (words .exit) ≡ putBy (now (words .entry)) held index (realmBit byte)) × (r ≡ heldBy (now (words .entry)) held index (realmBit byte)) ⌝ }
+    ensures { λ r. ⌜ (now (words .exit) ≡ putBy (now (words .entry)) held index (realmBit byte)) × (r ≡ wordHeld (now (words .entry)) held index (realmBit byte)) ⌝ }
 {
     let at = index / 64;
     if words.len() <= at {

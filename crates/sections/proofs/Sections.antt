@@ -18,7 +18,7 @@ use Rattle.sections.specs.Page.{placeOk, Plat, paddingAt, countAt, point
 use Rattle.sections.specs.Section.{platOk, wordsIn, nothing, inRange, secOk, extent, apart, clearBefore, platExtent, platClear, rules, rulesAt}
 use Rattle.sections.specs.Steps.{platEnd, okAt, okTo, endOf, apartAt, clearTo, apartTo, clearAt, clearFrom, staysAt}
 use Rattle.fields.specs.Fields.{Scanned, broken, ended, bare, isEnded, taken, scanOf}
-use Rattle.fields.specs.Steps.{toldOf}
+use Rattle.fields.specs.Steps.{endTold}
 use Rattle.fields.proofs.Same.{taken-room}
 use Rattle.fields.specs.declared.FieldsEnd.the-variants as fieldsEnd
 
@@ -188,8 +188,8 @@ module _ (from to k : ℕ) (page : List ℕ) where
         go (no l) = rw (lt-leb (size k (countAt k page)) (from - pointerAt k page) (omega arith), lt-leb (pointerAt k page + size k (countAt k page)) from (omega arith))
 
 -- fields that a reader takes, as the pass over them tells
-pub end-told : (s : Scanned) → cond (isEnded s) (fieldsEnd.Ended (taken s)) fieldsEnd.Broken ≡ toldOf s
-unfolding isEnded taken toldOf
+pub end-told : (s : Scanned) → cond (isEnded s) (fieldsEnd.Ended (taken s)) fieldsEnd.Broken ≡ endTold s
+unfolding isEnded taken endTold
 end-told broken = refl
 end-told (ended fs n) = refl
 end-told (bare fs) = refl
@@ -210,7 +210,7 @@ module _ (e base q : ℕ) (page : List ℕ) where
       unfolding platEnd platOk mkPlat either both
       plat-high l = rw (ne-eqb q 0 n, le-leb (base + core e) q h, le-ltb q (base + 4096) l)
 
-      pub plat-in : q < base + 4096 → platEnd e base (mkPlat q (foundAt base page q)) ≡ toldOf (scanOf (drop (q - base) page))
+      pub plat-in : q < base + 4096 → platEnd e base (mkPlat q (foundAt base page q)) ≡ endTold (scanOf (drop (q - base) page))
       unfolding platEnd platOk mkPlat foundAt inPage either both
       plat-in l =
           rw (ne-eqb q 0 n, le-leb (base + core e) q h, lt-ltb q (base + 4096) l, le-leb base q (omega arith), le-leb (q + 1) (base + 4096) (omega arith))

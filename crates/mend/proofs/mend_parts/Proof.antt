@@ -1,5 +1,5 @@
 use mathlib.Core.Path.{_≡_, _∙_}
-use Rattle.mend.specs.Mend.{editionAt, changesOf}
+use Rattle.mend.specs.Mend.{editionAt, mendChanges}
 use Rattle.mend.proofs.Parts.{place-same, padding-step, plat-step, section-step}
 use borrow.Author.Needs.{needs}
 use lib.Dec.{lit≤}
@@ -28,7 +28,7 @@ same-length : tie.Need-same-length
 same-length c = search needs
 
 returns : tie.Need-returns
-unfolding changesOf
+unfolding mendChanges
 returns c =
     let b = c .before .before .before .before .before .before .before .before .before .before .before .before .before .before .before .before .before .before .before .before .before .before .before .before .before in
     let a = b .args in

@@ -4,12 +4,12 @@ use lib.ListN.{length}
 use lib.Seq.{set-out}
 use borrow.Author.Tests.{lt-ltb, le-ltb}
 use borrow.Author.Needs.{needs}
-use Rattle.realm_words.specs.Holding.{putBy, heldBy}
+use Rattle.realm_words.specs.Holding.{putBy, wordHeld}
 use Rattle.realm_words.proofs.put_bit.Statement.{statement}
 use Rattle.realm_words.proofs.put_bit.Tie as tie
 
 returns : tie.Need-returns
-unfolding putBy heldBy
+unfolding putBy wordHeld
 returns c =
     let a = c .before .before .args in
     (sym (set-out (a .words .now) (a .index / 64) _ (search needs)), rw (le-ltb (a .index / 64) (length (a .words .now)) (search needs)))
@@ -30,7 +30,7 @@ same-length : tie.Need-same-length
 same-length c = search needs
 
 returns-2 : tie.Need-returns-2
-unfolding putBy heldBy
+unfolding putBy wordHeld
 returns-2 c =
     let a = c .before .before .before .before .before .args in
     let w = c .before .word-by .ensures in
