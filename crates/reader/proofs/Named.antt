@@ -30,7 +30,7 @@ gate-same true true v' o o' c c' f g = rw (← f refl, g refl refl .0, g refl re
 gate-same true false v' o o' c c' f g = rw (← f refl)
 gate-same false v v' o o' c c' f g = refl
 
-clear-same : (f g : ℕ → Sec) (i : ℕ) → f i ≡ g i → ((j : ℕ) → j < i → f j ≡ g j) → clearBefore f i ≡ clearBefore g i
+pub clear-same : (f g : ℕ → Sec) (i : ℕ) → f i ≡ g i → ((j : ℕ) → j < i → f j ≡ g j) → clearBefore f i ≡ clearBefore g i
 unfolding clearBefore
 clear-same f g i e h = every-same i _ _ (λ j m. rw (e, h j m))
 
@@ -47,7 +47,7 @@ rules-same w e base pad q f g h =
       every-same (sectionCount e) (λ k. platClear q f k) (λ k. platClear q g k) (λ k l. plat-clear-same q f g k (h k l)),
     )
 
-shown-same : (w e k : ℕ) (s t : Sec) → (k < sectionCount e → s ≡ t) → shown w e k s ≡ shown w e k t
+pub shown-same : (w e k : ℕ) (s t : Sec) → (k < sectionCount e → s ≡ t) → shown w e k s ≡ shown w e k t
 unfolding shown
 shown-same w e k s t h = go (decLt k (sectionCount e))
   where
@@ -55,7 +55,7 @@ shown-same w e k s t h = go (decLt k (sectionCount e))
     go (yes l) = rw (h l)
     go (no l) = rw (le-ltb k (sectionCount e) (omega arith))
 
-view-same : (w e : ℕ) (q : Plat) (f g : ℕ → Sec) → ((k : ℕ) → k < sectionCount e → f k ≡ g k) → allShown w e q f ≡ allShown w e q g
+pub view-same : (w e : ℕ) (q : Plat) (f g : ℕ → Sec) → ((k : ℕ) → k < sectionCount e → f k ≡ g k) → allShown w e q f ≡ allShown w e q g
 unfolding allShown
 view-same w e q f g h = shows-same _ _ _ _ _ (λ k. shown-same w e k (f k) (g k) (h k))
 

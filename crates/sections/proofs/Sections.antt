@@ -16,7 +16,7 @@ use Rattle.entries.specs.Entry.{wordsPerEntry, size}
 use Rattle.entries.specs.Array.{wordsAt, soundOf}
 use Rattle.sections.specs.Page.{placeOk, Plat, paddingAt, countAt, pointerAt, checkAt, inPage, arrayAt, mkSec, secAt, mkPlat, foundAt, platAt}
 use Rattle.sections.specs.Section.{platOk, wordsIn, nothing, inRange, secOk, extent, apart, clearBefore, platExtent, platClear, rules, rulesAt}
-use Rattle.sections.specs.Steps.{platEnd, okAt, okTo, endOf, apartAt, clearTo, apartTo, clearAt, clearFrom}
+use Rattle.sections.specs.Steps.{platEnd, okAt, okTo, endOf, apartAt, clearTo, apartTo, clearAt, clearFrom, staysAt}
 use Rattle.fields.specs.Fields.{Scanned, broken, ended, bare, isEnded, taken, scanOf}
 use Rattle.fields.specs.Steps.{toldOf}
 use Rattle.fields.proofs.Same.{taken-room}
@@ -168,6 +168,25 @@ module _ (from to : ℕ) (page : List ℕ) where
   unfolding clearFrom clearAt either
   clear-from-0 n z = every-of n (λ k. clearAt from to k page) (λ k l. rw (le-leb to (pointerAt k page) (omega arith)))
 
+-- one array, as the code compares: by its length, since its end may be no address
+module _ (from to k : ℕ) (page : List ℕ) where
+  pub clear-below : to ≤ pointerAt k page → clearAt from to k page ≡ true
+  unfolding clearAt either
+  clear-below h = rw (le-leb to (pointerAt k page) h)
+
+  module _ (h : pointerAt k page < to) where
+    pub clear-across : from < pointerAt k page → clearAt from to k page ≡ false
+    unfolding clearAt endOf either
+    clear-across g = rw (lt-leb to (pointerAt k page) h, lt-leb (pointerAt k page + size k (countAt k page)) from (omega arith))
+
+    pub clear-above : pointerAt k page ≤ from → clearAt from to k page ≡ leb (size k (countAt k page)) (from - pointerAt k page)
+    unfolding clearAt endOf either
+    clear-above g = rw (lt-leb to (pointerAt k page) h) (go (decLe (size k (countAt k page)) (from - pointerAt k page)))
+      where
+        go : Dec (size k (countAt k page) ≤ from - pointerAt k page) → leb (pointerAt k page + size k (countAt k page)) from ≡ leb (size k (countAt k page)) (from - pointerAt k page)
+        go (yes l) = rw (le-leb (size k (countAt k page)) (from - pointerAt k page) l, le-leb (pointerAt k page + size k (countAt k page)) from (omega arith))
+        go (no l) = rw (lt-leb (size k (countAt k page)) (from - pointerAt k page) (omega arith), lt-leb (pointerAt k page + size k (countAt k page)) from (omega arith))
+
 -- fields that a reader takes, as the pass over them tells
 pub end-told : (s : Scanned) → cond (isEnded s) (fieldsEnd.Ended (taken s)) fieldsEnd.Broken ≡ toldOf s
 unfolding isEnded taken toldOf
@@ -276,3 +295,18 @@ rules-sections w e base page h = both-l _ _ (both-r _ _ (both-r _ _ (rw (rules-s
 
 pub rules-pointer : (w e base : ℕ) (page : List ℕ) → rulesAt w e base page ≡ true → platOk e base (platAt base page) ≡ true
 rules-pointer w e base page h = both-l _ _ (both-r _ _ (rw (rules-steps w e base page) at h))
+
+-- ---- the rule of one section among others, check by check
+module _ (w e base k from to : ℕ) (page : List ℕ) where
+  pub stays-own : okAt w e base k page ≡ false → staysAt w e base k from to page ≡ false
+  unfolding staysAt both
+  stays-own o = rw o
+
+  module _ (o : okAt w e base k page ≡ true) where
+    pub stays-before : clearFrom (pointerAt k page) (endOf k page) k page ≡ false → staysAt w e base k from to page ≡ false
+    unfolding staysAt both
+    stays-before a = rw (o, a)
+
+    pub stays-clear : clearFrom (pointerAt k page) (endOf k page) k page ≡ true → staysAt w e base k from to page ≡ clearAt from to k page
+    unfolding staysAt both
+    stays-clear a = rw (o, a)

@@ -3,7 +3,7 @@ use Prim.Native.Nat.{ℕ, _+_}
 use mathlib.Core.Bool.{Bool, cond}
 use mathlib.Core.List.{List}
 use lib.Dec.{leb}
-use Rattle.words.specs.Tests.{either, every}
+use Rattle.words.specs.Tests.{both, either, every}
 use Rattle.entries.specs.Entry.{size}
 use Rattle.fields.specs.Fields.{taken}
 use Rattle.fields.specs.declared.FieldsEnd.{FieldsEnd}
@@ -46,3 +46,8 @@ clearAt from to k page = either (leb to (pointerAt k page)) (leb (endOf k page) 
 -- and with none of the first n
 unfoldable pub clearFrom : ℕ → ℕ → ℕ → List ℕ → Bool
 clearFrom from to n page = every n (λ k. clearAt from to k page)
+
+-- section k keeps its rule by itself, its array overlaps none before it, and shares no address from one up to another
+unfoldable pub staysAt : ℕ → ℕ → ℕ → ℕ → ℕ → ℕ → List ℕ → Bool
+staysAt w e base k from to page =
+    both (okAt w e base k page) (both (clearFrom (pointerAt k page) (endOf k page) k page) (clearAt from to k page))

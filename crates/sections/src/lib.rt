@@ -2,14 +2,16 @@
 // by itself, and that no two arrays overlap, nor fields and an array.
 use fields::FieldsEnd;
 use versions::Edition;
+ghost use mathlib.Core.Bool.{cond};
 ghost use mathlib.Core.Path.{_≡_};
 ghost use Prim.Native.Nat.{ℕ, _+_, _≤_, _<_};
 ghost use lib.ListN.{length};
 ghost use Rattle.words.specs.Tests.{both};
 ghost use Rattle.versions.specs.Edition.{core};
-ghost use Rattle.sections.specs.Page.{placeOk, versionAt, paddingAt, countAt, pointerAt, checkAt, foundAt, mkPlat};
+ghost use Rattle.sections.specs.Page.{placeOk, versionAt, paddingAt, countAt, pointerAt, checkAt, foundAt, mkPlat, platAt};
 ghost use Rattle.sections.specs.Section.{nothing, rulesAt};
-ghost use Rattle.sections.specs.Steps.{platEnd, okAt, okTo, endOf, apartAt, apartTo, clearAt, clearFrom};
+ghost use Rattle.sections.specs.Steps.{platEnd, okAt, okTo, endOf, apartAt, apartTo, clearAt, clearFrom, staysAt};
+ghost use Rattle.fields.specs.declared.FieldsEnd.the-variants.{Broken};
 
 // Whether a page of n bytes at this base is a place for a manifest.
 pub fn place_ok(base: u64, n: usize) -> bool
@@ -169,23 +171,22 @@ fn all_apart(page: &[u8], n: u8) -> bool
     ok
 }
 
-// Whether the addresses from one up to another share none with the array of section k.
+// Whether the addresses from one up to another share none with the array of section k, whatever its words: its end may be no address.
 fn is_clear(page: &[u8], from: u64, to: u64, k: u8) -> bool
-    requires { ⌜ endOf k (now page) < 0x1_0000_0000_0000_0000 ⌝ }
     ensures { λ r. ⌜ r ≡ clearAt from to k (now (page .entry)) ⌝ }
 {
-    if to <= pointer_at(page, k) {
+    let pointer = pointer_at(page, k);
+    if to <= pointer {
         return true;
     }
-    if end_of(page, k) <= from {
-        return true;
+    if from < pointer {
+        return false;
     }
-    false
+    entries::fits(k as usize, count_at(page, k), from - pointer)
 }
 
-// Whether the fields overlap none of the first n arrays. Without a pointer there are none.
-fn fields_clear(page: &[u8], from: u64, to: u64, n: u8) -> bool
-    requires { ⌜ (n ≤ 4) × ((k : ℕ) → k < n → endOf k (now page) < 0x1_0000_0000_0000_0000) ⌝ }
+// Whether those addresses share none with the first n arrays. Up to 0 there are none, as of fields without a pointer.
+fn all_clear(page: &[u8], from: u64, to: u64, n: u8) -> bool
     ensures { λ r. ⌜ r ≡ clearFrom from to n (now (page .entry)) ⌝ }
 {
     if to == 0 {
@@ -221,7 +222,7 @@ fn rules_ok(page: &[u8], base: u64, minor: u64, e: Edition) -> bool
         return false;
     }
     let end = plat + (taken as u64);
-    fields_clear(page, plat, end, n)
+    all_clear(page, plat, end, n)
 }
 
 // Whether a page is a place for a manifest and keeps its rules, of that minor and read as edition e.
@@ -232,4 +233,42 @@ pub fn page_ok(page: &[u8], base: u64, minor: u64, e: Edition) -> bool
         return false;
     }
     rules_ok(page, base, minor, e)
+}
+
+// The rule of a page's platform pointer and its fields alone: how many bytes the fields take, or that it is broken. It is broken on a page
+// that is no place for a manifest.
+pub fn plat_rule(page: &[u8], base: u64, e: Edition) -> FieldsEnd
+    ensures { λ r. ⌜ r ≡ cond (placeOk base (length (now (page .entry)))) (platEnd (e .minor) base (platAt base (now (page .entry)))) Broken ⌝ }
+{
+    if !place_ok(base, page.len()) {
+        return FieldsEnd::Broken;
+    }
+    plat_end(page, base, e, e.core_size(), words::word_at(page, 8))
+}
+
+// Whether section k keeps its rule by itself, and its array shares no address with those of the sections before it, nor with those from
+// one up to another.
+pub fn section_stays(
+    page: &[u8],
+    base: u64,
+    minor: u64,
+    e: Edition,
+    k: u8,
+    from: u64,
+    to: u64,
+) -> bool
+    ensures { λ r. ⌜ r ≡ both (placeOk base (length (now (page .entry)))) (staysAt minor (e .minor) base k from to (now (page .entry))) ⌝ }
+{
+    if !place_ok(base, page.len()) {
+        return false;
+    }
+    if !section_ok(page, base, minor, e, e.core_size(), k) {
+        return false;
+    }
+    let pointer = pointer_at(page, k);
+    let end = end_of(page, k);
+    if !all_clear(page, pointer, end, k) {
+        return false;
+    }
+    is_clear(page, from, to, k)
 }

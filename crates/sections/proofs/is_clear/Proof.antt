@@ -1,7 +1,7 @@
-use borrow.Author.Tests.{lt-leb, le-leb}
-use Rattle.words.specs.Tests.{either}
+use Prim.Native.Nat.{_≤_, _<_}
+use mathlib.Core.Path.{_≡_, sym, _∙_}
 use Rattle.sections.specs.Page.{pointerAt}
-use Rattle.sections.specs.Steps.{endOf, clearAt}
+use Rattle.sections.proofs.Sections.{clear-below, clear-across, clear-above}
 use borrow.Author.Needs.{needs}
 use native.Mathlib.Omega.{arith}
 use Rattle.sections.proofs.is_clear.Statement.{statement}
@@ -11,24 +11,23 @@ pointer-at-requires : tie.Need-pointer-at-requires
 pointer-at-requires c κs = search needs
 
 returns : tie.Need-returns
-unfolding clearAt either
-returns c = let a = c .before .before .before .args in simp (le-leb (a .to) (pointerAt (a .k) (a .page .now)) (omega arith))
-
-end-of-requires : tie.Need-end-of-requires
-end-of-requires c κs = search needs
+returns c = let a = c .before .before .before .args in sym (clear-below (a .from) (a .to) (a .k) (a .page .now) (omega arith))
 
 returns-2 : tie.Need-returns-2
-unfolding clearAt either
-returns-2 c =
-    let a = c .before .before .before .before .before .args in
-    simp (lt-leb (a .to) (pointerAt (a .k) (a .page .now)) (omega arith), le-leb (endOf (a .k) (a .page .now)) (a .from) (omega arith))
+returns-2 c = let a = c .before .before .before .before .args in sym (clear-across (a .from) (a .to) (a .k) (a .page .now) (omega arith) (omega arith))
+
+count-at-requires : tie.Need-count-at-requires
+count-at-requires c κs = search needs
+
+fits-requires : tie.Need-fits-requires
+fits-requires c κs = search needs
 
 returns-3 : tie.Need-returns-3
-unfolding clearAt either
 returns-3 c =
-    let a = c .before .before .before .before .before .args in
-    simp (lt-leb (a .to) (pointerAt (a .k) (a .page .now)) (omega arith), lt-leb (endOf (a .k) (a .page .now)) (a .from) (omega arith))
+    let a = c .before .before .before .before .before .before .args in
+    cc (clear-above (a .from) (a .to) (a .k) (a .page .now) (omega arith) (omega arith))
 
 pub is-clear-spec : {M : Type 1} → statement M
 is-clear-spec =
-    tie.close (tie.spec pointer-at-requires returns end-of-requires returns-2 returns-3)
+    tie.close
+    (tie.spec pointer-at-requires returns returns-2 count-at-requires fits-requires returns-3)

@@ -93,16 +93,8 @@ add-end c =
     let t = plat-ended (a .e .minor) (a .base) (platAt (a .base) (a .page .now)) (g .0 .0) q in
     omega (arith, t .1, c .before .before .before .before .before .before .before .before .before .word-at .ensures, plat-top (a .e .minor) (a .base) (a .page .now) (search needs) (t .0))
 
-fields-clear-requires : tie.Need-fields-clear-requires
-fields-clear-requires c κs =
-    let a = c .before .before .before .before .before .before .before .before .before .before .before .before .before .before .args in
-    let p : paddingAt (a .page .now) ≡ 0 = sym (c .before .before .before .before .before .before .before .before .before .before .before .padding-at .ensures) ∙ c .before .before .before .before .before .before .before .before .before .before .if1 .left in
-    let o : okTo (a .minor) (a .e .minor) (a .base) (sectionCount (a .e .minor)) (a .page .now) ≡ true = rw (← c .before .before .before .before .sections .ensures .0) (sym (c .before .before .before .sections-ok .ensures) ∙ not-false _ (c .before .before .if2 .left)) in (
-      search needs,
-      λ k h.
-          let l : k < sectionCount (a .e .minor) = omega arith in
-          omega (arith, ok-end (a .minor) (a .e .minor) (a .base) k (a .page .now) (ok-each (a .minor) (a .e .minor) (a .base) (a .page .now) (sectionCount (a .e .minor)) k o l)),
-    )
+all-clear-requires : tie.Need-all-clear-requires
+all-clear-requires c κs = search needs
 
 returns-5 : tie.Need-returns-5
 unfolding platAt mkPlat
@@ -114,7 +106,7 @@ returns-5 c =
     let t = plat-ended (a .e .minor) (a .base) (platAt (a .base) (a .page .now)) (g .0 .0) q in
     let o : okTo (a .minor) (a .e .minor) (a .base) (sectionCount (a .e .minor)) (a .page .now) ≡ true = rw (← c .before .before .before .before .before .sections .ensures .0) (sym (c .before .before .before .before .sections-ok .ensures) ∙ not-false _ (c .before .before .before .if2 .left)) in
     let x : apartTo (sectionCount (a .e .minor)) (a .page .now) ≡ true = rw (← c .before .before .before .before .before .sections .ensures .0) (sym (c .before .before .all-apart .ensures) ∙ not-false _ (c .before .if3 .left)) in
-    c .fields-clear .ensures ∙ rw (t .1, c .before .before .before .before .before .before .before .before .before .before .word-at .ensures, c .before .before .before .before .before .sections .ensures .0) (sym (rules-clear (a .minor) (a .e .minor) (a .base) (a .page .now) p (t .0) o x))
+    c .all-clear .ensures ∙ rw (t .1, c .before .before .before .before .before .before .before .before .before .before .word-at .ensures, c .before .before .before .before .before .sections .ensures .0) (sym (rules-clear (a .minor) (a .e .minor) (a .base) (a .page .now) p (t .0) o x))
 
 pub rules-ok-spec : {M : Type 1} → statement M
 rules-ok-spec =
@@ -134,5 +126,5 @@ rules-ok-spec =
     all-apart-requires
     returns-4
     add-end
-    fields-clear-requires
+    all-clear-requires
     returns-5)

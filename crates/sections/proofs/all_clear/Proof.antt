@@ -6,8 +6,8 @@ use borrow.Author.Needs.{needs}
 use borrow.Author.Tests.{not-true, not-false}
 use mathlib.Core.Path.{_≡_, sym, _∙_}
 use native.Mathlib.Omega.{arith}
-use Rattle.sections.proofs.fields_clear.Statement.{statement}
-use Rattle.sections.proofs.fields_clear.Tie as tie
+use Rattle.sections.proofs.all_clear.Statement.{statement}
+use Rattle.sections.proofs.all_clear.Tie as tie
 
 abbrev Inv-loop : tie.InvT-loop
 Inv-loop page from to n k₀ k = (k ≤ n) × (clearFrom from to k page ≡ true)
@@ -22,7 +22,7 @@ loop-holds : tie.Need-loop-holds Inv-loop μ-loop
 loop-holds c = let a = c .before .before .args in (search needs, clear-from-none (a .from) (a .to) (a .page .now))
 
 is-clear-requires : tie.Need-is-clear-requires Inv-loop μ-loop
-is-clear-requires c κs = c .before .before .before .before .pre .1 (c .before .loop .k) (search needs)
+is-clear-requires c κs = search needs
 
 returns-2 : tie.Need-returns-2 Inv-loop μ-loop
 returns-2 c =
@@ -45,8 +45,8 @@ loop-again c =
 returns-3 : tie.Need-returns-3 Inv-loop μ-loop
 returns-3 c = let a = c .before .before .before .before .args in let l = c .before .loop in let e : l .k ≡ a .n = omega arith in rw (← e) (sym (l .inv .1))
 
-pub fields-clear-spec : {M : Type 1} → statement M
-fields-clear-spec =
+pub all-clear-spec : {M : Type 1} → statement M
+all-clear-spec =
     tie.close
     (tie.spec
     Inv-loop

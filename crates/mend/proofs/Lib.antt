@@ -1,0 +1,5 @@
+pub mod Kept
+pub mod Blank
+pub mod Pages
+pub mod Parts
+pub mod Theorems

@@ -1,0 +1,73 @@
+use Prim.Native.Nat.{_≤_, _<_}
+use mathlib.Core.Bool.{true, false}
+use mathlib.Core.Path.{_≡_, sym, _∙_}
+use Rattle.words.specs.Tests.{both}
+use Rattle.versions.specs.Edition.{sectionCount}
+use Rattle.sections.specs.Steps.{staysAt}
+use Rattle.mend.proofs.Parts.{section-lacks, section-stands, section-goes, placed-test}
+use borrow.Author.Needs.{needs}
+use native.Mathlib.Omega.{arith}
+use Rattle.mend.proofs.mend_section.Statement.{statement}
+use Rattle.mend.proofs.mend_section.Tie as tie
+
+sections-requires : tie.Need-sections-requires
+sections-requires c κs = search needs
+
+returns : tie.Need-returns
+returns c =
+    let a = c .before .before .before .args in
+    section-lacks (a .minor) (a .e .minor) (a .base) (a .fields) (a .k) (a .page .now) (omega (arith, c .before .sections .ensures .0))
+
+section-stays-requires : tie.Need-section-stays-requires
+section-stays-requires c κs = search needs
+
+same-length : tie.Need-same-length
+same-length c = search needs
+
+returns-2 : tie.Need-returns-2
+returns-2 c =
+    let b = c .before .before .before .before .before .before in
+    let a = b .args in
+    let s : staysAt (a .minor) (a .e .minor) (a .base) (a .k) (a .fields .from) (a .fields .to) (a .page .now) ≡ true =
+    sym (placed-test (b .pre) (c .before .section-stays .ensures)) ∙ c .if2 .taken in
+    section-stands (a .minor) (a .e .minor) (a .base) (a .fields) (a .k) (a .page .now) s
+
+mul-put-words : tie.Need-mul-put-words
+mul-put-words c = search needs
+
+add-put-words : tie.Need-add-put-words
+add-put-words c = search needs
+
+slice-aggregate-put-words : tie.Need-slice-aggregate-put-words
+slice-aggregate-put-words c = search needs
+
+put-words-requires : tie.Need-put-words-requires
+put-words-requires c κs = search needs
+
+same-length-2 : tie.Need-same-length-2
+same-length-2 c = search needs
+
+returns-3 : tie.Need-returns-3
+returns-3 c =
+    let b = c .before .before .before .before .before .before .before .before .before .before .before in
+    let a = b .args in
+    let s : staysAt (a .minor) (a .e .minor) (a .base) (a .k) (a .fields .from) (a .fields .to) (a .page .now) ≡ false =
+    sym (placed-test (b .pre) (c .before .before .before .before .before .before .section-stays .ensures)) ∙ c .before .before .before .before .before .if2 .left in
+    let l : a .k < sectionCount (a .e .minor) = omega (arith, c .before .before .before .before .before .before .before .before .before .sections .ensures .0) in
+    section-goes (a .minor) (a .e .minor) (a .base) (a .fields) (a .k) (a .page .now) l s _ (c .before .before .put-words .ensures)
+
+pub mend-section-spec : {M : Type 1} → statement M
+mend-section-spec =
+    tie.close
+    (tie.spec
+    sections-requires
+    returns
+    section-stays-requires
+    same-length
+    returns-2
+    mul-put-words
+    add-put-words
+    slice-aggregate-put-words
+    put-words-requires
+    same-length-2
+    returns-3)

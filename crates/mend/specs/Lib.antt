@@ -1,0 +1,4 @@
+pub mod Mend
+pub mod Steps
+pub mod Report
+pub mod Promise

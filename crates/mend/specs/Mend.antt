@@ -1,0 +1,106 @@
+-- Mending a page. 02, E12: "The mender goes over padding, platform pointer with its fields, DRAM, consoles, non-coherent, coherent, in this
+-- order." What a rule and an overlap is are the reader's own definitions. Assumes nothing.
+use Prim.Native.Nat.{ℕ, zero, suc, _+_, _*_, min}
+use mathlib.Core.Bool.{Bool, true, false, cond, not}
+use mathlib.Core.List.{List, [], _∷_}
+use lib.ListN.{length}
+use lib.Dec.{leb, ltb, eqb}
+use Rattle.words.specs.Tests.{both, some}
+use Rattle.versions.specs.Version.{minorOf, versionOk}
+use Rattle.versions.specs.Edition.{sectionCount}
+use Rattle.fields.specs.Fields.{ended}
+use Rattle.sections.specs.Page.{placeOk, versionAt, paddingAt, Sec, mkSec, secAt, Plat, mkPlat, platAt}
+use Rattle.sections.specs.Section.{platOk, secOk, clearBefore, platClear}
+use Rattle.reader.specs.declared.Refusal.the-variants.{Place, Version}
+use Rattle.mend.specs.declared.Changes.{Changes}
+use Rattle.mend.specs.declared.Mended.{Mended}
+use Rattle.mend.specs.declared.Mended.the-variants.{Done, Refused}
+
+-- what zero bytes in the core say: no pointer, an empty section
+unfoldable pub noPlat : Plat
+noPlat = mkPlat 0 (ended [] 0)
+
+unfoldable pub noSec : Sec
+noSec = mkSec 0 0 0 []
+
+-- "a platform pointer .. that breaks a rule by itself .. is set to zero bytes in the core": w is the page's minor, e its edition
+unfoldable pub platLeft : ℕ → ℕ → Plat → Plat
+platLeft e base q = cond (platOk e base q) q noPlat
+
+-- section k, where q and g say what is left of the parts before it: it neither "breaks a rule by itself, or overlaps one kept before it"
+unfoldable pub stays : ℕ → ℕ → ℕ → Plat → (ℕ → Sec) → ℕ → Bool
+stays w e base q g k = both (secOk w e base k (g k)) (both (clearBefore g k) (platClear q g k))
+
+-- the sections once the first n were gone over, the others being as they came
+unfoldable pub left : ℕ → ℕ → ℕ → Plat → (ℕ → Sec) → ℕ → ℕ → Sec
+left w e base q f zero k = f k
+left w e base q f (suc n) k = cond (eqb k n) (cond (stays w e base q (left w e base q f n) n) (f n) noSec) (left w e base q f n k)
+
+-- section k is kept
+unfoldable pub keeps : ℕ → ℕ → ℕ → Plat → (ℕ → Sec) → ℕ → Bool
+keeps w e base q f k = stays w e base q (left w e base q f k) k
+
+-- ---- of a page
+-- "the page's edition": the smaller of 4 and its minor
+abbrev pub minorAt : List ℕ → ℕ
+minorAt page = minorOf (versionAt page)
+
+abbrev pub editionAt : List ℕ → ℕ
+editionAt page = min 4 (minorAt page)
+
+unfoldable pub platLeftAt : ℕ → List ℕ → Plat
+platLeftAt base page = platLeft (editionAt page) base (platAt base page)
+
+unfoldable pub keepsAt : ℕ → List ℕ → ℕ → Bool
+keepsAt base page k = keeps (minorAt page) (editionAt page) base (platLeftAt base page) (secAt base page) k
+
+-- "It reports for each of the six whether it was changed; a section that the page's edition lacks is not touched and reports no." The six
+-- parts are numbered in their order: padding, pointer, and section k as part k + 2.
+unfoldable pub changed : ℕ → List ℕ → ℕ → Bool
+changed base page zero = not (eqb (paddingAt page) 0)
+changed base page (suc zero) = not (platOk (editionAt page) base (platAt base page))
+changed base page (suc (suc k)) = both (ltb k (sectionCount (editionAt page))) (not (keepsAt base page k))
+
+-- where part j begins in the core; it ends where the next begins
+unfoldable pub partAt : ℕ → ℕ
+partAt zero = 4
+partAt (suc zero) = 8
+partAt (suc (suc k)) = 16 + 24 * k
+
+-- byte i is one of part j
+unfoldable pub ofPart : ℕ → ℕ → Bool
+ofPart j i = both (leb (partAt j) i) (ltb i (partAt (suc j)))
+
+-- bytes with zero for those that f names
+unfoldable pub blank : (ℕ → Bool) → List ℕ → List ℕ
+blank f [] = []
+blank f (b ∷ bs) = cond (f 0) 0 b ∷ blank (λ i. f (suc i)) bs
+
+-- the page once the first n parts were gone over: each that is changed is zeroed in the core
+unfoldable pub pageTo : ℕ → ℕ → List ℕ → List ℕ
+pageTo n base page = blank (λ i. some n (λ j. both (changed base page j) (ofPart j i))) page
+
+-- ---- the answer
+unfoldable pub changesOf : ℕ → List ℕ → Changes
+changesOf base page =
+    record {
+      padding = changed base page 0;
+      plat = changed base page 1;
+      dram = changed base page 2;
+      console = changed base page 3;
+      ncoh = changed base page 4;
+      coh = changed base page 5;
+    }
+
+-- "Refusals: -5 and -6 as the reader gives them, page untouched."
+unfoldable pub mendGate : Bool → Bool → Changes → Mended
+mendGate true true c = Done c
+mendGate true false c = Refused Version
+mendGate false v c = Refused Place
+
+unfoldable pub mendedOf : ℕ → List ℕ → Mended
+mendedOf base page = mendGate (placeOk base (length page)) (versionOk (versionAt page)) (changesOf base page)
+
+-- the page at exit
+unfoldable pub mendedPage : ℕ → List ℕ → List ℕ
+mendedPage base page = cond (both (placeOk base (length page)) (versionOk (versionAt page))) (pageTo 6 base page) page

@@ -1,0 +1,30 @@
+-- What one step of the mender does to the page that it is lent. Assumes nothing.
+use Prim.Native.Nat.{ℕ, _+_}
+use mathlib.Core.Bool.{Bool, cond, not}
+use mathlib.Core.List.{List}
+use lib.Dec.{ltb}
+use Rattle.words.specs.Tests.{both}
+use Rattle.words.specs.Word.{laid}
+use Rattle.versions.specs.Edition.{sectionCount}
+use Rattle.sections.specs.Page.{Plat}
+use Rattle.sections.specs.Section.{platOk, platExtent}
+use Rattle.sections.specs.Steps.{staysAt}
+use Rattle.mend.specs.Mend.{platLeft}
+use Rattle.mend.specs.declared.PlatKept.{PlatKept}
+
+-- bytes put at an offset where a part is changed
+unfoldable pub zeroed : Bool → ℕ → List ℕ → List ℕ → List ℕ
+zeroed b at zeros page = cond b (laid at zeros page) page
+
+-- whether the platform data is changed, and the addresses of the fields that are kept
+unfoldable pub platKept : ℕ → ℕ → Plat → PlatKept
+platKept e base q =
+    record {
+      changed = not (platOk e base q);
+      from = platExtent (platLeft e base q) .from;
+      to = platExtent (platLeft e base q) .to;
+    }
+
+-- whether section k is changed, among those that the page has before it
+unfoldable pub sectionGoes : ℕ → ℕ → ℕ → PlatKept → ℕ → List ℕ → Bool
+sectionGoes w e base p k page = both (ltb k (sectionCount e)) (not (staysAt w e base k (p .from) (p .to) page))
