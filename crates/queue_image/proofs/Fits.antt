@@ -4,16 +4,16 @@ use Prim.Native.Nat.{ℕ, zero, suc, _+_, _-_, _*_, _/_, _%_, _^_, _≤_, _<_}
 use mathlib.Core.Path.{_≡_, refl, _∙_}
 use mathlib.Core.Bool.{Bool}
 use mathlib.Core.List.{List, [], _∷_, _++_, map}
-use native.Mathlib.Nat.{pow-suc}
 use native.Mathlib.Omega.{arith}
 use lib.Dec.{ltb, lit≤}
 use lib.ListN.{length, take, drop, getD, replicate, length-take, length-drop, length-map}
 use lib.Seq.{length-take-le}
 use borrow.Author.Tests.{ltb-true, leb-true, lt-ltb, le-leb, eq-eqb}
 use Rattle.words.specs.Tests.{Yes}
-use Rattle.words.specs.Word.{leOf, leBytes, part, numAt, wordsOf, bytesOf, areWords, splice}
+use Rattle.words.specs.Word.{leBytes, part, numAt, wordsOf, bytesOf, areWords, splice}
 use Rattle.words.proofs.Tests.{both-l, both-r, both-of}
 use Rattle.words.proofs.Lists.{bytesOf-length, words-cons, words-append}
+use Rattle.words.proofs.Bytes.{Bytes, bytes-drop, number-below, words-read}
 use Rattle.queue.specs.declared.Request.{Request}
 use Rattle.queue.specs.Queue.{Signed, signedIn}
 use Rattle.queue_image.specs.Image.{rows, requestIn, heldIn, responseIn, listsIn, requestWords, responseWords, each, areBytes, requestFits, responseFits, eightFit, queueFits}
@@ -112,18 +112,15 @@ pub splice-bytes : (off : ℕ) (vs s : List ℕ) → Yes (areBytes vs) → Yes (
 unfolding areBytes
 splice-bytes off vs s a b = splice-each _ off vs s a b
 
-number-below : (n : ℕ) (bs : List ℕ) → Yes (areBytes bs) → leOf (take n bs) < 256 ^ n
-unfolding areBytes each leOf
-number-below zero bs h = lit≤ tt
-number-below (suc n) [] h = let i = number-below n [] h in rw pow-suc (omega arith)
-number-below (suc n) (b ∷ bs) h =
-    let l : b < 256 = ltb-true b 256 (both-l _ _ h) in
-    let i = number-below n bs (both-r _ _ h) in
-    rw pow-suc (omega arith)
+byte-below : (bs : List ℕ) → Yes (areBytes bs) → Bytes bs
+unfolding areBytes each
+byte-below [] h i = lit≤ tt
+byte-below (b ∷ bs) h zero = ltb-true b 256 (both-l _ _ h)
+byte-below (b ∷ bs) h (suc i) = byte-below bs (both-r _ _ h) i
 
 pub num-below : (n off : ℕ) (s : List ℕ) → Yes (areBytes s) → numAt n off s < 256 ^ n
-unfolding numAt part areBytes
-num-below n off s h = number-below n (drop off s) (each-drop _ off s h)
+unfolding numAt part
+num-below n off s h = number-below n (drop off s) (bytes-drop off s (byte-below s h))
 
 -- ---- the row of a request that fits, and of a response, is words
 zeros-words : (n : ℕ) → Yes (areWords (replicate n 0))
@@ -131,21 +128,16 @@ unfolding areWords
 zeros-words zero = refl
 zeros-words (suc n) = both-of _ _ refl (zeros-words n)
 
-bytes-words : (n : ℕ) (bs : List ℕ) → Yes (areBytes bs) → Yes (areWords (wordsOf n bs))
-unfolding wordsOf areWords areBytes
-bytes-words zero bs a = refl
-bytes-words (suc n) bs a = both-of _ _ (lt-ltb (leOf (take 8 bs)) (2 ^ 64) (number-below 8 bs a)) (bytes-words n (drop 8 bs) (each-drop _ 8 bs a))
-
 pub request-words : (r : Request) → Yes (requestFits r) → Yes (areWords (requestWords r))
 unfolding requestWords requestFits
-request-words r h = words-append (r .algorithm ∷ r .granule ∷ r .ticket ∷ r .hashid ∷ []) (wordsOf 6 (r .hash)) (both-l _ _ h) (bytes-words 6 (r .hash) (both-r _ _ (both-r _ _ h)))
+request-words r h = words-append (r .algorithm ∷ r .granule ∷ r .ticket ∷ r .hashid ∷ []) (wordsOf 6 (r .hash)) (both-l _ _ h) (words-read 6 (r .hash) (byte-below (r .hash) (both-r _ _ (both-r _ _ h))))
 
 pub response-words : (r : Signed) → Yes (responseFits r) → Yes (areWords (responseWords r))
 unfolding responseWords responseFits
 response-words r h =
     let n : length (r .signature) ≤ 104 = leb-true _ _ (both-l _ _ (both-r _ _ h)) in
     words-append (r .granule ∷ r .ticket ∷ []) (length (r .signature) ∷ wordsOf 13 (r .signature)) (both-l _ _ h)
-    (words-cons (length (r .signature)) (wordsOf 13 (r .signature)) (omega arith) (bytes-words 13 (r .signature) (both-r _ _ (both-r _ _ h))))
+    (words-cons (length (r .signature)) (wordsOf 13 (r .signature)) (omega arith) (words-read 13 (r .signature) (byte-below (r .signature) (both-r _ _ (both-r _ _ h)))))
 
 -- ---- an image of words stays one under the moves of its sides
 each-words : (ws : List ℕ) → Yes (each isWord ws) → Yes (areWords ws)

@@ -32,7 +32,7 @@ entries-lie w e base k page n o z =
     let m : pointerAt k page + size k (countAt k page) ≤ base + 4096 = range-high e base k (countAt k page) (pointerAt k page) g in
     rw (le-leb (pointerAt k page - base + size k (countAt k page)) (length page) (omega arith))
 
-shows-each : (w w' e e' : ℕ) (q q' : PlatShown) (s s' : ℕ → Shown) → shows w e q s ≡ shows w' e' q' s' → (w ≡ w') × (e ≡ e') × (q ≡ q') × (s ≡ s')
+pub shows-each : (w w' e e' : ℕ) (q q' : PlatShown) (s s' : ℕ → Shown) → shows w e q s ≡ shows w' e' q' s' → (w ≡ w') × (e ≡ e') × (q ≡ q') × (s ≡ s')
 shows-each w w' e e' q q' s s' h = (cc, cc, cc, cc)
 
 -- of a page that a reader accepts

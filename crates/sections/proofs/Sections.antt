@@ -234,16 +234,20 @@ module _ (e base : ℕ) (q : Plat) where
   unfolding platEnd
   plat-ended m h = by-ended (platOk e base q) (taken (q .found)) m h
 
--- fields take no more bytes than a page has
-taken-case : (b : Bool) (s t : Scanned) → taken s ≤ 4096 → taken t ≤ 4096 → taken (cond b s t) ≤ 4096
-taken-case true s t x y = x
-taken-case false s t x y = y
+-- fields take no more bytes than there are from the pointer to the page's end
+taken-case : (b : Bool) (s t : Scanned) (n : ℕ) → taken s ≤ n → taken t ≤ n → taken (cond b s t) ≤ n
+taken-case true s t n x y = x
+taken-case false s t n x y = y
+
+pub found-within : (base q : ℕ) (page : List ℕ) → length page ≡ 4096 → taken (foundAt base page q) ≤ 4096 - (q - base)
+unfolding foundAt taken
+found-within base q page l =
+    taken-case (eqb q 0) (ended [] 0) (cond (inPage base q 1) (scanOf (drop (q - base) page)) broken) (4096 - (q - base)) (omega arith)
+    (taken-case (inPage base q 1) (scanOf (drop (q - base) page)) broken (4096 - (q - base))
+    (omega (arith, taken-room (drop (q - base) page), length-drop (q - base) page)) (omega arith))
 
 pub found-room : (base q : ℕ) (page : List ℕ) → length page ≡ 4096 → taken (foundAt base page q) ≤ 4096
-unfolding foundAt taken
-found-room base q page l =
-    taken-case (eqb q 0) (ended [] 0) (cond (inPage base q 1) (scanOf (drop (q - base) page)) broken) (omega arith)
-    (taken-case (inPage base q 1) (scanOf (drop (q - base) page)) broken (omega (arith, taken-room (drop (q - base) page), length-drop (q - base) page)) (omega arith))
+found-room base q page l = omega (arith, found-within base q page l)
 
 -- so they end where no address wraps
 pub plat-top : (e base : ℕ) (page : List ℕ) → length page ≡ 4096 → platOk e base (platAt base page) ≡ true →
@@ -292,6 +296,9 @@ module _ (w e base : ℕ) (page : List ℕ) where
 
 pub rules-sections : (w e base : ℕ) (page : List ℕ) → rulesAt w e base page ≡ true → okTo w e base (sectionCount e) page ≡ true
 rules-sections w e base page h = both-l _ _ (both-r _ _ (both-r _ _ (rw (rules-steps w e base page) at h)))
+
+pub rules-at : (w e base : ℕ) (page : List ℕ) → rulesAt w e base page ≡ true → (k : ℕ) → k < sectionCount e → okAt w e base k page ≡ true
+rules-at w e base page h k l = ok-each w e base page (sectionCount e) k (rules-sections w e base page h) l
 
 pub rules-pointer : (w e base : ℕ) (page : List ℕ) → rulesAt w e base page ≡ true → platOk e base (platAt base page) ≡ true
 rules-pointer w e base page h = both-l _ _ (both-r _ _ (rw (rules-steps w e base page) at h))

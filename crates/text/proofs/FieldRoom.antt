@@ -2,30 +2,23 @@
 use Prim.Native.Nat.{ℕ, zero, suc, _+_, _-_, _*_, _≤_, _<_}
 use mathlib.Core.Path.{_≡_, refl, ap}
 use mathlib.Core.Bool.{Bool, true, false, cond, false≢true}
-use mathlib.Core.Logic.{_⊎_, inl, inr}
 use mathlib.Core.List.{List, [], _∷_}
 use native.Mathlib.Omega.{arith}
 use lib.Dec.{eqb, lit≤}
 use lib.ListN.{length, getD, drop, length-append, length-drop}
 use lib.Seq.{getD-drop}
-use borrow.Author.Tests.{ltb-false, eqb-true, leb-true, ltb-true, eq-eqb}
+use borrow.Author.Tests.{ltb-false, eqb-true}
 use Rattle.words.specs.Tests.{Yes}
-use Rattle.words.specs.Word.{part, numAt, wordAt}
-use Rattle.words.proofs.Tests.{both-l, both-r, either-cases}
+use Rattle.words.specs.Word.{part, numAt}
+use Rattle.words.proofs.Tests.{both-l, both-r}
 use Rattle.words.proofs.Lists.{joined-length}
-use Rattle.versions.specs.Edition.{core}
-use Rattle.fields.specs.Fields.{Field, mkField, Scanned, broken, ended, bare, step, scan, scanAll, scanOf, judged, lengthOk, lengthsOk, fieldsOk, fieldsIn, taken, raw, withdrawn, shownField, shownFields}
+use Rattle.words.proofs.Bytes.{Bytes}
+use Rattle.fields.specs.Fields.{Field, mkField, Scanned, broken, ended, bare, step, scan, scanAll, scanOf, lengthOk, lengthsOk, fieldsOk, fieldsIn, taken, raw, withdrawn, shownField, shownFields}
 use Rattle.fields.proofs.Scans.{never, step-ended, part-length}
 use Rattle.fields.proofs.Rules.{listed, judged-passed}
-use Rattle.fields.proofs.Same.{taken-room}
-use Rattle.sections.specs.Page.{inPage, mkPlat, foundAt, platAt}
-use Rattle.sections.specs.Section.{platOk}
+use Rattle.sections.specs.Page.{inPage, foundAt}
 use Rattle.text.specs.Text.{newline, space, decimal, byteText, valueByte, valueText, withdrawnText, fieldText, fieldsText}
 use Rattle.text.proofs.Lengths.{digits-length, decimal-most}
-
--- the page is one of bytes
-abbrev pub Bytes : List ℕ → Type 0
-Bytes bs = (i : ℕ) → getD bs i 0 < 256
 
 -- ---- one field
 byte-length : (v : List ℕ) (i : ℕ) → length (valueByte v i) ≡ 3
@@ -109,31 +102,3 @@ found-text base q page b l =
     text-case (eqb q 0) (ended [] 0) (cond (inPage base q 1) (scanOf (drop (q - base) page)) broken) (omega arith)
     (text-case (inPage base q 1) (scanOf (drop (q - base) page)) broken
     (scanned-text (drop (q - base) page) (λ i. rw getD-drop (b (q - base + i))) (rw length-drop (omega arith))) (omega arith))
-
-taken-case : (b : Bool) (s t : Scanned) (n : ℕ) → taken s ≤ n → taken t ≤ n → taken (cond b s t) ≤ n
-taken-case true s t n x y = x
-taken-case false s t n x y = y
-
-taken-within : (base q : ℕ) (page : List ℕ) → length page ≡ 4096 → taken (foundAt base page q) ≤ 4096 - (q - base)
-unfolding foundAt taken
-taken-within base q page l =
-    taken-case (eqb q 0) (ended [] 0) (cond (inPage base q 1) (scanOf (drop (q - base) page)) broken) (4096 - (q - base)) (omega arith)
-    (taken-case (inPage base q 1) (scanOf (drop (q - base) page)) broken (4096 - (q - base))
-    (omega (arith, taken-room (drop (q - base) page), length-drop (q - base) page)) (omega arith))
-
-taken-none : (base q : ℕ) (page : List ℕ) → q ≡ 0 → taken (foundAt base page q) ≡ 0
-unfolding foundAt taken
-taken-none base q page z = rw (eq-eqb q 0 z)
-
--- the fields of a page whose rules hold take no byte, or lie behind the core
-pub fields-lie : (e base : ℕ) (page : List ℕ) → length page ≡ 4096 → platOk e base (platAt base page) ≡ true →
-    (taken (foundAt base page (wordAt 8 page)) ≡ 0) ⊎ ((base + core e ≤ wordAt 8 page) × (wordAt 8 page + taken (foundAt base page (wordAt 8 page)) ≤ base + 4096))
-unfolding platOk platAt mkPlat
-fields-lie e base page n h =
-    either-cases _ _
-    (λ z. inl (taken-none base (wordAt 8 page) page (eqb-true _ _ z)))
-    (λ b.
-    let l : base + core e ≤ wordAt 8 page = leb-true _ _ (both-l _ _ b) in
-    let u : wordAt 8 page < base + 4096 = ltb-true _ _ (both-l _ _ (both-r _ _ b)) in
-    inr (l, omega (arith, taken-within base (wordAt 8 page) page n)))
-    h

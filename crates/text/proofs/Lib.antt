@@ -1,7 +1,6 @@
 pub mod Lay
 pub mod Numbers
 pub mod Parts
-pub mod Spans
 pub mod Lengths
 pub mod FieldRoom
 pub mod Room

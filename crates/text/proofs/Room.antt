@@ -2,32 +2,32 @@
 use Prim.Native.Nat.{ℕ, zero, suc, _+_, _-_, _*_, _/_, _≤_, _<_, min}
 use mathlib.Core.Path.{_≡_, refl}
 use mathlib.Core.Bool.{Bool, true, false, cond, false≢true}
-use mathlib.Core.Logic.{_⊎_, inl, inr, ⊎-elim}
+use mathlib.Core.Logic.{_⊎_, ⊎-elim}
 use mathlib.Core.List.{List, []}
 use native.Mathlib.Nat.{mul-suc, mul-le-mul-left}
-use native.Mathlib.Decide.{decLt}
 use native.Mathlib.Omega.{arith}
-use lib.Dec.{ltb, eqb, lit≤}
+use lib.Dec.{eqb, lit≤}
 use lib.ListN.{length, take, drop, length-append, length-take}
 use lib.Seq.{getD-drop}
-use borrow.Author.Tests.{lt-ltb, le-ltb, eqb-true, leb-true}
+use borrow.Author.Tests.{lt-ltb, le-ltb, leb-true}
 use Rattle.words.specs.Tests.{Yes, both}
 use Rattle.words.specs.Word.{wordAt, part, joined}
-use Rattle.words.proofs.Tests.{both-l, both-r, either-cases, every-at}
+use Rattle.words.proofs.Tests.{both-l, both-r}
+use Rattle.words.proofs.Bytes.{Bytes}
 use Rattle.versions.specs.Version.{minorOf, versionOk}
 use Rattle.versions.specs.Edition.{sectionCount, core, editionOk}
 use Rattle.entries.specs.Entry.{wordsPerEntry, size, shownWords}
 use Rattle.sections.specs.Page.{placeOk, versionAt, countAt, pointerAt, inPage, arrayAt, mkSec, secAt, mkPlat, foundAt, platAt}
-use Rattle.sections.specs.Section.{nothing, secOk, wordsIn, rulesAt}
-use Rattle.sections.specs.Steps.{okAt, endOf, apartAt, clearTo, apartTo, clearAt, clearFrom}
-use Rattle.sections.proofs.Sections.{placed, range-low, range-high, ok-each, rules-steps, rules-pointer}
+use Rattle.sections.specs.Section.{nothing, wordsIn, rulesAt}
+use Rattle.sections.proofs.Sections.{placed, rules-at}
+use Rattle.sections.proofs.Spans.{addedUp}
+use Rattle.sections.proofs.Room.{array-lies, spanLength, arrays-fit}
 use Rattle.fields.specs.Fields.{fieldsIn, taken, shownFields}
 use Rattle.reader.specs.Answer.{Shown, empty, full, ReaderAnswer, refused, minus, shownSec, shown, platShown, allShown, readerGate, judge, readOf, bytesIn, entryWord, entryCount}
 use Rattle.text.specs.Text.{lay, newline, space, dash, manifestText, readAsText, platformText, noneText, absentText, refusedText, titleText, placesIn, places, decimal, signedDecimal, hexText, nameText, wordText, gapText, partText, entryText, countText, stateText, sectionText, headText, pointerText, platText, fieldsText, listingOf, printed, listingRoom}
 use Rattle.text.proofs.Lay.{lay-whole}
 use Rattle.text.proofs.Lengths.{decimal-most, hex-length, name-length}
-use Rattle.text.proofs.FieldRoom.{Bytes, found-text, fields-lie}
-use Rattle.text.proofs.Spans.{addedUp, NoneShared, AllWithin, spans-fit}
+use Rattle.text.proofs.FieldRoom.{found-text}
 
 -- ---- an entry: a word takes at most 18 bytes, and one more for the space before it or the end of the line
 word-most : (k j w : ℕ) → length (wordText k j w) ≤ 18
@@ -101,87 +101,17 @@ module _ (w e base : ℕ) (page : List ℕ) (k : ℕ) where
   state-out l = rw (le-ltb k (sectionCount e) l) (lit≤ tt)
 
 -- ---- an accepted page
-size-none : (k c : ℕ) → c ≡ 0 → size k c ≡ 0
-unfolding size
-size-none k c e = rw e (omega arith)
-
 few : (k c : ℕ) → size k c ≤ 4096 → c < 1000
 unfolding size wordsPerEntry
 few zero c h = omega arith
 few (suc zero) c h = omega arith
 few (suc (suc k)) c h = omega arith
 
--- the array of a section whose rule holds is empty, or lies behind the core
-module _ (w e base : ℕ) (page : List ℕ) where
-  array-lies : (k : ℕ) → okAt w e base k page ≡ true →
-      (size k (countAt k page) ≡ 0) ⊎ ((base + core e ≤ pointerAt k page) × (pointerAt k page + size k (countAt k page) ≤ base + 4096))
-  unfolding okAt secOk secAt mkSec nothing
-  array-lies k h =
-      either-cases _ _
-      (λ n. inl (size-none k (countAt k page) (eqb-true _ _ (both-l _ _ n))))
-      (λ n. inr (range-low e base k (countAt k page) (pointerAt k page) (both-l _ _ n), range-high e base k (countAt k page) (pointerAt k page) (both-l _ _ n)))
-      h
-
-  fields-apart : (n : ℕ) → clearFrom (wordAt 8 page) (wordAt 8 page + taken (foundAt base page (wordAt 8 page))) n page ≡ true → (j : ℕ) → j < n →
-      (wordAt 8 page + taken (foundAt base page (wordAt 8 page)) ≤ pointerAt j page) ⊎ (pointerAt j page + size j (countAt j page) ≤ wordAt 8 page)
-  unfolding clearFrom clearAt endOf
-  fields-apart n h j l =
-      either-cases _ _
-      (λ t. inl (leb-true _ _ t))
-      (λ t. inr (leb-true _ _ t))
-      (every-at n (λ k. clearAt (wordAt 8 page) (wordAt 8 page + taken (foundAt base page (wordAt 8 page))) k page) h j l)
-
-  arrays-apart : (n : ℕ) → apartTo n page ≡ true → NoneShared n (λ k. pointerAt k page) (λ k. size k (countAt k page))
-  unfolding apartTo clearTo apartAt endOf
-  arrays-apart n h i j l g =
-      either-cases _ _
-      (λ t. inl (leb-true _ _ t))
-      (λ t. inr (leb-true _ _ t))
-      (every-at i (λ j. apartAt i j page) (every-at n (λ i. clearTo i i page) h i g) j l)
-
-  -- where the arrays of the edition lie and, as one span more, the fields
-  unfoldable spanFrom : ℕ → ℕ
-  spanFrom k = cond (ltb k (sectionCount e)) (pointerAt k page) (wordAt 8 page)
-
-  unfoldable spanLength : ℕ → ℕ
-  spanLength k = cond (ltb k (sectionCount e)) (size k (countAt k page)) (taken (foundAt base page (wordAt 8 page)))
-
-  module _ (n : length page ≡ 4096) (h : rulesAt w e base page ≡ true) where
-    each : (k : ℕ) → k < sectionCount e → okAt w e base k page ≡ true
-    each k l = ok-each w e base page (sectionCount e) k (both-l _ _ (both-r _ _ (both-r _ _ (rw (rules-steps w e base page) at h)))) l
-
-    rest-apart : (apartTo (sectionCount e) page ≡ true)
-        × (clearFrom (wordAt 8 page) (wordAt 8 page + taken (foundAt base page (wordAt 8 page))) (sectionCount e) page ≡ true)
-    rest-apart = let t = both-r _ _ (both-r _ _ (both-r _ _ (rw (rules-steps w e base page) at h))) in (both-l _ _ t, both-r _ _ t)
-
-    spans-within : AllWithin (suc (sectionCount e)) spanFrom spanLength (base + core e) (base + 4096)
-    unfolding spanFrom spanLength
-    spans-within k l = go (decLt k (sectionCount e))
-      where
-        go : Dec (k < sectionCount e) → (spanLength k ≡ 0) ⊎ ((base + core e ≤ spanFrom k) × (spanFrom k + spanLength k ≤ base + 4096))
-        go (yes m) = rw (lt-ltb k (sectionCount e) m) (array-lies k (each k m))
-        go (no m) = rw (le-ltb k (sectionCount e) (omega arith)) (fields-lie e base page n (rules-pointer w e base page h))
-
-    spans-apart : NoneShared (suc (sectionCount e)) spanFrom spanLength
-    unfolding spanFrom spanLength
-    spans-apart i j l g = go (decLt i (sectionCount e))
-      where
-        go : Dec (i < sectionCount e) → (spanFrom i + spanLength i ≤ spanFrom j) ⊎ (spanFrom j + spanLength j ≤ spanFrom i)
-        go (yes m) =
-            let o : j < sectionCount e = omega arith in
-            rw (lt-ltb i (sectionCount e) m, lt-ltb j (sectionCount e) o) (arrays-apart (sectionCount e) (rest-apart .0) i j l m)
-        go (no m) =
-            let o : j < sectionCount e = omega arith in
-            rw (le-ltb i (sectionCount e) (omega arith), lt-ltb j (sectionCount e) o) (fields-apart (sectionCount e) (rest-apart .1) j o)
-
-    -- all arrays and the fields together take no more than what the core leaves of the page
-    arrays-fit : core e ≤ 4096 → base + core e + addedUp (suc (sectionCount e)) spanLength ≤ base + 4096
-    arrays-fit c = spans-fit (suc (sectionCount e)) spanFrom spanLength (base + core e) (base + 4096) (omega arith) spans-within spans-apart
-
-    shown-most : (k : ℕ) → k < sectionCount e → length (stateText k (shown w e k (secAt base page k))) ≤ 4 + 19 * wordsPerEntry k * countAt k page
-    shown-most k l =
-        state-in w e base page k l
-        (⊎-elim (λ z. few k (countAt k page) (omega arith)) (λ p. few k (countAt k page) (omega arith)) (array-lies k (each k l)))
+shown-most : (w e base : ℕ) (page : List ℕ) → rulesAt w e base page ≡ true → (k : ℕ) → k < sectionCount e →
+    length (stateText k (shown w e k (secAt base page k))) ≤ 4 + 19 * wordsPerEntry k * countAt k page
+shown-most w e base page h k l =
+    state-in w e base page k l
+    (⊎-elim (λ z. few k (countAt k page) (omega arith)) (λ p. few k (countAt k page) (omega arith)) (array-lies w e base page k (rules-at w e base page h k l)))
 
 -- the four sections of an edition
 section-length : (s : ℕ → Shown) (k : ℕ) → length (sectionText s k) ≡ length (titleText k) + 1 + length (stateText k (s k))
@@ -215,21 +145,21 @@ module _ (w base : ℕ) (page : List ℕ) (b : Bytes page) (n : length page ≡ 
   states-most (suc (suc zero)) h =
       let out = state-out w 2 base page in
       let m : base + 40 + (0 + 8 * (2 * countAt 0 page) + fieldBytes) ≤ base + 4096 = arrays-fit w 2 base page n h (lit≤ tt) in
-      let a : stateLength 2 0 ≤ 4 + 38 * countAt 0 page = shown-most w 2 base page n h 0 (lit≤ tt) in
+      let a : stateLength 2 0 ≤ 4 + 38 * countAt 0 page = shown-most w 2 base page h 0 (lit≤ tt) in
       omega (arith, found-text base (wordAt 8 page) page b n, out 1 (lit≤ tt), out 2 (lit≤ tt), out 3 (lit≤ tt))
   states-most (suc (suc (suc zero))) h =
       let out = state-out w 3 base page in
       let m : base + 64 + (0 + 8 * (2 * countAt 0 page) + 8 * (6 * countAt 1 page) + fieldBytes) ≤ base + 4096 = arrays-fit w 3 base page n h (lit≤ tt) in
-      let a : stateLength 3 0 ≤ 4 + 38 * countAt 0 page = shown-most w 3 base page n h 0 (lit≤ tt) in
-      let c : stateLength 3 1 ≤ 4 + 114 * countAt 1 page = shown-most w 3 base page n h 1 (lit≤ tt) in
+      let a : stateLength 3 0 ≤ 4 + 38 * countAt 0 page = shown-most w 3 base page h 0 (lit≤ tt) in
+      let c : stateLength 3 1 ≤ 4 + 114 * countAt 1 page = shown-most w 3 base page h 1 (lit≤ tt) in
       omega (arith, found-text base (wordAt 8 page) page b n, out 2 (lit≤ tt), out 3 (lit≤ tt))
   states-most (suc (suc (suc (suc i)))) h =
       let e = suc (suc (suc (suc i))) in
       let m : base + 112 + (0 + 8 * (2 * countAt 0 page) + 8 * (6 * countAt 1 page) + 8 * (2 * countAt 2 page) + 8 * (2 * countAt 3 page) + fieldBytes) ≤ base + 4096 = arrays-fit w e base page n h (lit≤ tt) in
-      let a : stateLength e 0 ≤ 4 + 38 * countAt 0 page = shown-most w e base page n h 0 (lit≤ tt) in
-      let c : stateLength e 1 ≤ 4 + 114 * countAt 1 page = shown-most w e base page n h 1 (lit≤ tt) in
-      let d : stateLength e 2 ≤ 4 + 38 * countAt 2 page = shown-most w e base page n h 2 (lit≤ tt) in
-      let f : stateLength e 3 ≤ 4 + 38 * countAt 3 page = shown-most w e base page n h 3 (lit≤ tt) in
+      let a : stateLength e 0 ≤ 4 + 38 * countAt 0 page = shown-most w e base page h 0 (lit≤ tt) in
+      let c : stateLength e 1 ≤ 4 + 114 * countAt 1 page = shown-most w e base page h 1 (lit≤ tt) in
+      let d : stateLength e 2 ≤ 4 + 38 * countAt 2 page = shown-most w e base page h 2 (lit≤ tt) in
+      let f : stateLength e 3 ≤ 4 + 38 * countAt 3 page = shown-most w e base page h 3 (lit≤ tt) in
       omega (arith, found-text base (wordAt 8 page) page b n)
 
   sections-most : (e : ℕ) → rulesAt w e base page ≡ true → fieldsLength + length (joined 4 (sectionText (λ k. shown w e k (secAt base page k)))) ≤ 12281

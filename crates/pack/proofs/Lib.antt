@@ -1,0 +1,4 @@
+pub mod Fields
+pub mod Made
+pub mod Packed
+pub mod Packer
