@@ -1,9 +1,185 @@
-// The packer: what a reader of edition 4 shows of a page, written again without holes into another lent page.
+// The packer: what a reader of edition 4 shows of a page, written again without holes into another lent page. Arrays and fields go from
+// page to page once, with no buffer between.
+use fields::Head;
 use reader::Refusal;
+use reader::Verdict;
+use versions::Edition;
+ghost use mathlib.Core.Path.{_≡_};
+ghost use mathlib.Core.Bool.{cond};
+ghost use Prim.Native.Nat.{ℕ, _+_, _*_, _≤_, _<_};
+ghost use lib.ListN.{length};
+ghost use lib.Dec.{eqb};
+ghost use Rattle.words.specs.Word.{bytesOf, joined, splice};
+ghost use Rattle.versions.specs.Edition.{sectionCount};
+ghost use Rattle.entries.specs.Entry.{size};
+ghost use Rattle.sections.specs.Page.{countAt};
+ghost use Rattle.lists.specs.Description.{used};
+ghost use Rattle.writer.specs.Write.{descriptor, pageOf};
+ghost use Rattle.pack.specs.Pack.{packOf, packedBy, targetAfter};
+ghost use Rattle.pack.specs.Steps.{arrayWords, Movable, sectionMoved, fieldsPlace, keptFrom, retoldAt};
 
 // A page was made; or why not: the page's own refusal, or the target's length (W1).
 pub enum Packing {
     Page,
     Refused(Refusal),
     Target,
+}
+
+// Puts bytes at an offset, and answers the offset behind them.
+fn put_bytes(target: &mut [u8], at: usize, bytes: &[u8]) -> usize
+    requires { ⌜ (at + length (now bytes) ≤ length (now target)) × (length (now target) ≡ 4096) ⌝ }
+    ensures { λ r. ⌜ (r ≡ at + length (now (bytes .entry))) × (now (target .exit) ≡ splice at (now (bytes .entry)) (now (target .entry))) ⌝ }
+{
+    words::copy(&mut target[at..], bytes);
+    at + bytes.len()
+}
+
+// The bytes that the array of section k takes.
+fn array_size(page: &[u8], k: u8) -> usize
+    requires { ⌜ (Movable (now page) k) × (length (now page) ≡ 4096) ⌝ }
+    ensures { λ r. ⌜ (r ≡ size k (countAt k (now (page .entry)))) × (r ≤ 4096) ⌝ }
+{
+    let words = entries::entry_words(k as usize);
+    8 * (words * (sections::count_at(page, k) as usize))
+}
+
+// The array of section k, where it lies in the page.
+fn array_of(page: &[u8], k: u8) -> &[u8]
+    requires { ⌜ (Movable (now page) k) × (length (now page) ≡ 4096) ⌝ }
+    ensures { λ r. ⌜ now r ≡ bytesOf (arrayWords (now (page .entry)) k) ⌝ }
+{
+    let at = (sections::pointer_at(page, k) % 4096) as usize;
+    let end = at + array_size(page, k);
+    &page[at..end]
+}
+
+// Count, pointer and checksum of section k with its array at another address; zeros for an empty section. The words are the same there, so
+// the checksum makes up for the pointer alone.
+fn section_words(page: &[u8], k: u8, pointer: u64) -> [u64; 3]
+    requires { ⌜ Movable (now page) k ⌝ }
+    ensures { λ r. ⌜ r ≡ descriptor k pointer (arrayWords (now (page .entry)) k) ⌝ }
+{
+    let count = sections::count_at(page, k);
+    if count == 0 {
+        return [0, 0, 0];
+    }
+    let moved = std::num::wrapping_sub_u64(pointer, sections::pointer_at(page, k));
+    let check = std::num::wrapping_sub_u64(sections::check_at(page, k), moved);
+    [count, pointer, check]
+}
+
+// Puts the words of the first n sections, their arrays one behind the other from an address on.
+fn put_sections(page: &[u8], first: u64, n: u8, target: &mut [u8])
+    requires { ⌜ (length (now page) ≡ 4096) × (length (now target) ≡ 4096) × (n ≤ 4) × ((k : ℕ) → k < n → Movable (now page) k)
+        × (first + 8 * length (joined n (arrayWords (now page))) < 0x1_0000_0000_0000_0000) ⌝ }
+    ensures { λ _. ⌜ now (target .exit) ≡ splice 16 (bytesOf (joined n (sectionMoved first (now (page .entry))))) (now (target .entry)) ⌝ }
+{
+    let mut pointer = first;
+    for k in 0..n {
+        let three = section_words(page, k, pointer);
+        words::put_words(target, 16 + 24 * (k as usize), &three);
+        pointer += array_size(page, k) as u64;
+    }
+}
+
+// Puts the arrays of the first n sections one behind the other from an offset on, and answers the offset behind them.
+fn put_arrays(page: &[u8], from: usize, n: u8, target: &mut [u8]) -> usize
+    requires { ⌜ (length (now page) ≡ 4096) × (length (now target) ≡ 4096) × ((k : ℕ) → k < n → Movable (now page) k)
+        × (from + 8 * length (joined n (arrayWords (now page))) ≤ 4096) ⌝ }
+    ensures { λ r. ⌜ (r ≡ from + 8 * length (joined n (arrayWords (now (page .entry)))))
+        × (now (target .exit) ≡ splice from (bytesOf (joined n (arrayWords (now (page .entry))))) (now (target .entry))) ⌝ }
+{
+    let mut at = from;
+    for k in 0..n {
+        at = put_bytes(target, at, array_of(page, k));
+    }
+    at
+}
+
+// Where the fields begin; the page's end without a pointer.
+fn fields_place(page: &[u8]) -> usize
+    ensures { λ r. ⌜ r ≡ fieldsPlace (now (page .entry)) ⌝ }
+{
+    let plat = words::word_at(page, 8);
+    if plat == 0 {
+        return page.len();
+    }
+    (plat % 4096) as usize
+}
+
+// Puts the fields that stand from a place of the page on, less the withdrawn ones, at an offset, and answers the offset behind them. They
+// go in runs: all from `run` on up to the cursor are still to be put.
+fn put_fields(page: &[u8], from: usize, at: usize, target: &mut [u8]) -> usize
+    requires { ⌜ (length (now page) ≡ 4096) × (length (now target) ≡ 4096) × (from ≤ 4096) × (at + length (keptFrom from (now page)) ≤ 4096) ⌝ }
+    ensures { λ r. ⌜ (r ≡ at + length (keptFrom from (now (page .entry)))) × (now (target .exit) ≡ splice at (keptFrom from (now (page .entry))) (now (target .entry))) ⌝ }
+{
+    let mut run = from;
+    let mut cursor = from;
+    let mut to = at;
+    loop {
+        let head = fields::field_at(page, cursor);
+        let Head::Field {
+            tag,
+            value: _,
+            len: _,
+            next,
+        } = head
+        else {
+            return put_bytes(target, to, &page[run..cursor]);
+        };
+        if tag == 3 {
+            to = put_bytes(target, to, &page[run..cursor]);
+            run = next;
+        }
+        cursor = next;
+    }
+}
+
+// The platform pointer: where the fields are put; 0 where there are none.
+fn plat_pointer(base: u64, at: usize, end: usize) -> u64
+    requires { ⌜ (base ≤ 0x10_0000_0000_0000) × (at ≤ 4096) ⌝ }
+    ensures { λ r. ⌜ r ≡ cond (eqb at end) 0 (base + at) ⌝ }
+{
+    if at == end {
+        return 0;
+    }
+    base + (at as u64)
+}
+
+// Makes the whole page from one of minor e: sections, arrays, fields, version and platform pointer, zero behind them.
+fn put_page(page: &[u8], base: u64, e: Edition, target: &mut [u8])
+    requires { ⌜ (length (now page) ≡ 4096) × (length (now target) ≡ 4096) × (base ≤ 0x10_0000_0000_0000)
+        × ((k : ℕ) → k < sectionCount (e .minor) → Movable (now page) k) × (used (e .minor) (retoldAt (e .minor) (now page)) ≤ 4096) ⌝ }
+    ensures { λ _. ⌜ now (target .exit) ≡ pageOf base (e .minor) (retoldAt (e .minor) (now (page .entry))) ⌝ }
+{
+    let size = e.core_size();
+    let n = e.sections();
+    put_sections(page, base + size, n, target);
+    let behind = put_arrays(page, size as usize, n, target);
+    let end = put_fields(page, fields_place(page), behind, target);
+    let head = [e.minor, plat_pointer(base, behind, end)];
+    words::put_words(target, 0, &head);
+    words::clear(&mut target[end..]);
+}
+
+// Packs a page of a base into a target for the same base: what a reader of edition 4 shows of it, written at the page's own minor, without
+// holes and without withdrawn fields. A page that the reader refuses, one of minor 5 and above, and a target that is no page leave the
+// target as it was.
+pub fn pack(page: &[u8], base: u64, target: &mut [u8]) -> Packing
+    ensures { λ r. ⌜ packedBy (now (target .exit)) r ≡ packOf base (length (now (target .entry))) (now (page .entry)) ⌝ }
+    ensures { λ r. ⌜ now (target .exit) ≡ targetAfter (now (target .entry)) (packOf base (length (now (target .entry))) (now (page .entry))) ⌝ }
+{
+    match reader::judge_page(page, base, 4) {
+        Verdict::Refused(code) => Packing::Refused(code),
+        Verdict::Fine(minor) => {
+            if 4 < minor {
+                return Packing::Refused(Refusal::Version);
+            }
+            if target.len() != 4096 {
+                return Packing::Target;
+            }
+            put_page(page, base, Edition { minor }, target);
+            Packing::Page
+        }
+    }
 }

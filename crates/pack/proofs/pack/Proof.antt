@@ -1,0 +1,71 @@
+use mathlib.Core.Path.{refl, sym, _∙_}
+use lib.ListN.{length}
+use Rattle.reader.specs.Answer.{minus}
+use Rattle.reader.specs.Reading.{refusalNumber}
+use Rattle.reader.specs.declared.Refusal.the-variants as refusal
+use Rattle.writer.specs.Write.{no-page}
+use Rattle.writer.specs.Wrote.{pageAfter}
+use Rattle.pack.specs.Pack.{stopped, written, packedBy, targetAfter}
+use Rattle.pack.specs.declared.Packing.the-variants as packing
+use Rattle.pack.proofs.Answers.{refused-packs, late-packs, target-packs, page-packs, page-ready, packs-not, packs-page}
+use borrow.Author.Needs.{needs}
+use Rattle.pack.proofs.pack.Statement.{statement}
+use Rattle.pack.proofs.pack.Tie as tie
+
+judge-page-requires : tie.Need-judge-page-requires
+judge-page-requires c κs = search needs
+
+enum-known-code : tie.Need-enum-known-code
+enum-known-code c = search needs
+
+enum-known-minor : tie.Need-enum-known-minor
+enum-known-minor c = search needs
+
+returns : tie.Need-returns
+unfolding packedBy targetAfter
+returns c =
+    let a = c .before .before .before .before .before .before .before .args in
+    packs-not (packing.Refused refusal.Version) (a .target .now) _ (stopped (minus 6)) refl refl
+    (late-packs (a .base) (a .page .now) _ (sym (c .before .before .minor .given .1) ∙ c .before .before .before .before .judge-page .ensures) (length (a .target .now)) (search needs))
+
+returns-2 : tie.Need-returns-2
+unfolding packedBy targetAfter pageAfter
+returns-2 c =
+    let a = c .before .before .before .before .before .before .before .before .args in
+    packs-not packing.Target (a .target .now) _ (written (no-page 1)) refl refl
+    (target-packs (a .base) (a .page .now) _ (sym (c .before .before .before .minor .given .1) ∙ c .before .before .before .before .before .judge-page .ensures) (length (a .target .now)) (search needs) (search needs))
+
+put-page-requires : tie.Need-put-page-requires
+put-page-requires c κs =
+    let a = c .before .before .before .before .before .before .before .before .before .args in
+    let r = page-ready (a .base) (a .page .now) _ (sym (c .before .before .before .before .minor .given .1) ∙ c .before .before .before .before .before .before .judge-page .ensures) (search needs) in
+    (r .0, search needs, r .1, r .2, r .3)
+
+returns-3 : tie.Need-returns-3
+unfolding packedBy targetAfter
+returns-3 c =
+    let a = c .before .before .before .before .before .before .args in
+    packs-not (packing.Refused (c .before .code .given .0 .0)) (a .target .now) _ (stopped (refusalNumber (c .before .code .given .0 .0))) refl refl
+    (refused-packs (a .base) (a .page .now) (length (a .target .now)) _ (sym (c .before .code .given .1) ∙ c .before .before .before .judge-page .ensures))
+
+same-length : tie.Need-same-length
+same-length c = search needs
+
+returns-4 : tie.Need-returns-4
+returns-4 c =
+    let a = c .before .before .before .before .before .before .before .before .before .before .before .before .args in
+    packs-page (a .target .now) _ _ _ (page-packs (a .base) (a .page .now) _ (sym (c .before .before .before .before .before .before .before .minor .given .1) ∙ c .before .before .before .before .before .before .before .before .before .judge-page .ensures) (length (a .target .now)) (search needs) (search needs)) (c .before .before .put-page .ensures)
+
+pub pack-spec : {M : Type 1} → statement M
+pack-spec =
+    tie.close
+    (tie.spec
+    judge-page-requires
+    enum-known-code
+    enum-known-minor
+    returns
+    returns-2
+    put-page-requires
+    returns-3
+    same-length
+    returns-4)

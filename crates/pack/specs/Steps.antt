@@ -1,0 +1,45 @@
+-- The packed page, step by step, as the code goes. B is a multiple of 4,096, so a pointer's remainder is its place in the page. Assumes
+-- nothing.
+use Prim.Native.Nat.{ℕ, _+_, _*_, _%_, _≤_}
+use mathlib.Core.Path.{_≡_}
+use mathlib.Core.Bool.{cond}
+use mathlib.Core.List.{List, []}
+use lib.ListN.{length}
+use lib.Dec.{ltb, eqb}
+use Rattle.words.specs.Tests.{Yes}
+use Rattle.words.specs.Word.{wordAt, joined}
+use Rattle.versions.specs.Edition.{sectionCount}
+use Rattle.entries.specs.Entry.{size, checkOk}
+use Rattle.entries.specs.Array.{wordsAt}
+use Rattle.fields.specs.Fields.{shownFields}
+use Rattle.fields.specs.Steps.{fieldsFrom}
+use Rattle.sections.specs.Page.{countAt, pointerAt, checkAt}
+use Rattle.lists.specs.Description.{Description}
+use Rattle.writer.specs.Write.{descriptor}
+use Rattle.pack.specs.Pack.{fieldsKept}
+
+-- the words of the array of section k
+unfoldable pub arrayWords : List ℕ → ℕ → List ℕ
+arrayWords page k = wordsAt k (countAt k page) (pointerAt k page % 4096) page
+
+-- The array of section k lies within the page, and its checksum holds: what the rules say of a section that is read. One of 24 zero bytes
+-- has no checksum.
+pub record Movable (page : List ℕ) (k : ℕ) : Type 0 where
+  pub inside : pointerAt k page % 4096 + size k (countAt k page) ≤ length page
+  pub sums : (countAt k page ≡ 0 → ⊥) → Yes (checkOk (countAt k page) (pointerAt k page) (arrayWords page k) (checkAt k page))
+
+-- the three words of section k, the arrays one behind the other from an address on
+unfoldable pub sectionMoved : ℕ → List ℕ → ℕ → List ℕ
+sectionMoved first page k = descriptor k (first + 8 * length (joined k (arrayWords page))) (arrayWords page k)
+
+-- where the fields begin; the page's end without a pointer
+unfoldable pub fieldsPlace : List ℕ → ℕ
+fieldsPlace page = cond (eqb (wordAt 8 page) 0) (length page) (wordAt 8 page % 4096)
+
+-- the fields from a place on, less the withdrawn ones
+unfoldable pub keptFrom : ℕ → List ℕ → List ℕ
+keptFrom at page = fieldsKept (shownFields (fieldsFrom at page))
+
+-- what the writer is told of a page of minor v
+unfoldable pub retoldAt : ℕ → List ℕ → Description
+retoldAt v page = record { lists = λ k. cond (ltb k (sectionCount v)) (arrayWords page k) []; fields = keptFrom (fieldsPlace page) page }
