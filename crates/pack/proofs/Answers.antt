@@ -1,6 +1,6 @@
 -- The packer's answer, return by return, and what an accepted page gives the code. Assumes nothing.
 use Prim.Native.Nat.{ℕ, zero, suc, _+_, _-_, _*_, _%_, _≤_, _<_}
-use mathlib.Core.Path.{_≡_, sym, ap, fun-ext, _∙_}
+use mathlib.Core.Path.{_≡_, refl, sym, ap, fun-ext, _∙_}
 use mathlib.Core.Bool.{true}
 use mathlib.Core.Logic.{_⊎_, inl, inr}
 use mathlib.Core.List.{List, []}
@@ -34,7 +34,7 @@ use Rattle.reader.proofs.Whole.{reading-answer, refused-reads, fine-reads}
 use Rattle.lists.specs.Description.{Description, used}
 use Rattle.writer.specs.Write.{no-page, a-page, pageOf}
 use Rattle.writer.specs.Wrote.{pageAfter}
-use Rattle.pack.specs.Pack.{fieldsKept, retold, Packed, stopped, written, packOf, packedBy, targetAfter}
+use Rattle.pack.specs.Pack.{fieldsKept, retold, Packed, stopped, written, packOf, packedBy, targetAfter, packedNumber, packingNumber}
 use Rattle.pack.specs.Steps.{arrayWords, Movable, fieldsPlace, keptFrom, retoldAt}
 use Rattle.pack.specs.declared.Packing.{Packing}
 use Rattle.pack.specs.declared.Packing.the-variants as packing
@@ -170,3 +170,13 @@ packs-not r target m x h g e = rw e (h, g)
 pub packs-page : (before after p : List ℕ) (m : Packed) → m ≡ written (a-page p) → after ≡ p → (packedBy after packing.Page ≡ m) × (after ≡ targetAfter before m)
 unfolding packedBy targetAfter pageAfter
 packs-page before after p m e g = rw e (ap (λ (x : List ℕ). written (a-page x)) g, g)
+
+-- ---- the number of an answer is that of what it stands for
+number-by : (target : List ℕ) (r : Packing) → packingNumber r ≡ packedNumber (packedBy target r)
+unfolding packingNumber packedNumber packedBy
+number-by target packing.Page = refl
+number-by target (packing.Refused c) = refl
+number-by target packing.Target = refl
+
+pub packed-number : (target : List ℕ) (r : Packing) (m : Packed) → packedBy target r ≡ m → packingNumber r ≡ packedNumber m
+packed-number target r m h = number-by target r ∙ ap packedNumber h

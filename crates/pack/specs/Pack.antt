@@ -5,7 +5,7 @@ use mathlib.Core.Bool.{cond}
 use mathlib.Core.List.{List, [], _∷_, _++_}
 use lib.ListN.{length}
 use lib.Dec.{leb}
-use lib.IntN.{ℤ}
+use lib.IntN.{ℤ, pos}
 use Rattle.words.specs.Word.{leBytes}
 use Rattle.fields.specs.Fields.{FieldShown, raw, withdrawn}
 use Rattle.reader.specs.Answer.{Shown, absent, empty, full, PlatShown, ReaderAnswer, refused, shows, minus, readOf}
@@ -59,3 +59,15 @@ packedBy target Target = written (no-page 1)
 unfoldable pub targetAfter : List ℕ → Packed → List ℕ
 targetAfter target (stopped c) = target
 targetAfter target (written m) = pageAfter target m
+
+-- ---- the number of an answer: 0 for a page, the reader's codes, 1 for the target (W1)
+unfoldable pub packedNumber : Packed → ℤ
+packedNumber (stopped c) = c
+packedNumber (written (no-page n)) = pos n
+packedNumber (written (a-page p)) = pos 0
+
+-- the same of the code's enum
+unfoldable pub packingNumber : Packing → ℤ
+packingNumber Page = pos 0
+packingNumber (Refused c) = refusalNumber c
+packingNumber Target = pos 1

@@ -15,7 +15,7 @@ ghost use Rattle.entries.specs.Entry.{size};
 ghost use Rattle.sections.specs.Page.{countAt};
 ghost use Rattle.lists.specs.Description.{used};
 ghost use Rattle.writer.specs.Write.{descriptor, pageOf};
-ghost use Rattle.pack.specs.Pack.{packOf, packedBy, targetAfter};
+ghost use Rattle.pack.specs.Pack.{packOf, packedBy, targetAfter, packingNumber};
 ghost use Rattle.pack.specs.Steps.{arrayWords, Movable, sectionMoved, fieldsPlace, keptFrom, retoldAt};
 
 // A page was made; or why not: the page's own refusal, or the target's length (W1).
@@ -23,6 +23,17 @@ pub enum Packing {
     Page,
     Refused(Refusal),
     Target,
+}
+
+// The answer's number: 0 for a page, the reader's codes, 1 for the target.
+pub fn number(packing: Packing) -> i32
+    ensures { λ r. ⌜ r ≡ packingNumber packing ⌝ }
+{
+    match packing {
+        Packing::Page => 0,
+        Packing::Refused(code) => reader::number(code),
+        Packing::Target => 1,
+    }
 }
 
 // Puts bytes at an offset, and answers the offset behind them.
