@@ -108,7 +108,7 @@
 #define PBEAM_WRITE_PAGE 0       /* the page was made */
 #define PBEAM_WRITE_W1_PLACE 1   /* as PBEAM_MANIFEST_PLACE */
 #define PBEAM_WRITE_W2_EDITION 2 /* edition not 1 to 4 */
-#define PBEAM_WRITE_W3_LISTS 3   /* a list is not whole entries, or an entry breaks its rule; fields are broken, or one has tag 0 */
+#define PBEAM_WRITE_W3_LISTS 3   /* a list is not whole entries, or an entry breaks its rule; fields are broken, or one has tag 0 or 3 */
 #define PBEAM_WRITE_W4_LATE 4    /* a list for a section after the edition is not empty */
 #define PBEAM_WRITE_W5_ROOM 5    /* core, arrays and fields with their end mark exceed 4,096 bytes */
 
@@ -189,10 +189,11 @@
 #define PBEAM_CONSOLE_WORDS 6
 #define PBEAM_CONSOLE_BASE 0
 #define PBEAM_CONSOLE_MAP_PAGES 1
-#define PBEAM_CONSOLE_NAME 2 /* 8 characters; the first is the lowest byte of the word */
+#define PBEAM_CONSOLE_NAME 2 /* PBEAM_CONSOLE_NAME_BYTES characters; the first is the lowest byte of the word; pbeam_console_named finds it */
 #define PBEAM_CONSOLE_CLK_IN_HZ 3
 #define PBEAM_CONSOLE_BAUD_RATE 4
 #define PBEAM_CONSOLE_FLAGS 5
+#define PBEAM_CONSOLE_NAME_BYTES 8 /* a shorter name has zeros behind it */
 
 /* Platform data: fields one after another, and an end mark, which is a tag and a length of 0. Through the end mark they lie in the page
  * and share no byte with an array that the reader reads. Byte offsets in a field. */
@@ -206,7 +207,7 @@
 #define PBEAM_TAG_END 0     /* the end mark, length 0; with another length the fields are broken */
 #define PBEAM_TAG_NAME 1    /* board name, PBEAM_NAME_LEAST to PBEAM_NAME_MOST bytes */
 #define PBEAM_TAG_SERIAL 2  /* serial, PBEAM_SERIAL_BYTES bytes */
-#define PBEAM_TAG_CONSOLE 3 /* preferred console, PBEAM_CHOICE_BYTES byte */
+#define PBEAM_TAG_CONSOLE 3 /* withdrawn; PBEAM_CHOICE_BYTES byte, shown without it; not to be written: pick a console by name */
 #define PBEAM_TAG_FREE 4
 #define PBEAM_NAME_LEAST 1
 #define PBEAM_NAME_MOST 32
@@ -347,12 +348,18 @@
 #define PBEAM_PLACE_OFFSET 0
 #define PBEAM_PLACE_LENGTH 1
 
-/* A field that was asked for. All zero where there is none. */
+/* A field that was asked for. All zero where there is none; offset and length are 0 where it is withdrawn. */
 #define PBEAM_FIELD_WORDS 4
-#define PBEAM_FIELD_WORD_FOUND 0  /* 1, or 0 where there is no such field */
+#define PBEAM_FIELD_WORD_FOUND 0  /* one of the three below */
 #define PBEAM_FIELD_WORD_TAG 1
 #define PBEAM_FIELD_WORD_OFFSET 2 /* offset of the value in the page */
 #define PBEAM_FIELD_WORD_LENGTH 3 /* length of the value */
+#define PBEAM_FOUND_NONE 0        /* no such field */
+#define PBEAM_FOUND_VALUE 1
+#define PBEAM_FOUND_WITHDRAWN 2   /* PBEAM_TAG_CONSOLE, whose value is not shown */
+
+/* The answer of pbeam_console_named where no console has the name: the largest size_t. */
+#define PBEAM_CONSOLE_NONE UINT64_C(0xFFFFFFFFFFFFFFFF)
 
 /* Result registers. Always written whole. */
 #define PBEAM_OUT_WORDS 3
@@ -448,6 +455,18 @@ uint64_t pbeam_word(const uint8_t *page, size_t page_len, const uint64_t view[PB
                     size_t word);
 
 /*
+ * pbeam_console_named: the first console with a name.
+ * Takes    page and view as pbeam_array_of; the name, padded with zeros to 8 bytes.
+ * Answers  the number of the first console whose 8 bytes of name are those given, from 0 on, as pbeam_word takes it; PBEAM_CONSOLE_NONE
+ *          where there is none.
+ * Leaves   page, view and name as they were.
+ * Stack    256 bytes; AArch64 208
+ */
+PBEAM_NONNULL(3, 4)
+size_t pbeam_console_named(const uint8_t *page, size_t page_len, const uint64_t view[PBEAM_VIEW_WORDS],
+                           const uint8_t name[PBEAM_CONSOLE_NAME_BYTES]);
+
+/*
  * pbeam_field_count: how many fields the platform data has.
  * Takes    a page, and the view that pbeam_read made of it.
  * Answers  the number of fields; 0 where plat_data is 0, where an end mark stands alone and, by a view that no reading made, where the
@@ -461,8 +480,8 @@ size_t pbeam_field_count(const uint8_t *page, size_t page_len, const uint64_t vi
 /*
  * pbeam_field: a field by its number.
  * Takes    page and view as pbeam_field_count; index, from 0 on in page order.
- * Answers  nothing. field: 1, the tag, and offset and length of the value in the page; all zero where there is no such field. An empty
- *          value has an offset too.
+ * Answers  nothing. field: PBEAM_FOUND_VALUE, the tag, and offset and length of the value in the page; PBEAM_FOUND_WITHDRAWN, the tag and
+ *          zeros where the field is withdrawn; all zero where there is no such field. An empty value has an offset too.
  * Leaves   page and view as they were.
  * Stack    64 bytes; AArch64 0
  * Each call starts at the first field: to pass all of them, walk with pbeam_field_start and pbeam_field_next.
@@ -499,7 +518,8 @@ size_t pbeam_field_start(const uint8_t *page, size_t page_len, const uint64_t vi
  * Answers  the cursor behind the field; page_len behind the last. field: as pbeam_field; all zero behind the last.
  * Leaves   the page as it was.
  * Stack    32 bytes; AArch64 0
- * A walk passes each field once. Any other cursor is taken as the offset of a field: none is found outside the page.
+ * A walk passes each field once. Any other cursor is taken as the offset of a field: none is found outside the page. A cursor is for this
+ * function alone: it is no place of a value.
  */
 PBEAM_NONNULL(4)
 size_t pbeam_field_next(const uint8_t *page, size_t page_len, size_t cursor, uint64_t field[PBEAM_FIELD_WORDS]);
@@ -530,7 +550,8 @@ uint64_t pbeam_kept_for(const uint8_t *page, size_t page_len, const uint64_t vie
  *          is behind the text stays as it was. Of a page that is refused the text is one line, "refused -5", "refused -6" or
  *          "refused -7", with the code of pbeam_read.
  * Stack    832 bytes; AArch64 960
- * A field is its tag and the length of its value in decimal, and each byte of the value as two lower-case hex digits, parted by blanks.
+ * A field is its tag and the length of its value in decimal, and each byte of the value as two lower-case hex digits, parted by blanks; the
+ * withdrawn one is "3 withdrawn".
  * A word is written as 0x and 16 lower-case hex digits, a console's name as its 8 bytes in order, 16 such digits without 0x; the flags of a
  * console are 0 on a page of minor 5 or above, as pbeam_word shows them. No byte of the page is written as it stands, so the text is safe
  * to print.
@@ -546,7 +567,8 @@ size_t pbeam_listing(const uint8_t *page, size_t page_len, uint64_t base, uint64
  *          PBEAM_WRITE_W1_PLACE    page not 4,096 bytes long; B zero, not a multiple of 4,096, or above PBEAM_BASE_MOST
  *          PBEAM_WRITE_W2_EDITION  edition not 1 to 4
  *          PBEAM_WRITE_W3_LISTS    a list's length is not a whole number of entries, or an entry breaks its rule; all four count; a field
- *                                  is cut short, has tag 0 or a length that tags 1 to 3 may not have, or is the second of these
+ *                                  is cut short, has tag 0, the withdrawn tag 3, or a length that tag 1 or 2 may not have, or is the second
+ *                                  of these
  *          PBEAM_WRITE_W4_LATE     a list for a section after the edition is not empty
  *          PBEAM_WRITE_W5_ROOM     core and arrays, and fields with their end mark if there are any, exceed 4,096 bytes
  * Leaves   the whole page written: version, the sections, the arrays at once after the core in section order, then the fields with their

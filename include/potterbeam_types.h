@@ -510,11 +510,18 @@ static inline pbeam_field_t pbeam_view_field_next(const pbeam_page_t *page, size
     return field;
 }
 
-/* Whether a field was found. */
+/* Whether a field was found; a withdrawn one is, so that a walk goes on behind it. */
 PBEAM_NONNULL(1)
 static inline bool pbeam_field_found(const pbeam_field_t *field)
 {
-    return field->words[PBEAM_FIELD_WORD_FOUND] != 0;
+    return field->words[PBEAM_FIELD_WORD_FOUND] != PBEAM_FOUND_NONE;
+}
+
+/* Whether a field was found that is withdrawn: it has a tag, PBEAM_TAG_CONSOLE, and no value. */
+PBEAM_NONNULL(1)
+static inline bool pbeam_field_withdrawn(const pbeam_field_t *field)
+{
+    return field->words[PBEAM_FIELD_WORD_FOUND] == PBEAM_FOUND_WITHDRAWN;
 }
 
 /* The tag of a field; PBEAM_TAG_END where there is none. */
@@ -524,13 +531,13 @@ static inline uint8_t pbeam_field_tag(const pbeam_field_t *field)
     return (uint8_t)(field->words[PBEAM_FIELD_WORD_TAG] & 0xFF);
 }
 
-/* The value of a field, as the part of the page that it is; no byte where there is no field, or where a field that no lookup made lies
- * outside the page. */
+/* The value of a field, as the part of the page that it is; no byte where there is no field, where it is withdrawn, or where a field that no
+ * lookup made lies outside the page. */
 PBEAM_NONNULL(1, 2)
 static inline pbeam_bytes_t pbeam_field_value(const pbeam_page_t *page, const pbeam_field_t *field)
 {
     const uint64_t offset = field->words[PBEAM_FIELD_WORD_OFFSET], length = field->words[PBEAM_FIELD_WORD_LENGTH];
-    if (!pbeam_field_found(field) || offset > sizeof page->bytes || length > sizeof page->bytes - offset)
+    if (field->words[PBEAM_FIELD_WORD_FOUND] != PBEAM_FOUND_VALUE || offset > sizeof page->bytes || length > sizeof page->bytes - offset)
         return pbeam_bytes(NULL, 0);
     return pbeam_bytes(page->bytes + offset, (size_t)length);
 }
@@ -584,6 +591,23 @@ static inline pbeam_console_t pbeam_view_console(const pbeam_page_t *page, const
     console.baud_rate = pbeam_view_word(page, view, PBEAM_CONSOLE, entry, PBEAM_CONSOLE_BAUD_RATE);
     console.flags = pbeam_view_word(page, view, PBEAM_CONSOLE, entry, PBEAM_CONSOLE_FLAGS);
     return console;
+}
+
+/* pbeam_console_named: the first console with a name, given as a C string. false, and the console all zero, where there is none, and where
+ * the name has more than 8 characters. */
+PBEAM_NONNULL(1, 2, 3, 4)
+static inline bool pbeam_view_console_named(const pbeam_page_t *page, const pbeam_view_t *view, const char *name,
+                                            pbeam_console_t *console)
+{
+    uint8_t padded[PBEAM_CONSOLE_NAME_BYTES];
+    pbeam_console_t asked;
+    size_t entry = PBEAM_CONSOLE_NONE;
+    if (pbeam_console_set_name(&asked, name)) {
+        pbeam_put64(padded, asked.name);
+        entry = pbeam_console_named(page->bytes, sizeof page->bytes, view->words, padded);
+    }
+    *console = pbeam_view_console(page, view, entry);
+    return entry != PBEAM_CONSOLE_NONE;
 }
 
 /* Offset and length of a place. */

@@ -11,7 +11,8 @@ pub type SessionImage = [u64; 3];
 pub type QueueImage = [u64; 210];
 /// What a page shows: w, e, plat_data, then three words a section: 0 absent, 1 empty or 2 entries, their offset, their number.
 pub type ViewImage = [u64; 15];
-/// A field of the platform data: 1, its tag, and the offset and length of its value; zeros where there is none.
+/// A field of the platform data: 1, its tag, and the offset and length of its value; 2, its tag and zeros where it is withdrawn; zeros where
+/// there is none.
 pub type FieldImage = [u64; 4];
 /// A request as it stands in the queue.
 pub type RequestImage = [u64; 10];
@@ -45,6 +46,8 @@ pub trait Exports {
     fn array_of(page: &[u8], view: &ViewImage, section: usize, place: &mut Place);
     fn count(page: &[u8], view: &ViewImage, section: usize) -> usize;
     fn word(page: &[u8], view: &ViewImage, section: usize, entry: usize, word: usize) -> u64;
+    /// The number of the first console with a name; the largest number where there is none.
+    fn console_named(page: &[u8], view: &ViewImage, name: &[u8; 8]) -> usize;
     /// How many fields there are.
     fn field_count(page: &[u8], view: &ViewImage) -> usize;
     fn field(page: &[u8], view: &ViewImage, index: usize, field: &mut FieldImage);

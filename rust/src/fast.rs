@@ -123,6 +123,29 @@ fn pass_view(page: &[u8], view: &ViewImage, each: impl FnMut(u8, usize, usize)) 
     pass(page, from, each)
 }
 
+/// The words of a field; tag 3 is withdrawn.
+#[inline]
+fn words_of(tag: u8, at: usize, length: usize) -> FieldImage {
+    match tag {
+        3 => [2, 3, 0, 0],
+        _ => [1, tag.into(), at as u64, length as u64],
+    }
+}
+
+/// `pbeam_console_named`. A count or an offset that no page has finds nothing, so that no sum wraps.
+#[inline(never)]
+pub fn console_named(page: &[u8], view: &ViewImage, name: &[u8; 8]) -> usize {
+    let (kind, offset, count) = (view[6], view[7], view[8]);
+    if kind < 2 || offset > page.len() as u64 || count > page.len() as u64 / 48 {
+        return usize::MAX;
+    }
+    let wanted = word_at(name, 0);
+    let array = page[offset as usize..].get(..48 * count as usize);
+    let mut consoles = array.unwrap_or_default().chunks_exact(48);
+    let found = consoles.position(|console| word_at(console, 16) == wanted);
+    found.unwrap_or(usize::MAX)
+}
+
 /// `pbeam_field_count`.
 #[inline(never)]
 pub fn field_count(page: &[u8], view: &ViewImage) -> usize {
@@ -137,7 +160,7 @@ pub fn field(page: &[u8], view: &ViewImage, index: usize, field: &mut FieldImage
     let (mut left, mut found) = (index, [0; 4]);
     let end = pass_view(page, view, |tag, at, length| {
         if left == 0 {
-            found = [1, tag.into(), at as u64, length as u64];
+            found = words_of(tag, at, length);
         }
         left = left.wrapping_sub(1);
     });
@@ -150,7 +173,7 @@ pub fn field_of_tag(page: &[u8], view: &ViewImage, wanted: u8, field: &mut Field
     let mut found = [0; 4];
     let end = pass_view(page, view, |tag, at, length| {
         if tag == wanted && found[0] == 0 {
-            found = [1, tag.into(), at as u64, length as u64];
+            found = words_of(tag, at, length);
         }
     });
     *field = end.map_or([0; 4], |_| found);
@@ -169,7 +192,7 @@ pub fn field_next(page: &[u8], cursor: usize, field: &mut FieldImage) -> usize {
     if let Some(&[tag, low, high, ..]) = page.get(cursor..) {
         let length = usize::from(u16::from_le_bytes([low, high]));
         if tag != 0 && length <= page.len() - cursor - 3 {
-            *field = [1, tag.into(), cursor as u64 + 3, length as u64];
+            *field = words_of(tag, cursor + 3, length);
             return cursor + 3 + length;
         }
     }
@@ -190,7 +213,7 @@ fn may_follow(seen: &mut u8, tag: u8, length: usize) -> bool {
     fine && first
 }
 
-/// Whether these are fields up to the last byte, none of tag 0.
+/// Whether these are fields up to the last byte, none of tag 0 or of the withdrawn tag 3.
 #[inline(never)]
 fn bare(fields: &[u8]) -> bool {
     let (mut at, mut seen) = (0, 0u8);
@@ -200,7 +223,7 @@ fn bare(fields: &[u8]) -> bool {
             None => return false,
         };
         let (tag, length) = (head[0], usize::from(u16::from_le_bytes([head[1], head[2]])));
-        if tag == 0 || (tag <= 3 && !may_follow(&mut seen, tag, length)) {
+        if tag == 0 || tag == 3 || (tag < 3 && !may_follow(&mut seen, tag, length)) {
             return false;
         }
         at += 3 + length;

@@ -51,6 +51,12 @@ pub mod ffi {
             entry: usize,
             word: usize,
         ) -> u64;
+        pub fn pbeam_console_named(
+            page: *const u8,
+            page_len: usize,
+            view: *const ViewImage,
+            name: *const [u8; 8],
+        ) -> usize;
         pub fn pbeam_field_count(page: *const u8, page_len: usize, view: *const ViewImage)
             -> usize;
         pub fn pbeam_field(
@@ -334,6 +340,12 @@ impl Exports for Kit {
     fn word(page: &[u8], view: &ViewImage, section: usize, entry: usize, word: usize) -> u64 {
         let (page, page_len) = lend(page);
         unsafe { ffi::pbeam_word(page, page_len, view, section, entry, word) }
+    }
+
+    #[inline]
+    fn console_named(page: &[u8], view: &ViewImage, name: &[u8; 8]) -> usize {
+        let (page, page_len) = lend(page);
+        unsafe { ffi::pbeam_console_named(page, page_len, view, name) }
     }
 
     #[inline]

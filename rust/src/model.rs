@@ -13,13 +13,13 @@ use crate::reference::banks::set_up;
 use crate::reference::boot::{boot_code, BootError, Record};
 use crate::reference::codes::{Answer, Outcome};
 use crate::reference::features::{features, forward, key_update};
-use crate::reference::fields::{fields_end, split_field, Field};
+use crate::reference::fields::{fields_end, split_field, Shown};
 use crate::reference::granules::{delegate, delegate_list, undelegate, undelegate_list};
 use crate::reference::key::realm_key;
-use crate::reference::layout::{accepted_minor, Edition, ENTRY_WORDS, PAGE, SECTIONS};
+use crate::reference::layout::{accepted_minor, Edition, CONSOLE, ENTRY_WORDS, PAGE, SECTIONS};
 use crate::reference::listing::list;
 use crate::reference::queue::Queue;
-use crate::reference::reader::{array, fields, pointed, read, shown_word};
+use crate::reference::reader::{array, console_named, fields, pointed, read, shown_word};
 use crate::reference::realm_words;
 use crate::reference::runtime::{self, call, Call, Reply, State, PLAT_TOKEN, TOKEN_SIGN};
 use crate::reference::signing::{token_sign, SignCall};
@@ -63,21 +63,24 @@ impl Exports for Model {
         }
     }
 
+    fn console_named(page: &[u8], view: &ViewImage, name: &[u8; 8]) -> usize {
+        let part = part_of(page.len(), view, CONSOLE);
+        let found = part.and_then(|part| console_named(&page[part], name));
+        found.unwrap_or(usize::MAX)
+    }
+
     fn field_count(page: &[u8], view: &ViewImage) -> usize {
         fields(page, view[2]).len()
     }
 
     fn field(page: &[u8], view: &ViewImage, index: usize, field: &mut FieldImage) {
         let shown = fields(page, view[2]);
-        *field = shown
-            .get(index)
-            .map_or([0; 4], |shown| field_words(page, shown));
+        *field = field_words(page, shown.get(index));
     }
 
     fn field_of_tag(page: &[u8], view: &ViewImage, tag: u8, field: &mut FieldImage) {
         let shown = fields(page, view[2]);
-        let first = shown.iter().find(|field| field.tag == tag);
-        *field = first.map_or([0; 4], |shown| field_words(page, shown));
+        *field = field_words(page, shown.iter().find(|field| field.tag() == tag));
     }
 
     /// A cursor is an offset; the page's length is the one behind the last field.
@@ -91,12 +94,12 @@ impl Exports for Model {
 
     fn field_next(page: &[u8], cursor: usize, field: &mut FieldImage) -> usize {
         match page.get(cursor..).and_then(split_field) {
-            Some((shown, rest)) if shown.tag != 0 => {
-                *field = field_words(page, &shown);
+            Some((found, rest)) if found.tag != 0 => {
+                *field = field_words(page, Some(&found.shown()));
                 page.len() - rest.len()
             }
             _ => {
-                *field = [0; 4];
+                *field = field_words(page, None);
                 page.len()
             }
         }
@@ -422,10 +425,16 @@ fn fields_reach(page: &[u8], plat_data: u64) -> usize {
     }
 }
 
-/// A field of the page. An empty value has a place too: behind its length.
-fn field_words(page: &[u8], field: &Field) -> FieldImage {
-    let offset = field.value.as_ptr() as usize - page.as_ptr() as usize;
-    [1, field.tag.into(), offset as u64, field.value.len() as u64]
+/// A field of the page. An empty value has a place too, behind its length; a withdrawn one has none.
+fn field_words(page: &[u8], shown: Option<&Shown>) -> FieldImage {
+    match shown {
+        Some(Shown::Raw(field)) => {
+            let offset = field.value.as_ptr() as usize - page.as_ptr() as usize;
+            [1, field.tag.into(), offset as u64, field.value.len() as u64]
+        }
+        Some(Shown::Withdrawn) => [2, 3, 0, 0],
+        None => [0; 4],
+    }
 }
 
 /// Where a part of the page stands in it.

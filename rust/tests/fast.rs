@@ -1,5 +1,6 @@
 //! The reader and the writer that are written for speed, against the reference: the code and every word or byte, of random pages and
-//! lists and of the pages that real firmware wrote; what a view's manifest takes of the page, and the lookups of its fields.
+//! lists and of the pages that real firmware wrote; what a view's manifest takes of the page, the lookups of its fields and of
+//! a console by name.
 
 use potterbeam_tests::exports::Exports;
 use potterbeam_tests::fast;
@@ -71,6 +72,9 @@ fn lookups(random: &mut Random, page: &[u8], view: &[u64; 15]) {
     fast::field_of_tag(page, view, tag, &mut ours);
     Model::field_of_tag(page, view, tag, &mut theirs);
     assert_eq!(ours, theirs, "{view:x?} {tag}");
+    let name = random.asked_name(page, view);
+    let named = Model::console_named(page, view, &name);
+    assert_eq!(fast::console_named(page, view, &name), named);
     let start = Model::field_start(page, view);
     assert_eq!(fast::field_start(page, view), start);
     for cursor in [start, random.index(4100), random.edge() as usize] {

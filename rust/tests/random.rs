@@ -3,6 +3,7 @@
 use potterbeam_tests::random::calls::{Outcome, Step};
 use potterbeam_tests::random::Random;
 use potterbeam_tests::reference::boot::{boot_code, Record};
+use potterbeam_tests::reference::fields::Shown;
 use potterbeam_tests::reference::layout::word_at;
 use potterbeam_tests::reference::reader::{fields, read, Section};
 use potterbeam_tests::reference::runtime::Reply;
@@ -70,7 +71,11 @@ fn made_pages_are_read_as_told() {
         }
         let shown = fields(&page, view.plat_data);
         let mut again = Vec::new();
-        for field in &shown {
+        for shown in &shown {
+            let field = match shown {
+                Shown::Raw(field) => field,
+                Shown::Withdrawn => panic!("a withdrawn field was written"),
+            };
             again.push(field.tag);
             again.extend((field.value.len() as u16).to_le_bytes());
             again.extend_from_slice(field.value);

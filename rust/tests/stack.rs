@@ -376,6 +376,13 @@ fn looking_up(header: &mut Header) {
         header.within(("pbeam_word", what), &(), word, |()| {
             Kit::word(&page, &view, 1, 82, 4)
         });
+        for name in [CONSOLE[2], !0] {
+            let name = name.to_le_bytes();
+            let found = Model::console_named(&page, &view, &name);
+            header.within(("pbeam_console_named", what), &(), found, |()| {
+                Kit::console_named(&page, &view, &name)
+            });
+        }
     }
     looking_up_fields(header);
 }

@@ -226,6 +226,30 @@ static void check_lookups(void)
     SAME(pbeam_word(page, LEN, view, PBEAM_CONSOLE, 0, PBEAM_CONSOLE_FLAGS - 1), 115200);
 }
 
+/* The first of a name, by all of its bytes; none of another name, and none where the reader reads no consoles. */
+static void check_console_names(void)
+{
+    static const uint64_t names[] = {0x3131306C70, 0x6261312D74726175, 0x3131306C70};
+    uint64_t consoles[3 * PBEAM_CONSOLE_WORDS], view[ROOM];
+    uint8_t name[PBEAM_CONSOLE_NAME_BYTES + 1];
+    for (size_t i = 0; i < 3; i++) {
+        memcpy(consoles + PBEAM_CONSOLE_WORDS * i, console, sizeof console);
+        consoles[PBEAM_CONSOLE_WORDS * i + PBEAM_CONSOLE_NAME] = names[i];
+    }
+    SAME(pbeam_write(BASE, 3, NULL, 0, consoles, 3 * PBEAM_CONSOLE_WORDS, NULL, 0, NULL, 0, NULL, 0, page, LEN), PBEAM_WRITE_PAGE);
+    SAME(pbeam_read(page, LEN, BASE, 3, view), PBEAM_READ_ACCEPTED);
+    SAME(pbeam_console_named(page, LEN, view, (const uint8_t *)"pl011\0\0"), 0);
+    for (size_t i = 0; i < sizeof name; i++) {
+        memcpy(name, "uart-1ab#", sizeof name);
+        name[i]++;
+        SAME(pbeam_console_named(page, LEN, view, name), i < PBEAM_CONSOLE_NAME_BYTES ? PBEAM_CONSOLE_NONE : 1);
+    }
+    SAME(PBEAM_CONSOLE_NAME_BYTES, 8);
+    SAME(PBEAM_CONSOLE_NONE, SIZE_MAX);
+    SAME(pbeam_read(page, LEN, BASE, 2, view), PBEAM_READ_ACCEPTED);
+    SAME(pbeam_console_named(page, LEN, view, (const uint8_t *)"pl011\0\0"), PBEAM_CONSOLE_NONE);
+}
+
 static uint8_t facts[LEN];
 
 /* A field behind the others of a description; its value is of one byte, repeated. */
@@ -248,13 +272,14 @@ static uint32_t write_fact(uint8_t tag, size_t length)
     return write_facts(add(0, tag, length, 0x77));
 }
 
-/* The bytes of a page with fields, and how the lookups show each. */
+/* The bytes of a page with fields, and how the lookups show each. The withdrawn one is not to be written: its tag is put behind the writer's
+ * back. */
 static void check_fields(void)
 {
     uint64_t view[ROOM], field[ROOM];
     size_t used = add(0, PBEAM_TAG_NAME, 5, 'b'), cursor;
     used = add(used, PBEAM_TAG_SERIAL, PBEAM_SERIAL_BYTES, 0x5E);
-    used = add(used, PBEAM_TAG_CONSOLE, PBEAM_CHOICE_BYTES, 1);
+    used = add(used, 9, PBEAM_CHOICE_BYTES, 1);
     used = add(used, PBEAM_TAG_FREE, 0, 0);
     memset(page, 0xEE, sizeof page);
     SAME(write_facts(used), PBEAM_WRITE_PAGE);
@@ -263,21 +288,24 @@ static void check_fields(void)
     SAME(get(page + 16 + PBEAM_FIELD_LENGTH, 2), 5);
     SAME(page[16 + PBEAM_FIELD_VALUE], 'b');
     SAME(page[16 + used], PBEAM_TAG_END);
+    page[16 + 8 + 11 + PBEAM_FIELD_TAG] = PBEAM_TAG_CONSOLE;
     SAME(pbeam_read(page, LEN, BASE, 4, view), PBEAM_READ_ACCEPTED);
     SAME(pbeam_field_count(page, LEN, view), 4);
     guard(field);
     pbeam_field(page, LEN, view, 1, field);
     SAME(PBEAM_FIELD_WORDS, written(field));
-    SAME(field[PBEAM_FIELD_WORD_FOUND], 1);
+    SAME(field[PBEAM_FIELD_WORD_FOUND], PBEAM_FOUND_VALUE);
     SAME(field[PBEAM_FIELD_WORD_TAG], 2);
     SAME(field[PBEAM_FIELD_WORD_OFFSET], 16 + 8 + 3);
     SAME(field[PBEAM_FIELD_WORD_LENGTH], 8);
     guard(field);
     pbeam_field_of_tag(page, LEN, view, PBEAM_TAG_CONSOLE, field);
     SAME(PBEAM_FIELD_WORDS, written(field));
-    SAME(field[PBEAM_FIELD_WORD_OFFSET], 16 + 8 + 11 + 3);
+    SAME(field[PBEAM_FIELD_WORD_FOUND], PBEAM_FOUND_WITHDRAWN);
+    SAME(field[PBEAM_FIELD_WORD_TAG], 3);
+    SAME(field[PBEAM_FIELD_WORD_OFFSET] | field[PBEAM_FIELD_WORD_LENGTH], 0);
     pbeam_field_of_tag(page, LEN, view, 5, field);
-    SAME(field[PBEAM_FIELD_WORD_FOUND], 0);
+    SAME(field[PBEAM_FIELD_WORD_FOUND], PBEAM_FOUND_NONE);
     cursor = pbeam_field_start(page, LEN, view);
     SAME(cursor, 16);
     for (uint64_t tag = 1; tag < 5; tag++) {
@@ -291,6 +319,15 @@ static void check_fields(void)
     SAME(field[PBEAM_FIELD_WORD_FOUND], 0);
 }
 
+/* What the reader says of a withdrawn field with so long a value. */
+static int32_t read_withdrawn(size_t length)
+{
+    uint64_t view[PBEAM_VIEW_WORDS];
+    SAME(write_fact(9, length), PBEAM_WRITE_PAGE);
+    page[16 + PBEAM_FIELD_TAG] = PBEAM_TAG_CONSOLE;
+    return pbeam_read(page, LEN, BASE, 4, view);
+}
+
 /* Each limit from both sides. */
 static void check_field_limits(void)
 {
@@ -300,8 +337,10 @@ static void check_field_limits(void)
     SAME(write_fact(PBEAM_TAG_NAME, PBEAM_NAME_MOST + 1), PBEAM_WRITE_W3_LISTS);
     SAME(write_fact(PBEAM_TAG_SERIAL, PBEAM_SERIAL_BYTES), PBEAM_WRITE_PAGE);
     SAME(write_fact(PBEAM_TAG_SERIAL, PBEAM_SERIAL_BYTES + 1), PBEAM_WRITE_W3_LISTS);
-    SAME(write_fact(PBEAM_TAG_CONSOLE, PBEAM_CHOICE_BYTES), PBEAM_WRITE_PAGE);
-    SAME(write_fact(PBEAM_TAG_CONSOLE, PBEAM_CHOICE_BYTES + 1), PBEAM_WRITE_W3_LISTS);
+    SAME(write_fact(PBEAM_TAG_CONSOLE, PBEAM_CHOICE_BYTES), PBEAM_WRITE_W3_LISTS);
+    SAME(read_withdrawn(PBEAM_CHOICE_BYTES), PBEAM_READ_ACCEPTED);
+    SAME(read_withdrawn(PBEAM_CHOICE_BYTES - 1), PBEAM_MANIFEST_RULES);
+    SAME(read_withdrawn(PBEAM_CHOICE_BYTES + 1), PBEAM_MANIFEST_RULES);
     SAME(write_fact(PBEAM_TAG_FREE - 1, 0), PBEAM_WRITE_W3_LISTS);
     SAME(write_fact(PBEAM_TAG_FREE, 0), PBEAM_WRITE_PAGE);
     SAME(write_fact(PBEAM_TAG_END, 0), PBEAM_WRITE_W3_LISTS);
@@ -1296,6 +1335,7 @@ int main(int argc, char **argv)
     check_padding_and_plat_data();
     check_view();
     check_lookups();
+    check_console_names();
     check_fields();
     check_field_limits();
     check_listing();

@@ -12,6 +12,7 @@ struct signatures {
     void (*array_of)(bytes, size_t, words, size_t, uint64_t *);
     size_t (*count)(bytes, size_t, words, size_t);
     uint64_t (*word)(bytes, size_t, words, size_t, size_t, size_t);
+    size_t (*console_named)(bytes, size_t, words, bytes);
     size_t (*field_count)(bytes, size_t, words);
     void (*field)(bytes, size_t, words, size_t, uint64_t *);
     void (*field_of_tag)(bytes, size_t, words, uint8_t, uint64_t *);
@@ -52,7 +53,7 @@ struct signatures {
 
 #define SIGNATURES                                                                                                             \
     {                                                                                                                          \
-        pbeam_read, pbeam_array, pbeam_array_of, pbeam_count, pbeam_word, pbeam_field_count, pbeam_field,                      \
+        pbeam_read, pbeam_array, pbeam_array_of, pbeam_count, pbeam_word, pbeam_console_named, pbeam_field_count, pbeam_field, \
             pbeam_field_of_tag, pbeam_field_start, pbeam_field_next, pbeam_kept_for, pbeam_listing, pbeam_write,               \
             pbeam_cold_boot, pbeam_warm_boot, pbeam_close, pbeam_version_accepted, pbeam_agreed_minor, pbeam_is_later,         \
             pbeam_set_up_granules, pbeam_delegate, pbeam_undelegate, pbeam_delegate_list, pbeam_undelegate_list,               \

@@ -170,6 +170,33 @@ static void check_writer(void)
     SAME(memcmp(&page, &other, sizeof page), 0);
 }
 
+/* A withdrawn field: found, with its tag, and without a byte. No writer makes one, so its tag is put behind the writer's back. */
+static void check_withdrawn(void)
+{
+    static const uint8_t value[] = {5};
+    uint8_t fields[4];
+    pbeam_lists_t told = lists;
+    pbeam_view_t view;
+    pbeam_field_t field;
+    size_t used = 0, cursor;
+    SAME(pbeam_fields_add(fields, sizeof fields, &used, PBEAM_TAG_CONSOLE, pbeam_bytes(value, 1)), true);
+    told.fields = pbeam_bytes(fields, used);
+    SAME(pbeam_manifest_write(BASE, 4, &told, &page), PBEAM_WRITE_W3_LISTS);
+    fields[PBEAM_FIELD_TAG] = 9;
+    SAME(pbeam_manifest_write(BASE, 4, &told, &page), PBEAM_WRITE_PAGE);
+    SAME(pbeam_manifest_read(&page, BASE, 4, &view), PBEAM_READ_ACCEPTED);
+    cursor = pbeam_view_field_start(&page, &view);
+    page.bytes[cursor + PBEAM_FIELD_TAG] = PBEAM_TAG_CONSOLE;
+    field = pbeam_view_field(&page, &view, 0);
+    SAME(pbeam_field_found(&field), true);
+    SAME(pbeam_field_withdrawn(&field), true);
+    SAME(pbeam_field_tag(&field), PBEAM_TAG_CONSOLE);
+    SAME(pbeam_field_value(&page, &field).at == NULL, 1);
+    SAME(pbeam_field_value(&page, &field).length, 0);
+    field.words[PBEAM_FIELD_WORD_FOUND] = PBEAM_FOUND_VALUE;
+    SAME(pbeam_field_withdrawn(&field), false);
+}
+
 /* A description of a name, a serial and an empty field, and what the page shows of it. */
 static void check_fields(void)
 {
@@ -210,6 +237,7 @@ static void check_fields(void)
     SAME(pbeam_field_value(&page, &field).at == NULL, 1);
     field = pbeam_view_field_of_tag(&page, &view, PBEAM_TAG_CONSOLE);
     SAME(pbeam_field_found(&field), false);
+    SAME(pbeam_field_withdrawn(&field), false);
     SAME(pbeam_field_value(&page, &field).at == NULL, 1);
     used = 0;
     SAME(pbeam_fields_add(fields, sizeof fields, &used, 9, pbeam_bytes(serial, PBEAM_FIELD_VALUE_MOST + 1)), false);
@@ -276,6 +304,31 @@ static void check_entries(const pbeam_view_t *view)
     SAME(none.base | none.map_pages | none.name | none.clk_in_hz | none.baud_rate | none.flags, 0);
     SAME(pbeam_view_word(&page, view, PBEAM_CONSOLE, 0, PBEAM_CONSOLE_BAUD_RATE), 115200);
     SAME(pbeam_view_word(&page, view, PBEAM_CONSOLE, 0, PBEAM_CONSOLE_WORDS), 0);
+}
+
+/* Two of one name: the first. A name that is not there, or too long, gives zeros. */
+static void check_console_named(void)
+{
+    static const char *const others[] = {"pl01", "pl0111", "PL011", "", "uart-1ab9"};
+    pbeam_console_t three[3], found;
+    const pbeam_lists_t told = {NULL, 0, three, 3, NULL, 0, NULL, 0, {NULL, 0}};
+    pbeam_view_t view;
+    for (size_t i = 0; i < 3; i++) {
+        three[i] = console[0];
+        three[i].base += 4096 * i;
+    }
+    SAME(pbeam_console_set_name(&three[0], "uart-1ab"), true);
+    SAME(pbeam_manifest_write(BASE, 4, &told, &page), PBEAM_WRITE_PAGE);
+    SAME(pbeam_manifest_read(&page, BASE, 4, &view), PBEAM_READ_ACCEPTED);
+    SAME(pbeam_view_console_named(&page, &view, "pl011", &found), true);
+    SAME(memcmp(&found, &three[1], sizeof found), 0);
+    SAME(pbeam_view_console_named(&page, &view, "uart-1ab", &found), true);
+    SAME(memcmp(&found, &three[0], sizeof found), 0);
+    for (size_t i = 0; i < sizeof others / sizeof others[0]; i++) {
+        found = console[0];
+        SAME(pbeam_view_console_named(&page, &view, others[i], &found), false);
+        SAME(found.base | found.map_pages | found.name | found.clk_in_hz | found.baud_rate | found.flags, 0);
+    }
 }
 
 static void check_view(void)
@@ -680,6 +733,8 @@ int main(void)
     check_writer();
     check_listing();
     check_fields();
+    check_withdrawn();
+    check_console_named();
     check_counts_that_wrap();
     check_view();
     check_version();

@@ -13,6 +13,8 @@ use Rattle.codes.specs.declared.Work.{Work}
 use Rattle.codes.specs.declared.Work.the-variants.{Nothing, Reprogram}
 use Rattle.lookup.specs.declared.FieldPlace.{FieldPlace}
 use Rattle.lookup.specs.declared.FieldPlace.the-variants as place
+use Rattle.lookup.specs.declared.ConsoleFound.{ConsoleFound}
+use Rattle.lookup.specs.declared.ConsoleFound.the-variants as found
 use Rattle.reader.specs.Answer.{ReaderAnswer, refused, shows}
 use Rattle.reader.specs.Reading.{viewAt}
 use Rattle.reader.specs.declared.Section.{Section}
@@ -128,10 +130,17 @@ wroteNumber Room = 5
 unfoldable pub spanWords : Span → List ℕ
 spanWords p = p .at ∷ p .len ∷ []
 
--- ---- a field that is asked for: 0 for none or 1, its tag, and the offset and the length of its value
+-- ---- a field that is asked for: 0 for none; 1, its tag, and the offset and the length of its value; or 2 and its tag for one that is
+-- withdrawn
 unfoldable pub fieldWords : FieldPlace → List ℕ
 fieldWords (place.Raw t at n) = 1 ∷ t ∷ at ∷ n ∷ []
+fieldWords place.Withdrawn = 2 ∷ 3 ∷ 0 ∷ 0 ∷ []
 fieldWords place.Nothing = 0 ∷ 0 ∷ 0 ∷ 0 ∷ []
+
+-- ---- a console that is asked for by its name: its number, or the largest number for none
+unfoldable pub consoleNumber : ConsoleFound → ℕ
+consoleNumber (found.At i) = i
+consoleNumber found.Nothing = 0xFFFF_FFFF_FFFF_FFFF
 
 -- ---- the dispatcher's reply: the result registers, zeros for 0xC400018F, which has none; and what the platform has to do, 2 being an
 -- error code to forward to the Non-secure world

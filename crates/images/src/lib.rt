@@ -5,6 +5,7 @@ use boot::Record;
 use codes::Answer;
 use codes::Code;
 use codes::Work;
+use lookup::ConsoleFound;
 use lookup::FieldPlace;
 use reader::Section;
 use reader::View;
@@ -21,7 +22,7 @@ ghost use lib.ListN.{length};
 ghost use Rattle.codes.specs.Codes.{ifOk};
 ghost use Rattle.lookup.specs.Kept.{keptFor};
 ghost use Rattle.runtime.specs.Step.{replyCode};
-ghost use Rattle.images.specs.Image.{recordOf, recordWords, isSet, sessionOf, sessionWords, registerWords, workWords, sectionIn, viewOf, spanWords, fieldWords, wroteNumber, replyRegisters, replyWords};
+ghost use Rattle.images.specs.Image.{recordOf, recordWords, isSet, sessionOf, sessionWords, registerWords, workWords, sectionIn, viewOf, spanWords, fieldWords, consoleNumber, wroteNumber, replyRegisters, replyWords};
 ghost use Rattle.images.specs.Realm.{numberX0, numberWords, hitX0, hitWords, agreementX0, builtX0};
 
 pub fn record_of(image: &[u64; 5]) -> Record
@@ -179,7 +180,18 @@ pub fn field_words(field: FieldPlace) -> [u64; 4]
             let number = tag as u64;
             [1, number, at as u64, len as u64]
         }
+        FieldPlace::Withdrawn => [2, 3, 0, 0],
         FieldPlace::Nothing => [0u64; 4],
+    }
+}
+
+// The number of a console that is asked for by its name; the largest number where there is none.
+pub fn console_number(found: ConsoleFound) -> usize
+    ensures { λ r. ⌜ r ≡ consoleNumber found ⌝ }
+{
+    match found {
+        ConsoleFound::At(i) => i,
+        ConsoleFound::Nothing => 0xFFFF_FFFF_FFFF_FFFF,
     }
 }
 

@@ -17,6 +17,7 @@ ghost use Rattle.reader.specs.Reading.{sectionOf, readingAnswer, sectionAt, vie
 ghost use Rattle.reader.specs.declared.Reading.the-variants.{Accepted};
 ghost use Rattle.lookup.specs.Lookup.{spanOf, spanIn};
 ghost use Rattle.lookup.specs.Fields.{firstIn, restIn, nthIn, ofTag, fieldAs, shownFrom, stepAt, startAt, nthPlace, tagPlace};
+ghost use Rattle.lookup.specs.Consoles.{consoleNamed};
 ghost use Rattle.lookup.specs.Kept.{keptFor};
 ghost use Rattle.text.specs.Text.{lay, listingOf};
 ghost use Rattle.lists.specs.Description.{descriptionOf};
@@ -35,7 +36,7 @@ ghost use mathlib.Core.Bool.{true, false};
 ghost use Rattle.codes.specs.Codes.{x0Of};
 ghost use Rattle.token.specs.Token.{bufferCode, challengeSpan};
 ghost use Rattle.features.specs.Features.{featuresOf, updateOf, forwardOf};
-ghost use Rattle.images.specs.Image.{recordOf, recordWords, registerWords, workWords, sectionWords, viewOf, viewWords, answerWords, madeNumber, spanWords, fieldWords};
+ghost use Rattle.images.specs.Image.{recordOf, recordWords, registerWords, workWords, sectionWords, viewOf, viewWords, answerWords, madeNumber, spanWords, fieldWords, consoleNumber};
 ghost use Rattle.images.specs.Realm.{numberX0, numberWords, hitX0, hitWords, agreementX0};
 ghost use Rattle.queue_image.specs.Image.{listsIn, oldestWords};
 ghost use Rattle.potterbeam.specs.Exports.{writeIn, SetUpLeft, setUpIn, MoveLeft, moveIn, moveListIn, BuildLeft, buildIn, TokenLeft, tokenIn, SigningLeft, signingIn, SignLeft, signIn, PlainLeft, plainIn, CallLeft, callLent, callIn};
@@ -149,6 +150,14 @@ pub extern "C" fn pbeam_word(
     ensures { λ r. ⌜ r ≡ wordIn (readingAnswer (now (page .entry)) (Accepted (viewOf (now (view .entry))))) section entry word ⌝ }
 {
     lookup::word_of(page, images::view_of(view), section, entry, word)
+}
+
+// The number of a view's first console whose name's 8 bytes are those given; the largest number where there is none.
+#[no_mangle]
+pub extern "C" fn pbeam_console_named(page: &[u8], view: &[u64; 15], name: &[u8; 8]) -> usize
+    ensures { λ r. ⌜ r ≡ consoleNumber (consoleNamed (readingAnswer (now (page .entry)) (Accepted (viewOf (now (view .entry))))) (now (name .entry))) ⌝ }
+{
+    images::console_number(lookup::find_console(page, images::view_of(view), name))
 }
 
 // How many fields a view shows.

@@ -1,5 +1,6 @@
 //! Images as they may be lent: those of states, and those that no state has.
 
+use super::pages::NAMES;
 use super::Random;
 use crate::exports::{QueueImage, RecordImage, SessionImage, ViewImage};
 use crate::images::{queue_words, record_words, session_words};
@@ -60,6 +61,22 @@ impl Random {
         for _ in 0..self.between(1, 2) {
             view[self.index(15)] = self.view_word();
         }
+    }
+
+    /// A name to ask a view's consoles for: that of one of them, maybe with a bit changed, or any.
+    pub fn asked_name(&mut self, page: &[u8], view: &ViewImage) -> [u8; 8] {
+        let entry = self.below(view[8].clamp(1, 85));
+        let at = view[7].saturating_add(48 * entry + 16).min(PAGE as u64) as usize;
+        let mut name = match page.get(at..at + 8) {
+            Some(name) => name.try_into().expect("8 bytes"),
+            None => self.pick(&NAMES),
+        };
+        match self.below(8) {
+            0 => name = self.pick(&NAMES),
+            1 => name[self.index(8)] ^= 1 << self.below(8),
+            _ => {}
+        }
+        name
     }
 
     fn view_word(&mut self) -> u64 {

@@ -41,7 +41,7 @@ impl Random {
             base: self.base(),
             edition,
             lists: std::array::from_fn(|k| self.entries(k, counts[k])),
-            fields: self.fields(PAGE - newest.core() - 8 * words),
+            fields: self.fields(PAGE - newest.core() - 8 * words, [1, 2]),
             page: vec![self.word() as u8; PAGE],
         }
     }
@@ -53,7 +53,7 @@ impl Random {
     fn spoil(&mut self, writing: &mut Writing) {
         let k = self.index(SECTIONS);
         let list = &mut writing.lists[k];
-        match self.below(18) {
+        match self.below(19) {
             0 => writing.base = self.any_base(),
             1 => writing.edition = self.any_edition(),
             2 => {
@@ -85,6 +85,14 @@ impl Random {
             14 => drop(writing.fields.pop()),
             15 => writing.fields.extend_from_within(..),
             16 | 17 => self.spoil_fields(&mut writing.fields),
+            // The withdrawn field, behind the others or before them.
+            18 => {
+                let mut fields = Vec::new();
+                let value = self.bytes(1);
+                push_field(&mut fields, 3, &value);
+                let at = self.pick(&[0, writing.fields.len()]);
+                writing.fields.splice(at..at, fields);
+            }
             _ => self.spoil_word(list),
         }
     }

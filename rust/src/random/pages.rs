@@ -9,6 +9,15 @@ use std::ops::Range;
 /// Pages of memory: 2^52 bytes.
 const MEMORY_PAGES: u64 = 1 << 40;
 
+/// Names of consoles, padded with zeros.
+pub(super) const NAMES: [[u8; 8]; 5] = [
+    *b"pl011\0\0\0",
+    *b"pl011\0\0x",
+    *b"uart-1ab",
+    *b"uart-1ac",
+    [0; 8],
+];
+
 /// A page to read, at a base, by a reader of an edition.
 #[derive(Clone, Debug)]
 pub struct Reading {
@@ -183,7 +192,7 @@ impl Random {
         let most = hole.len() as u64 - 3;
         let any = self.below(most + 1);
         let mut from = hole.start + self.pick(&[0, 0, most, any]) as usize;
-        let fields = self.fields(hole.end - from);
+        let fields = self.fields(hole.end - from, [1, 2, 3]);
         let end = from + fields.len() + 3;
         if self.one_in(4) {
             // The mark up to the hole's end.
@@ -194,10 +203,9 @@ impl Random {
         page[from + fields.len()..][..3].fill(0);
     }
 
-    /// Good fields that fit with their end mark into so many bytes; often none.
-    pub(super) fn fields(&mut self, room: usize) -> Vec<u8> {
+    /// Good fields that fit with their end mark into so many bytes; often none. Some tags appear at most once.
+    pub(super) fn fields<const N: usize>(&mut self, room: usize, mut once: [u8; N]) -> Vec<u8> {
         let mut fields = Vec::new();
-        let mut once = [1, 2, 3];
         self.shuffle(&mut once);
         let mut once = once.into_iter();
         let count = self.pick(&[0, 1, 2, 3, 5, 40, 2000]);
@@ -344,10 +352,18 @@ impl Random {
             _ => (self.below(1 << 24), self.between(1, 1 << 20)),
         };
         if k == CONSOLE {
-            let [name, clock, baud] = [self.free_word(), self.free_word(), self.free_word()];
+            let [name, clock, baud] = [self.name(), self.free_word(), self.free_word()];
             vec![4096 * first, pages, name, clock, baud, 0]
         } else {
             vec![4096 * first, 4096 * pages]
+        }
+    }
+
+    /// A console's name: one of a few, so that some are met twice, or anything.
+    fn name(&mut self) -> u64 {
+        match self.one_in(2) {
+            true => u64::from_le_bytes(self.pick(&NAMES)),
+            false => self.free_word(),
         }
     }
 

@@ -1,4 +1,5 @@
-//! Board facts in the platform data (02, E7): fields of one byte of tag, two of length and the value, up to an end mark.
+//! Board facts in the platform data (02, E7): fields of one byte of tag, two of length and the value, up to an end mark. Tag 3 is
+//! withdrawn (02, E10): it keeps its rules, but is shown without its value, and no description may hold it.
 
 /// Bytes of a field before its value, and of the end mark.
 pub const HEAD: usize = 3;
@@ -8,6 +9,34 @@ pub const HEAD: usize = 3;
 pub struct Field<'a> {
     pub tag: u8,
     pub value: &'a [u8],
+}
+
+/// The tag of the console choice.
+const WITHDRAWN: u8 = 3;
+
+/// A field as it is shown: the withdrawn one without its value.
+#[derive(Clone, Copy, Debug, PartialEq, Eq)]
+pub enum Shown<'a> {
+    Raw(Field<'a>),
+    Withdrawn,
+}
+
+impl<'a> Field<'a> {
+    pub fn shown(self) -> Shown<'a> {
+        match self.tag {
+            WITHDRAWN => Shown::Withdrawn,
+            _ => Shown::Raw(self),
+        }
+    }
+}
+
+impl Shown<'_> {
+    pub fn tag(&self) -> u8 {
+        match self {
+            Shown::Raw(field) => field.tag,
+            Shown::Withdrawn => WITHDRAWN,
+        }
+    }
 }
 
 /// The field that the bytes begin with, and what follows it; none where it is not whole.
@@ -31,7 +60,7 @@ impl Met {
         let lengths = match field.tag {
             1 => 1..=32,
             2 => 8..=8,
-            3 => 1..=1,
+            WITHDRAWN => 1..=1,
             _ => return true,
         };
         let met = std::mem::replace(&mut self.0[usize::from(field.tag)], true);
@@ -55,27 +84,34 @@ pub fn fields_end(bytes: &[u8]) -> Option<usize> {
     }
 }
 
-/// The fields in their order; none where they are broken.
-pub fn fields_of(bytes: &[u8]) -> Vec<Field<'_>> {
+/// The fields in their order, as they are shown; none where they are broken.
+pub fn fields_of(bytes: &[u8]) -> Vec<Shown<'_>> {
     let mut fields = Vec::new();
     let mut rest = &bytes[..fields_end(bytes).unwrap_or(0)];
     while let Some((field, behind)) = split_field(rest) {
         if field.tag != 0 {
-            fields.push(field);
+            fields.push(field.shown());
         }
         rest = behind;
     }
     fields
 }
 
-/// Whether a description may be written: whole fields that keep the rules, none of tag 0.
+/// Whether a description may be written: whole fields that keep the rules, none of tag 0 and none that is withdrawn.
 pub fn description_ok(bytes: &[u8]) -> bool {
     let mut met = Met::default();
     let mut rest = bytes;
     while !rest.is_empty() {
         match split_field(rest) {
-            Some((field, behind)) if field.tag != 0 && met.allow(field) => rest = behind,
-            _ => return false,
+            Some((
+                Field {
+                    tag: 0 | WITHDRAWN, ..
+                },
+                _,
+            ))
+            | None => return false,
+            Some((field, behind)) if met.allow(field) => rest = behind,
+            Some(_) => return false,
         }
     }
     true

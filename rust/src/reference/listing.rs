@@ -1,5 +1,6 @@
 //! The listing's text.
 
+use super::fields::Shown;
 use super::layout::{word_at, CONSOLE, ENTRY_WORDS};
 use super::reader::{array, fields, read, shown_word, Refusal, Section};
 use std::fmt::{Result, Write};
@@ -33,11 +34,7 @@ pub fn list(out: &mut impl Write, page: &[u8], base: u64, edition: u64) -> Resul
         pointer => writeln!(out, "platform {pointer:#018x}")?,
     }
     for field in fields(page, view.plat_data) {
-        write!(out, "{} {}", field.tag, field.value.len())?;
-        for byte in field.value {
-            write!(out, " {byte:02x}")?;
-        }
-        writeln!(out)?;
+        list_field(out, field)?;
     }
     for (k, name) in NAMES.into_iter().enumerate() {
         match view.sections[k] {
@@ -54,6 +51,19 @@ pub fn list(out: &mut impl Write, page: &[u8], base: u64, edition: u64) -> Resul
 
 fn list_refusal(out: &mut impl Write, refusal: Refusal) -> Result {
     writeln!(out, "refused {}", refusal.code())
+}
+
+fn list_field(out: &mut impl Write, shown: Shown) -> Result {
+    match shown {
+        Shown::Raw(field) => {
+            write!(out, "{} {}", field.tag, field.value.len())?;
+            for byte in field.value {
+                write!(out, " {byte:02x}")?;
+            }
+        }
+        Shown::Withdrawn => write!(out, "{} withdrawn", shown.tag())?,
+    }
+    writeln!(out)
 }
 
 fn list_entries(out: &mut impl Write, minor: u16, array: &[u8], k: usize) -> Result {

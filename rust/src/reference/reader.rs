@@ -1,7 +1,7 @@
 //! The manifest reader.
 
 use super::entries::{bank_sum, console_sum};
-use super::fields::{fields_end, fields_of, Field};
+use super::fields::{fields_end, fields_of, Shown};
 use super::layout::{
     accepted_minor, half_at, header_offset, placed, word_at, Edition, CONSOLE, ENTRY_WORDS, PAGE,
     SECTIONS,
@@ -81,6 +81,12 @@ pub fn shown_word(minor: u64, k: usize, entry: &[u8], i: usize) -> u64 {
     }
 }
 
+/// The number of the first console with a name, which is 8 bytes with its zeros, in the array of consoles.
+pub fn console_named(consoles: &[u8], name: &[u8; 8]) -> Option<usize> {
+    let mut entries = consoles.chunks_exact(8 * ENTRY_WORDS[CONSOLE]);
+    entries.position(|entry| entry[16..24] == name[..])
+}
+
 /// What a platform pointer points at, up to the page's end; nothing without one.
 pub fn pointed(page: &[u8], plat_data: u64) -> &[u8] {
     // The base is a multiple of a page's length.
@@ -92,7 +98,7 @@ pub fn pointed(page: &[u8], plat_data: u64) -> &[u8] {
 }
 
 /// The fields of a page that was accepted with this pointer, in page order.
-pub fn fields(page: &[u8], plat_data: u64) -> Vec<Field<'_>> {
+pub fn fields(page: &[u8], plat_data: u64) -> Vec<Shown<'_>> {
     fields_of(pointed(page, plat_data))
 }
 

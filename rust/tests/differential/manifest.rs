@@ -3,9 +3,13 @@
 use crate::calls;
 use crate::memory::Image;
 use crate::pair::Pair;
-use potterbeam_tests::exports::Exports;
+use potterbeam_tests::exports::{Exports, ViewImage};
+use potterbeam_tests::kit::Kit;
 use potterbeam_tests::model::Model;
 use potterbeam_tests::random::pages::Reading;
+use potterbeam_tests::random::Random;
+use potterbeam_tests::reference::fields::split_field;
+use potterbeam_tests::reference::layout::word_at;
 
 #[test]
 fn reader_and_lookups() {
@@ -25,18 +29,19 @@ fn reader_and_lookups() {
         }
     }
     pair.print_counts();
-    // Of a lookup the answer noted is whether there was anything, of a listing whether it was cut.
+    // Of a lookup the answer noted is whether there was anything, of a field whether it was withdrawn too, of a listing whether it was cut.
     pair.expect(&[
         ("pbeam_read", 0, &[0, -5, -6, -7]),
         ("pbeam_array", 0, &[0, 1]),
         ("pbeam_array_of", 0, &[0, 1]),
         ("pbeam_count", 0, &[0, 1]),
         ("pbeam_word", 0, &[0, 1]),
+        ("pbeam_console_named", 0, &[0, 1]),
         ("pbeam_field_count", 0, &[0, 1]),
-        ("pbeam_field", 0, &[0, 1]),
-        ("pbeam_field_of_tag", 0, &[0, 1]),
+        ("pbeam_field", 0, &[0, 1, 2]),
+        ("pbeam_field_of_tag", 0, &[0, 1, 2]),
         ("pbeam_field_start", 0, &[0, 1]),
-        ("pbeam_field_next", 0, &[0, 1]),
+        ("pbeam_field_next", 0, &[0, 1, 2]),
         ("pbeam_kept_for", 0, &[0, 1]),
         ("pbeam_listing", 0, &[0, 1]),
     ]);
@@ -132,6 +137,16 @@ fn look(pair: &mut Pair) {
         m.returned = S::word(m.page.lent(), &m.images.view.words, section, entry, word) as i64;
     });
     pair.meet("pbeam_word", 0, i64::from(pair.model.returned != 0));
+    let (page, view) = (pair.model.page.lent(), &pair.model.images.view.words);
+    let name = pair.random.asked_name(page, view);
+    check!(pair, "pbeam_console_named", (name), |S, m| {
+        m.returned = S::console_named(m.page.lent(), &m.images.view.words, &name) as i64;
+    });
+    pair.meet(
+        "pbeam_console_named",
+        0,
+        i64::from(pair.model.returned >= 0),
+    );
 }
 
 /// The lookups of fields in the same view, and a walk over some of them.
@@ -186,6 +201,74 @@ fn look_fields(pair: &mut Pair) {
 
 fn meet_field(pair: &mut Pair, name: &'static str) {
     pair.meet(name, 0, pair.model.images.field.words[0] as i64);
+}
+
+/// Where the value of tag 3 stands in a page whose fields begin at an offset.
+fn withdrawn_value(page: &[u8], from: usize) -> Option<usize> {
+    let mut rest = &page[from..];
+    while let Some((field, behind)) = split_field(rest) {
+        match field.tag {
+            0 => return None,
+            3 => return Some(page.len() - behind.len() - 1),
+            _ => rest = behind,
+        }
+    }
+    None
+}
+
+/// All that the library tells of a page but the bytes that a place of it holds: code, view, listing, fields by number, by tag and by the
+/// walk, with its cursors, and what the manifest takes.
+fn told(page: &[u8], base: u64, edition: u64) -> (i32, ViewImage, Vec<u8>, Vec<u64>) {
+    let (mut view, mut text) = ([0; 15], vec![0; 12336]);
+    let code = Kit::read(page, base, edition, &mut view);
+    let length = Kit::listing(page, base, edition, &mut text);
+    text.truncate(length);
+    let (mut words, mut field) = (vec![Kit::kept_for(page, &view)], [0; 4]);
+    let mut cursor = Kit::field_start(page, &view);
+    for i in 0..=Kit::field_count(page, &view) {
+        Kit::field(page, &view, i, &mut field);
+        words.extend(field);
+        words.push(cursor as u64);
+        cursor = Kit::field_next(page, cursor, &mut field);
+        words.extend(field);
+    }
+    for tag in 0..=255 {
+        Kit::field_of_tag(page, &view, tag, &mut field);
+        words.extend(field);
+    }
+    (code, view, text, words)
+}
+
+/// 02, E10: pages that differ in the withdrawn value alone get the same answers, whichever reader asks; and no word of them is the place of
+/// the value.
+#[test]
+fn withdrawn_value_is_in_no_answer() {
+    let mut random = Random::new(23);
+    let [mut pages, mut accepted] = [0; 2];
+    for _ in 0..calls() {
+        let Reading { base, mut page, .. } = random.valid_page();
+        let plat = word_at(&page, 8);
+        let from = (plat % 4096) as usize;
+        let at = match withdrawn_value(&page, from) {
+            Some(at) if plat != 0 => at,
+            _ => continue,
+        };
+        pages += 1;
+        let before: Vec<_> = (1..=4).map(|e| told(&page, base, e)).collect();
+        page[at] ^= random.between(1, 255) as u8;
+        let after: Vec<_> = (1..=4).map(|e| told(&page, base, e)).collect();
+        assert_eq!(before, after);
+        for (code, view, ..) in after {
+            if code == 0 {
+                accepted += 1;
+                let mut field = [0; 4];
+                Kit::field_of_tag(&page, &view, 3, &mut field);
+                assert_eq!(field, [2, 3, 0, 0]);
+            }
+        }
+    }
+    println!("{pages} pages with tag 3, {accepted} readings accepted");
+    assert!(pages > calls() / 50 && accepted > pages);
 }
 
 fn meet_place(pair: &mut Pair, name: &'static str) {

@@ -44,7 +44,14 @@ fn print_reading(out: &mut String, input: &[u8]) {
             let [there, tag, at, length] = field;
             let value = &page[at as usize..][..length as usize];
             let tag = tag as u8;
-            (there == 1).then_some(Field { tag, value })
+            match there {
+                0 => None,
+                1 => Some(Shown::Raw(Field { tag, value })),
+                _ => {
+                    assert_eq!(field, [2, 3, 0, 0]);
+                    Some(Shown::Withdrawn)
+                }
+            }
         };
         print_fields(
             out,
@@ -53,6 +60,10 @@ fn print_reading(out: &mut String, input: &[u8]) {
             |i| asked(&|field| Kit::field(page, &view, i, field)),
         );
         print_walk(page, &view);
+        print_consoles(out, |name| {
+            let found = Kit::console_named(page, &view, name);
+            (found != usize::MAX).then_some(found)
+        });
     }
 }
 
@@ -70,7 +81,7 @@ fn print_walk(page: &[u8], view: &ViewImage) {
 
 #[test]
 fn reader() {
-    compare("reader_vectors", 808, |out, input| {
+    compare("reader_vectors", 838, |out, input| {
         if input.len() >= 16 {
             print_reading(out, input);
         }
@@ -114,7 +125,7 @@ fn print_writing(out: &mut String, input: &[u8]) {
 
 #[test]
 fn writer() {
-    compare("writer_vectors", 435, print_writing);
+    compare("writer_vectors", 442, print_writing);
 }
 
 // ---- Boot ----

@@ -10,13 +10,13 @@ use potterbeam_tests::model::Model;
 use potterbeam_tests::reference::boot::{boot_code, Kept, Record};
 use potterbeam_tests::reference::codes::{Answer, Outcome};
 use potterbeam_tests::reference::features::{features, forward, key_update};
-use potterbeam_tests::reference::fields::Field;
+use potterbeam_tests::reference::fields::{Field, Shown};
 use potterbeam_tests::reference::granules::{delegate, delegate_list, undelegate, undelegate_list};
 use potterbeam_tests::reference::key::realm_key;
-use potterbeam_tests::reference::layout::word_at;
+use potterbeam_tests::reference::layout::{word_at, CONSOLE};
 use potterbeam_tests::reference::listing::{list, list_input};
 use potterbeam_tests::reference::queue::{Queue, Request, Response, Ring, PLACES};
-use potterbeam_tests::reference::reader::{array, fields, read};
+use potterbeam_tests::reference::reader::{array, console_named, fields, read};
 use potterbeam_tests::reference::realm_words;
 use potterbeam_tests::reference::runtime::{call, Call, Lent, Reply, State, TOKEN_SIGN};
 use potterbeam_tests::reference::token::{challenge, Session, TokenCall};
@@ -146,8 +146,10 @@ fn print_reading(out: &mut String, input: &[u8]) {
     }
     if let Ok(view) = read(page, base, edition) {
         let fields = fields(page, view.plat_data);
-        let tagged = |tag| fields.iter().find(|field| field.tag == tag).copied();
+        let tagged = |tag| fields.iter().find(|field| field.tag() == tag).copied();
         print_fields(out, fields.len(), tagged, |i| fields.get(i).copied());
+        let consoles = array(page, base, edition, CONSOLE);
+        print_consoles(out, |name| console_named(consoles, name));
     }
 }
 
@@ -155,8 +157,8 @@ fn print_reading(out: &mut String, input: &[u8]) {
 fn print_fields<'a>(
     out: &mut String,
     count: usize,
-    tagged: impl Fn(u8) -> Option<Field<'a>>,
-    nth: impl Fn(usize) -> Option<Field<'a>>,
+    tagged: impl Fn(u8) -> Option<Shown<'a>>,
+    nth: impl Fn(usize) -> Option<Shown<'a>>,
 ) {
     writeln!(out, "fields {count}").unwrap();
     for tag in [0, 1, 2, 3, 4, 255] {
@@ -169,18 +171,27 @@ fn print_fields<'a>(
     }
 }
 
-fn print_field(out: &mut String, field: Option<Field>) {
+fn print_field(out: &mut String, field: Option<Shown>) {
     match field {
-        Some(Field { tag, value }) => {
+        Some(Shown::Raw(Field { tag, value })) => {
             writeln!(out, " {tag} {} {:016x}", value.len(), mark(value)).unwrap();
         }
+        Some(Shown::Withdrawn) => out.push_str(" withdrawn\n"),
         None => out.push_str(" none\n"),
+    }
+}
+
+/// The first console of some names, by its number.
+fn print_consoles(out: &mut String, named: impl Fn(&[u8; 8]) -> Option<usize>) {
+    for name in [b"pl011\0\0\0", b"uart-1ab", &[0; 8]] {
+        let number = named(name).map_or("none".to_string(), |number| number.to_string());
+        writeln!(out, "console {:016x} {number}", u64::from_be_bytes(*name)).unwrap();
     }
 }
 
 #[test]
 fn reader_vectors() {
-    compare("reader_vectors", 808, print_reading);
+    compare("reader_vectors", 838, print_reading);
 }
 
 // ---- Listing ----
@@ -259,7 +270,7 @@ fn not_if(differs: bool) -> &'static str {
 
 #[test]
 fn writer_vectors() {
-    compare("writer_vectors", 435, print_writing);
+    compare("writer_vectors", 442, print_writing);
 }
 
 // ---- Boot ----

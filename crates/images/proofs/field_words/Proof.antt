@@ -13,6 +13,9 @@ cast-number c = search needs
 enum-told : tie.Need-enum-told
 enum-told c = search needs
 
+enum-told-2 : tie.Need-enum-told-2
+enum-told-2 c = search needs
+
 returns : tie.Need-returns
 unfolding fieldWords
 returns c = sym (ap fieldWords (c .before .field .given .1))
@@ -21,5 +24,9 @@ returns-2 : tie.Need-returns-2
 unfolding fieldWords
 returns-2 c = sym (ap fieldWords (c .enum-told .given .1))
 
+returns-3 : tie.Need-returns-3
+unfolding fieldWords
+returns-3 c = sym (ap fieldWords (c .enum-told2 .given .1))
+
 pub field-words-spec : {M : Type 1} → statement M
-field-words-spec = tie.close (tie.spec enum-known-field cast-number enum-told returns returns-2)
+field-words-spec = tie.close (tie.spec enum-known-field cast-number enum-told enum-told-2 returns returns-2 returns-3)
