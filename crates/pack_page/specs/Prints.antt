@@ -1,0 +1,42 @@
+-- What the program writes, by what it read, as ASCII numbers where it is text. Assumes nothing.
+use Prim.Native.Nat.{ℕ, suc, _+_}
+use mathlib.Core.Path.{_≡_}
+use mathlib.Core.Bool.{cond}
+use mathlib.Core.List.{List, [], _∷_, _++_}
+use lib.ListN.{length, take, drop}
+use lib.Dec.{eqb}
+use lib.IntN.{ℤ, pos, negsuc}
+use Rattle.words.specs.Word.{wordAt}
+use Rattle.reader.specs.Answer.{minus}
+use Rattle.writer.specs.Write.{no-page, a-page}
+use Rattle.pack.specs.Pack.{Packed, stopped, written, packOf}
+
+-- `refused -`
+unfoldable pub refusedText : List ℕ
+refusedText = 114 ∷ 101 ∷ 102 ∷ 117 ∷ 115 ∷ 101 ∷ 100 ∷ 32 ∷ 45 ∷ []
+
+-- what is refused: ` place`, ` version`, ` rules`
+unfoldable pub reasonText : ℕ → List ℕ
+reasonText n =
+    cond (eqb n 5) (32 ∷ 112 ∷ 108 ∷ 97 ∷ 99 ∷ 101 ∷ [])
+    (cond (eqb n 6) (32 ∷ 118 ∷ 101 ∷ 114 ∷ 115 ∷ 105 ∷ 111 ∷ 110 ∷ []) (32 ∷ 114 ∷ 117 ∷ 108 ∷ 101 ∷ 115 ∷ []))
+
+-- the line of a code: its one digit, and what is refused
+unfoldable pub refusedLine : ℤ → List ℕ
+refusedLine (pos n) = []
+refusedLine (negsuc n) = refusedText ++ ((48 + suc n) ∷ (reasonText (suc n) ++ (10 ∷ [])))
+
+-- "standard output the packed page, or one line with the refusal"; a target of a page's length is never refused
+unfoldable pub outputOf : Packed → List ℕ
+outputOf (stopped c) = refusedLine c
+outputOf (written (a-page p)) = p
+outputOf (written (no-page n)) = []
+
+-- 8 bytes of B, then the page; an input of another length has no page
+unfoldable pub packPrinted : List ℕ → List ℕ
+packPrinted input = outputOf (cond (eqb (length input) 4104) (packOf (wordAt 0 input) 4096 (drop 8 input)) (stopped (minus 5)))
+
+-- Reading stops where the room is full or the input ends. So where n bytes were read into a room, they are the first bytes of the input,
+-- as many as the room holds. Of each such input, the first r bytes of t are all that is written.
+abbrev pub PrintsAll : List ℕ → ℕ → ℕ → List ℕ → Type 0
+PrintsAll room n r t = (input : List ℕ) → take n room ≡ take (length room) input → take r t ≡ packPrinted input
