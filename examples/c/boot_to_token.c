@@ -1,10 +1,10 @@
 /*
  * From boot to a signed token: EL3 firmware on one side, the monitor (RMM) on the other, the page between them.
  *
- *   1  EL3 writes a manifest with two banks, a console, and the board's name and serial, and sets up its granule record from what the
+ *   1  EL3 writes a manifest with two banks, two consoles, and the board's name and serial, and sets up its granule record from what the
  *      manifest shows: the table has a byte for each granule of the two. From the table it builds the Realm words, a bit for each granule.
  *   2  EL3 enters the monitor: cold boot on CPU 0, with so many kept bytes that no command overwrites the manifest. The monitor lists what
- *      the manifest shows, and reports with RMM_BOOT_COMPLETE.
+ *      the manifest shows, picks its console by name, and reports with RMM_BOOT_COMPLETE.
  *   3  Warm boot on CPU 1: the monitor reads the manifest again.
  *   4  The monitor delegates a granule, and tries the same one again: a refusal. It delegates one of the second bank; an address in the hole
  *      between the banks is refused. EL3 hands over 200 granules of guest memory in one call; a second list runs into the granule that is
@@ -185,15 +185,18 @@ static bool el3_write_manifest(void)
         {.base = MEMORY, .size = MEMORY_BYTES},
         {.base = HIGH, .size = HIGH_BYTES},
     };
-    pbeam_console_t console = {.base = UINT64_C(0x1C0C0000), .map_pages = 1, .clk_in_hz = 24000000, .baud_rate = 115200};
+    pbeam_console_t consoles[] = {
+        {.base = UINT64_C(0x1C0B0000), .map_pages = 1, .clk_in_hz = 24000000, .baud_rate = 115200},
+        {.base = UINT64_C(0x1C0C0000), .map_pages = 1, .clk_in_hz = 24000000, .baud_rate = 115200},
+    };
     static const uint8_t name[] = {'D', 'K', '-', '1'}, serial[PBEAM_SERIAL_BYTES] = {0x20, 0x26, 0x11, 0x16, 0, 0, 0, 7};
     uint8_t fields[64];
     size_t used = 0;
     /* Counts are entries. Without device regions the last two lists are empty. */
     pbeam_lists_t lists = {
-        .dram = banks, .dram_count = sizeof banks / sizeof banks[0], .console = &console, .console_count = 1};
+        .dram = banks, .dram_count = sizeof banks / sizeof banks[0], .console = consoles, .console_count = 2};
     uint32_t refusal;
-    if (!pbeam_console_set_name(&console, "pl011") ||
+    if (!pbeam_console_set_name(&consoles[0], "uart-el3") || !pbeam_console_set_name(&consoles[1], "pl011") ||
         !pbeam_fields_add(fields, sizeof fields, &used, PBEAM_TAG_NAME, pbeam_bytes(name, sizeof name)) ||
         !pbeam_fields_add(fields, sizeof fields, &used, PBEAM_TAG_SERIAL, pbeam_bytes(serial, sizeof serial)))
         return false;
@@ -310,6 +313,18 @@ static void monitor_boot_complete(int32_t code)
     monitor_smc(pbeam_call_of(RMM_BOOT_COMPLETE, (uint64_t)(int64_t)code, 0, 0, 0), 0);
 }
 
+/* The monitor's console is the one of its name, whatever its place among the others. */
+static void monitor_pick_console(const pbeam_view_t *view)
+{
+    pbeam_console_t console;
+    printf("monitor: %zu consoles, pl011 ", pbeam_view_count(&page, view, PBEAM_CONSOLE));
+    if (!pbeam_view_console_named(&page, view, "pl011", &console)) {
+        printf("not among them\n"); /* on a board: go on without one */
+        return;
+    }
+    printf("at 0x%" PRIx64 ", %" PRIu64 " Hz, %" PRIu64 " baud\n", console.base, console.clk_in_hz, console.baud_rate);
+}
+
 static void monitor_list(const pbeam_view_t *view)
 {
     const pbeam_bytes_t name = pbeam_view_board_name(&page, view), serial = pbeam_view_serial(&page, view);
@@ -323,13 +338,7 @@ static void monitor_list(const pbeam_view_t *view)
         const pbeam_bank_t bank = pbeam_view_dram(&page, view, i);
         printf("monitor: bank at 0x%" PRIx64 ", 0x%" PRIx64 " bytes\n", bank.base, bank.size);
     }
-    for (size_t i = 0; i < pbeam_view_count(&page, view, PBEAM_CONSOLE); i++) {
-        const pbeam_console_t console = pbeam_view_console(&page, view, i);
-        char name[9];
-        pbeam_console_text(&console, name);
-        printf("monitor: console %s at 0x%" PRIx64 ", %" PRIu64 " Hz, %" PRIu64 " baud\n", name, console.base, console.clk_in_hz,
-               console.baud_rate);
-    }
+    monitor_pick_console(view);
 }
 
 /* The manifest, read anew: whether it shows what the first boot found. */

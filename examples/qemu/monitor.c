@@ -69,11 +69,11 @@ static void list_manifest(void)
     const int32_t code = pbeam_manifest_read(page, PAGE, PBEAM_EDITION_LAST, &view);
     const pbeam_bank_t bank = pbeam_view_dram(page, &view, 0), high = pbeam_view_dram(page, &view, 1);
     const pbeam_region_t region = pbeam_view_region(page, &view, PBEAM_COH, 0);
-    const pbeam_console_t console = pbeam_view_console(page, &view, 0);
     const pbeam_bytes_t board = pbeam_view_board_name(page, &view), serial = pbeam_view_serial(page, &view);
-    char name[9], of_board[PBEAM_NAME_MOST + 1];
+    char of_board[PBEAM_NAME_MOST + 1];
     uint64_t number = 0;
-    pbeam_console_text(&console, name);
+    pbeam_console_t console; /* picked by name, whatever its place */
+    const bool picked = pbeam_view_console_named(page, &view, "pl011", &console);
     for (size_t i = 0; i < board.length; i++)
         of_board[i] = (char)board.at[i];
     of_board[board.length] = '\0';
@@ -82,11 +82,12 @@ static void list_manifest(void)
     say("monitor: manifest 0.%d: %s\n", pbeam_view_minor(&view), pbeam_read_text(code));
     say("monitor: banks 0x%x + 0x%x, 0x%x + 0x%x\n", bank.base, bank.size, high.base, high.size);
     say("monitor: device region 0x%x + 0x%x\n", region.base, region.size);
-    say("monitor: console %s at 0x%x, %d baud\n", name, console.base, console.baud_rate);
+    say("monitor: console pl011 at 0x%x, %d baud\n", console.base, console.baud_rate);
     say("monitor: board %s, serial 0x%x\n", of_board, number);
     expect("manifest", (uint64_t)(int64_t)code, PBEAM_READ_ACCEPTED);
     expect("bank", bank.base, MEMORY);
     expect("second bank", high.base, HIGH);
+    expect("console of the name", picked, true);
     expect("console", console.base, UART);
     expect("name", board.length, 4);
 }

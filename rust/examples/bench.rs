@@ -179,6 +179,32 @@ fn compare_kept_for() {
     }
 }
 
+/// A console by its name: the only one, and the last of many.
+fn compare_console_named() {
+    for (name, count) in [
+        ("the one console by name", 1),
+        ("last of 83 consoles by name", 83),
+    ] {
+        let (mut page, mut view) = (Page([0; PAGE]), [0; 15]);
+        let (mut consoles, asked) = (CONSOLE.repeat(count), *b"uart-1ab");
+        consoles[6 * count - 4] = u64::from_le_bytes(asked);
+        write(BASE, 4, [&[], &consoles, &[], &[]], &[], &mut page.0).expect("written");
+        let page = &*page.lent();
+        assert_eq!(Kit::read(page, BASE, 4, &mut view), 0);
+        assert_eq!(Kit::console_named(page, &view, &asked), count - 1);
+        assert_eq!(fast::console_named(page, &view, &asked), count - 1);
+        compare(
+            name,
+            1,
+            side(|| see(Kit::console_named(page, &view, &asked) as u64)),
+            vec![(
+                "by hand",
+                side(|| see(fast::console_named(page, &view, &asked) as u64)),
+            )],
+        );
+    }
+}
+
 /// A writing, and the answer that all sides give.
 fn compare_writing(name: &str, base: u64, edition: u64, lists: Lists, fields: &[u8], answer: u32) {
     let [mut first, mut second, mut third] = [(); 3].map(|()| Page([0; PAGE]));
@@ -1389,6 +1415,7 @@ fn compare_all_granules() {
 fn compare_pages() {
     compare_manifests();
     compare_kept_for();
+    compare_console_named();
     compare_all_packing();
     compare_all_mending();
 }
