@@ -2,8 +2,8 @@
 //!
 //! Both are timed in turn, on pages of the same content and alignment, and the best of many short runs counts. The reference keeps
 //! its states as Rust values ("native"). Calls by id and the queue are timed against hand-written code that works in place on the same
-//! image as the library, by the same rules ("in place"); `tests/inplace.rs` holds it to them. Reader and writer are timed against the
-//! reference and against a second reader and writer, written for speed ("by hand"); `tests/fast.rs` holds it to the reference.
+//! image as the library, by the same rules ("in place"); `tests/inplace.rs` holds it to them. Reader, writer, packer and mender are
+//! timed against the reference and against second ones, written for speed ("by hand"); `tests/fast.rs` holds these to the reference.
 //!
 //! With the argument `manifest` only these are timed, with `granules` only granule records and moves.
 
@@ -17,7 +17,7 @@ use potterbeam_tests::kit::{ffi, Kit};
 use potterbeam_tests::model::Model;
 use potterbeam_tests::reference::boot::Record;
 use potterbeam_tests::reference::codes::Outcome;
-use potterbeam_tests::reference::layout::PAGE;
+use potterbeam_tests::reference::layout::{word_at, PAGE};
 use potterbeam_tests::reference::queue::Queue;
 use potterbeam_tests::reference::reader::read;
 use potterbeam_tests::reference::runtime::{
@@ -383,6 +383,124 @@ fn compare_fields(name: &str, edition: u64, lists: Lists, fields: &[u8]) {
         )],
     );
     assert_eq!(ours, theirs);
+}
+
+// ---- Packer and mender ----
+
+/// A page with holes: each array lies so many bytes behind the one before, and behind fields of which the first is withdrawn the page ends.
+fn spread(lists: Lists, fields: &[u8], by: usize) -> Page {
+    let (mut packed, mut page) = (Page([0; PAGE]), Page([0xEE; PAGE]));
+    write(BASE, 4, lists, &[], &mut packed.0).expect("written");
+    page.0[..112].copy_from_slice(&packed.0[..112]);
+    let (mut from, mut way) = (112, 0);
+    for (k, list) in lists.into_iter().enumerate() {
+        if list.is_empty() {
+            continue;
+        }
+        way += by;
+        let to = from + 8 * list.len();
+        page.0[from + way..to + way].copy_from_slice(&packed.0[from..to]);
+        move_word(&mut page, 16 + 24 * k + 8, way as u64);
+        move_word(&mut page, 16 + 24 * k + 16, (way as u64).wrapping_neg());
+        from = to;
+    }
+    if !fields.is_empty() {
+        let told = [&[3, 1, 0, 9], fields, &[0; 3]].concat();
+        let from = PAGE - told.len();
+        page.0[from..].copy_from_slice(&told);
+        move_word(&mut page, 8, BASE + from as u64);
+    }
+    page
+}
+
+/// Adds to a word of a page.
+fn move_word(page: &mut Page, at: usize, way: u64) {
+    let moved = word_at(&page.0, at).wrapping_add(way);
+    page.0[at..at + 8].copy_from_slice(&moved.to_le_bytes());
+}
+
+fn compare_packing(name: &str, mut page: Page) {
+    let [mut first, mut second, mut third] = [(); 3].map(|()| Page([0; PAGE]));
+    let (ours, theirs, native) = (first.lent(), second.lent(), third.lent());
+    let (page, [base]) = (&*page.lent(), hidden([BASE]));
+    compare(
+        &format!("pack {name}"),
+        1,
+        side(|| {
+            assert_eq!(Kit::pack(page, base, ours), 0);
+            see(u64::from(ours[0]));
+        }),
+        vec![
+            (
+                "native",
+                side(|| {
+                    assert_eq!(Model::pack(page, base, native), 0);
+                    see(u64::from(native[0]));
+                }),
+            ),
+            (
+                "by hand",
+                side(|| {
+                    assert_eq!(fast::pack(page, base, theirs), 0);
+                    see(u64::from(theirs[0]));
+                }),
+            ),
+        ],
+    );
+    assert!(ours == theirs && ours == native);
+}
+
+fn compare_all_packing() {
+    let (banks, consoles, few) = (BANK.repeat(249), CONSOLE.repeat(80), BANK.repeat(8));
+    let four: Lists = [&few, &CONSOLE, &BANK, &BANK];
+    compare_packing("249 banks", spread([&banks, &[], &[], &[]], &[], 0));
+    compare_packing("80 consoles", spread([&[], &consoles, &[], &[]], &[], 64));
+    compare_packing("four sections, two fields", spread(four, &board(), 64));
+    let (bank, many) = ([&BANK[..], &[], &[], &[]], of_fields(150, 17));
+    compare_packing("3,000 bytes of fields", spread(bank, &many, 64));
+}
+
+/// The core as it came is put back before each call.
+fn compare_mending(name: &str, page: &Page, broken: &[usize]) {
+    let mut core = [0; 112];
+    core.copy_from_slice(&page.0[..112]);
+    broken.iter().for_each(|&at| core[at] ^= 1);
+    let [mut first, mut second] = [(); 2].map(|()| Page(page.0));
+    let (ours, theirs, [base]) = (first.lent(), second.lent(), hidden([BASE]));
+    let [mut report, mut expected] = [[0; 6]; 2];
+    compare(
+        &format!("mend {name}"),
+        1,
+        side(|| {
+            ours[..112].copy_from_slice(&core);
+            assert_eq!(Kit::mend(ours, base, &mut report), 0);
+            see(report[2]);
+        }),
+        vec![(
+            "by hand",
+            side(|| {
+                theirs[..112].copy_from_slice(&core);
+                assert_eq!(fast::mend(theirs, base, &mut expected), 0);
+                see(expected[2]);
+            }),
+        )],
+    );
+    assert!(ours == theirs && report == expected);
+    assert_eq!(report.iter().sum::<u64>(), broken.len() as u64);
+}
+
+fn compare_all_mending() {
+    let (banks, few) = (BANK.repeat(249), BANK.repeat(8));
+    let four = spread([&few, &CONSOLE, &BANK, &BANK], &board(), 64);
+    let full = spread([&banks, &[], &[], &[]], &[], 0);
+    compare_mending("249 banks, nothing broken", &full, &[]);
+    compare_mending("four sections, nothing broken", &four, &[]);
+    compare_mending("four sections, consoles broken", &four, &[40]);
+    compare_mending(
+        "four sections, six parts broken",
+        &four,
+        &[4, 8, 16, 40, 64, 88],
+    );
 }
 
 // ---- Granules ----
@@ -1307,6 +1425,8 @@ fn compare_pages() {
     compare_manifests();
     compare_kept_for();
     compare_console_named();
+    compare_all_packing();
+    compare_all_mending();
 }
 
 fn main() {

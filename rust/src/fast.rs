@@ -1,8 +1,9 @@
-//! The other side of the benchmark for reader, field lookups and writer: hand-written for speed, with the parameters of the C functions. The view's words
-//! are written while the sections are judged, a list is added while it is judged, and the page is made in the order of addresses.
+//! The other side of the benchmark for reader, field lookups, writer, packer and mender: hand-written for speed, with the parameters of
+//! the C functions. The view's words are written while the sections are judged, a list is added while it is judged, and the page is made
+//! in the order of addresses.
 //! `tests/fast.rs` holds it to the reference.
 
-use crate::exports::{FieldImage, ViewImage};
+use crate::exports::{FieldImage, ReportImage, ViewImage};
 use crate::reference::entries::{bank_sum, console_sum};
 use crate::reference::layout::{
     accepted_minor, half_at, header_offset, placed, placed_mut, word_at, Edition, CONSOLE,
@@ -498,6 +499,146 @@ fn fill<const SSE2: bool>(
         at += fields.len();
     }
     page[at..].fill(0);
+}
+
+/// `pbeam_pack`. What is judged is moved as it lies: an array at another address has its sum less the way.
+#[inline(never)]
+pub fn pack(page: &[u8], base: u64, target: &mut [u8]) -> i32 {
+    let mut view = [0; 15];
+    if let Err(code) = judge(page, base, 4, &mut view) {
+        return code;
+    }
+    if view[0] > 4 {
+        return VERSION;
+    }
+    match <&mut [u8; PAGE]>::try_from(target) {
+        Ok(target) => lay(page, base, &view, target),
+        Err(_) => return 1,
+    }
+    0
+}
+
+/// The packed page of a view: core, arrays in section order, fields, zeros.
+#[inline]
+fn lay(page: &[u8], base: u64, view: &ViewImage, target: &mut [u8; PAGE]) {
+    let edition = Edition::new(view[1]).expect("an edition");
+    let mut at = edition.core();
+    for k in 0..edition.sections() {
+        let (header, mut words) = (header_offset(k), [0; 3]);
+        let (kind, offset, count) = (view[3 + 3 * k], view[4 + 3 * k] as usize, view[5 + 3 * k]);
+        if kind == 2 {
+            let length = count as usize * 8 * ENTRY_WORDS[k];
+            let pointer = base + at as u64;
+            let sum = word_at(page, header + 8).wrapping_add(word_at(page, header + 16));
+            words = [count, pointer, sum.wrapping_sub(pointer)];
+            target[at..at + length].copy_from_slice(&page[offset..offset + length]);
+            at += length;
+        }
+        put(target, header, &words);
+    }
+    let end = match view[2] {
+        0 => at,
+        plat => lay_fields(page, (plat % PAGE as u64) as usize, at, target),
+    };
+    let plat = if end == at { 0 } else { base + at as u64 };
+    put(target, 0, &[view[0], plat]);
+    target[end..].fill(0);
+}
+
+/// Moves good fields in runs, less the withdrawn one, and answers where they end.
+#[inline]
+fn lay_fields(page: &[u8], from: usize, at: usize, target: &mut [u8; PAGE]) -> usize {
+    let (mut run, mut cursor, mut to) = (from, from, at);
+    loop {
+        let tag = page[cursor];
+        if tag == 3 || tag == 0 {
+            target[to..to + cursor - run].copy_from_slice(&page[run..cursor]);
+            to += cursor - run;
+        }
+        if tag == 0 {
+            return to;
+        }
+        let length = u16::from_le_bytes([page[cursor + 1], page[cursor + 2]]);
+        cursor += 3 + usize::from(length);
+        if tag == 3 {
+            run = cursor;
+        }
+    }
+}
+
+/// `pbeam_mend`.
+#[inline(never)]
+pub fn mend(page: &mut [u8], base: u64, changed: &mut ReportImage) -> i32 {
+    *changed = [0; 6];
+    mend_parts(page, base, changed).err().unwrap_or(0)
+}
+
+#[inline]
+fn mend_parts(page: &mut [u8], base: u64, changed: &mut ReportImage) -> Result<(), i32> {
+    let page = placed_mut(page, base).ok_or(PLACE)?;
+    let minor = accepted_minor(half_at(page, 0)).ok_or(VERSION)?;
+    let edition = Edition::NEWEST.on_minor(minor);
+    let core = edition.core() as u64;
+    if half_at(page, 4) != 0 {
+        page[4..8].fill(0);
+        changed[0] = 1;
+    }
+    let mut kept = Kept {
+        bounds: [(0, 0); 5],
+        view: [0; 15],
+    };
+    kept.view[0] = u64::from(minor);
+    let plat = word_at(page, 8);
+    if plat != 0 {
+        let from = plat.wrapping_sub(base);
+        let inside = (core..PAGE as u64).contains(&from);
+        match fields_end(page, from as usize).filter(|_| inside) {
+            Some(end) => kept.bounds[0] = (from, end as u64),
+            None => {
+                put(page, 8, &[0]);
+                changed[1] = 1;
+            }
+        }
+    }
+    let sections = edition.sections();
+    if sections > 0 {
+        changed[2] = mend_section::<0>(page, base, core, &mut kept);
+    }
+    if sections > 1 {
+        changed[3] = mend_section::<1>(page, base, core, &mut kept);
+    }
+    if sections > 2 {
+        changed[4] = mend_section::<2>(page, base, core, &mut kept);
+        changed[5] = mend_section::<3>(page, base, core, &mut kept);
+    }
+    Ok(())
+}
+
+/// Where the fields and arrays lie that are kept so far, and the view that sections are judged by.
+struct Kept {
+    bounds: [Bounds; 5],
+    view: ViewImage,
+}
+
+#[inline]
+fn mend_section<const K: usize>(
+    page: &mut [u8; PAGE],
+    base: u64,
+    core: u64,
+    kept: &mut Kept,
+) -> u64 {
+    let found = show::<K>(page, base, core, &mut kept.view);
+    let before = &kept.bounds[..=K];
+    match found.filter(|&array| before.iter().all(|&other| apart(array, other))) {
+        Some(array) => {
+            kept.bounds[K + 1] = array;
+            0
+        }
+        None => {
+            put(page, header_offset(K), &[0; 3]);
+            1
+        }
+    }
 }
 
 /// Sets words of the page from an offset on.

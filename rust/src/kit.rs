@@ -3,15 +3,15 @@
 
 use crate::exports::{
     Exports, FieldImage, GranulesImage, Lent, Place, QueueImage, RecordImage, Registers,
-    RequestImage, SessionImage, ViewImage, Work,
+    ReportImage, RequestImage, SessionImage, ViewImage, Work,
 };
 use std::ptr::{null, null_mut};
 
 /// The C functions. Tests of the stack call them by address.
 pub mod ffi {
     use super::{
-        FieldImage, GranulesImage, Place, QueueImage, RecordImage, Registers, RequestImage,
-        SessionImage, ViewImage, Work,
+        FieldImage, GranulesImage, Place, QueueImage, RecordImage, Registers, ReportImage,
+        RequestImage, SessionImage, ViewImage, Work,
     };
 
     extern "C" {
@@ -106,6 +106,19 @@ pub mod ffi {
             page: *mut u8,
             page_len: usize,
         ) -> u32;
+        pub fn pbeam_pack(
+            page: *const u8,
+            page_len: usize,
+            base: u64,
+            target: *mut u8,
+            target_len: usize,
+        ) -> i32;
+        pub fn pbeam_mend(
+            page: *mut u8,
+            page_len: usize,
+            base: u64,
+            changed: *mut ReportImage,
+        ) -> i32;
         pub fn pbeam_cold_boot(
             state: *mut RecordImage,
             x0: u64,
@@ -418,6 +431,19 @@ impl Exports for Kit {
                 page_len,
             )
         }
+    }
+
+    #[inline]
+    fn pack(page: &[u8], base: u64, target: &mut [u8]) -> i32 {
+        let (page, page_len) = lend(page);
+        let (target, target_len) = lend_mut(target);
+        unsafe { ffi::pbeam_pack(page, page_len, base, target, target_len) }
+    }
+
+    #[inline]
+    fn mend(page: &mut [u8], base: u64, changed: &mut ReportImage) -> i32 {
+        let (page, page_len) = lend_mut(page);
+        unsafe { ffi::pbeam_mend(page, page_len, base, changed) }
     }
 
     #[inline]

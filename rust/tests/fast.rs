@@ -1,5 +1,5 @@
-//! The reader and the writer that are written for speed, against the reference: the code and every word or byte, of random pages and
-//! lists and of the pages that real firmware wrote; what a view's manifest takes of the page, the lookups of its fields and of
+//! The reader, writer, packer and mender that are written for speed, against the reference: the code and every word or byte, of random
+//! pages and lists and of the pages that real firmware wrote; what a view's manifest takes of the page, the lookups of its fields and of
 //! a console by name.
 
 use potterbeam_tests::exports::Exports;
@@ -85,6 +85,42 @@ fn lookups(random: &mut Random, page: &[u8], view: &[u64; 15]) {
     }
 }
 
+/// Packs and mends on both sides; answers both codes.
+fn pack_and_mend(page: &[u8], base: u64, room: usize) -> [i32; 2] {
+    let [mut ours, mut theirs] = [(); 2].map(|()| vec![0xA5; room]);
+    let packed = fast::pack(page, base, &mut ours);
+    assert_eq!(packed, Model::pack(page, base, &mut theirs), "{base:x}");
+    assert!(ours == theirs, "{base:x}");
+    let [mut ours, mut theirs] = [(); 2].map(|()| page.to_vec());
+    let [mut report, mut expected] = [[7; 6]; 2];
+    let mended = fast::mend(&mut ours, base, &mut report);
+    assert_eq!(mended, Model::mend(&mut theirs, base, &mut expected));
+    assert!(ours == theirs && report == expected, "{base:x}");
+    [packed, mended]
+}
+
+#[test]
+fn random_packing_and_mending() {
+    let mut random = Random::new(34);
+    let mut met = BTreeMap::new();
+    for i in 0..CALLS {
+        let reading = match i % 4 {
+            0 => random.any_page(),
+            1 => random.broken_page(),
+            _ => random.valid_page(),
+        };
+        let room = random.pick(&[4096, 4096, 4096, 4096, 4095, 4097, 0]);
+        for (what, code) in (0..).zip(pack_and_mend(&reading.page, reading.base, room)) {
+            *met.entry((what, code)).or_insert(0) += 1;
+        }
+    }
+    println!("fast::pack and fast::mend: {met:?}");
+    let packed = [0, -5, -6, -7, 1].map(|code| (0, code));
+    let mended = [0, -5, -6].map(|code| (1, code));
+    let all = packed.iter().chain(&mended);
+    assert!(all.copied().all(|answer| met[&answer] > CALLS / 500));
+}
+
 /// Views that were read, and forged ones.
 #[test]
 fn random_views() {
@@ -116,6 +152,7 @@ fn pages_of_files() {
                 for edition in 0..6 {
                     read(page, word_at(base, 0), edition);
                 }
+                pack_and_mend(page, word_at(base, 0), 4096);
                 pages += 1;
             }
         }

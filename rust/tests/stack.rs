@@ -309,6 +309,8 @@ fn kit_measured() -> Header {
     for (what, page, code) in pages() {
         reading(&mut header, what, &page, code);
         cold_booting(&mut header, what, &page, code);
+        packing(&mut header, what, &page, code);
+        mending(&mut header, what, &page, code);
     }
     looking_up(&mut header);
     writing(&mut header);
@@ -339,6 +341,28 @@ fn reading(header: &mut Header, what: &str, page: &[u8], code: i32) {
     for section in 0..5 {
         header.within(("pbeam_array", what), &[0; 2], (), |place| {
             Kit::array(page, BASE, 4, section, place)
+        });
+    }
+}
+
+/// Into a target that is a page, and into one that is not.
+fn packing(header: &mut Header, what: &str, page: &[u8], code: i32) {
+    for (room, short) in [(PAGE, 0), (PAGE - 1, 1)] {
+        let answer = if code == 0 { short } else { code };
+        header.within(("pbeam_pack", what), &vec![0; room], answer, |target| {
+            Kit::pack(page, BASE, target)
+        });
+    }
+}
+
+/// The page as it is, and with all six parts broken.
+fn mending(header: &mut Header, what: &str, page: &[u8], code: i32) {
+    let code = if code == -7 { 0 } else { code };
+    let spoil = |page: Vec<u8>, &at: &usize| spoilt(page, at);
+    let broken = [4, 8, 16, 40, 64, 88].iter().fold(page.to_vec(), spoil);
+    for lent in [page.to_vec(), broken] {
+        header.within(("pbeam_mend", what), &lent, code, |page| {
+            Kit::mend(page, BASE, &mut [0; 6])
         });
     }
 }

@@ -6,7 +6,10 @@ tests/writer.
 Run from the repository's root:  python3 tests/pages/make.py
 It rewrites crates/page_vectors/data/c000, c001, .. (8 bytes each: 0 to pack or 1 to mend, B, the
 target's length, the byte that the target is filled with; then the page), crates/page_vectors/stdout
-and tests/pages/CASES.md. With a folder as its argument it writes them below that folder.
+and tests/pages/CASES.md; and tests/pages/cases, for the programs: NAME.in, their standard input,
+NAME.packed, the standard output of pack_page, and NAME.mended and NAME.report, standard output and
+error of mend_page. The pages of tests/reader/field are inputs too. With a folder as its argument it
+writes them below that folder.
 """
 
 import importlib.util
@@ -23,7 +26,7 @@ sys.path[:0] = [str(HERE.parent), str(HERE.parent / "reader")]
 from make import (B, CHOICE, CORE, ENTRY, HEAD, JUNK, MARK, NAME, NAMES, ONES, PAGE, PLACE, SAMPLE,
                   SERIAL, SINCE, TOP, WORD, Page, broken, example_14, field, field_pages, full,
                   listing, mark, number, read)
-from vectors import write_all
+from vectors import ROOT, write_all
 
 SPEC = importlib.util.spec_from_file_location("writer", HERE.parent / "writer" / "make.py")
 WRITER = importlib.util.module_from_spec(SPEC)
@@ -375,6 +378,71 @@ def random_pages():
         add(f"random page {i}, mended, packed", mended, B, False)
 
 
+# ---- Inputs of the programs: 8 bytes of B, then the page ----
+
+REASON = {"-5": "place", "-6": "version", "-7": "rules"}
+PART = ("padding", "platform", *NAMES)
+
+
+def by_hand():
+    """A page that grew under an editor: arrays where there was room, the last section first, and a
+    console choice, which is withdrawn by now, between name and serial."""
+    page = full(fill=JUNK, places=[0xE00, 0xA00, 0x600, 0x200])
+    return page.facts(0x403, NAME, CHOICE, SERIAL)
+
+
+def damaged():
+    """Two sections that were edited by hand: a console's word without a new checksum, and coh
+    pointed into dram."""
+    page = full(fill=JUNK).facts(0x700, NAME, SERIAL)
+    page.words(PLACE[1] + 24, 48000000)
+    return page.claim(3, 1, PLACE[0] + 16)
+
+
+def inputs():
+    """By name; those of tests/reader/field have their file there."""
+    made = {"by-hand": by_hand(), "by-hand-0.2": full(2, fill=JUNK, places=[0x800] * 4),
+            "damaged": damaged(), "six-parts": whole(), "minor-5": full(5, fill=JUNK),
+            "refused-version": full().version(0x00010004), "refused-base": full(b=B + 8)}
+    for spoil in BREAKS:
+        spoil(made["six-parts"])
+    told = {name: page.b.to_bytes(8, "little") + bytes(page.data) for name, page in made.items()}
+    whole_input = told["by-hand"]
+    for length in (0, 8, 4096, 4103, 4105, 8208):
+        told[f"length-{length}"] = (whole_input * 2)[:length]
+    real = {name: b.to_bytes(8, "little") + page for name, b, page, _ in field_pages()}
+    return told, real
+
+
+def packed_output(told):
+    made = pack(number(told[:8]), told[8:], PAGE) if len(told) == 8 + PAGE else "-5"
+    return made if isinstance(made, bytes) else f"refused {made} {REASON[made]}\n".encode()
+
+
+def mended_output(told):
+    """Standard output and standard error."""
+    changed, page = mend(number(told[:8]), told[8:]) if len(told) == 8 + PAGE else ("-5", b"")
+    if isinstance(changed, str):
+        return b"", f"refused {changed}\n"
+    lines = (f"{part} {'yes' if was else 'no'}\n" for part, was in zip(PART, changed))
+    return page, "".join(lines)
+
+
+def write_inputs():
+    cases = (Path(sys.argv[1]) if sys.argv[1:] else ROOT) / "tests" / "pages" / "cases"
+    cases.mkdir(parents=True, exist_ok=True)
+    for stale in cases.iterdir():
+        stale.unlink()
+    made, real = inputs()
+    for name, told in {**made, **real}.items():
+        page, report = mended_output(told)
+        if name in made:
+            (cases / f"{name}.in").write_bytes(told)
+        (cases / f"{name}.packed").write_bytes(packed_output(told))
+        (cases / f"{name}.mended").write_bytes(page)
+        (cases / f"{name}.report").write_text(report)
+
+
 # ---- Output ----
 
 def build_all():
@@ -417,3 +485,4 @@ if __name__ == "__main__":
     build_all()
     check()
     write_all("page_vectors", "pages", "Packer and mender", "Page | Answer", GROUPS, case_of)
+    write_inputs()

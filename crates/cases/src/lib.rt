@@ -4,7 +4,7 @@ use boot::Record;
 use libc::STDOUT_FILENO;
 use words::Span;
 ghost use mathlib.Core.Path.{_≡_};
-ghost use Prim.Native.Nat.{min, _≤_};
+ghost use Prim.Native.Nat.{min, _≤_, _<_};
 ghost use Rattle.io.specs.Counts.{Counts};
 ghost use Rattle.words.specs.Word.{wordAt};
 ghost use Rattle.cases.specs.Cases.{recordAt, sameBytes};
@@ -110,6 +110,27 @@ pub fn print_same(what: &[u8], held: &[u8], expected: &[u8]) {
         return;
     }
     io::write_all(STDOUT_FILENO, b" not as expected\n");
+}
+
+// A byte as a digit.
+fn wide(byte: u8) -> u64
+    ensures { λ r. ⌜ r < 256 ⌝ }
+{
+    byte as u64
+}
+
+// A number that tells one run of bytes from another: the bytes as digits in two bases, after the run's length, by what they leave
+// modulo the prime 2^32 - 5. The bases are large, and no power of either up to the 4,096th is a quotient of two differences of bytes:
+// so runs of one length up to 4,096 that differ in one byte or in two never have the same number in either base.
+pub fn mark(part: &[u8]) -> u64 {
+    let mut high = part.len() as u64 % 0xFFFF_FFFB;
+    let mut low = high;
+    for i in 0..part.len() {
+        let byte = wide(part[i]);
+        high = (high * 0x9E37_79B1 + byte) % 0xFFFF_FFFB;
+        low = (low * 0x85EB_CA77 + byte) % 0xFFFF_FFFB;
+    }
+    high * 0x1_0000_0000 + low
 }
 
 // Prints a number in 16 digits, after a space.

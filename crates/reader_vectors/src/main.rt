@@ -6,27 +6,6 @@ use lookup::ConsoleFound;
 use lookup::FieldPlace;
 use reader::Reading;
 use reader::View;
-ghost use Prim.Native.Nat.{_<_};
-
-fn wide(byte: u8) -> u64
-    ensures { λ r. ⌜ r < 256 ⌝ }
-{
-    byte as u64
-}
-
-// A number that tells one run of bytes from another: the bytes as digits in two bases, after the run's length, by what they leave
-// modulo the prime 2^32 - 5. The bases are large, and no power of either up to the 4,096th is a quotient of two differences of bytes:
-// so runs of one length up to 4,096 that differ in one byte or in two never have the same number in either base.
-fn mark(part: &[u8]) -> u64 {
-    let mut high = part.len() as u64 % 0xFFFF_FFFB;
-    let mut low = high;
-    for i in 0..part.len() {
-        let byte = wide(part[i]);
-        high = (high * 0x9E37_79B1 + byte) % 0xFFFF_FFFB;
-        low = (low * 0x85EB_CA77 + byte) % 0xFFFF_FFFB;
-    }
-    high * 0x1_0000_0000 + low
-}
 
 fn print_array(page: &[u8], base: u64, edition: u64, k: usize) {
     let part = lookup::array(page, base, edition, k);
@@ -34,7 +13,7 @@ fn print_array(page: &[u8], base: u64, edition: u64, k: usize) {
     io::print_decimal(STDOUT_FILENO, k as u64);
     io::write_all(STDOUT_FILENO, b" ");
     io::print_decimal(STDOUT_FILENO, part.len() as u64);
-    cases::print_word(mark(part));
+    cases::print_word(cases::mark(part));
     io::write_all(STDOUT_FILENO, b"\n");
 }
 
@@ -50,7 +29,7 @@ fn print_field(page: &[u8], field: FieldPlace) {
         FieldPlace::Raw { tag, at: _, len } => {
             print_number(b"", tag as u64);
             print_number(b"", len as u64);
-            cases::print_word(mark(lookup::value_of(page, field)));
+            cases::print_word(cases::mark(lookup::value_of(page, field)));
             io::write_all(STDOUT_FILENO, b"\n");
         }
         FieldPlace::Withdrawn => {

@@ -9,6 +9,7 @@ use lib.ListN.{length, getD, drop, length-append, length-drop}
 use lib.Seq.{getD-drop}
 use borrow.Author.Tests.{ltb-false, eqb-true}
 use Rattle.words.specs.Word.{part, numAt}
+use Rattle.words.proofs.Tests.{both-l, both-r}
 use Rattle.words.proofs.Lists.{joined-length}
 use Rattle.words.proofs.Bytes.{Bytes}
 use Rattle.fields.specs.Fields.{Field, mkField, Scanned, broken, ended, bare, step, scan, scanAll, scanOf, fieldsOk, fieldsIn, taken, raw, shownField, shownFields, lengthOk, lengthsOk, withdrawn}

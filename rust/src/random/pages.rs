@@ -101,6 +101,18 @@ impl Random {
         reading
     }
 
+    /// A page of which several parts may be damaged, at a base that is allowed.
+    pub fn broken_page(&mut self) -> Reading {
+        let mut reading = self.valid_page();
+        for _ in 0..self.below(7) {
+            self.damage(&mut reading);
+            if self.one_in(2) {
+                (0..sections_read(&reading)).for_each(|k| seal(&mut reading, k));
+            }
+        }
+        reading
+    }
+
     /// A page of any bytes, half of them with a version that is accepted.
     pub fn random_page(&mut self) -> Reading {
         let mut page = self.bytes(PAGE);

@@ -11,6 +11,8 @@ pub mod granules;
 pub mod key;
 pub mod layout;
 pub mod listing;
+pub mod mend;
+pub mod pack;
 pub mod queue;
 pub mod reader;
 pub mod realm_words;

@@ -37,7 +37,7 @@ pub enum Section {
 impl Section {
     /// The bytes of the page that the array takes; k is the section's number.
     #[inline]
-    fn bytes(self, k: usize) -> std::ops::Range<usize> {
+    pub(super) fn bytes(self, k: usize) -> std::ops::Range<usize> {
         match self {
             Section::Entries { offset, count } => offset..offset + count * ENTRY_WORDS[k] * 8,
             _ => 0..0,
@@ -130,8 +130,9 @@ fn view(page: &[u8; PAGE], base: u64, minor: u16, edition: Edition) -> Option<Vi
     })
 }
 
+/// Whether a platform pointer keeps its rule; there may be none.
 #[inline]
-fn plat_data_allowed(plat_data: u64, base: u64, edition: Edition) -> bool {
+pub(super) fn plat_data_allowed(plat_data: u64, base: u64, edition: Edition) -> bool {
     // A pointer below the base wraps to far above the page.
     let offset = plat_data.wrapping_sub(base);
     plat_data == 0 || (edition.core() as u64..PAGE as u64).contains(&offset)
@@ -152,6 +153,22 @@ fn fields_sound(page: &[u8; PAGE], plat_data: u64, sections: &[Section; SECTIONS
         let array = section.bytes(k);
         array.is_empty() || end <= array.start || array.end <= start
     })
+}
+
+/// A section of the edition, by its own rules alone.
+pub(super) fn section_alone(
+    page: &[u8; PAGE],
+    base: u64,
+    minor: u16,
+    edition: Edition,
+    k: usize,
+) -> Option<Section> {
+    match k {
+        0 => read_section::<0>(page, base, minor, edition),
+        1 => read_section::<1>(page, base, minor, edition),
+        2 => read_section::<2>(page, base, minor, edition),
+        _ => read_section::<3>(page, base, minor, edition),
+    }
 }
 
 /// A section of the edition, if place, entries and checksum are sound.

@@ -13,6 +13,7 @@ mod commands;
 mod kept;
 mod manifest;
 mod memory;
+mod pages;
 mod wrong;
 
 /// Calls of each export in the short run.

@@ -114,6 +114,7 @@ pub struct Images {
     pub view: Image<15>,
     pub place: Image<2>,
     pub field: Image<4>,
+    pub changed: Image<6>,
     pub request: Image<10>,
     pub out: Image<3>,
     pub work: Image<2>,
@@ -144,6 +145,7 @@ impl Memory {
     pub fn make_stale(&mut self) {
         self.images.place = Image::default();
         self.images.field = Image::default();
+        self.images.changed = Image::default();
         self.images.request = Image::default();
         self.images.out = Image::default();
         self.images.work = Image::default();
@@ -166,6 +168,7 @@ impl Memory {
             ("view", format!("{:x?}", images.view)),
             ("place", format!("{:x?}", images.place)),
             ("field", format!("{:x?}", images.field)),
+            ("changed", format!("{:x?}", images.changed)),
             ("request", format!("{:x?}", images.request)),
             ("out", format!("{:x?}", images.out)),
             ("work", format!("{:x?}", images.work)),

@@ -42,6 +42,7 @@ fn every_bit_counts() {
     image_seen("view", |m| &mut m.images.view);
     image_seen("place", |m| &mut m.images.place);
     image_seen("field", |m| &mut m.images.field);
+    image_seen("changed", |m| &mut m.images.changed);
     image_seen("request", |m| &mut m.images.request);
     image_seen("out", |m| &mut m.images.out);
     image_seen("work", |m| &mut m.images.work);

@@ -128,6 +128,29 @@ fn writer() {
     compare("writer_vectors", 442, print_writing);
 }
 
+// ---- Packer and mender ----
+
+#[test]
+fn pages() {
+    let side = Pages {
+        pack: Kit::pack,
+        mend: |page, base| {
+            let mut changed = [7; 6];
+            match Kit::mend(page, base, &mut changed) {
+                0 => Ok(changed),
+                code => {
+                    assert_eq!(changed, [0; 6]);
+                    Err(code)
+                }
+            }
+        },
+        list: |out, page, base| list_page(out, page, base, 4),
+    };
+    compare("page_vectors", 525, |out, input| {
+        print_page(out, input, &side)
+    });
+}
+
 // ---- Boot ----
 
 fn print_boots(out: &mut String, input: &[u8]) {

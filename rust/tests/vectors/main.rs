@@ -15,6 +15,8 @@ use potterbeam_tests::reference::granules::{delegate, delegate_list, undelegate,
 use potterbeam_tests::reference::key::realm_key;
 use potterbeam_tests::reference::layout::{word_at, CONSOLE};
 use potterbeam_tests::reference::listing::{list, list_input};
+use potterbeam_tests::reference::mend::mend;
+use potterbeam_tests::reference::pack::pack;
 use potterbeam_tests::reference::queue::{Queue, Request, Response, Ring, PLACES};
 use potterbeam_tests::reference::reader::{array, console_named, fields, read};
 use potterbeam_tests::reference::realm_words;
@@ -32,7 +34,7 @@ fn family(name: &str) -> PathBuf {
 }
 
 /// Prints the cases up to the first that is missing, and compares.
-fn compare(name: &str, cases: usize, print: fn(&mut String, &[u8])) {
+fn compare(name: &str, cases: usize, print: impl Fn(&mut String, &[u8])) {
     let place = family(name);
     let mut out = String::new();
     let mut count = 0;
@@ -271,6 +273,76 @@ fn not_if(differs: bool) -> &'static str {
 #[test]
 fn writer_vectors() {
     compare("writer_vectors", 442, print_writing);
+}
+
+// ---- Packer and mender ----
+
+/// What a side packs and mends with, and how it lists a page of edition 4. An answer is a code, as the library has it.
+struct Pages {
+    pack: fn(&[u8], u64, &mut [u8]) -> i32,
+    mend: fn(&mut [u8], u64) -> Result<[u64; 6], i32>,
+    list: fn(&mut String, &[u8], u64),
+}
+
+fn print_mark(out: &mut String, name: &str, page: &[u8]) {
+    writeln!(out, "{name} {:016x}", mark(page)).unwrap();
+}
+
+fn print_mending(out: &mut String, base: u64, mut page: Vec<u8>, side: &Pages) {
+    let mended = (side.mend)(&mut page, base);
+    match mended {
+        Ok(changed) => {
+            let told = changed.map(|word| word.to_string()).join(" ");
+            writeln!(out, "mended {told}")
+        }
+        Err(code) => writeln!(out, "refused {code}"),
+    }
+    .unwrap();
+    print_mark(out, "page", &page);
+    if mended.is_ok() {
+        (side.list)(out, &page, base);
+    }
+}
+
+fn print_packing(out: &mut String, base: u64, page: &[u8], mut target: Vec<u8>, side: &Pages) {
+    let code = (side.pack)(page, base, &mut target);
+    match code {
+        0 => writeln!(out, "packed"),
+        1 => writeln!(out, "refused W1"),
+        _ => writeln!(out, "refused {code}"),
+    }
+    .unwrap();
+    print_mark(out, "target", &target);
+    if code == 0 {
+        let mut again = vec![0xFF; target.len()];
+        assert_eq!((side.pack)(&target, base, &mut again), 0);
+        print_mark(out, "again", &again);
+        (side.list)(out, &target, base);
+    }
+}
+
+fn print_page(out: &mut String, input: &[u8], side: &Pages) {
+    let (base, page) = (word_at(input, 8), &input[32..]);
+    if word_at(input, 0) == 1 {
+        return print_mending(out, base, page.to_vec(), side);
+    }
+    let target = vec![word_at(input, 24) as u8; size_at(input, 16)];
+    print_packing(out, base, page, target, side);
+}
+
+#[test]
+fn page_vectors() {
+    let side = Pages {
+        pack: |page, base, target| pack(page, base, target).map_or_else(|no| no.code(), |()| 0),
+        mend: |page, base| {
+            let told = mend(page, base).map_err(|refusal| refusal.code());
+            told.map(|parts| parts.map(u64::from))
+        },
+        list: |out, page, base| list(out, page, base, 4).unwrap(),
+    };
+    compare("page_vectors", 525, |out, input| {
+        print_page(out, input, &side)
+    });
 }
 
 // ---- Boot ----

@@ -1,0 +1,113 @@
+// Reads the numbered cases of data/ in turn, up to the first that is missing. A case is four words, 0 to pack or 1 to mend, B, the
+// target's length and the byte that the target is full of; then a page of any length. Prints the answer of each and the mark of the page
+// that it leaves, of a packed page also the mark once it is packed again, and the listing of a page that was packed or mended.
+use libc::STDOUT_FILENO;
+use mend::Mended;
+use pack::Packing;
+use reader::Refusal;
+
+fn print_refused(code: Refusal) {
+    match code {
+        Refusal::Place => {
+            io::write_all(STDOUT_FILENO, b"refused -5\n");
+        }
+        Refusal::Version => {
+            io::write_all(STDOUT_FILENO, b"refused -6\n");
+        }
+        Refusal::Rules => {
+            io::write_all(STDOUT_FILENO, b"refused -7\n");
+        }
+    }
+}
+
+fn print_mark(name: &[u8], page: &[u8]) {
+    io::write_all(STDOUT_FILENO, name);
+    cases::print_word(cases::mark(page));
+    io::write_all(STDOUT_FILENO, b"\n");
+}
+
+fn print_listing(page: &[u8], base: u64) {
+    let mut out = [0u8; 16384];
+    let n = text::list(page, base, 4, &mut out);
+    io::write_all(STDOUT_FILENO, &out[..n]);
+}
+
+// Whether each of the six parts was changed.
+fn print_report(changed: [u64; 6]) {
+    io::write_all(STDOUT_FILENO, b"mended");
+    for i in 0..6usize {
+        io::write_all(STDOUT_FILENO, b" ");
+        io::print_decimal(STDOUT_FILENO, changed[i]);
+    }
+    io::write_all(STDOUT_FILENO, b"\n");
+}
+
+fn print_mended(page: &mut [u8], base: u64) {
+    let mended = mend::mend(page, base);
+    match mended {
+        Mended::Done(_) => {
+            print_report(mend::report_words(mended));
+            print_mark(b"page", page);
+            print_listing(page, base);
+        }
+        Mended::Refused(code) => {
+            print_refused(code);
+            print_mark(b"page", page);
+        }
+    }
+}
+
+// A packed page, packed again.
+fn print_again(page: &[u8], base: u64) {
+    let mut again = [0xFFu8; 4096];
+    pack::pack(page, base, &mut again);
+    print_mark(b"again", &again);
+}
+
+fn print_packed(page: &[u8], base: u64, target: &mut [u8]) {
+    match pack::pack(page, base, target) {
+        Packing::Page => {
+            io::write_all(STDOUT_FILENO, b"packed\n");
+            print_mark(b"target", target);
+            print_again(target, base);
+            print_listing(target, base);
+        }
+        Packing::Refused(code) => {
+            print_refused(code);
+            print_mark(b"target", target);
+        }
+        Packing::Target => {
+            io::write_all(STDOUT_FILENO, b"refused W1\n");
+            print_mark(b"target", target);
+        }
+    }
+}
+
+fn filled(byte: u8) -> [u8; 8192] {
+    [byte; 8192]
+}
+
+fn print_case(input: &mut [u8]) {
+    if input.len() < 32 {
+        return;
+    }
+    let base = words::word_at(input, 8);
+    if words::word_at(input, 0) == 1 {
+        print_mended(&mut input[32..], base);
+        return;
+    }
+    let mut room = filled((words::word_at(input, 24) % 256) as u8);
+    let n = cases::length_at(input, 16, 8192);
+    print_packed(&input[32..], base, &mut room[..n]);
+}
+
+fn main() {
+    let mut input = [0u8; 8225];
+    for n in 0..1000u64 {
+        let length = cases::load(n, &mut input);
+        if length == 0 {
+            return;
+        }
+        print_case(&mut input[..length]);
+    }
+}
