@@ -50,14 +50,14 @@ changesText c =
     ++ lineText cohTitle (c .coh)
 
 -- `refused` and the code, as the listing has it
-unfoldable pub refusedText : Refusal → List ℕ
-refusedText Place = 114 ∷ 101 ∷ 102 ∷ 117 ∷ 115 ∷ 101 ∷ 100 ∷ 32 ∷ 45 ∷ 53 ∷ 10 ∷ []
-refusedText Version = 114 ∷ 101 ∷ 102 ∷ 117 ∷ 115 ∷ 101 ∷ 100 ∷ 32 ∷ 45 ∷ 54 ∷ 10 ∷ []
-refusedText Rules = 114 ∷ 101 ∷ 102 ∷ 117 ∷ 115 ∷ 101 ∷ 100 ∷ 32 ∷ 45 ∷ 55 ∷ 10 ∷ []
+unfoldable pub refusalText : Refusal → List ℕ
+refusalText Place = 114 ∷ 101 ∷ 102 ∷ 117 ∷ 115 ∷ 101 ∷ 100 ∷ 32 ∷ 45 ∷ 53 ∷ 10 ∷ []
+refusalText Version = 114 ∷ 101 ∷ 102 ∷ 117 ∷ 115 ∷ 101 ∷ 100 ∷ 32 ∷ 45 ∷ 54 ∷ 10 ∷ []
+refusalText Rules = 114 ∷ 101 ∷ 102 ∷ 117 ∷ 115 ∷ 101 ∷ 100 ∷ 32 ∷ 45 ∷ 55 ∷ 10 ∷ []
 
 unfoldable pub reportText : Mended → List ℕ
 reportText (Done c) = changesText c
-reportText (Refused c) = refusedText c
+reportText (Refused c) = refusalText c
 
 -- ---- of an input: 8 bytes of B, then the page; input of any other length is refused with -5, as the listing does
 unfoldable pub mendedInput : List ℕ → Mended

@@ -11,7 +11,7 @@ ghost use Prim.Native.Nat.{_+_, _≤_};
 ghost use lib.ListN.{length};
 ghost use Rattle.io.specs.Counts.{Counts};
 ghost use Rattle.words.specs.Word.{splice};
-ghost use Rattle.mend_page.specs.Text.{lineText, changesText, refusedText, reportText, MendsInput};
+ghost use Rattle.mend_page.specs.Text.{lineText, changesText, refusalText, reportText, MendsInput};
 
 // Puts text at an offset, and answers the offset behind it.
 fn put(out: &mut [u8], at: usize, text: &[u8]) -> usize
@@ -48,7 +48,7 @@ fn put_changes(out: &mut [u8], changes: Changes) -> usize
 
 fn put_refused(out: &mut [u8], code: Refusal) -> usize
     requires { ⌜ length (now out) ≡ 64 ⌝ }
-    ensures { λ r. ⌜ (r ≡ length (refusedText code)) × (now (out .exit) ≡ splice 0 (refusedText code) (now (out .entry))) × (r ≤ 63) ⌝ }
+    ensures { λ r. ⌜ (r ≡ length (refusalText code)) × (now (out .exit) ≡ splice 0 (refusalText code) (now (out .entry))) × (r ≤ 63) ⌝ }
 {
     match code {
         Refusal::Place => put(out, 0, b"refused -5\n"),
