@@ -1,11 +1,13 @@
 use mathlib.Core.Bool.{true, false}
-use mathlib.Core.Path.{_≡_, sym, _∙_}
-use Prim.Native.Nat.{_+_, _<_}
+use mathlib.Core.Path.{_≡_, sym, ap, _∙_}
+use Prim.Native.Nat.{ℕ, _+_, _<_}
 use borrow.Author.Tests.{not-true, not-false}
 use Rattle.versions.specs.Edition.{sectionCount}
 use Rattle.fields.specs.declared.FieldsEnd.the-variants.{Broken, Ended}
-use Rattle.sections.specs.Page.{paddingAt, mkPlat, platAt}
-use Rattle.sections.specs.Steps.{platEnd, okTo, apartTo}
+use Rattle.words.specs.Word.{wordAt}
+use Rattle.fields.specs.Fields.{taken}
+use Rattle.sections.specs.Page.{paddingAt, mkPlat, platAt, foundAt}
+use Rattle.sections.specs.Steps.{platEnd, okTo, apartTo, clearFrom}
 use Rattle.sections.proofs.Sections.{ok-each, ok-end, plat-broken, plat-ended, plat-top, rules-padding, rules-plat, rules-each, rules-apart, rules-clear}
 use borrow.Author.Needs.{needs}
 use native.Mathlib.Omega.{arith}
@@ -106,7 +108,9 @@ returns-5 c =
     let t = plat-ended (a .e .minor) (a .base) (platAt (a .base) (a .page .now)) (g .0 .0) q in
     let o : okTo (a .minor) (a .e .minor) (a .base) (sectionCount (a .e .minor)) (a .page .now) ≡ true = rw (← c .before .before .before .before .before .sections .ensures .0) (sym (c .before .before .before .before .sections-ok .ensures) ∙ not-false _ (c .before .before .before .if2 .left)) in
     let x : apartTo (sectionCount (a .e .minor)) (a .page .now) ≡ true = rw (← c .before .before .before .before .before .sections .ensures .0) (sym (c .before .before .all-apart .ensures) ∙ not-false _ (c .before .if3 .left)) in
-    c .all-clear .ensures ∙ rw (t .1, c .before .before .before .before .before .before .before .before .before .before .word-at .ensures, c .before .before .before .before .before .sections .ensures .0) (sym (rules-clear (a .minor) (a .e .minor) (a .base) (a .page .now) p (t .0) o x))
+    c .all-clear .ensures ∙ rw (t .1, c .before .before .before .before .before .before .before .before .before .before .word-at .ensures)
+    (ap (λ (m : ℕ). clearFrom (wordAt 8 (a .page .now)) (wordAt 8 (a .page .now) + taken (foundAt (a .base) (a .page .now) (wordAt 8 (a .page .now)))) m (a .page .now)) (c .before .before .before .before .before .sections .ensures .0)
+    ∙ sym (rules-clear (a .minor) (a .e .minor) (a .base) (a .page .now) p (t .0) o x))
 
 pub rules-ok-spec : {M : Type 1} → statement M
 rules-ok-spec =
