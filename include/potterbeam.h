@@ -624,7 +624,7 @@ int32_t pbeam_pack(const uint8_t *page, size_t page_len, uint64_t base, uint8_t 
  *          where it breaks a rule by itself, or its array shares a byte with the fields or an array kept before it, in the order of
  *          the words of changed. No byte but 4 to 111 is written: arrays and fields that nothing points at stay where they are, and so do
  *          sections after e. Refused, the page stays as it was, and changed is all zero.
- * Stack    384 bytes; AArch64 576
+ * Stack    288 bytes; AArch64 576
  * Afterwards pbeam_read accepts the page as PBEAM_EDITION_LAST, and shows all that was kept; a page that it accepts before stays as it is,
  * with no part changed (proved).
  */

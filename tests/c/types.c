@@ -180,19 +180,19 @@ static void check_writer(void)
 
 static void check_packer(void)
 {
-    static pbeam_page_t target, other;
+    static pbeam_page_t own, target, other;
     pbeam_lists_t told = lists;
     told.fields = pbeam_bytes((const uint8_t *)"\x01\x01\x00X", 4);
-    SAME(pbeam_manifest_write(BASE, 4, &told, &page), PBEAM_WRITE_PAGE);
+    SAME(pbeam_manifest_write(BASE, 4, &told, &own), PBEAM_WRITE_PAGE);
     memset(&target, 0xA5, sizeof target);
-    SAME(pbeam_manifest_pack(&page, BASE, &target), PBEAM_PACKED);
-    SAME(memcmp(&page, &target, sizeof page), 0);
+    SAME(pbeam_manifest_pack(&own, BASE, &target), PBEAM_PACKED);
+    SAME(memcmp(&own, &target, sizeof own), 0);
     other = target;
-    SAME(pbeam_manifest_pack(&page, BASE + 1, &target), PBEAM_UNPACKED_PLACE);
-    page.bytes[PBEAM_CORE_VERSION] = 5;
-    SAME(pbeam_manifest_pack(&page, BASE, &target), PBEAM_UNPACKED_VERSION);
-    page.bytes[PBEAM_CORE_PADDING] = 1;
-    SAME(pbeam_manifest_pack(&page, BASE, &target), PBEAM_UNPACKED_RULES);
+    SAME(pbeam_manifest_pack(&own, BASE + 1, &target), PBEAM_UNPACKED_PLACE);
+    own.bytes[PBEAM_CORE_VERSION] = 5;
+    SAME(pbeam_manifest_pack(&own, BASE, &target), PBEAM_UNPACKED_VERSION);
+    own.bytes[PBEAM_CORE_PADDING] = 1;
+    SAME(pbeam_manifest_pack(&own, BASE, &target), PBEAM_UNPACKED_RULES);
     SAME(memcmp(&target, &other, sizeof target), 0);
 }
 
@@ -200,13 +200,14 @@ static void check_packer(void)
 static void check_mender(void)
 {
     static const size_t at[] = {PBEAM_CORE_PADDING, PBEAM_CORE_PLAT_DATA, PBEAM_CORE_DRAM, PBEAM_CORE_CONSOLE, PBEAM_CORE_NCOH, PBEAM_CORE_COH};
+    static pbeam_page_t own;
     pbeam_changes_t changes;
     for (size_t n = 0; n <= 6; n++) {
-        SAME(pbeam_manifest_write(BASE, 4, &lists, &page), PBEAM_WRITE_PAGE);
+        SAME(pbeam_manifest_write(BASE, 4, &lists, &own), PBEAM_WRITE_PAGE);
         for (size_t i = 0; i < n; i++)
-            page.bytes[at[i]] ^= 1;
+            own.bytes[at[i]] ^= 1;
         memset(&changes, 0xA5, sizeof changes);
-        SAME(pbeam_manifest_mend(&page, BASE, &changes), PBEAM_MEND_DONE);
+        SAME(pbeam_manifest_mend(&own, BASE, &changes), PBEAM_MEND_DONE);
         SAME(changes.padding, n > 0);
         SAME(changes.plat_data, n > 1);
         SAME(changes.dram, n > 2);
@@ -215,8 +216,8 @@ static void check_mender(void)
         SAME(changes.coh, n > 5);
         SAME(pbeam_changes_any(&changes), n > 0);
     }
-    page.bytes[PBEAM_CORE_PADDING] = 1;
-    SAME(pbeam_manifest_mend(&page, 0, &changes), PBEAM_MANIFEST_PLACE);
+    own.bytes[PBEAM_CORE_PADDING] = 1;
+    SAME(pbeam_manifest_mend(&own, 0, &changes), PBEAM_MANIFEST_PLACE);
     SAME(pbeam_changes_any(&changes), false);
     changes.coh = true;
     SAME(pbeam_changes_any(&changes), true);

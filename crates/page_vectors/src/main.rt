@@ -101,13 +101,21 @@ fn print_case(input: &mut [u8]) {
     print_packed(&input[32..], base, &mut room[..n]);
 }
 
-fn main() {
+// Whether there is a case n.
+fn print_numbered(n: u64) -> bool {
     let mut input = [0u8; 8225];
+    let length = cases::load(n, &mut input);
+    if length == 0 {
+        return false;
+    }
+    print_case(&mut input[..length]);
+    true
+}
+
+fn main() {
     for n in 0..1000u64 {
-        let length = cases::load(n, &mut input);
-        if length == 0 {
+        if !print_numbered(n) {
             return;
         }
-        print_case(&mut input[..length]);
     }
 }
