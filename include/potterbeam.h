@@ -214,7 +214,8 @@
 #define PBEAM_TAG_END 0     /* the end mark, length 0; with another length the fields are broken */
 #define PBEAM_TAG_NAME 1    /* board name, PBEAM_NAME_LEAST to PBEAM_NAME_MOST bytes */
 #define PBEAM_TAG_SERIAL 2  /* serial, PBEAM_SERIAL_BYTES bytes */
-#define PBEAM_TAG_CONSOLE 3 /* withdrawn; PBEAM_CHOICE_BYTES byte, shown without it; not to be written: pick a console by name */
+#define PBEAM_TAG_CONSOLE 3 /* withdrawn: accepted with PBEAM_CHOICE_BYTES byte, shown without its value, refused by pbeam_write; pick
+                               a console by name (pbeam_console_named) */
 #define PBEAM_TAG_FREE 4
 #define PBEAM_NAME_LEAST 1
 #define PBEAM_NAME_MOST 32

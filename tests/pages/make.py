@@ -156,7 +156,7 @@ def holes():
     for w in range(1, 5):
         for fill, text in ((bytes(PAGE), "0"), (ONES, "0xff"), (JUNK, "junk")):
             packs(f"0.{w} with holes of {text}", full(w, fill=fill))
-    packs("an empty target of zeros", full(fill=JUNK), fill=0)
+    packs("a target of zeros", full(fill=JUNK), fill=0)
     for order in permutations(range(4)):
         places = [0x180 + 0x100 * order.index(k) for k in range(4)]
         names = ", ".join(NAMES[k] for k in order)
@@ -227,9 +227,13 @@ def refusals():
         unpacked(-5, f"B = 0x{b:x}", full(b=b), b)
         unpacked(-5, f"B = 0x{b:x}, minor 5", full(5, b=b), b)
         unpacked(-5, f"B = 0x{b:x}, target of 4,095 bytes", full(b=b), b, 4095)
+        unpacked(-5, f"B = 0x{b:x}, bad checksum", full(b=b).checksum(0, 1), b)
+        unpacked(-5, f"B = 0x{b:x}, version 0", full(b=b).version(0), b)
     for version in (0, 0x00010004, 0x80000004):
         unpacked(-6, f"version 0x{version:08x}", full().version(version))
         unpacked(-6, f"version 0x{version:08x}, bad checksum", full().version(version).checksum(1, 1))
+        for length in (0, 4095, 4097):
+            unpacked(-6, f"version 0x{version:08x}, target of {length} bytes", full().version(version), length=length)
     unpacked(-7, "broken fields", full(fill=JUNK).facts(0x700, NAME, NAME))
     unpacked(-7, "tag 3 twice", full(fill=JUNK).facts(0x700, CHOICE, CHOICE))
     unpacked(-7, "padding", full(fill=JUNK).put(5, b"\1"))
@@ -252,7 +256,7 @@ BREAKS = (
 
 
 def parts():
-    """Mending: each part broken, and any two, three and all of them"""
+    """Mending: each part broken, and any of them together"""
     for n in (0, 1, 2, 3, 4, 5, 6):
         for chosen in combinations(range(6), n):
             page = whole()
@@ -355,7 +359,8 @@ def known():
     """Mending: pages that real firmware wrote"""
     mends([], "example 14's page", example_14())
     for name, b, page, _ in field_pages():
-        add(f"field page {name}", page, b, True)
+        # qemu's console checksum does not hold
+        mends([3] if name.startswith("qemu") else [], f"field page {name}", page, b)
 
 
 def random_pages():

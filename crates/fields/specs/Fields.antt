@@ -45,7 +45,8 @@ scan (suc n) bs =
 unfoldable pub scanAll : List ℕ → Scanned
 scanAll bs = scan (length bs) bs
 
--- E7: "Tag 1 is the board name, 1 to 32 bytes; tag 2 the serial, 8 bytes; tag 3 the preferred console, 1 byte"
+-- E7: "Tag 1 is the board name, 1 to 32 bytes; tag 2 the serial, 8 bytes; tag 3 the preferred console, 1 byte". Of other tags any length that
+-- two bytes can tell: of bytes read that always holds.
 unfoldable pub lengthOk : ℕ → ℕ → Bool
 lengthOk t n =
     cond (eqb t 0) false (cond (eqb t 1) (both (leb 1 n) (leb n 32)) (cond (eqb t 2) (eqb n 8) (cond (eqb t 3) (eqb n 1) (ltb n (2 ^ 16)))))

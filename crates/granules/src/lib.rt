@@ -182,7 +182,7 @@ fn bank_fits(words: &[u64], size: u64) -> bool
     true
 }
 
-// Whether nothing but the address is left to judge, in a table of n granules.
+// Whether nothing but the address and its granule's byte is left to judge, in a table of n granules.
 fn is_ready(state: Record, granules: &[u64; 33], n: usize, words: &[u64]) -> bool
     ensures { λ r. ⌜ r ≡ readyFor state (now (granules .entry)) n (now (words .entry)) ⌝ }
 {
@@ -197,7 +197,7 @@ fn is_ready(state: Record, granules: &[u64; 33], n: usize, words: &[u64]) -> boo
 }
 
 // Moves the granule at an address if that is accepted, and says so; else nothing is changed, and the call is left to `delegate` and
-// `undelegate`. Says so of any record that does not have one bank.
+// `undelegate`. Of a record without exactly one bank it does nothing and answers false.
 pub fn moved_at_once(
     state: Record,
     granules: &[u64; 33],

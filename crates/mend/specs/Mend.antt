@@ -23,11 +23,12 @@ noPlat = mkPlat 0 (ended [] 0)
 unfoldable pub noSec : Sec
 noSec = mkSec 0 0 0 []
 
--- "a platform pointer .. that breaks a rule by itself .. is set to zero bytes in the core": w is the page's minor, e its edition
+-- "a platform pointer .. that breaks a rule by itself .. is set to zero bytes in the core": e is the page's edition
 unfoldable pub platLeft : ℕ → ℕ → Plat → Plat
 platLeft e base q = cond (platOk e base q) q noPlat
 
--- section k, where q and g say what is left of the parts before it: it neither "breaks a rule by itself, or overlaps one kept before it"
+-- section k, where q and g say what is left of the parts before it and w is the page's minor: it neither "breaks a rule by itself, or
+-- overlaps one kept before it"
 unfoldable pub stays : ℕ → ℕ → ℕ → Plat → (ℕ → Sec) → ℕ → Bool
 stays w e base q g k = both (secOk w e base k (g k)) (both (clearBefore g k) (platClear q g k))
 

@@ -111,7 +111,7 @@ fn mend_parts(page: &mut [u8], base: u64, minor: u64, e: Edition) -> Changes
     }
 }
 
-// Mends a lent page at a base, as the smaller of edition 4 and its own. A refused page stays as it was.
+// Mends a lent page at a base, read as the smaller of 4 and its minor. A refused page stays as it was.
 pub fn mend(page: &mut [u8], base: u64) -> Mended
     ensures { λ r. ⌜ (r ≡ mendedOf base (now (page .entry))) × (now (page .exit) ≡ mendedPage base (now (page .entry))) ⌝ }
 {

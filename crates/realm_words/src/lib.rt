@@ -120,7 +120,8 @@ fn word_by(words: &[u64], held: Held, at: usize) -> u64
     words[at]
 }
 
-// Writes a granule's bit as its byte has it; every other bit stays. The word written is the one held then.
+// Writes a granule's bit as its byte has it; where the word held is the words' own, every other bit stays (`put-own`). The word written is
+// the one held then.
 pub fn put_bit(words: &mut [u64], held: Held, index: usize, byte: u8) -> Held
     ensures { λ r. ⌜ (now (words .exit) ≡ putBy (now (words .entry)) held index (realmBit byte)) × (r ≡ wordHeld (now (words .entry)) held index (realmBit byte)) ⌝ }
 {

@@ -185,7 +185,8 @@ fn is_clear(page: &[u8], from: u64, to: u64, k: u8) -> bool
     entries::fits(k as usize, count_at(page, k), from - pointer)
 }
 
-// Whether those addresses share none with the first n arrays. Up to 0 there are none, as of fields without a pointer.
+// Whether those addresses share none with the first n arrays. Where `to` is 0 there are no
+// addresses, as for fields without a pointer.
 fn all_clear(page: &[u8], from: u64, to: u64, n: u8) -> bool
     ensures { λ r. ⌜ r ≡ clearFrom from to n (now (page .entry)) ⌝ }
 {

@@ -41,7 +41,7 @@ withdrawn-most : length (fieldText withdrawn) ≤ 12
 unfolding fieldText withdrawnText newline
 withdrawn-most = lit≤ tt
 
--- tag 3 has a value of one byte, so its line is no longer
+-- tag 3 has a value of one byte, so its line, of 12 bytes, is no longer than a raw field's of that length may be
 three-long : (t n : ℕ) → t ≡ 3 → Yes (lengthOk t n) → n ≡ 1
 unfolding lengthOk
 three-long t n z h = eqb-true n 1 (rw z at h)

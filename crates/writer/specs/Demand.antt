@@ -1,6 +1,6 @@
 -- Demand 3, over the definitions that the promises of the reader, the lookup and the writer cite: readers of two editions, pages
 -- that the writer makes, bytes that no reader looks at. An answer holds each section's entries and the bytes that the lookup
--- gives for it, so that each statement covers the lookup too. Assumes nothing.
+-- gives for it, and the fields as they are shown, so that each statement covers these lookups too. Assumes nothing.
 use Prim.Native.Nat.{ℕ, min, _≤_}
 use mathlib.Core.Path.{_≡_}
 use mathlib.Core.List.{List}
