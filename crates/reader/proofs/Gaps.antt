@@ -22,7 +22,7 @@ use Rattle.reader.specs.Gaps.{BesideArray, BesideFields, OthersUnnamed}
 not-yes : (b : Bool) → (Yes b → ⊥) → b ≡ false
 not-yes b f = same-test b false (λ y. absurd (f y)) (λ y. absurd (false≢true y))
 
-some-not : (n : ℕ) (f : ℕ → Bool) → ((k : ℕ) → k < n → Yes (f k) → ⊥) → Yes (some n f) → ⊥
+pub some-not : (n : ℕ) (f : ℕ → Bool) → ((k : ℕ) → k < n → Yes (f k) → ⊥) → Yes (some n f) → ⊥
 unfolding some
 some-not zero f h y = false≢true y
 some-not (suc n) f h y = either-cases _ _ (some-not n f (λ k l. h k (omega arith))) (h n (omega arith)) y

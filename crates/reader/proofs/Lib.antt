@@ -2,6 +2,7 @@ pub mod Whole
 pub mod Newer
 pub mod Named
 pub mod Gaps
+pub mod Withdrawn
 pub mod Views
 pub mod Sample
 pub mod FlagsSample

@@ -7,11 +7,11 @@ use native.Mathlib.Omega.{arith}
 use native.Mathlib.Decide.{decLt}
 use lib.ListN.{length, getD, drop, length-drop}
 use lib.Seq.{getD-drop}
-use lib.Dec.{eqb, lit≤}
+use lib.Dec.{ltb, eqb, lit≤}
 use borrow.Author.Tests.{eqb-true, leb-true, le-leb, lt-ltb, le-ltb}
-use Rattle.words.specs.Tests.{Yes}
+use Rattle.words.specs.Tests.{Yes, either, some}
 use Rattle.words.specs.Word.{leOf, numAt, wordAt}
-use Rattle.words.proofs.Tests.{both-l, both-r, both-of, either-l, either-r, every-same, some-of, cond-same}
+use Rattle.words.proofs.Tests.{both-l, both-r, both-of, either-l, either-r, either-map, every-same, some-of, cond-same}
 use Rattle.words.proofs.Read.{part-same}
 use Rattle.versions.specs.Version.{minorOf, versionOk}
 use Rattle.versions.specs.Edition.{sectionCount, core}
@@ -55,15 +55,15 @@ shown-same w e k s t h = go (decLt k (sectionCount e))
     go (yes l) = rw (h l)
     go (no l) = rw (le-ltb k (sectionCount e) (omega arith))
 
-view-same : (w e : ℕ) (q : Plat) (f g : ℕ → Sec) → ((k : ℕ) → k < sectionCount e → f k ≡ g k) → allShown w e q f ≡ allShown w e q g
+pub view-same : (w e : ℕ) (q : Plat) (f g : ℕ → Sec) → ((k : ℕ) → k < sectionCount e → f k ≡ g k) → allShown w e q f ≡ allShown w e q g
 unfolding allShown
 view-same w e q f g h = shows-same _ _ _ _ _ (λ k. shown-same w e k (f k) (g k) (h k))
 
-low-page : (base a n : ℕ) → Yes (inPage base a n) → base ≤ a
+pub low-page : (base a n : ℕ) → Yes (inPage base a n) → base ≤ a
 unfolding inPage
 low-page base a n y = leb-true _ _ (both-l _ _ y)
 
-found-in : (base : ℕ) (page : List ℕ) (a : ℕ) → eqb a 0 ≡ false → Yes (inPage base a 1) → foundAt base page a ≡ scanOf (drop (a - base) page)
+pub found-in : (base : ℕ) (page : List ℕ) (a : ℕ) → eqb a 0 ≡ false → Yes (inPage base a 1) → foundAt base page a ≡ scanOf (drop (a - base) page)
 unfolding foundAt
 found-in base page a z y = rw (z, y)
 
@@ -74,6 +74,27 @@ cond-else false x y z h = h refl
 place-length : (base n : ℕ) → Yes (placeOk base n) → Yes (eqb n 4096)
 unfolding placeOk
 place-length base n t = both-l _ _ t
+
+-- ---- two pages that agree in core and arrays of an edition
+module _ (e base : ℕ) (p q : List ℕ) (l : length p ≡ length q) (g : (i : ℕ) → Yes (either (ltb i (core e)) (some (sectionCount e) (inArray base p i))) → getD p i 0 ≡ getD q i 0) where
+  pub core-same : (off n : ℕ) → off + n ≤ core e → numAt n off p ≡ numAt n off q
+  unfolding numAt
+  core-same off n m = ap leOf (part-same off n p q l (λ i a b. g i (either-l _ _ (omega (arith, lt-ltb)))))
+
+  module _ (k : ℕ) (b : k < sectionCount e) where
+    field-same : (off : ℕ) → off ≤ 32 → wordAt (off + 24 * k) p ≡ wordAt (off + 24 * k) q
+    unfolding core
+    field-same off m = core-same (off + 24 * k) 8 (omega arith)
+
+    array-same : arrayAt base p (pointerAt k p) (size k (countAt k p)) ≡ arrayAt base q (pointerAt k p) (size k (countAt k p))
+    unfolding arrayAt inArray
+    array-same = cond-same _ _ _ _ (λ y. part-same _ _ p q l (λ i c d.
+        let z = low-page _ _ _ y in
+        g i (either-r _ _ (some-of _ _ k b (both-of _ _ y (both-of _ _ (omega (arith, le-leb)) (omega (arith, lt-ltb))))))))
+
+    pub sec-same : secAt base p k ≡ secAt base q k
+    unfolding secAt
+    sec-same = rw (array-same, field-same 16 (lit≤ tt), field-same 24 (lit≤ tt), field-same 32 (lit≤ tt))
 
 -- ---- two pages that agree in the bytes named in the first
 module _ (r base : ℕ) (p q : List ℕ) (l : length p ≡ length q) (h : (i : ℕ) → Yes (named r base p i) → getD p i 0 ≡ getD q i 0)
@@ -88,6 +109,10 @@ module _ (r base : ℕ) (p q : List ℕ) (l : length p ≡ length q) (h : (i : �
     rest-same : (i : ℕ) → Yes (namedBy (min r (minorOf (versionAt p))) base p i) → getD p i 0 ≡ getD q i 0
     unfolding named
     rest-same i b = h i (both-of _ _ (place-length base _ t) (either-r _ _ (both-of _ _ v b)))
+
+    parts-same : (i : ℕ) → Yes (either (ltb i (core (min r (minorOf (versionAt p))))) (some (sectionCount (min r (minorOf (versionAt p)))) (inArray base p i))) → getD p i 0 ≡ getD q i 0
+    unfolding namedBy
+    parts-same i b = rest-same i (either-map _ _ _ (either-l _ _) b)
 
     found-at : (i : ℕ) → Yes (inPlat base p i) → getD p i 0 ≡ getD q i 0
     unfolding namedBy
@@ -111,30 +136,11 @@ module _ (r base : ℕ) (p q : List ℕ) (l : length p ≡ length q) (h : (i : �
     unfolding platAt
     plat-same = rw (fields-same, head-same 8 8 (lit≤ tt))
 
-    core-same : (off : ℕ) → off + 8 ≤ core (min r (minorOf (versionAt p))) → wordAt off p ≡ wordAt off q
-    unfolding numAt namedBy
-    core-same off m = ap leOf (part-same off 8 p q l (λ i a b. rest-same i (either-l _ _ (omega (arith, lt-ltb)))))
-
-    module _ (k : ℕ) (b : k < sectionCount (min r (minorOf (versionAt p)))) where
-      field-same : (off : ℕ) → off ≤ 32 → wordAt (off + 24 * k) p ≡ wordAt (off + 24 * k) q
-      unfolding core
-      field-same off m = core-same (off + 24 * k) (omega arith)
-
-      array-same : arrayAt base p (pointerAt k p) (size k (countAt k p)) ≡ arrayAt base q (pointerAt k p) (size k (countAt k p))
-      unfolding arrayAt inArray namedBy
-      array-same = cond-same _ _ _ _ (λ y. part-same _ _ p q l (λ i c d.
-          let z = low-page _ _ _ y in
-          rest-same i (either-r _ _ (either-l _ _ (some-of _ _ k b (both-of _ _ y (both-of _ _ (omega (arith, le-leb)) (omega (arith, lt-ltb)))))))))
-
-      sec-same : secAt base p k ≡ secAt base q k
-      unfolding secAt
-      sec-same = rw (array-same, field-same 16 (lit≤ tt), field-same 24 (lit≤ tt), field-same 32 (lit≤ tt))
-
 pub unnamed : (r base : ℕ) (p q : List ℕ) → length p ≡ length q → ((i : ℕ) → Yes (named r base p i) → getD p i 0 ≡ getD q i 0) → readOf r base p ≡ readOf r base q
 unfolding readOf judge
 unnamed r base p q l h = rw (← l) (gate-same _ _ _ _ _ _ _
     (λ t. rw (head-same r base p q l h t 4 0 (lit≤ tt)))
     (λ t v.
-    let f = sec-same r base p q l h t (both-r _ _ v) in
+    let f = sec-same (min r (minorOf (versionAt p))) base p q l (parts-same r base p q l h t (both-r _ _ v)) in
     rw (← head-same r base p q l h t 4 0 (lit≤ tt), ← head-same r base p q l h t 4 4 (lit≤ tt), ← plat-same r base p q l h t (both-r _ _ v))
     (rules-same _ _ _ _ _ _ _ f, view-same _ _ _ _ _ f)))

@@ -2,3 +2,4 @@ pub mod Answer
 pub mod Reading
 pub mod Views
 pub mod Gaps
+pub mod Withdrawn
