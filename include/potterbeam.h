@@ -479,7 +479,7 @@ uint64_t pbeam_word(const uint8_t *page, size_t page_len, const uint64_t view[PB
  * Answers  the number of the first console whose 8 bytes of name are those given, from 0 on, as pbeam_word takes it; PBEAM_CONSOLE_NONE
  *          where there is none.
  * Leaves   page, view and name as they were.
- * Stack    64 bytes; AArch64 64
+ * Stack    64 bytes; AArch64 0
  */
 PBEAM_NONNULL(3, 4)
 size_t pbeam_console_named(const uint8_t *page, size_t page_len, const uint64_t view[PBEAM_VIEW_WORDS],
