@@ -14,7 +14,7 @@ use Rattle.entries.specs.Array.{soundOf}
 use Rattle.fields.specs.Fields.{taken}
 use Rattle.sections.specs.Page.{placeOk, inPage, arrayAt, mkSec, secAt, mkPlat, foundAt, platAt}
 use Rattle.sections.specs.Section.{platOk, wordsIn, nothing, inRange, secOk, extent, apart, clearBefore, platExtent, platClear}
-use Rattle.mend.specs.Mend.{noSec, platLeft, stays, left, keeps, platLeftAt, keepsAt, changed, changesOf, mendGate, mendedOf}
+use Rattle.mend.specs.Mend.{noSec, platLeft, stays, left, keepsSection, platLeftAt, keepsAt, changed, mendChanges, mendGate, mendedOf}
 use Rattle.mend.specs.declared.Mended.the-variants.{Done}
 
 -- a section of one entry behind the core, by its checksum
@@ -29,5 +29,5 @@ threeOnOne =
     ++ leBytes 8 0x90000000 ++ leBytes 8 0x10000000 ++ replicate 3968 0
 
 pub second-kept : mendedOf 0x80000000 threeOnOne ≡ Done (record { padding = false; plat = false; dram = true; console = false; ncoh = false; coh = true })
-unfolding oneThere threeOnOne mendedOf mendGate changesOf changed keepsAt keeps stays left platLeftAt platLeft noSec platClear platExtent taken foundAt clearBefore apart extent secOk inRange nothing wordsIn platOk platAt mkPlat secAt mkSec arrayAt inPage placeOk soundOf checkOk sum entriesOk entryOk entryRule bankOk size wordsPerEntry core sectionCount versionOk aboveOf majorOf minorOf wordsOf numAt part leBytes leOf every either both
+unfolding oneThere threeOnOne mendedOf mendGate mendChanges changed keepsAt keepsSection stays left platLeftAt platLeft noSec platClear platExtent taken foundAt clearBefore apart extent secOk inRange nothing wordsIn platOk platAt mkPlat secAt mkSec arrayAt inPage placeOk soundOf checkOk sum entriesOk entryOk entryRule bankOk size wordsPerEntry core sectionCount versionOk aboveOf majorOf minorOf wordsOf numAt part leBytes leOf every either both
 second-kept = refl
