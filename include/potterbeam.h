@@ -113,10 +113,6 @@
 #define PBEAM_WRITE_W4_LATE 4    /* a list for a section after the edition is not empty */
 #define PBEAM_WRITE_W5_ROOM 5    /* core, arrays and fields with their end mark exceed 4,096 bytes */
 
-/* Packer, int32_t: 0, the manifest's three of the page (negative), or the writer's W1 of the target. */
-#define PBEAM_PACK_PAGE 0      /* the target holds the packed page */
-#define PBEAM_PACK_W1_TARGET 1 /* target not 4,096 bytes long */
-
 /* Runtime commands: the number. 002's NOMEM (-4) is never answered, so it has no name here. */
 #define PBEAM_OK 0
 #define PBEAM_UNK (-1)
@@ -561,20 +557,6 @@ size_t pbeam_listing(const uint8_t *page, size_t page_len, uint64_t base, uint64
 uint32_t pbeam_write(uint64_t base, uint64_t edition, const uint64_t *dram, size_t dram_len, const uint64_t *console,
                      size_t console_len, const uint64_t *ncoh, size_t ncoh_len, const uint64_t *coh, size_t coh_len,
                      const uint8_t *fields, size_t fields_len, uint8_t *page, size_t page_len);
-
-/*
- * pbeam_pack: write what a page shows again, without holes.
- * Takes    the page at B = base, and a target for the same B.
- * Answers  PBEAM_PACK_PAGE, or by the first check that fails:
- *          PBEAM_MANIFEST_PLACE, PBEAM_MANIFEST_VERSION, PBEAM_MANIFEST_RULES  as pbeam_read of PBEAM_EDITION_LAST
- *          PBEAM_MANIFEST_VERSION  minor 5 or above
- *          PBEAM_PACK_W1_TARGET    target not 4,096 bytes long
- * Leaves   the page as it was. target: exactly the page that pbeam_write makes, at the page's own minor, from the sections and fields that
- *          are shown; fields in page order, without tag 3. Refused, it stays as it was.
- * A reader of any edition shows the same of both pages, apart from plat_data, tag 3 and the places of the arrays. Packing a packed page
- * changes no byte. (Both proved.)
- */
-int32_t pbeam_pack(const uint8_t *page, size_t page_len, uint64_t base, uint8_t *target, size_t target_len);
 
 /* ---- Boot ---- */
 
