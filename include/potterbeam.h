@@ -608,7 +608,7 @@ uint32_t pbeam_write(uint64_t base, uint64_t edition, const uint64_t *dram, size
  *          PBEAM_PACK_W1_TARGET    target not 4,096 bytes long
  * Leaves   the page as it was. target: the page that pbeam_write makes at the page's own minor, of the entries that are shown and of the
  *          fields in page order, less the withdrawn one; so with plat_data 0 where no other field is left. Refused, it stays as it was.
- * Stack    384 bytes; AArch64 576
+ * Stack    384 bytes; AArch64 272
  * A reader of any edition shows the same of both, but plat_data, the withdrawn field and where the arrays lie; packing the target once
  * more changes no byte (proved).
  */
@@ -625,7 +625,7 @@ int32_t pbeam_pack(const uint8_t *page, size_t page_len, uint64_t base, uint8_t 
  *          where it breaks a rule by itself, or its array shares a byte with the fields or an array kept before it, in the order of
  *          the words of changed. No byte but 4 to 111 is written: arrays and fields that nothing points at stay where they are, and so do
  *          sections after e. Refused, the page stays as it was, and changed is all zero.
- * Stack    288 bytes; AArch64 576
+ * Stack    288 bytes; AArch64 352
  * Afterwards pbeam_read accepts the page as PBEAM_EDITION_LAST, and shows all that was kept; a page that it accepts before stays as it is,
  * with no part changed (proved).
  */
