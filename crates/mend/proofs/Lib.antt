@@ -3,3 +3,4 @@ pub mod Blank
 pub mod Pages
 pub mod Parts
 pub mod Theorems
+pub mod Told
