@@ -100,4 +100,4 @@ unfolding consoleNumber
 console-told page name v i h f =
     let l : i < countIn (readingAnswer page (Accepted v)) 1 = console-at (readingAnswer page (Accepted v)) name i f .0 in
     let m = count-most page v in
-    (refl, λ (e : i ≡ 0xFFFF_FFFF_FFFF_FFFF). omega arith)
+    (refl, λ e. omega arith)
