@@ -139,6 +139,11 @@ module _ (w e base : ℕ) (q : Plat) (f : ℕ → Sec) where
   unfolding keepsSection
   keeps-rule k h = rw (← left-later k k (omega arith)) (stays-rule w e base q (left w e base q f k) k h)
 
+  -- zero bytes are kept
+  pub keeps-none : (k : ℕ) → f k ≡ noSec → Yes (keepsSection w e base q f k)
+  unfolding keepsSection
+  keeps-none k h = none-stays w e base q (left w e base q f k) k (left-later k k (omega arith) ∙ h)
+
   -- nothing goes where all rules hold
   keeps-of : (k : ℕ) → ((j : ℕ) → j < k → left w e base q f k j ≡ f j) → Yes (stays w e base q f k) → Yes (keepsSection w e base q f k)
   unfolding keepsSection

@@ -4,3 +4,4 @@ pub mod Pages
 pub mod Parts
 pub mod Theorems
 pub mod Sample
+pub mod Told

@@ -31,7 +31,7 @@ use Rattle.mend.specs.Promise.{Mends}
 use Rattle.mend.specs.declared.Changes.{Changes}
 use Rattle.mend.specs.declared.Mended.{Mended}
 use Rattle.mend.specs.declared.Mended.the-variants.{Done, Refused}
-use Rattle.mend.proofs.Kept.{lastOf, last-rules, plat-left-ok, keeps-rule, keeps-all, keeps-is}
+use Rattle.mend.proofs.Kept.{lastOf, last-rules, plat-left-ok, keeps-rule, keeps-none, keeps-all, keeps-is}
 use Rattle.mend.proofs.Blank.{blank-none}
 use Rattle.mend.proofs.Pages.{never-both, to-length, part-stands, part-zeroed, rest-stands, version-to, padding-stands, padding-zeroed, pointer-stands, pointer-zeroed, word-stands, word-zeroed, array-none, found-none, found-held, array-held, kept-stands, lost-goes, rest}
 use Rattle.mend.proofs.Parts.{mend-done}
@@ -175,6 +175,16 @@ gate-done true true x c h = (refl, refl)
 gate-done true false x c h = absurd (never-both true refl (sym (ap isDone h)))
 gate-done false v x c h = absurd (never-both true refl (sym (ap isDone h)))
 
+abbrev changesIn : Changes → Mended → Changes
+changesIn d (Done c) = c
+changesIn d (Refused r) = d
+
+gate-changes : (p v : Bool) (x c : Changes) → mendGate p v x ≡ Done c → x ≡ c
+unfolding mendGate
+gate-changes true true x c h = ap (changesIn x) h
+gate-changes true false x c h = absurd (never-both true refl (sym (ap isDone h)))
+gate-changes false v x c h = absurd (never-both true refl (sym (ap isDone h)))
+
 -- ---- what is said of the page whether or not it is refused
 cond-byte : (b : Bool) (x y : List ℕ) (i : ℕ) → getD x i 0 ≡ getD y i 0 → getD (cond b x y) i 0 ≡ getD y i 0
 cond-byte true x y i h = h
@@ -203,6 +213,18 @@ module _ (base : ℕ) (page : List ℕ) where
   done-by : (c : Changes) → mendedOf base page ≡ Done c → Yes (placeOk base (length page)) × Yes (versionOk (versionAt page))
   unfolding mendedOf
   done-by c h = gate-done _ _ _ c h
+
+  report-by : (c : Changes) → mendedOf base page ≡ Done c →
+      (c .padding ≡ changed base page 0) × (c .plat ≡ changed base page 1) × (c .dram ≡ changed base page 2) × (c .console ≡ changed base page 3) × (c .ncoh ≡ changed base page 4) × (c .coh ≡ changed base page 5)
+  unfolding mendedOf mendChanges
+  report-by c h = rw (← gate-changes _ _ (mendChanges base page) c h) (refl, refl, refl, refl, refl, refl)
+
+  blanks-by : (c : Changes) → mendedOf base page ≡ Done c → (k : ℕ) → countAt k page ≡ 0 → pointerAt k page ≡ 0 → checkAt k page ≡ 0 → changed base page (suc (suc k)) ≡ false
+  unfolding keepsAt secAt noSec
+  blanks-by c h k x y z =
+      let o = placed base (length page) (done-by c h .0) .1 in
+      let n : secAt base page k ≡ noSec = rw (x, y, z) (ap (mkSec 0 0 0) (array-none base page _ o)) in
+      kept-stands base page 6 k (keeps-none (minorAt page) (editionAt page) base (platLeftAt base page) (secAt base page) k n)
 
   page-done : (c : Changes) → mendedOf base page ≡ Done c → mendedPage base page ≡ pageTo 6 base page
   page-done c h = let d = done-by c h in sym (mend-done base page (d .0) (d .1) .1)
@@ -241,11 +263,13 @@ mends base page = record {
   version = refused-version base page;
   refusal = refused-by base page;
   accepts = accepts-by base page;
+  report = report-by base page;
   accepted = comes-out base page;
   padding = refl;
   pointer = refl;
   section = section-by base page;
   kept = λ k. keeps-is (minorAt page) (editionAt page) base (platAt base page) (secAt base page) k;
+  blanks = λ c h k l. blanks-by base page c h k;
   lacks = λ k h. (lacks-by base page k h, λ i o. byte-by base page i (part-stands base page 6 (suc (suc k)) (λ _. lacks-by base page k h) i o));
   zeros = λ c h j l x i o. ap (λ (p : List ℕ). getD p i 0) (page-done base page c h) ∙ part-zeroed base page 6 j l x i o;
   stands = λ j x i o. byte-by base page i (part-stands base page 6 j (λ _. x) i o);

@@ -8,7 +8,7 @@ use lib.Dec.{eqb}
 use lib.ListN.{length, getD}
 use Rattle.words.specs.Tests.{Yes, both, either, every}
 use Rattle.versions.specs.Edition.{sectionCount}
-use Rattle.sections.specs.Page.{paddingAt, secAt, platAt}
+use Rattle.sections.specs.Page.{paddingAt, countAt, pointerAt, checkAt, secAt, platAt}
 use Rattle.sections.specs.Section.{platOk, secOk, extent, apart, platExtent}
 use Rattle.reader.specs.Answer.{Shown, PlatShown, shown, platShown, refused, shows, minus, readOf}
 use Rattle.reader.specs.Reading.{refusalNumber}
@@ -28,6 +28,9 @@ pub record Mends (base : ℕ) (page : List ℕ) : Type 0 where
   pub accepts : (c : Changes) → mendedOf base page ≡ Done c →
       readOf 4 base (mendedPage base page) ≡ shows (minorAt page) (editionAt page) (platShown (cond (platOk (editionAt page) base (platAt base page)) (platAt base page) noPlat))
       (λ k. shown (minorAt page) (editionAt page) k (cond (keepsAt base page k) (secAt base page k) noSec))
+  -- "It reports for each of the six whether it was changed": each member is that of its own part
+  pub report : (c : Changes) → mendedOf base page ≡ Done c →
+      (c .padding ≡ changed base page 0) × (c .plat ≡ changed base page 1) × (c .dram ≡ changed base page 2) × (c .console ≡ changed base page 3) × (c .ncoh ≡ changed base page 4) × (c .coh ≡ changed base page 5)
   -- "and an accepted page comes out unchanged with six times no"
   pub accepted : (w e : ℕ) (q : PlatShown) (s : ℕ → Shown) → readOf 4 base page ≡ shows w e q s →
       (mendedPage base page ≡ page) × ((j : ℕ) → changed base page j ≡ false) × (mendedOf base page ≡ Done (record { padding = false; plat = false; dram = false; console = false; ncoh = false; coh = false }))
@@ -40,6 +43,8 @@ pub record Mends (base : ℕ) (page : List ℕ) : Type 0 where
       keepsAt base page k ≡ both (secOk (minorAt page) (editionAt page) base k (secAt base page k))
       (both (every k (λ j. either (not (keepsAt base page j)) (apart (extent k (secAt base page k)) (extent j (secAt base page j)))))
       (either (not (platOk (editionAt page) base (platAt base page))) (apart (platExtent (platAt base page)) (extent k (secAt base page k)))))
+  -- 24 zero bytes break no rule and overlap nothing: they are kept, and report no
+  pub blanks : (c : Changes) → mendedOf base page ≡ Done c → (k : ℕ) → k < sectionCount (editionAt page) → countAt k page ≡ 0 → pointerAt k page ≡ 0 → checkAt k page ≡ 0 → changed base page (suc (suc k)) ≡ false
   -- "a section that the page's edition lacks is not touched and reports no"
   pub lacks : (k : ℕ) → sectionCount (editionAt page) ≤ k →
       (changed base page (suc (suc k)) ≡ false) × ((i : ℕ) → Yes (ofPart (suc (suc k)) i) → getD (mendedPage base page) i 0 ≡ getD page i 0)

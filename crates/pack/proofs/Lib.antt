@@ -6,3 +6,4 @@ pub mod Moves
 pub mod Kept
 pub mod Whole
 pub mod Answers
+pub mod Told
