@@ -30,7 +30,7 @@ use Rattle.reader.specs.Reading.{sectionOf, sectionAt, viewAt}
 use Rattle.reader.specs.declared.Section.{Section}
 use Rattle.reader.specs.declared.Section.the-variants.{Absent, Empty, Entries}
 use Rattle.reader.specs.declared.View.{View}
-use Rattle.reader.proofs.Gaps.{others-unnamed}
+use Rattle.reader.proofs.Gaps.{ended-taken, others-unnamed}
 use Rattle.reader.proofs.Whole.{section-entries}
 use Rattle.lookup.specs.Lookup.{spanOf}
 use Rattle.lookup.specs.Kept.{spanEnd, sectionEnd, highestOf, fieldsReach, keptFor}
@@ -171,12 +171,6 @@ found-there base q page m z p =
     let x : q - base ≡ q % 4096 = omega arith in
     (omega arith, rw (ne-eqb q 0 z, p, x))
 
-ended-taken : (s : Scanned) → isEnded s ≡ true → reach s ≡ taken s
-unfolding isEnded reach taken
-ended-taken broken h = absurd (false≢true h)
-ended-taken (ended fs n) h = refl
-ended-taken (bare fs) h = absurd (false≢true h)
-
 -- where they end, if they are not broken
 pub fields-end : (base q : ℕ) (page : List ℕ) → base % 4096 ≡ 0 → length page ≡ 4096 → (q ≡ 0 → ⊥) → inPage base q 1 ≡ true → isEnded (foundAt base page q) ≡ true →
     base + fieldsReach q page ≡ q + reach (foundAt base page q)
@@ -188,10 +182,10 @@ fields-end base q page m l z p o =
     rw (f .1, reach-there q page z) (omega (arith, f .0, length-drop (q % 4096) page))
 
 fields-by : (base q : ℕ) (page : List ℕ) (i : ℕ) (z p : Bool) → eqb q 0 ≡ z → inPage base q 1 ≡ p → base % 4096 ≡ 0 → length page ≡ 4096 → isEnded (foundAt base page q) ≡ true → fieldsReach q page ≤ i →
-    (base + i < q) ⊎ ((q + reach (foundAt base page q) ≤ base + i) ⊎ (inPage base q 1 ≡ false))
-fields-by base q page i true p a b m l o h = inr (inl (let x = found-none base q page (eqb-true _ _ a) in omega arith))
+    (base + i < q) ⊎ (((isEnded (foundAt base page q) ≡ true) × (q + taken (foundAt base page q) ≤ base + i)) ⊎ (inPage base q 1 ≡ false))
+fields-by base q page i true p a b m l o h = inr (inl (o, let x = found-none base q page (eqb-true _ _ a) in let t = ended-taken (foundAt base page q) o in omega arith))
 fields-by base q page i false false a b m l o h = inr (inr b)
-fields-by base q page i false true a b m l o h = inr (inl (let x = fields-end base q page m l (eqb-false _ _ a) b o in omega arith))
+fields-by base q page i false true a b m l o h = inr (inl (o, let x = fields-end base q page m l (eqb-false _ _ a) b o in let t = ended-taken (foundAt base page q) o in omega arith))
 
 fields-beside : (base : ℕ) (page : List ℕ) (i : ℕ) → base % 4096 ≡ 0 → length page ≡ 4096 → isEnded (foundAt base page (wordAt 8 page)) ≡ true → fieldsReach (wordAt 8 page) page ≤ i → BesideFields base page i
 fields-beside base page i = fields-by base (wordAt 8 page) page i _ _ refl refl

@@ -1,9 +1,9 @@
 -- No byte is named but the core, the arrays, the fields and, of a page whose version is refused, the first 16. An edition that names every byte
 -- fails here. Assumes nothing.
 use Prim.Native.Nat.{ℕ, zero, suc, min, _+_, _≤_, _<_}
-use mathlib.Core.Bool.{Bool, false, false≢true}
+use mathlib.Core.Bool.{Bool, true, false, false≢true}
 use mathlib.Core.Logic.{inl, inr}
-use mathlib.Core.Path.{_≡_, sym, _∙_}
+use mathlib.Core.Path.{_≡_, refl, sym, _∙_}
 use mathlib.Core.List.{List}
 use native.Mathlib.Omega.{arith}
 use lib.ListN.{length}
@@ -14,7 +14,7 @@ use Rattle.versions.specs.Version.{minorOf, versionOk}
 use Rattle.versions.specs.Edition.{sectionCount, core}
 use Rattle.entries.specs.Entry.{size}
 use Rattle.words.specs.Word.{wordAt}
-use Rattle.fields.specs.Fields.{reach}
+use Rattle.fields.specs.Fields.{Scanned, broken, ended, bare, isEnded, taken, reach}
 use Rattle.sections.specs.Page.{versionAt, countAt, pointerAt, foundAt}
 use Rattle.reader.specs.Answer.{inArray, inPlat, namedBy, named}
 use Rattle.reader.specs.Gaps.{BesideArray, BesideFields, OthersUnnamed}
@@ -33,10 +33,21 @@ beside-not base page i k (inl h) y = let a : pointerAt k page ≤ base + i = leb
 beside-not base page i k (inr (inl h)) y = let a : base + i < pointerAt k page + size k (countAt k page) = ltb-true _ _ (both-r _ _ (both-r _ _ y)) in omega arith
 beside-not base page i k (inr (inr h)) y = false≢true (sym h ∙ both-l _ _ y)
 
+-- fields that end reach through their end mark, and no further
+pub ended-taken : (s : Scanned) → isEnded s ≡ true → reach s ≡ taken s
+unfolding isEnded reach taken
+ended-taken broken h = absurd (false≢true h)
+ended-taken (ended fs n) h = refl
+ended-taken (bare fs) h = absurd (false≢true h)
+
 fields-not : (base : ℕ) (page : List ℕ) (i : ℕ) → BesideFields base page i → Yes (inPlat base page i) → ⊥
 unfolding inPlat
 fields-not base page i (inl h) y = let a : wordAt 8 page ≤ base + i = leb-true _ _ (both-l _ _ (both-r _ _ y)) in omega arith
-fields-not base page i (inr (inl h)) y = let a : base + i < wordAt 8 page + reach (foundAt base page (wordAt 8 page)) = ltb-true _ _ (both-r _ _ (both-r _ _ y)) in omega arith
+fields-not base page i (inr (inl h)) y =
+    let a : base + i < wordAt 8 page + reach (foundAt base page (wordAt 8 page)) = ltb-true _ _ (both-r _ _ (both-r _ _ y)) in
+    let t : reach (foundAt base page (wordAt 8 page)) ≡ taken (foundAt base page (wordAt 8 page)) = ended-taken _ (h .0) in
+    let l : wordAt 8 page + taken (foundAt base page (wordAt 8 page)) ≤ base + i = h .1 in
+    omega arith
 fields-not base page i (inr (inr h)) y = false≢true (sym h ∙ both-l _ _ y)
 
 core-least : (e : ℕ) → 16 ≤ core e

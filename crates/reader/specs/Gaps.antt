@@ -1,6 +1,6 @@
 -- The bytes that an edition does not name. Assumes nothing.
 use Prim.Native.Nat.{ℕ, min, _+_, _≤_, _<_}
-use mathlib.Core.Bool.{false}
+use mathlib.Core.Bool.{true, false}
 use mathlib.Core.Logic.{_⊎_}
 use mathlib.Core.Path.{_≡_}
 use mathlib.Core.List.{List}
@@ -9,7 +9,7 @@ use Rattle.versions.specs.Version.{minorOf, versionOk}
 use Rattle.versions.specs.Edition.{sectionCount, core}
 use Rattle.entries.specs.Entry.{size}
 use Rattle.words.specs.Word.{wordAt}
-use Rattle.fields.specs.Fields.{reach}
+use Rattle.fields.specs.Fields.{isEnded, taken}
 use Rattle.sections.specs.Page.{versionAt, countAt, pointerAt, inPage, foundAt}
 use Rattle.reader.specs.Answer.{named}
 
@@ -19,11 +19,12 @@ BesideArray base page i k =
     (base + i < pointerAt k page)
     ⊎ ((pointerAt k page + size k (countAt k page) ≤ base + i) ⊎ (inPage base (pointerAt k page) (size k (countAt k page)) ≡ false))
 
--- byte i lies before the fields or behind them, or their pointer does not lie within the page
+-- byte i lies before the fields, or behind the end mark of fields that have one, or their pointer does not lie within the page. Of broken
+-- fields every byte of the page from the pointer on is named, so none lies behind them.
 abbrev pub BesideFields : ℕ → List ℕ → ℕ → Type 0
 BesideFields base page i =
     (base + i < wordAt 8 page)
-    ⊎ ((wordAt 8 page + reach (foundAt base page (wordAt 8 page)) ≤ base + i) ⊎ (inPage base (wordAt 8 page) 1 ≡ false))
+    ⊎ (((isEnded (foundAt base page (wordAt 8 page)) ≡ true) × (wordAt 8 page + taken (foundAt base page (wordAt 8 page)) ≤ base + i)) ⊎ (inPage base (wordAt 8 page) 1 ≡ false))
 
 -- no byte is named but those that 01 and 02, E7 give; the edition is the smaller of the reader's and the page's minor
 pub record OthersUnnamed (r base : ℕ) (page : List ℕ) : Type 0 where
