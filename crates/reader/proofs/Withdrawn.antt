@@ -25,7 +25,7 @@ use Rattle.reader.specs.Answer.{Shown, PlatShown, shows, platShown, allS
 use Rattle.reader.specs.Withdrawn.{withdrawnByte, ValueUnread}
 use Rattle.reader.proofs.Newer.{gate-shows, gate-true}
 use Rattle.reader.proofs.Named.{core-same, sec-same, rules-same, view-same, low-page, found-in}
-use Rattle.reader.proofs.Gaps.{some-not}
+use Rattle.reader.proofs.Gaps.{some-not, ended-taken}
 
 -- ---- platform data that is judged and shown the same
 record PlatLike (x y : Plat) : Type 0 where
@@ -58,12 +58,6 @@ unfolding isEnded taken fieldsIn
 found-like fs m t r =
     record { ends = ap isEnded (sym (r .is)); takes = ap taken (sym (r .is)); shown = r .alike .shown ∙ ap (λ s. shownFields (fieldsIn s)) (sym (r .is)) }
 
-ended-reach : (s : Scanned) → Yes (isEnded s) → reach s ≡ taken s
-unfolding isEnded reach taken
-ended-reach broken h = absurd (false≢true h)
-ended-reach (ended fs n) h = refl
-ended-reach (bare fs) h = absurd (false≢true h)
-
 none-found : (base : ℕ) (p q : List ℕ) (at : ℕ) → at ≡ 0 → FoundLike (foundAt base p at) (foundAt base q at)
 unfolding foundAt
 none-found base p q at z = rw (eq-eqb at 0 z) (record { ends = refl; takes = refl; shown = refl })
@@ -81,7 +75,7 @@ module _ (e base : ℕ) (p q : List ℕ) (l : length p ≡ length q) (pos : 0 < 
       either-cases _ _
       (λ z. absurd (let u : wordAt 8 p ≡ 0 = eqb-true _ _ z in let v : ⊥ = omega arith in v))
       (λ z.
-      let t : reach (foundAt base p (wordAt 8 p)) ≡ taken (foundAt base p (wordAt 8 p)) = ended-reach (foundAt base p (wordAt 8 p)) (both-r _ _ (both-r _ _ z)) in
+      let t : reach (foundAt base p (wordAt 8 p)) ≡ taken (foundAt base p (wordAt 8 p)) = ended-taken (foundAt base p (wordAt 8 p)) (both-r _ _ (both-r _ _ z)) in
       (leb-true _ _ (both-l _ _ z), lo, rw (← t) hi))
       o
 
