@@ -534,14 +534,14 @@ fn lay(page: &[u8], base: u64, view: &ViewImage, target: &mut [u8; PAGE]) {
             target[at..at + length].copy_from_slice(&page[offset..offset + length]);
             at += length;
         }
-        put(target, header, &words);
+        put::<false>(target, header, &words);
     }
     let end = match view[2] {
         0 => at,
         plat => lay_fields(page, (plat % PAGE as u64) as usize, at, target),
     };
     let plat = if end == at { 0 } else { base + at as u64 };
-    put(target, 0, &[view[0], plat]);
+    put::<false>(target, 0, &[view[0], plat]);
     target[end..].fill(0);
 }
 
@@ -595,7 +595,7 @@ fn mend_parts(page: &mut [u8], base: u64, changed: &mut ReportImage) -> Result<(
         match fields_end(page, from as usize).filter(|_| inside) {
             Some(end) => kept.bounds[0] = (from, end as u64),
             None => {
-                put(page, 8, &[0]);
+                put::<false>(page, 8, &[0]);
                 changed[1] = 1;
             }
         }
@@ -635,7 +635,7 @@ fn mend_section<const K: usize>(
             0
         }
         None => {
-            put(page, header_offset(K), &[0; 3]);
+            put::<false>(page, header_offset(K), &[0; 3]);
             1
         }
     }
