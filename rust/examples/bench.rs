@@ -549,6 +549,85 @@ fn compare_granules(count: u64) {
     assert_eq!((ours, words), (theirs, their_words));
 }
 
+/// The same with one bank, called as from C, against code by hand: by the same rules, and by those before 02, with one range of memory
+/// and with one bank but no words.
+fn compare_with_before() {
+    use inplace::before::{
+        delegate_in_bank, delegate_in_range, undelegate_in_bank, undelegate_in_range,
+    };
+    let (Up { image, .. }, (record, addresses)) = (Up::new(), banks(1));
+    let [address, length, start] = hidden([addresses[500], 512, addresses[0]]);
+    let start = [start];
+    let [mut ours, mut theirs, mut ranged, mut banked] = [(); 4].map(|()| vec![0; length as usize]);
+    let [mut words, mut their_words] = [(); 2].map(|()| vec![0; length as usize / 64]);
+    let (table, in_table) = (ours.as_mut_ptr(), ours.len());
+    let (word, in_words) = (words.as_mut_ptr(), words.len());
+    compare(
+        "to Realm and back, 1 bank",
+        2,
+        side(|| unsafe {
+            let mut out = [0; 3];
+            ffi::pbeam_delegate(
+                &image, &record, table, in_table, word, in_words, address, &mut out,
+            );
+            see(out[0]);
+            ffi::pbeam_undelegate(
+                &image, &record, table, in_table, word, in_words, address, &mut out,
+            );
+            see(out[0]);
+        }),
+        vec![
+            (
+                "in place",
+                side(|| {
+                    let mut out = [0; 3];
+                    let words = &mut their_words;
+                    inplace::delegate(&image, &record, &mut theirs, words, address, &mut out);
+                    see(out[0]);
+                    inplace::undelegate(&image, &record, &mut theirs, words, address, &mut out);
+                    see(out[0]);
+                }),
+            ),
+            (
+                "one range, no words",
+                side(|| {
+                    let mut out = [0; 3];
+                    delegate_in_range(&image, &start, &mut ranged, address, &mut out);
+                    see(out[0]);
+                    undelegate_in_range(&image, &start, &mut ranged, address, &mut out);
+                    see(out[0]);
+                }),
+            ),
+            (
+                "one bank, no words",
+                side(|| {
+                    let mut out = [0; 3];
+                    delegate_in_bank(&image, &record, &mut banked, address, &mut out);
+                    see(out[0]);
+                    undelegate_in_bank(&image, &record, &mut banked, address, &mut out);
+                    see(out[0]);
+                }),
+            ),
+        ],
+    );
+    assert!(ours == theirs && ours == ranged && ours == banked && words == their_words);
+    assert!(old_rules_accept(&image, &start, &record, address));
+}
+
+/// That the old rules' code accepts what is timed.
+fn old_rules_accept(
+    image: &RecordImage,
+    start: &[u64; 1],
+    record: &GranulesImage,
+    address: u64,
+) -> bool {
+    let (mut ranged, mut banked) = (vec![0; 512], vec![0; 512]);
+    let [mut one, mut other] = [[9; 3]; 2];
+    inplace::before::delegate_in_range(image, start, &mut ranged, address, &mut one);
+    inplace::before::delegate_in_bank(image, record, &mut banked, address, &mut other);
+    one == [0; 3] && other == one && ranged == banked && ranged[500] == 1
+}
+
 fn several(count: u64) -> String {
     format!("{count} bank{}", if count == 1 { "" } else { "s" })
 }
@@ -1413,6 +1492,7 @@ fn compare_collections(message: &[u8], largest: u32, total: u32) {
 }
 
 fn compare_all_granules() {
+    compare_with_before();
     for count in [1, 16] {
         compare_granules(count);
         compare_lists(count);

@@ -384,6 +384,103 @@ fn only_moved(
     out[1] = list.len() as u64;
 }
 
+/// Delegation before 02: what E2 and E6 are held against. Code for the old rules, as fast as it was found, with the parameters that the
+/// exports had then.
+pub mod before {
+    use super::{is_shared, place_in, Answer, Error, GranulesImage, RecordImage, Registers};
+
+    /// One range of memory from an address on, as long as the table.
+    #[inline]
+    fn in_range(
+        state: &RecordImage,
+        start: &[u64; 1],
+        table: &mut [u8],
+        at: u64,
+        from: u8,
+        out: &mut Registers,
+    ) {
+        let place = place_in(start[0], (table.len() as u64) << 12, at);
+        turned(state, table, place, at, from, out);
+    }
+
+    /// One bank of a record that each call judges; no words.
+    #[inline]
+    fn in_bank(
+        state: &RecordImage,
+        granules: &GranulesImage,
+        table: &mut [u8],
+        at: u64,
+        from: u8,
+        out: &mut Registers,
+    ) {
+        let (base, size) = (granules[1], granules[2]);
+        let last = base.wrapping_add(size).wrapping_sub(1);
+        let good = granules[0] == 1
+            && (base | size) & 0xFFE0_0000_0000_0FFF == 0
+            && (size.wrapping_sub(1) | last) >> 52 == 0
+            && size / 4096 == table.len() as u64;
+        let place = if good {
+            place_in(base, size, at)
+        } else {
+            u64::MAX
+        };
+        turned(state, table, place, at, from, out);
+    }
+
+    #[inline]
+    fn turned(
+        state: &RecordImage,
+        table: &mut [u8],
+        place: u64,
+        at: u64,
+        from: u8,
+        out: &mut Registers,
+    ) {
+        let refused = |error| [Answer::from(Err(error)).x0, 0, 0];
+        *out = match table.get_mut(place as usize) {
+            _ if state[0] != 1 => refused(Error::Unk),
+            Some(byte) if !is_shared(state, at, from) => match *byte == from {
+                true => {
+                    *byte = 1 - from;
+                    [0; 3]
+                }
+                false => refused(Error::BadPas),
+            },
+            _ => refused(Error::BadAddr),
+        };
+    }
+
+    /// The pairs of calls: to Realm and back.
+    macro_rules! both {
+        ($delegate:ident, $undelegate:ident, $moved:ident, $memory:ty) => {
+            #[inline(never)]
+            pub fn $delegate(
+                state: &RecordImage,
+                memory: &$memory,
+                table: &mut [u8],
+                at: u64,
+                out: &mut Registers,
+            ) {
+                $moved(state, memory, table, at, 0, out);
+            }
+
+            #[inline(never)]
+            pub fn $undelegate(
+                state: &RecordImage,
+                memory: &$memory,
+                table: &mut [u8],
+                at: u64,
+                out: &mut Registers,
+            ) {
+                $moved(state, memory, table, at, 1, out);
+            }
+        };
+    }
+
+    both!(delegate_in_range, undelegate_in_range, in_range, [u64; 1]);
+    both!(delegate_in_bank, undelegate_in_bank, in_bank, GranulesImage);
+}
+
 /// The shared page's granule, which is not undelegated.
 #[inline]
 fn is_shared(state: &RecordImage, at: u64, from: u8) -> bool {
