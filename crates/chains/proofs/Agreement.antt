@@ -9,8 +9,8 @@ use Rattle.words.specs.Word.{areWords}
 use Rattle.banks.specs.Banks.{granuleCount}
 use Rattle.realm_words.specs.Answers.{realmCountOf, realmNextOf, realms, nextRealm}
 use Rattle.realm_words.specs.declared.Number.{Number}
-use Rattle.granules.specs.Granules.{tableOf, Agrees}
-use Rattle.granules.proofs.Agreement.{count-walks, next-walks}
+use Rattle.granule_rules.specs.Granules.{tableOf, Agrees}
+use Rattle.granule_rules.proofs.Agreement.{count-walks, next-walks}
 use Rattle.runtime.specs.Step.{World}
 use Rattle.runtime.proofs.Agreement.{agreement-kept, length-stays}
 use Rattle.queue_image.specs.Image.{each, areBytes}

@@ -7,18 +7,18 @@ use lib.ListN.{length, getD, take}
 use lib.Dec.{eqb}
 use Rattle.codes.specs.Codes.{isOk, answerOf}
 use Rattle.banks.specs.Banks.{granuleCount, granuleAt}
-use Rattle.granules.specs.Granules.{GranuleTable, tableOf, Agrees, movedBy, moveOf}
-use Rattle.granules.specs.Changes.{Change, change}
+use Rattle.granule_rules.specs.Granules.{GranuleTable, tableOf, Agrees, movedBy, moveOf}
+use Rattle.granule_rules.specs.Changes.{Change, change}
 use Rattle.realm_words.specs.Answers.{realmCountOf, realmAgreeOf, realms}
 use Rattle.realm_words.specs.declared.Number.{Number}
 use Rattle.realm_words.specs.declared.Agreement.{Agreement}
 use Rattle.realm_words.proofs.Laws.{agree-told, agree-sized}
-use Rattle.granules.specs.Books.{NoneNames, nil, cons, Books, CountBooks}
+use Rattle.granule_rules.specs.Books.{NoneNames, nil, cons, Books, CountBooks}
 use Rattle.banks.specs.declared.Granule.the-variants.{At}
-use Rattle.granules.specs.declared.Direction.{Direction}
+use Rattle.granule_rules.specs.declared.Direction.{Direction}
 use Rattle.banks.proofs.Laws.{one-address}
-use Rattle.granules.proofs.Agreement.{count-walks}
-use Rattle.granules.proofs.Books.{Account, account-none, account-join, account-books, list-number}
+use Rattle.granule_rules.proofs.Agreement.{count-walks}
+use Rattle.granule_rules.proofs.Books.{Account, account-none, account-join, account-books, list-number}
 use Rattle.runtime.specs.declared.Kind.{Kind}
 use Rattle.runtime.specs.declared.Kind.the-variants.{ForwardError, Delegate, Undelegate, RealmKey, PlatformToken, Features, TokenSigning, KeyUpdate, Unlisted}
 use Rattle.runtime.specs.Step.{Call, kindOf, afterMove, callBy, callOf, stepOf, replyCode}

@@ -10,9 +10,9 @@ use Rattle.codes.specs.Codes.{isOk, x0Of, extended, answerOf}
 use Rattle.codes.specs.declared.Answer.{Answer}
 use Rattle.codes.specs.declared.Code.{Code}
 use Rattle.codes.specs.declared.Code.the-variants.{Ok, Unk, BadAddr, BadPas, Inval, Again}
-use Rattle.granules.specs.Granules.{tableOf}
-use Rattle.granules.specs.Changes.{RealmAt}
-use Rattle.granules.proofs.Done.{ok-code}
+use Rattle.granule_rules.specs.Granules.{tableOf}
+use Rattle.granule_rules.specs.Changes.{RealmAt}
+use Rattle.granule_rules.proofs.Done.{ok-code}
 use Rattle.attest.specs.Key.{keyed, realmKeyOf}
 use Rattle.attest.proofs.Acts.{key-only}
 use Rattle.token.specs.Token.{tokenOf}

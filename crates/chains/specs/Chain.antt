@@ -3,8 +3,8 @@ use Prim.Native.Nat.{ℕ}
 use mathlib.Core.Bool.{Bool, true}
 use mathlib.Core.List.{List, [], _∷_}
 use Rattle.words.specs.Tests.{both}
-use Rattle.granules.specs.Granules.{tableOf}
-use Rattle.granules.specs.Lists.{moveListOf}
+use Rattle.granule_rules.specs.Granules.{tableOf}
+use Rattle.granule_rules.specs.Lists.{moveListOf}
 use Rattle.runtime.specs.Step.{World, Command, call, sign, list}
 use Rattle.queue_image.specs.Image.{areBytes}
 use Rattle.potterbeam.specs.Exports.{MoveLeft, moveLeft, signIn, CallLeft, worldIn, callIn}

@@ -7,10 +7,10 @@ use lib.ListN.{getD, take}
 use lib.Dec.{eqb}
 use Rattle.codes.specs.Codes.{upOf}
 use Rattle.range.specs.Buffers.{BufferIn}
-use Rattle.granules.specs.Granules.{tableOf}
-use Rattle.granules.specs.Changes.{Change, change, RealmAt}
-use Rattle.granules.specs.Books.{leaves}
-use Rattle.granules.specs.declared.Direction.{Direction}
+use Rattle.granule_rules.specs.Granules.{tableOf}
+use Rattle.granule_rules.specs.Changes.{Change, change, RealmAt}
+use Rattle.granule_rules.specs.Books.{leaves}
+use Rattle.granule_rules.specs.declared.Direction.{Direction}
 use Rattle.attest.specs.Key.{realmKeyOf}
 use Rattle.features.specs.Features.{featuresOf, updateOf, forwardOf}
 use Rattle.runtime.specs.Step.{Command, call, sign, list, kindOf}

@@ -23,7 +23,7 @@ use Rattle.boot.specs.declared.Record.the-variants.{Up}
 use Rattle.codes.specs.Codes.{extended, x0Of, answerOf, unless, fails, isUp, whenUp}
 use Rattle.codes.specs.declared.Code.the-variants.{Ok, BadAddr, BadPas, Inval}
 use Rattle.range.specs.Range.{outside, tooLong}
-use Rattle.granules.specs.Granules.{GranuleTable, fromByte, guarded, granuleCode, moveCode, movedBy, fitting, whenFit, moveOf, delegateOf}
+use Rattle.granule_rules.specs.Granules.{GranuleTable, fromByte, guarded, granuleCode, moveCode, movedBy, fitting, whenFit, moveOf, delegateOf}
 use Rattle.banks.specs.Banks.{Granules, granuleAt}
 use Rattle.banks.specs.declared.Granule.the-variants.{At}
 use Rattle.features.specs.Features.{updateCode}

@@ -5,6 +5,7 @@ use boot::Params;
 use boot::Record;
 use codes::Answer;
 use codes::Code;
+use granule_rules::Direction;
 use realm_words::Held;
 ghost use mathlib.Core.Path.{_≡_};
 ghost use Prim.Native.Nat.{_/_};
@@ -14,14 +15,8 @@ ghost use Rattle.codes.specs.Codes.{answerOf};
 ghost use Rattle.banks.specs.Banks.{Granules, granuleAt, onlyBank};
 ghost use Rattle.realm_words.specs.Answers.{wordsFit};
 ghost use Rattle.realm_words.specs.Holding.{Holds};
-ghost use Rattle.granules.specs.Granules.{tableOf, Inside, fromByte, toByte, guarded, moveAt, moveOf, delegateOf, undelegateOf, movedTo, readyFor, atOnce, leftAtOnce};
-ghost use Rattle.granules.specs.Lists.{listBy, moveListOf, delegateListOf, undelegateListOf};
-
-// Which way a granule goes: from Non-secure to Realm, or back.
-pub enum Direction {
-    Delegate,
-    Undelegate,
-}
+ghost use Rattle.granule_rules.specs.Granules.{tableOf, Inside, fromByte, toByte, guarded, moveAt, moveOf, delegateOf, undelegateOf, movedTo, readyFor, atOnce, leftAtOnce};
+ghost use Rattle.granule_rules.specs.Lists.{listBy, moveListOf, delegateListOf, undelegateListOf};
 
 // The byte that a granule must have, and the one that it gets.
 fn from_byte(direction: Direction) -> u8

@@ -11,9 +11,9 @@ use Rattle.codes.specs.Codes.{isOk, ifOk, answerOf}
 use Rattle.codes.specs.declared.Code.the-variants.{Ok}
 use Rattle.codes.specs.declared.Answer.{Answer}
 use Rattle.banks.specs.Banks.{Granules}
-use Rattle.granules.specs.Granules.{GranuleTable, tableOf, Moved, movedBy, moveOf, movedTo, readyFor, atOnce, leftAtOnce}
-use Rattle.granules.specs.declared.Direction.{Direction}
-use Rattle.granules.proofs.Done.{ok-code}
+use Rattle.granule_rules.specs.Granules.{GranuleTable, tableOf, Moved, movedBy, moveOf, movedTo, readyFor, atOnce, leftAtOnce}
+use Rattle.granule_rules.specs.declared.Direction.{Direction}
+use Rattle.granule_rules.proofs.Done.{ok-code}
 use Rattle.token.specs.Token.{TokenStep}
 use Rattle.token.specs.declared.Session.{Session}
 use Rattle.responses.specs.OnImage.{SignImage}

@@ -10,16 +10,16 @@ use Rattle.codes.specs.declared.Code.{Code}
 use Rattle.codes.specs.declared.Code.the-variants.{Ok, Unk, BadAddr, BadPas, Inval, Again}
 use Rattle.codes.specs.declared.Work.the-variants.{Nothing}
 use Rattle.codes.proofs.Gates.{if-ok-by}
-use Rattle.granules.specs.Granules.{tableOf, Moved, movedBy, moveOf}
-use Rattle.granules.specs.Lists.{doneBy, tableBy}
-use Rattle.granules.specs.declared.Direction.{Direction}
+use Rattle.granule_rules.specs.Granules.{tableOf, Moved, movedBy, moveOf}
+use Rattle.granule_rules.specs.Lists.{doneBy, tableBy}
+use Rattle.granule_rules.specs.declared.Direction.{Direction}
 use Rattle.realm_words.specs.Bits.{realmWords}
 use Rattle.realm_words.specs.Answers.{bothFit, realmCountOf, realmNextOf, realmBuildOf}
 use Rattle.realm_words.specs.declared.Number.{Number}
 use Rattle.realm_words.specs.declared.Hit.{Hit}
 use Rattle.banks.specs.Banks.{Granules, granuleCount, shownCount, takes, recordFrom, setUpCode, setUpOf}
-use Rattle.granules.proofs.Moving.{move-refused}
-use Rattle.granules.proofs.Done.{list-is}
+use Rattle.granule_rules.proofs.Moving.{move-refused}
+use Rattle.granule_rules.proofs.Done.{list-is}
 use Rattle.boot.specs.declared.Record.{Record}
 use Rattle.attest.specs.Key.{Keyed, keyed, realmKeyOf}
 use Rattle.attest.proofs.Keys.{key-refused}

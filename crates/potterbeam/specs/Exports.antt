@@ -9,9 +9,9 @@ use Rattle.lists.specs.Description.{descriptionOf}
 use Rattle.writer.specs.Write.{Made, writeOf}
 use Rattle.banks.specs.Banks.{SetUp, setUpOf, granuleCount}
 use Rattle.realm_words.specs.Answers.{Built, realmBuildOf}
-use Rattle.granules.specs.Granules.{tableOf, Moved, moveOf}
-use Rattle.granules.specs.Lists.{moveListOf}
-use Rattle.granules.specs.declared.Direction.{Direction}
+use Rattle.granule_rules.specs.Granules.{tableOf, Moved, moveOf}
+use Rattle.granule_rules.specs.Lists.{moveListOf}
+use Rattle.granule_rules.specs.declared.Direction.{Direction}
 use Rattle.token.specs.Token.{TokenStep, tokenOf}
 use Rattle.token.specs.declared.Session.{Session}
 use Rattle.responses.specs.OnImage.{SignImage, signOn}

@@ -8,9 +8,9 @@ use lib.ListN.{take, getD}
 use Rattle.codes.specs.Codes.{x0Of}
 use Rattle.codes.specs.declared.Code.the-variants.{Inval}
 use Rattle.realm_words.specs.Answers.{realmCountOf, realmNextOf}
-use Rattle.granules.specs.Granules.{tableOf, moveOf}
-use Rattle.granules.specs.Lists.{doneBy, tableBy}
-use Rattle.granules.specs.declared.Direction.{Direction}
+use Rattle.granule_rules.specs.Granules.{tableOf, moveOf}
+use Rattle.granule_rules.specs.Lists.{doneBy, tableBy}
+use Rattle.granule_rules.specs.declared.Direction.{Direction}
 use Rattle.attest.specs.Key.{realmKeyOf}
 use Rattle.features.specs.Features.{featuresOf, updateOf}
 use Rattle.runtime.specs.Step.{Call}

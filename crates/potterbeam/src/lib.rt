@@ -31,7 +31,7 @@ ghost use Rattle.boot.specs.declared.Record.the-variants.{Closed};
 ghost use Rattle.boot.specs.Boot.{codeIn, coldCode, coldNext, warmCode, warmNext};
 ghost use Rattle.banks.specs.Banks.{granuleCount};
 ghost use Rattle.realm_words.specs.Answers.{realmCountOf, realmNextOf, realmAgreeOf};
-ghost use Rattle.granules.specs.declared.Direction.{Direction};
+ghost use Rattle.granule_rules.specs.declared.Direction.{Direction};
 ghost use Rattle.attest.specs.Key.{realmKeyOf};
 ghost use mathlib.Core.Bool.{true, false};
 ghost use Rattle.codes.specs.Codes.{x0Of};
@@ -373,7 +373,7 @@ pub extern "C" fn pbeam_delegate(
     if granules::moved_at_once(
         images::record_of(state),
         granules,
-        granules::Direction::Delegate,
+        granule_rules::Direction::Delegate,
         table,
         words,
         address,
@@ -406,7 +406,7 @@ pub extern "C" fn pbeam_undelegate(
     if granules::moved_at_once(
         images::record_of(state),
         granules,
-        granules::Direction::Undelegate,
+        granule_rules::Direction::Undelegate,
         table,
         words,
         address,

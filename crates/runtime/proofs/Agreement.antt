@@ -8,10 +8,10 @@ use Rattle.banks.specs.Banks.{Granules, granuleCount}
 use Rattle.boot.specs.declared.Record.{Record}
 use Rattle.realm_words.specs.Answers.{realmCountOf, realmNextOf, realms, nextRealm}
 use Rattle.realm_words.specs.declared.Number.{Number}
-use Rattle.granules.specs.Granules.{GranuleTable, Agrees, moveOf}
-use Rattle.granules.specs.declared.Direction.{Direction}
-use Rattle.granules.proofs.Moving.{lengths-kept}
-use Rattle.granules.proofs.Agreement.{count-walks, next-walks, move-keeps, list-holds}
+use Rattle.granule_rules.specs.Granules.{GranuleTable, Agrees, moveOf}
+use Rattle.granule_rules.specs.declared.Direction.{Direction}
+use Rattle.granule_rules.proofs.Moving.{lengths-kept}
+use Rattle.granule_rules.proofs.Agreement.{count-walks, next-walks, move-keeps, list-holds}
 use Rattle.runtime.specs.declared.Kind.{Kind}
 use Rattle.runtime.specs.declared.Kind.the-variants.{ForwardError, Delegate, Undelegate, RealmKey, PlatformToken, Features, TokenSigning, KeyUpdate, Unlisted}
 use Rattle.runtime.specs.Step.{World, Call, Command, call, sign, list, kindOf, afterMove, afterKey, afterToken, afterSigning, afterUpdate, afterSign, callBy, callOf, stepOf}

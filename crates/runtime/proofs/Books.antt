@@ -7,10 +7,10 @@ use Rattle.banks.specs.Banks.{Granules, granuleCount}
 use Rattle.realm_words.specs.Answers.{realmAgreeOf, realms}
 use Rattle.realm_words.specs.declared.Agreement.{Agreement}
 use Rattle.realm_words.proofs.Laws.{agree-told, agree-sized}
-use Rattle.granules.specs.Granules.{Agrees}
-use Rattle.granules.specs.Books.{Books, CountBooks}
-use Rattle.granules.proofs.Agreement.{count-walks}
-use Rattle.granules.proofs.Books.{Account, account-none, account-join, account-books, call-account}
+use Rattle.granule_rules.specs.Granules.{Agrees}
+use Rattle.granule_rules.specs.Books.{Books, CountBooks}
+use Rattle.granule_rules.proofs.Agreement.{count-walks}
+use Rattle.granule_rules.proofs.Books.{Account, account-none, account-join, account-books, call-account}
 use Rattle.runtime.specs.Step.{World, Command}
 use Rattle.runtime.specs.Run.{nextOf, worldAfter, gathered}
 use Rattle.runtime.specs.Changes.{changesOf}

@@ -7,12 +7,12 @@ use Rattle.boot.specs.declared.Record.{Record}
 use Rattle.boot.specs.declared.Record.the-variants.{Fresh}
 use Rattle.codes.specs.Codes.{isOk}
 use Rattle.codes.specs.declared.Code.the-variants.{Ok}
-use Rattle.granules.specs.Granules.{GranuleTable, moveOf, delegateOf, undelegateOf}
-use Rattle.granules.specs.Lists.{moveListOf}
-use Rattle.granules.specs.Changes.{Change, change}
+use Rattle.granule_rules.specs.Granules.{GranuleTable, moveOf, delegateOf, undelegateOf}
+use Rattle.granule_rules.specs.Lists.{moveListOf}
+use Rattle.granule_rules.specs.Changes.{Change, change}
 use Rattle.banks.specs.Banks.{Granules}
-use Rattle.granules.specs.declared.Direction.{Direction}
-use Rattle.granules.proofs.Changes.{call-by, list-by}
+use Rattle.granule_rules.specs.declared.Direction.{Direction}
+use Rattle.granule_rules.proofs.Changes.{call-by, list-by}
 use Rattle.runtime.specs.declared.Kind.{Kind}
 use Rattle.runtime.specs.declared.Kind.the-variants.{ForwardError, Delegate, Undelegate, RealmKey, PlatformToken, Features, TokenSigning, KeyUpdate, Unlisted}
 use Rattle.runtime.specs.Step.{World, Call, Command, call, sign, list, kindOf, afterMove, afterKey, afterToken, afterSigning, afterUpdate, afterSign, callBy, callOf, stepOf, replyCode}

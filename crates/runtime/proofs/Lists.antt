@@ -6,11 +6,11 @@ use lib.ListN.{length, take, length-map}
 use lib.Seq.{length-take-le}
 use Rattle.boot.specs.declared.Record.{Record}
 use Rattle.codes.specs.Codes.{answerOf}
-use Rattle.granules.specs.Granules.{moveOf}
-use Rattle.granules.specs.Lists.{tableBy, doneOf}
+use Rattle.granule_rules.specs.Granules.{moveOf}
+use Rattle.granule_rules.specs.Lists.{tableBy, doneOf}
 use Rattle.banks.specs.Banks.{Granules}
-use Rattle.granules.specs.declared.Direction.{Direction}
-use Rattle.granules.proofs.Done.{list-is, longest}
+use Rattle.granule_rules.specs.declared.Direction.{Direction}
+use Rattle.granule_rules.proofs.Done.{list-is, longest}
 use Rattle.runtime.specs.Step.{World, withTable, list, kindOf, afterMove, callBy, callOf, stepOf, replyCode, refusal}
 use Rattle.runtime.specs.Run.{nextOf, worldAfter, singleCall, doneCalls}
 

@@ -4,10 +4,10 @@ use mathlib.Core.Bool.{false, true≢false}
 use lib.ListN.{length}
 use Rattle.codes.specs.Codes.{isOk, answerOf}
 use Rattle.codes.specs.declared.Answer.{Answer}
-use Rattle.granules.specs.Granules.{Moved}
+use Rattle.granule_rules.specs.Granules.{Moved}
 use Rattle.banks.specs.Banks.{Granules}
-use Rattle.granules.specs.declared.Direction.{Direction}
-use Rattle.granules.proofs.Moving.{move-refused}
+use Rattle.granule_rules.specs.declared.Direction.{Direction}
+use Rattle.granule_rules.proofs.Moving.{move-refused}
 use Rattle.attest.specs.Key.{Keyed}
 use Rattle.attest.proofs.Keys.{key-refused}
 use Rattle.token.specs.Token.{TokenStep}

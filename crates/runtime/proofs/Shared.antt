@@ -8,11 +8,11 @@ use Rattle.codes.specs.Codes.{upOf, isOk, answerOf}
 use Rattle.codes.specs.declared.Code.the-variants.{Ok}
 use Rattle.range.specs.Buffers.{BufferIn}
 use Rattle.range.proofs.Buffers.{passed-in}
-use Rattle.granules.specs.Granules.{GranuleTable}
-use Rattle.granules.specs.Changes.{Change, RealmAt}
+use Rattle.granule_rules.specs.Granules.{GranuleTable}
+use Rattle.granule_rules.specs.Changes.{Change, RealmAt}
 use Rattle.banks.specs.Banks.{Granules}
-use Rattle.granules.proofs.Done.{ok-code}
-use Rattle.granules.proofs.Shared.{shared-kept}
+use Rattle.granule_rules.proofs.Done.{ok-code}
+use Rattle.granule_rules.proofs.Shared.{shared-kept}
 use Rattle.attest.proofs.Acts.{key-only}
 use Rattle.token.specs.Calls.{tokenStepOf as tokenStep, tokenAccepted}
 use Rattle.token.proofs.Acts.{token-only}

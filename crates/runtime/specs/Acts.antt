@@ -1,7 +1,7 @@
 -- What a call does, by its function id. Assumes nothing.
 use mathlib.Core.Path.{_≡_}
 use Rattle.codes.specs.declared.Work.the-variants.{Nothing}
-use Rattle.granules.specs.Granules.{Moved, delegateOf, undelegateOf}
+use Rattle.granule_rules.specs.Granules.{Moved, delegateOf, undelegateOf}
 use Rattle.banks.specs.Banks.{Granules}
 use Rattle.attest.specs.Key.{Keyed, realmKeyOf}
 use Rattle.token.specs.Token.{TokenStep, tokenOf}

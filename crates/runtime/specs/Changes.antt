@@ -7,10 +7,10 @@ use lib.ListN.{take}
 use Rattle.boot.specs.declared.Record.{Record}
 use Rattle.codes.specs.Codes.{upOf}
 use Rattle.range.specs.Buffers.{BufferIn}
-use Rattle.granules.specs.Lists.{doneOf}
-use Rattle.granules.specs.Changes.{Change, change, RealmAt}
+use Rattle.granule_rules.specs.Lists.{doneOf}
+use Rattle.granule_rules.specs.Changes.{Change, change, RealmAt}
 use Rattle.banks.specs.Banks.{Granules}
-use Rattle.granules.specs.declared.Direction.{Direction}
+use Rattle.granule_rules.specs.declared.Direction.{Direction}
 use Rattle.runtime.specs.declared.Kind.{Kind}
 use Rattle.runtime.specs.declared.Kind.the-variants.{ForwardError, Delegate, Undelegate, RealmKey, PlatformToken, Features, TokenSigning, KeyUpdate, Unlisted}
 use Rattle.runtime.specs.Step.{World, Call, callWith, Command, call, sign, list, kindOf}

@@ -7,9 +7,9 @@ use Rattle.words.specs.Word.{part}
 use Rattle.range.specs.Range.{placeOf}
 use Rattle.codes.specs.Codes.{isOk, upOf}
 use Rattle.boot.specs.declared.Record.{Record}
-use Rattle.granules.specs.Lists.{doneOf}
+use Rattle.granule_rules.specs.Lists.{doneOf}
 use Rattle.banks.specs.Banks.{Granules}
-use Rattle.granules.specs.declared.Direction.{Direction}
+use Rattle.granule_rules.specs.declared.Direction.{Direction}
 use Rattle.token.specs.Calls.{TokenCall}
 use Rattle.queue.specs.declared.Request.{Request}
 use Rattle.queue.specs.Queue.{Signed, Lists}

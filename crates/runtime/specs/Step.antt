@@ -10,10 +10,10 @@ use Rattle.codes.specs.declared.Code.{Code}
 use Rattle.codes.specs.declared.Code.the-variants.{Ok, Unk}
 use Rattle.codes.specs.declared.Work.{Work}
 use Rattle.codes.specs.declared.Work.the-variants.{Nothing}
-use Rattle.granules.specs.Granules.{GranuleTable, tableOf, Moved, delegateOf, undelegateOf}
-use Rattle.granules.specs.Lists.{moveListOf}
+use Rattle.granule_rules.specs.Granules.{GranuleTable, tableOf, Moved, delegateOf, undelegateOf}
+use Rattle.granule_rules.specs.Lists.{moveListOf}
 use Rattle.banks.specs.Banks.{Granules}
-use Rattle.granules.specs.declared.Direction.{Direction}
+use Rattle.granule_rules.specs.declared.Direction.{Direction}
 use Rattle.attest.specs.Key.{Keyed, realmKeyOf}
 use Rattle.token.specs.Token.{TokenStep, tokenOf}
 use Rattle.token.specs.declared.Session.{Session}

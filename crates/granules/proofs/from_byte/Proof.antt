@@ -1,5 +1,5 @@
 use mathlib.Core.Path.{sym, ap}
-use Rattle.granules.specs.Granules.{fromByte}
+use Rattle.granule_rules.specs.Granules.{fromByte}
 use borrow.Author.Needs.{needs}
 use Rattle.granules.proofs.from_byte.Statement.{statement}
 use Rattle.granules.proofs.from_byte.Tie as tie

@@ -1,4 +1,4 @@
-use Rattle.granules.specs.Granules.{guarded}
+use Rattle.granule_rules.specs.Granules.{guarded}
 use borrow.Author.Needs.{needs}
 use Rattle.granules.proofs.is_guarded.Statement.{statement}
 use Rattle.granules.proofs.is_guarded.Tie as tie

@@ -2,8 +2,8 @@ use mathlib.Core.Path.{sym, ap, _∙_}
 use borrow.Author.Tests.{not-true, not-false}
 use Rattle.words.specs.Tests.{both}
 use Rattle.realm_words.specs.Answers.{wordsFit}
-use Rattle.granules.specs.Granules.{readyFor}
-use Rattle.granules.proofs.Ready.{bank-size}
+use Rattle.granule_rules.specs.Granules.{readyFor}
+use Rattle.granule_rules.proofs.Ready.{bank-size}
 use borrow.Author.Needs.{needs}
 use Rattle.granules.proofs.is_ready.Statement.{statement}
 use Rattle.granules.proofs.is_ready.Tie as tie

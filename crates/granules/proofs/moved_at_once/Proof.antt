@@ -2,9 +2,9 @@ use mathlib.Core.Path.{sym, ap, _∙_}
 use borrow.Author.Tests.{not-true, not-false}
 use Rattle.banks.proofs.Laws.{bank-granule}
 use Rattle.realm_words.proofs.Holding.{none-holds}
-use Rattle.granules.specs.Granules.{tableOf, moveAt}
-use Rattle.granules.proofs.Moving.{granule-inside}
-use Rattle.granules.proofs.Ready.{ready-bank, not-ready, left-ready}
+use Rattle.granule_rules.specs.Granules.{tableOf, moveAt}
+use Rattle.granule_rules.proofs.Moving.{granule-inside}
+use Rattle.granule_rules.proofs.Ready.{ready-bank, not-ready, left-ready}
 use borrow.Author.Needs.{needs}
 use Rattle.granules.proofs.moved_at_once.Statement.{statement}
 use Rattle.granules.proofs.moved_at_once.Tie as tie

@@ -6,11 +6,11 @@ use borrow.Author.Tests.{not-true, not-false}
 use Rattle.codes.specs.Codes.{answerOf}
 use Rattle.realm_words.specs.Holding.{Holds}
 use Rattle.realm_words.proofs.Holding.{none-holds}
-use Rattle.granules.specs.Granules.{tableOf, Moved, movedBy, moveAt, movedTo}
-use Rattle.granules.specs.Lists.{listBy}
-use Rattle.granules.proofs.Moving.{granule-inside, move-lengths}
-use Rattle.granules.proofs.Ready.{only-is}
-use Rattle.granules.proofs.Lists.{list-last, list-more, list-stop}
+use Rattle.granule_rules.specs.Granules.{tableOf, Moved, movedBy, moveAt, movedTo}
+use Rattle.granule_rules.specs.Lists.{listBy}
+use Rattle.granule_rules.proofs.Moving.{granule-inside, move-lengths}
+use Rattle.granule_rules.proofs.Ready.{only-is}
+use Rattle.granule_rules.proofs.Lists.{list-last, list-more, list-stop}
 use borrow.Author.Needs.{needs}
 use Rattle.granules.proofs.only_list.Statement.{statement}
 use Rattle.granules.proofs.only_list.Tie as tie

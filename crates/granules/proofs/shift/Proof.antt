@@ -1,8 +1,8 @@
 use mathlib.Core.Path.{sym, ap, _∙_}
 use borrow.Author.Tests.{not-true, not-false}
 use Rattle.realm_words.proofs.Holding.{none-holds}
-use Rattle.granules.specs.Granules.{tableOf, movedBy, moveAt, movedTo}
-use Rattle.granules.proofs.Moving.{placed-is, fit-told, granule-inside, move-unfit, move-down, move-up}
+use Rattle.granule_rules.specs.Granules.{tableOf, movedBy, moveAt, movedTo}
+use Rattle.granule_rules.proofs.Moving.{placed-is, fit-told, granule-inside, move-unfit, move-down, move-up}
 use borrow.Author.Needs.{needs}
 use Rattle.granules.proofs.shift.Statement.{statement}
 use Rattle.granules.proofs.shift.Tie as tie

@@ -1,7 +1,7 @@
 use mathlib.Core.Path.{sym, _∙_}
 use native.Mathlib.Omega.{arith}
 use Rattle.realm_words.proofs.Holding.{put-own, put-holds}
-use Rattle.granules.proofs.Moving.{move-addr, move-guarded, move-pas, move-ok}
+use Rattle.granule_rules.proofs.Moving.{move-addr, move-guarded, move-pas, move-ok}
 use borrow.Author.Needs.{needs}
 use Rattle.granules.proofs.shift_at.Statement.{statement}
 use Rattle.granules.proofs.shift_at.Tie as tie

@@ -6,10 +6,10 @@ use borrow.Author.Tests.{not-true, not-false}
 use Rattle.codes.specs.Codes.{answerOf}
 use Rattle.realm_words.specs.Holding.{Holds}
 use Rattle.realm_words.proofs.Holding.{none-holds}
-use Rattle.granules.specs.Granules.{tableOf, Moved, movedBy, moveAt, movedTo}
-use Rattle.granules.specs.Lists.{listBy}
-use Rattle.granules.proofs.Moving.{found-is, fit-told, granule-inside, move-lengths}
-use Rattle.granules.proofs.Lists.{list-last, list-more, list-stop, list-up, list-none, list-down, list-unfit}
+use Rattle.granule_rules.specs.Granules.{tableOf, Moved, movedBy, moveAt, movedTo}
+use Rattle.granule_rules.specs.Lists.{listBy}
+use Rattle.granule_rules.proofs.Moving.{found-is, fit-told, granule-inside, move-lengths}
+use Rattle.granule_rules.proofs.Lists.{list-last, list-more, list-stop, list-up, list-none, list-down, list-unfit}
 use borrow.Author.Needs.{needs}
 use Rattle.granules.proofs.shift_list.Statement.{statement}
 use Rattle.granules.proofs.shift_list.Tie as tie

@@ -1,5 +1,5 @@
 use mathlib.Core.Path.{sym, ap}
-use Rattle.granules.specs.Granules.{toByte}
+use Rattle.granule_rules.specs.Granules.{toByte}
 use borrow.Author.Needs.{needs}
 use Rattle.granules.proofs.to_byte.Statement.{statement}
 use Rattle.granules.proofs.to_byte.Tie as tie

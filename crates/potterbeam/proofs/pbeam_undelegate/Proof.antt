@@ -1,8 +1,8 @@
 use mathlib.Core.Path.{refl}
 use Rattle.codes.specs.Codes.{extended, x0Of, answerOf}
 use Rattle.codes.specs.declared.Code.the-variants.{Ok}
-use Rattle.granules.specs.Granules.{tableOf}
-use Rattle.granules.specs.declared.Direction.the-variants.{Undelegate}
+use Rattle.granule_rules.specs.Granules.{tableOf}
+use Rattle.granule_rules.specs.declared.Direction.the-variants.{Undelegate}
 use Rattle.images.specs.Image.{registerWords}
 use Rattle.potterbeam.specs.Exports.{moveIn}
 use Rattle.potterbeam.proofs.Left.{move-left, done-moved, left-moved}

@@ -1,5 +1,5 @@
 use mathlib.Core.Path.{_≡_, sym, _∙_}
-use Rattle.granules.specs.Granules.{movedTo}
+use Rattle.granule_rules.specs.Granules.{movedTo}
 use Rattle.runtime.specs.Step.{kindOf, needsOf, callBy, plainBy, plainOf, afterMove, afterKey, afterUpdate}
 use Rattle.runtime.specs.declared.Kind.the-variants.{ForwardError, Delegate, Undelegate, RealmKey, PlatformToken, Features, TokenSigning, KeyUpdate, Unlisted}
 use borrow.Author.Needs.{needs}

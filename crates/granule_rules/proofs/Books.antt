@@ -16,16 +16,16 @@ use Rattle.banks.specs.declared.Granule.the-variants.{Nothing, At}
 use Rattle.banks.proofs.Laws.{index-below}
 use Rattle.realm_words.specs.Bits.{realmBit}
 use Rattle.realm_words.specs.Answers.{realms}
-use Rattle.granules.specs.Granules.{GranuleTable, fromByte, toByte, Moved, moveOf}
-use Rattle.granules.specs.Acts.{MoveActed}
-use Rattle.granules.specs.Lists.{moveListOf, doneOf}
-use Rattle.granules.specs.Changes.{Change, change}
-use Rattle.granules.specs.Books.{delegations, undelegations, leaves, Names, NoneNames, nil, cons, Books}
-use Rattle.granules.specs.declared.Direction.{Direction}
-use Rattle.granules.specs.declared.Direction.the-variants.{Delegate, Undelegate}
-use Rattle.granules.proofs.Acts.{move-acts}
-use Rattle.granules.proofs.Done.{list-is}
-use Rattle.granules.proofs.Changes.{list-by}
+use Rattle.granule_rules.specs.Granules.{GranuleTable, fromByte, toByte, Moved, moveOf}
+use Rattle.granule_rules.specs.Acts.{MoveActed}
+use Rattle.granule_rules.specs.Lists.{moveListOf, doneOf}
+use Rattle.granule_rules.specs.Changes.{Change, change}
+use Rattle.granule_rules.specs.Books.{delegations, undelegations, leaves, Names, NoneNames, nil, cons, Books}
+use Rattle.granule_rules.specs.declared.Direction.{Direction}
+use Rattle.granule_rules.specs.declared.Direction.the-variants.{Delegate, Undelegate}
+use Rattle.granule_rules.proofs.Acts.{move-acts}
+use Rattle.granule_rules.proofs.Done.{list-is}
+use Rattle.granule_rules.proofs.Changes.{list-by}
 
 -- ---- Realm bytes of two tables of one length that differ in one byte at most
 realms-same : (xs ys : List ℕ) → length xs ≡ length ys → ((j : ℕ) → getD xs j 0 ≡ getD ys j 0) → realms xs ≡ realms ys

@@ -13,14 +13,14 @@ use Rattle.codes.specs.Codes.{isUp, upOf, isOk, unless, fails, answerOf}
 use Rattle.codes.specs.declared.Code.{Code}
 use Rattle.codes.specs.declared.Code.the-variants.{Ok, Unk, BadAddr, BadPas, Inval, Again}
 use Rattle.banks.specs.Banks.{Granules, granuleAt}
-use Rattle.granules.specs.Granules.{GranuleTable, fromByte, toByte, guarded, Moved, movedBy, fitting, whenFit, moveOf, movedTo}
-use Rattle.granules.specs.Acts.{MoveActed}
-use Rattle.granules.specs.Lists.{onward, listBy, moveListOf, doneBy, tableBy, codeBy, codeAt, Longest}
+use Rattle.granule_rules.specs.Granules.{GranuleTable, fromByte, toByte, guarded, Moved, movedBy, fitting, whenFit, moveOf, movedTo}
+use Rattle.granule_rules.specs.Acts.{MoveActed}
+use Rattle.granule_rules.specs.Lists.{onward, listBy, moveListOf, doneBy, tableBy, codeBy, codeAt, Longest}
 use Rattle.banks.specs.declared.Granule.the-variants.{At}
-use Rattle.granules.specs.declared.Direction.{Direction}
-use Rattle.granules.specs.declared.Direction.the-variants.{Delegate, Undelegate}
-use Rattle.granules.proofs.Moving.{move-refused, move-unfit, move-up, move-pas, fit-kept}
-use Rattle.granules.proofs.Acts.{move-free, move-acts}
+use Rattle.granule_rules.specs.declared.Direction.{Direction}
+use Rattle.granule_rules.specs.declared.Direction.the-variants.{Delegate, Undelegate}
+use Rattle.granule_rules.proofs.Moving.{move-refused, move-unfit, move-up, move-pas, fit-kept}
+use Rattle.granule_rules.proofs.Acts.{move-free, move-acts}
 
 pub ok-code : (k : Code) → isOk k ≡ true → k ≡ Ok
 ok-code Ok h = refl

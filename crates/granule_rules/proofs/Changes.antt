@@ -7,12 +7,12 @@ use lib.ListN.{take}
 use Rattle.boot.specs.declared.Record.{Record}
 use Rattle.codes.specs.Codes.{isOk}
 use Rattle.codes.specs.declared.Code.the-variants.{Ok}
-use Rattle.granules.specs.Granules.{GranuleTable, moveOf}
-use Rattle.granules.specs.Lists.{moveListOf, doneBy, doneOf, tableBy}
-use Rattle.granules.specs.Changes.{Change, change}
+use Rattle.granule_rules.specs.Granules.{GranuleTable, moveOf}
+use Rattle.granule_rules.specs.Lists.{moveListOf, doneBy, doneOf, tableBy}
+use Rattle.granule_rules.specs.Changes.{Change, change}
 use Rattle.banks.specs.Banks.{Granules}
-use Rattle.granules.specs.declared.Direction.{Direction}
-use Rattle.granules.proofs.Done.{ok-code, stays, list-is}
+use Rattle.granule_rules.specs.declared.Direction.{Direction}
+use Rattle.granule_rules.proofs.Done.{ok-code, stays, list-is}
 
 -- A relation between a table, the changes to it and the table then, which holds of no change and goes on from table to table
 module _ (R : GranuleTable → List Change → GranuleTable → Type 0) (none : (t : GranuleTable) → R t [] t)

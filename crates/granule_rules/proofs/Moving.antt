@@ -16,10 +16,10 @@ use Rattle.codes.specs.declared.Code.{Code}
 use Rattle.codes.specs.declared.Code.the-variants.{Ok, Unk, BadAddr, BadPas, Inval}
 use Rattle.codes.proofs.Gates.{if-ok-by}
 use Rattle.banks.proofs.Laws.{index-below, judged-once}
-use Rattle.granules.specs.Granules.{Inside, GranuleTable, tableOf, fromByte, toByte, guarded, granuleCode, moveCode, granuleSet, moved, movedBy, moveAt, fitting, whenFit, moveOf, movedTo}
+use Rattle.granule_rules.specs.Granules.{Inside, GranuleTable, tableOf, fromByte, toByte, guarded, granuleCode, moveCode, granuleSet, moved, movedBy, moveAt, fitting, whenFit, moveOf, movedTo}
 use Rattle.banks.specs.declared.Granule.{Granule}
 use Rattle.banks.specs.declared.Granule.the-variants.{Nothing, At}
-use Rattle.granules.specs.declared.Direction.{Direction}
+use Rattle.granule_rules.specs.declared.Direction.{Direction}
 
 -- ---- the granule of an address by a record that was judged once and has m granules, and that it lies within the table
 pub found-is : (g : Granules) (m n addr : ℕ) (k : Granule) → m ≡ granuleCount g → k ≡ granuleFound g m n addr → k ≡ granuleAt g n addr

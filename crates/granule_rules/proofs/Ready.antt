@@ -14,9 +14,9 @@ use Rattle.codes.specs.declared.Code.{Code}
 use Rattle.banks.specs.Banks.{Granules, granuleCount, granuleAt, onlyBank, onlyAt}
 use Rattle.banks.specs.declared.Granule.{Granule}
 use Rattle.banks.proofs.Laws.{bank-granules, bank-granule}
-use Rattle.granules.specs.Granules.{GranuleTable, tableOf, Moved, moveAt, moveOf, movedTo, fitting, readyFor, atOnce, leftAtOnce}
-use Rattle.granules.specs.declared.Direction.{Direction}
-use Rattle.granules.proofs.Moving.{move-up, move-refused}
+use Rattle.granule_rules.specs.Granules.{GranuleTable, tableOf, Moved, moveAt, moveOf, movedTo, fitting, readyFor, atOnce, leftAtOnce}
+use Rattle.granule_rules.specs.declared.Direction.{Direction}
+use Rattle.granule_rules.proofs.Moving.{move-up, move-refused}
 
 pub bank-size : (g : Granules) (n : ℕ) → Yes (onlyBank g n) → getD g 2 0 / 4096 ≡ n
 unfolding onlyBank

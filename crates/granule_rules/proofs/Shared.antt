@@ -6,15 +6,15 @@ use lib.ListN.{length, getD}
 use Rattle.boot.specs.declared.Record.{Record}
 use Rattle.codes.specs.Codes.{upOf}
 use Rattle.codes.specs.declared.Code.the-variants.{Ok}
-use Rattle.granules.specs.Granules.{GranuleTable, fromByte, toByte, moveOf}
+use Rattle.granule_rules.specs.Granules.{GranuleTable, fromByte, toByte, moveOf}
 use Rattle.banks.specs.Banks.{granuleAt}
-use Rattle.granules.specs.Acts.{MoveActed}
-use Rattle.granules.specs.Changes.{RealmAt}
+use Rattle.granule_rules.specs.Acts.{MoveActed}
+use Rattle.granule_rules.specs.Changes.{RealmAt}
 use Rattle.banks.specs.Banks.{Granules}
 use Rattle.banks.specs.declared.Granule.the-variants.{At}
-use Rattle.granules.specs.declared.Direction.{Direction}
-use Rattle.granules.specs.declared.Direction.the-variants.{Delegate, Undelegate}
-use Rattle.granules.proofs.Acts.{move-only, move-acts}
+use Rattle.granule_rules.specs.declared.Direction.{Direction}
+use Rattle.granule_rules.specs.declared.Direction.the-variants.{Delegate, Undelegate}
+use Rattle.granule_rules.proofs.Acts.{move-only, move-acts}
 use Rattle.banks.proofs.Laws.{one-address}
 
 -- a call at another granule leaves it

@@ -4,9 +4,9 @@ use mathlib.Core.Path.{_≡_}
 use lib.ListN.{length, getD}
 use Rattle.banks.specs.Banks.{Granules, granuleAt}
 use Rattle.realm_words.specs.Bits.{bitAt, realmBit}
-use Rattle.granules.specs.Granules.{GranuleTable, fromByte, toByte}
+use Rattle.granule_rules.specs.Granules.{GranuleTable, fromByte, toByte}
 use Rattle.banks.specs.declared.Granule.the-variants.{At}
-use Rattle.granules.specs.declared.Direction.{Direction}
+use Rattle.granule_rules.specs.declared.Direction.{Direction}
 
 -- The granule is the address's own, its byte was the one that it must have and is the one that it gets, and every
 -- other byte is as it was. 02, E6: so is its bit, whatever it was, and every other bit is as it was

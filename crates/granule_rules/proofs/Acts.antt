@@ -16,13 +16,13 @@ use Rattle.codes.proofs.Gates.{fails-ok, unless-ok}
 use Rattle.realm_words.specs.Bits.{wordsFor}
 use Rattle.realm_words.proofs.Laws.{realm-lt, put-same, put-other, put-length}
 use Rattle.banks.proofs.Laws.{falls, index-below, index-named, one-address}
-use Rattle.granules.specs.Granules.{GranuleTable, fromByte, toByte, guarded, granuleCode, moveCode, granuleSet, moved, Moved, movedBy, moveAt, whenFit, fitting, moveOf, movedTo}
-use Rattle.granules.specs.Acts.{MoveActed}
+use Rattle.granule_rules.specs.Granules.{GranuleTable, fromByte, toByte, guarded, granuleCode, moveCode, granuleSet, moved, Moved, movedBy, moveAt, whenFit, fitting, moveOf, movedTo}
+use Rattle.granule_rules.specs.Acts.{MoveActed}
 use Rattle.banks.specs.declared.Granule.{Granule}
 use Rattle.banks.specs.declared.Granule.the-variants.{Nothing, At}
-use Rattle.granules.specs.declared.Direction.{Direction}
-use Rattle.granules.specs.declared.Direction.the-variants.{Delegate, Undelegate}
-use Rattle.granules.proofs.Moving.{move-addr, move-guarded, move-ok, move-up}
+use Rattle.granule_rules.specs.declared.Direction.{Direction}
+use Rattle.granule_rules.specs.declared.Direction.the-variants.{Delegate, Undelegate}
+use Rattle.granule_rules.proofs.Moving.{move-addr, move-guarded, move-ok, move-up}
 
 -- ---- granule i of a table: it is that of its bank's address, and of no other
 module _ (g : Granules) (n i : ℕ) where

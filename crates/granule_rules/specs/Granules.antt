@@ -18,8 +18,8 @@ use Rattle.codes.specs.Codes.{unless, fails, isUp, upOf, whenUp, isOk, ifOk, an
 use Rattle.codes.specs.declared.Code.{Code}
 use Rattle.codes.specs.declared.Code.the-variants.{Ok, BadAddr, BadPas, Inval}
 use Rattle.codes.specs.declared.Answer.{Answer}
-use Rattle.granules.specs.declared.Direction.{Direction}
-use Rattle.granules.specs.declared.Direction.the-variants.{Delegate, Undelegate}
+use Rattle.granule_rules.specs.declared.Direction.{Direction}
+use Rattle.granule_rules.specs.declared.Direction.the-variants.{Delegate, Undelegate}
 
 -- ---- what delegation changes: the table's bytes, and the words. 02, E6: "Beside the table keep lent 64-bit words"
 pub record GranuleTable : Type 0 where

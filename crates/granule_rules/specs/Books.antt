@@ -7,10 +7,10 @@ use Rattle.banks.specs.Banks.{Granules, granuleCount, granuleAt}
 use Rattle.banks.specs.declared.Granule.the-variants.{At}
 use Rattle.realm_words.specs.Answers.{realmCountOf, realms}
 use Rattle.realm_words.specs.declared.Number.{Number}
-use Rattle.granules.specs.Granules.{GranuleTable}
-use Rattle.granules.specs.Changes.{Change}
-use Rattle.granules.specs.declared.Direction.{Direction}
-use Rattle.granules.specs.declared.Direction.the-variants.{Delegate, Undelegate}
+use Rattle.granule_rules.specs.Granules.{GranuleTable}
+use Rattle.granule_rules.specs.Changes.{Change}
+use Rattle.granule_rules.specs.declared.Direction.{Direction}
+use Rattle.granule_rules.specs.declared.Direction.the-variants.{Delegate, Undelegate}
 
 -- ---- the numbers: "the number of Realm bytes" is `realms`, of all bytes of the table, also where the record has no granule
 -- "accepted delegations", "accepted undelegations"

@@ -16,10 +16,10 @@ use Rattle.realm_words.proofs.Laws.{count-agrees, next-agrees, words-put}
 use Rattle.boot.specs.declared.Record.{Record}
 use Rattle.codes.specs.Codes.{upOf, whenUp}
 use Rattle.codes.proofs.Gates.{if-ok-by}
-use Rattle.granules.specs.Granules.{GranuleTable, Agrees, moveCode, granuleSet, moved, Moved, movedBy, whenFit, moveOf}
-use Rattle.granules.specs.Lists.{moveListOf, doneBy, tableBy}
-use Rattle.granules.specs.declared.Direction.{Direction}
-use Rattle.granules.proofs.Done.{list-is}
+use Rattle.granule_rules.specs.Granules.{GranuleTable, Agrees, moveCode, granuleSet, moved, Moved, movedBy, whenFit, moveOf}
+use Rattle.granule_rules.specs.Lists.{moveListOf, doneBy, tableBy}
+use Rattle.granule_rules.specs.declared.Direction.{Direction}
+use Rattle.granule_rules.proofs.Done.{list-is}
 
 -- ---- the answers
 module _ (g : Granules) (t : GranuleTable) (n : granuleCount g ≡ length (t .bytes)) (a : Agrees t) where

@@ -11,10 +11,10 @@ use Rattle.boot.specs.declared.Record.{Record}
 use Rattle.codes.specs.Codes.{isUp, upOf, isOk, answerOf}
 use Rattle.codes.specs.declared.Code.the-variants.{Ok, Unk, Inval}
 use Rattle.banks.specs.Banks.{Granules}
-use Rattle.granules.specs.Granules.{GranuleTable, Moved, movedBy, moveAt, fitting, moveOf}
-use Rattle.granules.specs.Lists.{onward, listBy, moveListOf}
-use Rattle.granules.specs.declared.Direction.{Direction}
-use Rattle.granules.proofs.Moving.{move-down, move-up, fit-kept}
+use Rattle.granule_rules.specs.Granules.{GranuleTable, Moved, movedBy, moveAt, fitting, moveOf}
+use Rattle.granule_rules.specs.Lists.{onward, listBy, moveListOf}
+use Rattle.granule_rules.specs.declared.Direction.{Direction}
+use Rattle.granule_rules.proofs.Moving.{move-down, move-up, fit-kept}
 
 -- ---- one more call
 onward-ok : (m : Moved) (k : ℕ) (rest : Moved) → isOk (m .answer .code) ≡ true → onward m k rest ≡ rest

@@ -9,9 +9,9 @@ use Rattle.codes.specs.Codes.{isOk, ifOk, answerOf}
 use Rattle.codes.specs.declared.Code.{Code}
 use Rattle.codes.specs.declared.Code.the-variants.{Ok, Inval}
 use Rattle.banks.specs.Banks.{Granules}
-use Rattle.granules.specs.Granules.{GranuleTable, Moved, movedBy, fitting, moveOf}
-use Rattle.granules.specs.declared.Direction.{Direction}
-use Rattle.granules.specs.declared.Direction.the-variants.{Delegate, Undelegate}
+use Rattle.granule_rules.specs.Granules.{GranuleTable, Moved, movedBy, fitting, moveOf}
+use Rattle.granule_rules.specs.declared.Direction.{Direction}
+use Rattle.granule_rules.specs.declared.Direction.the-variants.{Delegate, Undelegate}
 
 -- "stopping at the first refusal": behind k accepted calls comes the single call m, and if it is accepted the rest. "x1 holds the
 -- number done on refusal too."

@@ -2,11 +2,11 @@
 use Prim.Native.Nat.{ℕ}
 use mathlib.Core.Path.{_≡_}
 use lib.ListN.{length, getD}
-use Rattle.granules.specs.Granules.{GranuleTable}
+use Rattle.granule_rules.specs.Granules.{GranuleTable}
 use Rattle.banks.specs.Banks.{granuleAt}
 use Rattle.banks.specs.Banks.{Granules}
 use Rattle.banks.specs.declared.Granule.the-variants.{At}
-use Rattle.granules.specs.declared.Direction.{Direction}
+use Rattle.granule_rules.specs.declared.Direction.{Direction}
 
 -- an accepted call on a granule: which way it went, and the address that it named
 pub record Change : Type 0 where
