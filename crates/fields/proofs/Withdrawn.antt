@@ -116,14 +116,27 @@ shown-like t w p q gs l n a = go (eqb t 3) refl
 rest-same : (w : ℕ) (p q : List ℕ) (f : Field) (gs : List Field) → length (f .value) ≡ w → Same p q (f ∷ gs) → Same (drop (3 + w) p) (drop (3 + w) q) gs
 rest-same w p q f gs n a i z = rw (getD-drop, getD-drop) (a (3 + w + i) (rw (← n) (behind f gs i ∙ z)))
 
+-- a scan with its length, first tag and first length told
+abbrev scanBy : ℕ → ℕ → ℕ → ℕ → List ℕ → Scanned
+scanBy n l t w bs = step (eqb l 0) (ltb l (3 + w)) (eqb t 0) (eqb w 0) (mkField t (part 3 w bs)) (scan n (drop (3 + w) bs))
+
+like-to : {fs : List Field} {m : ℕ} {s t : Scanned} → s ≡ t → Like fs m s → Like fs m t
+like-to e a = rw (← e) a
+
+same-head : (n : ℕ) (p q : List ℕ) → length p ≡ length q → ((i : ℕ) → i < 3 → getD p i 0 ≡ getD q i 0) → scanBy n (length p) (getD p 0 0) (numAt 2 1 p) q ≡ scan (suc n) q
+unfolding scan
+same-head n p q l b =
+    ap (λ x. scanBy n x (getD p 0 0) (numAt 2 1 p) q) l
+    ∙ ap (λ x. scanBy n (length q) x (numAt 2 1 p) q) (b 0 (omega arith))
+    ∙ ap (λ x. scanBy n (length q) (getD q 0 0) x q) (pair-same p q l b)
+
 scan-like : (n : ℕ) (p q : List ℕ) (fs : List Field) (m : ℕ) → length p ≡ length q → Same p q fs → scan n p ≡ ended fs m → Like fs m (scan n q)
 unfolding scan mkField
 scan-like zero p q fs m l a h = never (cc)
 scan-like (suc n) p q fs m l a h =
     let w = numAt 2 1 p in
-    let b : (i : ℕ) → i < 3 → getD p i 0 ≡ getD q i 0 = λ i k. a i (head-out fs i k) in
-    rw (← l, ← pair-same p q l b, ← b 0 (omega arith))
-    (step-like _ _ _ _ _ _ _ _ fs m refl
+    like-to (same-head n p q l (λ i k. a i (head-out fs i k)))
+    (step-like (eqb (length p) 0) (ltb (length p) (3 + w)) (eqb (getD p 0 0) 0) (eqb w 0) (mkField (getD p 0 0) (part 3 w p)) (mkField (getD p 0 0) (part 3 w q)) (scan n (drop (3 + w) p)) (scan n (drop (3 + w) q)) fs m refl
     (λ c.
     let k : 3 + w ≤ length p = ltb-false (length p) (3 + w) c in
     part-length 3 w p k ∙ sym (part-length 3 w q (omega arith)))

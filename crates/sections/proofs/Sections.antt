@@ -1,6 +1,6 @@
 -- Laws of the rules of a page's sections. Assumes nothing.
 use Prim.Native.Nat.{ℕ, _+_, _-_, _*_, _%_, _^_, _≤_, _<_}
-use mathlib.Core.Path.{_≡_, refl}
+use mathlib.Core.Path.{_≡_, refl, sym, _∙_}
 use mathlib.Core.Bool.{Bool, true, false, cond}
 use mathlib.Core.List.{List, []}
 use native.Mathlib.Omega.{arith}
@@ -88,6 +88,22 @@ module _ (w e base k : ℕ) (page : List ℕ) where
   pub ok-low : nothing (countAt k page) (pointerAt k page) (checkAt k page) ≡ false → pointerAt k page < base + core e → okAt w e base k page ≡ false
   unfolding inRange both
   ok-low h g = ok-range h (rw (lt-leb (base + core e) (pointerAt k page) g))
+
+  -- the same by the three words as they were read
+  module _ (n p x : ℕ) (cn : n ≡ countAt k page) (cp : p ≡ pointerAt k page) (cx : x ≡ checkAt k page) (z : Bool) (cz : z ≡ nothing n p x) where
+    was-nothing : nothing (countAt k page) (pointerAt k page) (checkAt k page) ≡ z
+    was-nothing = rw (← cn, ← cp, ← cx) (sym cz)
+
+    pub told-nothing : z ≡ true → true ≡ okAt w e base k page
+    told-nothing h = sym (ok-nothing (was-nothing ∙ h))
+
+    module _ (h : z ≡ false) where
+      pub told-low : p < base + core e → false ≡ okAt w e base k page
+      told-low g = sym (ok-low (was-nothing ∙ h) (rw (← cp) g))
+
+      pub told-placed : base + core e ≤ p → length page ≡ 4096 → (r : Bool) →
+          r ≡ both (leb (p - base + size k n) (length page)) (soundOf w k n p x (wordsAt k n (p - base) page)) → r ≡ okAt w e base k page
+      told-placed g l r q = q ∙ rw (cn, cp, cx) (sym (ok-placed (was-nothing ∙ h) (rw (← cp) g) l))
 
   -- a good section that is not empty has its array in range
   pub ok-in-range : okAt w e base k page ≡ true → (countAt k page ≡ 0 → ⊥) → inRange e base k (countAt k page) (pointerAt k page) ≡ true

@@ -1,8 +1,4 @@
-use Rattle.sections.proofs.Sections.{ok-nothing, ok-low, ok-placed}
-use Prim.Native.Nat.{_+_, _≤_, _<_}
-use mathlib.Core.Path.{sym}
-use Rattle.versions.specs.Edition.{core}
-use Rattle.sections.specs.Page.{pointerAt}
+use Rattle.sections.proofs.Sections.{told-nothing, told-low, told-placed}
 use borrow.Author.Needs.{needs}
 use native.Mathlib.Omega.{arith}
 use Rattle.sections.proofs.section_ok.Statement.{statement}
@@ -21,7 +17,9 @@ is-nothing-requires : tie.Need-is-nothing-requires
 is-nothing-requires c κs = search needs
 
 returns : tie.Need-returns
-returns c = let a = c .before .before .before .before .before .before .args in sym (ok-nothing (a .minor) (a .e .minor) (a .base) (a .k) (a .page .now) (cc))
+returns c =
+    let a = c .before .before .before .before .before .before .args in
+    told-nothing (a .minor) (a .e .minor) (a .base) (a .k) (a .page .now) _ _ _ (c .before .before .before .before .count-at .ensures) (c .before .before .before .pointer-at .ensures) (c .before .before .check-at .ensures) _ (c .before .is-nothing .ensures) (c .if1 .taken)
 
 add-if2 : tie.Need-add-if2
 add-if2 c = search needs
@@ -29,8 +27,7 @@ add-if2 c = search needs
 returns-2 : tie.Need-returns-2
 returns-2 c =
     let a = c .before .before .before .before .before .before .before .args in
-    let l : pointerAt (a .k) (a .page .now) < a .base + core (a .e .minor) = omega arith in
-    sym (ok-low (a .minor) (a .e .minor) (a .base) (a .k) (a .page .now) (cc) l)
+    told-low (a .minor) (a .e .minor) (a .base) (a .k) (a .page .now) _ _ _ (c .before .before .before .before .before .count-at .ensures) (c .before .before .before .before .pointer-at .ensures) (c .before .before .before .check-at .ensures) _ (c .before .before .is-nothing .ensures) (c .before .if1 .left) (omega arith)
 
 sub-at : tie.Need-sub-at
 sub-at c = search needs
@@ -41,8 +38,7 @@ sound-at-requires c κs = search needs
 returns-3 : tie.Need-returns-3
 returns-3 c =
     let a = c .before .before .before .before .before .before .before .before .args in
-    let l : a .base + core (a .e .minor) ≤ pointerAt (a .k) (a .page .now) = omega arith in
-    cc (ok-placed (a .minor) (a .e .minor) (a .base) (a .k) (a .page .now) (cc) l (search needs))
+    told-placed (a .minor) (a .e .minor) (a .base) (a .k) (a .page .now) _ _ _ (c .before .before .before .before .before .before .count-at .ensures) (c .before .before .before .before .before .pointer-at .ensures) (c .before .before .before .before .check-at .ensures) _ (c .before .before .before .is-nothing .ensures) (c .before .before .if1 .left) (omega arith) (search needs) _ (c .sound-at .ensures)
 
 pub section-ok-spec : {M : Type 1} → statement M
 section-ok-spec =
