@@ -1,4 +1,4 @@
-// The kit for C and Rust: every entry under one prefix. A state is a lent image of words, a result a number or lent words.
+// The kit for C and Rust: every entry but packer and mender (`potterbeam_pages`) under one prefix. A state is a lent image of words, a result a number or lent words.
 use boot::Record;
 use reader::Verdict;
 use runtime::Needs;
