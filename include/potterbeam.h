@@ -10,8 +10,8 @@
  * - Any number, page, list, table and image is taken as input. There is no condition on values; every call returns, and touches only
  *   what it is lent. The library allocates nothing and keeps nothing between calls.
  * - A slice is a pointer and a count of elements. The pointer may be NULL only where the count is 0. An image (state, granules, session,
- *   queue, view, place, field, changed, out, work, request, call) is a pointer to a fixed number of 64-bit words and is never NULL, also where the
- *   call does not need it.
+ *   queue, view, place, field, out, work, request, call) is a pointer to a fixed number of 64-bit words and is never NULL, also where
+ *   the call does not need it.
  * - A page is lent by the address at which the caller sees it; B is only a number to the library. So a page needs no alignment in
  *   memory, and a caller that maps it elsewhere passes both. Words (uint64_t) are aligned as C asks.
  * - Lent buffers must not overlap. (Two that the call only reads may.)
@@ -27,6 +27,8 @@
  *
  * potterbeam_types.h has a struct for each image, lists that are counted in entries, and one struct for all that pbeam_call takes. The
  * functions here take plain words and count them: two banks are 4.
+ *
+ * Packing and mending of pages, for tools on a host, are a library of their own: potterbeam_pages.h, libpotterbeam_pages.a.
  *
  * What the library cannot check, and EL3 has to do:
  *
@@ -111,13 +113,6 @@
 #define PBEAM_WRITE_W3_LISTS 3   /* a list is not whole entries, or an entry breaks its rule; fields are broken, or one has tag 0 or 3 */
 #define PBEAM_WRITE_W4_LATE 4    /* a list for a section after the edition is not empty */
 #define PBEAM_WRITE_W5_ROOM 5    /* core, arrays and fields with their end mark exceed 4,096 bytes */
-
-/* Packer, int32_t: 0, W1 of the target, or the reader's three codes of the page. */
-#define PBEAM_PACK_PAGE 0      /* the target is the packed page */
-#define PBEAM_PACK_W1_TARGET 1 /* the target is not 4,096 bytes long */
-
-/* Mender, int32_t: 0, or PBEAM_MANIFEST_PLACE or PBEAM_MANIFEST_VERSION. */
-#define PBEAM_MEND_DONE 0 /* the page is one that a reader accepts */
 
 /* Runtime commands: the number. 002's NOMEM (-4) is never answered, so it has no name here. */
 #define PBEAM_OK 0
@@ -369,17 +364,6 @@
 /* The answer of pbeam_console_named where no console has the name: the largest size_t. */
 #define PBEAM_CONSOLE_NONE UINT64_C(0xFFFFFFFFFFFFFFFF)
 
-/* What the mender did: a word for each part of a page, in the order in which it goes over them. */
-#define PBEAM_MEND_WORDS 6
-#define PBEAM_MEND_PADDING 0
-#define PBEAM_MEND_PLAT_DATA 1 /* the pointer, and the fields with it */
-#define PBEAM_MEND_DRAM 2      /* section k is word PBEAM_MEND_DRAM + k */
-#define PBEAM_MEND_CONSOLE 3
-#define PBEAM_MEND_NCOH 4
-#define PBEAM_MEND_COH 5
-#define PBEAM_MEND_KEPT 0    /* the part is as it was */
-#define PBEAM_MEND_CHANGED 1 /* it broke a rule, and is zero now */
-
 /* Result registers. Always written whole. */
 #define PBEAM_OUT_WORDS 3
 #define PBEAM_OUT_X0 0
@@ -420,7 +404,7 @@ extern "C" {
  *                                  (no end mark in the page, tag 0 with a length, a length that tags 1 to 3 may not have, one of
  *                                  these twice) or share a byte with an array
  * Leaves   the page as it was. view: what the page shows; refused: all zero.
- * Stack    352 bytes; AArch64 400
+ * Stack    352 bytes; AArch64 256
  * A later minor is never refused. Sections after e are not read, nor what stands behind the end mark. Fields belong to every edition.
  */
 PBEAM_NONNULL(5)
@@ -432,7 +416,7 @@ int32_t pbeam_read(const uint8_t *page, size_t page_len, uint64_t base, uint64_t
  * Answers  nothing. place: the part of the page that holds the array; (0, 0) where the page is refused, the section absent or empty,
  *          or its number above 3. pbeam_read says why a page is refused.
  * Leaves   the page as it was.
- * Stack    512 bytes; AArch64 560
+ * Stack    512 bytes; AArch64 272
  */
 PBEAM_NONNULL(6)
 void pbeam_array(const uint8_t *page, size_t page_len, uint64_t base, uint64_t edition, size_t section,
@@ -568,7 +552,7 @@ uint64_t pbeam_kept_for(const uint8_t *page, size_t page_len, const uint64_t vie
  * Leaves   the page as it was. text: ASCII from its first byte on, each line ended by '\n', with no '\0' behind it; as much as fits. What
  *          is behind the text stays as it was. Of a page that is refused the text is one line, "refused -5", "refused -6" or
  *          "refused -7", with the code of pbeam_read.
- * Stack    832 bytes; AArch64 960
+ * Stack    832 bytes; AArch64 864
  * A field is its tag and the length of its value in decimal, and each byte of the value as two lower-case hex digits, parted by blanks; the
  * withdrawn one is "3 withdrawn".
  * A word is written as 0x and 16 lower-case hex digits, a console's name as its 8 bytes in order, 16 such digits without 0x; the flags of a
@@ -599,39 +583,6 @@ uint32_t pbeam_write(uint64_t base, uint64_t edition, const uint64_t *dram, size
                      size_t console_len, const uint64_t *ncoh, size_t ncoh_len, const uint64_t *coh, size_t coh_len,
                      const uint8_t *fields, size_t fields_len, uint8_t *page, size_t page_len);
 
-/*
- * pbeam_pack: what a page shows, written again without holes and without what is withdrawn.
- * Takes    the page at B = base, and the target: another page, for the same B.
- * Answers  PBEAM_PACK_PAGE, or by the first check that fails:
- *          PBEAM_MANIFEST_PLACE, PBEAM_MANIFEST_VERSION, PBEAM_MANIFEST_RULES  as pbeam_read of the page as PBEAM_EDITION_LAST
- *          PBEAM_MANIFEST_VERSION  the page's minor is 5 or above
- *          PBEAM_PACK_W1_TARGET    target not 4,096 bytes long
- * Leaves   the page as it was. target: the page that pbeam_write makes at the page's own minor, of the entries that are shown and of the
- *          fields in page order, less the withdrawn one; so with plat_data 0 where no other field is left. Refused, it stays as it was.
- * Stack    384 bytes; AArch64 272
- * A reader of any edition shows the same of both, but plat_data, the withdrawn field and where the arrays lie; packing the target once
- * more changes no byte (proved).
- */
-int32_t pbeam_pack(const uint8_t *page, size_t page_len, uint64_t base, uint8_t *target, size_t target_len);
-
-/*
- * pbeam_mend: what breaks a rule is taken out of a damaged page, where it lies, so that the rest can be read.
- * Takes    the page at B = base. Its edition e is the smaller of PBEAM_EDITION_LAST and its minor.
- * Answers  PBEAM_MEND_DONE, or by the first check that fails:
- *          PBEAM_MANIFEST_PLACE    as pbeam_read
- *          PBEAM_MANIFEST_VERSION  the manifest's version is not accepted, as pbeam_read
- * Leaves   changed: PBEAM_MEND_CHANGED for each part that was changed, PBEAM_MEND_KEPT for the others. Padding that is not zero is
- *          zeroed; plat_data is set to 0 where it, or the fields that it points at, break their rules; a section of e becomes 24 zero bytes
- *          where it breaks a rule by itself, or its array shares a byte with the fields or an array kept before it, in the order of
- *          the words of changed. No byte but 4 to 111 is written: arrays and fields that nothing points at stay where they are, and so do
- *          sections after e. Refused, the page stays as it was, and changed is all zero.
- * Stack    288 bytes; AArch64 352
- * Afterwards pbeam_read accepts the page as PBEAM_EDITION_LAST, and shows all that was kept; a page that it accepts before stays as it is,
- * with no part changed (proved).
- */
-PBEAM_NONNULL(4)
-int32_t pbeam_mend(uint8_t *page, size_t page_len, uint64_t base, uint64_t changed[PBEAM_MEND_WORDS]);
-
 /* ---- Boot ---- */
 
 /*
@@ -647,7 +598,7 @@ int32_t pbeam_mend(uint8_t *page, size_t page_len, uint64_t base, uint64_t chang
  *          PBEAM_MANIFEST_PLACE    K above 4,096
  *          PBEAM_MANIFEST_PLACE, PBEAM_MANIFEST_VERSION, PBEAM_MANIFEST_RULES  as pbeam_read
  * Leaves   the page as it was. state: up, with x2, B, the agreed minor and K; refused: closed, for good.
- * Stack    416 bytes; AArch64 432
+ * Stack    416 bytes; AArch64 240
  * The view is not kept. With K = 0 read the page with pbeam_read before a command writes into it. K need not cover the manifest; with K =
  * 4,096 every buffer is outside.
  */

@@ -157,24 +157,6 @@ typedef struct {
     pbeam_bytes_t fields; /* all zero: none */
 } pbeam_lists_t;
 
-/* The packer's answer. Both pages are whole here, so the target is never refused. */
-typedef enum {
-    PBEAM_PACKED = PBEAM_PACK_PAGE,
-    PBEAM_UNPACKED_PLACE = PBEAM_MANIFEST_PLACE,
-    PBEAM_UNPACKED_VERSION = PBEAM_MANIFEST_VERSION, /* not accepted, or of minor 5 or above */
-    PBEAM_UNPACKED_RULES = PBEAM_MANIFEST_RULES
-} pbeam_packing_t;
-
-/* What the mender changed, part by part. */
-typedef struct {
-    bool padding;
-    bool plat_data; /* the pointer, and the fields with it */
-    bool dram;
-    bool console;
-    bool ncoh;
-    bool coh;
-} pbeam_changes_t;
-
 /* x0 to x3 of a cold boot. */
 typedef struct {
     uint64_t cpu;     /* x0: index of this CPU */
@@ -317,30 +299,6 @@ static inline const char *pbeam_write_text(uint32_t refusal)
     }
 }
 
-/* A packer's answer. */
-static inline const char *pbeam_pack_text(int32_t code)
-{
-    switch (code) {
-    case PBEAM_PACK_PAGE: return "packed";
-    case PBEAM_PACK_W1_TARGET: return "W1: the target's length is wrong";
-    case PBEAM_MANIFEST_PLACE: return "the page's length or base is wrong";
-    case PBEAM_MANIFEST_VERSION: return "the version of the manifest is not accepted, or later than can be written";
-    case PBEAM_MANIFEST_RULES: return "the manifest breaks a rule";
-    default: return "no packer's answer";
-    }
-}
-
-/* A mender's answer. */
-static inline const char *pbeam_mend_text(int32_t code)
-{
-    switch (code) {
-    case PBEAM_MEND_DONE: return "done";
-    case PBEAM_MANIFEST_PLACE: return "the page's length or base is wrong";
-    case PBEAM_MANIFEST_VERSION: return "the version of the manifest is not accepted";
-    default: return "no mender's answer";
-    }
-}
-
 /* A runtime command's code, as x0 holds it. */
 static inline const char *pbeam_x0_text(uint64_t x0)
 {
@@ -428,35 +386,6 @@ static inline uint32_t pbeam_manifest_write(uint64_t base, uint64_t edition, con
                        (const uint64_t *)(const void *)lists->ncoh, lists->ncoh_count * PBEAM_BANK_WORDS,
                        (const uint64_t *)(const void *)lists->coh, lists->coh_count * PBEAM_BANK_WORDS, lists->fields.at,
                        lists->fields.at == NULL ? 0 : lists->fields.length, page->bytes, sizeof page->bytes);
-}
-
-/* pbeam_pack: into another page, for the same B. */
-PBEAM_NONNULL(1, 3)
-static inline pbeam_packing_t pbeam_manifest_pack(const pbeam_page_t *page, uint64_t base, pbeam_page_t *target)
-{
-    return (pbeam_packing_t)pbeam_pack(page->bytes, sizeof page->bytes, base, target->bytes, sizeof target->bytes);
-}
-
-/* pbeam_mend: where the page lies. A refused page is as it was, with nothing changed. */
-PBEAM_NONNULL(1, 3)
-static inline int32_t pbeam_manifest_mend(pbeam_page_t *page, uint64_t base, pbeam_changes_t *changes)
-{
-    uint64_t changed[PBEAM_MEND_WORDS];
-    const int32_t code = pbeam_mend(page->bytes, sizeof page->bytes, base, changed);
-    changes->padding = changed[PBEAM_MEND_PADDING] != PBEAM_MEND_KEPT;
-    changes->plat_data = changed[PBEAM_MEND_PLAT_DATA] != PBEAM_MEND_KEPT;
-    changes->dram = changed[PBEAM_MEND_DRAM] != PBEAM_MEND_KEPT;
-    changes->console = changed[PBEAM_MEND_CONSOLE] != PBEAM_MEND_KEPT;
-    changes->ncoh = changed[PBEAM_MEND_NCOH] != PBEAM_MEND_KEPT;
-    changes->coh = changed[PBEAM_MEND_COH] != PBEAM_MEND_KEPT;
-    return code;
-}
-
-/* Whether any part was changed. */
-PBEAM_NONNULL(1)
-static inline bool pbeam_changes_any(const pbeam_changes_t *changes)
-{
-    return changes->padding || changes->plat_data || changes->dram || changes->console || changes->ncoh || changes->coh;
 }
 
 /* pbeam_read. */

@@ -10,7 +10,12 @@ fn main() {
     let built = Path::new(&package).join("../target/staticlib");
     let place = env::var_os("POTTERBEAM_KIT_DIR").map_or(built, PathBuf::from);
     println!("cargo:rustc-link-search=native={}", place.display());
-    for library in ["potterbeam", "potterbeam_tpm", "potterbeam_swtpm"] {
+    for library in [
+        "potterbeam",
+        "potterbeam_pages",
+        "potterbeam_tpm",
+        "potterbeam_swtpm",
+    ] {
         link(library, &place.join(format!("lib{library}.a")));
     }
 }

@@ -15,6 +15,7 @@ use potterbeam_tests::images::record_of;
 use potterbeam_tests::inplace;
 use potterbeam_tests::kit::{ffi, Kit};
 use potterbeam_tests::model::Model;
+use potterbeam_tests::pages::PageExports;
 use potterbeam_tests::reference::boot::Record;
 use potterbeam_tests::reference::codes::Outcome;
 use potterbeam_tests::reference::layout::{word_at, PAGE};

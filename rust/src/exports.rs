@@ -18,8 +18,6 @@ pub type FieldImage = [u64; 4];
 pub type RequestImage = [u64; 10];
 /// Offset and length of a part of the page; zeros where it is empty.
 pub type Place = [u64; 2];
-/// Which of the six parts of a page the mender changed: 1, or 0 where it did not.
-pub type ReportImage = [u64; 6];
 /// x0 to x2 of an answer.
 pub type Registers = [u64; 3];
 /// What the platform has to do: nothing, (1, mecid) to reprogram, or (2, err_code) to forward.
@@ -64,10 +62,6 @@ pub trait Exports {
     /// The length of the whole text, of which as much as fits is written.
     fn listing(page: &[u8], base: u64, edition: u64, text: &mut [u8]) -> usize;
     fn write(base: u64, edition: u64, lists: [&[u64]; 4], fields: &[u8], page: &mut [u8]) -> u32;
-    /// Writes what the page shows into the target, without holes. Answers 0, the reader's codes, or 1 for the target's length.
-    fn pack(page: &[u8], base: u64, target: &mut [u8]) -> i32;
-    /// Mends the page where it lies. Answers 0, or -5 or -6 with the page as it was and a report of zeros.
-    fn mend(page: &mut [u8], base: u64, changed: &mut ReportImage) -> i32;
 
     fn cold_boot(state: &mut RecordImage, x: [u64; 4], most: u64, kept: u64, page: &[u8]) -> i32;
     fn warm_boot(state: &mut RecordImage, x: [u64; 4]) -> i32;

@@ -3,7 +3,8 @@
 //! in the order of addresses.
 //! `tests/fast.rs` holds it to the reference.
 
-use crate::exports::{FieldImage, ReportImage, ViewImage};
+use crate::exports::{FieldImage, ViewImage};
+use crate::pages::ReportImage;
 use crate::reference::entries::{bank_sum, console_sum};
 use crate::reference::layout::{
     accepted_minor, half_at, header_offset, placed, placed_mut, word_at, Edition, CONSOLE,

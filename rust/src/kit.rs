@@ -3,15 +3,15 @@
 
 use crate::exports::{
     Exports, FieldImage, GranulesImage, Lent, Place, QueueImage, RecordImage, Registers,
-    ReportImage, RequestImage, SessionImage, ViewImage, Work,
+    RequestImage, SessionImage, ViewImage, Work,
 };
 use std::ptr::{null, null_mut};
 
 /// The C functions. Tests of the stack call them by address.
 pub mod ffi {
     use super::{
-        FieldImage, GranulesImage, Place, QueueImage, RecordImage, Registers, ReportImage,
-        RequestImage, SessionImage, ViewImage, Work,
+        FieldImage, GranulesImage, Place, QueueImage, RecordImage, Registers, RequestImage,
+        SessionImage, ViewImage, Work,
     };
 
     extern "C" {
@@ -106,19 +106,6 @@ pub mod ffi {
             page: *mut u8,
             page_len: usize,
         ) -> u32;
-        pub fn pbeam_pack(
-            page: *const u8,
-            page_len: usize,
-            base: u64,
-            target: *mut u8,
-            target_len: usize,
-        ) -> i32;
-        pub fn pbeam_mend(
-            page: *mut u8,
-            page_len: usize,
-            base: u64,
-            changed: *mut ReportImage,
-        ) -> i32;
         pub fn pbeam_cold_boot(
             state: *mut RecordImage,
             x0: u64,
@@ -299,14 +286,14 @@ pub mod ffi {
     }
 }
 
-/// The proved library.
+/// The proved library. Packer and mender, which have one of their own, are in `pages`.
 #[derive(Clone, Copy, Debug)]
 pub struct Kit;
 
 /// Pointer and length of a slice. An empty one goes as NULL, as C callers have it; Rust's own pointer would be neither that nor
 /// memory.
 #[inline]
-fn lend<T>(slice: &[T]) -> (*const T, usize) {
+pub(crate) fn lend<T>(slice: &[T]) -> (*const T, usize) {
     match slice.len() {
         0 => (null(), 0),
         length => (slice.as_ptr(), length),
@@ -315,7 +302,7 @@ fn lend<T>(slice: &[T]) -> (*const T, usize) {
 
 /// The same, of a slice to write.
 #[inline]
-fn lend_mut<T>(slice: &mut [T]) -> (*mut T, usize) {
+pub(crate) fn lend_mut<T>(slice: &mut [T]) -> (*mut T, usize) {
     match slice.len() {
         0 => (null_mut(), 0),
         length => (slice.as_mut_ptr(), length),
@@ -431,19 +418,6 @@ impl Exports for Kit {
                 page_len,
             )
         }
-    }
-
-    #[inline]
-    fn pack(page: &[u8], base: u64, target: &mut [u8]) -> i32 {
-        let (page, page_len) = lend(page);
-        let (target, target_len) = lend_mut(target);
-        unsafe { ffi::pbeam_pack(page, page_len, base, target, target_len) }
-    }
-
-    #[inline]
-    fn mend(page: &mut [u8], base: u64, changed: &mut ReportImage) -> i32 {
-        let (page, page_len) = lend_mut(page);
-        unsafe { ffi::pbeam_mend(page, page_len, base, changed) }
     }
 
     #[inline]

@@ -1,12 +1,12 @@
 //! The proved libraries and the other side of their differential tests and benchmark: `kit` calls the library, `reference` is a second
 //! implementation of the rules, written from the papers alone, `model` is that one on the library's images, `inplace` and `fast` are
 //! hand-written code for the benchmark, the first in place on these images, the second a reader and a writer, and `random` makes the
-//! inputs that both sides are given. `tpm` and `swtpm` are both sides of H_TPM_COMM and of state blobs, which have libraries of their
-//! own.
+//! inputs that both sides are given. `pages`, `tpm` and `swtpm` are both sides of packer and mender, of H_TPM_COMM and of state blobs, which
+//! have libraries of their own.
 //!
-//! After `rt staticlib` of potterbeam, potterbeam_tpm and potterbeam_swtpm: `cargo test --offline --release` for all tests, `cargo run
-//! --offline --release --example bench` for the times; the long run is told in `tests/differential/main.rs`. POTTERBEAM_KIT_DIR names
-//! another directory with the archives.
+//! After `rt staticlib` of potterbeam, potterbeam_pages, potterbeam_tpm and potterbeam_swtpm: `cargo test --offline --release` for all
+//! tests, `cargo run --offline --release --example bench` for the times; the long run is told in `tests/differential/main.rs`.
+//! POTTERBEAM_KIT_DIR names another directory with the archives.
 
 // Only calls to the library need unsafe code.
 #![deny(unsafe_code)]
@@ -23,6 +23,7 @@ pub mod inplace;
 pub mod kit;
 #[forbid(unsafe_code)]
 pub mod model;
+pub mod pages;
 #[forbid(unsafe_code)]
 pub mod random;
 #[forbid(unsafe_code)]

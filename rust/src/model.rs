@@ -3,7 +3,7 @@
 
 use crate::exports::{
     Exports, FieldImage, GranulesImage, Lent, Place, QueueImage, RecordImage, Registers,
-    ReportImage, RequestImage, SessionImage, ViewImage, Work,
+    RequestImage, SessionImage, ViewImage, Work,
 };
 use crate::images::{
     part_of, put_moves, queue_of, record_of, record_words, registers, request_words, session_of,
@@ -18,8 +18,6 @@ use crate::reference::granules::{delegate, delegate_list, undelegate, undelegate
 use crate::reference::key::realm_key;
 use crate::reference::layout::{accepted_minor, Edition, CONSOLE, ENTRY_WORDS, PAGE, SECTIONS};
 use crate::reference::listing::list;
-use crate::reference::mend::mend;
-use crate::reference::pack::pack;
 use crate::reference::queue::Queue;
 use crate::reference::reader::{array, console_named, fields, pointed, read, shown_word};
 use crate::reference::realm_words;
@@ -125,16 +123,6 @@ impl Exports for Model {
 
     fn write(base: u64, edition: u64, lists: [&[u64]; 4], fields: &[u8], page: &mut [u8]) -> u32 {
         write(base, edition, lists, fields, page).map_or_else(|refusal| refusal as u32, |()| 0)
-    }
-
-    fn pack(page: &[u8], base: u64, target: &mut [u8]) -> i32 {
-        pack(page, base, target).map_or_else(|refusal| refusal.code(), |()| 0)
-    }
-
-    fn mend(page: &mut [u8], base: u64, changed: &mut ReportImage) -> i32 {
-        let mended = mend(page, base);
-        *changed = mended.map_or([0; 6], |parts| parts.map(u64::from));
-        mended.map_or_else(|refusal| refusal.code(), |_| 0)
     }
 
     fn cold_boot(state: &mut RecordImage, x: [u64; 4], most: u64, kept: u64, page: &[u8]) -> i32 {

@@ -5,6 +5,7 @@
 use potterbeam_tests::exports::Exports;
 use potterbeam_tests::fast;
 use potterbeam_tests::model::Model;
+use potterbeam_tests::pages::PageExports;
 use potterbeam_tests::random::Random;
 use potterbeam_tests::reference::layout::word_at;
 use std::collections::BTreeMap;

@@ -12,6 +12,7 @@
 use potterbeam_tests::exports::{Exports, GranulesImage, Lent, QueueImage, RecordImage};
 use potterbeam_tests::kit::Kit;
 use potterbeam_tests::model::Model;
+use potterbeam_tests::pages::PageExports;
 use potterbeam_tests::reference::layout::PAGE;
 use potterbeam_tests::reference::tpm::Transfer;
 use potterbeam_tests::swtpm::{Library, StateBlobs};
@@ -309,8 +310,6 @@ fn kit_measured() -> Header {
     for (what, page, code) in pages() {
         reading(&mut header, what, &page, code);
         cold_booting(&mut header, what, &page, code);
-        packing(&mut header, what, &page, code);
-        mending(&mut header, what, &page, code);
     }
     looking_up(&mut header);
     writing(&mut header);
@@ -341,28 +340,6 @@ fn reading(header: &mut Header, what: &str, page: &[u8], code: i32) {
     for section in 0..5 {
         header.within(("pbeam_array", what), &[0; 2], (), |place| {
             Kit::array(page, BASE, 4, section, place)
-        });
-    }
-}
-
-/// Into a target that is a page, and into one that is not.
-fn packing(header: &mut Header, what: &str, page: &[u8], code: i32) {
-    for (room, short) in [(PAGE, 0), (PAGE - 1, 1)] {
-        let answer = if code == 0 { short } else { code };
-        header.within(("pbeam_pack", what), &vec![0; room], answer, |target| {
-            Kit::pack(page, BASE, target)
-        });
-    }
-}
-
-/// The page as it is, and with all six parts broken.
-fn mending(header: &mut Header, what: &str, page: &[u8], code: i32) {
-    let code = if code == -7 { 0 } else { code };
-    let spoil = |page: Vec<u8>, &at: &usize| spoilt(page, at);
-    let broken = [4, 8, 16, 40, 64, 88].iter().fold(page.to_vec(), spoil);
-    for lent in [page.to_vec(), broken] {
-        header.within(("pbeam_mend", what), &lent, code, |page| {
-            Kit::mend(page, BASE, &mut [0; 6])
         });
     }
 }
@@ -1134,6 +1111,47 @@ fn signer(header: &mut Header) {
     }
 }
 
+// ---- Packer and mender ----
+
+#[test]
+#[cfg_attr(debug_assertions, ignore = "measured in release builds")]
+fn packer_and_mender_keep_the_figures_of_the_header() {
+    pages_measured().print();
+}
+
+fn pages_measured() -> Header {
+    let text = include_str!("../../include/potterbeam_pages.h");
+    let mut header = Header::of("potterbeam_pages.h", text);
+    for (what, page, code) in pages() {
+        packing(&mut header, what, &page, code);
+        mending(&mut header, what, &page, code);
+    }
+    header.is_measured();
+    header
+}
+
+/// Into a target that is a page, and into one that is not.
+fn packing(header: &mut Header, what: &str, page: &[u8], code: i32) {
+    for (room, short) in [(PAGE, 0), (PAGE - 1, 1)] {
+        let answer = if code == 0 { short } else { code };
+        header.within(("pbeam_pack", what), &vec![0; room], answer, |target| {
+            Kit::pack(page, BASE, target)
+        });
+    }
+}
+
+/// The page as it is, and with all six parts broken.
+fn mending(header: &mut Header, what: &str, page: &[u8], code: i32) {
+    let code = if code == -7 { 0 } else { code };
+    let spoil = |page: Vec<u8>, &at: &usize| spoilt(page, at);
+    let broken = [4, 8, 16, 40, 64, 88].iter().fold(page.to_vec(), spoil);
+    for lent in [page.to_vec(), broken] {
+        header.within(("pbeam_mend", what), &lent, code, |page| {
+            Kit::mend(page, BASE, &mut [0; 6])
+        });
+    }
+}
+
 // ---- H_TPM_COMM ----
 
 const SENT: Transfer = Transfer {
@@ -1337,7 +1355,12 @@ fn write_table(headers: &[Header]) {
 #[test]
 #[cfg_attr(debug_assertions, ignore = "measured in release builds")]
 fn table_is_what_was_measured() {
-    let headers = [kit_measured(), tpm_measured(), state_blobs_measured()];
+    let headers = [
+        kit_measured(),
+        pages_measured(),
+        tpm_measured(),
+        state_blobs_measured(),
+    ];
     if std::env::var_os("POTTERBEAM_WRITE_STACK").map_or(false, |set| set == "1") {
         write_table(&headers);
     }

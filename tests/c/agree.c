@@ -481,89 +481,6 @@ static void check_version(void)
     SAME(PBEAM_VERSION_PATCH, 0);
 }
 
-/* ---- Packer and mender ---- */
-
-/* A page with its arrays far apart, the last section first, and behind them a withdrawn field between two others. */
-static void make_holes(void)
-{
-    static const uint8_t told[] = {1, 2, 0, 'D', 'K', 9, 1, 0, 7, 9, 0, 0};
-    static const size_t at[] = {2000, 1800, 1600, 1400}, size[] = {32, 48, 48, 64};
-    static uint8_t packed[LEN];
-    pbeam_write(BASE, 4, dram, 4, console, 6, ncoh, 6, coh, 8, told, sizeof told, packed, LEN);
-    memset(page, 0xEE, sizeof page);
-    memcpy(page, packed, 112);
-    for (size_t k = 0, from = 112; k < 4; from += size[k], k++) {
-        uint8_t *section = page + 16 + 24 * k;
-        memcpy(page + at[k], packed + from, size[k]);
-        put(section + 16, get(section + 16, 8) + get(section + 8, 8) - (BASE + at[k]), 8);
-        put(section + 8, BASE + at[k], 8);
-    }
-    memcpy(page + 3000, told, sizeof told);
-    page[3000 + 5] = PBEAM_TAG_CONSOLE;
-    memset(page + 3000 + sizeof told, 0, 3);
-    put(page + 8, BASE + 3000, 8);
-}
-
-static void check_packer(void)
-{
-    static const uint8_t left[] = {1, 2, 0, 'D', 'K', 9, 0, 0};
-    static uint8_t want[LEN], target[2 * LEN];
-    make_holes();
-    pbeam_write(BASE, 4, dram, 4, console, 6, ncoh, 6, coh, 8, left, sizeof left, want, LEN);
-    memset(target, 0xA5, sizeof target);
-    SAME(PBEAM_PACK_W1_TARGET, pbeam_pack(page, LEN, BASE, target, LEN - 1));
-    SAME(PBEAM_PACK_W1_TARGET, pbeam_pack(page, LEN, BASE, target, LEN + 1));
-    SAME(PBEAM_PACK_W1_TARGET, pbeam_pack(page, LEN, BASE, NULL, 0));
-    SAME(PBEAM_MANIFEST_PLACE, pbeam_pack(page, LEN, BASE + 1, target, LEN));
-    for (size_t i = 0; i < sizeof target; i++)
-        SAME(target[i], 0xA5);
-    SAME(PBEAM_PACK_PAGE, pbeam_pack(page, LEN, BASE, target, LEN));
-    SAME(memcmp(target, want, LEN), 0);
-    SAME(target[LEN], 0xA5);
-    put(page, 5, 4);
-    SAME(PBEAM_MANIFEST_VERSION, pbeam_pack(page, LEN, BASE, target, 0));
-    page[16] ^= 1;
-    SAME(PBEAM_MANIFEST_RULES, pbeam_pack(page, LEN, BASE, target, 0));
-}
-
-/* Each part by itself is the one whose word changes. */
-static void check_mender(void)
-{
-    static const struct {
-        size_t word, at, size;
-    } parts[] = {{PBEAM_MEND_PADDING, 4, 4},  {PBEAM_MEND_PLAT_DATA, 8, 8}, {PBEAM_MEND_DRAM, 16, 24},
-                 {PBEAM_MEND_CONSOLE, 40, 24}, {PBEAM_MEND_NCOH, 64, 24},    {PBEAM_MEND_COH, 88, 24}};
-    static uint8_t want[LEN];
-    uint64_t changed[ROOM];
-    for (size_t i = 0; i < 7; i++) {
-        make_holes();
-        memcpy(want, page, LEN);
-        if (i < 6) {
-            page[parts[i].at] ^= 1;
-            memset(want + parts[i].at, 0, parts[i].size);
-            if (i == PBEAM_MEND_PLAT_DATA)
-                page[3000 + PBEAM_FIELD_LENGTH] = 40;
-        }
-        want[3000 + PBEAM_FIELD_LENGTH] = page[3000 + PBEAM_FIELD_LENGTH];
-        guard(changed);
-        SAME(PBEAM_MEND_DONE, pbeam_mend(page, LEN, BASE, changed));
-        SAME(PBEAM_MEND_WORDS, written(changed));
-        for (size_t j = 0; j < 6; j++)
-            SAME(changed[parts[j].word], j == i ? PBEAM_MEND_CHANGED : PBEAM_MEND_KEPT);
-        SAME(memcmp(page, want, LEN), 0);
-        SAME(PBEAM_READ_ACCEPTED, pbeam_read(page, LEN, BASE, 4, changed));
-    }
-    page[4] = 1;
-    memcpy(want, page, LEN);
-    guard(changed);
-    SAME(PBEAM_MANIFEST_PLACE, pbeam_mend(page, LEN, 0, changed));
-    SAME(PBEAM_MEND_WORDS, written(changed));
-    SAME(changed[PBEAM_MEND_PADDING], PBEAM_MEND_KEPT);
-    SAME(memcmp(page, want, LEN), 0);
-    page[0] = 0;
-    SAME(PBEAM_MANIFEST_VERSION, pbeam_mend(page, LEN, BASE, changed));
-}
-
 /* ---- Boot ---- */
 
 /* A record that is up, with this agreed minor. */
@@ -1426,8 +1343,6 @@ int main(int argc, char **argv)
     check_entries();
     check_writer();
     check_editions_and_length();
-    check_packer();
-    check_mender();
     check_state();
     check_boot_codes();
     check_codes();

@@ -22,8 +22,6 @@ struct signatures {
     size_t (*listing)(bytes, size_t, uint64_t, uint64_t, uint8_t *, size_t);
     uint32_t (*write)(uint64_t, uint64_t, words, size_t, words, size_t, words, size_t, words, size_t, bytes, size_t, uint8_t *,
                       size_t);
-    int32_t (*pack)(bytes, size_t, uint64_t, uint8_t *, size_t);
-    int32_t (*mend)(uint8_t *, size_t, uint64_t, uint64_t *);
     int32_t (*cold_boot)(uint64_t *, uint64_t, uint64_t, uint64_t, uint64_t, uint64_t, uint64_t, bytes, size_t);
     int32_t (*warm_boot)(uint64_t *, uint64_t, uint64_t, uint64_t, uint64_t);
     void (*close)(uint64_t *);
@@ -57,8 +55,7 @@ struct signatures {
     {                                                                                                                          \
         pbeam_read, pbeam_array, pbeam_array_of, pbeam_count, pbeam_word, pbeam_console_named, pbeam_field_count, pbeam_field, \
             pbeam_field_of_tag, pbeam_field_start, pbeam_field_next, pbeam_kept_for, pbeam_listing, pbeam_write,               \
-            pbeam_pack, pbeam_mend, pbeam_cold_boot, pbeam_warm_boot, pbeam_close, pbeam_version_accepted, pbeam_agreed_minor, \
-            pbeam_is_later,                                                                                                    \
+            pbeam_cold_boot, pbeam_warm_boot, pbeam_close, pbeam_version_accepted, pbeam_agreed_minor, pbeam_is_later,         \
             pbeam_set_up_granules, pbeam_delegate, pbeam_undelegate, pbeam_delegate_list, pbeam_undelegate_list,               \
             pbeam_realm_count, pbeam_realm_next, pbeam_realm_agrees, pbeam_realm_build, pbeam_realm_key, pbeam_platform_token, \
             pbeam_challenge, pbeam_features, pbeam_token_signing, pbeam_key_update, pbeam_forward, pbeam_sign, pbeam_oldest,   \

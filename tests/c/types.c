@@ -108,14 +108,6 @@ static void check_texts(void)
         SAME(pbeam_write_text(w)[1], '0' + w);
     }
     TEXT(pbeam_write_text(6), "no writer's answer");
-    TEXT(pbeam_pack_text(0), "packed");
-    SAME(strncmp(pbeam_pack_text(1), "W1:", 3), 0);
-    TEXT(pbeam_pack_text(2), "no packer's answer");
-    TEXT(pbeam_mend_text(0), "done");
-    for (int32_t code = -4; code > -9; code--) {
-        SAME(strcmp(pbeam_pack_text(code), "no packer's answer") == 0, code > -5 || code < -7);
-        SAME(strcmp(pbeam_mend_text(code), "no mender's answer") == 0, code > -5 || code < -6);
-    }
     TEXT(pbeam_x0_text(PBEAM_X0_OK), "OK");
     SAME(strncmp(pbeam_x0_text((uint64_t)INT64_C(-1)), "UNK:", 4), 0);
     SAME(strncmp(pbeam_x0_text((uint64_t)INT64_C(-2)), "BAD_ADDR:", 9), 0);
@@ -176,51 +168,6 @@ static void check_writer(void)
     SAME(pbeam_manifest_write(0, 4, &lists, &page), PBEAM_WRITE_W1_PLACE);
     SAME(pbeam_manifest_write(BASE, 3, &lists, &page), PBEAM_WRITE_W4_LATE);
     SAME(memcmp(&page, &other, sizeof page), 0);
-}
-
-static void check_packer(void)
-{
-    static pbeam_page_t own, target, other;
-    pbeam_lists_t told = lists;
-    told.fields = pbeam_bytes((const uint8_t *)"\x01\x01\x00X", 4);
-    SAME(pbeam_manifest_write(BASE, 4, &told, &own), PBEAM_WRITE_PAGE);
-    memset(&target, 0xA5, sizeof target);
-    SAME(pbeam_manifest_pack(&own, BASE, &target), PBEAM_PACKED);
-    SAME(memcmp(&own, &target, sizeof own), 0);
-    other = target;
-    SAME(pbeam_manifest_pack(&own, BASE + 1, &target), PBEAM_UNPACKED_PLACE);
-    own.bytes[PBEAM_CORE_VERSION] = 5;
-    SAME(pbeam_manifest_pack(&own, BASE, &target), PBEAM_UNPACKED_VERSION);
-    own.bytes[PBEAM_CORE_PADDING] = 1;
-    SAME(pbeam_manifest_pack(&own, BASE, &target), PBEAM_UNPACKED_RULES);
-    SAME(memcmp(&target, &other, sizeof target), 0);
-}
-
-/* Each part has its name: one more of them is broken at a time. */
-static void check_mender(void)
-{
-    static const size_t at[] = {PBEAM_CORE_PADDING, PBEAM_CORE_PLAT_DATA, PBEAM_CORE_DRAM, PBEAM_CORE_CONSOLE, PBEAM_CORE_NCOH, PBEAM_CORE_COH};
-    static pbeam_page_t own;
-    pbeam_changes_t changes;
-    for (size_t n = 0; n <= 6; n++) {
-        SAME(pbeam_manifest_write(BASE, 4, &lists, &own), PBEAM_WRITE_PAGE);
-        for (size_t i = 0; i < n; i++)
-            own.bytes[at[i]] ^= 1;
-        memset(&changes, 0xA5, sizeof changes);
-        SAME(pbeam_manifest_mend(&own, BASE, &changes), PBEAM_MEND_DONE);
-        SAME(changes.padding, n > 0);
-        SAME(changes.plat_data, n > 1);
-        SAME(changes.dram, n > 2);
-        SAME(changes.console, n > 3);
-        SAME(changes.ncoh, n > 4);
-        SAME(changes.coh, n > 5);
-        SAME(pbeam_changes_any(&changes), n > 0);
-    }
-    own.bytes[PBEAM_CORE_PADDING] = 1;
-    SAME(pbeam_manifest_mend(&own, 0, &changes), PBEAM_MANIFEST_PLACE);
-    SAME(pbeam_changes_any(&changes), false);
-    changes.coh = true;
-    SAME(pbeam_changes_any(&changes), true);
 }
 
 /* A withdrawn field: found, with its tag, and without a byte. No writer makes one, so its tag is put behind the writer's back. */
@@ -784,8 +731,6 @@ int main(void)
     check_console_name();
     check_bytes();
     check_writer();
-    check_packer();
-    check_mender();
     check_listing();
     check_fields();
     check_withdrawn();

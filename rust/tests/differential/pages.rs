@@ -4,6 +4,7 @@ use crate::calls;
 use crate::pair::Pair;
 use potterbeam_tests::exports::{Exports, FieldImage, ViewImage};
 use potterbeam_tests::kit::Kit;
+use potterbeam_tests::pages::PageExports;
 use potterbeam_tests::random::pages::Reading;
 
 /// Any page, most often one with several parts damaged.

@@ -7,6 +7,7 @@ use potterbeam_tests::exports::{
 };
 use potterbeam_tests::images::{record_of, record_words, session_of, session_words};
 use potterbeam_tests::kit::Kit;
+use potterbeam_tests::pages::PageExports;
 
 /// PBEAM_LISTING_ROOM: no listing is longer.
 const LISTING_ROOM: usize = 12336;

@@ -3,8 +3,8 @@ use mir.Val.{toZ, ofZ}
 use mir.Syntax.{w32}
 use Rattle.mend.specs.Report.{mendedNumber, reportWords}
 use borrow.Author.Needs.{needs}
-use Rattle.potterbeam.proofs.pbeam_mend.Statement.{statement}
-use Rattle.potterbeam.proofs.pbeam_mend.Tie as tie
+use Rattle.potterbeam_pages.proofs.pbeam_mend.Statement.{statement}
+use Rattle.potterbeam_pages.proofs.pbeam_mend.Tie as tie
 
 mend-requires : tie.Need-mend-requires
 mend-requires c κs = search needs

@@ -3,8 +3,8 @@ use mir.Syntax.{w32}
 use mathlib.Core.Path.{_≡_, _∙_}
 use Rattle.pack.proofs.Answers.{packed-number}
 use borrow.Author.Needs.{needs}
-use Rattle.potterbeam.proofs.pbeam_pack.Statement.{statement}
-use Rattle.potterbeam.proofs.pbeam_pack.Tie as tie
+use Rattle.potterbeam_pages.proofs.pbeam_pack.Statement.{statement}
+use Rattle.potterbeam_pages.proofs.pbeam_pack.Tie as tie
 
 pack-requires : tie.Need-pack-requires
 pack-requires c κs = search needs
