@@ -49,10 +49,9 @@ pub record RawAt (at : ℕ) (bs : List ℕ) (t v m x : ℕ) : Type 0 where
 
 -- a step finds no field, the withdrawn one, or one that is shown with its value
 module _ (at : ℕ) (bs : List ℕ) (P : FieldStep → Type 0)
-  (none : shownFields (fieldsFrom at bs) ≡ [] → P (record { field = Nothing; next = length bs }))
-  (gone : (x : ℕ) → at < x → x ≤ length bs → shownFields (fieldsFrom at bs) ≡ withdrawn ∷ shownFields (fieldsFrom x bs) → P (record { field = Withdrawn; next = x }))
-  (there : (t v m x : ℕ) → RawAt at bs t v m x → P (record { field = Raw t v m; next = x })) where
-
+    (none : shownFields (fieldsFrom at bs) ≡ [] → P (record { field = Nothing; next = length bs }))
+    (gone : (x : ℕ) → at < x → x ≤ length bs → shownFields (fieldsFrom at bs) ≡ withdrawn ∷ shownFields (fieldsFrom x bs) → P (record { field = Withdrawn; next = x }))
+    (there : (t v m x : ℕ) → RawAt at bs t v m x → P (record { field = Raw t v m; next = x })) where
   by-head : (d : Head) → headAt at bs ≡ d → P (fieldStepOf d (length bs))
   unfolding fieldStepOf fieldPlaceOf shownFields shownField mkField
   by-head head.Broken e = none (rw (from-stop at bs head.Broken e (inl refl)))

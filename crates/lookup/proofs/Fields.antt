@@ -1,20 +1,17 @@
 -- Laws of the lookups of fields. Assumes nothing.
-use Prim.Native.Nat.{ℕ, zero, suc, _+_, _-_, _%_, _≤_, _<_}
+use Prim.Native.Nat.{ℕ, zero, suc, _+_, _-_, _%_, _<_}
 use mathlib.Core.Path.{_≡_, refl, sym, ap, _∙_}
 use mathlib.Core.Bool.{Bool, true, false, cond, false≢true}
-use mathlib.Core.Logic.{⊎-elim, inl, inr}
 use mathlib.Core.List.{List, [], _∷_}
 use native.Mathlib.Omega.{arith}
 use native.Mathlib.Decide.{decLt}
 use lib.ListN.{length, take, drop, length-drop}
 use lib.Seq.{take-all}
 use lib.Dec.{leb, eqb, leb·zero}
-use types.Run.{OneOf}
-use denote.Enum.Declared.{tagOf}
 use borrow.Author.Tests.{eqb-true, eq-eqb, ne-eqb, le-leb}
 use Rattle.words.specs.Word.{part, spanned}
 use Rattle.words.proofs.Tests.{same-test}
-use Rattle.fields.specs.Fields.{Field, mkField, Scanned, broken, ended, bare, scanOf, fieldsIn, isEnded, FieldShown, raw, withdrawn, shownField, shownFields}
+use Rattle.fields.specs.Fields.{Field, Scanned, broken, ended, bare, scanOf, fieldsIn, isEnded, FieldShown, raw, withdrawn, shownFields}
 use Rattle.fields.specs.Steps.{fieldsFrom, endTold, stepAt}
 use Rattle.fields.specs.declared.FieldPlace.{FieldPlace}
 use Rattle.fields.specs.declared.FieldPlace.the-variants.{Raw, Withdrawn, Nothing}

@@ -75,14 +75,13 @@ module _ (at : ℕ) (page : List ℕ) (s : FieldStep) (e : s ≡ stepAt at page)
       (λ x l r h n. never (cc))
       (λ t v m x r n. (omega (arith, r .value, r .next), r .within, rw (r .shown, field-part page b r))))
 
-module _ (at x : ℕ) (page : List ℕ) (l : at < x) (m : x ≤ length page) where
-  -- a run of kept fields grows
-  module _ (k : keptFrom at page ≡ part at (x - at) page ++ keptFrom x page) where
-    pub run-more : (run : ℕ) → run ≤ at → part run (at - run) page ++ keptFrom at page ≡ part run (x - run) page ++ keptFrom x page
-    run-more run g = rw (k, part-join run at x page g (omega arith), append-assoc)
+-- a run of kept fields grows
+module _ (at x : ℕ) (page : List ℕ) (l : at < x) (m : x ≤ length page) (k : keptFrom at page ≡ part at (x - at) page ++ keptFrom x page) where
+  pub run-more : (run : ℕ) → run ≤ at → part run (at - run) page ++ keptFrom at page ≡ part run (x - run) page ++ keptFrom x page
+  run-more run g = rw (k, part-join run at x page g (omega arith), append-assoc)
 
-    pub length-more : length (keptFrom at page) ≡ (x - at) + length (keptFrom x page)
-    length-more = ap length k ∙ length-append (part at (x - at) page) (keptFrom x page) ∙ rw (part-length at (x - at) page (omega arith))
+  pub length-more : length (keptFrom at page) ≡ (x - at) + length (keptFrom x page)
+  length-more = ap length k ∙ length-append (part at (x - at) page) (keptFrom x page) ∙ rw (part-length at (x - at) page (omega arith))
 
 -- a run ends before a withdrawn field, and the next begins behind it
 pub run-over : (at x run to next : ℕ) (page vs p s : List ℕ) → keptFrom at page ≡ keptFrom x page → to ≤ length p → vs ≡ part run (at - run) page → next ≡ to + length vs → s ≡ splice to vs p →
