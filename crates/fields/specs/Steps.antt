@@ -9,6 +9,9 @@ use Rattle.words.specs.Word.{part, numAt}
 use Rattle.fields.specs.Fields.{Field, mkField, Scanned, broken, ended, bare, lengthOk, count}
 use Rattle.fields.specs.declared.Head.{Head}
 use Rattle.fields.specs.declared.Head.the-variants as head
+use Rattle.fields.specs.declared.FieldPlace.{FieldPlace}
+use Rattle.fields.specs.declared.FieldPlace.the-variants.{Raw, Withdrawn, Nothing}
+use Rattle.fields.specs.declared.FieldStep.{FieldStep}
 use Rattle.fields.specs.declared.Seen.{Seen}
 use Rattle.fields.specs.declared.FieldsEnd.{FieldsEnd}
 use Rattle.fields.specs.declared.FieldsEnd.the-variants as fieldsEnd
@@ -26,6 +29,19 @@ unfoldable pub headAt : ℕ → List ℕ → Head
 headAt at bs =
     let m = numAt 2 (at + 1) bs in
     headOf (ltb (length bs) (at + 3 + m)) (eqb (getD bs at 0) 0) (eqb m 0) (head.Field (getD bs at 0) (at + 3) m (at + 3 + m))
+
+-- a field as it is handed out: E10: "show the console choice as withdrawn without its value"
+unfoldable pub fieldPlaceOf : ℕ → ℕ → ℕ → FieldPlace
+fieldPlaceOf t at n = cond (eqb t 3) Withdrawn (Raw t at n)
+
+-- the field at a place, and the place behind it; where there is none it is the end of n bytes
+unfoldable pub fieldStepOf : Head → ℕ → FieldStep
+fieldStepOf head.Broken n = record { field = Nothing; next = n }
+fieldStepOf head.End n = record { field = Nothing; next = n }
+fieldStepOf (head.Field t v m x) n = record { field = fieldPlaceOf t v m; next = x }
+
+unfoldable pub stepAt : ℕ → List ℕ → FieldStep
+stepAt at bs = fieldStepOf (headAt at bs) (length bs)
 
 -- a field with one of the tags 1 to 3 was seen before
 unfoldable pub isSeen : Seen → ℕ → Bool

@@ -4,11 +4,11 @@ ghost use Prim.Native.Nat.{_+_, _<_, _≤_};
 ghost use lib.ListN.{length, drop};
 ghost use Rattle.words.specs.Word.{numAt};
 ghost use Rattle.fields.specs.Fields.{lengthOk, scanOf, tellable, fieldsIn};
-ghost use Rattle.fields.specs.Steps.{headAt, isSeen, seenWith, noneSeen, allowed, stopOf, endTold};
+ghost use Rattle.fields.specs.Steps.{headAt, isSeen, seenWith, noneSeen, allowed, stopOf, endTold, stepAt};
 
 // What stands at an offset: nothing whole, or a tag 0 with a length; the end mark; or a field, with the place and length of its
-// value and the place behind it.
-pub enum Head {
+// value and the place behind it. Private: of tag 3 no entry may hand the place out.
+enum Head {
     Broken,
     End,
     Field {
@@ -17,6 +17,20 @@ pub enum Head {
         len: usize,
         next: usize,
     },
+}
+
+// A field as it is handed out: its tag, and where its value lies; the withdrawn field, tag 3, whose value is not shown; or that there is no
+// such field.
+pub enum FieldPlace {
+    Raw { tag: u8, at: usize, len: usize },
+    Withdrawn,
+    Nothing,
+}
+
+// A step of a walk over the fields: the field at a place, and the place behind it.
+pub struct FieldStep {
+    pub field: FieldPlace,
+    pub next: usize,
 }
 
 // What a slice holds from its start on: broken fields, or good ones and an end mark, with the number of bytes through the mark.
@@ -55,7 +69,7 @@ fn pair(s: &[u8], at: usize) -> usize
 }
 
 // What stands at an offset, whatever was before it: the rules on tags 1 to 3 are not looked at.
-pub fn field_at(part: &[u8], at: usize) -> Head
+fn field_at(part: &[u8], at: usize) -> Head
     ensures { λ r. ⌜ r ≡ headAt at (now (part .entry)) ⌝ }
 {
     if part.len() < at {
@@ -83,6 +97,40 @@ pub fn field_at(part: &[u8], at: usize) -> Head
         return Head::Broken;
     }
     Head::End
+}
+
+// The field at an offset as it is handed out, and the offset behind it: the slice's length where there is no field.
+pub fn step_at(part: &[u8], at: usize) -> FieldStep
+    ensures { λ r. ⌜ r ≡ stepAt at (now (part .entry)) ⌝ }
+{
+    let head = field_at(part, at);
+    let Head::Field {
+        tag,
+        value,
+        len,
+        next,
+    } = head
+    else {
+        let next = part.len();
+        return FieldStep {
+            field: FieldPlace::Nothing,
+            next,
+        };
+    };
+    if tag == 3 {
+        return FieldStep {
+            field: FieldPlace::Withdrawn,
+            next,
+        };
+    }
+    FieldStep {
+        field: FieldPlace::Raw {
+            tag,
+            at: value,
+            len,
+        },
+        next,
+    }
 }
 
 // Whether a field of that tag may have a value of so many bytes.

@@ -16,8 +16,8 @@ use Rattle.entries.specs.Entry.{wordsPerEntry}
 use Rattle.lookup.specs.Consoles.{consoleNamed}
 use Rattle.lookup.specs.Lookup.{spanOf, countOf}
 use Rattle.lookup.specs.declared.ConsoleFound.the-variants as found
-use Rattle.lookup.specs.declared.FieldPlace.{FieldPlace}
-use Rattle.lookup.specs.declared.FieldPlace.the-variants as place
+use Rattle.fields.specs.declared.FieldPlace.{FieldPlace}
+use Rattle.fields.specs.declared.FieldPlace.the-variants as place
 use Rattle.lookup.proofs.Consoles.{console-at}
 use Rattle.lookup.proofs.Lookups.{count-view}
 use Rattle.reader.specs.Answer.{countIn}

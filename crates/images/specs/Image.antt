@@ -11,8 +11,8 @@ use Rattle.codes.specs.Codes.{unless}
 use Rattle.codes.specs.declared.Answer.{Answer}
 use Rattle.codes.specs.declared.Work.{Work}
 use Rattle.codes.specs.declared.Work.the-variants.{Nothing, Reprogram}
-use Rattle.lookup.specs.declared.FieldPlace.{FieldPlace}
-use Rattle.lookup.specs.declared.FieldPlace.the-variants as place
+use Rattle.fields.specs.declared.FieldPlace.{FieldPlace}
+use Rattle.fields.specs.declared.FieldPlace.the-variants as place
 use Rattle.lookup.specs.declared.ConsoleFound.{ConsoleFound}
 use Rattle.lookup.specs.declared.ConsoleFound.the-variants as found
 use Rattle.reader.specs.Answer.{ReaderAnswer, refused, shows}

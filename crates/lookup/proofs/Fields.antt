@@ -1,38 +1,33 @@
 -- Laws of the lookups of fields. Assumes nothing.
-use Prim.Native.Nat.{ℕ, zero, suc, _+_, _-_, _%_, _≤_, _<_}
+use Prim.Native.Nat.{ℕ, zero, suc, _+_, _-_, _%_, _<_}
 use mathlib.Core.Path.{_≡_, refl, sym, ap, _∙_}
 use mathlib.Core.Bool.{Bool, true, false, cond, false≢true}
-use mathlib.Core.Logic.{⊎-elim, inl, inr}
 use mathlib.Core.List.{List, [], _∷_}
 use native.Mathlib.Omega.{arith}
 use native.Mathlib.Decide.{decLt}
 use lib.ListN.{length, take, drop, length-drop}
 use lib.Seq.{take-all}
 use lib.Dec.{leb, eqb, leb·zero}
-use types.Run.{OneOf}
-use denote.Enum.Declared.{tagOf}
 use borrow.Author.Tests.{eqb-true, eq-eqb, ne-eqb, le-leb}
 use Rattle.words.specs.Word.{part, spanned}
 use Rattle.words.proofs.Tests.{same-test}
-use Rattle.fields.specs.Fields.{Field, mkField, Scanned, broken, ended, bare, scanOf, fieldsIn, isEnded, FieldShown, raw, withdrawn, shownField, shownFields}
-use Rattle.fields.specs.Steps.{headAt, fieldsFrom, endTold}
-use Rattle.fields.specs.declared.Head.{Head}
-use Rattle.fields.specs.declared.Head.the-variants as head
-use Rattle.fields.proofs.Head.{the-type}
+use Rattle.fields.specs.Fields.{Field, Scanned, broken, ended, bare, scanOf, fieldsIn, isEnded, FieldShown, raw, withdrawn, shownFields}
+use Rattle.fields.specs.Steps.{fieldsFrom, endTold, stepAt}
+use Rattle.fields.specs.declared.FieldPlace.{FieldPlace}
+use Rattle.fields.specs.declared.FieldPlace.the-variants.{Raw, Withdrawn, Nothing}
+use Rattle.fields.specs.declared.FieldStep.{FieldStep}
 use Rattle.fields.specs.declared.FieldsEnd.{FieldsEnd}
 use Rattle.fields.specs.declared.FieldsEnd.the-variants as fieldsEnd
-use Rattle.fields.proofs.Scans.{never, head-room}
+use Rattle.fields.proofs.Scans.{never}
 use Rattle.fields.proofs.Rules.{no-test}
 use Rattle.fields.proofs.Stops.{told-out}
-use Rattle.fields.proofs.Walks.{none-told, from-stop, from-out, from-field, from-told}
+use Rattle.fields.proofs.Steps.{step-cases}
+use Rattle.fields.proofs.Walks.{none-told, from-out, from-told}
 use Rattle.reader.specs.Answer.{fieldsShown}
 use Rattle.reader.specs.Reading.{fieldsOf, readingAnswer}
 use Rattle.reader.specs.declared.View.{View}
 use Rattle.reader.specs.declared.Reading.the-variants.{Accepted}
-use Rattle.lookup.specs.Fields.{Asked, noField, field, firstIn, restIn, nthIn, shownTag, shownValue, ofTag, valueIn, fieldAs, isNothing, placeSpan, fieldPlaceOf, shownFrom, fieldStepOf, stepAt, startAt, placeNth, searchEnds, placeTagged, nthPlace, tagPlace}
-use Rattle.lookup.specs.declared.FieldPlace.{FieldPlace}
-use Rattle.lookup.specs.declared.FieldPlace.the-variants.{Raw, Withdrawn, Nothing}
-use Rattle.lookup.specs.declared.FieldStep.{FieldStep}
+use Rattle.lookup.specs.Fields.{Asked, noField, field, firstIn, restIn, nthIn, shownTag, shownValue, ofTag, valueIn, fieldAs, isNothing, placeSpan, shownFrom, startAt, placeNth, searchEnds, placeTagged, nthPlace, tagPlace}
 
 -- ---- the fields of a view
 pub view-fields : (page : List ℕ) (v : View) → fieldsShown (readingAnswer page (Accepted v)) ≡ shownFields (fieldsIn (fieldsOf (v .plat) page))
@@ -120,43 +115,14 @@ pub lent-on : (at : ℕ) (page : List ℕ) → take (length page - at) (drop at 
 lent-on at page = take-all (length page - at) (drop at page) (rw length-drop (omega arith))
 
 -- ---- a step
--- a field that lies within the page, as it is handed out and as it is shown
-place-first : (t v m : ℕ) (page : List ℕ) → v + m ≤ length page → fieldAs (fieldPlaceOf t v m) page ≡ field (shownField (mkField t (part v m page)))
-unfolding fieldPlaceOf fieldAs shownField mkField
-place-first t v m page h = go (eqb t 3)
-  where
-    go : (b : Bool) → fieldAs (cond b Withdrawn (Raw t v m)) page ≡ field (cond b withdrawn (raw t (part v m page)))
-    go true = refl
-    go false = rw (le-leb (v + m) (length page) h)
-
-step-by : (at : ℕ) (page : List ℕ) (d : Head) → headAt at page ≡ d →
-    (fieldAs (fieldStepOf d (length page) .field) page ≡ firstIn (shownFrom at page)) × (shownFrom (fieldStepOf d (length page) .next) page ≡ restIn (shownFrom at page))
-unfolding fieldStepOf fieldAs firstIn restIn shownFrom shownFields shownField mkField
-step-by at page head.Broken e = rw (from-stop at page head.Broken e (inl refl), from-out (length page) page (omega arith)) (refl, refl)
-step-by at page head.End e = rw (from-stop at page head.End e (inr refl), from-out (length page) page (omega arith)) (refl, refl)
-step-by at page (head.Field t v m x) e =
-    let r = head-room at page e in
-    rw (from-field at page e) (place-first t v m page (omega arith), refl)
-
 pub step-shown : (at : ℕ) (page : List ℕ) →
     (fieldAs (stepAt at page .field) page ≡ firstIn (shownFrom at page)) × (shownFrom (stepAt at page .next) page ≡ restIn (shownFrom at page))
-unfolding stepAt
-step-shown at page = step-by at page (headAt at page) refl
-
-pub step-stop : (at : ℕ) (page : List ℕ) (d : Head) → headAt at page ≡ d → OneOf (0 ∷ 1 ∷ []) (tagOf the-type d) → record { field = Nothing; next = length page } ≡ stepAt at page
-unfolding stepAt fieldStepOf
-step-stop at page head.Broken e k = rw e
-step-stop at page head.End e k = rw e
-step-stop at page (head.Field t v m x) e k = absurd (⊎-elim (λ z. omega arith) (λ z. omega arith) k)
-
-module _ (at : ℕ) (page : List ℕ) {t v m x : ℕ} (e : headAt at page ≡ head.Field t v m x) where
-  pub step-field : (t ≡ 3 → ⊥) → record { field = Raw t v m; next = x } ≡ stepAt at page
-  unfolding stepAt fieldStepOf fieldPlaceOf
-  step-field h = rw (e, ne-eqb t 3 h)
-
-  pub step-withdrawn : t ≡ 3 → record { field = Withdrawn; next = x } ≡ stepAt at page
-  unfolding stepAt fieldStepOf fieldPlaceOf
-  step-withdrawn h = rw (e, eq-eqb t 3 h)
+unfolding fieldAs firstIn restIn shownFrom shownFields
+step-shown at page =
+    step-cases at page (λ s. (fieldAs (s .field) page ≡ firstIn (shownFrom at page)) × (shownFrom (s .next) page ≡ restIn (shownFrom at page)))
+    (λ h. rw (h, from-out (length page) page (omega arith)) (refl, refl))
+    (λ x l r h. rw h (refl, refl))
+    (λ t v m x r. rw (r .shown, le-leb (v + m) (length page) (omega (arith, r .next, r .within))) (refl, refl))
 
 -- what the code's step promises, by its equation
 pub stepped : (at : ℕ) (page : List ℕ) (s : FieldStep) → s ≡ stepAt at page →
@@ -170,33 +136,23 @@ placeShown (Raw t at n) page = raw t (part at n page)
 placeShown Withdrawn page = withdrawn
 placeShown Nothing page = withdrawn
 
-place-shown : (t v m : ℕ) (page : List ℕ) → placeShown (fieldPlaceOf t v m) page ≡ shownField (mkField t (part v m page))
-unfolding fieldPlaceOf placeShown shownField mkField
-place-shown t v m page = go (eqb t 3)
-  where
-    go : (b : Bool) → placeShown (cond b Withdrawn (Raw t v m)) page ≡ cond b withdrawn (raw t (part v m page))
-    go true = refl
-    go false = refl
-
 -- a field there is the first of those left
-some-by : (at : ℕ) (page : List ℕ) (d : Head) → headAt at page ≡ d → isNothing (fieldStepOf d (length page) .field) ≡ false →
-    (fieldAs (fieldStepOf d (length page) .field) page ≡ field (placeShown (fieldStepOf d (length page) .field) page))
-    × (shownFrom at page ≡ placeShown (fieldStepOf d (length page) .field) page ∷ shownFrom (fieldStepOf d (length page) .next) page)
-unfolding fieldStepOf isNothing shownFrom shownFields
-some-by at page head.Broken e h = absurd (false≢true (sym h))
-some-by at page head.End e h = absurd (false≢true (sym h))
-some-by at page (head.Field t v m x) e h =
-    let r = head-room at page e in
-    rw (from-field at page e, place-shown t v m page) (place-first t v m page (omega arith), refl)
+some-by : (at : ℕ) (page : List ℕ) → isNothing (stepAt at page .field) ≡ false →
+    (fieldAs (stepAt at page .field) page ≡ field (placeShown (stepAt at page .field) page))
+    × (shownFrom at page ≡ placeShown (stepAt at page .field) page ∷ shownFrom (stepAt at page .next) page)
+unfolding isNothing fieldAs placeShown shownFrom
+some-by at page =
+    step-cases at page (λ s. isNothing (s .field) ≡ false → (fieldAs (s .field) page ≡ field (placeShown (s .field) page)) × (shownFrom at page ≡ placeShown (s .field) page ∷ shownFrom (s .next) page))
+    (λ h n. absurd (false≢true (sym n)))
+    (λ x l r h n. (refl, h))
+    (λ t v m x r n. (rw (le-leb (v + m) (length page) (omega (arith, r .next, r .within))), r .shown))
 
 module _ (at : ℕ) (page : List ℕ) (h : isNothing (stepAt at page .field) ≡ false) where
   pub step-some : shownFrom at page ≡ placeShown (stepAt at page .field) page ∷ shownFrom (stepAt at page .next) page
-  unfolding stepAt
-  step-some = some-by at page (headAt at page) refl h .1
+  step-some = some-by at page h .1
 
   pub step-first : fieldAs (stepAt at page .field) page ≡ field (placeShown (stepAt at page .field) page)
-  unfolding stepAt
-  step-first = some-by at page (headAt at page) refl h .0
+  step-first = some-by at page h .0
 
   -- a walk comes to its end
   pub step-less : length (shownFrom (stepAt at page .next) page) < length (shownFrom at page)
@@ -219,15 +175,10 @@ unfolding fieldAs
 step-none at page h = first-none (shownFrom at page) (sym (ap (λ f. fieldAs f page) (nothing-is _ h)) ∙ step-shown at page .0)
 
 -- ---- field i, as a loop goes
-none-by : (at : ℕ) (page : List ℕ) (d : Head) → headAt at page ≡ d → shownFrom at page ≡ [] → fieldStepOf d (length page) .field ≡ Nothing
-unfolding fieldStepOf shownFrom shownFields
-none-by at page head.Broken e h = refl
-none-by at page head.End e h = refl
-none-by at page (head.Field t v m x) e h = never (let z = rw (from-field at page e) at h in cc)
-
 none-step : (at : ℕ) (page : List ℕ) → shownFrom at page ≡ [] → stepAt at page .field ≡ Nothing
-unfolding stepAt
-none-step at page h = none-by at page (headAt at page) refl h
+unfolding shownFrom
+none-step at page =
+    step-cases at page (λ s. shownFrom at page ≡ [] → s .field ≡ Nothing) (λ h n. refl) (λ x l r h n. never (let z = rw h at n in cc)) (λ t v m x r n. never (let z = rw (r .shown) at n in cc))
 
 none-next : (at : ℕ) (page : List ℕ) → stepAt at page .field ≡ Nothing → stepAt (stepAt at page .next) page .field ≡ Nothing
 unfolding restIn isNothing

@@ -8,13 +8,10 @@ use lib.Dec.{leb, eqb}
 use Rattle.words.specs.Word.{part}
 use Rattle.words.specs.declared.Span.{Span}
 use Rattle.fields.specs.Fields.{FieldShown, raw, withdrawn, shownFields, scanOf, isEnded}
-use Rattle.fields.specs.Steps.{headAt, fieldsFrom}
-use Rattle.fields.specs.declared.Head.{Head}
-use Rattle.fields.specs.declared.Head.the-variants as head
+use Rattle.fields.specs.Steps.{fieldsFrom, stepAt}
+use Rattle.fields.specs.declared.FieldPlace.{FieldPlace}
+use Rattle.fields.specs.declared.FieldPlace.the-variants.{Raw, Withdrawn, Nothing}
 use Rattle.reader.specs.declared.View.{View}
-use Rattle.lookup.specs.declared.FieldPlace.{FieldPlace}
-use Rattle.lookup.specs.declared.FieldPlace.the-variants.{Raw, Withdrawn, Nothing}
-use Rattle.lookup.specs.declared.FieldStep.{FieldStep}
 
 -- a field, or that there is none
 pub data Asked : Type 0 where
@@ -72,19 +69,6 @@ placeSpan Nothing = record { at = 0; len = 0 }
 -- the fields that are left at a cursor
 unfoldable pub shownFrom : ℕ → List ℕ → List FieldShown
 shownFrom at page = shownFields (fieldsFrom at page)
-
--- a field on the page, as it is handed out
-unfoldable pub fieldPlaceOf : ℕ → ℕ → ℕ → FieldPlace
-fieldPlaceOf t at n = cond (eqb t 3) Withdrawn (Raw t at n)
-
--- the field at a cursor, and the cursor behind it; behind the last one the cursor is the page's length
-unfoldable pub fieldStepOf : Head → ℕ → FieldStep
-fieldStepOf head.Broken n = record { field = Nothing; next = n }
-fieldStepOf head.End n = record { field = Nothing; next = n }
-fieldStepOf (head.Field t v m x) n = record { field = fieldPlaceOf t v m; next = x }
-
-unfoldable pub stepAt : ℕ → List ℕ → FieldStep
-stepAt at page = fieldStepOf (headAt at page) (length page)
 
 -- the cursor at the first field of a platform pointer; the page's length where there is no pointer, or broken fields
 unfoldable pub startAt : ℕ → List ℕ → ℕ

@@ -1,7 +1,8 @@
 // What can be asked of a page: a section's array as the part of the lent page that holds it, how many entries it has, and each
 // word of an entry; and the fields of the platform data.
+use fields::FieldPlace;
+use fields::FieldStep;
 use fields::FieldsEnd;
-use fields::Head;
 use reader::Reading;
 use reader::Section;
 use reader::View;
@@ -12,32 +13,19 @@ ghost use Prim.Native.Nat.{_≤_, max};
 ghost use lib.ListN.{length};
 ghost use Rattle.words.specs.Word.{spanned, spanStart, onFrom};
 ghost use Rattle.versions.specs.Edition.{core};
+ghost use Rattle.fields.specs.Steps.{stepAt};
 ghost use Rattle.reader.specs.Answer.{lookIn, lookOf, countIn, wordIn, fieldsShown, readOf};
 ghost use Rattle.reader.specs.Reading.{sectionOf, readingAnswer};
 ghost use Rattle.entries.specs.Entry.{isHidden};
 ghost use Rattle.lookup.specs.Lookup.{spanOf, spanIn, countOf, wordOf};
-ghost use Rattle.lookup.specs.Fields.{firstIn, restIn, nthIn, ofTag, valueIn, fieldAs, isNothing, searchEnds, placeSpan, shownFrom, stepAt, startAt, nthPlace, tagPlace};
+ghost use Rattle.lookup.specs.Fields.{firstIn, restIn, nthIn, ofTag, valueIn, fieldAs, isNothing, searchEnds, placeSpan, shownFrom, startAt, nthPlace, tagPlace};
 ghost use Rattle.lookup.specs.Consoles.{consoleNamed};
 ghost use Rattle.lookup.specs.Kept.{sectionEnd, fieldsReach, keptFor};
-
-// A field that is asked for: its tag, and where its value lies in the page; the withdrawn field, tag 3, whose value is not shown; or that
-// there is no such field.
-pub enum FieldPlace {
-    Raw { tag: u8, at: usize, len: usize },
-    Withdrawn,
-    Nothing,
-}
 
 // A console that is asked for by its name: its number, or that there is none.
 pub enum ConsoleFound {
     At(usize),
     Nothing,
-}
-
-// A step of a walk over the fields: the field at a cursor, and the cursor behind it.
-pub struct FieldStep {
-    pub field: FieldPlace,
-    pub next: usize,
 }
 
 // Where count entries of section k at an offset lie in a page of so many bytes; nowhere where they do not lie within it.
@@ -206,34 +194,7 @@ pub fn field_next(page: &[u8], cursor: usize) -> FieldStep
     ensures { λ r. ⌜ fieldAs (r .field) (now (page .entry)) ≡ firstIn (shownFrom cursor (now (page .entry))) ⌝ }
     ensures { λ r. ⌜ shownFrom (r .next) (now (page .entry)) ≡ restIn (shownFrom cursor (now (page .entry))) ⌝ }
 {
-    let head = fields::field_at(page, cursor);
-    let Head::Field {
-        tag,
-        value,
-        len,
-        next,
-    } = head
-    else {
-        let next = page.len();
-        return FieldStep {
-            field: FieldPlace::Nothing,
-            next,
-        };
-    };
-    if tag == 3 {
-        return FieldStep {
-            field: FieldPlace::Withdrawn,
-            next,
-        };
-    }
-    FieldStep {
-        field: FieldPlace::Raw {
-            tag,
-            at: value,
-            len,
-        },
-        next,
-    }
+    fields::step_at(page, cursor)
 }
 
 // How many fields a view shows.

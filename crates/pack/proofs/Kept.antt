@@ -5,8 +5,6 @@ use mathlib.Core.Bool.{Bool, true, false, cond}
 use mathlib.Core.List.{List, [], _∷_, _++_, append-assoc}
 use native.Mathlib.Omega.{arith}
 use native.Mathlib.Numerals.{add-one}
-use types.Run.{OneOf}
-use denote.Enum.Declared.{tagOf}
 use lib.ListN.{length, getD, length-append}
 use lib.Seq.{drop-cons}
 use lib.Dec.{eqb}
@@ -15,31 +13,16 @@ use Rattle.words.specs.Word.{leBytes, part, numAt, wordAt, splice}
 use Rattle.words.proofs.Bytes.{Bytes}
 use Rattle.words.proofs.Read.{num-suc, num-one}
 use Rattle.words.proofs.Store.{splice-splice}
-use Rattle.fields.specs.Fields.{mkField, shownField, shownFields}
-use Rattle.fields.specs.Steps.{headOf, headAt}
-use Rattle.fields.specs.declared.Head.{Head}
-use Rattle.fields.specs.declared.Head.the-variants as head
-use Rattle.fields.proofs.Head.{the-type}
-use Rattle.fields.proofs.Scans.{never, head-room, part-length}
-use Rattle.fields.proofs.Walks.{from-stop, from-field}
+use Rattle.fields.specs.Steps.{stepAt}
+use Rattle.fields.specs.declared.FieldPlace.the-variants.{Raw, Withdrawn, Nothing}
+use Rattle.fields.specs.declared.FieldStep.{FieldStep}
+use Rattle.fields.proofs.Scans.{never, part-length}
+use Rattle.fields.proofs.Steps.{RawAt, step-cases}
 use Rattle.pack.specs.Pack.{fieldBytes, fieldsKept}
 use Rattle.pack.specs.Steps.{fieldsPlace, keptFrom}
 use Rattle.pack.proofs.Moves.{part-add, part-join, part-none}
 
 -- ---- a field's tag and length stand before its value
-head-field : (a z e : Bool) (g : Head) (t v n x : ℕ) → headOf a z e g ≡ head.Field t v n x → g ≡ head.Field t v n x
-unfolding headOf
-head-field true z e g t v n x h = never (cc)
-head-field false true true g t v n x h = never (cc)
-head-field false true false g t v n x h = never (cc)
-head-field false false e g t v n x h = h
-
-head-told : (at : ℕ) (bs : List ℕ) {t v n x : ℕ} → headAt at bs ≡ head.Field t v n x → (getD bs at 0 ≡ t) × (numAt 2 (at + 1) bs ≡ n)
-unfolding headAt
-head-told at bs {t} {v} {n} {x} h =
-    let g : head.Field (getD bs at 0) (at + 3) (numAt 2 (at + 1) bs) (at + 3 + numAt 2 (at + 1) bs) ≡ head.Field t v n x = head-field _ _ _ _ t v n x h in
-    (cc, cc)
-
 part-one : (at : ℕ) (s : List ℕ) → at < length s → part at 1 s ≡ getD s at 0 ∷ []
 unfolding part
 part-one at s h = rw (drop-cons s at 0 h)
@@ -55,49 +38,55 @@ part-two at s h b =
     let high : numAt 2 at s / 256 % 256 ≡ getD s (at + 1) 0 = rw rest (omega arith) in
     part-add at 1 1 s ∙ rw (low, high, part-one at s (omega arith), part-one (at + 1) s (omega arith))
 
-module _ (at : ℕ) (page : List ℕ) {t v n x : ℕ} (e : headAt at page ≡ head.Field t v n x) where
-  field-part : Bytes page → fieldBytes t (part v n page) ≡ part at (x - at) page
-  unfolding fieldBytes
-  field-part b =
-      let r = head-room at page e in
-      let h = head-told at page e in
-      let l : length (part v n page) ≡ n = part-length v n page (omega arith) in
-      let z : x - at ≡ 1 + (2 + n) = omega arith in
-      let y : at + 1 + 2 ≡ v = omega arith in
-      rw (l, z, part-add at 1 (2 + n) page, part-one at page (omega arith), part-add (at + 1) 2 n page, part-two (at + 1) page (omega arith) b, h .0, h .1, y)
+field-part : {at t v n x : ℕ} (page : List ℕ) → Bytes page → RawAt at page t v n x → fieldBytes t (part v n page) ≡ part at (x - at) page
+unfolding fieldBytes
+field-part {at} {t} {v} {n} {x} page b r =
+    let w = r .within in
+    let e = r .value in
+    let f = r .next in
+    let l : length (part v n page) ≡ n = part-length v n page (omega arith) in
+    let z : x - at ≡ 1 + (2 + n) = omega arith in
+    let y : at + 1 + 2 ≡ v = omega arith in
+    rw (l, z, part-add at 1 (2 + n) page, part-one at page (omega arith), part-add (at + 1) 2 n page, part-two (at + 1) page (omega arith) b, r .tag, r .len, y)
 
-  -- ---- one field more: kept, or withdrawn
-  kept-field : Bytes page → (t ≡ 3 → ⊥) → keptFrom at page ≡ part at (x - at) page ++ keptFrom x page
-  unfolding keptFrom fieldsKept shownFields shownField mkField
-  kept-field b h = rw (from-field at page e, ne-eqb t 3 h, field-part b)
+-- ---- a step: none is left; a withdrawn field, which is left out; or one that is kept
+module _ (at : ℕ) (page : List ℕ) (s : FieldStep) (e : s ≡ stepAt at page) where
+  pub kept-stop : s .field ≡ Nothing → keptFrom at page ≡ []
+  unfolding keptFrom fieldsKept
+  kept-stop =
+      rw e
+      (step-cases at page (λ s. s .field ≡ Nothing → keptFrom at page ≡ []) (λ h n. rw h) (λ x l r h n. never (cc)) (λ t v m x r n. never (cc)))
 
-  kept-over : t ≡ 3 → keptFrom at page ≡ keptFrom x page
-  unfolding keptFrom fieldsKept shownFields shownField mkField
-  kept-over h = rw (from-field at page e, eq-eqb t 3 h)
+  pub kept-over : s .field ≡ Withdrawn → (at < s .next) × (s .next ≤ length page) × (keptFrom at page ≡ keptFrom (s .next) page)
+  unfolding keptFrom fieldsKept
+  kept-over =
+      rw e
+      (step-cases at page (λ s. s .field ≡ Withdrawn → (at < s .next) × (s .next ≤ length page) × (keptFrom at page ≡ keptFrom (s .next) page))
+      (λ h n. never (cc))
+      (λ x l r h n. (l, r, rw h))
+      (λ t v m x r n. never (cc)))
 
-  -- a run of kept fields grows
-  pub run-more : (run : ℕ) → Bytes page → (t ≡ 3 → ⊥) → run ≤ at → part run (at - run) page ++ keptFrom at page ≡ part run (x - run) page ++ keptFrom x page
-  run-more run b h l =
-      let r = head-room at page e in
-      rw (kept-field b h, part-join run at x page l (omega arith), append-assoc)
+  pub kept-field : {t v m : ℕ} → Bytes page → s .field ≡ Raw t v m → (at < s .next) × (s .next ≤ length page) × (keptFrom at page ≡ part at (s .next - at) page ++ keptFrom (s .next) page)
+  unfolding keptFrom fieldsKept
+  kept-field {t} {v} {m} b =
+      rw e
+      (step-cases at page (λ s. s .field ≡ Raw t v m → (at < s .next) × (s .next ≤ length page) × (keptFrom at page ≡ part at (s .next - at) page ++ keptFrom (s .next) page))
+      (λ h n. never (cc))
+      (λ x l r h n. never (cc))
+      (λ t v m x r n. (omega (arith, r .value, r .next), r .within, rw (r .shown, field-part page b r))))
 
-  pub length-more : Bytes page → (t ≡ 3 → ⊥) → length (keptFrom at page) ≡ (x - at) + length (keptFrom x page)
-  length-more b h =
-      let r = head-room at page e in
-      ap length (kept-field b h) ∙ length-append (part at (x - at) page) (keptFrom x page) ∙ rw (part-length at (x - at) page (omega arith))
+-- a run of kept fields grows
+module _ (at x : ℕ) (page : List ℕ) (l : at < x) (m : x ≤ length page) (k : keptFrom at page ≡ part at (x - at) page ++ keptFrom x page) where
+  pub run-more : (run : ℕ) → run ≤ at → part run (at - run) page ++ keptFrom at page ≡ part run (x - run) page ++ keptFrom x page
+  run-more run g = rw (k, part-join run at x page g (omega arith), append-assoc)
 
-  -- a run ends before a withdrawn field, and the next begins behind it
-  pub length-over : t ≡ 3 → length (keptFrom at page) ≡ length (keptFrom x page)
-  length-over h = ap length (kept-over h)
+  pub length-more : length (keptFrom at page) ≡ (x - at) + length (keptFrom x page)
+  length-more = ap length k ∙ length-append (part at (x - at) page) (keptFrom x page) ∙ rw (part-length at (x - at) page (omega arith))
 
-  pub run-over : (run to next : ℕ) (vs p s : List ℕ) → t ≡ 3 → to ≤ length p → vs ≡ part run (at - run) page → next ≡ to + length vs → s ≡ splice to vs p →
-      splice next (part x (x - x) page ++ keptFrom x page) s ≡ splice to (part run (at - run) page ++ keptFrom at page) p
-  run-over run to next vs p s h l g m i = rw (i, m, part-none x page, kept-over h, ← g) (splice-splice to vs p l (keptFrom x page))
-
--- none is left where no field stands
-pub kept-stop : (at : ℕ) (page : List ℕ) (d : Head) → headAt at page ≡ d → OneOf (0 ∷ 1 ∷ []) (tagOf the-type d) → keptFrom at page ≡ []
-unfolding keptFrom fieldsKept shownFields
-kept-stop at page d e k = rw (from-stop at page d e k)
+-- a run ends before a withdrawn field, and the next begins behind it
+pub run-over : (at x run to next : ℕ) (page vs p s : List ℕ) → keptFrom at page ≡ keptFrom x page → to ≤ length p → vs ≡ part run (at - run) page → next ≡ to + length vs → s ≡ splice to vs p →
+    splice next (part x (x - x) page ++ keptFrom x page) s ≡ splice to (part run (at - run) page ++ keptFrom at page) p
+run-over at x run to next page vs p s k l g m i = rw (i, m, part-none x page, k, ← g) (splice-splice to vs p l (keptFrom x page))
 
 -- ---- where they begin
 module _ (page : List ℕ) where

@@ -1,6 +1,6 @@
 // The packer: what a reader of edition 4 shows of a page, written again without holes into another lent page. Arrays and fields go from
 // page to page once, with no buffer between.
-use fields::Head;
+use fields::FieldPlace;
 use reader::Refusal;
 use reader::Verdict;
 use versions::Edition;
@@ -128,19 +128,20 @@ fn put_fields(page: &[u8], from: usize, at: usize, target: &mut [u8]) -> usize
     let mut cursor = from;
     let mut to = at;
     loop {
-        let head = fields::field_at(page, cursor);
-        let Head::Field {
-            tag,
-            value: _,
-            len: _,
-            next,
-        } = head
-        else {
-            return put_bytes(target, to, &page[run..cursor]);
-        };
-        if tag == 3 {
-            to = put_bytes(target, to, &page[run..cursor]);
-            run = next;
+        let step = fields::step_at(page, cursor);
+        let field = step.field;
+        let next = step.next;
+        match field {
+            FieldPlace::Nothing => return put_bytes(target, to, &page[run..cursor]),
+            FieldPlace::Withdrawn => {
+                to = put_bytes(target, to, &page[run..cursor]);
+                run = next;
+            }
+            FieldPlace::Raw {
+                tag: _,
+                at: _,
+                len: _,
+            } => {}
         }
         cursor = next;
     }

@@ -1,9 +1,9 @@
 // Reads the numbered cases of data/ in turn, up to the first that is missing. A case is 8 bytes of reader edition, 8 bytes of
 // B and a page of any length. Prints the listing of each, what the array lookup gives for sections 0 to 4 and, if the page is accepted,
 // what the field lookups give and which consoles have some names.
+use fields::FieldPlace;
 use libc::STDOUT_FILENO;
 use lookup::ConsoleFound;
-use lookup::FieldPlace;
 use reader::Reading;
 use reader::View;
 

@@ -9,8 +9,8 @@ use Rattle.reader.specs.declared.View.{View}
 use Rattle.reader.specs.declared.Reading.{Reading}
 use Rattle.reader.specs.declared.Reading.the-variants.{Accepted, Refused}
 use Rattle.fields.specs.Fields.{raw, withdrawn}
-use Rattle.lookup.specs.declared.FieldPlace.{FieldPlace}
-use Rattle.lookup.specs.declared.FieldPlace.the-variants.{Raw, Withdrawn, Nothing}
+use Rattle.fields.specs.declared.FieldPlace.{FieldPlace}
+use Rattle.fields.specs.declared.FieldPlace.the-variants.{Raw, Withdrawn, Nothing}
 use Rattle.text.specs.Text.{lay, fieldText, listingOf, listingRoom}
 
 -- the largest offset, which stands for all that lie past it

@@ -1,6 +1,6 @@
 // The listing's text, laid into a lent slice as far as it fits. Each step puts a part of it at an offset, and answers where the
 // next part goes, which may be past the slice's end: so the last one answers how long the text is, whether or not it fits.
-use lookup::FieldPlace;
+use fields::FieldPlace;
 use reader::Reading;
 use reader::Refusal;
 use reader::Section;

@@ -2,7 +2,7 @@ use Prim.Native.Nat.{_-_}
 use mathlib.Core.Path.{_≡_, refl, sym, ap, _∙_}
 use native.Mathlib.Omega.{arith}
 use Rattle.lookup.specs.Fields.{fieldAs, isNothing, placeNth, nthPlace}
-use Rattle.lookup.specs.declared.FieldStep.{FieldStep}
+use Rattle.fields.specs.declared.FieldStep.{FieldStep}
 use Rattle.lookup.proofs.Fields.{nth-none, nth-here, nth-later, nth-place}
 use borrow.Author.Needs.{needs}
 use Rattle.lookup.proofs.field_of.Statement.{statement}

@@ -1,8 +1,9 @@
 use mathlib.Core.Path.{_≡_, refl, sym, ap, _∙_}
 use native.Mathlib.Omega.{arith}
 use lib.ListN.{length}
-use Rattle.lookup.specs.Fields.{fieldAs, shownFrom, searchEnds, placeTagged, tagPlace, stepAt}
-use Rattle.lookup.specs.declared.FieldStep.{FieldStep}
+use Rattle.fields.specs.Steps.{stepAt}
+use Rattle.lookup.specs.Fields.{fieldAs, shownFrom, searchEnds, placeTagged, tagPlace}
+use Rattle.fields.specs.declared.FieldStep.{FieldStep}
 use Rattle.lookup.proofs.Fields.{tag-here, tag-later, tag-place, goes-on, step-less}
 use borrow.Author.Needs.{needs}
 use Rattle.lookup.proofs.field_of_tag.Statement.{statement}

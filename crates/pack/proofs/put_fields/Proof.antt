@@ -3,10 +3,9 @@ use mathlib.Core.List.{List, [], _++_, append-nil}
 use Prim.Native.Nat.{ℕ, _+_, _-_, _≤_}
 use lib.ListN.{length}
 use Rattle.words.specs.Word.{part, splice}
-use Rattle.fields.proofs.Scans.{head-room}
 use Rattle.pack.specs.Steps.{keptFrom}
 use Rattle.pack.proofs.Moves.{part-none, lent-length}
-use Rattle.pack.proofs.Kept.{run-more, length-more, run-over, length-over, kept-stop}
+use Rattle.pack.proofs.Kept.{kept-stop, kept-over, kept-field, run-more, length-more, run-over}
 use native.Mathlib.Omega.{arith}
 use borrow.Author.Needs.{needs}
 use Rattle.pack.proofs.put_fields.Statement.{statement}
@@ -25,11 +24,11 @@ loop-holds c =
     let a = c .before .before .args in
     (search needs, search needs, c .before .before .pre .1, omega arith, ap (λ (vs : List ℕ). splice (a .at) (vs ++ keptFrom (a .from) (a .page .now)) (a .target .now)) (part-none (a .from) (a .page .now)))
 
-field-at-requires : tie.Need-field-at-requires Inv-loop μ-loop
-field-at-requires c κs = search needs
+step-at-requires : tie.Need-step-at-requires Inv-loop μ-loop
+step-at-requires c κs = search needs
 
-enum-known-head : tie.Need-enum-known-head Inv-loop μ-loop
-enum-known-head c = search needs
+enum-told : tie.Need-enum-told Inv-loop μ-loop
+enum-told c = search needs
 
 sub-put-bytes : tie.Need-sub-put-bytes Inv-loop μ-loop
 sub-put-bytes c = search needs
@@ -41,11 +40,7 @@ part-put-bytes-end : tie.Need-part-put-bytes-end Inv-loop μ-loop
 part-put-bytes-end c = search needs
 
 put-bytes-requires : tie.Need-put-bytes-requires Inv-loop μ-loop
-put-bytes-requires c κs =
-    let a = c .before .before .before .before .before .before .before .args in
-    let l = c .before .before .before .before .loop in
-    let n = lent-length (l .run) (l .cursor) (a .page .now) (omega arith) (omega arith) in
-    (omega arith, search needs)
+put-bytes-requires c κs = search needs
 
 same-length : tie.Need-same-length Inv-loop μ-loop
 same-length c = search needs
@@ -53,12 +48,15 @@ same-length c = search needs
 returns : tie.Need-returns Inv-loop μ-loop
 unfolding part
 returns c =
-    let a = c .before .before .before .before .before .before .before .before .before .before .args in
-    let l = c .before .before .before .before .before .before .before .loop in
+    let a = c .before .before .before .before .before .before .before .before .before .before .before .args in
+    let l = c .before .before .before .before .before .before .before .before .loop in
     let n = lent-length (l .run) (l .cursor) (a .page .now) (omega arith) (omega arith) in
-    let z : keptFrom (l .cursor) (a .page .now) ≡ [] = kept-stop (l .cursor) (a .page .now) _ (sym (c .before .before .before .before .before .before .field-at .ensures)) (c .before .before .before .before .before .match .keys2) in
+    let z : keptFrom (l .cursor) (a .page .now) ≡ [] = kept-stop (l .cursor) (a .page .now) _ (c .before .before .before .before .before .before .before .step-at .ensures) (c .before .before .before .before .before .enum-told .given .1) in
     let m : length (keptFrom (l .cursor) (a .page .now)) ≡ 0 = ap length z in
     (omega (arith, c .before .before .put-bytes .ensures .0), c .before .before .put-bytes .ensures .1 ∙ rw (z, append-nil) at (l .inv .4))
+
+enum-told-2 : tie.Need-enum-told-2 Inv-loop μ-loop
+enum-told-2 c = search needs
 
 sub-put-bytes-2 : tie.Need-sub-put-bytes-2 Inv-loop μ-loop
 sub-put-bytes-2 c = search needs
@@ -70,44 +68,41 @@ part-put-bytes-end-2 : tie.Need-part-put-bytes-end-2 Inv-loop μ-loop
 part-put-bytes-end-2 c = search needs
 
 put-bytes-requires-2 : tie.Need-put-bytes-requires-2 Inv-loop μ-loop
-put-bytes-requires-2 c κs =
-    let a = c .before .before .before .before .before .before .before .before .before .before .args in
-    let l = c .before .before .before .before .before .before .before .loop in
-    let n = lent-length (l .run) (l .cursor) (a .page .now) (omega arith) (omega arith) in
-    (omega arith, search needs)
+put-bytes-requires-2 c κs = search needs
+
+enum-told-3 : tie.Need-enum-told-3 Inv-loop μ-loop
+enum-told-3 c = search needs
 
 loop-less : tie.Need-loop-less Inv-loop μ-loop
-loop-less c = let r = head-room (c .before .before .before .before .before .before .before .before .before .before .loop .cursor) (c .before .before .before .before .before .before .before .before .before .before .before .before .before .args .page .now) (sym (c .before .before .before .before .before .before .before .before .before .field-at .ensures) ∙ c .before .before .before .before .before .before .before .head .given .1) in omega arith
+loop-less c = let k = kept-over (c .before .before .before .before .before .before .before .before .loop .cursor) (c .before .before .before .before .before .before .before .before .before .before .before .args .page .now) _ (c .before .before .before .before .before .before .before .step-at .ensures) (c .before .before .before .before .before .enum-told2 .given .1) in omega arith
 
 loop-again : tie.Need-loop-again Inv-loop μ-loop
 unfolding part
 loop-again c =
-    let a = c .before .before .before .before .before .before .before .before .before .before .before .before .before .args in
-    let l = c .before .before .before .before .before .before .before .before .before .before .loop in
-    let e = sym (c .before .before .before .before .before .before .before .before .before .field-at .ensures) ∙ c .before .before .before .before .before .before .before .head .given .1 in
-    let r = head-room (l .cursor) (a .page .now) e in
+    let a = c .before .before .before .before .before .before .before .before .before .before .before .args in
+    let l = c .before .before .before .before .before .before .before .before .loop in
+    let k = kept-over (l .cursor) (a .page .now) _ (c .before .before .before .before .before .before .before .step-at .ensures) (c .before .before .before .before .before .enum-told2 .given .1) in
     let n = lent-length (l .run) (l .cursor) (a .page .now) (omega arith) (omega arith) in (
       search needs,
       omega arith,
       search needs,
-      omega (arith, length-over (l .cursor) (a .page .now) e (search needs), c .before .before .put-bytes2 .ensures .0),
-      run-over (l .cursor) (a .page .now) e (l .run) (l .to) _ _ (l .target) _ (search needs) (omega arith) refl (c .before .before .put-bytes2 .ensures .0) (c .before .before .put-bytes2 .ensures .1) ∙ l .inv .4,
+      omega (arith, ap length (k .2), c .before .before .put-bytes2 .ensures .0),
+      run-over (l .cursor) _ (l .run) (l .to) _ (a .page .now) _ (l .target) _ (k .2) (omega arith) refl (c .before .before .put-bytes2 .ensures .0) (c .before .before .put-bytes2 .ensures .1) ∙ l .inv .4,
     )
 
 loop-less-2 : tie.Need-loop-less-2 Inv-loop μ-loop
-loop-less-2 c = let r = head-room (c .before .before .before .before .before .loop .cursor) (c .before .before .before .before .before .before .before .before .args .page .now) (sym (c .before .before .before .before .field-at .ensures) ∙ c .before .before .head .given .1) in omega arith
+loop-less-2 c = let k = kept-field (c .before .before .before .loop .cursor) (c .before .before .before .before .before .before .args .page .now) _ (c .before .before .step-at .ensures) (λ i. omega (arith, c .before .before .before .before .before .shared-slice-known .given i)) (c .enum-told3 .given .1) in omega arith
 
 loop-again-2 : tie.Need-loop-again-2 Inv-loop μ-loop
 loop-again-2 c =
-    let a = c .before .before .before .before .before .before .before .before .args in
-    let l = c .before .before .before .before .before .loop in
-    let e = sym (c .before .before .before .before .field-at .ensures) ∙ c .before .before .head .given .1 in
-    let r = head-room (l .cursor) (a .page .now) e in (
+    let a = c .before .before .before .before .before .before .args in
+    let l = c .before .before .before .loop in
+    let k = kept-field (l .cursor) (a .page .now) _ (c .before .before .step-at .ensures) (λ i. omega (arith, c .before .before .before .before .before .shared-slice-known .given i)) (c .enum-told3 .given .1) in (
       omega arith,
       omega arith,
       l .inv .2,
-      omega (arith, length-more (l .cursor) (a .page .now) e (λ i. omega (arith, c .before .before .before .before .before .before .before .shared-slice-known .given i)) (search needs)),
-      ap (λ (vs : List ℕ). splice (l .to) vs (l .target)) (sym (run-more (l .cursor) (a .page .now) e (l .run) (λ i. omega (arith, c .before .before .before .before .before .before .before .shared-slice-known .given i)) (search needs) (omega arith))) ∙ l .inv .4,
+      omega (arith, length-more (l .cursor) _ (a .page .now) (k .0) (k .1) (k .2)),
+      ap (λ (vs : List ℕ). splice (l .to) vs (l .target)) (sym (run-more (l .cursor) _ (a .page .now) (k .0) (k .1) (k .2) (l .run) (omega arith))) ∙ l .inv .4,
     )
 
 pub put-fields-spec : {M : Type 1} → statement M
@@ -117,18 +112,20 @@ put-fields-spec =
     Inv-loop
     μ-loop
     loop-holds
-    field-at-requires
-    enum-known-head
+    step-at-requires
+    enum-told
     sub-put-bytes
     part-put-bytes-start
     part-put-bytes-end
     put-bytes-requires
     same-length
     returns
+    enum-told-2
     sub-put-bytes-2
     part-put-bytes-start-2
     part-put-bytes-end-2
     put-bytes-requires-2
+    enum-told-3
     loop-less
     loop-again
     loop-less-2

@@ -1,5 +1,5 @@
 use mathlib.Core.Path.{ap, _∙_}
-use Rattle.lookup.specs.declared.FieldStep.{FieldStep}
+use Rattle.fields.specs.declared.FieldStep.{FieldStep}
 use Rattle.lookup.proofs.Fields.{step-shown}
 use Rattle.images.specs.Image.{fieldWords}
 use borrow.Author.Needs.{needs}

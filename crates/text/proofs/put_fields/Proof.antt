@@ -3,7 +3,7 @@ use mathlib.Core.Path.{_≡_, refl, sym, ap, _∙_}
 use mathlib.Core.List.{List}
 use lib.ListN.{length}
 use Rattle.lookup.specs.Fields.{isNothing, shownFrom}
-use Rattle.lookup.specs.declared.FieldStep.{FieldStep}
+use Rattle.fields.specs.declared.FieldStep.{FieldStep}
 use Rattle.lookup.proofs.Fields.{step-none, step-less}
 use Rattle.text.specs.Text.{fieldsText}
 use Rattle.text.specs.Steps.{lastOffset, LaidOver}
