@@ -18,9 +18,9 @@ use Rattle.reader.specs.Answer.{Shown, PlatShown, ReaderAnswer, refused, shows,
 use Rattle.reader.specs.Reading.{sectionAt, viewAt}
 use Rattle.reader.proofs.Views.{shows-page}
 use Rattle.writer.proofs.Demand.{demand3}
-use Rattle.lookup.specs.Kept.{keptFor}
-use Rattle.lookup.proofs.Kept.{kept-covers}
-use Rattle.lookup.proofs.Least.{accepted-place, accepted-fields, core-covered, kept-least}
+use Rattle.kept.specs.Kept.{keptFor}
+use Rattle.kept.proofs.Kept.{kept-covers}
+use Rattle.kept.proofs.Least.{accepted-place, accepted-fields, core-covered, kept-least}
 use Rattle.boot.specs.Boot.{coldCode, after, paramsOf, coldNext}
 use Rattle.boot.specs.Boots.{Boot, booted, allBooted}
 use Rattle.boot.specs.declared.Params.{Params}

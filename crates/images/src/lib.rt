@@ -20,7 +20,7 @@ ghost use mathlib.Core.Path.{_≡_};
 ghost use Prim.Native.Nat.{_+_, _≤_};
 ghost use lib.ListN.{length};
 ghost use Rattle.codes.specs.Codes.{ifOk};
-ghost use Rattle.lookup.specs.Kept.{keptFor};
+ghost use Rattle.kept.specs.Kept.{keptFor};
 ghost use Rattle.runtime.specs.Step.{replyCode};
 ghost use Rattle.images.specs.Image.{recordOf, recordWords, isSet, sessionOf, sessionWords, registerWords, workWords, sectionIn, viewOf, spanWords, fieldWords, consoleNumber, wroteNumber, replyRegisters, replyWords};
 ghost use Rattle.images.specs.Realm.{numberX0, numberWords, hitX0, hitWords, agreementX0, builtX0};
@@ -138,16 +138,16 @@ pub fn view_of(image: &[u64; 15]) -> View
     }
 }
 
-// `lookup::kept_for` of the view that an image holds. Each section is judged as its words are read: to make the whole view first takes a third
+// `kept::kept_for` of the view that an image holds. Each section is judged as its words are read: to make the whole view first takes a third
 // more time.
 pub fn kept_for(page: &[u8], image: &[u64; 15]) -> u64
     ensures { λ r. ⌜ (r ≡ keptFor (viewOf (now (image .entry))) (now (page .entry))) × (r ≤ 4096) ⌝ }
 {
-    let mut end = lookup::core_end(page, image[1], image[2]);
-    end = lookup::higher_end(end, section_in(image, 3), 0);
-    end = lookup::higher_end(end, section_in(image, 6), 1);
-    end = lookup::higher_end(end, section_in(image, 9), 2);
-    end = lookup::higher_end(end, section_in(image, 12), 3);
+    let mut end = kept::core_end(page, image[1], image[2]);
+    end = kept::higher_end(end, section_in(image, 3), 0);
+    end = kept::higher_end(end, section_in(image, 6), 1);
+    end = kept::higher_end(end, section_in(image, 9), 2);
+    end = kept::higher_end(end, section_in(image, 12), 3);
     8 * ((end + 7) / 8)
 }
 

@@ -1,4 +1,2 @@
 pub mod Lookup
-pub mod Fields
 pub mod Consoles
-pub mod Kept

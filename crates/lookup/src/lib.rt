@@ -1,26 +1,17 @@
-// What can be asked of a page: a section's array as the part of the lent page that holds it, how many entries it has, and each
-// word of an entry; and the fields of the platform data.
-use fields::FieldPlace;
-use fields::FieldStep;
-use fields::FieldsEnd;
+// What can be asked of a page's sections: an array as the part of the lent page that holds it, how many entries it has, and each word of an
+// entry; a console by its name.
 use reader::Reading;
 use reader::Section;
 use reader::View;
-use versions::Edition;
 use words::Span;
 ghost use mathlib.Core.Path.{_≡_};
-ghost use Prim.Native.Nat.{_≤_, max};
 ghost use lib.ListN.{length};
 ghost use Rattle.words.specs.Word.{spanned, spanStart, onFrom};
-ghost use Rattle.versions.specs.Edition.{core};
-ghost use Rattle.fields.specs.Steps.{stepAt};
-ghost use Rattle.reader.specs.Answer.{lookIn, lookOf, countIn, wordIn, fieldsShown, readOf};
+ghost use Rattle.reader.specs.Answer.{lookIn, lookOf, countIn, wordIn, readOf};
 ghost use Rattle.reader.specs.Reading.{sectionOf, readingAnswer};
 ghost use Rattle.entries.specs.Entry.{isHidden};
 ghost use Rattle.lookup.specs.Lookup.{spanOf, spanIn, countOf, wordOf};
-ghost use Rattle.lookup.specs.Fields.{firstIn, restIn, nthIn, ofTag, valueIn, fieldAs, isNothing, searchEnds, placeSpan, shownFrom, startAt, nthPlace, tagPlace};
 ghost use Rattle.lookup.specs.Consoles.{consoleNamed};
-ghost use Rattle.lookup.specs.Kept.{sectionEnd, fieldsReach, keptFor};
 
 // A console that is asked for by its name: its number, or that there is none.
 pub enum ConsoleFound {
@@ -42,7 +33,7 @@ fn place_at(room: usize, k: usize, at: usize, count: usize) -> Span
 }
 
 // Where a section's array lies in a page of so many bytes.
-fn place_in(room: usize, section: Section, k: usize) -> Span
+pub fn place_in(room: usize, section: Section, k: usize) -> Span
     ensures { λ r. ⌜ r ≡ spanOf k section room ⌝ }
 {
     match section {
@@ -168,199 +159,4 @@ pub fn array(page: &[u8], base: u64, edition: u64, k: usize) -> &[u8]
     ensures { λ r. ⌜ r .ptr ≡ onFrom (page .entry .ptr) (spanIn base (now (page .entry)) (readOf edition base (now (page .entry))) k .at) ⌝ }
 {
     words::part_of(page, place(page, base, edition, k))
-}
-
-// The cursor at the first field of a view: the page's length where the view has no pointer or, of a view that no reading made, where it
-// points at broken fields.
-pub fn fields_start(page: &[u8], view: View) -> usize
-    ensures { λ r. ⌜ r ≡ startAt (view .plat) (now (page .entry)) ⌝ }
-    ensures { λ r. ⌜ shownFrom r (now (page .entry)) ≡ fieldsShown (readingAnswer (now (page .entry)) (Reading.Accepted view)) ⌝ }
-{
-    let plat = view.plat;
-    if plat == 0 {
-        return page.len();
-    }
-    let at = (plat % 4096) as usize;
-    let told = fields::scan_at(page, at);
-    let FieldsEnd::Ended(_) = told else {
-        return page.len();
-    };
-    at
-}
-
-// The field at a cursor, and the cursor behind it: a walk from the first field passes all of them, in page order.
-pub fn field_next(page: &[u8], cursor: usize) -> FieldStep
-    ensures { λ r. ⌜ r ≡ stepAt cursor (now (page .entry)) ⌝ }
-    ensures { λ r. ⌜ fieldAs (r .field) (now (page .entry)) ≡ firstIn (shownFrom cursor (now (page .entry))) ⌝ }
-    ensures { λ r. ⌜ shownFrom (r .next) (now (page .entry)) ≡ restIn (shownFrom cursor (now (page .entry))) ⌝ }
-{
-    fields::step_at(page, cursor)
-}
-
-// How many fields a view shows.
-pub fn field_count(page: &[u8], view: View) -> usize
-    ensures { λ r. ⌜ r ≡ length (fieldsShown (readingAnswer (now (page .entry)) (Reading.Accepted view))) ⌝ }
-{
-    let plat = view.plat;
-    if plat == 0 {
-        return 0;
-    }
-    let at = (plat % 4096) as usize;
-    if page.len() < at {
-        return 0;
-    }
-    fields::count(&page[at..])
-}
-
-// Whether there is no such field.
-pub fn is_nothing(field: FieldPlace) -> bool
-    ensures { λ r. ⌜ r ≡ isNothing field ⌝ }
-{
-    match field {
-        FieldPlace::Raw {
-            tag: _,
-            at: _,
-            len: _,
-        } => false,
-        FieldPlace::Withdrawn => false,
-        FieldPlace::Nothing => true,
-    }
-}
-
-// Field i of a view, in page order.
-pub fn field_of(page: &[u8], view: View, i: usize) -> FieldPlace
-    ensures { λ r. ⌜ r ≡ nthPlace i view (now (page .entry)) ⌝ }
-    ensures { λ r. ⌜ fieldAs r (now (page .entry)) ≡ nthIn i (fieldsShown (readingAnswer (now (page .entry)) (Reading.Accepted view))) ⌝ }
-{
-    let mut cursor = fields_start(page, view);
-    let mut left = i;
-    loop {
-        let step = field_next(page, cursor);
-        let field = step.field;
-        if is_nothing(field) {
-            return field;
-        }
-        if left == 0 {
-            return field;
-        }
-        left -= 1;
-        cursor = step.next;
-    }
-}
-
-// Whether a search for a tag ends at a field: it has the tag, or there is none.
-fn search_ends(field: FieldPlace, tag: u8) -> bool
-    ensures { λ r. ⌜ r ≡ searchEnds tag field ⌝ }
-{
-    match field {
-        FieldPlace::Raw {
-            tag: own,
-            at: _,
-            len: _,
-        } => own == tag,
-        FieldPlace::Withdrawn => tag == 3,
-        FieldPlace::Nothing => true,
-    }
-}
-
-// The first field of a view with a tag: the board name has tag 1, the serial tag 2, the withdrawn field tag 3.
-pub fn field_of_tag(page: &[u8], view: View, tag: u8) -> FieldPlace
-    ensures { λ r. ⌜ r ≡ tagPlace tag view (now (page .entry)) ⌝ }
-    ensures { λ r. ⌜ fieldAs r (now (page .entry)) ≡ ofTag tag (fieldsShown (readingAnswer (now (page .entry)) (Reading.Accepted view))) ⌝ }
-{
-    let mut cursor = fields_start(page, view);
-    loop {
-        let step = field_next(page, cursor);
-        let field = step.field;
-        if search_ends(field, tag) {
-            return field;
-        }
-        cursor = step.next;
-    }
-}
-
-// Where the value of a field lies; nowhere where none is shown.
-fn span_of(field: FieldPlace) -> Span
-    ensures { λ r. ⌜ r ≡ placeSpan field ⌝ }
-{
-    match field {
-        FieldPlace::Raw { tag: _, at, len } => Span { at, len },
-        FieldPlace::Withdrawn => Span { at: 0, len: 0 },
-        FieldPlace::Nothing => Span { at: 0, len: 0 },
-    }
-}
-
-// The value of a field, as the part of the page that holds it; empty where none is shown.
-pub fn value_of(page: &[u8], field: FieldPlace) -> &[u8]
-    ensures { λ r. ⌜ now r ≡ valueIn (fieldAs field (now (page .entry))) ⌝ }
-    ensures { λ r. ⌜ r .ptr ≡ onFrom (page .entry .ptr) (spanStart (placeSpan field) (now (page .entry))) ⌝ }
-{
-    words::part_of(page, span_of(field))
-}
-
-fn larger(a: u64, b: u64) -> u64
-    ensures { λ r. ⌜ r ≡ max a b ⌝ }
-{
-    if a < b {
-        return b;
-    }
-    a
-}
-
-// Where the array of a section k ends in a page of 4,096 bytes; 0 where it lies nowhere.
-fn section_end(section: Section, k: usize) -> u64
-    ensures { λ r. ⌜ (r ≡ sectionEnd k section) × (r ≤ 4096) ⌝ }
-{
-    let place = place_in(4096, section, k);
-    (place.at + place.len) as u64
-}
-
-// Where the fields at a platform pointer end: 0 without a pointer, 4,096 where they are broken or end behind it.
-fn fields_reach(page: &[u8], plat: u64) -> u64
-    ensures { λ r. ⌜ (r ≡ fieldsReach plat (now (page .entry))) × (r ≤ 4096) ⌝ }
-{
-    if plat == 0 {
-        return 0;
-    }
-    let at = (plat % 4096) as usize;
-    let told = fields::scan_at(page, at);
-    let FieldsEnd::Ended(n) = told else {
-        return 4096;
-    };
-    if 4096 - at < n {
-        return 4096;
-    }
-    (at + n) as u64
-}
-
-// The higher end of the core of an edition and of the fields at a platform pointer.
-pub fn core_end(page: &[u8], edition: u64, plat: u64) -> u64
-    ensures { λ r. ⌜ (r ≡ max (core edition) (fieldsReach plat (now (page .entry)))) × (r ≤ 4096) ⌝ }
-{
-    let edition = Edition { minor: edition };
-    larger(edition.core_size(), fields_reach(page, plat))
-}
-
-// The higher of an end and of that of the array of a section k.
-pub fn higher_end(end: u64, section: Section, k: usize) -> u64
-    ensures { λ r. ⌜ r ≡ max end (sectionEnd k section) ⌝ }
-{
-    larger(end, section_end(section, k))
-}
-
-// How many bytes the manifest of a view takes from the page's start: the highest end of core, fields and arrays, rounded up to 8. With so many
-// kept bytes at cold boot, no runtime command changes what a reader of the view's edition sees. At most 4,096 of any view and page.
-pub fn kept_for(page: &[u8], view: View) -> u64
-    ensures { λ r. ⌜ (r ≡ keptFor view (now (page .entry))) × (r ≤ 4096) ⌝ }
-{
-    let dram = view.dram;
-    let console = view.console;
-    let ncoh = view.ncoh;
-    let coh = view.coh;
-    let mut end = core_end(page, view.edition, view.plat);
-    end = higher_end(end, dram, 0);
-    end = higher_end(end, console, 1);
-    end = higher_end(end, ncoh, 2);
-    end = higher_end(end, coh, 3);
-    8 * ((end + 7) / 8)
 }

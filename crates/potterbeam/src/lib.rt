@@ -17,9 +17,9 @@ ghost use Rattle.reader.specs.Reading.{sectionOf, readingAnswer, sectionAt, vie
 ghost use Rattle.reader.specs.declared.Reading.the-variants.{Accepted};
 ghost use Rattle.fields.specs.Steps.{stepAt};
 ghost use Rattle.lookup.specs.Lookup.{spanOf, spanIn};
-ghost use Rattle.lookup.specs.Fields.{firstIn, restIn, nthIn, ofTag, fieldAs, shownFrom, startAt, nthPlace, tagPlace};
+ghost use Rattle.field_lookup.specs.Fields.{firstIn, restIn, nthIn, ofTag, fieldAs, shownFrom, startAt, nthPlace, tagPlace};
 ghost use Rattle.lookup.specs.Consoles.{consoleNamed};
-ghost use Rattle.lookup.specs.Kept.{keptFor};
+ghost use Rattle.kept.specs.Kept.{keptFor};
 ghost use Rattle.text.specs.Text.{lay, listingOf};
 ghost use Rattle.lists.specs.Description.{descriptionOf};
 ghost use Rattle.writer.specs.Write.{descriptionFits};
@@ -164,7 +164,7 @@ pub extern "C" fn pbeam_console_named(page: &[u8], view: &[u64; 15], name: &[u8;
 pub extern "C" fn pbeam_field_count(page: &[u8], view: &[u64; 15]) -> usize
     ensures { λ r. ⌜ r ≡ length (fieldsShown (readingAnswer (now (page .entry)) (Accepted (viewOf (now (view .entry)))))) ⌝ }
 {
-    lookup::field_count(page, images::view_of(view))
+    field_lookup::field_count(page, images::view_of(view))
 }
 
 // A view's field by its number, in page order.
@@ -173,7 +173,7 @@ pub extern "C" fn pbeam_field(page: &[u8], view: &[u64; 15], index: usize, field
     ensures { λ _. ⌜ now (field .exit) ≡ fieldWords (nthPlace index (viewOf (now (view .entry))) (now (page .entry))) ⌝ }
     ensures { λ _. ⌜ fieldAs (nthPlace index (viewOf (now (view .entry))) (now (page .entry))) (now (page .entry)) ≡ nthIn index (fieldsShown (readingAnswer (now (page .entry)) (Accepted (viewOf (now (view .entry)))))) ⌝ }
 {
-    *field = images::field_words(lookup::field_of(page, images::view_of(view), index));
+    *field = images::field_words(field_lookup::field_of(page, images::view_of(view), index));
 }
 
 // A view's first field with a tag.
@@ -182,7 +182,7 @@ pub extern "C" fn pbeam_field_of_tag(page: &[u8], view: &[u64; 15], tag: u8, fie
     ensures { λ _. ⌜ now (field .exit) ≡ fieldWords (tagPlace tag (viewOf (now (view .entry))) (now (page .entry))) ⌝ }
     ensures { λ _. ⌜ fieldAs (tagPlace tag (viewOf (now (view .entry))) (now (page .entry))) (now (page .entry)) ≡ ofTag tag (fieldsShown (readingAnswer (now (page .entry)) (Accepted (viewOf (now (view .entry)))))) ⌝ }
 {
-    *field = images::field_words(lookup::field_of_tag(page, images::view_of(view), tag));
+    *field = images::field_words(field_lookup::field_of_tag(page, images::view_of(view), tag));
 }
 
 // The cursor at a view's first field.
@@ -191,7 +191,7 @@ pub extern "C" fn pbeam_field_start(page: &[u8], view: &[u64; 15]) -> usize
     ensures { λ r. ⌜ r ≡ startAt ((viewOf (now (view .entry))) .plat) (now (page .entry)) ⌝ }
     ensures { λ r. ⌜ shownFrom r (now (page .entry)) ≡ fieldsShown (readingAnswer (now (page .entry)) (Accepted (viewOf (now (view .entry))))) ⌝ }
 {
-    lookup::fields_start(page, images::view_of(view))
+    field_lookup::fields_start(page, images::view_of(view))
 }
 
 // The field at a cursor. Answers the cursor behind it.
@@ -201,7 +201,7 @@ pub extern "C" fn pbeam_field_next(page: &[u8], cursor: usize, field: &mut [u64;
     ensures { λ _. ⌜ now (field .exit) ≡ fieldWords (stepAt cursor (now (page .entry)) .field) ⌝ }
     ensures { λ r. ⌜ (fieldAs (stepAt cursor (now (page .entry)) .field) (now (page .entry)) ≡ firstIn (shownFrom cursor (now (page .entry)))) × (shownFrom r (now (page .entry)) ≡ restIn (shownFrom cursor (now (page .entry)))) ⌝ }
 {
-    let step = lookup::field_next(page, cursor);
+    let step = field_lookup::field_next(page, cursor);
     let found = step.field;
     *field = images::field_words(found);
     step.next

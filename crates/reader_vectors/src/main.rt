@@ -29,7 +29,7 @@ fn print_field(page: &[u8], field: FieldPlace) {
         FieldPlace::Raw { tag, at: _, len } => {
             print_number(b"", tag as u64);
             print_number(b"", len as u64);
-            cases::print_word(cases::mark(lookup::value_of(page, field)));
+            cases::print_word(cases::mark(field_lookup::value_of(page, field)));
             io::write_all(STDOUT_FILENO, b"\n");
         }
         FieldPlace::Withdrawn => {
@@ -43,17 +43,17 @@ fn print_field(page: &[u8], field: FieldPlace) {
 
 fn print_tag(page: &[u8], view: View, tag: u8) {
     print_number(b"tag", tag as u64);
-    print_field(page, lookup::field_of_tag(page, view, tag));
+    print_field(page, field_lookup::field_of_tag(page, view, tag));
 }
 
 fn print_index(page: &[u8], view: View, i: usize) {
     print_number(b"field", i as u64);
-    print_field(page, lookup::field_of(page, view, i));
+    print_field(page, field_lookup::field_of(page, view, i));
 }
 
 // How many fields there are, the first of some tags, and some by number.
 fn print_fields(page: &[u8], view: View) {
-    let n = lookup::field_count(page, view);
+    let n = field_lookup::field_count(page, view);
     print_number(b"fields", n as u64);
     io::write_all(STDOUT_FILENO, b"\n");
     for tag in 0..5u8 {

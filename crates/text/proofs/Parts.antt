@@ -28,11 +28,11 @@ use Rattle.reader.specs.declared.Reading.the-variants.{Accepted, Refused}
 use Rattle.reader.proofs.Whole.{reading-answer}
 use Rattle.fields.specs.Steps.{stepAt}
 use Rattle.lookup.specs.Lookup.{wordOf}
-use Rattle.lookup.specs.Fields.{shownValue, valueIn, fieldAs, isNothing, shownFrom}
+use Rattle.field_lookup.specs.Fields.{shownValue, valueIn, fieldAs, isNothing, shownFrom}
 use Rattle.fields.specs.declared.FieldPlace.{FieldPlace}
 use Rattle.fields.specs.declared.FieldPlace.the-variants.{Raw, Withdrawn, Nothing}
 use Rattle.fields.specs.declared.FieldStep.{FieldStep}
-use Rattle.lookup.proofs.Fields.{placeShown, step-some, step-first}
+use Rattle.field_lookup.proofs.Fields.{placeShown, step-some, step-first}
 use Rattle.text.specs.Text.{newline, space, noneText, absentText, titleText, hexText, nameText, wordText, gapText, countText, stateText, sectionText, pointerText, fieldText, fieldsText, listingOf, printed}
 use Rattle.text.specs.Steps.{seen, placeText, refusalOf}
 

@@ -12,7 +12,7 @@ ghost use Rattle.reader.specs.Reading.{refusalNumber, shownAs, readingAnswer};
 ghost use Rattle.text.specs.Text.{newline, decimal, hexText, byteText, nameText, wordText, gapText, entryText, countText};
 ghost use Rattle.text.specs.Text.{stateText, titleText, sectionText, headText, pointerText, platText, valueText, fieldText, fieldsText, listingOf, printed};
 ghost use Rattle.fields.specs.Fields.{raw};
-ghost use Rattle.lookup.specs.Fields.{shownFrom};
+ghost use Rattle.field_lookup.specs.Fields.{shownFrom};
 ghost use Rattle.words.specs.Word.{joined};
 ghost use Rattle.text.specs.Steps.{placeText, lastOffset, LaidOver, Listed, seen, refusalOf};
 
@@ -299,12 +299,12 @@ fn put_fields(out: &mut [u8], at: usize, page: &[u8], start: usize) -> usize
     let mut to = at;
     let mut cursor = start;
     loop {
-        let step = lookup::field_next(page, cursor);
+        let step = field_lookup::field_next(page, cursor);
         let field = step.field;
-        if lookup::is_nothing(field) {
+        if field_lookup::is_nothing(field) {
             return to;
         }
-        let value = lookup::value_of(page, field);
+        let value = field_lookup::value_of(page, field);
         to = put_field(out, to, field, value);
         cursor = step.next;
     }
@@ -316,7 +316,7 @@ fn put_view(out: &mut [u8], page: &[u8], view: View) -> usize
 {
     let to = put_head(out, 0, view.minor, view.edition);
     let to = put_plat(out, to, view.plat);
-    let start = lookup::fields_start(page, view);
+    let start = field_lookup::fields_start(page, view);
     let to = put_fields(out, to, page, start);
     put_sections(out, to, page, view)
 }

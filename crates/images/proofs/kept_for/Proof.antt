@@ -3,8 +3,8 @@ use mathlib.Core.Path.{_≡_}
 use native.Mathlib.Omega.{arith}
 use Rattle.reader.specs.Reading.{sectionOf}
 use Rattle.reader.specs.declared.Section.{Section}
-use Rattle.lookup.specs.Kept.{sectionEnd, highestOf, keptFor}
-use Rattle.lookup.proofs.Kept.{end-most}
+use Rattle.kept.specs.Kept.{sectionEnd, highestOf, keptFor}
+use Rattle.kept.proofs.Kept.{end-most}
 use Rattle.images.specs.Image.{viewOf}
 use borrow.Author.Needs.{needs}
 use Rattle.images.proofs.kept_for.Statement.{statement}

@@ -1,6 +1,6 @@
 use mathlib.Core.Path.{ap, _∙_}
 use Rattle.fields.specs.declared.FieldStep.{FieldStep}
-use Rattle.lookup.proofs.Fields.{step-shown}
+use Rattle.field_lookup.proofs.Fields.{step-shown}
 use Rattle.images.specs.Image.{fieldWords}
 use borrow.Author.Needs.{needs}
 use Rattle.potterbeam.proofs.pbeam_field_next.Statement.{statement}

@@ -2,9 +2,9 @@ use Prim.Native.Nat.{ℕ, _≤_}
 use mathlib.Core.Path.{_≡_, refl, sym, ap, _∙_}
 use mathlib.Core.List.{List}
 use lib.ListN.{length}
-use Rattle.lookup.specs.Fields.{isNothing, shownFrom}
+use Rattle.field_lookup.specs.Fields.{isNothing, shownFrom}
 use Rattle.fields.specs.declared.FieldStep.{FieldStep}
-use Rattle.lookup.proofs.Fields.{step-none, step-less}
+use Rattle.field_lookup.proofs.Fields.{step-none, step-less}
 use Rattle.text.specs.Text.{fieldsText}
 use Rattle.text.specs.Steps.{lastOffset, LaidOver}
 use Rattle.text.proofs.Lay.{wrote-none, wrote-then, wrote-same}

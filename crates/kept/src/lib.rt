@@ -1,0 +1,76 @@
+// How many bytes the manifest takes from the page's start: kept at cold boot, no runtime command changes them.
+use fields::FieldsEnd;
+use reader::Section;
+use reader::View;
+use versions::Edition;
+ghost use mathlib.Core.Path.{_≡_};
+ghost use Prim.Native.Nat.{_≤_, max};
+ghost use Rattle.versions.specs.Edition.{core};
+ghost use Rattle.kept.specs.Kept.{sectionEnd, fieldsReach, keptFor};
+
+fn larger(a: u64, b: u64) -> u64
+    ensures { λ r. ⌜ r ≡ max a b ⌝ }
+{
+    if a < b {
+        return b;
+    }
+    a
+}
+
+// Where the array of a section k ends in a page of 4,096 bytes; 0 where it lies nowhere.
+fn section_end(section: Section, k: usize) -> u64
+    ensures { λ r. ⌜ (r ≡ sectionEnd k section) × (r ≤ 4096) ⌝ }
+{
+    let place = lookup::place_in(4096, section, k);
+    (place.at + place.len) as u64
+}
+
+// Where the fields at a platform pointer end: 0 without a pointer, 4,096 where they are broken or end behind it.
+fn fields_reach(page: &[u8], plat: u64) -> u64
+    ensures { λ r. ⌜ (r ≡ fieldsReach plat (now (page .entry))) × (r ≤ 4096) ⌝ }
+{
+    if plat == 0 {
+        return 0;
+    }
+    let at = (plat % 4096) as usize;
+    let told = fields::scan_at(page, at);
+    let FieldsEnd::Ended(n) = told else {
+        return 4096;
+    };
+    if 4096 - at < n {
+        return 4096;
+    }
+    (at + n) as u64
+}
+
+// The higher end of the core of an edition and of the fields at a platform pointer.
+pub fn core_end(page: &[u8], edition: u64, plat: u64) -> u64
+    ensures { λ r. ⌜ (r ≡ max (core edition) (fieldsReach plat (now (page .entry)))) × (r ≤ 4096) ⌝ }
+{
+    let edition = Edition { minor: edition };
+    larger(edition.core_size(), fields_reach(page, plat))
+}
+
+// The higher of an end and of that of the array of a section k.
+pub fn higher_end(end: u64, section: Section, k: usize) -> u64
+    ensures { λ r. ⌜ r ≡ max end (sectionEnd k section) ⌝ }
+{
+    larger(end, section_end(section, k))
+}
+
+// How many bytes the manifest of a view takes from the page's start: the highest end of core, fields and arrays, rounded up to 8. With so many
+// kept bytes at cold boot, no runtime command changes what a reader of the view's edition sees. At most 4,096 of any view and page.
+pub fn kept_for(page: &[u8], view: View) -> u64
+    ensures { λ r. ⌜ (r ≡ keptFor view (now (page .entry))) × (r ≤ 4096) ⌝ }
+{
+    let dram = view.dram;
+    let console = view.console;
+    let ncoh = view.ncoh;
+    let coh = view.coh;
+    let mut end = core_end(page, view.edition, view.plat);
+    end = higher_end(end, dram, 0);
+    end = higher_end(end, console, 1);
+    end = higher_end(end, ncoh, 2);
+    end = higher_end(end, coh, 3);
+    8 * ((end + 7) / 8)
+}
