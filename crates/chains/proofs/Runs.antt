@@ -20,7 +20,7 @@ use Rattle.attest.specs.Key.{keyCode, keyed, realmKeyOf}
 use Rattle.token.specs.Token.{TokenStep, tokenCode, sendOf, keeps, settled, tokenOf}
 use Rattle.token.specs.declared.Session.{Session}
 use Rattle.queue.specs.Queue.{Signed, Lists, SigningStep, oldestResponse}
-use Rattle.responses.specs.Pull.{responseBytes}
+use Rattle.response_rules.specs.Pull.{responseBytes}
 use Rattle.signing.specs.Signing.{signingOf}
 use Rattle.signing.specs.declared.Opcode.{Opcode}
 use Rattle.signing.proofs.Signings.{signing-by}

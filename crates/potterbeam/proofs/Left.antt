@@ -16,7 +16,7 @@ use Rattle.granule_rules.specs.declared.Direction.{Direction}
 use Rattle.granule_rules.proofs.Done.{ok-code}
 use Rattle.token.specs.Token.{TokenStep}
 use Rattle.token.specs.declared.Session.{Session}
-use Rattle.responses.specs.OnImage.{SignImage}
+use Rattle.response_rules.specs.OnImage.{SignImage}
 use Rattle.signing.specs.OnImage.{signingOn}
 use Rattle.runtime.specs.Step.{plainWorld, Step, kindOf, afterToken, afterSigning, callBy, callOf, replyCode, needsOf}
 use Rattle.runtime.specs.declared.Needs.{Needs}

@@ -30,8 +30,8 @@ use Rattle.features.specs.Features.{featuresBy, featuresOf, updateBy, updateOf}
 use Rattle.features.specs.declared.Updated.{Updated}
 use Rattle.features.proofs.Feature.{features-refused, update-refused}
 use Rattle.queue.specs.Queue.{Lists, SigningStep}
-use Rattle.responses.specs.Sign.{SignStep, signOf}
-use Rattle.responses.specs.OnImage.{signDone, signOn}
+use Rattle.response_rules.specs.Sign.{SignStep, signOf}
+use Rattle.response_rules.specs.OnImage.{signDone, signOn}
 use Rattle.signing.specs.Signing.{signingOf}
 use Rattle.signing.specs.OnImage.{signingDone, signingOn}
 use Rattle.signing.specs.declared.Opcode.{Opcode}

@@ -14,7 +14,7 @@ use Rattle.granule_rules.specs.Lists.{moveListOf}
 use Rattle.granule_rules.specs.declared.Direction.{Direction}
 use Rattle.token.specs.Token.{TokenStep, tokenOf}
 use Rattle.token.specs.declared.Session.{Session}
-use Rattle.responses.specs.OnImage.{SignImage, signOn}
+use Rattle.response_rules.specs.OnImage.{SignImage, signOn}
 use Rattle.signing.specs.OnImage.{signingDone, signingOn}
 use Rattle.runtime.specs.Step.{World, worldOf, plainWorld, Call, callWith, plainCall, Step, kindOf, callOf, replyCode, needsOf, plainOf}
 use Rattle.runtime.specs.declared.Needs.{Needs}

@@ -27,8 +27,8 @@ use Rattle.token.specs.Calls.{TokenCall, tokenStepOf, tokenAccepted}
 use Rattle.token.specs.declared.Session.{Session}
 use Rattle.token.proofs.Acts.{token-only}
 use Rattle.queue.specs.Queue.{Lists, SigningStep, oldestResponse}
-use Rattle.responses.specs.Pull.{responseBytes}
-use Rattle.responses.proofs.Acts.{signed-length, pull-told}
+use Rattle.response_rules.specs.Pull.{responseBytes}
+use Rattle.response_rules.proofs.Acts.{signed-length, pull-told}
 use Rattle.signing.specs.Signing.{signingOf}
 use Rattle.signing.specs.declared.Opcode.{Opcode}
 use Rattle.signing.proofs.Signings.{signing-by}

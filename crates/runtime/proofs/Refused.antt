@@ -15,8 +15,8 @@ use Rattle.token.proofs.Tokens.{token-refused}
 use Rattle.features.specs.declared.Updated.{Updated}
 use Rattle.features.proofs.Feature.{features-refused, update-refused}
 use Rattle.queue.specs.Queue.{SigningStep}
-use Rattle.responses.specs.Sign.{SignStep}
-use Rattle.responses.proofs.Signs.{sign-refused}
+use Rattle.response_rules.specs.Sign.{SignStep}
+use Rattle.response_rules.proofs.Signs.{sign-refused}
 use Rattle.signing.proofs.Signings.{signing-refused}
 use Rattle.runtime.specs.declared.Kind.{Kind}
 use Rattle.runtime.specs.declared.Kind.the-variants.{ForwardError, Delegate, Undelegate, RealmKey, PlatformToken, Features, TokenSigning, KeyUpdate, Unlisted}

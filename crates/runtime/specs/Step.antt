@@ -22,7 +22,7 @@ use Rattle.features.specs.Features.{featuresOf, updateOf, forwardOf}
 use Rattle.features.specs.declared.Updated.{Updated}
 use Rattle.queue.specs.declared.Queue.{Queue}
 use Rattle.queue.specs.Queue.{Lists, SigningStep, queueNext}
-use Rattle.responses.specs.Sign.{SignStep, signOf}
+use Rattle.response_rules.specs.Sign.{SignStep, signOf}
 use Rattle.signing.specs.Signing.{signingOf}
 use Rattle.runtime.specs.declared.Kind.{Kind}
 use Rattle.runtime.specs.declared.Kind.the-variants.{ForwardError, Delegate, Undelegate, RealmKey, PlatformToken, Features, TokenSigning, KeyUpdate, Unlisted}

@@ -7,8 +7,8 @@ use Rattle.queue.specs.Queue.{oldestRequest}
 use Rattle.queue_image.specs.Image.{listsIn, responseWords}
 use Rattle.queue_image.specs.Sides.{requestSide, responseSide, rowJoined, rowDropped}
 use Rattle.queue_image.specs.Steps.{ImageStep, imageStep}
-use Rattle.responses.specs.Pull.{pullOf}
-use Rattle.responses.specs.Sign.{signedBy, signOf}
+use Rattle.response_rules.specs.Pull.{pullOf}
+use Rattle.response_rules.specs.Sign.{signedBy, signOf}
 
 -- a pull into the buffer b, from the image w: of the requests no word changes
 unfoldable pub pullOn : List ℕ → List ℕ → ImageStep

@@ -16,8 +16,8 @@ use Rattle.queue_image.specs.Sides.{requestSide, rowAppended}
 use Rattle.queue_image.specs.Steps.{ImageStep}
 use Rattle.queue_image.proofs.InPlace.{row-room-joined, requests-wait}
 use Rattle.queue_image.proofs.Steps.{image-refuses, image-accepts}
-use Rattle.requests.specs.Push.{requestOf, pushCode, pushOf}
-use Rattle.requests.specs.OnImage.{pushDone, pushOn}
+use Rattle.request_rules.specs.Push.{requestOf, pushCode, pushOf}
+use Rattle.request_rules.specs.OnImage.{pushDone, pushOn}
 
 -- what an OK tells of the buffer and of the requests that wait
 pub push-passed : (b : List ℕ) (q : Lists) → pushCode b q ≡ Ok → (80 ≤ length b) × (length (q .requests) < 8)

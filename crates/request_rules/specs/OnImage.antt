@@ -4,7 +4,7 @@ use mathlib.Core.List.{List}
 use Rattle.queue_image.specs.Image.{listsIn, requestWords}
 use Rattle.queue_image.specs.Sides.{requestSide, rowJoined}
 use Rattle.queue_image.specs.Steps.{ImageStep, imageStep}
-use Rattle.requests.specs.Push.{requestOf, pushOf}
+use Rattle.request_rules.specs.Push.{requestOf, pushOf}
 
 -- the request's row joins those that wait; of the responses no word changes
 unfoldable pub pushDone : List ℕ → List ℕ → List ℕ

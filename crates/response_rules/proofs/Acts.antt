@@ -15,10 +15,10 @@ use Rattle.codes.proofs.Gates.{fails-ok}
 use Rattle.queue.specs.declared.Request.{Request}
 use Rattle.queue.specs.Queue.{Signed, Lists, queued, oldestRequest, oldestResponse}
 use Rattle.queue.proofs.Acts.{queued-ok}
-use Rattle.responses.specs.Pull.{responseBytes, pullCode, pulled, pullOf}
-use Rattle.responses.specs.Sign.{signCode, signedBy, signed, signOf}
-use Rattle.responses.proofs.Pulls.{pull-ok}
-use Rattle.responses.proofs.Signs.{sign-ok}
+use Rattle.response_rules.specs.Pull.{responseBytes, pullCode, pulled, pullOf}
+use Rattle.response_rules.specs.Sign.{signCode, signedBy, signed, signOf}
+use Rattle.response_rules.proofs.Pulls.{pull-ok}
+use Rattle.response_rules.proofs.Signs.{sign-ok}
 
 pub signed-length : (s : Signed) → length (responseBytes s) ≡ 18 + length (s .signature)
 unfolding responseBytes

@@ -12,7 +12,7 @@ use Rattle.queue.specs.declared.Response.{Response}
 use Rattle.queue.specs.Queue.{signedIn}
 use Rattle.queue.proofs.Sides.{taken-all}
 use Rattle.queue_image.proofs.Blocks.{length-splice}
-use Rattle.responses.specs.Pull.{responseBytes}
+use Rattle.response_rules.specs.Pull.{responseBytes}
 
 length-laid : (off : ℕ) (vs s : List ℕ) → length (laid off vs s) ≡ length s
 length-laid off vs s = go (decLe (off + length vs) (length s))

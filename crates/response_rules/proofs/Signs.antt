@@ -11,7 +11,7 @@ use Rattle.codes.specs.declared.Code.the-variants.{Ok, Inval, Again}
 use Rattle.queue.specs.declared.Queue.{Queue}
 use Rattle.queue.specs.declared.Queued.{Queued}
 use Rattle.queue.specs.Queue.{Lists, queueHolding, queueNext}
-use Rattle.responses.specs.Sign.{signCode, signed, signOf, signExit}
+use Rattle.response_rules.specs.Sign.{signCode, signed, signOf, signExit}
 
 module _ (q : Lists) (s : List ℕ) (old : Queue) where
   pub sign-refuses : (c : Code) (r : Queued) → r ≡ record { answer = answerOf c 0 0; queue = old } → signCode q s ≡ c → isOk c ≡ false → r ≡ signExit old (signOf q s)

@@ -18,9 +18,9 @@ use Rattle.queue_image.specs.Sides.{requestSide, responseSide, rowAppended, row
 use Rattle.queue_image.specs.Steps.{ImageStep}
 use Rattle.queue_image.proofs.InPlace.{row-room-joined, responses-wait, front-request-is, front-response-is}
 use Rattle.queue_image.proofs.Steps.{image-refuses, image-accepts}
-use Rattle.responses.specs.Pull.{responseBytes, pullCode, pullOf}
-use Rattle.responses.specs.Sign.{signCode, signedBy, signOf}
-use Rattle.responses.specs.OnImage.{pullOn, signDone, SignImage, signOn}
+use Rattle.response_rules.specs.Pull.{responseBytes, pullCode, pullOf}
+use Rattle.response_rules.specs.Sign.{signCode, signedBy, signOf}
+use Rattle.response_rules.specs.OnImage.{pullOn, signDone, SignImage, signOn}
 
 -- ---- pull
 -- what an OK tells

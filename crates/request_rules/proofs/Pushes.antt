@@ -8,7 +8,7 @@ use Rattle.codes.specs.Codes.{unless, fails}
 use Rattle.codes.specs.declared.Code.the-variants.{Ok, Inval, Again}
 use Rattle.queue.specs.declared.Request.{Request}
 use Rattle.queue.specs.Queue.{Lists}
-use Rattle.requests.specs.Push.{requestOf, pushCode}
+use Rattle.request_rules.specs.Push.{requestOf, pushCode}
 
 module _ (b : List ℕ) (q : Lists) where
   pub push-small : length b < 80 → pushCode b q ≡ Inval

@@ -11,8 +11,8 @@ use Rattle.codes.specs.declared.Code.the-variants.{Ok}
 use Rattle.codes.proofs.Gates.{fails-ok, unless-ok}
 use Rattle.queue.specs.Queue.{Lists, queued}
 use Rattle.queue.proofs.Acts.{queued-ok}
-use Rattle.requests.specs.Push.{requestOf, pushCode, pushed, pushOf}
-use Rattle.requests.proofs.Pushes.{push-ok}
+use Rattle.request_rules.specs.Push.{requestOf, pushCode, pushed, pushOf}
+use Rattle.request_rules.proofs.Pushes.{push-ok}
 
 -- A buffer of 80 bytes or more with algorithm id 0 and hash id 1, and fewer than eight requests waiting: OK, "the request joins the end", the
 -- buffer and the responses are as they were.

@@ -11,7 +11,7 @@ use Rattle.codes.specs.declared.Code.the-variants.{Ok, Inval, Again}
 use Rattle.queue.specs.declared.Response.{Response}
 use Rattle.queue.specs.declared.Responses.{Responses}
 use Rattle.queue.specs.Queue.{Signed, Lists, SigningStep, held, ready, signedIn, noResponse, oldestResponse, queued}
-use Rattle.responses.specs.Pull.{pullCode, pullOf}
+use Rattle.response_rules.specs.Pull.{pullCode, pullOf}
 
 -- ---- the side of responses, and what it stands for
 pub ready-length : (s : Responses) → length (ready s) ≡ length (held s)
