@@ -23,9 +23,9 @@ use Rattle.granule_rules.proofs.Done.{list-is}
 use Rattle.boot.specs.declared.Record.{Record}
 use Rattle.attest.specs.Key.{Keyed, keyed, realmKeyOf}
 use Rattle.attest.proofs.Keys.{key-refused}
-use Rattle.token.specs.Token.{TokenStep, settled, sendOf, keeps, tokenOf}
-use Rattle.token.specs.declared.Session.{Session}
-use Rattle.token.proofs.Tokens.{token-refused}
+use Rattle.token_rules.specs.Token.{TokenStep, settled, sendOf, keeps, tokenOf}
+use Rattle.token_rules.specs.declared.Session.{Session}
+use Rattle.token_rules.proofs.Tokens.{token-refused}
 use Rattle.features.specs.Features.{featuresBy, featuresOf, updateBy, updateOf}
 use Rattle.features.specs.declared.Updated.{Updated}
 use Rattle.features.proofs.Feature.{features-refused, update-refused}

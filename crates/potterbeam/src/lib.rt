@@ -35,7 +35,7 @@ ghost use Rattle.granule_rules.specs.declared.Direction.{Direction};
 ghost use Rattle.attest.specs.Key.{realmKeyOf};
 ghost use mathlib.Core.Bool.{true, false};
 ghost use Rattle.codes.specs.Codes.{x0Of};
-ghost use Rattle.token.specs.Token.{bufferCode, challengeSpan};
+ghost use Rattle.token_rules.specs.Token.{bufferCode, challengeSpan};
 ghost use Rattle.features.specs.Features.{featuresOf, updateOf, forwardOf};
 ghost use Rattle.images.specs.Image.{recordOf, recordWords, registerWords, workWords, sectionWords, viewOf, viewWords, answerWords, madeNumber, spanWords, fieldWords, consoleNumber};
 ghost use Rattle.images.specs.Realm.{numberX0, numberWords, hitX0, hitWords, agreementX0};
@@ -373,7 +373,7 @@ pub extern "C" fn pbeam_delegate(
     if granules::moved_at_once(
         images::record_of(state),
         granules,
-        granule_rules::Direction::Delegate,
+        granules::Direction::Delegate,
         table,
         words,
         address,
@@ -406,7 +406,7 @@ pub extern "C" fn pbeam_undelegate(
     if granules::moved_at_once(
         images::record_of(state),
         granules,
-        granule_rules::Direction::Undelegate,
+        granules::Direction::Undelegate,
         table,
         words,
         address,

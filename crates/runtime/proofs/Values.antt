@@ -8,7 +8,7 @@ use Rattle.codes.specs.Codes.{isOk}
 use Rattle.codes.specs.declared.Code.{Code}
 use Rattle.codes.proofs.Gates.{if-ok-by}
 use Rattle.banks.specs.Banks.{Granules}
-use Rattle.token.specs.declared.Session.{Session}
+use Rattle.token_rules.specs.declared.Session.{Session}
 use Rattle.queue.specs.declared.Queue.{Queue}
 use Rattle.queue.specs.Queue.{Lists, SigningStep, listsOf, queueNext}
 use Rattle.queue.proofs.Steps.{next-lists}

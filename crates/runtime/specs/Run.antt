@@ -10,7 +10,7 @@ use Rattle.boot.specs.declared.Record.{Record}
 use Rattle.granule_rules.specs.Lists.{doneOf}
 use Rattle.banks.specs.Banks.{Granules}
 use Rattle.granule_rules.specs.declared.Direction.{Direction}
-use Rattle.token.specs.Calls.{TokenCall}
+use Rattle.token_rules.specs.Calls.{TokenCall}
 use Rattle.queue.specs.declared.Request.{Request}
 use Rattle.queue.specs.Queue.{Signed, Lists}
 use Rattle.request_rules.specs.Push.{requestOf}

@@ -20,11 +20,11 @@ use Rattle.codes.specs.Codes.{upOf, isOk, answerOf}
 use Rattle.codes.specs.declared.Code.{Code}
 use Rattle.codes.specs.declared.Code.the-variants.{Ok}
 use Rattle.codes.proofs.Gates.{first-ok, then-ok, if-ok-by}
-use Rattle.token.specs.declared.Session.{Session}
-use Rattle.token.specs.declared.Session.the-variants.{Idle, Sending}
-use Rattle.token.specs.Token.{startCode, tokenCode, beginOf, hunkOf, restOf, nextSession, TokenStep, sendOf, keeps, settled, tokenOf}
-use Rattle.token.specs.Calls.{TokenCall, tokenStepOf, tokenAccepted, shownOf, Ready, runOf, oksOf, hunksOf, leftOf, GoesOn, ceil, Calls}
-use Rattle.token.proofs.Tokens.{Room, buffer-room, start-empty, start-again, begin-again, next-idle, next-ok, begin-next, sends, token-start, token-refused}
+use Rattle.token_rules.specs.declared.Session.{Session}
+use Rattle.token_rules.specs.declared.Session.the-variants.{Idle, Sending}
+use Rattle.token_rules.specs.Token.{startCode, tokenCode, beginOf, hunkOf, restOf, nextSession, TokenStep, sendOf, keeps, settled, tokenOf}
+use Rattle.token_rules.specs.Calls.{TokenCall, tokenStepOf, tokenAccepted, shownOf, Ready, runOf, oksOf, hunksOf, leftOf, GoesOn, ceil, Calls}
+use Rattle.token_rules.proofs.Tokens.{Room, buffer-room, start-empty, start-again, begin-again, next-idle, next-ok, begin-next, sends, token-start, token-refused}
 
 -- ---- the session once k bytes of the token were asked for
 unfoldable sessionAt : List ℕ → ℕ → Session

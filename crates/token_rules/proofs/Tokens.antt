@@ -20,9 +20,9 @@ use Rattle.codes.proofs.Gates.{fails-ok, first-ok, then-ok, then-stop, then-go,
 use Rattle.codes.specs.declared.Answer.{Answer}
 use Rattle.codes.specs.declared.Code.{Code}
 use Rattle.codes.specs.declared.Code.the-variants.{Ok, Unk, Inval}
-use Rattle.token.specs.declared.Session.{Session}
-use Rattle.token.specs.declared.Session.the-variants.{Idle, Sending}
-use Rattle.token.specs.Token.{
+use Rattle.token_rules.specs.declared.Session.{Session}
+use Rattle.token_rules.specs.declared.Session.the-variants.{Idle, Sending}
+use Rattle.token_rules.specs.Token.{
   isIdle,
   wholeOf,
   sentOf,

@@ -14,9 +14,9 @@ use Rattle.codes.specs.Codes.{unless, fails, upOf, ifOk, andThen, answerOf}
 use Rattle.codes.specs.declared.Code.{Code}
 use Rattle.codes.specs.declared.Code.the-variants.{Ok, Unk, Inval, Again}
 use Rattle.codes.specs.declared.Answer.{Answer}
-use Rattle.token.specs.declared.Tokened.{Tokened}
-use Rattle.token.specs.declared.Session.{Session}
-use Rattle.token.specs.declared.Session.the-variants.{Idle, Sending}
+use Rattle.token_rules.specs.declared.Tokened.{Tokened}
+use Rattle.token_rules.specs.declared.Session.{Session}
+use Rattle.token_rules.specs.declared.Session.the-variants.{Idle, Sending}
 
 -- ---- a session: none, or the token's length at its start and how much of it is sent
 unfoldable pub isIdle : Session → Bool

@@ -13,10 +13,10 @@ use Rattle.range.specs.Buffers.{BufferIn}
 use Rattle.codes.specs.Codes.{isUp, upOf}
 use Rattle.codes.specs.declared.Code.{Code}
 use Rattle.codes.specs.declared.Code.the-variants.{Ok}
-use Rattle.token.specs.declared.Session.{Session}
-use Rattle.token.specs.declared.Session.the-variants.{Idle}
-use Rattle.token.specs.Token.{wholeOf}
-use Rattle.token.specs.Calls.{TokenCall}
+use Rattle.token_rules.specs.declared.Session.{Session}
+use Rattle.token_rules.specs.declared.Session.the-variants.{Idle}
+use Rattle.token_rules.specs.Token.{wholeOf}
+use Rattle.token_rules.specs.Calls.{TokenCall}
 
 -- "c_size not 0, 32, 48 or 64 INVAL": one of a challenge
 abbrev pub ChallengeSize : ℕ → Type 0

@@ -25,13 +25,13 @@ use Rattle.codes.specs.Codes.{upOf, unless, fails, ifOk}
 use Rattle.codes.specs.declared.Code.{Code}
 use Rattle.codes.specs.declared.Code.the-variants.{Ok, Again}
 use Rattle.codes.proofs.Gates.{fails-ok, unless-ok, either-ok, first-ok, then-ok, then-go, if-ok-by}
-use Rattle.token.specs.Token.{isIdle, wholeOf, listed, csizeCode, bufferCode, startCode, tokenCode, challengeOf, challengeSpan}
-use Rattle.token.specs.Calls.{TokenCall, tokenAccepted, Ready}
-use Rattle.token.specs.Acts.{ChallengeSize, BufferPassed, TokenPassed, ChallengeActed}
-use Rattle.token.specs.declared.Session.{Session}
-use Rattle.token.specs.declared.Session.the-variants.{Idle}
-use Rattle.token.proofs.Tokens.{csize-ok}
-use Rattle.token.proofs.Calls.{code-ok}
+use Rattle.token_rules.specs.Token.{isIdle, wholeOf, listed, csizeCode, bufferCode, startCode, tokenCode, challengeOf, challengeSpan}
+use Rattle.token_rules.specs.Calls.{TokenCall, tokenAccepted, Ready}
+use Rattle.token_rules.specs.Acts.{ChallengeSize, BufferPassed, TokenPassed, ChallengeActed}
+use Rattle.token_rules.specs.declared.Session.{Session}
+use Rattle.token_rules.specs.declared.Session.the-variants.{Idle}
+use Rattle.token_rules.proofs.Tokens.{csize-ok}
+use Rattle.token_rules.proofs.Calls.{code-ok}
 
 listed-size : (c : ℕ) → (c ≡ 0) ⊎ ChallengeSize c → listed c ≡ true
 unfolding listed either

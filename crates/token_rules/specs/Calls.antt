@@ -10,9 +10,9 @@ use Rattle.boot.specs.declared.Record.{Record}
 use Rattle.range.specs.Range.{placeOf}
 use Rattle.codes.specs.Codes.{upOf, isOk}
 use Rattle.codes.specs.declared.Code.the-variants.{Ok}
-use Rattle.token.specs.declared.Session.{Session}
-use Rattle.token.specs.declared.Session.the-variants.{Idle}
-use Rattle.token.specs.Token.{bufferCode, TokenStep, tokenOf}
+use Rattle.token_rules.specs.declared.Session.{Session}
+use Rattle.token_rules.specs.declared.Session.the-variants.{Idle}
+use Rattle.token_rules.specs.Token.{bufferCode, TokenStep, tokenOf}
 
 -- ---- one call
 -- all that a call is given but the session: the page is as it stands then, so other commands may have changed it since the call before
