@@ -6,7 +6,7 @@ use lib.ListN.{getD}
 use Rattle.codes.specs.Codes.{x0Of, ifOk}
 use Rattle.codes.specs.declared.Code.{Code}
 use Rattle.lists.specs.Description.{descriptionOf}
-use Rattle.writer.specs.Write.{Made, writeOf}
+use Rattle.writer_rules.specs.Write.{Made, writeOf}
 use Rattle.banks.specs.Banks.{SetUp, setUpOf, granuleCount}
 use Rattle.realm_words.specs.Answers.{Built, realmBuildOf}
 use Rattle.granule_rules.specs.Granules.{tableOf, Moved, moveOf}

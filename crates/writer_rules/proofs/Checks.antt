@@ -14,10 +14,10 @@ use Rattle.versions.specs.Edition.{editionOk}
 use Rattle.sections.specs.Page.{placeOk}
 use Rattle.fields.specs.Fields.{scanOf, tellable}
 use Rattle.lists.specs.Description.{Description, four, descriptionOf, listsOk, descriptionOk, noneLate, used}
-use Rattle.writer.specs.Write.{pageOf, Made, no-page, a-page, writerGate, writeOf, descriptionFits}
-use Rattle.writer.specs.Wrote.{madeBy, pageAfter}
-use Rattle.writer.specs.declared.Wrote.{Wrote}
-use Rattle.writer.specs.declared.Wrote.the-variants.{Page}
+use Rattle.writer_rules.specs.Write.{pageOf, Made, no-page, a-page, writerGate, writeOf, descriptionFits}
+use Rattle.writer_rules.specs.Wrote.{madeBy, pageAfter}
+use Rattle.writer_rules.specs.declared.Wrote.{Wrote}
+use Rattle.writer_rules.specs.declared.Wrote.the-variants.{Page}
 
 module _ (base n v : ℕ) (d : Description) where
   pub w-place : placeOk base n ≡ false → writeOf base n v d ≡ no-page 1

@@ -9,11 +9,11 @@ use Rattle.reader.specs.Answer.{shows, readOf}
 use Rattle.reader.proofs.Newer.{newer-accepts, older-refuses}
 use Rattle.reader.proofs.Named.{unnamed}
 use Rattle.lists.specs.Description.{descriptionOf}
-use Rattle.writer.specs.Write.{descriptionFits, described, platDescribed}
-use Rattle.writer.specs.Wrote.{writeLists, madeBy}
-use Rattle.writer.specs.declared.Wrote.the-variants.{Page}
-use Rattle.writer.specs.Demand.{Demand3}
-use Rattle.writer.proofs.Round.{round}
+use Rattle.writer_rules.specs.Write.{descriptionFits, described, platDescribed}
+use Rattle.writer_rules.specs.Wrote.{writeLists, madeBy}
+use Rattle.writer_rules.specs.declared.Wrote.the-variants.{Page}
+use Rattle.writer_rules.specs.Demand.{Demand3}
+use Rattle.writer_rules.proofs.Round.{round}
 
 pub demand3 : Demand3
 demand3 = record {

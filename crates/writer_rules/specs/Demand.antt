@@ -10,7 +10,7 @@ use Rattle.words.specs.Tests.{Yes}
 use Rattle.versions.specs.Edition.{editionOk}
 use Rattle.reader.specs.Answer.{Shown, PlatShown, refused, shows, readOf, less, named}
 use Rattle.lists.specs.Description.{Description}
-use Rattle.writer.specs.Write.{a-page, writeOf, descriptionFits, described, platDescribed}
+use Rattle.writer_rules.specs.Write.{a-page, writeOf, descriptionFits, described, platDescribed}
 
 pub record Demand3 : Type 0 where
   -- "For every page, every base address and any two reader editions from 1 to 4: if the newer reader accepts, the older accepts

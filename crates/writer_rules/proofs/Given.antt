@@ -23,7 +23,7 @@ use Rattle.sections.specs.Section.{platOk, wordsIn, nothing, inRange, secOk, ex
 use Rattle.sections.proofs.Sections.{array-in}
 use Rattle.reader.specs.Answer.{shownSec}
 use Rattle.lists.specs.Description.{listOk, withMark}
-use Rattle.writer.specs.Write.{neg, descriptor, pointTo, shownList}
+use Rattle.writer_rules.specs.Write.{neg, descriptor, pointTo, shownList}
 
 -- ---- one section
 -- what a page says of the section that a list makes

@@ -14,9 +14,9 @@ use Rattle.versions.proofs.Editions.{edition-of}
 use Rattle.entries.specs.Entry.{wordsPerEntry, entryOk, entriesOk}
 use Rattle.sections.specs.Page.{placeOk}
 use Rattle.lists.specs.Description.{Description, listOk, listsOk, noneLate, platBytes, used}
-use Rattle.writer.specs.Unrefused.{Unrefused}
-use Rattle.writer.specs.Write.{pageOf, a-page, writeOf}
-use Rattle.writer.proofs.Checks.{w-made}
+use Rattle.writer_rules.specs.Unrefused.{Unrefused}
+use Rattle.writer_rules.specs.Write.{pageOf, a-page, writeOf}
+use Rattle.writer_rules.proofs.Checks.{w-made}
 
 module _ (base n v : ℕ) (d : Description) (t : Unrefused base n v d) where
   place-is : Yes (placeOk base n)

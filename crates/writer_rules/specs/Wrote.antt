@@ -3,9 +3,9 @@ use Prim.Native.Nat.{ℕ}
 use mathlib.Core.List.{List}
 use lib.ListN.{length}
 use Rattle.lists.specs.Description.{descriptionOf}
-use Rattle.writer.specs.Write.{Made, no-page, a-page, writeOf}
-use Rattle.writer.specs.declared.Wrote.{Wrote}
-use Rattle.writer.specs.declared.Wrote.the-variants.{Page, Place, Edition, Lists, Late, Room}
+use Rattle.writer_rules.specs.Write.{Made, no-page, a-page, writeOf}
+use Rattle.writer_rules.specs.declared.Wrote.{Wrote}
+use Rattle.writer_rules.specs.declared.Wrote.the-variants.{Page, Place, Edition, Lists, Late, Room}
 
 -- "The writer takes B, an edition, four lists of 64-bit words .. and a page."; 02, E7: "The writer takes a list of fields"
 abbrev pub writeLists : ℕ → ℕ → List ℕ → List ℕ → List ℕ → List ℕ → List ℕ → List ℕ → Made

@@ -11,7 +11,7 @@ use Rattle.sections.specs.Page.{placeOk}
 use Rattle.reader.proofs.Sample.{bank, page}
 use Rattle.fields.specs.Fields.{mkField, push, step, scan, scanAll, scanOf, judged, fieldsOk, lengthsOk, lengthOk, count, isBare, fieldsTold, tellable, endMark}
 use Rattle.lists.specs.Description.{four, descriptionOf, listOk, listsOk, descriptionOk, noneLate, withMark, platBytes, used}
-use Rattle.writer.specs.Write.{neg, descriptor, arrayAddress, descriptorAt, pointTo, platWord, coreWords, filled, pageOf, Made, no-page, a-page, writerGate, writeOf}
+use Rattle.writer_rules.specs.Write.{neg, descriptor, arrayAddress, descriptorAt, pointTo, platWord, coreWords, filled, pageOf, Made, no-page, a-page, writerGate, writeOf}
 
 pub sample : writeOf 0x80000000 4096 2 (descriptionOf (0x90000000 ∷ 0x10000000 ∷ []) [] [] [] []) ≡ a-page page
 unfolding bank page writeOf writerGate pageOf filled coreWords descriptorAt arrayAddress descriptor neg platWord pointTo used platBytes withMark noneLate descriptionOk tellable isBare fieldsTold scanOf judged scanAll scan fieldsOk lengthsOk count listsOk listOk descriptionOf four placeOk sum entriesOk entryOk entryRule bankOk wordsPerEntry editionOk core sectionCount joined bytesOf leBytes every either both

@@ -25,8 +25,8 @@ use Rattle.reader.specs.Answer.{shows, shown, platShown, allShown, judge, readO
 use Rattle.reader.proofs.Newer.{rules-mono, gate-true, shows-same}
 use Rattle.reader.proofs.Named.{rules-same}
 use Rattle.lists.specs.Description.{Description, listOk, listsOk, descriptionOk, withMark, platBytes, used}
-use Rattle.writer.specs.Write.{platWord, arrayAddress, descriptorAt, coreWords, filled, pageOf, no-page, a-page, writerGate, writeOf, descriptionFits, described, platDescribed}
-use Rattle.writer.proofs.Given.{given, desc-length, desc-words, sec-made, sec-ok, apart-of, shown-list, foundGiven, point-word, found-made, plat-made, clear-made, fields-made}
+use Rattle.writer_rules.specs.Write.{platWord, arrayAddress, descriptorAt, coreWords, filled, pageOf, no-page, a-page, writerGate, writeOf, descriptionFits, described, platDescribed}
+use Rattle.writer_rules.proofs.Given.{given, desc-length, desc-words, sec-made, sec-ok, apart-of, shown-list, foundGiven, point-word, found-made, plat-made, clear-made, fields-made}
 
 -- ---- the page as a whole
 -- what the writer has checked
