@@ -14,13 +14,13 @@ use Rattle.codes.specs.declared.Code.{Code}
 use Rattle.codes.specs.declared.Code.the-variants.{Ok}
 use Rattle.banks.specs.Banks.{Granules}
 use Rattle.range.specs.Range.{placeOf}
-use Rattle.token.specs.Token.{TokenStep, tokenOf}
-use Rattle.token.specs.declared.Session.{Session}
-use Rattle.token.proofs.Tokens.{token-refused}
+use Rattle.token_rules.specs.Token.{TokenStep, tokenOf}
+use Rattle.token_rules.specs.declared.Session.{Session}
+use Rattle.token_rules.proofs.Tokens.{token-refused}
 use Rattle.queue.specs.Queue.{Lists, SigningStep}
-use Rattle.requests.specs.OnImage.{pushDone}
-use Rattle.responses.specs.Sign.{signCode, signOf}
-use Rattle.responses.specs.OnImage.{signDone, signOn}
+use Rattle.request_rules.specs.OnImage.{pushDone}
+use Rattle.response_rules.specs.Sign.{signCode, signOf}
+use Rattle.response_rules.specs.OnImage.{signDone, signOn}
 use Rattle.signing.specs.Signing.{signingOf}
 use Rattle.signing.specs.OnImage.{imageDone, signingDone, signingOn}
 use Rattle.signing.specs.declared.Opcode.{Opcode}

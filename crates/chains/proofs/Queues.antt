@@ -15,9 +15,9 @@ use Rattle.codes.specs.declared.Code.the-variants.{Ok}
 use Rattle.codes.proofs.Gates.{fails-ok, unless-ok}
 use Rattle.queue.specs.declared.Request.{Request}
 use Rattle.queue.specs.Queue.{Signed, Lists, noRequest, oldestRequest}
-use Rattle.requests.specs.Push.{requestOf, pushCode, pushed}
-use Rattle.responses.specs.Pull.{pulled}
-use Rattle.responses.specs.Sign.{signCode, signedBy, signed}
+use Rattle.request_rules.specs.Push.{requestOf, pushCode, pushed}
+use Rattle.response_rules.specs.Pull.{pulled}
+use Rattle.response_rules.specs.Sign.{signCode, signedBy, signed}
 use Rattle.queue_image.specs.Image.{listsIn, requestWords, responseWords, each, areBytes, requestFits, responseFits, eightFit, queueFits}
 use Rattle.queue_image.specs.Sides.{requestSide, responseSide, rowJoined, rowDropped}
 use Rattle.queue_image.proofs.Fits.{image-fits, part-bytes, num-below}

@@ -17,7 +17,7 @@ use Rattle.versions.specs.Edition.{sectionCount, core}
 use Rattle.reader.specs.Answer.{Shown, PlatShown, ReaderAnswer, refused, shows, readOf}
 use Rattle.reader.specs.Reading.{sectionAt, viewAt}
 use Rattle.reader.proofs.Views.{shows-page}
-use Rattle.writer.proofs.Demand.{demand3}
+use Rattle.writer_rules.proofs.Demand.{demand3}
 use Rattle.kept.specs.Kept.{keptFor}
 use Rattle.kept.proofs.Kept.{kept-covers}
 use Rattle.kept.proofs.Least.{accepted-place, accepted-fields, core-covered, kept-least}

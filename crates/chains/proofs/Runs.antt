@@ -17,10 +17,10 @@ use Rattle.codes.specs.declared.Code.the-variants.{Ok}
 use Rattle.codes.proofs.Gates.{if-ok-by}
 use Rattle.banks.specs.Banks.{Granules}
 use Rattle.attest.specs.Key.{keyCode, keyed, realmKeyOf}
-use Rattle.token.specs.Token.{TokenStep, tokenCode, sendOf, keeps, settled, tokenOf}
-use Rattle.token.specs.declared.Session.{Session}
+use Rattle.token_rules.specs.Token.{TokenStep, tokenCode, sendOf, keeps, settled, tokenOf}
+use Rattle.token_rules.specs.declared.Session.{Session}
 use Rattle.queue.specs.Queue.{Signed, Lists, SigningStep, oldestResponse}
-use Rattle.responses.specs.Pull.{responseBytes}
+use Rattle.response_rules.specs.Pull.{responseBytes}
 use Rattle.signing.specs.Signing.{signingOf}
 use Rattle.signing.specs.declared.Opcode.{Opcode}
 use Rattle.signing.proofs.Signings.{signing-by}

@@ -15,10 +15,10 @@ use Rattle.granule_rules.specs.Changes.{RealmAt}
 use Rattle.granule_rules.proofs.Done.{ok-code}
 use Rattle.attest.specs.Key.{keyed, realmKeyOf}
 use Rattle.attest.proofs.Acts.{key-only}
-use Rattle.token.specs.Token.{tokenOf}
-use Rattle.token.specs.Calls.{tokenStepOf, tokenAccepted}
-use Rattle.token.specs.declared.Session.{Session}
-use Rattle.token.proofs.Acts.{token-only}
+use Rattle.token_rules.specs.Token.{tokenOf}
+use Rattle.token_rules.specs.Calls.{tokenStepOf, tokenAccepted}
+use Rattle.token_rules.specs.declared.Session.{Session}
+use Rattle.token_rules.proofs.Acts.{token-only}
 use Rattle.runtime.specs.Step.{World, Command, call, sign, list, afterMove, afterSign, stepOf}
 use Rattle.runtime.specs.Run.{nextOf, worldAfter}
 use Rattle.runtime.specs.Changes.{under}

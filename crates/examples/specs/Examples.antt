@@ -27,7 +27,7 @@ use Rattle.granule_rules.specs.Granules.{GranuleTable, fromByte, guarded, granu
 use Rattle.banks.specs.Banks.{Granules, granuleAt}
 use Rattle.banks.specs.declared.Granule.the-variants.{At}
 use Rattle.features.specs.Features.{updateCode}
-use Rattle.writer.specs.Write.{Made, no-page, a-page, writerGate, writeOf}
+use Rattle.writer_rules.specs.Write.{Made, no-page, a-page, writerGate, writeOf}
 
 -- the bank of example 4: base, size
 abbrev bank : List ℕ

@@ -5,7 +5,7 @@ use boot::Params;
 use boot::Record;
 use codes::Answer;
 use codes::Code;
-use granule_rules::Direction;
+pub use granule_rules::Direction;
 use realm_words::Held;
 ghost use mathlib.Core.Path.{_≡_};
 ghost use Prim.Native.Nat.{_/_};

@@ -11,10 +11,10 @@ use Rattle.reader.specs.declared.Reading.{Reading}
 use Rattle.reader.specs.declared.Reading.the-variants.{Accepted, Refused}
 use Rattle.reader.proofs.Whole.{reading-answer}
 use Rattle.boot.specs.Boot.{codeIn}
-use Rattle.writer.specs.Write.{Made}
-use Rattle.writer.specs.Wrote.{madeBy as madeOf}
-use Rattle.writer.specs.declared.Wrote.{Wrote}
-use Rattle.writer.specs.declared.Wrote.the-variants.{Page, Place, Edition, Lists, Late, Room}
+use Rattle.writer_rules.specs.Write.{Made}
+use Rattle.writer_rules.specs.Wrote.{madeBy as madeOf}
+use Rattle.writer_rules.specs.declared.Wrote.{Wrote}
+use Rattle.writer_rules.specs.declared.Wrote.the-variants.{Page, Place, Edition, Lists, Late, Room}
 use Rattle.images.specs.Image.{viewWords, answerWords, madeNumber, wroteNumber}
 
 -- ---- the reader's answer, by the enum that it gives

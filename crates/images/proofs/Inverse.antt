@@ -7,8 +7,8 @@ use Rattle.boot.specs.declared.Record.the-variants.{Fresh, Up, Closed}
 use Rattle.reader.specs.declared.Section.{Section}
 use Rattle.reader.specs.declared.Section.the-variants.{Absent, Empty, Entries}
 use Rattle.reader.specs.declared.View.{View}
-use Rattle.token.specs.declared.Session.{Session}
-use Rattle.token.specs.declared.Session.the-variants.{Idle, Sending}
+use Rattle.token_rules.specs.declared.Session.{Session}
+use Rattle.token_rules.specs.declared.Session.the-variants.{Idle, Sending}
 use Rattle.images.specs.Image.{recordOf, recordWords, sessionOf, sessionWords, sectionBy, tagWord, placeWord, countWord, sectionIn, viewOf, viewWords}
 
 -- a state comes back from its image

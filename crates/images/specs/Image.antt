@@ -22,11 +22,11 @@ use Rattle.reader.specs.declared.Section.the-variants.{Absent, Empty, Entries}
 use Rattle.reader.specs.declared.View.{View}
 use Rattle.runtime.specs.declared.Reply.{Reply}
 use Rattle.runtime.specs.declared.Reply.the-variants.{Forward, Back}
-use Rattle.token.specs.declared.Session.{Session}
-use Rattle.token.specs.declared.Session.the-variants.{Idle, Sending}
-use Rattle.writer.specs.Write.{Made, no-page, a-page}
-use Rattle.writer.specs.declared.Wrote.{Wrote}
-use Rattle.writer.specs.declared.Wrote.the-variants.{Page, Place, Edition, Lists, Late, Room}
+use Rattle.token_rules.specs.declared.Session.{Session}
+use Rattle.token_rules.specs.declared.Session.the-variants.{Idle, Sending}
+use Rattle.writer_rules.specs.Write.{Made, no-page, a-page}
+use Rattle.writer_rules.specs.declared.Wrote.{Wrote}
+use Rattle.writer_rules.specs.declared.Wrote.the-variants.{Page, Place, Edition, Lists, Late, Room}
 
 -- ---- the boot record: 0 fresh, 1 up, any other number closed; then what it keeps
 unfoldable pub recordOf : List ℕ → Record

@@ -32,8 +32,8 @@ use Rattle.reader.specs.declared.Reading.the-variants.{Refused}
 use Rattle.reader.specs.declared.Verdict.the-variants as verdict
 use Rattle.reader.proofs.Whole.{reading-answer, refused-reads, fine-reads}
 use Rattle.lists.specs.Description.{Description, used}
-use Rattle.writer.specs.Write.{no-page, a-page, pageOf}
-use Rattle.writer.specs.Wrote.{pageAfter}
+use Rattle.writer_rules.specs.Write.{no-page, a-page, pageOf}
+use Rattle.writer_rules.specs.Wrote.{pageAfter}
 use Rattle.pack.specs.Pack.{fieldsKept, retold, Packed, stopped, written, packOf, packedBy, targetAfter, packedNumber, packingNumber}
 use Rattle.pack.specs.Steps.{arrayWords, Movable, fieldsPlace, keptFrom, retoldAt}
 use Rattle.pack.specs.declared.Packing.{Packing}

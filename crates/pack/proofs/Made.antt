@@ -33,8 +33,8 @@ use Rattle.reader.proofs.Newer.{gate-shows}
 use Rattle.reader.proofs.Views.{shows-each}
 use Rattle.lists.specs.Description.{Description, listOk, listsOk, noneLate, platBytes, used}
 use Rattle.lists.proofs.Lists.{described-none}
-use Rattle.writer.specs.Write.{a-page, writeOf, pageOf}
-use Rattle.writer.proofs.Checks.{w-made}
+use Rattle.writer_rules.specs.Write.{a-page, writeOf, pageOf}
+use Rattle.writer_rules.proofs.Checks.{w-made}
 use Rattle.pack.specs.Pack.{entriesIn, fieldsKept, retold, written, packedFrom, packOf}
 use Rattle.pack.proofs.Fields.{keptOf, kept-told, kept-three, found-fits}
 

@@ -16,8 +16,8 @@ use Rattle.words.proofs.Store.{splice-splice, words-in}
 use Rattle.entries.specs.Entry.{wordsPerEntry, size, sum, checkOk}
 use Rattle.entries.specs.Array.{wordsAt}
 use Rattle.sections.specs.Page.{countAt, pointerAt, checkAt}
-use Rattle.writer.specs.Write.{neg, descriptor}
-use Rattle.writer.proofs.Given.{desc-length}
+use Rattle.writer_rules.specs.Write.{neg, descriptor}
+use Rattle.writer_rules.proofs.Given.{desc-length}
 use Rattle.writer.proofs.Sums.{desc-none, desc-some}
 use Rattle.pack.specs.Steps.{arrayWords, Movable, sectionMoved}
 use Rattle.pack.proofs.Made.{some-words}

@@ -27,10 +27,10 @@ use Rattle.sections.proofs.Sections.{placed, range-low, range-high, array-in, o
 use Rattle.reader.specs.Answer.{Shown, empty, full, PlatShown, ReaderAnswer, refused, shows, minus, shown, shownSec, platShown, readerGate, judge, readOf}
 use Rattle.reader.proofs.Newer.{newer-accepts}
 use Rattle.reader.proofs.Views.{shows-page}
-use Rattle.writer.specs.Write.{Made, no-page, a-page, writeOf, descriptionFits, shownList, described, platDescribed}
-use Rattle.writer.specs.Wrote.{pageAfter}
-use Rattle.writer.proofs.Checks.{w-place}
-use Rattle.writer.proofs.Round.{round}
+use Rattle.writer_rules.specs.Write.{Made, no-page, a-page, writeOf, descriptionFits, shownList, described, platDescribed}
+use Rattle.writer_rules.specs.Wrote.{pageAfter}
+use Rattle.writer_rules.proofs.Checks.{w-place}
+use Rattle.writer_rules.proofs.Round.{round}
 use Rattle.pack.specs.Pack.{fieldsKept, retold, Packed, stopped, written, packedFrom, packOf, targetAfter}
 use Rattle.pack.specs.Packer.{remaining, repacked}
 use Rattle.pack.proofs.Fields.{keptOf}

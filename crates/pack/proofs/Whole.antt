@@ -16,8 +16,8 @@ use Rattle.versions.specs.Edition.{sectionCount, core}
 use Rattle.versions.proofs.Editions.{section-count-most}
 use Rattle.lists.specs.Description.{platBytes, used}
 use Rattle.lists.proofs.Lists.{marked-more}
-use Rattle.writer.specs.Write.{arrayAddress, descriptorAt, pointTo, platWord, coreWords, pageOf}
-use Rattle.writer.proofs.Given.{desc-length}
+use Rattle.writer_rules.specs.Write.{arrayAddress, descriptorAt, pointTo, platWord, coreWords, pageOf}
+use Rattle.writer_rules.proofs.Given.{desc-length}
 use Rattle.writer.proofs.Pages.{page-law}
 use Rattle.pack.specs.Steps.{arrayWords, sectionMoved, fieldsPlace, keptFrom, retoldAt}
 use Rattle.pack.proofs.Moves.{joined-same, joined-rest}

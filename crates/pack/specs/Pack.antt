@@ -11,8 +11,8 @@ use Rattle.fields.specs.Fields.{FieldShown, raw, withdrawn}
 use Rattle.reader.specs.Answer.{Shown, absent, empty, full, PlatShown, ReaderAnswer, refused, shows, minus, readOf}
 use Rattle.reader.specs.Reading.{refusalNumber}
 use Rattle.lists.specs.Description.{Description}
-use Rattle.writer.specs.Write.{Made, no-page, a-page, writeOf}
-use Rattle.writer.specs.Wrote.{pageAfter}
+use Rattle.writer_rules.specs.Write.{Made, no-page, a-page, writeOf}
+use Rattle.writer_rules.specs.Wrote.{pageAfter}
 use Rattle.pack.specs.declared.Packing.{Packing}
 use Rattle.pack.specs.declared.Packing.the-variants.{Page, Refused, Target}
 

@@ -7,7 +7,7 @@ use lib.IntN.{ℤ}
 use Rattle.words.specs.Word.{wordAt}
 use Rattle.fields.specs.Fields.{FieldShown, raw, withdrawn}
 use Rattle.reader.specs.Answer.{Shown, PlatShown, ReaderAnswer, refused, shows, minus, readOf}
-use Rattle.writer.specs.Write.{no-page, a-page, pageOf}
+use Rattle.writer_rules.specs.Write.{no-page, a-page, pageOf}
 use Rattle.pack.specs.Pack.{retold, stopped, written, packOf, targetAfter}
 
 -- the fields in page order, less the withdrawn ones

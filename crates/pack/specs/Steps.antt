@@ -15,7 +15,7 @@ use Rattle.fields.specs.Fields.{shownFields}
 use Rattle.fields.specs.Steps.{fieldsFrom}
 use Rattle.sections.specs.Page.{countAt, pointerAt, checkAt}
 use Rattle.lists.specs.Description.{Description}
-use Rattle.writer.specs.Write.{descriptor}
+use Rattle.writer_rules.specs.Write.{descriptor}
 use Rattle.pack.specs.Pack.{fieldsKept}
 
 -- the words of the array of section k

@@ -14,7 +14,7 @@ ghost use Rattle.versions.specs.Edition.{sectionCount};
 ghost use Rattle.entries.specs.Entry.{size};
 ghost use Rattle.sections.specs.Page.{countAt};
 ghost use Rattle.lists.specs.Description.{used};
-ghost use Rattle.writer.specs.Write.{descriptor, pageOf};
+ghost use Rattle.writer_rules.specs.Write.{descriptor, pageOf};
 ghost use Rattle.pack.specs.Pack.{packOf, packedBy, targetAfter, packingNumber};
 ghost use Rattle.pack.specs.Steps.{arrayWords, Movable, sectionMoved, fieldsPlace, keptFrom, retoldAt};
 

@@ -8,7 +8,7 @@ use lib.Dec.{eqb}
 use lib.IntN.{ℤ, pos, negsuc}
 use Rattle.words.specs.Word.{wordAt}
 use Rattle.reader.specs.Answer.{minus}
-use Rattle.writer.specs.Write.{no-page, a-page}
+use Rattle.writer_rules.specs.Write.{no-page, a-page}
 use Rattle.pack.specs.Pack.{Packed, stopped, written, packOf}
 
 -- `refused -`

@@ -14,9 +14,9 @@ use Rattle.banks.specs.Banks.{Granules}
 use Rattle.granule_rules.specs.Granules.{GranuleTable, tableOf, Moved, movedBy, moveOf, movedTo, readyFor, atOnce, leftAtOnce}
 use Rattle.granule_rules.specs.declared.Direction.{Direction}
 use Rattle.granule_rules.proofs.Done.{ok-code}
-use Rattle.token.specs.Token.{TokenStep}
-use Rattle.token.specs.declared.Session.{Session}
-use Rattle.responses.specs.OnImage.{SignImage}
+use Rattle.token_rules.specs.Token.{TokenStep}
+use Rattle.token_rules.specs.declared.Session.{Session}
+use Rattle.response_rules.specs.OnImage.{SignImage}
 use Rattle.signing.specs.OnImage.{signingOn}
 use Rattle.runtime.specs.Step.{plainWorld, Step, kindOf, afterToken, afterSigning, callBy, callOf, replyCode, needsOf}
 use Rattle.runtime.specs.declared.Needs.{Needs}

@@ -23,15 +23,15 @@ use Rattle.granule_rules.proofs.Done.{list-is}
 use Rattle.boot.specs.declared.Record.{Record}
 use Rattle.attest.specs.Key.{Keyed, keyed, realmKeyOf}
 use Rattle.attest.proofs.Keys.{key-refused}
-use Rattle.token.specs.Token.{TokenStep, settled, sendOf, keeps, tokenOf}
-use Rattle.token.specs.declared.Session.{Session}
-use Rattle.token.proofs.Tokens.{token-refused}
+use Rattle.token_rules.specs.Token.{TokenStep, settled, sendOf, keeps, tokenOf}
+use Rattle.token_rules.specs.declared.Session.{Session}
+use Rattle.token_rules.proofs.Tokens.{token-refused}
 use Rattle.features.specs.Features.{featuresBy, featuresOf, updateBy, updateOf}
 use Rattle.features.specs.declared.Updated.{Updated}
 use Rattle.features.proofs.Feature.{features-refused, update-refused}
 use Rattle.queue.specs.Queue.{Lists, SigningStep}
-use Rattle.responses.specs.Sign.{SignStep, signOf}
-use Rattle.responses.specs.OnImage.{signDone, signOn}
+use Rattle.response_rules.specs.Sign.{SignStep, signOf}
+use Rattle.response_rules.specs.OnImage.{signDone, signOn}
 use Rattle.signing.specs.Signing.{signingOf}
 use Rattle.signing.specs.OnImage.{signingDone, signingOn}
 use Rattle.signing.specs.declared.Opcode.{Opcode}

@@ -6,15 +6,15 @@ use lib.ListN.{getD}
 use Rattle.codes.specs.Codes.{x0Of, ifOk}
 use Rattle.codes.specs.declared.Code.{Code}
 use Rattle.lists.specs.Description.{descriptionOf}
-use Rattle.writer.specs.Write.{Made, writeOf}
+use Rattle.writer_rules.specs.Write.{Made, writeOf}
 use Rattle.banks.specs.Banks.{SetUp, setUpOf, granuleCount}
 use Rattle.realm_words.specs.Answers.{Built, realmBuildOf}
 use Rattle.granule_rules.specs.Granules.{tableOf, Moved, moveOf}
 use Rattle.granule_rules.specs.Lists.{moveListOf}
 use Rattle.granule_rules.specs.declared.Direction.{Direction}
-use Rattle.token.specs.Token.{TokenStep, tokenOf}
-use Rattle.token.specs.declared.Session.{Session}
-use Rattle.responses.specs.OnImage.{SignImage, signOn}
+use Rattle.token_rules.specs.Token.{TokenStep, tokenOf}
+use Rattle.token_rules.specs.declared.Session.{Session}
+use Rattle.response_rules.specs.OnImage.{SignImage, signOn}
 use Rattle.signing.specs.OnImage.{signingDone, signingOn}
 use Rattle.runtime.specs.Step.{World, worldOf, plainWorld, Call, callWith, plainCall, Step, kindOf, callOf, replyCode, needsOf, plainOf}
 use Rattle.runtime.specs.declared.Needs.{Needs}

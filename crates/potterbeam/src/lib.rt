@@ -22,8 +22,8 @@ ghost use Rattle.lookup.specs.Consoles.{consoleNamed};
 ghost use Rattle.kept.specs.Kept.{keptFor};
 ghost use Rattle.text.specs.Text.{lay, listingOf};
 ghost use Rattle.lists.specs.Description.{descriptionOf};
-ghost use Rattle.writer.specs.Write.{descriptionFits};
-ghost use Rattle.writer.specs.Wrote.{pageAfter};
+ghost use Rattle.writer_rules.specs.Write.{descriptionFits};
+ghost use Rattle.writer_rules.specs.Wrote.{pageAfter};
 ghost use Rattle.versions.specs.Version.{versionOk, later, agreed};
 ghost use Rattle.boot.specs.declared.Record.the-variants.{Closed};
 ghost use Rattle.boot.specs.Boot.{codeIn, coldCode, coldNext, warmCode, warmNext};
@@ -33,7 +33,7 @@ ghost use Rattle.granule_rules.specs.declared.Direction.{Direction};
 ghost use Rattle.attest.specs.Key.{realmKeyOf};
 ghost use mathlib.Core.Bool.{true, false};
 ghost use Rattle.codes.specs.Codes.{x0Of};
-ghost use Rattle.token.specs.Token.{bufferCode, challengeSpan};
+ghost use Rattle.token_rules.specs.Token.{bufferCode, challengeSpan};
 ghost use Rattle.features.specs.Features.{featuresOf, updateOf, forwardOf};
 ghost use Rattle.images.specs.Image.{recordOf, recordWords, registerWords, workWords, sectionWords, viewOf, viewWords, answerWords, madeNumber, spanWords, fieldWords, consoleNumber};
 ghost use Rattle.images.specs.Realm.{numberX0, numberWords, hitX0, hitWords, agreementX0};
@@ -348,7 +348,7 @@ pub extern "C" fn pbeam_delegate(
     if granules::moved_at_once(
         images::record_of(state),
         granules,
-        granule_rules::Direction::Delegate,
+        granules::Direction::Delegate,
         table,
         words,
         address,
@@ -381,7 +381,7 @@ pub extern "C" fn pbeam_undelegate(
     if granules::moved_at_once(
         images::record_of(state),
         granules,
-        granule_rules::Direction::Undelegate,
+        granules::Direction::Undelegate,
         table,
         words,
         address,

@@ -9,8 +9,8 @@ ghost use Prim.Native.Nat.{_≤_};
 ghost use lib.ListN.{length};
 ghost use Rattle.queue.specs.Queue.{Lists, listsOf, signingExit, exitOf};
 ghost use Rattle.queue_image.specs.Steps.{ImageStep};
-ghost use Rattle.requests.specs.Push.{requestOf, pushCode, pushOf};
-ghost use Rattle.requests.specs.OnImage.{pushOn};
+ghost use Rattle.request_rules.specs.Push.{requestOf, pushCode, pushOf};
+ghost use Rattle.request_rules.specs.OnImage.{pushOn};
 
 // The request in a buffer; the bytes between its fields are not read.
 fn request_of(buffer: &[u8]) -> Request

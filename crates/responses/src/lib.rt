@@ -10,9 +10,9 @@ ghost use lib.ListN.{length};
 ghost use Rattle.words.specs.Word.{splice};
 ghost use Rattle.queue.specs.Queue.{Lists, signedIn, listsOf, oldestResponse, signingExit, exitOf};
 ghost use Rattle.queue_image.specs.Steps.{ImageStep};
-ghost use Rattle.responses.specs.Pull.{responseBytes, pullCode, pullOf};
-ghost use Rattle.responses.specs.Sign.{signCode, signOf, signExit};
-ghost use Rattle.responses.specs.OnImage.{pullOn, SignImage, signOn};
+ghost use Rattle.response_rules.specs.Pull.{responseBytes, pullCode, pullOf};
+ghost use Rattle.response_rules.specs.Sign.{signCode, signOf, signExit};
+ghost use Rattle.response_rules.specs.OnImage.{pullOn, SignImage, signOn};
 
 // Writes a response at the start of a buffer that holds it.
 fn put_response(buffer: &mut [u8], response: Response)

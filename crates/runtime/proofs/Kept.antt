@@ -22,13 +22,13 @@ use Rattle.range.proofs.Buffers.{passed-in}
 use Rattle.banks.specs.Banks.{Granules}
 use Rattle.attest.specs.Key.{keyCode, keyed, realmKeyOf}
 use Rattle.attest.proofs.Acts.{key-only}
-use Rattle.token.specs.Token.{tokenCode, beginOf, hunkOf, TokenStep, sendOf, keeps, settled, tokenOf}
-use Rattle.token.specs.Calls.{TokenCall, tokenStepOf, tokenAccepted}
-use Rattle.token.specs.declared.Session.{Session}
-use Rattle.token.proofs.Acts.{token-only}
+use Rattle.token_rules.specs.Token.{tokenCode, beginOf, hunkOf, TokenStep, sendOf, keeps, settled, tokenOf}
+use Rattle.token_rules.specs.Calls.{TokenCall, tokenStepOf, tokenAccepted}
+use Rattle.token_rules.specs.declared.Session.{Session}
+use Rattle.token_rules.proofs.Acts.{token-only}
 use Rattle.queue.specs.Queue.{Lists, SigningStep, oldestResponse}
-use Rattle.responses.specs.Pull.{responseBytes}
-use Rattle.responses.proofs.Acts.{signed-length, pull-told}
+use Rattle.response_rules.specs.Pull.{responseBytes}
+use Rattle.response_rules.proofs.Acts.{signed-length, pull-told}
 use Rattle.signing.specs.Signing.{signingOf}
 use Rattle.signing.specs.declared.Opcode.{Opcode}
 use Rattle.signing.proofs.Signings.{signing-by}

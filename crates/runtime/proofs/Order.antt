@@ -15,9 +15,9 @@ use Rattle.codes.specs.declared.Code.the-variants.{Ok, Unk, BadAddr, BadPas, In
 use Rattle.banks.specs.Banks.{Granules}
 use Rattle.queue.specs.declared.Request.{Request}
 use Rattle.queue.specs.Queue.{Signed, Lists, SigningStep, oldestRequest}
-use Rattle.requests.specs.Push.{requestOf, pushed}
-use Rattle.responses.specs.Pull.{pulled}
-use Rattle.responses.specs.Sign.{signCode, signedBy, signed, signOf}
+use Rattle.request_rules.specs.Push.{requestOf, pushed}
+use Rattle.response_rules.specs.Pull.{pulled}
+use Rattle.response_rules.specs.Sign.{signCode, signedBy, signed, signOf}
 use Rattle.signing.specs.Signing.{opcodeOf, signingOf}
 use Rattle.signing.specs.declared.Opcode.{Opcode}
 use Rattle.signing.proofs.Signings.{signing-by}

@@ -6,7 +6,7 @@ use mathlib.Core.List.{List}
 use native.Mathlib.Omega.{arith}
 use Rattle.boot.specs.declared.Record.{Record}
 use Rattle.banks.specs.Banks.{Granules}
-use Rattle.token.specs.declared.Session.{Session}
+use Rattle.token_rules.specs.declared.Session.{Session}
 use Rattle.queue.specs.Queue.{Lists}
 use Rattle.runtime.specs.declared.Kind.{Kind}
 use Rattle.runtime.specs.declared.Kind.the-variants.{ForwardError, Delegate, Undelegate, RealmKey, PlatformToken, Features, TokenSigning, KeyUpdate, Unlisted}

@@ -10,13 +10,13 @@ use Rattle.granule_rules.specs.declared.Direction.{Direction}
 use Rattle.granule_rules.proofs.Moving.{move-refused}
 use Rattle.attest.specs.Key.{Keyed}
 use Rattle.attest.proofs.Keys.{key-refused}
-use Rattle.token.specs.Token.{TokenStep}
-use Rattle.token.proofs.Tokens.{token-refused}
+use Rattle.token_rules.specs.Token.{TokenStep}
+use Rattle.token_rules.proofs.Tokens.{token-refused}
 use Rattle.features.specs.declared.Updated.{Updated}
 use Rattle.features.proofs.Feature.{features-refused, update-refused}
 use Rattle.queue.specs.Queue.{SigningStep}
-use Rattle.responses.specs.Sign.{SignStep}
-use Rattle.responses.proofs.Signs.{sign-refused}
+use Rattle.response_rules.specs.Sign.{SignStep}
+use Rattle.response_rules.proofs.Signs.{sign-refused}
 use Rattle.signing.proofs.Signings.{signing-refused}
 use Rattle.runtime.specs.declared.Kind.{Kind}
 use Rattle.runtime.specs.declared.Kind.the-variants.{ForwardError, Delegate, Undelegate, RealmKey, PlatformToken, Features, TokenSigning, KeyUpdate, Unlisted}

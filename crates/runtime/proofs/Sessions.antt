@@ -3,8 +3,8 @@ use mathlib.Core.Path.{_≡_, refl, sym, _∙_}
 use mathlib.Core.Bool.{true}
 use mathlib.Core.List.{List, [], _∷_, _++_}
 use Rattle.banks.specs.Banks.{Granules}
-use Rattle.token.specs.Calls.{TokenCall, tokenStepOf as tokenStep, runOf as tokenRun, tokenAccepted, oksOf, hunksOf, leftOf, GoesOn, Calls}
-use Rattle.token.proofs.Calls.{token-calls}
+use Rattle.token_rules.specs.Calls.{TokenCall, tokenStepOf as tokenStep, runOf as tokenRun, tokenAccepted, oksOf, hunksOf, leftOf, GoesOn, Calls}
+use Rattle.token_rules.proofs.Calls.{token-calls}
 use Rattle.runtime.specs.declared.Kind.{Kind}
 use Rattle.runtime.specs.declared.Kind.the-variants.{ForwardError, Delegate, Undelegate, RealmKey, PlatformToken, Features, TokenSigning, KeyUpdate, Unlisted}
 use Rattle.runtime.specs.Step.{World, Call, Command, call, sign, list, kindOf, afterMove, afterKey, afterToken, afterSigning, afterUpdate, afterSign, callBy, callOf, stepOf}

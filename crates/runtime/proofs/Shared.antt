@@ -14,8 +14,8 @@ use Rattle.banks.specs.Banks.{Granules}
 use Rattle.granule_rules.proofs.Done.{ok-code}
 use Rattle.granule_rules.proofs.Shared.{shared-kept}
 use Rattle.attest.proofs.Acts.{key-only}
-use Rattle.token.specs.Calls.{tokenStepOf as tokenStep, tokenAccepted}
-use Rattle.token.proofs.Acts.{token-only}
+use Rattle.token_rules.specs.Calls.{tokenStepOf as tokenStep, tokenAccepted}
+use Rattle.token_rules.proofs.Acts.{token-only}
 use Rattle.queue.specs.Queue.{Lists, SigningStep}
 use Rattle.signing.specs.Signing.{signingOf}
 use Rattle.signing.specs.declared.Opcode.{Opcode}

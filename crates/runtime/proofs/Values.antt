@@ -8,12 +8,12 @@ use Rattle.codes.specs.Codes.{isOk}
 use Rattle.codes.specs.declared.Code.{Code}
 use Rattle.codes.proofs.Gates.{if-ok-by}
 use Rattle.banks.specs.Banks.{Granules}
-use Rattle.token.specs.declared.Session.{Session}
+use Rattle.token_rules.specs.declared.Session.{Session}
 use Rattle.queue.specs.declared.Queue.{Queue}
 use Rattle.queue.specs.Queue.{Lists, SigningStep, listsOf, queueNext}
 use Rattle.queue.proofs.Steps.{next-lists}
-use Rattle.responses.specs.Sign.{SignStep, signOf, signExit}
-use Rattle.responses.proofs.Signs.{sign-refused}
+use Rattle.response_rules.specs.Sign.{SignStep, signOf, signExit}
+use Rattle.response_rules.proofs.Signs.{sign-refused}
 use Rattle.signing.specs.Signing.{signingOf}
 use Rattle.signing.proofs.Signings.{signing-refused}
 use Rattle.runtime.specs.declared.Kind.{Kind}

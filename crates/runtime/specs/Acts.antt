@@ -4,7 +4,7 @@ use Rattle.codes.specs.declared.Work.the-variants.{Nothing}
 use Rattle.granule_rules.specs.Granules.{Moved, delegateOf, undelegateOf}
 use Rattle.banks.specs.Banks.{Granules}
 use Rattle.attest.specs.Key.{Keyed, realmKeyOf}
-use Rattle.token.specs.Token.{TokenStep, tokenOf}
+use Rattle.token_rules.specs.Token.{TokenStep, tokenOf}
 use Rattle.features.specs.Features.{featuresOf, updateOf}
 use Rattle.features.specs.declared.Updated.{Updated}
 use Rattle.queue.specs.Queue.{SigningStep}

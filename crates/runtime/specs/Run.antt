@@ -10,11 +10,11 @@ use Rattle.boot.specs.declared.Record.{Record}
 use Rattle.granule_rules.specs.Lists.{doneOf}
 use Rattle.banks.specs.Banks.{Granules}
 use Rattle.granule_rules.specs.declared.Direction.{Direction}
-use Rattle.token.specs.Calls.{TokenCall}
+use Rattle.token_rules.specs.Calls.{TokenCall}
 use Rattle.queue.specs.declared.Request.{Request}
 use Rattle.queue.specs.Queue.{Signed, Lists}
-use Rattle.requests.specs.Push.{requestOf}
-use Rattle.responses.specs.Sign.{signedBy}
+use Rattle.request_rules.specs.Push.{requestOf}
+use Rattle.response_rules.specs.Sign.{signedBy}
 use Rattle.signing.specs.Signing.{opcodeOf}
 use Rattle.signing.specs.declared.Opcode.{Opcode}
 use Rattle.signing.specs.declared.Opcode.the-variants.{Push, Pull, Key, Other}

@@ -15,14 +15,14 @@ use Rattle.granule_rules.specs.Lists.{moveListOf}
 use Rattle.banks.specs.Banks.{Granules}
 use Rattle.granule_rules.specs.declared.Direction.{Direction}
 use Rattle.attest.specs.Key.{Keyed, realmKeyOf}
-use Rattle.token.specs.Token.{TokenStep, tokenOf}
-use Rattle.token.specs.declared.Session.{Session}
-use Rattle.token.specs.declared.Session.the-variants.{Idle}
+use Rattle.token_rules.specs.Token.{TokenStep, tokenOf}
+use Rattle.token_rules.specs.declared.Session.{Session}
+use Rattle.token_rules.specs.declared.Session.the-variants.{Idle}
 use Rattle.features.specs.Features.{featuresOf, updateOf, forwardOf}
 use Rattle.features.specs.declared.Updated.{Updated}
 use Rattle.queue.specs.declared.Queue.{Queue}
 use Rattle.queue.specs.Queue.{Lists, SigningStep, queueNext}
-use Rattle.responses.specs.Sign.{SignStep, signOf}
+use Rattle.response_rules.specs.Sign.{SignStep, signOf}
 use Rattle.signing.specs.Signing.{signingOf}
 use Rattle.runtime.specs.declared.Kind.{Kind}
 use Rattle.runtime.specs.declared.Kind.the-variants.{ForwardError, Delegate, Undelegate, RealmKey, PlatformToken, Features, TokenSigning, KeyUpdate, Unlisted}

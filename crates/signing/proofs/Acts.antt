@@ -24,10 +24,10 @@ use Rattle.codes.proofs.Gates.{fails-ok, unless-ok, then-ok}
 use Rattle.queue.specs.declared.Request.{Request}
 use Rattle.queue.specs.Queue.{Signed, Lists, SigningStep, queued, oldestResponse}
 use Rattle.queue.proofs.Acts.{queued-ok}
-use Rattle.requests.specs.Push.{requestOf, pushed}
-use Rattle.requests.proofs.Acts.{buffer-push-acts, push-told}
-use Rattle.responses.specs.Pull.{responseBytes, pulled}
-use Rattle.responses.proofs.Acts.{buffer-pull-acts, pull-told}
+use Rattle.request_rules.specs.Push.{requestOf, pushed}
+use Rattle.request_rules.proofs.Acts.{buffer-push-acts, push-told}
+use Rattle.response_rules.specs.Pull.{responseBytes, pulled}
+use Rattle.response_rules.proofs.Acts.{buffer-pull-acts, pull-told}
 use Rattle.signing.specs.Signing.{opcodeOf, isOther, badCurve, sharedCode, publicCode, publicOf, opOf, putBack, opAt, signingOf}
 use Rattle.signing.specs.Acts.{SigningPassed, PushActed, PullActed, PublicActed}
 use Rattle.signing.specs.declared.Opcode.{Opcode}

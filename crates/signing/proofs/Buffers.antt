@@ -13,8 +13,8 @@ use Rattle.codes.specs.declared.Code.the-variants.{Ok}
 use Rattle.queue.specs.declared.Queue.{Queue}
 use Rattle.queue.specs.declared.Queued.{Queued}
 use Rattle.queue.specs.Queue.{Signed, Lists, SigningStep, SigningExit, oldestResponse, signingExit, exitOf}
-use Rattle.responses.specs.Pull.{responseBytes, pullCode}
-use Rattle.responses.proofs.Acts.{signed-length}
+use Rattle.response_rules.specs.Pull.{responseBytes, pullCode}
+use Rattle.response_rules.proofs.Acts.{signed-length}
 use Rattle.queue_image.proofs.Blocks.{length-splice}
 use Rattle.signing.specs.Signing.{publicCode, putBack}
 

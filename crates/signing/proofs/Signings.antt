@@ -16,8 +16,8 @@ use Rattle.codes.proofs.Gates.{first-ok, then-stop, if-ok-by}
 use Rattle.codes.specs.declared.Code.{Code}
 use Rattle.codes.specs.declared.Code.the-variants.{Ok, Unk, Inval, Again}
 use Rattle.queue.specs.Queue.{Lists, SigningStep, queued, oldestResponse}
-use Rattle.requests.specs.Push.{pushCode, pushed, pushOf}
-use Rattle.responses.specs.Pull.{responseBytes, pullCode, pulled, pullOf}
+use Rattle.request_rules.specs.Push.{pushCode, pushed, pushOf}
+use Rattle.response_rules.specs.Pull.{responseBytes, pullCode, pulled, pullOf}
 use Rattle.signing.specs.Signing.{opcodeOf, isOther, badCurve, sharedCode, publicCode, publicOf, opOf, putBack, opAt, signingOf}
 use Rattle.signing.specs.declared.Opcode.{Opcode}
 use Rattle.signing.specs.declared.Opcode.the-variants.{Push, Pull, Key, Other}

@@ -12,8 +12,8 @@ use Rattle.codes.specs.Codes.{unless, fails, andThen, upOf, answerOf}
 use Rattle.codes.specs.declared.Code.{Code}
 use Rattle.codes.specs.declared.Code.the-variants.{Ok, Unk, Inval, Again}
 use Rattle.queue.specs.Queue.{Lists, SigningStep, queued}
-use Rattle.requests.specs.Push.{pushOf}
-use Rattle.responses.specs.Pull.{pullOf}
+use Rattle.request_rules.specs.Push.{pushOf}
+use Rattle.response_rules.specs.Pull.{pullOf}
 use Rattle.signing.specs.declared.Opcode.{Opcode}
 use Rattle.signing.specs.declared.Opcode.the-variants.{Push, Pull, Key, Other}
 

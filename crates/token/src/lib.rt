@@ -1,9 +1,10 @@
 // The platform token, sent hunk by hunk, and the lookup of its challenge.
 use boot::Record;
-use codes::Answer;
 use codes::Code;
 use codes::Gate;
 use range::OutsideAs;
+pub use token_rules::Session;
+pub use token_rules::Tokened;
 use words::Span;
 ghost use mathlib.Core.Path.{_≡_};
 ghost use mathlib.Core.Bool.{false};
@@ -12,28 +13,7 @@ ghost use lib.ListN.{length};
 ghost use Rattle.words.specs.Word.{part, splice, spanned, onFrom};
 ghost use Rattle.range.specs.Range.{placeOf};
 ghost use Rattle.codes.specs.Codes.{upOf, answerOf, gated};
-ghost use Rattle.token.specs.Token.{listed, bufferCode, startCode, beginOf, tokenExit, sendOf, tokenOf, challengeOf, challengeSpan};
-
-// A session: none, or a token of which a part is sent.
-pub enum Session {
-    Idle,
-    Sending { whole: u64, sent: u64 },
-}
-
-// What a token call answers, and the session after it.
-pub struct Tokened {
-    pub answer: Answer,
-    pub session: Session,
-}
-
-impl Session {
-    // No session.
-    pub fn idle() -> Self
-        ensures { λ r. ⌜ r ≡ Session.Idle ⌝ }
-    {
-        Session::Idle
-    }
-}
+ghost use Rattle.token_rules.specs.Token.{listed, bufferCode, startCode, beginOf, tokenExit, sendOf, tokenOf, challengeOf, challengeSpan};
 
 // Whether c_size is one of a challenge, or 0.
 fn is_listed(csize: u64) -> bool

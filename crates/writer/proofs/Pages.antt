@@ -16,9 +16,9 @@ use Rattle.versions.proofs.Editions.{section-count-most}
 use Rattle.fields.specs.Fields.{endMark}
 use Rattle.lists.specs.Description.{Description, four, descriptionOf, withMark, platBytes, used}
 use Rattle.lists.proofs.Lists.{marked-more}
-use Rattle.writer.specs.Write.{descriptor, arrayAddress, pointTo, platWord, descriptorAt, coreWords, filled, pageOf}
+use Rattle.writer_rules.specs.Write.{descriptor, arrayAddress, pointTo, platWord, descriptorAt, coreWords, filled, pageOf}
 use Rattle.writer.specs.Steps.{sectionOn, arraysOn}
-use Rattle.writer.proofs.Given.{desc-length}
+use Rattle.writer_rules.proofs.Given.{desc-length}
 
 -- ---- these bytes, then the page as it was
 over-length : (bs p : List ℕ) → length bs ≤ length p → length (splice 0 bs p) ≡ length p

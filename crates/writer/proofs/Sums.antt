@@ -6,7 +6,7 @@ use native.Mathlib.Omega.{arith}
 use lib.ListN.{length}
 use Rattle.entries.specs.Entry.{wordsPerEntry, sum}
 use Rattle.entries.proofs.Entries.{mod-left, mod-right}
-use Rattle.writer.specs.Write.{neg, descriptor}
+use Rattle.writer_rules.specs.Write.{neg, descriptor}
 
 neg-of : (x t r : ℕ) → t ≡ x % 2 ^ 64 → (r + t) % 2 ^ 64 ≡ 0 → r < 2 ^ 64 → r ≡ (2 ^ 64 - x % 2 ^ 64) % 2 ^ 64
 neg-of x t r m e f = omega arith

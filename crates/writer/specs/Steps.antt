@@ -6,7 +6,7 @@ use lib.ListN.{length}
 use lib.Dec.{ltb}
 use Rattle.words.specs.Word.{bytesOf, laid}
 use Rattle.versions.specs.Edition.{sectionCount}
-use Rattle.writer.specs.Write.{descriptor}
+use Rattle.writer_rules.specs.Write.{descriptor}
 
 -- the three words of section k, where the edition has it
 unfoldable pub sectionOn : ℕ → ℕ → ℕ → List ℕ → List ℕ → List ℕ

@@ -2,6 +2,7 @@
 use lists::Sums;
 use lists::Totals;
 use versions::Edition;
+pub use writer_rules::Wrote;
 ghost use mathlib.Core.Path.{_≡_};
 ghost use Prim.Native.Nat.{_+_, _*_, _%_, _^_, _≤_, _<_};
 ghost use lib.ListN.{length};
@@ -9,19 +10,9 @@ ghost use Rattle.words.specs.Tests.{Yes};
 ghost use Rattle.words.specs.Word.{bytesOf, splice, laid};
 ghost use Rattle.entries.specs.Entry.{sum};
 ghost use Rattle.lists.specs.Description.{four, descriptionOf, totalsOf, used};
-ghost use Rattle.writer.specs.Write.{descriptor, platWord, coreWords, pageOf, descriptionFits};
-ghost use Rattle.writer.specs.Wrote.{writeLists, madeBy, pageAfter};
+ghost use Rattle.writer_rules.specs.Write.{descriptor, platWord, coreWords, pageOf, descriptionFits};
+ghost use Rattle.writer_rules.specs.Wrote.{writeLists, madeBy, pageAfter};
 ghost use Rattle.writer.specs.Steps.{sectionOn, arraysOn};
-
-// A page was made, or why not: W1 the place, W2 the edition, W3 a list or the fields, W4 a section after the edition, W5 no room.
-pub enum Wrote {
-    Page,
-    Place,
-    Edition,
-    Lists,
-    Late,
-    Room,
-}
 
 // Count, pointer and checksum of section k with a list at an address, given the sum of its words; zeros for an empty list.
 fn section_words(k: usize, pointer: u64, words: &[u64], total: u64) -> [u64; 3]

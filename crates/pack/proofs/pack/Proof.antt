@@ -3,8 +3,8 @@ use lib.ListN.{length}
 use Rattle.reader.specs.Answer.{minus}
 use Rattle.reader.specs.Reading.{refusalNumber}
 use Rattle.reader.specs.declared.Refusal.the-variants as refusal
-use Rattle.writer.specs.Write.{no-page}
-use Rattle.writer.specs.Wrote.{pageAfter}
+use Rattle.writer_rules.specs.Write.{no-page}
+use Rattle.writer_rules.specs.Wrote.{pageAfter}
 use Rattle.pack.specs.Pack.{stopped, written, packedBy, targetAfter}
 use Rattle.pack.specs.declared.Packing.the-variants as packing
 use Rattle.pack.proofs.Answers.{refused-packs, late-packs, target-packs, page-packs, page-ready, packs-not, packs-page}

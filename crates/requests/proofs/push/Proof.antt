@@ -7,8 +7,8 @@ use Rattle.queue.specs.Queue.{waiting, listsOf, queueHolding}
 use Rattle.queue.proofs.Sides.{joined-room}
 use Rattle.queue.proofs.Steps.{refuses, accepts}
 use Rattle.queue_image.proofs.Steps.{ok-is}
-use Rattle.requests.specs.Push.{pushCode, pushed, pushOf}
-use Rattle.requests.proofs.OnImages.{push-passed}
+use Rattle.request_rules.specs.Push.{pushCode, pushed, pushOf}
+use Rattle.request_rules.proofs.OnImages.{push-passed}
 use borrow.Author.Needs.{needs}
 use Rattle.requests.proofs.push.Statement.{statement}
 use Rattle.requests.proofs.push.Tie as tie

@@ -1,6 +1,6 @@
 use mathlib.Core.Path.{refl, sym, _∙_}
-use Rattle.requests.specs.Push.{requestOf}
-use Rattle.requests.proofs.Pushes.{push-small, push-algorithm, push-hash, push-full, push-ok}
+use Rattle.request_rules.specs.Push.{requestOf}
+use Rattle.request_rules.proofs.Pushes.{push-small, push-algorithm, push-hash, push-full, push-ok}
 use borrow.Author.Needs.{needs}
 use Rattle.requests.proofs.push_code.Statement.{statement}
 use Rattle.requests.proofs.push_code.Tie as tie

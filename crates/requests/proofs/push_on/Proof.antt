@@ -2,7 +2,7 @@ use mathlib.Core.Path.{_≡_, sym, _∙_}
 use borrow.Author.Tests.{not-true, not-false}
 use Rattle.queue_image.specs.Image.{listsIn}
 use Rattle.queue_image.proofs.Steps.{ok-is}
-use Rattle.requests.proofs.OnImages.{push-passed, push-image-refused, push-image-done}
+use Rattle.request_rules.proofs.OnImages.{push-passed, push-image-refused, push-image-done}
 use borrow.Author.Needs.{needs}
 use Rattle.requests.proofs.push_on.Statement.{statement}
 use Rattle.requests.proofs.push_on.Tie as tie

@@ -4,7 +4,7 @@ use lib.ListN.{length, take, drop, length-drop}
 use lib.Seq.{length-take-le}
 use Rattle.words.specs.Word.{part}
 use Rattle.words.proofs.Store.{laid-all}
-use Rattle.requests.specs.Push.{requestOf}
+use Rattle.request_rules.specs.Push.{requestOf}
 use borrow.Author.Needs.{needs}
 use Rattle.requests.proofs.request_of.Statement.{statement}
 use Rattle.requests.proofs.request_of.Tie as tie

@@ -4,9 +4,9 @@ use borrow.Author.Tests.{not-true, not-false}
 use Rattle.queue.specs.Queue.{Signed, ready, listsOf, signedIn, oldestResponse, queueHolding}
 use Rattle.queue.proofs.Steps.{refuses, accepts}
 use Rattle.queue_image.proofs.Steps.{ok-is}
-use Rattle.responses.specs.Pull.{pullCode, pulled, pullOf}
-use Rattle.responses.proofs.Pulls.{ready-length, ready-first}
-use Rattle.responses.proofs.OnImages.{pull-passed}
+use Rattle.response_rules.specs.Pull.{pullCode, pulled, pullOf}
+use Rattle.response_rules.proofs.Pulls.{ready-length, ready-first}
+use Rattle.response_rules.proofs.OnImages.{pull-passed}
 use borrow.Author.Needs.{needs}
 use Rattle.responses.proofs.pull.Statement.{statement}
 use Rattle.responses.proofs.pull.Tie as tie

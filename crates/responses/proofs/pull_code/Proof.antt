@@ -1,6 +1,6 @@
 use mathlib.Core.Path.{_≡_, refl, sym, _∙_}
 use lib.ListN.{length}
-use Rattle.responses.proofs.Pulls.{pull-none, pull-long, pull-ok}
+use Rattle.response_rules.proofs.Pulls.{pull-none, pull-long, pull-ok}
 use borrow.Author.Needs.{needs}
 use Rattle.responses.proofs.pull_code.Statement.{statement}
 use Rattle.responses.proofs.pull_code.Tie as tie

@@ -5,7 +5,7 @@ use Rattle.queue.specs.Queue.{Signed}
 use Rattle.queue_image.specs.Image.{responseIn, listsIn}
 use Rattle.queue_image.proofs.InPlace.{front-response-is}
 use Rattle.queue_image.proofs.Steps.{ok-is}
-use Rattle.responses.proofs.OnImages.{pull-image-refused, pull-room, pull-image-done}
+use Rattle.response_rules.proofs.OnImages.{pull-image-refused, pull-room, pull-image-done}
 use borrow.Author.Needs.{needs}
 use Rattle.responses.proofs.pull_on.Statement.{statement}
 use Rattle.responses.proofs.pull_on.Tie as tie

@@ -3,7 +3,7 @@ use native.Mathlib.Omega.{arith}
 use lib.ListN.{length}
 use lib.Seq.{length-take-le}
 use Rattle.queue.specs.Queue.{signedIn}
-use Rattle.responses.proofs.Laid.{response-laid}
+use Rattle.response_rules.proofs.Laid.{response-laid}
 use borrow.Author.Needs.{needs}
 use Rattle.responses.proofs.put_response.Statement.{statement}
 use Rattle.responses.proofs.put_response.Tie as tie

@@ -6,10 +6,10 @@ use Rattle.codes.specs.declared.Code.the-variants.{Ok}
 use Rattle.queue.specs.Queue.{ready, listsOf, queueHolding}
 use Rattle.queue.proofs.Sides.{joined-room}
 use Rattle.queue_image.proofs.Steps.{ok-is}
-use Rattle.responses.specs.Sign.{signCode, signed, signedBy}
-use Rattle.responses.proofs.Pulls.{ready-length}
-use Rattle.responses.proofs.Signs.{sign-refuses, sign-accepts}
-use Rattle.responses.proofs.OnImages.{sign-passed}
+use Rattle.response_rules.specs.Sign.{signCode, signed, signedBy}
+use Rattle.response_rules.proofs.Pulls.{ready-length}
+use Rattle.response_rules.proofs.Signs.{sign-refuses, sign-accepts}
+use Rattle.response_rules.proofs.OnImages.{sign-passed}
 use borrow.Author.Needs.{needs}
 use Rattle.responses.proofs.sign.Statement.{statement}
 use Rattle.responses.proofs.sign.Tie as tie

@@ -1,5 +1,5 @@
 use mathlib.Core.Path.{sym, _∙_}
-use Rattle.responses.proofs.Signs.{sign-empty, sign-long, sign-none, sign-full, sign-ok}
+use Rattle.response_rules.proofs.Signs.{sign-empty, sign-long, sign-none, sign-full, sign-ok}
 use Rattle.responses.proofs.sign_code.Statement.{statement}
 use Rattle.responses.proofs.sign_code.Tie as tie
 

@@ -2,8 +2,8 @@ use mathlib.Core.Path.{_≡_, sym, _∙_}
 use borrow.Author.Tests.{not-true, not-false}
 use Rattle.queue_image.specs.Image.{listsIn}
 use Rattle.queue_image.proofs.Steps.{ok-is}
-use Rattle.responses.specs.Sign.{signedBy}
-use Rattle.responses.proofs.OnImages.{sign-passed, sign-image-refused, sign-image-done}
+use Rattle.response_rules.specs.Sign.{signedBy}
+use Rattle.response_rules.proofs.OnImages.{sign-passed, sign-image-refused, sign-image-done}
 use borrow.Author.Needs.{needs}
 use Rattle.responses.proofs.sign_on.Statement.{statement}
 use Rattle.responses.proofs.sign_on.Tie as tie

@@ -1,7 +1,7 @@
 use mathlib.Core.Path.{_≡_, sym, ap, _∙_}
 use Rattle.codes.specs.declared.Work.the-variants as Work
 use Rattle.queue.specs.Queue.{SigningExit, listsOf, exitOf}
-use Rattle.token.specs.Token.{TokenStep}
+use Rattle.token_rules.specs.Token.{TokenStep}
 use Rattle.runtime.specs.Step.{worldOf, kindOf, callOf, callBy, needsOf, replyCode, afterToken, afterSigning, queueBy, exitBy}
 use Rattle.runtime.specs.declared.Kind.the-variants.{PlatformToken, TokenSigning}
 use Rattle.runtime.specs.declared.Needs.the-variants.{Nothing, Session}

@@ -3,8 +3,8 @@ use native.Mathlib.Omega.{arith}
 use Prim.Native.Nat.{_+_, _-_}
 use Rattle.words.specs.Word.{part}
 use Rattle.queue_image.specs.Image.{listsIn}
-use Rattle.requests.specs.OnImage.{pushOn}
-use Rattle.responses.specs.OnImage.{pullOn}
+use Rattle.request_rules.specs.OnImage.{pushOn}
+use Rattle.response_rules.specs.OnImage.{pullOn}
 use Rattle.signing.specs.Signing.{opOf, opAt}
 use Rattle.signing.specs.OnImage.{imageDone, opOn}
 use Rattle.signing.proofs.OnImages.{put-back-on, put-same-on, image-same}

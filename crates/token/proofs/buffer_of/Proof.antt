@@ -6,8 +6,8 @@ use Rattle.codes.specs.declared.Code.the-variants.{Ok, Inval, Again}
 use Rattle.codes.proofs.Gates.{went, stood, stops, goes, then-stop, then-go}
 use Rattle.range.specs.Range.{placeOf, pageCode}
 use Rattle.range.specs.declared.OutsideAs.the-variants.{BadAddress}
-use Rattle.token.specs.Token.{listed, csizeCode, bufferCode}
-use Rattle.token.proofs.Tokens.{csize-unlisted, csize-small, csize-ok}
+use Rattle.token_rules.specs.Token.{listed, csizeCode, bufferCode}
+use Rattle.token_rules.proofs.Tokens.{csize-unlisted, csize-small, csize-ok}
 use borrow.Author.Needs.{needs}
 use Rattle.token.proofs.buffer_of.Statement.{statement}
 use Rattle.token.proofs.buffer_of.Tie as tie

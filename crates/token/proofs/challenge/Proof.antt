@@ -1,7 +1,7 @@
 use mathlib.Core.Path.{ap, _∙_}
 use Rattle.words.specs.Word.{spanStart, onFrom}
 use Rattle.words.specs.declared.Span.{Span}
-use Rattle.token.proofs.Tokens.{challenge-starts}
+use Rattle.token_rules.proofs.Tokens.{challenge-starts}
 use borrow.Author.Needs.{needs}
 use Rattle.token.proofs.challenge.Statement.{statement}
 use Rattle.token.proofs.challenge.Tie as tie

@@ -6,8 +6,8 @@ use Rattle.words.specs.declared.Span.{Span}
 use Rattle.codes.specs.Codes.{upOf}
 use Rattle.codes.proofs.Gates.{went, stood}
 use Rattle.range.specs.Range.{placeOf}
-use Rattle.token.specs.Token.{bufferCode}
-use Rattle.token.proofs.Tokens.{challenge-none, challenge-shown}
+use Rattle.token_rules.specs.Token.{bufferCode}
+use Rattle.token_rules.proofs.Tokens.{challenge-none, challenge-shown}
 use borrow.Author.Needs.{needs}
 use Rattle.token.proofs.challenge_place.Statement.{statement}
 use Rattle.token.proofs.challenge_place.Tie as tie

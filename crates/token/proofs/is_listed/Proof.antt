@@ -1,6 +1,6 @@
 use borrow.Author.Tests.{ne-eqb}
 use Rattle.words.specs.Tests.{either}
-use Rattle.token.specs.Token.{listed}
+use Rattle.token_rules.specs.Token.{listed}
 use borrow.Author.Needs.{needs}
 use Rattle.token.proofs.is_listed.Statement.{statement}
 use Rattle.token.proofs.is_listed.Tie as tie

@@ -4,8 +4,8 @@ use lib.ListN.{length}
 use Rattle.codes.specs.Codes.{upOf}
 use Rattle.codes.proofs.Gates.{went, stood}
 use Rattle.range.specs.Range.{placeOf}
-use Rattle.token.specs.Token.{bufferCode, startCode, tokenCode, beginOf, sendOf, tokenOf}
-use Rattle.token.proofs.Tokens.{buffer-room, stays, sends, token-buffer, token-start}
+use Rattle.token_rules.specs.Token.{bufferCode, startCode, tokenCode, beginOf, sendOf, tokenOf}
+use Rattle.token_rules.proofs.Tokens.{buffer-room, stays, sends, token-buffer, token-start}
 use borrow.Author.Needs.{needs}
 use Rattle.token.proofs.platform_token.Statement.{statement}
 use Rattle.token.proofs.platform_token.Tie as tie

@@ -1,7 +1,7 @@
 use mathlib.Core.Path.{_≡_}
 use Prim.Native.Nat.{_+_, _-_}
 use Rattle.words.specs.Word.{part}
-use Rattle.token.proofs.Tokens.{hunk-back}
+use Rattle.token_rules.proofs.Tokens.{hunk-back}
 use borrow.Author.Needs.{needs}
 use native.Mathlib.Omega.{arith}
 use Rattle.token.proofs.put_hunk.Statement.{statement}

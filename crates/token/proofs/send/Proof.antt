@@ -1,5 +1,5 @@
 use mathlib.Core.Path.{sym}
-use Rattle.token.proofs.Tokens.{send-none, send-last, send-more}
+use Rattle.token_rules.proofs.Tokens.{send-none, send-last, send-more}
 use borrow.Author.Needs.{needs}
 use Rattle.token.proofs.send.Statement.{statement}
 use Rattle.token.proofs.send.Tie as tie

@@ -1,8 +1,8 @@
 use mathlib.Core.Path.{refl}
 use Rattle.codes.specs.declared.Code.the-variants.{Unk, Inval}
-use Rattle.token.specs.Token.{startCode, beginOf}
+use Rattle.token_rules.specs.Token.{startCode, beginOf}
 use Rattle.codes.proofs.Gates.{stops, goes}
-use Rattle.token.proofs.Tokens.{start-empty, start-again, begin-again, next-idle, next-empty, next-other, next-ok, begin-next}
+use Rattle.token_rules.proofs.Tokens.{start-empty, start-again, begin-again, next-idle, next-empty, next-other, next-ok, begin-next}
 use borrow.Author.Needs.{needs}
 use Rattle.token.proofs.start_of.Statement.{statement}
 use Rattle.token.proofs.start_of.Tie as tie

@@ -5,9 +5,9 @@ use borrow.Author.Tests.{leb-true, not-true, not-false}
 use Rattle.sections.proofs.Sections.{placed}
 use Rattle.lists.specs.Description.{descriptionOf}
 use Rattle.lists.proofs.Lists.{unsound-lists, sound-lists, sound-totals}
-use Rattle.writer.specs.Wrote.{madeBy}
-use Rattle.writer.specs.declared.Wrote.the-variants.{Place, Edition, Lists, Late, Room}
-use Rattle.writer.proofs.Checks.{w-place, w-edition, w-lists, w-fields, w-late, w-room, w-made, lists-fit, wrote-not, wrote-page}
+use Rattle.writer_rules.specs.Wrote.{madeBy}
+use Rattle.writer_rules.specs.declared.Wrote.the-variants.{Place, Edition, Lists, Late, Room}
+use Rattle.writer_rules.proofs.Checks.{w-place, w-edition, w-lists, w-fields, w-late, w-room, w-made, lists-fit, wrote-not, wrote-page}
 use borrow.Author.Needs.{needs}
 use Rattle.writer.proofs.write.Statement.{statement}
 use Rattle.writer.proofs.write.Tie as tie

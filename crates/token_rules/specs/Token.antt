@@ -1,0 +1,114 @@
+-- 0xC40001B3: platform token, and the lookup of its challenge. Assumes nothing.
+use Prim.Native.Nat.{ℕ, _+_, _-_, min}
+use mathlib.Core.Bool.{Bool, true, false, cond}
+use mathlib.Core.List.{List, []}
+use lib.ListN.{length}
+use lib.Dec.{ltb, eqb}
+use Rattle.words.specs.Tests.{both, either}
+use Rattle.words.specs.Word.{part, splice, noSpan, spanAt}
+use Rattle.words.specs.declared.Span.{Span}
+use Rattle.boot.specs.declared.Record.{Record}
+use Rattle.range.specs.Range.{placeOf, pageCode}
+use Rattle.range.specs.declared.OutsideAs.the-variants.{BadAddress}
+use Rattle.codes.specs.Codes.{unless, fails, upOf, ifOk, andThen, answerOf}
+use Rattle.codes.specs.declared.Code.{Code}
+use Rattle.codes.specs.declared.Code.the-variants.{Ok, Unk, Inval, Again}
+use Rattle.codes.specs.declared.Answer.{Answer}
+use Rattle.token_rules.specs.declared.Tokened.{Tokened}
+use Rattle.token_rules.specs.declared.Session.{Session}
+use Rattle.token_rules.specs.declared.Session.the-variants.{Idle, Sending}
+
+-- ---- a session: none, or the token's length at its start and how much of it is sent
+unfoldable pub isIdle : Session → Bool
+isIdle Idle = true
+isIdle (Sending whole sent) = false
+
+unfoldable pub wholeOf : Session → ℕ
+wholeOf Idle = 0
+wholeOf (Sending whole sent) = whole
+
+unfoldable pub sentOf : Session → ℕ
+sentOf Idle = 0
+sentOf (Sending whole sent) = sent
+
+-- ---- the checks
+unfoldable pub listed : ℕ → Bool
+listed c = either (eqb c 0) (either (eqb c 32) (either (eqb c 48) (eqb c 64)))
+
+-- "c_size not 0, 32, 48 or 64 INVAL; c_size above the buffer's size INVAL;"
+unfoldable pub csizeCode : ℕ → ℕ → Code
+csizeCode size c = fails (unless (listed c)) Inval (fails (ltb size c) Inval Ok)
+
+-- "platform busy AGAIN; outside BAD_ADDR; too long INVAL;", then those of c_size: the checks that token and challenge share
+unfoldable pub bufferCode : Record → ℕ → Bool → ℕ → ℕ → ℕ → Code
+bufferCode r len busy pa size c = andThen (pageCode r len (fails busy Again Ok) BadAddress pa size) (csizeCode size c)
+
+-- "c_size 0 with no session INVAL; token empty, or with c_size 0 of another length than at the session's start, UNK."
+unfoldable pub startCode : Session → ℕ → ℕ → Code
+startCode s c len =
+    fails (both (eqb c 0) (isIdle s)) Inval
+    (fails (either (eqb len 0) (both (eqb c 0) (unless (eqb len (wholeOf s))))) Unk
+    Ok)
+
+-- all of them, in this order
+unfoldable pub tokenCode : Record → List ℕ → Session → Bool → List ℕ → ℕ → ℕ → ℕ → Code
+tokenCode r page s busy token pa size c = andThen (bufferCode r (length page) busy pa size c) (startCode s c (length token))
+
+-- ---- a call that passes them
+-- "A nonzero c_size always starts again, also in mid-session": where in the token a call begins
+unfoldable pub beginOf : Session → ℕ → ℕ
+beginOf s c = cond (eqb c 0) (sentOf s) 0
+
+-- "the next hunk, the smaller of buffer and rest": its length, of a call that begins at i. A session past its token's end, which no
+-- call leaves, has no rest.
+unfoldable pub hunkOf : List ℕ → ℕ → ℕ → ℕ
+hunkOf token i size = min size (length token - i)
+
+-- the rest after it
+unfoldable pub restOf : List ℕ → ℕ → ℕ → ℕ
+restOf token i size = length token - i - hunkOf token i size
+
+-- "At rest 0 the session ends."
+unfoldable pub nextSession : List ℕ → ℕ → ℕ → Session
+nextSession token i size = cond (eqb (restOf token i size) 0) Idle (Sending (length token) (i + hunkOf token i size))
+
+-- the answer, the page at exit and the next session
+pub record TokenStep : Type 0 where
+  pub answer : Answer
+  pub page : List ℕ
+  pub session : Session
+
+-- what a call answers, with the page at exit
+abbrev pub tokenExit : Tokened → List ℕ → TokenStep
+tokenExit t page = record { answer = t .answer; page = page; session = t .session }
+
+-- "Each OK writes the next hunk, the smaller of buffer and rest, at pa; x1 is the hunk, x2 the rest."
+unfoldable pub sendOf : ℕ → List ℕ → ℕ → ℕ → List ℕ → TokenStep
+sendOf at token i size page =
+    record {
+      answer = answerOf Ok (hunkOf token i size) (restOf token i size);
+      page = splice at (part i (hunkOf token i size) token) page;
+      session = nextSession token i size;
+    }
+
+-- a refusal: zeros, and the page and the session as they were
+unfoldable pub keeps : Code → List ℕ → Session → TokenStep
+keeps k page s = record { answer = answerOf k 0 0; page = page; session = s }
+
+unfoldable pub settled : Code → TokenStep → List ℕ → Session → TokenStep
+settled k new page s = ifOk k new (keeps k page s)
+
+unfoldable pub tokenOf : Record → List ℕ → Session → Bool → List ℕ → ℕ → ℕ → ℕ → TokenStep
+tokenOf r page s busy token pa size c =
+    settled (tokenCode r page s busy token pa size c) (sendOf (placeOf (upOf r) pa) token (beginOf s c) size page) page s
+
+-- ---- the challenge
+-- "A lookup before a start shows the challenge, c_size bytes at pa, as that part of the page; empty if the record is not up, the page is
+-- not 4,096 bytes long, or a BAD_ADDR or INVAL check above fails." A busy platform does not matter. The INVAL check of c_size 0 needs no
+-- case: there the part is empty.
+unfoldable pub challengeOf : Record → List ℕ → ℕ → ℕ → ℕ → List ℕ
+challengeOf r page pa size c = ifOk (bufferCode r (length page) false pa size c) (part (placeOf (upOf r) pa) c page) []
+
+-- where it lies in the page; nowhere where it is empty
+unfoldable pub challengeSpan : Record → List ℕ → ℕ → ℕ → ℕ → Span
+challengeSpan r page pa size c = ifOk (bufferCode r (length page) false pa size c) (spanAt (placeOf (upOf r) pa) c) noSpan

@@ -1,0 +1,6 @@
+pub mod Given
+pub mod Round
+pub mod Demand
+pub mod Checks
+pub mod Makes
+pub mod Sample

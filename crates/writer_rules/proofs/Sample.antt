@@ -1,0 +1,38 @@
+-- Example 14's page, made from its bank, and a page with fields. A writer that refuses everything fails here. Assumes nothing.
+use mathlib.Core.Path.{_≡_, refl}
+use mathlib.Core.List.{List, [], _∷_, _++_}
+use Prim.Native.Nat.{ℕ}
+use lib.ListN.{replicate}
+use Rattle.words.specs.Tests.{both, either, every}
+use Rattle.words.specs.Word.{leOf, leBytes, part, numAt, bytesOf, joined}
+use Rattle.versions.specs.Edition.{sectionCount, core, editionOk}
+use Rattle.entries.specs.Entry.{wordsPerEntry, bankOk, entryRule, entryOk, entriesOk, sum}
+use Rattle.sections.specs.Page.{placeOk}
+use Rattle.reader.proofs.Sample.{bank, page}
+use Rattle.fields.specs.Fields.{mkField, push, step, scan, scanAll, scanOf, judged, fieldsOk, lengthsOk, lengthOk, count, isBare, fieldsTold, tellable, endMark}
+use Rattle.lists.specs.Description.{four, descriptionOf, listOk, listsOk, descriptionOk, noneLate, withMark, platBytes, used}
+use Rattle.writer_rules.specs.Write.{neg, descriptor, arrayAddress, descriptorAt, pointTo, platWord, coreWords, filled, pageOf, Made, no-page, a-page, writerGate, writeOf}
+
+pub sample : writeOf 0x80000000 4096 2 (descriptionOf (0x90000000 ∷ 0x10000000 ∷ []) [] [] [] []) ≡ a-page page
+unfolding bank page writeOf writerGate pageOf filled coreWords descriptorAt arrayAddress descriptor neg platWord pointTo used platBytes withMark noneLate descriptionOk tellable isBare fieldsTold scanOf judged scanAll scan fieldsOk lengthsOk count listsOk listOk descriptionOf four placeOk sum entriesOk entryOk entryRule bankOk wordsPerEntry editionOk core sectionCount joined bytesOf leBytes every either both
+sample = refl
+
+-- a board name and an empty field of tag 9, behind a core of 16 bytes
+abbrev told : List ℕ
+told = 1 ∷ 1 ∷ 0 ∷ 0x41 ∷ 9 ∷ 0 ∷ 0 ∷ []
+
+abbrev making : List ℕ → Made
+making fs = writeOf 0x80000000 4096 1 (descriptionOf [] [] [] [] fs)
+
+pub sample-fields : making told ≡ a-page (leBytes 4 1 ++ leBytes 4 0 ++ leBytes 8 0x80000010 ++ told ++ replicate 4073 0)
+unfolding writeOf writerGate pageOf filled coreWords descriptorAt arrayAddress descriptor neg platWord pointTo used platBytes withMark noneLate descriptionOk tellable isBare fieldsTold scanOf judged scanAll scan step push mkField numAt part leOf fieldsOk lengthsOk lengthOk count endMark listsOk listOk descriptionOf four placeOk sum entriesOk entryOk entryRule bankOk wordsPerEntry editionOk core sectionCount joined bytesOf leBytes every either both
+sample-fields = refl
+
+-- W3: a field that is cut short, a tag 0, a name twice; W5: one byte more than fill the page with the end mark
+pub sample-refused : (making (1 ∷ 2 ∷ 0 ∷ 0x41 ∷ []) ≡ no-page 3)
+    × (making (0 ∷ 0 ∷ 0 ∷ []) ≡ no-page 3)
+    × (making (1 ∷ 1 ∷ 0 ∷ 0x41 ∷ told) ≡ no-page 3)
+    × (used 1 (descriptionOf [] [] [] [] (9 ∷ leBytes 2 4074 ++ replicate 4074 0)) ≡ 4096)
+    × (making (9 ∷ leBytes 2 4075 ++ replicate 4075 0) ≡ no-page 5)
+unfolding writeOf writerGate pageOf filled coreWords descriptorAt arrayAddress descriptor neg platWord pointTo used platBytes withMark noneLate descriptionOk tellable isBare fieldsTold scanOf judged scanAll scan step push mkField numAt part leOf fieldsOk lengthsOk lengthOk count endMark listsOk listOk descriptionOf four placeOk sum entriesOk entryOk entryRule bankOk wordsPerEntry editionOk core sectionCount joined bytesOf leBytes every either both
+sample-refused = (refl, refl, refl, refl, refl)
