@@ -1,19 +1,20 @@
 -- Entries by their place in the page, as the loops go, and that this is what the rules say of their words. Assumes nothing.
 use Prim.Native.Nat.{ℕ, zero, suc, _+_, _-_, _*_, _%_, _^_, _≤_, _<_}
 use mathlib.Core.Path.{_≡_, refl, sym, ap, _∙_}
-use mathlib.Core.Bool.{Bool, true}
+use mathlib.Core.Bool.{Bool, true, false}
 use mathlib.Core.List.{List, [], _∷_, _++_}
 use native.Mathlib.Numerals.{add-one}
 use native.Mathlib.Nat.{mul-suc, mul-le-mul-left, add-zero}
 use native.Mathlib.Omega.{arith}
 use lib.ListN.{getD}
 use lib.Dec.{leb}
-use borrow.Author.Tests.{leb-true}
+use borrow.Author.Tests.{leb-true, lt-ltb, eq-eqb, ne-eqb}
+use Rattle.words.specs.Tests.{both}
 use Rattle.words.proofs.Tests.{every-none, every-same}
 use Rattle.words.specs.Word.{part, wordAt, wordsOf}
 use Rattle.words.proofs.Read.{wordsOf-at, wordsOf-suc, num-part}
-use Rattle.entries.specs.Entry.{wordsPerEntry, size, entryOk, entriesOk, sum}
-use Rattle.entries.specs.Array.{wordsAt, entryAt, entryPlace, entriesAt, sumAt}
+use Rattle.entries.specs.Entry.{wordsPerEntry, size, entryOk, entriesOk, sum, checkOk}
+use Rattle.entries.specs.Array.{wordsAt, soundOf, entryAt, entryPlace, entriesAt, sumAt}
 use Rattle.entries.specs.Gathered.{lastOf}
 
 -- ---- words in an entry
@@ -72,14 +73,14 @@ module _ (k at i count : ℕ) (page : List ℕ) (h : i < count) where
   unfolding entryOk entryAt
   entry-same w = let p = per-range k .0 in rw (first-in, word-in 1 (omega arith), word-in (wordsPerEntry k - 1) (omega arith))
 
-pub entries-same : (w k at count : ℕ) (page : List ℕ) → entriesOk w k count (wordsAt k count at page) ≡ entriesAt w k at count page
+entries-same : (w k at count : ℕ) (page : List ℕ) → entriesOk w k count (wordsAt k count at page) ≡ entriesAt w k at count page
 unfolding entriesOk entriesAt
 entries-same w k at count page =
     every-same count (λ i. entryOk w k (wordsAt k count at page) (wordsPerEntry k * i)) (λ i. entryAt w k (entryPlace k at i) page)
     (λ i h. entry-same k at i count page h w)
 
 -- ---- the sum of an array's words
-pub sum-words : (k at count : ℕ) (page : List ℕ) → sumAt at (wordsPerEntry k * count) page ≡ sum (wordsAt k count at page)
+sum-words : (k at count : ℕ) (page : List ℕ) → sumAt at (wordsPerEntry k * count) page ≡ sum (wordsAt k count at page)
 unfolding sumAt wordsAt size
 sum-words k at count page = refl
 
@@ -136,9 +137,24 @@ sum-bank page at off i m acc x y t r h o e f g u v =
     last-law acc i x y t r u v ∙ sum-two page at off i m ((acc + i) % 2 ^ 64) x y ((x + y) % 2 ^ 64) _ h o e f g refl refl
 
 -- the total of a section, added in three steps
-pub total-law : (c p s k x h m t : ℕ) → x ≡ s % 2 ^ 64 → h ≡ (c + p) % 2 ^ 64 → m ≡ (x + k) % 2 ^ 64 → t ≡ (h + m) % 2 ^ 64 → t ≡ (c + p + s + k) % 2 ^ 64
+total-law : (c p s k x h m t : ℕ) → x ≡ s % 2 ^ 64 → h ≡ (c + p) % 2 ^ 64 → m ≡ (x + k) % 2 ^ 64 → t ≡ (h + m) % 2 ^ 64 → t ≡ (c + p + s + k) % 2 ^ 64
 total-law c p s k x h m t a b d e =
     e ∙ rw (b, d, a, mod-left s k, mod-left (c + p) ((s + k) % 2 ^ 64), mod-right (c + p) (s + k), let f : c + p + s + k ≡ c + p + (s + k) = omega arith in f)
 
 pub not-zero : (n : ℕ) → (n ≡ 0 → ⊥) → 0 < n
 not-zero n h = omega arith
+
+-- the rule of an array by the sums as they were told
+module _ (w k at c p s : ℕ) (page : List ℕ) (n : c ≡ 0 → ⊥) (z : p % 8 ≡ 0) (x h m t : ℕ) (cx : x ≡ sumAt at (wordsPerEntry k * c) page % 2 ^ 64)
+    (ch : h ≡ (c + p) % 2 ^ 64) (cm : m ≡ (x + s) % 2 ^ 64) (ct : t ≡ (h + m) % 2 ^ 64) where
+  total : t ≡ (c + p + sum (wordsAt k c at page) + s) % 2 ^ 64
+  total = total-law c p (sum (wordsAt k c at page)) s x h m t (cx ∙ ap (λ y. y % 2 ^ 64) (sum-words k at c page)) ch cm ct
+
+  pub told-unsound : (t ≡ 0 → ⊥) → false ≡ soundOf w k c p s (wordsAt k c at page)
+  unfolding soundOf checkOk both
+  told-unsound q = rw (lt-ltb 0 c (not-zero c n), eq-eqb (p % 8) 0 z, ne-eqb ((c + p + sum (wordsAt k c at page) + s) % 2 ^ 64) 0 (λ y. q (total ∙ y)))
+
+  pub told-sound : t ≡ 0 → (r : Bool) → r ≡ entriesAt w k at c page → r ≡ soundOf w k c p s (wordsAt k c at page)
+  unfolding soundOf checkOk both
+  told-sound q r e =
+      rw (lt-ltb 0 c (not-zero c n), eq-eqb (p % 8) 0 z, eq-eqb ((c + p + sum (wordsAt k c at page) + s) % 2 ^ 64) 0 (sym total ∙ q)) (e ∙ sym (entries-same w k at c page))

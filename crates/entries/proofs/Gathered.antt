@@ -156,12 +156,12 @@ module _ (w at i : ℕ) (page : List ℕ) (r : Bool) where
       e ∙ ap (both (entriesAt w k at i page)) (sym f) ∙ entries-step w k at i page
 
   pub console-step : (base pages f : ℕ) → base ≡ wordAt (at + 48 * i) page → pages ≡ wordAt (at + 48 * i + 8) page → f ≡ wordAt (at + 48 * i + 40) page →
-      r ≡ both (entriesAt w 1 at i page) (consoleOk w base pages f) → r ≡ entriesAt w 1 at (i + 1) page
+      (b : Bool) → b ≡ entriesAt w 1 at i page → r ≡ both b (consoleOk w base pages f) → r ≡ entriesAt w 1 at (i + 1) page
   unfolding entryAt entryPlace entryRule wordsPerEntry
-  console-step base pages f p q z e =
+  console-step base pages f p q z b d e =
       let o : at + 8 * (6 * i) ≡ at + 48 * i = omega arith in
       let g : entryAt w 1 (entryPlace 1 at i) page ≡ consoleOk w base pages f = rw (o, ← p, ← q, ← z) in
-      e ∙ ap (both (entriesAt w 1 at i page)) (sym g) ∙ entries-step w 1 at i page
+      e ∙ rw (d, ← g) (entries-step w 1 at i page)
 
 -- from minor 5 on any flags pass
 either-late : (b : Bool) → either b true ≡ true

@@ -1,17 +1,20 @@
 -- A list of granules, as its loop goes, and what it is of its single calls. Assumes nothing.
 use Prim.Native.Nat.{ℕ, suc, _+_, _<_}
 use mathlib.Core.Path.{_≡_, refl, sym, ap, _∙_}
-use mathlib.Core.Bool.{true, false, cond}
+use mathlib.Core.Bool.{Bool, true, false, cond}
 use mathlib.Core.List.{List, [], _∷_}
 use native.Mathlib.Numerals.{add-one}
 use native.Mathlib.Omega.{arith}
 use lib.ListN.{length, getD, drop}
 use lib.Seq.{drop-cons, drop-length}
+use Rattle.boot.specs.declared.Params.{Params}
 use Rattle.boot.specs.declared.Record.{Record}
 use Rattle.codes.specs.Codes.{isUp, upOf, isOk, answerOf}
+use Rattle.codes.specs.declared.Answer.{Answer}
+use Rattle.codes.specs.declared.Code.{Code}
 use Rattle.codes.specs.declared.Code.the-variants.{Ok, Unk, Inval}
 use Rattle.banks.specs.Banks.{Granules}
-use Rattle.granule_rules.specs.Granules.{GranuleTable, Moved, movedBy, moveAt, fitting, moveOf}
+use Rattle.granule_rules.specs.Granules.{GranuleTable, tableOf, Moved, movedBy, moveAt, fitting, moveOf, movedTo}
 use Rattle.granule_rules.specs.Lists.{onward, listBy, moveListOf}
 use Rattle.granule_rules.specs.declared.Direction.{Direction}
 use Rattle.granule_rules.proofs.Moving.{move-down, move-up, fit-kept}
@@ -27,7 +30,7 @@ onward-stop m k rest h = ap (λ b. cond b rest (record { answer = answerOf (m .a
 
 -- ---- the list from its i-th address on, as the loop goes
 module _ (f : GranuleTable → ℕ → Moved) (l : List ℕ) (i : ℕ) (t : GranuleTable) where
-  pub list-last : i ≡ length l → _≡_ {A = Moved} (record { answer = answerOf Ok (length l) 0; table = t }) (listBy f i t (drop i l))
+  list-last : i ≡ length l → _≡_ {A = Moved} (record { answer = answerOf Ok (length l) 0; table = t }) (listBy f i t (drop i l))
   unfolding listBy
   list-last e = rw (e, drop-length)
 
@@ -39,11 +42,25 @@ module _ (f : GranuleTable → ℕ → Moved) (l : List ℕ) (i : ℕ) (t : Gran
         ∙ ap (λ x. onward (f t (getD l i 0)) i (listBy f x (f t (getD l i 0) .table) (drop x l))) (sym (add-one i))
         ∙ ap (λ (x : Moved). onward x i (listBy f (i + 1) (x .table) (drop (i + 1) l))) (sym e)
 
-    pub list-more : isOk (m .answer .code) ≡ true → listBy f i t (drop i l) ≡ listBy f (i + 1) (m .table) (drop (i + 1) l)
+    list-more : isOk (m .answer .code) ≡ true → listBy f i t (drop i l) ≡ listBy f (i + 1) (m .table) (drop (i + 1) l)
     list-more k = here ∙ onward-ok m i _ k
 
-    pub list-stop : isOk (m .answer .code) ≡ false → record { answer = answerOf (m .answer .code) i 0; table = m .table } ≡ listBy f i t (drop i l)
+    list-stop : isOk (m .answer .code) ≡ false → record { answer = answerOf (m .answer .code) i 0; table = m .table } ≡ listBy f i t (drop i l)
     list-stop k = sym (here ∙ onward-stop m i _ k)
+
+-- the same by the code of the call and the table that it left, as they were told; `whole` is the list as its loop has it so far
+module _ (f : GranuleTable → ℕ → Moved) (l : List ℕ) (i : ℕ) (t : GranuleTable) (whole : Moved) (w : whole ≡ listBy f i t (drop i l)) where
+  pub told-last : i ≡ length l → (r : Answer) → r ≡ answerOf Ok (length l) 0 → _≡_ {A = Moved} (record { answer = r; table = t }) whole
+  told-last e r q = rw q (list-last f l i t e ∙ sym w)
+
+  module _ (h : i < length l) (k : Code) (bytes words : List ℕ) (e : movedTo (answerOf k 0 0) bytes words ≡ f t (getD l i 0)) (z : Bool) (o : z ≡ isOk k) where
+    pub told-more : z ≡ true → whole ≡ listBy f (i + 1) (tableOf bytes words) (drop (i + 1) l)
+    unfolding movedTo answerOf
+    told-more y = w ∙ list-more f l i t h (movedTo (answerOf k 0 0) bytes words) e (sym o ∙ y)
+
+    pub told-stop : z ≡ false → (r : Answer) → r ≡ answerOf k i 0 → movedTo r bytes words ≡ whole
+    unfolding movedTo answerOf
+    told-stop y r q = rw q (list-stop f l i t h (movedTo (answerOf k 0 0) bytes words) e (sym o ∙ y) ∙ sym w)
 
 -- ---- the record is looked at once
 -- two single calls that are one on tables of a kind, which the second leaves
@@ -63,10 +80,13 @@ module _ (s : Record) (g : Granules) (d : Direction) (t : GranuleTable) where
     unfolding moveListOf
     list-fit l = rw f
 
-    pub list-up : isUp s ≡ true → (l : List ℕ) → listBy (moveAt (upOf s) g d) 0 t l ≡ moveListOf s g d t l
+    list-up : isUp s ≡ true → (l : List ℕ) → listBy (moveAt (upOf s) g d) 0 t l ≡ moveListOf s g d t l
     list-up h l =
         same-list (λ x. fitting g x ≡ true) (moveAt (upOf s) g d) (moveOf s g d) (λ x a p. move-up s g d x a p h) (λ x a p. fit-kept s g d x a p) 0 t l f
         ∙ list-fit l
+
+    pub told-list : isUp s ≡ true → (u : Params) → u ≡ upOf s → (l : List ℕ) (m : Moved) → m ≡ listBy (moveAt u g d) 0 t l → m ≡ moveListOf s g d t l
+    told-list h u v l m e = e ∙ rw v (list-up h l)
 
     pub list-none : (l : List ℕ) → length l ≡ 0 → _≡_ {A = Moved} (record { answer = answerOf Ok 0 0; table = t }) (moveListOf s g d t l)
     unfolding listBy

@@ -16,7 +16,7 @@ use Rattle.codes.specs.declared.Code.{Code}
 use Rattle.codes.specs.declared.Code.the-variants.{Ok, Unk, BadAddr, BadPas, Inval}
 use Rattle.codes.proofs.Gates.{if-ok-by}
 use Rattle.banks.proofs.Laws.{index-below, judged-once}
-use Rattle.granule_rules.specs.Granules.{Inside, GranuleTable, tableOf, fromByte, toByte, guarded, granuleCode, moveCode, granuleSet, moved, movedBy, moveAt, fitting, whenFit, moveOf, movedTo}
+use Rattle.granule_rules.specs.Granules.{Inside, GranuleTable, tableOf, fromByte, toByte, guarded, granuleCode, moveCode, granuleSet, moved, Moved, movedBy, moveAt, fitting, whenFit, moveOf, movedTo}
 use Rattle.banks.specs.declared.Granule.{Granule}
 use Rattle.banks.specs.declared.Granule.the-variants.{Nothing, At}
 use Rattle.granule_rules.specs.declared.Direction.{Direction}
@@ -70,9 +70,13 @@ by-lengths : (k : Code) (g : Granules) (d : Direction) (t : GranuleTable) (addr 
 unfolding movedBy moved
 by-lengths k g d t addr = if-ok-by (AsLong t) k _ t (λ e. set-lengths d t _) (λ e. (refl, refl))
 
-pub move-lengths : (u : Params) (g : Granules) (d : Direction) (t : GranuleTable) (addr : ℕ) → AsLong t (moveAt u g d t addr .table)
+move-lengths : (u : Params) (g : Granules) (d : Direction) (t : GranuleTable) (addr : ℕ) → AsLong t (moveAt u g d t addr .table)
 unfolding moveAt
 move-lengths u g d t addr = by-lengths (moveCode u g d t addr) g d t addr
+
+-- the same of a move as it was told
+pub told-lengths : (u : Params) (g : Granules) (d : Direction) (t : GranuleTable) (addr : ℕ) (m : Moved) → m ≡ moveAt u g d t addr → AsLong t (m .table)
+told-lengths u g d t addr m e = rw e (move-lengths u g d t addr)
 
 -- ---- any record
 module _ (s : Record) (g : Granules) (d : Direction) (t : GranuleTable) (addr : ℕ) where
@@ -92,6 +96,9 @@ module _ (s : Record) (g : Granules) (d : Direction) (t : GranuleTable) (addr : 
     pub move-up : isUp s ≡ true → moveAt (upOf s) g d t addr ≡ moveOf s g d t addr
     unfolding moveOf moveAt whenFit whenUp unless fails
     move-up h = rw (f, h)
+
+    pub told-up : isUp s ≡ true → (u : Params) → u ≡ upOf s → (m : Moved) → m ≡ moveAt u g d t addr → m ≡ moveOf s g d t addr
+    told-up h u v m e = e ∙ rw v (move-up h)
 
     -- words that are as many as they must be stay so
     pub fit-kept : fitting g (moveOf s g d t addr .table) ≡ true

@@ -8,6 +8,7 @@ use borrow.Author.Tests.{eqb-true}
 use Rattle.words.specs.Tests.{both, Yes}
 use Rattle.words.proofs.Tests.{both-l, both-r}
 use Rattle.realm_words.specs.Answers.{wordsFit}
+use Rattle.boot.specs.declared.Params.{Params}
 use Rattle.boot.specs.declared.Record.{Record}
 use Rattle.codes.specs.Codes.{isUp, upOf, isOk, answerOf}
 use Rattle.codes.specs.declared.Code.{Code}
@@ -16,7 +17,9 @@ use Rattle.banks.specs.declared.Granule.{Granule}
 use Rattle.banks.proofs.Laws.{bank-granules, bank-granule}
 use Rattle.granule_rules.specs.Granules.{GranuleTable, tableOf, Moved, moveAt, moveOf, movedTo, fitting, readyFor, atOnce, leftAtOnce}
 use Rattle.granule_rules.specs.declared.Direction.{Direction}
-use Rattle.granule_rules.proofs.Moving.{move-up, move-refused}
+use Rattle.granule_rules.specs.Lists.{listBy, moveListOf}
+use Rattle.granule_rules.proofs.Moving.{told-up, move-refused}
+use Rattle.granule_rules.proofs.Lists.{told-list}
 
 pub bank-size : (g : Granules) (n : ℕ) → Yes (onlyBank g n) → getD g 2 0 / 4096 ≡ n
 unfolding onlyBank
@@ -27,7 +30,7 @@ pub only-is : (g : Granules) (n : ℕ) (t : List ℕ) (addr : ℕ) (k : Granule)
 only-is g n t addr k h l e = e ∙ bank-granule g n h addr ∙ ap (λ m. granuleAt g m addr) (sym l)
 
 module _ (s : Record) (g : Granules) (n : ℕ) (ws : List ℕ) (r : Yes (readyFor s g n ws)) where
-  pub ready-up : isUp s ≡ true
+  ready-up : isUp s ≡ true
   unfolding readyFor
   ready-up = both-l _ _ r
 
@@ -39,7 +42,11 @@ module _ (s : Record) (g : Granules) (n : ℕ) (ws : List ℕ) (r : Yes (readyFo
   unfolding readyFor
   ready-words = both-r _ _ (both-r _ _ r)
 
-pub ready-fits : (s : Record) (g : Granules) (t ws : List ℕ) → Yes (readyFor s g (length t) ws) → fitting g (tableOf t ws) ≡ true
+-- the test as the code met it
+pub told-ready : (s : Record) (g : Granules) (n : ℕ) (ws : List ℕ) (z b : Bool) → z ≡ readyFor s g n ws → z ≡ b → readyFor s g n ws ≡ b
+told-ready s g n ws z b e h = sym e ∙ h
+
+ready-fits : (s : Record) (g : Granules) (t ws : List ℕ) → Yes (readyFor s g (length t) ws) → fitting g (tableOf t ws) ≡ true
 ready-fits s g t ws r = ap (wordsFit ws) (bank-granules g (length t) (ready-bank s g (length t) ws r)) ∙ ready-words s g (length t) ws r
 
 -- ---- what such a call leaves
@@ -48,14 +55,21 @@ module _ (s : Record) (g : Granules) (d : Direction) (t ws : List ℕ) (addr : �
   unfolding leftAtOnce atOnce both
   not-ready h = (rw h, rw h)
 
-  pub left-ready : Yes (readyFor s g (length t) ws) → (k : Code) (b w : List ℕ) (q : Bool) → movedTo (answerOf k 0 0) b w ≡ moveAt (upOf s) g d (tableOf t ws) addr → q ≡ isOk k →
+  pub left-ready : Yes (readyFor s g (length t) ws) → (u : Params) → u ≡ upOf s → (k : Code) (b w : List ℕ) (q : Bool) → movedTo (answerOf k 0 0) b w ≡ moveAt u g d (tableOf t ws) addr → q ≡ isOk k →
       (q ≡ atOnce s g d (tableOf t ws) addr) × (tableOf b w ≡ leftAtOnce s g d (tableOf t ws) addr)
   unfolding leftAtOnce atOnce both movedTo answerOf
-  left-ready r k b w q m e = (rw r (e ∙ ap (λ (x : Moved). isOk (x .answer .code)) is), rw r (go (isOk (moveOf s g d (tableOf t ws) addr .answer .code)) refl))
+  left-ready r u v k b w q m e = (rw r (e ∙ ap (λ (x : Moved). isOk (x .answer .code)) is), rw r (go (isOk (moveOf s g d (tableOf t ws) addr .answer .code)) refl))
     where
       is : movedTo (answerOf k 0 0) b w ≡ moveOf s g d (tableOf t ws) addr
-      is = m ∙ move-up s g d (tableOf t ws) addr (ready-fits s g t ws r) (ready-up s g (length t) ws r)
+      is = told-up s g d (tableOf t ws) addr (ready-fits s g t ws r) (ready-up s g (length t) ws r) u v (movedTo (answerOf k 0 0) b w) m
 
       go : (o : Bool) → isOk (moveOf s g d (tableOf t ws) addr .answer .code) ≡ o → tableOf b w ≡ cond o (moveOf s g d (tableOf t ws) addr .table) (tableOf t ws)
       go true o = ap (λ (x : Moved). x .table) is
       go false o = ap (λ (x : Moved). x .table) is ∙ ap (λ (x : Moved). x .table) (move-refused s g d (tableOf t ws) addr o)
+
+-- ---- a list
+pub ready-list : (s : Record) (g : Granules) (d : Direction) (t ws l : List ℕ) (z : Bool) → z ≡ readyFor s g (length t) ws → z ≡ true → (u : Params) → u ≡ upOf s → (m : Moved) →
+    m ≡ listBy (moveAt u g d) 0 (tableOf t ws) l → m ≡ moveListOf s g d (tableOf t ws) l
+ready-list s g d t ws l z e h u v m =
+    let r = told-ready s g (length t) ws z true e h in
+    told-list s g d (tableOf t ws) (ready-fits s g t ws r) (ready-up s g (length t) ws r) u v l m

@@ -41,11 +41,11 @@ module _ (w i : ℕ) (ws : List ℕ) (r : Bool) where
       let f : entryOk w k ws (wordsPerEntry k * i) ≡ bankOk (getD ws at 0) (getD ws (at + 1) 0) = rw (ne-eqb k 1 n, per-other k n, ← o) in
       e ∙ ap (both (entriesOk w k i ws)) (sym f) ∙ described-step w k i ws
 
-  pub described-console : (at : ℕ) → at ≡ 6 * i → r ≡ both (entriesOk w 1 i ws) (consoleOk w (getD ws at 0) (getD ws (at + 1) 0) (getD ws (at + 5) 0)) → r ≡ entriesOk w 1 (i + 1) ws
+  pub described-console : (at : ℕ) → at ≡ 6 * i → (b : Bool) → b ≡ entriesOk w 1 i ws → r ≡ both b (consoleOk w (getD ws at 0) (getD ws (at + 1) 0) (getD ws (at + 5) 0)) → r ≡ entriesOk w 1 (i + 1) ws
   unfolding entryOk entryRule wordsPerEntry
-  described-console at o e =
+  described-console at o b d e =
       let f : entryOk w 1 ws (wordsPerEntry 1 * i) ≡ consoleOk w (getD ws at 0) (getD ws (at + 1) 0) (getD ws (at + 5) 0) = rw (← o) in
-      e ∙ ap (both (entriesOk w 1 i ws)) (sym f) ∙ described-step w 1 i ws
+      e ∙ rw (d, ← f) (described-step w 1 i ws)
 
 -- ---- the sum of a list's words
 pub sum-none : (ws : List ℕ) → 0 ≡ sum (take 0 ws) % 2 ^ 64

@@ -73,28 +73,30 @@ module _ (e base : ℕ) (page : List ℕ) where
 pub rule-told : {b : Bool} {r x : FieldsEnd} → Yes b → r ≡ cond b x Broken → r ≡ x
 rule-told {x = x} h e = e ∙ ap (λ t. cond t x Broken) h
 
-pub placed-test : {b r x : Bool} → Yes b → r ≡ both b x → r ≡ x
-unfolding both
-placed-test {x = x} h e = e ∙ ap (λ t. both t x) h
-
 -- a section
 module _ (w e base : ℕ) (f : PlatKept) (k : ℕ) (page : List ℕ) where
   pub section-lacks : sectionCount e ≤ k → (false ≡ sectionGoes w e base f k page) × (page ≡ zeroed false (16 + 24 * k) (bytesOf (0 ∷ 0 ∷ 0 ∷ [])) page)
   unfolding sectionGoes zeroed both
   section-lacks h = (rw (le-ltb k (sectionCount e) h), refl)
 
-  pub section-stands : staysAt w e base k (f .from) (f .to) page ≡ true → (false ≡ sectionGoes w e base f k page) × (page ≡ zeroed false (16 + 24 * k) (bytesOf (0 ∷ 0 ∷ 0 ∷ [])) page)
-  unfolding sectionGoes zeroed both
-  section-stands h = (rw h (none (ltb k (sectionCount e))), refl)
-    where
-      none : (b : Bool) → false ≡ both b false
-      none true = refl
-      none false = refl
+  -- by the test as it was told of a place for a manifest
+  module _ (v : Yes (placeOk base (length page))) (z : Bool) (c : z ≡ both (placeOk base (length page)) (staysAt w e base k (f .from) (f .to) page)) where
+    stays-told : (b : Bool) → z ≡ b → staysAt w e base k (f .from) (f .to) page ≡ b
+    unfolding both
+    stays-told b h = sym (rw v at c) ∙ h
 
-  pub section-goes : k < sectionCount e → staysAt w e base k (f .from) (f .to) page ≡ false → (p : List ℕ) → p ≡ laid (16 + 24 * k) (bytesOf (0 ∷ 0 ∷ 0 ∷ [])) page →
-      (true ≡ sectionGoes w e base f k page) × (p ≡ zeroed true (16 + 24 * k) (bytesOf (0 ∷ 0 ∷ 0 ∷ [])) page)
-  unfolding sectionGoes zeroed both
-  section-goes h s p z = (rw (lt-ltb k (sectionCount e) h, s), z)
+    pub section-stands : z ≡ true → (false ≡ sectionGoes w e base f k page) × (page ≡ zeroed false (16 + 24 * k) (bytesOf (0 ∷ 0 ∷ 0 ∷ [])) page)
+    unfolding sectionGoes zeroed both
+    section-stands h = (rw (stays-told true h) (none (ltb k (sectionCount e))), refl)
+      where
+        none : (b : Bool) → false ≡ both b false
+        none true = refl
+        none false = refl
+
+    pub section-goes : z ≡ false → k < sectionCount e → (p : List ℕ) → p ≡ laid (16 + 24 * k) (bytesOf (0 ∷ 0 ∷ 0 ∷ [])) page →
+        (true ≡ sectionGoes w e base f k page) × (p ≡ zeroed true (16 + 24 * k) (bytesOf (0 ∷ 0 ∷ 0 ∷ [])) page)
+    unfolding sectionGoes zeroed both
+    section-goes h l p q = (rw (lt-ltb k (sectionCount e) l, stays-told false h), q)
 
 -- ---- the steps in their order
 module _ (base : ℕ) (page : List ℕ) (place : Yes (placeOk base (length page))) where

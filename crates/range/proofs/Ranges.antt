@@ -1,6 +1,6 @@
 -- The range check and the gate of a command on the page: each return, and what a code of OK tells. Assumes nothing.
 use Prim.Native.Nat.{ℕ, _+_, _-_, _<_, _≤_}
-use mathlib.Core.Path.{_≡_, refl}
+use mathlib.Core.Path.{_≡_, refl, _∙_}
 use mathlib.Core.Bool.{Bool, true, false, true≢false}
 use native.Mathlib.Nat.{add-zero}
 use native.Mathlib.Omega.{arith}
@@ -9,9 +9,10 @@ use borrow.Author.Tests.{lt-ltb, le-ltb, le-leb, lt-leb, ltb-false, leb-false, e
 use Rattle.words.specs.Tests.{either}
 use Rattle.boot.specs.declared.Params.{Params}
 use Rattle.boot.specs.declared.Record.{Record}
-use Rattle.codes.specs.Codes.{isUp, upOf, unless, fails, whenUp, isOk, andThen}
+use Rattle.codes.specs.Codes.{isUp, upOf, unless, fails, whenUp, isOk, andThen, gated}
 use Rattle.codes.specs.declared.Code.{Code}
 use Rattle.codes.specs.declared.Code.the-variants.{Ok, Unk, Inval}
+use Rattle.codes.specs.declared.Gate.{Gate}
 use Rattle.codes.proofs.Gates.{fails-ok, unless-ok, first-ok, then-ok, then-stop}
 use Rattle.range.specs.Range.{outside, tooLong, placeOf, outsideCode, rangeCode, pageCode}
 use Rattle.range.specs.declared.OutsideAs.{OutsideAs}
@@ -85,6 +86,10 @@ module _ (r : Record) (len : ℕ) (first : Code) (out : OutsideAs) (pa size : �
       pub page-range : isOk first ≡ true → pageCode r len first out pa size ≡ rangeCode (upOf r) out pa size
       unfolding pageCode whenUp fails unless andThen
       page-range f = rw (h, eq-eqb len 4096 n, f)
+
+      pub told-range : isOk first ≡ true → (u : Params) → u ≡ upOf r → (g : Gate) → g ≡ gated (rangeCode u out pa size) (placeOf u pa) →
+          g ≡ gated (pageCode r len first out pa size) (placeOf (upOf r) pa)
+      told-range f u v g e = e ∙ rw (v, ← page-range f)
 
 -- what a gate that goes tells: each check, and that the buffer lies in the page
 pub record Passed (r : Record) (len : ℕ) (first : Code) (pa size : ℕ) : Type 0 where

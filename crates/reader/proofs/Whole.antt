@@ -184,6 +184,9 @@ module _ (r base : ℕ) (page : List ℕ) where
   unfolding sectionRead
   fine-section w k h = sym (section-view w (min r w) base page k) ∙ ap (λ x. sectionRead x k) (fine-reads w h .2)
 
+  pub told-section : (w k e : ℕ) → e ≡ min r w → (v : Verdict) → v ≡ verdictOf (readingOf r base page) → v ≡ Fine w → (s : Section) → s ≡ sectionAt e base page k → s ≡ sectionRead (readingOf r base page) k
+  told-section w k e ce v cv h s q = q ∙ rw ce (fine-section w k (sym h ∙ cv))
+
   pub refused-section : (c : Refusal) (k : ℕ) → Wrong c ≡ verdictOf (readingOf r base page) → Absent ≡ sectionRead (readingOf r base page) k
   unfolding sectionRead
   refused-section c k h = ap (λ x. sectionRead x k) (refused-reads c h)
@@ -225,6 +228,20 @@ module _ (r base : ℕ) (page : List ℕ) where
             Accepted (viewAt (minorOf (versionAt page)) (min r (minorOf (versionAt page))) base page) ≡ readingOf r base page
         unfolding readingOf readingGate both
         read-shows o = rw (h, g, v, o)
+
+        -- the verdict by minor, edition and the test of the rules as they were told
+        module _ (w e : ℕ) (cw : w ≡ minorOf (versionAt page)) (ce : e ≡ min r w) (z : Bool) (cz : z ≡ both (placeOk base (length page)) (rulesAt w e base page)) where
+          was-rules : (b : Bool) → z ≡ b → rulesAt (minorOf (versionAt page)) (min r (minorOf (versionAt page))) base page ≡ b
+          unfolding both
+          was-rules b q = rw (← cw, ← ce) (sym (rw h at cz) ∙ q)
+
+          pub told-rules : z ≡ false → Wrong Rules ≡ verdictOf (readingOf r base page)
+          unfolding verdictOf
+          told-rules q = ap verdictOf (read-rules (was-rules false q))
+
+          pub told-fine : z ≡ true → Fine w ≡ verdictOf (readingOf r base page)
+          unfolding verdictOf viewAt
+          told-fine q = ap Fine cw ∙ ap verdictOf (read-shows (was-rules true q))
 
 pub section-none : (v : View) (k : ℕ) → 3 < k → sectionOf v k ≡ Absent
 unfolding sectionOf

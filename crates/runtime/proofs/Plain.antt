@@ -6,12 +6,18 @@ use mathlib.Core.List.{List}
 use native.Mathlib.Omega.{arith}
 use Rattle.boot.specs.declared.Record.{Record}
 use Rattle.banks.specs.Banks.{Granules}
+use Rattle.codes.specs.declared.Work.the-variants as Work
+use Rattle.token_rules.specs.Token.{TokenStep, tokenOf}
 use Rattle.token_rules.specs.declared.Session.{Session}
-use Rattle.queue.specs.Queue.{Lists}
+use Rattle.queue.specs.declared.Queue.{Queue}
+use Rattle.queue.specs.Queue.{Lists, SigningExit, listsOf, exitOf}
+use Rattle.signing.specs.Signing.{signingOf}
 use Rattle.runtime.specs.declared.Kind.{Kind}
 use Rattle.runtime.specs.declared.Kind.the-variants.{ForwardError, Delegate, Undelegate, RealmKey, PlatformToken, Features, TokenSigning, KeyUpdate, Unlisted}
 use Rattle.runtime.specs.declared.Needs.{Needs}
-use Rattle.runtime.specs.Step.{Step, withSession, withQueue, worldOf, plainWorld, callWith, plainCall, kindOf, afterMove, afterKey, afterUpdate, callBy, callOf, needsOf, plainBy, plainOf}
+use Rattle.runtime.specs.declared.Reply.{Reply}
+use Rattle.runtime.specs.declared.Reply.the-variants.{Back}
+use Rattle.runtime.specs.Step.{Step, withSession, withQueue, worldOf, plainWorld, callWith, plainCall, kindOf, afterMove, afterKey, afterToken, afterSigning, afterUpdate, callBy, callOf, replyCode, needsOf, plainBy, plainOf, CallExit, queueBy, exitBy}
 
 pub needs-session : (k : Kind) → needsOf k ≡ Needs.Session → k ≡ PlatformToken
 unfolding needsOf
@@ -60,3 +66,30 @@ module _ (g : Granules) (page table words : List ℕ) (s : Session) (q : Lists) 
       callOf g (worldOf page table words s q) (callWith r id x1 x2 x3 x4 busy key token public width) ≡ beside s q (plainOf g (plainWorld page table words) (plainCall r id x1 x2 x3 key width))
   unfolding callOf plainOf
   plain-beside h = plain-by (kindOf id) h
+
+-- ---- a call by value, by the state that it uses and what its command left, as they were told
+module _ (g : Granules) (page table words : List ℕ) (s : Session) (old : Queue) (r : Record) (id x1 x2 x3 x4 : ℕ) (busy : Bool) (key token public : List ℕ) (width : ℕ)
+    (n : Needs) (cn : n ≡ needsOf (kindOf id)) where
+  abbrev Exit : CallExit → Type 0
+  Exit e = e ≡ exitBy (needsOf (kindOf id)) old (callOf g (worldOf page table words s (listsOf old)) (callWith r id x1 x2 x3 x4 busy key token public width))
+
+  pub told-plain : n ≡ Needs.Nothing → (x : Reply) (p t w : List ℕ) →
+      _≡_ {A = Step} (record { reply = x; next = plainWorld p t w }) (plainOf g (plainWorld page table words) (plainCall r id x1 x2 x3 key width)) →
+      Exit (record { reply = x; page = p; table = t; words = w; session = s; queue = old })
+  unfolding exitBy queueBy
+  told-plain h x p t w e =
+      let k : needsOf (kindOf id) ≡ Needs.Nothing = sym cn ∙ h in
+      rw k (ap (exitBy Needs.Nothing old) (ap (beside s (listsOf old)) e ∙ sym (plain-beside g page table words s (listsOf old) r id x1 x2 x3 x4 busy key token public width k)))
+
+  pub told-token : n ≡ Needs.Session → (t : TokenStep) → t ≡ tokenOf r page s busy token x1 x2 x3 →
+      Exit (record { reply = Back (t .answer) Work.Nothing; page = t .page; table = table; words = words; session = t .session; queue = old })
+  unfolding callOf callBy needsOf exitBy queueBy afterToken
+  told-token h t e =
+      rw (needs-session (kindOf id) (sym cn ∙ h)) (ap (λ (t : TokenStep). exitBy Needs.Session old (afterToken t (worldOf page table words s (listsOf old)))) e)
+
+  pub told-signing : n ≡ Needs.Queue → (x : SigningExit) → x ≡ exitOf old (signingOf r page (listsOf old) public x1 x2 x3 x4) →
+      Exit (record { reply = Back (x .answer) Work.Nothing; page = x .page; table = table; words = words; session = s; queue = x .queue })
+  unfolding callOf callBy needsOf exitBy queueBy replyCode afterSigning exitOf
+  told-signing h x e =
+      rw (needs-queue (kindOf id) (sym cn ∙ h))
+      (ap (λ (x : SigningExit). record { reply = Back (x .answer) Work.Nothing; page = x .page; table = table; words = words; session = s; queue = x .queue }) e)

@@ -20,6 +20,7 @@ use Rattle.sections.specs.Steps.{platEnd, okAt, okTo, endOf, apartAt, cl
 use Rattle.fields.specs.Fields.{Scanned, broken, ended, bare, isEnded, taken, scanOf}
 use Rattle.fields.specs.Steps.{endTold}
 use Rattle.fields.proofs.Same.{taken-room}
+use Rattle.fields.specs.declared.FieldsEnd.{FieldsEnd}
 use Rattle.fields.specs.declared.FieldsEnd.the-variants as fieldsEnd
 
 -- ---- the place of a page
@@ -128,13 +129,14 @@ module _ (w e base : ℕ) (page : List ℕ) where
   unfolding okTo
   ok-none = every-none (λ k. okAt w e base k page)
 
-  pub ok-more : (n : ℕ) → okTo w e base n page ≡ true → okAt w e base n page ≡ true → okTo w e base (n + 1) page ≡ true
+  -- by what was told of one
+  pub ok-more : (n : ℕ) → okTo w e base n page ≡ true → (z : Bool) → z ≡ okAt w e base n page → z ≡ true → okTo w e base (n + 1) page ≡ true
   unfolding okTo
-  ok-more n p q = every-more n (λ k. okAt w e base k page) p q
+  ok-more n p z c q = every-more n (λ k. okAt w e base k page) p (sym c ∙ q)
 
-  pub ok-not : (n k : ℕ) → k < n → okAt w e base k page ≡ false → okTo w e base n page ≡ false
+  pub ok-not : (n k : ℕ) → k < n → (z : Bool) → z ≡ okAt w e base k page → z ≡ false → false ≡ okTo w e base n page
   unfolding okTo
-  ok-not n k h q = every-not n (λ k. okAt w e base k page) k h q
+  ok-not n k h z c q = sym (every-not n (λ k. okAt w e base k page) k h (sym c ∙ q))
 
   pub ok-each : (n k : ℕ) → okTo w e base n page ≡ true → k < n → okAt w e base k page ≡ true
   unfolding okTo
@@ -186,22 +188,34 @@ module _ (from to : ℕ) (page : List ℕ) where
 
 -- one array, as the code compares: by its length, since its end may be no address
 module _ (from to k : ℕ) (page : List ℕ) where
-  pub clear-below : to ≤ pointerAt k page → clearAt from to k page ≡ true
+  clear-below : to ≤ pointerAt k page → clearAt from to k page ≡ true
   unfolding clearAt either
   clear-below h = rw (le-leb to (pointerAt k page) h)
 
   module _ (h : pointerAt k page < to) where
-    pub clear-across : from < pointerAt k page → clearAt from to k page ≡ false
+    clear-across : from < pointerAt k page → clearAt from to k page ≡ false
     unfolding clearAt endOf either
     clear-across g = rw (lt-leb to (pointerAt k page) h, lt-leb (pointerAt k page + size k (countAt k page)) from (omega arith))
 
-    pub clear-above : pointerAt k page ≤ from → clearAt from to k page ≡ leb (size k (countAt k page)) (from - pointerAt k page)
+    clear-above : pointerAt k page ≤ from → clearAt from to k page ≡ leb (size k (countAt k page)) (from - pointerAt k page)
     unfolding clearAt endOf either
     clear-above g = rw (lt-leb to (pointerAt k page) h) (go (decLe (size k (countAt k page)) (from - pointerAt k page)))
       where
         go : Dec (size k (countAt k page) ≤ from - pointerAt k page) → leb (pointerAt k page + size k (countAt k page)) from ≡ leb (size k (countAt k page)) (from - pointerAt k page)
         go (yes l) = rw (le-leb (size k (countAt k page)) (from - pointerAt k page) l, le-leb (pointerAt k page + size k (countAt k page)) from (omega arith))
         go (no l) = rw (lt-leb (size k (countAt k page)) (from - pointerAt k page) (omega arith), lt-leb (pointerAt k page + size k (countAt k page)) from (omega arith))
+
+  -- the same by the words as they were read
+  module _ (p : ℕ) (cp : p ≡ pointerAt k page) where
+    pub told-below : to ≤ p → true ≡ clearAt from to k page
+    told-below h = sym (clear-below (rw (← cp) h))
+
+    module _ (h : p < to) where
+      pub told-across : from < p → false ≡ clearAt from to k page
+      told-across g = sym (clear-across (rw (← cp) h) (rw (← cp) g))
+
+      pub told-above : p ≤ from → (n : ℕ) → n ≡ countAt k page → (r : Bool) → r ≡ leb (size k n) (from - p) → r ≡ clearAt from to k page
+      told-above g n cn r q = q ∙ rw (cn, cp) (sym (clear-above (rw (← cp) h) (rw (← cp) g)))
 
 -- fields that a reader takes, as the pass over them tells
 pub end-told : (s : Scanned) → cond (isEnded s) (fieldsEnd.Ended (taken s)) fieldsEnd.Broken ≡ endTold s
@@ -286,29 +300,67 @@ unfolding rulesAt rules okTo okAt apartTo clearTo apartAt clearBefore apart exte
 rules-steps w e base page = refl
 
 module _ (w e base : ℕ) (page : List ℕ) where
-  pub rules-padding : (paddingAt page ≡ 0 → ⊥) → rulesAt w e base page ≡ false
+  rules-padding : (paddingAt page ≡ 0 → ⊥) → rulesAt w e base page ≡ false
   unfolding both
   rules-padding p = rw (rules-steps w e base page, ne-eqb (paddingAt page) 0 p)
 
   module _ (p : paddingAt page ≡ 0) where
-    pub rules-plat : platOk e base (platAt base page) ≡ false → rulesAt w e base page ≡ false
+    rules-plat : platOk e base (platAt base page) ≡ false → rulesAt w e base page ≡ false
     unfolding both
     rules-plat q = rw (rules-steps w e base page, eq-eqb (paddingAt page) 0 p, q)
 
     module _ (q : platOk e base (platAt base page) ≡ true) where
-      pub rules-each : okTo w e base (sectionCount e) page ≡ false → rulesAt w e base page ≡ false
+      rules-each : okTo w e base (sectionCount e) page ≡ false → rulesAt w e base page ≡ false
       unfolding both
       rules-each o = rw (rules-steps w e base page, eq-eqb (paddingAt page) 0 p, q, o)
 
       module _ (o : okTo w e base (sectionCount e) page ≡ true) where
-        pub rules-apart : apartTo (sectionCount e) page ≡ false → rulesAt w e base page ≡ false
+        rules-apart : apartTo (sectionCount e) page ≡ false → rulesAt w e base page ≡ false
         unfolding both
         rules-apart a = rw (rules-steps w e base page, eq-eqb (paddingAt page) 0 p, q, o, a)
 
-        pub rules-clear : apartTo (sectionCount e) page ≡ true →
+        rules-clear : apartTo (sectionCount e) page ≡ true →
             rulesAt w e base page ≡ clearFrom (wordAt 8 page) (wordAt 8 page + taken (foundAt base page (wordAt 8 page))) (sectionCount e) page
         unfolding both
         rules-clear a = rw (rules-steps w e base page, eq-eqb (paddingAt page) 0 p, q, o, a)
+
+-- the same by the words as they were read and the answers that were told
+module _ (w e base : ℕ) (page : List ℕ) (d : ℕ) (cd : d ≡ paddingAt page) where
+  pub told-padding : (d ≡ 0 → ⊥) → false ≡ rulesAt w e base page
+  told-padding n = sym (rules-padding w e base page (λ z. n (cd ∙ z)))
+
+  module _ (z : d ≡ 0) (q : ℕ) (cq : q ≡ wordAt 8 page) (x : FieldsEnd) (cx : x ≡ platEnd e base (mkPlat q (foundAt base page q))) where
+    is-none : paddingAt page ≡ 0
+    is-none = sym cd ∙ z
+
+    is-end : x ≡ platEnd e base (platAt base page)
+    unfolding platAt
+    is-end = cx ∙ rw cq
+
+    pub told-broken : x ≡ fieldsEnd.Broken → false ≡ rulesAt w e base page
+    told-broken h = sym (rules-plat w e base page is-none (plat-broken e base (platAt base page) (sym h ∙ is-end)))
+
+    module _ (m : ℕ) (h : x ≡ fieldsEnd.Ended m) where
+      is-plat : (platOk e base (platAt base page) ≡ true) × (m ≡ taken (foundAt base page (wordAt 8 page)))
+      unfolding platAt mkPlat
+      is-plat = plat-ended e base (platAt base page) m (sym h ∙ is-end)
+
+      pub told-top : length page ≡ 4096 → q + m ≤ base + 8192
+      told-top l = rw (is-plat .1, cq) (plat-top e base page l (is-plat .0))
+
+      module _ (n : ℕ) (cn : n ≡ sectionCount e) (o : Bool) (co : o ≡ okTo w e base n page) where
+        pub told-each : o ≡ false → false ≡ rulesAt w e base page
+        told-each f = sym (rules-each w e base page is-none (is-plat .0) (rw (← cn) (sym co ∙ f)))
+
+        module _ (t : o ≡ true) (a : Bool) (ca : a ≡ apartTo n page) where
+          pub told-apart : a ≡ false → false ≡ rulesAt w e base page
+          told-apart f = sym (rules-apart w e base page is-none (is-plat .0) (rw (← cn) (sym co ∙ t)) (rw (← cn) (sym ca ∙ f)))
+
+          pub told-clear : a ≡ true → (r : Bool) → r ≡ clearFrom q (q + m) n page → r ≡ rulesAt w e base page
+          told-clear y r c = c ∙ rw (is-plat .1, cq, cn) (sym (rules-clear w e base page is-none (is-plat .0) (rw (← cn) (sym co ∙ t)) (rw (← cn) (sym ca ∙ y))))
+
+pub told-ends : (w e base n : ℕ) (page : List ℕ) (o : Bool) → o ≡ okTo w e base n page → o ≡ true → (k : ℕ) → k < n → endOf k page ≤ base + 4096
+told-ends w e base n page o c t k l = ok-end w e base k page (ok-each w e base page n k (sym c ∙ t) l)
 
 pub rules-sections : (w e base : ℕ) (page : List ℕ) → rulesAt w e base page ≡ true → okTo w e base (sectionCount e) page ≡ true
 rules-sections w e base page h = both-l _ _ (both-r _ _ (both-r _ _ (rw (rules-steps w e base page) at h)))
@@ -321,15 +373,34 @@ rules-pointer w e base page h = both-l _ _ (both-r _ _ (rw (rules-steps w e base
 
 -- ---- the rule of one section among others, check by check
 module _ (w e base k from to : ℕ) (page : List ℕ) where
-  pub stays-own : okAt w e base k page ≡ false → staysAt w e base k from to page ≡ false
+  stays-own : okAt w e base k page ≡ false → staysAt w e base k from to page ≡ false
   unfolding staysAt both
   stays-own o = rw o
 
   module _ (o : okAt w e base k page ≡ true) where
-    pub stays-before : clearFrom (pointerAt k page) (endOf k page) k page ≡ false → staysAt w e base k from to page ≡ false
+    stays-before : clearFrom (pointerAt k page) (endOf k page) k page ≡ false → staysAt w e base k from to page ≡ false
     unfolding staysAt both
     stays-before a = rw (o, a)
 
     pub stays-clear : clearFrom (pointerAt k page) (endOf k page) k page ≡ true → staysAt w e base k from to page ≡ clearAt from to k page
     unfolding staysAt both
     stays-clear a = rw (o, a)
+
+-- the same by the words as they were read and the answers that were told
+module _ (w e base k : ℕ) (page : List ℕ) (z : Bool) (c : z ≡ okAt w e base k page) where
+  pub told-end : z ≡ true → endOf k page ≤ base + 4096
+  told-end h = ok-end w e base k page (sym c ∙ h)
+
+  module _ (v : placeOk base (length page) ≡ true) (from to : ℕ) where
+    pub told-own : z ≡ false → false ≡ both (placeOk base (length page)) (staysAt w e base k from to page)
+    unfolding both
+    told-own h = rw v (sym (stays-own w e base k from to page (sym c ∙ h)))
+
+    module _ (h : z ≡ true) (p : ℕ) (cp : p ≡ pointerAt k page) (q : ℕ) (cq : q ≡ endOf k page) (y : Bool) (cy : y ≡ clearFrom p q k page) where
+      pub told-before : y ≡ false → false ≡ both (placeOk base (length page)) (staysAt w e base k from to page)
+      unfolding both
+      told-before g = rw v (sym (stays-before w e base k from to page (sym c ∙ h) (rw (← cp, ← cq) (sym cy ∙ g))))
+
+      pub told-stays : y ≡ true → (r : Bool) → r ≡ clearAt from to k page → r ≡ both (placeOk base (length page)) (staysAt w e base k from to page)
+      unfolding both
+      told-stays g r m = rw v (m ∙ sym (stays-clear w e base k from to page (sym c ∙ h) (rw (← cp, ← cq) (sym cy ∙ g))))

@@ -1,24 +1,32 @@
 -- Token signing: the checks, return by return, and what a call leaves, case by case. Assumes nothing.
 use Prim.Native.Nat.{ℕ, _+_, _<_, _≤_}
-use mathlib.Core.Path.{_≡_, refl, sym, ap}
-use mathlib.Core.Bool.{true, false, true≢false}
+use mathlib.Core.Path.{_≡_, refl, sym, ap, _∙_}
+use mathlib.Core.Bool.{Bool, true, false, true≢false}
 use mathlib.Core.List.{List}
 use native.Mathlib.Omega.{arith}
 use lib.ListN.{length}
 use borrow.Author.Tests.{eq-eqb, ne-eqb, lt-ltb, le-ltb}
 use Rattle.words.specs.Word.{part, splice}
+use Rattle.boot.specs.declared.Params.{Params}
 use Rattle.boot.specs.declared.Record.{Record}
 use Rattle.range.specs.Range.{placeOf, pageCode}
 use Rattle.range.specs.declared.OutsideAs.the-variants.{Invalid}
 use Rattle.range.proofs.Ranges.{Passed, passed}
-use Rattle.codes.specs.Codes.{upOf, fails, andThen, isOk, answerOf}
-use Rattle.codes.proofs.Gates.{first-ok, then-stop, if-ok-by}
+use Rattle.codes.specs.Codes.{upOf, fails, andThen, isOk, answerOf, gated}
+use Rattle.codes.proofs.Gates.{first-ok, then-stop, went, stood, stops, goes, if-ok-by}
 use Rattle.codes.specs.declared.Code.{Code}
 use Rattle.codes.specs.declared.Code.the-variants.{Ok, Unk, Inval, Again}
-use Rattle.queue.specs.Queue.{Lists, SigningStep, queued, oldestResponse}
+use Rattle.codes.specs.declared.Gate.{Gate}
+use Rattle.codes.specs.declared.Gate.the-variants.{Stop, Go}
+use Rattle.queue.specs.declared.Queue.{Queue}
+use Rattle.queue.specs.Queue.{Lists, SigningStep, SigningExit, queued, oldestResponse, listsOf, exitOf}
+use Rattle.queue.proofs.Steps.{goes-on}
+use Rattle.queue_image.specs.Image.{listsIn}
+use Rattle.queue_image.specs.Steps.{ImageStep}
 use Rattle.request_rules.specs.Push.{pushCode, pushed, pushOf}
 use Rattle.response_rules.specs.Pull.{responseBytes, pullCode, pulled, pullOf}
 use Rattle.signing.specs.Signing.{opcodeOf, isOther, badCurve, sharedCode, publicCode, publicOf, opOf, putBack, opAt, signingOf}
+use Rattle.signing.specs.OnImage.{opOn, signingDone, signingOn}
 use Rattle.signing.specs.declared.Opcode.{Opcode}
 use Rattle.signing.specs.declared.Opcode.the-variants.{Push, Pull, Key, Other}
 use Rattle.signing.proofs.Buffers.{buffer-length, back-same, back-over, pull-fits, public-fits}
@@ -47,6 +55,62 @@ module _ (r : Record) (len : ℕ) (o : Opcode) (pa size curve : ℕ) where
   pub shared-passed : sharedCode r len o pa size curve ≡ Ok → Passed r len (fails (isOther o) Inval Ok) pa size
   unfolding sharedCode
   shared-passed h = passed _ _ _ _ _ _ (first-ok _ _ h)
+
+-- the gate of those checks, return by return, by the answers that were told
+module _ (r : Record) (len : ℕ) (o : Opcode) (pa size curve : ℕ) (t : Bool) (ct : t ≡ isOther o) (k : Code) (ck : k ≡ fails t Inval Ok)
+    (g : Gate) (cg : g ≡ gated (pageCode r len k Invalid pa size) (placeOf (upOf r) pa)) where
+  page-gated : gated (pageCode r len (fails (isOther o) Inval Ok) Invalid pa size) (placeOf (upOf r) pa) ≡ g
+  page-gated = rw (← ct, ← ck) (sym cg)
+
+  pub gate-stop : (j : Code) → g ≡ Stop j → g ≡ gated (sharedCode r len o pa size curve) (placeOf (upOf r) pa)
+  gate-stop j h =
+      let p = stood (pageCode r len (fails (isOther o) Inval Ok) Invalid pa size) (placeOf (upOf r) pa) j (page-gated ∙ h) in
+      h ∙ stops (sharedCode r len o pa size curve) (placeOf (upOf r) pa) j (shared-stop r len o pa size curve j (p .0) (p .1)) (p .1)
+
+  module _ (at : ℕ) (h : g ≡ Go at) (b : Bool) (cb : b ≡ badCurve o curve) where
+    page-went : (pageCode r len (fails (isOther o) Inval Ok) Invalid pa size ≡ Ok) × (at ≡ placeOf (upOf r) pa)
+    page-went = went (pageCode r len (fails (isOther o) Inval Ok) Invalid pa size) (placeOf (upOf r) pa) at (page-gated ∙ h)
+
+    pub gate-curve : b ≡ true → Stop Inval ≡ gated (sharedCode r len o pa size curve) (placeOf (upOf r) pa)
+    gate-curve y = stops (sharedCode r len o pa size curve) (placeOf (upOf r) pa) Inval (shared-curve r len o pa size curve (page-went .0) (sym cb ∙ y)) refl
+
+    module _ (n : b ≡ false) (u : Params) (cu : u ≡ upOf r) where
+      pub gate-minor : u .minor < 4 → Stop Unk ≡ gated (sharedCode r len o pa size curve) (placeOf (upOf r) pa)
+      gate-minor m = stops (sharedCode r len o pa size curve) (placeOf (upOf r) pa) Unk (shared-minor r len o pa size curve (page-went .0) (sym cb ∙ n) (rw (← cu) m)) refl
+
+      pub gate-go : 4 ≤ u .minor → Go at ≡ gated (sharedCode r len o pa size curve) (placeOf (upOf r) pa)
+      gate-go m = goes (sharedCode r len o pa size curve) (placeOf (upOf r) pa) at (shared-ok r len o pa size curve (page-went .0) (sym cb ∙ n) (rw (← cu) m)) (page-went .1)
+
+-- ---- a call by its opcode and gate, as they were told
+module _ (r : Record) (page : List ℕ) (op pa size curve : ℕ) (o : Opcode) (co : o ≡ opcodeOf op) (g : Gate) (cg : g ≡ gated (sharedCode r (length page) o pa size curve) (placeOf (upOf r) pa)) where
+  shared-gated : gated (sharedCode r (length page) (opcodeOf op) pa size curve) (placeOf (upOf r) pa) ≡ g
+  shared-gated = rw (← co) (sym cg)
+
+  pub told-stop : (j : Code) → g ≡ Stop j → (sharedCode r (length page) (opcodeOf op) pa size curve ≡ j) × (isOk j ≡ false)
+  told-stop j h = stood (sharedCode r (length page) (opcodeOf op) pa size curve) (placeOf (upOf r) pa) j (shared-gated ∙ h)
+
+  module _ (at : ℕ) (h : g ≡ Go at) where
+    shared-went : (sharedCode r (length page) (opcodeOf op) pa size curve ≡ Ok) × (at ≡ placeOf (upOf r) pa)
+    shared-went = went (sharedCode r (length page) (opcodeOf op) pa size curve) (placeOf (upOf r) pa) at (shared-gated ∙ h)
+
+    -- the buffer is within the page
+    pub told-room : at + size ≤ length page
+    told-room =
+        let p = shared-passed r (length page) (opcodeOf op) pa size curve (shared-went .0) in
+        omega (arith, shared-went .1, p .whole, p .room)
+
+    -- and the answer is that of the opcode on it
+    pub told-op : (q : Lists) (key : List ℕ) → opAt o at size page q key ≡ signingOf r page q key op pa size curve
+    unfolding signingOf
+    told-op q key =
+        rw (co, shared-went .1) (goes-on (sharedCode r (length page) (opcodeOf op) pa size curve) page q (opAt (opcodeOf op) (placeOf (upOf r) pa) size page q key) (shared-went .0))
+
+    pub told-served : (old : Queue) (key : List ℕ) (x : SigningExit) → x ≡ exitOf old (opAt o at size page (listsOf old) key) → x ≡ exitOf old (signingOf r page (listsOf old) key op pa size curve)
+    told-served old key x e = e ∙ rw (told-op (listsOf old) key)
+
+    pub told-served-on : (w key : List ℕ) (x : ImageStep) → x ≡ opOn o at size page w key → x ≡ signingOn r page w key op pa size curve
+    unfolding opOn signingOn signingDone
+    told-served-on w key x e = e ∙ rw (told-op (listsIn w) key, co, shared-went .1)
 
 -- ---- the public key
 module _ (size : ℕ) (key : List ℕ) where

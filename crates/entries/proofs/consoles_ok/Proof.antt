@@ -1,9 +1,9 @@
 use Prim.Native.Nat.{_+_, _*_, _-_, _≤_}
-use mathlib.Core.Path.{_≡_, sym, ap, _∙_}
+use mathlib.Core.Path.{_≡_, sym, _∙_}
 use native.Mathlib.Omega.{arith}
 use Rattle.words.specs.Tests.{both, either}
 use Rattle.words.proofs.Read.{word-lent}
-use Rattle.entries.specs.Entry.{flagsOk, consoleOk}
+use Rattle.entries.specs.Entry.{flagsOk}
 use Rattle.entries.specs.Array.{entriesAt}
 use Rattle.entries.specs.Gathered.{consoleClear}
 use Rattle.entries.proofs.Entries.{entries-none}
@@ -65,7 +65,7 @@ loop-again : tie.Need-loop-again Inv-loop μ-loop
 loop-again c =
     let a = c .before .before .before .before .before .before .before .before .before .args in
     let l = c .before .before .before .before .before .before .loop in
-    (search needs, search needs, console-step (a .minor) (a .at) (l .i) (a .page .now) _ _ _ _ (c .before .before .before .whole-word .ensures ∙ word-lent (l .from) 48 0 (a .at + 48 * l .i) (a .page .now) (omega arith) (omega arith) (omega arith)) (c .before .before .whole-word2 .ensures ∙ word-lent (l .from) 48 8 (a .at + 48 * l .i + 8) (a .page .now) (omega arith) (omega arith) (omega arith)) (c .before .whole-word3 .ensures ∙ word-lent (l .from) 48 40 (a .at + 48 * l .i + 40) (a .page .now) (omega arith) (omega arith) (omega arith)) (c .with-console .ensures ∙ ap (λ x. both x (consoleOk (a .minor) (c .before .before .before .whole-word .result) (c .before .before .whole-word2 .result) (c .before .whole-word3 .result))) (l .inv .2)))
+    (search needs, search needs, console-step (a .minor) (a .at) (l .i) (a .page .now) _ _ _ _ (c .before .before .before .whole-word .ensures ∙ word-lent (l .from) 48 0 (a .at + 48 * l .i) (a .page .now) (omega arith) (omega arith) (omega arith)) (c .before .before .whole-word2 .ensures ∙ word-lent (l .from) 48 8 (a .at + 48 * l .i + 8) (a .page .now) (omega arith) (omega arith) (omega arith)) (c .before .whole-word3 .ensures ∙ word-lent (l .from) 48 40 (a .at + 48 * l .i + 40) (a .page .now) (omega arith) (omega arith) (omega arith)) _ (l .inv .2) (c .with-console .ensures))
 
 consoles-clear-requires : tie.Need-consoles-clear-requires Inv-loop μ-loop
 consoles-clear-requires c κs = search needs

@@ -1,10 +1,9 @@
-use mathlib.Core.Path.{sym, ap, _∙_}
+use mathlib.Core.Path.{refl}
+use lib.ListN.{length}
 use borrow.Author.Tests.{not-true, not-false}
-use Rattle.banks.proofs.Laws.{bank-granule}
 use Rattle.realm_words.proofs.Holding.{none-holds}
-use Rattle.granule_rules.specs.Granules.{tableOf, moveAt}
 use Rattle.granule_rules.proofs.Moving.{granule-inside}
-use Rattle.granule_rules.proofs.Ready.{ready-bank, not-ready, left-ready}
+use Rattle.granule_rules.proofs.Ready.{only-is, told-ready, ready-bank, not-ready, left-ready}
 use borrow.Author.Needs.{needs}
 use Rattle.granules.proofs.moved_at_once.Statement.{statement}
 use Rattle.granules.proofs.moved_at_once.Tie as tie
@@ -18,7 +17,7 @@ same-length c = search needs
 returns : tie.Need-returns
 returns c =
     let a = c .before .before .before .before .before .args in
-    not-ready (a .state) (a .granules .now) (a .direction) (a .table .now) (a .words .now) (a .address) (sym (c .before .is-ready .ensures) ∙ not-true _ (c .if1 .taken))
+    not-ready (a .state) (a .granules .now) (a .direction) (a .table .now) (a .words .now) (a .address) (told-ready (a .state) (a .granules .now) (length (a .table .now)) (a .words .now) _ _ (c .before .is-ready .ensures) (not-true _ (c .if1 .taken)))
 
 up-of-requires : tie.Need-up-of-requires
 up-of-requires c κs = search needs
@@ -38,7 +37,7 @@ nothing-held-requires c κs = search needs
 shift-at-requires : tie.Need-shift-at-requires
 shift-at-requires c κs =
     let a = c .before .before .before .before .before .before .before .before .before .before .before .before .before .args in
-    (granule-inside (a .granules .now) (a .table .now) (a .address) _ (c .before .before .before .before .only-granule .ensures ∙ bank-granule (a .granules .now) _ (ready-bank (a .state) (a .granules .now) _ (a .words .now) (sym (c .before .before .before .before .before .before .before .before .before .is-ready .ensures) ∙ not-false _ (c .before .before .before .before .before .before .before .before .if1 .left))) (a .address)), rw (c .before .before .nothing-held .ensures) (none-holds (a .words .now)))
+    (granule-inside (a .granules .now) (a .table .now) (a .address) _ (only-is (a .granules .now) _ (a .table .now) (a .address) _ (ready-bank (a .state) (a .granules .now) (length (a .table .now)) (a .words .now) (told-ready (a .state) (a .granules .now) (length (a .table .now)) (a .words .now) _ _ (c .before .before .before .before .before .before .before .before .before .is-ready .ensures) (not-false _ (c .before .before .before .before .before .before .before .before .if1 .left)))) refl (c .before .before .before .before .only-granule .ensures)), rw (c .before .before .nothing-held .ensures) (none-holds (a .words .now)))
 
 is-ok-requires : tie.Need-is-ok-requires
 is-ok-requires c κs = search needs
@@ -52,9 +51,8 @@ same-length-3 c = search needs
 returns-2 : tie.Need-returns-2
 returns-2 c =
     let a = c .before .before .before .before .before .before .before .before .before .before .before .before .before .before .before .before .before .before .before .args in
-    left-ready (a .state) (a .granules .now) (a .direction) (a .table .now) (a .words .now) (a .address) (sym (c .before .before .before .before .before .before .before .before .before .before .before .before .before .before .before .is-ready .ensures) ∙ not-false _ (c .before .before .before .before .before .before .before .before .before .before .before .before .before .before .if1 .left)) _ _ _ _
-    (c .before .before .before .before .before .shift-at .ensures .0 (a .granules .now) (c .before .before .before .before .before .before .before .before .before .before .only-granule .ensures ∙ bank-granule (a .granules .now) _ (ready-bank (a .state) (a .granules .now) _ (a .words .now) (sym (c .before .before .before .before .before .before .before .before .before .before .before .before .before .before .before .is-ready .ensures) ∙ not-false _ (c .before .before .before .before .before .before .before .before .before .before .before .before .before .before .if1 .left))) (a .address))
-    ∙ ap (λ u. moveAt u (a .granules .now) (a .direction) (tableOf (a .table .now) (a .words .now)) (a .address)) (c .before .before .before .before .before .before .before .before .before .before .before .before .before .up-of .ensures))
+    let r = told-ready (a .state) (a .granules .now) (length (a .table .now)) (a .words .now) _ _ (c .before .before .before .before .before .before .before .before .before .before .before .before .before .before .before .is-ready .ensures) (not-false _ (c .before .before .before .before .before .before .before .before .before .before .before .before .before .before .if1 .left)) in
+    left-ready (a .state) (a .granules .now) (a .direction) (a .table .now) (a .words .now) (a .address) r _ (c .before .before .before .before .before .before .before .before .before .before .before .before .before .up-of .ensures) _ _ _ _ (c .before .before .before .before .before .shift-at .ensures .0 (a .granules .now) (only-is (a .granules .now) _ (a .table .now) (a .address) _ (ready-bank (a .state) (a .granules .now) (length (a .table .now)) (a .words .now) r) refl (c .before .before .before .before .before .before .before .before .before .before .only-granule .ensures)))
     (c .is-ok .ensures)
 
 pub moved-at-once-spec : {M : Type 1} → statement M

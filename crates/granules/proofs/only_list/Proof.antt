@@ -1,16 +1,15 @@
 use Prim.Native.Nat.{_-_, _≤_}
-use mathlib.Core.Path.{_≡_, refl, sym, ap, _∙_}
+use mathlib.Core.Path.{_≡_, refl, _∙_}
 use native.Mathlib.Omega.{arith}
 use lib.ListN.{length, drop}
 use borrow.Author.Tests.{not-true, not-false}
-use Rattle.codes.specs.Codes.{answerOf}
 use Rattle.realm_words.specs.Holding.{Holds}
 use Rattle.realm_words.proofs.Holding.{none-holds}
-use Rattle.granule_rules.specs.Granules.{tableOf, Moved, movedBy, moveAt, movedTo}
+use Rattle.granule_rules.specs.Granules.{tableOf, moveAt, movedTo}
 use Rattle.granule_rules.specs.Lists.{listBy}
-use Rattle.granule_rules.proofs.Moving.{granule-inside, move-lengths}
+use Rattle.granule_rules.proofs.Moving.{granule-inside, told-lengths}
 use Rattle.granule_rules.proofs.Ready.{only-is}
-use Rattle.granule_rules.proofs.Lists.{list-last, list-more, list-stop}
+use Rattle.granule_rules.proofs.Lists.{told-last, told-more, told-stop}
 use borrow.Author.Needs.{needs}
 use Rattle.granules.proofs.only_list.Statement.{statement}
 use Rattle.granules.proofs.only_list.Tie as tie
@@ -63,13 +62,10 @@ same-length-2 : tie.Need-same-length-2 Inv-loop μ-loop
 same-length-2 c = search needs
 
 returns : tie.Need-returns Inv-loop μ-loop
-unfolding movedTo answerOf
 returns c =
     let a = c .before .before .before .before .before .before .before .before .before .before .before .before .before .before .before .before .before .before .before .before .before .args in
     let l = c .before .before .before .before .before .before .before .before .before .before .before .before .before .loop in
-    rw (c .answered .ensures)
-    (list-stop (moveAt (a .params) (a .granules .now) (a .direction)) (a .addresses .now) (l .i) (tableOf (l .table) (l .words)) (search needs) _ (c .before .before .before .before .before .before .before .shift-at .ensures .0 (a .granules .now) (only-is (a .granules .now) _ (l .table) _ _ (c .before .before .before .before .before .before .before .before .before .before .before .before .before .before .before .before .before .before .before .before .before .pre) (l .inv .1) (c .before .before .before .before .before .before .before .before .before .before .only-granule .ensures))) (sym (c .before .before .is-ok .ensures) ∙ not-true _ (c .before .if1 .taken))
-    ∙ sym (l .inv .4))
+    told-stop (moveAt (a .params) (a .granules .now) (a .direction)) (a .addresses .now) (l .i) (tableOf (l .table) (l .words)) _ (l .inv .4) (search needs) _ _ _ (c .before .before .before .before .before .before .before .shift-at .ensures .0 (a .granules .now) (only-is (a .granules .now) _ (l .table) _ _ (c .before .before .before .before .before .before .before .before .before .before .before .before .before .before .before .before .before .before .before .before .before .pre) (l .inv .1) (c .before .before .before .before .before .before .before .before .before .before .only-granule .ensures))) _ (c .before .before .is-ok .ensures) (not-true _ (c .before .if1 .taken)) _ (c .answered .ensures)
 
 add-i : tie.Need-add-i Inv-loop μ-loop
 add-i c = let s = c .before .before .before .before .before .before .before .before .before .before .before .before .before .before .before .before .before .before .before .before .before in search needs
@@ -78,17 +74,17 @@ loop-less : tie.Need-loop-less Inv-loop μ-loop
 loop-less c = search needs
 
 loop-again : tie.Need-loop-again Inv-loop μ-loop
-unfolding movedTo answerOf
+unfolding movedTo
 loop-again c =
     let a = c .before .before .before .before .before .before .before .before .before .before .before .before .before .before .before .before .before .before .before .before .before .args in
     let l = c .before .before .before .before .before .before .before .before .before .before .before .before .before .loop in
     let m = c .before .before .before .before .before .before .before .shift-at .ensures .0 (a .granules .now) (only-is (a .granules .now) _ (l .table) _ _ (c .before .before .before .before .before .before .before .before .before .before .before .before .before .before .before .before .before .before .before .before .before .pre) (l .inv .1) (c .before .before .before .before .before .before .before .before .before .before .only-granule .ensures)) in
-    let n = move-lengths (a .params) (a .granules .now) (a .direction) (tableOf (l .table) (l .words)) _ in (
+    let n = told-lengths (a .params) (a .granules .now) (a .direction) (tableOf (l .table) (l .words)) _ _ m in (
       search needs,
-      ap (λ (m : Moved). length (m .table .bytes)) m ∙ n .0 ∙ l .inv .1,
-      ap (λ (m : Moved). length (m .table .words)) m ∙ n .1 ∙ l .inv .2,
+      n .0 ∙ l .inv .1,
+      n .1 ∙ l .inv .2,
       c .before .before .before .before .before .before .before .shift-at .ensures .1,
-      l .inv .4 ∙ list-more (moveAt (a .params) (a .granules .now) (a .direction)) (a .addresses .now) (l .i) (tableOf (l .table) (l .words)) (search needs) _ m (sym (c .before .before .is-ok .ensures) ∙ not-false _ (c .before .if1 .left)),
+      told-more (moveAt (a .params) (a .granules .now) (a .direction)) (a .addresses .now) (l .i) (tableOf (l .table) (l .words)) _ (l .inv .4) (search needs) _ _ _ m _ (c .before .before .is-ok .ensures) (not-false _ (c .before .if1 .left)),
     )
 
 answered-requires-2 : tie.Need-answered-requires-2 Inv-loop μ-loop
@@ -105,7 +101,7 @@ unfolding movedTo
 returns-2 c =
     let a = c .before .before .before .before .before .before .before .before .before .before .args in
     let l = c .before .before .loop in
-    rw (c .answered2 .ensures) (list-last (moveAt (a .params) (a .granules .now) (a .direction)) (a .addresses .now) (l .i) (tableOf (l .table) (l .words)) (omega arith) ∙ sym (l .inv .4))
+    told-last (moveAt (a .params) (a .granules .now) (a .direction)) (a .addresses .now) (l .i) (tableOf (l .table) (l .words)) _ (l .inv .4) (omega arith) _ (c .answered2 .ensures)
 
 pub only-list-spec : {M : Type 1} → statement M
 only-list-spec =

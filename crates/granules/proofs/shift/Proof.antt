@@ -1,8 +1,8 @@
-use mathlib.Core.Path.{sym, ap, _∙_}
+use mathlib.Core.Path.{sym, _∙_}
 use borrow.Author.Tests.{not-true, not-false}
 use Rattle.realm_words.proofs.Holding.{none-holds}
-use Rattle.granule_rules.specs.Granules.{tableOf, movedBy, moveAt, movedTo}
-use Rattle.granule_rules.proofs.Moving.{placed-is, fit-told, granule-inside, move-unfit, move-down, move-up}
+use Rattle.granule_rules.specs.Granules.{tableOf, movedBy, movedTo}
+use Rattle.granule_rules.proofs.Moving.{placed-is, fit-told, granule-inside, move-unfit, move-down, told-up}
 use borrow.Author.Needs.{needs}
 use Rattle.granules.proofs.shift.Statement.{statement}
 use Rattle.granules.proofs.shift.Tie as tie
@@ -66,10 +66,7 @@ same-length-4 c = search needs
 returns-3 : tie.Need-returns-3
 returns-3 c =
     let a = c .before .before .before .before .before .before .before .before .before .before .before .before .before .before .before .before .before .before .before .before .args in
-    rw (c .answered3 .ensures)
-    (c .before .before .before .before .before .shift-at .ensures .0 (a .granules .now) (placed-is (a .granules .now) _ _ (a .address) _ _ (c .before .before .before .before .before .before .before .before .before .before .before .before .before .before .before .before .before .pass-of .ensures .0) (c .before .before .before .before .before .before .before .before .before .before .before .before .before .before .before .before .before .pass-of .ensures .1) (c .before .before .before .before .before .before .before .before .before .before .granule-in .ensures))
-    ∙ ap (λ u. moveAt u (a .granules .now) (a .direction) (tableOf (a .table .now) (a .words .now)) (a .address)) (c .before .before .before .before .before .before .before .before .before .before .before .up-of .ensures)
-    ∙ move-up (a .state) (a .granules .now) (a .direction) (tableOf (a .table .now) (a .words .now)) (a .address) (fit-told (a .granules .now) (a .table .now) (a .words .now) _ _ _ (c .before .before .before .before .before .before .before .before .before .before .before .before .before .before .before .before .before .pass-of .ensures .0) (c .before .before .before .before .before .before .before .before .before .before .before .before .before .before .before .words-fit .ensures) (not-false _ (c .before .before .before .before .before .before .before .before .before .before .before .before .before .before .if1 .left))) (sym (c .before .before .before .before .before .before .before .before .before .before .before .before .before .is-up .ensures) ∙ not-false _ (c .before .before .before .before .before .before .before .before .before .before .before .before .if2 .left)))
+    rw (c .answered3 .ensures) (told-up (a .state) (a .granules .now) (a .direction) (tableOf (a .table .now) (a .words .now)) (a .address) (fit-told (a .granules .now) (a .table .now) (a .words .now) _ _ _ (c .before .before .before .before .before .before .before .before .before .before .before .before .before .before .before .before .before .pass-of .ensures .0) (c .before .before .before .before .before .before .before .before .before .before .before .before .before .before .before .words-fit .ensures) (not-false _ (c .before .before .before .before .before .before .before .before .before .before .before .before .before .before .if1 .left))) (sym (c .before .before .before .before .before .before .before .before .before .before .before .before .before .is-up .ensures) ∙ not-false _ (c .before .before .before .before .before .before .before .before .before .before .before .before .if2 .left)) _ (c .before .before .before .before .before .before .before .before .before .before .before .up-of .ensures) _ (c .before .before .before .before .before .shift-at .ensures .0 (a .granules .now) (placed-is (a .granules .now) _ _ (a .address) _ _ (c .before .before .before .before .before .before .before .before .before .before .before .before .before .before .before .before .before .pass-of .ensures .0) (c .before .before .before .before .before .before .before .before .before .before .before .before .before .before .before .before .before .pass-of .ensures .1) (c .before .before .before .before .before .before .before .before .before .before .granule-in .ensures))))
 
 pub shift-spec : {M : Type 1} → statement M
 shift-spec =

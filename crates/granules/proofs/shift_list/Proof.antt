@@ -1,15 +1,14 @@
 use Prim.Native.Nat.{_-_, _≤_}
-use mathlib.Core.Path.{_≡_, refl, sym, ap, _∙_}
+use mathlib.Core.Path.{_≡_, refl, sym, _∙_}
 use native.Mathlib.Omega.{arith}
 use lib.ListN.{length, drop}
 use borrow.Author.Tests.{not-true, not-false}
-use Rattle.codes.specs.Codes.{answerOf}
 use Rattle.realm_words.specs.Holding.{Holds}
 use Rattle.realm_words.proofs.Holding.{none-holds}
-use Rattle.granule_rules.specs.Granules.{tableOf, Moved, movedBy, moveAt, movedTo}
+use Rattle.granule_rules.specs.Granules.{tableOf, movedBy, moveAt, movedTo}
 use Rattle.granule_rules.specs.Lists.{listBy}
-use Rattle.granule_rules.proofs.Moving.{found-is, fit-told, granule-inside, move-lengths}
-use Rattle.granule_rules.proofs.Lists.{list-last, list-more, list-stop, list-up, list-none, list-down, list-unfit}
+use Rattle.granule_rules.proofs.Moving.{found-is, fit-told, granule-inside, told-lengths}
+use Rattle.granule_rules.proofs.Lists.{told-last, told-more, told-stop, told-list, list-none, list-down, list-unfit}
 use borrow.Author.Needs.{needs}
 use Rattle.granules.proofs.shift_list.Statement.{statement}
 use Rattle.granules.proofs.shift_list.Tie as tie
@@ -104,15 +103,11 @@ same-length-5 : tie.Need-same-length-5 Inv-loop μ-loop
 same-length-5 c = search needs
 
 returns-4 : tie.Need-returns-4 Inv-loop μ-loop
-unfolding movedTo answerOf
 returns-4 c =
     let a = c .before .before .before .before .before .before .before .before .before .before .before .before .before .before .before .before .before .before .before .before .before .before .before .before .before .before .before .args in
     let l = c .before .before .before .before .before .before .before .before .before .before .before .before .before .loop in
-    rw (c .answered4 .ensures)
-    (list-stop (moveAt _ (a .granules .now) (a .direction)) (a .addresses .now) (l .i) (tableOf (l .table) (l .words)) (search needs) _ (c .before .before .before .before .before .before .before .shift-at .ensures .0 (a .granules .now) (found-is (a .granules .now) _ (length (l .table)) _ _ (c .before .before .before .before .before .before .before .before .before .before .before .before .before .before .before .before .before .before .before .before .before .before .before .granule-count .ensures) (c .before .before .before .before .before .before .before .before .before .before .find-granule .ensures))) (sym (c .before .before .is-ok .ensures) ∙ not-true _ (c .before .if4 .taken))
-    ∙ sym (l .inv .4)
-    ∙ ap (λ u. listBy (moveAt u (a .granules .now) (a .direction)) 0 (tableOf (a .table .now) (a .words .now)) (a .addresses .now)) (c .before .before .before .before .before .before .before .before .before .before .before .before .before .before .before .before .up-of .ensures)
-    ∙ list-up (a .state) (a .granules .now) (a .direction) (tableOf (a .table .now) (a .words .now)) (fit-told (a .granules .now) (a .table .now) (a .words .now) _ _ _ (c .before .before .before .before .before .before .before .before .before .before .before .before .before .before .before .before .before .before .before .before .before .before .before .granule-count .ensures) (c .before .before .before .before .before .before .before .before .before .before .before .before .before .before .before .before .before .before .before .before .before .words-fit .ensures) (not-false _ (c .before .before .before .before .before .before .before .before .before .before .before .before .before .before .before .before .before .before .before .before .if1 .left))) (sym (c .before .before .before .before .before .before .before .before .before .before .before .before .before .before .before .before .before .before .is-up .ensures) ∙ not-false _ (c .before .before .before .before .before .before .before .before .before .before .before .before .before .before .before .before .before .if3 .left)) (a .addresses .now))
+    told-list (a .state) (a .granules .now) (a .direction) (tableOf (a .table .now) (a .words .now)) (fit-told (a .granules .now) (a .table .now) (a .words .now) _ _ _ (c .before .before .before .before .before .before .before .before .before .before .before .before .before .before .before .before .before .before .before .before .before .before .before .granule-count .ensures) (c .before .before .before .before .before .before .before .before .before .before .before .before .before .before .before .before .before .before .before .before .before .words-fit .ensures) (not-false _ (c .before .before .before .before .before .before .before .before .before .before .before .before .before .before .before .before .before .before .before .before .if1 .left))) (sym (c .before .before .before .before .before .before .before .before .before .before .before .before .before .before .before .before .before .before .is-up .ensures) ∙ not-false _ (c .before .before .before .before .before .before .before .before .before .before .before .before .before .before .before .before .before .if3 .left)) _ (c .before .before .before .before .before .before .before .before .before .before .before .before .before .before .before .before .up-of .ensures) (a .addresses .now) _
+    (told-stop (moveAt _ (a .granules .now) (a .direction)) (a .addresses .now) (l .i) (tableOf (l .table) (l .words)) _ (l .inv .4) (search needs) _ _ _ (c .before .before .before .before .before .before .before .shift-at .ensures .0 (a .granules .now) (found-is (a .granules .now) _ (length (l .table)) _ _ (c .before .before .before .before .before .before .before .before .before .before .before .before .before .before .before .before .before .before .before .before .before .before .before .granule-count .ensures) (c .before .before .before .before .before .before .before .before .before .before .find-granule .ensures))) _ (c .before .before .is-ok .ensures) (not-true _ (c .before .if4 .taken)) _ (c .answered4 .ensures))
 
 add-i : tie.Need-add-i Inv-loop μ-loop
 add-i c = let s = c .before .before .before .before .before .before .before .before .before .before .before .before .before .before .before .before .before .before .before .before .before .before .before .before .before .before .before in search needs
@@ -121,17 +116,17 @@ loop-less : tie.Need-loop-less Inv-loop μ-loop
 loop-less c = search needs
 
 loop-again : tie.Need-loop-again Inv-loop μ-loop
-unfolding movedTo answerOf
+unfolding movedTo
 loop-again c =
     let a = c .before .before .before .before .before .before .before .before .before .before .before .before .before .before .before .before .before .before .before .before .before .before .before .before .before .before .before .args in
     let l = c .before .before .before .before .before .before .before .before .before .before .before .before .before .loop in
     let m = c .before .before .before .before .before .before .before .shift-at .ensures .0 (a .granules .now) (found-is (a .granules .now) _ (length (l .table)) _ _ (c .before .before .before .before .before .before .before .before .before .before .before .before .before .before .before .before .before .before .before .before .before .before .before .granule-count .ensures) (c .before .before .before .before .before .before .before .before .before .before .find-granule .ensures)) in
-    let n = move-lengths _ (a .granules .now) (a .direction) (tableOf (l .table) (l .words)) _ in (
+    let n = told-lengths _ (a .granules .now) (a .direction) (tableOf (l .table) (l .words)) _ _ m in (
       search needs,
-      ap (λ (m : Moved). length (m .table .bytes)) m ∙ n .0 ∙ l .inv .1,
-      ap (λ (m : Moved). length (m .table .words)) m ∙ n .1 ∙ l .inv .2,
+      n .0 ∙ l .inv .1,
+      n .1 ∙ l .inv .2,
       c .before .before .before .before .before .before .before .shift-at .ensures .1,
-      l .inv .4 ∙ list-more (moveAt _ (a .granules .now) (a .direction)) (a .addresses .now) (l .i) (tableOf (l .table) (l .words)) (search needs) _ m (sym (c .before .before .is-ok .ensures) ∙ not-false _ (c .before .if4 .left)),
+      told-more (moveAt _ (a .granules .now) (a .direction)) (a .addresses .now) (l .i) (tableOf (l .table) (l .words)) _ (l .inv .4) (search needs) _ _ _ m _ (c .before .before .is-ok .ensures) (not-false _ (c .before .if4 .left)),
     )
 
 answered-requires-5 : tie.Need-answered-requires-5 Inv-loop μ-loop
@@ -148,11 +143,8 @@ unfolding movedTo
 returns-5 c =
     let a = c .before .before .before .before .before .before .before .before .before .before .before .before .before .before .before .before .args in
     let l = c .before .before .loop in
-    rw (c .answered5 .ensures)
-    (list-last (moveAt _ (a .granules .now) (a .direction)) (a .addresses .now) (l .i) (tableOf (l .table) (l .words)) (omega arith)
-    ∙ sym (l .inv .4)
-    ∙ ap (λ u. listBy (moveAt u (a .granules .now) (a .direction)) 0 (tableOf (a .table .now) (a .words .now)) (a .addresses .now)) (c .before .before .before .before .before .up-of .ensures)
-    ∙ list-up (a .state) (a .granules .now) (a .direction) (tableOf (a .table .now) (a .words .now)) (fit-told (a .granules .now) (a .table .now) (a .words .now) _ _ _ (c .before .before .before .before .before .before .before .before .before .before .before .before .granule-count .ensures) (c .before .before .before .before .before .before .before .before .before .before .words-fit .ensures) (not-false _ (c .before .before .before .before .before .before .before .before .before .if1 .left))) (sym (c .before .before .before .before .before .before .before .is-up .ensures) ∙ not-false _ (c .before .before .before .before .before .before .if3 .left)) (a .addresses .now))
+    told-list (a .state) (a .granules .now) (a .direction) (tableOf (a .table .now) (a .words .now)) (fit-told (a .granules .now) (a .table .now) (a .words .now) _ _ _ (c .before .before .before .before .before .before .before .before .before .before .before .before .granule-count .ensures) (c .before .before .before .before .before .before .before .before .before .before .words-fit .ensures) (not-false _ (c .before .before .before .before .before .before .before .before .before .if1 .left))) (sym (c .before .before .before .before .before .before .before .is-up .ensures) ∙ not-false _ (c .before .before .before .before .before .before .if3 .left)) _ (c .before .before .before .before .before .up-of .ensures) (a .addresses .now) _
+    (told-last (moveAt _ (a .granules .now) (a .direction)) (a .addresses .now) (l .i) (tableOf (l .table) (l .words)) _ (l .inv .4) (omega arith) _ (c .answered5 .ensures))
 
 pub shift-list-spec : {M : Type 1} → statement M
 shift-list-spec =

@@ -1,9 +1,8 @@
-use Prim.Native.Nat.{_+_, _*_, _-_, _≤_}
-use mathlib.Core.Path.{_≡_, sym, ap, _∙_}
+use Prim.Native.Nat.{_*_, _-_, _≤_}
+use mathlib.Core.Path.{_≡_, sym, _∙_}
 use native.Mathlib.Omega.{arith}
-use lib.ListN.{getD}
 use Rattle.words.specs.Tests.{both, either}
-use Rattle.entries.specs.Entry.{flagsOk, consoleOk, entriesOk}
+use Rattle.entries.specs.Entry.{flagsOk, entriesOk}
 use Rattle.entries.specs.Gathered.{consoleClear}
 use Rattle.lists.proofs.Lists.{described-none, described-console}
 use borrow.Author.Needs.{needs}
@@ -68,7 +67,7 @@ loop-again : tie.Need-loop-again Inv-loop μ-loop
 loop-again c =
     let a = c .before .before .before .before .before .before .before .before .args in
     let l = c .before .before .before .before .before .loop in
-    (search needs, search needs, described-console (a .minor) (l .i) (a .words .now) _ (l .at) (l .inv .1) (c .with-console .ensures ∙ ap (λ x. both x (consoleOk (a .minor) (getD (a .words .now) (l .at) 0) (getD (a .words .now) (l .at + 1) 0) (getD (a .words .now) (l .at + 5) 0))) (l .inv .2)))
+    (search needs, search needs, described-console (a .minor) (l .i) (a .words .now) _ (l .at) (l .inv .1) _ (l .inv .2) (c .with-console .ensures))
 
 consoles-clear-requires : tie.Need-consoles-clear-requires Inv-loop μ-loop
 consoles-clear-requires c κs = search needs

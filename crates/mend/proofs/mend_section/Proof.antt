@@ -1,10 +1,4 @@
-use Prim.Native.Nat.{_≤_, _<_}
-use mathlib.Core.Bool.{true, false}
-use mathlib.Core.Path.{_≡_, sym, _∙_}
-use Rattle.words.specs.Tests.{both}
-use Rattle.versions.specs.Edition.{sectionCount}
-use Rattle.sections.specs.Steps.{staysAt}
-use Rattle.mend.proofs.Parts.{section-lacks, section-stands, section-goes, placed-test}
+use Rattle.mend.proofs.Parts.{section-lacks, section-stands, section-goes}
 use borrow.Author.Needs.{needs}
 use native.Mathlib.Omega.{arith}
 use Rattle.mend.proofs.mend_section.Statement.{statement}
@@ -28,9 +22,7 @@ returns-2 : tie.Need-returns-2
 returns-2 c =
     let b = c .before .before .before .before .before .before in
     let a = b .args in
-    let s : staysAt (a .minor) (a .e .minor) (a .base) (a .k) (a .fields .from) (a .fields .to) (a .page .now) ≡ true =
-    sym (placed-test (b .pre) (c .before .section-stays .ensures)) ∙ c .if2 .taken in
-    section-stands (a .minor) (a .e .minor) (a .base) (a .fields) (a .k) (a .page .now) s
+    section-stands (a .minor) (a .e .minor) (a .base) (a .fields) (a .k) (a .page .now) (b .pre) _ (c .before .section-stays .ensures) (c .if2 .taken)
 
 mul-put-words : tie.Need-mul-put-words
 mul-put-words c = search needs
@@ -51,10 +43,7 @@ returns-3 : tie.Need-returns-3
 returns-3 c =
     let b = c .before .before .before .before .before .before .before .before .before .before .before in
     let a = b .args in
-    let s : staysAt (a .minor) (a .e .minor) (a .base) (a .k) (a .fields .from) (a .fields .to) (a .page .now) ≡ false =
-    sym (placed-test (b .pre) (c .before .before .before .before .before .before .section-stays .ensures)) ∙ c .before .before .before .before .before .if2 .left in
-    let l : a .k < sectionCount (a .e .minor) = omega (arith, c .before .before .before .before .before .before .before .before .before .sections .ensures .0) in
-    section-goes (a .minor) (a .e .minor) (a .base) (a .fields) (a .k) (a .page .now) l s _ (c .before .before .put-words .ensures)
+    section-goes (a .minor) (a .e .minor) (a .base) (a .fields) (a .k) (a .page .now) (b .pre) _ (c .before .before .before .before .before .before .section-stays .ensures) (c .before .before .before .before .before .if2 .left) (omega (arith, c .before .before .before .before .before .before .before .before .before .sections .ensures .0)) _ (c .before .before .put-words .ensures)
 
 pub mend-section-spec : {M : Type 1} → statement M
 mend-section-spec =

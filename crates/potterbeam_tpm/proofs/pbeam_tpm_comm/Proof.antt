@@ -1,7 +1,6 @@
 use mir.Val.{toZ, ofZ}
 use mir.Syntax.{w64}
 use mathlib.Core.Path.{_≡_, _∙_}
-use Rattle.potterbeam_tpm.specs.Exports.{commIn}
 use Rattle.potterbeam_tpm.proofs.Left.{left-is}
 use borrow.Author.Needs.{needs}
 use Rattle.potterbeam_tpm.proofs.pbeam_tpm_comm.Statement.{statement}
@@ -37,16 +36,11 @@ same-length c = search needs
 
 -- src/lib.rt:51:1
 returns : tie.Need-returns
-unfolding commIn
 returns c =
     let a = c .before .before .before .before .before .before .before .before .before .before .before .before .args in
     let r = c .before .before .before .before .comm in
     let q : toZ w64 (ofZ w64 (c .hcall-number .result)) ≡ c .hcall-number .result = search needs in
-    let forbidden = c .before .before .before .before .before .before .says .ensures in
-    let fault = c .before .before .before .before .before .says2 .ensures in
-    let session = c .before .before .before .before .before .before .before .before .session-of .ensures in
-    left-is _ (r .result) (a .session .now) _ _ _ (q ∙ c .hcall-number .ensures) (c .before .word-after .ensures)
-    (r .ensures ∙ rw (fault, forbidden, session))
+    left-is _ (r .result) (a .session .now) _ (a .memory .now) _ (a .response .now) _ (a .forbidden) (a .fault) (q ∙ c .hcall-number .ensures) (c .before .word-after .ensures) _ _ _ (c .before .before .before .before .before .before .before .before .session-of .ensures) (c .before .before .before .before .before .before .says .ensures) (c .before .before .before .before .before .says2 .ensures) (r .ensures)
 
 pub pbeam-tpm-comm-spec : {M : Type 1} → statement M
 pbeam-tpm-comm-spec =

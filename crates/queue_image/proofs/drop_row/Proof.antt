@@ -1,8 +1,7 @@
 use Prim.Native.Nat.{_*_, _+_, _≤_}
-use mathlib.Core.Path.{_≡_, ap, _∙_}
+use mathlib.Core.Path.{_≡_, _∙_}
 use native.Mathlib.Omega.{arith}
-use lib.ListN.{length-set, replicate}
-use Rattle.words.specs.Word.{splice}
+use lib.ListN.{length-set}
 use Rattle.queue_image.proofs.InPlace.{upTo, row-room, row-dropped}
 use borrow.Author.Needs.{needs}
 use Rattle.queue_image.proofs.drop_row.Statement.{statement}
@@ -52,8 +51,7 @@ unfolding upTo
 returns c =
     let a = c .before .before .before .before .before .before .before .before .before .before .before .args in
     let n = c .before .before .before .before .before .before .before .before .rows-behind in
-    row-dropped (record { number = a .number; start = a .start; width = a .width }) (a .image .now) (n .result) (n .ensures .0) (search needs) (search needs) _
-    (c .before .before .clear .ensures ∙ ap (splice (a .start + a .width * n .result) (replicate (a .width) 0)) (c .before .before .before .before .before .before .move-up .ensures)) (search needs)
+    row-dropped (record { number = a .number; start = a .start; width = a .width }) (a .image .now) (n .result) (n .ensures .0) (search needs) (search needs) _ _ (c .before .before .before .before .before .before .move-up .ensures) (c .before .before .clear .ensures) (search needs)
 
 pub drop-row-spec : {M : Type 1} → statement M
 drop-row-spec =

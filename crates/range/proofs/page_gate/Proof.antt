@@ -1,10 +1,10 @@
-use mathlib.Core.Path.{refl, sym, ap, _∙_}
+use mathlib.Core.Path.{refl, sym, _∙_}
 use borrow.Author.Tests.{not-true, not-false}
-use Rattle.codes.specs.Codes.{upOf, gated}
+use Rattle.codes.specs.Codes.{upOf}
 use Rattle.codes.specs.declared.Code.the-variants.{Unk}
 use Rattle.codes.proofs.Gates.{stops}
-use Rattle.range.specs.Range.{placeOf, rangeCode, pageCode}
-use Rattle.range.proofs.Ranges.{page-down, page-length, page-first, page-range}
+use Rattle.range.specs.Range.{placeOf, pageCode}
+use Rattle.range.proofs.Ranges.{page-down, page-length, page-first, told-range}
 use borrow.Author.Needs.{needs}
 use Rattle.range.proofs.page_gate.Statement.{statement}
 use Rattle.range.proofs.page_gate.Tie as tie
@@ -47,9 +47,7 @@ returns-4 c =
     let a = c .before .before .before .before .before .before .before .args in
     let u = sym (c .before .before .before .before .before .before .is-up .ensures) ∙ not-false _ (c .before .before .before .before .before .if1 .left) in
     let f = sym (c .before .before .before .is-ok .ensures) ∙ not-false _ (c .before .before .if3 .left) in
-    c .range-gate .ensures
-    ∙ ap (λ p. gated (rangeCode p (a .out) (a .pa) (a .size)) (placeOf p (a .pa))) (c .before .up-of .ensures)
-    ∙ ap (λ k. gated k (placeOf (upOf (a .state)) (a .pa))) (sym (page-range (a .state) (a .len) (a .first) (a .out) (a .pa) (a .size) u (search needs) f))
+    told-range (a .state) (a .len) (a .first) (a .out) (a .pa) (a .size) u (search needs) f _ (c .before .up-of .ensures) _ (c .range-gate .ensures)
 
 pub page-gate-spec : {M : Type 1} → statement M
 page-gate-spec =

@@ -1,14 +1,7 @@
-use mathlib.Core.Bool.{true}
-use mathlib.Core.Path.{_≡_, sym, ap, _∙_}
-use Prim.Native.Nat.{min}
-use lib.ListN.{length}
+use mathlib.Core.Path.{sym, ap, _∙_}
 use borrow.Author.Tests.{not-true, not-false}
-use Rattle.words.specs.Tests.{both}
-use Rattle.versions.specs.Version.{minorOf}
-use Rattle.sections.specs.Page.{placeOk, versionAt}
-use Rattle.reader.specs.Reading.{viewAt, verdictOf}
-use Rattle.reader.specs.declared.Verdict.the-variants.{Fine}
-use Rattle.reader.proofs.Whole.{read-place, read-edition, read-version, read-rules, read-shows}
+use Rattle.reader.specs.Reading.{verdictOf}
+use Rattle.reader.proofs.Whole.{read-place, read-edition, read-version, told-rules, told-fine}
 use borrow.Author.Needs.{needs}
 use Rattle.reader.proofs.judge_page.Statement.{statement}
 use Rattle.reader.proofs.judge_page.Tie as tie
@@ -53,22 +46,14 @@ page-ok-requires : tie.Need-page-ok-requires
 page-ok-requires c κs = search needs
 
 returns-4 : tie.Need-returns-4
-unfolding verdictOf both
 returns-4 c =
     let a = c .before .before .before .before .before .before .before .before .before .before .before .before .args in
-    let w : c .before .before .before .minor .result ≡ minorOf (versionAt (a .page .now)) = c .before .before .before .minor .ensures .0 ∙ rw (c .before .before .before .before .before .before .version-at .ensures) in
-    let m : c .before .before .edition-read .result .minor ≡ min (a .edition) (minorOf (versionAt (a .page .now))) = c .before .before .edition-read .ensures ∙ rw w in
-    let p : placeOk (a .base) (length (a .page .now)) ≡ true = sym (c .before .before .before .before .before .before .before .before .before .before .place-ok .ensures) ∙ not-false _ (c .before .before .before .before .before .before .before .before .before .if1 .left) in
-    ap verdictOf (read-rules (a .edition) (a .base) (a .page .now) p (sym (c .before .before .before .before .before .before .before .before .is-edition .ensures) ∙ not-false _ (c .before .before .before .before .before .before .before .if2 .left)) (rw (← c .before .before .before .before .before .before .version-at .ensures) (sym (c .before .before .before .before .before .is-accepted .ensures) ∙ not-false _ (c .before .before .before .before .if3 .left))) (rw (← m, ← w) (rw p at (sym (c .before .page-ok .ensures) ∙ not-true _ (c .if4 .taken)))))
+    told-rules (a .edition) (a .base) (a .page .now) (sym (c .before .before .before .before .before .before .before .before .before .before .place-ok .ensures) ∙ not-false _ (c .before .before .before .before .before .before .before .before .before .if1 .left)) (sym (c .before .before .before .before .before .before .before .before .is-edition .ensures) ∙ not-false _ (c .before .before .before .before .before .before .before .if2 .left)) (rw (← c .before .before .before .before .before .before .version-at .ensures) (sym (c .before .before .before .before .before .is-accepted .ensures) ∙ not-false _ (c .before .before .before .before .if3 .left))) _ _ (c .before .before .before .minor .ensures .0 ∙ rw (c .before .before .before .before .before .before .version-at .ensures)) (c .before .before .edition-read .ensures) _ (c .before .page-ok .ensures) (not-true _ (c .if4 .taken))
 
 returns-5 : tie.Need-returns-5
-unfolding verdictOf viewAt both
 returns-5 c =
     let a = c .before .before .before .before .before .before .before .before .before .before .before .before .args in
-    let w : c .before .before .before .minor .result ≡ minorOf (versionAt (a .page .now)) = c .before .before .before .minor .ensures .0 ∙ rw (c .before .before .before .before .before .before .version-at .ensures) in
-    let m : c .before .before .edition-read .result .minor ≡ min (a .edition) (minorOf (versionAt (a .page .now))) = c .before .before .edition-read .ensures ∙ rw w in
-    let p : placeOk (a .base) (length (a .page .now)) ≡ true = sym (c .before .before .before .before .before .before .before .before .before .before .place-ok .ensures) ∙ not-false _ (c .before .before .before .before .before .before .before .before .before .if1 .left) in
-    ap Fine w ∙ ap verdictOf (read-shows (a .edition) (a .base) (a .page .now) p (sym (c .before .before .before .before .before .before .before .before .is-edition .ensures) ∙ not-false _ (c .before .before .before .before .before .before .before .if2 .left)) (rw (← c .before .before .before .before .before .before .version-at .ensures) (sym (c .before .before .before .before .before .is-accepted .ensures) ∙ not-false _ (c .before .before .before .before .if3 .left))) (rw (← m, ← w) (rw p at (sym (c .before .page-ok .ensures) ∙ not-false _ (c .if4 .left)))))
+    told-fine (a .edition) (a .base) (a .page .now) (sym (c .before .before .before .before .before .before .before .before .before .before .place-ok .ensures) ∙ not-false _ (c .before .before .before .before .before .before .before .before .before .if1 .left)) (sym (c .before .before .before .before .before .before .before .before .is-edition .ensures) ∙ not-false _ (c .before .before .before .before .before .before .before .if2 .left)) (rw (← c .before .before .before .before .before .before .version-at .ensures) (sym (c .before .before .before .before .before .is-accepted .ensures) ∙ not-false _ (c .before .before .before .before .if3 .left))) _ _ (c .before .before .before .minor .ensures .0 ∙ rw (c .before .before .before .before .before .before .version-at .ensures)) (c .before .before .edition-read .ensures) _ (c .before .page-ok .ensures) (not-false _ (c .if4 .left))
 
 pub judge-page-spec : {M : Type 1} → statement M
 judge-page-spec =

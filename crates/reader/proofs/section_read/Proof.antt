@@ -1,10 +1,9 @@
 use Prim.Native.Nat.{min}
-use mathlib.Core.Path.{sym, ap, _∙_}
+use mathlib.Core.Path.{sym, _∙_}
 use native.Mathlib.Omega.{arith}
 use Rattle.versions.proofs.Editions.{section-count-most}
 use Rattle.sections.proofs.Sections.{ok-each, rules-sections}
-use Rattle.reader.specs.Reading.{sectionAt}
-use Rattle.reader.proofs.Whole.{section-absent, fine-reads, fine-section, refused-section}
+use Rattle.reader.proofs.Whole.{section-absent, fine-reads, fine-section, told-section, refused-section}
 use borrow.Author.Needs.{needs}
 use Rattle.reader.proofs.section_read.Statement.{statement}
 use Rattle.reader.proofs.section_read.Tie as tie
@@ -49,8 +48,7 @@ returns-3 : tie.Need-returns-3
 returns-3 c =
     let a = c .before .before .before .before .before .before .before .before .args in
     let g = c .before .before .before .before .verdict .given in
-    c .section-at .ensures ∙ ap (λ e. sectionAt e (a .base) (a .page .now) (a .k)) (c .before .edition-read .ensures)
-    ∙ fine-section (a .edition) (a .base) (a .page .now) (g .0 .0) (a .k) (sym (g .1) ∙ c .before .before .before .before .before .before .judge-page .ensures)
+    told-section (a .edition) (a .base) (a .page .now) (g .0 .0) (a .k) _ (c .before .edition-read .ensures) _ (c .before .before .before .before .before .before .judge-page .ensures) (g .1) _ (c .section-at .ensures)
 
 pub section-read-spec : {M : Type 1} → statement M
 section-read-spec =

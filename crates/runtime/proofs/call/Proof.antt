@@ -1,12 +1,4 @@
-use mathlib.Core.Path.{_≡_, sym, ap, _∙_}
-use Rattle.codes.specs.declared.Work.the-variants as Work
-use Rattle.queue.specs.Queue.{SigningExit, listsOf, exitOf}
-use Rattle.token_rules.specs.Token.{TokenStep}
-use Rattle.runtime.specs.Step.{worldOf, kindOf, callOf, callBy, needsOf, replyCode, afterToken, afterSigning, queueBy, exitBy}
-use Rattle.runtime.specs.declared.Kind.the-variants.{PlatformToken, TokenSigning}
-use Rattle.runtime.specs.declared.Needs.the-variants.{Nothing, Session}
-use Rattle.runtime.specs.declared.Reply.the-variants.{Back}
-use Rattle.runtime.proofs.Plain.{needs-session, needs-queue, beside, plain-beside}
+use Rattle.runtime.proofs.Plain.{told-plain, told-token, told-signing}
 use borrow.Author.Needs.{needs}
 use Rattle.runtime.proofs.call.Statement.{statement}
 use Rattle.runtime.proofs.call.Tie as tie
@@ -48,35 +40,25 @@ same-length-3 : tie.Need-same-length-3
 same-length-3 c = search needs
 
 returns : tie.Need-returns
-unfolding exitBy queueBy
 returns c =
     let a = c .before .before .before .before .before .before .before .before .before .before .before .before .before .before .before .before .before .before .before .args in
-    let n : needsOf (kindOf (a .id)) ≡ Nothing = sym (c .before .before .before .before .before .before .before .before .before .before .before .before .needs-of .ensures) ∙ c .before .before .before .before .before .before .before .before .before .before .enum-told .given .1 in
-    rw n
-    (ap (exitBy Nothing (a .queue))
-    (ap (beside (a .session) (listsOf (a .queue))) (c .before .before .before .before .before .before .plain-call .ensures)
-    ∙ sym (plain-beside (a .granules .now) (a .page .now) (a .table .now) (a .words .now) (a .session) (listsOf (a .queue)) (a .state) (a .id) (a .x1) (a .x2) (a .x3) (a .x4) (a .busy) (a .key .now) (a .token .now) (a .public .now) (a .width) n)))
+    told-plain (a .granules .now) (a .page .now) (a .table .now) (a .words .now) (a .session) (a .queue) (a .state) (a .id) (a .x1) (a .x2) (a .x3) (a .x4) (a .busy) (a .key .now) (a .token .now) (a .public .now) (a .width) _ (c .before .before .before .before .before .before .before .before .before .before .before .before .needs-of .ensures) (c .before .before .before .before .before .before .before .before .before .before .enum-told .given .1) _ _ _ _ (c .before .before .before .before .before .before .plain-call .ensures)
 
 same-length-4 : tie.Need-same-length-4
 same-length-4 c = search needs
 
 returns-2 : tie.Need-returns-2
-unfolding callOf callBy needsOf exitBy queueBy afterToken
 returns-2 c =
     let a = c .before .before .before .before .before .before .before .before .before .before .before .before .before .before .args in
-    let h : kindOf (a .id) ≡ PlatformToken = needs-session _ (sym (c .before .before .before .before .before .before .before .needs-of .ensures) ∙ c .before .before .before .before .before .enum-told2 .given .1) in
-    rw (h, c .after-token .ensures) (ap (λ (t : TokenStep). exitBy Session (a .queue) (afterToken t (worldOf (a .page .now) (a .table .now) (a .words .now) (a .session) (listsOf (a .queue))))) (c .before .before .before .platform-token .ensures))
+    rw (c .after-token .ensures) (told-token (a .granules .now) (a .page .now) (a .table .now) (a .words .now) (a .session) (a .queue) (a .state) (a .id) (a .x1) (a .x2) (a .x3) (a .x4) (a .busy) (a .key .now) (a .token .now) (a .public .now) (a .width) _ (c .before .before .before .before .before .before .before .needs-of .ensures) (c .before .before .before .before .before .enum-told2 .given .1) _ (c .before .before .before .platform-token .ensures))
 
 same-length-5 : tie.Need-same-length-5
 same-length-5 c = search needs
 
 returns-3 : tie.Need-returns-3
-unfolding callOf callBy needsOf exitBy queueBy replyCode afterSigning exitOf
 returns-3 c =
     let a = c .before .before .before .before .before .before .before .before .before .before .before .before .before .before .args in
-    let h : kindOf (a .id) ≡ TokenSigning = needs-queue _ (sym (c .before .before .before .before .before .before .before .needs-of .ensures) ∙ c .before .before .before .before .before .enum-told3 .given .1) in
-    rw (h, c .after-signing .ensures)
-    (ap (λ (x : SigningExit). record { reply = Back (x .answer) Work.Nothing; page = x .page; table = a .table .now; words = a .words .now; session = a .session; queue = x .queue }) (c .before .before .before .token-signing .ensures))
+    rw (c .after-signing .ensures) (told-signing (a .granules .now) (a .page .now) (a .table .now) (a .words .now) (a .session) (a .queue) (a .state) (a .id) (a .x1) (a .x2) (a .x3) (a .x4) (a .busy) (a .key .now) (a .token .now) (a .public .now) (a .width) _ (c .before .before .before .before .before .before .before .needs-of .ensures) (c .before .before .before .before .before .enum-told3 .given .1) _ (c .before .before .before .token-signing .ensures))
 
 pub call-spec : {M : Type 1} → statement M
 call-spec =

@@ -3,9 +3,8 @@ use mathlib.Core.Path.{_≡_, sym, _∙_}
 use lib.ListN.{length}
 use borrow.Author.Tests.{not-true, not-false}
 use Rattle.words.specs.Tests.{both}
-use Rattle.sections.specs.Page.{placeOk, pointerAt}
-use Rattle.sections.specs.Steps.{okAt, endOf, clearFrom}
-use Rattle.sections.proofs.Sections.{placed, ok-end, stays-own, stays-before, stays-clear}
+use Rattle.sections.specs.Page.{placeOk}
+use Rattle.sections.proofs.Sections.{placed, told-end, told-own, told-before, told-stays}
 use borrow.Author.Needs.{needs}
 use native.Mathlib.Omega.{arith}
 use Rattle.sections.proofs.section_stays.Statement.{statement}
@@ -32,12 +31,10 @@ section-ok-requires c κs =
     (p .0, omega arith, search needs, search needs)
 
 returns-2 : tie.Need-returns-2
-unfolding both
 returns-2 c =
     let a = c .before .before .before .before .before .before .args in
     let q : placeOk (a .base) (length (a .page .now)) ≡ true = sym (c .before .before .before .before .place-ok .ensures) ∙ not-false _ (c .before .before .before .if1 .left) in
-    let o : okAt (a .minor) (a .e .minor) (a .base) (a .k) (a .page .now) ≡ false = sym (c .before .section-ok .ensures) ∙ not-true _ (c .if2 .taken) in
-    simp q (sym (stays-own (a .minor) (a .e .minor) (a .base) (a .k) (a .from) (a .to) (a .page .now) o))
+    told-own (a .minor) (a .e .minor) (a .base) (a .k) (a .page .now) _ (c .before .section-ok .ensures) q (a .from) (a .to) (not-true _ (c .if2 .taken))
 
 pointer-at-requires : tie.Need-pointer-at-requires
 pointer-at-requires c κs = search needs
@@ -46,32 +43,25 @@ end-of-requires : tie.Need-end-of-requires
 end-of-requires c κs =
     let a = c .before .before .before .before .before .before .before .args in
     let q : placeOk (a .base) (length (a .page .now)) ≡ true = sym (c .before .before .before .before .before .place-ok .ensures) ∙ not-false _ (c .before .before .before .before .if1 .left) in
-    let o : okAt (a .minor) (a .e .minor) (a .base) (a .k) (a .page .now) ≡ true = sym (c .before .before .section-ok .ensures) ∙ not-false _ (c .before .if2 .left) in
-    omega (arith, placed (a .base) (length (a .page .now)) q .3, ok-end (a .minor) (a .e .minor) (a .base) (a .k) (a .page .now) o)
+    omega (arith, placed (a .base) (length (a .page .now)) q .3, told-end (a .minor) (a .e .minor) (a .base) (a .k) (a .page .now) _ (c .before .before .section-ok .ensures) (not-false _ (c .before .if2 .left)))
 
 all-clear-requires : tie.Need-all-clear-requires
 all-clear-requires c κs = search needs
 
 returns-3 : tie.Need-returns-3
-unfolding both
 returns-3 c =
     let a = c .before .before .before .before .before .before .before .before .before .before .args in
     let q : placeOk (a .base) (length (a .page .now)) ≡ true = sym (c .before .before .before .before .before .before .before .before .place-ok .ensures) ∙ not-false _ (c .before .before .before .before .before .before .before .if1 .left) in
-    let o : okAt (a .minor) (a .e .minor) (a .base) (a .k) (a .page .now) ≡ true = sym (c .before .before .before .before .before .section-ok .ensures) ∙ not-false _ (c .before .before .before .before .if2 .left) in
-    let x : clearFrom (pointerAt (a .k) (a .page .now)) (endOf (a .k) (a .page .now)) (a .k) (a .page .now) ≡ false = rw (← c .before .before .before .pointer-at .ensures, ← c .before .before .end-of .ensures) (sym (c .before .all-clear .ensures) ∙ not-true _ (c .if3 .taken)) in
-    simp q (sym (stays-before (a .minor) (a .e .minor) (a .base) (a .k) (a .from) (a .to) (a .page .now) o x))
+    told-before (a .minor) (a .e .minor) (a .base) (a .k) (a .page .now) _ (c .before .before .before .before .before .section-ok .ensures) q (a .from) (a .to) (not-false _ (c .before .before .before .before .if2 .left)) _ (c .before .before .before .pointer-at .ensures) _ (c .before .before .end-of .ensures) _ (c .before .all-clear .ensures) (not-true _ (c .if3 .taken))
 
 is-clear-requires : tie.Need-is-clear-requires
 is-clear-requires c κs = search needs
 
 returns-4 : tie.Need-returns-4
-unfolding both
 returns-4 c =
     let a = c .before .before .before .before .before .before .before .before .before .before .before .args in
     let q : placeOk (a .base) (length (a .page .now)) ≡ true = sym (c .before .before .before .before .before .before .before .before .before .place-ok .ensures) ∙ not-false _ (c .before .before .before .before .before .before .before .before .if1 .left) in
-    let o : okAt (a .minor) (a .e .minor) (a .base) (a .k) (a .page .now) ≡ true = sym (c .before .before .before .before .before .before .section-ok .ensures) ∙ not-false _ (c .before .before .before .before .before .if2 .left) in
-    let x : clearFrom (pointerAt (a .k) (a .page .now)) (endOf (a .k) (a .page .now)) (a .k) (a .page .now) ≡ true = rw (← c .before .before .before .before .pointer-at .ensures, ← c .before .before .before .end-of .ensures) (sym (c .before .before .all-clear .ensures) ∙ not-false _ (c .before .if3 .left)) in
-    simp q (c .is-clear .ensures ∙ sym (stays-clear (a .minor) (a .e .minor) (a .base) (a .k) (a .from) (a .to) (a .page .now) o x))
+    told-stays (a .minor) (a .e .minor) (a .base) (a .k) (a .page .now) _ (c .before .before .before .before .before .before .section-ok .ensures) q (a .from) (a .to) (not-false _ (c .before .before .before .before .before .if2 .left)) _ (c .before .before .before .before .pointer-at .ensures) _ (c .before .before .before .end-of .ensures) _ (c .before .before .all-clear .ensures) (not-false _ (c .before .if3 .left)) _ (c .is-clear .ensures)
 
 pub section-stays-spec : {M : Type 1} → statement M
 section-stays-spec =
