@@ -17,12 +17,12 @@ use Rattle.entries.specs.Entry.{bankOk}
 use Rattle.codes.specs.declared.Code.the-variants.{Ok}
 use Rattle.banks.specs.declared.Granule.{Granule}
 use Rattle.banks.specs.declared.Granule.the-variants.{Nothing, At}
-use Rattle.banks.specs.Banks.{Granules, Bank, banksBy, bankAt, bankCount, banksOf, ascend, banksOk, recordOk, follows, total, granuleCount, holds, indexIn, placeIn, orElse, placeAmong, bankPlace, granuleAt, addressIn, addressOf, singleRange, reachIn, reachAmong, onlyCount, onlyPlace, onlyBank, onlyAt, foundIn, granuleFound, setUpCode, setUpOf}
+use Rattle.banks.specs.Banks.{Granules, Bank, banksBy, bankAt, bankCount, banksOf, ascend, banksOk, recordOk, follows, total, granuleCount, holds, indexIn, placeIn, orElse, placeAmong, bankPlace, granuleAt, addressIn, addressOf, singleRange, reachIn, onlyCount, onlyPlace, onlyBank, onlyAt, setUpCode, setUpOf}
 use Rattle.banks.proofs.Making.{banks-some, made-one, made-good}
-use Rattle.banks.proofs.Passing.{Follows, follows-is, or-nothing, reach-place, reach-among}
+use Rattle.banks.proofs.Passing.{Follows, follows-is, or-nothing, reach-place}
 
 -- ---- how an answer came about
-nowhere : (i : ℕ) → Nothing ≡ At i → ⊥
+pub nowhere : (i : ℕ) → Nothing ≡ At i → ⊥
 nowhere i h = let z : _≡_ {A = ℕ} 0 1 = cc in omega arith
 
 or-cases : (b : Bool) (p i : ℕ) (r : Granule) {P : Type 0} → (Yes b → p ≡ i → P) → (r ≡ At i → P) → orElse (cond b (At p) Nothing) r ≡ At i → P
@@ -30,7 +30,7 @@ unfolding orElse
 or-cases true p i r f g h = f refl (cc)
 or-cases false p i r f g h = g h
 
-cond-at : (b : Bool) (x : Granule) (i : ℕ) → cond b x Nothing ≡ At i → Yes b × (x ≡ At i)
+pub cond-at : (b : Bool) (x : Granule) (i : ℕ) → cond b x Nothing ≡ At i → Yes b × (x ≡ At i)
 cond-at true x i h = (refl, h)
 cond-at false x i h = absurd (nowhere i h)
 
@@ -40,7 +40,7 @@ pub record Falls (g : Granules) (n addr i : ℕ) : Type 0 where
   pub count : granuleCount g ≡ n
   pub place : placeAmong 0 (banksOf g) addr ≡ At i
 
-ok-ascends : (g : Granules) → Yes (recordOk g) → Yes (ascend 0 (banksOf g))
+pub ok-ascends : (g : Granules) → Yes (recordOk g) → Yes (ascend 0 (banksOf g))
 unfolding recordOk banksOk
 ok-ascends g k = both-r _ _ (both-r _ _ k)
 
@@ -48,7 +48,7 @@ ok-granules : (g : Granules) → Yes (recordOk g) → granuleCount g ≡ total (
 unfolding granuleCount
 ok-granules g k = rw k
 
-ok-few : (g : Granules) → Yes (recordOk g) → Yes (leb (bankCount g) 16)
+pub ok-few : (g : Granules) → Yes (recordOk g) → Yes (leb (bankCount g) 16)
 unfolding recordOk banksOk
 ok-few g k = both-l _ _ (both-r _ _ k)
 
@@ -69,7 +69,7 @@ pub record Held (base size addr : ℕ) : Type 0 where
   pub from : base ≤ addr
   pub below : addr < base + size
 
-held : (base size addr : ℕ) → Yes (holds base size addr) → Held base size addr
+pub held : (base size addr : ℕ) → Yes (holds base size addr) → Held base size addr
 unfolding holds
 held base size addr h = record { from = leb-true _ _ (both-l _ _ h); below = ltb-true _ _ (both-r _ _ h) }
 
@@ -139,7 +139,7 @@ in-bank : (before base size addr : ℕ) (r : Granule) → base ≤ addr → addr
 unfolding orElse placeIn holds both
 in-bank before base size addr r p q = simp (le-leb base addr p, lt-ltb addr (base + size) q)
 
-past-bank : (before base size addr : ℕ) (r : Granule) → base + size ≤ addr → orElse (placeIn before base size addr) r ≡ r
+pub past-bank : (before base size addr : ℕ) (r : Granule) → base + size ≤ addr → orElse (placeIn before base size addr) r ≡ r
 unfolding orElse placeIn holds both
 past-bank before base size addr r p = simp (le-leb base addr (omega arith), le-ltb addr (base + size) p)
 
@@ -193,28 +193,18 @@ granules-le g = go (recordOk g) refl
     go true e = let r = among-le 0 (banksOf g) (ok-ascends g e) (omega arith) in omega arith
     go false e = omega arith
 
--- judged once: with the number of granules at hand `find_granule` answers as `granule_of` does
-no-granules : (g : Granules) → recordOk g ≡ false → granuleCount g ≤ 0
+-- ---- a record without granules is one that is not taken
+pub no-granules : (g : Granules) → recordOk g ≡ false → granuleCount g ≤ 0
 unfolding granuleCount
 no-granules g e = rw e (omega arith)
 
-cond-none : (b : Bool) → cond b Nothing Nothing ≡ Nothing
+pub cond-none : (b : Bool) → cond b Nothing Nothing ≡ Nothing
 cond-none true = refl
 cond-none false = refl
 
-some-granules : (g : Granules) → Yes (recordOk g) → 0 < granuleCount g
+pub some-granules : (g : Granules) → Yes (recordOk g) → 0 < granuleCount g
 unfolding granuleCount recordOk
 some-granules g k = rw k (banks-some (bankCount g) (bankAt g) k)
-
-pub judged-once : (g : Granules) (n addr : ℕ) → granuleFound g (granuleCount g) n addr ≡ granuleAt g n addr
-unfolding granuleFound granuleAt bankPlace foundIn both
-judged-once g n addr = go (recordOk g) refl
-  where
-    go : (k : Bool) → recordOk g ≡ k
-        → cond (both (ltb 0 (granuleCount g)) (both (eqb (addr % 4096) 0) (eqb (granuleCount g) n))) (cond (leb (bankCount g) 16) (reachAmong 0 (banksOf g) addr) Nothing) Nothing
-        ≡ cond (both (eqb (addr % 4096) 0) (eqb (granuleCount g) n)) (cond k (placeAmong 0 (banksOf g) addr) Nothing) Nothing
-    go true e = simp (lt-ltb 0 (granuleCount g) (some-granules g e), ok-few g e, reach-among 0 0 (banksOf g) addr (ok-ascends g e))
-    go false e = simp (le-ltb 0 (granuleCount g) (no-granules g e)) (sym (cond-none (both (eqb (addr % 4096) 0) (eqb (granuleCount g) n))))
 
 -- ---- one bank: "01's single range is the case of one bank that the set-up takes"
 holds-same : (base size addr : ℕ) → Follows 0 base size → addr % 4096 ≡ 0 → holds base size addr ≡ both (leb base addr) (ltb ((addr - base) / 4096) (size / 4096))

@@ -13,7 +13,7 @@ use Rattle.words.proofs.Tests.{both-l, both-r, same-test}
 use Rattle.entries.specs.Entry.{bankOk}
 use Rattle.banks.specs.declared.Granule.{Granule}
 use Rattle.banks.specs.declared.Granule.the-variants.{Nothing, At}
-use Rattle.banks.specs.Banks.{Granules, Bank, banksBy, bankAt, bankCount, banksOf, follows, ascend, banksOk, recordOk, total, granuleCount, holds, indexBy, indexIn, placeIn, orElse, placeAmong, bankPlace, distance, reachIn, reachAmong}
+use Rattle.banks.specs.Banks.{Granules, Bank, banksBy, bankAt, bankCount, banksOf, follows, ascend, banksOk, recordOk, total, granuleCount, holds, indexBy, indexIn, placeIn, orElse, placeAmong, bankPlace, distance, reachIn, noBank, bankAmong}
 
 -- ---- a bank that follows
 pub record Follows (low base size : ℕ) : Type 0 where
@@ -80,13 +80,6 @@ reach-place before base size addr h = go (decLt addr base)
         ≡ cond (both (leb base addr) (ltb addr (base + size))) (At (indexIn before base addr)) Nothing
     go (yes y) = rw (lt-leb base addr y, le-ltb (addr + 2 ^ 64 - base) size (omega arith))
     go (no y) = let l : base ≤ addr = omega arith in rw (le-leb base addr l, same l)
-
-pub reach-among : (low before : ℕ) (bs : List Bank) (addr : ℕ) → Yes (ascend low bs) → reachAmong before bs addr ≡ placeAmong before bs addr
-unfolding ascend reachAmong placeAmong
-reach-among low before [] addr a = refl
-reach-among low before (b ∷ bs) addr a =
-    let f = follows-is low (b .base) (b .size) (both-l _ _ a) in
-    rw (reach-place before (b .base) (b .size) addr (omega (arith, f .ends)), reach-among (b .base + b .size) (before + b .size / 4096) bs addr (both-r _ _ a))
 
 -- of banks in ascending order at most one holds an address: which place is looked at first is no matter
 below-bank : (before base size addr : ℕ) → addr < base → placeIn before base size addr ≡ Nothing
@@ -224,23 +217,17 @@ module _ (g : Granules) (addr i low before : ℕ) (place : Granule) (s : Stage g
     unfolding ascend both
     stage-stops n = s .judged ∙ rw (one-left, n)
 
--- ---- a search that stops at the first hit
+-- ---- a search that stops at the first bank that holds the address
 module _ (g : Granules) (addr i before : ℕ) where
-  pub seek-last : bankCount g ≤ i → reachAmong before (left g i) addr ≡ Nothing
-  unfolding reachAmong
+  pub seek-last : bankCount g ≤ i → bankAmong before (left g i) addr ≡ noBank
+  unfolding bankAmong
   seek-last h = rw (left-none g i h)
 
   module _ (h : i < bankCount g) where
-    pub seek-more : reachIn before (getD g (1 + 2 * i) 0) (getD g (2 + 2 * i) 0) addr ≡ Nothing
-        → reachAmong before (left g i) addr ≡ reachAmong (before + getD g (2 + 2 * i) 0 / 4096) (left g (i + 1)) addr
-    unfolding reachAmong orElse
-    seek-more n = rw (left-more g i h, n)
+    pub seek-more : getD g (2 + 2 * i) 0 ≤ distance (getD g (1 + 2 * i) 0) addr → bankAmong before (left g i) addr ≡ bankAmong (before + getD g (2 + 2 * i) 0 / 4096) (left g (i + 1)) addr
+    unfolding bankAmong
+    seek-more n = rw (left-more g i h, le-ltb (distance (getD g (1 + 2 * i) 0) addr) (getD g (2 + 2 * i) 0) n)
 
-    pub seek-hit : (k : ℕ) → reachIn before (getD g (1 + 2 * i) 0) (getD g (2 + 2 * i) 0) addr ≡ At k → reachAmong before (left g i) addr ≡ At k
-    unfolding reachAmong orElse
-    seek-hit k n = rw (left-more g i h, n)
-
--- in one bank
-pub seek-only : (g : Granules) (addr : ℕ) → bankCount g ≡ 1 → reachAmong 0 (banksOf g) addr ≡ reachIn 0 (getD g 1 0) (getD g 2 0) addr
-unfolding banksBy reachAmong
-seek-only g addr one = rw one (or-nothing _)
+    pub seek-hit : distance (getD g (1 + 2 * i) 0) addr < getD g (2 + 2 * i) 0 → bankAmong before (left g i) addr ≡ record { base = getD g (1 + 2 * i) 0; size = getD g (2 + 2 * i) 0; before = before }
+    unfolding bankAmong
+    seek-hit n = rw (left-more g i h, lt-ltb (distance (getD g (1 + 2 * i) 0) addr) (getD g (2 + 2 * i) 0) n)

@@ -12,12 +12,13 @@ use Rattle.boot.specs.declared.Record.{Record}
 use Rattle.codes.specs.Codes.{isUp, upOf, isOk, answerOf}
 use Rattle.codes.specs.declared.Answer.{Answer}
 use Rattle.codes.specs.declared.Code.{Code}
-use Rattle.codes.specs.declared.Code.the-variants.{Ok, Unk, Inval}
-use Rattle.banks.specs.Banks.{Granules}
+use Rattle.codes.specs.declared.Code.the-variants.{Ok, Unk, BadAddr, Inval}
+use Rattle.banks.specs.Banks.{Granules, granuleAt}
+use Rattle.banks.specs.declared.Granule.the-variants.{Nothing}
 use Rattle.granule_rules.specs.Granules.{GranuleTable, tableOf, Moved, movedBy, moveAt, fitting, moveOf, movedTo}
 use Rattle.granule_rules.specs.Lists.{onward, listBy, moveListOf}
 use Rattle.granule_rules.specs.declared.Direction.{Direction}
-use Rattle.granule_rules.proofs.Moving.{move-down, move-up, fit-kept}
+use Rattle.granule_rules.proofs.Moving.{move-addr, move-down, move-up, fit-kept}
 
 -- ---- one more call
 onward-ok : (m : Moved) (k : ℕ) (rest : Moved) → isOk (m .answer .code) ≡ true → onward m k rest ≡ rest
@@ -103,3 +104,12 @@ module _ (s : Record) (g : Granules) (d : Direction) (t : GranuleTable) where
     pub list-down : isUp s ≡ false → (l : List ℕ) → (length l ≡ 0 → ⊥) → _≡_ {A = Moved} (record { answer = answerOf Unk 0 0; table = t }) (moveListOf s g d t l)
     list-down h [] n = absurd (n refl)
     list-down h (a ∷ l) n = first-down h a l ∙ list-fit (a ∷ l)
+
+    -- where no address is on a granule of the table, the first is refused
+    first-nowhere : isUp s ≡ true → (a : ℕ) (l : List ℕ) → granuleAt g (length (t .bytes)) a ≡ Nothing → _≡_ {A = Moved} (record { answer = answerOf BadAddr 0 0; table = t }) (listBy (moveOf s g d) 0 t (a ∷ l))
+    unfolding listBy onward movedTo answerOf
+    first-nowhere h a l e = rw (← (move-addr (upOf s) g d (t .bytes) (t .words) a e ∙ move-up s g d t a f h))
+
+    pub list-nowhere : isUp s ≡ true → (l : List ℕ) → (length l ≡ 0 → ⊥) → ((a : ℕ) → granuleAt g (length (t .bytes)) a ≡ Nothing) → _≡_ {A = Moved} (record { answer = answerOf BadAddr 0 0; table = t }) (moveListOf s g d t l)
+    list-nowhere h [] n e = absurd (n refl)
+    list-nowhere h (a ∷ l) n e = first-nowhere h a l (e a) ∙ list-fit (a ∷ l)

@@ -8,23 +8,20 @@ use lib.Dec.{eqb}
 use borrow.Author.Tests.{eq-eqb, ne-eqb}
 use Rattle.realm_words.specs.Bits.{realmBit, putBit, wordsFor}
 use Rattle.realm_words.specs.Answers.{wordsFit}
-use Rattle.banks.specs.Banks.{Granules, granuleCount, bankPlace, placedIn, granuleAt, granuleFound}
+use Rattle.banks.specs.Banks.{Granules, granuleCount, bankPlace, placedIn, granuleAt}
 use Rattle.boot.specs.declared.Params.{Params}
 use Rattle.boot.specs.declared.Record.{Record}
 use Rattle.codes.specs.Codes.{isUp, unless, fails, upOf, whenUp, isOk, answerOf}
 use Rattle.codes.specs.declared.Code.{Code}
 use Rattle.codes.specs.declared.Code.the-variants.{Ok, Unk, BadAddr, BadPas, Inval}
 use Rattle.codes.proofs.Gates.{if-ok-by}
-use Rattle.banks.proofs.Laws.{index-below, judged-once}
+use Rattle.banks.proofs.Laws.{index-below}
 use Rattle.granule_rules.specs.Granules.{Inside, GranuleTable, tableOf, fromByte, toByte, guarded, granuleCode, moveCode, granuleSet, moved, Moved, movedBy, moveAt, fitting, whenFit, moveOf, movedTo}
 use Rattle.banks.specs.declared.Granule.{Granule}
 use Rattle.banks.specs.declared.Granule.the-variants.{Nothing, At}
 use Rattle.granule_rules.specs.declared.Direction.{Direction}
 
--- ---- the granule of an address by a record that was judged once and has m granules, and that it lies within the table
-pub found-is : (g : Granules) (m n addr : ℕ) (k : Granule) → m ≡ granuleCount g → k ≡ granuleFound g m n addr → k ≡ granuleAt g n addr
-found-is g m n addr k c f = f ∙ ap (λ x. granuleFound g x n addr) c ∙ judged-once g n addr
-
+-- ---- the granule of an address, and that it lies within the table
 -- by one pass over the record, which found m granules and the place p
 pub placed-is : (g : Granules) (m n addr : ℕ) (p k : Granule) → m ≡ granuleCount g → p ≡ bankPlace g addr → k ≡ placedIn m p n addr → k ≡ granuleAt g n addr
 unfolding granuleAt

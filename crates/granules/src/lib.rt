@@ -8,11 +8,11 @@ use codes::Code;
 pub use granule_rules::Direction;
 use realm_words::Held;
 ghost use mathlib.Core.Path.{_≡_};
-ghost use Prim.Native.Nat.{_/_};
+ghost use Prim.Native.Nat.{_/_, _<_};
 ghost use lib.ListN.{length};
 ghost use Rattle.words.specs.Tests.{Yes};
 ghost use Rattle.codes.specs.Codes.{answerOf};
-ghost use Rattle.banks.specs.Banks.{Granules, granuleAt, onlyBank};
+ghost use Rattle.banks.specs.Banks.{Granules, granuleCount, granuleAt, onlyBank};
 ghost use Rattle.realm_words.specs.Answers.{wordsFit};
 ghost use Rattle.realm_words.specs.Holding.{Holds};
 ghost use Rattle.granule_rules.specs.Granules.{tableOf, Inside, fromByte, toByte, guarded, moveAt, moveOf, delegateOf, undelegateOf, movedTo, readyFor, atOnce, leftAtOnce};
@@ -125,9 +125,39 @@ fn shift(
     codes::answered(code, 0, 0)
 }
 
-// Moves the granules at a list of addresses, in its order, up to the first that is refused; x1 is how many were moved. Whether the
-// boot record is up is looked at once, and the banks are judged once. An empty list is OK, up or not, if the words are as many as they
-// must be.
+// Moves the granules at a list of addresses, in its order, up to the first that is refused; x1 is how many were moved. The record's
+// granules are the table's. The bank of the address before is held: addresses of a list mostly lie in one bank after another.
+fn held_list(
+    params: Params,
+    granules: &[u64; 33],
+    direction: Direction,
+    table: &mut [u8],
+    words: &mut [u64],
+    addresses: &[u64],
+) -> Answer
+    requires { ⌜ (0 < granuleCount (now granules)) × (granuleCount (now granules) ≡ length (now table)) ⌝ }
+    ensures { λ r. ⌜ movedTo r (now (table .exit)) (now (words .exit)) ≡ listBy (moveAt params (now (granules .entry)) direction) 0 (tableOf (now (table .entry)) (now (words .entry))) (now (addresses .entry)) ⌝ }
+{
+    let n = addresses.len();
+    let mut held = realm_words::nothing_held(words);
+    let mut bank = banks::no_bank();
+    for i in 0..n {
+        let address = addresses[i];
+        let sought = banks::seek(granules, bank, address);
+        let granule = sought.granule;
+        let step = shift_at(params, granule, direction, table, words, address, held);
+        let code = step.code;
+        if !codes::is_ok(code) {
+            return codes::answered(code, i as u64, 0);
+        }
+        held = step.held;
+        bank = sought.bank;
+    }
+    codes::answered(Code::Ok, n as u64, 0)
+}
+
+// A list of addresses. Whether the boot record is up is looked at once, and the banks are judged once. An empty list is OK, up or not, if
+// the words are as many as they must be.
 fn shift_list(
     state: Record,
     granules: &[u64; 33],
@@ -142,27 +172,21 @@ fn shift_list(
     if !realm_words::words_fit(words, count as usize) {
         return codes::answered(Code::Inval, 0, 0);
     }
-    let n = addresses.len();
-    if n == 0 {
+    if addresses.len() == 0 {
         return codes::answered(Code::Ok, 0, 0);
     }
     let up = codes::is_up(state);
     if !up {
         return codes::answered(Code::Unk, 0, 0);
     }
-    let params = codes::up_of(state);
-    let mut held = realm_words::nothing_held(words);
-    for i in 0..n {
-        let address = addresses[i];
-        let granule = banks::find_granule(granules, count, table.len(), address);
-        let step = shift_at(params, granule, direction, table, words, address, held);
-        let code = step.code;
-        if !codes::is_ok(code) {
-            return codes::answered(code, i as u64, 0);
-        }
-        held = step.held;
+    if count == 0 {
+        return codes::answered(Code::BadAddr, 0, 0);
     }
-    codes::answered(Code::Ok, n as u64, 0)
+    if count != table.len() as u64 {
+        return codes::answered(Code::BadAddr, 0, 0);
+    }
+    let params = codes::up_of(state);
+    held_list(params, granules, direction, table, words, addresses)
 }
 
 // ---- one bank, the usual case: without a loop over banks, for speed ----
