@@ -521,8 +521,8 @@ size_t pbeam_field_start(const uint8_t *page, size_t page_len, const uint64_t vi
  * Answers  the cursor behind the field; page_len behind the last. field: as pbeam_field; all zero behind the last.
  * Leaves   the page as it was.
  * Stack    32 bytes; AArch64 0
- * A walk passes each field once. Any other cursor is taken as the offset of a field: none is found outside the page. A cursor is for this
- * function alone: it is no place of a value.
+ * A walk passes each field once. Any other cursor is taken as the offset of a field: none is found outside the page, but any byte within it may
+ * be told as a tag or a length, one of a withdrawn value too. A cursor is for this function alone: it is no place of a value.
  */
 PBEAM_NONNULL(4)
 size_t pbeam_field_next(const uint8_t *page, size_t page_len, size_t cursor, uint64_t field[PBEAM_FIELD_WORDS]);

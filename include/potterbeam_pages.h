@@ -8,7 +8,7 @@
  * The reader's codes and the type of a page are those of potterbeam.h and potterbeam_types.h, which this header includes. Define
  * PBEAM_NO_002_NAMES before it where 002's own names are taken already.
  *
- * Of both functions, as of those of potterbeam.h:
+ * For both functions, as for those of potterbeam.h:
  *
  * - Any number and page is taken as input. There is no condition on values; every call returns, and touches only what it is lent. The
  *   library allocates nothing and keeps nothing between calls. It needs nothing but memcpy, memmove and memset.
@@ -46,7 +46,7 @@
 #define PBEAM_MEND_NCOH 4
 #define PBEAM_MEND_COH 5
 #define PBEAM_MEND_KEPT 0    /* the part is as it was */
-#define PBEAM_MEND_CHANGED 1 /* it broke a rule, and is zero now */
+#define PBEAM_MEND_CHANGED 1 /* it broke a rule or overlapped a part kept before it, and is zero now */
 
 #ifdef __cplusplus
 extern "C" {

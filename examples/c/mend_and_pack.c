@@ -54,7 +54,7 @@ int main(int argc, char **argv)
         return 2;
     }
     if (!load(argv[1], bytes, &page)) {
-        printf("the input is not 8 bytes of B and a page\n");
+        printf("the input cannot be read, or is not 8 bytes of B and a page of 4,096\n");
         return 1;
     }
     base = pbeam_get64(bytes);
