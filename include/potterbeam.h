@@ -72,7 +72,7 @@
 
 /* Version of the kit. */
 #define PBEAM_VERSION_MAJOR 0
-#define PBEAM_VERSION_MINOR 2
+#define PBEAM_VERSION_MINOR 3
 #define PBEAM_VERSION_PATCH 0
 
 /* Arguments that are never NULL, by their numbers, where the compiler can warn of it. */

@@ -473,11 +473,11 @@ static void check_editions_and_length(void)
     SAME(PBEAM_PAGE_BYTES, length);
 }
 
-/* Of the header alone: 0.2.0, as docs/REFERENCE.md has it. */
+/* Of the header alone: 0.3.0, as docs/REFERENCE.md has it. */
 static void check_version(void)
 {
     SAME(PBEAM_VERSION_MAJOR, 0);
-    SAME(PBEAM_VERSION_MINOR, 2);
+    SAME(PBEAM_VERSION_MINOR, 3);
     SAME(PBEAM_VERSION_PATCH, 0);
 }
 
