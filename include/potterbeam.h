@@ -712,7 +712,7 @@ void pbeam_delegate_list(const uint64_t state[PBEAM_STATE_WORDS], const uint64_t
 
 /*
  * pbeam_undelegate_list: the same from Realm to Non-secure, each address as pbeam_undelegate takes it.
- * Stack    320 bytes; AArch64 176
+ * Stack    320 bytes; AArch64 192
  */
 PBEAM_NONNULL(1, 2, 9)
 void pbeam_undelegate_list(const uint64_t state[PBEAM_STATE_WORDS], const uint64_t granules[PBEAM_GRANULES_WORDS], uint8_t *table,
