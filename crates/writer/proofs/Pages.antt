@@ -197,16 +197,16 @@ module _ (base v : ℕ) (d : Description) (p : List ℕ) (whole : length p ≡ 4
   unfolding joined
   body-none = rw append-nil
 
-  pub arrays-law : (at : ℕ) (page : List ℕ) → used v d ≤ 4096 → at ≡ core v → page ≡ splice 0 (bytesOf (coreWords base v d)) p →
-      arraysOn at (d .lists) page ≡ splice 0 (bytesOf (coreWords base v d ++ joined 4 (d .lists))) p
+  pub arrays-law : (at : ℕ) (page after : List ℕ) → used v d ≤ 4096 → at ≡ core v → page ≡ splice 0 (bytesOf (coreWords base v d)) p → after ≡ arraysOn at (d .lists) page →
+      after ≡ splice 0 (bytesOf (coreWords base v d ++ joined 4 (d .lists))) p
   unfolding arraysOn
-  arrays-law at page fit e f =
+  arrays-law at page after fit e f g =
       let g0 : at ≡ offset v d 0 = omega (arith, offset-none) in
       let h0 = body-more 0 at page (omega arith) fit g0 (f ∙ body-none) in
       let h1 = body-more 1 (at + 8 * length (d .lists 0)) _ (omega arith) fit (omega (arith, offset-more 0)) h0 in
       let h2 = body-more 2 (at + 8 * length (d .lists 0) + 8 * length (d .lists 1)) _ (omega arith) fit (omega (arith, offset-more 0, offset-more 1)) h1 in
       let h3 = body-more 3 (at + 8 * length (d .lists 0) + 8 * length (d .lists 1) + 8 * length (d .lists 2)) _ (omega arith) fit (omega (arith, offset-more 0, offset-more 1, offset-more 2)) h2 in
-      h3
+      g ∙ h3
 
   -- where they end
   body-bytes : length (bytesOf (coreWords base v d ++ joined 4 (d .lists))) ≡ offset v d 4

@@ -1,4 +1,3 @@
-use mathlib.Core.Path.{_∙_}
 use native.Mathlib.Omega.{arith}
 use Rattle.lists.specs.Description.{four, descriptionOf}
 use Rattle.writer.proofs.Pages.{arrays-law, fields-in, page-law, words-room}
@@ -65,7 +64,7 @@ returns c =
     let a = s .args in
     let d = descriptionOf (a .dram .now) (a .console .now) (a .ncoh .now) (a .coh .now) (a .fields .now) in
     let z = c .before .before .before .before .before .before .before .before .before .before .before .before .core-size in
-    let g = c .before .before .before .before .before .before .before .before .before .before .put-arrays .ensures .1 ∙ arrays-law (a .base) (a .e .minor) d (a .page .now) (s .pre .1) (z .result) _ (s .pre .2) (z .ensures .0) (c .before .before .before .before .before .before .before .before .before .before .before .before .before .before .before .put-core .ensures) in
+    let g = arrays-law (a .base) (a .e .minor) d (a .page .now) (s .pre .1) (z .result) _ _ (s .pre .2) (z .ensures .0) (c .before .before .before .before .before .before .before .before .before .before .before .before .before .before .before .put-core .ensures) (c .before .before .before .before .before .before .before .before .before .before .put-arrays .ensures .1) in
     rw (c .before .before .clear .ensures)
     (page-law (a .base) (a .e .minor) d (a .page .now) (s .pre .1) (z .result) (c .before .before .before .before .before .before .before .before .before .before .put-arrays .result) (s .pre .2) (z .ensures .0) (c .before .before .before .before .before .before .before .before .before .before .put-arrays .ensures .0) (c .before .before .before .before .before .before .put-fields .result) _ _ g (c .before .before .before .before .before .before .put-fields .ensures .1) (c .before .before .before .before .before .before .put-fields .ensures .0))
 
