@@ -9,7 +9,8 @@ use lib.ListN.{getD, List·getD-eq-default}
 use lib.Dec.{leb, ltb, lit≤}
 use native.Mathlib.Nat.{mul-suc, mul-le-mul-left}
 use borrow.Author.Tests.{leb-true, ltb-true, le-leb, lt-leb, le-ltb, lt-ltb}
-use Rattle.words.specs.Word.{part, wordAt, wordsOf, spanAt, spanned, spanStart, noSpan}
+use Rattle.words.specs.Word.{part, wordAt, wordsOf, spanAt, spanned, spanStart, noSpan, onFrom}
+use Rattle.words.specs.declared.Span.{Span}
 use Rattle.words.proofs.Read.{wordsOf-length}
 use Rattle.words.proofs.Store.{span-none, span-in, start-none, start-in}
 use Rattle.entries.specs.Entry.{wordsPerEntry, size, shownWords, isHidden}
@@ -76,6 +77,10 @@ pub answer-starts : (base : ℕ) (page : List ℕ) (a : ReaderAnswer) (k : ℕ) 
 unfolding spanIn
 answer-starts base page (refused c) k = start-none page
 answer-starts base page (shows w e q s) k = section-starts k (sectionOf (viewAt w e base page) k) page
+
+-- the same of the addresses, by the place that was told
+pub told-starts : (base : ℕ) (page : List ℕ) (n : ReaderAnswer) (k : ℕ) (x : Span) → x ≡ spanIn base page n k → (a b : ℕ × ℕ) → b ≡ onFrom a (spanStart x page) → b ≡ onFrom a (spanIn base page n k .at)
+told-starts base page n k x e a b h = h ∙ rw (e, answer-starts base page n k)
 
 -- ---- a word of an entry
 word-cond : (k i j : ℕ) (b : Bool) (ws bs : List ℕ) → entryWord k i j (cond b (full ws bs) empty) ≡ cond b (cond (ltb j (wordsPerEntry k)) (getD ws (wordsPerEntry k * i + j) 0) 0) 0
@@ -146,6 +151,10 @@ word-hidden w k i j Absent page h = refl
 word-hidden w k i j Empty page h = refl
 word-hidden w k i j (Entries at count) page h = sym (hidden-tests k at count i j page true w h)
 
+-- the same by the test and the section as they were told
+pub told-word : (w k i j : ℕ) (s t : Section) (page : List ℕ) (h : Bool) → h ≡ isHidden w k j → h ≡ false → s ≡ t → (r : ℕ) → r ≡ wordOf 0 k i j t page → r ≡ wordOf w k i j s page
+told-word w k i j s t page h ch n e r m = m ∙ rw (← e) (word-unhidden w k i j s page (sym ch ∙ n))
+
 -- word j of entry i, below count, lies in the array's words
 pub word-place : (i count j w : ℕ) → i < count → j < w → w * i + j < w * count
 word-place i count j w h l = omega (arith, mul-suc w i, mul-le-mul-left w h)
@@ -153,6 +162,9 @@ word-place i count j w h l = omega (arith, mul-suc w i, mul-le-mul-left w h)
 pub word-view : (page : List ℕ) (v : View) (k i j : ℕ) → wordOf (v .minor) k i j (sectionOf v k) page ≡ wordIn (readingAnswer page (Accepted v)) k i j
 unfolding wordOf wordIn readingAnswer
 word-view page v k i j = refl
+
+pub told-view : (page : List ℕ) (v : View) (k i j : ℕ) (s : Section) → s ≡ sectionOf v k → (r : ℕ) → r ≡ wordOf (v .minor) k i j s page → r ≡ wordIn (readingAnswer page (Accepted v)) k i j
+told-view page v k i j s e r h = h ∙ rw e (word-view page v k i j)
 
 -- ---- the lookup of a page
 module _ (r base k : ℕ) (page : List ℕ) where

@@ -6,6 +6,9 @@ use mathlib.Core.List.{List, [], _∷_}
 use lib.ListN.{getD}
 use Rattle.words.specs.Tests.{both}
 use Rattle.words.proofs.Tests.{both-r}
+use lib.IntN.{ℤ}
+use Rattle.boot.specs.Boot.{bootNumber, coldCode, coldNext}
+use Rattle.boot.specs.declared.BootCode.{BootCode}
 use Rattle.boot.specs.declared.Record.{Record}
 use Rattle.codes.specs.Codes.{isOk, ifOk, answerOf}
 use Rattle.codes.specs.declared.Code.the-variants.{Ok}
@@ -14,7 +17,7 @@ use Rattle.banks.specs.Banks.{Granules}
 use Rattle.granule_rules.specs.Granules.{GranuleTable, tableOf, Moved, movedBy, moveOf, movedTo, readyFor, atOnce, leftAtOnce}
 use Rattle.granule_rules.specs.declared.Direction.{Direction}
 use Rattle.granule_rules.proofs.Done.{ok-code}
-use Rattle.token_rules.specs.Token.{TokenStep}
+use Rattle.token_rules.specs.Token.{TokenStep, tokenOf}
 use Rattle.token_rules.specs.declared.Session.{Session}
 use Rattle.response_rules.specs.OnImage.{SignImage}
 use Rattle.signing.specs.OnImage.{signingOn}
@@ -22,7 +25,7 @@ use Rattle.runtime.specs.Step.{plainWorld, Step, kindOf, afterToken, afterSigni
 use Rattle.runtime.specs.declared.Needs.{Needs}
 use Rattle.runtime.specs.declared.Reply.{Reply}
 use Rattle.runtime.proofs.Plain.{needs-session, needs-queue, plain-beside}
-use Rattle.images.specs.Image.{recordOf, isSet, sessionOf, sessionWords, registerWords, workWords, replyRegisters, replyWords}
+use Rattle.images.specs.Image.{recordOf, recordWords, isSet, sessionOf, sessionWords, registerWords, workWords, replyRegisters, replyWords}
 use Rattle.queue_image.specs.Image.{listsIn}
 use Rattle.queue_image.specs.Steps.{ImageStep, imageStep}
 use Rattle.potterbeam.specs.Exports.{sessionAfter, MoveLeft, moveLeft, TokenLeft, tokenLeft, tokenIn, SigningLeft, signingLeft, signingIn, SignLeft, signLeft, sessionLeft, queueLeft, CallLeft, callLeft, callLent, callIn, PlainLeft, plainLeft, plainIn}
@@ -53,6 +56,15 @@ pub token-left : (a : Answer) (s : Session) (image out page se : List ℕ) (t : 
     record { answer = a; page = page; session = s } ≡ t → _≡_ {A = TokenLeft} (record { out = out; page = page; session = se }) (tokenLeft t image)
 unfolding tokenLeft sessionAfter
 token-left a s image out page se t h i e = rw (h, i) (ap (λ (x : TokenStep). tokenLeft x image) e)
+
+-- the step and the boot, by the record, session and flag as they were told
+pub told-token : (r k : Record) (page : List ℕ) (s l : Session) (b u : Bool) (token : List ℕ) (pa size c : ℕ) → k ≡ r → l ≡ s → u ≡ b → (x : TokenStep) → x ≡ tokenOf k page l u token pa size c → x ≡ tokenOf r page s b token pa size c
+told-token r k page s l b u token pa size c e f g x h = h ∙ rw (e, f, g)
+
+pub told-cold : (r k : Record) (x0 x1 x2 x3 most kept : ℕ) (page : List ℕ) → k ≡ r → (c : BootCode) (next : Record) →
+    (bootNumber c ≡ coldCode k x0 x1 x2 x3 most kept page) × (next ≡ coldNext k x0 x1 x2 x3 most kept page) → (n z : ℤ) → z ≡ n → n ≡ bootNumber c → (image : List ℕ) → image ≡ recordWords next →
+    (z ≡ coldCode r x0 x1 x2 x3 most kept page) × (image ≡ recordWords (coldNext r x0 x1 x2 x3 most kept page))
+told-cold r k x0 x1 x2 x3 most kept page e c next p n z q h image i = rw (← e) (q ∙ h ∙ p .0, i ∙ ap recordWords (p .1))
 
 pub signing-left : (a : Answer) (out page image : List ℕ) (s : ImageStep) → out ≡ registerWords a → _≡_ {A = ImageStep} (record { answer = a; page = page; image = image }) s →
     _≡_ {A = SigningLeft} (record { out = out; page = page; queue = image }) (signingLeft s)

@@ -1,10 +1,11 @@
 -- The view of an accepted page, put word by word from the page's core. Assumes nothing.
-use Prim.Native.Nat.{ℕ, _+_, _*_, _≤_, _<_}
+use Prim.Native.Nat.{ℕ, _+_, _-_, _*_, _≤_, _<_, min}
 use mathlib.Core.Path.{_≡_, refl, sym, ap, _∙_}
 use mathlib.Core.Bool.{true}
 use mathlib.Core.List.{List, [], _∷_, _++_}
 use native.Mathlib.Omega.{arith}
 use native.Mathlib.Nat.{zero-add}
+use lib.IntN.{pos}
 use lib.ListN.{length}
 use Rattle.words.specs.Word.{part, wordAt, splice}
 use Rattle.words.proofs.Read.{num-part}
@@ -13,9 +14,14 @@ use Rattle.versions.specs.Edition.{sectionCount}
 use Rattle.sections.specs.Page.{countAt, pointerAt}
 use Rattle.sections.specs.Section.{rulesAt}
 use Rattle.sections.proofs.Sections.{range-low, ok-in-range, ok-each, rules-sections}
-use Rattle.reader.specs.Reading.{sectionAt}
+use Rattle.reader.specs.Answer.{readOf, wordIn}
+use Rattle.reader.specs.Reading.{sectionAt, viewAt, readingOf, readingAnswer}
 use Rattle.reader.specs.declared.View.{View}
-use Rattle.images.specs.Image.{sectionWords, viewWords}
+use Rattle.reader.specs.declared.Reading.the-variants.{Accepted}
+use Rattle.reader.proofs.Whole.{section-entries}
+use Rattle.boot.specs.Boot.{codeIn}
+use Rattle.images.specs.Image.{tagWord, placeWord, countWord, sectionWords, viewWords, answerWords}
+use Rattle.images.proofs.Answers.{shown-answer}
 
 -- ---- the core, a part of the page
 core-word : (off : ℕ) (page : List ℕ) → off + 8 ≤ 112 → wordAt off (part 0 112 page) ≡ wordAt off page
@@ -36,6 +42,21 @@ core-base w e base k page o m h z =
     let g = ok-in-range w e base k page (ok-each w e base page (sectionCount e) k (rules-sections w e base page o) h) (λ y. z (c ∙ y)) in
     let l = range-low e base k (countAt k page) (pointerAt k page) g in
     omega arith
+
+-- ---- by what was told: a section that has entries, the page's answer, a word of the view
+pub told-entries : (e base k : ℕ) (core view : List ℕ) → k < sectionCount e → (n p : ℕ) → n ≡ countAt k core → p ≡ pointerAt k core → (n ≡ 0 → ⊥) → (after : List ℕ) → after ≡ splice (3 + 3 * k) (2 ∷ (p - base) ∷ n ∷ []) view →
+    after ≡ splice (3 + 3 * k) (sectionWords (sectionAt e base core k)) view
+unfolding sectionWords tagWord placeWord countWord
+told-entries e base k core view h n p cn cp z after m = m ∙ rw (cp, cn) (ap (λ s. splice (3 + 3 * k) (sectionWords s) view) (section-entries e base k core h (λ y. z (cn ∙ y))))
+
+pub told-read : (r base w m : ℕ) (page : List ℕ) → m ≡ min r w → Accepted (viewAt w (min r w) base page) ≡ readingOf r base page → (after : List ℕ) → after ≡ viewWords (viewAt w m base page) →
+    (pos 0 ≡ codeIn (readOf r base page)) × (after ≡ answerWords base page (readOf r base page))
+told-read r base w m page e f after h =
+    let g = shown-answer r base page w (min r w) f in
+    (g .0, h ∙ rw e (g .1))
+
+pub told-word : (page : List ℕ) (u v : View) (k i j : ℕ) → v ≡ u → (r : ℕ) → r ≡ wordIn (readingAnswer page (Accepted v)) k i j → r ≡ wordIn (readingAnswer page (Accepted u)) k i j
+told-word page u v k i j e r h = h ∙ rw e
 
 -- ---- three words by three
 laid-next : (xs ys l m : List ℕ) (n : ℕ) → m ≡ splice 0 xs l → n ≡ length xs → splice n ys m ≡ splice 0 (xs ++ ys) l

@@ -61,9 +61,9 @@ module _ (k j w : ℕ) where
   word-name e f = rw (eq-eqb k 1 e, eq-eqb j 2 f)
 
 -- ---- what a section is asked for, and a view
-pub word-shown : (w k i j : ℕ) (s : Section) (page : List ℕ) → wordOf w k i j s page ≡ entryWord k i j (shownAs w k s page)
+pub word-shown : (w k i j : ℕ) (s : Section) (page : List ℕ) (r : ℕ) → r ≡ wordOf w k i j s page → r ≡ entryWord k i j (shownAs w k s page)
 unfolding wordOf
-word-shown w k i j s page = refl
+word-shown w k i j s page r h = h
 
 pub section-seen : (v : View) (page : List ℕ) (k : ℕ) (s : Section) → s ≡ sectionOf v k → sectionText (λ i. shownAs (v .minor) i s page) k ≡ sectionText (seen v page) k
 unfolding sectionText seen

@@ -1,8 +1,6 @@
-use mathlib.Core.Path.{ap, _∙_}
-use Rattle.words.specs.Word.{spanStart, onFrom}
-use Rattle.words.specs.declared.Span.{Span}
+use mathlib.Core.Path.{_∙_}
 use Rattle.reader.specs.Answer.{readOf}
-use Rattle.lookup.proofs.Lookups.{answer-starts}
+use Rattle.lookup.proofs.Lookups.{told-starts}
 use borrow.Author.Needs.{needs}
 use Rattle.lookup.proofs.array.Statement.{statement}
 use Rattle.lookup.proofs.array.Tie as tie
@@ -20,7 +18,7 @@ returns c =
     let a = c .before .before .before .args in
     let e = c .before .place .ensures in (
       c .part-of .ensures .0 ∙ e .1,
-      c .part-of .ensures .1 ∙ ap (λ (p : Span). onFrom (a .page .ptr) (spanStart p (a .page .now))) (e .0) ∙ ap (onFrom (a .page .ptr)) (answer-starts (a .base) (a .page .now) (readOf (a .edition) (a .base) (a .page .now)) (a .k)),
+      told-starts (a .base) (a .page .now) (readOf (a .edition) (a .base) (a .page .now)) (a .k) _ (e .0) (a .page .ptr) _ (c .part-of .ensures .1),
     )
 
 pub array-spec : {M : Type 1} → statement M

@@ -2,7 +2,7 @@ use mathlib.Core.Path.{sym, ap, _∙_}
 use Rattle.reader.specs.Answer.{entryWord}
 use Rattle.reader.specs.Reading.{shownAs}
 use Rattle.lookup.specs.Lookup.{wordOf}
-use Rattle.lookup.proofs.Lookups.{word-hidden, word-unhidden}
+use Rattle.lookup.proofs.Lookups.{word-hidden, told-word}
 use borrow.Author.Needs.{needs}
 use Rattle.lookup.proofs.word_in.Statement.{statement}
 use Rattle.lookup.proofs.word_in.Tie as tie
@@ -36,9 +36,7 @@ returns-3 c = let a = c .before .before .before .before .before .args in sym (ap
 returns-4 : tie.Need-returns-4
 returns-4 c =
     let a = c .before .before .before .before .before .before .before .args in
-    c .word-at .ensures
-    ∙ sym (ap (λ s. wordOf 0 (a .k) (a .i) (a .j) s (a .page .now)) (c .before .before .section .given .1))
-    ∙ word-unhidden (a .minor) (a .k) (a .i) (a .j) (a .section) (a .page .now) (sym (c .before .before .before .before .before .is-hidden .ensures) ∙ c .before .before .before .before .if1 .left)
+    told-word (a .minor) (a .k) (a .i) (a .j) (a .section) _ (a .page .now) _ (c .before .before .before .before .before .is-hidden .ensures) (c .before .before .before .before .if1 .left) (c .before .before .section .given .1) _ (c .word-at .ensures)
 
 pub word-in-spec : {M : Type 1} → statement M
 word-in-spec =

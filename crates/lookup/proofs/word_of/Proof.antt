@@ -1,6 +1,4 @@
-use mathlib.Core.Path.{ap, _∙_}
-use Rattle.lookup.specs.Lookup.{wordOf}
-use Rattle.lookup.proofs.Lookups.{word-view}
+use Rattle.lookup.proofs.Lookups.{told-view}
 use borrow.Author.Needs.{needs}
 use Rattle.lookup.proofs.word_of.Statement.{statement}
 use Rattle.lookup.proofs.word_of.Tie as tie
@@ -14,7 +12,7 @@ word-in-requires c κs = search needs
 returns : tie.Need-returns
 returns c =
     let a = c .before .before .before .args in
-    c .word-in .ensures ∙ ap (λ s. wordOf (a .view .minor) (a .k) (a .i) (a .j) s (a .page .now)) (c .before .section-of .ensures) ∙ word-view (a .page .now) (a .view) (a .k) (a .i) (a .j)
+    told-view (a .page .now) (a .view) (a .k) (a .i) (a .j) _ (c .before .section-of .ensures) _ (c .word-in .ensures)
 
 pub word-of-spec : {M : Type 1} → statement M
 word-of-spec = tie.close (tie.spec section-of-requires word-in-requires returns)

@@ -1,7 +1,8 @@
 use mir.Val.{toZ, ofZ}
 use mir.Syntax.{w32}
-use mathlib.Core.Path.{_≡_, sym, ap, _∙_}
-use Rattle.images.specs.Image.{recordWords}
+use mathlib.Core.Path.{_≡_}
+use Rattle.images.specs.Image.{recordOf}
+use Rattle.potterbeam.proofs.Left.{told-cold}
 use borrow.Author.Needs.{needs}
 use Rattle.potterbeam.proofs.pbeam_cold_boot.Statement.{statement}
 use Rattle.potterbeam.proofs.pbeam_cold_boot.Tie as tie
@@ -20,8 +21,9 @@ number-requires c κs = search needs
 
 returns : tie.Need-returns
 returns c =
+    let a = c .before .before .before .before .before .before .args in
     let q : toZ w32 (ofZ w32 (c .number .result)) ≡ c .number .result = search needs in
-    rw (← c .before .before .before .record-of .ensures) (q ∙ c .number .ensures ∙ c .before .before .cold .ensures .0, c .before .record-words .ensures ∙ ap recordWords (c .before .before .cold .ensures .1))
+    told-cold (recordOf (a .image .now)) _ (a .x0) (a .x1) (a .x2) (a .x3) (a .most) (a .kept) (a .page .now) (c .before .before .before .record-of .ensures) (c .before .before .cold .result .code) (c .before .before .cold .result .next) (c .before .before .cold .ensures) _ _ q (c .number .ensures) _ (c .before .record-words .ensures)
 
 pub pbeam-cold-boot-spec : {M : Type 1} → statement M
 pbeam-cold-boot-spec =

@@ -1,7 +1,6 @@
-use mathlib.Core.Path.{ap, _∙_}
-use Rattle.images.specs.Image.{isSet}
+use Rattle.images.specs.Image.{recordOf, isSet, sessionOf}
 use Rattle.potterbeam.specs.Exports.{tokenIn}
-use Rattle.potterbeam.proofs.Left.{token-left}
+use Rattle.potterbeam.proofs.Left.{token-left, told-token}
 use borrow.Author.Needs.{needs}
 use Rattle.potterbeam.proofs.pbeam_platform_token.Statement.{statement}
 use Rattle.potterbeam.proofs.pbeam_platform_token.Tie as tie
@@ -39,7 +38,7 @@ returns c =
     let a = c .before .before .before .before .before .before .before .before .before .before .before .before .before .before .args in
     let r = c .before .before .before .before .before .before .platform-token in
     token-left (r .result .answer) _ (a .session .now) _ _ _ _ (c .registers .ensures) (c .before .put-session .ensures)
-    (r .ensures ∙ rw (c .before .before .before .before .before .before .before .is-set .ensures, c .before .before .before .before .before .before .before .before .session-of .ensures, c .before .before .before .before .before .before .before .before .before .before .before .record-of .ensures))
+    (told-token (recordOf (a .state .now)) _ (a .page .now) (sessionOf (a .session .now)) _ (isSet (a .busy)) _ (a .token .now) (a .pa) (a .size) (a .csize) (c .before .before .before .before .before .before .before .before .before .before .before .record-of .ensures) (c .before .before .before .before .before .before .before .before .session-of .ensures) (c .before .before .before .before .before .before .before .is-set .ensures) _ (r .ensures))
 
 pub pbeam-platform-token-spec : {M : Type 1} → statement M
 pbeam-platform-token-spec =

@@ -2,7 +2,8 @@ use mir.Val.{toZ, ofZ}
 use mir.Syntax.{w32}
 use mathlib.Core.Path.{_≡_, sym, _∙_}
 use Rattle.reader.proofs.Whole.{fine-reads, refused-reads}
-use Rattle.images.proofs.Answers.{shown-answer, refused-answer}
+use Rattle.images.proofs.Answers.{refused-answer}
+use Rattle.potterbeam.proofs.Shown.{told-read}
 use borrow.Author.Needs.{needs}
 use Rattle.potterbeam.proofs.pbeam_read.Statement.{statement}
 use Rattle.potterbeam.proofs.pbeam_read.Tie as tie
@@ -36,8 +37,7 @@ returns : tie.Need-returns
 returns c =
     let a = c .before .before .before .before .before .before .before .before .args in
     let f = fine-reads (a .edition) (a .base) (a .page .now) _ (sym (c .before .before .before .before .w .given .1) ∙ c .before .before .before .before .before .before .judge-page .ensures) in
-    let g = shown-answer (a .edition) (a .base) (a .page .now) _ _ (f .2) in
-    (g .0, c .show .ensures ∙ rw (c .before .before .edition-read .ensures) (g .1))
+    told-read (a .edition) (a .base) _ _ (a .page .now) (c .before .before .edition-read .ensures) (f .2) _ (c .show .ensures)
 
 returns-2 : tie.Need-returns-2
 returns-2 c =

@@ -1,8 +1,4 @@
-use mathlib.Core.Path.{ap, _∙_}
-use Rattle.reader.specs.Answer.{wordIn}
-use Rattle.reader.specs.Reading.{readingAnswer}
-use Rattle.reader.specs.declared.View.{View}
-use Rattle.reader.specs.declared.Reading.the-variants.{Accepted}
+use Rattle.potterbeam.proofs.Shown.{told-word}
 use borrow.Author.Needs.{needs}
 use Rattle.potterbeam.proofs.pbeam_word.Statement.{statement}
 use Rattle.potterbeam.proofs.pbeam_word.Tie as tie
@@ -18,7 +14,7 @@ word-of-requires c κs = search needs
 returns : tie.Need-returns
 returns c =
     let a = c .before .before .before .args in
-    c .word-of .ensures ∙ ap (λ (v : View). wordIn (readingAnswer (a .page .now) (Accepted v)) (a .section) (a .entry) (a .word)) (c .before .view-of .ensures)
+    told-word (a .page .now) _ _ (a .section) (a .entry) (a .word) (c .before .view-of .ensures) _ (c .word-of .ensures)
 
 pub pbeam-word-spec : {M : Type 1} → statement M
 pbeam-word-spec = tie.close (tie.spec view-of-requires word-of-requires returns)

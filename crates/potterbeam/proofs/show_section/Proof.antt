@@ -3,8 +3,9 @@ use mathlib.Core.Path.{_≡_, ap, _∙_}
 use native.Mathlib.Omega.{arith}
 use Rattle.words.specs.Word.{splice}
 use Rattle.sections.specs.Page.{countAt}
-use Rattle.reader.proofs.Whole.{section-absent, section-empty, section-entries}
+use Rattle.reader.proofs.Whole.{section-absent, section-empty}
 use Rattle.images.specs.Image.{tagWord, placeWord, countWord, sectionWords}
+use Rattle.potterbeam.proofs.Shown.{told-entries}
 use borrow.Author.Needs.{needs}
 use Rattle.potterbeam.proofs.show_section.Statement.{statement}
 use Rattle.potterbeam.proofs.show_section.Tie as tie
@@ -66,12 +67,9 @@ same-length-3 : tie.Need-same-length-3
 same-length-3 c = search needs
 
 returns-3 : tie.Need-returns-3
-unfolding sectionWords tagWord placeWord countWord
 returns-3 c =
     let a = c .before .before .before .before .before .before .before .before .before .before .before .args in
-    let z : (countAt (a .k) (a .core .now) ≡ 0 → ⊥) = (λ e. c .before .before .before .before .before .if2 .left (c .before .before .before .before .before .before .count-at .ensures ∙ e)) in
-    (rw (c .before .before .before .before .pointer-at .ensures, c .before .before .before .before .before .before .count-at .ensures) at (c .before .before .put-three3 .ensures))
-    ∙ ap (λ s. splice (3 + 3 * a .k) (sectionWords s) (a .view .now)) (section-entries (a .e .minor) (a .base) (a .k) (a .core .now) (omega arith) z)
+    told-entries (a .e .minor) (a .base) (a .k) (a .core .now) (a .view .now) (omega arith) _ _ (c .before .before .before .before .before .before .count-at .ensures) (c .before .before .before .before .pointer-at .ensures) (c .before .before .before .before .before .if2 .left) _ (c .before .before .put-three3 .ensures)
 
 pub show-section-spec : {M : Type 1} → statement M
 show-section-spec =

@@ -1,5 +1,5 @@
 use Prim.Native.Nat.{_-_, _≤_}
-use mathlib.Core.Path.{_≡_, ap, _∙_}
+use mathlib.Core.Path.{_≡_, ap}
 use Rattle.entries.specs.Entry.{wordsPerEntry}
 use Rattle.reader.specs.Answer.{entryWord}
 use Rattle.reader.specs.Reading.{shownAs}
@@ -47,7 +47,7 @@ loop-again c =
     let a = c .before .before .before .before .before .before .before .before .before .before .before .before .before .before .args in
     let l = c .before .before .before .before .before .before .before .before .before .before .loop in
     let x = shownAs (a .minor) (a .k) (a .section) (a .page .now) in
-    let e : c .before .before .before .before .word-in .result ≡ entryWord (a .k) (a .i) (l .j) x = c .before .before .before .before .word-in .ensures ∙ word-shown (a .minor) (a .k) (a .i) (l .j) (a .section) (a .page .now) in (
+    let e : c .before .before .before .before .word-in .result ≡ entryWord (a .k) (a .i) (l .j) x = word-shown (a .minor) (a .k) (a .i) (l .j) (a .section) (a .page .now) _ (c .before .before .before .before .word-in .ensures) in (
       search needs,
       wrote-more (partText (a .k) x (a .i)) (l .j) (search needs) (l .inv .1)
           (wrote-then (search needs) (c .before .before .before .before .before .before .before .put-gap .ensures) (wrote-same (ap (wordText (a .k) (l .j)) e) (c .before .before .put-word .ensures))),
