@@ -7,12 +7,22 @@ use native.Mathlib.Omega.{arith}
 use native.Mathlib.Decide.{decLt}
 use lib.ListN.{length, getD, drop}
 use lib.Seq.{take-all}
-use lib.Dec.{eqb}
-use borrow.Author.Tests.{eqb-true, eq-eqb, ne-eqb}
+use lib.Dec.{eqb, leb, lit≤}
+use borrow.Author.Tests.{eqb-true, eq-eqb, ne-eqb, leb-true}
+use Rattle.words.specs.Tests.{both}
 use Rattle.words.specs.Word.{leOf, leBytes, part, numAt, wordAt}
-use Rattle.words.proofs.Read.{leOf-leBytes}
-use Rattle.fields.proofs.Scans.{never}
-use Rattle.reader.specs.Answer.{ReaderAnswer, countIn, wordIn}
+use Rattle.words.proofs.Read.{leOf-leBytes, num-part}
+use Rattle.entries.specs.Entry.{wordsPerEntry, size, shownWords, isHidden}
+use Rattle.entries.specs.Array.{wordsAt}
+use Rattle.fields.proofs.Scans.{never, part-length}
+use Rattle.reader.specs.Answer.{empty, full, ReaderAnswer, bytesIn, lookIn, countIn, entryCount, wordIn}
+use Rattle.reader.specs.Reading.{sectionOf, shownAs, readingAnswer}
+use Rattle.reader.specs.declared.Section.{Section}
+use Rattle.reader.specs.declared.Section.the-variants.{Absent, Empty, Entries}
+use Rattle.reader.specs.declared.View.{View}
+use Rattle.reader.specs.declared.Reading.the-variants.{Accepted}
+use Rattle.lookup.specs.Lookup.{wordOf}
+use Rattle.lookup.proofs.Lookups.{word-there, word-unhidden}
 use Rattle.lookup.specs.Consoles.{hasName, firstFrom, consoleNamed}
 use Rattle.lookup.specs.declared.ConsoleFound.{ConsoleFound}
 use Rattle.lookup.specs.declared.ConsoleFound.the-variants.{At, Nothing}
@@ -34,15 +44,61 @@ module _ (f : ℕ → Bool) (n i : ℕ) where
 pub first-start : (n : ℕ) (f : ℕ → Bool) → firstFrom (n - 0) 0 f ≡ firstFrom n 0 f
 first-start n f = let e : n - 0 ≡ n = omega arith in rw e
 
+-- console i has the name, by the bytes of the array: 48 for each console, the name behind base and size
+abbrev pub namedAt : List ℕ → List ℕ → ℕ → Bool
+namedAt bs name i = eqb (wordAt (48 * i + 16) bs) (wordAt 0 name)
+
 -- the test, by words that were read
-module _ (a : ReaderAnswer) (name : List ℕ) (i : ℕ) {x w : ℕ} (p : x ≡ wordIn a 1 i 2) (q : w ≡ wordAt 0 name) where
-  pub name-is : x ≡ w → hasName a name i ≡ true
-  unfolding hasName
+module _ (bs name : List ℕ) (i : ℕ) {x w : ℕ} (p : x ≡ wordAt (48 * i + 16) bs) (q : w ≡ wordAt 0 name) where
+  pub name-is : x ≡ w → namedAt bs name i ≡ true
   name-is e = eq-eqb _ _ (sym p ∙ e ∙ q)
 
-  pub name-not : (x ≡ w → ⊥) → hasName a name i ≡ false
-  unfolding hasName
+  pub name-not : (x ≡ w → ⊥) → namedAt bs name i ≡ false
   name-not n = ne-eqb _ _ (λ z. n (p ∙ z ∙ sym q))
+
+-- ---- the names in the bytes of the array are those that are shown
+name-there : (w at count i : ℕ) (page : List ℕ) → at + size 1 count ≤ length page → i < count → wordAt (48 * i + 16) (part at (size 1 count) page) ≡ wordOf w 1 i 2 (Entries at count) page
+unfolding size wordsPerEntry isHidden both
+name-there w at count i page h l =
+    num-part 8 at (8 * (6 * count)) (48 * i + 16) page (omega arith)
+    ∙ ap (λ x. wordAt x page) (let e : at + (48 * i + 16) ≡ at + 8 * (6 * i + 2) = omega arith in e)
+    ∙ word-there 1 at count i 2 page h l (lit≤ tt)
+    ∙ word-unhidden w 1 i 2 (Entries at count) page refl
+
+name-shown : (w i : ℕ) (s : Section) (page : List ℕ) → i < entryCount 1 (shownAs w 1 s page) → wordAt (48 * i + 16) (bytesIn (shownAs w 1 s page)) ≡ wordOf w 1 i 2 s page
+unfolding shownAs entryCount bytesIn wordsPerEntry size
+name-shown w i Absent page h = absurd (let z : ⊥ = omega arith in z)
+name-shown w i Empty page h = absurd (let z : ⊥ = omega arith in z)
+name-shown w i (Entries at count) page h = go (leb (at + size 1 count) (length page)) refl h
+  where
+    go : (b : Bool) → leb (at + size 1 count) (length page) ≡ b → i < entryCount 1 (cond b (full (shownWords w 1 (wordsAt 1 count at page)) (part at (size 1 count) page)) empty) →
+        wordAt (48 * i + 16) (bytesIn (cond b (full (shownWords w 1 (wordsAt 1 count at page)) (part at (size 1 count) page)) empty)) ≡ wordOf w 1 i 2 (Entries at count) page
+    go true e l =
+        let m : at + size 1 count ≤ length page = leb-true _ _ e in
+        name-there w at count i page m (omega (arith, part-length at (size 1 count) page m))
+    go false e l = absurd (let z : ⊥ = omega arith in z)
+
+first-same : (n i : ℕ) (f g : ℕ → Bool) → ((k : ℕ) → i ≤ k → k < i + n → f k ≡ g k) → firstFrom n i f ≡ firstFrom n i g
+unfolding firstFrom
+first-same zero i f g h = refl
+first-same (suc n) i f g h = rw (h i (omega arith) (omega arith), first-same n (i + 1) f g (λ k a b. h k (omega arith) (omega arith)))
+
+module _ (page : List ℕ) (v : View) where
+  console-word : (i : ℕ) → i < countIn (readingAnswer page (Accepted v)) 1 → wordAt (48 * i + 16) (lookIn (readingAnswer page (Accepted v)) 1) ≡ wordIn (readingAnswer page (Accepted v)) 1 i 2
+  unfolding lookIn countIn wordIn readingAnswer wordOf
+  console-word i h = name-shown (v .minor) i (sectionOf v 1) page h
+
+  consoles-count : length (lookIn (readingAnswer page (Accepted v)) 1) / 48 ≡ countIn (readingAnswer page (Accepted v)) 1
+  unfolding lookIn countIn entryCount wordsPerEntry readingAnswer
+  consoles-count = refl
+
+  -- the first of the array's consoles with a name is the view's
+  pub array-named : (bs name : List ℕ) → bs ≡ lookIn (readingAnswer page (Accepted v)) 1 → firstFrom (length bs / 48) 0 (namedAt bs name) ≡ consoleNamed (readingAnswer page (Accepted v)) name
+  unfolding consoleNamed hasName
+  array-named bs name e =
+      rw (e, consoles-count)
+      (first-same (countIn (readingAnswer page (Accepted v)) 1) 0 (namedAt (lookIn (readingAnswer page (Accepted v)) 1) name) (λ i. eqb (wordIn (readingAnswer page (Accepted v)) 1 i 2) (wordAt 0 name))
+      (λ k a b. ap (λ x. eqb x (wordAt 0 name)) (console-word k (omega arith))))
 
 -- ---- the first one, and that there is none
 none-more : (f : ℕ → Bool) (i j : ℕ) → f i ≡ false → ((k : ℕ) → i + 1 ≤ k → k < j → f k ≡ false) → (k : ℕ) → i ≤ k → k < j → f k ≡ false

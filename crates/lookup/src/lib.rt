@@ -135,9 +135,10 @@ pub fn find_console(page: &[u8], view: View, name: &[u8; 8]) -> ConsoleFound
     ensures { λ r. ⌜ r ≡ consoleNamed (readingAnswer (now (page .entry)) (Reading.Accepted view)) (now (name .entry)) ⌝ }
 {
     let wanted = words::word_at(name, 0);
-    let count = count_of(page, view, 1);
+    let array = array_of(page, view, 1);
+    let count = array.len() / 48;
     for i in 0..count {
-        if word_of(page, view, 1, i, 2) == wanted {
+        if words::word_at(array, 48 * i + 16) == wanted {
             return ConsoleFound::At(i);
         }
     }
