@@ -215,7 +215,7 @@ pub fn no_bank() -> HeldBank
 }
 
 // How far behind the base an address lies, in 64 bits.
-fn offset_in(base: u64, address: u64) -> u64
+pub fn offset_in(base: u64, address: u64) -> u64
     ensures { λ r. ⌜ r ≡ distance base address ⌝ }
 {
     std::num::wrapping_sub_u64(address, base)

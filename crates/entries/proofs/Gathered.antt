@@ -35,10 +35,10 @@ or-none a b =
     let y : b ≡ 0 = eqb-true _ _ (both-r _ _ h) in
     eq-eqb (bitOr a b) 0 (ap (λ n. bitOr n b) x ∙ or-zero-l b ∙ y))
 
-or-low : (a b : ℕ) → eqb (bitOr a b % 4096) 0 ≡ both (eqb (a % 4096) 0) (eqb (b % 4096) 0)
+pub or-low : (a b : ℕ) → eqb (bitOr a b % 4096) 0 ≡ both (eqb (a % 4096) 0) (eqb (b % 4096) 0)
 or-low a b = ap (λ n. eqb n 0) (or-mod a b 12) ∙ or-none (a % 4096) (b % 4096)
 
-or-below : (k a b : ℕ) → ltb (bitOr a b) (2 ^ k) ≡ both (ltb a (2 ^ k)) (ltb b (2 ^ k))
+pub or-below : (k a b : ℕ) → ltb (bitOr a b) (2 ^ k) ≡ both (ltb a (2 ^ k)) (ltb b (2 ^ k))
 or-below k a b =
     same-test _ _
     (λ h.

@@ -1,4 +1,4 @@
--- A call on a record of one bank, for speed: what is known where nothing but the address is left to judge. Assumes nothing.
+-- A list on a record of one bank, for speed: what is known where nothing but the addresses is left to judge. Assumes nothing.
 use Prim.Native.Nat.{ℕ, _/_}
 use mathlib.Core.Path.{_≡_, refl, sym, ap, _∙_}
 use mathlib.Core.Bool.{Bool, true, false, cond}
@@ -10,15 +10,13 @@ use Rattle.words.proofs.Tests.{both-l, both-r}
 use Rattle.realm_words.specs.Answers.{wordsFit}
 use Rattle.boot.specs.declared.Params.{Params}
 use Rattle.boot.specs.declared.Record.{Record}
-use Rattle.codes.specs.Codes.{isUp, upOf, isOk, answerOf}
-use Rattle.codes.specs.declared.Code.{Code}
+use Rattle.codes.specs.Codes.{isUp, upOf}
 use Rattle.banks.specs.Banks.{Granules, granuleCount, granuleAt, onlyBank, onlyAt}
 use Rattle.banks.specs.declared.Granule.{Granule}
 use Rattle.banks.proofs.Laws.{bank-granules, bank-granule}
-use Rattle.granule_rules.specs.Granules.{GranuleTable, tableOf, Moved, moveAt, moveOf, movedTo, fitting, readyFor, atOnce, leftAtOnce}
+use Rattle.granule_rules.specs.Granules.{tableOf, Moved, moveAt, fitting, readyFor}
 use Rattle.granule_rules.specs.declared.Direction.{Direction}
 use Rattle.granule_rules.specs.Lists.{listBy, moveListOf}
-use Rattle.granule_rules.proofs.Moving.{told-up, move-refused}
 use Rattle.granule_rules.proofs.Lists.{told-list}
 
 pub bank-size : (g : Granules) (n : ℕ) → Yes (onlyBank g n) → getD g 2 0 / 4096 ≡ n
@@ -48,24 +46,6 @@ told-ready s g n ws z b e h = sym e ∙ h
 
 ready-fits : (s : Record) (g : Granules) (t ws : List ℕ) → Yes (readyFor s g (length t) ws) → fitting g (tableOf t ws) ≡ true
 ready-fits s g t ws r = ap (wordsFit ws) (bank-granules g (length t) (ready-bank s g (length t) ws r)) ∙ ready-words s g (length t) ws r
-
--- ---- what such a call leaves
-module _ (s : Record) (g : Granules) (d : Direction) (t ws : List ℕ) (addr : ℕ) where
-  pub not-ready : readyFor s g (length t) ws ≡ false → (false ≡ atOnce s g d (tableOf t ws) addr) × (tableOf t ws ≡ leftAtOnce s g d (tableOf t ws) addr)
-  unfolding leftAtOnce atOnce both
-  not-ready h = (rw h, rw h)
-
-  pub left-ready : Yes (readyFor s g (length t) ws) → (u : Params) → u ≡ upOf s → (k : Code) (b w : List ℕ) (q : Bool) → movedTo (answerOf k 0 0) b w ≡ moveAt u g d (tableOf t ws) addr → q ≡ isOk k →
-      (q ≡ atOnce s g d (tableOf t ws) addr) × (tableOf b w ≡ leftAtOnce s g d (tableOf t ws) addr)
-  unfolding leftAtOnce atOnce both movedTo answerOf
-  left-ready r u v k b w q m e = (rw r (e ∙ ap (λ (x : Moved). isOk (x .answer .code)) is), rw r (go (isOk (moveOf s g d (tableOf t ws) addr .answer .code)) refl))
-    where
-      is : movedTo (answerOf k 0 0) b w ≡ moveOf s g d (tableOf t ws) addr
-      is = told-up s g d (tableOf t ws) addr (ready-fits s g t ws r) (ready-up s g (length t) ws r) u v (movedTo (answerOf k 0 0) b w) m
-
-      go : (o : Bool) → isOk (moveOf s g d (tableOf t ws) addr .answer .code) ≡ o → tableOf b w ≡ cond o (moveOf s g d (tableOf t ws) addr .table) (tableOf t ws)
-      go true o = ap (λ (x : Moved). x .table) is
-      go false o = ap (λ (x : Moved). x .table) is ∙ ap (λ (x : Moved). x .table) (move-refused s g d (tableOf t ws) addr o)
 
 -- ---- a list
 pub ready-list : (s : Record) (g : Granules) (d : Direction) (t ws l : List ℕ) (z : Bool) → z ≡ readyFor s g (length t) ws → z ≡ true → (u : Params) → u ≡ upOf s → (m : Moved) →

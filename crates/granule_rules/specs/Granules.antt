@@ -1,20 +1,21 @@
 -- 0xC40001B0, B1: delegate, undelegate. 01: "The granule table is one byte a granule ..: 0 Non-secure, 1 Realm, 2 Root, 3 Secure; other
 -- bytes are none of these (house codes)." Which granule an address falls on is said by the banks (02, E2). Assumes nothing.
-use Prim.Native.Nat.{ℕ, _<_}
+use Prim.Native.Nat.{ℕ, _/_, _%_, _^_, _<_}
 use mathlib.Core.Path.{_≡_}
 use mathlib.Core.Bool.{Bool, false, cond}
 use mathlib.Core.List.{List}
 use lib.ListN.{length, getD, set}
-use lib.Dec.{eqb}
+use lib.Bits.{bitOr}
+use lib.Dec.{ltb, eqb}
 use Rattle.words.specs.Tests.{both}
-use Rattle.banks.specs.Banks.{Granules, granuleCount, granuleAt, onlyBank}
+use Rattle.banks.specs.Banks.{Granules, bankCount, granuleCount, granuleAt, distance, onlyBank}
 use Rattle.banks.specs.declared.Granule.{Granule}
 use Rattle.banks.specs.declared.Granule.the-variants.{Nothing, At}
 use Rattle.realm_words.specs.Bits.{realmBit, putBit, realmWords}
 use Rattle.realm_words.specs.Answers.{wordsFit}
 use Rattle.boot.specs.declared.Params.{Params}
 use Rattle.boot.specs.declared.Record.{Record}
-use Rattle.codes.specs.Codes.{unless, fails, isUp, upOf, whenUp, isOk, ifOk, answerOf}
+use Rattle.codes.specs.Codes.{unless, fails, isUp, upOf, whenUp, ifOk, answerOf}
 use Rattle.codes.specs.declared.Code.{Code}
 use Rattle.codes.specs.declared.Code.the-variants.{Ok, BadAddr, BadPas, Inval}
 use Rattle.codes.specs.declared.Answer.{Answer}
@@ -104,12 +105,36 @@ movedTo a bytes words = record { answer = a; table = tableOf bytes words }
 unfoldable pub readyFor : Record → Granules → ℕ → List ℕ → Bool
 readyFor s g n ws = both (isUp s) (both (onlyBank g n) (wordsFit ws n))
 
--- such a call that is accepted is done at once; of any other, nothing is done
+-- whether a record has one bank, of n granules as the table and the words have; the bank is not judged
+unfoldable pub oneFits : Granules → ℕ → List ℕ → Bool
+oneFits g n ws = both (eqb (bankCount g) 1) (both (eqb (getD g 2 0 / 4096) n) (wordsFit ws n))
+
+-- whether an offset lies in a bank of that base and size, all three multiples of 4,096 and below 2^51: "or" gathers their bits for one
+-- test. Such a bank meets the reader's rule (proofs/AtOnce.antt).
+abbrev pub gathered : ℕ → ℕ → ℕ → ℕ
+gathered base size offset = bitOr (bitOr base size) offset
+
+unfoldable pub liesIn : ℕ → ℕ → ℕ → Bool
+liesIn base size offset = both (ltb offset size) (both (eqb (gathered base size offset % 4096) 0) (ltb (gathered base size offset) (2 ^ 51)))
+
+-- the offset of an address in the first bank, and its granule
+abbrev pub offsetIn : Granules → ℕ → ℕ
+offsetIn g addr = distance (getD g 1 0) addr
+
+abbrev pub firstGranule : Granules → ℕ → ℕ
+firstGranule g addr = offsetIn g addr / 4096
+
+-- the usual call is accepted by these tests and done at once; of any other, nothing is done
 unfoldable pub atOnce : Record → Granules → Direction → GranuleTable → ℕ → Bool
-atOnce s g d t addr = both (readyFor s g (length (t .bytes)) (t .words)) (isOk (moveOf s g d t addr .answer .code))
+atOnce s g d t addr =
+    both (isUp s)
+    (both (oneFits g (length (t .bytes)) (t .words))
+    (both (unless (guarded (upOf s) d addr))
+    (both (liesIn (getD g 1 0) (getD g 2 0) (offsetIn g addr))
+    (eqb (getD (t .bytes) (firstGranule g addr) 0) (fromByte d)))))
 
 unfoldable pub leftAtOnce : Record → Granules → Direction → GranuleTable → ℕ → GranuleTable
-leftAtOnce s g d t addr = cond (atOnce s g d t addr) (moveOf s g d t addr .table) t
+leftAtOnce s g d t addr = cond (atOnce s g d t addr) (granuleSet d t (At (firstGranule g addr))) t
 
 -- ---- "If words and table agree": 02, E6: "agreement, spare bits zero too"
 abbrev pub Agrees : GranuleTable → Type 0

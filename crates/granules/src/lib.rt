@@ -8,14 +8,16 @@ use codes::Code;
 pub use granule_rules::Direction;
 use realm_words::Held;
 ghost use mathlib.Core.Path.{_≡_};
+ghost use mathlib.Core.Bool.{cond};
 ghost use Prim.Native.Nat.{_/_, _<_};
-ghost use lib.ListN.{length};
+ghost use lib.ListN.{length, getD};
+ghost use lib.Dec.{eqb};
 ghost use Rattle.words.specs.Tests.{Yes};
 ghost use Rattle.codes.specs.Codes.{answerOf};
 ghost use Rattle.banks.specs.Banks.{Granules, granuleCount, granuleAt, onlyBank};
 ghost use Rattle.realm_words.specs.Answers.{wordsFit};
 ghost use Rattle.realm_words.specs.Holding.{Holds};
-ghost use Rattle.granule_rules.specs.Granules.{tableOf, Inside, fromByte, toByte, guarded, moveAt, moveOf, delegateOf, undelegateOf, movedTo, readyFor, atOnce, leftAtOnce};
+ghost use Rattle.granule_rules.specs.Granules.{tableOf, Inside, fromByte, toByte, guarded, granuleSet, moveAt, moveOf, delegateOf, undelegateOf, movedTo, readyFor, oneFits, liesIn, atOnce, leftAtOnce};
 ghost use Rattle.granule_rules.specs.Lists.{listBy, moveListOf, delegateListOf, undelegateListOf};
 
 // The byte that a granule must have, and the one that it gets.
@@ -99,7 +101,7 @@ fn shift_at(
 
 // Moves the granule at an address. One pass over the banks gives the granules, by which the words are checked, and the place. The parameters
 // stand in the order in which an export has them, so that it hands them on where they are.
-fn shift(
+pub fn shift(
     granules: &[u64; 33],
     table: &mut [u8],
     words: &mut [u64],
@@ -189,7 +191,7 @@ fn shift_list(
     held_list(params, granules, direction, table, words, addresses)
 }
 
-// ---- one bank, the usual case: without a loop over banks, for speed ----
+// ---- a list on a record of one bank: without a loop over banks, for speed ----
 
 // Whether the words are as many as the granules of a bank of that size ask for.
 fn bank_fits(words: &[u64], size: u64) -> bool
@@ -201,7 +203,7 @@ fn bank_fits(words: &[u64], size: u64) -> bool
     true
 }
 
-// Whether nothing but the address and its granule's byte is left to judge, in a table of n granules.
+// Whether nothing but the addresses and their granules' bytes is left to judge, in a table of n granules.
 fn is_ready(state: Record, granules: &[u64; 33], n: usize, words: &[u64]) -> bool
     ensures { λ r. ⌜ r ≡ readyFor state (now (granules .entry)) n (now (words .entry)) ⌝ }
 {
@@ -213,30 +215,6 @@ fn is_ready(state: Record, granules: &[u64; 33], n: usize, words: &[u64]) -> boo
         return false;
     }
     bank_fits(words, granules[2])
-}
-
-// Moves the granule at an address if that is accepted, and says so; else nothing is changed, and the call is left to `delegate` and
-// `undelegate`. Of a record without exactly one bank it does nothing and answers false.
-pub fn moved_at_once(
-    state: Record,
-    granules: &[u64; 33],
-    direction: Direction,
-    table: &mut [u8],
-    words: &mut [u64],
-    address: u64,
-) -> bool
-    ensures { λ r. ⌜ (r ≡ atOnce state (now (granules .entry)) direction (tableOf (now (table .entry)) (now (words .entry))) address)
-        × (tableOf (now (table .exit)) (now (words .exit)) ≡ leftAtOnce state (now (granules .entry)) direction (tableOf (now (table .entry)) (now (words .entry))) address) ⌝ }
-{
-    if !is_ready(state, granules, table.len(), words) {
-        return false;
-    }
-    let params = codes::up_of(state);
-    let granule = banks::only_granule(granules[1], granules[2], address);
-    let held = realm_words::nothing_held(words);
-    let step = shift_at(params, granule, direction, table, words, address, held);
-    let code = step.code;
-    codes::is_ok(code)
 }
 
 // The list of a call that is ready.
@@ -266,6 +244,89 @@ fn only_list(
         held = step.held;
     }
     codes::answered(Code::Ok, n as u64, 0)
+}
+
+// ---- the usual call: an address in a record of one bank, accepted by few tests, for speed ----
+
+// Whether a record has one bank, of n granules, and the words are as many as these ask for. The bank is not judged.
+fn one_fits(granules: &[u64; 33], n: usize, words: &[u64]) -> bool
+    ensures { λ r. ⌜ r ≡ oneFits (now (granules .entry)) n (now (words .entry)) ⌝ }
+{
+    if granules[0] != 1 {
+        return false;
+    }
+    let size = granules[2];
+    if size / 4096 != n as u64 {
+        return false;
+    }
+    bank_fits(words, size)
+}
+
+// Whether an offset lies in a bank, all three multiples of 4,096 and below 2^51. Their bits are gathered, so that the compiler makes one
+// test of it; a bank that reaches further takes the longer way.
+fn lies_in(base: u64, size: u64, offset: u64) -> bool
+    ensures { λ r. ⌜ r ≡ liesIn base size offset ⌝ }
+{
+    if size <= offset {
+        return false;
+    }
+    let all = (base | size) | offset;
+    if all % 4096 != 0 {
+        return false;
+    }
+    if 0x8_0000_0000_0000 <= all {
+        return false;
+    }
+    true
+}
+
+// Moves a granule of table and words if its byte lets it, and says so.
+fn moved_granule(direction: Direction, table: &mut [u8], words: &mut [u64], at: usize) -> bool
+    requires { ⌜ (at < length (now table)) × (at / 64 < length (now words)) ⌝ }
+    ensures { λ r. ⌜ (r ≡ eqb (getD (now (table .entry)) at 0) (fromByte direction))
+        × (tableOf (now (table .exit)) (now (words .exit)) ≡ cond r (granuleSet direction (tableOf (now (table .entry)) (now (words .entry))) (Granule.At at)) (tableOf (now (table .entry)) (now (words .entry)))) ⌝ }
+{
+    let byte = table[at];
+    let from = from_byte(direction);
+    if byte != from {
+        return false;
+    }
+    let to = to_byte(direction);
+    table[at] = to;
+    let k = at / 64;
+    words[k] = realm_words::with_bit(words[k], at, to);
+    true
+}
+
+// Moves the granule at an address if the call is the usual one and accepted, and says so; else nothing is changed, and the call is left to
+// `shift`.
+pub fn moved_at_once(
+    state: Record,
+    granules: &[u64; 33],
+    direction: Direction,
+    table: &mut [u8],
+    words: &mut [u64],
+    address: u64,
+) -> bool
+    ensures { λ r. ⌜ (r ≡ atOnce state (now (granules .entry)) direction (tableOf (now (table .entry)) (now (words .entry))) address)
+        × (tableOf (now (table .exit)) (now (words .exit)) ≡ leftAtOnce state (now (granules .entry)) direction (tableOf (now (table .entry)) (now (words .entry))) address) ⌝ }
+{
+    if !codes::is_up(state) {
+        return false;
+    }
+    if !one_fits(granules, table.len(), words) {
+        return false;
+    }
+    let params = codes::up_of(state);
+    if is_guarded(params, direction, address) {
+        return false;
+    }
+    let base = granules[1];
+    let offset = banks::offset_in(base, address);
+    if !lies_in(base, granules[2], offset) {
+        return false;
+    }
+    moved_granule(direction, table, words, (offset / 4096) as usize)
 }
 
 // ---- the commands ----

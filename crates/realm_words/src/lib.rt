@@ -79,12 +79,11 @@ fn high_bits(w: u64, k: usize) -> u64
     w - low_bits(w, k)
 }
 
-// The word with bit k written as a byte of the table has it, whatever the bit was.
-fn with_bit(w: u64, k: usize, byte: u8) -> u64
-    requires { ⌜ k < 64 ⌝ }
-    ensures { λ r. ⌜ r ≡ withBit w k (realmBit byte) ⌝ }
+// The word with the bit of a granule, by its index, written as a byte of the table has it, whatever the bit was.
+pub fn with_bit(w: u64, index: usize, byte: u8) -> u64
+    ensures { λ r. ⌜ r ≡ withBit w (index % 64) (realmBit byte) ⌝ }
 {
-    let unit = 1u64 << k;
+    let unit = 1u64 << (index % 64);
     if byte == 1 {
         return w | unit;
     }
@@ -129,7 +128,7 @@ pub fn put_bit(words: &mut [u64], held: Held, index: usize, byte: u8) -> Held
     if words.len() <= at {
         return held;
     }
-    let word = with_bit(word_by(words, held, at), index % 64, byte);
+    let word = with_bit(word_by(words, held, at), index, byte);
     words[at] = word;
     Held { at, word }
 }

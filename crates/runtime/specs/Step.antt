@@ -151,11 +151,12 @@ replyCode (Back a work) = a .code
 abbrev pub refusal : ℕ → Step → World → Step
 refusal x1 s w = record { reply = Back (answerOf (replyCode (s .reply)) x1 0) Nothing; next = w }
 
--- ---- the commands by the state that they use: the token its session, token signing the queue, the others neither
+-- ---- the commands by the state that they use: delegation the granule table, the token its session, token signing the queue, the others
+-- none of these
 unfoldable pub needsOf : Kind → Needs
 needsOf ForwardError = Needs.Nothing
-needsOf Delegate = Needs.Nothing
-needsOf Undelegate = Needs.Nothing
+needsOf Delegate = Needs.Table Direction.Delegate
+needsOf Undelegate = Needs.Table Direction.Undelegate
 needsOf RealmKey = Needs.Nothing
 needsOf PlatformToken = Needs.Session
 needsOf Features = Needs.Nothing
@@ -163,24 +164,25 @@ needsOf TokenSigning = Needs.Queue
 needsOf KeyUpdate = Needs.Nothing
 needsOf Unlisted = Needs.Nothing
 
--- the world of a page and a table with its words alone, and a call that lends no token and no public key
+-- the world of a page alone, and a call that lends no token and no public key
 abbrev pub noQueue : Lists
 noQueue = record { requests = []; responses = [] }
 
-abbrev pub plainWorld : List ℕ → List ℕ → List ℕ → World
-plainWorld page table words = worldOf page table words Idle noQueue
+abbrev pub plainWorld : List ℕ → World
+plainWorld page = worldOf page [] [] Idle noQueue
 
 abbrev pub plainCall : Record → ℕ → ℕ → ℕ → ℕ → List ℕ → ℕ → Call
 plainCall r id x1 x2 x3 key width = callWith r id x1 x2 x3 0 false key [] [] width
 
--- a call that uses neither session nor queue; one that uses either is not listed here
-unfoldable pub plainBy : Needs → Kind → Granules → World → Call → Step
-plainBy Needs.Nothing k g w c = callBy k g w c
-plainBy Needs.Session k g w c = back (answerOf Unk 0 0) w
-plainBy Needs.Queue k g w c = back (answerOf Unk 0 0) w
+-- a call that uses none of these states, of which any granule record does; one that uses a state is not listed here
+unfoldable pub plainBy : Needs → Kind → World → Call → Step
+plainBy Needs.Nothing k w c = callBy k [] w c
+plainBy (Needs.Table d) k w c = back (answerOf Unk 0 0) w
+plainBy Needs.Session k w c = back (answerOf Unk 0 0) w
+plainBy Needs.Queue k w c = back (answerOf Unk 0 0) w
 
-unfoldable pub plainOf : Granules → World → Call → Step
-plainOf g w c = plainBy (needsOf (kindOf (c .id))) (kindOf (c .id)) g w c
+unfoldable pub plainOf : World → Call → Step
+plainOf w c = plainBy (needsOf (kindOf (c .id))) (kindOf (c .id)) w c
 
 -- ---- a call by value: the answer, page, table and words at exit, and the states handed back
 pub record CallExit : Type 0 where
@@ -197,6 +199,7 @@ callExit r page table words = record { reply = r .reply; page = page; table = ta
 -- a command that does not use the queue hands it back as it was
 unfoldable pub queueBy : Needs → Code → Lists → Queue → Queue
 queueBy Needs.Nothing k new old = old
+queueBy (Needs.Table d) k new old = old
 queueBy Needs.Session k new old = old
 queueBy Needs.Queue k new old = queueNext k new old
 

@@ -4,6 +4,7 @@ use codes::Answer;
 use codes::Code;
 use codes::Work;
 use features::Updated;
+use granules::Direction;
 use queue::Queue;
 use queue::Queued;
 use token::Session;
@@ -25,9 +26,10 @@ pub enum Kind {
     Unlisted,
 }
 
-// Which state a command uses: the token its session, token signing the queue, the others neither.
+// Which state a command uses: delegation the granule table, the token its session, token signing the queue, the others none of these.
 pub enum Needs {
     Nothing,
+    Table(Direction),
     Session,
     Queue,
 }
@@ -69,8 +71,8 @@ pub fn needs_of(id: u64) -> Needs
     let kind = kind_of(id);
     match kind {
         Kind::ForwardError => Needs::Nothing,
-        Kind::Delegate => Needs::Nothing,
-        Kind::Undelegate => Needs::Nothing,
+        Kind::Delegate => Needs::Table(Direction::Delegate),
+        Kind::Undelegate => Needs::Table(Direction::Undelegate),
         Kind::RealmKey => Needs::Nothing,
         Kind::PlatformToken => Needs::Session,
         Kind::Features => Needs::Nothing,
@@ -98,28 +100,25 @@ fn updated(done: Updated) -> Reply
     Reply::Back { answer, work }
 }
 
-// A call that uses neither session nor queue. An id that uses either is answered as one that is not listed.
+// A call that uses none of these states. An id that uses one is answered as one that is not listed.
 pub fn plain_call(
     state: Record,
-    granules: &[u64; 33],
     id: u64,
     x1: u64,
     x2: u64,
     x3: u64,
     page: &mut [u8],
-    table: &mut [u8],
-    words: &mut [u64],
     key: &[u8],
     width: u64,
 ) -> Reply
-    ensures { λ r. ⌜ _≡_ {A = Step} (record { reply = r; next = plainWorld (now (page .exit)) (now (table .exit)) (now (words .exit)) })
-        (plainOf (now (granules .entry)) (plainWorld (now (page .entry)) (now (table .entry)) (now (words .entry))) (plainCall state id x1 x2 x3 (now (key .entry)) width)) ⌝ }
+    ensures { λ r. ⌜ _≡_ {A = Step} (record { reply = r; next = plainWorld (now (page .exit)) })
+        (plainOf (plainWorld (now (page .entry))) (plainCall state id x1 x2 x3 (now (key .entry)) width)) ⌝ }
 {
     let kind = kind_of(id);
     match kind {
         Kind::ForwardError => Reply::Forward(features::forward(state, x1)),
-        Kind::Delegate => back(granules::delegate(state, granules, table, words, x1)),
-        Kind::Undelegate => back(granules::undelegate(state, granules, table, words, x1)),
+        Kind::Delegate => back(codes::answered(Code::Unk, 0, 0)),
+        Kind::Undelegate => back(codes::answered(Code::Unk, 0, 0)),
         Kind::RealmKey => back(attest::realm_key(state, page, key, x1, x2, x3)),
         Kind::PlatformToken => back(codes::answered(Code::Unk, 0, 0)),
         Kind::Features => back(features::features(state, x1)),
@@ -182,21 +181,17 @@ pub fn call(
 {
     match needs_of(id) {
         Needs::Nothing => {
-            let reply = plain_call(
-                state,
-                granules,
-                id,
-                x1,
-                x2,
-                x3,
-                page,
-                table,
-                words,
-                key,
-                width,
-            );
+            let reply = plain_call(state, id, x1, x2, x3, page, key, width);
             Stepped {
                 reply,
+                session,
+                queue,
+            }
+        }
+        Needs::Table(direction) => {
+            let answer = granules::shift(granules, table, words, x1, state, direction);
+            Stepped {
+                reply: back(answer),
                 session,
                 queue,
             }

@@ -1,3 +1,4 @@
+use Prim.Native.Nat.{_%_}
 use lib.Bits.{and-le-l}
 use borrow.Author.Tests.{eq-eqb, ne-eqb}
 use borrow.Author.Needs.{needs}
@@ -11,14 +12,14 @@ shl-unit c = search needs
 
 returns : tie.Need-returns
 unfolding realmBit
-returns c = let a = c .before .args in rw (unit (a .k) (search needs), eq-eqb (a .byte) 1 (search needs)) (or-bit (a .w) (a .k))
+returns c = let a = c .before .args in rw (unit (a .index % 64) (search needs), eq-eqb (a .byte) 1 (search needs)) (or-bit (a .w) (a .index % 64))
 
 sub-result : tie.Need-sub-result
 sub-result c = and-le-l (c .before .args .w) _
 
 returns-2 : tie.Need-returns-2
 unfolding realmBit
-returns-2 c = let a = c .before .args in rw (unit (a .k) (search needs), ne-eqb (a .byte) 1 (search needs)) (clear-bit (a .w) (a .k))
+returns-2 c = let a = c .before .args in rw (unit (a .index % 64) (search needs), ne-eqb (a .byte) 1 (search needs)) (clear-bit (a .w) (a .index % 64))
 
 pub with-bit-spec : {M : Type 1} → statement M
 with-bit-spec = tie.close (tie.spec shl-unit returns sub-result returns-2)
