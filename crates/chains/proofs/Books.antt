@@ -27,7 +27,7 @@ use Rattle.runtime.specs.Changes.{ofMove, changesOf}
 use Rattle.runtime.proofs.Books.{command-account}
 use Rattle.runtime.proofs.Agreement.{count-after}
 use Rattle.images.specs.Image.{recordOf, registerWords, replyRegisters}
-use Rattle.potterbeam.specs.Exports.{moveLeft, moveIn, moveListIn, callLeft, callLent, callIn}
+use Rattle.export_rules.specs.Exports.{moveLeft, moveIn, moveListIn, callLeft, callLent, callIn}
 use Rattle.chains.specs.Chain.{Lent, lentWorld, lentOn}
 use Rattle.chains.specs.Exported.{Exported, pbeam-delegate, pbeam-undelegate, pbeam-delegate-list, pbeam-undelegate-list, pbeam-realm-key, pbeam-platform-token, pbeam-features, pbeam-token-signing, pbeam-key-update, pbeam-forward, pbeam-call, pbeam-sign, exportLeft, commandOf, allExported, changesTold, allTold, NoneAt, nowhere, elsewhere, ByAddress}
 use Rattle.chains.proofs.Tables.{zero-ok, export-table, exports-table}

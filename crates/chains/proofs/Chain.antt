@@ -35,7 +35,7 @@ use Rattle.queue_image.specs.Steps.{imageStep}
 use Rattle.queue_image.proofs.Fits.{part-bytes}
 use Rattle.queue_image.proofs.Steps.{ok-is}
 use Rattle.queue_image.proofs.Becomes.{Becomes, as-it-was}
-use Rattle.potterbeam.specs.Exports.{sessionAfter, tokenLeft, tokenIn, signingLeft, signingIn, signLeft, signIn, sessionLeft, queueLeft, worldIn, callLeft, callIn}
+use Rattle.export_rules.specs.Exports.{sessionAfter, tokenLeft, tokenIn, signingLeft, signingIn, signLeft, signIn, sessionLeft, queueLeft, worldIn, callLeft, callIn}
 use Rattle.chains.proofs.Queues.{push-becomes, pull-becomes, sign-becomes}
 
 -- ---- the platform token: a session that is written reads back, and an image that is left as it was stands for the session before

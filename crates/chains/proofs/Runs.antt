@@ -32,7 +32,7 @@ use Rattle.queue_image.specs.Image.{each, areBytes, responseFits, eightFit, que
 use Rattle.queue_image.proofs.Fits.{image-fits, each-append, low-bytes, part-bytes, splice-bytes}
 use Rattle.queue_image.proofs.Becomes.{Becomes, as-it-was}
 use Rattle.chains.specs.Chain.{Lent, lentWorld, commandLeft, lentAfter, allAfter, ofBytes}
-use Rattle.potterbeam.specs.Exports.{moveLeft, callLeft, callIn}
+use Rattle.export_rules.specs.Exports.{moveLeft, callLeft, callIn}
 use Rattle.chains.proofs.Chain.{signer-becomes, sign-chain, call-becomes, call-chain}
 
 -- ---- a page of bytes stays one

@@ -30,8 +30,8 @@ use Rattle.signing.specs.OnImage.{signingOn}
 use Rattle.images.specs.Image.{recordOf, isSet, sessionOf, registerWords}
 use Rattle.queue_image.specs.Image.{listsIn}
 use Rattle.queue_image.specs.Steps.{imageStep}
-use Rattle.potterbeam.specs.Exports.{moveLeft, CallLeft, callLeft, callLent, callIn, tokenIn, tokenLeft, signingIn, signingLeft}
-use Rattle.potterbeam.proofs.Refusals.{Tells, token-tells, signing-tells}
+use Rattle.export_rules.specs.Exports.{moveLeft, CallLeft, callLeft, callLent, callIn, tokenIn, tokenLeft, signingIn, signingLeft}
+use Rattle.export_rules.proofs.Refusals.{Tells, token-tells, signing-tells}
 use Rattle.chains.specs.Chain.{Lent, lentWorld, lentOn, commandLeft}
 use Rattle.chains.specs.Exported.{Exported, pbeam-delegate, pbeam-undelegate, pbeam-delegate-list, pbeam-undelegate-list, pbeam-realm-key, pbeam-platform-token, pbeam-features, pbeam-token-signing, pbeam-key-update, pbeam-forward, pbeam-call, pbeam-sign, exportLeft, commandOf, allExported, exportUnder, RealmIn, baseIn, ExportsIntoRealm}
 use Rattle.chains.proofs.Singles.{single}

@@ -7,7 +7,7 @@ use Rattle.granule_rules.specs.Granules.{tableOf}
 use Rattle.granule_rules.specs.Lists.{moveListOf}
 use Rattle.runtime.specs.Step.{World, Command, call, sign, list}
 use Rattle.queue_image.specs.Image.{areBytes}
-use Rattle.potterbeam.specs.Exports.{MoveLeft, moveLeft, signIn, CallLeft, worldIn, callIn}
+use Rattle.export_rules.specs.Exports.{MoveLeft, moveLeft, signIn, CallLeft, worldIn, callIn}
 
 -- what is lent from call to call
 pub record Lent : Type 0 where

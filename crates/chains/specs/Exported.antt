@@ -18,7 +18,7 @@ use Rattle.runtime.specs.Changes.{ofMove}
 use Rattle.runtime.specs.declared.Kind.{Kind}
 use Rattle.runtime.specs.declared.Kind.the-variants.{ForwardError, Delegate, Undelegate, RealmKey, PlatformToken, Features, TokenSigning, KeyUpdate, Unlisted}
 use Rattle.images.specs.Image.{recordOf, registerWords, workWords}
-use Rattle.potterbeam.specs.Exports.{moveIn, moveListIn, TokenLeft, tokenIn, SigningLeft, signingIn, SignLeft, signIn, CallLeft, callLent, callIn}
+use Rattle.export_rules.specs.Exports.{moveIn, moveListIn, TokenLeft, tokenIn, SigningLeft, signingIn, SignLeft, signIn, CallLeft, callLent, callIn}
 use Rattle.chains.specs.Chain.{Lent, movesLeft, lentOn}
 
 -- a call of an export, with what is lent to it alone: the boot record's image, numbers and bytes

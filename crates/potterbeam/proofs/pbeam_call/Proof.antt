@@ -1,5 +1,5 @@
 use mathlib.Core.Path.{sym, _∙_}
-use Rattle.potterbeam.proofs.Left.{left-plain, left-session, left-queue}
+use Rattle.export_rules.proofs.Left.{left-plain, left-session, left-queue}
 use borrow.Author.Needs.{needs}
 use Rattle.potterbeam.proofs.pbeam_call.Statement.{statement}
 use Rattle.potterbeam.proofs.pbeam_call.Tie as tie

@@ -2,7 +2,7 @@ use mir.Val.{toZ, ofZ}
 use mir.Syntax.{w32}
 use mathlib.Core.Path.{_≡_}
 use Rattle.images.specs.Image.{recordOf}
-use Rattle.potterbeam.proofs.Left.{told-cold}
+use Rattle.export_rules.proofs.Left.{told-cold}
 use borrow.Author.Needs.{needs}
 use Rattle.potterbeam.proofs.pbeam_cold_boot.Statement.{statement}
 use Rattle.potterbeam.proofs.pbeam_cold_boot.Tie as tie

@@ -1,6 +1,6 @@
 use mathlib.Core.Path.{_∙_}
-use Rattle.potterbeam.specs.Exports.{moveListIn}
-use Rattle.potterbeam.proofs.Left.{move-left}
+use Rattle.export_rules.specs.Exports.{moveListIn}
+use Rattle.export_rules.proofs.Left.{move-left}
 use borrow.Author.Needs.{needs}
 use Rattle.potterbeam.proofs.pbeam_delegate_list.Statement.{statement}
 use Rattle.potterbeam.proofs.pbeam_delegate_list.Tie as tie

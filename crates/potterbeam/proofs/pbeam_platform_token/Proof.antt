@@ -1,6 +1,6 @@
 use Rattle.images.specs.Image.{recordOf, isSet, sessionOf}
-use Rattle.potterbeam.specs.Exports.{tokenIn}
-use Rattle.potterbeam.proofs.Left.{token-left, told-token}
+use Rattle.export_rules.specs.Exports.{tokenIn}
+use Rattle.export_rules.proofs.Left.{token-left, told-token}
 use borrow.Author.Needs.{needs}
 use Rattle.potterbeam.proofs.pbeam_platform_token.Statement.{statement}
 use Rattle.potterbeam.proofs.pbeam_platform_token.Tie as tie

@@ -3,7 +3,7 @@ use mir.Syntax.{w32}
 use mathlib.Core.Path.{_≡_, sym, _∙_}
 use Rattle.reader.proofs.Whole.{fine-reads, refused-reads}
 use Rattle.images.proofs.Answers.{refused-answer}
-use Rattle.potterbeam.proofs.Shown.{told-read}
+use Rattle.export_rules.proofs.Shown.{told-read}
 use borrow.Author.Needs.{needs}
 use Rattle.potterbeam.proofs.pbeam_read.Statement.{statement}
 use Rattle.potterbeam.proofs.pbeam_read.Tie as tie

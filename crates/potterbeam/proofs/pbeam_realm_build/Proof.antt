@@ -1,5 +1,5 @@
 use mathlib.Core.Path.{ap, _∙_}
-use Rattle.potterbeam.specs.Exports.{buildLeft, buildIn}
+use Rattle.export_rules.specs.Exports.{buildLeft, buildIn}
 use borrow.Author.Needs.{needs}
 use Rattle.potterbeam.proofs.pbeam_realm_build.Statement.{statement}
 use Rattle.potterbeam.proofs.pbeam_realm_build.Tie as tie

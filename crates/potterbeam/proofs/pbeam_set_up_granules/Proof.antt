@@ -1,5 +1,5 @@
 use mathlib.Core.Path.{ap}
-use Rattle.potterbeam.specs.Exports.{setUpLeft, setUpIn}
+use Rattle.export_rules.specs.Exports.{setUpLeft, setUpIn}
 use borrow.Author.Needs.{needs}
 use Rattle.potterbeam.proofs.pbeam_set_up_granules.Statement.{statement}
 use Rattle.potterbeam.proofs.pbeam_set_up_granules.Tie as tie

@@ -1,5 +1,5 @@
-use Rattle.potterbeam.specs.Exports.{signIn}
-use Rattle.potterbeam.proofs.Left.{sign-left}
+use Rattle.export_rules.specs.Exports.{signIn}
+use Rattle.export_rules.proofs.Left.{sign-left}
 use borrow.Author.Needs.{needs}
 use Rattle.potterbeam.proofs.pbeam_sign.Statement.{statement}
 use Rattle.potterbeam.proofs.pbeam_sign.Tie as tie

@@ -1,6 +1,6 @@
 use mathlib.Core.Path.{_∙_}
-use Rattle.potterbeam.specs.Exports.{signingIn}
-use Rattle.potterbeam.proofs.Left.{signing-left}
+use Rattle.export_rules.specs.Exports.{signingIn}
+use Rattle.export_rules.proofs.Left.{signing-left}
 use borrow.Author.Needs.{needs}
 use Rattle.potterbeam.proofs.pbeam_token_signing.Statement.{statement}
 use Rattle.potterbeam.proofs.pbeam_token_signing.Tie as tie

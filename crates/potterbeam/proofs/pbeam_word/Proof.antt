@@ -1,4 +1,4 @@
-use Rattle.potterbeam.proofs.Shown.{told-word}
+use Rattle.export_rules.proofs.Shown.{told-word}
 use borrow.Author.Needs.{needs}
 use Rattle.potterbeam.proofs.pbeam_word.Statement.{statement}
 use Rattle.potterbeam.proofs.pbeam_word.Tie as tie

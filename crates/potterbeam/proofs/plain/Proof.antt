@@ -1,6 +1,6 @@
 use mathlib.Core.Path.{_∙_}
-use Rattle.potterbeam.specs.Exports.{plainIn}
-use Rattle.potterbeam.proofs.Left.{plain-left}
+use Rattle.export_rules.specs.Exports.{plainIn}
+use Rattle.export_rules.proofs.Left.{plain-left}
 use borrow.Author.Needs.{needs}
 use Rattle.potterbeam.proofs.plain.Statement.{statement}
 use Rattle.potterbeam.proofs.plain.Tie as tie

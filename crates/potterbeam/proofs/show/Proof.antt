@@ -2,7 +2,7 @@ use mathlib.Core.Path.{_∙_}
 use native.Mathlib.Omega.{arith}
 use Rattle.words.specs.Word.{part}
 use Rattle.reader.specs.Reading.{viewAt}
-use Rattle.potterbeam.proofs.Shown.{core-plat, core-section, core-base, view-laid}
+use Rattle.export_rules.proofs.Shown.{core-plat, core-section, core-base, view-laid}
 use borrow.Author.Needs.{needs}
 use Rattle.potterbeam.proofs.show.Statement.{statement}
 use Rattle.potterbeam.proofs.show.Tie as tie

@@ -5,7 +5,7 @@ use Rattle.words.specs.Word.{splice}
 use Rattle.sections.specs.Page.{countAt}
 use Rattle.reader.proofs.Whole.{section-absent, section-empty}
 use Rattle.images.specs.Image.{tagWord, placeWord, countWord, sectionWords}
-use Rattle.potterbeam.proofs.Shown.{told-entries}
+use Rattle.export_rules.proofs.Shown.{told-entries}
 use borrow.Author.Needs.{needs}
 use Rattle.potterbeam.proofs.show_section.Statement.{statement}
 use Rattle.potterbeam.proofs.show_section.Tie as tie

@@ -46,8 +46,8 @@ use Rattle.images.specs.Image.{recordOf, isSet, sessionOf, sessionWords, regist
 use Rattle.images.specs.Realm.{numberX0, numberWords, hitX0, hitWords, builtX0}
 use Rattle.queue_image.specs.Image.{listsIn}
 use Rattle.queue_image.specs.Steps.{imageStep}
-use Rattle.potterbeam.specs.Exports.{sessionAfter, SetUpLeft, setUpLeft, setUpIn, moveLeft, moveIn, moveListIn, buildLeft, buildIn, tokenLeft, tokenIn, signingLeft, signingIn, signLeft, signIn, sessionLeft, queueLeft, CallLeft, callLeft, worldIn, callIn}
-use Rattle.potterbeam.specs.Refusals.{Refuses, x0Alone, ExportsRefuse}
+use Rattle.export_rules.specs.Exports.{sessionAfter, SetUpLeft, setUpLeft, setUpIn, moveLeft, moveIn, moveListIn, buildLeft, buildIn, tokenLeft, tokenIn, signingLeft, signingIn, signLeft, signIn, sessionLeft, queueLeft, CallLeft, callLeft, worldIn, callIn}
+use Rattle.export_rules.specs.Refusals.{Refuses, x0Alone, ExportsRefuse}
 
 -- ---- x0 is not 0: the code is not OK
 -- an answer's x0 is that of its code

@@ -17,7 +17,7 @@ use Rattle.codes.specs.declared.Code.the-variants.{Ok}
 use Rattle.banks.specs.Banks.{Granules, Bank, banksBy, banksOf, bankIn, banksIn, setUpCode, setUpOf}
 use Rattle.banks.specs.Banks as banks
 use Rattle.banks.proofs.Making.{banks-same, banks-made}
-use Rattle.potterbeam.specs.ShownBanks.{shownBanks}
+use Rattle.export_rules.specs.ShownBanks.{shownBanks}
 
 -- ---- of a section with entries
 word-is : (bs : List ℕ) (c i j off : ℕ) → off ≡ 8 * (2 * i + j) → 2 * i + j < 2 * c → wordAt off bs ≡ getD (wordsOf (2 * c) bs) (2 * i + j) 0

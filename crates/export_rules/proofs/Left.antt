@@ -28,7 +28,7 @@ use Rattle.runtime.proofs.Plain.{needs-session, needs-queue, plain-beside}
 use Rattle.images.specs.Image.{recordOf, recordWords, isSet, sessionOf, sessionWords, registerWords, workWords, replyRegisters, replyWords}
 use Rattle.queue_image.specs.Image.{listsIn}
 use Rattle.queue_image.specs.Steps.{ImageStep, imageStep}
-use Rattle.potterbeam.specs.Exports.{sessionAfter, MoveLeft, moveLeft, TokenLeft, tokenLeft, tokenIn, SigningLeft, signingLeft, signingIn, SignLeft, signLeft, sessionLeft, queueLeft, CallLeft, callLeft, callLent, callIn, PlainLeft, plainLeft, plainIn}
+use Rattle.export_rules.specs.Exports.{sessionAfter, MoveLeft, moveLeft, TokenLeft, tokenLeft, tokenIn, SigningLeft, signingLeft, signingIn, SignLeft, signLeft, sessionLeft, queueLeft, CallLeft, callLeft, callLent, callIn, PlainLeft, plainLeft, plainIn}
 
 pub move-left : (a : Answer) (out table words : List ℕ) (m : Moved) → out ≡ registerWords a → movedTo a table words ≡ m → _≡_ {A = MoveLeft} (record { out = out; table = table; words = words }) (moveLeft m)
 unfolding moveLeft movedTo

@@ -16,7 +16,7 @@ use Rattle.features.specs.Features.{featuresOf, updateOf}
 use Rattle.runtime.specs.Step.{Call}
 use Rattle.images.specs.Image.{recordOf, registerWords, workWords}
 use Rattle.images.specs.Realm.{numberX0, numberWords, hitX0, hitWords}
-use Rattle.potterbeam.specs.Exports.{setUpIn, moveIn, moveListIn, buildIn, tokenIn, signingIn, signIn, callIn}
+use Rattle.export_rules.specs.Exports.{setUpIn, moveIn, moveListIn, buildIn, tokenIn, signingIn, signIn, callIn}
 
 -- the registers show a refusal
 abbrev pub Refuses : List ℕ → Type 0
