@@ -1,34 +1,32 @@
 -- What a call leaves, from what its parts promise. Assumes nothing.
 use Prim.Native.Nat.{ℕ}
-use mathlib.Core.Path.{_≡_, sym, ap, _∙_}
+use mathlib.Core.Path.{_≡_, ap, _∙_}
 use mathlib.Core.Bool.{Bool, true, false}
 use mathlib.Core.List.{List, [], _∷_}
 use lib.ListN.{getD}
-use Rattle.words.specs.Tests.{both}
-use Rattle.words.proofs.Tests.{both-r}
 use lib.IntN.{ℤ}
 use Rattle.boot.specs.Boot.{bootNumber, coldCode, coldNext}
 use Rattle.boot.specs.declared.BootCode.{BootCode}
 use Rattle.boot.specs.declared.Record.{Record}
-use Rattle.codes.specs.Codes.{isOk, ifOk, answerOf}
+use Rattle.codes.specs.Codes.{ifOk, answerOf}
 use Rattle.codes.specs.declared.Code.the-variants.{Ok}
 use Rattle.codes.specs.declared.Answer.{Answer}
 use Rattle.banks.specs.Banks.{Granules}
-use Rattle.granule_rules.specs.Granules.{GranuleTable, tableOf, Moved, movedBy, moveOf, movedTo, readyFor, atOnce, leftAtOnce}
+use Rattle.granule_rules.specs.Granules.{GranuleTable, tableOf, Moved, moveOf, movedTo, atOnce, leftAtOnce}
 use Rattle.granule_rules.specs.declared.Direction.{Direction}
-use Rattle.granule_rules.proofs.Done.{ok-code}
+use Rattle.granule_rules.proofs.AtOnce.{done-at-once, left-at-once}
 use Rattle.token_rules.specs.Token.{TokenStep, tokenOf}
 use Rattle.token_rules.specs.declared.Session.{Session}
 use Rattle.response_rules.specs.OnImage.{SignImage}
 use Rattle.signing.specs.OnImage.{signingOn}
-use Rattle.runtime.specs.Step.{plainWorld, Step, kindOf, afterToken, afterSigning, callBy, callOf, replyCode, needsOf}
+use Rattle.runtime.specs.Step.{plainWorld, Step, kindOf, afterMove, afterToken, afterSigning, callBy, callOf, replyCode, needsOf}
 use Rattle.runtime.specs.declared.Needs.{Needs}
 use Rattle.runtime.specs.declared.Reply.{Reply}
-use Rattle.runtime.proofs.Plain.{needs-session, needs-queue, plain-beside}
+use Rattle.runtime.proofs.Plain.{needs-table, needs-session, needs-queue, plain-beside}
 use Rattle.images.specs.Image.{recordOf, recordWords, isSet, sessionOf, sessionWords, registerWords, workWords, replyRegisters, replyWords}
 use Rattle.queue_image.specs.Image.{listsIn}
 use Rattle.queue_image.specs.Steps.{ImageStep, imageStep}
-use Rattle.export_rules.specs.Exports.{sessionAfter, MoveLeft, moveLeft, TokenLeft, tokenLeft, tokenIn, SigningLeft, signingLeft, signingIn, SignLeft, signLeft, sessionLeft, queueLeft, CallLeft, callLeft, callLent, callIn, PlainLeft, plainLeft, plainIn}
+use Rattle.export_rules.specs.Exports.{sessionAfter, MoveLeft, moveLeft, moveIn, TokenLeft, tokenLeft, tokenIn, SigningLeft, signingLeft, signingIn, SignLeft, signLeft, sessionLeft, queueLeft, CallLeft, callLeft, callLent, worldIn, callIn, PlainLeft, plainLeft, plainIn}
 
 pub move-left : (a : Answer) (out table words : List ℕ) (m : Moved) → out ≡ registerWords a → movedTo a table words ≡ m → _≡_ {A = MoveLeft} (record { out = out; table = table; words = words }) (moveLeft m)
 unfolding moveLeft movedTo
@@ -36,21 +34,11 @@ move-left a out table words m h e = rw h (ap moveLeft e)
 
 -- of a call that was done at once, and of one that was not
 module _ (s : Record) (g : Granules) (d : Direction) (t : GranuleTable) (addr : ℕ) (b w : List ℕ) (r : Bool) (a : r ≡ atOnce s g d t addr) (l : tableOf b w ≡ leftAtOnce s g d t addr) where
-  done-at-once : r ≡ true → movedTo (answerOf Ok 0 0) b w ≡ moveOf s g d t addr
-  unfolding movedTo leftAtOnce atOnce moveOf movedBy answerOf
-  done-at-once y =
-      let o = ok-code (moveOf s g d t addr .answer .code) (both-r _ _ (sym a ∙ y)) in
-      rw (l, sym a ∙ y) (ap (λ k. record { answer = answerOf k 0 0; table = moveOf s g d t addr .table }) (sym o))
-
-  left-at-once : r ≡ false → tableOf b w ≡ t
-  unfolding leftAtOnce
-  left-at-once n = rw (l, sym a ∙ n)
-
   pub done-moved : r ≡ true → (u : Record) → s ≡ u → movedTo (answerOf Ok 0 0) b w ≡ moveOf u g d t addr
-  done-moved y u q = done-at-once y ∙ ap (λ (x : Record). moveOf x g d t addr) q
+  done-moved y u q = done-at-once s g d t addr b w r a l y ∙ ap (λ (x : Record). moveOf x g d t addr) q
 
-  pub left-moved : r ≡ false → (k u : Record) (m : Moved) → m ≡ moveOf k g d (tableOf b w) addr → k ≡ u → m ≡ moveOf u g d t addr
-  left-moved n k u m e q = e ∙ ap (λ (x : Record). moveOf x g d (tableOf b w) addr) q ∙ ap (λ (x : GranuleTable). moveOf u g d x addr) (left-at-once n)
+  pub left-moved : r ≡ false → (m : MoveLeft) (u : Record) → m ≡ moveLeft (moveOf u g d (tableOf b w) addr) → m ≡ moveLeft (moveOf u g d t addr)
+  left-moved n m u e = e ∙ ap (λ (x : GranuleTable). moveLeft (moveOf u g d x addr)) (left-at-once s g d t addr b w r a l n)
 
 pub token-left : (a : Answer) (s : Session) (image out page se : List ℕ) (t : TokenStep) → out ≡ registerWords a → se ≡ ifOk (a .code) (sessionWords s) image →
     record { answer = a; page = page; session = s } ≡ t → _≡_ {A = TokenLeft} (record { out = out; page = page; session = se }) (tokenLeft t image)
@@ -76,19 +64,25 @@ pub sign-left : (a : Answer) (out image : List ℕ) (s : SignImage) → out ≡ 
 unfolding signLeft
 sign-left a out image s h e = rw h (ap signLeft e)
 
-pub plain-left : (reply : Reply) (out work page table words : List ℕ) (s : Step) → out ≡ replyRegisters reply → work ≡ replyWords reply → record { reply = reply; next = plainWorld page table words } ≡ s →
-    _≡_ {A = PlainLeft} (record { out = out; work = work; page = page; table = table; words = words }) (plainLeft s)
+pub plain-left : (reply : Reply) (out work page : List ℕ) (s : Step) → out ≡ replyRegisters reply → work ≡ replyWords reply → record { reply = reply; next = plainWorld page } ≡ s →
+    _≡_ {A = PlainLeft} (record { out = out; work = work; page = page }) (plainLeft s)
 unfolding plainLeft
-plain-left reply out work page table words s o w e = rw (o, w) (ap plainLeft e)
+plain-left reply out work page s o w e = rw (o, w) (ap plainLeft e)
 
 -- ---- any command, by the state that it uses
 module _ (granules session queue page table words state x : List ℕ) (busy : ℕ) (key token public : List ℕ) (width : ℕ) where
-  -- neither
-  pub left-plain : needsOf (kindOf (getD x 0 0)) ≡ Needs.Nothing → (l : PlainLeft) → l ≡ plainIn state granules page table words x key width →
-      _≡_ {A = CallLeft} (record { out = l .out; work = l .work; page = l .page; table = l .table; words = l .words; session = session; queue = queue }) (callIn granules session queue page table words (callLent state x busy key token public width))
+  -- none
+  pub left-plain : needsOf (kindOf (getD x 0 0)) ≡ Needs.Nothing → (l : PlainLeft) → l ≡ plainIn state page x key width →
+      _≡_ {A = CallLeft} (record { out = l .out; work = l .work; page = l .page; table = table; words = words; session = session; queue = queue }) (callIn granules session queue page table words (callLent state x busy key token public width))
   unfolding plainIn plainLeft callIn callLent callLeft sessionLeft queueLeft
   left-plain h l e =
       rw (h, plain-beside granules page table words (sessionOf session) (listsIn queue) (recordOf state) (getD x 0 0) (getD x 1 0) (getD x 2 0) (getD x 3 0) (getD x 4 0) (isSet busy) key token public width h, e)
+
+  -- the granule table
+  pub left-table : (d : Direction) → needsOf (kindOf (getD x 0 0)) ≡ Needs.Table d → (l : MoveLeft) → l ≡ moveIn d state granules table words (getD x 1 0) →
+      _≡_ {A = CallLeft} (record { out = l .out; work = 0 ∷ 0 ∷ []; page = page; table = l .table; words = l .words; session = session; queue = queue }) (callIn granules session queue page table words (callLent state x busy key token public width))
+  unfolding moveIn moveLeft callIn callLent callLeft sessionLeft queueLeft callOf afterMove replyRegisters replyWords workWords replyCode
+  left-table d h l e = rw (h, needs-table (kindOf (getD x 0 0)) d h granules (worldIn session queue page table words) (callLent state x busy key token public width), e)
 
   -- the session
   pub left-session : needsOf (kindOf (getD x 0 0)) ≡ Needs.Session → (l : TokenLeft) → l ≡ tokenIn state session page token busy (getD x 1 0) (getD x 2 0) (getD x 3 0) →

@@ -187,12 +187,14 @@ reply-tells Unlisted g w c h = refl
 session-kept : (n : Needs) (k : Code) (s : Session) (image : List ℕ) → isOk k ≡ false → sessionLeft n k s image ≡ image
 unfolding sessionLeft
 session-kept Needs.Nothing k s image f = refl
+session-kept (Needs.Table d) k s image f = refl
 session-kept Needs.Session k s image f = session-stays k s image f
 session-kept Needs.Queue k s image f = refl
 
 queue-kept : (n : Needs) (k : Code) (new image : List ℕ) → isOk k ≡ false → queueLeft n k new image ≡ image
 unfolding queueLeft
 queue-kept Needs.Nothing k new image f = refl
+queue-kept (Needs.Table d) k new image f = refl
 queue-kept Needs.Session k new image f = refl
 queue-kept Needs.Queue k new image f = left-old k new image f
 

@@ -1,8 +1,10 @@
 -- What the exports of the runtime's commands leave, as lent words and bytes. A refused call leaves the images as they
 -- were, also those that no state has. Assumes nothing.
 use Prim.Native.Nat.{ℕ}
+use mathlib.Core.Bool.{cond}
 use mathlib.Core.List.{List}
 use lib.ListN.{getD}
+use lib.Dec.{eqb}
 use Rattle.codes.specs.Codes.{x0Of, ifOk}
 use Rattle.codes.specs.declared.Code.{Code}
 use Rattle.lists.specs.Description.{descriptionOf}
@@ -53,6 +55,10 @@ moveLeft m = record { out = registerWords (m .answer); table = m .table .bytes; 
 
 unfoldable pub moveIn : Direction → List ℕ → List ℕ → List ℕ → List ℕ → ℕ → MoveLeft
 moveIn d state granules table words address = moveLeft (moveOf (recordOf state) granules d (tableOf table words) address)
+
+-- the direction that the first result register says, where one export hands its call on to another function
+unfoldable pub directionIn : List ℕ → Direction
+directionIn out = cond (eqb (getD out 0 0) 0) Direction.Delegate Direction.Undelegate
 
 -- over a list of addresses
 unfoldable pub moveListIn : Direction → List ℕ → List ℕ → List ℕ → List ℕ → List ℕ → MoveLeft
@@ -117,11 +123,13 @@ pub record CallLeft : Type 0 where
 -- only the command that uses a state touches its image
 unfoldable pub sessionLeft : Needs → Code → Session → List ℕ → List ℕ
 sessionLeft Needs.Nothing k s image = image
+sessionLeft (Needs.Table d) k s image = image
 sessionLeft Needs.Session k s image = sessionAfter k s image
 sessionLeft Needs.Queue k s image = image
 
 unfoldable pub queueLeft : Needs → Code → List ℕ → List ℕ → List ℕ
 queueLeft Needs.Nothing k new image = image
+queueLeft (Needs.Table d) k new image = image
 queueLeft Needs.Session k new image = image
 queueLeft Needs.Queue k new image = ifOk k new image
 
@@ -150,17 +158,15 @@ unfoldable pub callIn : List ℕ → List ℕ → List ℕ → List ℕ → List
 callIn granules session queue page table words c =
     callLeft (needsOf (kindOf (c .id))) (callOf granules (worldIn session queue page table words) c) session (signingDone (c .state) page queue (c .x1) (c .x2) (c .x3)) queue
 
--- a call that uses neither image
+-- a call that uses no table and neither image
 pub record PlainLeft : Type 0 where
   pub out : List ℕ
   pub work : List ℕ
   pub page : List ℕ
-  pub table : List ℕ
-  pub words : List ℕ
 
 unfoldable pub plainLeft : Step → PlainLeft
-plainLeft s = record { out = replyRegisters (s .reply); work = replyWords (s .reply); page = s .next .page; table = s .next .table .bytes; words = s .next .table .words }
+plainLeft s = record { out = replyRegisters (s .reply); work = replyWords (s .reply); page = s .next .page }
 
-unfoldable pub plainIn : List ℕ → List ℕ → List ℕ → List ℕ → List ℕ → List ℕ → List ℕ → ℕ → PlainLeft
-plainIn state granules page table words x key width =
-    plainLeft (plainOf granules (plainWorld page table words) (plainCall (recordOf state) (getD x 0 0) (getD x 1 0) (getD x 2 0) (getD x 3 0) key width))
+unfoldable pub plainIn : List ℕ → List ℕ → List ℕ → List ℕ → ℕ → PlainLeft
+plainIn state page x key width =
+    plainLeft (plainOf (plainWorld page) (plainCall (recordOf state) (getD x 0 0) (getD x 1 0) (getD x 2 0) (getD x 3 0) key width))

@@ -1,5 +1,6 @@
 // The kit for C and Rust: every entry but packer and mender (`potterbeam_pages`) under one prefix. A state is a lent image of words, a result a number or lent words.
 use boot::Record;
+use granules::Direction;
 use reader::Verdict;
 use runtime::Needs;
 use versions::Edition;
@@ -38,7 +39,7 @@ ghost use Rattle.features.specs.Features.{featuresOf, updateOf, forwardOf};
 ghost use Rattle.images.specs.Image.{recordOf, recordWords, registerWords, workWords, sectionWords, viewOf, viewWords, answerWords, madeNumber, spanWords, fieldWords, consoleNumber};
 ghost use Rattle.images.specs.Realm.{numberX0, numberWords, hitX0, hitWords, agreementX0};
 ghost use Rattle.queue_image.specs.Image.{listsIn, oldestWords};
-ghost use Rattle.export_rules.specs.Exports.{writeIn, SetUpLeft, setUpIn, MoveLeft, moveIn, moveListIn, BuildLeft, buildIn, TokenLeft, tokenIn, SigningLeft, signingIn, SignLeft, signIn, PlainLeft, plainIn, CallLeft, callLent, callIn};
+ghost use Rattle.export_rules.specs.Exports.{writeIn, SetUpLeft, setUpIn, MoveLeft, moveIn, directionIn, moveListIn, BuildLeft, buildIn, TokenLeft, tokenIn, SigningLeft, signingIn, SignLeft, signIn, PlainLeft, plainIn, CallLeft, callLent, callIn};
 
 // ---- Manifest ----
 
@@ -331,8 +332,42 @@ pub extern "C" fn pbeam_set_up_granules(granules: &mut [u64; 33], banks: &[u8], 
 
 // ---- Runtime commands ----
 
-// 0xC40001B0: the granule at an address becomes Realm. The usual call is done at once: what is left to do else is a call of its own, whose
-// arguments are made only then.
+// The direction that the first result register says: 0 is delegate.
+fn marked_direction(out: &[u64; 3]) -> Direction
+    ensures { λ r. ⌜ r ≡ directionIn (now (out .entry)) ⌝ }
+{
+    if out[0] == 0 {
+        return Direction::Delegate;
+    }
+    Direction::Undelegate
+}
+
+// A call on the granule table that is not done at once. Its direction stands in the first result register, so that its parameters are
+// those of the exports, in their order: they jump to it and need no frame of their own, which would cost the usual call a nanosecond.
+fn moved_by_mark(
+    state: &[u64; 5],
+    granules: &[u64; 33],
+    table: &mut [u8],
+    words: &mut [u64],
+    address: u64,
+    out: &mut [u64; 3],
+)
+    ensures { λ _. ⌜ _≡_ {A = MoveLeft} (record { out = now (out .exit); table = now (table .exit); words = now (words .exit) })
+        (moveIn (directionIn (now (out .entry))) (now (state .entry)) (now (granules .entry)) (now (table .entry)) (now (words .entry)) address) ⌝ }
+{
+    let direction = marked_direction(out);
+    let answer = granules::shift(
+        granules,
+        table,
+        words,
+        address,
+        images::record_of(state),
+        direction,
+    );
+    *out = images::registers(answer);
+}
+
+// 0xC40001B0: the granule at an address becomes Realm. The usual call is done at once.
 #[no_mangle]
 pub extern "C" fn pbeam_delegate(
     state: &[u64; 5],
@@ -348,7 +383,7 @@ pub extern "C" fn pbeam_delegate(
     if granules::moved_at_once(
         images::record_of(state),
         granules,
-        granules::Direction::Delegate,
+        Direction::Delegate,
         table,
         words,
         address,
@@ -356,13 +391,8 @@ pub extern "C" fn pbeam_delegate(
         *out = [0, 0, 0];
         return;
     }
-    *out = images::registers(granules::delegate(
-        images::record_of(state),
-        granules,
-        table,
-        words,
-        address,
-    ));
+    *out = [0, 0, 0];
+    moved_by_mark(state, granules, table, words, address, out)
 }
 
 // 0xC40001B1: the granule at an address becomes Non-secure.
@@ -381,7 +411,7 @@ pub extern "C" fn pbeam_undelegate(
     if granules::moved_at_once(
         images::record_of(state),
         granules,
-        granules::Direction::Undelegate,
+        Direction::Undelegate,
         table,
         words,
         address,
@@ -389,13 +419,8 @@ pub extern "C" fn pbeam_undelegate(
         *out = [0, 0, 0];
         return;
     }
-    *out = images::registers(granules::undelegate(
-        images::record_of(state),
-        granules,
-        table,
-        words,
-        address,
-    ));
+    *out = [1, 0, 0];
+    moved_by_mark(state, granules, table, words, address, out)
 }
 
 // The granules at a list of addresses become Realm, one by one up to the first that is refused; x1 is how many did.
@@ -659,37 +684,50 @@ pub extern "C" fn pbeam_realm_build(granules: &[u64; 33], table: &[u8], words: &
 
 // ---- Every command ----
 
-// A call that uses neither session nor queue.
+// A call that uses no table, session or queue.
 fn plain(
     state: &[u64; 5],
     page: &mut [u8],
-    granules: &[u64; 33],
-    table: &mut [u8],
-    words: &mut [u64],
     key: &[u8],
     width: u64,
     call: &[u64; 5],
     out: &mut [u64; 3],
     work: &mut [u64; 2],
 )
-    ensures { λ _. ⌜ _≡_ {A = PlainLeft} (record { out = now (out .exit); work = now (work .exit); page = now (page .exit); table = now (table .exit); words = now (words .exit) })
-        (plainIn (now (state .entry)) (now (granules .entry)) (now (page .entry)) (now (table .entry)) (now (words .entry)) (now (call .entry)) (now (key .entry)) width) ⌝ }
+    ensures { λ _. ⌜ _≡_ {A = PlainLeft} (record { out = now (out .exit); work = now (work .exit); page = now (page .exit) })
+        (plainIn (now (state .entry)) (now (page .entry)) (now (call .entry)) (now (key .entry)) width) ⌝ }
 {
     let reply = runtime::plain_call(
         images::record_of(state),
-        granules,
         call[0],
         call[1],
         call[2],
         call[3],
         page,
-        table,
-        words,
         key,
         width,
     );
     *out = images::reply_registers(reply);
     *work = images::reply_words(reply);
+}
+
+// A call on the granule table, by its direction.
+fn moved_by(
+    direction: Direction,
+    state: &[u64; 5],
+    granules: &[u64; 33],
+    table: &mut [u8],
+    words: &mut [u64],
+    address: u64,
+    out: &mut [u64; 3],
+)
+    ensures { λ _. ⌜ _≡_ {A = MoveLeft} (record { out = now (out .exit); table = now (table .exit); words = now (words .exit) })
+        (moveIn direction (now (state .entry)) (now (granules .entry)) (now (table .entry)) (now (words .entry)) address) ⌝ }
+{
+    match direction {
+        Direction::Delegate => pbeam_delegate(state, granules, table, words, address, out),
+        Direction::Undelegate => pbeam_undelegate(state, granules, table, words, address, out),
+    }
 }
 
 // A call of the interface, x0 being the function id. Only the platform token reads and writes the session's image, and only token
@@ -725,18 +763,11 @@ pub extern "C" fn pbeam_call(
         (callLent (now (state .entry)) (now (call .entry)) busy (now (key .entry)) (now (token .entry)) (now (public .entry)) width)) ⌝ }
 {
     match runtime::needs_of(call[0]) {
-        Needs::Nothing => plain(
-            state,
-            page,
-            granules,
-            table,
-            words,
-            key,
-            width,
-            call,
-            out,
-            work,
-        ),
+        Needs::Nothing => plain(state, page, key, width, call, out, work),
+        Needs::Table(direction) => {
+            *work = [0, 0];
+            moved_by(direction, state, granules, table, words, call[1], out)
+        }
         Needs::Session => {
             *work = [0, 0];
             pbeam_platform_token(

@@ -32,15 +32,9 @@ reply-words-requires c κs = search needs
 same-length : tie.Need-same-length
 same-length c = search needs
 
-same-length-2 : tie.Need-same-length-2
-same-length-2 c = search needs
-
-same-length-3 : tie.Need-same-length-3
-same-length-3 c = search needs
-
 returns : tie.Need-returns
 unfolding plainIn
-returns c = plain-left _ _ _ _ _ _ _ (c .before .reply-registers .ensures) (c .reply-words .ensures) (c .before .before .before .before .before .before .before .before .plain-call .ensures ∙ rw (c .before .before .before .before .before .before .before .before .before .before .before .before .before .before .before .before .record-of .ensures))
+returns c = plain-left _ _ _ _ _ (c .before .reply-registers .ensures) (c .reply-words .ensures) (c .before .before .before .before .plain-call .ensures ∙ rw (c .before .before .before .before .before .before .before .before .before .before .record-of .ensures))
 
 pub plain-spec : {M : Type 1} → statement M
 plain-spec =
@@ -55,6 +49,4 @@ plain-spec =
     reply-registers-requires
     reply-words-requires
     same-length
-    same-length-2
-    same-length-3
     returns)
