@@ -140,10 +140,10 @@ fn held_list(
 {
     let n = addresses.len();
     let mut held = realm_words::nothing_held(words);
-    let mut bank = banks::no_bank();
+    let mut bank = held_banks::no_bank();
     for i in 0..n {
         let address = addresses[i];
-        let sought = banks::seek(granules, bank, address);
+        let sought = held_banks::seek(granules, bank, address);
         let granule = sought.granule;
         let step = shift_at(params, granule, direction, table, words, address, held);
         let code = step.code;
