@@ -13,7 +13,7 @@ use Rattle.words.proofs.Tests.{both-l, both-r, same-test}
 use Rattle.entries.specs.Entry.{bankOk}
 use Rattle.banks.specs.declared.Granule.{Granule}
 use Rattle.banks.specs.declared.Granule.the-variants.{Nothing, At}
-use Rattle.banks.specs.Banks.{Granules, Bank, banksBy, bankAt, bankCount, banksOf, follows, ascend, banksOk, recordOk, total, granuleCount, holds, indexBy, indexIn, placeIn, orElse, placeAmong, bankPlace, distance, reachIn, noBank, bankAmong}
+use Rattle.banks.specs.Banks.{Granules, Bank, banksBy, bankAt, bankCount, banksOf, follows, ascend, banksOk, recordOk, total, granuleCount, holds, indexBy, indexIn, placeIn, orElse, placeAmong, bankPlace, distance, reachIn}
 
 -- ---- a bank that follows
 pub record Follows (low base size : ℕ) : Type 0 where
@@ -216,18 +216,3 @@ module _ (g : Granules) (addr i low before : ℕ) (place : Granule) (s : Stage g
     pub stage-stops : follows low base size ≡ false → ascend 0 (banksOf g) ≡ false
     unfolding ascend both
     stage-stops n = s .judged ∙ rw (one-left, n)
-
--- ---- a search that stops at the first bank that holds the address
-module _ (g : Granules) (addr i before : ℕ) where
-  pub seek-last : bankCount g ≤ i → bankAmong before (left g i) addr ≡ noBank
-  unfolding bankAmong
-  seek-last h = rw (left-none g i h)
-
-  module _ (h : i < bankCount g) where
-    pub seek-more : getD g (2 + 2 * i) 0 ≤ distance (getD g (1 + 2 * i) 0) addr → bankAmong before (left g i) addr ≡ bankAmong (before + getD g (2 + 2 * i) 0 / 4096) (left g (i + 1)) addr
-    unfolding bankAmong
-    seek-more n = rw (left-more g i h, le-ltb (distance (getD g (1 + 2 * i) 0) addr) (getD g (2 + 2 * i) 0) n)
-
-    pub seek-hit : distance (getD g (1 + 2 * i) 0) addr < getD g (2 + 2 * i) 0 → bankAmong before (left g i) addr ≡ record { base = getD g (1 + 2 * i) 0; size = getD g (2 + 2 * i) 0; before = before }
-    unfolding bankAmong
-    seek-hit n = rw (left-more g i h, lt-ltb (distance (getD g (1 + 2 * i) 0) addr) (getD g (2 + 2 * i) 0) n)

@@ -142,10 +142,10 @@ fn held_list(
 {
     let n = addresses.len();
     let mut held = realm_words::nothing_held(words);
-    let mut bank = banks::no_bank();
+    let mut bank = held_banks::no_bank();
     for i in 0..n {
         let address = addresses[i];
-        let sought = banks::seek(granules, bank, address);
+        let sought = held_banks::seek(granules, bank, address);
         let granule = sought.granule;
         let step = shift_at(params, granule, direction, table, words, address, held);
         let code = step.code;
@@ -322,7 +322,7 @@ pub fn moved_at_once(
         return false;
     }
     let base = granules[1];
-    let offset = banks::offset_in(base, address);
+    let offset = held_banks::offset_in(base, address);
     if !lies_in(base, granules[2], offset) {
         return false;
     }

@@ -3,7 +3,7 @@ use mathlib.Core.Path.{_≡_, refl, sym, _∙_}
 use native.Mathlib.Omega.{arith}
 use lib.ListN.{length, drop}
 use borrow.Author.Tests.{not-true, not-false}
-use Rattle.banks.proofs.Holding.{HeldOf, none-held, judged-once}
+use Rattle.held_banks.proofs.Holding.{HeldOf, none-held, judged-once}
 use Rattle.realm_words.specs.Holding.{Holds}
 use Rattle.realm_words.proofs.Holding.{none-holds}
 use Rattle.granule_rules.specs.Granules.{tableOf, moveAt, movedTo}

@@ -2,7 +2,7 @@ use mathlib.Core.Path.{sym, _∙_}
 use native.Mathlib.Omega.{arith}
 use lib.ListN.{length}
 use borrow.Author.Tests.{not-true, not-false}
-use Rattle.banks.proofs.Holding.{none-on, other-on}
+use Rattle.held_banks.proofs.Holding.{none-on, other-on}
 use Rattle.granule_rules.specs.Granules.{tableOf, movedBy, moveAt, movedTo}
 use Rattle.granule_rules.specs.Lists.{listBy}
 use Rattle.granule_rules.proofs.Moving.{fit-told}

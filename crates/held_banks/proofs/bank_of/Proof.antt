@@ -3,10 +3,12 @@ use mathlib.Core.Path.{_≡_, sym, ap, _∙_}
 use native.Mathlib.Omega.{arith}
 use borrow.Author.Tests.{lt-leb, le-leb}
 use borrow.Author.Needs.{needs}
-use Rattle.banks.specs.Banks.{banksOf, bankCount, bankAmong, bankOf}
-use Rattle.banks.proofs.Passing.{left, left-all, seek-last, seek-more, seek-hit}
-use Rattle.banks.proofs.bank_of.Statement.{statement}
-use Rattle.banks.proofs.bank_of.Tie as tie
+use Rattle.banks.specs.Banks.{banksOf, bankCount}
+use Rattle.banks.proofs.Passing.{left, left-all}
+use Rattle.held_banks.specs.Holding.{bankAmong, bankOf}
+use Rattle.held_banks.proofs.Holding.{seek-last, seek-more, seek-hit}
+use Rattle.held_banks.proofs.bank_of.Statement.{statement}
+use Rattle.held_banks.proofs.bank_of.Tie as tie
 
 abbrev Inv-loop : tie.InvT-loop
 Inv-loop granules address count before₀ i₀ i-end before i = (i ≤ i-end) × (before ≤ 0x10_0000_0000_0000 * i) × (bankAmong 0 (banksOf granules) address ≡ bankAmong before (left granules i) address)

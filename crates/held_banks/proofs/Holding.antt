@@ -5,17 +5,19 @@ use mathlib.Core.Path.{_≡_, refl, sym, ap, _∙_}
 use mathlib.Core.Bool.{Bool, true, false, cond}
 use mathlib.Core.List.{List, [], _∷_}
 use native.Mathlib.Omega.{arith}
+use lib.ListN.{getD}
 use lib.Dec.{ltb, eqb}
-use borrow.Author.Tests.{ltb-true, le-ltb, eq-eqb, ne-eqb}
+use borrow.Author.Tests.{ltb-true, lt-ltb, le-ltb, eq-eqb, ne-eqb}
 use Rattle.words.specs.Tests.{both, Yes}
 use Rattle.words.proofs.Tests.{both-l, both-r}
 use Rattle.banks.specs.declared.Granule.{Granule}
 use Rattle.banks.specs.declared.Granule.the-variants.{Nothing, At}
-use Rattle.banks.specs.declared.HeldBank.{HeldBank}
-use Rattle.banks.specs.declared.Sought.{Sought}
-use Rattle.banks.specs.Banks.{Granules, Bank, banksOf, ascend, recordOk, granuleCount, holds, indexBy, indexIn, placeIn, orElse, placeAmong, bankPlace, granuleAt, distance, reachIn, noBank, placeHeld, bankAmong, bankOf, soughtFrom, soughtBy}
-use Rattle.banks.proofs.Passing.{Follows, follows-is, reach-place}
+use Rattle.banks.specs.Banks.{Granules, Bank, bankCount, banksOf, ascend, recordOk, granuleCount, holds, indexBy, indexIn, placeIn, orElse, placeAmong, bankPlace, granuleAt, distance, reachIn}
+use Rattle.banks.proofs.Passing.{Follows, follows-is, reach-place, left, left-more, left-none}
 use Rattle.banks.proofs.Laws.{nowhere, cond-at, held, ok-ascends, ok-few, past-bank, no-granules, cond-none, some-granules}
+use Rattle.held_banks.specs.declared.HeldBank.{HeldBank}
+use Rattle.held_banks.specs.declared.Sought.{Sought}
+use Rattle.held_banks.specs.Holding.{noBank, placeHeld, bankAmong, bankOf, soughtFrom, soughtBy}
 
 -- the bank held is one of the record's, with the granules before it: a place in it is the place in the record
 abbrev pub HeldOf : Granules → HeldBank → Type 0
@@ -135,3 +137,18 @@ other-on g n addr d = rw (ne-eqb (granuleCount g) n d) (go (eqb (addr % 4096) 0)
     go : (k : Bool) → cond (both k false) (bankPlace g addr) Nothing ≡ Nothing
     go true = refl
     go false = refl
+
+-- ---- a search that stops at the first bank that holds the address
+module _ (g : Granules) (addr i before : ℕ) where
+  pub seek-last : bankCount g ≤ i → bankAmong before (left g i) addr ≡ noBank
+  unfolding bankAmong
+  seek-last h = rw (left-none g i h)
+
+  module _ (h : i < bankCount g) where
+    pub seek-more : getD g (2 + 2 * i) 0 ≤ distance (getD g (1 + 2 * i) 0) addr → bankAmong before (left g i) addr ≡ bankAmong (before + getD g (2 + 2 * i) 0 / 4096) (left g (i + 1)) addr
+    unfolding bankAmong
+    seek-more n = rw (left-more g i h, le-ltb (distance (getD g (1 + 2 * i) 0) addr) (getD g (2 + 2 * i) 0) n)
+
+    pub seek-hit : distance (getD g (1 + 2 * i) 0) addr < getD g (2 + 2 * i) 0 → bankAmong before (left g i) addr ≡ record { base = getD g (1 + 2 * i) 0; size = getD g (2 + 2 * i) 0; before = before }
+    unfolding bankAmong
+    seek-hit n = rw (left-more g i h, lt-ltb (distance (getD g (1 + 2 * i) 0) addr) (getD g (2 + 2 * i) 0) n)

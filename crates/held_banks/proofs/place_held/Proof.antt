@@ -1,11 +1,12 @@
 use mathlib.Core.Path.{ap, _∙_}
 use native.Mathlib.Omega.{arith}
 use borrow.Author.Tests.{lt-ltb, le-ltb}
 use Rattle.banks.specs.declared.Granule.the-variants.{At}
-use Rattle.banks.specs.Banks.{distance, placeHeld}
+use Rattle.banks.specs.Banks.{distance}
+use Rattle.held_banks.specs.Holding.{placeHeld}
 use borrow.Author.Needs.{needs}
-use Rattle.banks.proofs.place_held.Statement.{statement}
-use Rattle.banks.proofs.place_held.Tie as tie
+use Rattle.held_banks.proofs.place_held.Statement.{statement}
+use Rattle.held_banks.proofs.place_held.Tie as tie
 
 offset-in-requires : tie.Need-offset-in-requires
 offset-in-requires c κs = search needs

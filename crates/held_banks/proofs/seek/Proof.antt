@@ -1,9 +1,9 @@
 use Prim.Native.Nat.{_%_}
 use borrow.Author.Tests.{eq-eqb, ne-eqb}
-use Rattle.banks.specs.Banks.{soughtFrom, soughtBy}
+use Rattle.held_banks.specs.Holding.{soughtFrom, soughtBy}
 use borrow.Author.Needs.{needs}
-use Rattle.banks.proofs.seek.Statement.{statement}
-use Rattle.banks.proofs.seek.Tie as tie
+use Rattle.held_banks.proofs.seek.Statement.{statement}
+use Rattle.held_banks.proofs.seek.Tie as tie
 
 returns : tie.Need-returns
 unfolding soughtBy
