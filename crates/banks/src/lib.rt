@@ -5,7 +5,7 @@ use entries::Bits;
 ghost use mathlib.Core.Path.{_≡_};
 ghost use Prim.Native.Nat.{_<_, _≤_};
 ghost use Rattle.entries.specs.Entry.{bankOk};
-ghost use Rattle.banks.specs.Banks.{follows, orElse, granuleCount, bankPlace, placedIn, granuleAt, placedAt, reachIn, onlyCount, onlyPlace, onlyBank, onlyAt, recordFrom, SetUp, setUpOf};
+ghost use Rattle.banks.specs.Banks.{follows, orElse, granuleCount, bankPlace, placedIn, granuleAt, placedAt, reachIn, onlyCount, onlyPlace, onlyBank, recordFrom, SetUp, setUpOf};
 
 // The granule that an address falls on.
 pub enum Granule {
@@ -142,16 +142,6 @@ pub fn is_only(granules: &[u64; 33], n: usize) -> bool
         return false;
     }
     bank_ok(granules[1], granules[2])
-}
-
-// The granule that an address falls on in that bank.
-pub fn only_granule(base: u64, size: u64, address: u64) -> Granule
-    ensures { λ r. ⌜ r ≡ onlyAt base size address ⌝ }
-{
-    if address % 4096 != 0 {
-        return Granule::Nothing;
-    }
-    reach_in(0, base, size, address)
 }
 
 // How many granules a record has; none if the set-up would refuse its banks.

@@ -100,6 +100,10 @@ module _ (g : Granules) (n : ℕ) (ws : List ℕ) (addr : ℕ) (f : Yes (oneFits
   pub told-inside : (offset : ℕ) → offsetIn g addr ≡ offset → (offset / 4096 < n) × (offset / 4096 / 64 < length ws)
   told-inside offset e = rw (← e) (byte-inside, word-inside)
 
+-- the test as the code met it
+pub told-fits : (g : Granules) (n : ℕ) (ws : List ℕ) (z b : Bool) → z ≡ oneFits g n ws → z ≡ b → oneFits g n ws ≡ b
+told-fits g n ws z b e h = sym e ∙ h
+
 -- ---- the call
 unless-no : (b : Bool) → Yes (unless b) → b ≡ false
 unfolding unless

@@ -1,11 +1,13 @@
 -- Delegation, return by return, and what a refusal leaves. Assumes nothing.
-use Prim.Native.Nat.{ℕ, _/_}
+use Prim.Native.Nat.{ℕ, _+_, _/_, _<_}
 use mathlib.Core.Path.{_≡_, refl, sym, ap, _∙_}
 use mathlib.Core.Bool.{Bool, true, false}
 use mathlib.Core.List.{List}
+use native.Mathlib.Omega.{arith}
 use lib.ListN.{length, getD, set, length-set}
 use lib.Dec.{eqb}
-use borrow.Author.Tests.{eq-eqb, ne-eqb}
+use borrow.Author.Tests.{eqb-true, eq-eqb, ne-eqb}
+use Rattle.words.specs.Tests.{Yes}
 use Rattle.realm_words.specs.Bits.{realmBit, putBit, wordsFor}
 use Rattle.realm_words.specs.Answers.{wordsFit}
 use Rattle.banks.specs.Banks.{Granules, granuleCount, bankPlace, placedIn, granuleAt}
@@ -15,7 +17,7 @@ use Rattle.codes.specs.Codes.{isUp, unless, fails, upOf, whenUp, isOk, answerOf
 use Rattle.codes.specs.declared.Code.{Code}
 use Rattle.codes.specs.declared.Code.the-variants.{Ok, Unk, BadAddr, BadPas, Inval}
 use Rattle.codes.proofs.Gates.{if-ok-by}
-use Rattle.banks.proofs.Laws.{index-below}
+use Rattle.banks.proofs.Laws.{falls, index-below}
 use Rattle.granule_rules.specs.Granules.{Inside, GranuleTable, tableOf, fromByte, toByte, guarded, granuleCode, moveCode, granuleSet, moved, Moved, movedBy, moveAt, fitting, whenFit, moveOf, movedTo}
 use Rattle.banks.specs.declared.Granule.{Granule}
 use Rattle.banks.specs.declared.Granule.the-variants.{Nothing, At}
@@ -31,8 +33,17 @@ placed-is g m n addr p k c f e = e ∙ rw (c, f)
 pub fit-told : (g : Granules) (bytes words : List ℕ) (m : ℕ) (r b : Bool) → m ≡ granuleCount g → r ≡ wordsFit words m → r ≡ b → fitting g (tableOf bytes words) ≡ b
 fit-told g bytes words m r b c e h = ap (wordsFit words) (sym c) ∙ sym e ∙ h
 
-pub granule-inside : (g : Granules) (t : List ℕ) (addr : ℕ) (k : Granule) → k ≡ granuleAt g (length t) addr → Inside k t
-granule-inside g t addr k e i h = index-below g (length t) addr i (sym e ∙ h)
+pub granule-inside : (g : Granules) (t ws : List ℕ) (addr : ℕ) (k : Granule) → Yes (wordsFit ws (granuleCount g)) → k ≡ granuleAt g (length t) addr → Inside k t ws
+unfolding wordsFor
+granule-inside g t ws addr k f e i h =
+    let n : granuleCount g ≡ length t = falls g (length t) addr i (sym e ∙ h) .count in
+    let b : i < length t = index-below g (length t) addr i (sym e ∙ h) in
+    let w : length ws ≡ (granuleCount g + 63) / 64 = eqb-true _ _ f in
+    (b, omega arith)
+
+-- words of the same number fit as well
+pub fit-long : (ws old : List ℕ) (n : ℕ) → length ws ≡ length old → Yes (wordsFit old n) → Yes (wordsFit ws n)
+fit-long ws old n e f = ap (λ m. eqb m (wordsFor n)) e ∙ f
 
 -- ---- a record that is up
 module _ (u : Params) (g : Granules) (d : Direction) (t ws : List ℕ) (addr : ℕ) where
@@ -99,7 +110,7 @@ module _ (s : Record) (g : Granules) (d : Direction) (t : GranuleTable) (addr : 
 
     -- words that are as many as they must be stay so
     pub fit-kept : fitting g (moveOf s g d t addr .table) ≡ true
-    fit-kept = ap (λ n. eqb n (wordsFor (granuleCount g))) (lengths-kept .1) ∙ f
+    fit-kept = fit-long (moveOf s g d t addr .table .words) (t .words) (granuleCount g) (lengths-kept .1) f
 
 -- a refused move leaves the table as it was, with zeros in the other registers
 pub move-refused : (s : Record) (g : Granules) (d : Direction) (t : GranuleTable) (addr : ℕ) → isOk (moveOf s g d t addr .answer .code) ≡ false →

@@ -140,6 +140,6 @@ leftAtOnce s g d t addr = cond (atOnce s g d t addr) (granuleSet d t (At (firstG
 abbrev pub Agrees : GranuleTable → Type 0
 Agrees t = t .words ≡ realmWords (t .bytes)
 
--- ---- a granule that lies within the table's bytes
-abbrev pub Inside : Granule → List ℕ → Type 0
-Inside k bytes = (i : ℕ) → k ≡ At i → i < length bytes
+-- ---- a granule that lies within the table's bytes, with its bit within the words
+abbrev pub Inside : Granule → List ℕ → List ℕ → Type 0
+Inside k bytes words = (i : ℕ) → k ≡ At i → (i < length bytes) × (i / 64 < length words)

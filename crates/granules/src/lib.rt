@@ -9,14 +9,15 @@ pub use granule_rules::Direction;
 use realm_words::Held;
 ghost use mathlib.Core.Path.{_≡_};
 ghost use mathlib.Core.Bool.{cond};
-ghost use Prim.Native.Nat.{_/_, _<_};
+ghost use Prim.Native.Nat.{_+_, _*_, _/_, _%_, _^_, _<_, _≤_};
 ghost use lib.ListN.{length, getD};
 ghost use lib.Dec.{eqb};
 ghost use Rattle.words.specs.Tests.{Yes};
 ghost use Rattle.codes.specs.Codes.{answerOf};
-ghost use Rattle.banks.specs.Banks.{Granules, granuleCount, granuleAt, onlyBank};
+ghost use Rattle.banks.specs.Banks.{Granules, granuleCount, granuleAt, onlyBank, onlyAt};
 ghost use Rattle.realm_words.specs.Answers.{wordsFit};
-ghost use Rattle.realm_words.specs.Holding.{Holds};
+ghost use Rattle.realm_words.specs.Bits.{realmBit};
+ghost use Rattle.realm_words.specs.Holding.{Holds, wordBy, putBy, wordHeld};
 ghost use Rattle.granule_rules.specs.Granules.{tableOf, Inside, fromByte, toByte, guarded, granuleSet, moveAt, moveOf, delegateOf, undelegateOf, movedTo, readyFor, oneFits, liesIn, atOnce, leftAtOnce};
 ghost use Rattle.granule_rules.specs.Lists.{listBy, moveListOf, delegateListOf, undelegateListOf};
 
@@ -49,6 +50,29 @@ fn is_guarded(params: Params, direction: Direction, address: u64) -> bool
     }
 }
 
+// A word, read unless it is the one held.
+fn word_by(words: &[u64], held: Held, at: usize) -> u64
+    requires { ⌜ at < length (now words) ⌝ }
+    ensures { λ r. ⌜ r ≡ wordBy (now (words .entry)) held at ⌝ }
+{
+    if at == held.at {
+        return held.word;
+    }
+    words[at]
+}
+
+// Writes a granule's bit as its byte has it; where the word held is the words' own, every other bit stays (`put-own`). The word written is
+// the one held then.
+fn put_bit(words: &mut [u64], held: Held, index: usize, byte: u8) -> Held
+    requires { ⌜ index / 64 < length (now words) ⌝ }
+    ensures { λ r. ⌜ (now (words .exit) ≡ putBy (now (words .entry)) held index (realmBit byte)) × (r ≡ wordHeld (now (words .entry)) held index (realmBit byte)) ⌝ }
+{
+    let at = index / 64;
+    let word = realm_words::with_bit(word_by(words, held, at), index, byte);
+    words[at] = word;
+    Held { at, word }
+}
+
 // A move's code, and the word that is held behind it.
 struct Step {
     code: Code,
@@ -65,7 +89,7 @@ fn shift_at(
     address: u64,
     held: Held,
 ) -> Step
-    requires { ⌜ Inside granule (now table) × Holds (now words) held ⌝ }
+    requires { ⌜ Inside granule (now table) (now words) × Holds (now words) held ⌝ }
     ensures { λ r. ⌜ ((g : Granules) → granule ≡ granuleAt g (length (now (table .entry))) address →
         movedTo (answerOf (r .code) 0 0) (now (table .exit)) (now (words .exit)) ≡ moveAt params g direction (tableOf (now (table .entry)) (now (words .entry))) address)
         × Holds (now (words .exit)) (r .held) ⌝ }
@@ -92,7 +116,7 @@ fn shift_at(
         };
     }
     table[at] = to;
-    let next = realm_words::put_bit(words, held, at, to);
+    let next = put_bit(words, held, at, to);
     Step {
         code: Code::Ok,
         held: next,
@@ -137,7 +161,7 @@ fn held_list(
     words: &mut [u64],
     addresses: &[u64],
 ) -> Answer
-    requires { ⌜ (0 < granuleCount (now granules)) × (granuleCount (now granules) ≡ length (now table)) ⌝ }
+    requires { ⌜ (0 < granuleCount (now granules)) × (granuleCount (now granules) ≡ length (now table)) × Yes (wordsFit (now words) (granuleCount (now granules))) ⌝ }
     ensures { λ r. ⌜ movedTo r (now (table .exit)) (now (words .exit)) ≡ listBy (moveAt params (now (granules .entry)) direction) 0 (tableOf (now (table .entry)) (now (words .entry))) (now (addresses .entry)) ⌝ }
 {
     let n = addresses.len();
@@ -217,6 +241,20 @@ fn is_ready(state: Record, granules: &[u64; 33], n: usize, words: &[u64]) -> boo
     bank_fits(words, granules[2])
 }
 
+// The granule that an address falls on in a bank of so many granules. The offset is turned, its low 12 bits to the top, so that one
+// comparison does for a multiple of 4,096 within the bank.
+fn turned_granule(base: u64, count: usize, address: u64) -> Granule
+    requires { ⌜ (base % 4096 ≡ 0) × (base + 4096 * count ≤ 2 ^ 52) ⌝ }
+    ensures { λ r. ⌜ r ≡ onlyAt base (4096 * count) address ⌝ }
+{
+    let offset = held_banks::offset_in(base, address);
+    let at = offset / 4096 + offset % 4096 * 0x10_0000_0000_0000;
+    if count as u64 <= at {
+        return Granule::Nothing;
+    }
+    Granule::At(at as usize)
+}
+
 // The list of a call that is ready.
 fn only_list(
     params: Params,
@@ -226,16 +264,16 @@ fn only_list(
     words: &mut [u64],
     addresses: &[u64],
 ) -> Answer
-    requires { ⌜ Yes (onlyBank (now granules) (length (now table))) ⌝ }
+    requires { ⌜ Yes (onlyBank (now granules) (length (now table))) × Yes (wordsFit (now words) (granuleCount (now granules))) ⌝ }
     ensures { λ r. ⌜ movedTo r (now (table .exit)) (now (words .exit)) ≡ listBy (moveAt params (now (granules .entry)) direction) 0 (tableOf (now (table .entry)) (now (words .entry))) (now (addresses .entry)) ⌝ }
 {
     let base = granules[1];
-    let size = granules[2];
+    let count = table.len();
     let n = addresses.len();
     let mut held = realm_words::nothing_held(words);
     for i in 0..n {
         let address = addresses[i];
-        let granule = banks::only_granule(base, size, address);
+        let granule = turned_granule(base, count, address);
         let step = shift_at(params, granule, direction, table, words, address, held);
         let told = step.code;
         if !codes::is_ok(told) {

@@ -4,7 +4,7 @@ ghost use Prim.Native.Nat.{_-_, _%_, _^_, _<_, _≤_};
 ghost use lib.ListN.{length, take, drop};
 ghost use lib.Count.{ones, trailingZeros};
 ghost use Rattle.realm_words.specs.Bits.{realmBit, packed, wordsFor, withBit};
-ghost use Rattle.realm_words.specs.Holding.{noneHeld, wordBy, putBy, wordHeld};
+ghost use Rattle.realm_words.specs.Holding.{noneHeld};
 ghost use Rattle.realm_words.specs.Answers.{wordsFit, bothFit, realmCountOf, hitBelow, realmNextOf, realmAgreeOf, Built, realmBuildOf};
 
 // How many Realm granules there are.
@@ -106,31 +106,6 @@ pub fn nothing_held(words: &[u64]) -> Held
         at: words.len(),
         word: 0,
     }
-}
-
-// A word, read unless it is the one held.
-fn word_by(words: &[u64], held: Held, at: usize) -> u64
-    requires { ⌜ at < length (now words) ⌝ }
-    ensures { λ r. ⌜ r ≡ wordBy (now (words .entry)) held at ⌝ }
-{
-    if at == held.at {
-        return held.word;
-    }
-    words[at]
-}
-
-// Writes a granule's bit as its byte has it; where the word held is the words' own, every other bit stays (`put-own`). The word written is
-// the one held then.
-pub fn put_bit(words: &mut [u64], held: Held, index: usize, byte: u8) -> Held
-    ensures { λ r. ⌜ (now (words .exit) ≡ putBy (now (words .entry)) held index (realmBit byte)) × (r ≡ wordHeld (now (words .entry)) held index (realmBit byte)) ⌝ }
-{
-    let at = index / 64;
-    if words.len() <= at {
-        return held;
-    }
-    let word = with_bit(word_by(words, held, at), index, byte);
-    words[at] = word;
-    Held { at, word }
 }
 
 // ---- answers from the words alone ----

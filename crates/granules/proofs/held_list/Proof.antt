@@ -6,9 +6,10 @@ use borrow.Author.Tests.{not-true, not-false}
 use Rattle.held_banks.proofs.Holding.{HeldOf, none-held, judged-once}
 use Rattle.realm_words.specs.Holding.{Holds}
 use Rattle.realm_words.proofs.Holding.{none-holds}
+use Rattle.banks.specs.Banks.{granuleCount}
 use Rattle.granule_rules.specs.Granules.{tableOf, moveAt, movedTo}
 use Rattle.granule_rules.specs.Lists.{listBy}
-use Rattle.granule_rules.proofs.Moving.{granule-inside, told-lengths}
+use Rattle.granule_rules.proofs.Moving.{granule-inside, fit-long, told-lengths}
 use Rattle.granule_rules.proofs.Lists.{told-last, told-more, told-stop}
 use borrow.Author.Needs.{needs}
 use Rattle.granules.proofs.held_list.Statement.{statement}
@@ -45,7 +46,7 @@ shift-at-requires c κs =
     let s = c .before .before .before .before .before .before .before .before .before .before .before .before in
     let l = c .before .before .before .before .before .loop in
     let f = judged-once (s .args .granules .now) (l .bank) (length (l .table)) _ _ (s .pre .0) (s .pre .1 ∙ sym (l .inv .1)) (l .inv .4) (c .before .before .seek .ensures) in
-    (granule-inside (s .args .granules .now) (l .table) _ _ (f .0), l .inv .3)
+    (granule-inside (s .args .granules .now) (l .table) (l .words) _ _ (fit-long (l .words) (s .args .words .now) (granuleCount (s .args .granules .now)) (l .inv .2) (s .pre .2)) (f .0), l .inv .3)
 
 is-ok-requires : tie.Need-is-ok-requires Inv-loop μ-loop
 is-ok-requires c κs = search needs

@@ -52,7 +52,7 @@ nothing-held-requires c κs = search needs
 shift-at-requires : tie.Need-shift-at-requires
 shift-at-requires c κs =
     let a = c .before .before .before .before .before .before .before .before .before .before .before .before .before .before .args in
-    (granule-inside (a .granules .now) (a .table .now) (a .address) _ (placed-is (a .granules .now) _ _ (a .address) _ _ (c .before .before .before .before .before .before .before .before .before .before .before .pass-of .ensures .0) (c .before .before .before .before .before .before .before .before .before .before .before .pass-of .ensures .1) (c .before .before .before .before .granule-in .ensures)), rw (c .before .before .nothing-held .ensures) (none-holds (a .words .now)))
+    (granule-inside (a .granules .now) (a .table .now) (a .words .now) (a .address) _ (fit-told (a .granules .now) (a .table .now) (a .words .now) _ _ _ (c .before .before .before .before .before .before .before .before .before .before .before .pass-of .ensures .0) (c .before .before .before .before .before .before .before .before .before .words-fit .ensures) (not-false _ (c .before .before .before .before .before .before .before .before .if1 .left))) (placed-is (a .granules .now) _ _ (a .address) _ _ (c .before .before .before .before .before .before .before .before .before .before .before .pass-of .ensures .0) (c .before .before .before .before .before .before .before .before .before .before .before .pass-of .ensures .1) (c .before .before .before .before .granule-in .ensures)), rw (c .before .before .nothing-held .ensures) (none-holds (a .words .now)))
 
 answered-requires-3 : tie.Need-answered-requires-3
 answered-requires-3 c κs = search needs

@@ -32,7 +32,7 @@ to-byte-requires : tie.Need-to-byte-requires
 to-byte-requires c κs = search needs
 
 slice-read-byte : tie.Need-slice-read-byte
-slice-read-byte c = omega (arith, c .before .before .before .before .before .before .before .before .before .before .pre .0 _ (c .before .before .before .before .before .before .granule .given .1))
+slice-read-byte c = omega (arith, (c .before .before .before .before .before .before .before .before .before .before .pre .0 _ (c .before .before .before .before .before .before .granule .given .1)) .0)
 
 returns-3 : tie.Need-returns-3
 returns-3 c =
@@ -40,10 +40,10 @@ returns-3 c =
     (λ g e. move-pas (a .params) g (a .direction) (a .table .now) (a .words .now) (a .address) _ (sym e ∙ c .before .before .before .before .before .before .before .granule .given .1) (sym (c .before .before .before .before .before .is-guarded .ensures) ∙ c .before .before .before .before .if1 .left) (rw (← c .before .before .before .from-byte .ensures) (c .if2 .taken)), c .before .before .before .before .before .before .before .before .before .before .before .pre .1)
 
 slice-write-table : tie.Need-slice-write-table
-slice-write-table c = omega (arith, c .before .before .before .before .before .before .before .before .before .before .before .pre .0 _ (c .before .before .before .before .before .before .before .granule .given .1))
+slice-write-table c = omega (arith, (c .before .before .before .before .before .before .before .before .before .before .before .pre .0 _ (c .before .before .before .before .before .before .before .granule .given .1)) .0)
 
 put-bit-requires : tie.Need-put-bit-requires
-put-bit-requires c κs = search needs
+put-bit-requires c κs = c .before .before .before .before .before .before .before .before .before .before .before .before .pre .0 _ (c .before .before .before .before .before .before .before .before .granule .given .1) .1
 
 same-length : tie.Need-same-length
 same-length c = search needs

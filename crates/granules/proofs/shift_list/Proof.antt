@@ -89,7 +89,7 @@ up-of-requires c κs = search needs
 
 held-list-requires : tie.Need-held-list-requires
 held-list-requires c κs =
-    (omega (arith, c .before .before .before .before .before .before .before .before .before .before .before .granule-count .ensures, c .before .before .before .before .if4 .left), sym (c .before .before .before .before .before .before .before .before .before .before .before .granule-count .ensures) ∙ c .before .before .before .if5 .left)
+    (omega (arith, c .before .before .before .before .before .before .before .before .before .before .before .granule-count .ensures, c .before .before .before .before .if4 .left), sym (c .before .before .before .before .before .before .before .before .before .before .before .granule-count .ensures) ∙ c .before .before .before .if5 .left, fit-told (c .before .before .before .before .before .before .before .before .before .before .before .before .before .before .before .args .granules .now) (c .before .before .before .before .before .before .before .before .before .before .before .before .before .before .before .args .table .now) (c .before .before .before .before .before .before .before .before .before .before .before .before .before .before .before .args .words .now) _ _ _ (c .before .before .before .before .before .before .before .before .before .before .before .granule-count .ensures) (c .before .before .before .before .before .before .before .before .before .words-fit .ensures) (not-false _ (c .before .before .before .before .before .before .before .before .if1 .left)))
 
 same-length-6 : tie.Need-same-length-6
 same-length-6 c = search needs

@@ -1,18 +1,10 @@
 use Prim.Native.Nat.{_/_}
-use mathlib.Core.Path.{sym}
 use lib.ListN.{length}
-use lib.Seq.{set-out}
-use borrow.Author.Tests.{lt-ltb, le-ltb}
+use borrow.Author.Tests.{lt-ltb}
 use borrow.Author.Needs.{needs}
 use Rattle.realm_words.specs.Holding.{putBy, wordHeld}
-use Rattle.realm_words.proofs.put_bit.Statement.{statement}
-use Rattle.realm_words.proofs.put_bit.Tie as tie
-
-returns : tie.Need-returns
-unfolding putBy wordHeld
-returns c =
-    let a = c .before .before .args in
-    (sym (set-out (a .words .now) (a .index / 64) _ (search needs)), rw (le-ltb (a .index / 64) (length (a .words .now)) (search needs)))
+use Rattle.granules.proofs.put_bit.Statement.{statement}
+use Rattle.granules.proofs.put_bit.Tie as tie
 
 word-by-requires : tie.Need-word-by-requires
 word-by-requires c κs = search needs
@@ -29,10 +21,10 @@ slice-write-words c = search needs
 same-length : tie.Need-same-length
 same-length c = search needs
 
-returns-2 : tie.Need-returns-2
+returns : tie.Need-returns
 unfolding putBy wordHeld
-returns-2 c =
-    let a = c .before .before .before .before .before .args in
+returns c =
+    let a = c .before .before .before .before .args in
     let w = c .before .word-by .ensures in
     (rw (c .with-bit .ensures, w), rw (c .with-bit .ensures, w, lt-ltb (a .index / 64) (length (a .words .now)) (search needs)))
 
@@ -40,10 +32,9 @@ pub put-bit-spec : {M : Type 1} → statement M
 put-bit-spec =
     tie.close
     (tie.spec
-    returns
     word-by-requires
     with-bit-requires
     mul-words
     slice-write-words
     same-length
-    returns-2)
+    returns)

@@ -1,9 +1,9 @@
 use mathlib.Core.Path.{sym}
 use borrow.Author.Tests.{eq-eqb, ne-eqb}
 use borrow.Author.Needs.{needs}
 use Rattle.realm_words.specs.Holding.{wordBy}
-use Rattle.realm_words.proofs.word_by.Statement.{statement}
-use Rattle.realm_words.proofs.word_by.Tie as tie
+use Rattle.granules.proofs.word_by.Statement.{statement}
+use Rattle.granules.proofs.word_by.Tie as tie
 
 returns : tie.Need-returns
 unfolding wordBy
