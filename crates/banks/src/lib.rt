@@ -5,7 +5,7 @@ use entries::Bits;
 ghost use mathlib.Core.Path.{_≡_};
 ghost use Prim.Native.Nat.{_<_, _≤_};
 ghost use Rattle.entries.specs.Entry.{bankOk};
-ghost use Rattle.banks.specs.Banks.{follows, orElse, granuleCount, bankPlace, placedIn, granuleAt, placedAt, reachIn, onlyCount, onlyPlace, onlyBank, recordFrom, SetUp, setUpOf};
+ghost use Rattle.banks.specs.Banks.{follows, orElse, granuleCount, bankPlace, placedIn, granuleAt, placedAt, distance, reachIn, onlyCount, onlyPlace, onlyBank, recordFrom, SetUp, setUpOf};
 
 // The granule that an address falls on.
 pub enum Granule {
@@ -36,17 +36,22 @@ fn bank_follows(low: u64, base: u64, size: u64) -> bool
     bank_ok(base, size)
 }
 
-// The address's place in a bank that meets the reader's rule, by one comparison, behind the granules of the banks before.
-fn reach_in(before: u64, base: u64, size: u64, address: u64) -> Granule
-    requires { ⌜ before < 0x8000_0000_0000_0000 ⌝ }
-    ensures { λ r. ⌜ r ≡ reachIn before base size address ⌝ }
+// How far behind the base an address lies, in 64 bits.
+pub fn offset_in(base: u64, address: u64) -> u64
+    ensures { λ r. ⌜ r ≡ distance base address ⌝ }
 {
-    let distance = std::num::wrapping_sub_u64(address, base);
-    if size <= distance {
-        return Granule::Nothing;
+    std::num::wrapping_sub_u64(address, base)
+}
+
+// The address's place in a bank that meets the reader's rule, by one comparison.
+fn reach_in(base: u64, size: u64, address: u64) -> Granule
+    ensures { λ r. ⌜ r ≡ reachIn 0 base size address ⌝ }
+{
+    let offset = offset_in(base, address);
+    if offset < size {
+        return Granule::At((offset / 4096) as usize);
     }
-    let at = before + distance / 4096;
-    Granule::At(at as usize)
+    Granule::Nothing
 }
 
 // The granule that a word stands for: all ones for none. The pass keeps its place so, in one register.
@@ -64,7 +69,7 @@ fn place_in(place: u64, before: u64, base: u64, size: u64, address: u64) -> u64
     requires { ⌜ before < 0x8000_0000_0000_0000 ⌝ }
     ensures { λ r. ⌜ placedAt r ≡ orElse (reachIn before base size address) (placedAt place) ⌝ }
 {
-    let offset = std::num::wrapping_sub_u64(address, base);
+    let offset = offset_in(base, address);
     if size <= offset {
         return place;
     }
@@ -114,7 +119,7 @@ fn only_pass(base: u64, size: u64, address: u64) -> Pass
             place: Granule::Nothing,
         };
     }
-    let place = reach_in(0, base, size, address);
+    let place = reach_in(base, size, address);
     Pass {
         granules: size / 4096,
         place,

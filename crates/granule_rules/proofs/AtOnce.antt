@@ -8,7 +8,7 @@ use native.Mathlib.Nat.{zero-add}
 use native.Mathlib.Decide.{decLt}
 use lib.Bits.{bitOr}
 use lib.ListN.{length, getD}
-use lib.Dec.{leb, ltb, eqb}
+use lib.Dec.{leb, eqb}
 use borrow.Author.Tests.{eqb-true, ltb-true, eq-eqb, lt-ltb, le-leb, lt-leb}
 use Rattle.words.specs.Tests.{both, Yes}
 use Rattle.words.proofs.Tests.{both-l, both-r, both-of}
@@ -19,10 +19,10 @@ use Rattle.realm_words.specs.Answers.{wordsFit}
 use Rattle.boot.specs.declared.Record.{Record}
 use Rattle.codes.specs.Codes.{unless, isUp, upOf, answerOf}
 use Rattle.codes.specs.declared.Code.the-variants.{Ok}
-use Rattle.banks.specs.Banks.{Granules, bankCount, granuleAt, distance, reachIn, onlyBank, onlyAt}
+use Rattle.banks.specs.Banks.{Granules, granuleAt, distance, reachIn, onlyBank, onlyAt}
 use Rattle.banks.specs.declared.Granule.the-variants.{At}
 use Rattle.banks.proofs.Laws.{bank-granules, bank-granule}
-use Rattle.granule_rules.specs.Granules.{GranuleTable, tableOf, fromByte, toByte, guarded, granuleSet, Moved, moveOf, movedTo, fitting, oneFits, gathered, liesIn, offsetIn, firstGranule, atOnce, leftAtOnce}
+use Rattle.granule_rules.specs.Granules.{GranuleTable, tableOf, fromByte, toByte, guarded, granuleSet, moveOf, movedTo, oneFits, liesIn, firstOffset, firstGranule, atOnce, leftAtOnce}
 use Rattle.granule_rules.specs.declared.Direction.{Direction}
 use Rattle.granule_rules.proofs.Moving.{move-ok, told-up}
 
@@ -69,8 +69,8 @@ lies-whole base size addr l = go (decLt addr base) (l .inside) (l .offset-whole)
     go (no y) i w = let k : base ≤ addr = omega arith in let v = rw (le-leb base addr k) at w in omega (arith, l .base-whole)
 
 -- ---- the granule of such an address, with its byte and its word
-module _ (g : Granules) (n : ℕ) (ws : List ℕ) (addr : ℕ) (f : Yes (oneFits g n ws)) (y : Yes (liesIn (getD g 1 0) (getD g 2 0) (offsetIn g addr))) where
-  lies : Lies (getD g 1 0) (getD g 2 0) (offsetIn g addr)
+module _ (g : Granules) (n : ℕ) (ws : List ℕ) (addr : ℕ) (f : Yes (oneFits g n ws)) (y : Yes (liesIn (getD g 1 0) (getD g 2 0) (firstOffset g addr))) where
+  lies : Lies (getD g 1 0) (getD g 2 0) (firstOffset g addr)
   lies = lies-is _ _ _ y
 
   one-size : getD g 2 0 / 4096 ≡ n
@@ -87,7 +87,7 @@ module _ (g : Granules) (n : ℕ) (ws : List ℕ) (addr : ℕ) (f : Yes (oneFits
 
   one-granule : granuleAt g n addr ≡ At (firstGranule g addr)
   unfolding onlyAt reachIn
-  one-granule = sym (bank-granule g n one-bank addr) ∙ rw (eq-eqb (addr % 4096) 0 (lies-whole _ _ addr lies), lt-ltb (offsetIn g addr) (getD g 2 0) (lies .inside), zero-add)
+  one-granule = sym (bank-granule g n one-bank addr) ∙ rw (eq-eqb (addr % 4096) 0 (lies-whole _ _ addr lies), lt-ltb (firstOffset g addr) (getD g 2 0) (lies .inside), zero-add)
 
   byte-inside : firstGranule g addr < n
   byte-inside = let s = one-size in omega (arith, lies .inside, lies .size-whole)
@@ -97,7 +97,7 @@ module _ (g : Granules) (n : ℕ) (ws : List ℕ) (addr : ℕ) (f : Yes (oneFits
   word-inside = let w : length ws ≡ (n + 63) / 64 = eqb-true _ _ one-words in omega (arith, byte-inside)
 
   -- by the offset as the code found it
-  pub told-inside : (offset : ℕ) → offsetIn g addr ≡ offset → (offset / 4096 < n) × (offset / 4096 / 64 < length ws)
+  pub told-inside : (offset : ℕ) → firstOffset g addr ≡ offset → (offset / 4096 < n) × (offset / 4096 / 64 < length ws)
   told-inside offset e = rw (← e) (byte-inside, word-inside)
 
 -- the test as the code met it
@@ -117,7 +117,7 @@ module _ (s : Record) (g : Granules) (d : Direction) (t : GranuleTable) (addr : 
       let n = length (t .bytes) in
       let f : Yes (oneFits g n (t .words)) = both-l _ _ (both-r _ _ h) in
       let h2 = both-r _ _ (both-r _ _ h) in
-      let y : Yes (liesIn (getD g 1 0) (getD g 2 0) (offsetIn g addr)) = both-l _ _ (both-r _ _ h2) in
+      let y : Yes (liesIn (getD g 1 0) (getD g 2 0) (firstOffset g addr)) = both-l _ _ (both-r _ _ h2) in
       told-up s g d t addr (ap (wordsFit (t .words)) (bank-granules g n (one-bank g n (t .words) addr f y)) ∙ one-words g n (t .words) addr f y) (both-l _ _ h) (upOf s) refl _
       (move-ok (upOf s) g d (t .bytes) (t .words) addr (firstGranule g addr) (one-granule g n (t .words) addr f y) (unless-no _ (both-l _ _ h2)) (eqb-true _ _ (both-r _ _ (both-r _ _ h2))) (toByte d) refl)
 
@@ -140,7 +140,7 @@ module _ (s : Record) (g : Granules) (d : Direction) (t : GranuleTable) (addr : 
       unfolding atOnce both unless
       once-guarded k = rw (up, f, k)
 
-      module _ (k : guarded (upOf s) d addr ≡ false) (offset : ℕ) (e : offsetIn g addr ≡ offset) where
+      module _ (k : guarded (upOf s) d addr ≡ false) (offset : ℕ) (e : firstOffset g addr ≡ offset) where
         pub once-out : liesIn (getD g 1 0) (getD g 2 0) offset ≡ false → atOnce s g d t addr ≡ false
         unfolding atOnce both unless
         once-out y = rw (up, f, k, e, y)

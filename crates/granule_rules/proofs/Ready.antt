@@ -1,6 +1,6 @@
 -- A list on a record of one bank, for speed: what is known where nothing but the addresses is left to judge. Assumes nothing.
 use Prim.Native.Nat.{ℕ, _+_, _-_, _*_, _/_, _%_, _^_, _≤_, _<_}
-use mathlib.Core.Path.{_≡_, refl, sym, ap, _∙_}
+use mathlib.Core.Path.{_≡_, sym, ap, _∙_}
 use mathlib.Core.Bool.{Bool, true, cond}
 use native.Mathlib.Omega.{arith}
 use native.Mathlib.Decide.{decLt, ℕ-discrete}
@@ -8,13 +8,13 @@ use mathlib.Core.List.{List}
 use lib.ListN.{length, getD}
 use lib.Dec.{leb, eqb}
 use borrow.Author.Tests.{eqb-true, eq-eqb, ne-eqb, le-leb, lt-leb, lt-ltb, le-ltb}
-use Rattle.words.specs.Tests.{both, Yes}
+use Rattle.words.specs.Tests.{Yes}
 use Rattle.words.proofs.Tests.{both-l, both-r, both-of}
 use Rattle.realm_words.specs.Answers.{wordsFit}
 use Rattle.boot.specs.declared.Params.{Params}
 use Rattle.boot.specs.declared.Record.{Record}
 use Rattle.codes.specs.Codes.{isUp, upOf}
-use Rattle.banks.specs.Banks.{Granules, granuleCount, granuleAt, follows, distance, reachIn, onlyBank, onlyAt}
+use Rattle.banks.specs.Banks.{Granules, granuleAt, follows, distance, reachIn, onlyBank, onlyAt}
 use Rattle.banks.specs.declared.Granule.{Granule}
 use Rattle.banks.specs.declared.Granule.the-variants.{Nothing, At}
 use Rattle.banks.proofs.Passing.{Follows, follows-is}

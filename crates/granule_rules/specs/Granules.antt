@@ -99,13 +99,13 @@ undelegateOf s g t addr = moveOf s g Undelegate t addr
 unfoldable pub movedTo : Answer → List ℕ → List ℕ → Moved
 movedTo a bytes words = record { answer = a; table = tableOf bytes words }
 
--- ---- for speed: a call on a record of one bank
--- whether nothing but the address is left to judge: the boot record is up, the one bank meets the reader's rule and has n granules, and so
+-- ---- for speed: a record of one bank
+-- of a list, whether nothing but the addresses and their granules' bytes is left to judge: the boot record is up, the one bank meets the reader's rule and has n granules, and so
 -- many are the words'
 unfoldable pub readyFor : Record → Granules → ℕ → List ℕ → Bool
 readyFor s g n ws = both (isUp s) (both (onlyBank g n) (wordsFit ws n))
 
--- whether a record has one bank, of n granules as the table and the words have; the bank is not judged
+-- of a single call, whether the record has one bank, of n granules as the table and the words have; the bank is not judged
 unfoldable pub oneFits : Granules → ℕ → List ℕ → Bool
 oneFits g n ws = both (eqb (bankCount g) 1) (both (eqb (getD g 2 0 / 4096) n) (wordsFit ws n))
 
@@ -118,11 +118,11 @@ unfoldable pub liesIn : ℕ → ℕ → ℕ → Bool
 liesIn base size offset = both (ltb offset size) (both (eqb (gathered base size offset % 4096) 0) (ltb (gathered base size offset) (2 ^ 51)))
 
 -- the offset of an address in the first bank, and its granule
-abbrev pub offsetIn : Granules → ℕ → ℕ
-offsetIn g addr = distance (getD g 1 0) addr
+abbrev pub firstOffset : Granules → ℕ → ℕ
+firstOffset g addr = distance (getD g 1 0) addr
 
 abbrev pub firstGranule : Granules → ℕ → ℕ
-firstGranule g addr = offsetIn g addr / 4096
+firstGranule g addr = firstOffset g addr / 4096
 
 -- the usual call is accepted by these tests and done at once; of any other, nothing is done
 unfoldable pub atOnce : Record → Granules → Direction → GranuleTable → ℕ → Bool
@@ -130,7 +130,7 @@ atOnce s g d t addr =
     both (isUp s)
     (both (oneFits g (length (t .bytes)) (t .words))
     (both (unless (guarded (upOf s) d addr))
-    (both (liesIn (getD g 1 0) (getD g 2 0) (offsetIn g addr))
+    (both (liesIn (getD g 1 0) (getD g 2 0) (firstOffset g addr))
     (eqb (getD (t .bytes) (firstGranule g addr) 0) (fromByte d)))))
 
 unfoldable pub leftAtOnce : Record → Granules → Direction → GranuleTable → ℕ → GranuleTable

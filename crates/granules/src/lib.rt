@@ -123,8 +123,7 @@ fn shift_at(
     }
 }
 
-// Moves the granule at an address. One pass over the banks gives the granules, by which the words are checked, and the place. The parameters
-// stand in the order in which an export has them, so that it hands them on where they are.
+// Moves the granule at an address. One pass over the banks gives the granules, by which the words are checked, and the place.
 pub fn shift(
     granules: &[u64; 33],
     table: &mut [u8],
@@ -247,7 +246,7 @@ fn turned_granule(base: u64, count: usize, address: u64) -> Granule
     requires { ⌜ (base % 4096 ≡ 0) × (base + 4096 * count ≤ 2 ^ 52) ⌝ }
     ensures { λ r. ⌜ r ≡ onlyAt base (4096 * count) address ⌝ }
 {
-    let offset = held_banks::offset_in(base, address);
+    let offset = banks::offset_in(base, address);
     let at = offset / 4096 + offset % 4096 * 0x10_0000_0000_0000;
     if count as u64 <= at {
         return Granule::Nothing;
@@ -360,7 +359,7 @@ pub fn moved_at_once(
         return false;
     }
     let base = granules[1];
-    let offset = held_banks::offset_in(base, address);
+    let offset = banks::offset_in(base, address);
     if !lies_in(base, granules[2], offset) {
         return false;
     }

@@ -36,18 +36,11 @@ pub fn no_bank() -> HeldBank
     }
 }
 
-// How far behind the base an address lies, in 64 bits.
-pub fn offset_in(base: u64, address: u64) -> u64
-    ensures { λ r. ⌜ r ≡ distance base address ⌝ }
-{
-    std::num::wrapping_sub_u64(address, base)
-}
-
 // The address's place in the bank held. The sum wraps for no bank of a record that is taken.
 pub fn place_held(bank: HeldBank, address: u64) -> Granule
     ensures { λ r. ⌜ r ≡ placeHeld bank address ⌝ }
 {
-    let offset = offset_in(bank.base, address);
+    let offset = banks::offset_in(bank.base, address);
     if bank.size <= offset {
         return Granule::Nothing;
     }
@@ -67,7 +60,7 @@ pub fn bank_of(granules: &[u64; 33], address: u64) -> HeldBank
     for i in 0..(count as usize) {
         let base = granules[1 + 2 * i];
         let size = granules[2 + 2 * i];
-        let offset = offset_in(base, address);
+        let offset = banks::offset_in(base, address);
         if offset < size {
             return HeldBank { base, size, before };
         }

@@ -1,14 +1,14 @@
 -- A word held: where it is the word that the words have, a bit is written as `putBit` says, and the word held then is theirs too. Assumes
 -- nothing.
-use Prim.Native.Nat.{ℕ, _/_, _%_, _≤_, _<_}
+use Prim.Native.Nat.{ℕ, _/_, _<_}
 use mathlib.Core.Path.{_≡_, refl, sym, ap, _∙_}
 use mathlib.Core.Bool.{Bool, true, false, cond}
 use mathlib.Core.List.{List}
 use native.Mathlib.Omega.{arith}
 use lib.ListN.{length, getD, set, List·getD-eq-default}
-use lib.Seq.{getD-set-same, set-out}
-use lib.Dec.{ltb, eqb}
-use borrow.Author.Tests.{eqb-true, ltb-true, ltb-false}
+use lib.Seq.{getD-set-same}
+use lib.Dec.{eqb}
+use borrow.Author.Tests.{eqb-true}
 use Rattle.realm_words.specs.Bits.{withBit, putBit}
 use Rattle.realm_words.specs.Holding.{noneHeld, Holds, wordBy, bitBy, putBy, wordHeld}
 use Rattle.realm_words.specs.declared.Held.{Held}
@@ -29,10 +29,6 @@ module _ (ws : List ℕ) (h : Held) (own : Holds ws h) where
   unfolding putBy putBit
   put-own i v = rw (word-own (i / 64))
 
-  pub put-holds : (i v : ℕ) → Holds (putBy ws h i v) (wordHeld ws h i v)
-  unfolding putBy wordHeld
-  put-holds i v = go (ltb (i / 64) (length ws)) refl
-    where
-      go : (b : Bool) → ltb (i / 64) (length ws) ≡ b → Holds (set ws (i / 64) (bitBy ws h i v)) (cond b (record { at = i / 64; word = bitBy ws h i v }) h)
-      go true e = getD-set-same ws (i / 64) (bitBy ws h i v) 0 (ltb-true (i / 64) (length ws) e)
-      go false e = rw (set-out ws (i / 64) (bitBy ws h i v) (ltb-false (i / 64) (length ws) e)) own
+  pub put-holds : (i v : ℕ) → i / 64 < length ws → Holds (putBy ws h i v) (wordHeld ws h i v)
+  unfolding putBy
+  put-holds i v l = getD-set-same ws (i / 64) (bitBy ws h i v) 0 l

@@ -5,7 +5,7 @@ use mathlib.Core.Path.{_≡_}
 use mathlib.Core.Bool.{cond}
 use mathlib.Core.List.{List}
 use lib.ListN.{length, getD, set}
-use lib.Dec.{ltb, eqb}
+use lib.Dec.{eqb}
 use Rattle.realm_words.specs.Bits.{withBit}
 use Rattle.realm_words.specs.declared.Held.{Held}
 
@@ -29,5 +29,5 @@ bitBy ws h i v = withBit (wordBy ws h (i / 64)) (i % 64) v
 unfoldable pub putBy : List ℕ → Held → ℕ → ℕ → List ℕ
 putBy ws h i v = set ws (i / 64) (bitBy ws h i v)
 
-unfoldable pub wordHeld : List ℕ → Held → ℕ → ℕ → Held
-wordHeld ws h i v = cond (ltb (i / 64) (length ws)) (record { at = i / 64; word = bitBy ws h i v }) h
+abbrev pub wordHeld : List ℕ → Held → ℕ → ℕ → Held
+wordHeld ws h i v = record { at = i / 64; word = bitBy ws h i v }

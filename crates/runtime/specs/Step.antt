@@ -174,7 +174,7 @@ plainWorld page = worldOf page [] [] Idle noQueue
 abbrev pub plainCall : Record → ℕ → ℕ → ℕ → ℕ → List ℕ → ℕ → Call
 plainCall r id x1 x2 x3 key width = callWith r id x1 x2 x3 0 false key [] [] width
 
--- a call that uses none of these states, of which any granule record does; one that uses a state is not listed here
+-- a call that uses none of these states, and so no granule record either; one that uses a state is answered as an id that is not listed
 unfoldable pub plainBy : Needs → Kind → World → Call → Step
 plainBy Needs.Nothing k w c = callBy k [] w c
 plainBy (Needs.Table d) k w c = back (answerOf Unk 0 0) w

@@ -1,32 +1,21 @@
-use mathlib.Core.Path.{_≡_}
+use mathlib.Core.Path.{sym}
+use native.Mathlib.Nat.{zero-add}
 use borrow.Author.Tests.{lt-ltb, le-ltb}
-use Rattle.banks.specs.Banks.{distance, reachIn}
-use Rattle.banks.proofs.Passing.{distance-is}
+use Rattle.banks.specs.Banks.{reachIn}
 use borrow.Author.Needs.{needs}
 use Rattle.banks.proofs.reach_in.Statement.{statement}
 use Rattle.banks.proofs.reach_in.Tie as tie
 
-wrapping-sub-u64-requires : tie.Need-wrapping-sub-u64-requires
-wrapping-sub-u64-requires c κs = search needs
+offset-in-requires : tie.Need-offset-in-requires
+offset-in-requires c κs = search needs
 
 returns : tie.Need-returns
 unfolding reachIn
-returns c =
-    let a = c .before .before .args in
-    let w = c .before .wrapping-sub-u64 in
-    let d : distance (a .base) (a .address) ≡ w .result = distance-is (a .base) (a .address) (w .result) (w .ensures) (search needs) (search needs) in
-    rw d (simp (le-ltb (w .result) (a .size) (search needs)))
-
-add-at : tie.Need-add-at
-add-at c = search needs
+returns c = let o = c .before .offset-in in rw (sym (o .ensures)) (simp (lt-ltb (o .result) (c .before .before .args .size) (search needs), zero-add))
 
 returns-2 : tie.Need-returns-2
 unfolding reachIn
-returns-2 c =
-    let a = c .before .before .args in
-    let w = c .before .wrapping-sub-u64 in
-    let d : distance (a .base) (a .address) ≡ w .result = distance-is (a .base) (a .address) (w .result) (w .ensures) (search needs) (search needs) in
-    rw d (simp (lt-ltb (w .result) (a .size) (search needs)))
+returns-2 c = let o = c .before .offset-in in rw (sym (o .ensures)) (simp (le-ltb (o .result) (c .before .before .args .size) (search needs)))
 
 pub reach-in-spec : {M : Type 1} → statement M
-reach-in-spec = tie.close (tie.spec wrapping-sub-u64-requires returns add-at returns-2)
+reach-in-spec = tie.close (tie.spec offset-in-requires returns returns-2)

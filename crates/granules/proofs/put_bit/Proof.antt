@@ -1,8 +1,5 @@
-use Prim.Native.Nat.{_/_}
-use lib.ListN.{length}
-use borrow.Author.Tests.{lt-ltb}
 use borrow.Author.Needs.{needs}
-use Rattle.realm_words.specs.Holding.{putBy, wordHeld}
+use Rattle.realm_words.specs.Holding.{putBy}
 use Rattle.granules.proofs.put_bit.Statement.{statement}
 use Rattle.granules.proofs.put_bit.Tie as tie
 
@@ -22,11 +19,10 @@ same-length : tie.Need-same-length
 same-length c = search needs
 
 returns : tie.Need-returns
-unfolding putBy wordHeld
+unfolding putBy
 returns c =
-    let a = c .before .before .before .before .args in
     let w = c .before .word-by .ensures in
-    (rw (c .with-bit .ensures, w), rw (c .with-bit .ensures, w, lt-ltb (a .index / 64) (length (a .words .now)) (search needs)))
+    (rw (c .with-bit .ensures, w), rw (c .with-bit .ensures, w))
 
 pub put-bit-spec : {M : Type 1} → statement M
 put-bit-spec =

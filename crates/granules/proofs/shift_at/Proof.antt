@@ -57,7 +57,7 @@ returns-4 c =
     let p = c .before .before .put-bit .ensures in (
       λ g e. rw (p .0 ∙ put-own (a .words .now) (a .held) (c .before .before .before .before .before .before .before .before .before .before .before .before .before .before .before .pre .1) _ _)
           (move-ok (a .params) g (a .direction) (a .table .now) (a .words .now) (a .address) _ (sym e ∙ c .before .before .before .before .before .before .before .before .before .before .before .granule .given .1) (sym (c .before .before .before .before .before .before .before .before .before .is-guarded .ensures) ∙ c .before .before .before .before .before .before .before .before .if1 .left) (c .before .before .before .before .if2 .left ∙ c .before .before .before .before .before .before .before .from-byte .ensures) _ (c .before .before .before .before .before .before .to-byte .ensures)),
-      rw (p .0, p .1) (put-holds (a .words .now) (a .held) (c .before .before .before .before .before .before .before .before .before .before .before .before .before .before .before .pre .1) _ _),
+      rw (p .0, p .1) (put-holds (a .words .now) (a .held) (c .before .before .before .before .before .before .before .before .before .before .before .before .before .before .before .pre .1) _ _ (c .before .before .before .before .before .before .before .before .before .before .before .before .before .before .before .pre .0 _ (c .before .before .before .before .before .before .before .before .before .before .before .granule .given .1) .1)),
     )
 
 pub shift-at-spec : {M : Type 1} → statement M

@@ -1,8 +1,8 @@
 use Rattle.banks.proofs.Passing.{distance-is}
 use mathlib.Core.Path.{sym}
 use borrow.Author.Needs.{needs}
-use Rattle.held_banks.proofs.offset_in.Statement.{statement}
-use Rattle.held_banks.proofs.offset_in.Tie as tie
+use Rattle.banks.proofs.offset_in.Statement.{statement}
+use Rattle.banks.proofs.offset_in.Tie as tie
 
 wrapping-sub-u64-requires : tie.Need-wrapping-sub-u64-requires
 wrapping-sub-u64-requires c κs = search needs
