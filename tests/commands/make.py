@@ -423,7 +423,7 @@ def random_inputs():
     def pick(n):
         return dice.getrandbits(64) % n
 
-    for i in range(40):
+    for i in range(22):
         command = (KEY, DELEGATE, UNDELEGATE, UPDATE, KEY, FEATURES, KEY, FORWARD)[i % 8]
         base, g, length = pick(2**pick(65)), 4096 * pick(2**pick(42)), 1 + pick(600)
         x1, x2, x3 = pick(WORD), pick(WORD), pick(WORD)
@@ -531,13 +531,35 @@ def odd_words():
             lent=(ONES,) * 3)
 
 
+def usual_calls():
+    """One bank, with one word: records that only the bank's rule refuses; banks about 2^51"""
+    for command in GRANULE:
+        right = bytes([GRANULE.index(command)])
+        for outcome, text, record, address in (
+                ("words, banks, address", "bank and address 8 too high", one(G + 8, 8),
+                 G + 8 + 4096),
+                ("words, banks", "a bank of 8 granules and 512 bytes", (1, G, 8 * 4096 + 512),
+                 G + 4096),
+                ("words, banks", "a bank that ends one granule above 2^52", one(TOP - 7 * 4096, 8),
+                 TOP - 4096),
+                ("words, banks", "a bank at 2^52", one(TOP, 8), TOP),
+                ("words, banks", "a bank at 2^63", one(2**63, 8), 2**63)):
+            add(outcome, command, f"{text}, one word", record=record, x1=address, lent=(0,))
+        for outcome, text, base, n, address in (
+                ("OK", "one granule to 2^51 exactly", 2**51 - 4096, 1, 2**51 - 4096),
+                ("OK", "a bank over 2^51, its granule there", 2**51 - 4096, 2, 2**51),
+                ("off", "a bank over 2^51, one past it", 2**51 - 4096, 2, 2**51 + 4096),
+                ("OK", "a bank at 2^51, its second granule", 2**51, 2, 2**51 + 4096)):
+            add(outcome, command, text, record=one(base, n), x1=address, table=right * n)
+
+
 # ---- Output ----
 
 def build_all():
     for group in (examples, forwarding, records, page_lengths, granule_addresses, granule_banks,
                   granule_records, granule_bytes, key_ranges, keys_and_curves, features,
                   key_updates, together, random_inputs, kept_bytes, shared_page, word_numbers,
-                  odd_words):
+                  odd_words, usual_calls):
         GROUPS.append((group.__doc__, []))
         group()
 

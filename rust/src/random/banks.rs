@@ -54,8 +54,9 @@ impl Random {
     fn few_banks(&mut self) -> Vec<[u64; 2]> {
         let count = self.pick(&[1, 1, 1, 2, 2, 3, 8, 15, 16]);
         let mut banks = Vec::with_capacity(count);
-        let mut low = match self.below(4) {
-            0 => 0,
+        let mut low = match self.below(8) {
+            0 | 1 => 0,
+            2 => (1 << 51) - 4096 * self.below(64), // a bank from there on takes the longer way
             _ => 4096 * self.below(1 << 39),
         };
         for _ in 0..count {

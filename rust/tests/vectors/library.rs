@@ -241,7 +241,8 @@ fn print_command(out: &mut String, input: &[u8]) {
     let mut table = take(&mut rest, in_table).to_vec();
     let key = take(&mut rest, in_key);
     let mut page = take(&mut rest, in_page).to_vec();
-    let (mut registers, mut work) = ([0; 3], [0; 2]);
+    // What stands in the registers before a call is no matter.
+    let (mut registers, mut work) = ([u64::MAX; 3], [0; 2]);
     let mut realm = realm_words_at(input, 72);
     match id {
         0xC400_01B0 => Kit::delegate(&record, banks, &mut table, &mut realm, x1, &mut registers),
