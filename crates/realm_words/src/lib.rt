@@ -5,7 +5,7 @@ ghost use lib.ListN.{length, take, drop};
 ghost use lib.Count.{ones, trailingZeros};
 ghost use Rattle.realm_words.specs.Bits.{realmBit, packed, wordsFor, withBit};
 ghost use Rattle.realm_words.specs.Holding.{noneHeld};
-ghost use Rattle.realm_words.specs.Answers.{wordsFit, bothFit, realmCountOf, hitBelow, realmNextOf, realmAgreeOf, Built, realmBuildOf};
+ghost use Rattle.realm_words.specs.Answers.{wordsFit, bothFit, realmCountOf, hitBelow, Zeros, realmNextOf, realmAgreeOf, Built, realmBuildOf};
 
 // How many Realm granules there are.
 pub enum Number {
@@ -139,6 +139,25 @@ fn hit_below(granules: usize, index: usize) -> Hit
     Hit::Nothing
 }
 
+// Passes over zero words behind a word, in fours: those up to the one answered are zero. A loop of one word a turn takes one cycle a turn
+// or two, as the linker lays it (docs/BENCHMARK.md).
+fn past_zeros(words: &[u64], from: usize) -> usize
+    requires { ⌜ from < length (now words) ⌝ }
+    ensures { λ r. ⌜ (from ≤ r) × (r < length (now (words .entry))) × Zeros (now (words .entry)) from r ⌝ }
+{
+    let mut at = from;
+    while 4 < words.len() - at {
+        if (words[at + 1] | words[at + 2]) != 0 {
+            return at;
+        }
+        if (words[at + 3] | words[at + 4]) != 0 {
+            return at + 2;
+        }
+        at += 4;
+    }
+    at
+}
+
 // The first Realm granule at or after an index, up to the first word with a set bit there. Spare bits are not hit.
 pub fn next(words: &[u64], granules: usize, index: usize) -> Hit
     ensures { λ r. ⌜ r ≡ realmNextOf (now (words .entry)) granules index ⌝ }
@@ -151,6 +170,9 @@ pub fn next(words: &[u64], granules: usize, index: usize) -> Hit
     }
     let mut at = index / 64;
     let mut bits = high_bits(words[at], index % 64);
+    if bits == 0 {
+        at = past_zeros(words, at);
+    }
     while bits == 0 {
         at += 1;
         if words.len() <= at {
