@@ -676,7 +676,7 @@ uint64_t pbeam_set_up_granules(uint64_t granules[PBEAM_GRANULES_WORDS], const ui
  *          PBEAM_X0_BAD_PAS   the granule's byte is not PBEAM_GRANULE_NON_SECURE
  * Leaves   on OK that byte as PBEAM_GRANULE_REALM and its bit in the words set, and every other byte and bit as it was. Refused, table and
  *          words as they were.
- * Stack    288 bytes; AArch64 96
+ * Stack    160 bytes; AArch64 16
  * The byte alone is changed: the change in hardware is the platform's, after an OK.
  */
 PBEAM_NONNULL(1, 2, 8)
@@ -687,7 +687,7 @@ void pbeam_delegate(const uint64_t state[PBEAM_STATE_WORDS], const uint64_t gran
  * pbeam_undelegate (0xC40001B1): a granule goes from Realm to Non-secure.
  * As pbeam_delegate, with PBEAM_X0_BAD_PAS where the byte is not PBEAM_GRANULE_REALM; on OK it becomes PBEAM_GRANULE_NON_SECURE, and its
  * bit is cleared. Before that check the shared page, address B, is PBEAM_X0_BAD_ADDR whatever its byte: it has to stay Realm.
- * Stack    288 bytes; AArch64 96
+ * Stack    160 bytes; AArch64 16
  */
 PBEAM_NONNULL(1, 2, 8)
 void pbeam_undelegate(const uint64_t state[PBEAM_STATE_WORDS], const uint64_t granules[PBEAM_GRANULES_WORDS], uint8_t *table,
@@ -712,7 +712,7 @@ void pbeam_delegate_list(const uint64_t state[PBEAM_STATE_WORDS], const uint64_t
 
 /*
  * pbeam_undelegate_list: the same from Realm to Non-secure, each address as pbeam_undelegate takes it.
- * Stack    320 bytes; AArch64 192
+ * Stack    320 bytes; AArch64 176
  */
 PBEAM_NONNULL(1, 2, 9)
 void pbeam_undelegate_list(const uint64_t state[PBEAM_STATE_WORDS], const uint64_t granules[PBEAM_GRANULES_WORDS], uint8_t *table,
@@ -928,7 +928,7 @@ size_t pbeam_responses(const uint64_t queue[PBEAM_QUEUE_WORDS]);
  *          before that, by PBEAM_ID_DELEGATE and PBEAM_ID_UNDELEGATE alone: no other id looks at the words.
  * Leaves   what the command leaves; all else as it was. Only PBEAM_ID_PLATFORM_TOKEN reads or writes the session, only
  *          PBEAM_ID_TOKEN_SIGNING the queue.
- * Stack    640 bytes with PBEAM_ID_TOKEN_SIGNING, 576 bytes with any other id; AArch64 528
+ * Stack    544 bytes with PBEAM_ID_TOKEN_SIGNING, 480 bytes with any other id; AArch64 432
  */
 PBEAM_NONNULL(1, 2, 3, 6, 19, 20, 21)
 void pbeam_call(const uint64_t state[PBEAM_STATE_WORDS], uint64_t session[PBEAM_SESSION_WORDS], uint64_t queue[PBEAM_QUEUE_WORDS],
