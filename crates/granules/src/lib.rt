@@ -62,7 +62,7 @@ fn word_by(words: &[u64], held: Held, at: usize) -> u64
 }
 
 // Writes a granule's bit as its byte has it; where the word held is the words' own, every other bit stays (`put-own`). The word written is
-// the one held then.
+// the one held then. It stands here, not in `realm_words`: a list judges the words' number once, so that no bit's place is tested.
 fn put_bit(words: &mut [u64], held: Held, index: usize, byte: u8) -> Held
     requires { ⌜ index / 64 < length (now words) ⌝ }
     ensures { λ r. ⌜ (now (words .exit) ≡ putBy (now (words .entry)) held index (realmBit byte)) × (r ≡ wordHeld (now (words .entry)) held index (realmBit byte)) ⌝ }
