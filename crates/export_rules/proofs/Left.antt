@@ -37,8 +37,9 @@ module _ (s : Record) (g : Granules) (d : Direction) (t : GranuleTable) (addr : 
   pub done-moved : r ≡ true → (u : Record) → s ≡ u → movedTo (answerOf Ok 0 0) b w ≡ moveOf u g d t addr
   done-moved y u q = done-at-once s g d t addr b w r a l y ∙ ap (λ (x : Record). moveOf x g d t addr) q
 
-  pub left-moved : r ≡ false → (m : MoveLeft) (u : Record) → m ≡ moveLeft (moveOf u g d (tableOf b w) addr) → m ≡ moveLeft (moveOf u g d t addr)
-  left-moved n m u e = e ∙ ap (λ (x : GranuleTable). moveLeft (moveOf u g d x addr)) (left-at-once s g d t addr b w r a l n)
+  pub left-moved : r ≡ false → (u : Record) (out table words : List ℕ) → _≡_ {A = MoveLeft} (record { out = out; table = table; words = words }) (moveLeft (moveOf u g d (tableOf b w) addr)) →
+      _≡_ {A = MoveLeft} (record { out = out; table = table; words = words }) (moveLeft (moveOf u g d t addr))
+  left-moved n u out table words e = e ∙ ap (λ (x : GranuleTable). moveLeft (moveOf u g d x addr)) (left-at-once s g d t addr b w r a l n)
 
 pub token-left : (a : Answer) (s : Session) (image out page se : List ℕ) (t : TokenStep) → out ≡ registerWords a → se ≡ ifOk (a .code) (sessionWords s) image →
     record { answer = a; page = page; session = s } ≡ t → _≡_ {A = TokenLeft} (record { out = out; page = page; session = se }) (tokenLeft t image)
@@ -72,26 +73,32 @@ plain-left reply out work page s o w e = rw (o, w) (ap plainLeft e)
 -- ---- any command, by the state that it uses
 module _ (granules session queue page table words state x : List ℕ) (busy : ℕ) (key token public : List ℕ) (width : ℕ) where
   -- none
-  pub left-plain : needsOf (kindOf (getD x 0 0)) ≡ Needs.Nothing → (l : PlainLeft) → l ≡ plainIn state page x key width →
-      _≡_ {A = CallLeft} (record { out = l .out; work = l .work; page = l .page; table = table; words = words; session = session; queue = queue }) (callIn granules session queue page table words (callLent state x busy key token public width))
+  pub left-plain : needsOf (kindOf (getD x 0 0)) ≡ Needs.Nothing → (o k p : List ℕ) → _≡_ {A = PlainLeft} (record { out = o; work = k; page = p }) (plainIn state page x key width) →
+      _≡_ {A = CallLeft} (record { out = o; work = k; page = p; table = table; words = words; session = session; queue = queue }) (callIn granules session queue page table words (callLent state x busy key token public width))
   unfolding plainIn plainLeft callIn callLent callLeft sessionLeft queueLeft
-  left-plain h l e =
-      rw (h, plain-beside granules page table words (sessionOf session) (listsIn queue) (recordOf state) (getD x 0 0) (getD x 1 0) (getD x 2 0) (getD x 3 0) (getD x 4 0) (isSet busy) key token public width h, e)
+  left-plain h o k p e =
+      rw (h, plain-beside granules page table words (sessionOf session) (listsIn queue) (recordOf state) (getD x 0 0) (getD x 1 0) (getD x 2 0) (getD x 3 0) (getD x 4 0) (isSet busy) key token public width h) (ap (λ (l : PlainLeft). record { out = l .out; work = l .work; page = l .page; table = table; words = words; session = session; queue = queue }) e)
 
   -- the granule table
-  pub left-table : (d : Direction) → needsOf (kindOf (getD x 0 0)) ≡ Needs.Table d → (l : MoveLeft) → l ≡ moveIn d state granules table words (getD x 1 0) →
-      _≡_ {A = CallLeft} (record { out = l .out; work = 0 ∷ 0 ∷ []; page = page; table = l .table; words = l .words; session = session; queue = queue }) (callIn granules session queue page table words (callLent state x busy key token public width))
+  pub left-table : (d : Direction) → needsOf (kindOf (getD x 0 0)) ≡ Needs.Table d → (o b w : List ℕ) → _≡_ {A = MoveLeft} (record { out = o; table = b; words = w }) (moveIn d state granules table words (getD x 1 0)) →
+      _≡_ {A = CallLeft} (record { out = o; work = 0 ∷ 0 ∷ []; page = page; table = b; words = w; session = session; queue = queue }) (callIn granules session queue page table words (callLent state x busy key token public width))
   unfolding moveIn moveLeft callIn callLent callLeft sessionLeft queueLeft callOf afterMove replyRegisters replyWords workWords replyCode
-  left-table d h l e = rw (h, needs-table (kindOf (getD x 0 0)) d h granules (worldIn session queue page table words) (callLent state x busy key token public width), e)
+  left-table d h o b w e =
+      rw (h, needs-table (kindOf (getD x 0 0)) d h granules (worldIn session queue page table words) (callLent state x busy key token public width))
+      (ap (λ (l : MoveLeft). record { out = l .out; work = 0 ∷ 0 ∷ []; page = page; table = l .table; words = l .words; session = session; queue = queue }) e)
 
   -- the session
-  pub left-session : needsOf (kindOf (getD x 0 0)) ≡ Needs.Session → (l : TokenLeft) → l ≡ tokenIn state session page token busy (getD x 1 0) (getD x 2 0) (getD x 3 0) →
-      _≡_ {A = CallLeft} (record { out = l .out; work = 0 ∷ 0 ∷ []; page = l .page; table = table; words = words; session = l .session; queue = queue }) (callIn granules session queue page table words (callLent state x busy key token public width))
+  pub left-session : needsOf (kindOf (getD x 0 0)) ≡ Needs.Session → (o p s : List ℕ) → _≡_ {A = TokenLeft} (record { out = o; page = p; session = s }) (tokenIn state session page token busy (getD x 1 0) (getD x 2 0) (getD x 3 0)) →
+      _≡_ {A = CallLeft} (record { out = o; work = 0 ∷ 0 ∷ []; page = p; table = table; words = words; session = s; queue = queue }) (callIn granules session queue page table words (callLent state x busy key token public width))
   unfolding tokenIn tokenLeft callIn callLent callLeft sessionLeft queueLeft callOf callBy needsOf afterToken replyRegisters replyWords workWords replyCode
-  left-session h l e = rw (needs-session (kindOf (getD x 0 0)) h, e)
+  left-session h o p s e =
+      rw (needs-session (kindOf (getD x 0 0)) h)
+      (ap (λ (l : TokenLeft). record { out = l .out; work = 0 ∷ 0 ∷ []; page = l .page; table = table; words = words; session = l .session; queue = queue }) e)
 
   -- the queue
-  pub left-queue : needsOf (kindOf (getD x 0 0)) ≡ Needs.Queue → (l : SigningLeft) → l ≡ signingIn state queue page public (getD x 1 0) (getD x 2 0) (getD x 3 0) (getD x 4 0) →
-      _≡_ {A = CallLeft} (record { out = l .out; work = 0 ∷ 0 ∷ []; page = l .page; table = table; words = words; session = session; queue = l .queue }) (callIn granules session queue page table words (callLent state x busy key token public width))
+  pub left-queue : needsOf (kindOf (getD x 0 0)) ≡ Needs.Queue → (o p q : List ℕ) → _≡_ {A = SigningLeft} (record { out = o; page = p; queue = q }) (signingIn state queue page public (getD x 1 0) (getD x 2 0) (getD x 3 0) (getD x 4 0)) →
+      _≡_ {A = CallLeft} (record { out = o; work = 0 ∷ 0 ∷ []; page = p; table = table; words = words; session = session; queue = q }) (callIn granules session queue page table words (callLent state x busy key token public width))
   unfolding signingIn signingLeft signingOn imageStep callIn callLent callLeft sessionLeft queueLeft callOf callBy needsOf afterSigning replyRegisters replyWords workWords replyCode
-  left-queue h l e = rw (needs-queue (kindOf (getD x 0 0)) h, e)
+  left-queue h o p q e =
+      rw (needs-queue (kindOf (getD x 0 0)) h)
+      (ap (λ (l : SigningLeft). record { out = l .out; work = 0 ∷ 0 ∷ []; page = l .page; table = table; words = words; session = session; queue = l .queue }) e)

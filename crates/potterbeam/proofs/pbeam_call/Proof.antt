@@ -62,7 +62,7 @@ same-length : tie.Need-same-length
 same-length c = search needs
 
 returns : tie.Need-returns
-returns c = let a = c .before .before .before .before .before .before .before .before .before .before .before .before .before .before .before .before .args in left-plain (a .granules .now) (a .session .now) (a .queue .now) (a .page .now) (a .table .now) (a .words .now) (a .state .now) (a .call .now) (a .busy) (a .key .now) (a .token .now) (a .public .now) (a .width) (sym (c .before .before .before .before .before .before .before .before .needs-of .ensures) ∙ c .before .before .before .before .before .before .enum-told .given .1) _ (c .before .before .plain .ensures)
+returns c = let a = c .before .before .before .before .before .before .before .before .before .before .before .before .before .before .before .before .args in left-plain (a .granules .now) (a .session .now) (a .queue .now) (a .page .now) (a .table .now) (a .words .now) (a .state .now) (a .call .now) (a .busy) (a .key .now) (a .token .now) (a .public .now) (a .width) (sym (c .before .before .before .before .before .before .before .before .needs-of .ensures) ∙ c .before .before .before .before .before .before .enum-told .given .1) _ _ _ (c .before .before .plain .ensures)
 
 same-length-2 : tie.Need-same-length-2
 same-length-2 c = search needs
@@ -71,19 +71,19 @@ same-length-3 : tie.Need-same-length-3
 same-length-3 c = search needs
 
 returns-2 : tie.Need-returns-2
-returns-2 c = let a = c .before .before .before .before .before .before .before .before .before .before .before .before .before .before .before .before .before .before .before .before .before .args in left-table (a .granules .now) (a .session .now) (a .queue .now) (a .page .now) (a .table .now) (a .words .now) (a .state .now) (a .call .now) (a .busy) (a .key .now) (a .token .now) (a .public .now) (a .width) _ (sym (c .before .before .before .before .before .before .before .before .before .before .before .before .before .needs-of .ensures) ∙ c .before .before .before .before .before .before .before .before .before .before .before .direction .given .1) _ (c .before .before .before .before .moved-by .ensures)
+returns-2 c = let a = c .before .before .before .before .before .before .before .before .before .before .before .before .before .before .before .before .before .before .before .before .before .args in left-table (a .granules .now) (a .session .now) (a .queue .now) (a .page .now) (a .table .now) (a .words .now) (a .state .now) (a .call .now) (a .busy) (a .key .now) (a .token .now) (a .public .now) (a .width) _ (sym (c .before .before .before .before .before .before .before .before .before .before .before .before .before .needs-of .ensures) ∙ c .before .before .before .before .before .before .before .before .before .before .before .direction .given .1) _ _ _ (c .before .before .before .before .moved-by .ensures)
 
 same-length-4 : tie.Need-same-length-4
 same-length-4 c = search needs
 
 returns-3 : tie.Need-returns-3
-returns-3 c = let a = c .before .before .before .before .before .before .before .before .before .before .before .before .before .before .before .before .before .before .before .before .args in left-session (a .granules .now) (a .session .now) (a .queue .now) (a .page .now) (a .table .now) (a .words .now) (a .state .now) (a .call .now) (a .busy) (a .key .now) (a .token .now) (a .public .now) (a .width) (sym (c .before .before .before .before .before .before .before .before .before .before .before .before .needs-of .ensures) ∙ c .before .before .before .before .before .before .before .before .before .before .enum-told2 .given .1) _ (c .before .before .pbeam-platform-token .ensures)
+returns-3 c = let a = c .before .before .before .before .before .before .before .before .before .before .before .before .before .before .before .before .before .before .before .before .args in left-session (a .granules .now) (a .session .now) (a .queue .now) (a .page .now) (a .table .now) (a .words .now) (a .state .now) (a .call .now) (a .busy) (a .key .now) (a .token .now) (a .public .now) (a .width) (sym (c .before .before .before .before .before .before .before .before .before .before .before .before .needs-of .ensures) ∙ c .before .before .before .before .before .before .before .before .before .before .enum-told2 .given .1) _ _ _ (c .before .before .pbeam-platform-token .ensures)
 
 same-length-5 : tie.Need-same-length-5
 same-length-5 c = search needs
 
 returns-4 : tie.Need-returns-4
-returns-4 c = let a = c .before .before .before .before .before .before .before .before .before .before .before .before .before .before .before .before .before .before .before .before .before .args in left-queue (a .granules .now) (a .session .now) (a .queue .now) (a .page .now) (a .table .now) (a .words .now) (a .state .now) (a .call .now) (a .busy) (a .key .now) (a .token .now) (a .public .now) (a .width) (sym (c .before .before .before .before .before .before .before .before .before .before .before .before .before .needs-of .ensures) ∙ c .before .before .before .before .before .before .before .before .before .before .before .enum-told3 .given .1) _ (c .before .before .pbeam-token-signing .ensures)
+returns-4 c = let a = c .before .before .before .before .before .before .before .before .before .before .before .before .before .before .before .before .before .before .before .before .before .args in left-queue (a .granules .now) (a .session .now) (a .queue .now) (a .page .now) (a .table .now) (a .words .now) (a .state .now) (a .call .now) (a .busy) (a .key .now) (a .token .now) (a .public .now) (a .width) (sym (c .before .before .before .before .before .before .before .before .before .before .before .before .before .needs-of .ensures) ∙ c .before .before .before .before .before .before .before .before .before .before .before .enum-told3 .given .1) _ _ _ (c .before .before .pbeam-token-signing .ensures)
 
 pub pbeam-call-spec : {M : Type 1} → statement M
 pbeam-call-spec =
