@@ -120,7 +120,7 @@ fn print_realm(input: &[u8], table: &[u8], words: &mut [u64]) {
     let n = banks::granule_count(&granules) as usize;
     let index = words::word_at(input, 64) as usize;
     print_number(realm_words::count(words, n));
-    print_hit(realm_words::next(words, n, index));
+    print_hit(realm_next::next(words, n, index));
     print_agreement(realm_words::agrees(table, words, n));
     print_built(realm_words::build(table, words, n));
     cases::print_words(words);

@@ -658,7 +658,7 @@ pub extern "C" fn pbeam_realm_next(
     ensures { λ _. ⌜ now (found .exit) ≡ hitWords (realmNextOf (now (words .entry)) (granuleCount (now (granules .entry))) index) ⌝ }
 {
     let n = banks::granule_count(granules);
-    let hit = realm_words::next(words, n as usize, index as usize);
+    let hit = realm_next::next(words, n as usize, index as usize);
     *found = images::hit_words(hit);
     images::hit_x0(hit)
 }

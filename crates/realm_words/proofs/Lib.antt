@@ -3,6 +3,4 @@ pub mod Bits
 pub mod Counting
 pub mod Holding
 pub mod Laws
-pub mod Looking
 pub mod Packing
-pub mod Trailing

@@ -1,6 +1,5 @@
 -- What is answered from the words, of n granules. Assumes nothing.
-use Prim.Native.Nat.{ℕ, zero, suc, _+_, _-_, _<_, _≤_}
-use mathlib.Core.Path.{_≡_}
+use Prim.Native.Nat.{ℕ, zero, suc, _+_, _-_}
 use mathlib.Core.Bool.{Bool, true, false, cond}
 use mathlib.Core.List.{List, [], _∷_}
 use lib.ListN.{length, getD}
@@ -68,11 +67,3 @@ realms (b ∷ t) = realmBit b + realms t
 
 abbrev pub nextRealm : List ℕ → ℕ → Hit
 nextRealm t i = firstMarked (realmAt t) (length t - i) i
-
--- ---- as the loops go: a hit, if it is below n
-unfoldable pub hitBelow : ℕ → ℕ → Hit
-hitBelow n i = cond (ltb i n) (Hit.At i) Hit.Nothing
-
--- no bit is set in the words behind word `from` up to word `to`
-abbrev pub Zeros : List ℕ → ℕ → ℕ → Type 0
-Zeros ws from to = (k : ℕ) → from < k → k ≤ to → getD ws k 0 ≡ 0

@@ -1,11 +1,11 @@
 // Words beside the granule table: granule i is bit i mod 64 of word i / 64, set where the table's byte is Realm; spare bits are zero.
 ghost use mathlib.Core.Path.{_≡_};
-ghost use Prim.Native.Nat.{_-_, _%_, _^_, _<_, _≤_};
+ghost use Prim.Native.Nat.{_%_, _^_, _<_, _≤_};
 ghost use lib.ListN.{length, take, drop};
-ghost use lib.Count.{ones, trailingZeros};
+ghost use lib.Count.{ones};
 ghost use Rattle.realm_words.specs.Bits.{realmBit, packed, wordsFor, withBit};
 ghost use Rattle.realm_words.specs.Holding.{noneHeld};
-ghost use Rattle.realm_words.specs.Answers.{wordsFit, bothFit, realmCountOf, hitBelow, Zeros, realmNextOf, realmAgreeOf, Built, realmBuildOf};
+ghost use Rattle.realm_words.specs.Answers.{wordsFit, bothFit, realmCountOf, realmAgreeOf, Built, realmBuildOf};
 
 // How many Realm granules there are.
 pub enum Number {
@@ -13,7 +13,7 @@ pub enum Number {
     Is(u64),
 }
 
-// The first Realm granule at or after an index.
+// The first Realm granule at or after an index (`realm_next::next`).
 pub enum Hit {
     Inval,
     Nothing,
@@ -56,27 +56,12 @@ fn ones_in(w: u64) -> u64
     u64::count_ones(w) as u64
 }
 
-// The lowest set bit of a word; 64 if none is set.
-fn first_bit(w: u64) -> usize
-    ensures { λ r. ⌜ (r ≡ trailingZeros 64 w) × (0 < w → r < 64) ⌝ }
-{
-    u64::trailing_zeros(w) as usize
-}
-
 // The bits of a word below bit k.
 fn low_bits(w: u64, k: usize) -> u64
     requires { ⌜ k < 64 ⌝ }
     ensures { λ r. ⌜ r ≡ w % 2 ^ k ⌝ }
 {
     w & ((1u64 << k) - 1)
-}
-
-// The word with the bits below bit k masked out.
-fn high_bits(w: u64, k: usize) -> u64
-    requires { ⌜ k < 64 ⌝ }
-    ensures { λ r. ⌜ r ≡ w - w % 2 ^ k ⌝ }
-{
-    w - low_bits(w, k)
 }
 
 // The word with the bit of a granule, by its index, written as a byte of the table has it, whatever the bit was.
@@ -127,60 +112,6 @@ pub fn count(words: &[u64], granules: usize) -> Number
         return Number::Is(sum);
     }
     Number::Is(sum + ones_in(low_bits(words[whole], rest)))
-}
-
-// The hit at an index, unless that is past the granules: a spare bit.
-fn hit_below(granules: usize, index: usize) -> Hit
-    ensures { λ r. ⌜ r ≡ hitBelow granules index ⌝ }
-{
-    if index < granules {
-        return Hit::At(index);
-    }
-    Hit::Nothing
-}
-
-// Passes over zero words behind a word, in fours: those up to the one answered are zero. A loop of one word a turn takes one cycle a turn
-// or two, as the linker lays it (docs/BENCHMARK.md).
-fn past_zeros(words: &[u64], from: usize) -> usize
-    requires { ⌜ from < length (now words) ⌝ }
-    ensures { λ r. ⌜ (from ≤ r) × (r < length (now (words .entry))) × Zeros (now (words .entry)) from r ⌝ }
-{
-    let mut at = from;
-    while 4 < words.len() - at {
-        if (words[at + 1] | words[at + 2]) != 0 {
-            return at;
-        }
-        if (words[at + 3] | words[at + 4]) != 0 {
-            return at + 2;
-        }
-        at += 4;
-    }
-    at
-}
-
-// The first Realm granule at or after an index, up to the first word with a set bit there. Spare bits are not hit.
-pub fn next(words: &[u64], granules: usize, index: usize) -> Hit
-    ensures { λ r. ⌜ r ≡ realmNextOf (now (words .entry)) granules index ⌝ }
-{
-    if !words_fit(words, granules) {
-        return Hit::Inval;
-    }
-    if granules <= index {
-        return Hit::Inval;
-    }
-    let mut at = index / 64;
-    let mut bits = high_bits(words[at], index % 64);
-    if bits == 0 {
-        at = past_zeros(words, at);
-    }
-    while bits == 0 {
-        at += 1;
-        if words.len() <= at {
-            return Hit::Nothing;
-        }
-        bits = words[at];
-    }
-    hit_below(granules, at * 64 + first_bit(bits))
 }
 
 // ---- words and table ----

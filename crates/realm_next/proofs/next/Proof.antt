@@ -7,11 +7,11 @@ use lib.Count.{trailingZeros}
 use borrow.Author.Tests.{eqb-true, not-true, not-false, lt-ltb, le-ltb}
 use borrow.Author.Needs.{needs}
 use Rattle.words.specs.Tests.{both}
 use Rattle.realm_words.specs.Bits.{wordsFor}
 use Rattle.realm_words.specs.Answers.{realmNextOf}
-use Rattle.realm_words.proofs.Looking.{Look, look-first, look-past, look-more, look-none, look-hit}
-use Rattle.realm_words.proofs.next.Statement.{statement}
-use Rattle.realm_words.proofs.next.Tie as tie
+use Rattle.realm_next.proofs.Looking.{Look, look-first, look-past, look-more, look-none, look-hit}
+use Rattle.realm_next.proofs.next.Statement.{statement}
+use Rattle.realm_next.proofs.next.Tie as tie
 
 abbrev Inv-loop : tie.InvT-loop
 Inv-loop words granules index at₀ bits₀ at bits = (length words ≡ wordsFor granules) × (index < granules) × Look words granules index at bits

@@ -1,8 +1,8 @@
 use borrow.Author.Tests.{lt-ltb, le-ltb}
 use borrow.Author.Needs.{needs}
-use Rattle.realm_words.specs.Answers.{hitBelow}
-use Rattle.realm_words.proofs.hit_below.Statement.{statement}
-use Rattle.realm_words.proofs.hit_below.Tie as tie
+use Rattle.realm_next.specs.Steps.{hitBelow}
+use Rattle.realm_next.proofs.hit_below.Statement.{statement}
+use Rattle.realm_next.proofs.hit_below.Tie as tie
 
 returns : tie.Need-returns
 unfolding hitBelow

@@ -2,9 +2,9 @@ use mathlib.Core.Path.{refl}
 use native.Mathlib.Omega.{arith}
 use lib.Count.{trailing-le}
 use borrow.Author.Needs.{needs}
-use Rattle.realm_words.proofs.Trailing.{tz-lt}
-use Rattle.realm_words.proofs.first_bit.Statement.{statement}
-use Rattle.realm_words.proofs.first_bit.Tie as tie
+use Rattle.realm_next.proofs.Trailing.{tz-lt}
+use Rattle.realm_next.proofs.first_bit.Statement.{statement}
+use Rattle.realm_next.proofs.first_bit.Tie as tie
 
 cast-result : tie.Need-cast-result
 cast-result c = omega (arith, trailing-le 64 (c .args .w))

@@ -3,17 +3,19 @@ use Prim.Native.Nat.{ℕ, zero, suc, _+_, _-_, _*_, _/_, _%_, _^_, _≤_, _<_}
 use mathlib.Core.Path.{_≡_, refl, sym, ap, _∙_}
 use mathlib.Core.List.{List}
 use native.Mathlib.Omega.{arith}
-use native.Mathlib.Nat.{add-zero, zero-div}
+use native.Mathlib.Nat.{add-zero, zero-div, not-suc-le-zero}
 use native.Mathlib.Decide.{decLt}
 use lib.ListN.{getD}
 use lib.Bits.{bitOr, and-le-l, and-le-r, or-add-and}
 use lib.Count.{trailingZeros}
+use lib.Pow.{mod-pow-add}
 use borrow.Author.Tests.{lt-ltb, le-ltb}
 use Rattle.realm_words.specs.declared.Hit.{Hit}
 use Rattle.realm_words.specs.Bits.{bitOf, bitAt, wordsFor}
-use Rattle.realm_words.specs.Answers.{firstMarked, hitBelow, Zeros}
-use Rattle.realm_words.proofs.Bits.{high-below, high-above}
-use Rattle.realm_words.proofs.Trailing.{tz-at, tz-below}
+use Rattle.realm_words.specs.Answers.{firstMarked}
+use Rattle.realm_words.proofs.Bits.{bit-zero, bit-suc}
+use Rattle.realm_next.specs.Steps.{hitBelow, Zeros}
+use Rattle.realm_next.proofs.Trailing.{tz-at, tz-below}
 
 -- ---- numbers that are not marked are passed over
 abbrev Clear : (ℕ → ℕ) → ℕ → ℕ → Type 0
@@ -57,6 +59,27 @@ zeros-more ws from at a b h p q e k l u = go (decLt k a) (decLt a k)
     go (yes y) _ = h k l (omega arith)
     go (no y) (yes x) = let s : k ≡ b = omega arith in rw s (or-none (getD ws a 0) (getD ws b 0) e .1)
     go (no y) (no x) = let s : k ≡ a = omega arith in rw s (or-none (getD ws a 0) (getD ws b 0) e .0)
+
+-- ---- the bits below k masked out
+high-suc : (w k : ℕ) → w - w % 2 ^ suc k ≡ 2 * (w / 2 - w / 2 % 2 ^ k)
+high-suc w k =
+    let s : suc k ≡ k + 1 = omega arith in
+    let m : w % 2 ^ (k + 1) ≡ w / 2 ^ 1 % 2 ^ k * 2 ^ 1 + w % 2 ^ 1 = mod-pow-add w k 1 in
+    rw (s, m) (omega arith)
+
+high-below : (w k j : ℕ) → j < k → bitOf (w - w % 2 ^ k) j ≡ 0
+high-below w zero j h = absurd (not-suc-le-zero h)
+high-below w (suc k) zero h = rw (bit-zero, high-suc) (omega arith)
+high-below w (suc k) (suc j) h =
+    let e : 2 * (w / 2 - w / 2 % 2 ^ k) / 2 ≡ w / 2 - w / 2 % 2 ^ k = omega arith in
+    rw (bit-suc (w - w % 2 ^ suc k) j, high-suc, e) (high-below (w / 2) k j (omega arith))
+
+high-above : (w k j : ℕ) → k ≤ j → bitOf (w - w % 2 ^ k) j ≡ bitOf w j
+high-above w zero j h = let e : w - w % 1 ≡ w = omega arith in rw e
+high-above w (suc k) zero h = absurd (not-suc-le-zero h)
+high-above w (suc k) (suc j) h =
+    let e : 2 * (w / 2 - w / 2 % 2 ^ k) / 2 ≡ w / 2 - w / 2 % 2 ^ k = omega arith in
+    rw (bit-suc (w - w % 2 ^ suc k) j, high-suc, e) (high-above (w / 2) k j (omega arith) ∙ sym (bit-suc w j))
 
 -- ---- the loop: no bit from i up to word `at` is set, and these are that word's bits from i on
 pub record Look (ws : List ℕ) (n i at bits : ℕ) : Type 0 where

@@ -3,10 +3,10 @@ use mathlib.Core.Path.{refl}
 use native.Mathlib.Omega.{arith}
 use lib.ListN.{length}
 use borrow.Author.Needs.{needs}
-use Rattle.realm_words.specs.Answers.{Zeros}
-use Rattle.realm_words.proofs.Looking.{zeros-none, zeros-more}
-use Rattle.realm_words.proofs.past_zeros.Statement.{statement}
-use Rattle.realm_words.proofs.past_zeros.Tie as tie
+use Rattle.realm_next.specs.Steps.{Zeros}
+use Rattle.realm_next.proofs.Looking.{zeros-none, zeros-more}
+use Rattle.realm_next.proofs.past_zeros.Statement.{statement}
+use Rattle.realm_next.proofs.past_zeros.Tie as tie
 
 abbrev Inv-loop : tie.InvT-loop
 Inv-loop words from at₀ at = (from ≤ at) × (at < length words) × Zeros words from at
