@@ -4,7 +4,7 @@ use libc::STDOUT_FILENO;
 ghost use Prim.Native.Nat.{_≤_, _<_};
 ghost use lib.ListN.{length};
 ghost use Rattle.io.specs.Counts.{Counts};
-ghost use Rattle.text.specs.Text.{listingRoom};
+ghost use Rattle.text_lines.specs.Text.{listingRoom};
 ghost use Rattle.listing.specs.Prints.{PrintsAll};
 
 // The text of an input of which n bytes were read into `room`. The room has to hold one byte more than the input of a page, so that a

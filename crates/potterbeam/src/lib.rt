@@ -21,7 +21,7 @@ ghost use Rattle.lookup.specs.Lookup.{spanOf, spanIn};
 ghost use Rattle.field_lookup.specs.Fields.{firstIn, restIn, nthIn, ofTag, fieldAs, shownFrom, startAt, nthPlace, tagPlace};
 ghost use Rattle.lookup.specs.Consoles.{consoleNamed};
 ghost use Rattle.kept.specs.Kept.{keptFor};
-ghost use Rattle.text.specs.Text.{lay, listingOf};
+ghost use Rattle.text_lines.specs.Text.{lay, listingOf};
 ghost use Rattle.lists.specs.Description.{descriptionOf};
 ghost use Rattle.writer_rules.specs.Write.{descriptionFits};
 ghost use Rattle.writer_rules.specs.Wrote.{pageAfter};

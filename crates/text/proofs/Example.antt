@@ -7,7 +7,7 @@ use Rattle.words.specs.Word.{leBytes, joined}
 use Rattle.entries.specs.Entry.{wordsPerEntry}
 use Rattle.fields.specs.Fields.{raw}
 use Rattle.reader.specs.Answer.{Shown, absent, empty, full, shows, refused, minus, entryWord, bytesIn, entryCount}
-use Rattle.text.specs.Text.{newline, space, dash, zeroX, manifestText, readAsText, platformText, noneText, absentText, refusedText, titleText, placesIn, places, decimal, signedDecimal, hexText, byteText, nameByte, nameText, wordText, gapText, partText, entryText, countText, stateText, sectionText, headText, pointerText, platText, valueByte, valueText, fieldText, fieldsText, listingOf}
+use Rattle.text_lines.specs.Text.{newline, space, dash, zeroX, manifestText, readAsText, platformText, noneText, absentText, refusedText, titleText, placesIn, places, decimal, signedDecimal, hexText, byteText, nameByte, nameText, wordText, gapText, partText, entryText, countText, stateText, sectionText, headText, pointerText, platText, valueByte, valueText, fieldText, fieldsText, listingOf}
 
 -- "example 4's bank on a 0.2 page": one bank, and no section after it
 abbrev sections : ℕ → Shown

@@ -16,7 +16,7 @@ use Rattle.fields.specs.Fields.{Field, mkField, Scanned, broken, ended, bare, s
 use Rattle.fields.proofs.Scans.{never, step-ended, part-length}
 use Rattle.fields.proofs.Rules.{listed, judged-passed}
 use Rattle.sections.specs.Page.{inPage, foundAt}
-use Rattle.text.specs.Text.{newline, space, decimal, byteText, valueByte, valueText, fieldText, fieldsText, withdrawnText}
+use Rattle.text_lines.specs.Text.{newline, space, decimal, byteText, valueByte, valueText, fieldText, fieldsText, withdrawnText}
 use Rattle.words.specs.Tests.{Yes}
 use Rattle.words.proofs.Tests.{both-l, both-r}
 use Rattle.text.proofs.Lengths.{digits-length, decimal-most}

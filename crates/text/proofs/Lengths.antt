@@ -11,7 +11,7 @@ use borrow.Author.Tests.{lt-ltb, le-ltb}
 use Rattle.io.specs.Digits.{digits}
 use Rattle.words.specs.Word.{leBytes}
 use Rattle.words.proofs.Lists.{joined-length}
-use Rattle.text.specs.Text.{zeroX, placesIn, places, decimal, hexText, byteText, nameByte, nameText}
+use Rattle.text_lines.specs.Text.{zeroX, placesIn, places, decimal, hexText, byteText, nameByte, nameText}
 
 pub digits-length : (b k n : ℕ) → length (digits b k n) ≡ k
 digits-length b zero n = refl

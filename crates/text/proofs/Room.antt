@@ -24,8 +24,8 @@ use Rattle.sections.proofs.Spans.{addedUp}
 use Rattle.sections.proofs.Room.{array-lies, spanLength, arrays-fit}
 use Rattle.fields.specs.Fields.{fieldsIn, taken, shownFields}
 use Rattle.reader.specs.Answer.{Shown, empty, full, ReaderAnswer, refused, minus, shownSec, shown, platShown, allShown, readerGate, judge, readOf, bytesIn, entryWord, entryCount}
-use Rattle.text.specs.Text.{lay, newline, space, dash, manifestText, readAsText, platformText, noneText, absentText, refusedText, titleText, placesIn, places, decimal, signedDecimal, hexText, nameText, wordText, gapText, partText, entryText, countText, stateText, sectionText, headText, pointerText, platText, fieldsText, listingOf, printed, listingRoom}
-use Rattle.text.proofs.Lay.{lay-whole}
+use Rattle.text_lines.specs.Text.{lay, newline, space, dash, manifestText, readAsText, platformText, noneText, absentText, refusedText, titleText, placesIn, places, decimal, signedDecimal, hexText, nameText, wordText, gapText, partText, entryText, countText, stateText, sectionText, headText, pointerText, platText, fieldsText, listingOf, printed, listingRoom}
+use Rattle.text_lines.proofs.Lay.{lay-whole}
 use Rattle.text.proofs.Lengths.{decimal-most, hex-length, name-length}
 use Rattle.text.proofs.FieldRoom.{found-text}
 

@@ -1,113 +1,27 @@
 // The listing's text, laid into a lent slice as far as it fits. Each step puts a part of it at an offset, and answers where the
 // next part goes, which may be past the slice's end: so the last one answers how long the text is, whether or not it fits.
-use fields::FieldPlace;
 use reader::Reading;
 use reader::Refusal;
 use reader::Section;
 use reader::View;
-ghost use Prim.Native.Nat.{_+_, _<_, min};
-ghost use mathlib.Core.Path.{_≡_};
 ghost use Rattle.reader.specs.Answer.{readOf, refused};
 ghost use Rattle.reader.specs.Reading.{refusalNumber, shownAs, readingAnswer};
-ghost use Rattle.text.specs.Text.{newline, decimal, hexText, byteText, nameText, wordText, gapText, entryText, countText};
-ghost use Rattle.text.specs.Text.{stateText, titleText, sectionText, headText, pointerText, platText, valueText, fieldText, fieldsText, listingOf, printed};
-ghost use Rattle.fields.specs.Fields.{raw};
 ghost use Rattle.field_lookup.specs.Fields.{shownFrom};
 ghost use Rattle.words.specs.Word.{joined};
-ghost use Rattle.text.specs.Steps.{placeText, lastOffset, LaidOver, Listed, seen, refusalOf};
-
-// The offset n bytes on; the largest number stands for all that lie past it. No text reaches so far, but a step does not know that.
-fn past(at: usize, n: usize) -> usize
-    ensures { λ r. ⌜ r ≡ min (at + n) lastOffset ⌝ }
-{
-    if 0xFFFF_FFFF_FFFF_FFFF - at < n {
-        return 0xFFFF_FFFF_FFFF_FFFF;
-    }
-    at + n
-}
-
-// Any bytes.
-fn put(out: &mut [u8], at: usize, text: &[u8]) -> usize
-    ensures { λ r. ⌜ LaidOver at (now (text .entry)) (now (out .entry)) r (now (out .exit)) ⌝ }
-{
-    let from = words::smaller(at as u64, out.len() as u64) as usize;
-    let n = words::smaller(text.len() as u64, (out.len() - from) as u64) as usize;
-    for i in 0..n {
-        out[at + i] = text[i];
-    }
-    past(at, text.len())
-}
-
-// A number in decimal.
-fn put_decimal(out: &mut [u8], at: usize, n: u64) -> usize
-    ensures { λ r. ⌜ LaidOver at (decimal n) (now (out .entry)) r (now (out .exit)) ⌝ }
-{
-    let mut digits = [0u8; 20];
-    let k = io::decimal(n, &mut digits);
-    put(out, at, &digits[..k])
-}
-
-// A word: 0x and 16 digits.
-fn put_hex(out: &mut [u8], at: usize, w: u64) -> usize
-    ensures { λ r. ⌜ LaidOver at (hexText w) (now (out .entry)) r (now (out .exit)) ⌝ }
-{
-    let mut digits = [0u8; 16];
-    let k = io::hex(w, 16, &mut digits);
-    let to = put(out, at, b"0x");
-    put(out, to, &digits[..k])
-}
-
-// A byte: two digits.
-fn put_byte(out: &mut [u8], at: usize, b: u64) -> usize
-    requires { ⌜ b < 256 ⌝ }
-    ensures { λ r. ⌜ LaidOver at (byteText b) (now (out .entry)) r (now (out .exit)) ⌝ }
-{
-    let mut digits = [0u8; 16];
-    let k = io::hex(b, 2, &mut digits);
-    put(out, at, &digits[..k])
-}
-
-// A console's name: its 8 bytes in order.
-fn put_name(out: &mut [u8], at: usize, w: u64) -> usize
-    ensures { λ r. ⌜ LaidOver at (nameText w) (now (out .entry)) r (now (out .exit)) ⌝ }
-{
-    let mut to = at;
-    let mut rest = w;
-    for i in 0..8usize {
-        to = put_byte(out, to, rest % 256);
-        rest /= 256;
-    }
-    to
-}
+ghost use Rattle.text_lines.specs.Text.{wordText, entryText, countText, stateText, titleText, sectionText, headText, pointerText, platText, fieldsText, listingOf, printed};
+ghost use Rattle.text_lines.specs.Steps.{LaidOver, Listed, seen, refusalOf};
 
 // Word j of an entry of section k.
 fn put_word(out: &mut [u8], at: usize, k: usize, j: usize, w: u64) -> usize
     ensures { λ r. ⌜ LaidOver at (wordText k j w) (now (out .entry)) r (now (out .exit)) ⌝ }
 {
     if k != 1 {
-        return put_hex(out, at, w);
+        return text_lines::put_hex(out, at, w);
     }
     if j != 2 {
-        return put_hex(out, at, w);
+        return text_lines::put_hex(out, at, w);
     }
-    put_name(out, at, w)
-}
-
-// The space before word j of an entry; none before the first.
-fn put_gap(out: &mut [u8], at: usize, j: usize) -> usize
-    ensures { λ r. ⌜ LaidOver at (gapText j) (now (out .entry)) r (now (out .exit)) ⌝ }
-{
-    if j == 0 {
-        return at;
-    }
-    put(out, at, b" ")
-}
-
-// The end of a line.
-fn put_end(out: &mut [u8], at: usize) -> usize
-    ensures { λ r. ⌜ LaidOver at newline (now (out .entry)) r (now (out .exit)) ⌝ }
-{
-    put(out, at, b"\n")
+    text_lines::put_name(out, at, w)
 }
 
 // Entry i of a section k, on a page of that minor: its words, and the end of the line. This and what it is a part of take the section,
@@ -126,11 +40,11 @@ fn put_entry(
     let n = entries::entry_words(k);
     let mut to = at;
     for j in 0..n {
-        to = put_gap(out, to, j);
+        to = text_lines::put_gap(out, to, j);
         let w = lookup::word_in(page, minor, section, k, i, j);
         to = put_word(out, to, k, j, w);
     }
-    put_end(out, to)
+    text_lines::put_end(out, to)
 }
 
 // The first n entries of a section k, on a page of that minor.
@@ -164,8 +78,8 @@ fn put_count(
     ensures { λ r. ⌜ LaidOver at (countText k (shownAs minor k section (now (page .entry)))) (now (out .entry)) r (now (out .exit)) ⌝ }
 {
     let n = lookup::count_in(page, section, k);
-    let to = put_decimal(out, at, n as u64);
-    let to = put_end(out, to);
+    let to = text_lines::put_decimal(out, at, n as u64);
+    let to = text_lines::put_end(out, to);
     put_entries(out, to, page, minor, section, k, n)
 }
 
@@ -181,7 +95,7 @@ fn put_state(
     ensures { λ r. ⌜ LaidOver at (stateText k (shownAs minor k section (now (page .entry)))) (now (out .entry)) r (now (out .exit)) ⌝ }
 {
     match section {
-        Section::Absent => put(out, at, b"absent\n"),
+        Section::Absent => text_lines::put(out, at, b"absent\n"),
         _ => put_count(out, at, page, minor, section, k),
     }
 }
@@ -191,10 +105,10 @@ fn put_title(out: &mut [u8], at: usize, k: usize) -> usize
     ensures { λ r. ⌜ LaidOver at (titleText k) (now (out .entry)) r (now (out .exit)) ⌝ }
 {
     match k {
-        0 => put(out, at, b"dram"),
-        1 => put(out, at, b"console"),
-        2 => put(out, at, b"ncoh"),
-        _ => put(out, at, b"coh"),
+        0 => text_lines::put(out, at, b"dram"),
+        1 => text_lines::put(out, at, b"console"),
+        2 => text_lines::put(out, at, b"ncoh"),
+        _ => text_lines::put(out, at, b"coh"),
     }
 }
 
@@ -210,7 +124,7 @@ fn put_section(
     ensures { λ r. ⌜ LaidOver at (sectionText (λ i. shownAs minor i section (now (page .entry))) k) (now (out .entry)) r (now (out .exit)) ⌝ }
 {
     let to = put_title(out, at, k);
-    let to = put(out, to, b" ");
+    let to = text_lines::put(out, to, b" ");
     put_state(out, to, page, minor, section, k)
 }
 
@@ -230,11 +144,11 @@ fn put_sections(out: &mut [u8], at: usize, page: &[u8], view: View) -> usize
 fn put_head(out: &mut [u8], at: usize, minor: u64, edition: u64) -> usize
     ensures { λ r. ⌜ LaidOver at (headText minor edition) (now (out .entry)) r (now (out .exit)) ⌝ }
 {
-    let to = put(out, at, b"manifest 0.");
-    let to = put_decimal(out, to, minor);
-    let to = put(out, to, b" read as ");
-    let to = put_decimal(out, to, edition);
-    put_end(out, to)
+    let to = text_lines::put(out, at, b"manifest 0.");
+    let to = text_lines::put_decimal(out, to, minor);
+    let to = text_lines::put(out, to, b" read as ");
+    let to = text_lines::put_decimal(out, to, edition);
+    text_lines::put_end(out, to)
 }
 
 // The platform pointer, or that there is none.
@@ -242,54 +156,18 @@ fn put_pointer(out: &mut [u8], at: usize, plat: u64) -> usize
     ensures { λ r. ⌜ LaidOver at (pointerText plat) (now (out .entry)) r (now (out .exit)) ⌝ }
 {
     if plat == 0 {
-        return put(out, at, b"none");
+        return text_lines::put(out, at, b"none");
     }
-    put_hex(out, at, plat)
+    text_lines::put_hex(out, at, plat)
 }
 
 // The second line.
 fn put_plat(out: &mut [u8], at: usize, plat: u64) -> usize
     ensures { λ r. ⌜ LaidOver at (platText plat) (now (out .entry)) r (now (out .exit)) ⌝ }
 {
-    let to = put(out, at, b"platform ");
+    let to = text_lines::put(out, at, b"platform ");
     let to = put_pointer(out, to, plat);
-    put_end(out, to)
-}
-
-// The bytes of a value, each after a space.
-fn put_value(out: &mut [u8], at: usize, value: &[u8]) -> usize
-    ensures { λ r. ⌜ LaidOver at (valueText (now (value .entry))) (now (out .entry)) r (now (out .exit)) ⌝ }
-{
-    let n = value.len();
-    let mut to = at;
-    for i in 0..n {
-        to = put_gap(out, to, 1);
-        let b = value[i] as u64;
-        to = put_byte(out, to, b);
-    }
-    to
-}
-
-// A field that is shown with its value: its tag, the length of the value and the value's bytes.
-fn put_raw(out: &mut [u8], at: usize, tag: u8, value: &[u8]) -> usize
-    ensures { λ r. ⌜ LaidOver at (fieldText (raw tag (now (value .entry)))) (now (out .entry)) r (now (out .exit)) ⌝ }
-{
-    let to = put_decimal(out, at, tag as u64);
-    let to = put(out, to, b" ");
-    let to = put_decimal(out, to, value.len() as u64);
-    let to = put_value(out, to, value);
-    put_end(out, to)
-}
-
-// A field at a place, with its value; nothing where there is no field.
-fn put_field(out: &mut [u8], at: usize, field: FieldPlace, value: &[u8]) -> usize
-    ensures { λ r. ⌜ LaidOver at (placeText field (now (value .entry))) (now (out .entry)) r (now (out .exit)) ⌝ }
-{
-    match field {
-        FieldPlace::Raw { tag, at: _, len: _ } => put_raw(out, at, tag, value),
-        FieldPlace::Withdrawn => put(out, at, b"3 withdrawn\n"),
-        FieldPlace::Nothing => at,
-    }
+    text_lines::put_end(out, to)
 }
 
 // The fields from a cursor on.
@@ -305,7 +183,7 @@ fn put_fields(out: &mut [u8], at: usize, page: &[u8], start: usize) -> usize
             return to;
         }
         let value = field_lookup::value_of(page, field);
-        to = put_field(out, to, field, value);
+        to = field_text::put_field(out, to, field, value);
         cursor = step.next;
     }
 }
@@ -326,9 +204,9 @@ fn put_code(out: &mut [u8], code: Refusal) -> usize
     ensures { λ r. ⌜ LaidOver 0 (listingOf (refused (refusalNumber code))) (now (out .entry)) r (now (out .exit)) ⌝ }
 {
     match code {
-        Refusal::Place => put(out, 0, b"refused -5\n"),
-        Refusal::Version => put(out, 0, b"refused -6\n"),
-        Refusal::Rules => put(out, 0, b"refused -7\n"),
+        Refusal::Place => text_lines::put(out, 0, b"refused -5\n"),
+        Refusal::Version => text_lines::put(out, 0, b"refused -6\n"),
+        Refusal::Rules => text_lines::put(out, 0, b"refused -7\n"),
     }
 }
 

@@ -1,9 +1,9 @@
 use mathlib.Core.Path.{sym, ap, _∙_}
 use lib.ListN.{length}
 use lib.Seq.{length-take-le}
-use Rattle.text.specs.Text.{printed}
-use Rattle.text.proofs.Lay.{listed-whole}
-use Rattle.text.proofs.Parts.{input-start}
+use Rattle.text_lines.specs.Text.{printed}
+use Rattle.text_lines.proofs.Lay.{listed-whole}
+use Rattle.text_lines.proofs.Parts.{input-start}
 use borrow.Author.Needs.{needs}
 use Rattle.listing.proofs.show.Statement.{statement}
 use Rattle.listing.proofs.show.Tie as tie

@@ -1,6 +1,6 @@
-use Rattle.text.proofs.Lay.{wrote-same, listed}
+use Rattle.text_lines.proofs.Lay.{wrote-same, listed}
 use Rattle.text.proofs.Room.{listing-fits}
-use Rattle.text.proofs.Parts.{list-refused, list-accepted}
+use Rattle.text_lines.proofs.Parts.{list-refused, list-accepted}
 use borrow.Author.Needs.{needs}
 use native.Mathlib.Omega.{arith}
 use Rattle.text.proofs.list.Statement.{statement}

@@ -1,7 +1,7 @@
 use mathlib.Core.Path.{refl}
-use Rattle.text.proofs.Lay.{wrote-same, listed}
+use Rattle.text_lines.proofs.Lay.{wrote-same, listed}
 use Rattle.text.proofs.Room.{printed-fits}
-use Rattle.text.proofs.Parts.{input-refused, input-read}
+use Rattle.text_lines.proofs.Parts.{input-refused, input-read}
 use borrow.Author.Needs.{needs}
 use native.Mathlib.Omega.{arith}
 use Rattle.text.proofs.list_input.Statement.{statement}

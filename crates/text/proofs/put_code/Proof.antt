@@ -1,4 +1,4 @@
-use Rattle.text.specs.Text.{listingOf, refusedText, signedDecimal, dash, decimal, places, placesIn, newline}
+use Rattle.text_lines.specs.Text.{listingOf, refusedText, signedDecimal, dash, decimal, places, placesIn, newline}
 use borrow.Author.Needs.{needs}
 use Rattle.text.proofs.put_code.Statement.{statement}
 use Rattle.text.proofs.put_code.Tie as tie

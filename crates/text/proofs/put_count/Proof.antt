@@ -2,8 +2,8 @@ use mathlib.Core.Path.{_≡_, _∙_}
 use Rattle.reader.specs.Answer.{entryCount}
 use Rattle.reader.specs.Reading.{shownAs}
 use Rattle.lookup.proofs.Lookups.{count-shown}
-use Rattle.text.specs.Text.{countText}
-use Rattle.text.proofs.Lay.{wrote-then}
+use Rattle.text_lines.specs.Text.{countText}
+use Rattle.text_lines.proofs.Lay.{wrote-then}
 use borrow.Author.Needs.{needs}
 use Rattle.text.proofs.put_count.Statement.{statement}
 use Rattle.text.proofs.put_count.Tie as tie

@@ -1,10 +1,10 @@
 use Prim.Native.Nat.{_-_, _≤_}
 use mathlib.Core.Path.{_≡_}
 use Rattle.reader.specs.Reading.{shownAs}
-use Rattle.text.specs.Text.{entryText}
+use Rattle.text_lines.specs.Text.{entryText}
 use Rattle.words.specs.Word.{joined}
-use Rattle.text.specs.Steps.{LaidOver}
-use Rattle.text.proofs.Lay.{wrote-none, wrote-more}
+use Rattle.text_lines.specs.Steps.{LaidOver}
+use Rattle.text_lines.proofs.Lay.{wrote-none, wrote-more}
 use borrow.Author.Needs.{needs}
 use native.Mathlib.Omega.{arith}
 use Rattle.text.proofs.put_entries.Statement.{statement}

@@ -3,11 +3,11 @@ use mathlib.Core.Path.{_≡_, ap}
 use Rattle.entries.specs.Entry.{wordsPerEntry}
 use Rattle.reader.specs.Answer.{entryWord}
 use Rattle.reader.specs.Reading.{shownAs}
-use Rattle.text.specs.Text.{wordText, partText, entryText}
+use Rattle.text_lines.specs.Text.{wordText, partText, entryText}
 use Rattle.words.specs.Word.{joined}
-use Rattle.text.specs.Steps.{LaidOver}
-use Rattle.text.proofs.Lay.{wrote-none, wrote-then, wrote-same, wrote-more}
-use Rattle.text.proofs.Parts.{word-shown}
+use Rattle.text_lines.specs.Steps.{LaidOver}
+use Rattle.text_lines.proofs.Lay.{wrote-none, wrote-then, wrote-same, wrote-more}
+use Rattle.text_lines.proofs.Parts.{word-shown}
 use borrow.Author.Needs.{needs}
 use native.Mathlib.Omega.{arith}
 use Rattle.text.proofs.put_entry.Statement.{statement}

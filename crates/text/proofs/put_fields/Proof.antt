@@ -5,10 +5,10 @@ use lib.ListN.{length}
 use Rattle.field_lookup.specs.Fields.{isNothing, shownFrom}
 use Rattle.fields.specs.declared.FieldStep.{FieldStep}
 use Rattle.field_lookup.proofs.Fields.{step-none, step-less}
-use Rattle.text.specs.Text.{fieldsText}
-use Rattle.text.specs.Steps.{lastOffset, LaidOver}
-use Rattle.text.proofs.Lay.{wrote-none, wrote-then, wrote-same}
-use Rattle.text.proofs.Parts.{fields-step}
+use Rattle.text_lines.specs.Text.{fieldsText}
+use Rattle.text_lines.specs.Steps.{lastOffset, LaidOver}
+use Rattle.text_lines.proofs.Lay.{wrote-none, wrote-then, wrote-same}
+use Rattle.text_lines.proofs.Parts.{fields-step}
 use borrow.Author.Needs.{needs}
 use native.Mathlib.Omega.{arith}
 use Rattle.text.proofs.put_fields.Statement.{statement}

@@ -1,5 +1,5 @@
-use Rattle.text.specs.Text.{headText, manifestText, readAsText}
-use Rattle.text.proofs.Lay.{wrote-then}
+use Rattle.text_lines.specs.Text.{headText, manifestText, readAsText}
+use Rattle.text_lines.proofs.Lay.{wrote-then}
 use borrow.Author.Needs.{needs}
 use Rattle.text.proofs.put_head.Statement.{statement}
 use Rattle.text.proofs.put_head.Tie as tie

@@ -1,5 +1,5 @@
-use Rattle.text.specs.Text.{platText, platformText}
-use Rattle.text.proofs.Lay.{wrote-then}
+use Rattle.text_lines.specs.Text.{platText, platformText}
+use Rattle.text_lines.proofs.Lay.{wrote-then}
 use borrow.Author.Needs.{needs}
 use Rattle.text.proofs.put_plat.Statement.{statement}
 use Rattle.text.proofs.put_plat.Tie as tie

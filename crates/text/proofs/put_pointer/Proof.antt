@@ -1,6 +1,6 @@
-use Rattle.text.specs.Text.{noneText}
-use Rattle.text.proofs.Lay.{wrote-same}
-use Rattle.text.proofs.Parts.{pointer-none, pointer-some}
+use Rattle.text_lines.specs.Text.{noneText}
+use Rattle.text_lines.proofs.Lay.{wrote-same}
+use Rattle.text_lines.proofs.Parts.{pointer-none, pointer-some}
 use borrow.Author.Needs.{needs}
 use Rattle.text.proofs.put_pointer.Statement.{statement}
 use Rattle.text.proofs.put_pointer.Tie as tie

@@ -1,5 +1,5 @@
-use Rattle.text.specs.Steps.{refusalOf}
-use Rattle.text.proofs.Lay.{wrote-none}
+use Rattle.text_lines.specs.Steps.{refusalOf}
+use Rattle.text_lines.proofs.Lay.{wrote-none}
 use borrow.Author.Needs.{needs}
 use Rattle.text.proofs.put_refused.Statement.{statement}
 use Rattle.text.proofs.put_refused.Tie as tie

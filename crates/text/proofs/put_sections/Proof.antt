@@ -1,10 +1,10 @@
 use Prim.Native.Nat.{_-_, _≤_}
 use mathlib.Core.Path.{_≡_}
-use Rattle.text.specs.Text.{sectionText}
+use Rattle.text_lines.specs.Text.{sectionText}
 use Rattle.words.specs.Word.{joined}
-use Rattle.text.specs.Steps.{LaidOver, seen}
-use Rattle.text.proofs.Lay.{wrote-none, wrote-same, wrote-more}
-use Rattle.text.proofs.Parts.{section-seen}
+use Rattle.text_lines.specs.Steps.{LaidOver, seen}
+use Rattle.text_lines.proofs.Lay.{wrote-none, wrote-same, wrote-more}
+use Rattle.text_lines.proofs.Parts.{section-seen}
 use borrow.Author.Needs.{needs}
 use native.Mathlib.Omega.{arith}
 use Rattle.text.proofs.put_sections.Statement.{statement}

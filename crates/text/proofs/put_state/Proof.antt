@@ -1,6 +1,6 @@
-use Rattle.text.specs.Text.{absentText, newline}
-use Rattle.text.proofs.Lay.{wrote-same}
-use Rattle.text.proofs.Parts.{state-absent, count-other}
+use Rattle.text_lines.specs.Text.{absentText, newline}
+use Rattle.text_lines.proofs.Lay.{wrote-same}
+use Rattle.text_lines.proofs.Parts.{state-absent, count-other}
 use borrow.Author.Needs.{needs}
 use Rattle.text.proofs.put_state.Statement.{statement}
 use Rattle.text.proofs.put_state.Tie as tie

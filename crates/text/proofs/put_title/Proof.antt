@@ -1,7 +1,7 @@
 use mathlib.Core.Path.{_≡_}
-use Rattle.text.specs.Text.{titleText}
-use Rattle.text.proofs.Lay.{wrote-same}
-use Rattle.text.proofs.Parts.{title-last}
+use Rattle.text_lines.specs.Text.{titleText}
+use Rattle.text_lines.proofs.Lay.{wrote-same}
+use Rattle.text_lines.proofs.Parts.{title-last}
 use borrow.Author.Needs.{needs}
 use native.Mathlib.Omega.{arith}
 use Rattle.text.proofs.put_title.Statement.{statement}

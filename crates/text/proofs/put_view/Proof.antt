@@ -1,9 +1,9 @@
 use mathlib.Core.Path.{ap}
 use Rattle.reader.specs.Answer.{fieldsShown}
 use Rattle.reader.specs.Reading.{readingAnswer}
-use Rattle.text.specs.Text.{fieldsText, listingOf}
-use Rattle.text.specs.Steps.{seen}
-use Rattle.text.proofs.Lay.{wrote-then, wrote-same}
+use Rattle.text_lines.specs.Text.{fieldsText, listingOf}
+use Rattle.text_lines.specs.Steps.{seen}
+use Rattle.text_lines.proofs.Lay.{wrote-then, wrote-same}
 use borrow.Author.Needs.{needs}
 use Rattle.text.proofs.put_view.Statement.{statement}
 use Rattle.text.proofs.put_view.Tie as tie

@@ -1,5 +1,5 @@
-use Rattle.text.proofs.Lay.{wrote-same}
-use Rattle.text.proofs.Parts.{word-other, word-plain, word-name}
+use Rattle.text_lines.proofs.Lay.{wrote-same}
+use Rattle.text_lines.proofs.Parts.{word-other, word-plain, word-name}
 use borrow.Author.Needs.{needs}
 use Rattle.text.proofs.put_word.Statement.{statement}
 use Rattle.text.proofs.put_word.Tie as tie

@@ -1,8 +1,8 @@
-use Rattle.text.proofs.Lay.{wrote-same}
-use Rattle.text.proofs.Numbers.{decimal-put}
+use Rattle.text_lines.proofs.Lay.{wrote-same}
+use Rattle.text_lines.proofs.Numbers.{decimal-put}
 use borrow.Author.Needs.{needs}
-use Rattle.text.proofs.put_decimal.Statement.{statement}
-use Rattle.text.proofs.put_decimal.Tie as tie
+use Rattle.text_lines.proofs.put_decimal.Statement.{statement}
+use Rattle.text_lines.proofs.put_decimal.Tie as tie
 
 decimal-requires : tie.Need-decimal-requires
 decimal-requires c κs = search needs

@@ -11,7 +11,7 @@ use Rattle.reader.specs.declared.Reading.the-variants.{Accepted, Refused}
 use Rattle.fields.specs.Fields.{raw, withdrawn}
 use Rattle.fields.specs.declared.FieldPlace.{FieldPlace}
 use Rattle.fields.specs.declared.FieldPlace.the-variants.{Raw, Withdrawn, Nothing}
-use Rattle.text.specs.Text.{lay, fieldText, listingOf, listingRoom}
+use Rattle.text_lines.specs.Text.{lay, fieldText, listingOf, listingRoom}
 
 -- the largest offset, which stands for all that lie past it
 abbrev pub lastOffset : ℕ

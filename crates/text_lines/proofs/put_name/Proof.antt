@@ -1,14 +1,14 @@
 use Prim.Native.Nat.{_/_, _^_, _-_, _≤_}
 use mathlib.Core.Path.{_≡_}
-use Rattle.text.specs.Text.{nameByte, nameText}
+use Rattle.text_lines.specs.Text.{nameByte, nameText}
 use Rattle.words.specs.Word.{joined}
-use Rattle.text.specs.Steps.{LaidOver}
-use Rattle.text.proofs.Lay.{wrote-none, wrote-same, wrote-more}
-use Rattle.text.proofs.Numbers.{name-byte, name-rest, name-all}
+use Rattle.text_lines.specs.Steps.{LaidOver}
+use Rattle.text_lines.proofs.Lay.{wrote-none, wrote-same, wrote-more}
+use Rattle.text_lines.proofs.Numbers.{name-byte, name-rest, name-all}
 use borrow.Author.Needs.{needs}
 use native.Mathlib.Omega.{arith}
-use Rattle.text.proofs.put_name.Statement.{statement}
-use Rattle.text.proofs.put_name.Tie as tie
+use Rattle.text_lines.proofs.put_name.Statement.{statement}
+use Rattle.text_lines.proofs.put_name.Tie as tie
 
 abbrev Inv-loop : tie.InvT-loop
 Inv-loop out₀ at w to₀ rest₀ i₀ out to rest i = (i ≤ 8) × (rest ≡ w / 256 ^ i) × LaidOver at (joined i (nameByte w)) out₀ to out
@@ -19,6 +19,9 @@ abbrev μ-loop : tie.MeasureT-loop
 loop-holds : tie.Need-loop-holds Inv-loop μ-loop
 unfolding joined
 loop-holds c = let a = c .before .args in (search needs, name-all (a .w), wrote-none (a .at) (a .out .now) (search needs))
+
+cast-put-byte : tie.Need-cast-put-byte Inv-loop μ-loop
+cast-put-byte c = search needs
 
 put-byte-requires : tie.Need-put-byte-requires Inv-loop μ-loop
 put-byte-requires c κs = search needs
@@ -52,6 +55,7 @@ put-name-spec =
     Inv-loop
     μ-loop
     loop-holds
+    cast-put-byte
     put-byte-requires
     add-i
     loop-less

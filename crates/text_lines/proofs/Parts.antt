@@ -33,8 +33,8 @@ use Rattle.fields.specs.declared.FieldPlace.{FieldPlace}
 use Rattle.fields.specs.declared.FieldPlace.the-variants.{Raw, Withdrawn, Nothing}
 use Rattle.fields.specs.declared.FieldStep.{FieldStep}
 use Rattle.field_lookup.proofs.Fields.{placeShown, step-some, step-first}
-use Rattle.text.specs.Text.{newline, space, noneText, absentText, titleText, hexText, nameText, wordText, gapText, countText, stateText, sectionText, pointerText, fieldText, fieldsText, listingOf, printed}
-use Rattle.text.specs.Steps.{seen, placeText, refusalOf}
+use Rattle.text_lines.specs.Text.{newline, space, noneText, absentText, titleText, hexText, nameText, wordText, gapText, countText, stateText, sectionText, pointerText, fieldText, fieldsText, listingOf, printed}
+use Rattle.text_lines.specs.Steps.{seen, placeText, refusalOf}
 
 -- ---- the space before a word
 pub gap-none : (j : ℕ) → j ≡ 0 → [] ≡ gapText j

@@ -1,9 +1,9 @@
-use Rattle.text.specs.Text.{space}
-use Rattle.text.proofs.Lay.{wrote-same, wrote-none}
-use Rattle.text.proofs.Parts.{gap-none, gap-more}
+use Rattle.text_lines.specs.Text.{space}
+use Rattle.text_lines.proofs.Lay.{wrote-same, wrote-none}
+use Rattle.text_lines.proofs.Parts.{gap-none, gap-more}
 use borrow.Author.Needs.{needs}
-use Rattle.text.proofs.put_gap.Statement.{statement}
-use Rattle.text.proofs.put_gap.Tie as tie
+use Rattle.text_lines.proofs.put_gap.Statement.{statement}
+use Rattle.text_lines.proofs.put_gap.Tie as tie
 
 returns : tie.Need-returns
 returns c = let a = c .before .before .args in wrote-same (gap-none (a .j) (search needs)) (wrote-none (a .at) (a .out .now) (search needs))

@@ -2,13 +2,13 @@ use Prim.Native.Nat.{_-_, _≤_}
 use mathlib.Core.Path.{_≡_}
 use lib.ListN.{length}
 use Rattle.words.specs.Word.{joined}
-use Rattle.text.specs.Text.{space, gapText, valueByte, valueText}
-use Rattle.text.specs.Steps.{LaidOver}
-use Rattle.text.proofs.Lay.{wrote-none, wrote-then, wrote-more}
+use Rattle.text_lines.specs.Text.{space, gapText, valueByte, valueText}
+use Rattle.text_lines.specs.Steps.{LaidOver}
+use Rattle.text_lines.proofs.Lay.{wrote-none, wrote-then, wrote-more}
 use borrow.Author.Needs.{needs}
 use native.Mathlib.Omega.{arith}
-use Rattle.text.proofs.put_value.Statement.{statement}
-use Rattle.text.proofs.put_value.Tie as tie
+use Rattle.text_lines.proofs.put_value.Statement.{statement}
+use Rattle.text_lines.proofs.put_value.Tie as tie
 
 abbrev Inv-loop : tie.InvT-loop
 Inv-loop out₀ at value n to₀ i₀ out to i = (i ≤ n) × LaidOver at (joined i (valueByte value)) out₀ to out
@@ -23,14 +23,11 @@ loop-holds c = let a = c .before .before .args in (search needs, wrote-none (a .
 put-gap-requires : tie.Need-put-gap-requires Inv-loop μ-loop
 put-gap-requires c κs = search needs
 
-shared-slice-read-b : tie.Need-shared-slice-read-b Inv-loop μ-loop
-shared-slice-read-b c = search needs
-
-cast-b : tie.Need-cast-b Inv-loop μ-loop
-cast-b c = omega (arith, c .before .before .before .before .before .before .before .shared-slice-known .given (c .before .before .before .before .before .before .loop .i))
+shared-slice-read-put-byte : tie.Need-shared-slice-read-put-byte Inv-loop μ-loop
+shared-slice-read-put-byte c = search needs
 
 put-byte-requires : tie.Need-put-byte-requires Inv-loop μ-loop
-put-byte-requires c κs = omega (arith, c .before .before .before .before .before .before .before .before .shared-slice-known .given (c .before .before .before .before .before .before .before .loop .i))
+put-byte-requires c κs = search needs
 
 add-i : tie.Need-add-i Inv-loop μ-loop
 add-i c = search needs
@@ -63,8 +60,7 @@ put-value-spec =
     μ-loop
     loop-holds
     put-gap-requires
-    shared-slice-read-b
-    cast-b
+    shared-slice-read-put-byte
     put-byte-requires
     add-i
     loop-less

@@ -1,7 +1,7 @@
-use Rattle.text.specs.Text.{newline}
+use Rattle.text_lines.specs.Text.{newline}
 use borrow.Author.Needs.{needs}
-use Rattle.text.proofs.put_end.Statement.{statement}
-use Rattle.text.proofs.put_end.Tie as tie
+use Rattle.text_lines.proofs.put_end.Statement.{statement}
+use Rattle.text_lines.proofs.put_end.Tie as tie
 
 slice-aggregate-put : tie.Need-slice-aggregate-put
 slice-aggregate-put c = search needs

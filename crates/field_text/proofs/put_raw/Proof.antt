@@ -1,8 +1,8 @@
-use Rattle.text.specs.Text.{space, fieldText}
-use Rattle.text.proofs.Lay.{wrote-then}
+use Rattle.text_lines.specs.Text.{space, fieldText}
+use Rattle.text_lines.proofs.Lay.{wrote-then}
 use borrow.Author.Needs.{needs}
-use Rattle.text.proofs.put_raw.Statement.{statement}
-use Rattle.text.proofs.put_raw.Tie as tie
+use Rattle.field_text.proofs.put_raw.Statement.{statement}
+use Rattle.field_text.proofs.put_raw.Tie as tie
 
 put-decimal-requires : tie.Need-put-decimal-requires
 put-decimal-requires c κs = search needs

@@ -12,7 +12,7 @@ use lib.ListN.{take, getD}
 use borrow.Author.Tests.{lt-ltb, le-ltb}
 use Rattle.io.specs.Digits.{digits, Fewest}
 use Rattle.words.specs.Word.{leBytes}
-use Rattle.text.specs.Text.{placesIn, places, decimal, byteText, nameByte}
+use Rattle.text_lines.specs.Text.{placesIn, places, decimal, byteText, nameByte}
 
 -- ---- decimal numbers
 -- ten to the power of one or more

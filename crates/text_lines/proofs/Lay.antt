@@ -8,9 +8,9 @@ use native.Mathlib.Decide.{decLt}
 use native.Mathlib.Omega.{arith}
 use lib.ListN.{length, take, drop, set, getD, length-append, length-take, length-drop, take-append-drop, drop-of-length-le}
 use lib.Seq.{length-take-le, take-nil, take-all, take-at, drop-at, drop-drop, take-take, take-suc, set-split, take-append-le, take-append-add, append-snoc}
-use Rattle.text.specs.Text.{lay, listingRoom}
+use Rattle.text_lines.specs.Text.{lay, listingRoom}
 use Rattle.words.specs.Word.{joined}
-use Rattle.text.specs.Steps.{lastOffset, LaidOver, Listed}
+use Rattle.text_lines.specs.Steps.{lastOffset, LaidOver, Listed}
 
 pub length-lay : (at : ℕ) (vs s : List ℕ) → length (lay at vs s) ≡ length s
 unfolding lay

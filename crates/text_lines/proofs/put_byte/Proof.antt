@@ -1,10 +1,10 @@
-use Rattle.text.specs.Text.{byteText}
-use Rattle.text.proofs.Lay.{wrote-same}
-use Rattle.text.proofs.Numbers.{hex-put}
+use Rattle.text_lines.specs.Text.{byteText}
+use Rattle.text_lines.proofs.Lay.{wrote-same}
+use Rattle.text_lines.proofs.Numbers.{hex-put}
 use borrow.Author.Needs.{needs}
 use native.Mathlib.Omega.{arith}
-use Rattle.text.proofs.put_byte.Statement.{statement}
-use Rattle.text.proofs.put_byte.Tie as tie
+use Rattle.text_lines.proofs.put_byte.Statement.{statement}
+use Rattle.text_lines.proofs.put_byte.Tie as tie
 
 hex-requires : tie.Need-hex-requires
 hex-requires c κs = search needs

@@ -1,9 +1,9 @@
-use Rattle.text.specs.Text.{newline, withdrawnText, fieldText}
-use Rattle.text.specs.Steps.{placeText}
-use Rattle.text.proofs.Lay.{wrote-none}
+use Rattle.text_lines.specs.Text.{newline, withdrawnText, fieldText}
+use Rattle.text_lines.specs.Steps.{placeText}
+use Rattle.text_lines.proofs.Lay.{wrote-none}
 use borrow.Author.Needs.{needs}
-use Rattle.text.proofs.put_field.Statement.{statement}
-use Rattle.text.proofs.put_field.Tie as tie
+use Rattle.field_text.proofs.put_field.Statement.{statement}
+use Rattle.field_text.proofs.put_field.Tie as tie
 
 enum-known-field : tie.Need-enum-known-field
 enum-known-field c = search needs

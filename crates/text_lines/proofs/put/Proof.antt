@@ -1,12 +1,12 @@
 use Prim.Native.Nat.{_-_, _≤_}
 use mathlib.Core.Path.{_≡_, refl, sym}
 use lib.ListN.{length, take, length-set}
-use Rattle.text.specs.Text.{lay}
-use Rattle.text.proofs.Lay.{lay-none, lay-more, wrote-put}
+use Rattle.text_lines.specs.Text.{lay}
+use Rattle.text_lines.proofs.Lay.{lay-none, lay-more, wrote-put}
 use borrow.Author.Needs.{needs}
 use native.Mathlib.Omega.{arith}
-use Rattle.text.proofs.put.Statement.{statement}
-use Rattle.text.proofs.put.Tie as tie
+use Rattle.text_lines.proofs.put.Statement.{statement}
+use Rattle.text_lines.proofs.put.Tie as tie
 
 abbrev Inv-loop : tie.InvT-loop
 Inv-loop out₀ at text from n i₀ out i = (i ≤ n) × (length out ≡ length out₀) × (out ≡ lay at (take i text) out₀)
