@@ -404,7 +404,7 @@ extern "C" {
  *                                  (no end mark in the page, tag 0 with a length, a length that tags 1 to 3 may not have, one of
  *                                  these twice) or share a byte with an array
  * Leaves   the page as it was. view: what the page shows; refused: all zero.
- * Stack    352 bytes; AArch64 256
+ * Stack    352 bytes; AArch64 288
  * A later minor is never refused. Sections after e are not read, nor what stands behind the end mark. Fields belong to every edition.
  */
 PBEAM_NONNULL(5)
@@ -416,7 +416,7 @@ int32_t pbeam_read(const uint8_t *page, size_t page_len, uint64_t base, uint64_t
  * Answers  nothing. place: the part of the page that holds the array; (0, 0) where the page is refused, the section absent or empty,
  *          or its number above 3. pbeam_read says why a page is refused.
  * Leaves   the page as it was.
- * Stack    512 bytes; AArch64 272
+ * Stack    512 bytes; AArch64 304
  */
 PBEAM_NONNULL(6)
 void pbeam_array(const uint8_t *page, size_t page_len, uint64_t base, uint64_t edition, size_t section,
@@ -552,7 +552,7 @@ uint64_t pbeam_kept_for(const uint8_t *page, size_t page_len, const uint64_t vie
  * Leaves   the page as it was. text: ASCII from its first byte on, each line ended by '\n', with no '\0' behind it; as much as fits. What
  *          is behind the text stays as it was. Of a page that is refused the text is one line, "refused -5", "refused -6" or
  *          "refused -7", with the code of pbeam_read.
- * Stack    832 bytes; AArch64 864
+ * Stack    832 bytes; AArch64 896
  * A field is its tag and the length of its value in decimal, and each byte of the value as two lower-case hex digits, parted by blanks; the
  * withdrawn one is "3 withdrawn".
  * A word is written as 0x and 16 lower-case hex digits, a console's name as its 8 bytes in order, 16 such digits without 0x; the flags of a
@@ -598,7 +598,7 @@ uint32_t pbeam_write(uint64_t base, uint64_t edition, const uint64_t *dram, size
  *          PBEAM_MANIFEST_PLACE    K above 4,096
  *          PBEAM_MANIFEST_PLACE, PBEAM_MANIFEST_VERSION, PBEAM_MANIFEST_RULES  as pbeam_read
  * Leaves   the page as it was. state: up, with x2, B, the agreed minor and K; refused: closed, for good.
- * Stack    416 bytes; AArch64 240
+ * Stack    416 bytes; AArch64 272
  * The view is not kept. With K = 0 read the page with pbeam_read before a command writes into it. K need not cover the manifest; with K =
  * 4,096 every buffer is outside.
  */
@@ -749,7 +749,7 @@ uint64_t pbeam_realm_next(const uint64_t granules[PBEAM_GRANULES_WORDS], const u
  * Takes    the granule record, the granule table and the words.
  * Answers  PBEAM_X0_OK where they agree, PBEAM_REALM_DIFFER where they do not, or PBEAM_X0_INVAL, also for a table of another length than
  *          the record's granules.
- * Stack    96 bytes; AArch64 0
+ * Stack    160 bytes; AArch64 64
  */
 PBEAM_NONNULL(1)
 uint64_t pbeam_realm_agrees(const uint64_t granules[PBEAM_GRANULES_WORDS], const uint8_t *table, size_t table_len, const uint64_t *words,
@@ -760,7 +760,7 @@ uint64_t pbeam_realm_agrees(const uint64_t granules[PBEAM_GRANULES_WORDS], const
  * Takes    the granule record, the granule table and the words.
  * Answers  PBEAM_X0_OK, or PBEAM_X0_INVAL, also for a table of another length than the record's granules.
  * Leaves   on OK the words of the table, spare bits 0. With PBEAM_X0_INVAL the words as they were.
- * Stack    96 bytes; AArch64 0
+ * Stack    160 bytes; AArch64 64
  */
 PBEAM_NONNULL(1)
 uint64_t pbeam_realm_build(const uint64_t granules[PBEAM_GRANULES_WORDS], const uint8_t *table, size_t table_len, uint64_t *words,
@@ -775,7 +775,7 @@ uint64_t pbeam_realm_build(const uint64_t granules[PBEAM_GRANULES_WORDS], const 
  *          PBEAM_X0_INVAL     too long; curve not PBEAM_CURVE_SECP384R1
  *          PBEAM_X0_UNK       key empty, or longer than size
  * Leaves   on OK the key's bytes at pa, and every other byte of the page as it was. Refused, the page as it was.
- * Stack    128 bytes; AArch64 0
+ * Stack    128 bytes; AArch64 64
  */
 PBEAM_NONNULL(1, 9)
 void pbeam_realm_key(const uint64_t state[PBEAM_STATE_WORDS], uint8_t *page, size_t page_len, const uint8_t *key, size_t key_len,
@@ -795,7 +795,7 @@ void pbeam_realm_key(const uint64_t state[PBEAM_STATE_WORDS], uint8_t *page, siz
  *          PBEAM_X0_UNK       token empty, or with c_size 0 of another length than at the start
  * Leaves   on OK the hunk, the token's next bytes, at pa, and every other byte of the page as it was. session: idle after rest 0,
  *          else sending. Refused, page and session as they were.
- * Stack    256 bytes; AArch64 64
+ * Stack    256 bytes; AArch64 144
  * The hunk is written over the challenge: call pbeam_challenge first. Size 0 with c_size 0 in a session is OK and moves nothing.
  */
 PBEAM_NONNULL(1, 2, 11)
@@ -848,7 +848,7 @@ void pbeam_features(const uint64_t state[PBEAM_STATE_WORDS], uint64_t index, uin
  * Leaves   on OK: push: the request at the end of those that wait, the page as it was; pull: the oldest response at pa, and dropped
  *          from the queue; key: the key at pa, the queue as it was. Bytes of the page behind what is
  *          written stay as they were. Refused, page and queue as they were.
- * Stack    352 bytes; AArch64 400
+ * Stack    352 bytes; AArch64 576
  */
 PBEAM_NONNULL(1, 2, 11)
 void pbeam_token_signing(const uint64_t state[PBEAM_STATE_WORDS], uint64_t queue[PBEAM_QUEUE_WORDS], uint8_t *page, size_t page_len,
@@ -928,7 +928,7 @@ size_t pbeam_responses(const uint64_t queue[PBEAM_QUEUE_WORDS]);
  *          before that, by PBEAM_ID_DELEGATE and PBEAM_ID_UNDELEGATE alone: no other id looks at the words.
  * Leaves   what the command leaves; all else as it was. Only PBEAM_ID_PLATFORM_TOKEN reads or writes the session, only
  *          PBEAM_ID_TOKEN_SIGNING the queue.
- * Stack    544 bytes with PBEAM_ID_TOKEN_SIGNING, 480 bytes with any other id; AArch64 432
+ * Stack    544 bytes with PBEAM_ID_TOKEN_SIGNING, 480 bytes with any other id; AArch64 656
  */
 PBEAM_NONNULL(1, 2, 3, 6, 19, 20, 21)
 void pbeam_call(const uint64_t state[PBEAM_STATE_WORDS], uint64_t session[PBEAM_SESSION_WORDS], uint64_t queue[PBEAM_QUEUE_WORDS],

@@ -61,7 +61,7 @@ extern "C" {
  *          PBEAM_PACK_W1_TARGET    target not 4,096 bytes long
  * Leaves   the page as it was. target: the page that pbeam_write makes at the page's own minor, of the entries that are shown and of the
  *          fields in page order, less the withdrawn one; so with plat_data 0 where no other field is left. Refused, it stays as it was.
- * Stack    224 bytes; AArch64 240
+ * Stack    224 bytes; AArch64 256
  * A reader of any edition shows the same of both, but plat_data, the withdrawn field and where the arrays lie; packing the target once
  * more changes no byte (proved).
  */

@@ -93,7 +93,7 @@ extern "C" {
  *          PBEAM_TPM_SESSION_OPEN, also if it was open before.
  *          accepted close: the memory as it was; *r4 is 0; *session is PBEAM_TPM_SESSION_NONE, also if there was none.
  *          refused: the memory and *session as they were, whatever number that is; *r4 is 0.
- * Stack    192 bytes; AArch64 0
+ * Stack    192 bytes; AArch64 80
  */
 int64_t pbeam_tpm_comm(uint64_t *session, uint64_t operation, uint64_t in_buffer, uint64_t in_size, uint64_t out_buffer,
                        uint64_t out_size, uint8_t *memory, size_t memory_len, const uint8_t *response, size_t response_len,

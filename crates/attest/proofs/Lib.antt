@@ -1,2 +1,4 @@
 pub mod Keys
 pub mod Acts
+pub mod Unread
+pub mod Reasons

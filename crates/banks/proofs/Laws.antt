@@ -17,15 +17,15 @@ use Rattle.entries.specs.Entry.{bankOk}
 use Rattle.codes.specs.declared.Code.the-variants.{Ok}
 use Rattle.banks.specs.declared.Granule.{Granule}
 use Rattle.banks.specs.declared.Granule.the-variants.{Nothing, At}
-use Rattle.banks.specs.Banks.{Granules, Bank, banksBy, bankAt, bankCount, banksOf, ascend, banksOk, recordOk, follows, total, granuleCount, holds, indexIn, placeIn, orElse, placeAmong, bankPlace, granuleAt, addressIn, addressOf, singleRange, reachIn, onlyCount, onlyPlace, onlyBank, onlyAt, setUpCode, setUpOf}
+use Rattle.banks.specs.Banks.{Granules, Bank, banksBy, bankAt, bankCount, banksOf, ascend, banksOk, recordOk, follows, total, granuleCount, holds, indexIn, placeIn, orElse, placeAmong, bankPlace, granuleAt, addressIn, addressOf, singleRange, setUpCode, setUpOf}
 use Rattle.banks.proofs.Making.{banks-some, made-one, made-good}
-use Rattle.banks.proofs.Passing.{Follows, follows-is, or-nothing, reach-place}
+use Rattle.banks.proofs.Passing.{Follows, follows-is, or-nothing}
 
 -- ---- how an answer came about
 pub nowhere : (i : ℕ) → Nothing ≡ At i → ⊥
 nowhere i h = let z : _≡_ {A = ℕ} 0 1 = cc in omega arith
 
-or-cases : (b : Bool) (p i : ℕ) (r : Granule) {P : Type 0} → (Yes b → p ≡ i → P) → (r ≡ At i → P) → orElse (cond b (At p) Nothing) r ≡ At i → P
+pub or-cases : (b : Bool) (p i : ℕ) (r : Granule) {P : Type 0} → (Yes b → p ≡ i → P) → (r ≡ At i → P) → orElse (cond b (At p) Nothing) r ≡ At i → P
 unfolding orElse
 or-cases true p i r f g h = f refl (cc)
 or-cases false p i r f g h = g h
@@ -44,7 +44,7 @@ pub ok-ascends : (g : Granules) → Yes (recordOk g) → Yes (ascend 0 (banksOf 
 unfolding recordOk banksOk
 ok-ascends g k = both-r _ _ (both-r _ _ k)
 
-ok-granules : (g : Granules) → Yes (recordOk g) → granuleCount g ≡ total (banksOf g)
+pub ok-granules : (g : Granules) → Yes (recordOk g) → granuleCount g ≡ total (banksOf g)
 unfolding granuleCount
 ok-granules g k = rw k
 
@@ -135,7 +135,7 @@ record Named (low before : ℕ) (bs : List Bank) (i : ℕ) : Type 0 where
   from : low ≤ addressIn bs i
   place : placeAmong before bs (addressIn bs i) ≡ At (before + i)
 
-in-bank : (before base size addr : ℕ) (r : Granule) → base ≤ addr → addr < base + size → orElse (placeIn before base size addr) r ≡ At (indexIn before base addr)
+pub in-bank : (before base size addr : ℕ) (r : Granule) → base ≤ addr → addr < base + size → orElse (placeIn before base size addr) r ≡ At (indexIn before base addr)
 unfolding orElse placeIn holds both
 in-bank before base size addr r p q = simp (le-leb base addr p, lt-ltb addr (base + size) q)
 
@@ -221,15 +221,15 @@ unfolding banksBy
 only-bank g one = rw one
 
 module _ (g : Granules) (one : bankCount g ≡ 1) (ok : Yes (recordOk g)) where
-  only-follows : Follows 0 (getD g 1 0) (getD g 2 0)
+  pub only-follows : Follows 0 (getD g 1 0) (getD g 2 0)
   unfolding ascend
   only-follows = let a : Yes (ascend 0 (bankAt g 0 ∷ [])) = rw (only-bank g one) at (ok-ascends g ok) in follows-is 0 (getD g 1 0) (getD g 2 0) (both-l _ _ a)
 
-  only-granules : granuleCount g ≡ getD g 2 0 / 4096
+  pub only-granules : granuleCount g ≡ getD g 2 0 / 4096
   unfolding granuleCount total
   only-granules = rw (ok, only-bank g one) (omega arith)
 
-  only-place : (addr : ℕ) → bankPlace g addr ≡ placeIn 0 (getD g 1 0) (getD g 2 0) addr
+  pub only-place : (addr : ℕ) → bankPlace g addr ≡ placeIn 0 (getD g 1 0) (getD g 2 0) addr
   unfolding bankPlace placeAmong
   only-place addr = rw (ok, only-bank g one) (or-nothing _)
 
@@ -243,55 +243,15 @@ module _ (g : Granules) (one : bankCount g ≡ 1) (ok : Yes (recordOk g)) where
       go true e = rw (holds-same (getD g 1 0) (getD g 2 0) addr only-follows (eqb-true _ _ e), zero-add)
       go false e = refl
 
--- what a pass over one bank tells
 both-true : (b : Bool) → both b true ≡ b
 unfolding both
 both-true true = refl
 both-true false = refl
 
 module _ (g : Granules) (one : bankCount g ≡ 1) where
-  only-ok : recordOk g ≡ bankOk (getD g 1 0) (getD g 2 0)
+  pub only-ok : recordOk g ≡ bankOk (getD g 1 0) (getD g 2 0)
   unfolding recordOk banksOk ascend follows both
   only-ok = rw (only-bank g one, one, le-leb 0 (getD g 1 0) (omega arith)) (both-true (bankOk (getD g 1 0) (getD g 2 0)))
-
-  pub only-count : onlyCount (getD g 1 0) (getD g 2 0) ≡ granuleCount g
-  unfolding onlyCount granuleCount
-  only-count = go (bankOk (getD g 1 0) (getD g 2 0)) refl
-    where
-      go : (k : Bool) → bankOk (getD g 1 0) (getD g 2 0) ≡ k → cond k (getD g 2 0 / 4096) 0 ≡ cond (recordOk g) (total (banksOf g)) 0
-      go true e = sym (only-granules g one (only-ok ∙ e))
-      go false e = rw (only-ok ∙ e)
-
-  pub only-pass-place : (addr : ℕ) → onlyPlace (getD g 1 0) (getD g 2 0) addr ≡ bankPlace g addr
-  unfolding onlyPlace bankPlace
-  only-pass-place addr = go (bankOk (getD g 1 0) (getD g 2 0)) refl
-    where
-      go : (k : Bool) → bankOk (getD g 1 0) (getD g 2 0) ≡ k → cond k (reachIn 0 (getD g 1 0) (getD g 2 0) addr) Nothing ≡ cond (recordOk g) (placeAmong 0 (banksOf g) addr) Nothing
-      go true e =
-          let ok = only-ok ∙ e in
-          let f = only-follows g one ok in
-          rw (reach-place 0 (getD g 1 0) (getD g 2 0) addr (omega (arith, f .ends))) (sym (only-place g one ok addr))
-      go false e = rw (only-ok ∙ e)
-
--- of a record that is known to have one good bank of n granules
-module _ (g : Granules) (n : ℕ) (h : Yes (onlyBank g n)) where
-  bank-one : bankCount g ≡ 1
-  unfolding onlyBank
-  bank-one = eqb-true (bankCount g) 1 (both-l _ _ h)
-
-  bank-good : Yes (bankOk (getD g 1 0) (getD g 2 0))
-  unfolding onlyBank
-  bank-good = both-r _ _ (both-r _ _ h)
-
-  pub bank-granules : granuleCount g ≡ n
-  unfolding onlyBank
-  bank-granules = only-granules g bank-one (only-ok g bank-one ∙ bank-good) ∙ eqb-true (getD g 2 0 / 4096) n (both-l _ _ (both-r _ _ h))
-
-  pub bank-granule : (addr : ℕ) → onlyAt (getD g 1 0) (getD g 2 0) addr ≡ granuleAt g n addr
-  unfolding onlyAt granuleAt onlyPlace
-  bank-granule addr =
-      let p : reachIn 0 (getD g 1 0) (getD g 2 0) addr ≡ bankPlace g addr = rw bank-good at (only-pass-place g bank-one addr) in
-      rw (p, bank-granules, eq-eqb n n refl, both-true (eqb (addr % 4096) 0))
 
 -- of a record that the set-up made of one bank, in a table of the length that it was made for
 pub one-bank-made : (shown : List ℕ) (n : ℕ) (g : Granules) → length shown ≡ 16 → setUpCode shown n ≡ Ok → (addr : ℕ) → granuleAt (setUpOf shown n g .granules) n addr ≡ singleRange (wordAt 0 shown) n addr

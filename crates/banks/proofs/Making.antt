@@ -31,7 +31,7 @@ fill-more n i shown h =
     rw (add-one, e, f, wordsOf-suc, append-assoc) (ap (λ l. n ∷ l) (set-at (wordsOf i shown) 0 (replicate (31 - i) 0) (wordAt (8 * i) shown) i (wordsOf-length i shown)))
 
 -- ---- the banks of the record made
-word-in : (n i : ℕ) (shown : List ℕ) → i < 2 * n → getD (recordFrom n shown) (suc i) 0 ≡ wordAt (8 * i) shown
+pub word-in : (n i : ℕ) (shown : List ℕ) → i < 2 * n → getD (recordFrom n shown) (suc i) 0 ≡ wordAt (8 * i) shown
 unfolding recordPart
 word-in n i shown h = List·getD-append (wordsOf (2 * n) shown) (replicate (32 - 2 * n) 0) 0 i (rw (wordsOf-length (2 * n) shown) h) ∙ wordsOf-at (2 * n) shown i h
 
@@ -48,7 +48,7 @@ bank-made n shown j h =
     let e : 8 * (2 * j + 1) ≡ 16 * j + 8 = omega arith in
     rw (a, b, word-in n (2 * j) shown (omega arith), word-in n (2 * j + 1) shown (omega arith), d, e)
 
-count-made : (n : ℕ) (shown : List ℕ) → bankCount (recordFrom n shown) ≡ n
+pub count-made : (n : ℕ) (shown : List ℕ) → bankCount (recordFrom n shown) ≡ n
 unfolding recordPart
 count-made n shown = refl
 

@@ -1,6 +1,6 @@
 -- The granule record of several banks. 02, E2: "The granule record shall hold the banks, not one start address; the table is the
 -- banks' granules joined in bank order. An address in a hole is not a granule address." Assumes nothing.
-use Prim.Native.Nat.{ℕ, zero, suc, _+_, _-_, _*_, _/_, _%_, _^_}
+use Prim.Native.Nat.{ℕ, zero, suc, _+_, _-_, _*_, _/_, _%_}
 use mathlib.Core.Bool.{Bool, true, cond}
 use mathlib.Core.List.{List, [], _∷_, _++_}
 use lib.ListN.{length, getD, replicate}
@@ -67,11 +67,8 @@ unfoldable pub holds : ℕ → ℕ → ℕ → Bool
 holds base size addr = both (leb base addr) (ltb addr (base + size))
 
 -- in one bank, behind the granules of the banks before: "the table is the banks' granules joined in bank order"
-abbrev pub indexBy : ℕ → ℕ → ℕ
-indexBy before offset = before + offset / 4096
-
 abbrev pub indexIn : ℕ → ℕ → ℕ → ℕ
-indexIn before base addr = indexBy before (addr - base)
+indexIn before base addr = before + (addr - base) / 4096
 
 unfoldable pub placeIn : ℕ → ℕ → ℕ → ℕ → Granule
 placeIn before base size addr = cond (holds base size addr) (At (indexIn before base addr)) Nothing
@@ -109,32 +106,6 @@ addressOf g i = addressIn (banksOf g) i
 -- the address falls on a granule of the table."
 abbrev pub singleRange : ℕ → ℕ → ℕ → Granule
 singleRange start n addr = cond (both (eqb (start % 4096) 0) (both (eqb (addr % 4096) 0) (both (leb start addr) (ltb ((addr - start) / 4096) n)))) (At ((addr - start) / 4096)) Nothing
-
--- ---- the same as the code finds it
--- by one comparison in 64 bits, where an address below base is far behind the bank: for a bank that meets the reader's rule it is `placeIn`
-unfoldable pub distance : ℕ → ℕ → ℕ
-distance base addr = cond (leb base addr) (addr - base) (addr + 2 ^ 64 - base)
-
-unfoldable pub reachIn : ℕ → ℕ → ℕ → ℕ → Granule
-reachIn before base size addr = cond (ltb (distance base addr) size) (At (indexBy before (distance base addr))) Nothing
-
--- a granule as a word: all ones for none
-unfoldable pub placedAt : ℕ → Granule
-placedAt p = cond (eqb p 0xFFFFFFFFFFFFFFFF) Nothing (At p)
-
--- of a record with one bank
-unfoldable pub onlyCount : ℕ → ℕ → ℕ
-onlyCount base size = cond (bankOk base size) (size / 4096) 0
-
-unfoldable pub onlyPlace : ℕ → ℕ → ℕ → Granule
-onlyPlace base size addr = cond (bankOk base size) (reachIn 0 base size addr) Nothing
-
--- whether a record has one bank, which meets the reader's rule and has n granules; and the granule of an address in it
-unfoldable pub onlyBank : Granules → ℕ → Bool
-onlyBank g n = both (eqb (bankCount g) 1) (both (eqb (getD g 2 0 / 4096) n) (bankOk (getD g 1 0) (getD g 2 0)))
-
-unfoldable pub onlyAt : ℕ → ℕ → ℕ → Granule
-onlyAt base size addr = cond (eqb (addr % 4096) 0) (reachIn 0 base size addr) Nothing
 
 -- ---- the set-up
 -- bank i of the banks that the reader shows, by the bytes of the array lookup: 16 bytes a bank, base and size

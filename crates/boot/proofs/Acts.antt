@@ -9,8 +9,8 @@ use lib.IntN.{ℤ, pos}
 use borrow.Author.Tests.{le-leb, lt-ltb, leb-true, ltb-true}
 use Rattle.versions.specs.Version.{minorOf, agreed}
 use Rattle.versions.proofs.Versions.{version-minor, version-of}
-use Rattle.reader.specs.Answer.{Shown, PlatShown, shows, minus, readOf}
-use Rattle.boot.specs.Boot.{codeIn, isFresh, coldGate, coldCode, after, paramsOf, coldNext, cpuCode, warmCode, warmNext}
+use Rattle.reader.specs.Answer.{Shown, PlatShown, shows, minus, codeIn, readOf}
+use Rattle.boot.specs.Boot.{isFresh, coldGate, coldCode, after, paramsOf, coldNext, cpuCode, warmCode, warmNext}
 use Rattle.boot.specs.Acts.{WarmPassed}
 use Rattle.boot.specs.declared.Params.{Params}
 use Rattle.boot.specs.declared.Record.{Record}

@@ -6,14 +6,14 @@ use mathlib.Core.List.{List}
 use lib.IntN.{pos}
 use borrow.Author.Tests.{lt-leb, le-leb, lt-ltb, le-ltb}
 use Rattle.versions.specs.Version.{versionOk}
-use Rattle.reader.specs.Answer.{minus}
+use Rattle.reader.specs.Answer.{minus, codeIn}
 use Rattle.reader.specs.Reading.{refusalNumber, readingAnswer, readingOf}
 use Rattle.reader.specs.declared.View.{View}
 use Rattle.reader.specs.declared.Refusal.{Refusal}
 use Rattle.reader.specs.declared.Refusal.the-variants.{Place, Version as BadVersion, Rules}
 use Rattle.reader.specs.declared.Reading.the-variants.{Accepted, Refused}
 use Rattle.reader.proofs.Whole.{reading-answer}
-use Rattle.boot.specs.Boot.{codeIn, isFresh, coldGate, coldCode, after, paramsOf, coldNext, cpuCode}
+use Rattle.boot.specs.Boot.{isFresh, coldGate, coldCode, after, paramsOf, coldNext, cpuCode}
 use Rattle.boot.specs.declared.Record.{Record}
 use Rattle.boot.specs.declared.Record.the-variants.{Up, Closed}
 

@@ -7,10 +7,8 @@ use mathlib.Core.List.{List}
 use lib.Dec.{leb, ltb}
 use lib.IntN.{ℤ, pos, negsuc}
 use Rattle.versions.specs.Version.{versionOk, agreed}
-use Rattle.reader.specs.Answer.{ReaderAnswer, refused, shows, minus, readOf}
+use Rattle.reader.specs.Answer.{minus, codeIn, readOf}
 use Rattle.reader.specs.Reading.{refusalNumber}
-use Rattle.reader.specs.declared.Verdict.{Verdict}
-use Rattle.reader.specs.declared.Verdict.the-variants.{Fine, Refused}
 use Rattle.boot.specs.declared.Params.{Params}
 use Rattle.boot.specs.declared.Record.{Record}
 use Rattle.boot.specs.declared.Record.the-variants.{Fresh, Up, Closed}
@@ -25,16 +23,6 @@ bootNumber Version = minus 2
 bootNumber Cpus = minus 3
 bootNumber Cpu = minus 4
 bootNumber (Manifest c) = refusalNumber c
-
--- the code of a reader's answer
-unfoldable pub codeIn : ReaderAnswer → ℤ
-codeIn (refused c) = c
-codeIn (shows w e q s) = pos 0
-
--- the same of the reader's verdict
-unfoldable pub numberIn : Verdict → ℤ
-numberIn (Refused c) = refusalNumber c
-numberIn (Fine w) = pos 0
 
 unfoldable pub isFresh : Record → Bool
 isFresh Fresh = true

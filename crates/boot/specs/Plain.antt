@@ -5,8 +5,8 @@ use mathlib.Core.List.{List}
 use lib.Dec.{leb, ltb}
 use lib.IntN.{ℤ}
 use Rattle.versions.specs.Version.{versionOk}
-use Rattle.reader.specs.Answer.{minus, readOf}
-use Rattle.boot.specs.Boot.{codeIn, isFresh}
+use Rattle.reader.specs.Answer.{minus, codeIn, readOf}
+use Rattle.boot.specs.Boot.{isFresh}
 use Rattle.boot.specs.declared.Record.{Record}
 
 -- "in this order of checks": -1, -2, -3, -4, then the page's own code

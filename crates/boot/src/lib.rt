@@ -1,7 +1,8 @@
 // Cold and warm boot: the monitor checks the boot registers and the manifest, and keeps a record of the outcome.
 use reader::Verdict;
 ghost use mathlib.Core.Path.{_≡_};
-ghost use Rattle.boot.specs.Boot.{bootNumber, numberIn, isFresh, coldCode, coldNext, after, cpuCode, warmCode, warmNext};
+ghost use Rattle.reader.specs.Reading.{numberIn};
+ghost use Rattle.boot.specs.Boot.{bootNumber, isFresh, coldCode, coldNext, after, cpuCode, warmCode, warmNext};
 
 // What a record that is up keeps of its cold boot: x2, the base B, the agreed interface minor, and the number K of kept bytes at the
 // start of the page, which no runtime command writes.

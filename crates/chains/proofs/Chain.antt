@@ -27,7 +27,7 @@ use Rattle.signing.specs.declared.Opcode.{Opcode}
 use Rattle.signing.proofs.Signings.{signing-by}
 use Rattle.runtime.specs.declared.Kind.{Kind}
 use Rattle.runtime.specs.declared.Kind.the-variants.{ForwardError, Delegate, Undelegate, RealmKey, PlatformToken, Features, TokenSigning, KeyUpdate, Unlisted}
-use Rattle.runtime.specs.Step.{Call, Step, kindOf, afterMove, afterKey, afterToken, afterSigning, afterUpdate, callBy, callOf, replyCode, needsOf}
+use Rattle.runtime.specs.Step.{Call, Step, kindOf, afterMove, afterKey, afterToken, afterSigning, afterUpdate, callBy, callOf, replyCode}
 use Rattle.images.specs.Image.{recordOf, isSet, sessionOf, sessionWords}
 use Rattle.images.proofs.Inverse.{session-back}
 use Rattle.queue_image.specs.Image.{listsIn, areBytes}
@@ -97,8 +97,8 @@ module _ (g : Granules) (session queue page table words : List ℕ) (c : Call) w
   by : Kind → Step
   by k = callBy k g (worldIn session queue page table words) c
 
-  session-by : (k : Kind) → sessionOf (sessionLeft (needsOf k) (replyCode (by k .reply)) (by k .next .session) session) ≡ by k .next .session
-  unfolding by needsOf sessionLeft tokenLeft callBy afterMove afterKey afterToken afterSigning afterUpdate replyCode
+  session-by : (k : Kind) → sessionOf (sessionLeft k (replyCode (by k .reply)) (by k .next .session) session) ≡ by k .next .session
+  unfolding by sessionLeft tokenLeft callBy afterMove afterKey afterToken afterSigning afterUpdate replyCode
   session-by ForwardError = refl
   session-by Delegate = refl
   session-by Undelegate = refl
@@ -110,8 +110,8 @@ module _ (g : Granules) (session queue page table words : List ℕ) (c : Call) w
   session-by Unlisted = refl
 
   queue-by : length queue ≡ 210 → Yes (areWords queue) → Yes (areBytes page) → (k : Kind) →
-      Becomes queue (queueLeft (needsOf k) (replyCode (by k .reply)) (signingDone (c .state) page queue (c .x1) (c .x2) (c .x3)) queue) (by k .next .queue)
-  unfolding by needsOf queueLeft signingOn imageStep callBy afterMove afterKey afterToken afterSigning afterUpdate replyCode
+      Becomes queue (queueLeft k (replyCode (by k .reply)) (signingDone (c .state) page queue (c .x1) (c .x2) (c .x3)) queue) (by k .next .queue)
+  unfolding by queueLeft signingOn imageStep callBy afterMove afterKey afterToken afterSigning afterUpdate replyCode
   queue-by l w a ForwardError = as-it-was queue l w
   queue-by l w a Delegate = as-it-was queue l w
   queue-by l w a Undelegate = as-it-was queue l w

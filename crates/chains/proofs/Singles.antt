@@ -8,7 +8,7 @@ use Rattle.words.specs.Tests.{Yes}
 use Rattle.words.specs.Word.{areWords}
 use Rattle.runtime.specs.declared.Kind.{Kind}
 use Rattle.runtime.specs.declared.Kind.the-variants.{ForwardError, Delegate, Undelegate, RealmKey, PlatformToken, Features, TokenSigning, KeyUpdate, Unlisted}
-use Rattle.runtime.specs.Step.{kindOf, afterMove, afterKey, afterToken, afterSigning, afterUpdate, callBy, callOf, replyCode, needsOf}
+use Rattle.runtime.specs.Step.{kindOf, afterMove, afterKey, afterToken, afterSigning, afterUpdate, callBy, callOf, replyCode}
 use Rattle.runtime.specs.Run.{worldAfter}
 use Rattle.images.specs.Image.{workWords, replyRegisters, replyWords}
 use Rattle.signing.specs.OnImage.{signingOn}
@@ -23,7 +23,7 @@ module _ (granules : List ℕ) (m : Lent) where
   -- a call by the kind of its id
   dispatched-by : (k : Kind) (state x : List ℕ) (busy : ℕ) (key token public : List ℕ) (width : ℕ) → kindOf (getD x 0 0) ≡ k →
       callIn granules (m .session) (m .queue) (m .page) (m .table) (m .words) (callLent state x busy key token public width) ≡ exportLeft granules m (exportFor k state x busy key token public width)
-  unfolding exportFor exportLeft callIn callLent callLeft callOf callBy needsOf afterMove afterKey afterToken afterSigning afterUpdate sessionLeft queueLeft replyRegisters replyWords workWords replyCode moveIn moveLeft tokenIn tokenLeft signingIn signingLeft signingOn imageStep
+  unfolding exportFor exportLeft callIn callLent callLeft callOf callBy afterMove afterKey afterToken afterSigning afterUpdate sessionLeft queueLeft replyRegisters replyWords workWords replyCode moveIn moveLeft tokenIn tokenLeft signingIn signingLeft signingOn imageStep
   dispatched-by ForwardError state x busy key token public width e = rw e
   dispatched-by Delegate state x busy key token public width e = rw e
   dispatched-by Undelegate state x busy key token public width e = rw e

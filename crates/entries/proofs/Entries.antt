@@ -15,7 +15,6 @@ use Rattle.words.specs.Word.{part, wordAt, wordsOf}
 use Rattle.words.proofs.Read.{wordsOf-at, wordsOf-suc, num-part}
 use Rattle.entries.specs.Entry.{wordsPerEntry, size, entryOk, entriesOk, sum, checkOk}
 use Rattle.entries.specs.Array.{wordsAt, soundOf, entryAt, entryPlace, entriesAt, sumAt}
-use Rattle.entries.specs.Gathered.{lastOf}
 
 -- ---- words in an entry
 pub per-one : wordsPerEntry 1 ≡ 6
@@ -73,14 +72,14 @@ module _ (k at i count : ℕ) (page : List ℕ) (h : i < count) where
   unfolding entryOk entryAt
   entry-same w = let p = per-range k .0 in rw (first-in, word-in 1 (omega arith), word-in (wordsPerEntry k - 1) (omega arith))
 
-entries-same : (w k at count : ℕ) (page : List ℕ) → entriesOk w k count (wordsAt k count at page) ≡ entriesAt w k at count page
+pub entries-same : (w k at count : ℕ) (page : List ℕ) → entriesOk w k count (wordsAt k count at page) ≡ entriesAt w k at count page
 unfolding entriesOk entriesAt
 entries-same w k at count page =
     every-same count (λ i. entryOk w k (wordsAt k count at page) (wordsPerEntry k * i)) (λ i. entryAt w k (entryPlace k at i) page)
     (λ i h. entry-same k at i count page h w)
 
 -- ---- the sum of an array's words
-sum-words : (k at count : ℕ) (page : List ℕ) → sumAt at (wordsPerEntry k * count) page ≡ sum (wordsAt k count at page)
+pub sum-words : (k at count : ℕ) (page : List ℕ) → sumAt at (wordsPerEntry k * count) page ≡ sum (wordsAt k count at page)
 unfolding sumAt wordsAt size
 sum-words k at count page = refl
 
@@ -96,12 +95,12 @@ sum-step page at off i m acc w r h o e f g =
     let k : w ≡ wordAt (at + 8 * i) page = rw o at f in
     rw (add-one, wordsOf-suc, sum-snoc, num-part 8 at m (8 * i) page (omega arith), ← k) (omega arith)
 
--- two words more
-sum-two : (page : List ℕ) (at off i m acc x y t r : ℕ) → 16 * (i + 1) ≤ m → off ≡ at + 16 * i → acc ≡ sum (wordsOf (2 * i) (part at m page)) % 2 ^ 64 →
-    x ≡ wordAt off page → y ≡ wordAt (off + 8) page → t ≡ (x + y) % 2 ^ 64 → r ≡ (acc + t) % 2 ^ 64 → r ≡ sum (wordsOf (2 * (i + 1)) (part at m page)) % 2 ^ 64
-sum-two page at off i m acc x y t r h o e f g u v =
-    let one : (acc + x) % 2 ^ 64 ≡ sum (wordsOf (2 * i + 1) (part at m page)) % 2 ^ 64 = sum-step page at off (2 * i) m acc x ((acc + x) % 2 ^ 64) (omega arith) (omega arith) e f refl in
-    let two : r ≡ sum (wordsOf (2 * i + 1 + 1) (part at m page)) % 2 ^ 64 = sum-step page at (off + 8) (2 * i + 1) m ((acc + x) % 2 ^ 64) y r (omega arith) (omega arith) one g (omega arith) in
+-- one bank more
+pub sum-bank : (page : List ℕ) (at off i m acc x y t r : ℕ) → 16 * (i + 1) ≤ m → off ≡ at + 16 * i → acc ≡ sum (wordsOf (2 * i) (part at m page)) % 2 ^ 64 →
+    x ≡ wordAt off page → y ≡ wordAt (off + 8) page → t ≡ (acc + x) % 2 ^ 64 → r ≡ (t + y) % 2 ^ 64 → r ≡ sum (wordsOf (2 * (i + 1)) (part at m page)) % 2 ^ 64
+sum-bank page at off i m acc x y t r h o e f g u v =
+    let one : t ≡ sum (wordsOf (2 * i + 1) (part at m page)) % 2 ^ 64 = sum-step page at off (2 * i) m acc x t (omega arith) (omega arith) e f u in
+    let two : r ≡ sum (wordsOf (2 * i + 1 + 1) (part at m page)) % 2 ^ 64 = sum-step page at (off + 8) (2 * i + 1) m t y r (omega arith) (omega arith) one g v in
     two ∙ ap (λ n. sum (wordsOf n (part at m page)) % 2 ^ 64) (let z : 2 * i + 1 + 1 ≡ 2 * (i + 1) = omega arith in z)
 
 -- what was found of n entries of a section is found of its count
@@ -122,19 +121,6 @@ mod-left a b = omega arith
 
 pub mod-right : (a b : ℕ) → (a + b % 2 ^ 64) % 2 ^ 64 ≡ (a + b) % 2 ^ 64
 mod-right a b = omega arith
-
--- the last addresses of banks added for their words: one less for each
-pub last-law : (acc i x y t r : ℕ) → t ≡ lastOf x y → r ≡ (acc + t) % 2 ^ 64 → (r + (i + 1)) % 2 ^ 64 ≡ ((acc + i) % 2 ^ 64 + (x + y) % 2 ^ 64) % 2 ^ 64
-unfolding lastOf
-last-law acc i x y t r e f =
-    rw (f, e, mod-left (acc + (x + y + (2 ^ 64 - 1)) % 2 ^ 64) (i + 1), mod-left (acc + i) ((x + y) % 2 ^ 64), mod-right (acc + i) (x + y))
-    (omega arith)
-
--- one bank more
-pub sum-bank : (page : List ℕ) (at off i m acc x y t r : ℕ) → 16 * (i + 1) ≤ m → off ≡ at + 16 * i → (acc + i) % 2 ^ 64 ≡ sum (wordsOf (2 * i) (part at m page)) % 2 ^ 64 →
-    x ≡ wordAt off page → y ≡ wordAt (off + 8) page → t ≡ lastOf x y → r ≡ (acc + t) % 2 ^ 64 → (r + (i + 1)) % 2 ^ 64 ≡ sum (wordsOf (2 * (i + 1)) (part at m page)) % 2 ^ 64
-sum-bank page at off i m acc x y t r h o e f g u v =
-    last-law acc i x y t r u v ∙ sum-two page at off i m ((acc + i) % 2 ^ 64) x y ((x + y) % 2 ^ 64) _ h o e f g refl refl
 
 -- the total of a section, added in three steps
 total-law : (c p s k x h m t : ℕ) → x ≡ s % 2 ^ 64 → h ≡ (c + p) % 2 ^ 64 → m ≡ (x + k) % 2 ^ 64 → t ≡ (h + m) % 2 ^ 64 → t ≡ (c + p + s + k) % 2 ^ 64

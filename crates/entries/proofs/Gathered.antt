@@ -13,7 +13,7 @@ use Rattle.words.specs.Word.{wordAt}
 use Rattle.words.proofs.Tests.{both-l, both-r, both-of, same-test}
 use Rattle.entries.specs.Entry.{wordsPerEntry, bankOk, flagsOk, consoleOk, entryRule}
 use Rattle.entries.specs.Array.{entryAt, entryPlace, entriesAt}
-use Rattle.entries.specs.Gathered.{lastOf, bankClear, consoleClear}
+use Rattle.entries.specs.Gathered.{bankClear, consoleClear}
 use Rattle.entries.specs.declared.Bits.{Bits}
 use Rattle.entries.proofs.Entries.{per-other}
 
@@ -130,11 +130,10 @@ console-one w base pages span last f p q r s t =
     both-of _ _ (both-l _ _ h)
     (both-of _ _ (both-of _ _ (lt-ltb span (2 ^ 40) (omega arith)) (lt-ltb last (2 ^ 40) (omega arith))) (both-r _ _ (both-r _ _ b)))))
 
-pub with-bank : (b : Bits) (base size span last : ℕ) → base < 2 ^ 64 → size < 2 ^ 64 → span < 2 ^ 64 → (span + 1) % 2 ^ 64 ≡ size → last ≡ lastOf base size →
+pub with-bank : (b : Bits) (base size span last : ℕ) → base < 2 ^ 64 → size < 2 ^ 64 → span < 2 ^ 64 → (span + 1) % 2 ^ 64 ≡ size → last ≡ (base + span) % 2 ^ 64 →
     bankClear (record { low = bitOr (b .low) (bitOr base size); high = bitOr (b .high) (bitOr span last); flags = b .flags }) ≡ both (bankClear b) (bankOk base size)
-unfolding lastOf
 with-bank b base size span last p q r s t =
-    bank-more b (record { low = bitOr base size; high = bitOr span last; flags = 0 }) (b .flags) ∙ ap (both (bankClear b)) (bank-one base size span last 0 p q r s (omega arith))
+    bank-more b (record { low = bitOr base size; high = bitOr span last; flags = 0 }) (b .flags) ∙ ap (both (bankClear b)) (bank-one base size span last 0 p q r s t)
 
 pub with-console : (w : ℕ) (b : Bits) (base pages span last f : ℕ) → base < 2 ^ 64 → pages < 2 ^ 64 → span < 2 ^ 64 → (span + 1) % 2 ^ 64 ≡ pages → last ≡ (base / 4096 + span) % 2 ^ 64 →
     consoleClear w (record { low = bitOr (b .low) base; high = bitOr (b .high) (bitOr span last); flags = bitOr (b .flags) f }) ≡ both (consoleClear w b) (consoleOk w base pages f)

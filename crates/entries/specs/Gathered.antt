@@ -1,5 +1,5 @@
 -- Bits of many entries, gathered with "or". Assumes nothing.
-use Prim.Native.Nat.{ℕ, _+_, _-_, _%_, _^_}
+use Prim.Native.Nat.{ℕ, _%_, _^_}
 use mathlib.Core.Bool.{Bool}
 use lib.Dec.{ltb, eqb}
 use Rattle.words.specs.Tests.{both}
@@ -8,10 +8,6 @@ use Rattle.entries.specs.declared.Bits.{Bits}
 
 abbrev pub noBits : Bits
 noBits = record { low = 0; high = 0; flags = 0 }
-
--- the address of the last byte of a bank or region, modulo 2^64; a size of 0 gives the address before the base
-unfoldable pub lastOf : ℕ → ℕ → ℕ
-lastOf b s = (b + s + (2 ^ 64 - 1)) % 2 ^ 64
 
 -- of banks and regions: low has base and size of each, high its size less 1 and its last byte's address
 unfoldable pub bankClear : Bits → Bool

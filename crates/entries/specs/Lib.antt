@@ -1,3 +1,4 @@
 pub mod Entry
 pub mod Array
 pub mod Gathered
+pub mod Facts

@@ -7,7 +7,7 @@ ghost use lib.Dec.{leb};
 ghost use Rattle.words.specs.Tests.{both};
 ghost use Rattle.entries.specs.Entry.{wordsPerEntry, size, bankOk, consoleOk};
 ghost use Rattle.entries.specs.Array.{wordsAt, entriesAt, sumAt, soundOf};
-ghost use Rattle.entries.specs.Gathered.{noBits, lastOf, bankClear, consoleClear};
+ghost use Rattle.entries.specs.Gathered.{noBits, bankClear, consoleClear};
 
 // The words in an entry of section k.
 pub fn entry_words(k: usize) -> usize
@@ -57,19 +57,12 @@ impl Bits {
     }
 }
 
-// The address of the last byte of a bank or region, modulo 2^64.
-pub fn last_of(base: u64, size: u64) -> u64
-    ensures { λ r. ⌜ r ≡ lastOf base size ⌝ }
-{
-    std::num::wrapping_add_u64(base, std::num::wrapping_sub_u64(size, 1))
-}
-
 // The bits with those of one more bank or region. A size of 0 wraps, so it is too high.
 pub fn with_bank(bits: Bits, base: u64, size: u64) -> Bits
     ensures { λ r. ⌜ bankClear r ≡ both (bankClear bits) (bankOk base size) ⌝ }
 {
     let span = std::num::wrapping_sub_u64(size, 1);
-    let last = last_of(base, size);
+    let last = std::num::wrapping_add_u64(base, span);
     Bits {
         low: bits.low | (base | size),
         high: bits.high | (span | last),
@@ -147,8 +140,7 @@ fn sum_words(page: &[u8], at: usize, n: usize) -> u64
     sum
 }
 
-// Count banks or regions at an offset, added and judged in one loop; k is their section. The judge has the last address of each at hand:
-// that is added, one less than base and size, and the count at the end.
+// Count banks or regions at an offset, added and judged in one loop; k is their section.
 fn find_banks(page: &[u8], minor: u64, k: usize, at: usize, count: usize) -> Found
     requires { ⌜ (k ≡ 1 → ⊥) × (at + 16 * count ≤ length (now page)) ⌝ }
     ensures { λ r. ⌜ (r .sum ≡ sumAt at (2 * count) (now (page .entry)) % 2 ^ 64) × (r .ok ≡ entriesAt minor k at count (now (page .entry))) ⌝ }
@@ -161,12 +153,12 @@ fn find_banks(page: &[u8], minor: u64, k: usize, at: usize, count: usize) -> Fou
         let bank = &page[from..end];
         let base = words::whole_word(bank, 0);
         let size = words::whole_word(bank, 8);
-        sum = std::num::wrapping_add_u64(sum, last_of(base, size));
+        sum = std::num::wrapping_add_u64(sum, base);
+        sum = std::num::wrapping_add_u64(sum, size);
         bits = with_bank(bits, base, size);
         from = end;
     }
     let ok = banks_clear(bits);
-    let sum = std::num::wrapping_add_u64(sum, count as u64);
     Found { sum, ok }
 }
 

@@ -1,7 +1,7 @@
 -- What a call leaves, from what its parts promise. Assumes nothing.
 use Prim.Native.Nat.{ℕ}
-use mathlib.Core.Path.{_≡_, ap, _∙_}
-use mathlib.Core.Bool.{Bool, true, false}
+use mathlib.Core.Path.{_≡_, sym, ap, _∙_}
+use mathlib.Core.Bool.{Bool}
 use mathlib.Core.List.{List, [], _∷_}
 use lib.ListN.{getD}
 use lib.IntN.{ℤ}
@@ -9,37 +9,26 @@ use Rattle.boot.specs.Boot.{bootNumber, coldCode, coldNext}
 use Rattle.boot.specs.declared.BootCode.{BootCode}
 use Rattle.boot.specs.declared.Record.{Record}
 use Rattle.codes.specs.Codes.{ifOk, answerOf}
-use Rattle.codes.specs.declared.Code.the-variants.{Ok}
 use Rattle.codes.specs.declared.Answer.{Answer}
-use Rattle.banks.specs.Banks.{Granules}
-use Rattle.granule_rules.specs.Granules.{GranuleTable, tableOf, Moved, moveOf, movedTo, atOnce, leftAtOnce}
-use Rattle.granule_rules.specs.declared.Direction.{Direction}
-use Rattle.granule_rules.proofs.AtOnce.{done-at-once, left-at-once}
+use Rattle.codes.specs.declared.Code.the-variants.{Unk}
+use Rattle.granule_rules.specs.Granules.{Moved, movedTo}
 use Rattle.token_rules.specs.Token.{TokenStep, tokenOf}
 use Rattle.token_rules.specs.declared.Session.{Session}
+use Rattle.granule_rules.specs.declared.Direction.{Direction}
+use Rattle.attest.specs.Key.{realmKeyOf}
+use Rattle.features.specs.Features.{featuresOf, updateOf, forwardOf}
 use Rattle.response_rules.specs.OnImage.{SignImage}
 use Rattle.signing.specs.OnImage.{signingOn}
-use Rattle.runtime.specs.Step.{plainWorld, Step, kindOf, afterMove, afterToken, afterSigning, callBy, callOf, replyCode, needsOf}
-use Rattle.runtime.specs.declared.Needs.{Needs}
-use Rattle.runtime.specs.declared.Reply.{Reply}
-use Rattle.runtime.proofs.Plain.{needs-table, needs-session, needs-queue, plain-beside}
-use Rattle.images.specs.Image.{recordOf, recordWords, isSet, sessionOf, sessionWords, registerWords, workWords, replyRegisters, replyWords}
-use Rattle.queue_image.specs.Image.{listsIn}
+use Rattle.runtime.specs.declared.Kind.{Kind}
+use Rattle.runtime.specs.declared.Kind.the-variants.{ForwardError, Delegate, Undelegate, RealmKey, PlatformToken, Features, TokenSigning, KeyUpdate, Unlisted}
+use Rattle.runtime.specs.Step.{kindOf, callOf, callBy, afterMove, afterKey, afterToken, afterSigning, afterUpdate, replyCode}
+use Rattle.images.specs.Image.{recordOf, recordWords, sessionWords, registerWords, workWords, replyRegisters, replyWords}
 use Rattle.queue_image.specs.Steps.{ImageStep, imageStep}
-use Rattle.export_rules.specs.Exports.{sessionAfter, MoveLeft, moveLeft, moveIn, TokenLeft, tokenLeft, tokenIn, SigningLeft, signingLeft, signingIn, SignLeft, signLeft, sessionLeft, queueLeft, CallLeft, callLeft, callLent, worldIn, callIn, PlainLeft, plainLeft, plainIn}
+use Rattle.export_rules.specs.Exports.{sessionAfter, MoveLeft, moveLeft, moveIn, TokenLeft, tokenLeft, tokenIn, SigningLeft, signingLeft, signingIn, SignLeft, signLeft, sessionLeft, queueLeft, CallLeft, callLeft, callLent, callIn}
 
 pub move-left : (a : Answer) (out table words : List ℕ) (m : Moved) → out ≡ registerWords a → movedTo a table words ≡ m → _≡_ {A = MoveLeft} (record { out = out; table = table; words = words }) (moveLeft m)
 unfolding moveLeft movedTo
 move-left a out table words m h e = rw h (ap moveLeft e)
-
--- of a call that was done at once, and of one that was not
-module _ (s : Record) (g : Granules) (d : Direction) (t : GranuleTable) (addr : ℕ) (b w : List ℕ) (r : Bool) (a : r ≡ atOnce s g d t addr) (l : tableOf b w ≡ leftAtOnce s g d t addr) where
-  pub done-moved : r ≡ true → (u : Record) → s ≡ u → movedTo (answerOf Ok 0 0) b w ≡ moveOf u g d t addr
-  done-moved y u q = done-at-once s g d t addr b w r a l y ∙ ap (λ (x : Record). moveOf x g d t addr) q
-
-  pub left-moved : r ≡ false → (u : Record) (out table words : List ℕ) → _≡_ {A = MoveLeft} (record { out = out; table = table; words = words }) (moveLeft (moveOf u g d (tableOf b w) addr)) →
-      _≡_ {A = MoveLeft} (record { out = out; table = table; words = words }) (moveLeft (moveOf u g d t addr))
-  left-moved n u out table words e = e ∙ ap (λ (x : GranuleTable). moveLeft (moveOf u g d x addr)) (left-at-once s g d t addr b w r a l n)
 
 pub token-left : (a : Answer) (s : Session) (image out page se : List ℕ) (t : TokenStep) → out ≡ registerWords a → se ≡ ifOk (a .code) (sessionWords s) image →
     record { answer = a; page = page; session = s } ≡ t → _≡_ {A = TokenLeft} (record { out = out; page = page; session = se }) (tokenLeft t image)
@@ -65,40 +54,44 @@ pub sign-left : (a : Answer) (out image : List ℕ) (s : SignImage) → out ≡ 
 unfolding signLeft
 sign-left a out image s h e = rw h (ap signLeft e)
 
-pub plain-left : (reply : Reply) (out work page : List ℕ) (s : Step) → out ≡ replyRegisters reply → work ≡ replyWords reply → record { reply = reply; next = plainWorld page } ≡ s →
-    _≡_ {A = PlainLeft} (record { out = out; work = work; page = page }) (plainLeft s)
-unfolding plainLeft
-plain-left reply out work page s o w e = rw (o, w) (ap plainLeft e)
+-- ---- any command, by its kind as it was told and what its own export left
+module _ (granules session queue page table words state x : List ℕ) (busy : ℕ) (key token public : List ℕ) (width : ℕ) (kind : Kind) (e : kind ≡ kindOf (getD x 0 0)) where
+  abbrev Left : List ℕ → List ℕ → List ℕ → List ℕ → List ℕ → List ℕ → List ℕ → Type 0
+  Left o k p b w s q = _≡_ {A = CallLeft} (record { out = o; work = k; page = p; table = b; words = w; session = s; queue = q }) (callIn granules session queue page table words (callLent state x busy key token public width))
 
--- ---- any command, by the state that it uses
-module _ (granules session queue page table words state x : List ℕ) (busy : ℕ) (key token public : List ℕ) (width : ℕ) where
-  -- none
-  pub left-plain : needsOf (kindOf (getD x 0 0)) ≡ Needs.Nothing → (o k p : List ℕ) → _≡_ {A = PlainLeft} (record { out = o; work = k; page = p }) (plainIn state page x key width) →
-      _≡_ {A = CallLeft} (record { out = o; work = k; page = p; table = table; words = words; session = session; queue = queue }) (callIn granules session queue page table words (callLent state x busy key token public width))
-  unfolding plainIn plainLeft callIn callLent callLeft sessionLeft queueLeft
-  left-plain h o k p e =
-      rw (h, plain-beside granules page table words (sessionOf session) (listsIn queue) (recordOf state) (getD x 0 0) (getD x 1 0) (getD x 2 0) (getD x 3 0) (getD x 4 0) (isSet busy) key token public width h) (ap (λ (l : PlainLeft). record { out = l .out; work = l .work; page = l .page; table = table; words = words; session = session; queue = queue }) e)
+  pub left-forward : kind ≡ ForwardError → (n : ℕ) → n ≡ forwardOf (recordOf state) (getD x 1 0) → Left (0 ∷ 0 ∷ 0 ∷ []) (2 ∷ n ∷ []) page table words session queue
+  unfolding callIn callLent callLeft sessionLeft queueLeft callOf callBy replyRegisters replyWords
+  left-forward h n f = rw (sym e ∙ h, f)
 
-  -- the granule table
-  pub left-table : (d : Direction) → needsOf (kindOf (getD x 0 0)) ≡ Needs.Table d → (o b w : List ℕ) → _≡_ {A = MoveLeft} (record { out = o; table = b; words = w }) (moveIn d state granules table words (getD x 1 0)) →
-      _≡_ {A = CallLeft} (record { out = o; work = 0 ∷ 0 ∷ []; page = page; table = b; words = w; session = session; queue = queue }) (callIn granules session queue page table words (callLent state x busy key token public width))
-  unfolding moveIn moveLeft callIn callLent callLeft sessionLeft queueLeft callOf afterMove replyRegisters replyWords workWords replyCode
-  left-table d h o b w e =
-      rw (h, needs-table (kindOf (getD x 0 0)) d h granules (worldIn session queue page table words) (callLent state x busy key token public width))
-      (ap (λ (l : MoveLeft). record { out = l .out; work = 0 ∷ 0 ∷ []; page = page; table = l .table; words = l .words; session = session; queue = queue }) e)
+  pub left-delegate : kind ≡ Delegate → (o b w : List ℕ) → _≡_ {A = MoveLeft} (record { out = o; table = b; words = w }) (moveIn Direction.Delegate state granules table words (getD x 1 0)) → Left o (0 ∷ 0 ∷ []) page b w session queue
+  unfolding moveIn moveLeft callIn callLent callLeft sessionLeft queueLeft callOf callBy afterMove replyRegisters replyWords workWords
+  left-delegate h o b w f = rw (sym e ∙ h) (ap (λ (l : MoveLeft). record { out = l .out; work = 0 ∷ 0 ∷ []; page = page; table = l .table; words = l .words; session = session; queue = queue }) f)
 
-  -- the session
-  pub left-session : needsOf (kindOf (getD x 0 0)) ≡ Needs.Session → (o p s : List ℕ) → _≡_ {A = TokenLeft} (record { out = o; page = p; session = s }) (tokenIn state session page token busy (getD x 1 0) (getD x 2 0) (getD x 3 0)) →
-      _≡_ {A = CallLeft} (record { out = o; work = 0 ∷ 0 ∷ []; page = p; table = table; words = words; session = s; queue = queue }) (callIn granules session queue page table words (callLent state x busy key token public width))
-  unfolding tokenIn tokenLeft callIn callLent callLeft sessionLeft queueLeft callOf callBy needsOf afterToken replyRegisters replyWords workWords replyCode
-  left-session h o p s e =
-      rw (needs-session (kindOf (getD x 0 0)) h)
-      (ap (λ (l : TokenLeft). record { out = l .out; work = 0 ∷ 0 ∷ []; page = l .page; table = table; words = words; session = l .session; queue = queue }) e)
+  pub left-undelegate : kind ≡ Undelegate → (o b w : List ℕ) → _≡_ {A = MoveLeft} (record { out = o; table = b; words = w }) (moveIn Direction.Undelegate state granules table words (getD x 1 0)) → Left o (0 ∷ 0 ∷ []) page b w session queue
+  unfolding moveIn moveLeft callIn callLent callLeft sessionLeft queueLeft callOf callBy afterMove replyRegisters replyWords workWords
+  left-undelegate h o b w f = rw (sym e ∙ h) (ap (λ (l : MoveLeft). record { out = l .out; work = 0 ∷ 0 ∷ []; page = page; table = l .table; words = l .words; session = session; queue = queue }) f)
 
-  -- the queue
-  pub left-queue : needsOf (kindOf (getD x 0 0)) ≡ Needs.Queue → (o p q : List ℕ) → _≡_ {A = SigningLeft} (record { out = o; page = p; queue = q }) (signingIn state queue page public (getD x 1 0) (getD x 2 0) (getD x 3 0) (getD x 4 0)) →
-      _≡_ {A = CallLeft} (record { out = o; work = 0 ∷ 0 ∷ []; page = p; table = table; words = words; session = session; queue = q }) (callIn granules session queue page table words (callLent state x busy key token public width))
-  unfolding signingIn signingLeft signingOn imageStep callIn callLent callLeft sessionLeft queueLeft callOf callBy needsOf afterSigning replyRegisters replyWords workWords replyCode
-  left-queue h o p q e =
-      rw (needs-queue (kindOf (getD x 0 0)) h)
-      (ap (λ (l : SigningLeft). record { out = l .out; work = 0 ∷ 0 ∷ []; page = l .page; table = table; words = words; session = session; queue = l .queue }) e)
+  pub left-key : kind ≡ RealmKey → (o p : List ℕ) → o ≡ registerWords (realmKeyOf (recordOf state) page key (getD x 1 0) (getD x 2 0) (getD x 3 0) .answer) →
+      p ≡ realmKeyOf (recordOf state) page key (getD x 1 0) (getD x 2 0) (getD x 3 0) .page → Left o (0 ∷ 0 ∷ []) p table words session queue
+  unfolding callIn callLent callLeft sessionLeft queueLeft callOf callBy afterKey replyRegisters replyWords workWords
+  left-key h o p f g = rw (sym e ∙ h, f, g)
+
+  pub left-token : kind ≡ PlatformToken → (o p s : List ℕ) → _≡_ {A = TokenLeft} (record { out = o; page = p; session = s }) (tokenIn state session page token busy (getD x 1 0) (getD x 2 0) (getD x 3 0)) → Left o (0 ∷ 0 ∷ []) p table words s queue
+  unfolding tokenIn tokenLeft callIn callLent callLeft sessionLeft queueLeft callOf callBy afterToken replyRegisters replyWords workWords replyCode
+  left-token h o p s f = rw (sym e ∙ h) (ap (λ (l : TokenLeft). record { out = l .out; work = 0 ∷ 0 ∷ []; page = l .page; table = table; words = words; session = l .session; queue = queue }) f)
+
+  pub left-features : kind ≡ Features → (o : List ℕ) → o ≡ registerWords (featuresOf (recordOf state) (getD x 1 0)) → Left o (0 ∷ 0 ∷ []) page table words session queue
+  unfolding callIn callLent callLeft sessionLeft queueLeft callOf callBy replyRegisters replyWords workWords
+  left-features h o f = rw (sym e ∙ h, f)
+
+  pub left-signing : kind ≡ TokenSigning → (o p q : List ℕ) → _≡_ {A = SigningLeft} (record { out = o; page = p; queue = q }) (signingIn state queue page public (getD x 1 0) (getD x 2 0) (getD x 3 0) (getD x 4 0)) → Left o (0 ∷ 0 ∷ []) p table words session q
+  unfolding signingIn signingLeft signingOn imageStep callIn callLent callLeft sessionLeft queueLeft callOf callBy afterSigning replyRegisters replyWords workWords replyCode
+  left-signing h o p q f = rw (sym e ∙ h) (ap (λ (l : SigningLeft). record { out = l .out; work = 0 ∷ 0 ∷ []; page = l .page; table = table; words = words; session = session; queue = l .queue }) f)
+
+  pub left-update : kind ≡ KeyUpdate → (o k : List ℕ) → o ≡ registerWords (updateOf (recordOf state) width (getD x 1 0) .answer) → k ≡ workWords (updateOf (recordOf state) width (getD x 1 0) .work) → Left o k page table words session queue
+  unfolding callIn callLent callLeft sessionLeft queueLeft callOf callBy afterUpdate replyRegisters replyWords
+  left-update h o k f g = rw (sym e ∙ h, f, g)
+
+  pub left-unlisted : kind ≡ Unlisted → (r : Answer) → r ≡ answerOf Unk 0 0 → (o : List ℕ) → o ≡ registerWords r → Left o (0 ∷ 0 ∷ []) page table words session queue
+  unfolding callIn callLent callLeft sessionLeft queueLeft callOf callBy replyRegisters replyWords workWords
+  left-unlisted h r f o g = rw (sym e ∙ h, g, f)

@@ -2,3 +2,4 @@ pub mod Left
 pub mod Refusals
 pub mod Shown
 pub mod SetUp
+pub mod Unread

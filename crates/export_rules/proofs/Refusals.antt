@@ -38,8 +38,7 @@ use Rattle.signing.specs.declared.Opcode.{Opcode}
 use Rattle.signing.proofs.Signings.{signing-by, signing-refused}
 use Rattle.runtime.specs.declared.Kind.{Kind}
 use Rattle.runtime.specs.declared.Kind.the-variants.{ForwardError, Delegate, Undelegate, RealmKey, PlatformToken, Features, TokenSigning, KeyUpdate, Unlisted}
-use Rattle.runtime.specs.declared.Needs.{Needs}
-use Rattle.runtime.specs.Step.{World, Call, call, Step, kindOf, afterMove, afterKey, afterToken, afterSigning, afterUpdate, callBy, callOf, stepOf, replyCode, refusal, needsOf}
+use Rattle.runtime.specs.Step.{World, Call, call, Step, kindOf, afterMove, afterKey, afterToken, afterSigning, afterUpdate, callBy, callOf, stepOf, replyCode, refusal, usesSession, usesQueue}
 use Rattle.runtime.specs.Run.{worldAfter, doneCalls}
 use Rattle.runtime.proofs.Refused.{refused}
 use Rattle.images.specs.Image.{recordOf, isSet, sessionOf, sessionWords, registerWords, workWords, replyRegisters, replyWords}
@@ -184,25 +183,23 @@ reply-tells TokenSigning g w c h = refuses _ (signing-tells (c .state) (w .page)
 reply-tells KeyUpdate g w c h = refuses (updateOf (c .state) (c .width) (c .x1) .answer) refl h
 reply-tells Unlisted g w c h = refl
 
-session-kept : (n : Needs) (k : Code) (s : Session) (image : List ℕ) → isOk k ≡ false → sessionLeft n k s image ≡ image
-unfolding sessionLeft
-session-kept Needs.Nothing k s image f = refl
-session-kept (Needs.Table d) k s image f = refl
-session-kept Needs.Session k s image f = session-stays k s image f
-session-kept Needs.Queue k s image f = refl
+either-kept : (b : Bool) (new old : List ℕ) → new ≡ old → cond b new old ≡ old
+either-kept true new old e = e
+either-kept false new old e = refl
 
-queue-kept : (n : Needs) (k : Code) (new image : List ℕ) → isOk k ≡ false → queueLeft n k new image ≡ image
+session-kept : (kind : Kind) (k : Code) (s : Session) (image : List ℕ) → isOk k ≡ false → sessionLeft kind k s image ≡ image
+unfolding sessionLeft
+session-kept kind k s image f = either-kept (usesSession kind) _ image (session-stays k s image f)
+
+queue-kept : (kind : Kind) (k : Code) (new image : List ℕ) → isOk k ≡ false → queueLeft kind k new image ≡ image
 unfolding queueLeft
-queue-kept Needs.Nothing k new image f = refl
-queue-kept (Needs.Table d) k new image f = refl
-queue-kept Needs.Session k new image f = refl
-queue-kept Needs.Queue k new image f = left-old k new image f
+queue-kept kind k new image f = either-kept (usesQueue kind) _ image (left-old k new image f)
 
 -- what a refusal leaves: x0, and zeros in what is written
 abbrev kept : List ℕ → List ℕ → List ℕ → List ℕ → List ℕ → ℕ → CallLeft
 kept session queue page table words x0 = record { out = x0 ∷ 0 ∷ 0 ∷ []; work = 0 ∷ 0 ∷ []; page = page; table = table; words = words; session = session; queue = queue }
 
-step-kept : (n : Needs) (st : Step) (w : World) (session new queue : List ℕ) → isOk (replyCode (st .reply)) ≡ false → st ≡ refusal 0 st w →
+step-kept : (n : Kind) (st : Step) (w : World) (session new queue : List ℕ) → isOk (replyCode (st .reply)) ≡ false → st ≡ refusal 0 st w →
     callLeft n st session new queue ≡ kept session queue (w .page) (w .table .bytes) (w .table .words) (x0Of (replyCode (st .reply)))
 unfolding callLeft replyRegisters replyWords registerWords workWords answerOf replyCode
 step-kept n st w session new queue f e =
@@ -217,7 +214,7 @@ dispatched granules session queue page table words c h =
     let w : World = worldIn session queue page table words in
     let st : Step = callOf g w c in
     let f : isOk (replyCode (st .reply)) ≡ false = reply-tells (kindOf (c .id)) g w c h in
-    let q = step-kept (needsOf (kindOf (c .id))) st w session (signingDone (c .state) page queue (c .x1) (c .x2) (c .x3)) queue f (refused g w (call c) f) in
+    let q = step-kept (kindOf (c .id)) st w session (signingDone (c .state) page queue (c .x1) (c .x2) (c .x3)) queue f (refused g w (call c) f) in
     q ∙ ap (kept session queue page table words) (sym (ap (λ (l : CallLeft). getD (l .out) 0 0) q))
 
 -- a list, whatever its code

@@ -14,12 +14,11 @@ use Rattle.versions.specs.Edition.{sectionCount}
 use Rattle.sections.specs.Page.{countAt, pointerAt}
 use Rattle.sections.specs.Section.{rulesAt}
 use Rattle.sections.proofs.Sections.{range-low, ok-in-range, ok-each, rules-sections}
-use Rattle.reader.specs.Answer.{readOf, wordIn}
+use Rattle.reader.specs.Answer.{codeIn, readOf, wordIn}
 use Rattle.reader.specs.Reading.{sectionAt, viewAt, readingOf, readingAnswer}
 use Rattle.reader.specs.declared.View.{View}
 use Rattle.reader.specs.declared.Reading.the-variants.{Accepted}
 use Rattle.reader.proofs.Whole.{section-entries}
-use Rattle.boot.specs.Boot.{codeIn}
 use Rattle.images.specs.Image.{tagWord, placeWord, countWord, sectionWords, viewWords, answerWords}
 use Rattle.images.proofs.Answers.{shown-answer}
 
@@ -54,9 +53,6 @@ pub told-read : (r base w m : ℕ) (page : List ℕ) → m ≡ min r w → Accep
 told-read r base w m page e f after h =
     let g = shown-answer r base page w (min r w) f in
     (g .0, h ∙ rw e (g .1))
-
-pub told-word : (page : List ℕ) (u v : View) (k i j : ℕ) → v ≡ u → (r : ℕ) → r ≡ wordIn (readingAnswer page (Accepted v)) k i j → r ≡ wordIn (readingAnswer page (Accepted u)) k i j
-told-word page u v k i j e r h = h ∙ rw e
 
 -- ---- three words by three
 laid-next : (xs ys l m : List ℕ) (n : ℕ) → m ≡ splice 0 xs l → n ≡ length xs → splice n ys m ≡ splice 0 (xs ++ ys) l

@@ -4,7 +4,6 @@ use Prim.Native.Nat.{ℕ}
 use mathlib.Core.Bool.{cond}
 use mathlib.Core.List.{List}
 use lib.ListN.{getD}
-use lib.Dec.{eqb}
 use Rattle.codes.specs.Codes.{x0Of, ifOk}
 use Rattle.codes.specs.declared.Code.{Code}
 use Rattle.lists.specs.Description.{descriptionOf}
@@ -18,8 +17,8 @@ use Rattle.token_rules.specs.Token.{TokenStep, tokenOf}
 use Rattle.token_rules.specs.declared.Session.{Session}
 use Rattle.response_rules.specs.OnImage.{SignImage, signOn}
 use Rattle.signing.specs.OnImage.{signingDone, signingOn}
-use Rattle.runtime.specs.Step.{World, worldOf, plainWorld, Call, callWith, plainCall, Step, kindOf, callOf, replyCode, needsOf, plainOf}
-use Rattle.runtime.specs.declared.Needs.{Needs}
+use Rattle.runtime.specs.Step.{World, worldOf, Call, callWith, Step, kindOf, callOf, replyCode, usesSession, usesQueue}
+use Rattle.runtime.specs.declared.Kind.{Kind}
 use Rattle.images.specs.Image.{recordOf, isSet, sessionOf, sessionWords, registerWords, replyRegisters, replyWords}
 use Rattle.images.specs.Realm.{builtX0}
 use Rattle.queue_image.specs.Image.{listsIn}
@@ -55,10 +54,6 @@ moveLeft m = record { out = registerWords (m .answer); table = m .table .bytes; 
 
 unfoldable pub moveIn : Direction → List ℕ → List ℕ → List ℕ → List ℕ → ℕ → MoveLeft
 moveIn d state granules table words address = moveLeft (moveOf (recordOf state) granules d (tableOf table words) address)
-
--- the direction that the first result register says, where one export hands its call on to another function
-unfoldable pub directionIn : List ℕ → Direction
-directionIn out = cond (eqb (getD out 0 0) 0) Direction.Delegate Direction.Undelegate
 
 -- over a list of addresses
 unfoldable pub moveListIn : Direction → List ℕ → List ℕ → List ℕ → List ℕ → List ℕ → MoveLeft
@@ -121,28 +116,22 @@ pub record CallLeft : Type 0 where
   pub queue : List ℕ
 
 -- only the command that uses a state touches its image
-unfoldable pub sessionLeft : Needs → Code → Session → List ℕ → List ℕ
-sessionLeft Needs.Nothing k s image = image
-sessionLeft (Needs.Table d) k s image = image
-sessionLeft Needs.Session k s image = sessionAfter k s image
-sessionLeft Needs.Queue k s image = image
+unfoldable pub sessionLeft : Kind → Code → Session → List ℕ → List ℕ
+sessionLeft kind k s image = cond (usesSession kind) (sessionAfter k s image) image
 
-unfoldable pub queueLeft : Needs → Code → List ℕ → List ℕ → List ℕ
-queueLeft Needs.Nothing k new image = image
-queueLeft (Needs.Table d) k new image = image
-queueLeft Needs.Session k new image = image
-queueLeft Needs.Queue k new image = ifOk k new image
+unfoldable pub queueLeft : Kind → Code → List ℕ → List ℕ → List ℕ
+queueLeft kind k new image = cond (usesQueue kind) (ifOk k new image) image
 
-unfoldable pub callLeft : Needs → Step → List ℕ → List ℕ → List ℕ → CallLeft
-callLeft n s session new queue =
+unfoldable pub callLeft : Kind → Step → List ℕ → List ℕ → List ℕ → CallLeft
+callLeft kind s session new queue =
     record {
       out = replyRegisters (s .reply);
       work = replyWords (s .reply);
       page = s .next .page;
       table = s .next .table .bytes;
       words = s .next .table .words;
-      session = sessionLeft n (replyCode (s .reply)) (s .next .session) session;
-      queue = queueLeft n (replyCode (s .reply)) new queue;
+      session = sessionLeft kind (replyCode (s .reply)) (s .next .session) session;
+      queue = queueLeft kind (replyCode (s .reply)) new queue;
     }
 
 -- what is lent to a call beside the images: x0, the function id, to x4, and what the platform says or lends
@@ -156,17 +145,4 @@ worldIn session queue page table words = worldOf page table words (sessionOf ses
 
 unfoldable pub callIn : List ℕ → List ℕ → List ℕ → List ℕ → List ℕ → List ℕ → Call → CallLeft
 callIn granules session queue page table words c =
-    callLeft (needsOf (kindOf (c .id))) (callOf granules (worldIn session queue page table words) c) session (signingDone (c .state) page queue (c .x1) (c .x2) (c .x3)) queue
-
--- a call that uses no table and neither image
-pub record PlainLeft : Type 0 where
-  pub out : List ℕ
-  pub work : List ℕ
-  pub page : List ℕ
-
-unfoldable pub plainLeft : Step → PlainLeft
-plainLeft s = record { out = replyRegisters (s .reply); work = replyWords (s .reply); page = s .next .page }
-
-unfoldable pub plainIn : List ℕ → List ℕ → List ℕ → List ℕ → ℕ → PlainLeft
-plainIn state page x key width =
-    plainLeft (plainOf (plainWorld page) (plainCall (recordOf state) (getD x 0 0) (getD x 1 0) (getD x 2 0) (getD x 3 0) key width))
+    callLeft (kindOf (c .id)) (callOf granules (worldIn session queue page table words) c) session (signingDone (c .state) page queue (c .x1) (c .x2) (c .x3)) queue

@@ -1,2 +1,3 @@
 pub mod Feature
 pub mod Acts
+pub mod Reasons

@@ -48,10 +48,10 @@ enum Stop {
 }
 
 // Which of the tags 1 to 3 were passed.
-struct Seen {
-    name: bool,
-    serial: bool,
-    console: bool,
+pub struct Seen {
+    pub name: bool,
+    pub serial: bool,
+    pub console: bool,
 }
 
 fn wide(x: u8) -> usize
@@ -134,7 +134,7 @@ pub fn step_at(part: &[u8], at: usize) -> FieldStep
 }
 
 // Whether a field of that tag may have a value of so many bytes.
-fn length_ok(tag: u8, len: usize) -> bool
+pub fn length_ok(tag: u8, len: usize) -> bool
     ensures { λ r. ⌜ r ≡ lengthOk tag len ⌝ }
 {
     if tag == 0 {
@@ -155,7 +155,7 @@ fn length_ok(tag: u8, len: usize) -> bool
     len < 0x1_0000
 }
 
-fn is_seen(seen: Seen, tag: u8) -> bool
+pub fn is_seen(seen: Seen, tag: u8) -> bool
     ensures { λ r. ⌜ r ≡ isSeen seen tag ⌝ }
 {
     if tag == 1 {
@@ -170,7 +170,7 @@ fn is_seen(seen: Seen, tag: u8) -> bool
     false
 }
 
-fn none_seen() -> Seen
+pub fn none_seen() -> Seen
     ensures { λ r. ⌜ r ≡ noneSeen ⌝ }
 {
     Seen {
@@ -180,7 +180,7 @@ fn none_seen() -> Seen
     }
 }
 
-fn marked(seen: Seen, tag: u8) -> Seen
+pub fn marked(seen: Seen, tag: u8) -> Seen
     ensures { λ r. ⌜ r ≡ seenWith seen tag ⌝ }
 {
     if tag == 1 {

@@ -10,7 +10,7 @@ use borrow.Author.Tests.{eqb-true, eq-eqb, ne-eqb}
 use Rattle.words.specs.Tests.{Yes}
 use Rattle.realm_words.specs.Bits.{realmBit, putBit, wordsFor}
 use Rattle.realm_words.specs.Answers.{wordsFit}
-use Rattle.banks.specs.Banks.{Granules, granuleCount, bankPlace, placedIn, granuleAt}
+use Rattle.banks.specs.Banks.{Granules, granuleCount, granuleAt}
 use Rattle.boot.specs.declared.Params.{Params}
 use Rattle.boot.specs.declared.Record.{Record}
 use Rattle.codes.specs.Codes.{isUp, unless, fails, upOf, whenUp, isOk, answerOf}
@@ -24,11 +24,6 @@ use Rattle.banks.specs.declared.Granule.the-variants.{Nothing, At}
 use Rattle.granule_rules.specs.declared.Direction.{Direction}
 
 -- ---- the granule of an address, and that it lies within the table
--- by one pass over the record, which found m granules and the place p
-pub placed-is : (g : Granules) (m n addr : ℕ) (p k : Granule) → m ≡ granuleCount g → p ≡ bankPlace g addr → k ≡ placedIn m p n addr → k ≡ granuleAt g n addr
-unfolding granuleAt
-placed-is g m n addr p k c f e = e ∙ rw (c, f)
-
 -- whether the words fit, by the m granules of the record
 pub fit-told : (g : Granules) (bytes words : List ℕ) (m : ℕ) (r b : Bool) → m ≡ granuleCount g → r ≡ wordsFit words m → r ≡ b → fitting g (tableOf bytes words) ≡ b
 fit-told g bytes words m r b c e h = ap (wordsFit words) (sym c) ∙ sym e ∙ h

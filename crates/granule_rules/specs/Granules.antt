@@ -1,14 +1,13 @@
 -- 0xC40001B0, B1: delegate, undelegate. 01: "The granule table is one byte a granule ..: 0 Non-secure, 1 Realm, 2 Root, 3 Secure; other
 -- bytes are none of these (house codes)." Which granule an address falls on is said by the banks (02, E2). Assumes nothing.
-use Prim.Native.Nat.{ℕ, _/_, _%_, _^_, _<_}
+use Prim.Native.Nat.{ℕ, _/_, _<_}
 use mathlib.Core.Path.{_≡_}
-use mathlib.Core.Bool.{Bool, false, cond}
+use mathlib.Core.Bool.{Bool, true, false}
 use mathlib.Core.List.{List}
 use lib.ListN.{length, getD, set}
-use lib.Bits.{bitOr}
-use lib.Dec.{ltb, eqb}
-use Rattle.words.specs.Tests.{both}
-use Rattle.banks.specs.Banks.{Granules, bankCount, granuleCount, granuleAt, distance, onlyBank}
+use lib.Dec.{eqb}
+use Rattle.words.specs.Tests.{Yes}
+use Rattle.banks.specs.Banks.{Granules, bankCount, recordOk, granuleCount, granuleAt}
 use Rattle.banks.specs.declared.Granule.{Granule}
 use Rattle.banks.specs.declared.Granule.the-variants.{Nothing, At}
 use Rattle.realm_words.specs.Bits.{realmBit, putBit, realmWords}
@@ -99,43 +98,6 @@ undelegateOf s g t addr = moveOf s g Undelegate t addr
 unfoldable pub movedTo : Answer → List ℕ → List ℕ → Moved
 movedTo a bytes words = record { answer = a; table = tableOf bytes words }
 
--- ---- for speed: a record of one bank
--- of a list, whether nothing but the addresses and their granules' bytes is left to judge: the boot record is up, the one bank meets the reader's rule and has n granules, and so
--- many are the words'
-unfoldable pub readyFor : Record → Granules → ℕ → List ℕ → Bool
-readyFor s g n ws = both (isUp s) (both (onlyBank g n) (wordsFit ws n))
-
--- of a single call, whether the record has one bank, of n granules as the table and the words have; the bank is not judged
-unfoldable pub oneFits : Granules → ℕ → List ℕ → Bool
-oneFits g n ws = both (eqb (bankCount g) 1) (both (eqb (getD g 2 0 / 4096) n) (wordsFit ws n))
-
--- whether an offset lies in a bank of that base and size, all three multiples of 4,096 and below 2^51: "or" gathers their bits for one
--- test. Such a bank meets the reader's rule (proofs/AtOnce.antt).
-abbrev pub gathered : ℕ → ℕ → ℕ → ℕ
-gathered base size offset = bitOr (bitOr base size) offset
-
-unfoldable pub liesIn : ℕ → ℕ → ℕ → Bool
-liesIn base size offset = both (ltb offset size) (both (eqb (gathered base size offset % 4096) 0) (ltb (gathered base size offset) (2 ^ 51)))
-
--- the offset of an address in the first bank, and its granule
-abbrev pub firstOffset : Granules → ℕ → ℕ
-firstOffset g addr = distance (getD g 1 0) addr
-
-abbrev pub firstGranule : Granules → ℕ → ℕ
-firstGranule g addr = firstOffset g addr / 4096
-
--- the usual call is accepted by these tests and done at once; of any other, nothing is done
-unfoldable pub atOnce : Record → Granules → Direction → GranuleTable → ℕ → Bool
-atOnce s g d t addr =
-    both (isUp s)
-    (both (oneFits g (length (t .bytes)) (t .words))
-    (both (unless (guarded (upOf s) d addr))
-    (both (liesIn (getD g 1 0) (getD g 2 0) (firstOffset g addr))
-    (eqb (getD (t .bytes) (firstGranule g addr) 0) (fromByte d)))))
-
-unfoldable pub leftAtOnce : Record → Granules → Direction → GranuleTable → ℕ → GranuleTable
-leftAtOnce s g d t addr = cond (atOnce s g d t addr) (granuleSet d t (At (firstGranule g addr))) t
-
 -- ---- "If words and table agree": 02, E6: "agreement, spare bits zero too"
 abbrev pub Agrees : GranuleTable → Type 0
 Agrees t = t .words ≡ realmWords (t .bytes)
@@ -143,3 +105,8 @@ Agrees t = t .words ≡ realmWords (t .bytes)
 -- ---- a granule that lies within the table's bytes, with its bit within the words
 abbrev pub Inside : Granule → List ℕ → List ℕ → Type 0
 Inside k bytes words = (i : ℕ) → k ≡ At i → (i < length bytes) × (i / 64 < length words)
+
+-- ---- a boot record that is up, and a granule record of one bank with n granules, for which the words are: nothing but the address and its
+-- granule's byte is left to judge
+abbrev pub Ready : Record → Granules → ℕ → List ℕ → Type 0
+Ready s g n ws = (isUp s ≡ true) × (bankCount g ≡ 1) × Yes (recordOk g) × (granuleCount g ≡ n) × Yes (wordsFit ws (granuleCount g))

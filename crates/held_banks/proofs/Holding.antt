@@ -1,27 +1,55 @@
 -- A list of addresses that judges the record once and holds the bank of the address before finds the granules that single calls find.
 -- Assumes nothing.
-use Prim.Native.Nat.{ℕ, _+_, _*_, _/_, _%_, _^_, _≤_, _<_}
+use Prim.Native.Nat.{ℕ, _+_, _-_, _*_, _/_, _%_, _^_, _≤_, _<_}
 use mathlib.Core.Path.{_≡_, refl, sym, ap, _∙_}
 use mathlib.Core.Bool.{Bool, true, false, cond}
 use mathlib.Core.List.{List, [], _∷_}
 use native.Mathlib.Omega.{arith}
+use native.Mathlib.Decide.{decLt}
 use lib.ListN.{getD}
-use lib.Dec.{ltb, eqb}
-use borrow.Author.Tests.{ltb-true, lt-ltb, le-ltb, eq-eqb, ne-eqb}
+use lib.Dec.{leb, ltb, eqb}
+use borrow.Author.Tests.{ltb-true, lt-ltb, le-ltb, le-leb, lt-leb, eq-eqb, ne-eqb}
 use Rattle.words.specs.Tests.{both, Yes}
-use Rattle.words.proofs.Tests.{both-l, both-r}
+use Rattle.words.proofs.Tests.{both-l, both-r, same-test}
 use Rattle.banks.specs.declared.Granule.{Granule}
 use Rattle.banks.specs.declared.Granule.the-variants.{Nothing, At}
-use Rattle.banks.specs.Banks.{Granules, Bank, bankCount, banksOf, ascend, recordOk, granuleCount, holds, indexBy, indexIn, placeIn, orElse, placeAmong, bankPlace, granuleAt, distance, reachIn}
-use Rattle.banks.proofs.Passing.{Follows, follows-is, reach-place, left, left-more, left-none}
-use Rattle.banks.proofs.Laws.{nowhere, cond-at, held, ok-ascends, ok-few, past-bank, no-granules, cond-none, some-granules}
+use Rattle.banks.specs.Banks.{Granules, Bank, bankCount, banksOf, ascend, recordOk, granuleCount, holds, indexIn, placeIn, orElse, placeAmong, bankPlace, granuleAt}
+use Rattle.banks.proofs.Passing.{Follows, follows-is, left, left-more, left-none}
+use Rattle.banks.proofs.Laws.{nowhere, cond-at, held, ok-ascends, ok-few, past-bank, no-granules, cond-none, some-granules, only-follows, only-place}
 use Rattle.held_banks.specs.declared.HeldBank.{HeldBank}
 use Rattle.held_banks.specs.declared.Sought.{Sought}
-use Rattle.held_banks.specs.Holding.{noBank, placeHeld, bankAmong, bankOf, soughtFrom, soughtBy}
+use Rattle.held_banks.specs.Holding.{distance, noBank, firstBank, placeHeld, granuleIn, bankAmong, bankOf, soughtFrom, soughtBy}
 
 -- the bank held is one of the record's, with the granules before it: a place in it is the place in the record
 abbrev pub HeldOf : Granules → HeldBank → Type 0
 HeldOf g h = (addr i : ℕ) → placeHeld h addr ≡ At i → bankPlace g addr ≡ At i
+
+-- ---- a bank that meets the reader's rule is searched by one comparison, where an address below base is far behind the bank
+pub distance-is : (base addr r : ℕ) → (r + base) % 2 ^ 64 ≡ addr → r < 2 ^ 64 → base < 2 ^ 64 → distance base addr ≡ r
+unfolding distance
+distance-is base addr r e l m = go (decLt addr base)
+  where
+    go : Dec (addr < base) → cond (leb base addr) (addr - base) (addr + 2 ^ 64 - base) ≡ r
+    go (yes y) = rw (lt-leb base addr y) (omega arith)
+    go (no y) = let k : base ≤ addr = omega arith in rw (le-leb base addr k) (omega arith)
+
+unfoldable reachIn : ℕ → ℕ → ℕ → ℕ → Granule
+reachIn before base size addr = cond (ltb (distance base addr) size) (At (before + distance base addr / 4096)) Nothing
+
+reach-place : (before base size addr : ℕ) → base + size ≤ 2 ^ 64 → reachIn before base size addr ≡ placeIn before base size addr
+unfolding reachIn distance placeIn holds both
+reach-place before base size addr h = go (decLt addr base)
+  where
+    same : base ≤ addr → ltb (addr - base) size ≡ ltb addr (base + size)
+    same l =
+        same-test _ _
+        (λ k. let e : addr - base < size = ltb-true _ _ k in lt-ltb addr (base + size) (omega arith))
+        (λ k. let e : addr < base + size = ltb-true _ _ k in lt-ltb (addr - base) size (omega arith))
+
+    go : Dec (addr < base) → cond (ltb (cond (leb base addr) (addr - base) (addr + 2 ^ 64 - base)) size) (At (before + cond (leb base addr) (addr - base) (addr + 2 ^ 64 - base) / 4096)) Nothing
+        ≡ cond (both (leb base addr) (ltb addr (base + size))) (At (indexIn before base addr)) Nothing
+    go (yes y) = rw (lt-leb base addr y, le-ltb (addr + 2 ^ 64 - base) size (omega arith))
+    go (no y) = let l : base ≤ addr = omega arith in rw (le-leb base addr l, same l)
 
 -- ---- one bank
 none-place : (addr : ℕ) → placeHeld noBank addr ≡ Nothing
@@ -32,11 +60,11 @@ held-place : (low before base size addr : ℕ) → Follows low base size → 409
 unfolding placeHeld reachIn
 held-place low before base size addr f c = go (ltb (distance base addr) size) refl ∙ reach-place before base size addr (omega (arith, f .ends))
   where
-    go : (k : Bool) → ltb (distance base addr) size ≡ k → cond k (At (indexBy before (distance base addr) % 2 ^ 64)) Nothing ≡ cond k (At (indexBy before (distance base addr))) Nothing
+    go : (k : Bool) → ltb (distance base addr) size ≡ k → cond k (At ((before + distance base addr / 4096) % 2 ^ 64)) Nothing ≡ cond k (At ((before + distance base addr / 4096))) Nothing
     go true e =
         let v = f in
         let l : distance base addr < size = ltb-true _ _ e in
-        let m : indexBy before (distance base addr) % 2 ^ 64 ≡ indexBy before (distance base addr) = omega arith in
+        let m : (before + distance base addr / 4096) % 2 ^ 64 ≡ (before + distance base addr / 4096) = omega arith in
         ap At m
     go false e = refl
 
@@ -77,7 +105,7 @@ among-own low before (b ∷ bs) addr a c = go (ltb (distance (b .base) addr) (b 
     go : (k : Bool) → ltb (distance (b .base) addr) (b .size) ≡ k → placeHeld (bankAmong (before + b .size / 4096) bs addr) addr ≡ placeAmong (before + b .size / 4096) bs addr
         → placeHeld (cond k (record { base = b .base; size = b .size; before = before }) (bankAmong (before + b .size / 4096) bs addr)) addr
         ≡ orElse (placeIn before (b .base) (b .size) addr) (placeAmong (before + b .size / 4096) bs addr)
-    go true e ih = let q : placeIn before (b .base) (b .size) addr ≡ At (indexBy before (distance (b .base) addr)) = sym p ∙ rw e in held-place low before (b .base) (b .size) addr f c ∙ rw q
+    go true e ih = let q : placeIn before (b .base) (b .size) addr ≡ At (before + distance (b .base) addr / 4096) = sym p ∙ rw e in held-place low before (b .base) (b .size) addr f c ∙ rw q
     go false e ih = let q : placeIn before (b .base) (b .size) addr ≡ Nothing = sym p ∙ rw e in ih ∙ rw q
 
 -- ---- the record's banks
@@ -95,6 +123,17 @@ module _ (g : Granules) (ok : Yes (recordOk g)) where
 
   pub bank-own : (addr : ℕ) → placeHeld (bankOf g addr) addr ≡ bankPlace g addr
   bank-own addr = ap (λ b. placeHeld b addr) (of-among addr) ∙ among-own 0 0 (banksOf g) addr (ok-ascends g ok) (omega arith) ∙ sym (place-among addr)
+
+-- ---- a record of one bank, in a table as long as it
+pub first-own : (g : Granules) (n addr : ℕ) (h : HeldBank) (k : Granule) → bankCount g ≡ 1 → Yes (recordOk g) → granuleCount g ≡ n → h ≡ firstBank g → k ≡ granuleIn h addr → k ≡ granuleAt g n addr
+unfolding granuleIn granuleAt both
+first-own g n addr h k one ok c b e =
+    let p : placeHeld (firstBank g) addr ≡ bankPlace g addr = held-place 0 0 (getD g 1 0) (getD g 2 0) addr (only-follows g one ok) (omega arith) ∙ sym (only-place g one ok addr) in
+    e ∙ rw (b, p, eq-eqb (granuleCount g) n c) (go (eqb (addr % 4096) 0))
+  where
+    go : (z : Bool) → cond z (bankPlace g addr) Nothing ≡ cond (both z true) (bankPlace g addr) Nothing
+    go true = refl
+    go false = refl
 
 -- ---- a list's address
 pub none-held : (g : Granules) → HeldOf g noBank

@@ -1,21 +1,32 @@
 -- For a list of addresses, which judges the record once and holds the bank of the address before: the granule of an address in the bank
 -- held, and the bank sought for it. It is the granule of `granuleAt` (proofs/Holding.antt). Assumes nothing.
-use Prim.Native.Nat.{ℕ, _+_, _/_, _%_, _^_}
+use Prim.Native.Nat.{ℕ, _+_, _-_, _/_, _%_, _^_}
 use mathlib.Core.Bool.{cond}
 use mathlib.Core.List.{List, [], _∷_}
+use lib.ListN.{getD}
 use lib.Dec.{leb, ltb, eqb}
-use Rattle.banks.specs.Banks.{Granules, Bank, bankCount, banksOf, indexBy, distance}
+use Rattle.banks.specs.Banks.{Granules, Bank, bankCount, banksOf}
 use Rattle.banks.specs.declared.Granule.{Granule}
 use Rattle.banks.specs.declared.Granule.the-variants.{Nothing, At}
 use Rattle.held_banks.specs.declared.HeldBank.{HeldBank}
 use Rattle.held_banks.specs.declared.Sought.{Sought}
 
+-- how far behind base an address lies, in 64 bits
+unfoldable pub distance : ℕ → ℕ → ℕ
+distance base addr = cond (leb base addr) (addr - base) (addr + 2 ^ 64 - base)
+
 abbrev pub noBank : HeldBank
 noBank = record { base = 0; size = 0; before = 0 }
 
+abbrev pub firstBank : Granules → HeldBank
+firstBank g = record { base = getD g 1 0; size = getD g 2 0; before = 0 }
+
 -- the granule of an address in the bank held, behind those of the banks before it; the sum in 64 bits, since any bank may be given
 unfoldable pub placeHeld : HeldBank → ℕ → Granule
-placeHeld h addr = cond (ltb (distance (h .base) addr) (h .size)) (At (indexBy (h .before) (distance (h .base) addr) % 2 ^ 64)) Nothing
+placeHeld h addr = cond (ltb (distance (h .base) addr) (h .size)) (At ((h .before + distance (h .base) addr / 4096) % 2 ^ 64)) Nothing
+
+unfoldable pub granuleIn : HeldBank → ℕ → Granule
+granuleIn h addr = cond (eqb (addr % 4096) 0) (placeHeld h addr) Nothing
 
 -- the first bank that holds the address, of banks that are not judged again, up to 16
 unfoldable pub bankAmong : ℕ → List Bank → ℕ → HeldBank

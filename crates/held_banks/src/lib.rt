@@ -2,8 +2,7 @@
 use banks::Granule;
 ghost use mathlib.Core.Path.{_≡_};
 ghost use Prim.Native.Nat.{_/_, _≤_};
-ghost use Rattle.banks.specs.Banks.{distance};
-ghost use Rattle.held_banks.specs.Holding.{noBank, placeHeld, bankOf, soughtBy};
+ghost use Rattle.held_banks.specs.Holding.{distance, noBank, firstBank, placeHeld, granuleIn, bankOf, soughtBy};
 
 // A bank that a list of addresses holds from one address to the next, with the granules of the banks before it.
 pub struct HeldBank {
@@ -16,6 +15,13 @@ pub struct HeldBank {
 pub struct Sought {
     pub granule: Granule,
     pub bank: HeldBank,
+}
+
+// How far behind the base an address lies, in 64 bits: an address below the base lies far behind the bank.
+fn offset_in(base: u64, address: u64) -> u64
+    ensures { λ r. ⌜ r ≡ distance base address ⌝ }
+{
+    std::num::wrapping_sub_u64(address, base)
 }
 
 // The granules of a bank of any size.
@@ -36,11 +42,22 @@ pub fn no_bank() -> HeldBank
     }
 }
 
+// The first bank of a record, the only one in the usual case.
+pub fn first_bank(granules: &[u64; 33]) -> HeldBank
+    ensures { λ r. ⌜ r ≡ firstBank (now (granules .entry)) ⌝ }
+{
+    HeldBank {
+        base: granules[1],
+        size: granules[2],
+        before: 0,
+    }
+}
+
 // The address's place in the bank held. The sum wraps for no bank of a record that is taken.
-pub fn place_held(bank: HeldBank, address: u64) -> Granule
+fn place_held(bank: HeldBank, address: u64) -> Granule
     ensures { λ r. ⌜ r ≡ placeHeld bank address ⌝ }
 {
-    let offset = banks::offset_in(bank.base, address);
+    let offset = offset_in(bank.base, address);
     if bank.size <= offset {
         return Granule::Nothing;
     }
@@ -48,8 +65,18 @@ pub fn place_held(bank: HeldBank, address: u64) -> Granule
     Granule::At(place as usize)
 }
 
+// The granule that an address falls on in a bank.
+pub fn granule_in(bank: HeldBank, address: u64) -> Granule
+    ensures { λ r. ⌜ r ≡ granuleIn bank address ⌝ }
+{
+    if address % 4096 != 0 {
+        return Granule::Nothing;
+    }
+    place_held(bank, address)
+}
+
 // The first bank that holds an address, in a record whose banks are not judged again.
-pub fn bank_of(granules: &[u64; 33], address: u64) -> HeldBank
+fn bank_of(granules: &[u64; 33], address: u64) -> HeldBank
     ensures { λ r. ⌜ r ≡ bankOf (now (granules .entry)) address ⌝ }
 {
     let count = granules[0];
@@ -60,7 +87,7 @@ pub fn bank_of(granules: &[u64; 33], address: u64) -> HeldBank
     for i in 0..(count as usize) {
         let base = granules[1 + 2 * i];
         let size = granules[2 + 2 * i];
-        let offset = banks::offset_in(base, address);
+        let offset = offset_in(base, address);
         if offset < size {
             return HeldBank { base, size, before };
         }

@@ -4,13 +4,12 @@ use mathlib.Core.Path.{_≡_, refl, ap, _∙_}
 use mathlib.Core.List.{List}
 use lib.ListN.{replicate}
 use lib.IntN.{pos}
-use Rattle.reader.specs.Answer.{readOf}
+use Rattle.reader.specs.Answer.{codeIn, readOf}
 use Rattle.reader.specs.Reading.{refusalNumber, readingAnswer, viewAt, readingOf}
 use Rattle.reader.specs.declared.Refusal.{Refusal}
 use Rattle.reader.specs.declared.Reading.{Reading}
 use Rattle.reader.specs.declared.Reading.the-variants.{Accepted, Refused}
 use Rattle.reader.proofs.Whole.{reading-answer}
-use Rattle.boot.specs.Boot.{codeIn}
 use Rattle.writer_rules.specs.Write.{Made}
 use Rattle.writer_rules.specs.Wrote.{madeBy as madeOf}
 use Rattle.writer_rules.specs.declared.Wrote.{Wrote}

@@ -1,3 +1,4 @@
 pub mod Inverse
 pub mod Answers
 pub mod Told
+pub mod Realm

@@ -1,5 +1,5 @@
 -- What a caller reads off the words of an answer is what the answer holds. Assumes nothing.
-use Prim.Native.Nat.{ℕ, _+_, _*_, _/_, _≤_, _<_}
+use Prim.Native.Nat.{ℕ, zero, suc, _+_, _*_, _/_, _≤_, _<_}
 use mathlib.Core.Bool.{Bool, true, false, cond}
 use mathlib.Core.Path.{_≡_, refl, sym}
 use mathlib.Core.List.{List, []}
@@ -23,9 +23,10 @@ use Rattle.lookup.proofs.Lookups.{count-view}
 use Rattle.reader.specs.Answer.{countIn}
 use Rattle.reader.specs.Reading.{sectionOf, readingAnswer}
 use Rattle.reader.specs.declared.Reading.the-variants.{Accepted}
+use Rattle.reader.specs.declared.Section.the-variants.{Absent}
 use Rattle.reader.specs.declared.View.{View}
 use Rattle.runtime.specs.declared.Reply.the-variants.{Forward, Back}
-use Rattle.images.specs.Image.{registerWords, workWords, spanWords, fieldWords, consoleNumber, replyRegisters, replyWords}
+use Rattle.images.specs.Image.{registerWords, workWords, sectionIn, viewOf, spanWords, fieldWords, consoleNumber, replyRegisters, replyWords}
 
 -- x0 to x2
 pub registers-back : (a : Answer) → (getD (registerWords a) 0 0 ≡ a .x0) × (getD (registerWords a) 1 0 ≡ a .x1) × (getD (registerWords a) 2 0 ≡ a .x2)
@@ -101,3 +102,20 @@ console-told page name v i h f =
     let l : i < countIn (readingAnswer page (Accepted v)) 1 = console-at (readingAnswer page (Accepted v)) name i f .0 in
     let m = count-most page v in
     (refl, λ e. omega arith)
+
+-- ---- section k of the view that an image holds, by its three words
+pub section-there : (k : ℕ) (image : List ℕ) → k ≤ 3 → sectionIn (3 + 3 * k) image ≡ sectionOf (viewOf image) k
+unfolding sectionOf viewOf
+section-there zero image h = refl
+section-there (suc zero) image h = refl
+section-there (suc (suc zero)) image h = refl
+section-there (suc (suc (suc zero))) image h = refl
+section-there (suc (suc (suc (suc k)))) image h = absurd (let z : ⊥ = omega arith in z)
+
+pub section-absent : (k : ℕ) (image : List ℕ) → 3 < k → Absent ≡ sectionOf (viewOf image) k
+unfolding sectionOf
+section-absent zero image h = absurd (let z : ⊥ = omega arith in z)
+section-absent (suc zero) image h = absurd (let z : ⊥ = omega arith in z)
+section-absent (suc (suc zero)) image h = absurd (let z : ⊥ = omega arith in z)
+section-absent (suc (suc (suc zero))) image h = absurd (let z : ⊥ = omega arith in z)
+section-absent (suc (suc (suc (suc k)))) image h = refl

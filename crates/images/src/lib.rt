@@ -21,6 +21,7 @@ ghost use Prim.Native.Nat.{_+_, _≤_};
 ghost use lib.ListN.{length};
 ghost use Rattle.codes.specs.Codes.{ifOk};
 ghost use Rattle.kept.specs.Kept.{keptFor};
+ghost use Rattle.reader.specs.Reading.{sectionOf};
 ghost use Rattle.runtime.specs.Step.{replyCode};
 ghost use Rattle.images.specs.Image.{recordOf, recordWords, isSet, sessionOf, sessionWords, registerWords, workWords, sectionIn, viewOf, spanWords, fieldWords, consoleNumber, wroteNumber, replyRegisters, replyWords};
 ghost use Rattle.images.specs.Realm.{numberX0, numberWords, hitX0, hitWords, agreementX0, builtX0};
@@ -136,6 +137,16 @@ pub fn view_of(image: &[u64; 15]) -> View
         ncoh: section_in(image, 9),
         coh: section_in(image, 12),
     }
+}
+
+// Section k of the view that an image holds: of its words those three alone are read. A number above 3 is none.
+pub fn section_of(image: &[u64; 15], k: usize) -> Section
+    ensures { λ r. ⌜ r ≡ sectionOf (viewOf (now (image .entry))) k ⌝ }
+{
+    if 3 < k {
+        return Section::Absent;
+    }
+    section_in(image, 3 + 3 * k)
 }
 
 // `kept::kept_for` of the view that an image holds. Each section is judged as its words are read: to make the whole view first takes a third

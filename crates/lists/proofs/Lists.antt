@@ -16,8 +16,7 @@ use Rattle.words.specs.Word.{joined}
 use Rattle.versions.specs.Edition.{sectionCount, core}
 use Rattle.versions.proofs.Editions.{section-count-most}
 use Rattle.entries.specs.Entry.{wordsPerEntry, bankOk, consoleOk, entryRule, entryOk, entriesOk, sum}
-use Rattle.entries.specs.Gathered.{lastOf}
-use Rattle.entries.proofs.Entries.{per-other, sum-snoc, last-law}
+use Rattle.entries.proofs.Entries.{per-other, sum-snoc}
 use Rattle.fields.specs.Fields.{endMark}
 use Rattle.lists.specs.Description.{four, descriptionOf, listOk, listsOk, sumsOf, totalsOf, noneLate, withMark, platBytes, used}
 use Rattle.lists.specs.declared.Totals.{Totals}
@@ -58,17 +57,13 @@ sum-more ws i s r h e f = rw (add-one, take-suc ws i 0 h, sum-snoc) (omega arith
 pub sum-all : (ws : List ℕ) (i : ℕ) → i ≡ length ws → sum (take i ws) ≡ sum ws
 sum-all ws i e = rw (e, take-length)
 
--- one bank more, added by its last address
-pub sum-bank : (ws : List ℕ) (i at acc t r : ℕ) → 2 * (i + 1) ≤ length ws → at ≡ 2 * i → (acc + i) % 2 ^ 64 ≡ sum (take (2 * i) ws) % 2 ^ 64 →
-    t ≡ lastOf (getD ws at 0) (getD ws (at + 1) 0) → r ≡ (acc + t) % 2 ^ 64 → (r + (i + 1)) % 2 ^ 64 ≡ sum (take (2 * (i + 1)) ws) % 2 ^ 64
+-- one bank more
+pub sum-bank : (ws : List ℕ) (i at acc t r : ℕ) → 2 * (i + 1) ≤ length ws → at ≡ 2 * i → acc ≡ sum (take (2 * i) ws) % 2 ^ 64 →
+    t ≡ (acc + getD ws at 0) % 2 ^ 64 → r ≡ (t + getD ws (at + 1) 0) % 2 ^ 64 → r ≡ sum (take (2 * (i + 1)) ws) % 2 ^ 64
 sum-bank ws i at acc t r h o e u v =
-    let x = getD ws at 0 in
-    let y = getD ws (at + 1) 0 in
-    let a : (acc + i) % 2 ^ 64 ≡ sum (take at ws) % 2 ^ 64 = rw o e in
-    let one : ((acc + i) % 2 ^ 64 + x) % 2 ^ 64 ≡ sum (take (at + 1) ws) % 2 ^ 64 = sum-more ws at ((acc + i) % 2 ^ 64) _ (omega arith) a refl in
-    let two : ((acc + i) % 2 ^ 64 + (x + y) % 2 ^ 64) % 2 ^ 64 ≡ sum (take (at + 1 + 1) ws) % 2 ^ 64 =
-    sum-more ws (at + 1) (((acc + i) % 2 ^ 64 + x) % 2 ^ 64) _ (omega arith) one (omega arith) in
-    last-law acc i x y t r u v ∙ two ∙ ap (λ n. sum (take n ws) % 2 ^ 64) (let z : at + 1 + 1 ≡ 2 * (i + 1) = omega arith in z)
+    let a : acc ≡ sum (take at ws) % 2 ^ 64 = rw o e in
+    let two : r ≡ sum (take (at + 1 + 1) ws) % 2 ^ 64 = sum-more ws (at + 1) t r (omega arith) (sum-more ws at acc t (omega arith) a u) v in
+    two ∙ ap (λ n. sum (take n ws) % 2 ^ 64) (let z : at + 1 + 1 ≡ 2 * (i + 1) = omega arith in z)
 
 -- as many whole entries as the length says
 pub whole-room : (k n : ℕ) → wordsPerEntry k * (n / wordsPerEntry k) ≤ n

@@ -31,7 +31,7 @@ struct Summed {
     ok: bool,
 }
 
-// Count banks or regions of a list, added by their last addresses and judged in one loop; k is their section.
+// Count banks or regions of a list, added and judged in one loop; k is their section.
 fn sum_banks(words: &[u64], minor: u64, k: usize, count: usize) -> Summed
     requires { ⌜ (k ≡ 1 → ⊥) × (2 * count ≤ length (now words)) ⌝ }
     ensures { λ r. ⌜ (r .sum ≡ sum (take (2 * count) (now (words .entry))) % 2 ^ 64) × (r .ok ≡ entriesOk minor k count (now (words .entry))) ⌝ }
@@ -42,12 +42,12 @@ fn sum_banks(words: &[u64], minor: u64, k: usize, count: usize) -> Summed
     for i in 0..count {
         let base = words[at];
         let size = words[at + 1];
-        sum = std::num::wrapping_add_u64(sum, entries::last_of(base, size));
+        sum = std::num::wrapping_add_u64(sum, base);
+        sum = std::num::wrapping_add_u64(sum, size);
         bits = entries::with_bank(bits, base, size);
         at += 2;
     }
     let ok = entries::banks_clear(bits);
-    let sum = std::num::wrapping_add_u64(sum, count as u64);
     Summed { sum, ok }
 }
 

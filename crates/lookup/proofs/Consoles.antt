@@ -1,8 +1,8 @@
 -- A console by its name. Assumes nothing.
-use Prim.Native.Nat.{ℕ, zero, suc, _+_, _-_, _*_, _/_, _%_, _^_, _≤_, _<_}
+use Prim.Native.Nat.{ℕ, zero, suc, _+_, _-_, _*_, _/_, _^_, _≤_, _<_}
 use mathlib.Core.Path.{_≡_, refl, sym, ap, _∙_}
 use mathlib.Core.Bool.{Bool, true, false, cond, false≢true}
-use mathlib.Core.List.{List, [], _∷_}
+use mathlib.Core.List.{List}
 use native.Mathlib.Omega.{arith}
 use native.Mathlib.Decide.{decLt}
 use lib.ListN.{length, getD, drop}
@@ -11,6 +11,7 @@ use lib.Dec.{eqb, leb, lit≤}
 use borrow.Author.Tests.{eqb-true, eq-eqb, ne-eqb, leb-true}
 use Rattle.words.specs.Tests.{both}
 use Rattle.words.specs.Word.{leOf, leBytes, part, numAt, wordAt}
+use Rattle.words.proofs.Bytes.{number-back}
 use Rattle.words.proofs.Read.{leOf-leBytes, num-part}
 use Rattle.entries.specs.Entry.{wordsPerEntry, size, shownWords, isHidden}
 use Rattle.entries.specs.Array.{wordsAt}
@@ -145,17 +146,6 @@ unfolding consoleNamed
 console-none a name h k b = first-none (hasName a name) (countIn a 1) 0 h k (omega arith) (omega arith)
 
 -- ---- a name is its 8 bytes
-bytes-back : (n : ℕ) (bs : List ℕ) → length bs ≡ n → ((i : ℕ) → getD bs i 0 < 256) → leBytes n (leOf bs) ≡ bs
-unfolding leBytes leOf
-bytes-back zero [] l b = refl
-bytes-back zero (x ∷ bs) l b = absurd (let z : ⊥ = omega arith in z)
-bytes-back (suc n) [] l b = absurd (let z : ⊥ = omega arith in z)
-bytes-back (suc n) (x ∷ bs) l b =
-    let m : x < 256 = b 0 in
-    let lo : (x + 256 * leOf bs) % 256 ≡ x = omega arith in
-    let hi : (x + 256 * leOf bs) / 256 ≡ leOf bs = omega arith in
-    rw (lo, hi, bytes-back n bs (omega arith) (λ i. b (suc i)))
-
 name-word : (name : List ℕ) → length name ≡ 8 → wordAt 0 name ≡ leOf name
 unfolding numAt part
 name-word name l = ap leOf (take-all 8 name (omega arith))
@@ -163,7 +153,7 @@ name-word name l = ap leOf (take-all 8 name (omega arith))
 -- a console has a name of 8 bytes exactly if its name's bytes, in order, are these
 pub name-bytes : (a : ReaderAnswer) (name : List ℕ) (i : ℕ) → length name ≡ 8 → ((j : ℕ) → getD name j 0 < 256) → hasName a name i ≡ true → leBytes 8 (wordIn a 1 i 2) ≡ name
 unfolding hasName
-name-bytes a name i l b h = ap (leBytes 8) (eqb-true _ _ h ∙ name-word name l) ∙ bytes-back 8 name l b
+name-bytes a name i l b h = ap (leBytes 8) (eqb-true _ _ h ∙ name-word name l) ∙ (rw (take-all 8 name (omega arith)) at (number-back 8 name b (omega arith)))
 
 pub bytes-name : (a : ReaderAnswer) (name : List ℕ) (i : ℕ) → length name ≡ 8 → wordIn a 1 i 2 < 2 ^ 64 → leBytes 8 (wordIn a 1 i 2) ≡ name → hasName a name i ≡ true
 unfolding hasName

@@ -138,7 +138,10 @@ pub fn find_console(page: &[u8], view: View, name: &[u8; 8]) -> ConsoleFound
     let array = array_of(page, view, 1);
     let count = array.len() / 48;
     for i in 0..count {
-        if words::word_at(array, 48 * i + 16) == wanted {
+        let from = 48 * i;
+        let end = from + 48;
+        let console = &array[from..end];
+        if words::whole_word(console, 16) == wanted {
             return ConsoleFound::At(i);
         }
     }

@@ -21,10 +21,11 @@ use Rattle.sections.specs.Section.{platOk, platExtent}
 use Rattle.sections.specs.Steps.{platEnd, staysAt}
 use Rattle.sections.proofs.Sections.{placed, plat-broken, plat-ended}
 use Rattle.reader.specs.declared.Refusal.the-variants.{Place, Version}
-use Rattle.mend.specs.Mend.{noPlat, platLeft, minorAt, editionAt, changed, partAt, pageTo, mendChanges, mendGate, mendedOf, mendedPage}
+use Rattle.mend.specs.Mend.{noPlat, platLeft, minorAt, editionAt, changed, partAt, pageTo, mendChanges, mendGate, mendedOf, mendAnswer, mendNumbers, mendOf, mendedPage}
 use Rattle.mend.specs.Steps.{zeroed, platKept, sectionGoes}
 use Rattle.mend.specs.declared.Changes.{Changes}
 use Rattle.mend.specs.declared.PlatKept.{PlatKept}
+use Rattle.mend.specs.declared.Mended.{Mended}
 use Rattle.mend.specs.declared.Mended.the-variants.{Done, Refused}
 use Rattle.mend.proofs.Blank.{blank-none, zeroed-blank}
 use Rattle.mend.proofs.Pages.{to-length, plat-to, goes-to}
@@ -133,6 +134,18 @@ module _ (base : ℕ) (page : List ℕ) (place : Yes (placeOk base (length page)
       (x, h ∙ rw (x, d) (next-to (suc (suc k)) (bytesOf (0 ∷ 0 ∷ 0 ∷ [])) (bytesOf-length (0 ∷ 0 ∷ 0 ∷ []) ∙ (let e : 8 * 3 ≡ 16 + 24 * suc k - (16 + 24 * k) = omega arith in e)) (omega arith) zero-words))
 
 -- ---- the answer, return by return
+-- what the enum stands for
+gate-numbers : (p v : Bool) (c : Changes) → mendAnswer (mendGate p v c) ≡ mendNumbers p v (c .padding ∷ c .plat ∷ c .dram ∷ c .console ∷ c .ncoh ∷ c .coh ∷ [])
+unfolding mendAnswer mendGate mendNumbers
+gate-numbers true true c = refl
+gate-numbers true false c = refl
+gate-numbers false v c = refl
+
+pub mend-told : (base : ℕ) (page after : List ℕ) (a : Mended) → (a ≡ mendedOf base page) × (after ≡ mendedPage base page) →
+    (a ≡ mendedOf base page) × ((after ≡ mendedPage base page) × (mendAnswer a ≡ mendOf base page))
+unfolding mendedOf mendOf mendChanges
+mend-told base page after a h = (h .0, (h .1, ap mendAnswer (h .0) ∙ gate-numbers (placeOk base (length page)) (versionOk (versionAt page)) (mendChanges base page)))
+
 module _ (base : ℕ) (page : List ℕ) where
   pub mend-place : placeOk base (length page) ≡ false → (Refused Place ≡ mendedOf base page) × (page ≡ mendedPage base page)
   unfolding mendedOf mendGate mendedPage both

@@ -155,6 +155,13 @@ gate-6 true true false w e q s c h = absurd (apart-codes 6 5 refl refl (λ z. om
 gate-6 true false o w e q s c h = refl
 gate-6 false v o w e q s c h = absurd (apart-codes 4 5 refl refl (λ z. omega arith) h)
 
+gate-7 : (p v o : Bool) (w e : ℕ) (q : PlatShown) (s : ℕ → Shown) (c : Changes) → readerGate p v o (shows w e q s) ≡ refused (minus 7) → mendGate p v c ≡ Done c
+unfolding readerGate mendGate
+gate-7 true true true w e q s c h = absurd (never (sym h))
+gate-7 true true false w e q s c h = refl
+gate-7 true false o w e q s c h = absurd (apart-codes 5 6 refl refl (λ z. omega arith) h)
+gate-7 false v o w e q s c h = absurd (apart-codes 4 6 refl refl (λ z. omega arith) h)
+
 abbrev isDone : Mended → Bool
 isDone (Done c) = true
 isDone (Refused c) = false
@@ -205,6 +212,10 @@ module _ (base : ℕ) (page : List ℕ) where
   refused-version : readOf 4 base page ≡ refused (minus 6) → mendedOf base page ≡ Refused Version
   unfolding readOf judge allShown mendedOf both
   refused-version h = gate-6 _ _ _ _ _ _ _ _ (rw four at h)
+
+  damaged-by : readOf 4 base page ≡ refused (minus 7) → mendedOf base page ≡ Done (mendChanges base page)
+  unfolding readOf judge allShown mendedOf both
+  damaged-by h = gate-7 _ _ _ _ _ _ _ _ (rw four at h)
 
   refused-by : (c : Refusal) → mendedOf base page ≡ Refused c → (readOf 4 base page ≡ refused (refusalNumber c)) × (mendedPage base page ≡ page)
   unfolding readOf judge mendedOf mendedPage both
@@ -262,6 +273,7 @@ mends base page = record {
   place = refused-place base page;
   version = refused-version base page;
   refusal = refused-by base page;
+  damaged = damaged-by base page;
   accepts = accepts-by base page;
   report = report-by base page;
   accepted = comes-out base page;

@@ -5,12 +5,15 @@ use mathlib.Core.Bool.{Bool, true, false, cond, not}
 use mathlib.Core.List.{List, [], _∷_}
 use lib.ListN.{length}
 use lib.Dec.{leb, ltb, eqb}
+use lib.IntN.{ℤ}
 use Rattle.words.specs.Tests.{both, some}
 use Rattle.versions.specs.Version.{minorOf, versionOk}
 use Rattle.versions.specs.Edition.{sectionCount}
 use Rattle.fields.specs.Fields.{ended}
 use Rattle.sections.specs.Page.{placeOk, versionAt, paddingAt, Sec, mkSec, secAt, Plat, mkPlat, platAt}
 use Rattle.sections.specs.Section.{platOk, secOk, clearBefore, platClear}
+use Rattle.reader.specs.Answer.{minus}
+use Rattle.reader.specs.Reading.{refusalNumber}
 use Rattle.reader.specs.declared.Refusal.the-variants.{Place, Version}
 use Rattle.mend.specs.declared.Changes.{Changes}
 use Rattle.mend.specs.declared.Mended.{Mended}
@@ -102,6 +105,26 @@ mendGate false v c = Refused Place
 unfoldable pub mendedOf : ℕ → List ℕ → Mended
 mendedOf base page = mendGate (placeOk base (length page)) (versionOk (versionAt page)) (mendChanges base page)
 
--- the page at exit
+-- ---- what the enum stands for: the code, or for each of the six parts, in their order, whether it was changed
+pub data MendAnswer : Type 0 where
+  unmended : ℤ → MendAnswer
+  mended : List Bool → MendAnswer
+
+unfoldable pub mendAnswer : Mended → MendAnswer
+mendAnswer (Refused c) = unmended (refusalNumber c)
+mendAnswer (Done c) = mended (c .padding ∷ c .plat ∷ c .dram ∷ c .console ∷ c .ncoh ∷ c .coh ∷ [])
+
+-- the same by 02's numbers, of a page: as in `mendGate`
+unfoldable pub mendNumbers : Bool → Bool → List Bool → MendAnswer
+mendNumbers true true c = mended c
+mendNumbers true false c = unmended (minus 6)
+mendNumbers false v c = unmended (minus 5)
+
+unfoldable pub mendOf : ℕ → List ℕ → MendAnswer
+mendOf base page =
+    mendNumbers (placeOk base (length page)) (versionOk (versionAt page))
+    (changed base page 0 ∷ changed base page 1 ∷ changed base page 2 ∷ changed base page 3 ∷ changed base page 4 ∷ changed base page 5 ∷ [])
+
+-- ---- the page at exit
 unfoldable pub mendedPage : ℕ → List ℕ → List ℕ
 mendedPage base page = cond (both (placeOk base (length page)) (versionOk (versionAt page))) (pageTo 6 base page) page

@@ -23,6 +23,8 @@ pub record Mends (base : ℕ) (page : List ℕ) : Type 0 where
   pub place : readOf 4 base page ≡ refused (minus 5) → mendedOf base page ≡ Refused Place
   pub version : readOf 4 base page ≡ refused (minus 6) → mendedOf base page ≡ Refused Version
   pub refusal : (c : Refusal) → mendedOf base page ≡ Refused c → (readOf 4 base page ≡ refused (refusalNumber c)) × (mendedPage base page ≡ page)
+  -- and no other: a page that the reader refuses with -7 is mended
+  pub damaged : readOf 4 base page ≡ refused (minus 7) → mendedOf base page ≡ Done (mendChanges base page)
   -- "Afterwards reader edition 4 accepts, shows all that was kept": the pointer with its fields, and each section with the entries and the
   -- lookup bytes that the page held before; what was not kept is shown as none or empty
   pub accepts : (c : Changes) → mendedOf base page ≡ Done c →

@@ -11,7 +11,7 @@ ghost use lib.Dec.{eqb};
 ghost use lib.ListN.{length};
 ghost use Rattle.words.specs.Word.{leBytes, bytesOf};
 ghost use Rattle.sections.specs.Page.{placeOk, paddingAt, platAt};
-ghost use Rattle.mend.specs.Mend.{minorAt, mendChanges, pageTo, mendedOf, mendedPage};
+ghost use Rattle.mend.specs.Mend.{minorAt, mendChanges, pageTo, mendedOf, mendAnswer, mendOf, mendedPage};
 ghost use Rattle.mend.specs.Steps.{zeroed, platKept, sectionGoes};
 ghost use Rattle.mend.specs.Report.{mendedNumber, flagWord, reportWords};
 
@@ -113,7 +113,9 @@ fn mend_parts(page: &mut [u8], base: u64, minor: u64, e: Edition) -> Changes
 
 // Mends a lent page at a base, read as the smaller of 4 and its minor. A refused page stays as it was.
 pub fn mend(page: &mut [u8], base: u64) -> Mended
-    ensures { λ r. ⌜ (r ≡ mendedOf base (now (page .entry))) × (now (page .exit) ≡ mendedPage base (now (page .entry))) ⌝ }
+    ensures { λ r. ⌜ r ≡ mendedOf base (now (page .entry)) ⌝ }
+    ensures { λ _. ⌜ now (page .exit) ≡ mendedPage base (now (page .entry)) ⌝ }
+    ensures { λ r. ⌜ mendAnswer r ≡ mendOf base (now (page .entry)) ⌝ }
 {
     if !sections::place_ok(base, page.len()) {
         return Mended::Refused(Refusal::Place);

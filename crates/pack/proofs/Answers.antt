@@ -164,12 +164,13 @@ module _ (base : ℕ) (page : List ℕ) where
         (p .0, omega arith, (λ k m. movable w w base page (p .0) (p .2) k (rules-at w w base page (o .2) k m)), rw (← told-same base page w l (p .0) (p .2) (o .2)) (told-room base page w l (o .2) (p .0))))
 
 -- ---- a refusal leaves the target as it was; else it is the page made
-pub packs-not : (r : Packing) (target : List ℕ) (m x : Packed) → packedBy target r ≡ x → target ≡ targetAfter target x → m ≡ x → (packedBy target r ≡ m) × (target ≡ targetAfter target m)
-packs-not r target m x h g e = rw e (h, g)
+pub packs-not : {F : Type 0} (r : Packing) (target : List ℕ) (m x : Packed) → packedBy target r ≡ x → target ≡ targetAfter target x → m ≡ x → F →
+    (packedBy target r ≡ m) × ((target ≡ targetAfter target m) × F)
+packs-not r target m x h g e f = rw e (h, (g, f))
 
-pub packs-page : (before after p : List ℕ) (m : Packed) → m ≡ written (a-page p) → after ≡ p → (packedBy after packing.Page ≡ m) × (after ≡ targetAfter before m)
+pub packs-page : {F : Type 0} (before after p : List ℕ) (m : Packed) → m ≡ written (a-page p) → after ≡ p → F → (packedBy after packing.Page ≡ m) × ((after ≡ targetAfter before m) × F)
 unfolding packedBy targetAfter pageAfter
-packs-page before after p m e g = rw e (ap (λ (x : List ℕ). written (a-page x)) g, g)
+packs-page before after p m e g f = rw e (ap (λ (x : List ℕ). written (a-page x)) g, (g, f))
 
 -- ---- the number of an answer is that of what it stands for
 number-by : (target : List ℕ) (r : Packing) → packingNumber r ≡ packedNumber (packedBy target r)

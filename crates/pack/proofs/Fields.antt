@@ -1,32 +1,29 @@
 -- Fields without the withdrawn ones: as bytes they are read back as they are, and they are no longer than what they were read from. Assumes
 -- nothing.
-use Prim.Native.Nat.{ℕ, zero, suc, _+_, _-_, _/_, _%_, _^_, _≤_, _<_}
-use mathlib.Core.Path.{_≡_, refl, ap, _∙_}
-use mathlib.Core.Bool.{Bool, true, false, cond, false≢true}
+use Prim.Native.Nat.{ℕ, zero, suc, _+_, _-_, _≤_}
+use mathlib.Core.Path.{_≡_, refl, ap}
+use mathlib.Core.Bool.{Bool, true, false, cond}
 use mathlib.Core.List.{List, [], _∷_, _++_}
 use native.Mathlib.Omega.{arith}
 use lib.ListN.{length, drop, length-append}
-use lib.Seq.{take-at, drop-at}
-use lib.Dec.{leb, ltb, eqb, lit≤}
-use borrow.Author.Tests.{leb-true, ltb-true, eqb-true, le-leb, le-ltb, ne-eqb, eq-eqb}
+use lib.Dec.{leb, eqb, lit≤}
+use borrow.Author.Tests.{leb-true, le-leb}
 use Rattle.words.specs.Tests.{Yes, both}
-use Rattle.words.specs.Word.{leOf, leBytes, part, numAt}
+use Rattle.words.specs.Word.{leBytes, numAt}
 use Rattle.words.proofs.Tests.{both-l, both-r, both-of}
-use Rattle.fields.specs.Fields.{Field, mkField, Scanned, broken, ended, bare, push, step, scan, scanAll, scanOf, judged, lengthOk, lengthsOk, count, fieldsOk, fieldsIn, raw, withdrawn, shownField, shownFields, taken, endMark}
-use Rattle.fields.proofs.Scans.{never, scan-step}
+use Rattle.fields.specs.Fields.{Field, Scanned, broken, ended, bare, push, step, scan, scanAll, scanOf, lengthsOk, count, fieldsOk, fieldsIn, raw, withdrawn, shownField, shownFields, taken, endMark}
+use Rattle.fields.specs.Facts.{fieldBytes, runOf}
+use Rattle.fields.proofs.Facts.{run-told}
+use Rattle.fields.proofs.Scans.{never}
 use Rattle.fields.proofs.Rules.{listed, judged-passed}
 use Rattle.sections.specs.Page.{inPage, foundAt}
 use Rattle.lists.specs.Description.{withMark}
-use Rattle.pack.specs.Pack.{fieldBytes, fieldsKept}
+use Rattle.pack.specs.Pack.{fieldsKept}
 
 -- ---- the fields that are kept, and fields as bytes
 unfoldable pub keptOf : List Field → List Field
 keptOf [] = []
 keptOf (f ∷ fs) = cond (eqb (f .tag) 3) (keptOf fs) (f ∷ keptOf fs)
-
-unfoldable pub runOf : List Field → List ℕ
-runOf [] = []
-runOf (f ∷ fs) = fieldBytes (f .tag) (f .value) ++ runOf fs
 
 pub kept-run : (fs : List Field) → fieldsKept (shownFields fs) ≡ runOf (keptOf fs)
 unfolding fieldsKept shownFields shownField runOf keptOf
@@ -76,48 +73,6 @@ kept-three (f ∷ fs) = go (eqb (f .tag) 3) refl (kept-three fs)
     go : (b : Bool) → eqb (f .tag) 3 ≡ b → count 3 (keptOf fs) ≡ 0 → count 3 (cond b (keptOf fs) (f ∷ keptOf fs)) ≡ 0
     go true e r = r
     go false e r = rw (e, r)
-
--- ---- they are read back
-read-length : (t n : ℕ) (rest : List ℕ) → n < 2 ^ 16 → numAt 2 1 (t ∷ (leBytes 2 n ++ rest)) ≡ n
-unfolding numAt part leBytes leOf
-read-length t n rest h = omega arith
-
-field-read : (t : ℕ) (v rest : List ℕ) → (t ≡ 0 → ⊥) → length v < 2 ^ 16 → scanAll (fieldBytes t v ++ rest) ≡ push (mkField t v) (scanAll rest)
-unfolding fieldBytes leBytes part step
-field-read t v rest z h =
-    let bs = t ∷ (length v % 256 ∷ (length v / 256 % 256 ∷ (v ++ rest))) in
-    let l : length bs ≡ 3 + length v + length rest = rw length-append (omega arith) in
-    scan-step bs ∙
-    rw (
-      (let e : numAt 2 1 bs ≡ length v = read-length t (length v) (v ++ rest) h in e),
-      ne-eqb (length bs) 0 (λ y. omega arith),
-      le-ltb (length bs) (3 + length v) (omega arith),
-      ne-eqb t 0 z,
-      take-at v rest (length v) refl,
-      (let e : drop (3 + length v) bs ≡ rest = drop-at (t ∷ (length v % 256 ∷ (length v / 256 % 256 ∷ v))) rest (3 + length v) (omega arith) in e),
-    )
-
-length-cases : (t n : ℕ) → Yes (lengthOk t n) → (t ≡ 0 → ⊥) × (n < 2 ^ 16)
-unfolding lengthOk
-length-cases t n h = (λ z. false≢true (rw (eq-eqb t 0 z) at h), go (eqb t 0) (eqb t 1) (eqb t 2) (eqb t 3) h)
-  where
-    go : (a b c d : Bool) → Yes (cond a false (cond b (both (leb 1 n) (leb n 32)) (cond c (eqb n 8) (cond d (eqb n 1) (ltb n (2 ^ 16)))))) → n < 2 ^ 16
-    go true b c d h = absurd (false≢true h)
-    go false true c d h = let l : n ≤ 32 = leb-true _ _ (both-r _ _ h) in omega arith
-    go false false true d h = let l : n ≡ 8 = eqb-true _ _ h in omega arith
-    go false false false true h = let l : n ≡ 1 = eqb-true _ _ h in omega arith
-    go false false false false h = ltb-true _ _ h
-
-run-scan : (fs : List Field) → Yes (lengthsOk fs) → scanAll (runOf fs) ≡ bare fs
-unfolding runOf lengthsOk scanAll scan push mkField
-run-scan [] h = refl
-run-scan (f ∷ fs) h =
-    let c = length-cases (f .tag) (length (f .value)) (both-l _ _ h) in
-    field-read (f .tag) (f .value) (runOf fs) (c .0) (c .1) ∙ rw (run-scan fs (both-r _ _ h))
-
-pub run-told : (fs : List Field) → Yes (fieldsOk fs) → scanOf (runOf fs) ≡ bare fs
-unfolding scanOf judged fieldsOk
-run-told fs h = rw (run-scan fs (both-l _ _ h), h)
 
 -- so they may be told: they keep the rules and take up every byte, and none of them has tag 3
 pub kept-told : (fs : List Field) → Yes (fieldsOk fs) → scanOf (fieldsKept (shownFields fs)) ≡ bare (keptOf fs)

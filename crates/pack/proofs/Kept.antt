@@ -13,12 +13,13 @@ use Rattle.words.specs.Word.{leBytes, part, numAt, wordAt, splice}
 use Rattle.words.proofs.Bytes.{Bytes}
 use Rattle.words.proofs.Read.{num-suc, num-one}
 use Rattle.words.proofs.Store.{splice-splice}
+use Rattle.fields.specs.Facts.{fieldBytes}
 use Rattle.fields.specs.Steps.{stepAt}
 use Rattle.fields.specs.declared.FieldPlace.the-variants.{Raw, Withdrawn, Nothing}
 use Rattle.fields.specs.declared.FieldStep.{FieldStep}
 use Rattle.fields.proofs.Scans.{never, part-length}
 use Rattle.fields.proofs.Steps.{RawAt, step-cases}
-use Rattle.pack.specs.Pack.{fieldBytes, fieldsKept}
+use Rattle.pack.specs.Pack.{fieldsKept}
 use Rattle.pack.specs.Steps.{fieldsPlace, keptFrom}
 use Rattle.pack.proofs.Moves.{part-add, part-join, part-none}
 

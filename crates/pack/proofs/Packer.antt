@@ -1,7 +1,14 @@
 -- What 02, E11 asks of the packer, proved. Assumes nothing.
-use lib.ListN.{length}
-use Rattle.pack.specs.Pack.{packOf}
-use Rattle.pack.specs.Packer.{Packer}
+use Prim.Native.Nat.{ℕ, _<_}
+use mathlib.Core.Path.{_≡_, sym}
+use mathlib.Core.List.{List}
+use lib.ListN.{length, getD}
+use Rattle.words.specs.Word.{wordAt}
+use Rattle.reader.specs.Answer.{readOf}
+use Rattle.writer_rules.specs.Write.{a-page}
+use Rattle.pack.specs.Pack.{written, packOf, packedBy}
+use Rattle.pack.specs.declared.Packing.the-variants.{Page}
+use Rattle.pack.specs.Packer.{Packer, repacked}
 use Rattle.pack.proofs.Made.{pack-page}
 use Rattle.pack.proofs.Packed.{pack-same, pack-again, pack-stops, pack-late, pack-target, pack-untouched}
 
@@ -15,3 +22,9 @@ packer = record {
   target = pack-target;
   untouched = λ base page lent. pack-untouched lent (packOf base (length lent) page);
 }
+
+-- `same` and `again` of a call of `pack` that made a page: their premises are what `pack` promises, of the answer and of the page lent.
+pub packed-lent : (base n : ℕ) (page after : List ℕ) → packedBy after Page ≡ packOf base n page → ((i : ℕ) → getD page i 0 < 256) →
+    ((r : ℕ) → readOf r base after ≡ repacked (wordAt 8 after) (readOf r base page)) × (packOf base n after ≡ written (a-page after))
+unfolding packedBy
+packed-lent base n page after h b = (pack-same base n page after b (sym h), pack-again base n page after b (sym h))

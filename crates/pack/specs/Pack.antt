@@ -3,11 +3,10 @@
 use Prim.Native.Nat.{ℕ}
 use mathlib.Core.Bool.{cond}
 use mathlib.Core.List.{List, [], _∷_, _++_}
-use lib.ListN.{length}
 use lib.Dec.{leb}
 use lib.IntN.{ℤ, pos}
-use Rattle.words.specs.Word.{leBytes}
 use Rattle.fields.specs.Fields.{FieldShown, raw, withdrawn}
+use Rattle.fields.specs.Facts.{fieldBytes}
 use Rattle.reader.specs.Answer.{Shown, absent, empty, full, PlatShown, ReaderAnswer, refused, shows, minus, readOf}
 use Rattle.reader.specs.Reading.{refusalNumber}
 use Rattle.lists.specs.Description.{Description}
@@ -21,10 +20,6 @@ unfoldable pub entriesIn : Shown → List ℕ
 entriesIn absent = []
 entriesIn empty = []
 entriesIn (full ws bs) = ws
-
--- a field as it stands on a page, and as the writer is told it
-unfoldable pub fieldBytes : ℕ → List ℕ → List ℕ
-fieldBytes t v = t ∷ (leBytes 2 (length v) ++ v)
 
 -- "with fields kept in page order and withdrawn ones dropped"
 unfoldable pub fieldsKept : List FieldShown → List ℕ

@@ -7,7 +7,7 @@ use versions::Edition;
 ghost use mathlib.Core.Path.{_≡_};
 ghost use mathlib.Core.Bool.{cond};
 ghost use Prim.Native.Nat.{ℕ, _+_, _*_, _≤_, _<_};
-ghost use lib.ListN.{length};
+ghost use lib.ListN.{length, getD};
 ghost use lib.Dec.{eqb};
 ghost use Rattle.words.specs.Word.{bytesOf, joined, splice};
 ghost use Rattle.versions.specs.Edition.{sectionCount};
@@ -180,6 +180,7 @@ fn put_page(page: &[u8], base: u64, e: Edition, target: &mut [u8])
 pub fn pack(page: &[u8], base: u64, target: &mut [u8]) -> Packing
     ensures { λ r. ⌜ packedBy (now (target .exit)) r ≡ packOf base (length (now (target .entry))) (now (page .entry)) ⌝ }
     ensures { λ r. ⌜ now (target .exit) ≡ targetAfter (now (target .entry)) (packOf base (length (now (target .entry))) (now (page .entry))) ⌝ }
+    ensures { λ _. ⌜ ((i : ℕ) → getD (now (page .entry)) i 0 < 256) ⌝ }
 {
     match reader::judge_page(page, base, 4) {
         Verdict::Refused(code) => Packing::Refused(code),

@@ -1,8 +1,8 @@
 // The kit for C and Rust: every entry but packer and mender (`potterbeam_pages`) under one prefix. A state is a lent image of words, a result a number or lent words.
 use boot::Record;
-use granules::Direction;
+use codes::Code;
 use reader::Verdict;
-use runtime::Needs;
+use runtime::Kind;
 use versions::Edition;
 ghost use mathlib.Core.Path.{_≡_};
 ghost use mathlib.Core.List.{[], _∷_};
@@ -13,7 +13,7 @@ ghost use Rattle.versions.specs.Edition.{sectionCount};
 ghost use Rattle.sections.specs.Page.{countAt, pointerAt};
 ghost use Rattle.sections.specs.Section.{rulesAt};
 ghost use Rattle.words.specs.Tests.{Yes};
-ghost use Rattle.reader.specs.Answer.{countIn, wordIn, fieldsShown, readOf};
+ghost use Rattle.reader.specs.Answer.{codeIn, countIn, wordIn, fieldsShown, readOf};
 ghost use Rattle.reader.specs.Reading.{sectionOf, readingAnswer, sectionAt, viewAt};
 ghost use Rattle.reader.specs.declared.Reading.the-variants.{Accepted};
 ghost use Rattle.fields.specs.Steps.{stepAt};
@@ -27,7 +27,7 @@ ghost use Rattle.writer_rules.specs.Write.{descriptionFits};
 ghost use Rattle.writer_rules.specs.Wrote.{pageAfter};
 ghost use Rattle.versions.specs.Version.{versionOk, later, agreed};
 ghost use Rattle.boot.specs.declared.Record.the-variants.{Closed};
-ghost use Rattle.boot.specs.Boot.{codeIn, coldCode, coldNext, warmCode, warmNext};
+ghost use Rattle.boot.specs.Boot.{coldCode, coldNext, warmCode, warmNext};
 ghost use Rattle.banks.specs.Banks.{granuleCount};
 ghost use Rattle.realm_words.specs.Answers.{realmCountOf, realmNextOf, realmAgreeOf};
 ghost use Rattle.granule_rules.specs.declared.Direction.{Direction};
@@ -39,7 +39,7 @@ ghost use Rattle.features.specs.Features.{featuresOf, updateOf, forwardOf};
 ghost use Rattle.images.specs.Image.{recordOf, recordWords, registerWords, workWords, sectionWords, viewOf, viewWords, answerWords, madeNumber, spanWords, fieldWords, consoleNumber};
 ghost use Rattle.images.specs.Realm.{numberX0, numberWords, hitX0, hitWords, agreementX0};
 ghost use Rattle.queue_image.specs.Image.{listsIn, oldestWords};
-ghost use Rattle.export_rules.specs.Exports.{writeIn, SetUpLeft, setUpIn, MoveLeft, moveIn, directionIn, moveListIn, BuildLeft, buildIn, TokenLeft, tokenIn, SigningLeft, signingIn, SignLeft, signIn, PlainLeft, plainIn, CallLeft, callLent, callIn};
+ghost use Rattle.export_rules.specs.Exports.{writeIn, SetUpLeft, setUpIn, MoveLeft, moveIn, moveListIn, BuildLeft, buildIn, TokenLeft, tokenIn, SigningLeft, signingIn, SignLeft, signIn, CallLeft, callLent, callIn};
 
 // ---- Manifest ----
 
@@ -127,7 +127,8 @@ pub extern "C" fn pbeam_array_of(
 )
     ensures { λ _. ⌜ now (place .exit) ≡ spanWords (spanOf section (sectionOf (viewOf (now (view .entry))) section) (length (now (page .entry)))) ⌝ }
 {
-    *place = images::span_words(lookup::place_of(page, images::view_of(view), section));
+    let wanted = images::section_of(view, section);
+    *place = images::span_words(lookup::place_in(page.len(), wanted, section));
 }
 
 // How many entries a view's section has.
@@ -135,7 +136,7 @@ pub extern "C" fn pbeam_array_of(
 pub extern "C" fn pbeam_count(page: &[u8], view: &[u64; 15], section: usize) -> usize
     ensures { λ r. ⌜ r ≡ countIn (readingAnswer (now (page .entry)) (Accepted (viewOf (now (view .entry))))) section ⌝ }
 {
-    lookup::count_of(page, images::view_of(view), section)
+    lookup::count_in(page, images::section_of(view, section), section)
 }
 
 // A word of an entry of a view's section.
@@ -149,7 +150,8 @@ pub extern "C" fn pbeam_word(
 ) -> u64
     ensures { λ r. ⌜ r ≡ wordIn (readingAnswer (now (page .entry)) (Accepted (viewOf (now (view .entry))))) section entry word ⌝ }
 {
-    lookup::word_of(page, images::view_of(view), section, entry, word)
+    let wanted = images::section_of(view, section);
+    lookup::word_in(page, view[0], wanted, section, entry, word)
 }
 
 // The number of a view's first console whose name's 8 bytes are those given; the largest number where there is none.
@@ -332,42 +334,7 @@ pub extern "C" fn pbeam_set_up_granules(granules: &mut [u64; 33], banks: &[u8], 
 
 // ---- Runtime commands ----
 
-// The direction that the first result register says: 0 is delegate.
-fn marked_direction(out: &[u64; 3]) -> Direction
-    ensures { λ r. ⌜ r ≡ directionIn (now (out .entry)) ⌝ }
-{
-    if out[0] == 0 {
-        return Direction::Delegate;
-    }
-    Direction::Undelegate
-}
-
-// A call on the granule table that is not done at once. Its direction stands in the first result register, so that its parameters are
-// those of the exports, in their order: they jump to it and need no frame of their own, which would cost the usual call a nanosecond.
-fn moved_by_mark(
-    state: &[u64; 5],
-    granules: &[u64; 33],
-    table: &mut [u8],
-    words: &mut [u64],
-    address: u64,
-    out: &mut [u64; 3],
-)
-    ensures { λ _. ⌜ _≡_ {A = MoveLeft} (record { out = now (out .exit); table = now (table .exit); words = now (words .exit) })
-        (moveIn (directionIn (now (out .entry))) (now (state .entry)) (now (granules .entry)) (now (table .entry)) (now (words .entry)) address) ⌝ }
-{
-    let direction = marked_direction(out);
-    let answer = granules::shift(
-        granules,
-        table,
-        words,
-        address,
-        images::record_of(state),
-        direction,
-    );
-    *out = images::registers(answer);
-}
-
-// 0xC40001B0: the granule at an address becomes Realm. The usual call is done at once.
+// 0xC40001B0: the granule at an address becomes Realm.
 #[no_mangle]
 pub extern "C" fn pbeam_delegate(
     state: &[u64; 5],
@@ -380,19 +347,13 @@ pub extern "C" fn pbeam_delegate(
     ensures { λ _. ⌜ _≡_ {A = MoveLeft} (record { out = now (out .exit); table = now (table .exit); words = now (words .exit) })
         (moveIn Direction.Delegate (now (state .entry)) (now (granules .entry)) (now (table .entry)) (now (words .entry)) address) ⌝ }
 {
-    if granules::moved_at_once(
+    *out = images::registers(granules::delegate(
         images::record_of(state),
         granules,
-        Direction::Delegate,
         table,
         words,
         address,
-    ) {
-        *out = [0, 0, 0];
-        return;
-    }
-    *out = [0, 0, 0];
-    moved_by_mark(state, granules, table, words, address, out)
+    ));
 }
 
 // 0xC40001B1: the granule at an address becomes Non-secure.
@@ -408,19 +369,13 @@ pub extern "C" fn pbeam_undelegate(
     ensures { λ _. ⌜ _≡_ {A = MoveLeft} (record { out = now (out .exit); table = now (table .exit); words = now (words .exit) })
         (moveIn Direction.Undelegate (now (state .entry)) (now (granules .entry)) (now (table .entry)) (now (words .entry)) address) ⌝ }
 {
-    if granules::moved_at_once(
+    *out = images::registers(granules::undelegate(
         images::record_of(state),
         granules,
-        Direction::Undelegate,
         table,
         words,
         address,
-    ) {
-        *out = [0, 0, 0];
-        return;
-    }
-    *out = [1, 0, 0];
-    moved_by_mark(state, granules, table, words, address, out)
+    ));
 }
 
 // The granules at a list of addresses become Realm, one by one up to the first that is refused; x1 is how many did.
@@ -684,52 +639,6 @@ pub extern "C" fn pbeam_realm_build(granules: &[u64; 33], table: &[u8], words: &
 
 // ---- Every command ----
 
-// A call that uses no table, session or queue.
-fn plain(
-    state: &[u64; 5],
-    page: &mut [u8],
-    key: &[u8],
-    width: u64,
-    call: &[u64; 5],
-    out: &mut [u64; 3],
-    work: &mut [u64; 2],
-)
-    ensures { λ _. ⌜ _≡_ {A = PlainLeft} (record { out = now (out .exit); work = now (work .exit); page = now (page .exit) })
-        (plainIn (now (state .entry)) (now (page .entry)) (now (call .entry)) (now (key .entry)) width) ⌝ }
-{
-    let reply = runtime::plain_call(
-        images::record_of(state),
-        call[0],
-        call[1],
-        call[2],
-        call[3],
-        page,
-        key,
-        width,
-    );
-    *out = images::reply_registers(reply);
-    *work = images::reply_words(reply);
-}
-
-// A call on the granule table, by its direction.
-fn moved_by(
-    direction: Direction,
-    state: &[u64; 5],
-    granules: &[u64; 33],
-    table: &mut [u8],
-    words: &mut [u64],
-    address: u64,
-    out: &mut [u64; 3],
-)
-    ensures { λ _. ⌜ _≡_ {A = MoveLeft} (record { out = now (out .exit); table = now (table .exit); words = now (words .exit) })
-        (moveIn direction (now (state .entry)) (now (granules .entry)) (now (table .entry)) (now (words .entry)) address) ⌝ }
-{
-    match direction {
-        Direction::Delegate => pbeam_delegate(state, granules, table, words, address, out),
-        Direction::Undelegate => pbeam_undelegate(state, granules, table, words, address, out),
-    }
-}
-
 // A call of the interface, x0 being the function id. Only the platform token reads and writes the session's image, and only token
 // signing the queue's; each changes where the call is accepted.
 #[no_mangle]
@@ -762,19 +671,23 @@ pub extern "C" fn pbeam_call(
         (callIn (now (granules .entry)) (now (session .entry)) (now (queue .entry)) (now (page .entry)) (now (table .entry)) (now (words .entry))
         (callLent (now (state .entry)) (now (call .entry)) busy (now (key .entry)) (now (token .entry)) (now (public .entry)) width)) ⌝ }
 {
-    match runtime::needs_of(call[0]) {
-        Needs::Nothing => plain(state, page, key, width, call, out, work),
-        Needs::Table(direction) => {
-            *work = [0, 0];
-            moved_by(direction, state, granules, table, words, call[1], out)
+    *work = [0, 0];
+    let kind = runtime::kind_of(call[0]);
+    match kind {
+        Kind::ForwardError => {
+            *out = [0, 0, 0];
+            *work = [2, pbeam_forward(state, call[1])];
         }
-        Needs::Session => {
-            *work = [0, 0];
+        Kind::Delegate => pbeam_delegate(state, granules, table, words, call[1], out),
+        Kind::Undelegate => pbeam_undelegate(state, granules, table, words, call[1], out),
+        Kind::RealmKey => pbeam_realm_key(state, page, key, call[1], call[2], call[3], out),
+        // The slices of token and public key are made anew, so that the compiler need not keep those of the call in memory: about 4 ns.
+        Kind::PlatformToken => {
             pbeam_platform_token(
                 state,
                 session,
                 page,
-                token,
+                &token[..],
                 busy,
                 call[1],
                 call[2],
@@ -782,19 +695,23 @@ pub extern "C" fn pbeam_call(
                 out,
             )
         }
-        Needs::Queue => {
-            *work = [0, 0];
+        Kind::Features => pbeam_features(state, call[1], out),
+        Kind::TokenSigning => {
             pbeam_token_signing(
                 state,
                 queue,
                 page,
-                public,
+                &public[..],
                 call[1],
                 call[2],
                 call[3],
                 call[4],
                 out,
             )
+        }
+        Kind::KeyUpdate => pbeam_key_update(state, width, call[1], out, work),
+        Kind::Unlisted => {
+            *out = images::registers(codes::answered(Code::Unk, 0, 0));
         }
     }
 }

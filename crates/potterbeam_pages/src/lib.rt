@@ -1,6 +1,7 @@
 // Packing and mending of manifest pages, for C and Rust: for tools on a host. No boot and no runtime command needs them.
 ghost use mathlib.Core.Path.{_≡_};
-ghost use lib.ListN.{length};
+ghost use Prim.Native.Nat.{ℕ, _<_};
+ghost use lib.ListN.{length, getD};
 ghost use Rattle.pack.specs.Pack.{packOf, targetAfter, packedNumber};
 ghost use Rattle.mend.specs.Mend.{mendedOf, mendedPage};
 ghost use Rattle.mend.specs.Report.{mendedNumber, reportWords};
@@ -11,6 +12,7 @@ ghost use Rattle.mend.specs.Report.{mendedNumber, reportWords};
 pub extern "C" fn pbeam_pack(page: &[u8], base: u64, target: &mut [u8]) -> i32
     ensures { λ r. ⌜ r ≡ packedNumber (packOf base (length (now (target .entry))) (now (page .entry))) ⌝ }
     ensures { λ _. ⌜ now (target .exit) ≡ targetAfter (now (target .entry)) (packOf base (length (now (target .entry))) (now (page .entry))) ⌝ }
+    ensures { λ _. ⌜ ((i : ℕ) → getD (now (page .entry)) i 0 < 256) ⌝ }
 {
     pack::number(pack::pack(page, base, target))
 }

@@ -13,13 +13,13 @@ use Rattle.words.specs.Tests.{Yes}
 use Rattle.words.specs.Word.{leBytes, part, numAt, wordsOf, bytesOf, areWords, splice}
 use Rattle.words.proofs.Tests.{both-l, both-r, both-of}
 use Rattle.words.proofs.Lists.{bytesOf-length, words-cons, words-append}
-use Rattle.words.proofs.Bytes.{Bytes, bytes-drop, number-below, words-read}
+use Rattle.words.proofs.Bytes.{bytes-drop, number-below, words-read}
 use Rattle.queue.specs.declared.Request.{Request}
 use Rattle.queue.specs.Queue.{Signed, signedIn}
 use Rattle.queue_image.specs.Image.{rows, requestIn, heldIn, responseIn, listsIn, requestWords, responseWords, each, areBytes, requestFits, responseFits, eightFit, queueFits}
 use Rattle.queue_image.specs.Sides.{Side, rowsWaiting, rowsIn, rowJoined, rowDropped}
 use Rattle.queue_image.proofs.Rows.{rows-length, mul-more}
-use Rattle.queue_image.proofs.Inverse.{each-take, each-drop}
+use Rattle.queue_image.proofs.Inverse.{each-take, each-drop, byte-below}
 
 -- ---- the bytes of words are bytes
 pub each-append : {A : Type 0} (f : A → Bool) (xs ys : List A) → Yes (each f xs) → Yes (each f ys) → Yes (each f (xs ++ ys))
@@ -111,12 +111,6 @@ splice-each f off vs s a b = each-append f (take off s ++ vs) (drop (off + lengt
 pub splice-bytes : (off : ℕ) (vs s : List ℕ) → Yes (areBytes vs) → Yes (areBytes s) → Yes (areBytes (splice off vs s))
 unfolding areBytes
 splice-bytes off vs s a b = splice-each _ off vs s a b
-
-byte-below : (bs : List ℕ) → Yes (areBytes bs) → Bytes bs
-unfolding areBytes each
-byte-below [] h i = lit≤ tt
-byte-below (b ∷ bs) h zero = ltb-true b 256 (both-l _ _ h)
-byte-below (b ∷ bs) h (suc i) = byte-below bs (both-r _ _ h) i
 
 pub num-below : (n off : ℕ) (s : List ℕ) → Yes (areBytes s) → numAt n off s < 256 ^ n
 unfolding numAt part

@@ -1,20 +1,22 @@
 -- The image of a queue, and the queue of an image, are inverse to each other. Assumes nothing.
-use Prim.Native.Nat.{ℕ, zero, suc, _+_, _-_, _*_, _/_, _%_, _≤_, _<_}
+use Prim.Native.Nat.{ℕ, zero, suc, _+_, _-_, _*_, _≤_}
 use mathlib.Core.Path.{_≡_, refl, ap}
 use mathlib.Core.Bool.{Bool}
 use mathlib.Core.List.{List, [], _∷_, _++_, append-assoc, append-nil, map}
 use native.Mathlib.Nat.{zero-add, suc-add, sub-zero, suc-sub-suc}
 use native.Mathlib.Omega.{arith}
-use lib.ListN.{length, take, drop, replicate, replicate-append-replicate, length-take, length-drop}
+use lib.ListN.{length, getD, take, drop, replicate, replicate-append-replicate, length-take, length-drop}
 use lib.Seq.{take-at, drop-at, take-append-seam}
+use lib.Dec.{lit≤}
 use borrow.Author.Tests.{ltb-true, leb-true, eqb-true}
 use Rattle.words.specs.Tests.{Yes}
-use Rattle.words.specs.Word.{leOf, leBytes, wordsOf, bytesOf}
+use Rattle.words.specs.Word.{wordsOf, bytesOf}
 use Rattle.words.proofs.Tests.{both-l, both-r, both-of}
+use Rattle.words.proofs.Bytes.{Bytes, number-padded}
 use Rattle.words.proofs.Read.{mul-suc-8}
 use Rattle.queue.specs.declared.Request.{Request}
 use Rattle.queue.specs.Queue.{Signed, Lists, signedIn}
-use Rattle.queue_image.specs.Image.{rows, requestIn, heldIn, responseIn, listsIn, requestWords, responseWords, flat, padded, queueWords, areBytes, requestFits, responseFits, each, eightFit, queueFits}
+use Rattle.queue_image.specs.Image.{rows, requestIn, heldIn, responseIn, listsIn, requestWords, responseWords, oldestWords, flat, padded, queueWords, areBytes, requestFits, responseFits, each, eightFit, queueFits}
 use Rattle.queue_image.proofs.Rows.{flat-length, padded-length}
 use Rattle.queue_image.proofs.Sides.{request-wide, response-wide}
 
@@ -33,20 +35,11 @@ module _ {A : Type 0} (f : A → Bool) where
   each-drop (suc k) (x ∷ l) h = each-drop k l (both-r _ _ h)
 
 -- ---- bytes come back from their words, with zeros to the end of the last
-zero-back : (m : ℕ) → leBytes m 0 ≡ replicate m 0
-unfolding leBytes
-zero-back zero = refl
-zero-back (suc m) = ap (λ (t : List ℕ). 0 ∷ t) (zero-back m)
-
-word-back : (m : ℕ) (bs : List ℕ) → length bs ≤ m → Yes (areBytes bs) → leBytes m (leOf bs) ≡ padded m bs
-unfolding leBytes leOf padded areBytes each
-word-back m [] h a = rw sub-zero (zero-back m)
-word-back zero (b ∷ bs) h a = absurd (omega arith)
-word-back (suc m) (b ∷ bs) h a =
-    let l : b < 256 = ltb-true b 256 (both-l _ _ a) in
-    let low : (b + 256 * leOf bs) % 256 ≡ b = omega arith in
-    let high : (b + 256 * leOf bs) / 256 ≡ leOf bs = omega arith in
-    rw (low, high, suc-sub-suc, word-back m bs (omega arith) (both-r _ _ a))
+pub byte-below : (bs : List ℕ) → Yes (areBytes bs) → Bytes bs
+unfolding areBytes each
+byte-below [] h i = lit≤ tt
+byte-below (b ∷ bs) h zero = ltb-true b 256 (both-l _ _ h)
+byte-below (b ∷ bs) h (suc i) = byte-below bs (both-r _ _ h) i
 
 padded-split : (k n : ℕ) (l : List ℕ) → padded k (take k l) ++ padded n (drop k l) ≡ padded (k + n) l
 unfolding padded
@@ -60,7 +53,7 @@ bytes-back zero [] h a = refl
 bytes-back zero (b ∷ bs) h a = absurd (omega arith)
 bytes-back (suc n) bs h a =
     rw (
-      word-back 8 (take 8 bs) (omega (arith, length-take 8 bs)) (each-take _ 8 bs a),
+      number-padded 8 (take 8 bs) (byte-below (take 8 bs) (each-take _ 8 bs a)) (omega (arith, length-take 8 bs)),
       bytes-back n (drop 8 bs) (omega (arith, length-drop 8 bs)) (each-drop _ 8 bs a),
       mul-suc-8,
     )
@@ -82,6 +75,24 @@ unfolding responseIn signedIn heldIn responseWords responseFits padded
 response-back r h =
     let l : length (r .signature) ≤ 104 = leb-true _ _ (both-l _ _ (both-r _ _ h)) in
     rw (bytes-back 13 (r .signature) (omega arith) (both-r _ _ (both-r _ _ h)), take-append-seam)
+
+-- the oldest request's words tell it, field by field; zeros where none waits
+pub oldest-told : (r : Request) (l : List Request) → Yes (requestFits r) → requestIn (oldestWords (r ∷ l)) ≡ r
+unfolding oldestWords
+oldest-told r l h = request-back r h
+
+pub oldest-read : (r : Request) (l : List Request) →
+    (getD (oldestWords (r ∷ l)) 0 0 ≡ r .algorithm) × (getD (oldestWords (r ∷ l)) 1 0 ≡ r .granule) × (getD (oldestWords (r ∷ l)) 2 0 ≡ r .ticket) × (getD (oldestWords (r ∷ l)) 3 0 ≡ r .hashid)
+unfolding oldestWords requestWords
+oldest-read r l = (refl, refl, refl, refl)
+
+pub oldest-hash : (r : Request) (l : List Request) → Yes (requestFits r) → bytesOf (drop 4 (oldestWords (r ∷ l))) ≡ r .hash
+unfolding requestIn
+oldest-hash r l h = ap (λ (x : Request). x .hash) (oldest-told r l h)
+
+pub oldest-none : oldestWords [] ≡ replicate 10 0
+unfolding oldestWords
+oldest-none = refl
 
 -- ---- a side comes back from its rows, whatever follows them
 module _ {A : Type 0} (f : List ℕ → A) (g : A → List ℕ) (ok : A → Bool) (width : ℕ) (wide : (x : A) → length (g x) ≡ width) (back : (x : A) → Yes (ok x) → f (g x) ≡ x) where

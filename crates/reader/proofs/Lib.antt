@@ -7,3 +7,4 @@ pub mod Views
 pub mod Sample
 pub mod FlagsSample
 pub mod FieldsSample
+pub mod Acts

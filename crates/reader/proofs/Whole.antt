@@ -21,8 +21,8 @@ use Rattle.fields.specs.Fields.{ended, fieldsIn, shownFields}
 use Rattle.sections.specs.Section.{platOk, wordsIn, inRange, rulesAt}
 use Rattle.sections.specs.Steps.{okAt, okTo}
 use Rattle.sections.proofs.Sections.{placed, range-low, range-high, array-in, ok-in-range, ok-each, rules-sections, rules-pointer}
-use Rattle.reader.specs.Answer.{Shown, ReaderAnswer, shows, shown, shownSec, platShown, allShown, readerGate, judge, readOf}
-use Rattle.reader.specs.Reading.{sectionOf, shownAs, fieldsOf, readingAnswer, sectionAt, viewAt, readingGate, readingOf, verdictOf, sectionRead}
+use Rattle.reader.specs.Answer.{Shown, ReaderAnswer, shows, codeIn, shown, shownSec, platShown, allShown, readerGate, judge, readOf}
+use Rattle.reader.specs.Reading.{sectionOf, shownAs, fieldsOf, readingAnswer, sectionAt, viewAt, readingGate, readingOf, verdictOf, numberIn, sectionRead}
 use Rattle.reader.specs.declared.Section.{Section}
 use Rattle.reader.specs.declared.Section.the-variants.{Absent, Empty, Entries}
 use Rattle.reader.specs.declared.View.{View}
@@ -202,6 +202,15 @@ module _ (r base : ℕ) (page : List ℕ) where
   reading-placed v h =
       let e = gate-view _ _ _ _ v h in
       e ∙ sym (ap (λ u. viewAt (u .minor) (u .edition) base page) e)
+
+-- ---- the number of a verdict is the answer's
+number-read : (page : List ℕ) (x : Reading) → numberIn (verdictOf x) ≡ codeIn (readingAnswer page x)
+unfolding numberIn verdictOf codeIn readingAnswer
+number-read page (Accepted v) = refl
+number-read page (Refused c) = refl
+
+pub verdict-told : (r base : ℕ) (page : List ℕ) (v : Verdict) → v ≡ verdictOf (readingOf r base page) → (v ≡ verdictOf (readingOf r base page)) × (numberIn v ≡ codeIn (readOf r base page))
+verdict-told r base page v h = (h, ap numberIn h ∙ number-read page (readingOf r base page) ∙ ap codeIn (reading-answer r base page))
 
 -- ---- the reader's enum, return by return
 module _ (r base : ℕ) (page : List ℕ) where

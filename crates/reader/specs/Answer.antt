@@ -66,6 +66,11 @@ readOf r base page =
     judge r base (length page) (versionAt page) (minorOf (versionAt page)) (paddingAt page) (platAt base page) (secAt base page)
 
 -- ---- what can be asked of an answer
+-- its code; 0 where it shows the page
+unfoldable pub codeIn : ReaderAnswer → ℤ
+codeIn (refused c) = c
+codeIn (shows w e q s) = pos 0
+
 -- "An array can be asked for as the part of the lent page that holds it, never a copy; a refused page or an absent or empty
 -- section gives an empty part." A number that is no section gives one too: it is absent.
 unfoldable pub bytesIn : Shown → List ℕ

@@ -3,3 +3,4 @@ pub mod Reading
 pub mod Views
 pub mod Gaps
 pub mod Withdrawn
+pub mod Acts

@@ -4,7 +4,7 @@ use mathlib.Core.Bool.{Bool, true, false, cond}
 use mathlib.Core.List.{List, []}
 use lib.ListN.{length, drop}
 use lib.Dec.{leb, ltb, eqb}
-use lib.IntN.{ℤ}
+use lib.IntN.{ℤ, pos}
 use Rattle.words.specs.Tests.{both}
 use Rattle.words.specs.Word.{part, wordAt}
 use Rattle.versions.specs.Version.{minorOf, versionOk}
@@ -93,6 +93,11 @@ readingOf r base page =
 unfoldable pub verdictOf : Reading → Verdict
 verdictOf (Accepted v) = Fine (v .minor)
 verdictOf (Refused c) = Wrong c
+
+-- its number: 0, or 01's code
+unfoldable pub numberIn : Verdict → ℤ
+numberIn (Fine w) = pos 0
+numberIn (Wrong c) = refusalNumber c
 
 -- section k of a reading: absent where the page is refused
 unfoldable pub sectionRead : Reading → ℕ → Section

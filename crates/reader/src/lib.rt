@@ -6,7 +6,8 @@ ghost use Prim.Native.Nat.{min, _<_};
 ghost use lib.ListN.{length};
 ghost use Rattle.versions.specs.Edition.{sectionCount};
 ghost use Rattle.sections.specs.Steps.{okAt, okTo};
-ghost use Rattle.reader.specs.Reading.{refusalNumber, sectionOf, sectionAt, viewAt, readingOf, verdictOf, sectionRead};
+ghost use Rattle.reader.specs.Answer.{codeIn, readOf};
+ghost use Rattle.reader.specs.Reading.{readingAnswer, refusalNumber, sectionOf, sectionAt, viewAt, readingOf, verdictOf, numberIn, sectionRead};
 
 // What is shown of a section: not in the edition, 24 zero bytes, or so many entries at an offset of the page.
 pub enum Section {
@@ -101,6 +102,7 @@ pub fn edition_read(edition: u64, minor: u64) -> Edition
 // Judges a lent page at a base, as a reader of an edition: the first code in the order of the checks, or that none holds.
 pub fn judge_page(page: &[u8], base: u64, edition: u64) -> Verdict
     ensures { λ r. ⌜ r ≡ verdictOf (readingOf edition base (now (page .entry))) ⌝ }
+    ensures { λ r. ⌜ numberIn r ≡ codeIn (readOf edition base (now (page .entry))) ⌝ }
 {
     if !sections::place_ok(base, page.len()) {
         return Verdict::Refused(Refusal::Place);
@@ -124,6 +126,7 @@ pub fn judge_page(page: &[u8], base: u64, edition: u64) -> Verdict
 // view's places are those that the page's own pointers name.
 pub fn read(page: &[u8], base: u64, edition: u64) -> Reading
     ensures { λ r. ⌜ r ≡ readingOf edition base (now (page .entry)) ⌝ }
+    ensures { λ r. ⌜ readingAnswer (now (page .entry)) r ≡ readOf edition base (now (page .entry)) ⌝ }
 {
     match judge_page(page, base, edition) {
         Verdict::Fine(w) => {

@@ -4,3 +4,4 @@ pub mod Counting
 pub mod Holding
 pub mod Laws
 pub mod Packing
+pub mod Next

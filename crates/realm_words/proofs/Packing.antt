@@ -4,9 +4,9 @@ use mathlib.Core.Path.{_≡_, refl, sym, ap, _∙_}
 use mathlib.Core.Bool.{Bool, true, false, cond}
 use mathlib.Core.List.{List, [], _∷_, _++_}
 use native.Mathlib.Omega.{arith}
-use native.Mathlib.Nat.{zero-div, pow-suc, not-suc-le-zero}
+use native.Mathlib.Nat.{zero-div, mul-assoc, mul-comm, pow-suc, not-suc-le-zero}
 use lib.ListN.{length, getD, take, drop, length-drop}
-use lib.Seq.{take-all, drop-cons, drop-drop, drop-length, getD-take, getD-drop}
+use lib.Seq.{length-take-le, take-add, take-all, drop-cons, drop-drop, drop-length, getD-take, getD-drop}
 use lib.Dec.{eqb}
 use lib.Pow.{pow-mono}
 use Rattle.realm_words.specs.Bits.{bitOf, bitAt, realmBit, packed, packedTo, wordsFor, realmWords}
@@ -42,6 +42,38 @@ packed-more t i b bits p h e f =
     let s : suc (i - 1) ≡ i = omega arith in
     let d : drop (i - 1) t ≡ getD t (i - 1) 0 ∷ drop i t = drop-cons t (i - 1) 0 (omega arith) ∙ ap (λ x. getD t (i - 1) 0 ∷ drop x t) s in
     rw (d, e, f)
+
+-- eight bytes, and those behind them
+packed-append : (xs ys : List ℕ) → packed (xs ++ ys) ≡ packed xs + 2 ^ length xs * packed ys
+unfolding packed
+packed-append [] ys = omega arith
+packed-append (x ∷ xs) ys =
+    let e : 2 ^ suc (length xs) * packed ys ≡ 2 * (2 ^ length xs * packed ys) = rw (pow-suc 2 (length xs), mul-comm (2 ^ length xs) 2) (mul-assoc 2 (2 ^ length xs) (packed ys)) in
+    rw (packed-append xs ys, e) (omega arith)
+
+octet-more : (n i j : ℕ) (t : List ℕ) → j ≡ i + 8 → i + 8 ≤ length t → packed (take (8 + n) (drop i t)) ≡ packed (take 8 (drop i t)) + 0x100 * packed (take n (drop j t))
+octet-more n i j t e h =
+    let l : length (take 8 (drop i t)) ≡ 8 = length-take-le 8 (drop i t) (rw length-drop (omega arith)) in
+    ap packed (take-add 8 n (drop i t)) ∙ packed-append (take 8 (drop i t)) (take n (drop 8 (drop i t))) ∙ rw (l, drop-drop, e)
+
+pub octet-lt : (i : ℕ) (t : List ℕ) → i + 8 ≤ length t → packed (take 8 (drop i t)) < 0x100
+octet-lt i t h =
+    let l : length (take 8 (drop i t)) ≡ 8 = length-take-le 8 (drop i t) (rw length-drop (omega arith)) in
+    rw l at (packed-lt (take 8 (drop i t)))
+
+pub eight-octets : (i : ℕ) (t : List ℕ) → i + 64 ≤ length t → packed (take 64 (drop i t))
+    ≡ packed (take 8 (drop i t)) + packed (take 8 (drop (i + 8) t)) * 0x100 + packed (take 8 (drop (i + 16) t)) * 0x1_0000 + packed (take 8 (drop (i + 24) t)) * 0x100_0000
+    + packed (take 8 (drop (i + 32) t)) * 0x1_0000_0000 + packed (take 8 (drop (i + 40) t)) * 0x100_0000_0000 + packed (take 8 (drop (i + 48) t)) * 0x1_0000_0000_0000
+    + packed (take 8 (drop (i + 56) t)) * 0x100_0000_0000_0000
+eight-octets i t h =
+    let a = octet-more 56 i (i + 8) t (omega arith) (omega arith) in
+    let b = octet-more 48 (i + 8) (i + 16) t (omega arith) (omega arith) in
+    let c = octet-more 40 (i + 16) (i + 24) t (omega arith) (omega arith) in
+    let d = octet-more 32 (i + 24) (i + 32) t (omega arith) (omega arith) in
+    let e = octet-more 24 (i + 32) (i + 40) t (omega arith) (omega arith) in
+    let f = octet-more 16 (i + 40) (i + 48) t (omega arith) (omega arith) in
+    let g = octet-more 8 (i + 48) (i + 56) t (omega arith) (omega arith) in
+    omega arith
 
 -- every bit of it, with 0 past the end
 pub packed-bit : (t : List ℕ) (i : ℕ) → bitOf (packed t) i ≡ realmBit (getD t i 0)

@@ -1,5 +1,6 @@
 -- What is answered from the words, of n granules. Assumes nothing.
-use Prim.Native.Nat.{ℕ, zero, suc, _+_, _-_}
+use Prim.Native.Nat.{ℕ, zero, suc, _+_, _-_, _≤_, _<_}
+use mathlib.Core.Path.{_≡_}
 use mathlib.Core.Bool.{Bool, true, false, cond}
 use mathlib.Core.List.{List, [], _∷_}
 use lib.ListN.{length, getD}
@@ -67,3 +68,13 @@ realms (b ∷ t) = realmBit b + realms t
 
 abbrev pub nextRealm : List ℕ → ℕ → Hit
 nextRealm t i = firstMarked (realmAt t) (length t - i) i
+
+-- ---- for the theorems, in plain facts: of n granules, j is the first one at or after i that f marks; and there is none
+pub record FirstAt (f : ℕ → ℕ) (n i j : ℕ) : Type 0 where
+  pub from : i ≤ j
+  pub below : j < n
+  pub marks : f j ≡ 1
+  pub before : (m : ℕ) → i ≤ m → m < j → f m ≡ 1 → ⊥
+
+abbrev pub NoneFrom : (ℕ → ℕ) → ℕ → ℕ → Type 0
+NoneFrom f n i = (m : ℕ) → i ≤ m → m < n → f m ≡ 1 → ⊥

@@ -1,6 +1,6 @@
 // Words beside the granule table: granule i is bit i mod 64 of word i / 64, set where the table's byte is Realm; spare bits are zero.
 ghost use mathlib.Core.Path.{_≡_};
-ghost use Prim.Native.Nat.{_%_, _^_, _<_, _≤_};
+ghost use Prim.Native.Nat.{_+_, _%_, _^_, _<_, _≤_};
 ghost use lib.ListN.{length, take, drop};
 ghost use lib.Count.{ones};
 ghost use Rattle.realm_words.specs.Bits.{realmBit, packed, wordsFor, withBit};
@@ -140,7 +140,16 @@ fn packed_of(block: &[u8]) -> u64
     bits
 }
 
-// The word of the granules from an index on.
+// The bits of the eight granules from an index on.
+fn octet(table: &[u8], index: usize) -> u64
+    requires { ⌜ index + 8 ≤ length (now table) ⌝ }
+    ensures { λ r. ⌜ (r ≡ packed (take 8 (drop index (now (table .entry))))) × (r < 0x100) ⌝ }
+{
+    let end = index + 8;
+    packed_of(&table[index..end])
+}
+
+// The word of the granules from an index on: eight octets, of which none waits for another.
 fn word_from(table: &[u8], index: usize) -> u64
     requires { ⌜ index ≤ length (now table) ⌝ }
     ensures { λ r. ⌜ r ≡ packed (take 64 (drop index (now (table .entry)))) ⌝ }
@@ -148,8 +157,14 @@ fn word_from(table: &[u8], index: usize) -> u64
     if table.len() - index < 64 {
         return packed_of(&table[index..]);
     }
-    let end = index + 64;
-    packed_of(&table[index..end])
+    octet(table, index)
+        + octet(table, index + 8) * 0x100
+        + octet(table, index + 16) * 0x1_0000
+        + octet(table, index + 24) * 0x100_0000
+        + octet(table, index + 32) * 0x1_0000_0000
+        + octet(table, index + 40) * 0x100_0000_0000
+        + octet(table, index + 48) * 0x1_0000_0000_0000
+        + octet(table, index + 56) * 0x100_0000_0000_0000
 }
 
 // Whether words and table have the lengths that so many granules ask for.

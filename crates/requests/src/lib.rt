@@ -5,7 +5,8 @@ use queue::Queue;
 use queue::Queued;
 use queue::Request;
 ghost use mathlib.Core.Path.{_≡_};
-ghost use Prim.Native.Nat.{_≤_};
+ghost use mathlib.Core.List.{List};
+ghost use Prim.Native.Nat.{ℕ, _≤_};
 ghost use lib.ListN.{length};
 ghost use Rattle.queue.specs.Queue.{Lists, listsOf, signingExit, exitOf};
 ghost use Rattle.queue_image.specs.Steps.{ImageStep};
@@ -28,17 +29,14 @@ fn request_of(buffer: &[u8]) -> Request
     }
 }
 
-// The checks of a push, where so many requests wait.
-fn push_code(buffer: &[u8], waiting: usize) -> Code
-    ensures { λ r. ⌜ ((q : Lists) → length (q .requests) ≡ waiting → r ≡ pushCode (now (buffer .entry)) q) ⌝ }
+// The checks of a push behind that of its size, by the ids of the request that was read, where so many requests wait.
+fn push_code(algorithm: u64, hashid: u64, waiting: usize) -> Code
+    ensures { λ r. ⌜ ((b : List ℕ) (q : Lists) → 80 ≤ length b → requestOf b .algorithm ≡ algorithm → requestOf b .hashid ≡ hashid → length (q .requests) ≡ waiting → r ≡ pushCode b q) ⌝ }
 {
-    if buffer.len() < 80 {
+    if algorithm != 0 {
         return Code::Inval;
     }
-    if words::half_at(buffer, 0) != 0 {
-        return Code::Inval;
-    }
-    if words::half_at(buffer, 24) != 1 {
+    if hashid != 1 {
         return Code::Inval;
     }
     if 8 <= waiting {
@@ -47,17 +45,25 @@ fn push_code(buffer: &[u8], waiting: usize) -> Code
     Code::Ok
 }
 
-// Push: the request in the buffer joins the end of those that wait.
+// Push: the request in the buffer joins the end of those that wait. The request is read once; that copy is judged, and that copy joins.
 pub fn push(buffer: &[u8], queue: Queue) -> Queued
     ensures { λ r. ⌜ signingExit r (now (buffer .entry)) ≡ exitOf queue (pushOf (now (buffer .entry)) (listsOf queue)) ⌝ }
 {
     let requests = queue.requests;
     let responses = queue.responses;
-    let checked = push_code(buffer, queue::request_count(requests));
+    if buffer.len() < 80 {
+        return queue::refused(Code::Inval, queue);
+    }
+    let request = request_of(buffer);
+    let checked = push_code(
+        request.algorithm,
+        request.hashid,
+        queue::request_count(requests),
+    );
     if !codes::is_ok(checked) {
         return queue::refused(checked, queue);
     }
-    let more = queue::join_request(requests, request_of(buffer));
+    let more = queue::join_request(requests, request);
     let same = queue::responses_from(responses, 0);
     Queued {
         answer: codes::answered(Code::Ok, 0, 0),
@@ -68,14 +74,23 @@ pub fn push(buffer: &[u8], queue: Queue) -> Queued
     }
 }
 
-// Push on the queue's image: all checks come before the first word is copied, and only the requests' side is touched.
+// Push on the queue's image: all checks come before the first word is copied, and only the requests' side is touched. Here too the
+// request is read once.
 pub fn push_on(buffer: &[u8], image: &mut [u64; 210]) -> Answer
     ensures { λ r. ⌜ _≡_ {A = ImageStep} (record { answer = r; page = now (buffer .entry); image = now (image .exit) }) (pushOn (now (buffer .entry)) (now (image .entry))) ⌝ }
 {
-    let code = push_code(buffer, queue_image::requests_waiting(image));
+    if buffer.len() < 80 {
+        return codes::answered(Code::Inval, 0, 0);
+    }
+    let request = request_of(buffer);
+    let code = push_code(
+        request.algorithm,
+        request.hashid,
+        queue_image::requests_waiting(image),
+    );
     if !codes::is_ok(code) {
         return codes::answered(code, 0, 0);
     }
-    queue_image::add_request(image, request_of(buffer));
+    queue_image::add_request(image, request);
     codes::answered(Code::Ok, 0, 0)
 }

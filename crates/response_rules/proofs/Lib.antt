@@ -3,3 +3,4 @@ pub mod Laid
 pub mod Pulls
 pub mod Signs
 pub mod OnImages
+pub mod Reasons

@@ -1,5 +1,4 @@
 pub mod Acts
-pub mod Plain
 pub mod Lists
 pub mod Refused
 pub mod Sessions
@@ -10,3 +9,4 @@ pub mod Changes
 pub mod Shared
 pub mod Agreement
 pub mod Books
+pub mod Unread

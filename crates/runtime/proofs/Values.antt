@@ -18,7 +18,7 @@ use Rattle.signing.specs.Signing.{signingOf}
 use Rattle.signing.proofs.Signings.{signing-refused}
 use Rattle.runtime.specs.declared.Kind.{Kind}
 use Rattle.runtime.specs.declared.Kind.the-variants.{ForwardError, Delegate, Undelegate, RealmKey, PlatformToken, Features, TokenSigning, KeyUpdate, Unlisted}
-use Rattle.runtime.specs.Step.{World, worldOf, Call, kindOf, needsOf, callBy, callOf, replyCode, afterMove, afterKey, afterToken, afterSigning, afterUpdate, queueBy, exitBy}
+use Rattle.runtime.specs.Step.{World, worldOf, Call, kindOf, callBy, callOf, replyCode, afterMove, afterKey, afterToken, afterSigning, afterUpdate, queueBy, exitBy}
 
 stands-for : (k : Code) (new : Lists) (old : Queue) → (isOk k ≡ false → new ≡ listsOf old) → listsOf (queueNext k new old) ≡ new
 stands-for k new old h = next-lists k new old ∙ if-ok-by (λ (l : Lists). l ≡ new) k new (listsOf old) (λ e. refl) (λ e. sym (h e))
@@ -33,8 +33,8 @@ module _ (g : Granules) (page table words : List ℕ) (session : Session) (q : Q
   abbrev before : World
   before = worldOf page table words session (listsOf q)
 
-  by-kind : (k : Kind) → listsOf (exitBy (needsOf k) q (callBy k g before c) .queue) ≡ callBy k g before c .next .queue
-  unfolding needsOf callBy exitBy queueBy replyCode afterMove afterKey afterToken afterSigning afterUpdate
+  by-kind : (k : Kind) → listsOf (exitBy k q (callBy k g before c) .queue) ≡ callBy k g before c .next .queue
+  unfolding callBy exitBy queueBy replyCode afterMove afterKey afterToken afterSigning afterUpdate
   by-kind ForwardError = refl
   by-kind Delegate = refl
   by-kind Undelegate = refl
@@ -47,6 +47,6 @@ module _ (g : Granules) (page table words : List ℕ) (session : Session) (q : Q
   by-kind KeyUpdate = refl
   by-kind Unlisted = refl
 
-  pub call-lists : listsOf (exitBy (needsOf (kindOf (c .id))) q (callOf g before c) .queue) ≡ callOf g before c .next .queue
+  pub call-lists : listsOf (exitBy (kindOf (c .id)) q (callOf g before c) .queue) ≡ callOf g before c .next .queue
   unfolding callOf
   call-lists = by-kind (kindOf (c .id))

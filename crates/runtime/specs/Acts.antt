@@ -1,5 +1,7 @@
 -- What a call does, by its function id. Assumes nothing.
 use mathlib.Core.Path.{_≡_}
+use Rattle.codes.specs.Codes.{answerOf}
+use Rattle.codes.specs.declared.Code.the-variants.{Unk}
 use Rattle.codes.specs.declared.Work.the-variants.{Nothing}
 use Rattle.granule_rules.specs.Granules.{Moved, delegateOf, undelegateOf}
 use Rattle.banks.specs.Banks.{Granules}
@@ -28,3 +30,5 @@ pub record CallActed (g : Granules) (w : World) (c : Call) : Type 0 where
   pub queues : c .id ≡ 0xC40001B5 → (s : SigningStep) → s ≡ signingOf (c .state) (w .page) (w .queue) (c .publicKey) (c .x1) (c .x2) (c .x3) (c .x4) →
       callOf g w c ≡ record { reply = Back (s .answer) Nothing; next = withQueue (s .queue) (withPage (s .page) w) }
   pub updates : c .id ≡ 0xC40001B6 → (u : Updated) → u ≡ updateOf (c .state) (c .width) (c .x1) → callOf g w c ≡ record { reply = Back (u .answer) (u .work); next = w }
+  -- "Any function id not listed below: UNK."
+  pub others : (c .id ≡ 0xC400018F → ⊥) → (c .id ≡ 0xC40001B0 → ⊥) → (c .id ≡ 0xC40001B1 → ⊥) → (c .id ≡ 0xC40001B2 → ⊥) → (c .id ≡ 0xC40001B3 → ⊥) → (c .id ≡ 0xC40001B4 → ⊥) → (c .id ≡ 0xC40001B5 → ⊥) → (c .id ≡ 0xC40001B6 → ⊥) → callOf g w c ≡ record { reply = Back (answerOf Unk 0 0) Nothing; next = w }

@@ -1,7 +1,7 @@
 -- One step of the runtime: state, command, answer, next state. Assumes nothing.
 use Prim.Native.Nat.{ℕ}
 use mathlib.Core.Bool.{Bool, true, false, cond}
-use mathlib.Core.List.{List, []}
+use mathlib.Core.List.{List}
 use lib.Dec.{eqb}
 use Rattle.boot.specs.declared.Record.{Record}
 use Rattle.codes.specs.Codes.{answerOf}
@@ -17,7 +17,6 @@ use Rattle.granule_rules.specs.declared.Direction.{Direction}
 use Rattle.attest.specs.Key.{Keyed, realmKeyOf}
 use Rattle.token_rules.specs.Token.{TokenStep, tokenOf}
 use Rattle.token_rules.specs.declared.Session.{Session}
-use Rattle.token_rules.specs.declared.Session.the-variants.{Idle}
 use Rattle.features.specs.Features.{featuresOf, updateOf, forwardOf}
 use Rattle.features.specs.declared.Updated.{Updated}
 use Rattle.queue.specs.declared.Queue.{Queue}
@@ -26,7 +25,6 @@ use Rattle.response_rules.specs.Sign.{SignStep, signOf}
 use Rattle.signing.specs.Signing.{signingOf}
 use Rattle.runtime.specs.declared.Kind.{Kind}
 use Rattle.runtime.specs.declared.Kind.the-variants.{ForwardError, Delegate, Undelegate, RealmKey, PlatformToken, Features, TokenSigning, KeyUpdate, Unlisted}
-use Rattle.runtime.specs.declared.Needs.{Needs}
 use Rattle.runtime.specs.declared.Reply.{Reply}
 use Rattle.runtime.specs.declared.Reply.the-variants.{Forward, Back}
 use Rattle.runtime.specs.declared.Stepped.{Stepped}
@@ -151,39 +149,6 @@ replyCode (Back a work) = a .code
 abbrev pub refusal : ℕ → Step → World → Step
 refusal x1 s w = record { reply = Back (answerOf (replyCode (s .reply)) x1 0) Nothing; next = w }
 
--- ---- the commands by the state that they use: delegation the granule table, the token its session, token signing the queue, the others
--- none of these
-unfoldable pub needsOf : Kind → Needs
-needsOf ForwardError = Needs.Nothing
-needsOf Delegate = Needs.Table Direction.Delegate
-needsOf Undelegate = Needs.Table Direction.Undelegate
-needsOf RealmKey = Needs.Nothing
-needsOf PlatformToken = Needs.Session
-needsOf Features = Needs.Nothing
-needsOf TokenSigning = Needs.Queue
-needsOf KeyUpdate = Needs.Nothing
-needsOf Unlisted = Needs.Nothing
-
--- the world of a page alone, and a call that lends no token and no public key
-abbrev pub noQueue : Lists
-noQueue = record { requests = []; responses = [] }
-
-abbrev pub plainWorld : List ℕ → World
-plainWorld page = worldOf page [] [] Idle noQueue
-
-abbrev pub plainCall : Record → ℕ → ℕ → ℕ → ℕ → List ℕ → ℕ → Call
-plainCall r id x1 x2 x3 key width = callWith r id x1 x2 x3 0 false key [] [] width
-
--- a call that uses none of these states, and so no granule record either; one that uses a state is answered as an id that is not listed
-unfoldable pub plainBy : Needs → Kind → World → Call → Step
-plainBy Needs.Nothing k w c = callBy k [] w c
-plainBy (Needs.Table d) k w c = back (answerOf Unk 0 0) w
-plainBy Needs.Session k w c = back (answerOf Unk 0 0) w
-plainBy Needs.Queue k w c = back (answerOf Unk 0 0) w
-
-unfoldable pub plainOf : World → Call → Step
-plainOf w c = plainBy (needsOf (kindOf (c .id))) (kindOf (c .id)) w c
-
 -- ---- a call by value: the answer, page, table and words at exit, and the states handed back
 pub record CallExit : Type 0 where
   pub reply : Reply
@@ -196,20 +161,40 @@ pub record CallExit : Type 0 where
 abbrev pub callExit : Stepped → List ℕ → List ℕ → List ℕ → CallExit
 callExit r page table words = record { reply = r .reply; page = page; table = table; words = words; session = r .session; queue = r .queue }
 
--- a command that does not use the queue hands it back as it was
-unfoldable pub queueBy : Needs → Code → Lists → Queue → Queue
-queueBy Needs.Nothing k new old = old
-queueBy (Needs.Table d) k new old = old
-queueBy Needs.Session k new old = old
-queueBy Needs.Queue k new old = queueNext k new old
+-- only the token uses the session, and only token signing the queue
+abbrev pub usesSession : Kind → Bool
+usesSession ForwardError = false
+usesSession Delegate = false
+usesSession Undelegate = false
+usesSession RealmKey = false
+usesSession PlatformToken = true
+usesSession Features = false
+usesSession TokenSigning = false
+usesSession KeyUpdate = false
+usesSession Unlisted = false
 
-unfoldable pub exitBy : Needs → Queue → Step → CallExit
-exitBy n old s =
+abbrev pub usesQueue : Kind → Bool
+usesQueue ForwardError = false
+usesQueue Delegate = false
+usesQueue Undelegate = false
+usesQueue RealmKey = false
+usesQueue PlatformToken = false
+usesQueue Features = false
+usesQueue TokenSigning = true
+usesQueue KeyUpdate = false
+usesQueue Unlisted = false
+
+-- a command that does not use the queue hands it back as it was
+unfoldable pub queueBy : Kind → Code → Lists → Queue → Queue
+queueBy kind k new old = cond (usesQueue kind) (queueNext k new old) old
+
+unfoldable pub exitBy : Kind → Queue → Step → CallExit
+exitBy kind old s =
     record {
       reply = s .reply;
       page = s .next .page;
       table = s .next .table .bytes;
       words = s .next .table .words;
       session = s .next .session;
-      queue = queueBy n (replyCode (s .reply)) (s .next .queue) old;
+      queue = queueBy kind (replyCode (s .reply)) (s .next .queue) old;
     }

@@ -4,14 +4,13 @@ use codes::Answer;
 use codes::Code;
 use codes::Work;
 use features::Updated;
-use granules::Direction;
 use queue::Queue;
 use queue::Queued;
 use token::Session;
 use token::Tokened;
 ghost use mathlib.Core.Path.{_≡_};
 ghost use Rattle.queue.specs.Queue.{listsOf};
-ghost use Rattle.runtime.specs.Step.{Step, worldOf, plainWorld, callWith, plainCall, kindOf, needsOf, plainOf, callOf, callExit, exitBy};
+ghost use Rattle.runtime.specs.Step.{worldOf, callWith, kindOf, callOf, callExit, exitBy};
 
 // A command, by its function id.
 pub enum Kind {
@@ -24,14 +23,6 @@ pub enum Kind {
     TokenSigning,
     KeyUpdate,
     Unlisted,
-}
-
-// Which state a command uses: delegation the granule table, the token its session, token signing the queue, the others none of these.
-pub enum Needs {
-    Nothing,
-    Table(Direction),
-    Session,
-    Queue,
 }
 
 // The answer: err_code goes to the Non-secure world, or the result registers come back, with what the platform has to do.
@@ -48,7 +39,7 @@ pub struct Stepped {
 }
 
 // The id is compared as 64 bits.
-fn kind_of(id: u64) -> Kind
+pub fn kind_of(id: u64) -> Kind
     ensures { λ r. ⌜ r ≡ kindOf id ⌝ }
 {
     match id {
@@ -61,24 +52,6 @@ fn kind_of(id: u64) -> Kind
         0xC400_01B5 => Kind::TokenSigning,
         0xC400_01B6 => Kind::KeyUpdate,
         _ => Kind::Unlisted,
-    }
-}
-
-// Which state the command of a function id uses.
-pub fn needs_of(id: u64) -> Needs
-    ensures { λ r. ⌜ r ≡ needsOf (kindOf id) ⌝ }
-{
-    let kind = kind_of(id);
-    match kind {
-        Kind::ForwardError => Needs::Nothing,
-        Kind::Delegate => Needs::Table(Direction::Delegate),
-        Kind::Undelegate => Needs::Table(Direction::Undelegate),
-        Kind::RealmKey => Needs::Nothing,
-        Kind::PlatformToken => Needs::Session,
-        Kind::Features => Needs::Nothing,
-        Kind::TokenSigning => Needs::Queue,
-        Kind::KeyUpdate => Needs::Nothing,
-        Kind::Unlisted => Needs::Nothing,
     }
 }
 
@@ -98,34 +71,6 @@ fn updated(done: Updated) -> Reply
     let answer = done.answer;
     let work = done.work;
     Reply::Back { answer, work }
-}
-
-// A call that uses none of these states. An id that uses one is answered as one that is not listed.
-pub fn plain_call(
-    state: Record,
-    id: u64,
-    x1: u64,
-    x2: u64,
-    x3: u64,
-    page: &mut [u8],
-    key: &[u8],
-    width: u64,
-) -> Reply
-    ensures { λ r. ⌜ _≡_ {A = Step} (record { reply = r; next = plainWorld (now (page .exit)) })
-        (plainOf (plainWorld (now (page .entry))) (plainCall state id x1 x2 x3 (now (key .entry)) width)) ⌝ }
-{
-    let kind = kind_of(id);
-    match kind {
-        Kind::ForwardError => Reply::Forward(features::forward(state, x1)),
-        Kind::Delegate => back(codes::answered(Code::Unk, 0, 0)),
-        Kind::Undelegate => back(codes::answered(Code::Unk, 0, 0)),
-        Kind::RealmKey => back(attest::realm_key(state, page, key, x1, x2, x3)),
-        Kind::PlatformToken => back(codes::answered(Code::Unk, 0, 0)),
-        Kind::Features => back(features::features(state, x1)),
-        Kind::TokenSigning => back(codes::answered(Code::Unk, 0, 0)),
-        Kind::KeyUpdate => updated(features::key_update(state, width, x1)),
-        Kind::Unlisted => back(codes::answered(Code::Unk, 0, 0)),
-    }
 }
 
 // What the token leaves, and what token signing leaves.
@@ -175,34 +120,75 @@ pub fn call(
     public: &[u8],
     width: u64,
 ) -> Stepped
-    ensures { λ r. ⌜ callExit r (now (page .exit)) (now (table .exit)) (now (words .exit)) ≡ exitBy (needsOf (kindOf id)) queue
+    ensures { λ r. ⌜ callExit r (now (page .exit)) (now (table .exit)) (now (words .exit)) ≡ exitBy (kindOf id) queue
         (callOf (now (granules .entry)) (worldOf (now (page .entry)) (now (table .entry)) (now (words .entry)) session (listsOf queue))
         (callWith state id x1 x2 x3 x4 busy (now (key .entry)) (now (token .entry)) (now (public .entry)) width)) ⌝ }
 {
-    match needs_of(id) {
-        Needs::Nothing => {
-            let reply = plain_call(state, id, x1, x2, x3, page, key, width);
+    let kind = kind_of(id);
+    match kind {
+        Kind::ForwardError => {
+            let error = features::forward(state, x1);
             Stepped {
-                reply,
+                reply: Reply::Forward(error),
                 session,
                 queue,
             }
         }
-        Needs::Table(direction) => {
-            let answer = granules::shift(granules, table, words, x1, state, direction);
+        Kind::Delegate => {
+            let answer = granules::delegate(state, granules, table, words, x1);
             Stepped {
                 reply: back(answer),
                 session,
                 queue,
             }
         }
-        Needs::Session => {
+        Kind::Undelegate => {
+            let answer = granules::undelegate(state, granules, table, words, x1);
+            Stepped {
+                reply: back(answer),
+                session,
+                queue,
+            }
+        }
+        Kind::RealmKey => {
+            let answer = attest::realm_key(state, page, key, x1, x2, x3);
+            Stepped {
+                reply: back(answer),
+                session,
+                queue,
+            }
+        }
+        Kind::PlatformToken => {
             let done = token::platform_token(state, page, session, busy, token, x1, x2, x3);
             after_token(done, queue)
         }
-        Needs::Queue => {
+        Kind::Features => {
+            let answer = features::features(state, x1);
+            Stepped {
+                reply: back(answer),
+                session,
+                queue,
+            }
+        }
+        Kind::TokenSigning => {
             let done = signing::token_signing(state, page, queue, public, x1, x2, x3, x4);
             after_signing(done, session)
+        }
+        Kind::KeyUpdate => {
+            let done = features::key_update(state, width, x1);
+            Stepped {
+                reply: updated(done),
+                session,
+                queue,
+            }
+        }
+        Kind::Unlisted => {
+            let answer = codes::answered(Code::Unk, 0, 0);
+            Stepped {
+                reply: back(answer),
+                session,
+                queue,
+            }
         }
     }
 }

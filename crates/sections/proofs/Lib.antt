@@ -1,3 +1,4 @@
 pub mod Sections
 pub mod Spans
 pub mod Room
+pub mod Facts

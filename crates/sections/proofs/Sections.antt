@@ -63,7 +63,7 @@ module _ (w e base k : ℕ) (page : List ℕ) where
   unfolding okAt secOk secAt mkSec either both
   ok-range h g = rw (h, g)
 
-  ok-sound : nothing (countAt k page) (pointerAt k page) (checkAt k page) ≡ false →
+  pub ok-sound : nothing (countAt k page) (pointerAt k page) (checkAt k page) ≡ false →
       inRange e base k (countAt k page) (pointerAt k page) ≡ true →
       okAt w e base k page ≡ soundOf w k (countAt k page) (pointerAt k page) (checkAt k page) (wordsAt k (countAt k page) (pointerAt k page - base) page)
   unfolding okAt secOk secAt mkSec either both wordsIn wordsAt
@@ -155,6 +155,11 @@ module _ (page : List ℕ) where
   pub clear-more : (i j : ℕ) → clearTo i j page ≡ true → apartAt i j page ≡ true → clearTo i (j + 1) page ≡ true
   unfolding clearTo
   clear-more i j p q = every-more j (λ j. apartAt i j page) p q
+
+  -- the array of section i by its two addresses
+  pub pair-apart : (i j from to : ℕ) → from ≡ pointerAt i page → to ≡ endOf i page → clearAt from to j page ≡ apartAt i j page
+  unfolding clearAt apartAt
+  pair-apart i j from to p q = rw (p, q)
 
   pub apart-none : apartTo 0 page ≡ true
   unfolding apartTo

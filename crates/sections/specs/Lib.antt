@@ -1,3 +1,4 @@
 pub mod Page
 pub mod Section
 pub mod Steps
+pub mod Facts

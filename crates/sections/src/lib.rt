@@ -10,7 +10,7 @@ ghost use Rattle.words.specs.Tests.{both};
 ghost use Rattle.versions.specs.Edition.{core};
 ghost use Rattle.sections.specs.Page.{placeOk, versionAt, paddingAt, countAt, pointerAt, checkAt, foundAt, mkPlat, platAt};
 ghost use Rattle.sections.specs.Section.{nothing, rulesAt};
-ghost use Rattle.sections.specs.Steps.{platEnd, okAt, okTo, endOf, apartAt, apartTo, clearAt, clearFrom, staysAt};
+ghost use Rattle.sections.specs.Steps.{platEnd, okAt, okTo, endOf, apartTo, clearAt, clearFrom, staysAt};
 ghost use Rattle.fields.specs.declared.FieldsEnd.the-variants.{Broken};
 
 // Whether a page of n bytes at this base is a place for a manifest.
@@ -84,7 +84,7 @@ fn plat_end(page: &[u8], base: u64, e: Edition, size: u64, plat: u64) -> FieldsE
 }
 
 // Whether a section's three words are zero.
-fn is_nothing(count: u64, pointer: u64, check: u64) -> bool
+pub fn is_nothing(count: u64, pointer: u64, check: u64) -> bool
     ensures { λ r. ⌜ r ≡ nothing count pointer check ⌝ }
 {
     if count != 0 {
@@ -139,30 +139,32 @@ fn end_of(page: &[u8], k: u8) -> u64
     pointer_at(page, k) + 8 * (words * count_at(page, k))
 }
 
-// Whether the arrays of sections i and j do not overlap.
-fn is_apart(page: &[u8], i: u8, j: u8) -> bool
-    requires { ⌜ (endOf i (now page) < 0x1_0000_0000_0000_0000) × (endOf j (now page) < 0x1_0000_0000_0000_0000) ⌝ }
-    ensures { λ r. ⌜ r ≡ apartAt i j (now (page .entry)) ⌝ }
+// Whether an array from one address up to another does not overlap that of section j.
+fn is_apart(page: &[u8], from: u64, to: u64, j: u8) -> bool
+    requires { ⌜ endOf j (now page) < 0x1_0000_0000_0000_0000 ⌝ }
+    ensures { λ r. ⌜ r ≡ clearAt from to j (now (page .entry)) ⌝ }
 {
-    if end_of(page, i) <= pointer_at(page, j) {
+    if to <= pointer_at(page, j) {
         return true;
     }
-    if end_of(page, j) <= pointer_at(page, i) {
+    if end_of(page, j) <= from {
         return true;
     }
     false
 }
 
 // Whether no two of the first n arrays overlap: each pair in turn, up to the first clash. An empty section has pointer and
-// count 0 and clashes with none.
+// count 0 and clashes with none. What belongs to section i is read once for all its pairs.
 fn all_apart(page: &[u8], n: u8) -> bool
     requires { ⌜ (n ≤ 4) × ((k : ℕ) → k < n → endOf k (now page) < 0x1_0000_0000_0000_0000) ⌝ }
     ensures { λ r. ⌜ r ≡ apartTo n (now (page .entry)) ⌝ }
 {
     let mut ok = true;
     'pairs: for i in 0..n {
+        let from = pointer_at(page, i);
+        let to = end_of(page, i);
         for j in 0..i {
-            if !is_apart(page, i, j) {
+            if !is_apart(page, from, to, j) {
                 ok = false;
                 break 'pairs;
             }
@@ -172,7 +174,7 @@ fn all_apart(page: &[u8], n: u8) -> bool
 }
 
 // Whether the addresses from one up to another share none with the array of section k, whatever its words: its end may be no address.
-fn is_clear(page: &[u8], from: u64, to: u64, k: u8) -> bool
+pub fn is_clear(page: &[u8], from: u64, to: u64, k: u8) -> bool
     ensures { λ r. ⌜ r ≡ clearAt from to k (now (page .entry)) ⌝ }
 {
     let pointer = pointer_at(page, k);

@@ -2,3 +2,5 @@ pub mod Buffers
 pub mod Signings
 pub mod Acts
 pub mod OnImages
+pub mod Unread
+pub mod Reasons

@@ -1,13 +1,13 @@
--- 01's example 14 as its view gives it, a console's line, an empty section, and the three codes. Assumes nothing.
+-- 01's example 14 as its view gives it, the same page with fields, a console's line, an empty section, and the three codes. Assumes nothing.
 use Prim.Native.Nat.{ℕ, zero, suc}
 use mathlib.Core.Path.{_≡_, refl}
 use mathlib.Core.List.{List, [], _∷_, _++_}
 use Rattle.words.specs.Tests.{both}
 use Rattle.words.specs.Word.{leBytes, joined}
 use Rattle.entries.specs.Entry.{wordsPerEntry}
-use Rattle.fields.specs.Fields.{raw}
+use Rattle.fields.specs.Fields.{raw, withdrawn}
 use Rattle.reader.specs.Answer.{Shown, absent, empty, full, shows, refused, minus, entryWord, bytesIn, entryCount}
-use Rattle.text_lines.specs.Text.{newline, space, dash, zeroX, manifestText, readAsText, platformText, noneText, absentText, refusedText, titleText, placesIn, places, decimal, signedDecimal, hexText, byteText, nameByte, nameText, wordText, gapText, partText, entryText, countText, stateText, sectionText, headText, pointerText, platText, valueByte, valueText, fieldText, fieldsText, listingOf}
+use Rattle.text_lines.specs.Text.{newline, space, dash, zeroX, manifestText, readAsText, platformText, noneText, absentText, refusedText, titleText, placesIn, places, decimal, signedDecimal, hexText, byteText, nameByte, nameText, wordText, gapText, partText, entryText, countText, stateText, sectionText, headText, pointerText, platText, valueByte, valueText, withdrawnText, fieldText, fieldsText, listingOf}
 
 -- "example 4's bank on a 0.2 page": one bank, and no section after it
 abbrev sections : ℕ → Shown
@@ -45,6 +45,29 @@ line7 = 99 ∷ 111 ∷ 104 ∷ 32 ∷ 97 ∷ 98 ∷ 115 ∷ 101 ∷ 110 ∷ 116 
 pub example-14 : listingOf (shows 2 2 (record { pointer = 0; fields = [] }) sections) ≡ line1 ++ line2 ++ line3 ++ line4 ++ line5 ++ line6 ++ line7
 unfolding listingOf headText platText fieldsText pointerText sectionText stateText countText entryText partText wordText gapText hexText decimal places placesIn titleText joined newline space zeroX manifestText readAsText platformText noneText absentText entryWord entryCount bytesIn wordsPerEntry both leBytes
 example-14 = refl
+
+-- the same page with fields behind its bank: a board name, a withdrawn one and an empty one, in page order after the platform line
+-- `platform 0x0000000080000038`
+abbrev pointerLine : List ℕ
+pointerLine = 112 ∷ 108 ∷ 97 ∷ 116 ∷ 102 ∷ 111 ∷ 114 ∷ 109 ∷ 32 ∷ 48 ∷ 120 ∷ 48 ∷ 48 ∷ 48 ∷ 48 ∷ 48 ∷ 48 ∷ 48 ∷ 48 ∷ 56 ∷ 48 ∷ 48 ∷ 48 ∷ 48 ∷ 48 ∷ 51 ∷ 56 ∷ 10 ∷ []
+
+-- `1 3 70 62 31`
+abbrev nameLine : List ℕ
+nameLine = 49 ∷ 32 ∷ 51 ∷ 32 ∷ 55 ∷ 48 ∷ 32 ∷ 54 ∷ 50 ∷ 32 ∷ 51 ∷ 49 ∷ 10 ∷ []
+
+-- `3 withdrawn`
+abbrev withdrawnLine : List ℕ
+withdrawnLine = 51 ∷ 32 ∷ 119 ∷ 105 ∷ 116 ∷ 104 ∷ 100 ∷ 114 ∷ 97 ∷ 119 ∷ 110 ∷ 10 ∷ []
+
+-- `255 0`
+abbrev emptyLine : List ℕ
+emptyLine = 50 ∷ 53 ∷ 53 ∷ 32 ∷ 48 ∷ 10 ∷ []
+
+pub fields-listing :
+    listingOf (shows 2 2 (record { pointer = 0x80000038; fields = raw 1 (112 ∷ 98 ∷ 49 ∷ []) ∷ withdrawn ∷ raw 255 [] ∷ [] }) sections)
+    ≡ line1 ++ pointerLine ++ nameLine ++ withdrawnLine ++ emptyLine ++ line3 ++ line4 ++ line5 ++ line6 ++ line7
+unfolding listingOf headText platText fieldsText fieldText valueText valueByte byteText withdrawnText pointerText sectionText stateText countText entryText partText wordText gapText hexText decimal places placesIn titleText joined newline space zeroX manifestText readAsText platformText noneText absentText entryWord entryCount bytesIn wordsPerEntry both leBytes
+fields-listing = refl
 
 -- a console: "its 8 bytes in order as 16 such digits, no 0x"
 -- `0x0000000009000000 0x0000000000000001 706c303131000000 0x0000000001000000 0x000000000001c200 0x0000000000000000`

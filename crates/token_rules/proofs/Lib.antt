@@ -1,3 +1,5 @@
 pub mod Tokens
 pub mod Calls
 pub mod Acts
+pub mod Unread
+pub mod Reasons

@@ -1,11 +1,11 @@
 -- Lists of bytes: numbers read from them are small, and words read from them are, written again, those bytes. Assumes nothing.
-use Prim.Native.Nat.{ℕ, zero, suc, _+_, _*_, _/_, _%_, _^_, _≤_, _<_}
-use mathlib.Core.Path.{_≡_, refl}
-use mathlib.Core.List.{List, [], _∷_}
+use Prim.Native.Nat.{ℕ, zero, suc, _+_, _-_, _*_, _/_, _%_, _^_, _≤_, _<_}
+use mathlib.Core.Path.{_≡_, refl, ap, _∙_}
+use mathlib.Core.List.{List, [], _∷_, _++_, append-nil}
 use native.Mathlib.Omega.{arith}
-use native.Mathlib.Nat.{pow-suc}
-use lib.ListN.{length, take, drop, getD, length-drop, take-append-drop}
-use lib.Seq.{getD-drop}
+use native.Mathlib.Nat.{pow-suc, sub-zero, suc-sub-suc}
+use lib.ListN.{length, take, drop, getD, replicate, length-drop, take-append-drop}
+use lib.Seq.{getD-drop, length-take-le}
 use lib.Dec.{lit≤}
 use borrow.Author.Tests.{lt-ltb}
 use Rattle.words.specs.Tests.{Yes}
@@ -40,15 +40,28 @@ unfolding wordsOf areWords
 words-read zero bs b = refl
 words-read (suc n) bs b = both-of _ _ (lt-ltb (leOf (take 8 bs)) (2 ^ 64) (number-below 8 bs b)) (words-read n (drop 8 bs) (bytes-drop 8 bs b))
 
-number-back : (n : ℕ) (bs : List ℕ) → Bytes bs → n ≤ length bs → leBytes n (leOf (take n bs)) ≡ take n bs
+-- the bytes of a number come back, with zeros to the end
+zero-bytes : (m : ℕ) → leBytes m 0 ≡ replicate m 0
+unfolding leBytes
+zero-bytes zero = refl
+zero-bytes (suc m) = ap (λ (t : List ℕ). 0 ∷ t) (zero-bytes m)
+
+pub number-padded : (m : ℕ) (bs : List ℕ) → Bytes bs → length bs ≤ m → leBytes m (leOf bs) ≡ bs ++ replicate (m - length bs) 0
 unfolding leOf leBytes
-number-back zero bs b h = refl
-number-back (suc n) [] b h = absurd (let z : ⊥ = omega arith in z)
-number-back (suc n) (x ∷ bs) b h =
+number-padded m [] b h = rw sub-zero (zero-bytes m)
+number-padded zero (x ∷ bs) b h = absurd (let z : ⊥ = omega arith in z)
+number-padded (suc m) (x ∷ bs) b h =
     let l : x < 256 = b 0 in
-    let low : (x + 256 * leOf (take n bs)) % 256 ≡ x = omega arith in
-    let high : (x + 256 * leOf (take n bs)) / 256 ≡ leOf (take n bs) = omega arith in
-    rw (low, high, number-back n bs (λ j. b (suc j)) (omega arith))
+    let low : (x + 256 * leOf bs) % 256 ≡ x = omega arith in
+    let high : (x + 256 * leOf bs) / 256 ≡ leOf bs = omega arith in
+    rw (low, high, suc-sub-suc, number-padded m bs (λ j. b (suc j)) (omega arith))
+
+-- as many as they are
+pub number-back : (n : ℕ) (bs : List ℕ) → Bytes bs → n ≤ length bs → leBytes n (leOf (take n bs)) ≡ take n bs
+number-back n bs b h =
+    let l : length (take n bs) ≡ n = length-take-le n bs h in
+    let z : n - length (take n bs) ≡ 0 = omega arith in
+    number-padded n (take n bs) (bytes-take n bs b) (omega arith) ∙ rw z (append-nil (take n bs))
 
 pub words-back : (n : ℕ) (bs : List ℕ) → Bytes bs → length bs ≡ 8 * n → bytesOf (wordsOf n bs) ≡ bs
 unfolding wordsOf bytesOf

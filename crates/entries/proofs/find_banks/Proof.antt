@@ -15,12 +15,11 @@ use Rattle.entries.proofs.find_banks.Tie as tie
 use Rattle.entries.proofs.Bits.none.Reads as none-reads
 use Rattle.entries.proofs.banks_clear.Reads as banks-clear-reads
 use Rattle.entries.proofs.with_bank.Reads as with-bank-reads
-use Rattle.entries.proofs.last_of.Reads as last-of-reads
 use Rattle.std.proofs.num.wrapping_add_u64.Reads as wrapping-add-u64-reads
 use Rattle.words.proofs.word_at.Reads as word-at-reads
 
 abbrev Inv-loop : tie.InvT-loop
-Inv-loop page minor k at count bits₀ sum₀ from₀ i₀ bits s from i = (i ≤ count) × (from ≡ at + 16 * i) × ((s + i) % 2 ^ 64 ≡ sum (wordsOf (2 * i) (part at (8 * (2 * count)) page)) % 2 ^ 64) × (bankClear bits ≡ entriesAt minor k at i page)
+Inv-loop page minor k at count bits₀ sum₀ from₀ i₀ bits s from i = (i ≤ count) × (from ≡ at + 16 * i) × (s ≡ sum (wordsOf (2 * i) (part at (8 * (2 * count)) page)) % 2 ^ 64) × (bankClear bits ≡ entriesAt minor k at i page)
 
 abbrev μ-loop : tie.MeasureT-loop
 μ-loop page minor k at count bits₀ sum₀ from₀ i₀ bits sum from i = count - i
@@ -52,11 +51,11 @@ whole-word-requires c κs = search needs
 whole-word-requires-2 : tie.Need-whole-word-requires-2 Inv-loop μ-loop
 whole-word-requires-2 c κs = search needs
 
-last-of-requires : tie.Need-last-of-requires Inv-loop μ-loop
-last-of-requires c κs = search needs
-
 wrapping-add-u64-requires : tie.Need-wrapping-add-u64-requires Inv-loop μ-loop
 wrapping-add-u64-requires c κs = search needs
+
+wrapping-add-u64-requires-2 : tie.Need-wrapping-add-u64-requires-2 Inv-loop μ-loop
+wrapping-add-u64-requires-2 c κs = search needs
 
 with-bank-requires : tie.Need-with-bank-requires Inv-loop μ-loop
 with-bank-requires c κs = search needs
@@ -73,21 +72,18 @@ loop-again c =
     let l = c .before .before .before .before .before .before .before .loop in
     let x : c .before .before .before .before .whole-word .result ≡ wordAt (l .from) (a .page .now) = c .before .before .before .before .whole-word .ensures ∙ word-lent (l .from) 16 0 (l .from) (a .page .now) (omega arith) (omega arith) (omega arith) in
     let y : c .before .before .before .whole-word2 .result ≡ wordAt (l .from + 8) (a .page .now) = c .before .before .before .whole-word2 .ensures ∙ word-lent (l .from) 16 8 (l .from + 8) (a .page .now) (omega arith) (omega arith) (omega arith) in
-    (search needs, search needs, sum-bank (a .page .now) (a .at) (l .from) (l .i) (8 * (2 * a .count)) (l .sum) _ _ _ _ (omega arith) (l .inv .1) (l .inv .2) x y (c .before .before .last-of .ensures) (c .before .wrapping-add-u64 .ensures), bank-step (a .minor) (a .at) (l .i) (a .page .now) _ (a .k) _ _ (c .before .before .before .before .before .before .before .before .before .before .pre .0) (rw (l .inv .1) at x) (rw (l .inv .1) at y) (c .with-bank .ensures ∙ ap (λ z. both z (bankOk (c .before .before .before .before .whole-word .result) (c .before .before .before .whole-word2 .result))) (l .inv .3)))
+    (search needs, search needs, sum-bank (a .page .now) (a .at) (l .from) (l .i) (8 * (2 * a .count)) (l .sum) _ _ _ _ (omega arith) (l .inv .1) (l .inv .2) x y (c .before .before .wrapping-add-u64 .ensures) (c .before .wrapping-add-u642 .ensures), bank-step (a .minor) (a .at) (l .i) (a .page .now) _ (a .k) _ _ (c .before .before .before .before .before .before .before .before .before .before .pre .0) (rw (l .inv .1) at x) (rw (l .inv .1) at y) (c .with-bank .ensures ∙ ap (λ z. both z (bankOk (c .before .before .before .before .whole-word .result) (c .before .before .before .whole-word2 .result))) (l .inv .3)))
 
 banks-clear-requires : tie.Need-banks-clear-requires Inv-loop μ-loop
 banks-clear-requires c κs = search needs
 
-wrapping-add-u64-requires-2 : tie.Need-wrapping-add-u64-requires-2 Inv-loop μ-loop
-wrapping-add-u64-requires-2 c κs = search needs
-
 returns : tie.Need-returns Inv-loop μ-loop
 unfolding sumAt
 returns c =
-    let a = c .before .before .before .before .before .before .args in
-    let l = c .before .before .before .loop in
+    let a = c .before .before .before .before .before .args in
+    let l = c .before .before .loop in
     let e : l .i ≡ a .count = omega arith in
-    (c .wrapping-add-u642 .ensures ∙ rw e at (l .inv .2), c .before .banks-clear .ensures ∙ l .inv .3 ∙ rw e)
+    (rw e at (l .inv .2), c .banks-clear .ensures ∙ l .inv .3 ∙ rw e)
 
 pub find-banks-spec : {M : Type 1} → statement M
 find-banks-spec =
@@ -103,12 +99,11 @@ find-banks-spec =
     part-bank-end
     whole-word-requires
     whole-word-requires-2
-    last-of-requires
     wrapping-add-u64-requires
+    wrapping-add-u64-requires-2
     with-bank-requires
     add-i
     loop-less
     loop-again
     banks-clear-requires
-    wrapping-add-u64-requires-2
     returns)

@@ -11,12 +11,11 @@ use Rattle.lists.proofs.sum_banks.Statement.{statement}
 use Rattle.lists.proofs.sum_banks.Tie as tie
 use Rattle.entries.proofs.Bits.none.Reads as none-reads
 use Rattle.entries.proofs.banks_clear.Reads as banks-clear-reads
-use Rattle.entries.proofs.last_of.Reads as last-of-reads
 use Rattle.entries.proofs.with_bank.Reads as with-bank-reads
 use Rattle.std.proofs.num.wrapping_add_u64.Reads as wrapping-add-u64-reads
 
 abbrev Inv-loop : tie.InvT-loop
-Inv-loop words minor k count bits₀ sum₀ at₀ i₀ bits s at i = (i ≤ count) × (at ≡ 2 * i) × ((s + i) % 2 ^ 64 ≡ sum (take (2 * i) words) % 2 ^ 64) × (bankClear bits ≡ entriesOk minor k i words)
+Inv-loop words minor k count bits₀ sum₀ at₀ i₀ bits s at i = (i ≤ count) × (at ≡ 2 * i) × (s ≡ sum (take (2 * i) words) % 2 ^ 64) × (bankClear bits ≡ entriesOk minor k i words)
 
 abbrev μ-loop : tie.MeasureT-loop
 μ-loop words minor k count bits₀ sum₀ at₀ i₀ bits sum at i = count - i
@@ -45,11 +44,11 @@ mul-size c = search needs
 shared-slice-read-size : tie.Need-shared-slice-read-size Inv-loop μ-loop
 shared-slice-read-size c = search needs
 
-last-of-requires : tie.Need-last-of-requires Inv-loop μ-loop
-last-of-requires c κs = search needs
-
 wrapping-add-u64-requires : tie.Need-wrapping-add-u64-requires Inv-loop μ-loop
 wrapping-add-u64-requires c κs = search needs
+
+wrapping-add-u64-requires-2 : tie.Need-wrapping-add-u64-requires-2 Inv-loop μ-loop
+wrapping-add-u64-requires-2 c κs = search needs
 
 with-bank-requires : tie.Need-with-bank-requires Inv-loop μ-loop
 with-bank-requires c κs = search needs
@@ -69,22 +68,19 @@ loop-again c =
     let l = c .before .before .before .before .before .before .loop in (
       search needs,
       search needs,
-      sum-bank (a .words .now) (l .i) (l .at) (l .sum) _ _ (omega arith) (l .inv .1) (l .inv .2) (c .before .before .last-of .ensures) (c .before .wrapping-add-u64 .ensures),
+      sum-bank (a .words .now) (l .i) (l .at) (l .sum) _ _ (omega arith) (l .inv .1) (l .inv .2) (c .before .before .wrapping-add-u64 .ensures) (c .before .wrapping-add-u642 .ensures),
       described-bank (a .minor) (l .i) (a .words .now) _ (a .k) (l .at) (c .before .before .before .before .before .before .before .before .before .pre .0) (l .inv .1) (c .with-bank .ensures ∙ ap (λ x. both x (bankOk (getD (a .words .now) (l .at) 0) (getD (a .words .now) (l .at + 1) 0))) (l .inv .3)),
     )
 
 banks-clear-requires : tie.Need-banks-clear-requires Inv-loop μ-loop
 banks-clear-requires c κs = search needs
 
-wrapping-add-u64-requires-2 : tie.Need-wrapping-add-u64-requires-2 Inv-loop μ-loop
-wrapping-add-u64-requires-2 c κs = search needs
-
 returns : tie.Need-returns Inv-loop μ-loop
 returns c =
-    let a = c .before .before .before .before .before .before .args in
-    let l = c .before .before .before .loop in
+    let a = c .before .before .before .before .before .args in
+    let l = c .before .before .loop in
     let e : l .i ≡ a .count = omega arith in
-    (c .wrapping-add-u642 .ensures ∙ rw e at (l .inv .2), c .before .banks-clear .ensures ∙ l .inv .3 ∙ rw e)
+    (rw e at (l .inv .2), c .banks-clear .ensures ∙ l .inv .3 ∙ rw e)
 
 pub sum-banks-spec : {M : Type 1} → statement M
 sum-banks-spec =
@@ -99,13 +95,12 @@ sum-banks-spec =
     add-size
     mul-size
     shared-slice-read-size
-    last-of-requires
     wrapping-add-u64-requires
+    wrapping-add-u64-requires-2
     with-bank-requires
     add-at
     add-i
     loop-less
     loop-again
     banks-clear-requires
-    wrapping-add-u64-requires-2
     returns)

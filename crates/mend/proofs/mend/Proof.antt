@@ -6,7 +6,7 @@ use Rattle.versions.specs.Version.{versionOk}
 use Rattle.sections.specs.Page.{placeOk, versionAt}
 use Rattle.mend.specs.declared.Mended.{Mended}
 use Rattle.mend.specs.declared.Mended.the-variants.{Done}
-use Rattle.mend.proofs.Parts.{mend-place, mend-version, mend-done}
+use Rattle.mend.proofs.Parts.{mend-told, mend-place, mend-version, mend-done}
 use borrow.Author.Needs.{needs}
 use Rattle.mend.proofs.mend.Statement.{statement}
 use Rattle.mend.proofs.mend.Tie as tie
@@ -17,7 +17,7 @@ place-ok-requires c κs = search needs
 returns : tie.Need-returns
 returns c =
     let a = c .before .before .before .args in
-    mend-place (a .base) (a .page .now) (sym (c .before .place-ok .ensures) ∙ not-true _ (c .if1 .taken))
+    mend-told (a .base) (a .page .now) _ _ (mend-place (a .base) (a .page .now) (sym (c .before .place-ok .ensures) ∙ not-true _ (c .if1 .taken)))
 
 version-at-requires : tie.Need-version-at-requires
 version-at-requires c κs = search needs
@@ -33,7 +33,7 @@ returns-2 c =
     let a = c .before .before .before .before .before .before .before .args in
     let p : placeOk (a .base) (length (a .page .now)) ≡ true = sym (c .before .before .before .before .before .place-ok .ensures) ∙ not-false _ (c .before .before .before .before .if1 .left) in
     let v : versionOk (versionAt (a .page .now)) ≡ false = rw (← c .before .before .version-at .ensures) (sym (c .before .is-accepted .ensures) ∙ not-true _ (c .if2 .taken)) in
-    mend-version (a .base) (a .page .now) p v
+    mend-told (a .base) (a .page .now) _ _ (mend-version (a .base) (a .page .now) p v)
 
 minor-requires : tie.Need-minor-requires
 minor-requires c κs = search needs
@@ -56,7 +56,7 @@ returns-3 c =
     let p : placeOk (a .base) (length (a .page .now)) ≡ true = sym (c .before .before .before .before .before .before .before .before .before .before .before .place-ok .ensures) ∙ not-false _ (c .before .before .before .before .before .before .before .before .before .before .if1 .left) in
     let v : versionOk (versionAt (a .page .now)) ≡ true = rw (← c .before .before .before .before .before .before .before .before .version-at .ensures) (sym (c .before .before .before .before .before .before .before .is-accepted .ensures) ∙ not-false _ (c .before .before .before .before .before .before .if2 .left)) in
     let d = mend-done (a .base) (a .page .now) p v in
-    (ap {B = Mended} Done (c .before .before .mend-parts .ensures .0) ∙ d .0, c .before .before .mend-parts .ensures .1 ∙ d .1)
+    mend-told (a .base) (a .page .now) _ _ (ap {B = Mended} Done (c .before .before .mend-parts .ensures .0) ∙ d .0, c .before .before .mend-parts .ensures .1 ∙ d .1)
 
 pub mend-spec : {M : Type 1} → statement M
 mend-spec =

@@ -25,7 +25,7 @@ same-length : tie.Need-same-length
 same-length c = search needs
 
 returns-2 : tie.Need-returns-2
-returns-2 c = let b = c .before .before .before .before .before .before .before .before in λ input e. input-mended (b .args .room .now) input _ (b .args .n) _ _ (search needs) (search needs) e (c .before .before .before .before .word-at .ensures) (c .before .before .mend .ensures .0) (c .before .before .mend .ensures .1)
+returns-2 c = let b = c .before .before .before .before .before .before .before .before in λ input e. input-mended (b .args .room .now) input _ (b .args .n) _ _ (search needs) (search needs) e (c .before .before .before .before .word-at .ensures) (c .before .before .mend .ensures .0) (c .before .before .mend .ensures .1 .0)
 
 pub mend-input-spec : {M : Type 1} → statement M
 mend-input-spec =

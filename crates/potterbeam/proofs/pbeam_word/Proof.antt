@@ -1,20 +1,25 @@
-use Rattle.export_rules.proofs.Shown.{told-word}
+use Rattle.lookup.proofs.Lookups.{told-view}
+use Rattle.images.specs.Image.{viewOf}
 use borrow.Author.Needs.{needs}
 use Rattle.potterbeam.proofs.pbeam_word.Statement.{statement}
 use Rattle.potterbeam.proofs.pbeam_word.Tie as tie
-use Rattle.images.proofs.view_of.Reads as view-of-reads
-use Rattle.lookup.proofs.word_of.Reads as word-of-reads
+use Rattle.images.proofs.section_of.Reads as section-of-reads
+use Rattle.lookup.proofs.word_in.Reads as word-in-reads
 
-view-of-requires : tie.Need-view-of-requires
-view-of-requires c κs = search needs
+section-of-requires : tie.Need-section-of-requires
+section-of-requires c κs = search needs
 
-word-of-requires : tie.Need-word-of-requires
-word-of-requires c κs = search needs
+element-copy-out-word-in : tie.Need-element-copy-out-word-in
+element-copy-out-word-in c = search needs
+
+word-in-requires : tie.Need-word-in-requires
+word-in-requires c κs = search needs
 
 returns : tie.Need-returns
+unfolding viewOf
 returns c =
-    let a = c .before .before .before .args in
-    told-word (a .page .now) _ _ (a .section) (a .entry) (a .word) (c .before .view-of .ensures) _ (c .word-of .ensures)
+    let a = c .before .before .before .before .args in
+    told-view (a .page .now) (viewOf (a .view .now)) (a .section) (a .entry) (a .word) _ (c .before .before .section-of .ensures) _ (c .word-in .ensures)
 
 pub pbeam-word-spec : {M : Type 1} → statement M
-pbeam-word-spec = tie.close (tie.spec view-of-requires word-of-requires returns)
+pbeam-word-spec = tie.close (tie.spec section-of-requires element-copy-out-word-in word-in-requires returns)

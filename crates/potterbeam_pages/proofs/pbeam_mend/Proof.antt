@@ -22,7 +22,7 @@ returns : tie.Need-returns
 returns c =
     let q : toZ w32 (ofZ w32 (c .number .result)) ≡ c .number .result = search needs in
     let m = c .before .before .before .before .mend .ensures in
-    (q ∙ c .number .ensures ∙ ap mendedNumber (m .0), (c .before .report-words .ensures ∙ ap reportWords (m .0), m .1))
+    (q ∙ c .number .ensures ∙ ap mendedNumber (m .0), (c .before .report-words .ensures ∙ ap reportWords (m .0), m .1 .0))
 
 pub pbeam-mend-spec : {M : Type 1} → statement M
 pbeam-mend-spec =

@@ -1,47 +1,89 @@
-use mathlib.Core.Path.{_≡_, refl, sym, _∙_}
-use Prim.Native.Nat.{_-_, _≤_}
+use mathlib.Core.Path.{_≡_, refl, sym, ap, _∙_}
+use Prim.Native.Nat.{ℕ, _+_, _*_, _/_, _-_, _≤_}
+use mathlib.Core.List.{List}
 use lib.ListN.{length, length-set}
-use Rattle.words.proofs.Store.{bytesTo, bytes-out, bytes-none, bytes-more, bytes-all}
+use Rattle.words.proofs.Store.{bytesTo, bytes-out, bytes-none, bytes-more, bytes-all, block-more}
 use borrow.Author.Needs.{needs}
 use native.Mathlib.Omega.{arith}
 use Rattle.words.proofs.copy.Statement.{statement}
 use Rattle.words.proofs.copy.Tie as tie
+use Rattle.words.proofs.copy_block.Reads as copy-block-reads
 
 abbrev Inv-loop : tie.InvT-loop
-Inv-loop to₀ from i₀ i-end to i = (i ≤ length from) × (length to ≡ length to₀) × (to ≡ bytesTo from i to₀)
+Inv-loop to₀ from blocks k₀ to k = (k ≤ blocks) × (length to ≡ length to₀) × (to ≡ bytesTo 0 from (16 * k) to₀)
 
 abbrev μ-loop : tie.MeasureT-loop
-μ-loop to₀ from i₀ i-end to i = length from - i
+μ-loop to₀ from blocks k₀ to k = blocks - k
 
-returns : tie.Need-returns Inv-loop μ-loop
-returns c = let a = c .before .args in sym (bytes-out 0 (a .from .now) (a .to .now) (omega arith))
+abbrev Inv-loop2 : tie.InvT-loop2
+Inv-loop2 to₀ from blocks i₀ i-end to i = (i ≤ length from) × (length to ≡ length to₀) × ((s : List ℕ) → length s ≡ length to₀ → to₀ ≡ bytesTo 0 from i₀ s → to ≡ bytesTo 0 from i s)
 
-loop-holds : tie.Need-loop-holds Inv-loop μ-loop
-loop-holds c = let a = c .before .args in (search needs, refl, bytes-none (a .from .now) (a .to .now))
+abbrev μ-loop2 : tie.MeasureT-loop2
+μ-loop2 to₀ from blocks i₀ i-end to i = length from - i
 
-shared-slice-read-to : tie.Need-shared-slice-read-to Inv-loop μ-loop
-shared-slice-read-to c = search needs
+returns : tie.Need-returns Inv-loop μ-loop Inv-loop2 μ-loop2
+returns c = let a = c .before .before .before .args in sym (bytes-out 0 (a .from .now) (a .to .now) (omega arith))
 
-slice-write-to : tie.Need-slice-write-to Inv-loop μ-loop
-slice-write-to c = search needs
+loop-holds : tie.Need-loop-holds Inv-loop μ-loop Inv-loop2 μ-loop2
+loop-holds c = let a = c .before .before .before .args in (search needs, refl, bytes-none 0 (a .from .now) (a .to .now))
 
-add-i : tie.Need-add-i Inv-loop μ-loop
-add-i c = search needs
+mul-copy-block : tie.Need-mul-copy-block Inv-loop μ-loop Inv-loop2 μ-loop2
+mul-copy-block c = search needs
 
-loop-less : tie.Need-loop-less Inv-loop μ-loop
+copy-block-requires : tie.Need-copy-block-requires Inv-loop μ-loop Inv-loop2 μ-loop2
+copy-block-requires c κs = search needs
+
+add-k : tie.Need-add-k Inv-loop μ-loop Inv-loop2 μ-loop2
+add-k c = search needs
+
+loop-less : tie.Need-loop-less Inv-loop μ-loop Inv-loop2 μ-loop2
 loop-less c = search needs
 
-loop-again : tie.Need-loop-again Inv-loop μ-loop
+loop-again : tie.Need-loop-again Inv-loop μ-loop Inv-loop2 μ-loop2
 loop-again c =
-    let a = c .before .before .before .before .args in
-    let l = c .before .before .loop in
-    (search needs, simp length-set (omega arith), rw (l .inv .2) (bytes-more (a .from .now) (l .i) (a .to .now) (omega arith) (omega arith) (rw (← l .inv .2) (l .inv .1))))
+    let a = c .before .before .before .before .before .before .before .before .before .args in
+    let l = c .before .before .before .before .before .loop in
+    (search needs, search needs, c .before .before .copy-block .ensures ∙ rw (l .inv .2) (block-more (a .from .now) (l .k) (a .to .now) (omega arith) (omega arith)))
 
-same-length : tie.Need-same-length Inv-loop μ-loop
+mul-i : tie.Need-mul-i Inv-loop μ-loop Inv-loop2 μ-loop2
+mul-i c = search needs
+
+loop2-holds : tie.Need-loop2-holds Inv-loop μ-loop Inv-loop2 μ-loop2
+loop2-holds c = (search needs, refl, λ s h e. e)
+
+shared-slice-read-to : tie.Need-shared-slice-read-to Inv-loop μ-loop Inv-loop2 μ-loop2
+shared-slice-read-to c = search needs
+
+slice-write-to : tie.Need-slice-write-to Inv-loop μ-loop Inv-loop2 μ-loop2
+slice-write-to c = search needs
+
+add-i : tie.Need-add-i Inv-loop μ-loop Inv-loop2 μ-loop2
+add-i c = search needs
+
+loop2-less : tie.Need-loop2-less Inv-loop μ-loop Inv-loop2 μ-loop2
+loop2-less c = search needs
+
+loop2-again : tie.Need-loop2-again Inv-loop μ-loop Inv-loop2 μ-loop2
+loop2-again c =
+    let a = c .before .before .before .before .before .before .before .before .args in
+    let l = c .before .before .loop2 in
+    let n = c .before .before .before .before .loop .inv .1 in (
+      search needs,
+      simp length-set (omega arith),
+      λ s h e. rw (l .inv .2 s h e) (bytes-more 0 (l .i) (a .from .now) (l .i) s (omega arith) (omega arith) (omega arith) (rw (← l .inv .2 s h e) (omega arith))),
+    )
+
+same-length : tie.Need-same-length Inv-loop μ-loop Inv-loop2 μ-loop2
 same-length c = search needs
 
-returns-2 : tie.Need-returns-2 Inv-loop μ-loop
-returns-2 c = let a = c .before .before .before .args in let l = c .before .loop in l .inv .2 ∙ bytes-all (a .from .now) (a .to .now) (l .i) (omega arith) (omega arith)
+returns-2 : tie.Need-returns-2 Inv-loop μ-loop Inv-loop2 μ-loop2
+returns-2 c =
+    let a = c .before .before .before .before .before .before .before .args in
+    let m = c .before .before .before .loop in
+    let l = c .before .loop2 in
+    let e : m .k ≡ length (a .from .now) / 16 = omega arith in
+    l .inv .2 (a .to .now) (sym (m .inv .1)) (m .inv .2 ∙ ap (λ (n : ℕ). bytesTo 0 (a .from .now) (16 * n) (a .to .now)) e)
+    ∙ bytes-all 0 (a .from .now) (a .to .now) (l .i) (omega arith) (omega arith)
 
 pub copy-spec : {M : Type 1} → statement M
 copy-spec =
@@ -49,12 +91,21 @@ copy-spec =
     (tie.spec
     Inv-loop
     μ-loop
+    Inv-loop2
+    μ-loop2
     returns
     loop-holds
+    mul-copy-block
+    copy-block-requires
+    add-k
+    loop-less
+    loop-again
+    mul-i
+    loop2-holds
     shared-slice-read-to
     slice-write-to
     add-i
-    loop-less
-    loop-again
+    loop2-less
+    loop2-again
     same-length
     returns-2)

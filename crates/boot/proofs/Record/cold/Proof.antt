@@ -1,7 +1,8 @@
+use Rattle.reader.specs.Reading.{numberIn}
 use Rattle.reader.proofs.Whole.{fine-reads, refused-reads}
 use mathlib.Core.Path.{sym, ap, _∙_}
 use borrow.Author.Tests.{not-true, not-false}
-use Rattle.boot.specs.Boot.{bootNumber, numberIn, paramsOf}
+use Rattle.boot.specs.Boot.{bootNumber, paramsOf}
 use Rattle.boot.proofs.Booting.{cold-state, cold-version, cold-cpus, cold-cpu, cold-kept, cold-refused, cold-up}
 use borrow.Author.Needs.{needs}
 use Rattle.boot.proofs.Record.cold.Statement.{statement}
@@ -78,7 +79,7 @@ unfolding numberIn
 returns-6 c =
     let a = c .before .before .before .before .before .before .before .before .before .before .before .before .before .args in
     let g = c .before .before .enum-told2 .given in
-    let k = cold-refused (a .self) (a .x0) (a .x1) (a .x2) (a .x3) (a .most) (a .kept) (a .page .now) (sym (c .before .before .before .before .before .before .before .before .before .before .before .is-fresh .ensures) ∙ not-false _ (c .before .before .before .before .before .before .before .before .before .before .if1 .left)) (sym (c .before .before .before .before .before .before .before .before .before .is-accepted .ensures) ∙ not-false _ (c .before .before .before .before .before .before .before .before .if2 .left)) (search needs) (search needs) (search needs) (g .0 .0) (refused-reads 4 (a .x3) (a .page .now) _ (sym (g .1) ∙ c .before .before .before .before .judge-page .ensures)) in
+    let k = cold-refused (a .self) (a .x0) (a .x1) (a .x2) (a .x3) (a .most) (a .kept) (a .page .now) (sym (c .before .before .before .before .before .before .before .before .before .before .before .is-fresh .ensures) ∙ not-false _ (c .before .before .before .before .before .before .before .before .before .before .if1 .left)) (sym (c .before .before .before .before .before .before .before .before .before .is-accepted .ensures) ∙ not-false _ (c .before .before .before .before .before .before .before .before .if2 .left)) (search needs) (search needs) (search needs) (g .0 .0) (refused-reads 4 (a .x3) (a .page .now) _ (sym (g .1) ∙ c .before .before .before .before .judge-page .ensures .0)) in
     (ap bootNumber (c .failed6 .ensures .1) ∙ c .before .code-of .ensures ∙ ap numberIn (g .1) ∙ k .0, c .failed6 .ensures .0 ∙ k .1)
 
 agreed-minor-requires : tie.Need-agreed-minor-requires
@@ -89,7 +90,7 @@ unfolding paramsOf
 returns-7 c =
     let a = c .before .before .before .before .before .before .before .before .before .before .before .before .args in
     let g = c .before .enum-told .given in
-    let k = cold-up (a .self) (a .x0) (a .x1) (a .x2) (a .x3) (a .most) (a .kept) (a .page .now) (sym (c .before .before .before .before .before .before .before .before .before .before .is-fresh .ensures) ∙ not-false _ (c .before .before .before .before .before .before .before .before .before .if1 .left)) (sym (c .before .before .before .before .before .before .before .before .is-accepted .ensures) ∙ not-false _ (c .before .before .before .before .before .before .before .if2 .left)) (search needs) (search needs) (search needs) _ (fine-reads 4 (a .x3) (a .page .now) _ (sym (g .1) ∙ c .before .before .before .judge-page .ensures) .2) in
+    let k = cold-up (a .self) (a .x0) (a .x1) (a .x2) (a .x3) (a .most) (a .kept) (a .page .now) (sym (c .before .before .before .before .before .before .before .before .before .before .is-fresh .ensures) ∙ not-false _ (c .before .before .before .before .before .before .before .before .before .if1 .left)) (sym (c .before .before .before .before .before .before .before .before .is-accepted .ensures) ∙ not-false _ (c .before .before .before .before .before .before .before .if2 .left)) (search needs) (search needs) (search needs) _ (fine-reads 4 (a .x3) (a .page .now) _ (sym (g .1) ∙ c .before .before .before .judge-page .ensures .0) .2) in
     (k .0, rw (c .agreed-minor .ensures .0) (k .1))
 
 pub cold-spec : {M : Type 1} → statement M

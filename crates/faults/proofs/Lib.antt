@@ -1,0 +1,9 @@
+pub mod Order
+pub mod Faults
+pub mod Clear
+pub mod Told
+pub mod Holds
+pub mod Broken
+pub mod Mends
+pub mod Theorems
+pub mod Sample

@@ -1,0 +1,87 @@
+-- Laws of tests put in order: what the code's turns and returns tell of them, and when nothing is found. Assumes nothing.
+use Prim.Native.Nat.{ℕ, zero, suc, _+_, _<_}
+use mathlib.Core.Path.{_≡_, refl, sym, _∙_}
+use mathlib.Core.Bool.{Bool, true, false, cond, false≢true}
+use native.Mathlib.Omega.{arith}
+use native.Mathlib.Numerals.{add-one}
+use native.Mathlib.Nat.{not-suc-le-zero}
+use native.Mathlib.Decide.{decLt}
+use Rattle.words.specs.Tests.{both, every}
+use Rattle.faults.specs.Faults.{unless, orElse, firstOf}
+use Rattle.faults.specs.declared.Fault.{Fault}
+use Rattle.faults.specs.declared.Diagnosis.{Diagnosis}
+use Rattle.faults.specs.declared.Diagnosis.the-variants.{Clear, At}
+
+-- ---- the first of two
+module _ (a b d : Diagnosis) (e : d ≡ a) where
+  pub or-at : (x : Fault) → d ≡ At x → d ≡ orElse a b
+  unfolding orElse
+  or-at x h = rw (← e, h)
+
+  pub or-next : d ≡ Clear → (r : Diagnosis) → r ≡ b → r ≡ orElse a b
+  unfolding orElse
+  or-next h r q = rw (← e, h) q
+
+-- ---- the first of many, as a loop that counts up goes
+pub first-none : (f : ℕ → Diagnosis) → firstOf 0 f ≡ Clear
+unfolding firstOf
+first-none f = refl
+
+first-at : (n : ℕ) (f : ℕ → Diagnosis) (i : ℕ) (x : Fault) → i < n → firstOf i f ≡ Clear → f i ≡ At x → firstOf n f ≡ f i
+unfolding firstOf orElse
+first-at zero f i x l p q = absurd (not-suc-le-zero l)
+first-at (suc n) f i x l p q = go (decLt i n) (λ m. first-at n f i x m p q)
+  where
+    go : Dec (i < n) → (i < n → firstOf n f ≡ f i) → orElse (firstOf n f) (f n) ≡ f i
+    go (yes m) r = rw (r m, q)
+    go (no m) r = let e : n ≡ i = omega arith in rw (e, p)
+
+-- d being what was told of one of them
+module _ (f : ℕ → Diagnosis) (i : ℕ) (d : Diagnosis) (h : firstOf i f ≡ Clear) (e : d ≡ f i) where
+  pub told-more : d ≡ Clear → firstOf (i + 1) f ≡ Clear
+  unfolding firstOf orElse
+  told-more c = rw (add-one, h, ← e, c)
+
+  pub told-at : (n : ℕ) (x : Fault) → i < n → d ≡ At x → d ≡ firstOf n f
+  told-at n x l c = e ∙ sym (first-at n f i x l h (sym e ∙ c))
+
+pub told-all : (f : ℕ → Diagnosis) (i n : ℕ) → firstOf i f ≡ Clear → i ≡ n → Clear ≡ firstOf n f
+told-all f i n h e = rw (← e) (sym h)
+
+-- ---- when nothing is found
+unfoldable pub isClear : Diagnosis → Bool
+isClear Clear = true
+isClear (At f) = false
+
+pub clear-is : (d : Diagnosis) → isClear d ≡ true → d ≡ Clear
+unfolding isClear
+clear-is Clear h = refl
+clear-is (At f) h = absurd (false≢true h)
+
+pub is-clear : (d : Diagnosis) → d ≡ Clear → isClear d ≡ true
+unfolding isClear
+is-clear d h = rw h
+
+pub clear-unless : (b : Bool) (f : Fault) (d : Diagnosis) → isClear (unless b f d) ≡ both b (isClear d)
+unfolding isClear unless both
+clear-unless true f d = refl
+clear-unless false f d = refl
+
+pub clear-last : (b : Bool) (f : Fault) → isClear (unless b f Clear) ≡ b
+unfolding isClear unless
+clear-last true f = refl
+clear-last false f = refl
+
+pub clear-or : (a b : Diagnosis) → isClear (orElse a b) ≡ both (isClear a) (isClear b)
+unfolding isClear orElse both
+clear-or Clear b = refl
+clear-or (At f) b = refl
+
+pub clear-cond : (b : Bool) (x y : Diagnosis) → isClear (cond b x y) ≡ cond b (isClear x) (isClear y)
+clear-cond true x y = refl
+clear-cond false x y = refl
+
+pub clear-first : (n : ℕ) (f : ℕ → Diagnosis) → isClear (firstOf n f) ≡ every n (λ i. isClear (f i))
+unfolding isClear firstOf every
+clear-first zero f = refl
+clear-first (suc n) f = rw (clear-or, clear-first n f)

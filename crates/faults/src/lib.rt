@@ -1,0 +1,493 @@
+// The first fault of a manifest's page, for the field: which rule is broken, where it lies, and the word that stands there.
+use fields::FieldsEnd;
+use fields::Seen;
+use versions::Edition;
+ghost use mathlib.Core.Bool.{true};
+ghost use mathlib.Core.Path.{_≡_};
+ghost use Prim.Native.Nat.{ℕ, _+_, _*_, _%_, _^_, _≤_, _<_};
+ghost use lib.ListN.{length, getD};
+ghost use Rattle.words.specs.Word.{numAt};
+ghost use Rattle.entries.specs.Entry.{size};
+ghost use Rattle.entries.specs.Array.{sumAt, wordsAt};
+ghost use Rattle.sections.specs.Page.{placeOk};
+ghost use Rattle.sections.specs.Section.{inRange};
+ghost use Rattle.sections.specs.Steps.{endOf};
+ghost use Rattle.faults.specs.Faults.{mkFault, orElse, firstOf, bankFault, consoleFault, entryFault, entryOf, checkFault, arrayFault, sectionFault, clash, overlap, fieldFault, fieldTests, fieldsFault, platFault, rulesFault, faultOf};
+ghost use Rattle.faults.specs.declared.Diagnosis.the-variants.{At};
+ghost use Rattle.faults.specs.declared.Rule.the-variants.{FieldsOverlap};
+
+// The rules in the order of the checks: -5 the first two, -6 the next two, -7 all others.
+pub enum Rule {
+    Length,
+    Base,
+    Edition,
+    Version,
+    Padding,
+    PlatPointer,
+    NoEndMark,
+    FieldTag,
+    FieldLength,
+    FieldTwice,
+    EmptySection,
+    ArrayPointer,
+    ArrayPlace,
+    EntryBase,
+    EntrySize,
+    EntryEmpty,
+    EntryEnd,
+    EntryFlags,
+    Checksum,
+    ArrayOverlap,
+    FieldsOverlap,
+}
+
+// A broken rule. Section and index are 0 where the rule is of no section or entry. The index is that of the entry or the field; of an
+// overlap it is the section whose array is met. Found is the word at the offset; of a field its tag and length, of the page's length,
+// the base and the edition the number itself. Wanted is the right word of a checksum, and 4,096 for a length; else 0.
+pub struct Fault {
+    pub rule: Rule,
+    pub section: u8,
+    pub index: usize,
+    pub offset: usize,
+    pub found: u64,
+    pub wanted: u64,
+}
+
+pub enum Diagnosis {
+    Clear,
+    At(Fault),
+}
+
+fn found_at(
+    rule: Rule,
+    section: u8,
+    index: usize,
+    offset: usize,
+    found: u64,
+    wanted: u64,
+) -> Diagnosis
+    ensures { λ r. ⌜ r ≡ At (mkFault rule section index offset found wanted) ⌝ }
+{
+    Diagnosis::At(Fault {
+        rule,
+        section,
+        index,
+        offset,
+        found,
+        wanted,
+    })
+}
+
+// The first rule that bank or region i at an offset breaks.
+fn bank_fault(k: u8, i: usize, at: usize, base: u64, size: u64) -> Diagnosis
+    requires { ⌜ at < 0x1000 ⌝ }
+    ensures { λ r. ⌜ r ≡ bankFault k i at base size ⌝ }
+{
+    if base % 4096 != 0 {
+        return found_at(Rule::EntryBase, k, i, at, base, 0);
+    }
+    if size % 4096 != 0 {
+        return found_at(Rule::EntrySize, k, i, at + 8, size, 0);
+    }
+    if size == 0 {
+        return found_at(Rule::EntryEmpty, k, i, at + 8, size, 0);
+    }
+    if 0x10_0000_0000_0000 < size {
+        return found_at(Rule::EntryEnd, k, i, at + 8, size, 0);
+    }
+    if 0x10_0000_0000_0000 - size < base {
+        return found_at(Rule::EntryEnd, k, i, at + 8, size, 0);
+    }
+    Diagnosis::Clear
+}
+
+// The first rule that console i at an offset breaks, on a page of that minor.
+fn console_fault(
+    minor: u64,
+    k: u8,
+    i: usize,
+    at: usize,
+    base: u64,
+    pages: u64,
+    flags: u64,
+) -> Diagnosis
+    requires { ⌜ at < 0x1000 ⌝ }
+    ensures { λ r. ⌜ r ≡ consoleFault minor k i at base pages flags ⌝ }
+{
+    if base % 4096 != 0 {
+        return found_at(Rule::EntryBase, k, i, at, base, 0);
+    }
+    if pages == 0 {
+        return found_at(Rule::EntryEmpty, k, i, at + 8, pages, 0);
+    }
+    if 0x100_0000_0000 < pages {
+        return found_at(Rule::EntryEnd, k, i, at + 8, pages, 0);
+    }
+    if 0x10_0000_0000_0000 - 4096 * pages < base {
+        return found_at(Rule::EntryEnd, k, i, at + 8, pages, 0);
+    }
+    if 4 < minor {
+        return Diagnosis::Clear;
+    }
+    if flags != 0 {
+        return found_at(Rule::EntryFlags, k, i, at + 40, flags, 0);
+    }
+    Diagnosis::Clear
+}
+
+// The first rule that entry i of section k at an offset breaks.
+fn entry_fault(page: &[u8], minor: u64, k: u8, i: usize, at: usize) -> Diagnosis
+    requires { ⌜ at < 0x1000 ⌝ }
+    ensures { λ r. ⌜ r ≡ entryFault minor k i at (now (page .entry)) ⌝ }
+{
+    let first = words::word_at(page, at);
+    let second = words::word_at(page, at + 8);
+    if k == 1 {
+        return console_fault(
+            minor,
+            k,
+            i,
+            at,
+            first,
+            second,
+            words::word_at(page, at + 40),
+        );
+    }
+    bank_fault(k, i, at, first, second)
+}
+
+// The same of each of count entries in order.
+fn entries_fault(page: &[u8], minor: u64, k: u8, at: usize, count: usize) -> Diagnosis
+    requires { ⌜ at + size k count ≤ 0x1000 ⌝ }
+    ensures { λ r. ⌜ r ≡ firstOf count (entryOf minor k at (now (page .entry))) ⌝ }
+{
+    let step = 8 * entries::entry_words(k as usize);
+    let mut from = at;
+    for i in 0..count {
+        let told = entry_fault(page, minor, k, i, from);
+        let Diagnosis::Clear = told else {
+            return told;
+        };
+        from += step;
+    }
+    Diagnosis::Clear
+}
+
+// The sum of n words from an offset on, modulo 2^64.
+fn sum_words(page: &[u8], at: usize, n: usize) -> u64
+    requires { ⌜ at + 8 * n ≤ 0x1000 ⌝ }
+    ensures { λ r. ⌜ r ≡ sumAt at n (now (page .entry)) % 2 ^ 64 ⌝ }
+{
+    let mut sum: u64 = 0;
+    let mut from = at;
+    for i in 0..n {
+        sum = std::num::wrapping_add_u64(sum, words::word_at(page, from));
+        from += 8;
+    }
+    sum
+}
+
+// The checksum of section k, with the one that is wanted.
+fn check_fault(page: &[u8], k: u8, at: usize, count: u64, pointer: u64, check: u64) -> Diagnosis
+    requires { ⌜ at + size k count ≤ 0x1000 ⌝ }
+    ensures { λ r. ⌜ r ≡ checkFault k count pointer check (wordsAt k count at (now (page .entry))) ⌝ }
+{
+    let n = entries::entry_words(k as usize) * (count as usize);
+    let head = std::num::wrapping_add_u64(count, pointer);
+    let total = std::num::wrapping_add_u64(head, sum_words(page, at, n));
+    let wanted = std::num::wrapping_sub_u64(0, total);
+    if check != wanted {
+        return found_at(Rule::Checksum, k, 0, 32 + 24 * (k as usize), check, wanted);
+    }
+    Diagnosis::Clear
+}
+
+// The array of section k: its entries in order, then its checksum.
+fn array_fault(
+    page: &[u8],
+    minor: u64,
+    k: u8,
+    at: usize,
+    count: u64,
+    pointer: u64,
+    check: u64,
+) -> Diagnosis
+    requires { ⌜ at + size k count ≤ 0x1000 ⌝ }
+    ensures { λ r. ⌜ r ≡ arrayFault minor k count pointer check at (now (page .entry)) ⌝ }
+{
+    let told = entries_fault(page, minor, k, at, count as usize);
+    let Diagnosis::Clear = told else {
+        return told;
+    };
+    check_fault(page, k, at, count, pointer, check)
+}
+
+// The first rule that section k breaks by itself, on a page of that minor read as edition e.
+fn section_fault(page: &[u8], base: u64, minor: u64, e: Edition, k: u8) -> Diagnosis
+    requires { ⌜ base ≤ 0x10_0000_0000_0000 ⌝ }
+    ensures { λ r. ⌜ r ≡ sectionFault minor (e .minor) base (now (page .entry)) k ⌝ }
+{
+    let count = sections::count_at(page, k);
+    let pointer = sections::pointer_at(page, k);
+    let check = sections::check_at(page, k);
+    if sections::is_nothing(count, pointer, check) {
+        return Diagnosis::Clear;
+    }
+    if count == 0 {
+        return found_at(Rule::EmptySection, k, 0, 16 + 24 * (k as usize), count, 0);
+    }
+    if pointer % 8 != 0 {
+        return found_at(Rule::ArrayPointer, k, 0, 24 + 24 * (k as usize), pointer, 0);
+    }
+    if !is_placed(base, e, k, count, pointer) {
+        return found_at(Rule::ArrayPlace, k, 0, 24 + 24 * (k as usize), pointer, 0);
+    }
+    array_fault(
+        page,
+        minor,
+        k,
+        (pointer - base) as usize,
+        count,
+        pointer,
+        check,
+    )
+}
+
+// Whether an array lies wholly between the core and the page's end.
+fn is_placed(base: u64, e: Edition, k: u8, count: u64, pointer: u64) -> bool
+    requires { ⌜ base ≤ 0x10_0000_0000_0000 ⌝ }
+    ensures { λ r. ⌜ r ≡ inRange (e .minor) base k count pointer ⌝ }
+{
+    if pointer < base + e.core_size() {
+        return false;
+    }
+    if base + 4096 < pointer {
+        return false;
+    }
+    entries::fits(k as usize, count, base + 4096 - pointer)
+}
+
+// Each of the first n sections in order.
+fn sections_fault(page: &[u8], base: u64, minor: u64, e: Edition, n: u8) -> Diagnosis
+    requires { ⌜ base ≤ 0x10_0000_0000_0000 ⌝ }
+    ensures { λ r. ⌜ r ≡ firstOf n (sectionFault minor (e .minor) base (now (page .entry))) ⌝ }
+{
+    for k in 0..n {
+        let told = section_fault(page, base, minor, e, k);
+        let Diagnosis::Clear = told else {
+            return told;
+        };
+    }
+    Diagnosis::Clear
+}
+
+// The first of n arrays that shares an address from one up to another; the pointer to these stands at an offset.
+fn clash_fault(
+    page: &[u8],
+    rule: Rule,
+    section: u8,
+    offset: usize,
+    from: u64,
+    to: u64,
+    n: u8,
+) -> Diagnosis
+    ensures { λ r. ⌜ r ≡ firstOf n (clash rule section offset from to (now (page .entry))) ⌝ }
+{
+    for j in 0..n {
+        if !sections::is_clear(page, from, to, j) {
+            return found_at(rule, section, j as usize, offset, from, 0);
+        }
+    }
+    Diagnosis::Clear
+}
+
+// The array of section i with those before it.
+fn overlap_fault(page: &[u8], i: u8) -> Diagnosis
+    requires { ⌜ endOf i (now page) < 0x1_0000_0000_0000_0000 ⌝ }
+    ensures { λ r. ⌜ r ≡ overlap (now (page .entry)) i ⌝ }
+{
+    let words = entries::entry_words(i as usize) as u64;
+    let from = sections::pointer_at(page, i);
+    let to = from + 8 * (words * sections::count_at(page, i));
+    clash_fault(
+        page,
+        Rule::ArrayOverlap,
+        i,
+        24 + 24 * (i as usize),
+        from,
+        to,
+        i,
+    )
+}
+
+fn overlaps_fault(page: &[u8], n: u8) -> Diagnosis
+    requires { ⌜ (n ≤ 4) × ((k : ℕ) → k < n → endOf k (now page) < 0x1_0000_0000_0000_0000) ⌝ }
+    ensures { λ r. ⌜ r ≡ firstOf n (overlap (now (page .entry))) ⌝ }
+{
+    for i in 0..n {
+        let told = overlap_fault(page, i);
+        let Diagnosis::Clear = told else {
+            return told;
+        };
+    }
+    Diagnosis::Clear
+}
+
+// The byte and the two-byte number at an offset. A byte past the end counts as 0.
+fn byte_at(s: &[u8], at: usize) -> u8
+    ensures { λ r. ⌜ r ≡ getD (now (s .entry)) at 0 ⌝ }
+{
+    if s.len() <= at {
+        return 0;
+    }
+    s[at]
+}
+
+fn pair_at(s: &[u8], at: usize) -> usize
+    requires { ⌜ at ≤ 0x1001 ⌝ }
+    ensures { λ r. ⌜ (r ≡ numAt 2 at (now (s .entry))) × (r < 0x1_0000) ⌝ }
+{
+    (byte_at(s, at) as usize) + (byte_at(s, at + 1) as usize) * 0x100
+}
+
+fn field_found(rule: Rule, i: usize, offset: usize, tag: u8, len: usize) -> Diagnosis
+    requires { ⌜ len < 0x1_0000 ⌝ }
+    ensures { λ r. ⌜ r ≡ At (fieldFault rule i offset tag len) ⌝ }
+{
+    let found = (tag as u64) + (len as u64) * 0x100;
+    found_at(rule, 0, i, offset, found, 0)
+}
+
+// The first rule that field i breaks, which stands at an offset of n bytes. These begin at an offset of the page.
+fn field_fault(
+    seen: Seen,
+    from: usize,
+    i: usize,
+    at: usize,
+    tag: u8,
+    len: usize,
+    n: usize,
+) -> Diagnosis
+    requires { ⌜ (len < 0x1_0000) × (from ≤ 0x1000) × (at ≤ 0x1000) ⌝ }
+    ensures { λ r. ⌜ r ≡ fieldTests seen from i at tag len n ⌝ }
+{
+    let offset = from + at;
+    if n < at + 3 + len {
+        return field_found(Rule::NoEndMark, i, offset, tag, len);
+    }
+    if tag == 0 {
+        if len != 0 {
+            return field_found(Rule::FieldTag, i, offset, tag, len);
+        }
+        return Diagnosis::Clear;
+    }
+    if !fields::length_ok(tag, len) {
+        return field_found(Rule::FieldLength, i, offset, tag, len);
+    }
+    if fields::is_seen(seen, tag) {
+        return field_found(Rule::FieldTwice, i, offset, tag, len);
+    }
+    Diagnosis::Clear
+}
+
+// The fields in order, up to their end mark.
+fn fields_fault(part: &[u8], from: usize) -> Diagnosis
+    requires { ⌜ (from ≤ 0x1000) × (length (now part) ≤ 0x1000) ⌝ }
+    ensures { λ r. ⌜ r ≡ fieldsFault from (now (part .entry)) ⌝ }
+{
+    let mut seen = fields::none_seen();
+    let mut at = 0;
+    for i in 0..part.len() {
+        let tag = byte_at(part, at);
+        let len = pair_at(part, at + 1);
+        let told = field_fault(seen, from, i, at, tag, len, part.len());
+        let Diagnosis::Clear = told else {
+            return told;
+        };
+        if tag == 0 {
+            return Diagnosis::Clear;
+        }
+        seen = fields::marked(seen, tag);
+        at = at + 3 + len;
+    }
+    field_found(
+        Rule::NoEndMark,
+        part.len(),
+        from + at,
+        byte_at(part, at),
+        pair_at(part, at + 1),
+    )
+}
+
+// The platform pointer, and the fields that it points at.
+fn plat_fault(page: &[u8], base: u64, e: Edition, plat: u64) -> Diagnosis
+    requires { ⌜ (length (now page) ≡ 4096) × (base ≤ 0x10_0000_0000_0000) ⌝ }
+    ensures { λ r. ⌜ r ≡ platFault (e .minor) base plat (now (page .entry)) ⌝ }
+{
+    if plat == 0 {
+        return Diagnosis::Clear;
+    }
+    if plat < base + e.core_size() {
+        return found_at(Rule::PlatPointer, 0, 0, 8, plat, 0);
+    }
+    if base + 4096 <= plat {
+        return found_at(Rule::PlatPointer, 0, 0, 8, plat, 0);
+    }
+    let at = (plat - base) as usize;
+    fields_fault(&page[at..], at)
+}
+
+// The arrays and the fields, which end at an address, where each by itself is good.
+fn overlaps(page: &[u8], plat: u64, end: u64, n: u8) -> Diagnosis
+    requires { ⌜ (n ≤ 4) × ((k : ℕ) → k < n → endOf k (now page) < 0x1_0000_0000_0000_0000) ⌝ }
+    ensures { λ r. ⌜ r ≡ orElse (firstOf n (overlap (now (page .entry)))) (firstOf n (clash FieldsOverlap 0 8 plat end (now (page .entry)))) ⌝ }
+{
+    let told = overlaps_fault(page, n);
+    let Diagnosis::Clear = told else {
+        return told;
+    };
+    clash_fault(page, Rule::FieldsOverlap, 0, 8, plat, end, n)
+}
+
+// The first fault of a page of that minor, read as edition e. Its place is good.
+fn rules_fault(page: &[u8], base: u64, minor: u64, e: Edition) -> Diagnosis
+    requires { ⌜ placeOk base (length (now page)) ≡ true ⌝ }
+    ensures { λ r. ⌜ r ≡ rulesFault minor (e .minor) base (now (page .entry)) ⌝ }
+{
+    let padding = sections::padding_at(page);
+    if padding != 0 {
+        return found_at(Rule::Padding, 0, 0, 4, padding, 0);
+    }
+    let plat = words::word_at(page, 8);
+    let end = sections::plat_rule(page, base, e);
+    let FieldsEnd::Ended(taken) = end else {
+        return plat_fault(page, base, e, plat);
+    };
+    let n = e.sections();
+    let told = sections_fault(page, base, minor, e, n);
+    let Diagnosis::Clear = told else {
+        return told;
+    };
+    overlaps(page, plat, plat + (taken as u64), n)
+}
+
+// The first fault that a reader of an edition finds in a lent page at a base, in the order of its checks; or that there is none.
+pub fn first_fault(page: &[u8], base: u64, edition: u64) -> Diagnosis
+    ensures { λ r. ⌜ r ≡ faultOf edition base (now (page .entry)) ⌝ }
+{
+    if page.len() != 4096 {
+        return found_at(Rule::Length, 0, 0, 0, page.len() as u64, 4096);
+    }
+    if !sections::place_ok(base, page.len()) {
+        return found_at(Rule::Base, 0, 0, 0, base, 0);
+    }
+    if !versions::is_edition(edition) {
+        return found_at(Rule::Edition, 0, 0, 0, edition, 0);
+    }
+    let version = sections::version_at(page);
+    if !versions::is_accepted(version) {
+        return found_at(Rule::Version, 0, 0, 0, version, 0);
+    }
+    let minor = versions::minor(version);
+    rules_fault(page, base, minor, reader::edition_read(edition, minor))
+}
