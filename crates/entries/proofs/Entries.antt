@@ -14,7 +14,8 @@ use Rattle.words.proofs.Tests.{every-none, every-same}
 use Rattle.words.specs.Word.{part, wordAt, wordsOf}
 use Rattle.words.proofs.Read.{wordsOf-at, wordsOf-suc, num-part}
 use Rattle.entries.specs.Entry.{wordsPerEntry, size, entryOk, entriesOk, sum, checkOk}
-use Rattle.entries.specs.Array.{wordsAt, soundOf, entryAt, entryPlace, entriesAt, sumAt}
+use Rattle.entries.specs.Array.{wordsAt, soundOf, entryPlace}
+use Rattle.entries.specs.Steps.{entryAt, entriesAt, sumAt}
 
 -- ---- words in an entry
 pub per-one : wordsPerEntry 1 ≡ 6

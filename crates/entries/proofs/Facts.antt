@@ -6,12 +6,14 @@ use native.Mathlib.Omega.{arith}
 use native.Mathlib.Decide.{decLe}
 use borrow.Author.Tests.{leb-true, ltb-true, eqb-true, le-leb, lt-ltb, eq-eqb, ne-eqb}
 use Rattle.words.specs.Tests.{Yes}
-use Rattle.words.specs.Word.{wordAt}
+use Rattle.words.specs.Word.{part, wordAt, wordsOf}
 use Rattle.words.proofs.Tests.{both-l, both-r, both-of, either-l, either-r, either-cases, every-at, every-of}
-use Rattle.entries.specs.Entry.{wordsPerEntry, bankOk, flagsOk, consoleOk, entryRule, sum, checkOk}
-use Rattle.entries.specs.Array.{wordsAt, soundOf, entryAt, entryPlace, entriesAt}
-use Rattle.entries.specs.Facts.{BankFacts, ConsoleFacts, EntriesFacts}
-use Rattle.entries.proofs.Entries.{entries-same}
+use Rattle.entries.specs.Entry.{wordsPerEntry, size, bankOk, flagsOk, consoleOk, entryRule, sum, checkOk}
+use Rattle.entries.specs.Array.{wordsAt, soundOf, entryPlace}
+use Rattle.entries.specs.Steps.{entryAt, entriesAt}
+use Rattle.words.proofs.Read.{num-part, wordsOf-suc}
+use Rattle.entries.specs.Facts.{BankFacts, ConsoleFacts, wordsSum, EntriesFacts}
+use Rattle.entries.proofs.Entries.{entries-same, sum-snoc}
 
 -- ---- one entry
 pub bank-acts : (b s : ℕ) → BankFacts b s → Yes (bankOk b s)
@@ -74,14 +76,28 @@ console-at w at page (suc zero) i n h = rw (← console-place at i) (console-onl
 console-at w at page (suc (suc k)) i n h = absurd (let y : ⊥ = omega arith in y)
 
 -- ---- an array
+sum-none : (page : List ℕ) (at : ℕ) (bs : List ℕ) → sum (wordsOf 0 bs) ≡ wordsSum at 0 page
+unfolding sum wordsOf wordsSum
+sum-none page at bs = refl
+
+sum-of : (page : List ℕ) (at m n : ℕ) → 8 * n ≤ m → sum (wordsOf n (part at m page)) ≡ wordsSum at n page
+unfolding wordsSum
+sum-of page at m zero h = sum-none page at (part at m page)
+sum-of page at m (suc n) h = rw (wordsOf-suc, sum-snoc, num-part 8 at m (8 * n) page (omega arith), sum-of page at m n (omega arith))
+
+-- its words are the page's
+array-sum : (k c at : ℕ) (page : List ℕ) → sum (wordsAt k c at page) ≡ wordsSum at (wordsPerEntry k * c) page
+unfolding wordsAt size
+array-sum k c at page = sum-of page at (8 * (wordsPerEntry k * c)) (wordsPerEntry k * c) (omega arith)
+
 module _ (w k c p s at : ℕ) (page : List ℕ) where
-  pub sound-acts : 1 ≤ c → p % 8 ≡ 0 → (c + p + sum (wordsAt k c at page) + s) % 2 ^ 64 ≡ 0 → EntriesFacts w k c at page → Yes (soundOf w k c p s (wordsAt k c at page))
+  pub sound-acts : 1 ≤ c → p % 8 ≡ 0 → (c + p + wordsSum at (wordsPerEntry k * c) page + s) % 2 ^ 64 ≡ 0 → EntriesFacts w k c at page → Yes (soundOf w k c p s (wordsAt k c at page))
   unfolding soundOf checkOk entriesAt
   sound-acts a b d t =
-      both-of _ _ (lt-ltb 0 c (omega arith)) (both-of _ _ (eq-eqb (p % 8) 0 b) (both-of _ _ (eq-eqb ((c + p + sum (wordsAt k c at page) + s) % 2 ^ 64) 0 d)
+      both-of _ _ (lt-ltb 0 c (omega arith)) (both-of _ _ (eq-eqb (p % 8) 0 b) (both-of _ _ (eq-eqb ((c + p + sum (wordsAt k c at page) + s) % 2 ^ 64) 0 (rw (array-sum k c at page) d))
       (entries-same w k at c page ∙ every-of c _ (λ i l. entry-acts w c at page k i l t))))
 
-  pub sound-only : Yes (soundOf w k c p s (wordsAt k c at page)) → (1 ≤ c) × (p % 8 ≡ 0) × ((c + p + sum (wordsAt k c at page) + s) % 2 ^ 64 ≡ 0) × EntriesFacts w k c at page
+  pub sound-only : Yes (soundOf w k c p s (wordsAt k c at page)) → (1 ≤ c) × (p % 8 ≡ 0) × ((c + p + wordsSum at (wordsPerEntry k * c) page + s) % 2 ^ 64 ≡ 0) × EntriesFacts w k c at page
   unfolding soundOf checkOk entriesAt
   sound-only h =
       let t = both-r _ _ h in
@@ -89,6 +105,6 @@ module _ (w k c p s at : ℕ) (page : List ℕ) where
       let e = every-at c _ (sym (entries-same w k at c page) ∙ both-r _ _ u) in (
         ltb-true 0 c (both-l _ _ h),
         eqb-true _ _ (both-l _ _ t),
-        eqb-true _ _ (both-l _ _ u),
+        rw (← array-sum k c at page) (eqb-true _ _ (both-l _ _ u)),
         record { banks = λ n i l. bank-at w at page k i n (e i l); consoles = λ n i l. console-at w at page k i n (e i l) },
       )

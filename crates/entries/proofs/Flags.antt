@@ -8,7 +8,8 @@ use lib.ListN.{getD}
 use lib.Dec.{ltb, eqb, lit≤}
 use borrow.Author.Tests.{ne-eqb, le-ltb}
 use Rattle.words.specs.Tests.{both}
-use Rattle.entries.specs.Entry.{wordsPerEntry, sixthCleared, shownWords, isHidden}
+use Rattle.entries.specs.Entry.{wordsPerEntry, sixthCleared, shownWords}
+use Rattle.entries.specs.Fast.{isHidden}
 
 -- on a page of minor 4 or less they are shown as they stand
 pub shown-plain : (v k : ℕ) → v ≤ 4 → (ws : List ℕ) → shownWords v k ws ≡ ws

@@ -1,11 +1,11 @@
--- Entries at an offset of a page, where the words of an array lie. Assumes nothing.
-use Prim.Native.Nat.{ℕ, _+_, _-_, _*_, _%_}
+-- The array of a section at an offset of a page: its words, its rule, and where its entries are. Assumes nothing.
+use Prim.Native.Nat.{ℕ, _+_, _*_, _%_}
 use mathlib.Core.Bool.{Bool}
 use mathlib.Core.List.{List}
 use lib.Dec.{ltb, eqb}
-use Rattle.words.specs.Tests.{both, every}
-use Rattle.words.specs.Word.{part, wordAt, wordsOf}
-use Rattle.entries.specs.Entry.{wordsPerEntry, size, entryRule, entriesOk, sum, checkOk}
+use Rattle.words.specs.Tests.{both}
+use Rattle.words.specs.Word.{part, wordsOf}
+use Rattle.entries.specs.Entry.{wordsPerEntry, size, entriesOk, checkOk}
 
 -- the words of an array of c entries of section k at an offset
 unfoldable pub wordsAt : ℕ → ℕ → ℕ → List ℕ → List ℕ
@@ -16,19 +16,6 @@ wordsAt k c at page = wordsOf (wordsPerEntry k * c) (part at (size k c) page)
 unfoldable pub soundOf : ℕ → ℕ → ℕ → ℕ → ℕ → List ℕ → Bool
 soundOf w k c p s ws = both (ltb 0 c) (both (eqb (p % 8) 0) (both (checkOk c p ws s) (entriesOk w k c ws)))
 
--- ---- as the loops go
--- the rule of the entry at an offset
-unfoldable pub entryAt : ℕ → ℕ → ℕ → List ℕ → Bool
-entryAt w k at page = entryRule w k (wordAt at page) (wordAt (at + 8) page) (wordAt (at + 8 * (wordsPerEntry k - 1)) page)
-
 -- the offset of entry i of the array at an offset
 unfoldable pub entryPlace : ℕ → ℕ → ℕ → ℕ
 entryPlace k at i = at + 8 * (wordsPerEntry k * i)
-
--- the rule of each of c entries at an offset
-unfoldable pub entriesAt : ℕ → ℕ → ℕ → ℕ → List ℕ → Bool
-entriesAt w k at c page = every c (λ i. entryAt w k (entryPlace k at i) page)
-
--- the sum of n words from an offset on
-unfoldable pub sumAt : ℕ → ℕ → List ℕ → ℕ
-sumAt at n page = sum (wordsOf n (part at (8 * n) page))

@@ -55,10 +55,6 @@ shownWords w zero ws = ws
 shownWords w (suc zero) ws = cond (ltb 4 w) (sixthCleared 5 ws) ws
 shownWords w (suc (suc k)) ws = ws
 
--- whether word j of an entry is one that is shown as 0
-unfoldable pub isHidden : ℕ → ℕ → ℕ → Bool
-isHidden w k j = both (eqb k 1) (both (eqb j 5) (ltb 4 w))
-
 unfoldable pub sum : List ℕ → ℕ
 sum [] = 0
 sum (w ∷ ws) = w + sum ws

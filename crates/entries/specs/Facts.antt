@@ -1,5 +1,5 @@
 -- The rules of entries as plain facts of their words, with none of the tests that the code is held to. Assumes nothing.
-use Prim.Native.Nat.{ℕ, _+_, _*_, _%_, _^_, _≤_, _<_}
+use Prim.Native.Nat.{ℕ, zero, suc, _+_, _*_, _%_, _^_, _≤_, _<_}
 use mathlib.Core.Path.{_≡_}
 use mathlib.Core.List.{List}
 use Rattle.words.specs.Word.{wordAt}
@@ -12,6 +12,11 @@ BankFacts b s = (b % 4096 ≡ 0) × (s % 4096 ≡ 0) × (0 < s) × (b + s ≤ 2 
 -- page's minor is 4 or less", w being the page's minor
 abbrev pub ConsoleFacts : ℕ → ℕ → ℕ → ℕ → Type 0
 ConsoleFacts w b n f = (b % 4096 ≡ 0) × (0 < n) × (b + 4096 * n ≤ 2 ^ 52) × (w ≤ 4 → f ≡ 0)
+
+-- the sum of n words of a page from an offset on
+unfoldable pub wordsSum : ℕ → ℕ → List ℕ → ℕ
+wordsSum at zero page = 0
+wordsSum at (suc n) page = wordsSum at n page + wordAt (at + 8 * n) page
 
 -- The c entries of section k that stand at an offset of a page of minor w: "A bank or region entry is 16 bytes: base, size. A console entry is
 -- 48 bytes: base, map_pages, name (8 bytes), clk_in_hz, baud_rate, flags." Consoles are section 1.

@@ -1,4 +1,5 @@
 pub mod Entry
 pub mod Array
-pub mod Gathered
+pub mod Steps
+pub mod Fast
 pub mod Facts

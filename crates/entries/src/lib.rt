@@ -6,8 +6,9 @@ ghost use lib.ListN.{length};
 ghost use lib.Dec.{leb};
 ghost use Rattle.words.specs.Tests.{both};
 ghost use Rattle.entries.specs.Entry.{wordsPerEntry, size, bankOk, consoleOk};
-ghost use Rattle.entries.specs.Array.{wordsAt, entriesAt, sumAt, soundOf};
-ghost use Rattle.entries.specs.Gathered.{noBits, bankClear, consoleClear};
+ghost use Rattle.entries.specs.Array.{wordsAt, soundOf};
+ghost use Rattle.entries.specs.Steps.{entriesAt, sumAt};
+ghost use Rattle.entries.specs.Fast.{noBits, bankClear, consoleClear};
 
 // The words in an entry of section k.
 pub fn entry_words(k: usize) -> usize

@@ -14,7 +14,8 @@ use Rattle.words.proofs.Tests.{both-l, both-r, both-of, either-cases}
 use Rattle.words.specs.Word.{part, numAt, wordAt}
 use Rattle.versions.specs.Edition.{sectionCount, core}
 use Rattle.entries.specs.Entry.{size, flagsOk, sum, checkOk, entriesOk}
-use Rattle.entries.specs.Array.{wordsAt, entryPlace, entriesAt, soundOf}
+use Rattle.entries.specs.Array.{wordsAt, entryPlace, soundOf}
+use Rattle.entries.specs.Steps.{entriesAt}
 use Rattle.entries.proofs.Entries.{entries-same}
 use Rattle.fields.specs.Fields.{lengthOk, taken}
 use Rattle.fields.specs.Steps.{isSeen, seenWith, noneSeen}

@@ -15,7 +15,8 @@ use Rattle.words.proofs.Tests.{every-same}
 use Rattle.versions.specs.Version.{minorOf, versionOk}
 use Rattle.versions.specs.Edition.{sectionCount, core, editionOk}
 use Rattle.entries.specs.Entry.{wordsPerEntry, bankOk, consoleOk, entryRule, checkOk}
-use Rattle.entries.specs.Array.{wordsAt, entryAt, entryPlace, entriesAt, soundOf}
+use Rattle.entries.specs.Array.{wordsAt, entryPlace, soundOf}
+use Rattle.entries.specs.Steps.{entryAt, entriesAt}
 use Rattle.entries.proofs.Entries.{entries-same}
 use Rattle.fields.specs.Fields.{scanOf, isEnded, lengthOk}
 use Rattle.fields.specs.Steps.{isSeen, allowed, seenWith, noneSeen}

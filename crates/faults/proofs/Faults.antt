@@ -15,7 +15,8 @@ use Rattle.words.specs.Tests.{both, either}
 use Rattle.words.specs.Word.{numAt}
 use Rattle.versions.specs.Edition.{core}
 use Rattle.entries.specs.Entry.{wordsPerEntry, size, sum, checkOk}
-use Rattle.entries.specs.Array.{entryPlace, wordsAt, sumAt}
+use Rattle.entries.specs.Array.{entryPlace, wordsAt}
+use Rattle.entries.specs.Steps.{sumAt}
 use Rattle.entries.proofs.Entries.{per-range, sum-words, mod-left, mod-right}
 use Rattle.sections.specs.Page.{countAt, pointerAt, checkAt}
 use Rattle.sections.specs.Section.{inRange}

@@ -9,7 +9,8 @@ use Rattle.words.specs.Word.{numAt, wordAt, halfAt, leBytes, laid}
 use Rattle.versions.specs.Version.{minorOf, versionOk}
 use Rattle.versions.specs.Edition.{sectionCount, core}
 use Rattle.entries.specs.Entry.{size, sum}
-use Rattle.entries.specs.Array.{wordsAt, entryPlace, entriesAt}
+use Rattle.entries.specs.Array.{wordsAt, entryPlace}
+use Rattle.entries.specs.Steps.{entriesAt}
 use Rattle.fields.specs.Fields.{lengthOk, taken}
 use Rattle.sections.specs.Page.{versionAt, countAt, pointerAt, checkAt, mkSec, secAt, foundAt, platAt}
 use Rattle.sections.specs.Section.{secOk}

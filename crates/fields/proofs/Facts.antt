@@ -66,26 +66,69 @@ unfolding lengthsOk
 lengths-acts [] h = refl
 lengths-acts (f ∷ fs) h = both-of _ _ (length-acts (f .tag) (length (f .value)) (h 0 (omega arith))) (lengths-acts fs (λ i l. h (suc i) (omega arith)))
 
+-- how often a tag appears: not at all where no field has it, once where no two have it
+counts : (t u : ℕ) (n : ℕ) {P : Type 0} → (u ≡ t → cond (eqb u t) 1 0 + n ≡ suc n → P) → ((u ≡ t → ⊥) → cond (eqb u t) 1 0 + n ≡ n → P) → P
+counts t u n {P = P} y z = go (eqb u t) refl
+  where
+    go : (b : Bool) → eqb u t ≡ b → P
+    go true e = y (eqb-true _ _ e) (rw e (omega arith))
+    go false e = let d : (u ≡ t → ⊥) = λ q. false≢true (sym e ∙ eq-eqb u t q) in z d (rw e (omega arith))
+
+pub count-none : (t : ℕ) (fs : List Field) → ((i : ℕ) → i < length fs → fieldNo i fs .tag ≡ t → ⊥) → count t fs ≡ 0
+unfolding count
+count-none t [] h = refl
+count-none t (f ∷ fs) h = let n = count-none t fs (λ i l. h (suc i) (omega arith)) in counts t (f .tag) (count t fs) (λ e c. absurd (h 0 (omega arith) e)) (λ d c. c ∙ n)
+
+pub count-some : (t : ℕ) (fs : List Field) (i : ℕ) → i < length fs → fieldNo i fs .tag ≡ t → 1 ≤ count t fs
+unfolding count
+count-some t [] i l h = absurd (not-suc-le-zero l)
+count-some t (f ∷ fs) zero l h = counts t (f .tag) (count t fs) (λ e c. omega arith) (λ d c. absurd (d h))
+count-some t (f ∷ fs) (suc i) l h = let n = count-some t fs i (omega arith) h in counts t (f .tag) (count t fs) (λ e c. omega arith) (λ d c. omega arith)
+
+once-acts : (t : ℕ) (fs : List Field) → ((i j : ℕ) → i < j → j < length fs → fieldNo i fs .tag ≡ t → fieldNo j fs .tag ≡ t → ⊥) → count t fs ≤ 1
+unfolding count
+once-acts t [] h = omega arith
+once-acts t (f ∷ fs) h =
+    let n = once-acts t fs (λ i j l m. h (suc i) (suc j) (omega arith) (omega arith)) in
+    counts t (f .tag) (count t fs)
+    (λ e c. let z = count-none t fs (λ i l. h 0 (suc i) (omega arith) (omega arith) e) in omega arith)
+    (λ d c. omega arith)
+
+once-only : (t : ℕ) (fs : List Field) → count t fs ≤ 1 → (i j : ℕ) → i < j → j < length fs → fieldNo i fs .tag ≡ t → fieldNo j fs .tag ≡ t → ⊥
+unfolding count
+once-only t [] c i j l m p q = not-suc-le-zero m
+once-only t (f ∷ fs) c i zero l m p q = not-suc-le-zero l
+once-only t (f ∷ fs) c zero (suc j) l m p q =
+    let n = count-some t fs j (omega arith) q in counts t (f .tag) (count t fs) (λ e k. let z : ⊥ = omega arith in z) (λ d k. d p)
+once-only t (f ∷ fs) c (suc i) (suc j) l m p q =
+    counts t (f .tag) (count t fs) (λ e k. once-only t fs (omega arith) i j (omega arith) (omega arith) p q) (λ d k. once-only t fs (omega arith) i j (omega arith) (omega arith) p q)
+
 pub keep-acts : (fs : List Field) → FieldsKeep fs → Yes (fieldsOk fs)
 unfolding fieldsOk
-keep-acts fs t = both-of _ _ (lengths-acts fs (t .each)) (both-of _ _ (once 1 (omega arith) (omega arith)) (both-of _ _ (once 2 (omega arith) (omega arith)) (once 3 (omega arith) (omega arith))))
+keep-acts fs t = both-of _ _ (lengths-acts fs (t .each)) (both-of _ _ (once 1 (omega arith)) (both-of _ _ (once 2 (omega arith)) (once 3 (omega arith))))
   where
-    once : (k : ℕ) → 1 ≤ k → k ≤ 3 → Yes (leb (count k fs) 1)
-    once k a b = le-leb (count k fs) 1 (t .once k a b)
+    once : (k : ℕ) → k ≤ 3 → Yes (leb (count k fs) 1)
+    once k b = le-leb (count k fs) 1 (once-acts k fs (λ i j l m p q. let z = t .once i j l m (p ∙ sym q) in let y : ⊥ = omega arith in y))
 
 pub keep-only : (fs : List Field) → Yes (fieldsOk fs) → FieldsKeep fs
 unfolding fieldsOk
 keep-only fs h =
     let a = both-r _ _ h in
     let b = both-r _ _ a in
-    record { each = lengths-only fs (both-l _ _ h); once = λ t l m. go t l m (leb-true _ _ (both-l _ _ a)) (leb-true _ _ (both-l _ _ b)) (leb-true _ _ (both-r _ _ b)) }
+    let each = lengths-only fs (both-l _ _ h) in
+    record {
+      each = each;
+      once = λ i j l m e.
+          go (fieldNo i fs .tag) (each i (omega arith) .0) (leb-true _ _ (both-l _ _ a)) (leb-true _ _ (both-l _ _ b)) (leb-true _ _ (both-r _ _ b))
+          (λ c. once-only (fieldNo i fs .tag) fs c i j l m refl (sym e));
+    }
   where
-    go : (t : ℕ) → 1 ≤ t → t ≤ 3 → count 1 fs ≤ 1 → count 2 fs ≤ 1 → count 3 fs ≤ 1 → count t fs ≤ 1
-    go zero l m x y z = absurd (not-suc-le-zero l)
-    go (suc zero) l m x y z = x
-    go (suc (suc zero)) l m x y z = y
-    go (suc (suc (suc zero))) l m x y z = z
-    go (suc (suc (suc (suc t)))) l m x y z = absurd (let w : ⊥ = omega arith in w)
+    go : (t : ℕ) → (t ≡ 0 → ⊥) → count 1 fs ≤ 1 → count 2 fs ≤ 1 → count 3 fs ≤ 1 → (count t fs ≤ 1 → ⊥) → 4 ≤ t
+    go zero n x y z k = absurd (n refl)
+    go (suc zero) n x y z k = absurd (k x)
+    go (suc (suc zero)) n x y z k = absurd (k y)
+    go (suc (suc (suc zero))) n x y z k = absurd (k z)
+    go (suc (suc (suc (suc t)))) n x y z k = omega arith
 
 -- ---- fields in bytes
 stand-scan : (fs : List Field) (bs : List ℕ) (n : ℕ) → Yes (lengthsOk fs) → FieldsStand bs fs n → scanAll bs ≡ ended fs n

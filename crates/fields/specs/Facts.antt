@@ -4,7 +4,7 @@ use mathlib.Core.Path.{_≡_}
 use mathlib.Core.List.{List, [], _∷_, _++_}
 use lib.ListN.{length, getD, drop}
 use Rattle.words.specs.Word.{leBytes, part, numAt}
-use Rattle.fields.specs.Fields.{Field, mkField, count}
+use Rattle.fields.specs.Fields.{Field, mkField}
 
 -- a field as it stands on a page, and as the writer is told it: "A field is one byte of tag, two of length, the value."
 unfoldable pub fieldBytes : ℕ → List ℕ → List ℕ
@@ -27,8 +27,8 @@ fieldNo i fs = getD fs i (mkField 0 [])
 -- a list of fields keeps the rules
 pub record FieldsKeep (fs : List Field) : Type 0 where
   pub each : (i : ℕ) → i < length fs → FieldFacts (fieldNo i fs .tag) (length (fieldNo i fs .value))
-  -- "Tags 1 to 3 appear at most once"
-  pub once : (t : ℕ) → 1 ≤ t → t ≤ 3 → count t fs ≤ 1
+  -- "Tags 1 to 3 appear at most once; tags from 4 up may repeat"
+  pub once : (i j : ℕ) → i < j → j < length fs → fieldNo i fs .tag ≡ fieldNo j fs .tag → 4 ≤ fieldNo i fs .tag
 
 -- The fields fs stand one behind the other at the start of bs, and an end mark behind them; n is the number of bytes through the mark. "Tag 0
 -- with length 0 ends them"

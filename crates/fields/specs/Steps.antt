@@ -1,4 +1,6 @@
--- What the code's steps tell, by place: what stands at an offset, which tags were seen, where a pass stops. Assumes nothing.
+-- For the loops over the fields. `head-scan` (proofs/Scans.antt) proves a step by `headAt` equal to one of `scanAll`; `ok-start` (proofs/Rules.antt)
+-- `allowed`, field by field, equal to `fieldsOk`; `from-told` (proofs/Walks.antt) `fieldsFrom` equal to `fieldsIn` of `scanOf` (all of these: Fields.antt). `stopOf`
+-- and `endTold` say what the enums `Stop` and `FieldsEnd` stand for. Assumes nothing.
 use Prim.Native.Nat.{ℕ, zero, suc, _+_}
 use mathlib.Core.Bool.{Bool, true, false, cond, not}
 use mathlib.Core.List.{List, [], _∷_}

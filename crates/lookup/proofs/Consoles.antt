@@ -13,7 +13,8 @@ use Rattle.words.specs.Tests.{both}
 use Rattle.words.specs.Word.{leOf, leBytes, part, numAt, wordAt}
 use Rattle.words.proofs.Bytes.{number-back}
 use Rattle.words.proofs.Read.{leOf-leBytes, num-part}
-use Rattle.entries.specs.Entry.{wordsPerEntry, size, shownWords, isHidden}
+use Rattle.entries.specs.Entry.{wordsPerEntry, size, shownWords}
+use Rattle.entries.specs.Fast.{isHidden}
 use Rattle.entries.specs.Array.{wordsAt}
 use Rattle.fields.proofs.Scans.{never, part-length}
 use Rattle.reader.specs.Answer.{empty, full, ReaderAnswer, bytesIn, lookIn, countIn, entryCount, wordIn}

@@ -13,7 +13,8 @@ use Rattle.words.specs.Word.{part, wordAt, wordsOf, spanAt, spanned, spanStart,
 use Rattle.words.specs.declared.Span.{Span}
 use Rattle.words.proofs.Read.{wordsOf-length}
 use Rattle.words.proofs.Store.{span-none, span-in, start-none, start-in}
-use Rattle.entries.specs.Entry.{wordsPerEntry, size, shownWords, isHidden}
+use Rattle.entries.specs.Entry.{wordsPerEntry, size, shownWords}
+use Rattle.entries.specs.Fast.{isHidden}
 use Rattle.entries.specs.Array.{wordsAt, entryPlace}
 use Rattle.entries.proofs.Entries.{word-in}
 use Rattle.entries.proofs.Flags.{shown-plain, shown-word}

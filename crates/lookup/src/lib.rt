@@ -9,7 +9,7 @@ ghost use lib.ListN.{length};
 ghost use Rattle.words.specs.Word.{spanned, spanStart, onFrom};
 ghost use Rattle.reader.specs.Answer.{lookIn, lookOf, countIn, wordIn, readOf};
 ghost use Rattle.reader.specs.Reading.{sectionOf, readingAnswer};
-ghost use Rattle.entries.specs.Entry.{isHidden};
+ghost use Rattle.entries.specs.Fast.{isHidden};
 ghost use Rattle.lookup.specs.Lookup.{spanOf, spanIn, countOf, wordOf};
 ghost use Rattle.lookup.specs.Consoles.{consoleNamed};
 

@@ -1,6 +1,6 @@
 -- The rules of sections and platform data as plain facts of the page's words, with none of the tests that the code is held to. w is the page's
--- minor, e the edition that it is read as. The numbers of the tables that they cite are laws: `core-sizes` (versions), `size-one`, `size-other`
--- (entries). Assumes nothing.
+-- minor, e the edition that it is read as. The numbers of the tables that they cite are laws: `core-sizes` (versions), `per-one`,
+-- `per-other`, `size-one`, `size-other` (entries). Assumes nothing.
 use Prim.Native.Nat.{ℕ, _+_, _-_, _*_, _%_, _^_, _≤_, _<_}
 use mathlib.Core.Path.{_≡_}
 use mathlib.Core.Logic.{_⊎_}
@@ -8,9 +8,8 @@ use mathlib.Core.List.{List, []}
 use lib.ListN.{drop}
 use Rattle.words.specs.Word.{wordAt}
 use Rattle.versions.specs.Edition.{core}
-use Rattle.entries.specs.Entry.{size, sum}
-use Rattle.entries.specs.Array.{wordsAt}
-use Rattle.entries.specs.Facts.{EntriesFacts}
+use Rattle.entries.specs.Entry.{wordsPerEntry, size}
+use Rattle.entries.specs.Facts.{wordsSum, EntriesFacts}
 use Rattle.fields.specs.Fields.{Field}
 use Rattle.fields.specs.Facts.{FieldsKeep, FieldsStand}
 
@@ -25,7 +24,7 @@ pub record ArrayFacts (w e base : ℕ) (page : List ℕ) (k c p s : ℕ) : Type 
   pub align : p % 8 ≡ 0
   pub behind : base + core e ≤ p
   pub before : p + size k c ≤ base + 4096
-  pub checksum : (c + p + sum (wordsAt k c (p - base) page) + s) % 2 ^ 64 ≡ 0
+  pub checksum : (c + p + wordsSum (p - base) (wordsPerEntry k * c) page + s) % 2 ^ 64 ≡ 0
   pub entries : EntriesFacts w k c (p - base) page
 
 -- "each section of e is either 24 zero bytes (shown as empty), or has .." these; "A section is 24 bytes: count, pointer, checksum", the first at 16

@@ -9,7 +9,8 @@ use lib.Dec.{lit≤}
 use lib.ListN.{length, take, drop, getD, length-take, length-drop, drop-of-length-le}
 use lib.Seq.{length-take-le, take-nil, take-all, drop-cons, drop-drop, ext-getD, getD-take, getD-drop}
 use borrow.Author.Tests.{le-leb}
-use Rattle.words.specs.Word.{leOf, leBytes, part, numAt, wordAt, wholeWord, wordsOf}
+use Rattle.words.specs.Word.{leOf, leBytes, part, numAt, wordAt, wordsOf}
+use Rattle.words.specs.Fast.{wholeWord}
 
 pub num-zero : (off : ℕ) (s : List ℕ) → numAt 0 off s ≡ 0
 unfolding numAt part leOf

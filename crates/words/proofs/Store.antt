@@ -7,12 +7,13 @@ use native.Mathlib.Numerals.{add-one}
 use native.Mathlib.Nat.{add-assoc, zero-add}
 use native.Mathlib.Omega.{arith}
 use lib.ListN.{length, take, drop, getD, set, length-append, length-drop, drop-of-length-le, take-append-drop}
-use lib.Seq.{length-take-le, take-at, drop-at, drop-drop, drop-append-le, set-split, append-snoc, paste-zero, take-suc, take-add, take-length, take-all, getD-take, getD-drop}
+use lib.Seq.{length-take-le, take-at, drop-at, drop-drop, drop-append-le, set-split, append-snoc, paste-zero, take-suc, take-add, take-length, take-all}
 use lib.Dec.{eqb}
 use borrow.Author.Tests.{le-leb, lt-leb, eqb-true}
 use Rattle.words.specs.Tests.{Yes}
 use Rattle.words.specs.Word.{leOf, leBytes, part, numAt, bytesOf, splice, laid, spanAt, spanned, spanStart, noSpan}
 use Rattle.words.proofs.Lists.{bytesOf-length, bytesOf-append}
+use Rattle.words.proofs.Bytes.{Bytes, bytes-drop, number-back}
 use Rattle.words.proofs.Read.{leBytes-length, leBytes-split, leOf-leBytes}
 
 module _ (i : ℕ) (vs s : List ℕ) where
@@ -113,45 +114,37 @@ unfolding wordsTo
 words-all at ws s i e h = rw (e, words-in at ws s h, take-length)
 
 -- ---- bytes, one by one
--- the first i of them, from an offset on
-unfoldable pub bytesTo : ℕ → List ℕ → ℕ → List ℕ → List ℕ
-bytesTo at vs i s = splice at (take i vs) s
+-- the first i of them, from the start on
+unfoldable pub bytesTo : List ℕ → ℕ → List ℕ → List ℕ
+bytesTo vs i s = splice 0 (take i vs) s
 
-pub bytes-none : (at : ℕ) (vs s : List ℕ) → s ≡ bytesTo at vs 0 s
+pub bytes-none : (vs s : List ℕ) → s ≡ bytesTo vs 0 s
 unfolding bytesTo splice
-bytes-none at vs s = paste-zero s at []
+bytes-none vs s = paste-zero s 0 []
 
-pub bytes-more : (at j : ℕ) (vs : List ℕ) (i : ℕ) (s : List ℕ) → j ≡ at + i → i < length vs → at + length vs ≤ length s → length (bytesTo at vs i s) ≡ length s →
-    set (bytesTo at vs i s) j (getD vs i 0) ≡ bytesTo at vs (i + 1) s
+pub bytes-more : (vs : List ℕ) (i : ℕ) (s : List ℕ) → i < length vs → length vs ≤ length s → length (bytesTo vs i s) ≡ length s → set (bytesTo vs i s) i (getD vs i 0) ≡ bytesTo vs (i + 1) s
 unfolding bytesTo
-bytes-more at j vs i s e h l n =
+bytes-more vs i s h l n =
     let m : length (take i vs) ≡ i = length-take-le i vs (omega arith) in
-    set-splice (splice at (take i vs) s) j (getD vs i 0) (omega arith)
+    set-splice (splice 0 (take i vs) s) i (getD vs i 0) (omega arith)
     ∙ rw (add-one, take-suc vs i 0 h)
-    (ap (λ (k : ℕ). splice k (getD vs i 0 ∷ []) (splice at (take i vs) s)) (let f : j ≡ at + length (take i vs) = omega arith in f)
-    ∙ splice-splice at (take i vs) s (omega arith) (getD vs i 0 ∷ []))
+    (ap (λ (k : ℕ). splice k (getD vs i 0 ∷ []) (splice 0 (take i vs) s)) (let e : i ≡ 0 + length (take i vs) = omega arith in e)
+    ∙ splice-splice 0 (take i vs) s (omega arith) (getD vs i 0 ∷ []))
 
-pub bytes-all : (at : ℕ) (vs s : List ℕ) (i : ℕ) → i ≡ length vs → at + length vs ≤ length s → bytesTo at vs i s ≡ laid at vs s
+pub bytes-all : (vs s : List ℕ) (i : ℕ) → i ≡ length vs → length vs ≤ length s → bytesTo vs i s ≡ laid 0 vs s
 unfolding bytesTo
-bytes-all at vs s i e h = rw (e, bytes-in at vs s h, take-length)
+bytes-all vs s i e h = rw (e, bytes-in 0 vs s (omega arith), take-length)
 
--- sixteen of them more, and each of sixteen
-pub block-more : (vs : List ℕ) (k : ℕ) (s : List ℕ) → 16 * (k + 1) ≤ length vs → length vs ≤ length s →
-    splice (16 * k) (part (16 * k) 16 vs) (bytesTo 0 vs (16 * k) s) ≡ bytesTo 0 vs (16 * (k + 1)) s
-unfolding bytesTo part
-block-more vs k s h l =
-    let m : length (take (16 * k) vs) ≡ 16 * k = length-take-le (16 * k) vs (omega arith) in
-    ap (λ (n : ℕ). splice n (take 16 (drop (16 * k) vs)) (splice 0 (take (16 * k) vs) s)) (let f : 16 * k ≡ 0 + length (take (16 * k) vs) = omega arith in f)
-    ∙ splice-splice 0 (take (16 * k) vs) s (omega arith) (take 16 (drop (16 * k) vs))
-    ∙ ap (λ (ws : List ℕ). splice 0 ws s) (sym (take-add (16 * k) 16 vs) ∙ ap (λ (n : ℕ). take n vs) (let f : 16 * k + 16 ≡ 16 * (k + 1) = omega arith in f))
-
-pub block-byte : (at i : ℕ) (s : List ℕ) → i < 16 → getD (part at 16 s) i 0 ≡ getD s (at + i) 0
-unfolding part
-block-byte at i s h = getD-take 16 (drop at s) i 0 h ∙ getD-drop at s i 0
-
-pub block-length : (at : ℕ) (s : List ℕ) → at + 16 ≤ length s → length (part at 16 s) ≡ 16
-unfolding part
-block-length at s h = length-take-le 16 (drop at s) (rw length-drop (omega arith))
+-- eight of them more, read as a word
+pub word-more : (vs : List ℕ) (k : ℕ) (s : List ℕ) → Bytes vs → 8 * (k + 1) ≤ length vs → length vs ≤ length s →
+    splice (8 * k) (leBytes 8 (numAt 8 (8 * k) vs)) (bytesTo vs (8 * k) s) ≡ bytesTo vs (8 * (k + 1)) s
+unfolding bytesTo numAt part
+word-more vs k s b h l =
+    let m : length (take (8 * k) vs) ≡ 8 * k = length-take-le (8 * k) vs (omega arith) in
+    ap (λ (ws : List ℕ). splice (8 * k) ws (splice 0 (take (8 * k) vs) s)) (number-back 8 (drop (8 * k) vs) (bytes-drop (8 * k) vs b) (rw length-drop (omega arith)))
+    ∙ ap (λ (n : ℕ). splice n (take 8 (drop (8 * k) vs)) (splice 0 (take (8 * k) vs) s)) (let f : 8 * k ≡ 0 + length (take (8 * k) vs) = omega arith in f)
+    ∙ splice-splice 0 (take (8 * k) vs) s (omega arith) (take 8 (drop (8 * k) vs))
+    ∙ ap (λ (ws : List ℕ). splice 0 ws s) (sym (take-add (8 * k) 8 vs) ∙ ap (λ (n : ℕ). take n vs) (let f : 8 * k + 8 ≡ 8 * (k + 1) = omega arith in f))
 
 lent : (at : ℕ) (vs s : List ℕ) → take at s ++ splice 0 vs (drop at s) ≡ splice at vs s
 unfolding splice

@@ -32,10 +32,6 @@ wordAt off s = numAt 8 off s
 abbrev pub halfAt : ℕ → List ℕ → ℕ
 halfAt off s = numAt 4 off s
 
--- the word at an offset; 0 where it does not lie whole within s
-unfoldable pub wholeWord : ℕ → List ℕ → ℕ
-wholeWord off s = cond (leb (off + 8) (length s)) (wordAt off s) 0
-
 -- the first n words of a list of bytes
 unfoldable pub wordsOf : ℕ → List ℕ → List ℕ
 wordsOf zero bs = []

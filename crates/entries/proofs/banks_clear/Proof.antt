@@ -2,7 +2,7 @@ use Prim.Native.Nat.{_%_, _^_}
 use native.Mathlib.Omega.{arith}
 use borrow.Author.Tests.{eq-eqb, ne-eqb, lt-ltb, le-ltb}
 use Rattle.words.specs.Tests.{both}
-use Rattle.entries.specs.Gathered.{bankClear}
+use Rattle.entries.specs.Fast.{bankClear}
 use borrow.Author.Needs.{needs}
 use Rattle.entries.proofs.banks_clear.Statement.{statement}
 use Rattle.entries.proofs.banks_clear.Tie as tie

@@ -3,8 +3,8 @@ use native.Mathlib.Omega.{arith}
 use borrow.Author.Tests.{eq-eqb, ne-eqb, lt-ltb, le-ltb}
 use Rattle.words.specs.Tests.{both, either}
 use Rattle.entries.specs.Entry.{flagsOk}
-use Rattle.entries.specs.Gathered.{consoleClear}
-use Rattle.entries.proofs.Gathered.{clear-later}
+use Rattle.entries.specs.Fast.{consoleClear}
+use Rattle.entries.proofs.Fast.{clear-later}
 use borrow.Author.Needs.{needs}
 use Rattle.entries.proofs.consoles_clear.Statement.{statement}
 use Rattle.entries.proofs.consoles_clear.Tie as tie

@@ -4,10 +4,10 @@ use native.Mathlib.Omega.{arith}
 use Rattle.words.specs.Tests.{both, either}
 use Rattle.words.proofs.Read.{word-lent}
 use Rattle.entries.specs.Entry.{flagsOk}
-use Rattle.entries.specs.Array.{entriesAt}
-use Rattle.entries.specs.Gathered.{consoleClear}
+use Rattle.entries.specs.Steps.{entriesAt}
+use Rattle.entries.specs.Fast.{consoleClear}
 use Rattle.entries.proofs.Entries.{entries-none}
-use Rattle.entries.proofs.Gathered.{console-step}
+use Rattle.entries.proofs.Fast.{console-step}
 use borrow.Author.Needs.{needs}
 use Rattle.entries.proofs.consoles_ok.Statement.{statement}
 use Rattle.entries.proofs.consoles_ok.Tie as tie

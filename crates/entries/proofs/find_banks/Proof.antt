@@ -5,10 +5,10 @@ use Rattle.words.specs.Tests.{both}
 use Rattle.words.specs.Word.{part, wordAt, wordsOf}
 use Rattle.words.proofs.Read.{word-lent}
 use Rattle.entries.specs.Entry.{bankOk, sum}
-use Rattle.entries.specs.Array.{entriesAt, sumAt}
-use Rattle.entries.specs.Gathered.{bankClear}
+use Rattle.entries.specs.Steps.{entriesAt, sumAt}
+use Rattle.entries.specs.Fast.{bankClear}
 use Rattle.entries.proofs.Entries.{entries-none, sum-bank}
-use Rattle.entries.proofs.Gathered.{bank-step}
+use Rattle.entries.proofs.Fast.{bank-step}
 use borrow.Author.Needs.{needs}
 use Rattle.entries.proofs.find_banks.Statement.{statement}
 use Rattle.entries.proofs.find_banks.Tie as tie

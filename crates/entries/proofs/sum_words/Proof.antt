@@ -1,6 +1,6 @@
 use Rattle.entries.specs.Entry.{sum}
 use Rattle.words.specs.Word.{part, wordsOf}
-use Rattle.entries.specs.Array.{sumAt}
+use Rattle.entries.specs.Steps.{sumAt}
 use Rattle.entries.proofs.Entries.{sum-step}
 use Prim.Native.Nat.{_+_, _*_, _-_, _%_, _^_, _≤_}
 use borrow.Author.Needs.{needs}

@@ -1,4 +1,4 @@
-use Rattle.entries.proofs.Gathered.{with-bank}
+use Rattle.entries.proofs.Fast.{with-bank}
 use borrow.Author.Needs.{needs}
 use Rattle.entries.proofs.with_bank.Statement.{statement}
 use Rattle.entries.proofs.with_bank.Tie as tie

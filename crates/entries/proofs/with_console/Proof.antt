@@ -1,4 +1,4 @@
-use Rattle.entries.proofs.Gathered.{with-console}
+use Rattle.entries.proofs.Fast.{with-console}
 use borrow.Author.Needs.{needs}
 use Rattle.entries.proofs.with_console.Statement.{statement}
 use Rattle.entries.proofs.with_console.Tie as tie

@@ -3,7 +3,7 @@ use mathlib.Core.Path.{_≡_, refl}
 use native.Mathlib.Omega.{arith}
 use Rattle.words.specs.Word.{part, wordsOf}
 use Rattle.entries.specs.Entry.{sum}
-use Rattle.entries.specs.Array.{sumAt}
+use Rattle.entries.specs.Steps.{sumAt}
 use Rattle.entries.proofs.Entries.{sum-step}
 use borrow.Author.Needs.{needs}
 use Rattle.faults.proofs.sum_words.Statement.{statement}

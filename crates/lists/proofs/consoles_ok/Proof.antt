@@ -3,7 +3,7 @@ use mathlib.Core.Path.{_≡_, sym, _∙_}
 use native.Mathlib.Omega.{arith}
 use Rattle.words.specs.Tests.{both, either}
 use Rattle.entries.specs.Entry.{flagsOk, entriesOk}
-use Rattle.entries.specs.Gathered.{consoleClear}
+use Rattle.entries.specs.Fast.{consoleClear}
 use Rattle.lists.proofs.Lists.{described-none, described-console}
 use borrow.Author.Needs.{needs}
 use Rattle.lists.proofs.consoles_ok.Statement.{statement}

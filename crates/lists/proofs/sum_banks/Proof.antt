@@ -4,7 +4,7 @@ use native.Mathlib.Omega.{arith}
 use lib.ListN.{take, getD}
 use Rattle.words.specs.Tests.{both}
 use Rattle.entries.specs.Entry.{bankOk, entriesOk, sum}
-use Rattle.entries.specs.Gathered.{bankClear}
+use Rattle.entries.specs.Fast.{bankClear}
 use Rattle.lists.proofs.Lists.{described-none, described-bank, sum-bank}
 use borrow.Author.Needs.{needs}
 use Rattle.lists.proofs.sum_banks.Statement.{statement}

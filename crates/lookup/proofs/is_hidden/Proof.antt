@@ -1,6 +1,6 @@
 use borrow.Author.Tests.{eq-eqb, ne-eqb}
 use Rattle.words.specs.Tests.{both}
-use Rattle.entries.specs.Entry.{isHidden}
+use Rattle.entries.specs.Fast.{isHidden}
 use borrow.Author.Needs.{needs}
 use Rattle.lookup.proofs.is_hidden.Statement.{statement}
 use Rattle.lookup.proofs.is_hidden.Tie as tie

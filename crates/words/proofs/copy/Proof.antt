@@ -2,36 +2,44 @@ use mathlib.Core.Path.{_≡_, refl, sym, ap, _∙_}
 use Prim.Native.Nat.{ℕ, _+_, _*_, _/_, _-_, _≤_}
 use mathlib.Core.List.{List}
 use lib.ListN.{length, length-set}
-use Rattle.words.proofs.Store.{bytesTo, bytes-out, bytes-none, bytes-more, bytes-all, block-more}
+use Rattle.words.proofs.Bytes.{Bytes}
+use Rattle.words.proofs.Store.{bytesTo, bytes-out, bytes-none, bytes-more, bytes-all, word-more}
 use borrow.Author.Needs.{needs}
 use native.Mathlib.Omega.{arith}
 use Rattle.words.proofs.copy.Statement.{statement}
 use Rattle.words.proofs.copy.Tie as tie
-use Rattle.words.proofs.copy_block.Reads as copy-block-reads
+use Rattle.words.proofs.eight.Reads as eight-reads
+use Rattle.words.proofs.put_eight.Reads as put-eight-reads
 
 abbrev Inv-loop : tie.InvT-loop
-Inv-loop to₀ from blocks k₀ to k = (k ≤ blocks) × (length to ≡ length to₀) × (to ≡ bytesTo 0 from (16 * k) to₀)
+Inv-loop to₀ from whole k₀ to k = (k ≤ whole) × (length to ≡ length to₀) × (to ≡ bytesTo from (8 * k) to₀)
 
 abbrev μ-loop : tie.MeasureT-loop
-μ-loop to₀ from blocks k₀ to k = blocks - k
+μ-loop to₀ from whole k₀ to k = whole - k
 
 abbrev Inv-loop2 : tie.InvT-loop2
-Inv-loop2 to₀ from blocks i₀ i-end to i = (i ≤ length from) × (length to ≡ length to₀) × ((s : List ℕ) → length s ≡ length to₀ → to₀ ≡ bytesTo 0 from i₀ s → to ≡ bytesTo 0 from i s)
+Inv-loop2 to₀ from whole i₀ i-end to i = (i ≤ length from) × (length to ≡ length to₀) × ((s : List ℕ) → length s ≡ length to₀ → to₀ ≡ bytesTo from i₀ s → to ≡ bytesTo from i s)
 
 abbrev μ-loop2 : tie.MeasureT-loop2
-μ-loop2 to₀ from blocks i₀ i-end to i = length from - i
+μ-loop2 to₀ from whole i₀ i-end to i = length from - i
 
 returns : tie.Need-returns Inv-loop μ-loop Inv-loop2 μ-loop2
 returns c = let a = c .before .before .before .args in sym (bytes-out 0 (a .from .now) (a .to .now) (omega arith))
 
 loop-holds : tie.Need-loop-holds Inv-loop μ-loop Inv-loop2 μ-loop2
-loop-holds c = let a = c .before .before .before .args in (search needs, refl, bytes-none 0 (a .from .now) (a .to .now))
+loop-holds c = let a = c .before .before .before .args in (search needs, refl, bytes-none (a .from .now) (a .to .now))
 
-mul-copy-block : tie.Need-mul-copy-block Inv-loop μ-loop Inv-loop2 μ-loop2
-mul-copy-block c = search needs
+mul-put-eight : tie.Need-mul-put-eight Inv-loop μ-loop Inv-loop2 μ-loop2
+mul-put-eight c = search needs
 
-copy-block-requires : tie.Need-copy-block-requires Inv-loop μ-loop Inv-loop2 μ-loop2
-copy-block-requires c κs = search needs
+mul-eight : tie.Need-mul-eight Inv-loop μ-loop Inv-loop2 μ-loop2
+mul-eight c = search needs
+
+eight-requires : tie.Need-eight-requires Inv-loop μ-loop Inv-loop2 μ-loop2
+eight-requires c κs = search needs
+
+put-eight-requires : tie.Need-put-eight-requires Inv-loop μ-loop Inv-loop2 μ-loop2
+put-eight-requires c κs = search needs
 
 add-k : tie.Need-add-k Inv-loop μ-loop Inv-loop2 μ-loop2
 add-k c = search needs
@@ -41,9 +49,10 @@ loop-less c = search needs
 
 loop-again : tie.Need-loop-again Inv-loop μ-loop Inv-loop2 μ-loop2
 loop-again c =
-    let a = c .before .before .before .before .before .before .before .before .before .args in
-    let l = c .before .before .before .before .before .loop in
-    (search needs, search needs, c .before .before .copy-block .ensures ∙ rw (l .inv .2) (block-more (a .from .now) (l .k) (a .to .now) (omega arith) (omega arith)))
+    let a = c .before .before .before .before .before .before .before .before .before .before .args in
+    let l = c .before .before .before .before .before .before .loop in
+    let n : Bytes (a .from .now) = λ i. omega (arith, c .before .before .before .before .before .before .before .before .shared-slice-known .given i) in
+    (search needs, search needs, c .before .before .put-eight .ensures ∙ rw (c .before .before .before .eight .ensures, l .inv .2) (word-more (a .from .now) (l .k) (a .to .now) n (omega arith) (omega arith)))
 
 mul-i : tie.Need-mul-i Inv-loop μ-loop Inv-loop2 μ-loop2
 mul-i c = search needs
@@ -70,7 +79,7 @@ loop2-again c =
     let n = c .before .before .before .before .loop .inv .1 in (
       search needs,
       simp length-set (omega arith),
-      λ s h e. rw (l .inv .2 s h e) (bytes-more 0 (l .i) (a .from .now) (l .i) s (omega arith) (omega arith) (omega arith) (rw (← l .inv .2 s h e) (omega arith))),
+      λ s h e. rw (l .inv .2 s h e) (bytes-more (a .from .now) (l .i) s (omega arith) (omega arith) (rw (← l .inv .2 s h e) (omega arith))),
     )
 
 same-length : tie.Need-same-length Inv-loop μ-loop Inv-loop2 μ-loop2
@@ -81,9 +90,9 @@ returns-2 c =
     let a = c .before .before .before .before .before .before .before .args in
     let m = c .before .before .before .loop in
     let l = c .before .loop2 in
-    let e : m .k ≡ length (a .from .now) / 16 = omega arith in
-    l .inv .2 (a .to .now) (sym (m .inv .1)) (m .inv .2 ∙ ap (λ (n : ℕ). bytesTo 0 (a .from .now) (16 * n) (a .to .now)) e)
-    ∙ bytes-all 0 (a .from .now) (a .to .now) (l .i) (omega arith) (omega arith)
+    let e : m .k ≡ length (a .from .now) / 8 = omega arith in
+    l .inv .2 (a .to .now) (sym (m .inv .1)) (m .inv .2 ∙ ap (λ (n : ℕ). bytesTo (a .from .now) (8 * n) (a .to .now)) e)
+    ∙ bytes-all (a .from .now) (a .to .now) (l .i) (omega arith) (omega arith)
 
 pub copy-spec : {M : Type 1} → statement M
 copy-spec =
@@ -95,8 +104,10 @@ copy-spec =
     μ-loop2
     returns
     loop-holds
-    mul-copy-block
-    copy-block-requires
+    mul-put-eight
+    mul-eight
+    eight-requires
+    put-eight-requires
     add-k
     loop-less
     loop-again

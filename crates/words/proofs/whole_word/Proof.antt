@@ -2,7 +2,7 @@ use Prim.Native.Nat.{_+_}
 use lib.ListN.{length}
 use native.Mathlib.Omega.{arith}
 use borrow.Author.Tests.{le-leb, lt-leb}
-use Rattle.words.specs.Word.{wholeWord}
+use Rattle.words.specs.Fast.{wholeWord}
 use borrow.Author.Needs.{needs}
 use Rattle.words.proofs.whole_word.Statement.{statement}
 use Rattle.words.proofs.whole_word.Tie as tie

@@ -1,4 +1,6 @@
--- Bits of many entries, gathered with "or". Assumes nothing.
+-- For speed. `with-bank` and `with-console` (proofs/Fast.antt) prove that bits gathered with "or" stay clear exactly where each entry keeps `bankOk` or
+-- `consoleOk` (Entry.antt); `shown-word` (proofs/Flags.antt) that a word is shown as 0 where `isHidden` says so, else as `shownWords` (Entry.antt) has
+-- it. Assumes nothing.
 use Prim.Native.Nat.{ℕ, _%_, _^_}
 use mathlib.Core.Bool.{Bool}
 use lib.Dec.{ltb, eqb}
@@ -16,3 +18,7 @@ bankClear b = both (eqb (b .low % 4096) 0) (both (ltb (b .low) (2 ^ 53)) (ltb (b
 -- of consoles: low has the base of each, high its pages less 1 and the number of its last page, flags its flags
 unfoldable pub consoleClear : ℕ → Bits → Bool
 consoleClear w b = both (eqb (b .low % 4096) 0) (both (ltb (b .high) (2 ^ 40)) (flagsOk w (b .flags)))
+
+-- word j of an entry of section k is shown as 0 on a page of minor w
+unfoldable pub isHidden : ℕ → ℕ → ℕ → Bool
+isHidden w k j = both (eqb k 1) (both (eqb j 5) (ltb 4 w))

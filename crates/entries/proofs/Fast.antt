@@ -12,8 +12,9 @@ use Rattle.words.specs.Tests.{both, either, every}
 use Rattle.words.specs.Word.{wordAt}
 use Rattle.words.proofs.Tests.{both-l, both-r, both-of, same-test}
 use Rattle.entries.specs.Entry.{wordsPerEntry, bankOk, flagsOk, consoleOk, entryRule}
-use Rattle.entries.specs.Array.{entryAt, entryPlace, entriesAt}
-use Rattle.entries.specs.Gathered.{bankClear, consoleClear}
+use Rattle.entries.specs.Array.{entryPlace}
+use Rattle.entries.specs.Steps.{entryAt, entriesAt}
+use Rattle.entries.specs.Fast.{bankClear, consoleClear}
 use Rattle.entries.specs.declared.Bits.{Bits}
 use Rattle.entries.proofs.Entries.{per-other}
 
