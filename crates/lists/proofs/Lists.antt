@@ -18,11 +18,12 @@ use Rattle.versions.proofs.Editions.{section-count-most}
 use Rattle.entries.specs.Entry.{wordsPerEntry, bankOk, consoleOk, entryRule, entryOk, entriesOk, sum}
 use Rattle.entries.proofs.Entries.{per-other, sum-snoc}
 use Rattle.fields.specs.Fields.{endMark}
-use Rattle.lists.specs.Description.{four, descriptionOf, listOk, listsOk, sumsOf, totalsOf, noneLate, withMark, platBytes, used}
+use Rattle.lists.specs.Description.{four, descriptionOf, listOk, listsOk, noneLate, withMark, platBytes, used}
 use Rattle.lists.specs.declared.Totals.{Totals}
 use Rattle.lists.specs.declared.Sums.{Sums}
 use Rattle.lists.specs.declared.Sums.the-variants.{Unsound, Sound}
-use Rattle.lists.specs.Lengths.{sumTo, lateTo}
+use Rattle.lists.specs.Fast.{sumsOf, totalsOf, sumsNumber}
+use Rattle.lists.specs.Steps.{sumTo, lateTo}
 
 -- ---- one list, entry by entry
 pub described-none : (w k : ℕ) (ws : List ℕ) → entriesOk w k 0 ws ≡ true
@@ -102,13 +103,25 @@ module _ (w : ℕ) (a b c d : List ℕ) where
   unfolding sumsOf totalsOf
   sums-are p q r s e f g h i = rw (described-four w a b c d, e, f, g, h, i)
 
-  sums-sound : isSound (sumsOf w a b c d) ≡ listsOk w (four a b c d)
+  pub sums-sound : isSound (sumsOf w a b c d) ≡ listsOk w (four a b c d)
   unfolding sumsOf
   sums-sound = go (listsOk w (four a b c d))
     where
       go : (t : Bool) → isSound (cond t (Sound (totalsOf a b c d)) Unsound) ≡ t
       go true = refl
       go false = refl
+
+  sums-number : sumsNumber (sumsOf w a b c d) ≡ cond (listsOk w (four a b c d)) 0 3
+  unfolding sumsOf sumsNumber
+  sums-number = go (listsOk w (four a b c d))
+    where
+      go : (t : Bool) → sumsNumber (cond t (Sound (totalsOf a b c d)) Unsound) ≡ cond t 0 3
+      go true = refl
+      go false = refl
+
+  -- an answer, and its number
+  pub sums-told : {r : Sums} → r ≡ sumsOf w a b c d → (r ≡ sumsOf w a b c d) × (sumsNumber r ≡ cond (listsOk w (four a b c d)) 0 3)
+  sums-told h = (h, ap sumsNumber h ∙ sums-number)
 
   -- what is learnt from the answer
   pub unsound-lists : sumsOf w a b c d ≡ Unsound → listsOk w (four a b c d) ≡ false

@@ -1,18 +1,15 @@
 -- The description that the writer takes, and its checks W3 to W5. 01: "four lists of 64-bit words (2 words an entry, 6 for a console)"; 02,
 -- E7: "The writer takes a list of fields". Assumes nothing.
-use Prim.Native.Nat.{ℕ, zero, suc, _+_, _*_, _/_, _%_, _^_}
-use mathlib.Core.Bool.{Bool, cond}
+use Prim.Native.Nat.{ℕ, zero, suc, _+_, _*_, _/_, _%_}
+use mathlib.Core.Bool.{Bool}
 use mathlib.Core.List.{List, [], _∷_, _++_}
 use lib.ListN.{length}
 use lib.Dec.{ltb, eqb}
 use Rattle.words.specs.Tests.{both, either, every}
 use Rattle.words.specs.Word.{joined}
 use Rattle.versions.specs.Edition.{sectionCount, core}
-use Rattle.entries.specs.Entry.{wordsPerEntry, entriesOk, sum}
+use Rattle.entries.specs.Entry.{wordsPerEntry, entriesOk}
 use Rattle.fields.specs.Fields.{scanOf, tellable, endMark}
-use Rattle.lists.specs.declared.Totals.{Totals}
-use Rattle.lists.specs.declared.Sums.{Sums}
-use Rattle.lists.specs.declared.Sums.the-variants.{Unsound, Sound}
 
 -- a description: a list of words for each section, and fields as they will stand on the page, with no end mark
 pub record Description : Type 0 where
@@ -39,13 +36,6 @@ listsOk v l = every 4 (λ k. listOk v k (l k))
 
 unfoldable pub descriptionOk : ℕ → Description → Bool
 descriptionOk v d = both (listsOk v (d .lists)) (tellable (scanOf (d .fields)))
-
--- the sums of the four lists' words modulo 2^64, which the checksums need; none where one of them is W3
-unfoldable pub totalsOf : List ℕ → List ℕ → List ℕ → List ℕ → Totals
-totalsOf a b c d = record { dram = sum a % 2 ^ 64; console = sum b % 2 ^ 64; ncoh = sum c % 2 ^ 64; coh = sum d % 2 ^ 64 }
-
-unfoldable pub sumsOf : ℕ → List ℕ → List ℕ → List ℕ → List ℕ → Sums
-sumsOf v a b c d = cond (listsOk v (four a b c d)) (Sound (totalsOf a b c d)) Unsound
 
 -- W4: "a nonempty list for a section after the edition"
 unfoldable pub noneLate : ℕ → (ℕ → List ℕ) → Bool

@@ -1,2 +1,3 @@
 pub mod Description
-pub mod Lengths
+pub mod Fast
+pub mod Steps

@@ -2,14 +2,15 @@
 use entries::Bits;
 use versions::Edition;
 ghost use mathlib.Core.Path.{_≡_};
-ghost use mathlib.Core.Bool.{true};
+ghost use mathlib.Core.Bool.{true, cond};
 ghost use Prim.Native.Nat.{_*_, _%_, _^_, _≤_};
 ghost use lib.ListN.{length, take};
 ghost use lib.Dec.{leb};
 ghost use Rattle.entries.specs.Entry.{entriesOk, sum};
 ghost use Rattle.fields.specs.Fields.{scanOf, tellable};
-ghost use Rattle.lists.specs.Description.{four, descriptionOf, listOk, sumsOf, noneLate, withMark, used};
-ghost use Rattle.lists.specs.Lengths.{sumTo, lateTo};
+ghost use Rattle.lists.specs.Description.{four, descriptionOf, listOk, listsOk, noneLate, withMark, used};
+ghost use Rattle.lists.specs.Fast.{sumsOf, sumsNumber};
+ghost use Rattle.lists.specs.Steps.{sumTo, lateTo};
 
 // The sums of the four lists' words, modulo 2^64.
 pub struct Totals {
@@ -96,6 +97,7 @@ fn sum_list(words: &[u64], minor: u64, k: usize) -> Summed
 // W3: the sums of all four lists, also of those of sections after the edition.
 pub fn sum_lists(minor: u64, dram: &[u64], console: &[u64], ncoh: &[u64], coh: &[u64]) -> Sums
     ensures { λ r. ⌜ r ≡ sumsOf minor (now (dram .entry)) (now (console .entry)) (now (ncoh .entry)) (now (coh .entry)) ⌝ }
+    ensures { λ r. ⌜ sumsNumber r ≡ cond (listsOk minor (four (now (dram .entry)) (now (console .entry)) (now (ncoh .entry)) (now (coh .entry)))) 0 3 ⌝ }
 {
     let first = sum_list(dram, minor, 0);
     if !first.ok {

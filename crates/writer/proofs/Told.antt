@@ -12,7 +12,8 @@ use Rattle.versions.specs.Edition.{editionOk}
 use Rattle.sections.specs.Page.{placeOk}
 use Rattle.sections.proofs.Sections.{placed}
 use Rattle.fields.specs.Fields.{scanOf, tellable}
-use Rattle.lists.specs.Description.{four, descriptionOf, noneLate, totalsOf, sumsOf, used}
+use Rattle.lists.specs.Description.{four, descriptionOf, noneLate, used}
+use Rattle.lists.specs.Fast.{totalsOf, sumsOf}
 use Rattle.lists.specs.declared.Sums.{Sums}
 use Rattle.lists.specs.declared.Sums.the-variants.{Sound, Unsound}
 use Rattle.lists.specs.declared.Totals.{Totals}

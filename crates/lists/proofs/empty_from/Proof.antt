@@ -1,7 +1,7 @@
 use mathlib.Core.Bool.{true}
 use mathlib.Core.Path.{_≡_, sym}
 use Prim.Native.Nat.{_-_, _≤_}
-use Rattle.lists.specs.Lengths.{lateTo}
+use Rattle.lists.specs.Steps.{lateTo}
 use Rattle.lists.proofs.Lists.{late-none, late-more, late-not, late-end}
 use borrow.Author.Needs.{needs}
 use native.Mathlib.Omega.{arith}

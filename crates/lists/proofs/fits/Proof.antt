@@ -1,7 +1,7 @@
 use mathlib.Core.Path.{_≡_, sym}
 use Prim.Native.Nat.{_+_, _-_, _≤_}
 use borrow.Author.Tests.{lt-leb, le-leb}
-use Rattle.lists.specs.Lengths.{sumTo}
+use Rattle.lists.specs.Steps.{sumTo}
 use Rattle.lists.proofs.Lists.{to-none, to-more, to-over}
 use borrow.Author.Needs.{needs}
 use native.Mathlib.Omega.{arith}

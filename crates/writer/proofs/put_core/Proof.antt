@@ -1,7 +1,8 @@
 use mathlib.Core.Path.{ap}
 use Prim.Native.Nat.{ℕ, _+_}
 use Rattle.lists.specs.declared.Totals.{Totals}
-use Rattle.lists.specs.Description.{four, descriptionOf, totalsOf}
+use Rattle.lists.specs.Description.{four, descriptionOf}
+use Rattle.lists.specs.Fast.{totalsOf}
 use Rattle.writer.proofs.Pages.{core-law}
 use borrow.Author.Needs.{needs}
 use Rattle.writer.proofs.put_core.Statement.{statement}

@@ -42,7 +42,7 @@ returns-3 c =
     (lists-fit (a .dram .now) (a .console .now) (a .ncoh .now) (a .coh .now) (a .fields .now) (c .before .before .before .before .before .before .before .before .before .before .before .before .shared-slice-known .given) (c .before .before .before .before .before .before .before .before .before .before .before .shared-slice-known2 .given) (c .before .before .before .before .before .before .before .before .before .before .shared-slice-known3 .given) (c .before .before .before .before .before .before .before .before .before .shared-slice-known4 .given))
     _ (c .before .before .before .before .before .before .place-ok .ensures) (not-false _ (c .before .before .before .before .before .if1 .left))
     _ (c .before .before .before .before .is-edition .ensures) (not-false _ (c .before .before .before .if2 .left))
-    _ (c .before .before .sum-lists .ensures) (c .enum-told .given .1)
+    _ (c .before .before .sum-lists .ensures .0) (c .enum-told .given .1)
 
 fields-ok-requires : tie.Need-fields-ok-requires
 fields-ok-requires c κs = search needs
@@ -54,7 +54,7 @@ returns-4 c =
     (lists-fit (a .dram .now) (a .console .now) (a .ncoh .now) (a .coh .now) (a .fields .now) (c .before .before .before .before .before .before .before .before .before .before .before .before .before .before .before .shared-slice-known .given) (c .before .before .before .before .before .before .before .before .before .before .before .before .before .before .shared-slice-known2 .given) (c .before .before .before .before .before .before .before .before .before .before .before .before .before .shared-slice-known3 .given) (c .before .before .before .before .before .before .before .before .before .before .before .before .shared-slice-known4 .given))
     _ (c .before .before .before .before .before .before .before .before .before .place-ok .ensures) (not-false _ (c .before .before .before .before .before .before .before .before .if1 .left))
     _ (c .before .before .before .before .before .before .before .is-edition .ensures) (not-false _ (c .before .before .before .before .before .before .if2 .left))
-    _ (c .before .before .before .before .before .sum-lists .ensures) _ (c .before .before .before .totals .given .1)
+    _ (c .before .before .before .before .before .sum-lists .ensures .0) _ (c .before .before .before .totals .given .1)
     _ (c .before .fields-ok .ensures) (not-true _ (c .if3 .taken))
 
 none-late-requires : tie.Need-none-late-requires
@@ -67,7 +67,7 @@ returns-5 c =
     (lists-fit (a .dram .now) (a .console .now) (a .ncoh .now) (a .coh .now) (a .fields .now) (c .before .before .before .before .before .before .before .before .before .before .before .before .before .before .before .before .before .shared-slice-known .given) (c .before .before .before .before .before .before .before .before .before .before .before .before .before .before .before .before .shared-slice-known2 .given) (c .before .before .before .before .before .before .before .before .before .before .before .before .before .before .before .shared-slice-known3 .given) (c .before .before .before .before .before .before .before .before .before .before .before .before .before .before .shared-slice-known4 .given))
     _ (c .before .before .before .before .before .before .before .before .before .before .before .place-ok .ensures) (not-false _ (c .before .before .before .before .before .before .before .before .before .before .if1 .left))
     _ (c .before .before .before .before .before .before .before .before .before .is-edition .ensures) (not-false _ (c .before .before .before .before .before .before .before .before .if2 .left))
-    _ (c .before .before .before .before .before .before .before .sum-lists .ensures) _ (c .before .before .before .before .before .totals .given .1)
+    _ (c .before .before .before .before .before .before .before .sum-lists .ensures .0) _ (c .before .before .before .before .before .totals .given .1)
     _ (c .before .before .before .fields-ok .ensures) (not-false _ (c .before .before .if3 .left))
     _ (c .before .none-late .ensures) (not-true _ (c .if4 .taken))
 
@@ -81,7 +81,7 @@ returns-6 c =
     (lists-fit (a .dram .now) (a .console .now) (a .ncoh .now) (a .coh .now) (a .fields .now) (c .before .before .before .before .before .before .before .before .before .before .before .before .before .before .before .before .before .before .before .shared-slice-known .given) (c .before .before .before .before .before .before .before .before .before .before .before .before .before .before .before .before .before .before .shared-slice-known2 .given) (c .before .before .before .before .before .before .before .before .before .before .before .before .before .before .before .before .before .shared-slice-known3 .given) (c .before .before .before .before .before .before .before .before .before .before .before .before .before .before .before .before .shared-slice-known4 .given))
     _ (c .before .before .before .before .before .before .before .before .before .before .before .before .before .place-ok .ensures) (not-false _ (c .before .before .before .before .before .before .before .before .before .before .before .before .if1 .left))
     _ (c .before .before .before .before .before .before .before .before .before .before .before .is-edition .ensures) (not-false _ (c .before .before .before .before .before .before .before .before .before .before .if2 .left))
-    _ (c .before .before .before .before .before .before .before .before .before .sum-lists .ensures) _ (c .before .before .before .before .before .before .before .totals .given .1)
+    _ (c .before .before .before .before .before .before .before .before .before .sum-lists .ensures .0) _ (c .before .before .before .before .before .before .before .totals .given .1)
     _ (c .before .before .before .before .before .fields-ok .ensures) (not-false _ (c .before .before .before .before .if3 .left))
     _ (c .before .before .before .none-late .ensures) (not-false _ (c .before .before .if4 .left))
     _ (c .before .room-ok .ensures) (not-true _ (c .if5 .taken))
@@ -91,7 +91,7 @@ put-page-requires c κs =
     let a = c .before .before .before .before .before .before .before .before .before .before .before .before .before .before .before .before .before .before .before .before .before .args in
     told-ready (a .base) (a .edition) (a .dram .now) (a .console .now) (a .ncoh .now) (a .coh .now) (a .fields .now) (a .page .now)
     _ (c .before .before .before .before .before .before .before .before .before .before .before .before .before .before .place-ok .ensures) (not-false _ (c .before .before .before .before .before .before .before .before .before .before .before .before .before .if1 .left))
-    _ (c .before .before .before .before .before .before .before .before .before .before .sum-lists .ensures) _ (c .before .before .before .before .before .before .before .before .totals .given .1)
+    _ (c .before .before .before .before .before .before .before .before .before .before .sum-lists .ensures .0) _ (c .before .before .before .before .before .before .before .before .totals .given .1)
     _ (c .before .before .room-ok .ensures) (not-false _ (c .before .if5 .left))
 
 same-length : tie.Need-same-length
@@ -104,7 +104,7 @@ returns-7 c =
     (lists-fit (a .dram .now) (a .console .now) (a .ncoh .now) (a .coh .now) (a .fields .now) (c .before .before .before .before .before .before .before .before .before .before .before .before .before .before .before .before .before .before .before .before .before .before .before .shared-slice-known .given) (c .before .before .before .before .before .before .before .before .before .before .before .before .before .before .before .before .before .before .before .before .before .before .shared-slice-known2 .given) (c .before .before .before .before .before .before .before .before .before .before .before .before .before .before .before .before .before .before .before .before .before .shared-slice-known3 .given) (c .before .before .before .before .before .before .before .before .before .before .before .before .before .before .before .before .before .before .before .before .shared-slice-known4 .given))
     _ (c .before .before .before .before .before .before .before .before .before .before .before .before .before .before .before .before .before .place-ok .ensures) (not-false _ (c .before .before .before .before .before .before .before .before .before .before .before .before .before .before .before .before .if1 .left))
     _ (c .before .before .before .before .before .before .before .before .before .before .before .before .before .before .before .is-edition .ensures) (not-false _ (c .before .before .before .before .before .before .before .before .before .before .before .before .before .before .if2 .left))
-    _ (c .before .before .before .before .before .before .before .before .before .before .before .before .before .sum-lists .ensures) _ (c .before .before .before .before .before .before .before .before .before .before .before .totals .given .1)
+    _ (c .before .before .before .before .before .before .before .before .before .before .before .before .before .sum-lists .ensures .0) _ (c .before .before .before .before .before .before .before .before .before .before .before .totals .given .1)
     _ (c .before .before .before .before .before .before .before .before .before .fields-ok .ensures) (not-false _ (c .before .before .before .before .before .before .before .before .if3 .left))
     _ (c .before .before .before .before .before .before .before .none-late .ensures) (not-false _ (c .before .before .before .before .before .before .if4 .left))
     _ (c .before .before .before .before .before .room-ok .ensures) (not-false _ (c .before .before .before .before .if5 .left)) _ (c .before .before .put-page .ensures)

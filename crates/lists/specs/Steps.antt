@@ -1,4 +1,5 @@
--- The lengths of the four lists, as the loops go. Assumes nothing.
+-- For the loops of `lists`. Laws of proofs/Lists.antt: `to-joined` proves `sumTo 4` equal to the length of the lists joined, which `used` counts;
+-- `late-same` proves `lateTo` at the edition's sections equal to `noneLate`. Assumes nothing.
 use Prim.Native.Nat.{ℕ, zero, suc, _+_}
 use mathlib.Core.Bool.{Bool}
 use mathlib.Core.List.{List}
