@@ -43,7 +43,7 @@ cold-passed true true false n k c h = let z : _≡_ {A = ℕ} 0 1 = cc in absurd
 cold-passed true false m n k c h = let z : _≡_ {A = ℕ} 0 1 = cc in absurd (omega arith)
 cold-passed false v m n k c h = let z : _≡_ {A = ℕ} 0 1 = cc in absurd (omega arith)
 
-fresh-is : (s : Record) → isFresh s ≡ true → s ≡ Fresh
+pub fresh-is : (s : Record) → isFresh s ≡ true → s ≡ Fresh
 unfolding isFresh
 fresh-is Fresh h = refl
 fresh-is (Up u) h = absurd (false≢true h)

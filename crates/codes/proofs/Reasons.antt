@@ -10,7 +10,7 @@ use Rattle.words.specs.Tests.{both, either}
 use Rattle.boot.specs.declared.Params.{Params}
 use Rattle.boot.specs.declared.Record.{Record}
 use Rattle.boot.specs.declared.Record.the-variants.{Fresh, Up, Closed}
-use Rattle.codes.specs.Codes.{unless, fails, isUp, upOf, isOk, andThen}
+use Rattle.codes.specs.Codes.{extended, x0Of, answerOf, unless, fails, isUp, upOf, isOk, andThen}
 use Rattle.codes.specs.Reasons.{Gives, WhileUp}
 use Rattle.codes.specs.declared.Code.{Code}
 use Rattle.codes.specs.declared.Code.the-variants.{Ok, Unk, BadAddr, BadPas, Inval, Again}
@@ -91,3 +91,16 @@ then-then Again j next = refl
 pub then-none : (next : Code) → andThen Ok next ≡ next
 unfolding andThen
 then-none next = refl
+
+-- ---- what x0 holds. 01: "OK 0, UNK -1, BAD_ADDR -2, BAD_PAS -3, INVAL -5, AGAIN -6"; "x0 holds the code sign-extended to 64 bits"
+pub record X0s (x1 x2 : ℕ) : Type 0 where
+  pub ok : answerOf Ok x1 x2 ≡ record { code = Ok; x0 = 0; x1 = x1; x2 = x2 }
+  pub unk : answerOf Unk x1 x2 ≡ record { code = Unk; x0 = 0xFFFF_FFFF_FFFF_FFFF; x1 = x1; x2 = x2 }
+  pub badAddr : answerOf BadAddr x1 x2 ≡ record { code = BadAddr; x0 = 0xFFFF_FFFF_FFFF_FFFE; x1 = x1; x2 = x2 }
+  pub badPas : answerOf BadPas x1 x2 ≡ record { code = BadPas; x0 = 0xFFFF_FFFF_FFFF_FFFD; x1 = x1; x2 = x2 }
+  pub inval : answerOf Inval x1 x2 ≡ record { code = Inval; x0 = 0xFFFF_FFFF_FFFF_FFFB; x1 = x1; x2 = x2 }
+  pub again : answerOf Again x1 x2 ≡ record { code = Again; x0 = 0xFFFF_FFFF_FFFF_FFFA; x1 = x1; x2 = x2 }
+
+pub x0-numbers : (x1 x2 : ℕ) → X0s x1 x2
+unfolding answerOf x0Of extended
+x0-numbers x1 x2 = record { ok = refl; unk = refl; badAddr = refl; badPas = refl; inval = refl; again = refl }

@@ -12,7 +12,7 @@ smaller-requires c κs = search needs
 
 returns : tie.Need-returns
 unfolding agreed
-returns c = (cc, omega arith)
+returns c = (rw (c .smaller .ensures, c .before .minor .ensures .0), omega arith)
 
 pub agreed-minor-spec : {M : Type 1} → statement M
 agreed-minor-spec = tie.close (tie.spec minor-requires smaller-requires returns)
