@@ -1380,13 +1380,40 @@ def odd_words():
         call("table", DELEGATE, G), call("table", UNDELEGATE, G + 4096))
 
 
+def other_ids(dice):
+    """Ids that are not listed, each with the command whose registers go with it: ids at random over
+    64 bits and over the 16 bits below 0xC4000000; and each listed one with one bit changed, with
+    other upper 32 bits, and with its low 16 bits alone."""
+    pairs = [(0xC4000250, FEATURES), (0xC40001CF, FORWARD)]
+    pairs += [(dice.getrandbits(64), dice.choice(LISTED)) for _ in range(32)]
+    pairs += [(0xC4000000 + dice.getrandbits(16), dice.choice(LISTED)) for _ in range(16)]
+    for command in LISTED:
+        pairs += [(command ^ 2**bit, command) for bit in dice.sample(range(64), 8)]
+        pairs += [(command + (dice.randrange(1, 2**32) << 32), command),
+                  (command % 2**16 + (dice.getrandbits(48) << 16), command)]
+    return [(other, command) for other, command in pairs if other not in LISTED]
+
+
+def random_identities():
+    """The dispatcher: function ids at random, with registers that a listed command would accept"""
+    dice = Random(64)
+    pairs = other_ids(dice)
+    world = start(page=ASKED, session=(100, 64), requests=requests(1), responses=responses(1))
+    world = world._replace(lent=usual_words(world.record, world.table))
+    for state in STATES:
+        some = pairs if state == "up" else pairs[:2] + dice.sample(pairs[2:], 6)
+        add(f"{len(some)} ids that are not listed, record {state}", world._replace(state=state),
+            *(usual(command, outcome="id", id=other) for other, command in some))
+
+
 # ---- Output ----
 
 def build_all():
     for group in (examples, buffers, challenge_sizes, tokens, whole_tokens, sessions, challenges,
                   signing_edges, pushes, pulls, signer, rounds, forged, identities, banks, pairs,
                   mixed, random_sequences, kept_bytes, kept_and_room, kept_pairs, kept_manifests,
-                  random_kept, shared_page, words_of_each_length, odd_words, kept_fields):
+                  random_kept, shared_page, words_of_each_length, odd_words, kept_fields,
+                  random_identities):
         GROUPS.append((group.__doc__, []))
         group()
 

@@ -213,9 +213,9 @@ impl Random {
         }
     }
 
-    /// An id that may not be listed.
+    /// An id that may not be listed: any, or near the given one.
     fn any_id(&mut self, id: u64) -> u64 {
-        match self.below(4) {
+        match self.below(7) {
             0 => id + (self.between(1, u64::from(u32::MAX)) << 32),
             1 => self.pick(&[
                 0xC400_018E,
@@ -223,9 +223,13 @@ impl Random {
                 0xC400_01AF,
                 0xC400_01B7,
                 0xC400_01CF,
+                0xC400_0250,
             ]),
             2 => id ^ (1 << self.below(64)),
-            _ => self.edge(),
+            3 => self.edge(),
+            4 => self.word(),
+            5 => 0xC400_0000 + self.below(1 << 16),
+            _ => self.word() << 16 | id & 0xffff,
         }
     }
 
