@@ -1,11 +1,13 @@
-//! The proved library against the reference, nanoseconds a call: `cargo run --offline --release --example bench`
+//! The proved library against hand-written Rust, nanoseconds a call: `cargo run --offline --release --example bench`
 //!
-//! Both are timed in turn, on pages of the same content and alignment, and the best of many short runs counts. The reference keeps
-//! its states as Rust values ("native"). Calls by id and the queue are timed against hand-written code that works in place on the same
-//! image as the library, by the same rules ("in place"); `tests/inplace.rs` holds it to them. Reader, writer, packer and mender are
-//! timed against the reference and against second ones, written for speed ("by hand"); `tests/fast.rs` holds these to the reference.
+//! All sides are timed in turn, on pages of the same content and alignment, and the best of many short runs counts.
 //!
-//! With the argument `manifest` only these are timed, with `granules` only granule records and moves.
+//! - "by hand": the fastest code that we could write, with the library's parameters, rules and images (`src/fast.rs`, `src/inplace.rs`);
+//!   `tests/fast.rs` and `tests/inplace.rs` hold it to the reference.
+//! - "by hand, SSE2": the same, where the copy is of 16 bytes at a time and not the C library's.
+//! - "native": the reference, whose states are Rust values.
+//!
+//! With `--write` the table of docs/BENCHMARK.md is written anew. With `manifest`, `granules` or `commands` only these are timed.
 
 use potterbeam_tests::exports::{
     Exports, FieldImage, GranulesImage, QueueImage, RecordImage, Registers, SessionImage, Work,
@@ -16,6 +18,7 @@ use potterbeam_tests::inplace;
 use potterbeam_tests::kit::{ffi, Kit};
 use potterbeam_tests::model::Model;
 use potterbeam_tests::pages::PageExports;
+use potterbeam_tests::random::Random;
 use potterbeam_tests::reference::boot::Record;
 use potterbeam_tests::reference::codes::Outcome;
 use potterbeam_tests::reference::layout::{word_at, PAGE};
@@ -34,6 +37,7 @@ use potterbeam_tests::reference::writer::{write, Lists};
 use potterbeam_tests::swtpm::{Library, StateBlobs};
 use potterbeam_tests::tpm::{Said, Tpm, TpmExports, TpmModel};
 use std::sync::atomic::{AtomicU64, Ordering};
+use std::sync::Mutex;
 use std::time::{Duration, Instant};
 
 const BASE: u64 = 0x8000_0000;
@@ -104,7 +108,24 @@ fn times_of(side: &mut Side) -> u32 {
     (RUN.as_nanos() / once.max(1)).clamp(1, 20_000) as u32
 }
 
-/// Prints nanoseconds a call of the library, and of each other side with the ratio. A body makes so many calls.
+/// The table's rows so far.
+static ROWS: Mutex<Vec<String>> = Mutex::new(Vec::new());
+
+/// Nanoseconds as the table has them.
+fn shown(ns: f64) -> String {
+    match ns < 1000.0 {
+        true => format!("{ns:.1}"),
+        false => {
+            let whole = ns.round() as u64;
+            match (whole / 1_000_000, whole / 1000 % 1000, whole % 1000) {
+                (0, thousands, ones) => format!("{thousands},{ones:03}"),
+                (millions, thousands, ones) => format!("{millions},{thousands:03},{ones:03}"),
+            }
+        }
+    }
+}
+
+/// Prints nanoseconds a call of the library, and of each other side with the ratio. A body makes `calls` calls.
 fn compare(name: &str, calls: u32, kit: Side, others: Vec<(&str, Side)>) {
     let (names, others): (Vec<_>, Vec<_>) = others.into_iter().unzip();
     let mut sides: Vec<_> = std::iter::once(kit).chain(others).collect();
@@ -113,16 +134,32 @@ fn compare(name: &str, calls: u32, kit: Side, others: Vec<(&str, Side)>) {
     for _ in 0..RUNS {
         for (i, side) in sides.iter_mut().enumerate() {
             let run = timed(side, times[i]).as_nanos() as f64;
-            best[i] = best[i].min(run / f64::from(times[i] * calls));
+            best[i] = best[i].min(run / (f64::from(times[i]) * f64::from(calls)));
         }
     }
     for (other, best_of_other) in names.iter().zip(&best[1..]) {
+        let (ours, theirs) = (shown(best[0]), shown(*best_of_other));
         let ratio = best[0] / best_of_other;
-        println!(
-            "{name:<36} {:9.1} {best_of_other:9.1} {ratio:6.2}  {other}",
-            best[0]
-        );
+        println!("{name:<42} {ours:>9} {theirs:>9} {ratio:6.2}  {other}");
+        let row = format!("| {name} | {ours} | {theirs} | {ratio:.2} | {other} |\n");
+        ROWS.lock().expect("rows").push(row);
     }
+}
+
+/// The lines of docs/BENCHMARK.md between which the table is.
+const TABLE: &str = concat!(env!("CARGO_MANIFEST_DIR"), "/../docs/BENCHMARK.md");
+const START: &str = "<!-- table: bench -->\n";
+const END: &str = "<!-- end -->";
+
+/// Writes the rows in place of those in the file.
+fn write_table() {
+    let text = std::fs::read_to_string(TABLE).expect(TABLE);
+    let (head, rest) = text.split_once(START).expect(START);
+    let (_, tail) = rest.split_once(END).expect(END);
+    let rows = ROWS.lock().expect("rows").concat();
+    let titles = "| Call | Library, ns | Other, ns | Ratio | Other side |\n|---|---|---|---|---|\n";
+    let written = format!("{head}{START}{titles}{rows}{END}{tail}");
+    std::fs::write(TABLE, written).expect(TABLE);
 }
 
 // ---- Manifest ----
@@ -158,6 +195,99 @@ fn compare_reading(name: &str, base: u64, edition: u64, lists: Lists, fields: &[
     assert_eq!(view, theirs);
 }
 
+/// A cold boot with a page, by the fast reader on the other side.
+fn compare_cold_boot(name: &str, base: u64, edition: u64, lists: Lists) {
+    let mut page = Page([0; PAGE]);
+    write(base, edition, lists, &[], &mut page.0).expect("written");
+    let (x, [most, kept]) = (hidden([0, 5, 8, base]), hidden([8, 56]));
+    let page = &*page.lent();
+    let [mut ours, mut theirs] = [[0; 5]; 2];
+    compare(
+        &format!("cold boot, {name}"),
+        1,
+        side(|| {
+            ours = [0; 5];
+            assert_eq!(Kit::cold_boot(&mut ours, x, most, kept, page), 0);
+            see(ours[3]);
+        }),
+        vec![(
+            "by hand",
+            side(|| {
+                theirs = [0; 5];
+                let [x0, x1, x2, x3] = x;
+                let code = inplace::cold_boot(&mut theirs, x0, x1, x2, x3, most, kept, page);
+                assert_eq!(code, 0);
+                see(theirs[3]);
+            }),
+        )],
+    );
+    assert_eq!(ours, theirs);
+}
+
+/// The listing's text of a page.
+fn compare_listing(name: &str, base: u64, edition: u64, lists: Lists) {
+    let mut page = Page([0; PAGE]);
+    write(base, edition, lists, &[], &mut page.0).expect("written");
+    let (page, [base, room]) = (&*page.lent(), hidden([base, 12_400]));
+    let [mut ours, mut theirs] = [(); 2].map(|()| vec![0; room as usize]);
+    compare(
+        &format!("listing of {name}"),
+        1,
+        side(|| see(Kit::listing(page, base, 4, &mut ours) as u64)),
+        vec![(
+            "by hand",
+            side(|| see(fast::listing(page, base, 4, &mut theirs) as u64)),
+        )],
+    );
+    assert_eq!(ours, theirs);
+}
+
+/// Array, count and a word of the consoles of a view with four sections.
+fn compare_lookups() {
+    let (mut page, mut view) = (Page([0; PAGE]), [0; 15]);
+    let lists: Lists = [&BANK, &CONSOLE, &BANK, &BANK];
+    write(BASE, 4, lists, &[], &mut page.0).expect("written");
+    let page = &*page.lent();
+    assert_eq!(Kit::read(page, BASE, 4, &mut view), 0);
+    let [section, entry, word] = hidden([1, 0, 4]).map(|word| word as usize);
+    let [mut ours, mut theirs] = [[0; 2]; 2];
+    compare(
+        "array_of, four sections",
+        1,
+        side(|| {
+            Kit::array_of(page, &view, section, &mut ours);
+            see(ours[0]);
+        }),
+        vec![(
+            "by hand",
+            side(|| {
+                fast::array_of(page, &view, section, &mut theirs);
+                see(theirs[0]);
+            }),
+        )],
+    );
+    assert!(ours == theirs && ours[1] == 48);
+    compare(
+        "count, four sections",
+        1,
+        side(|| see(Kit::count(page, &view, section) as u64)),
+        vec![(
+            "by hand",
+            side(|| see(fast::count(page, &view, section) as u64)),
+        )],
+    );
+    compare(
+        "word, four sections",
+        1,
+        side(|| see(Kit::word(page, &view, section, entry, word))),
+        vec![(
+            "by hand",
+            side(|| see(fast::word(page, &view, section, entry, word))),
+        )],
+    );
+    assert_eq!(fast::word(page, &view, section, entry, word), CONSOLE[4]);
+}
+
 /// What the manifest of a view takes of the page, without and with fields.
 fn compare_kept_for() {
     for (name, fields) in [
@@ -180,20 +310,21 @@ fn compare_kept_for() {
     }
 }
 
-/// A console by its name: the only one, and the last of many.
+/// A console by its name: the only one, the last of many, and none of many.
 fn compare_console_named() {
-    for (name, count) in [
-        ("the one console by name", 1),
-        ("last of 83 consoles by name", 83),
+    for (name, count, asked) in [
+        ("the one console by name", 1, *b"uart-1ab"),
+        ("last of 83 consoles by name", 83, *b"uart-1ab"),
+        ("none of 83 consoles by name", 83, *b"uart-2ab"),
     ] {
         let (mut page, mut view) = (Page([0; PAGE]), [0; 15]);
-        let (mut consoles, asked) = (CONSOLE.repeat(count), *b"uart-1ab");
-        consoles[6 * count - 4] = u64::from_le_bytes(asked);
+        let mut consoles = CONSOLE.repeat(count);
+        consoles[6 * count - 4] = u64::from_le_bytes(*b"uart-1ab");
         write(BASE, 4, [&[], &consoles, &[], &[]], &[], &mut page.0).expect("written");
         let page = &*page.lent();
         assert_eq!(Kit::read(page, BASE, 4, &mut view), 0);
-        assert_eq!(Kit::console_named(page, &view, &asked), count - 1);
-        assert_eq!(fast::console_named(page, &view, &asked), count - 1);
+        let found = Kit::console_named(page, &view, &asked);
+        assert_eq!(fast::console_named(page, &view, &asked), found);
         compare(
             name,
             1,
@@ -253,15 +384,34 @@ fn compare_manifests() {
     let fvp = [0x8000_0000, 0x7c00_0000, 0x8_8000_0000, 0x8000_0000];
     let uart = [0x1c0c_0000, 1, 0x31_3130_6c70, 0xe1_0000, 0x1_c200, 0];
     let (banks, consoles) = (BANK.repeat(249), CONSOLE.repeat(83));
-    let pages: [(_, _, _, Lists); 4] = [
+    let pages: [(_, _, _, Lists); 7] = [
         ("example 14's page", BASE, 2, [&BANK, &[], &[], &[]]),
         ("an FVP page", 0xffbf_f000, 3, [&fvp, &uart, &[], &[]]),
+        ("edition 4, a bank", BASE, 4, [&BANK, &[], &[], &[]]),
+        (
+            "edition 4, a bank, a console",
+            BASE,
+            4,
+            [&BANK, &CONSOLE, &[], &[]],
+        ),
+        (
+            "edition 4, four of one entry",
+            BASE,
+            4,
+            [&BANK, &CONSOLE, &BANK, &BANK],
+        ),
         ("249 banks", BASE, 4, [&banks, &[], &[], &[]]),
         ("83 consoles", BASE, 4, [&[], &consoles, &[], &[]]),
     ];
     for (name, base, edition, lists) in pages {
         compare_reading(name, base, edition, lists, &[]);
+        compare_cold_boot(name, base, edition, lists);
         compare_writing(&format!("write {name}"), base, edition, lists, &[], 0);
+    }
+    for (name, base, edition, lists) in pages {
+        if ["example 14's page", "249 banks", "83 consoles"].contains(&name) {
+            compare_listing(name, base, edition, lists);
+        }
     }
     // 02, E7: the cost grows with the bytes; a field in one piece, and fields of a byte each.
     let (small, none): (Lists, Lists) = ([&fvp, &uart, &[], &[]], [&[]; 4]);
@@ -519,166 +669,136 @@ fn banks(count: u64) -> (GranulesImage, Vec<u64>) {
     (hidden(record), addresses)
 }
 
-/// A single granule in the last bank, to Realm and back.
+/// A move of the granule at an address, or of those of a list, on some table and words.
+type Move<T> = fn(&RecordImage, &GranulesImage, &mut [u8], &mut [u64], T, &mut Registers);
+
+/// What moves work on: one for each side.
+struct Memory {
+    state: RecordImage,
+    record: GranulesImage,
+    table: Vec<u8>,
+    words: Vec<u64>,
+    out: Registers,
+}
+
+impl Memory {
+    fn new(record: &GranulesImage) -> Memory {
+        let [length] = hidden([512]);
+        Memory {
+            state: Up::new().image,
+            record: *record,
+            table: vec![0; length as usize],
+            words: vec![0; length as usize / 64],
+            out: [0; 3],
+        }
+    }
+
+    fn run<T>(&mut self, by: Move<T>, at: T) {
+        let (table, words) = (&mut self.table, &mut self.words);
+        by(&self.state, &self.record, table, words, at, &mut self.out);
+        see(self.out[0]);
+    }
+
+    /// As a C caller has it, without the wrapper's look at empty slices. Every pointer is of a live borrow of the length with it.
+    fn kit(&mut self, to_realm: bool, at: u64) {
+        let by = match to_realm {
+            true => ffi::pbeam_delegate,
+            false => ffi::pbeam_undelegate,
+        };
+        let (table, in_table) = (self.table.as_mut_ptr(), self.table.len());
+        let (words, in_words) = (self.words.as_mut_ptr(), self.words.len());
+        let (state, record) = (&self.state, &self.record);
+        unsafe {
+            by(
+                state,
+                record,
+                table,
+                in_table,
+                words,
+                in_words,
+                at,
+                &mut self.out,
+            )
+        };
+        see(self.out[0]);
+    }
+
+    fn same(&self, other: &Memory) -> bool {
+        let changed = |memory: &Memory| (memory.table.clone(), memory.words.clone(), memory.out);
+        changed(self) == changed(other)
+    }
+}
+
+/// A single granule in the last bank, to Realm and back; and refused.
 fn compare_granules(count: u64) {
-    let (Up { image, .. }, (record, addresses)) = (Up::new(), banks(count));
-    let [address, length] = hidden([addresses[500], 512]);
-    let [mut ours, mut theirs] = [(); 2].map(|()| vec![0; length as usize]);
-    let [mut words, mut their_words] = [(); 2].map(|()| vec![0; length as usize / 64]);
+    let (record, addresses) = banks(count);
+    let [at] = hidden([addresses[500]]);
+    let [mut ours, mut theirs] = [(); 2].map(|()| Memory::new(&record));
     compare(
         &format!("delegate, undelegate, {}", several(count)),
         2,
         side(|| {
-            let mut out = [0; 3];
-            Kit::delegate(&image, &record, &mut ours, &mut words, address, &mut out);
-            see(out[0]);
-            Kit::undelegate(&image, &record, &mut ours, &mut words, address, &mut out);
-            see(out[0]);
+            ours.kit(true, at);
+            ours.kit(false, at);
         }),
         vec![(
-            "in place",
+            "by hand",
             side(|| {
-                let mut out = [0; 3];
-                let words = &mut their_words;
-                inplace::delegate(&image, &record, &mut theirs, words, address, &mut out);
-                see(out[0]);
-                inplace::undelegate(&image, &record, &mut theirs, words, address, &mut out);
-                see(out[0]);
+                theirs.run(inplace::delegate, at);
+                theirs.run(inplace::undelegate, at);
             }),
         )],
     );
-    assert_eq!((ours, words), (theirs, their_words));
-}
-
-/// The same with one bank, called as from C, against code by hand: by the same rules, and by those before 02, with one range of memory
-/// and with one bank but no words.
-fn compare_with_before() {
-    use inplace::before::{
-        delegate_in_bank, delegate_in_range, undelegate_in_bank, undelegate_in_range,
-    };
-    let (Up { image, .. }, (record, addresses)) = (Up::new(), banks(1));
-    let [address, length, start] = hidden([addresses[500], 512, addresses[0]]);
-    let start = [start];
-    let [mut ours, mut theirs, mut ranged, mut banked] = [(); 4].map(|()| vec![0; length as usize]);
-    let [mut words, mut their_words] = [(); 2].map(|()| vec![0; length as usize / 64]);
-    let (table, in_table) = (ours.as_mut_ptr(), ours.len());
-    let (word, in_words) = (words.as_mut_ptr(), words.len());
-    compare(
-        "to Realm and back, 1 bank",
-        2,
-        side(|| unsafe {
-            let mut out = [0; 3];
-            ffi::pbeam_delegate(
-                &image, &record, table, in_table, word, in_words, address, &mut out,
-            );
-            see(out[0]);
-            ffi::pbeam_undelegate(
-                &image, &record, table, in_table, word, in_words, address, &mut out,
-            );
-            see(out[0]);
-        }),
-        vec![
-            (
-                "in place",
-                side(|| {
-                    let mut out = [0; 3];
-                    let words = &mut their_words;
-                    inplace::delegate(&image, &record, &mut theirs, words, address, &mut out);
-                    see(out[0]);
-                    inplace::undelegate(&image, &record, &mut theirs, words, address, &mut out);
-                    see(out[0]);
-                }),
-            ),
-            (
-                "one range, no words",
-                side(|| {
-                    let mut out = [0; 3];
-                    delegate_in_range(&image, &start, &mut ranged, address, &mut out);
-                    see(out[0]);
-                    undelegate_in_range(&image, &start, &mut ranged, address, &mut out);
-                    see(out[0]);
-                }),
-            ),
-            (
-                "one bank, no words",
-                side(|| {
-                    let mut out = [0; 3];
-                    delegate_in_bank(&image, &record, &mut banked, address, &mut out);
-                    see(out[0]);
-                    undelegate_in_bank(&image, &record, &mut banked, address, &mut out);
-                    see(out[0]);
-                }),
-            ),
-        ],
-    );
-    assert!(ours == theirs && ours == ranged && ours == banked && words == their_words);
-    assert!(old_rules_accept(&image, &start, &record, address));
-}
-
-/// That the old rules' code accepts what is timed.
-fn old_rules_accept(
-    image: &RecordImage,
-    start: &[u64; 1],
-    record: &GranulesImage,
-    address: u64,
-) -> bool {
-    let (mut ranged, mut banked) = (vec![0; 512], vec![0; 512]);
-    let [mut one, mut other] = [[9; 3]; 2];
-    inplace::before::delegate_in_range(image, start, &mut ranged, address, &mut one);
-    inplace::before::delegate_in_bank(image, record, &mut banked, address, &mut other);
-    one == [0; 3] && other == one && ranged == banked && ranged[500] == 1
+    assert!(ours.same(&theirs) && ours.out == [0; 3]);
+    (ours.table[500], theirs.table[500]) = (1, 1);
+    for (code, name, at) in [(-3, "BAD_PAS", at), (-2, "BAD_ADDR", at + 1)] {
+        compare(
+            &format!("delegate, {name}, {}", several(count)),
+            1,
+            side(|| ours.kit(true, at)),
+            vec![("by hand", side(|| theirs.run(inplace::delegate, at)))],
+        );
+        assert!(ours.same(&theirs) && ours.out[0] as i64 == code);
+    }
 }
 
 fn several(count: u64) -> String {
     format!("{count} bank{}", if count == 1 { "" } else { "s" })
 }
 
-/// 200 granules over all banks handed over in one call, against a list by hand and against 200 single calls.
+/// 200 granules over all banks to Realm and back, in the order of addresses and at random.
 fn compare_lists(count: u64) {
-    let (Up { image, .. }, (record, addresses)) = (Up::new(), banks(count));
-    let [length] = hidden([512]);
-    let list: Vec<u64> = (0..200).map(|i| addresses[2 * i + i / 2]).collect();
-    let [mut ours, mut theirs, mut singly] = [(); 3].map(|()| vec![0; length as usize]);
-    let [mut words, mut their_words, mut single_words] =
-        [(); 3].map(|()| vec![0; length as usize / 64]);
-    compare(
-        &format!("delegate a list of 200, {}", several(count)),
-        1,
-        side(|| {
-            let mut out = [0; 3];
-            ours.fill(0);
-            Kit::delegate_list(&image, &record, &mut ours, &mut words, &list, &mut out);
-            see(out[1]);
-        }),
-        vec![
-            (
-                "in place",
-                side(|| {
-                    let mut out = [0; 3];
-                    theirs.fill(0);
-                    let words = &mut their_words;
-                    inplace::delegate_list(&image, &record, &mut theirs, words, &list, &mut out);
-                    see(out[1]);
-                }),
-            ),
-            (
-                "200 single calls",
-                side(|| {
-                    let mut out = [0; 3];
-                    singly.fill(0);
-                    for &address in &list {
-                        let words = &mut single_words;
-                        Kit::delegate(&image, &record, &mut singly, words, address, &mut out);
-                        see(out[0]);
-                    }
-                }),
-            ),
-        ],
-    );
-    assert_eq!(ours, theirs);
-    assert_eq!(ours, singly);
-    assert!(words == their_words && words == single_words);
-    assert_eq!(ours.iter().filter(|&&byte| byte == 1).count(), 200);
+    let (record, addresses) = banks(count);
+    let mut list: Vec<u64> = (0..200).map(|i| addresses[2 * i + i / 2]).collect();
+    for order in ["in order", "at random"] {
+        let [mut ours, mut theirs, mut singly] = [(); 3].map(|()| Memory::new(&record));
+        compare(
+            &format!("list of 200 {order}, {}", several(count)),
+            2,
+            side(|| {
+                ours.run(Kit::delegate_list, &list[..]);
+                ours.run(Kit::undelegate_list, &list[..]);
+            }),
+            vec![
+                (
+                    "by hand",
+                    side(|| {
+                        theirs.run(inplace::delegate_list, &list[..]);
+                        theirs.run(inplace::undelegate_list, &list[..]);
+                    }),
+                ),
+                (
+                    "the library's single calls",
+                    side(|| {
+                        list.iter().for_each(|&at| singly.kit(true, at));
+                        list.iter().for_each(|&at| singly.kit(false, at));
+                    }),
+                ),
+            ],
+        );
+        assert!(ours.same(&theirs) && ours.out == [0, 200, 0] && ours.table == singly.table);
+        Random::new(1).shuffle(&mut list);
+    }
 }
 
 fn compare_set_up(count: u64) {
@@ -695,7 +815,7 @@ fn compare_set_up(count: u64) {
             see(ours[2]);
         }),
         vec![(
-            "in place",
+            "by hand",
             side(|| {
                 see(inplace::set_up(&mut theirs, &shown, length));
                 see(theirs[2]);
@@ -706,18 +826,36 @@ fn compare_set_up(count: u64) {
     assert_eq!(ours, record);
 }
 
-/// The Realm words of 16 GiB in one bank: how many granules are Realm, and the next one behind an empty stretch, against Rust with
-/// `count_ones` and `trailing_zeros`; the count also against a walk over the table's bytes.
-fn compare_realm_words() {
-    let [granules, base] = hidden([(16 << 30) / 4096, 0x8_8000_0000]);
+/// The Realm words of so many granules in one bank: made of a table, and held against it; how many granules are Realm, and the next one
+/// after an empty stretch. The count also against a walk over the table's bytes.
+fn compare_realm_words(name: &str, granules: u64) {
+    let [granules, base] = hidden([granules, 0x8_8000_0000]);
     let mut record = [0; 33];
     record[..3].copy_from_slice(&[1, base, 4096 * granules]);
     let mut table: Vec<u8> = (0..granules).map(|i| u8::from(i * i % 7 < 3)).collect();
-    let mut words = vec![0; granules as usize / 64];
-    assert_eq!(Kit::realm_build(&record, &table, &mut words), 0);
+    let [mut words, mut their_words] = [(); 2].map(|()| vec![0; granules as usize / 64]);
+    compare(
+        &format!("build the words of {name} granules"),
+        1,
+        side(|| see(Kit::realm_build(&record, &table, &mut words))),
+        vec![(
+            "by hand",
+            side(|| see(inplace::realm_build(&record, &table, &mut their_words))),
+        )],
+    );
+    assert_eq!(words, their_words);
+    compare(
+        &format!("words of {name} granules agree"),
+        1,
+        side(|| assert_eq!(Kit::realm_agrees(&record, &table, &words), 0)),
+        vec![(
+            "by hand",
+            side(|| assert_eq!(inplace::realm_agrees(&record, &table, &words), 0)),
+        )],
+    );
     let [mut ours, mut theirs] = [[0]; 2];
     compare(
-        "count the Realm granules of 16 GiB",
+        &format!("count of {name} granules"),
         1,
         side(|| {
             assert_eq!(Kit::realm_count(&record, &words, &mut ours), 0);
@@ -725,7 +863,7 @@ fn compare_realm_words() {
         }),
         vec![
             (
-                "in place",
+                "by hand",
                 side(|| {
                     assert_eq!(inplace::realm_count(&record, &words, &mut theirs), 0);
                     see(theirs[0]);
@@ -740,14 +878,14 @@ fn compare_realm_words() {
     assert_eq!(Kit::realm_build(&record, &table, &mut words), 0);
     let [index] = hidden([1]);
     compare(
-        "the next one, 16 GiB of none before",
+        &format!("next, the last of {name} granules"),
         1,
         side(|| {
             assert_eq!(Kit::realm_next(&record, &words, index, &mut ours), 0);
             see(ours[0]);
         }),
         vec![(
-            "in place",
+            "by hand",
             side(|| {
                 assert_eq!(inplace::realm_next(&record, &words, index, &mut theirs), 0);
                 see(theirs[0]);
@@ -786,9 +924,9 @@ fn compare_token(size: u64) {
     let token: Vec<u8> = (0..length).map(|i| i as u8).collect();
     // The first call has a challenge.
     let x = |i| [pa, size, if i == 0 { c_size } else { 0 }];
-    let [mut first, mut second] = [(); 2].map(|()| Page([0; PAGE]));
-    let (ours, theirs) = (first.lent(), second.lent());
-    let (mut words, mut session) = ([0; 3], Session::Idle);
+    let [mut first, mut second, mut third] = [(); 3].map(|()| Page([0; PAGE]));
+    let (ours, theirs, placed) = (first.lent(), second.lent(), third.lent());
+    let (mut words, mut their_words, mut session) = ([0; 3], [0; 3], Session::Idle);
     compare(
         &format!("4,096-byte token in hunks of {size}"),
         calls as u32,
@@ -799,17 +937,33 @@ fn compare_token(size: u64) {
                 see(out[2]);
             }
         }),
-        vec![(
-            "native",
-            side(|| {
-                for i in 0..calls {
-                    let sent = native_send(&mut session, &record, theirs, busy, &token, x(i));
-                    see(sent.expect("sent")[1]);
-                }
-            }),
-        )],
+        vec![
+            (
+                "by hand",
+                side(|| {
+                    for i in 0..calls {
+                        let (mut out, [pa, size, c_size]) = ([0; 3], x(i));
+                        let (words, token) = (&mut their_words, &token);
+                        inplace::platform_token(
+                            &image, words, placed, token, busy, pa, size, c_size, &mut out,
+                        );
+                        see(out[2]);
+                    }
+                }),
+            ),
+            (
+                "native",
+                side(|| {
+                    for i in 0..calls {
+                        let sent = native_send(&mut session, &record, theirs, busy, &token, x(i));
+                        see(sent.expect("sent")[1]);
+                    }
+                }),
+            ),
+        ],
     );
-    assert!(first.0 == second.0 && words == [0; 3] && session == Session::Idle);
+    assert!(first.0 == second.0 && first.0 == third.0);
+    assert!(words == [0; 3] && their_words == words && session == Session::Idle);
 }
 
 // ---- Queue ----
@@ -902,6 +1056,19 @@ impl<F> Signing for F where
 {
 }
 
+/// The hand-written signing with the registers as an array.
+#[inline(always)]
+fn signing_by_hand(
+    state: &RecordImage,
+    queue: &mut QueueImage,
+    page: &mut [u8],
+    key: &[u8],
+    [opcode, pa, size, curve]: [u64; 4],
+    out: &mut Registers,
+) {
+    inplace::token_signing(state, queue, page, key, opcode, pa, size, curve, out);
+}
+
 /// A request goes all the way through, while so many responses wait.
 fn compare_queue(waiting: usize) {
     let way = Way::new();
@@ -922,12 +1089,12 @@ fn compare_queue(waiting: usize) {
         way.native_sign(&mut native);
         way.native(&mut native, theirs, way.pull);
     });
-    let in_place_side = side(|| {
-        way.image(inplace::token_signing, &mut image, placed, way.push);
+    let side_by_hand = side(|| {
+        way.image(signing_by_hand, &mut image, placed, way.push);
         way.image_sign(inplace::sign, &mut image);
-        way.image(inplace::token_signing, &mut image, placed, way.pull);
+        way.image(signing_by_hand, &mut image, placed, way.pull);
     });
-    let others = vec![("in place", in_place_side), ("native", native_side)];
+    let others = vec![("by hand", side_by_hand), ("native", native_side)];
     let name = format!("push, sign, pull, {waiting} waiting");
     compare(&name, 3, kit_side, others);
     assert!(kit == image && pages[0].0 == pages[1].0 && pages[0].0 == pages[2].0);
@@ -950,7 +1117,7 @@ fn compare_oldest() {
             see(ours[9]);
         }),
         vec![(
-            "in place",
+            "by hand",
             side(|| {
                 see(inplace::oldest(&image, &mut theirs) as u64);
                 see(theirs[9]);
@@ -1031,7 +1198,7 @@ impl Desk {
         see(self.out[0]);
     }
 
-    fn in_place(&mut self, x: &[u64; 5]) {
+    fn by_hand(&mut self, x: &[u64; 5]) {
         inplace::call(
             &self.record,
             &mut self.session,
@@ -1078,10 +1245,10 @@ fn compare_call(name: &str, x0: i64, x: [u64; 5], set: impl Fn(&mut Desk)) {
             ours.kit(&x);
         }),
         vec![(
-            "in place",
+            "by hand",
             side(|| {
                 set(&mut theirs);
-                theirs.in_place(&x);
+                theirs.by_hand(&x);
             }),
         )],
     );
@@ -1106,6 +1273,7 @@ fn compare_calls() {
     compare_call("undelegate", 0, [UNDELEGATE, at, 0, 0, 0], |desk| {
         desk.table[77] = 1
     });
+    compare_call("delegate, BAD_ADDR", -2, [DELEGATE, 1, 0, 0, 0], none);
     compare_call("undelegate, BAD_ADDR", -2, [UNDELEGATE, 1, 0, 0, 0], none);
     compare_call("realm key", 0, [REALM_KEY, BASE, 97, 0, 0], none);
     compare_call("realm key, INVAL", -5, [REALM_KEY, BASE, 97, 1, 0], none);
@@ -1138,45 +1306,6 @@ fn compare_calls() {
         [TOKEN_SIGN, 1, BASE, 80, 0],
         closed,
     );
-}
-
-// ---- Cold boot ----
-
-#[inline(never)]
-fn in_place_cold_boot(
-    state: &mut RecordImage,
-    x: [u64; 4],
-    most: u64,
-    kept: u64,
-    page: &[u8],
-) -> i32 {
-    Model::cold_boot(state, x, most, kept, page)
-}
-
-fn compare_cold_boot() {
-    let mut page = Page([0; PAGE]);
-    write(BASE, 2, [&BANK, &[], &[], &[]], &[], &mut page.0).expect("written");
-    let (x, [most, kept]) = (hidden([0, 5, 8, BASE]), hidden([8, 56]));
-    let page = &*page.lent();
-    let [mut ours, mut theirs] = [[0; 5]; 2];
-    compare(
-        "cold boot with example 14's page",
-        1,
-        side(|| {
-            ours = [0; 5];
-            assert_eq!(Kit::cold_boot(&mut ours, x, most, kept, page), 0);
-            see(ours[3]);
-        }),
-        vec![(
-            "in place",
-            side(|| {
-                theirs = [0; 5];
-                assert_eq!(in_place_cold_boot(&mut theirs, x, most, kept, page), 0);
-                see(theirs[3]);
-            }),
-        )],
-    );
-    assert_eq!(ours, theirs);
 }
 
 // ---- H_TPM_COMM ----
@@ -1258,7 +1387,7 @@ fn compare_request() {
             see(place[1]);
         }),
         vec![(
-            "in place",
+            "native",
             side(|| {
                 let Transfer {
                     operation: op,
@@ -1295,7 +1424,7 @@ fn compare_comm(name: &str, asked: Transfer, length: u64) {
             see(r4);
         }),
         vec![(
-            "in place",
+            "native",
             side(|| {
                 let Transfer {
                     operation: op,
@@ -1493,40 +1622,36 @@ fn compare_collections(message: &[u8], largest: u32, total: u32) {
 }
 
 fn compare_all_granules() {
-    compare_with_before();
-    for count in [1, 16] {
+    for count in [1, 2, 16] {
         compare_granules(count);
+    }
+    for count in [1, 16] {
         compare_lists(count);
         compare_set_up(count);
     }
-    compare_realm_words();
+    compare_realm_words("512", 512);
+    compare_realm_words("2^18", 1 << 18);
 }
 
 fn compare_pages() {
     compare_manifests();
+    compare_lookups();
     compare_kept_for();
     compare_console_named();
     compare_all_packing();
     compare_all_mending();
 }
 
-fn main() {
-    println!("Best of {RUNS} runs, in turn. No page, table or image is cleared before a call.");
-    println!("ns a call                              library reference  ratio  reference's state");
-    let only = std::env::args().nth(1);
-    match only.as_deref() {
-        Some("manifest") => return compare_pages(),
-        Some("granules") => return compare_all_granules(),
-        _ => compare_pages(),
-    }
-    compare_cold_boot();
+fn compare_commands() {
     compare_calls();
-    compare_all_granules();
     compare_token(64);
     compare_token(4096);
     compare_queue(0);
     compare_queue(7);
     compare_oldest();
+}
+
+fn compare_tpm() {
     compare_request();
     compare_comm("TPM call, H_P4", transfer(65536), 256);
     compare_comm("TPM call, response of 256 bytes", transfer(16384), 256);
@@ -1534,4 +1659,24 @@ fn main() {
     compare_requests();
     compare_pieces(64);
     compare_pieces(3072);
+}
+
+fn main() {
+    println!("Best of {RUNS} runs, in turn; nanoseconds a call: library, other side, ratio.");
+    let only = std::env::args().nth(1);
+    match only.as_deref() {
+        Some("manifest") => compare_pages(),
+        Some("granules") => compare_all_granules(),
+        Some("commands") => compare_commands(),
+        Some("--write") | None => {
+            compare_pages();
+            compare_all_granules();
+            compare_commands();
+            compare_tpm();
+        }
+        Some(other) => panic!("{other}: manifest, granules, commands or --write"),
+    }
+    if only.as_deref() == Some("--write") {
+        write_table();
+    }
 }

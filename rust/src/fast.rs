@@ -1,14 +1,14 @@
-//! The other side of the benchmark for reader, field lookups, writer, packer and mender: hand-written for speed, with the parameters of
-//! the C functions. The view's words are written while the sections are judged, a list is added while it is judged, and the page is made
-//! in the order of addresses.
+//! The other side of the benchmark for reader, lookups, listing, writer, packer and mender: hand-written for speed, with the parameters of
+//! the C functions. The view's words are written while the sections are judged, one entry is judged without a loop, a list is added while
+//! it is judged, and the page is made in the order of addresses. A lookup decodes its one section, and finds a field while it judges them.
 //! `tests/fast.rs` holds it to the reference.
 
-use crate::exports::{FieldImage, ViewImage};
+use crate::exports::{FieldImage, Place, ViewImage};
 use crate::pages::ReportImage;
 use crate::reference::entries::{bank_sum, console_sum};
 use crate::reference::layout::{
-    accepted_minor, half_at, header_offset, placed, placed_mut, word_at, Edition, CONSOLE,
-    ENTRY_WORDS, PAGE, SECTIONS,
+    accepted_minor, half_at, header_offset, placed_mut, word_at, Edition, CONSOLE, ENTRY_WORDS,
+    PAGE, SECTIONS,
 };
 use crate::reference::writer::Lists;
 use crate::sse2;
@@ -16,20 +16,26 @@ use crate::sse2;
 const PLACE: i32 = -5;
 const VERSION: i32 = -6;
 const RULES: i32 = -7;
-/// So many banks are judged one by one: a loop over two at a time is not worth its start.
+/// Up to this many banks are judged one by one: a loop over two at a time is not worth its start.
 const FEW: usize = 4;
 
 /// `pbeam_read`.
 #[inline(never)]
 pub fn read(page: &[u8], base: u64, edition: u64, view: &mut ViewImage) -> i32 {
-    let code = judge(page, base, edition, view).err().unwrap_or(0);
+    let code = judge::<true>(page, base, edition, view);
     if code != 0 {
         *view = [0; 15];
     }
     code
 }
 
-/// `pbeam_kept_for`. A count or an offset that no page has is passed over, so that no sum wraps.
+/// The code of reading a page at edition 4, without a view: what a cold boot needs.
+#[inline]
+pub fn accepts(page: &[u8], base: u64) -> i32 {
+    judge::<false>(page, base, 4, &mut [0; 15])
+}
+
+/// `pbeam_kept_for`. Skips a count or an offset that no page has, so that no sum wraps.
 #[inline(never)]
 pub fn kept_for(page: &[u8], view: &ViewImage) -> u64 {
     const CORE: [u64; 5] = [16, 16, 40, 64, 112];
@@ -51,50 +57,63 @@ pub fn kept_for(page: &[u8], view: &ViewImage) -> u64 {
     (end + 7) & !7
 }
 
-/// Writes what the page shows as far as it is judged.
-#[inline]
-fn judge(page: &[u8], base: u64, edition: u64, view: &mut ViewImage) -> Result<(), i32> {
-    let page = placed(page, base).ok_or(PLACE)?;
-    let reader = Edition::new(edition).ok_or(VERSION)?;
-    let minor = accepted_minor(half_at(page, 0)).ok_or(VERSION)?;
-    let edition = reader.on_minor(minor);
-    let (core, plat) = (edition.core() as u64, word_at(page, 8));
-    let inside = (core..PAGE as u64).contains(&plat.wrapping_sub(base));
-    if half_at(page, 4) != 0 || !(plat == 0 || inside) {
-        return Err(RULES);
+/// The code of a page. Writes what it shows as far as it is judged, if VIEW.
+#[inline(always)]
+fn judge<const VIEW: bool>(page: &[u8], base: u64, edition: u64, view: &mut ViewImage) -> i32 {
+    // Rotated right by 12 an unaligned base becomes huge, and 0 too once it is one less.
+    let page_index = base.rotate_right(12).wrapping_sub(1);
+    let page: &[u8; PAGE] = match page.try_into() {
+        Ok(page) if page_index < (1 << 40) - 1 => page,
+        _ => return PLACE,
+    };
+    let head = word_at(page, 0);
+    if edition.wrapping_sub(1) >= 4 || (head as u32).wrapping_sub(1) >= 0xFFFF {
+        return VERSION;
     }
-    view[..3].copy_from_slice(&[u64::from(minor), edition.number(), plat]);
-    let sections = edition.sections();
-    show_sections(page, base, core, sections, view).ok_or(RULES)?;
-    if plat == 0 {
-        return Ok(());
+    if head >> 32 != 0 {
+        return RULES;
     }
-    fields_apart(page, plat - base, view).ok_or(RULES)
+    let edition = edition.min(head);
+    let sections = edition - 1 + (edition >> 2);
+    let (core, plat) = (16 + 24 * sections, word_at(page, 8));
+    let inside = plat.wrapping_sub(base).wrapping_sub(core) < PAGE as u64 - core;
+    if plat != 0 && !inside {
+        return RULES;
+    }
+    if VIEW {
+        view[0] = head;
+        view[1] = edition;
+        view[2] = plat;
+    }
+    let bounds = match show_sections::<VIEW>(page, base, core, sections, head, view) {
+        Some(bounds) => bounds,
+        None => return RULES,
+    };
+    match plat == 0 || fields_apart(page, plat - base, &bounds) {
+        true => 0,
+        false => RULES,
+    }
 }
 
-/// That the fields from an offset on are good, and overlap no array that the view shows.
+/// Whether the fields from an offset on are good and share no byte with an array.
 #[inline(never)]
-fn fields_apart(page: &[u8; PAGE], from: u64, view: &ViewImage) -> Option<()> {
-    let bounds = (from, fields_end(page, from as usize)? as u64);
-    for (k, words) in view[3..].chunks_exact(3).enumerate() {
-        let length = words[2] * 8 * ENTRY_WORDS[k] as u64;
-        if words[0] == 2 && !apart(bounds, (words[1], words[1] + length)) {
-            return None;
-        }
+fn fields_apart(page: &[u8; PAGE], from: u64, arrays: &[Bounds; SECTIONS]) -> bool {
+    match fields_end(page, from as usize) {
+        Some(end) => arrays.iter().all(|&array| apart(array, (from, end as u64))),
+        None => false,
     }
-    Some(())
 }
 
-/// Where the fields from an offset on end, behind their mark.
+/// Where the fields from an offset on end, after their mark.
 #[inline]
 fn fields_end(page: &[u8], from: usize) -> Option<usize> {
-    pass(page, from, |_, _, _| ())
+    pass(page, from, |_, _| ())
 }
 
-/// One pass over the fields from an offset on, each handed on as tag, offset and length of its value, before it is known that the value
-/// lies in the page: where they end, behind their mark.
-#[inline]
-fn pass(page: &[u8], from: usize, mut each: impl FnMut(u8, usize, usize)) -> Option<usize> {
+/// One pass over the fields from an offset on. `each` gets tag and value offset of a field, before it is known that the value is in the
+/// page. Returns where they end, after their mark.
+#[inline(always)]
+fn pass(page: &[u8], from: usize, mut each: impl FnMut(u8, usize)) -> Option<usize> {
     let (mut rest, mut seen) = (page.get(from..)?, 0u8);
     loop {
         let (tag, low, high) = match *rest {
@@ -111,14 +130,14 @@ fn pass(page: &[u8], from: usize, mut each: impl FnMut(u8, usize, usize)) -> Opt
                 return None;
             }
         }
-        each(tag, value, length);
+        each(tag, value);
         rest = rest[3..].get(length..)?;
     }
 }
 
 /// The same over the fields of a view; none without a pointer.
-#[inline]
-fn pass_view(page: &[u8], view: &ViewImage, each: impl FnMut(u8, usize, usize)) -> Option<usize> {
+#[inline(always)]
+fn pass_view(page: &[u8], view: &ViewImage, each: impl FnMut(u8, usize)) -> Option<usize> {
     let from = (view[2] % PAGE as u64) as usize;
     if view[2] == 0 {
         return None;
@@ -126,66 +145,53 @@ fn pass_view(page: &[u8], view: &ViewImage, each: impl FnMut(u8, usize, usize)) 
     pass(page, from, each)
 }
 
-/// The words of a field; tag 3 is withdrawn.
-#[inline]
-fn words_of(tag: u8, at: usize, length: usize) -> FieldImage {
-    match tag {
-        3 => [2, 3, 0, 0],
-        _ => [1, tag.into(), at as u64, length as u64],
+/// The words of the field whose value is at an offset, none at 0; tag 3 is withdrawn.
+#[inline(always)]
+fn field_at(page: &[u8], value: usize) -> FieldImage {
+    match page.get(value.wrapping_sub(3)..value) {
+        Some(&[3, _, _]) => [2, 3, 0, 0],
+        Some(&[tag, low, high]) => {
+            let length = u16::from_le_bytes([low, high]);
+            [1, tag.into(), value as u64, length.into()]
+        }
+        _ => [0; 4],
     }
-}
-
-/// `pbeam_console_named`. A count or an offset that no page has finds nothing, so that no sum wraps.
-#[inline(never)]
-pub fn console_named(page: &[u8], view: &ViewImage, name: &[u8; 8]) -> usize {
-    let (kind, offset, count) = (view[6], view[7], view[8]);
-    if kind < 2 || offset > page.len() as u64 || count > page.len() as u64 / 48 {
-        return usize::MAX;
-    }
-    let wanted = word_at(name, 0);
-    let array = page[offset as usize..].get(..48 * count as usize);
-    let mut consoles = array.unwrap_or_default().chunks_exact(48);
-    let found = consoles.position(|console| word_at(console, 16) == wanted);
-    found.unwrap_or(usize::MAX)
 }
 
 /// `pbeam_field_count`.
 #[inline(never)]
 pub fn field_count(page: &[u8], view: &ViewImage) -> usize {
     let mut count = 0;
-    let end = pass_view(page, view, |_, _, _| count += 1);
+    let end = pass_view(page, view, |_, _| count += 1);
     end.map_or(0, |_| count)
 }
 
 /// `pbeam_field`: found while the fields are judged, in one pass.
 #[inline(never)]
 pub fn field(page: &[u8], view: &ViewImage, index: usize, field: &mut FieldImage) {
-    let (mut left, mut found) = (index, [0; 4]);
-    let end = pass_view(page, view, |tag, at, length| {
-        if left == 0 {
-            found = words_of(tag, at, length);
-        }
+    let (mut left, mut found) = (index, 0);
+    let end = pass_view(page, view, |_, value| {
+        found = if left == 0 { value } else { found };
         left = left.wrapping_sub(1);
     });
-    *field = end.map_or([0; 4], |_| found);
+    *field = field_at(page, end.map_or(0, |_| found));
 }
 
 /// `pbeam_field_of_tag`: the same.
 #[inline(never)]
 pub fn field_of_tag(page: &[u8], view: &ViewImage, wanted: u8, field: &mut FieldImage) {
-    let mut found = [0; 4];
-    let end = pass_view(page, view, |tag, at, length| {
-        if tag == wanted && found[0] == 0 {
-            found = words_of(tag, at, length);
-        }
+    let mut found = 0;
+    let end = pass_view(page, view, |tag, value| {
+        let first = tag == wanted && found == 0;
+        found = if first { value } else { found };
     });
-    *field = end.map_or([0; 4], |_| found);
+    *field = field_at(page, end.map_or(0, |_| found));
 }
 
 /// `pbeam_field_start`.
 #[inline(never)]
 pub fn field_start(page: &[u8], view: &ViewImage) -> usize {
-    let end = pass_view(page, view, |_, _, _| ());
+    let end = pass_view(page, view, |_, _| ());
     end.map_or(page.len(), |_| (view[2] % PAGE as u64) as usize)
 }
 
@@ -195,7 +201,10 @@ pub fn field_next(page: &[u8], cursor: usize, field: &mut FieldImage) -> usize {
     if let Some(&[tag, low, high, ..]) = page.get(cursor..) {
         let length = usize::from(u16::from_le_bytes([low, high]));
         if tag != 0 && length <= page.len() - cursor - 3 {
-            *field = words_of(tag, cursor + 3, length);
+            *field = match tag {
+                3 => [2, 3, 0, 0],
+                _ => [1, tag.into(), cursor as u64 + 3, length as u64],
+            };
             return cursor + 3 + length;
         }
     }
@@ -234,50 +243,336 @@ fn bare(fields: &[u8]) -> bool {
     at == fields.len()
 }
 
-/// Each section by itself, and that no two arrays overlap. Written out, so that a section's places are constants.
+// ---- Lookups by a view ----
+
+/// Offset and bytes of a section's array in a page of this length; none where it is not in the page.
+#[inline(always)]
+fn part(length: usize, view: &ViewImage, section: usize) -> Option<(usize, usize)> {
+    if section >= SECTIONS {
+        return None;
+    }
+    let words = &view[3 + 3 * section..6 + 3 * section];
+    let (offset, count) = (words[1], words[2]);
+    let size = if section == CONSOLE { 48 } else { 16 };
+    // The first two bounds keep product and sum from wrapping: a slice has less than 2^58 bytes.
+    let small = count.wrapping_sub(1) < length as u64 / 16 && offset <= length as u64;
+    let there = words[0] > 1 && small && offset + count * size <= length as u64;
+    there.then_some((offset as usize, (count * size) as usize))
+}
+
+/// `pbeam_array_of`.
+#[inline(never)]
+pub fn array_of(page: &[u8], view: &ViewImage, section: usize, place: &mut Place) {
+    *place = match part(page.len(), view, section) {
+        Some((offset, bytes)) => [offset as u64, bytes as u64],
+        None => [0; 2],
+    };
+}
+
+/// `pbeam_count`.
+#[inline(never)]
+pub fn count(page: &[u8], view: &ViewImage, section: usize) -> usize {
+    match part(page.len(), view, section) {
+        Some(_) => view[5 + 3 * section] as usize,
+        None => 0,
+    }
+}
+
+/// `pbeam_word`: a console's flags are 0 from minor 5 on.
+#[inline(never)]
+pub fn word(page: &[u8], view: &ViewImage, section: usize, entry: usize, word: usize) -> u64 {
+    let words = if section == CONSOLE { 6 } else { 2 };
+    match part(page.len(), view, section) {
+        Some((offset, bytes)) if entry < bytes && word < words => {
+            let at = 8 * (words * entry + word);
+            let hidden = section == CONSOLE && word == 5 && view[0] > 4;
+            match page[offset..offset + bytes].get(at..at + 8) {
+                Some(cell) if !hidden => word_at(cell, 0),
+                _ => 0,
+            }
+        }
+        _ => 0,
+    }
+}
+
+/// `pbeam_console_named`: compares four names at a time.
+#[inline(never)]
+pub fn console_named(page: &[u8], view: &ViewImage, name: &[u8; 8]) -> usize {
+    let (offset, bytes) = match part(page.len(), view, CONSOLE) {
+        Some(part) => part,
+        None => return usize::MAX,
+    };
+    let (wanted, array) = (word_at(name, 0), &page[offset..offset + bytes]);
+    let is = |console: &[u8]| word_at(console, 16) == wanted;
+    let mut passed = 0;
+    for four in array.chunks_exact(192) {
+        let either = is(four) | is(&four[48..]) | is(&four[96..]) | is(&four[144..]);
+        if either {
+            break;
+        }
+        passed += 4;
+    }
+    let mut rest = array[48 * passed..].chunks_exact(48);
+    rest.position(is).map_or(usize::MAX, |i| passed + i)
+}
+
+// ---- Listing ----
+
+/// Lent bytes and the length of the text so far, of which as much as fits is written.
+struct Text<'a> {
+    room: &'a mut [u8],
+    length: usize,
+}
+
+impl Text<'_> {
+    /// Appends `N` bytes that `fill` writes, directly if they fit.
+    #[inline(always)]
+    fn put<const N: usize>(&mut self, fill: impl Fn(&mut [u8; N])) {
+        let end = self.length + N;
+        let whole = self.room.get_mut(self.length..end);
+        match whole.and_then(|place| place.try_into().ok()) {
+            Some(place) => fill(place),
+            None => {
+                let mut bytes = [0; N];
+                fill(&mut bytes);
+                self.clip(&bytes);
+            }
+        }
+        self.length = end;
+    }
+
+    /// Writes as much as fits.
+    #[cold]
+    #[inline(never)]
+    fn clip(&mut self, bytes: &[u8]) {
+        if let Some(place) = self.room.get_mut(self.length..) {
+            let fits = place.len().min(bytes.len());
+            place[..fits].copy_from_slice(&bytes[..fits]);
+        }
+    }
+
+    #[inline(always)]
+    fn say<const N: usize>(&mut self, text: &[u8; N]) {
+        self.put::<N>(|place| *place = *text);
+    }
+
+    /// A number of up to five digits, in decimal.
+    fn number(&mut self, number: u64) {
+        let mut digits = [0; 5];
+        let (mut left, mut first) = (number, 5);
+        loop {
+            first -= 1;
+            digits[first] = b'0' + (left % 10) as u8;
+            left /= 10;
+            if left == 0 {
+                break;
+            }
+        }
+        for digit in &digits[first..] {
+            self.put::<1>(|place| place[0] = *digit);
+        }
+    }
+}
+
+/// Eight digits of a number, the first one in the lowest byte.
+#[inline(always)]
+fn eight_digits(half: u32) -> u64 {
+    let x = u64::from(half.swap_bytes());
+    let x = (x | x << 16) & 0x0000_FFFF_0000_FFFF;
+    let x = (x | x << 8) & 0x00FF_00FF_00FF_00FF;
+    let x = (x >> 4 | x << 8) & 0x0F0F_0F0F_0F0F_0F0F;
+    let letters = (x + 0x0606_0606_0606_0606) >> 4 & 0x0101_0101_0101_0101;
+    x + 0x3030_3030_3030_3030 + letters * 39
+}
+
+/// Puts 16 digits.
+#[inline(always)]
+fn put_digits(place: &mut [u8], word: u64) {
+    place[..8].copy_from_slice(&eight_digits((word >> 32) as u32).to_le_bytes());
+    place[8..16].copy_from_slice(&eight_digits(word as u32).to_le_bytes());
+}
+
+/// Puts 0x and 16 digits, and the byte that follows.
+#[inline(always)]
+fn put_word(place: &mut [u8], word: u64, next: u8) {
+    place[..2].copy_from_slice(b"0x");
+    put_digits(&mut place[2..18], word);
+    place[18] = next;
+}
+
+/// `pbeam_listing`.
+#[inline(never)]
+pub fn listing(page: &[u8], base: u64, edition: u64, text: &mut [u8]) -> usize {
+    let mut view = [0; 15];
+    let code = read(page, base, edition, &mut view);
+    let mut text = Text {
+        room: text,
+        length: 0,
+    };
+    if code != 0 {
+        text.say(b"refused -");
+        text.put::<2>(|place| *place = [b'0' + code.unsigned_abs() as u8, b'\n']);
+        return text.length;
+    }
+    text.say(b"manifest 0.");
+    text.number(view[0]);
+    text.say(b" read as ");
+    text.put::<2>(|place| *place = [b'0' + view[1] as u8, b'\n']);
+    text.say(b"platform ");
+    match view[2] {
+        0 => text.say(b"none\n"),
+        pointer => {
+            text.put::<19>(|place| put_word(place, pointer, b'\n'));
+            list_fields(&mut text, page, (pointer % PAGE as u64) as usize);
+        }
+    }
+    for (k, section) in view[3..].chunks_exact(3).enumerate() {
+        match k {
+            0 => text.say(b"dram "),
+            CONSOLE => text.say(b"console "),
+            2 => text.say(b"ncoh "),
+            _ => text.say(b"coh "),
+        }
+        if section[0] == 0 {
+            text.say(b"absent\n");
+            continue;
+        }
+        text.number(section[2]);
+        text.say(b"\n");
+        let (offset, count) = (section[1] as usize, section[2] as usize);
+        let array = &page[offset..offset + count * 8 * ENTRY_WORDS[k]];
+        match k {
+            CONSOLE => list_consoles(&mut text, array, view[0] > 4),
+            _ => list_banks(&mut text, array),
+        }
+    }
+    text.length
+}
+
 #[inline]
-fn show_sections(
+fn list_banks(text: &mut Text, array: &[u8]) {
+    for bank in array.chunks_exact(16) {
+        text.put::<38>(|place| {
+            put_word(&mut place[..19], word_at(bank, 0), b' ');
+            put_word(&mut place[19..], word_at(bank, 8), b'\n');
+        });
+    }
+}
+
+#[inline]
+fn list_consoles(text: &mut Text, array: &[u8], hidden: bool) {
+    for console in array.chunks_exact(48) {
+        text.put::<112>(|place| {
+            let flags = if hidden { 0 } else { word_at(console, 40) };
+            put_word(&mut place[..19], word_at(console, 0), b' ');
+            put_word(&mut place[19..38], word_at(console, 8), b' ');
+            // The name's bytes in their order.
+            put_digits(&mut place[38..54], word_at(console, 16).swap_bytes());
+            place[54] = b' ';
+            put_word(&mut place[55..74], word_at(console, 24), b' ');
+            put_word(&mut place[74..93], word_at(console, 32), b' ');
+            put_word(&mut place[93..], flags, b'\n');
+        });
+    }
+}
+
+/// The lines of good fields.
+#[inline]
+fn list_fields(text: &mut Text, page: &[u8], from: usize) {
+    let mut at = from;
+    while page[at] != 0 {
+        let (tag, length) = (page[at], u16::from_le_bytes([page[at + 1], page[at + 2]]));
+        let value = &page[at + 3..at + 3 + usize::from(length)];
+        at += 3 + value.len();
+        text.number(tag.into());
+        if tag == 3 {
+            text.say(b" withdrawn\n");
+            continue;
+        }
+        text.say(b" ");
+        text.number(length.into());
+        list_value(text, value);
+        text.say(b"\n");
+    }
+}
+
+/// A blank and two digits a byte.
+#[inline]
+fn list_value(text: &mut Text, value: &[u8]) {
+    const DIGITS: &[u8; 16] = b"0123456789abcdef";
+    let digits = |byte: u8| {
+        let (high, low) = (
+            DIGITS[usize::from(byte >> 4)],
+            DIGITS[usize::from(byte & 15)],
+        );
+        [b' ', high, low]
+    };
+    let end = text.length + 3 * value.len();
+    match text.room.get_mut(text.length..end) {
+        Some(place) => {
+            for (cell, byte) in place.chunks_exact_mut(3).zip(value) {
+                cell.copy_from_slice(&digits(*byte));
+            }
+            text.length = end;
+        }
+        None => value
+            .iter()
+            .for_each(|&byte| text.put::<3>(|place| *place = digits(byte))),
+    }
+}
+
+// ---- Sections ----
+
+/// Each section by itself, and that no two arrays overlap. Written out, so that a section's places are constants.
+#[inline(always)]
+fn show_sections<const VIEW: bool>(
     page: &[u8; PAGE],
     base: u64,
     core: u64,
-    sections: usize,
+    sections: u64,
+    minor: u64,
     view: &mut ViewImage,
-) -> Option<()> {
-    view[3..].fill(0);
+) -> Option<[Bounds; SECTIONS]> {
+    let mut bounds = [(0, 0); SECTIONS];
+    if VIEW && sections < 4 {
+        view[3..].fill(0);
+    }
     if sections == 0 {
-        return Some(());
+        return Some(bounds);
     }
-    let dram = show::<0>(page, base, core, view)?;
+    bounds[0] = show::<0, VIEW>(page, base, core, minor, view)?;
     if sections == 1 {
-        return Some(());
+        return Some(bounds);
     }
-    let console = show::<1>(page, base, core, view)?;
-    if !apart(dram, console) {
+    bounds[1] = show::<1, VIEW>(page, base, core, minor, view)?;
+    if !apart(bounds[0], bounds[1]) {
         return None;
     }
     if sections == 2 {
-        return Some(());
+        return Some(bounds);
     }
-    let ncoh = show::<2>(page, base, core, view)?;
-    let coh = show::<3>(page, base, core, view)?;
+    bounds[2] = show::<2, VIEW>(page, base, core, minor, view)?;
+    bounds[3] = show::<3, VIEW>(page, base, core, minor, view)?;
+    let [dram, console, ncoh, coh] = bounds;
     let others = apart(dram, ncoh) && apart(console, ncoh) && apart(dram, coh);
-    (others && apart(console, coh) && apart(ncoh, coh)).then_some(())
+    (others && apart(console, coh) && apart(ncoh, coh)).then_some(bounds)
 }
 
 /// Where an array begins and ends; zeros for none.
 type Bounds = (u64, u64);
 
-#[inline]
+#[inline(always)]
 fn apart(a: Bounds, b: Bounds) -> bool {
     a.1 <= b.0 || b.1 <= a.0
 }
 
-/// Judges a section of the edition and writes its three words of the view.
-#[inline]
-fn show<const K: usize>(
+/// Judges a section of the edition, and writes its three words of the view if VIEW.
+#[inline(always)]
+fn show<const K: usize, const VIEW: bool>(
     page: &[u8; PAGE],
     base: u64,
     core: u64,
+    minor: u64,
     view: &mut ViewImage,
 ) -> Option<Bounds> {
     let header = header_offset(K);
@@ -285,42 +580,63 @@ fn show<const K: usize>(
     let pointer = word_at(page, header + 8);
     let check = word_at(page, header + 16);
     if count | pointer | check == 0 {
-        view[3 + 3 * K] = 1;
+        if VIEW {
+            view[3 + 3 * K] = 1;
+            view[4 + 3 * K] = 0;
+            view[5 + 3 * K] = 0;
+        }
         return Some((0, 0));
     }
     let (size, offset) = (8 * ENTRY_WORDS[K] as u64, pointer.wrapping_sub(base));
-    if offset < core || offset > PAGE as u64 || offset % 8 != 0 {
+    if offset < core || offset >= PAGE as u64 || offset % 8 != 0 {
         return None;
     }
-    if count == 0 || count > (PAGE as u64 - offset) / size {
+    let end = match count.wrapping_sub(1) < PAGE as u64 / size {
+        true => offset + count * size,
+        false => return None,
+    };
+    if end > PAGE as u64 {
         return None;
     }
-    let end = offset + count * size;
     let array = &page[offset as usize..end as usize];
-    let sum = if K == CONSOLE {
-        consoles(view[0], array)
-    } else {
-        banks(array)
+    let sum = match K {
+        CONSOLE => consoles(minor, array),
+        _ => banks(array),
     }?;
     let total = sum.wrapping_add(count).wrapping_add(pointer);
     if total.wrapping_add(check) != 0 {
         return None;
     }
-    view[3 + 3 * K..6 + 3 * K].copy_from_slice(&[2, offset, count]);
+    if VIEW {
+        view[3 + 3 * K] = 2;
+        view[4 + 3 * K] = offset;
+        view[5 + 3 * K] = count;
+    }
     Some((offset, end))
 }
 
-#[inline]
+#[inline(always)]
 fn banks(array: &[u8]) -> Option<u64> {
+    if array.len() == 16 {
+        return one_bank(bank_at(array));
+    }
     if array.len() <= 16 * FEW {
         return few(array.chunks_exact(16).map(bank_at));
     }
     many_banks(array)
 }
 
-#[inline]
+#[inline(always)]
 fn bank_at(bank: &[u8]) -> [u64; 2] {
     [word_at(bank, 0), word_at(bank, 8)]
+}
+
+/// As `bank_sum`, of one.
+#[inline(always)]
+fn one_bank([base, size]: [u64; 2]) -> Option<u64> {
+    let span = size.wrapping_sub(1);
+    let sound = (base | size) % 4096 == 0 && (base | span | base.wrapping_add(span)) >> 52 == 0;
+    sound.then_some(base.wrapping_add(size))
 }
 
 /// As `bank_sum`, of a few.
@@ -333,7 +649,7 @@ fn few(banks: impl Iterator<Item = [u64; 2]>) -> Option<u64> {
         high |= base | span | base.wrapping_add(span);
         sum = sum.wrapping_add(base).wrapping_add(size);
     }
-    (low & 0xFFF == 0 && high >> 52 == 0).then_some(sum)
+    (low % 4096 == 0 && high >> 52 == 0).then_some(sum)
 }
 
 // Not inlined: three sections share the loop.
@@ -342,7 +658,7 @@ fn many_banks(array: &[u8]) -> Option<u64> {
     bank_sum(array.chunks_exact(16).map(bank_at))
 }
 
-#[inline]
+#[inline(always)]
 fn consoles(minor: u64, array: &[u8]) -> Option<u64> {
     if array.len() == 48 {
         return one_console(minor, console_at(array));
@@ -350,7 +666,7 @@ fn consoles(minor: u64, array: &[u8]) -> Option<u64> {
     many_consoles(minor, array)
 }
 
-#[inline]
+#[inline(always)]
 fn console_at(console: &[u8]) -> [u64; 6] {
     [
         word_at(console, 0),
@@ -363,12 +679,12 @@ fn console_at(console: &[u8]) -> [u64; 6] {
 }
 
 /// As `console_sum`, of one.
-#[inline]
+#[inline(always)]
 fn one_console(minor: u64, words: [u64; 6]) -> Option<u64> {
     let [base, pages, .., flags] = words;
     let span = pages.wrapping_sub(1);
     let high = span | (base >> 12).wrapping_add(span);
-    let sound = base & 0xFFF == 0 && high >> 40 == 0 && (flags == 0 || minor > 4);
+    let sound = base % 4096 == 0 && high >> 40 == 0 && (flags == 0 || minor > 4);
     sound.then(|| words.into_iter().fold(0, u64::wrapping_add))
 }
 
@@ -376,6 +692,8 @@ fn one_console(minor: u64, words: [u64; 6]) -> Option<u64> {
 fn many_consoles(minor: u64, array: &[u8]) -> Option<u64> {
     console_sum(minor, array.chunks_exact(48).map(console_at))
 }
+
+// ---- Writer ----
 
 /// `pbeam_write`.
 #[inline(never)]
@@ -506,7 +824,8 @@ fn fill<const SSE2: bool>(
 #[inline(never)]
 pub fn pack(page: &[u8], base: u64, target: &mut [u8]) -> i32 {
     let mut view = [0; 15];
-    if let Err(code) = judge(page, base, 4, &mut view) {
+    let code = judge::<true>(page, base, 4, &mut view);
+    if code != 0 {
         return code;
     }
     if view[0] > 4 {
@@ -584,17 +903,13 @@ fn mend_parts(page: &mut [u8], base: u64, changed: &mut ReportImage) -> Result<(
         page[4..8].fill(0);
         changed[0] = 1;
     }
-    let mut kept = Kept {
-        bounds: [(0, 0); 5],
-        view: [0; 15],
-    };
-    kept.view[0] = u64::from(minor);
-    let plat = word_at(page, 8);
+    let minor = u64::from(minor);
+    let (plat, mut fields) = (word_at(page, 8), (0, 0));
     if plat != 0 {
         let from = plat.wrapping_sub(base);
         let inside = (core..PAGE as u64).contains(&from);
         match fields_end(page, from as usize).filter(|_| inside) {
-            Some(end) => kept.bounds[0] = (from, end as u64),
+            Some(end) => fields = (from, end as u64),
             None => {
                 put::<false>(page, 8, &[0]);
                 changed[1] = 1;
@@ -603,41 +918,38 @@ fn mend_parts(page: &mut [u8], base: u64, changed: &mut ReportImage) -> Result<(
     }
     let sections = edition.sections();
     if sections > 0 {
-        changed[2] = mend_section::<0>(page, base, core, &mut kept);
-    }
-    if sections > 1 {
-        changed[3] = mend_section::<1>(page, base, core, &mut kept);
-    }
-    if sections > 2 {
-        changed[4] = mend_section::<2>(page, base, core, &mut kept);
-        changed[5] = mend_section::<3>(page, base, core, &mut kept);
+        let (cleared, dram) = mend_section::<0>(page, base, core, minor, [fields; 4]);
+        changed[2] = cleared;
+        if sections > 1 {
+            let before = [fields, dram, dram, dram];
+            let (cleared, console) = mend_section::<1>(page, base, core, minor, before);
+            changed[3] = cleared;
+            if sections > 2 {
+                let before = [fields, dram, console, console];
+                let (cleared, ncoh) = mend_section::<2>(page, base, core, minor, before);
+                changed[4] = cleared;
+                let before = [fields, dram, console, ncoh];
+                changed[5] = mend_section::<3>(page, base, core, minor, before).0;
+            }
+        }
     }
     Ok(())
 }
 
-/// Where the fields and arrays lie that are kept so far, and the view that sections are judged by.
-struct Kept {
-    bounds: [Bounds; 5],
-    view: ViewImage,
-}
-
-#[inline]
+/// Clears a section that breaks its rules or overlaps what is kept before it. Returns whether it was cleared, and its bounds.
+#[inline(always)]
 fn mend_section<const K: usize>(
     page: &mut [u8; PAGE],
     base: u64,
     core: u64,
-    kept: &mut Kept,
-) -> u64 {
-    let found = show::<K>(page, base, core, &mut kept.view);
-    let before = &kept.bounds[..=K];
-    match found.filter(|&array| before.iter().all(|&other| apart(array, other))) {
-        Some(array) => {
-            kept.bounds[K + 1] = array;
-            0
-        }
-        None => {
+    minor: u64,
+    before: [Bounds; 4],
+) -> (u64, Bounds) {
+    match show::<K, false>(page, base, core, minor, &mut [0; 15]) {
+        Some(array) if before.iter().all(|&other| apart(array, other)) => (0, array),
+        _ => {
             put::<false>(page, header_offset(K), &[0; 3]);
-            1
+            (1, (0, 0))
         }
     }
 }

@@ -1,23 +1,23 @@
-//! The other side of the benchmark: commands by hand on the library's images, where they lie. Nothing of the queue is converted or
-//! copied whole; the record and the session are a few words, and the reference's commands work on those. The rules are the library's:
-//! a refused call leaves its images as they are, an accepted one changes the side of the queue that it needs and zeros a place that it
-//! frees, whatever was lent.
+//! The other side of the benchmark for cold boot, granules, Realm words and commands: hand-written for speed, with the parameters of the
+//! C functions, on the library's images where they are. The rules are the library's: a refused call leaves its images as they are, an
+//! accepted one changes the side of the queue that it needs and zeros a place that it frees, for any image.
 //!
-//! No function here is inlined, as no call of the library is.
+//! What makes it fast: a move in one bank, the usual one, ends without a call; a list keeps the bank of the address before and the Realm
+//! word that it writes; the bank of any other address is found by a binary search; the table's bytes become bits 16 at a time; no answer
+//! passes through memory.
+//!
+//! `tests/inplace.rs` holds it to the reference. No function here is inlined, as no call of the library is.
 
 use crate::exports::{
     GranulesImage, QueueImage, RecordImage, Registers, RequestImage, SessionImage, Work,
 };
-use crate::images::{record_of, registers, session_of, session_words};
-use crate::reference::codes::{buffer, need_page, need_up, Answer, Error, Outcome};
-use crate::reference::features::{features, forward, key_update};
-use crate::reference::key::realm_key;
-use crate::reference::layout::{half_at, word_at};
+use crate::fast;
+use crate::reference::layout::{half_at, word_at, PAGE};
 use crate::reference::queue::{PLACES, SIGNATURE};
 use crate::reference::runtime::{
     DELEGATE, FEATURES, KEY_UPDATE, PLAT_TOKEN, REALM_KEY, REQ_COMPLETE, TOKEN_SIGN, UNDELEGATE,
 };
-use crate::reference::token::TokenCall;
+use crate::sse2;
 
 /// Words of a request, and of a response.
 const REQUEST: usize = 10;
@@ -28,13 +28,59 @@ const RESPONSES: usize = REQUESTS + PLACES * REQUEST;
 /// Words of a response before its signature, and its bytes in the page before it.
 const HEAD: usize = 3;
 const HEAD_BYTES: usize = 18;
-/// The most banks of a granule record, and where memory ends.
-const BANKS: u64 = 16;
-const MEMORY_END: u64 = 1 << 52;
 /// Bytes of a request in the page.
 const REQUEST_BYTES: usize = 80;
+/// The most banks of a granule record, and where memory ends.
+const BANKS: usize = 16;
+const MEMORY_END: u64 = 1 << 52;
 
-/// A call by id, with the parameters of the C function.
+/// The codes, sign-extended.
+const OK: u64 = 0;
+const UNK: u64 = -1i64 as u64;
+const BAD_ADDR: u64 = -2i64 as u64;
+const BAD_PAS: u64 = -3i64 as u64;
+const INVAL: u64 = -5i64 as u64;
+const AGAIN: u64 = -6i64 as u64;
+
+/// `pbeam_cold_boot`: judges the page with the fast reader and makes no view.
+#[inline(never)]
+#[allow(clippy::too_many_arguments)]
+pub fn cold_boot(
+    state: &mut RecordImage,
+    cpu: u64,
+    version: u64,
+    cpus: u64,
+    base: u64,
+    most: u64,
+    kept: u64,
+    page: &[u8],
+) -> i32 {
+    let code = if state[0] != 0 {
+        -1
+    } else if version.wrapping_sub(1) >= 0xFFFF {
+        -2
+    } else if cpus > most {
+        -3
+    } else if cpu >= cpus {
+        -4
+    } else if kept > PAGE as u64 {
+        -5
+    } else {
+        fast::accepts(page, base)
+    };
+    if code != 0 {
+        *state = [2, 0, 0, 0, 0];
+        return code;
+    }
+    state[0] = 1;
+    state[1] = cpus;
+    state[2] = base;
+    state[3] = version.min(5);
+    state[4] = kept;
+    0
+}
+
+/// `pbeam_call`. The commands that need little end here; each of the others is a call.
 #[inline(never)]
 #[allow(clippy::too_many_arguments)]
 pub fn call(
@@ -54,62 +100,173 @@ pub fn call(
     out: &mut Registers,
     work: &mut Work,
 ) {
-    let (record, [id, x1, x2, x3, x4]) = (record_of(state), *x);
     *work = [0; 2];
-    let outcome = match id {
+    match x[0] {
         REQ_COMPLETE => {
-            *work = [2, forward(x1)];
-            Ok([0; 2])
+            *work = [2, x[1]];
+            *out = [0; 3];
         }
-        KEY_UPDATE => key_update(record, width, x1).map(|mecid| {
-            *work = [1, mecid];
-            [0; 2]
-        }),
-        DELEGATE => moved(state, granules, table, words, x1, 0),
-        UNDELEGATE => moved(state, granules, table, words, x1, 1),
-        REALM_KEY => realm_key(record, page, key, x1, x2, x3),
-        PLAT_TOKEN => send(state, session, page, token, busy, [x1, x2, x3]),
-        FEATURES => features(record, x1),
-        TOKEN_SIGN => signing(state, queue, page, public_key, [x1, x2, x3, x4]),
-        _ => Err(Error::Unk),
-    };
-    *out = registers(Answer::from(outcome));
+        KEY_UPDATE => {
+            let code = key_update(state, width, x[1]);
+            if code == OK {
+                *work = [1, x[1]];
+            }
+            *out = [code, 0, 0];
+        }
+        FEATURES => *out = features(state, x[1]),
+        DELEGATE => delegate(state, granules, table, words, x[1], out),
+        UNDELEGATE => undelegate(state, granules, table, words, x[1], out),
+        REALM_KEY => realm_key(state, page, key, x[1], x[2], x[3], out),
+        PLAT_TOKEN => platform_token(state, session, page, token, busy, x[1], x[2], x[3], out),
+        TOKEN_SIGN => token_signing(state, queue, page, public_key, x[1], x[2], x[3], x[4], out),
+        _ => *out = [UNK, 0, 0],
+    }
 }
 
+#[inline]
+fn features(state: &RecordImage, index: u64) -> Registers {
+    if state[0] == 1 && index != 0 {
+        return [INVAL, 0, 0];
+    }
+    match state[0] == 1 && state[3] > 3 {
+        true => [OK, 1, 0],
+        false => [UNK, 0, 0],
+    }
+}
+
+#[inline]
+fn key_update(state: &RecordImage, width: u64, mecid: u64) -> u64 {
+    if state[0] != 1 {
+        return UNK;
+    }
+    if mecid >> (width.min(15) + 1) != 0 {
+        return INVAL;
+    }
+    match width > 15 || state[3] < 5 {
+        true => UNK,
+        false => OK,
+    }
+}
+
+/// Where a buffer starts in the page, or why there is none. Differences only, since sums could wrap.
+#[inline]
+fn buffer(state: &RecordImage, pa: u64, size: u64) -> Result<usize, u64> {
+    let offset = pa.wrapping_sub(state[2]);
+    if pa < state[2] || offset < state[4] || offset >= PAGE as u64 {
+        return Err(BAD_ADDR);
+    }
+    match size <= PAGE as u64 - offset {
+        true => Ok(offset as usize),
+        false => Err(INVAL),
+    }
+}
+
+/// Copies with registers of 16 bytes, as firmware would; a short one as the compiler likes.
+#[inline]
+fn copy(to: &mut [u8], from: &[u8]) {
+    let done = sse2::copy(to, from);
+    if done < to.len() {
+        to[done..].copy_from_slice(&from[done..]);
+    }
+}
+
+/// `pbeam_realm_key`.
 #[inline(never)]
-pub fn token_signing(
+pub fn realm_key(
     state: &RecordImage,
-    queue: &mut QueueImage,
     page: &mut [u8],
     key: &[u8],
-    x: [u64; 4],
+    pa: u64,
+    size: u64,
+    curve: u64,
     out: &mut Registers,
 ) {
-    *out = registers(Answer::from(signing(state, queue, page, key, x)));
+    let code = if state[0] != 1 || page.len() != PAGE {
+        UNK
+    } else {
+        match buffer(state, pa, size) {
+            Err(code) => code,
+            Ok(_) if curve != 0 => INVAL,
+            Ok(_) if key.is_empty() || key.len() as u64 > size => UNK,
+            Ok(at) => {
+                copy(&mut page[at..at + key.len()], key);
+                *out = [OK, key.len() as u64, 0];
+                return;
+            }
+        }
+    };
+    *out = [code, 0, 0];
 }
 
-/// The signer's step.
+// ---- Platform token ----
+
+/// `pbeam_platform_token`.
 #[inline(never)]
-pub fn sign(queue: &mut QueueImage, signature: &[u8], out: &mut Registers) {
-    *out = registers(Answer::from(signed(queue, signature)));
+#[allow(clippy::too_many_arguments)]
+pub fn platform_token(
+    state: &RecordImage,
+    session: &mut SessionImage,
+    page: &mut [u8],
+    token: &[u8],
+    busy: u64,
+    pa: u64,
+    size: u64,
+    c_size: u64,
+    out: &mut Registers,
+) {
+    let code = if state[0] != 1 || page.len() != PAGE {
+        UNK
+    } else if busy != 0 {
+        AGAIN
+    } else {
+        match buffer(state, pa, size) {
+            Err(code) => code,
+            Ok(at) => match sent_before(session, token, size, c_size) {
+                Err(code) => code,
+                Ok(sent) => {
+                    let rest = token.get(sent as usize..).unwrap_or(&[]);
+                    let length = rest.len().min(size as usize);
+                    copy(&mut page[at..at + length], &rest[..length]);
+                    let left = rest.len() - length;
+                    *session = match left {
+                        0 => [0; 3],
+                        _ => [1, token.len() as u64, sent + length as u64],
+                    };
+                    *out = [OK, length as u64, left as u64];
+                    return;
+                }
+            },
+        }
+    };
+    *out = [code, 0, 0];
 }
 
-/// The oldest request, and how many wait.
-#[inline(never)]
-pub fn oldest(queue: &QueueImage, request: &mut RequestImage) -> usize {
-    match count(queue[0]) {
-        0 => {
-            *request = [0; REQUEST];
-            0
+/// How much of the token was sent before this call; a challenge starts again.
+#[inline]
+fn sent_before(session: &SessionImage, token: &[u8], size: u64, c_size: u64) -> Result<u64, u64> {
+    if c_size != 0 {
+        if !matches!(c_size, 32 | 48 | 64) || c_size > size {
+            return Err(INVAL);
         }
-        waiting => {
-            request.copy_from_slice(&queue[REQUESTS..REQUESTS + REQUEST]);
-            waiting
-        }
+        return match token.is_empty() {
+            true => Err(UNK),
+            false => Ok(0),
+        };
+    }
+    if session[0] == 0 {
+        return Err(INVAL);
+    }
+    match token.is_empty() || token.len() as u64 != session[1] {
+        true => Err(UNK),
+        false => Ok(session[2]),
     }
 }
 
 // ---- Granules ----
+
+/// Bytes of the table, before a move: 0 to Realm, 1 from Realm.
+const NON_SECURE: u8 = 0;
+const REALM: u8 = 1;
 
 #[inline(never)]
 pub fn delegate(
@@ -120,7 +277,7 @@ pub fn delegate(
     at: u64,
     out: &mut Registers,
 ) {
-    move_to(state, granules, table, words, at, 0, out);
+    move_one::<NON_SECURE>(state, granules, table, words, at, out);
 }
 
 #[inline(never)]
@@ -132,7 +289,7 @@ pub fn undelegate(
     at: u64,
     out: &mut Registers,
 ) {
-    move_to(state, granules, table, words, at, 1, out);
+    move_one::<REALM>(state, granules, table, words, at, out);
 }
 
 #[inline(never)]
@@ -144,7 +301,7 @@ pub fn delegate_list(
     list: &[u64],
     out: &mut Registers,
 ) {
-    moved_list(state, granules, table, words, list, 0, out);
+    move_list::<NON_SECURE>(state, granules, table, words, list, out);
 }
 
 #[inline(never)]
@@ -156,356 +313,129 @@ pub fn undelegate_list(
     list: &[u64],
     out: &mut Registers,
 ) {
-    moved_list(state, granules, table, words, list, 1, out);
+    move_list::<REALM>(state, granules, table, words, list, out);
 }
 
-/// The set-up of a record from the bytes of banks.
-#[inline(never)]
-pub fn set_up(granules: &mut GranulesImage, shown: &[u8], in_table: u64) -> u64 {
-    let refused = Answer::from(Err(Error::Inval)).x0;
-    if shown.is_empty() || shown.len() % 16 != 0 || shown.len() as u64 > 16 * BANKS {
-        return refused;
-    }
-    let mut made = [0; 33];
-    made[0] = shown.len() as u64 / 16;
-    for (word, cell) in made[1..].iter_mut().zip(shown.chunks_exact(8)) {
-        *word = word_at(cell, 0);
-    }
-    let (count, _) = pass(&made, 0);
-    if count == 0 || count != in_table {
-        return refused;
-    }
-    *granules = made;
-    0
-}
-
-/// A granule whose byte is this one gets the other of 0 and 1. One bank and an accepted call, the usual case, end here; all else is a call
-/// of its own.
-#[inline]
-fn move_to(
+/// One bank, the usual case, ends here; all else is a call.
+#[inline(always)]
+fn move_one<const FROM: u8>(
     state: &RecordImage,
     granules: &GranulesImage,
     table: &mut [u8],
     words: &mut [u64],
     at: u64,
-    from: u8,
     out: &mut Registers,
 ) {
-    match turned_at_once(state, granules, table, words, at, from) {
-        true => *out = [0; 3],
-        false => move_any(state, granules, table, words, at, from, out),
+    if !is_ready(state, granules, table.len(), words.len()) {
+        return move_any::<FROM>(state, granules, table, words, at, out);
     }
-}
-
-#[inline]
-fn turned_at_once(
-    state: &RecordImage,
-    granules: &GranulesImage,
-    table: &mut [u8],
-    words: &mut [u64],
-    at: u64,
-    from: u8,
-) -> bool {
-    if !is_ready(state, granules, table.len(), words.len()) || is_shared(state, at, from) {
-        return false;
-    }
-    let place = place_in(granules[1], granules[2], at);
-    let byte = match table.get_mut(place as usize) {
-        Some(byte) if *byte == from => byte,
-        _ => return false,
+    let place = index(granules[1], at) as usize;
+    let code = match table.get_mut(place) {
+        Some(byte) if !is_shared::<FROM>(state, at) => match *byte == FROM {
+            true => {
+                *byte = 1 - FROM;
+                let word = &mut words[place / 64];
+                *word = with_bit::<FROM>(*word, place);
+                OK
+            }
+            false => BAD_PAS,
+        },
+        _ => BAD_ADDR,
     };
-    *byte = 1 - from;
-    let word = &mut words[place as usize / 64];
-    *word = with_bit(*word, place, 1 - from);
-    true
+    out[0] = code;
+    out[1] = 0;
+    out[2] = 0;
 }
 
-/// All but the address is judged: the boot record is up, and there is one good bank with so many granules as the table, and so many words.
-#[inline]
+/// The granule of an address in the bank at a base. Rotate right by 12: an unaligned offset becomes huge, so one comparison with the
+/// number of granules rejects it and one past the bank.
+#[inline(always)]
+fn index(base: u64, at: u64) -> u64 {
+    at.wrapping_sub(base).rotate_right(12)
+}
+
+/// The boot record is up, and there is one good bank with as many granules as the table has bytes, and the words fit.
+#[inline(always)]
 fn is_ready(state: &RecordImage, granules: &GranulesImage, in_table: usize, words: usize) -> bool {
     let (base, size) = (granules[1], granules[2]);
-    let last = base.wrapping_add(size).wrapping_sub(1);
-    let count = size / 4096;
     granules[0] == 1
         && state[0] == 1
-        && (base | size) & 0xFFE0_0000_0000_0FFF == 0
-        && (size.wrapping_sub(1) | last) >> 52 == 0
-        && count == in_table as u64
-        && (count + 63) / 64 == words as u64
+        && (base | size) % 4096 == 0
+        && size.wrapping_sub(1) < MEMORY_END
+        && base <= MEMORY_END - size
+        && size / 4096 == in_table as u64
+        && (in_table + 63) / 64 == words
 }
 
-/// The granule of an address in one bank.
-#[inline]
-fn place_in(base: u64, size: u64, at: u64) -> u64 {
-    let offset = at.wrapping_sub(base);
-    match at % 4096 == 0 && offset < size {
-        true => offset / 4096,
-        false => NOWHERE,
-    }
+/// The shared page's granule, which is not undelegated.
+#[inline(always)]
+fn is_shared<const FROM: u8>(state: &RecordImage, at: u64) -> bool {
+    FROM == REALM && at == state[2]
 }
 
-#[inline]
-fn with_bit(word: u64, place: u64, byte: u8) -> u64 {
-    match byte {
-        1 => word | 1 << (place % 64),
+/// The word with the granule's bit after a move.
+#[inline(always)]
+fn with_bit<const FROM: u8>(word: u64, place: usize) -> u64 {
+    match FROM {
+        NON_SECURE => word | 1 << (place % 64),
         _ => word & !(1 << (place % 64)),
     }
 }
 
+/// A move by any record.
 #[cold]
 #[inline(never)]
-fn move_any(
+fn move_any<const FROM: u8>(
     state: &RecordImage,
     granules: &GranulesImage,
     table: &mut [u8],
     words: &mut [u64],
     at: u64,
-    from: u8,
     out: &mut Registers,
 ) {
-    *out = registers(Answer::from(moved(state, granules, table, words, at, from)));
-}
-
-/// The same by whichever record.
-#[inline]
-fn moved(
-    state: &RecordImage,
-    granules: &GranulesImage,
-    table: &mut [u8],
-    words: &mut [u64],
-    at: u64,
-    from: u8,
-) -> Outcome {
     let (count, place) = pass(granules, at);
-    if !fit(count, words) {
-        return Err(Error::Inval);
-    }
-    if state[0] != 1 {
-        return Err(Error::Unk);
-    }
-    if at % 4096 != 0 || count != table.len() as u64 || is_shared(state, at, from) {
-        return Err(Error::BadAddr);
-    }
-    turned(table, words, place, from)
+    let code = if !fit(count, words) {
+        INVAL
+    } else if state[0] != 1 {
+        UNK
+    } else if at % 4096 != 0 || count != table.len() as u64 || is_shared::<FROM>(state, at) {
+        BAD_ADDR
+    } else {
+        match table.get_mut(place as usize) {
+            None => BAD_ADDR,
+            Some(byte) if *byte != FROM => BAD_PAS,
+            Some(byte) => {
+                *byte = 1 - FROM;
+                let word = &mut words[place as usize / 64];
+                *word = with_bit::<FROM>(*word, place as usize);
+                OK
+            }
+        }
+    };
+    *out = [code, 0, 0];
 }
 
-/// Whether there are so many words as granules ask for.
+/// Whether there are ceil(granules / 64) words.
 #[inline]
 fn fit(granules: u64, words: &[u64]) -> bool {
     (granules + 63) / 64 == words.len() as u64
 }
 
-#[inline]
-fn turned(table: &mut [u8], words: &mut [u64], place: u64, from: u8) -> Outcome {
-    let byte = table.get_mut(place as usize).ok_or(Error::BadAddr)?;
-    if *byte != from {
-        return Err(Error::BadPas);
-    }
-    *byte = 1 - from;
-    let word = &mut words[place as usize / 64];
-    *word = with_bit(*word, place, 1 - from);
-    Ok([0; 2])
-}
-
-/// A list: what does not depend on the address is looked at once, the banks too.
-#[inline]
-fn moved_list(
-    state: &RecordImage,
-    granules: &GranulesImage,
-    table: &mut [u8],
-    words: &mut [u64],
-    list: &[u64],
-    from: u8,
-    out: &mut Registers,
-) {
-    *out = [0; 3];
-    if is_ready(state, granules, table.len(), words.len()) {
-        let banks = (granules[1], granules[2]);
-        return only_moved(state, banks, table, words, list, from, out);
-    }
-    let (count, _) = pass(granules, 0);
-    if !fit(count, words) {
-        out[0] = Answer::from(Err(Error::Inval)).x0;
-        return;
-    }
-    if list.is_empty() {
-        return;
-    }
-    if state[0] != 1 {
-        out[0] = Answer::from(Err(Error::Unk)).x0;
-        return;
-    }
-    let banks = match count == table.len() as u64 {
-        true => banks_of(granules).unwrap_or(&[]),
-        false => &[],
-    };
-    for (done, &at) in list.iter().enumerate() {
-        let place = match is_shared(state, at, from) {
-            true => NOWHERE,
-            false => find(banks, at),
-        };
-        if let Err(error) = turned(table, words, place, from) {
-            *out = [Answer::from(Err(error)).x0, done as u64, 0];
-            return;
-        }
-    }
-    out[1] = list.len() as u64;
-}
-
-/// A list in one bank: base and size stay in registers, and so does the word that is written, as long as granules share it.
-#[inline]
-fn only_moved(
-    state: &RecordImage,
-    (base, size): (u64, u64),
-    table: &mut [u8],
-    words: &mut [u64],
-    list: &[u64],
-    from: u8,
-    out: &mut Registers,
-) {
-    let (mut held, mut word) = (words.len(), 0);
-    for (done, &at) in list.iter().enumerate() {
-        let place = place_in(base, size, at);
-        let byte = match table.get_mut(place as usize) {
-            Some(byte) if !is_shared(state, at, from) => byte,
-            _ => return *out = [Answer::from(Err(Error::BadAddr)).x0, done as u64, 0],
-        };
-        if *byte != from {
-            return *out = [Answer::from(Err(Error::BadPas)).x0, done as u64, 0];
-        }
-        *byte = 1 - from;
-        let own = place as usize / 64;
-        if own != held {
-            (held, word) = (own, words[own]);
-        }
-        word = with_bit(word, place, 1 - from);
-        words[own] = word;
-    }
-    out[1] = list.len() as u64;
-}
-
-/// Delegation before 02: what E2 and E6 are held against. Code for the old rules, as fast as it was found, with the parameters that the
-/// exports had then.
-pub mod before {
-    use super::{is_shared, place_in, Answer, Error, GranulesImage, RecordImage, Registers};
-
-    /// One range of memory from an address on, as long as the table.
-    #[inline]
-    fn in_range(
-        state: &RecordImage,
-        start: &[u64; 1],
-        table: &mut [u8],
-        at: u64,
-        from: u8,
-        out: &mut Registers,
-    ) {
-        let place = place_in(start[0], (table.len() as u64) << 12, at);
-        turned(state, table, place, at, from, out);
-    }
-
-    /// One bank of a record that each call judges; no words.
-    #[inline]
-    fn in_bank(
-        state: &RecordImage,
-        granules: &GranulesImage,
-        table: &mut [u8],
-        at: u64,
-        from: u8,
-        out: &mut Registers,
-    ) {
-        let (base, size) = (granules[1], granules[2]);
-        let last = base.wrapping_add(size).wrapping_sub(1);
-        let good = granules[0] == 1
-            && (base | size) & 0xFFE0_0000_0000_0FFF == 0
-            && (size.wrapping_sub(1) | last) >> 52 == 0
-            && size / 4096 == table.len() as u64;
-        let place = if good {
-            place_in(base, size, at)
-        } else {
-            u64::MAX
-        };
-        turned(state, table, place, at, from, out);
-    }
-
-    #[inline]
-    fn turned(
-        state: &RecordImage,
-        table: &mut [u8],
-        place: u64,
-        at: u64,
-        from: u8,
-        out: &mut Registers,
-    ) {
-        let refused = |error| [Answer::from(Err(error)).x0, 0, 0];
-        *out = match table.get_mut(place as usize) {
-            _ if state[0] != 1 => refused(Error::Unk),
-            Some(byte) if !is_shared(state, at, from) => match *byte == from {
-                true => {
-                    *byte = 1 - from;
-                    [0; 3]
-                }
-                false => refused(Error::BadPas),
-            },
-            _ => refused(Error::BadAddr),
-        };
-    }
-
-    /// The pairs of calls: to Realm and back.
-    macro_rules! both {
-        ($delegate:ident, $undelegate:ident, $moved:ident, $memory:ty) => {
-            #[inline(never)]
-            pub fn $delegate(
-                state: &RecordImage,
-                memory: &$memory,
-                table: &mut [u8],
-                at: u64,
-                out: &mut Registers,
-            ) {
-                $moved(state, memory, table, at, 0, out);
-            }
-
-            #[inline(never)]
-            pub fn $undelegate(
-                state: &RecordImage,
-                memory: &$memory,
-                table: &mut [u8],
-                at: u64,
-                out: &mut Registers,
-            ) {
-                $moved(state, memory, table, at, 1, out);
-            }
-        };
-    }
-
-    both!(delegate_in_range, undelegate_in_range, in_range, [u64; 1]);
-    both!(delegate_in_bank, undelegate_in_bank, in_bank, GranulesImage);
-}
-
-/// The shared page's granule, which is not undelegated.
-#[inline]
-fn is_shared(state: &RecordImage, at: u64, from: u8) -> bool {
-    from == 1 && at == state[2]
-}
-
 /// No granule has this index.
 const NOWHERE: u64 = u64::MAX;
 
-/// The banks' words; none if there are too many.
-#[inline]
-fn banks_of(granules: &GranulesImage) -> Option<&[u64]> {
-    let count = granules[0];
-    (count <= BANKS).then(|| &granules[1..1 + 2 * count as usize])
-}
-
-/// One pass over the banks: how many granules they have, none if the set-up would refuse them; and the granule of an address.
+/// The number of granules of the record, 0 if the set-up would refuse it, and the granule of an address.
 #[inline]
 fn pass(granules: &GranulesImage, at: u64) -> (u64, u64) {
-    let banks = banks_of(granules).unwrap_or(&[]);
+    let count = granules[0];
+    if count > BANKS as u64 {
+        return (0, NOWHERE);
+    }
     let (mut low, mut before, mut place) = (0, 0, NOWHERE);
-    for bank in banks.chunks_exact(2) {
+    for bank in granules[1..1 + 2 * count as usize].chunks_exact(2) {
         let (base, size) = (bank[0], bank[1]);
-        let inside = size <= MEMORY_END && base <= MEMORY_END - size;
-        if (base | size) % 4096 != 0 || size == 0 || base < low || !inside {
+        let inside = size.wrapping_sub(1) < MEMORY_END && base <= MEMORY_END - size;
+        if (base | size) % 4096 != 0 || base < low || !inside {
             return (0, NOWHERE);
         }
         let offset = at.wrapping_sub(base);
@@ -518,42 +448,192 @@ fn pass(granules: &GranulesImage, at: u64) -> (u64, u64) {
     (before, place)
 }
 
-/// The granule of an address in banks that were judged.
-#[inline]
-fn find(banks: &[u64], at: u64) -> u64 {
-    if at % 4096 != 0 {
-        return NOWHERE;
-    }
-    let mut before = 0;
-    for bank in banks.chunks_exact(2) {
-        let offset = at.wrapping_sub(bank[0]);
-        if offset < bank[1] {
-            return before + offset / 4096;
+/// The banks of a good record, in the order of addresses.
+struct Banks {
+    bases: [u64; BANKS],
+    /// Granules of each.
+    counts: [u64; BANKS],
+    /// Granules in the banks before.
+    before: [u64; BANKS],
+}
+
+impl Banks {
+    /// Empty banks at the end for those that the record has not.
+    #[inline]
+    fn of(granules: &GranulesImage) -> Banks {
+        let mut banks = Banks {
+            bases: [u64::MAX; BANKS],
+            counts: [0; BANKS],
+            before: [0; BANKS],
+        };
+        let (count, mut before) = ((granules[0] as usize).min(BANKS), 0);
+        for (i, bank) in granules[1..1 + 2 * count].chunks_exact(2).enumerate() {
+            banks.bases[i] = bank[0];
+            banks.counts[i] = bank[1] / 4096;
+            banks.before[i] = before;
+            before += bank[1] / 4096;
         }
-        before += bank[1] / 4096;
+        banks
     }
-    NOWHERE
+
+    /// The last bank that starts at or before an address; the first one if there is none.
+    #[inline]
+    fn holding(&self, at: u64) -> usize {
+        let mut i = 0;
+        for step in [8, 4, 2, 1] {
+            let next = (i + step) % BANKS;
+            i = if self.bases[next] <= at { next } else { i };
+        }
+        i
+    }
+}
+
+/// A list: all but the addresses is judged once.
+#[inline(always)]
+fn move_list<const FROM: u8>(
+    state: &RecordImage,
+    granules: &GranulesImage,
+    table: &mut [u8],
+    words: &mut [u64],
+    list: &[u64],
+    out: &mut Registers,
+) {
+    if is_ready(state, granules, table.len(), words.len()) {
+        return move_in_bank::<FROM>(state, granules[1], table, words, list, out);
+    }
+    let (count, _) = pass(granules, 0);
+    *out = [0; 3];
+    if !fit(count, words) {
+        out[0] = INVAL;
+    } else if list.is_empty() {
+    } else if state[0] != 1 {
+        out[0] = UNK;
+    } else if count != table.len() as u64 {
+        out[0] = BAD_ADDR;
+    } else {
+        move_in_banks::<FROM>(state, &Banks::of(granules), table, words, list, out);
+    }
+}
+
+/// A list in one bank: its base stays in a register, and so does the word that is written, as long as granules share it.
+#[inline(always)]
+fn move_in_bank<const FROM: u8>(
+    state: &RecordImage,
+    base: u64,
+    table: &mut [u8],
+    words: &mut [u64],
+    list: &[u64],
+    out: &mut Registers,
+) {
+    let (mut held, mut word) = (words.len(), 0);
+    for (done, &at) in list.iter().enumerate() {
+        let place = index(base, at) as usize;
+        let byte = match table.get_mut(place) {
+            Some(byte) if !is_shared::<FROM>(state, at) => byte,
+            _ => return *out = [BAD_ADDR, done as u64, 0],
+        };
+        if *byte != FROM {
+            return *out = [BAD_PAS, done as u64, 0];
+        }
+        *byte = 1 - FROM;
+        let own = place / 64;
+        if own != held {
+            (held, word) = (own, words[own]);
+        }
+        word = with_bit::<FROM>(word, place);
+        words[own] = word;
+    }
+    *out = [OK, list.len() as u64, 0];
+}
+
+/// The same in several banks: the bank of the address before is tried first.
+#[inline(always)]
+fn move_in_banks<const FROM: u8>(
+    state: &RecordImage,
+    banks: &Banks,
+    table: &mut [u8],
+    words: &mut [u64],
+    list: &[u64],
+    out: &mut Registers,
+) {
+    let (mut held, mut word) = (words.len(), 0);
+    let (mut base, mut count, mut before) = (banks.bases[0], banks.counts[0], 0);
+    for (done, &at) in list.iter().enumerate() {
+        let mut in_bank = index(base, at);
+        if in_bank >= count {
+            let i = banks.holding(at);
+            (base, count, before) = (banks.bases[i], banks.counts[i], banks.before[i]);
+            in_bank = index(base, at);
+            if in_bank >= count {
+                return *out = [BAD_ADDR, done as u64, 0];
+            }
+        }
+        let place = (before + in_bank) as usize;
+        let byte = match table.get_mut(place) {
+            Some(byte) if !is_shared::<FROM>(state, at) => byte,
+            _ => return *out = [BAD_ADDR, done as u64, 0],
+        };
+        if *byte != FROM {
+            return *out = [BAD_PAS, done as u64, 0];
+        }
+        *byte = 1 - FROM;
+        let own = place / 64;
+        if own != held {
+            (held, word) = (own, words[own]);
+        }
+        word = with_bit::<FROM>(word, place);
+        words[own] = word;
+    }
+    *out = [OK, list.len() as u64, 0];
+}
+
+/// `pbeam_set_up_granules`: judges the bytes, then writes the record once.
+#[inline(never)]
+pub fn set_up(granules: &mut GranulesImage, shown: &[u8], in_table: u64) -> u64 {
+    if shown.is_empty() || shown.len() % 16 != 0 || shown.len() > 16 * BANKS {
+        return INVAL;
+    }
+    let (mut low, mut count) = (0, 0);
+    for bank in shown.chunks_exact(16) {
+        let (base, size) = (word_at(bank, 0), word_at(bank, 8));
+        let inside = size.wrapping_sub(1) < MEMORY_END && base <= MEMORY_END - size;
+        if (base | size) % 4096 != 0 || base < low || !inside {
+            return INVAL;
+        }
+        count += size / 4096;
+        low = base + size;
+    }
+    if count != in_table {
+        return INVAL;
+    }
+    granules[0] = shown.len() as u64 / 16;
+    let (made, rest) = granules[1..].split_at_mut(shown.len() / 8);
+    for (word, cell) in made.iter_mut().zip(shown.chunks_exact(8)) {
+        *word = word_at(cell, 0);
+    }
+    rest.fill(0);
+    OK
 }
 
 // ---- Realm words ----
 
-/// How many Realm granules the words tell of.
+/// `pbeam_realm_count`.
 #[inline(never)]
 pub fn realm_count(granules: &GranulesImage, words: &[u64], number: &mut [u64; 1]) -> u64 {
     let (granules, _) = pass(granules, 0);
+    number[0] = 0;
     if !fit(granules, words) {
-        number[0] = 0;
-        return Answer::from(Err(Error::Inval)).x0;
+        return INVAL;
     }
     let (whole, last) = words.split_at((granules / 64) as usize);
     let ones = |word: &u64| u64::from(word.count_ones());
     let spare = u64::MAX << (granules % 64);
     number[0] = whole.iter().map(ones).sum::<u64>();
     number[0] += last.first().map_or(0, |word| ones(&(word & !spare)));
-    0
+    OK
 }
 
-/// The first Realm granule at or after an index; 1 if there is none.
+/// `pbeam_realm_next`: passes over zero words eight at a time; 1 if there is none.
 #[inline(never)]
 pub fn realm_next(
     granules: &GranulesImage,
@@ -564,42 +644,72 @@ pub fn realm_next(
     let (granules, _) = pass(granules, 0);
     found[0] = 0;
     if !fit(granules, words) || index >= granules {
-        return Answer::from(Err(Error::Inval)).x0;
+        return INVAL;
     }
-    let first = (index / 64) as usize;
-    let mut bits = words[first] & u64::MAX << (index % 64);
-    let mut at = first;
-    while bits == 0 {
+    let mut at = (index / 64) as usize;
+    let mut bits = words[at] & u64::MAX << (index % 64);
+    if bits == 0 {
         at += 1;
-        match words.get(at) {
-            Some(&word) => bits = word,
+        for eight in words[at..].chunks_exact(8) {
+            if eight.iter().fold(0, |either, word| either | word) != 0 {
+                break;
+            }
+            at += 8;
+        }
+        match words[at..].iter().position(|&word| word != 0) {
+            Some(past) => at += past,
             None => return 1,
         }
+        bits = words[at];
     }
     let hit = 64 * at as u64 + u64::from(bits.trailing_zeros());
     if hit >= granules {
         return 1;
     }
     found[0] = hit;
-    0
+    OK
 }
 
-// ---- Platform token ----
-
+/// The bits of the last granules, fewer than 64.
 #[inline]
-fn send(
-    state: &RecordImage,
-    session: &mut SessionImage,
-    page: &mut [u8],
-    token: &[u8],
-    busy: u64,
-    [pa, size, c_size]: [u64; 3],
-) -> Outcome {
-    let mut next = session_of(session);
-    let call = TokenCall { pa, size, c_size };
-    let outcome = next.send(record_of(state), page, busy != 0, token, call)?;
-    *session = session_words(next);
-    Ok(outcome)
+fn last_bits(part: &[u8]) -> u64 {
+    let bits = part.iter().rev();
+    bits.fold(0, |bits, &byte| bits << 1 | u64::from(byte == REALM))
+}
+
+/// `pbeam_realm_build`.
+#[inline(never)]
+pub fn realm_build(granules: &GranulesImage, table: &[u8], words: &mut [u64]) -> u64 {
+    let (count, _) = pass(granules, 0);
+    if !fit(count, words) || count != table.len() as u64 {
+        return INVAL;
+    }
+    let parts = table.chunks_exact(64);
+    let (last, (whole, spare)) = (parts.remainder(), words.split_at_mut(table.len() / 64));
+    for (word, part) in whole.iter_mut().zip(parts) {
+        *word = sse2::ones(part.try_into().expect("64 bytes"));
+    }
+    if let [word] = spare {
+        *word = last_bits(last);
+    }
+    OK
+}
+
+/// `pbeam_realm_agrees`: 1 if not.
+#[inline(never)]
+pub fn realm_agrees(granules: &GranulesImage, table: &[u8], words: &[u64]) -> u64 {
+    let (count, _) = pass(granules, 0);
+    if !fit(count, words) || count != table.len() as u64 {
+        return INVAL;
+    }
+    let parts = table.chunks_exact(64);
+    let (last, (whole, spare)) = (parts.remainder(), words.split_at(table.len() / 64));
+    for (word, part) in whole.iter().zip(parts) {
+        if *word != sse2::ones(part.try_into().expect("64 bytes")) {
+            return 1;
+        }
+    }
+    u64::from(spare.iter().any(|word| *word != last_bits(last)))
 }
 
 // ---- Queue ----
@@ -610,125 +720,171 @@ fn count(word: u64) -> usize {
     word.min(PLACES as u64) as usize
 }
 
-#[inline]
-fn signing(
+/// `pbeam_token_signing`.
+#[inline(never)]
+#[allow(clippy::too_many_arguments)]
+pub fn token_signing(
     state: &RecordImage,
     queue: &mut QueueImage,
     page: &mut [u8],
-    public_key: &[u8],
-    [opcode, pa, size, curve]: [u64; 4],
-) -> Outcome {
-    let kept = need_up(record_of(state))?;
-    let page = need_page(page)?;
-    if !(1..=3).contains(&opcode) {
-        return Err(Error::Inval);
+    key: &[u8],
+    opcode: u64,
+    pa: u64,
+    size: u64,
+    curve: u64,
+    out: &mut Registers,
+) {
+    *out = [UNK, 0, 0];
+    if state[0] != 1 || page.len() != PAGE {
+        return;
     }
-    let room = buffer(kept, pa, size).map_err(|_| Error::Inval)?;
-    if opcode == 3 && curve != 0 {
-        return Err(Error::Inval);
+    let place = buffer(state, pa, size);
+    let at = match place {
+        Ok(at) if opcode.wrapping_sub(1) < 3 && (opcode != 3 || curve == 0) => at,
+        _ => return out[0] = INVAL,
+    };
+    if state[3] < 4 {
+        return;
     }
-    if kept.minor < 4 {
-        return Err(Error::Unk);
-    }
-    let buffer = &mut page[room];
+    let buffer = &mut page[at..at + size as usize];
     match opcode {
-        1 => push(queue, buffer),
-        2 => pull(queue, buffer),
-        _ => public(public_key, buffer),
+        1 => out[0] = push(queue, buffer),
+        2 => out[0] = pull(queue, buffer),
+        _ => public(key, buffer, out),
     }
 }
 
 #[inline]
-fn push(queue: &mut QueueImage, buffer: &[u8]) -> Outcome {
-    let bytes = buffer.get(..REQUEST_BYTES).ok_or(Error::Inval)?;
+fn push(queue: &mut QueueImage, buffer: &[u8]) -> u64 {
+    let bytes = match buffer.get(..REQUEST_BYTES) {
+        Some(bytes) => bytes,
+        None => return INVAL,
+    };
     let (algorithm, hash_id) = (half_at(bytes, 0), half_at(bytes, 24));
     if algorithm != 0 || hash_id != 1 {
-        return Err(Error::Inval);
+        return INVAL;
     }
     let requests = count(queue[0]);
     if requests == PLACES {
-        return Err(Error::Again);
+        return AGAIN;
     }
     let place = &mut queue[REQUESTS + REQUEST * requests..][..REQUEST];
-    for (word, cell) in place.iter_mut().zip(bytes.chunks_exact(8)) {
+    // The upper halves of words 0 and 3 are holes in the page.
+    place[0] = 0;
+    place[1] = word_at(bytes, 8);
+    place[2] = word_at(bytes, 16);
+    place[3] = 1;
+    for (word, cell) in place[4..].iter_mut().zip(bytes[32..].chunks_exact(8)) {
         *word = word_at(cell, 0);
     }
-    // The upper halves of these words are holes in the page.
-    place[0] = u64::from(algorithm);
-    place[3] = u64::from(hash_id);
     queue[0] = requests as u64 + 1;
-    Ok([0; 2])
+    OK
 }
 
 #[inline]
-fn pull(queue: &mut QueueImage, buffer: &mut [u8]) -> Outcome {
+fn pull(queue: &mut QueueImage, buffer: &mut [u8]) -> u64 {
     let responses = count(queue[1]);
     if responses == 0 {
-        return Err(Error::Again);
+        return AGAIN;
     }
     let oldest = &queue[RESPONSES..RESPONSES + RESPONSE];
-    let length = signature_length(oldest[2]);
-    let place = buffer.get_mut(..HEAD_BYTES + length).ok_or(Error::Inval)?;
+    let length = oldest[2].min(SIGNATURE as u64) as usize;
+    let place = match buffer.get_mut(..HEAD_BYTES + length) {
+        Some(place) => place,
+        None => return INVAL,
+    };
     let (head, tail) = place.split_at_mut(HEAD_BYTES);
     head[..8].copy_from_slice(&oldest[0].to_le_bytes());
     head[8..16].copy_from_slice(&oldest[1].to_le_bytes());
     head[16..].copy_from_slice(&(length as u16).to_le_bytes());
-    let mut bytes = [0; SIGNATURE];
-    for (cell, word) in bytes.chunks_exact_mut(8).zip(&oldest[HEAD..]) {
+    let mut cells = tail.chunks_exact_mut(8);
+    let mut words = oldest[HEAD..].iter();
+    for (cell, word) in (&mut cells).zip(&mut words) {
         cell.copy_from_slice(&word.to_le_bytes());
     }
-    tail.copy_from_slice(&bytes[..length]);
-    let end = RESPONSES + RESPONSE * responses;
-    drop_first(&mut queue[RESPONSES..end], RESPONSE);
-    queue[1] = responses as u64 - 1;
-    Ok([0; 2])
-}
-
-#[inline]
-fn public(key: &[u8], buffer: &mut [u8]) -> Outcome {
-    if key.is_empty() {
-        return Err(Error::Again);
+    let rest = cells.into_remainder();
+    let last = oldest[HEAD + (length / 8).min(SIGNATURE / 8 - 1)].to_le_bytes();
+    for (cell, byte) in rest.iter_mut().zip(last) {
+        *cell = byte;
     }
-    let place = buffer.get_mut(..key.len()).ok_or(Error::Inval)?;
-    place.copy_from_slice(key);
-    Ok([key.len() as u64, 0])
+    drop_first::<RESPONSE>(&mut queue[RESPONSES..], responses);
+    queue[1] = responses as u64 - 1;
+    OK
 }
 
 #[inline]
-fn signed(queue: &mut QueueImage, signature: &[u8]) -> Outcome {
+fn public(key: &[u8], buffer: &mut [u8], out: &mut Registers) {
+    if key.is_empty() {
+        return out[0] = AGAIN;
+    }
+    match buffer.get_mut(..key.len()) {
+        Some(place) => {
+            copy(place, key);
+            *out = [OK, key.len() as u64, 0];
+        }
+        None => out[0] = INVAL,
+    }
+}
+
+/// `pbeam_sign`.
+#[inline(never)]
+pub fn sign(queue: &mut QueueImage, signature: &[u8], out: &mut Registers) {
+    *out = [signed(queue, signature), 0, 0];
+}
+
+#[inline]
+fn signed(queue: &mut QueueImage, signature: &[u8]) -> u64 {
     let length = signature.len();
-    if !(1..=SIGNATURE).contains(&length) {
-        return Err(Error::Inval);
+    if length.wrapping_sub(1) >= SIGNATURE {
+        return INVAL;
     }
     let (requests, responses) = (count(queue[0]), count(queue[1]));
     if requests == 0 || responses == PLACES {
-        return Err(Error::Again);
+        return AGAIN;
     }
     let (granule, ticket) = (queue[REQUESTS + 1], queue[REQUESTS + 2]);
-    let mut bytes = [0; SIGNATURE];
-    bytes[..length].copy_from_slice(signature);
     let place = &mut queue[RESPONSES + RESPONSE * responses..][..RESPONSE];
     place[..HEAD].copy_from_slice(&[granule, ticket, length as u64]);
-    for (word, cell) in place[HEAD..].iter_mut().zip(bytes.chunks_exact(8)) {
+    let cells = signature.chunks_exact(8);
+    let rest = cells.remainder();
+    let mut words = place[HEAD..].iter_mut();
+    for (cell, word) in cells.zip(&mut words) {
         *word = word_at(cell, 0);
     }
-    let end = REQUESTS + REQUEST * requests;
-    drop_first(&mut queue[REQUESTS..end], REQUEST);
+    if !rest.is_empty() {
+        let (rest, word) = (rest.iter().rev(), words.next());
+        *word.expect("a word for each 8 bytes") =
+            rest.fold(0, |word, &byte| word << 8 | u64::from(byte));
+    }
+    words.for_each(|word| *word = 0);
+    drop_first::<REQUEST>(&mut queue[REQUESTS..RESPONSES], requests);
     queue[0] = requests as u64 - 1;
     queue[1] = responses as u64 + 1;
-    Ok([0; 2])
+    OK
 }
 
-/// A length stands for 104 at most.
+/// The rows after the first move up, and the place that is freed is zeroed.
 #[inline]
-fn signature_length(word: u64) -> usize {
-    word.min(SIGNATURE as u64) as usize
+fn drop_first<const WIDTH: usize>(rows: &mut [u64], count: usize) {
+    let rows = &mut rows[..WIDTH * count];
+    if count > 1 {
+        rows.copy_within(WIDTH.., 0);
+    }
+    let freed = WIDTH * (count - 1);
+    rows[freed..freed + WIDTH].fill(0);
 }
 
-/// The rows behind the first move up, and the place that is freed is zeroed.
-#[inline]
-fn drop_first(rows: &mut [u64], width: usize) {
-    rows.copy_within(width.., 0);
-    let freed = rows.len() - width;
-    rows[freed..].fill(0);
+/// `pbeam_oldest`.
+#[inline(never)]
+pub fn oldest(queue: &QueueImage, request: &mut RequestImage) -> usize {
+    match count(queue[0]) {
+        0 => {
+            *request = [0; REQUEST];
+            0
+        }
+        waiting => {
+            request.copy_from_slice(&queue[REQUESTS..REQUESTS + REQUEST]);
+            waiting
+        }
+    }
 }

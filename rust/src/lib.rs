@@ -1,7 +1,7 @@
 //! The proved libraries and the other side of their differential tests and benchmark: `kit` calls the library, `reference` is a second
 //! implementation of the rules, written from the papers alone, `model` is that one on the library's images, `inplace` and `fast` are
-//! hand-written code for the benchmark, the first in place on these images, the second a reader and a writer, and `random` makes the
-//! inputs that both sides are given. `pages`, `tpm` and `swtpm` are both sides of packer and mender, of H_TPM_COMM and of state blobs, which
+//! hand-written for speed, for the benchmark: boot, granules and commands on these images, and all that works on a manifest page; `random`
+//! makes the inputs that both sides are given. `pages`, `tpm` and `swtpm` are both sides of packer and mender, of H_TPM_COMM and of state blobs, which
 //! have libraries of their own.
 //!
 //! After `rt staticlib` of potterbeam, potterbeam_pages, potterbeam_tpm and potterbeam_swtpm: `cargo test --offline --release` for all

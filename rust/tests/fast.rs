@@ -1,6 +1,6 @@
 //! The reader, writer, packer and mender that are written for speed, against the reference: the code and every word or byte, of random
-//! pages and lists and of the pages that real firmware wrote; what a view's manifest takes of the page, the lookups of its fields and of
-//! a console by name.
+//! pages and lists and of the pages that real firmware wrote; the listing's text; and by a view, also a forged one, the kept bytes and
+//! every lookup.
 
 use potterbeam_tests::exports::Exports;
 use potterbeam_tests::fast;
@@ -8,7 +8,7 @@ use potterbeam_tests::model::Model;
 use potterbeam_tests::pages::PageExports;
 use potterbeam_tests::random::Random;
 use potterbeam_tests::reference::layout::word_at;
-use std::collections::BTreeMap;
+use std::collections::{BTreeMap, BTreeSet};
 
 const CALLS: usize = 200_000;
 
@@ -36,6 +36,31 @@ fn random_pages() {
     }
     println!("fast::read: {met:?}");
     assert!([0, -5, -6, -7].iter().all(|code| met[code] > CALLS / 500));
+}
+
+/// The whole text, and as much of it as fits.
+#[test]
+fn random_listings() {
+    let mut random = Random::new(35);
+    let mut met = BTreeSet::new();
+    for i in 0..CALLS / 10 {
+        let reading = match i % 8 {
+            0 => random.any_page(),
+            _ => random.valid_page(),
+        };
+        let room = match random.below(4) {
+            0 => random.index(12_400),
+            1 => random.index(200),
+            _ => 12_400,
+        };
+        let [mut ours, mut theirs] = [(); 2].map(|()| vec![0xA5; room]);
+        let (page, base, edition) = (&reading.page, reading.base, reading.edition);
+        let length = Model::listing(page, base, edition, &mut theirs);
+        assert_eq!(fast::listing(page, base, edition, &mut ours), length);
+        assert!(ours == theirs, "{}", String::from_utf8_lossy(&ours));
+        met.insert((theirs.starts_with(b"refused"), length <= room));
+    }
+    assert_eq!(met.len(), 4);
 }
 
 #[test]
@@ -74,6 +99,17 @@ fn lookups(random: &mut Random, page: &[u8], view: &[u64; 15]) {
     fast::field_of_tag(page, view, tag, &mut ours);
     Model::field_of_tag(page, view, tag, &mut theirs);
     assert_eq!(ours, theirs, "{view:x?} {tag}");
+    let (section, entry, word) = (random.index(6), random.index(260), random.index(8));
+    let [mut place, mut expected] = [[7; 2]; 2];
+    fast::array_of(page, view, section, &mut place);
+    Model::array_of(page, view, section, &mut expected);
+    assert_eq!(place, expected, "{view:x?} {section}");
+    let entries = Model::count(page, view, section);
+    assert_eq!(fast::count(page, view, section), entries, "{view:x?}");
+    for entry in [entry, random.index(entries + 1), random.edge() as usize] {
+        let expected = Model::word(page, view, section, entry, word);
+        assert_eq!(fast::word(page, view, section, entry, word), expected);
+    }
     let name = random.asked_name(page, view);
     let named = Model::console_named(page, view, &name);
     assert_eq!(fast::console_named(page, view, &name), named);

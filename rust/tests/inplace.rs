@@ -10,6 +10,7 @@ use potterbeam_tests::inplace;
 use potterbeam_tests::model::Model;
 use potterbeam_tests::random::calls::Scene;
 use potterbeam_tests::random::Random;
+use potterbeam_tests::reference::boot::Record;
 use potterbeam_tests::reference::runtime::{Call, DELEGATE, TOKEN_SIGN};
 use std::collections::{BTreeMap, BTreeSet};
 
@@ -136,7 +137,9 @@ fn step(random: &mut Random, scene: &mut Scene, model: &mut Memory, ours: &mut M
             let Memory { page, out, .. } = model;
             Model::token_signing(&model.record, &mut model.queue, page, key, x, out);
             let Memory { page, out, .. } = ours;
-            inplace::token_signing(&ours.record, &mut ours.queue, page, key, x, out);
+            let [opcode, pa, size, curve] = x;
+            let queue = &mut ours.queue;
+            inplace::token_signing(&ours.record, queue, page, key, opcode, pa, size, curve, out);
             SIGNING
         }
         3 => {
@@ -213,7 +216,7 @@ fn load_page(scene: &Scene, model: &mut Memory, ours: &mut Memory) {
     ours.page.copy_from_slice(&scene.page);
 }
 
-/// Count and next, which the benchmark times, on words and records of any kind.
+/// Count, next, agree and build, on words and records of any kind.
 #[test]
 fn realm_words_are_the_same() {
     let (mut random, mut met) = (Random::new(6), BTreeSet::new());
@@ -227,19 +230,152 @@ fn realm_words_are_the_same() {
             _ => {}
         }
         let index = random.below(64 * words.len() as u64 + 3);
-        let [mut theirs, mut ours] = [[7]; 2];
-        let said = Model::realm_count(granules, &words, &mut theirs);
-        assert_eq!(inplace::realm_count(granules, &words, &mut ours), said);
-        assert_eq!(ours, theirs, "{words:x?}");
-        let said = Model::realm_next(granules, &words, index, &mut theirs);
-        assert_eq!(
-            inplace::realm_next(granules, &words, index, &mut ours),
-            said
-        );
-        assert_eq!(ours, theirs, "{words:x?}, {index}");
-        met.insert(said as i64);
+        met.extend(on_realm_words(granules, &scene.table, &words, index));
     }
     assert_eq!(met, BTreeSet::from([0, 1, -5]));
+}
+
+/// All four on both sides; returns what they said.
+fn on_realm_words(granules: &GranulesImage, table: &[u8], words: &[u64], index: u64) -> [i64; 4] {
+    let [mut theirs, mut ours] = [[7]; 2];
+    let counted = Model::realm_count(granules, words, &mut theirs);
+    assert_eq!(
+        inplace::realm_count(granules, words, &mut ours),
+        counted,
+        "{words:x?}"
+    );
+    assert_eq!(ours, theirs, "{words:x?}");
+    let next = Model::realm_next(granules, words, index, &mut theirs);
+    assert_eq!(inplace::realm_next(granules, words, index, &mut ours), next);
+    assert_eq!(ours, theirs, "{words:x?}, {index}");
+    let agrees = Model::realm_agrees(granules, table, words);
+    assert_eq!(inplace::realm_agrees(granules, table, words), agrees);
+    let [mut theirs, mut ours] = [(); 2].map(|()| words.to_vec());
+    let built = Model::realm_build(granules, table, &mut theirs);
+    assert_eq!(inplace::realm_build(granules, table, &mut ours), built);
+    assert_eq!(ours, theirs, "{table:x?}");
+    assert_eq!(
+        inplace::realm_agrees(granules, table, &ours),
+        Model::realm_agrees(granules, table, &theirs)
+    );
+    [counted, next, agrees, built].map(|said| said as i64)
+}
+
+/// The same over many words with few bits, so that a search passes more than one turn of eight words.
+#[test]
+fn long_realm_words_are_the_same() {
+    let mut random = Random::new(7);
+    for _ in 0..2_000 {
+        let length = random.between(1, 3_000);
+        let mut granules = [0; 33];
+        granules[..3].copy_from_slice(&[1, 0x8_8000_0000, 4096 * length]);
+        let mut table: Vec<u8> = vec![0; length as usize];
+        for _ in 0..random.below(4) {
+            let i = random.index(table.len());
+            table[i] = random.pick(&[1, 1, 2, 255]);
+        }
+        let mut words = vec![0; (length as usize + 63) / 64];
+        assert_eq!(Model::realm_build(&granules, &table, &mut words), 0);
+        if random.one_in(4) {
+            let i = random.index(words.len());
+            words[i] ^= 1 << random.below(64);
+        }
+        on_realm_words(&granules, &table, &words, random.below(length));
+    }
+}
+
+/// Lists over several banks, in order and at random, with addresses in no bank among them.
+#[test]
+fn lists_in_many_banks_are_the_same() {
+    let (mut random, mut met) = (Random::new(8), BTreeMap::new());
+    for _ in 0..20_000 {
+        let (granules, table) = random.granule_record();
+        let words = (table + 63) / 64;
+        let mut list = Vec::new();
+        for bank in granules[1..]
+            .chunks_exact(2)
+            .take(granules[0].min(16) as usize)
+        {
+            let end = bank[0].saturating_add(bank[1].min(40 * 4096));
+            list.extend((bank[0]..end).step_by(4096));
+        }
+        match random.below(4) {
+            0 => random.shuffle(&mut list),
+            1 => list.reverse(),
+            _ => {}
+        }
+        if random.one_in(4) && !list.is_empty() {
+            let i = random.index(list.len());
+            list[i] = random.edge();
+        }
+        let state = [
+            1,
+            8,
+            random.pick(&[0x8000_0000, list.last().copied().unwrap_or(0)]),
+            5,
+            0,
+        ];
+        let [(to_realm, mine), (back, mine_back)]: [(Move<&[u64]>, Move<&[u64]>); 2] = [
+            (Model::delegate_list, inplace::delegate_list),
+            (Model::undelegate_list, inplace::undelegate_list),
+        ];
+        let [mut theirs, mut ours] = [(); 2].map(|()| (vec![0; table], vec![0; words], [7; 3]));
+        for (theirs_by, ours_by) in [(to_realm, mine), (back, mine_back)] {
+            let (table, words, out) = (&mut theirs.0, &mut theirs.1, &mut theirs.2);
+            theirs_by(&state, &granules, table, words, &list, out);
+            let (table, words, out) = (&mut ours.0, &mut ours.1, &mut ours.2);
+            ours_by(&state, &granules, table, words, &list, out);
+            assert_eq!(ours, theirs, "{granules:x?} {list:x?}");
+            *met.entry(ours.2[0] as i64).or_insert(0) += 1;
+        }
+    }
+    println!("lists: {met:?}");
+    assert!([0, -2].iter().all(|code| met[code] > 1_000));
+}
+
+/// Cold boots with each code.
+#[test]
+fn cold_boots_are_the_same() {
+    let (mut random, mut met) = (Random::new(9), BTreeMap::new());
+    for _ in 0..100_000 {
+        let boot = random.boot(Record::Fresh);
+        let state = match random.one_in(16) {
+            true => random.record_image(),
+            false => [0; 5],
+        };
+        let [mut theirs, mut ours] = [state; 2];
+        let (kept, page) = (boot.kept, &boot.page);
+        let code = Model::cold_boot(&mut theirs, boot.x, boot.most, kept, page);
+        let [x0, x1, x2, x3] = boot.x;
+        let said = inplace::cold_boot(&mut ours, x0, x1, x2, x3, boot.most, kept, page);
+        assert_eq!((said, ours), (code, theirs), "{state:x?} {:x?}", boot.x);
+        *met.entry(code).or_insert(0) += 1;
+    }
+    println!("cold boots: {met:?}");
+    assert!((-7..=0).all(|code| met[&code] > 100));
+}
+
+/// The parts that differ: what was, ours, theirs.
+fn differ(was: &Memory, ours: &Memory, theirs: &Memory) -> String {
+    let words = |name, was: &[u64], ours: &[u64], theirs: &[u64]| -> String {
+        let places = (0..ours.len()).filter(|&i| ours[i] != theirs[i]);
+        let place = |i| format!("{name}[{i}] {:x} {:x} {:x}; ", was[i], ours[i], theirs[i]);
+        places.map(place).collect()
+    };
+    let page = (0..ours.page.len()).find(|&i| ours.page[i] != theirs.page[i]);
+    [
+        words("record", &was.record, &ours.record, &theirs.record),
+        words("session", &was.session, &ours.session, &theirs.session),
+        words("queue", &was.queue, &ours.queue, &theirs.queue),
+        words("words", &was.words, &ours.words, &theirs.words),
+        words("out", &was.out, &ours.out, &theirs.out),
+        words("work", &was.work, &ours.work, &theirs.work),
+        words("request", &was.request, &ours.request, &theirs.request),
+        format!("page from {page:?}; "),
+        format!("table {:x?} {:x?}; ", ours.table, theirs.table),
+        format!("returned {} {}", ours.returned, theirs.returned),
+    ]
+    .concat()
 }
 
 #[test]
@@ -253,7 +389,7 @@ fn the_same_as_the_model() {
             model.change(&mut random, &mut scene);
             let (before, mut ours) = (model.clone(), model.clone());
             let id = step(&mut random, &mut scene, &mut model, &mut ours);
-            assert!(ours == model, "{id:x}\n{before:x?}\n{ours:x?}\n{model:x?}");
+            assert!(ours == model, "{id:x}: {}", differ(&before, &ours, &model));
             scene.page.copy_from_slice(&model.page);
             let answer = if id == OLDEST {
                 model.returned as u64
