@@ -47,9 +47,9 @@ module _ (w k c at i j : ℕ) (page bs : List ℕ) (h : i < c) (l : j < wordsPer
   unfolding isHidden entryPlace
   word-plain f =
       let n : isHidden w k j ≡ false = no-test _ (λ y.
-          let a = f (eqb-true k 1 (both-l _ _ y)) (eqb-true j 5 (both-l _ _ (both-r _ _ y))) in
-          let b : 4 < w = ltb-true 4 w (both-r _ _ (both-r _ _ y)) in
-          let z : ⊥ = omega arith in z) in
+      let a = f (eqb-true k 1 (both-l _ _ y)) (eqb-true j 5 (both-l _ _ (both-r _ _ y))) in
+      let b : 4 < w = ltb-true 4 w (both-r _ _ (both-r _ _ y)) in
+      let z : ⊥ = omega arith in z) in
       word-shown ∙ rw n (ap (λ (x : ℕ). wordAt x page) (let e : at + 8 * (wordsPerEntry k * i) + 8 * j ≡ at + 8 * (wordsPerEntry k * i + j) = omega arith in e))
 
 flags-shown : (w c at i : ℕ) (page bs : List ℕ) → i < c → 4 < w → entryWord 1 i 5 (full (shownWords w 1 (wordsAt 1 c at page)) bs) ≡ 0
@@ -71,9 +71,9 @@ shows-page r base page w e q s h =
     let t : rulesAt w e base page ≡ true = rw (i .1, i .0) at (g .0 .2) in
     let a : (k : ℕ) → s k ≡ shown w e k (secAt base page k) = λ k. ap (λ (f : ℕ → Shown). f k) (sym (i .3)) ∙ rw (i .1, i .0) in
     let b : (k : ℕ) → k < sectionCount e → (countAt k page ≡ 0 → ⊥) →
-            s k ≡ full (shownWords w k (wordsAt k (countAt k page) (pointerAt k page - base) page)) (part (pointerAt k page - base) (size k (countAt k page)) page) = λ k l z.
-        let o = ok-each w e base page (sectionCount e) k (rules-sections w e base page t) l in
-        a k ∙ sym (shown-entries w e base k page n l o z) ∙ entries-lie w e base k page n o z in
+    s k ≡ full (shownWords w k (wordsAt k (countAt k page) (pointerAt k page - base) page)) (part (pointerAt k page - base) (size k (countAt k page)) page) = λ k l z.
+    let o = ok-each w e base page (sectionCount e) k (rules-sections w e base page t) l in
+    a k ∙ sym (shown-entries w e base k page n l o z) ∙ entries-lie w e base k page n o z in
     record {
       minor = sym (i .0);
       edition = sym (i .1) ∙ rw (i .0);
