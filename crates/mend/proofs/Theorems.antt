@@ -25,7 +25,8 @@ use Rattle.reader.specs.declared.Refusal.{Refusal}
 use Rattle.reader.specs.declared.Refusal.the-variants.{Place, Version, Rules}
 use Rattle.reader.proofs.Newer.{never, gate-shows, gate-true}
 use Rattle.reader.proofs.Named.{rules-same, view-same}
-use Rattle.reader.proofs.Gaps.{not-yes, some-not}
+use Rattle.fields.proofs.Rules.{no-test}
+use Rattle.reader.proofs.Gaps.{some-not}
 use Rattle.mend.specs.Mend.{noPlat, noSec, platLeft, keepsSection, minorAt, editionAt, platLeftAt, keepsAt, changed, ofPart, pageTo, mendChanges, mendGate, mendedOf, mendedPage}
 use Rattle.mend.specs.Promise.{Mends}
 use Rattle.mend.specs.declared.Changes.{Changes}
@@ -123,7 +124,7 @@ module _ (base : ℕ) (page : List ℕ) (w e : ℕ) (q : PlatShown) (s : ℕ →
   unfolding pageTo
   page-same =
       blank-none _ page (λ i.
-      not-yes (some 6 (λ j. both (changed base page j) (ofPart j i))) (some-not 6 (λ j. both (changed base page j) (ofPart j i)) (λ k l y. never-both (changed base page k) (both-l _ _ y) (none-changed k))))
+      no-test (some 6 (λ j. both (changed base page j) (ofPart j i))) (some-not 6 (λ j. both (changed base page j) (ofPart j i)) (λ k l y. never-both (changed base page k) (both-l _ _ y) (none-changed k))))
 
   comes-out : (mendedPage base page ≡ page) × ((j : ℕ) → changed base page j ≡ false)
       × (mendedOf base page ≡ Done (record { padding = false; plat = false; dram = false; console = false; ncoh = false; coh = false }))

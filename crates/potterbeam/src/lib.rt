@@ -18,7 +18,8 @@ ghost use Rattle.reader.specs.Reading.{sectionOf, readingAnswer, sectionAt, vie
 ghost use Rattle.reader.specs.declared.Reading.the-variants.{Accepted};
 ghost use Rattle.fields.specs.Steps.{stepAt};
 ghost use Rattle.lookup.specs.Lookup.{spanOf, spanIn};
-ghost use Rattle.field_lookup.specs.Fields.{firstIn, restIn, nthIn, ofTag, fieldAs, shownFrom, startAt, nthPlace, tagPlace};
+ghost use Rattle.field_lookup.specs.Fields.{firstIn, restIn, nthIn, ofTag, fieldAs};
+ghost use Rattle.field_lookup.specs.Steps.{shownFrom, startAt, nthPlace, tagPlace};
 ghost use Rattle.lookup.specs.Consoles.{consoleNamed};
 ghost use Rattle.kept.specs.Kept.{keptFor};
 ghost use Rattle.text_lines.specs.Text.{lay, listingOf};

@@ -6,7 +6,7 @@ use reader::Section;
 use reader::View;
 ghost use Rattle.reader.specs.Answer.{readOf, refused};
 ghost use Rattle.reader.specs.Reading.{refusalNumber, shownAs, readingAnswer};
-ghost use Rattle.field_lookup.specs.Fields.{shownFrom};
+ghost use Rattle.field_lookup.specs.Steps.{shownFrom};
 ghost use Rattle.words.specs.Word.{joined};
 ghost use Rattle.text_lines.specs.Text.{wordText, entryText, countText, stateText, titleText, sectionText, headText, pointerText, platText, fieldsText, listingOf, printed};
 ghost use Rattle.text_lines.specs.Steps.{LaidOver, Listed, seen, refusalOf};

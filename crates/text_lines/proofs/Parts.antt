@@ -27,8 +27,9 @@ use Rattle.reader.specs.declared.Reading.{Reading}
 use Rattle.reader.specs.declared.Reading.the-variants.{Accepted, Refused}
 use Rattle.reader.proofs.Whole.{reading-answer}
 use Rattle.fields.specs.Steps.{stepAt}
-use Rattle.lookup.specs.Lookup.{wordOf}
-use Rattle.field_lookup.specs.Fields.{shownValue, valueIn, fieldAs, isNothing, shownFrom}
+use Rattle.lookup.specs.Fast.{wordOf}
+use Rattle.field_lookup.specs.Fields.{shownValue, valueIn, fieldAs, isNothing}
+use Rattle.field_lookup.specs.Steps.{shownFrom}
 use Rattle.fields.specs.declared.FieldPlace.{FieldPlace}
 use Rattle.fields.specs.declared.FieldPlace.the-variants.{Raw, Withdrawn, Nothing}
 use Rattle.fields.specs.declared.FieldStep.{FieldStep}

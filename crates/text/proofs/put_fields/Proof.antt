@@ -2,7 +2,8 @@ use Prim.Native.Nat.{ℕ, _≤_}
 use mathlib.Core.Path.{_≡_, refl, sym, ap, _∙_}
 use mathlib.Core.List.{List}
 use lib.ListN.{length}
-use Rattle.field_lookup.specs.Fields.{isNothing, shownFrom}
+use Rattle.field_lookup.specs.Fields.{isNothing}
+use Rattle.field_lookup.specs.Steps.{shownFrom}
 use Rattle.fields.specs.declared.FieldStep.{FieldStep}
 use Rattle.field_lookup.proofs.Fields.{step-none, step-less}
 use Rattle.text_lines.specs.Text.{fieldsText}
