@@ -25,8 +25,8 @@ use Rattle.sections.specs.Steps.{okAt, endOf, clearAt, clearFrom, staysAt}
 use Rattle.sections.proofs.Sections.{range-low}
 use Rattle.fields.proofs.Rules.{no-test}
 use Rattle.reader.proofs.Gaps.{some-not}
-use Rattle.mend.specs.Mend.{noPlat, noSec, platLeft, stays, left, keepsSection, minorAt, editionAt, platLeftAt, keepsAt, changed, partAt, ofPart, blank, pageTo}
-use Rattle.mend.specs.Steps.{platKept, sectionGoes}
+use Rattle.mend.specs.Mend.{noPlat, noSec, platLeft, stays, left, keepsSection, minorAt, editionAt, platLeftAt, keepsAt, changed, partAt, ofPart, blank, partsZeroed}
+use Rattle.mend.specs.Steps.{pageTo, platKept, sectionGoes}
 use Rattle.mend.specs.declared.PlatKept.{PlatKept}
 use Rattle.mend.proofs.Kept.{left-later, left-before, keeps-rule}
 use Rattle.mend.proofs.Blank.{blank-length, blank-at, part-zero, part-bounds, part-of, one-part}
@@ -43,6 +43,11 @@ both-false false = refl
 
 pub never-both : (b : Bool) → Yes b → b ≡ false → ⊥
 never-both b h k = false≢true (sym k ∙ h)
+
+-- ---- all parts gone over
+pub to-all : (base : ℕ) (page : List ℕ) → pageTo 6 base page ≡ partsZeroed base page
+unfolding pageTo partsZeroed
+to-all base page = refl
 
 -- ---- byte by byte
 module _ (base : ℕ) (page : List ℕ) (n : ℕ) where

@@ -7,7 +7,7 @@ use Rattle.field_lookup.specs.Steps.{shownFrom}
 use Rattle.fields.specs.declared.FieldStep.{FieldStep}
 use Rattle.field_lookup.proofs.Fields.{step-none, step-less}
 use Rattle.text_lines.specs.Text.{fieldsText}
-use Rattle.text_lines.specs.Steps.{lastOffset, LaidOver}
+use Rattle.text_lines.specs.Laid.{lastOffset, LaidOver}
 use Rattle.text_lines.proofs.Lay.{wrote-none, wrote-then, wrote-same}
 use Rattle.text_lines.proofs.Parts.{fields-step}
 use borrow.Author.Needs.{needs}
