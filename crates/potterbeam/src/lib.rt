@@ -463,12 +463,13 @@ pub extern "C" fn pbeam_platform_token(
     ensures { λ _. ⌜ _≡_ {A = TokenLeft} (record { out = now (out .exit); page = now (page .exit); session = now (session .exit) })
         (tokenIn (now (state .entry)) (now (session .entry)) (now (page .entry)) (now (token .entry)) busy pa size csize) ⌝ }
 {
+    // The slice is made anew: the compiler then passes it to this function, of which pbeam_call is a caller too, in registers: about 2 ns.
     let done = token::platform_token(
         images::record_of(state),
         page,
         images::session_of(session),
         images::is_set(busy),
-        token,
+        &token[..],
         pa,
         size,
         csize,
@@ -523,8 +524,9 @@ pub extern "C" fn pbeam_token_signing(
     ensures { λ _. ⌜ _≡_ {A = SigningLeft} (record { out = now (out .exit); page = now (page .exit); queue = now (queue .exit) })
         (signingIn (now (state .entry)) (now (queue .entry)) (now (page .entry)) (now (key .entry)) opcode pa size curve) ⌝ }
 {
+    // The slice is made anew, as in pbeam_platform_token.
     let record = images::record_of(state);
-    let answer = signing::token_signing_on(record, page, queue, key, opcode, pa, size, curve);
+    let answer = signing::token_signing_on(record, page, queue, &key[..], opcode, pa, size, curve);
     *out = images::registers(answer);
 }
 
@@ -640,6 +642,9 @@ pub extern "C" fn pbeam_realm_build(granules: &[u64; 33], table: &[u8], words: &
 
 // ---- Every command ----
 
+// What `work` says first for 0xC400018F: its second word, err_code, goes to the Non-secure world.
+const WORK_FORWARD: u64 = 2;
+
 // A call of the interface, x0 being the function id. Only the platform token reads and writes the session's image, and only token
 // signing the queue's; each changes where the call is accepted.
 #[no_mangle]
@@ -672,45 +677,30 @@ pub extern "C" fn pbeam_call(
         (callIn (now (granules .entry)) (now (session .entry)) (now (queue .entry)) (now (page .entry)) (now (table .entry)) (now (words .entry))
         (callLent (now (state .entry)) (now (call .entry)) busy (now (key .entry)) (now (token .entry)) (now (public .entry)) width)) ⌝ }
 {
-    *work = [0, 0];
+    // All registers are read before the match: read in an arm, two of them at a time are loaded and put on the stack, and such a load waits
+    // for the caller's two stores: about 3 ns.
     let kind = runtime::kind_of(call[0]);
+    let x1 = call[1];
+    let x2 = call[2];
+    let x3 = call[3];
+    let x4 = call[4];
+    *work = [0, 0];
     match kind {
         Kind::ForwardError => {
             *out = [0, 0, 0];
-            *work = [2, pbeam_forward(state, call[1])];
+            *work = [WORK_FORWARD, pbeam_forward(state, x1)];
         }
-        Kind::Delegate => pbeam_delegate(state, granules, table, words, call[1], out),
-        Kind::Undelegate => pbeam_undelegate(state, granules, table, words, call[1], out),
-        Kind::RealmKey => pbeam_realm_key(state, page, key, call[1], call[2], call[3], out),
-        // The slices of token and public key are made anew, so that the compiler need not keep those of the call in memory: about 4 ns.
+        Kind::Delegate => pbeam_delegate(state, granules, table, words, x1, out),
+        Kind::Undelegate => pbeam_undelegate(state, granules, table, words, x1, out),
+        Kind::RealmKey => pbeam_realm_key(state, page, key, x1, x2, x3, out),
         Kind::PlatformToken => {
-            pbeam_platform_token(
-                state,
-                session,
-                page,
-                &token[..],
-                busy,
-                call[1],
-                call[2],
-                call[3],
-                out,
-            )
+            pbeam_platform_token(state, session, page, token, busy, x1, x2, x3, out)
         }
-        Kind::Features => pbeam_features(state, call[1], out),
+        Kind::Features => pbeam_features(state, x1, out),
         Kind::TokenSigning => {
-            pbeam_token_signing(
-                state,
-                queue,
-                page,
-                &public[..],
-                call[1],
-                call[2],
-                call[3],
-                call[4],
-                out,
-            )
+            pbeam_token_signing(state, queue, page, public, x1, x2, x3, x4, out)
         }
-        Kind::KeyUpdate => pbeam_key_update(state, width, call[1], out, work),
+        Kind::KeyUpdate => pbeam_key_update(state, width, x1, out, work),
         Kind::Unlisted => {
             *out = images::registers(codes::answered(Code::Unk, 0, 0));
         }

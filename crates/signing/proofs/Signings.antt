@@ -82,16 +82,13 @@ module _ (r : Record) (len : ℕ) (o : Opcode) (pa size curve : ℕ) (t : Bool) 
       gate-go m = goes (sharedCode r len o pa size curve) (placeOf (upOf r) pa) at (shared-ok r len o pa size curve (page-went .0) (sym cb ∙ n) (rw (← cu) m)) (page-went .1)
 
 -- ---- a call by its opcode and gate, as they were told
-module _ (r : Record) (page : List ℕ) (op pa size curve : ℕ) (o : Opcode) (co : o ≡ opcodeOf op) (g : Gate) (cg : g ≡ gated (sharedCode r (length page) o pa size curve) (placeOf (upOf r) pa)) where
-  shared-gated : gated (sharedCode r (length page) (opcodeOf op) pa size curve) (placeOf (upOf r) pa) ≡ g
-  shared-gated = rw (← co) (sym cg)
-
+module _ (r : Record) (page : List ℕ) (op pa size curve : ℕ) (g : Gate) (cg : g ≡ gated (sharedCode r (length page) (opcodeOf op) pa size curve) (placeOf (upOf r) pa)) where
   pub told-stop : (j : Code) → g ≡ Stop j → (sharedCode r (length page) (opcodeOf op) pa size curve ≡ j) × (isOk j ≡ false)
-  told-stop j h = stood (sharedCode r (length page) (opcodeOf op) pa size curve) (placeOf (upOf r) pa) j (shared-gated ∙ h)
+  told-stop j h = stood (sharedCode r (length page) (opcodeOf op) pa size curve) (placeOf (upOf r) pa) j (sym cg ∙ h)
 
   module _ (at : ℕ) (h : g ≡ Go at) where
     shared-went : (sharedCode r (length page) (opcodeOf op) pa size curve ≡ Ok) × (at ≡ placeOf (upOf r) pa)
-    shared-went = went (sharedCode r (length page) (opcodeOf op) pa size curve) (placeOf (upOf r) pa) at (shared-gated ∙ h)
+    shared-went = went (sharedCode r (length page) (opcodeOf op) pa size curve) (placeOf (upOf r) pa) at (sym cg ∙ h)
 
     -- the buffer is within the page
     pub told-room : at + size ≤ length page
@@ -100,17 +97,18 @@ module _ (r : Record) (page : List ℕ) (op pa size curve : ℕ) (o : Opcode) (c
         omega (arith, shared-went .1, p .whole, p .room)
 
     -- and the answer is that of the opcode on it
-    pub told-op : (q : Lists) (key : List ℕ) → opAt o at size page q key ≡ signingOf r page q key op pa size curve
-    unfolding signingOf
-    told-op q key =
-        rw (co, shared-went .1) (goes-on (sharedCode r (length page) (opcodeOf op) pa size curve) page q (opAt (opcodeOf op) (placeOf (upOf r) pa) size page q key) (shared-went .0))
+    module _ (o : Opcode) (co : o ≡ opcodeOf op) where
+      pub told-op : (q : Lists) (key : List ℕ) → opAt o at size page q key ≡ signingOf r page q key op pa size curve
+      unfolding signingOf
+      told-op q key =
+          rw (co, shared-went .1) (goes-on (sharedCode r (length page) (opcodeOf op) pa size curve) page q (opAt (opcodeOf op) (placeOf (upOf r) pa) size page q key) (shared-went .0))
 
-    pub told-served : (old : Queue) (key : List ℕ) (x : SigningExit) → x ≡ exitOf old (opAt o at size page (listsOf old) key) → x ≡ exitOf old (signingOf r page (listsOf old) key op pa size curve)
-    told-served old key x e = e ∙ rw (told-op (listsOf old) key)
+      pub told-served : (old : Queue) (key : List ℕ) (x : SigningExit) → x ≡ exitOf old (opAt o at size page (listsOf old) key) → x ≡ exitOf old (signingOf r page (listsOf old) key op pa size curve)
+      told-served old key x e = e ∙ rw (told-op (listsOf old) key)
 
-    pub told-served-on : (w key : List ℕ) (x : ImageStep) → x ≡ opOn o at size page w key → x ≡ signingOn r page w key op pa size curve
-    unfolding opOn signingOn signingDone
-    told-served-on w key x e = e ∙ rw (told-op (listsIn w) key, co, shared-went .1)
+      pub told-served-on : (w key : List ℕ) (x : ImageStep) → x ≡ opOn o at size page w key → x ≡ signingOn r page w key op pa size curve
+      unfolding opOn signingOn signingDone
+      told-served-on w key x e = e ∙ rw (told-op (listsIn w) key, co, shared-went .1)
 
 -- ---- the public key
 module _ (size : ℕ) (key : List ℕ) where
