@@ -676,14 +676,14 @@ pub extern "C" fn pbeam_call(
         (callIn (now (granules .entry)) (now (session .entry)) (now (queue .entry)) (now (page .entry)) (now (table .entry)) (now (words .entry))
         (callLent (now (state .entry)) (now (call .entry)) busy (now (key .entry)) (now (token .entry)) (now (public .entry)) width)) ⌝ }
 {
-    // All registers are read before the match: read in an arm, two of them at a time are loaded and put on the stack, and such a load waits
-    // for the caller's two stores: about 3 ns.
-    let kind = runtime::kind_of(call[0]);
+    // The arguments are read before the id: read in an arm, the compiler loads two of them at a time, which has to wait for the caller's two
+    // stores: about 3 ns.
     let x1 = call[1];
     let x2 = call[2];
     let x3 = call[3];
     let x4 = call[4];
     *work = [0, 0];
+    let kind = runtime::kind_of(call[0]);
     match kind {
         Kind::ForwardError => {
             *out = [0, 0, 0];
