@@ -40,7 +40,8 @@ ghost use Rattle.features.specs.Features.{featuresOf, updateOf, forwardOf};
 ghost use Rattle.images.specs.Image.{recordOf, recordWords, registerWords, workWords, sectionWords, viewOf, viewWords, answerWords, madeNumber, spanWords, fieldWords, consoleNumber};
 ghost use Rattle.images.specs.Realm.{numberX0, numberWords, hitX0, hitWords, agreementX0};
 ghost use Rattle.queue_image.specs.Image.{listsIn, oldestWords};
-ghost use Rattle.export_rules.specs.Exports.{writeIn, SetUpLeft, setUpIn, MoveLeft, moveIn, moveListIn, BuildLeft, buildIn, TokenLeft, tokenIn, SigningLeft, signingIn, SignLeft, signIn, CallLeft, callLent, callIn};
+ghost use Rattle.export_rules.specs.Exports.{writeIn, SetUpLeft, setUpIn, MoveLeft, moveIn, moveListIn, BuildLeft, buildIn};
+ghost use Rattle.export_rules.specs.Exports.{TokenLeft, tokenIn, SigningLeft, signingIn, SignLeft, signIn, CallLeft, callLent, callIn};
 
 // ---- Manifest ----
 
@@ -175,7 +176,8 @@ pub extern "C" fn pbeam_field_count(page: &[u8], view: &[u64; 15]) -> usize
 #[no_mangle]
 pub extern "C" fn pbeam_field(page: &[u8], view: &[u64; 15], index: usize, field: &mut [u64; 4])
     ensures { λ _. ⌜ now (field .exit) ≡ fieldWords (nthPlace index (viewOf (now (view .entry))) (now (page .entry))) ⌝ }
-    ensures { λ _. ⌜ fieldAs (nthPlace index (viewOf (now (view .entry))) (now (page .entry))) (now (page .entry)) ≡ nthIn index (fieldsShown (readingAnswer (now (page .entry)) (Accepted (viewOf (now (view .entry)))))) ⌝ }
+    ensures { λ _. ⌜ fieldAs (nthPlace index (viewOf (now (view .entry))) (now (page .entry))) (now (page .entry))
+        ≡ nthIn index (fieldsShown (readingAnswer (now (page .entry)) (Accepted (viewOf (now (view .entry)))))) ⌝ }
 {
     *field = images::field_words(field_lookup::field_of(page, images::view_of(view), index));
 }
@@ -184,7 +186,8 @@ pub extern "C" fn pbeam_field(page: &[u8], view: &[u64; 15], index: usize, field
 #[no_mangle]
 pub extern "C" fn pbeam_field_of_tag(page: &[u8], view: &[u64; 15], tag: u8, field: &mut [u64; 4])
     ensures { λ _. ⌜ now (field .exit) ≡ fieldWords (tagPlace tag (viewOf (now (view .entry))) (now (page .entry))) ⌝ }
-    ensures { λ _. ⌜ fieldAs (tagPlace tag (viewOf (now (view .entry))) (now (page .entry))) (now (page .entry)) ≡ ofTag tag (fieldsShown (readingAnswer (now (page .entry)) (Accepted (viewOf (now (view .entry)))))) ⌝ }
+    ensures { λ _. ⌜ fieldAs (tagPlace tag (viewOf (now (view .entry))) (now (page .entry))) (now (page .entry))
+        ≡ ofTag tag (fieldsShown (readingAnswer (now (page .entry)) (Accepted (viewOf (now (view .entry)))))) ⌝ }
 {
     *field = images::field_words(field_lookup::field_of_tag(page, images::view_of(view), tag));
 }
@@ -203,7 +206,8 @@ pub extern "C" fn pbeam_field_start(page: &[u8], view: &[u64; 15]) -> usize
 pub extern "C" fn pbeam_field_next(page: &[u8], cursor: usize, field: &mut [u64; 4]) -> usize
     ensures { λ r. ⌜ r ≡ stepAt cursor (now (page .entry)) .next ⌝ }
     ensures { λ _. ⌜ now (field .exit) ≡ fieldWords (stepAt cursor (now (page .entry)) .field) ⌝ }
-    ensures { λ r. ⌜ (fieldAs (stepAt cursor (now (page .entry)) .field) (now (page .entry)) ≡ firstIn (shownFrom cursor (now (page .entry)))) × (shownFrom r (now (page .entry)) ≡ restIn (shownFrom cursor (now (page .entry)))) ⌝ }
+    ensures { λ r. ⌜ (fieldAs (stepAt cursor (now (page .entry)) .field) (now (page .entry))
+        ≡ firstIn (shownFrom cursor (now (page .entry)))) × (shownFrom r (now (page .entry)) ≡ restIn (shownFrom cursor (now (page .entry)))) ⌝ }
 {
     let step = field_lookup::field_next(page, cursor);
     let found = step.field;
@@ -677,14 +681,14 @@ pub extern "C" fn pbeam_call(
         (callIn (now (granules .entry)) (now (session .entry)) (now (queue .entry)) (now (page .entry)) (now (table .entry)) (now (words .entry))
         (callLent (now (state .entry)) (now (call .entry)) busy (now (key .entry)) (now (token .entry)) (now (public .entry)) width)) ⌝ }
 {
-    // All registers are read before the match: read in an arm, two of them at a time are loaded and put on the stack, and such a load waits
-    // for the caller's two stores: about 3 ns.
-    let kind = runtime::kind_of(call[0]);
+    // The arguments are read before the id: read in an arm, the compiler loads two of them at a time, which has to wait for the caller's two
+    // stores: about 3 ns.
     let x1 = call[1];
     let x2 = call[2];
     let x3 = call[3];
     let x4 = call[4];
     *work = [0, 0];
+    let kind = runtime::kind_of(call[0]);
     match kind {
         Kind::ForwardError => {
             *out = [0, 0, 0];

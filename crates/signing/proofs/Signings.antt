@@ -22,7 +22,7 @@ use Rattle.queue.specs.declared.Queue.{Queue}
 use Rattle.queue.specs.Queue.{Lists, SigningStep, SigningExit, queued, oldestResponse, listsOf, exitOf}
 use Rattle.queue.proofs.Steps.{goes-on}
 use Rattle.queue_image.specs.Image.{listsIn}
-use Rattle.queue_image.specs.Steps.{ImageStep}
+use Rattle.queue_image.specs.OnImage.{ImageStep}
 use Rattle.request_rules.specs.Push.{pushCode, pushed, pushOf}
 use Rattle.response_rules.specs.Pull.{responseBytes, pullCode, pulled, pullOf}
 use Rattle.signing.specs.Signing.{opcodeOf, isOther, badCurve, sharedCode, publicCode, publicOf, opOf, putBack, opAt, signingOf}
@@ -129,12 +129,20 @@ module _ (size : ℕ) (key : List ℕ) where
 -- A property of opcode and step that holds in each case: refused, or OK by one of the opcodes, with what the page's gate then tells.
 pub record Cases (P : Opcode → SigningStep → Type 0) (r : Record) (page : List ℕ) (q : Lists) (key : List ℕ) (pa size : ℕ) : Type 0 where
   pub refusal : (o : Opcode) (k : Code) → isOk k ≡ false → P o (record { answer = answerOf k 0 0; page = page; queue = q })
-  pub push : Passed r (length page) Ok pa size → pushCode (part (placeOf (upOf r) pa) size page) q ≡ Ok → P Push (record { answer = answerOf Ok 0 0; page = page; queue = pushed (part (placeOf (upOf r) pa) size page) q })
-  pub pull : Passed r (length page) Ok pa size → pullCode size q ≡ Ok → P Pull (record { answer = answerOf Ok 0 0; page = splice (placeOf (upOf r) pa) (responseBytes (oldestResponse (q .responses))) page; queue = pulled q })
+  pub push : Passed r (length page) Ok pa size → pushCode (part (placeOf (upOf r) pa) size page) q ≡ Ok → P Push
+      (record { answer = answerOf Ok 0 0; page = page; queue = pushed (part (placeOf (upOf r) pa) size page) q })
+  pub pull : Passed r (length page) Ok pa size → pullCode size q ≡ Ok → P Pull
+      (record {
+        answer = answerOf Ok 0 0;
+        page = splice (placeOf (upOf r) pa) (responseBytes (oldestResponse (q .responses))) page;
+        queue =
+            pulled q;
+      })
   pub public : Passed r (length page) Ok pa size → publicCode size key ≡ Ok → P Key (record { answer = answerOf Ok (length key) 0; page = splice (placeOf (upOf r) pa) key page; queue = q })
 
 -- ---- an opcode on its buffer, by the code of its own checks: what it left in the buffer, as the page shows it
-op-by : (at size : ℕ) (page : List ℕ) (q : Lists) → at + size ≤ length page → (P : SigningStep → Type 0) → ((k : Code) → isOk k ≡ false → P (record { answer = answerOf k 0 0; page = page; queue = q })) →
+op-by : (at size : ℕ) (page : List ℕ) (q : Lists) → at + size ≤ length page → (P : SigningStep → Type 0) →
+    ((k : Code) → isOk k ≡ false → P (record { answer = answerOf k 0 0; page = page; queue = q })) →
     (k : Code) (new : SigningStep) (after : List ℕ) → (k ≡ Ok → splice at (new .page) page ≡ after) → (k ≡ Ok → P (record { answer = new .answer; page = after; queue = new .queue })) →
     P (putBack at page (queued k new (part at size page) q))
 unfolding queued putBack

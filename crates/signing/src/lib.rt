@@ -12,7 +12,7 @@ ghost use lib.ListN.{length};
 ghost use Rattle.range.specs.Range.{placeOf};
 ghost use Rattle.codes.specs.Codes.{upOf, gated};
 ghost use Rattle.queue.specs.Queue.{Lists, SigningStep, listsOf, signingExit, exitOf};
-ghost use Rattle.queue_image.specs.Steps.{ImageStep};
+ghost use Rattle.queue_image.specs.OnImage.{ImageStep};
 ghost use Rattle.signing.specs.Signing.{opcodeOf, isOther, badCurve, sharedCode, publicOf, opAt, signingOf};
 ghost use Rattle.signing.specs.OnImage.{opOn, signingOn};
 

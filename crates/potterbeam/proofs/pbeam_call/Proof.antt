@@ -3,12 +3,6 @@ use borrow.Author.Needs.{needs}
 use Rattle.potterbeam.proofs.pbeam_call.Statement.{statement}
 use Rattle.potterbeam.proofs.pbeam_call.Tie as tie
 
-element-copy-out-kind-of : tie.Need-element-copy-out-kind-of
-element-copy-out-kind-of c = search needs
-
-kind-of-requires : tie.Need-kind-of-requires
-kind-of-requires c κs = search needs
-
 element-copy-out-x1 : tie.Need-element-copy-out-x1
 element-copy-out-x1 c = search needs
 
@@ -20,6 +14,12 @@ element-copy-out-x3 c = search needs
 
 element-copy-out-x4 : tie.Need-element-copy-out-x4
 element-copy-out-x4 c = search needs
+
+element-copy-out-kind-of : tie.Need-element-copy-out-kind-of
+element-copy-out-kind-of c = search needs
+
+kind-of-requires : tie.Need-kind-of-requires
+kind-of-requires c κs = search needs
 
 enum-told : tie.Need-enum-told
 enum-told c = search needs
@@ -84,7 +84,7 @@ returns c =
     let a = m .before .before .before .before .before .before .before .before .before .before .before .before .before .before .before .args in
     left-forward (a .granules .now) (a .session .now) (a .queue .now) (a .page .now) (a .table .now) (a .words .now) (a .state .now)
     (a .call .now) (a .busy) (a .key .now) (a .token .now) (a .public .now) (a .width) _
-    (m .before .before .before .before .before .before .before .kind-of .ensures) (m .enum-told .given .1) _ (c .before .pbeam-forward .ensures)
+    (m .before .before .kind-of .ensures) (m .enum-told .given .1) _ (c .before .pbeam-forward .ensures)
 
 same-length : tie.Need-same-length
 same-length c = search needs
@@ -98,7 +98,7 @@ returns-2 c =
     let a = m .before .before .before .before .before .before .before .before .before .before .before .before .before .before .before .args in
     left-delegate (a .granules .now) (a .session .now) (a .queue .now) (a .page .now) (a .table .now) (a .words .now) (a .state .now)
     (a .call .now) (a .busy) (a .key .now) (a .token .now) (a .public .now) (a .width) _
-    (m .before .before .before .before .before .before .before .kind-of .ensures) (m .enum-told2 .given .1) _ _ _ (c .before .before .before .before .pbeam-delegate .ensures)
+    (m .before .before .kind-of .ensures) (m .enum-told2 .given .1) _ _ _ (c .before .before .before .before .pbeam-delegate .ensures)
 
 same-length-3 : tie.Need-same-length-3
 same-length-3 c = search needs
@@ -112,7 +112,7 @@ returns-3 c =
     let a = m .before .before .before .before .before .before .before .before .before .before .before .before .before .before .before .args in
     left-undelegate (a .granules .now) (a .session .now) (a .queue .now) (a .page .now) (a .table .now) (a .words .now) (a .state .now)
     (a .call .now) (a .busy) (a .key .now) (a .token .now) (a .public .now) (a .width) _
-    (m .before .before .before .before .before .before .before .kind-of .ensures) (m .enum-told3 .given .1) _ _ _ (c .before .before .before .before .pbeam-undelegate .ensures)
+    (m .before .before .kind-of .ensures) (m .enum-told3 .given .1) _ _ _ (c .before .before .before .before .pbeam-undelegate .ensures)
 
 same-length-5 : tie.Need-same-length-5
 same-length-5 c = search needs
@@ -123,7 +123,7 @@ returns-4 c =
     let a = m .before .before .before .before .before .before .before .before .before .before .before .before .before .before .before .args in
     left-key (a .granules .now) (a .session .now) (a .queue .now) (a .page .now) (a .table .now) (a .words .now) (a .state .now)
     (a .call .now) (a .busy) (a .key .now) (a .token .now) (a .public .now) (a .width) _
-    (m .before .before .before .before .before .before .before .kind-of .ensures) (m .enum-told4 .given .1) _ _ (c .before .before .pbeam-realm-key .ensures .0) (c .before .before .pbeam-realm-key .ensures .1)
+    (m .before .before .kind-of .ensures) (m .enum-told4 .given .1) _ _ (c .before .before .pbeam-realm-key .ensures .0) (c .before .before .pbeam-realm-key .ensures .1)
 
 same-length-6 : tie.Need-same-length-6
 same-length-6 c = search needs
@@ -134,7 +134,7 @@ returns-5 c =
     let a = m .before .before .before .before .before .before .before .before .before .before .before .before .before .before .before .args in
     left-token (a .granules .now) (a .session .now) (a .queue .now) (a .page .now) (a .table .now) (a .words .now) (a .state .now)
     (a .call .now) (a .busy) (a .key .now) (a .token .now) (a .public .now) (a .width) _
-    (m .before .before .before .before .before .before .before .kind-of .ensures) (m .enum-told5 .given .1) _ _ _ (c .before .before .pbeam-platform-token .ensures)
+    (m .before .before .kind-of .ensures) (m .enum-told5 .given .1) _ _ _ (c .before .before .pbeam-platform-token .ensures)
 
 returns-6 : tie.Need-returns-6
 returns-6 c =
@@ -142,7 +142,7 @@ returns-6 c =
     let a = m .before .before .before .before .before .before .before .before .before .before .before .before .before .before .before .args in
     left-features (a .granules .now) (a .session .now) (a .queue .now) (a .page .now) (a .table .now) (a .words .now) (a .state .now)
     (a .call .now) (a .busy) (a .key .now) (a .token .now) (a .public .now) (a .width) _
-    (m .before .before .before .before .before .before .before .kind-of .ensures) (m .enum-told6 .given .1) _ (c .pbeam-features .ensures)
+    (m .before .before .kind-of .ensures) (m .enum-told6 .given .1) _ (c .pbeam-features .ensures)
 
 same-length-7 : tie.Need-same-length-7
 same-length-7 c = search needs
@@ -153,7 +153,7 @@ returns-7 c =
     let a = m .before .before .before .before .before .before .before .before .before .before .before .before .before .before .before .args in
     left-signing (a .granules .now) (a .session .now) (a .queue .now) (a .page .now) (a .table .now) (a .words .now) (a .state .now)
     (a .call .now) (a .busy) (a .key .now) (a .token .now) (a .public .now) (a .width) _
-    (m .before .before .before .before .before .before .before .kind-of .ensures) (m .enum-told7 .given .1) _ _ _ (c .before .before .pbeam-token-signing .ensures)
+    (m .before .before .kind-of .ensures) (m .enum-told7 .given .1) _ _ _ (c .before .before .pbeam-token-signing .ensures)
 
 returns-8 : tie.Need-returns-8
 returns-8 c =
@@ -161,7 +161,7 @@ returns-8 c =
     let a = m .before .before .before .before .before .before .before .before .before .before .before .before .before .before .before .args in
     left-update (a .granules .now) (a .session .now) (a .queue .now) (a .page .now) (a .table .now) (a .words .now) (a .state .now)
     (a .call .now) (a .busy) (a .key .now) (a .token .now) (a .public .now) (a .width) _
-    (m .before .before .before .before .before .before .before .kind-of .ensures) (m .enum-told8 .given .1) _ _ (c .pbeam-key-update .ensures .0) (c .pbeam-key-update .ensures .1)
+    (m .before .before .kind-of .ensures) (m .enum-told8 .given .1) _ _ (c .pbeam-key-update .ensures .0) (c .pbeam-key-update .ensures .1)
 
 returns-9 : tie.Need-returns-9
 returns-9 c =
@@ -169,18 +169,18 @@ returns-9 c =
     let a = m .before .before .before .before .before .before .before .before .before .before .before .before .before .before .before .args in
     left-unlisted (a .granules .now) (a .session .now) (a .queue .now) (a .page .now) (a .table .now) (a .words .now) (a .state .now)
     (a .call .now) (a .busy) (a .key .now) (a .token .now) (a .public .now) (a .width) _
-    (m .before .before .before .before .before .before .before .kind-of .ensures) (m .enum-told9 .given .1) _ (c .before .answered .ensures) _ (c .registers .ensures)
+    (m .before .before .kind-of .ensures) (m .enum-told9 .given .1) _ (c .before .answered .ensures) _ (c .registers .ensures)
 
 pub pbeam-call-spec : {M : Type 1} → statement M
 pbeam-call-spec =
     tie.close
     (tie.spec
-    element-copy-out-kind-of
-    kind-of-requires
     element-copy-out-x1
     element-copy-out-x2
     element-copy-out-x3
     element-copy-out-x4
+    element-copy-out-kind-of
+    kind-of-requires
     enum-told
     pbeam-forward-requires
     enum-told-2

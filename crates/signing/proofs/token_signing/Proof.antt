@@ -34,7 +34,9 @@ unfolding signingOf
 returns c =
     let a = c .before .before .before .before .before .before .before .args in
     let g = told-stop (a .state) (a .page .now) (a .opcode) (a .pa) (a .size) (a .curve) _ (c .before .before .before .before .gate-of .ensures) _ (c .before .before .gate .given .1) in
-    refuses (sharedCode (a .state) (length (a .page .now)) (opcodeOf (a .opcode)) (a .pa) (a .size) (a .curve)) (a .page .now) (listsOf (a .queue)) (a .queue) (opAt (opcodeOf (a .opcode)) (placeOf (upOf (a .state)) (a .pa)) (a .size) (a .page .now) (listsOf (a .queue)) (a .key .now)) _ _ (c .refused .ensures) (g .0) (g .1)
+    refuses (sharedCode (a .state) (length (a .page .now)) (opcodeOf (a .opcode)) (a .pa) (a .size) (a .curve)) (a .page .now)
+    (listsOf (a .queue)) (a .queue) (opAt (opcodeOf (a .opcode)) (placeOf (upOf (a .state)) (a .pa)) (a .size) (a .page .now)
+    (listsOf (a .queue)) (a .key .now)) _ _ (c .refused .ensures) (g .0) (g .1)
 
 same-length : tie.Need-same-length
 same-length c = search needs
@@ -42,7 +44,10 @@ same-length c = search needs
 returns-2 : tie.Need-returns-2
 returns-2 c =
     let a = c .before .before .before .before .before .before .before .before .before .before .before .args in
-    told-served (a .state) (a .page .now) (a .opcode) (a .pa) (a .size) (a .curve) _ (c .before .before .before .before .before .before .before .before .gate-of .ensures) _ (c .before .before .before .before .before .before .gate2 .given .1) _ (c .before .before .before .opcode-of .ensures) (a .queue) (a .key .now) _ (c .before .before .serve .ensures)
+    told-served (a .state) (a .page .now) (a .opcode) (a .pa) (a .size) (a .curve) _
+    (c .before .before .before .before .before .before .before .before .gate-of .ensures) _
+    (c .before .before .before .before .before .before .gate2 .given .1) _ (c .before .before .before .opcode-of .ensures) (a .queue)
+    (a .key .now) _ (c .before .before .serve .ensures)
 
 pub token-signing-spec : {M : Type 1} → statement M
 token-signing-spec =
