@@ -50,8 +50,9 @@ returns-3 : tie.Need-returns-3
 returns-3 c =
     let a = c .before .before .before .before .before .before .before .before .args in
     let g = c .before .before .before .before .verdict .given in
+    let v = c .before .before .before .before .before .before .judge-page .ensures .0 in
     section-told (a .edition) (a .base) (a .page .now) (a .k) _
-    (told-section (a .edition) (a .base) (a .page .now) (g .0 .0) (a .k) _ (c .before .edition-read .ensures) _ (c .before .before .before .before .before .before .judge-page .ensures .0) (g .1) _ (c .section-at .ensures))
+    (told-section (a .edition) (a .base) (a .page .now) (g .0 .0) (a .k) _ (c .before .edition-read .ensures) _ v (g .1) _ (c .section-at .ensures))
 
 pub section-read-spec : {M : Type 1} → statement M
 section-read-spec =

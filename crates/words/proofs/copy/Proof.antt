@@ -52,7 +52,8 @@ loop-again c =
     let a = c .before .before .before .before .before .before .before .before .before .before .args in
     let l = c .before .before .before .before .before .before .loop in
     let n : Bytes (a .from .now) = λ i. omega (arith, c .before .before .before .before .before .before .before .before .shared-slice-known .given i) in
-    (search needs, search needs, c .before .before .put-eight .ensures ∙ rw (c .before .before .before .eight .ensures, l .inv .2) (word-more (a .from .now) (l .k) (a .to .now) n (omega arith) (omega arith)))
+    let e = word-more (a .from .now) (l .k) (a .to .now) n (omega arith) (omega arith) in
+    (search needs, search needs, c .before .before .put-eight .ensures ∙ rw (c .before .before .before .eight .ensures, l .inv .2) e)
 
 mul-i : tie.Need-mul-i Inv-loop μ-loop Inv-loop2 μ-loop2
 mul-i c = search needs
