@@ -1297,7 +1297,7 @@ fn compare_calls() {
     compare_call("opcode 4, INVAL", -5, [TOKEN_SIGN, 4, BASE, 97, 0], none);
     compare_call("key update", 0, [KEY_UPDATE, 255, 0, 0, 0], none);
     compare_call("key update, INVAL", -5, [KEY_UPDATE, 65536, 0, 0, 0], none);
-    compare_call("request complete", 0, [REQ_COMPLETE, 7, 0, 0, 0], none);
+    compare_call("forward", 0, [REQ_COMPLETE, 7, 0, 0, 0], none);
     compare_call("unlisted id, UNK", -1, [0xC400_01B7, 0, 0, 0, 0], none);
     compare_call("delegate, not up, UNK", -1, [DELEGATE, at, 0, 0, 0], closed);
     compare_call(

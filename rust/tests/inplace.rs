@@ -35,6 +35,9 @@ struct Memory {
 /// A move of the granule at an address, or of those at a list.
 type Move<T> = fn(&RecordImage, &GranulesImage, &mut [u8], &mut [u64], T, &mut Registers);
 
+/// A move of a list on both sides.
+type Moves<'a> = (Move<&'a [u64]>, Move<&'a [u64]>);
+
 /// How often each answer was met, by the id or the name of the step.
 type Met = BTreeMap<(u64, i64), u64>;
 
@@ -315,12 +318,12 @@ fn lists_in_many_banks_are_the_same() {
             5,
             0,
         ];
-        let [(to_realm, mine), (back, mine_back)]: [(Move<&[u64]>, Move<&[u64]>); 2] = [
+        let moves: [Moves; 2] = [
             (Model::delegate_list, inplace::delegate_list),
             (Model::undelegate_list, inplace::undelegate_list),
         ];
         let [mut theirs, mut ours] = [(); 2].map(|()| (vec![0; table], vec![0; words], [7; 3]));
-        for (theirs_by, ours_by) in [(to_realm, mine), (back, mine_back)] {
+        for (theirs_by, ours_by) in moves {
             let (table, words, out) = (&mut theirs.0, &mut theirs.1, &mut theirs.2);
             theirs_by(&state, &granules, table, words, &list, out);
             let (table, words, out) = (&mut ours.0, &mut ours.1, &mut ours.2);
