@@ -14,6 +14,7 @@ use Rattle.words.specs.Tests.{Yes, both, either}
 use Rattle.words.specs.Word.{leOf, part, splice, laid}
 use Rattle.words.proofs.Tests.{both-l, both-r, both-of}
 use Rattle.words.proofs.Store.{bytes-in, drop-splice}
+use Rattle.fields.proofs.Rules.{either-false}
 use Rattle.mend.specs.Mend.{partAt, ofPart, blank}
 use Rattle.mend.specs.Steps.{zeroed}
 
@@ -126,11 +127,6 @@ module _ (at : ℕ) (vs s : List ℕ) (h : at + length vs ≤ length s) (z : (i 
       go i (no l) (yes m) = rw (le-leb at i (omega arith), lt-ltb i (at + length vs) m) (splice-mid i (omega arith) m)
       go i (no l) (no m) = rw (le-leb at i (omega arith), le-ltb i (at + length vs) (omega arith)) (splice-high i (omega arith))
 
-either-none : (a : Bool) → either a false ≡ a
-unfolding either
-either-none true = refl
-either-none false = refl
-
 cond-twice : (a b : Bool) (n : ℕ) → cond b 0 (cond a 0 n) ≡ cond (either a b) 0 n
 unfolding either
 cond-twice true true n = refl
@@ -141,7 +137,7 @@ cond-twice false b n = refl
 pub zeroed-blank : (b : Bool) (j : ℕ) (vs : List ℕ) (f : ℕ → Bool) (page : List ℕ) → length vs ≡ partAt (suc j) - partAt j → partAt (suc j) ≤ length page → ((i : ℕ) → getD vs i 0 ≡ 0) →
     zeroed b (partAt j) vs (blank f page) ≡ blank (λ i. either (f i) (both b (ofPart j i))) page
 unfolding zeroed both ofPart
-zeroed-blank false j vs f page l h z = ext-getD 0 _ _ (blank-length f page ∙ sym (blank-length _ page)) (λ i m. rw (blank-at f page i, blank-at (λ i. either (f i) false) page i, either-none (f i)))
+zeroed-blank false j vs f page l h z = ext-getD 0 _ _ (blank-length f page ∙ sym (blank-length _ page)) (λ i m. rw (blank-at f page i, blank-at (λ i. either (f i) false) page i, either-false (f i)))
 zeroed-blank true j vs f page l h z =
     bytes-in (partAt j) vs (blank f page) (rw blank-length (omega (arith, part-grows j)))
     ∙ splice-blank (partAt j) vs (blank f page) (rw blank-length (omega (arith, part-grows j))) z

@@ -19,6 +19,7 @@ use Rattle.versions.specs.Edition.{sectionCount, core}
 use Rattle.versions.proofs.Editions.{section-count-most}
 use Rattle.entries.specs.Entry.{size}
 use Rattle.fields.specs.Fields.{ended, isEnded}
+use Rattle.fields.proofs.Withdrawn.{both-no}
 use Rattle.sections.specs.Page.{versionAt, paddingAt, countAt, pointerAt, checkAt, inPage, arrayAt, Sec, mkSec, secAt, Plat, mkPlat, foundAt, platAt}
 use Rattle.sections.specs.Section.{platOk, wordsIn, nothing, inRange, secOk, Extent, extent, apart, clearBefore, platExtent, platClear}
 use Rattle.sections.specs.Steps.{okAt, endOf, clearAt, clearFrom, staysAt}
@@ -35,11 +36,6 @@ both-then : (a b c : Bool) → (Yes a → b ≡ c) → both a b ≡ both a c
 unfolding both
 both-then true b c h = h refl
 both-then false b c h = refl
-
-both-false : (b : Bool) → both b false ≡ false
-unfolding both
-both-false true = refl
-both-false false = refl
 
 pub never-both : (b : Bool) → Yes b → b ≡ false → ⊥
 never-both b h k = false≢true (sym k ∙ h)
@@ -201,7 +197,7 @@ module _ (base : ℕ) (page : List ℕ) (n : ℕ) where
 
   pub kept-stands : (k : ℕ) → Yes (keepsAt base page k) → changed base page (suc (suc k)) ≡ false
   unfolding changed
-  kept-stands k h = rw h (both-false (ltb k (sectionCount (editionAt page))))
+  kept-stands k h = rw h (both-no (ltb k (sectionCount (editionAt page))))
 
   pub lost-goes : (k : ℕ) → k < sectionCount (editionAt page) → keepsAt base page k ≡ false → Yes (changed base page (suc (suc k)))
   unfolding changed

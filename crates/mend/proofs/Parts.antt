@@ -14,6 +14,7 @@ use Rattle.words.proofs.Lists.{bytesOf-length}
 use Rattle.versions.specs.Version.{versionOk}
 use Rattle.versions.specs.Edition.{sectionCount}
 use Rattle.fields.specs.Fields.{taken}
+use Rattle.fields.proofs.Withdrawn.{both-no}
 use Rattle.fields.specs.declared.FieldsEnd.{FieldsEnd}
 use Rattle.fields.specs.declared.FieldsEnd.the-variants.{Broken, Ended}
 use Rattle.sections.specs.Page.{placeOk, versionAt, paddingAt, Plat, mkPlat, platAt, foundAt}
@@ -88,11 +89,7 @@ module _ (w e base : ℕ) (f : PlatKept) (k : ℕ) (page : List ℕ) where
 
     pub section-stands : z ≡ true → (false ≡ sectionGoes w e base f k page) × (page ≡ zeroed false (16 + 24 * k) (bytesOf (0 ∷ 0 ∷ 0 ∷ [])) page)
     unfolding sectionGoes zeroed both
-    section-stands h = (rw (stays-told true h) (none (ltb k (sectionCount e))), refl)
-      where
-        none : (b : Bool) → false ≡ both b false
-        none true = refl
-        none false = refl
+    section-stands h = (rw (stays-told true h) (sym (both-no (ltb k (sectionCount e)))), refl)
 
     pub section-goes : z ≡ false → k < sectionCount e → (p : List ℕ) → p ≡ laid (16 + 24 * k) (bytesOf (0 ∷ 0 ∷ 0 ∷ [])) page →
         (true ≡ sectionGoes w e base f k page) × (p ≡ zeroed true (16 + 24 * k) (bytesOf (0 ∷ 0 ∷ 0 ∷ [])) page)

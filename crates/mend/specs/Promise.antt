@@ -32,10 +32,12 @@ pub record Mends (base : ℕ) (page : List ℕ) : Type 0 where
       (λ k. shown (minorAt page) (editionAt page) k (cond (keepsAt base page k) (secAt base page k) noSec))
   -- "It reports for each of the six whether it was changed": each member is that of its own part
   pub report : (c : Changes) → mendedOf base page ≡ Done c →
-      (c .padding ≡ changed base page 0) × (c .plat ≡ changed base page 1) × (c .dram ≡ changed base page 2) × (c .console ≡ changed base page 3) × (c .ncoh ≡ changed base page 4) × (c .coh ≡ changed base page 5)
+      (c .padding ≡ changed base page 0) × (c .plat ≡ changed base page 1) × (c .dram ≡ changed base page 2)
+      × (c .console ≡ changed base page 3) × (c .ncoh ≡ changed base page 4) × (c .coh ≡ changed base page 5)
   -- "and an accepted page comes out unchanged with six times no"
   pub accepted : (w e : ℕ) (q : PlatShown) (s : ℕ → Shown) → readOf 4 base page ≡ shows w e q s →
-      (mendedPage base page ≡ page) × ((j : ℕ) → changed base page j ≡ false) × (mendedOf base page ≡ Done (record { padding = false; plat = false; dram = false; console = false; ncoh = false; coh = false }))
+      (mendedPage base page ≡ page) × ((j : ℕ) → changed base page j ≡ false)
+      × (mendedOf base page ≡ Done (record { padding = false; plat = false; dram = false; console = false; ncoh = false; coh = false }))
   -- "Padding that breaks its rule is zeroed; a platform pointer .. that breaks a rule by itself": they come first, so they overlap nothing
   pub padding : changed base page 0 ≡ not (eqb (paddingAt page) 0)
   pub pointer : changed base page 1 ≡ not (platOk (editionAt page) base (platAt base page))
@@ -46,7 +48,8 @@ pub record Mends (base : ℕ) (page : List ℕ) : Type 0 where
       (both (every k (λ j. either (not (keepsAt base page j)) (apart (extent k (secAt base page k)) (extent j (secAt base page j)))))
       (either (not (platOk (editionAt page) base (platAt base page))) (apart (platExtent (platAt base page)) (extent k (secAt base page k)))))
   -- 24 zero bytes break no rule and overlap nothing: they are kept, and report no
-  pub blanks : (c : Changes) → mendedOf base page ≡ Done c → (k : ℕ) → k < sectionCount (editionAt page) → countAt k page ≡ 0 → pointerAt k page ≡ 0 → checkAt k page ≡ 0 → changed base page (suc (suc k)) ≡ false
+  pub blanks : (c : Changes) → mendedOf base page ≡ Done c → (k : ℕ) → k < sectionCount (editionAt page) →
+      countAt k page ≡ 0 → pointerAt k page ≡ 0 → checkAt k page ≡ 0 → changed base page (suc (suc k)) ≡ false
   -- "a section that the page's edition lacks is not touched and reports no"
   pub lacks : (k : ℕ) → sectionCount (editionAt page) ≤ k →
       (changed base page (suc (suc k)) ≡ false) × ((i : ℕ) → Yes (ofPart (suc (suc k)) i) → getD (mendedPage base page) i 0 ≡ getD page i 0)

@@ -25,7 +25,8 @@ fn put(out: &mut [u8], at: usize, text: &[u8]) -> usize
 // A part's line.
 fn put_line(out: &mut [u8], at: usize, title: &[u8], changed: bool) -> usize
     requires { ⌜ (at + length (now title) + 5 ≤ length (now out)) × (length (now out) ≡ 64) ⌝ }
-    ensures { λ r. ⌜ (r ≡ at + length (lineText (now (title .entry)) changed)) × (now (out .exit) ≡ splice at (lineText (now (title .entry)) changed) (now (out .entry))) × (r ≤ at + length (now (title .entry)) + 5) ⌝ }
+    ensures { λ r. ⌜ (r ≡ at + length (lineText (now (title .entry)) changed))
+        × (now (out .exit) ≡ splice at (lineText (now (title .entry)) changed) (now (out .entry))) × (r ≤ at + length (now (title .entry)) + 5) ⌝ }
 {
     let to = put(out, at, title);
     if changed {

@@ -18,7 +18,7 @@ use Rattle.lists.specs.Description.{platBytes, used}
 use Rattle.lists.proofs.Lists.{marked-more}
 use Rattle.writer_rules.specs.Write.{arrayAddress, descriptorAt, pointTo, platWord, coreWords, pageOf}
 use Rattle.writer_rules.proofs.Given.{desc-length}
-use Rattle.writer.proofs.Pages.{page-law}
+use Rattle.writer.proofs.Pages.{over-length, page-law}
 use Rattle.pack.specs.Steps.{arrayWords, sectionMoved, fieldsPlace, keptFrom, retoldAt}
 use Rattle.pack.proofs.Moves.{joined-same, joined-rest}
 
@@ -73,10 +73,6 @@ point-by true a at end (b ∷ bs) e h = let z : at ≡ end = eqb-true at end e i
 point-by false a at end (b ∷ bs) e h = refl
 
 -- ---- bytes in front of others
-over-length : (bs p : List ℕ) → length bs ≤ length p → length (splice 0 bs p) ≡ length p
-unfolding splice
-over-length bs p h = simp (length-append, length-drop) (omega arith)
-
 front : (xs ys p : List ℕ) → length xs ≤ length p → splice 0 xs (splice (length xs) ys p) ≡ splice 0 (xs ++ ys) p
 unfolding splice
 front xs ys p h =

@@ -21,7 +21,7 @@ use Rattle.writer.specs.Steps.{sectionOn, arraysOn}
 use Rattle.writer_rules.proofs.Given.{desc-length}
 
 -- ---- these bytes, then the page as it was
-over-length : (bs p : List ℕ) → length bs ≤ length p → length (splice 0 bs p) ≡ length p
+pub over-length : (bs p : List ℕ) → length bs ≤ length p → length (splice 0 bs p) ≡ length p
 unfolding splice
 over-length bs p h = simp (length-append, length-drop) (omega arith)
 

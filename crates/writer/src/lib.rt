@@ -97,7 +97,9 @@ fn put_core(
     requires { ⌜ (base ≤ 0x10_0000_0000_0000) × (length (now page) ≡ 4096)
         × (length (now dram) + length (now console) + length (now ncoh) + length (now coh) ≤ 512)
         × (totals ≡ totalsOf (now dram) (now console) (now ncoh) (now coh)) ⌝ }
-    ensures { λ _. ⌜ now (page .exit) ≡ splice 0 (bytesOf (coreWords base (e .minor) (descriptionOf (now (dram .entry)) (now (console .entry)) (now (ncoh .entry)) (now (coh .entry)) (now (fields .entry))))) (now (page .entry)) ⌝ }
+    ensures { λ _. ⌜ now (page .exit) ≡ splice 0
+        (bytesOf (coreWords base (e .minor) (descriptionOf (now (dram .entry)) (now (console .entry)) (now (ncoh .entry)) (now (coh .entry)) (now (fields .entry)))))
+        (now (page .entry)) ⌝ }
 {
     let plat = plat_pointer(base, e, dram, console, ncoh, coh, fields);
     let head = [e.minor, plat];

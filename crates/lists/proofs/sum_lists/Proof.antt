@@ -36,10 +36,13 @@ sum-list-requires-3 c κs = search needs
 returns-3 : tie.Need-returns-3
 unfolding both
 returns-3 c =
+    let s3 = c .before .before .sum-list3 .ensures in
+    let s2 = c .before .before .before .before .before .sum-list2 .ensures in
+    let s1 = c .before .before .before .before .before .before .before .before .sum-list .ensures in
     let a = c .before .before .before .before .before .before .before .before .before .before .before .before .before .args in
-    let q0 : listOk (a .minor) 0 (a .dram .now) ≡ true = sym (c .before .before .before .before .before .before .before .before .sum-list .ensures .0) ∙ not-false _ (c .before .before .before .before .before .before .if1 .left) in
-    let q1 : listOk (a .minor) 1 (a .console .now) ≡ true = sym (c .before .before .before .before .before .sum-list2 .ensures .0) ∙ not-false _ (c .before .before .before .if2 .left) in
-    let q2 : listOk (a .minor) 2 (a .ncoh .now) ≡ false = sym (c .before .before .sum-list3 .ensures .0) ∙ not-true _ (c .if3 .taken) in
+    let q0 : listOk (a .minor) 0 (a .dram .now) ≡ true = sym (s1 .0) ∙ not-false _ (c .before .before .before .before .before .before .if1 .left) in
+    let q1 : listOk (a .minor) 1 (a .console .now) ≡ true = sym (s2 .0) ∙ not-false _ (c .before .before .before .if2 .left) in
+    let q2 : listOk (a .minor) 2 (a .ncoh .now) ≡ false = sym (s3 .0) ∙ not-true _ (c .if3 .taken) in
     sums-told (a .minor) (a .dram .now) (a .console .now) (a .ncoh .now) (a .coh .now) (sums-not (a .minor) (a .dram .now) (a .console .now) (a .ncoh .now) (a .coh .now) (rw (q0, q1, q2)))
 
 sum-list-requires-4 : tie.Need-sum-list-requires-4
@@ -48,11 +51,15 @@ sum-list-requires-4 c κs = search needs
 returns-4 : tie.Need-returns-4
 unfolding both
 returns-4 c =
+    let s4 = c .before .before .sum-list4 .ensures in
+    let s3 = c .before .before .before .before .before .sum-list3 .ensures in
+    let s2 = c .before .before .before .before .before .before .before .before .sum-list2 .ensures in
+    let s1 = c .before .before .before .before .before .before .before .before .before .before .before .sum-list .ensures in
     let a = c .before .before .before .before .before .before .before .before .before .before .before .before .before .before .before .before .args in
-    let q0 : listOk (a .minor) 0 (a .dram .now) ≡ true = sym (c .before .before .before .before .before .before .before .before .before .before .before .sum-list .ensures .0) ∙ not-false _ (c .before .before .before .before .before .before .before .before .before .if1 .left) in
-    let q1 : listOk (a .minor) 1 (a .console .now) ≡ true = sym (c .before .before .before .before .before .before .before .before .sum-list2 .ensures .0) ∙ not-false _ (c .before .before .before .before .before .before .if2 .left) in
-    let q2 : listOk (a .minor) 2 (a .ncoh .now) ≡ true = sym (c .before .before .before .before .before .sum-list3 .ensures .0) ∙ not-false _ (c .before .before .before .if3 .left) in
-    let q3 : listOk (a .minor) 3 (a .coh .now) ≡ false = sym (c .before .before .sum-list4 .ensures .0) ∙ not-true _ (c .if4 .taken) in
+    let q0 : listOk (a .minor) 0 (a .dram .now) ≡ true = sym (s1 .0) ∙ not-false _ (c .before .before .before .before .before .before .before .before .before .if1 .left) in
+    let q1 : listOk (a .minor) 1 (a .console .now) ≡ true = sym (s2 .0) ∙ not-false _ (c .before .before .before .before .before .before .if2 .left) in
+    let q2 : listOk (a .minor) 2 (a .ncoh .now) ≡ true = sym (s3 .0) ∙ not-false _ (c .before .before .before .if3 .left) in
+    let q3 : listOk (a .minor) 3 (a .coh .now) ≡ false = sym (s4 .0) ∙ not-true _ (c .if4 .taken) in
     sums-told (a .minor) (a .dram .now) (a .console .now) (a .ncoh .now) (a .coh .now) (sums-not (a .minor) (a .dram .now) (a .console .now) (a .ncoh .now) (a .coh .now) (rw (q0, q1, q2, q3)))
 
 returns-5 : tie.Need-returns-5
