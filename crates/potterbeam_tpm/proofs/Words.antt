@@ -10,7 +10,8 @@ use Rattle.tpm.specs.declared.TpmSession.{TpmSession}
 use Rattle.tpm.specs.declared.TpmSession.the-variants.{None, Open}
 use Rattle.tpm.specs.ReturnCodes.{isSuccess}
 use Rattle.tpm.specs.Comm.{CommStep, commOf}
-use Rattle.tpm.specs.Sequence.{commStep, sessionOver, Latest, isOpen, OpenBy}
+use Rattle.tpm.proofs.Runs.{isOpen}
+use Rattle.tpm.specs.Sequence.{commStep, sessionOver, Latest, OpenBy}
 use Rattle.tpm.proofs.Acts.{comm-refused}
 use Rattle.tpm.proofs.Theorems.{open-exactly}
 use Rattle.potterbeam_tpm.specs.Exports.{tpmSessionOf, tpmSessionWord, commLeft, says, commIn}

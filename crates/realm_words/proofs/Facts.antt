@@ -2,11 +2,12 @@
 -- Assumes nothing.
 use Prim.Native.Nat.{ℕ, zero, suc, _+_, _*_, _/_, _%_, _^_, _≤_, _<_}
 use mathlib.Core.Path.{_≡_, refl, sym, _∙_}
-use mathlib.Core.List.{List, [], _∷_}
+use mathlib.Core.List.{List}
 use native.Mathlib.Omega.{arith}
 use native.Mathlib.Nat.{pow-suc}
 use native.Mathlib.Decide.{ℕ-discrete}
 use lib.ListN.{length, getD, take, drop, length-take}
+use lib.Seq.{ext-getD}
 use lib.Pow.{pow-mono}
 use borrow.Author.Tests.{ne-eqb}
 use Rattle.realm_words.specs.Bits.{bitOf, bitAt, realmBit, wordsFor, realmWords}
@@ -14,7 +15,7 @@ use Rattle.realm_words.specs.Answers.{WordsAgree}
 use Rattle.realm_words.proofs.Bits.{bit-zero, bit-suc}
 use Rattle.realm_words.proofs.Packing.{packed-lt, wordFrom, words-length, words-at, bit-any}
 
--- ---- a word is told by its bits, and a list by its words
+-- ---- a word is told by its bits
 word-same : (n w v : ℕ) → w < 2 ^ n → v < 2 ^ n → ((k : ℕ) → k < n → bitOf w k ≡ bitOf v k) → w ≡ v
 word-same zero w v a b h = omega arith
 word-same (suc n) w v a b h =
@@ -22,12 +23,6 @@ word-same (suc n) w v a b h =
     let i : w / 2 ≡ v / 2 = word-same n (w / 2) (v / 2) (omega arith) (omega arith) (λ k l. sym (bit-suc w k) ∙ h (suc k) (omega arith) ∙ bit-suc v k) in
     let z : w % 2 ≡ v % 2 = sym (bit-zero w) ∙ h 0 (omega arith) ∙ bit-zero v in
     omega arith
-
-lists-same : (xs ys : List ℕ) → length xs ≡ length ys → ((k : ℕ) → k < length xs → getD xs k 0 ≡ getD ys k 0) → xs ≡ ys
-lists-same [] [] l h = refl
-lists-same [] (y ∷ ys) l h = absurd (let z : ⊥ = omega arith in z)
-lists-same (x ∷ xs) [] l h = absurd (let z : ⊥ = omega arith in z)
-lists-same (x ∷ xs) (y ∷ ys) l h = rw (h 0 (omega arith), lists-same xs ys (omega arith) (λ k m. h (suc k) (omega arith)))
 
 -- ---- the bit of a byte
 realm-yes : (b : ℕ) → b ≡ 1 → realmBit b ≡ 1
@@ -49,7 +44,7 @@ words-agree t i h =
 -- and no other words do
 pub agree-words : (t ws : List ℕ) → length ws ≡ wordsFor (length t) → ((k : ℕ) → getD ws k 0 < 2 ^ 64) → WordsAgree t ws → ws ≡ realmWords t
 unfolding bitOf
-agree-words t ws l small a = lists-same ws (realmWords t) (l ∙ sym (words-length (wordsFor (length t)) t)) (λ k h. word-same 64 (getD ws k 0) (getD (realmWords t) k 0) (small k) (below k (omega arith)) (bits k h))
+agree-words t ws l small a = ext-getD 0 ws (realmWords t) (l ∙ sym (words-length (wordsFor (length t)) t)) (λ k h. word-same 64 (getD ws k 0) (getD (realmWords t) k 0) (small k) (below k (omega arith)) (bits k h))
   where
     below : (k : ℕ) → k < wordsFor (length t) → getD (realmWords t) k 0 < 2 ^ 64
     below k h = rw (words-at (wordsFor (length t)) t k h) (omega (arith, packed-lt (take 64 (drop (k * 64) t)), pow-mono (few (drop (k * 64) t))))

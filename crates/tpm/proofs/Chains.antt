@@ -4,7 +4,11 @@ use mathlib.Core.Bool.{Bool, true, false, cond, not, false≢true}
 use borrow.Author.Tests.{not-true, not-false}
 use Rattle.tpm.specs.declared.ReturnCode.{ReturnCode}
 use Rattle.tpm.specs.declared.ReturnCode.the-variants.{Success, Function, Parameter, P2, P3, P4, P5, Resource}
-use Rattle.tpm.specs.ReturnCodes.{isSuccess, returnsIf, onSuccess}
+use Rattle.tpm.specs.ReturnCodes.{isSuccess, returnsIf}
+
+-- what some checks gave, and if that is success what the checks after them give
+unfoldable pub onSuccess : ReturnCode → ReturnCode → ReturnCode
+onSuccess k rest = cond (isSuccess k) rest k
 
 pub success-is : (k : ReturnCode) → isSuccess k ≡ true → k ≡ Success
 unfolding isSuccess

@@ -12,10 +12,10 @@ use Rattle.words.proofs.Tests.{both-l, both-r}
 use Rattle.tpm.specs.declared.ReturnCode.{ReturnCode}
 use Rattle.tpm.specs.declared.ReturnCode.the-variants.{Success, Function, Parameter, P2, P3, P4, P5}
 use Rattle.tpm.specs.declared.Arguments.{Arguments}
-use Rattle.tpm.specs.ReturnCodes.{isSuccess, returnsIf, onSuccess}
+use Rattle.tpm.specs.ReturnCodes.{isSuccess, returnsIf}
 use Rattle.tpm.specs.Comm.{isExecute, isClose, bufferChecks, inputChecks, outputChecks, buffersChecks, resourceCheck, callChecks, requestCode, commCode, hasRequest}
 use Rattle.tpm.specs.Claims.{Within, Placed, Executes, Accepts, Reached}
-use Rattle.tpm.proofs.Chains.{success-is, returns-ok, Continues, returns-on, both-on, on-stops, on-goes}
+use Rattle.tpm.proofs.Chains.{onSuccess, success-is, returns-ok, Continues, returns-on, both-on, on-stops, on-goes}
 
 -- ---- one buffer
 pub buffer-on : (o w : ReturnCode) → isSuccess o ≡ false → isSuccess w ≡ false → (t : Bool) (start size n : ℕ) → Continues (bufferChecks o w t start size n)

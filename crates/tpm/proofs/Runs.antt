@@ -11,8 +11,17 @@ use Rattle.tpm.specs.declared.TpmSession.{TpmSession}
 use Rattle.tpm.specs.declared.TpmSession.the-variants.{None, Open}
 use Rattle.tpm.specs.ReturnCodes.{isSuccess}
 use Rattle.tpm.specs.Comm.{isExecute, executedStep, closedStep, refusedStep, effectOf, commOf}
-use Rattle.tpm.specs.Sequence.{CommCall, commStep, commAccepted, sessionOver, Latest, latestOr, latestOf, isOpen, opened, OpenExactly}
+use Rattle.tpm.specs.Sequence.{CommCall, commStep, commAccepted, sessionOver, Latest, latestOr, latestOf, OpenExactly}
 use Rattle.tpm.specs.Sequence.Latest.{no-operation, operation}
+
+unfoldable pub isOpen : TpmSession → Bool
+isOpen None = false
+isOpen Open = true
+
+-- whether the session is open after that operation; as at the start if there was none
+unfoldable pub opened : Latest → Bool → Bool
+opened no-operation start = start
+opened (operation n) start = isExecute n
 
 effect-session : (k : ReturnCode) (s : TpmSession) (a : Arguments) (memory response : List ℕ) →
     isOpen (effectOf k s a memory response .session) ≡ cond (isSuccess (effectOf k s a memory response .code)) (isExecute (a .operation)) (isOpen s)

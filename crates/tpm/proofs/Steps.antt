@@ -12,8 +12,9 @@ use Rattle.tpm.specs.declared.ReturnCode.the-variants.{Success, Resource
 use Rattle.tpm.specs.declared.Arguments.{Arguments}
 use Rattle.tpm.specs.declared.TpmSession.{TpmSession}
 use Rattle.tpm.specs.declared.TpmSession.the-variants.{Open}
-use Rattle.tpm.specs.ReturnCodes.{isSuccess, returnsIf, onSuccess}
+use Rattle.tpm.specs.ReturnCodes.{isSuccess, returnsIf}
 use Rattle.tpm.specs.Comm.{isExecute, resourceCheck, requestCode, executedStep, closedStep, refusedStep, effectOf, commOf}
+use Rattle.tpm.proofs.Chains.{onSuccess}
 use Rattle.tpm.proofs.Checks.{comm-then}
 
 module _ (s : TpmSession) (a : Arguments) (memory response : List ℕ) (forbidden fault : Bool) where

@@ -1,5 +1,5 @@
 -- The return codes of H_TPM_COMM. 003: "r3 : H_Success .. H_FUNCTION". 02, E9: "Answers are by name." Assumes nothing.
-use mathlib.Core.Bool.{Bool, true, false, cond}
+use mathlib.Core.Bool.{Bool, true, false}
 use lib.IntN.{ℤ, pos, negsuc}
 use Rattle.tpm.specs.declared.ReturnCode.{ReturnCode}
 use Rattle.tpm.specs.declared.ReturnCode.the-variants.{Success, Function, Parameter, P2, P3, P4, P5, Resource}
@@ -29,7 +29,3 @@ isSuccess P5 = false
 unfoldable pub returnsIf : Bool → ReturnCode → ReturnCode → ReturnCode
 returnsIf true k rest = k
 returnsIf false k rest = rest
-
--- what some checks gave, and if that is success what the checks after them give
-unfoldable pub onSuccess : ReturnCode → ReturnCode → ReturnCode
-onSuccess k rest = cond (isSuccess k) rest k

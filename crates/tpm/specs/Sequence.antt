@@ -1,14 +1,14 @@
 -- Calls of H_TPM_COMM one after the other, and the session over them. Assumes nothing.
 use Prim.Native.Nat.{ℕ}
 use mathlib.Core.Path.{_≡_}
-use mathlib.Core.Bool.{Bool, true, false, cond}
+use mathlib.Core.Bool.{Bool, cond}
 use mathlib.Core.List.{List, [], _∷_}
 use mathlib.Core.Logic.{_⊎_}
 use Rattle.tpm.specs.declared.Arguments.{Arguments}
 use Rattle.tpm.specs.declared.TpmSession.{TpmSession}
-use Rattle.tpm.specs.declared.TpmSession.the-variants.{None, Open}
+use Rattle.tpm.specs.declared.TpmSession.the-variants.{Open}
 use Rattle.tpm.specs.ReturnCodes.{isSuccess}
-use Rattle.tpm.specs.Comm.{CommStep, commOf, isExecute}
+use Rattle.tpm.specs.Comm.{CommStep, commOf}
 
 -- All that a call is given but the session. The memory is as it stands at that call: the guest may write it between two calls.
 pub record CommCall : Type 0 where
@@ -41,15 +41,6 @@ latestOr (operation n) before = operation n
 unfoldable pub latestOf : TpmSession → List CommCall → Latest
 latestOf s [] = no-operation
 latestOf s (x ∷ xs) = latestOr (latestOf (commStep s x .session) xs) (cond (commAccepted s x) (operation (x .asked .operation)) no-operation)
-
-unfoldable pub isOpen : TpmSession → Bool
-isOpen None = false
-isOpen Open = true
-
--- whether the session is open after that operation; as at the start if there was none
-unfoldable pub opened : Latest → Bool → Bool
-opened no-operation start = start
-opened (operation n) start = isExecute n
 
 -- the last operation that was accepted is execute, or none was accepted and it was so at the start
 abbrev pub OpenBy : Latest → Type 0 → Type 0
