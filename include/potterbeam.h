@@ -19,13 +19,13 @@
  * - The first check that fails decides the answer. The checks stand below in their order.
  * - A refused runtime command puts its code into x0 and 0 into x1 and x2, and leaves page, table, words, session and queue as they
  *   were, whatever they hold. A refused list of granules differs: x1 is the number done, and these stay done.
- * - "Stack" bounds what a call was seen to write on x86-64, accepted or refused, with its return address and the words that it takes on the
- *   stack; the test rust/tests/stack.rs fails where a figure is exceeded. It is measured, not proved. All fit 1 KiB.
- * - The figure behind "AArch64" is static: the frame of the function and of all that it calls, in the archive that tools/aarch64 builds and
- *   that fails to build where a figure is exceeded. It is without the words that a call takes on the stack (8 bytes for each argument after
- *   the eighth; the most is 104, of pbeam_call) and without what the platform's memcpy, memmove and memset take.
  * - size_t has 64 bits: the archives are for x86-64 and AArch64 (LP64). On a 32-bit target the prototypes would not be those of the
  *   library, and PBEAM_CONSOLE_NONE would fit no size_t.
+ * - "Stack" is what a call was seen to write on x86-64 at most, accepted or refused, rounded up to a multiple of 32, with its return
+ *   address and the words that its caller passes on the stack. It is measured (rust/tests/stack.rs), not proved. All fit 1 KiB.
+ * - The figure after "AArch64" is static, rounded in the same way: the frames of the function and of all that it calls, in the archive that
+ *   tools/aarch64 builds, and the words that its caller passes on the stack. It is without what the platform's memcpy, memmove and memset
+ *   take. docs/STACK.md has both figures; programs write them, there and here.
  *
  * potterbeam_types.h has a struct for each image, lists that are counted in entries, and one struct for all that pbeam_call takes. The
  * functions here take plain words and count them: two banks are 4.
@@ -411,7 +411,7 @@ extern "C" {
  *                                  (no end mark in the page, tag 0 with a length, a length that tags 1 to 3 may not have, one of
  *                                  these twice) or share a byte with an array
  * Leaves   the page as it was. view: what the page shows; refused: all zero.
- * Stack    352 bytes; AArch64 288
+ * Stack    256 bytes; AArch64 288
  * A later minor is never refused. Sections after e are not read, nor what stands behind the end mark. Fields belong to every edition.
  */
 PBEAM_NONNULL(5)
@@ -423,7 +423,7 @@ int32_t pbeam_read(const uint8_t *page, size_t page_len, uint64_t base, uint64_t
  * Answers  nothing. place: the part of the page that holds the array; (0, 0) where the page is refused, the section absent or empty,
  *          or its number above 3. pbeam_read says why a page is refused.
  * Leaves   the page as it was.
- * Stack    512 bytes; AArch64 304
+ * Stack    256 bytes; AArch64 320
  */
 PBEAM_NONNULL(6)
 void pbeam_array(const uint8_t *page, size_t page_len, uint64_t base, uint64_t edition, size_t section,
@@ -435,7 +435,7 @@ void pbeam_array(const uint8_t *page, size_t page_len, uint64_t base, uint64_t e
  * Answers  nothing. place: the part of the page that holds the array; (0, 0) where the section is absent or empty, its number above
  *          3, or its entries do not lie within the lent page.
  * Leaves   page and view as they were.
- * Stack    160 bytes; AArch64 128
+ * Stack    32 bytes; AArch64 0
  * With another page, or one written since, the answer is by the view's places: a view that no reading made cannot lead outside the
  * page.
  */
@@ -448,7 +448,7 @@ void pbeam_array_of(const uint8_t *page, size_t page_len, const uint64_t view[PB
  * Takes    page, view and section as pbeam_array_of.
  * Answers  the number of entries; 0 where pbeam_array_of gives (0, 0).
  * Leaves   page and view as they were.
- * Stack    160 bytes; AArch64 128
+ * Stack    32 bytes; AArch64 0
  */
 PBEAM_NONNULL(3)
 size_t pbeam_count(const uint8_t *page, size_t page_len, const uint64_t view[PBEAM_VIEW_WORDS], size_t section);
@@ -458,7 +458,7 @@ size_t pbeam_count(const uint8_t *page, size_t page_len, const uint64_t view[PBE
  * Takes    page, view and section as pbeam_array_of; entry and word, both counted from 0 (PBEAM_BANK_BASE .., PBEAM_CONSOLE_BASE ..).
  * Answers  the word; 0 where there is no such entry or word, and for the flags of a console where the view's minor is 5 or above.
  * Leaves   page and view as they were.
- * Stack    192 bytes; AArch64 144
+ * Stack    32 bytes; AArch64 0
  */
 PBEAM_NONNULL(3)
 uint64_t pbeam_word(const uint8_t *page, size_t page_len, const uint64_t view[PBEAM_VIEW_WORDS], size_t section, size_t entry,
@@ -470,7 +470,7 @@ uint64_t pbeam_word(const uint8_t *page, size_t page_len, const uint64_t view[PB
  * Answers  the number of the first console whose 8 bytes of name are those given, from 0 on, as pbeam_word takes it; PBEAM_CONSOLE_NONE
  *          where there is none.
  * Leaves   page, view and name as they were.
- * Stack    64 bytes; AArch64 0
+ * Stack    32 bytes; AArch64 0
  */
 PBEAM_NONNULL(3, 4)
 size_t pbeam_console_named(const uint8_t *page, size_t page_len, const uint64_t view[PBEAM_VIEW_WORDS],
@@ -573,7 +573,7 @@ uint64_t pbeam_kept_for(const uint8_t *page, size_t page_len, const uint64_t vie
  * Leaves   the page as it was. text: ASCII from its first byte on, each line ended by '\n', with no '\0' behind it; as much as fits. What
  *          is behind the text stays as it was. Of a page that is refused the text is one line, "refused -5", "refused -6" or
  *          "refused -7", with the code of pbeam_read.
- * Stack    832 bytes; AArch64 896
+ * Stack    576 bytes; AArch64 896
  * A field is its tag and the length of its value in decimal, and each byte of the value as two lower-case hex digits, parted by blanks; the
  * withdrawn one is "3 withdrawn".
  * A word is written as 0x and 16 lower-case hex digits, a console's name as its 8 bytes in order, 16 such digits without 0x; the flags of a
@@ -598,7 +598,7 @@ size_t pbeam_listing(const uint8_t *page, size_t page_len, uint64_t base, uint64
  * Leaves   the whole page written: version, the sections, the arrays at once after the core in section order, then the fields with their
  *          end mark and plat_data at them, or plat_data 0 without fields; zero everywhere else; an empty list gives 24 zero bytes.
  *          Refused, the page stays as it was. Lists and fields stay as they were.
- * Stack    448 bytes; AArch64 576
+ * Stack    448 bytes; AArch64 608
  */
 uint32_t pbeam_write(uint64_t base, uint64_t edition, const uint64_t *dram, size_t dram_len, const uint64_t *console,
                      size_t console_len, const uint64_t *ncoh, size_t ncoh_len, const uint64_t *coh, size_t coh_len,
@@ -619,7 +619,7 @@ uint32_t pbeam_write(uint64_t base, uint64_t edition, const uint64_t *dram, size
  *          PBEAM_MANIFEST_PLACE    K above 4,096
  *          PBEAM_MANIFEST_PLACE, PBEAM_MANIFEST_VERSION, PBEAM_MANIFEST_RULES  as pbeam_read
  * Leaves   the page as it was. state: up, with x2, B, the agreed minor and K; refused: closed, for good.
- * Stack    416 bytes; AArch64 272
+ * Stack    288 bytes; AArch64 288
  * The view is not kept. With K = 0 read the page with pbeam_read before a command writes into it. K need not cover the manifest; with K =
  * 4,096 every buffer is outside.
  */
@@ -634,7 +634,7 @@ int32_t pbeam_cold_boot(uint64_t state[PBEAM_STATE_WORDS], uint64_t x0, uint64_t
  *          PBEAM_BOOT_STATE        record not up
  *          PBEAM_BOOT_CPU          x0 not below the cold boot's x2
  * Leaves   state: up, as it was, kept bytes too; refused: closed, for good. A CPU may warm boot twice.
- * Stack    32 bytes; AArch64 16
+ * Stack    32 bytes; AArch64 32
  */
 PBEAM_NONNULL(1)
 int32_t pbeam_warm_boot(uint64_t state[PBEAM_STATE_WORDS], uint64_t x0, uint64_t x1, uint64_t x2, uint64_t x3);
@@ -642,7 +642,7 @@ int32_t pbeam_warm_boot(uint64_t state[PBEAM_STATE_WORDS], uint64_t x0, uint64_t
 /*
  * pbeam_close: closes the record for good, whatever it was. For EL3, when the monitor reports that its boot failed.
  * Leaves   state: closed.
- * Stack    64 bytes; AArch64 0
+ * Stack    32 bytes; AArch64 0
  */
 PBEAM_NONNULL(1)
 void pbeam_close(uint64_t state[PBEAM_STATE_WORDS]);
@@ -683,7 +683,7 @@ bool pbeam_is_later(uint64_t a, uint64_t b);
  *          reader's rule (base and size multiples of 4,096, size not 0, base + size at most 2^52); if a bank begins before the end of the
  *          one before it (they may touch); or if table_len is not the sum of the sizes over PBEAM_GRANULE_BYTES.
  * Leaves   on OK the record, with 0 in the words behind its last bank. With PBEAM_X0_INVAL no record is made: the words stay as they were.
- * Stack    384 bytes; AArch64 336
+ * Stack    320 bytes; AArch64 352
  * It needs no boot record and keeps no pointer: the page may be overwritten afterwards. The reader accepts more than this: banks in any order,
  * overlapping ones, up to 249. Such a board has no record, and its commands answer PBEAM_X0_BAD_ADDR.
  */
@@ -701,7 +701,7 @@ uint64_t pbeam_set_up_granules(uint64_t granules[PBEAM_GRANULES_WORDS], const ui
  *          PBEAM_X0_BAD_PAS   the granule's byte is not PBEAM_GRANULE_NON_SECURE
  * Leaves   on OK that byte as PBEAM_GRANULE_REALM and its bit in the words set, and every other byte and bit as it was. Refused, table and
  *          words as they were.
- * Stack    160 bytes; AArch64 16
+ * Stack    256 bytes; AArch64 192
  * The byte alone is changed: the change in hardware is the platform's, after an OK.
  */
 PBEAM_NONNULL(1, 2, 8)
@@ -712,7 +712,7 @@ void pbeam_delegate(const uint64_t state[PBEAM_STATE_WORDS], const uint64_t gran
  * pbeam_undelegate (0xC40001B1): a granule goes from Realm to Non-secure.
  * As pbeam_delegate, with PBEAM_X0_BAD_PAS where the byte is not PBEAM_GRANULE_REALM; on OK it becomes PBEAM_GRANULE_NON_SECURE, and its
  * bit is cleared. Before that check the shared page, address B, is PBEAM_X0_BAD_ADDR whatever its byte: it has to stay Realm.
- * Stack    160 bytes; AArch64 16
+ * Stack    288 bytes; AArch64 192
  */
 PBEAM_NONNULL(1, 2, 8)
 void pbeam_undelegate(const uint64_t state[PBEAM_STATE_WORDS], const uint64_t granules[PBEAM_GRANULES_WORDS], uint8_t *table,
@@ -727,7 +727,7 @@ void pbeam_undelegate(const uint64_t state[PBEAM_STATE_WORDS], const uint64_t gr
  *          list too; then an empty list is OK with 0, up or not.
  * Leaves   as x1 single calls would: the granules before the refused address are Realm and stay so; no other byte or bit changes. An address
  *          that comes twice is refused with PBEAM_X0_BAD_PAS the second time.
- * Stack    320 bytes; AArch64 176
+ * Stack    256 bytes; AArch64 192
  * The bytes alone are changed: the change in hardware is the platform's, for the first x1 addresses, on a refusal too.
  */
 PBEAM_NONNULL(1, 2, 9)
@@ -737,7 +737,7 @@ void pbeam_delegate_list(const uint64_t state[PBEAM_STATE_WORDS], const uint64_t
 
 /*
  * pbeam_undelegate_list: the same from Realm to Non-secure, each address as pbeam_undelegate takes it.
- * Stack    320 bytes; AArch64 176
+ * Stack    256 bytes; AArch64 192
  */
 PBEAM_NONNULL(1, 2, 9)
 void pbeam_undelegate_list(const uint64_t state[PBEAM_STATE_WORDS], const uint64_t granules[PBEAM_GRANULES_WORDS], uint8_t *table,
@@ -800,7 +800,7 @@ uint64_t pbeam_realm_build(const uint64_t granules[PBEAM_GRANULES_WORDS], const 
  *          PBEAM_X0_INVAL     too long; curve not PBEAM_CURVE_SECP384R1
  *          PBEAM_X0_UNK       key empty, or longer than size
  * Leaves   on OK the key's bytes at pa, and every other byte of the page as it was. Refused, the page as it was.
- * Stack    128 bytes; AArch64 64
+ * Stack    64 bytes; AArch64 96
  */
 PBEAM_NONNULL(1, 9)
 void pbeam_realm_key(const uint64_t state[PBEAM_STATE_WORDS], uint8_t *page, size_t page_len, const uint8_t *key, size_t key_len,
@@ -820,7 +820,7 @@ void pbeam_realm_key(const uint64_t state[PBEAM_STATE_WORDS], uint8_t *page, siz
  *          PBEAM_X0_UNK       token empty, or with c_size 0 of another length than at the start
  * Leaves   on OK the hunk, the token's next bytes, at pa, and every other byte of the page as it was. session: idle after rest 0,
  *          else sending. Refused, page and session as they were.
- * Stack    256 bytes; AArch64 144
+ * Stack    192 bytes; AArch64 192
  * The hunk is written over the challenge: call pbeam_challenge first. Size 0 with c_size 0 in a session is OK and moves nothing.
  */
 PBEAM_NONNULL(1, 2, 11)
@@ -837,7 +837,7 @@ void pbeam_platform_token(const uint64_t state[PBEAM_STATE_WORDS], uint64_t sess
  *          PBEAM_X0_BAD_ADDR  outside
  *          PBEAM_X0_INVAL     too long; c_size not 0, 32, 48 or 64, or above size
  * Leaves   the page as it was.
- * Stack    96 bytes; AArch64 32
+ * Stack    32 bytes; AArch64 32
  * Make a token where the answer is PBEAM_X0_OK and place is not (0, 0): any other call is no start, or will be refused with that code
  * (a busy platform apart, which this does not look at).
  */
@@ -852,7 +852,7 @@ uint64_t pbeam_challenge(const uint64_t state[PBEAM_STATE_WORDS], const uint8_t 
  *          PBEAM_X0_UNK       record not up
  *          PBEAM_X0_INVAL     index not PBEAM_FEATURES_INDEX
  *          PBEAM_X0_UNK       agreed minor below PBEAM_SIGNING_MINOR
- * Stack    64 bytes; AArch64 0
+ * Stack    32 bytes; AArch64 0
  */
 PBEAM_NONNULL(1, 3)
 void pbeam_features(const uint64_t state[PBEAM_STATE_WORDS], uint64_t index, uint64_t out[PBEAM_OUT_WORDS]);
@@ -873,7 +873,7 @@ void pbeam_features(const uint64_t state[PBEAM_STATE_WORDS], uint64_t index, uin
  * Leaves   on OK: push: the request at the end of those that wait, the page as it was; pull: the oldest response at pa, and dropped
  *          from the queue; key: the key at pa, the queue as it was. Bytes of the page behind what is
  *          written stay as they were. Refused, page and queue as they were.
- * Stack    352 bytes; AArch64 576
+ * Stack    288 bytes; AArch64 448
  */
 PBEAM_NONNULL(1, 2, 11)
 void pbeam_token_signing(const uint64_t state[PBEAM_STATE_WORDS], uint64_t queue[PBEAM_QUEUE_WORDS], uint8_t *page, size_t page_len,
@@ -888,7 +888,7 @@ void pbeam_token_signing(const uint64_t state[PBEAM_STATE_WORDS], uint64_t queue
  *          PBEAM_X0_INVAL     mecid above PBEAM_MECID_MOST, or above 2^(m+1) - 1, m taken as 15 if larger
  *          PBEAM_X0_UNK       m above PBEAM_WIDTH_MOST; agreed minor below PBEAM_KEY_UPDATE_MINOR
  *          Refused, work is (PBEAM_WORK_NOTHING, 0).
- * Stack    64 bytes; AArch64 0
+ * Stack    32 bytes; AArch64 0
  * The library makes no key: the platform does, when work says so.
  */
 PBEAM_NONNULL(1, 4, 5)
@@ -899,7 +899,7 @@ void pbeam_key_update(const uint64_t state[PBEAM_STATE_WORDS], uint64_t width, u
  * pbeam_forward (0xC400018F): the error code of an RMI call, for the Non-secure world.
  * Takes    the boot record, which may be in any state, and x1.
  * Answers  err_code, which is x1. It is never refused.
- * Stack    64 bytes; AArch64 0
+ * Stack    32 bytes; AArch64 0
  */
 PBEAM_NONNULL(1)
 uint64_t pbeam_forward(const uint64_t state[PBEAM_STATE_WORDS], uint64_t x1);
@@ -953,7 +953,7 @@ size_t pbeam_responses(const uint64_t queue[PBEAM_QUEUE_WORDS]);
  *          before that, by PBEAM_ID_DELEGATE and PBEAM_ID_UNDELEGATE alone: no other id looks at the words.
  * Leaves   what the command leaves; all else as it was. Only PBEAM_ID_PLATFORM_TOKEN reads or writes the session, only
  *          PBEAM_ID_TOKEN_SIGNING the queue.
- * Stack    544 bytes with PBEAM_ID_TOKEN_SIGNING, 480 bytes with any other id; AArch64 656
+ * Stack    512 bytes with PBEAM_ID_TOKEN_SIGNING, 512 bytes with any other id; AArch64 576
  */
 PBEAM_NONNULL(1, 2, 3, 6, 19, 20, 21)
 void pbeam_call(const uint64_t state[PBEAM_STATE_WORDS], uint64_t session[PBEAM_SESSION_WORDS], uint64_t queue[PBEAM_QUEUE_WORDS],

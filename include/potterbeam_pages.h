@@ -17,8 +17,8 @@
  * - page, target and changed must not overlap. There is no lock: one page is used by one call at a time.
  * - The first check that fails decides the answer. The checks stand below in their order.
  * - size_t has 64 bits: the archives are for x86-64 and AArch64 (LP64).
- * - "Stack" bounds what a call was seen to write on x86-64, with its return address; the test rust/tests/stack.rs fails where a figure is
- *   exceeded. The one behind "AArch64" is static, of the archive that tools/aarch64 builds.
+ * - "Stack" is what a call was seen to write on x86-64 at most, and after "AArch64" a static bound of the archive that tools/aarch64
+ *   builds; both with the words that its caller passes on the stack, rounded up to a multiple of 32 (docs/STACK.md).
  */
 #ifndef POTTERBEAM_PAGES_H
 #define POTTERBEAM_PAGES_H
@@ -62,7 +62,7 @@ extern "C" {
  *          PBEAM_PACK_W1_TARGET    target not 4,096 bytes long
  * Leaves   the page as it was. target: the page that pbeam_write makes at the page's own minor, of the entries that are shown and of the
  *          fields in page order, less the withdrawn one; so with plat_data 0 where no other field is left. Refused, it stays as it was.
- * Stack    224 bytes; AArch64 256
+ * Stack    192 bytes; AArch64 256
  * A reader of any edition shows the same of both, but plat_data, the withdrawn field and where the arrays lie; packing the target once
  * more changes no byte (proved).
  */
@@ -79,7 +79,7 @@ int32_t pbeam_pack(const uint8_t *page, size_t page_len, uint64_t base, uint8_t 
  *          where it breaks a rule by itself, or its array shares a byte with the fields or an array kept before it, in the order of
  *          the words of changed. No byte but 4 to 111 is written: arrays and fields that nothing points at stay where they are, and so do
  *          sections after e. Refused, the page stays as it was, and changed is all zero.
- * Stack    288 bytes; AArch64 352
+ * Stack    256 bytes; AArch64 352
  * Afterwards pbeam_read accepts the page as PBEAM_EDITION_LAST, and shows all that was kept; a page that it accepts before stays as it is,
  * with no part changed (proved).
  */

@@ -18,8 +18,8 @@
  * - A call that can be refused answers PBEAM_SWTPM_OK or the number of the refusal. The first check that fails decides; the checks stand
  *   below in their order. A refused call leaves every lent byte and word as it was: buffer, collector, parts and len.
  * - size_t has 64 bits: the archives are for x86-64 and AArch64 (LP64).
- * - "Stack" bounds what a call was seen to write on x86-64, with its return address and the words that it takes on the stack; the test
- *   rust/tests/stack.rs fails where a figure is exceeded. The one behind "AArch64" is static, of the archive that tools/aarch64 builds.
+ * - "Stack" is what a call was seen to write on x86-64 at most, and after "AArch64" a static bound of the archive that tools/aarch64
+ *   builds; both with the words that its caller passes on the stack, rounded up to a multiple of 32 (docs/STACK.md).
  */
 #ifndef POTTERBEAM_SWTPM_H
 #define POTTERBEAM_SWTPM_H
@@ -117,7 +117,7 @@ uint32_t pbeam_swtpm_read_request(const uint8_t *message, size_t message_len, ui
  * Answers  PBEAM_SWTPM_OK, or:
  *          PBEAM_SWTPM_NO_ROOM     the buffer has fewer than 16 bytes
  * Leaves   on OK the message in the buffer's first 16 bytes, the bytes behind them as they were, and 16 in *len.
- * Stack    64 bytes; AArch64 0
+ * Stack    32 bytes; AArch64 0
  */
 uint32_t pbeam_swtpm_write_request(uint8_t *buffer, size_t buffer_len, uint32_t code, uint32_t flags, uint32_t type, uint32_t offset,
                                    size_t *len);
@@ -144,7 +144,7 @@ uint32_t pbeam_swtpm_read_response(const uint8_t *message, size_t message_len, u
  *          PBEAM_SWTPM_ABOVE_LARGEST  data_len is above largest
  *          PBEAM_SWTPM_NO_ROOM        the buffer has fewer than 16 + data_len bytes
  * Leaves   the data as it was. On OK the message at the buffer's start, the bytes behind it as they were, and 16 + data_len in *len.
- * Stack    64 bytes; AArch64 64
+ * Stack    64 bytes; AArch64 96
  */
 uint32_t pbeam_swtpm_write_response(uint8_t *buffer, size_t buffer_len, uint32_t largest, uint32_t result, uint32_t flags,
                                     uint32_t total, const uint8_t *data, size_t data_len, size_t *len);
@@ -160,7 +160,7 @@ uint32_t pbeam_swtpm_write_response(uint8_t *buffer, size_t buffer_len, uint32_t
  *          PBEAM_SWTPM_NO_DATA        no new bytes, and fewer held than totlength
  * Leaves   the message as it was. On OK the data behind the bytes held, every other byte of the buffer as it was, and the collector
  *          with that many bytes more.
- * Stack    64 bytes; AArch64 80
+ * Stack    64 bytes; AArch64 96
  * state_flags are not looked at. If each accepted response was cut from one blob at the number of bytes then held, with that blob's length
  * as totlength, the buffer begins with the blob's first bytes: ask for offset pbeam_swtpm_held each time. (swtpm 0.7.1 differs: it sends
  * all that is left at once, and its totlength counts from the offset on. Ask it once, from offset 0. See docs/SWTPM.md.)

@@ -29,8 +29,8 @@
  *   judges its bytes copies them first.
  * - There is no lock. One memory and one session word are used by one call at a time; different guests may call at the same time.
  * - size_t has 64 bits: the archives are for x86-64 and AArch64 (LP64).
- * - "Stack" bounds what a call was seen to write on x86-64, with its return address and the words that it takes on the stack; the test
- *   rust/tests/stack.rs fails where a figure is exceeded. The one behind "AArch64" is static, of the archive that tools/aarch64 builds.
+ * - "Stack" is what a call was seen to write on x86-64 at most, and after "AArch64" a static bound of the archive that tools/aarch64
+ *   builds; both with the words that its caller passes on the stack, rounded up to a multiple of 32 (docs/STACK.md).
  * - The first check that fails decides the answer. The checks stand below in their order.
  */
 #ifndef POTTERBEAM_TPM_H
@@ -94,7 +94,7 @@ extern "C" {
  *          PBEAM_TPM_SESSION_OPEN, also if it was open before.
  *          accepted close: the memory as it was; *r4 is 0; *session is PBEAM_TPM_SESSION_NONE, also if there was none.
  *          refused: the memory and *session as they were, whatever number that is; *r4 is 0.
- * Stack    192 bytes; AArch64 80
+ * Stack    96 bytes; AArch64 128
  */
 int64_t pbeam_tpm_comm(uint64_t *session, uint64_t operation, uint64_t in_buffer, uint64_t in_size, uint64_t out_buffer,
                        uint64_t out_size, uint8_t *memory, size_t memory_len, const uint8_t *response, size_t response_len,
@@ -106,7 +106,7 @@ int64_t pbeam_tpm_comm(uint64_t *session, uint64_t operation, uint64_t in_buffer
  * Leaves   the memory as it was. place: the offset of the request in the memory, which is in_buffer, and its length, which is in_size,
  *          for an execute that no check before PBEAM_TPM_H_RESOURCE refuses. (0, 0) for a close, for a call that such a check refuses,
  *          and for a request of 0 bytes.
- * Stack    96 bytes; AArch64 0
+ * Stack    32 bytes; AArch64 32
  * (0, 0) on an execute: there is nothing to send. Call pbeam_tpm_comm all the same: it gives the refusal. With fault set, a request of 0
  * bytes is PBEAM_TPM_H_RESOURCE.
  */

@@ -1,9 +1,12 @@
-# Static stack of each export on AArch64: awk -f aarch64.awk NAME.su NAME.s HEADER.h
+# Static stack of each export on AArch64: awk [-v out=FILE] -f aarch64.awk NAME.su NAME.s HEADER.h
 #
-# An export's figure is its own frame (-fstack-usage) and the deepest chain of calls below it, by the branches in the text that the object
-# is assembled from. It leaves out what memcpy, memmove and memset take, which are the platform's, and the words that a caller passes on
-# the stack. Prints each figure beside that of the header, and fails where the header has less or none, or where no bound can be told: a
-# frame of variable size, a call through a register, recursion, a function without a frame.
+# An export's bytes are its own frame (-fstack-usage), the deepest chain of calls below it, by the branches in the text that the object
+# is assembled from, and the words that its caller passes on the stack: a parameter after the eighth is one. What memcpy, memmove and memset
+# take is left out; they are the platform's.
+#
+# Prints the bytes of each export and the figure of the header. Fails where the header has none, less, or more than 32 bytes more, where an
+# export takes more than 1 KiB, and where no bound can be told: a frame of variable size, a call through a register, recursion, a function
+# without a frame. With `out` the header is not compared; FILE gets a line "NAME FIGURE" an export, rounded up to a multiple of 32.
 
 function wrong(text) {
     print "stack: " text
@@ -62,7 +65,13 @@ file == 2 && ($1 == "bl" || $1 == "b") && $2 !~ /^\.L/ {
         calls[inside] = calls[inside] callee "\n"
 }
 
-# The header: the comment of a function begins with its name.
+# The header: the comment of a function begins with its name, its prototype with a type at the start of a line.
+file == 3 && /^[a-z]/ && !/^static inline/ && match($0, /pbeam_[a-z_]+\(/) {
+    inside = substr($0, RSTART, RLENGTH - 1)
+    commas[inside] = 0
+}
+file == 3 && inside in commas { commas[inside] += gsub(/,/, ",") }
+file == 3 && /;/ { inside = "" }
 file == 3 && match($0, /^ \* pbeam_[a-z_]+(:| \(0x)/) {
     about = $2
     sub(/:$/, "", about)
@@ -75,14 +84,21 @@ file == 3 && /^ \* Stack / && match($0, /AArch64 [0-9,]+/) {
 
 END {
     for (name in export) {
-        bytes = depth(name)
+        bytes = depth(name) + (commas[name] > 7 ? 8 * (commas[name] - 7) : 0)
+        if (bytes > 1024)
+            wrong(name " takes more than 1 KiB: " bytes)
+        if (out != "") {
+            print name, int((bytes + 31) / 32) * 32 > out
+            continue
+        }
         line = sprintf("%-28s %6d bytes of stack, %s in the header", name, bytes, name in allowed ? allowed[name] : "none")
         print line | "sort"
-        if (!(name in allowed) || bytes > allowed[name] + 0)
-            over = over " " name
+        if (!(name in allowed) || bytes > allowed[name] + 0 || allowed[name] + 0 > bytes + 32)
+            other = other " " name
     }
-    close("sort")
-    if (over != "")
-        wrong("the header's column AArch64 has less, or nothing, of:" over)
+    if (out == "")
+        close("sort")
+    if (other != "")
+        wrong("the header's column AArch64 is not that of (tools/aarch64 figures writes it):" other)
     exit failed
 }

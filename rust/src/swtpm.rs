@@ -9,7 +9,7 @@ pub type CollectorImage = [u32; 3];
 pub type Parts = [u32; 4];
 
 /// The C functions.
-mod ffi {
+pub mod ffi {
     use super::{CollectorImage, Parts};
 
     extern "C" {

@@ -1381,9 +1381,9 @@ def odd_words():
 
 
 def other_ids(dice):
-    """Ids that are not listed, each with the command whose registers go with it: ids at random over
-    64 bits and over the 16 bits below 0xC4000000; and each listed one with one bit changed, with
-    other upper 32 bits, and with its low 16 bits alone."""
+    """Unlisted ids, each with the command whose registers go with it: 64 random bits; 0xC4000000
+    with 16 random low bits; each listed id with one bit changed, with other upper 32 bits, and with
+    only its low 16 bits kept."""
     pairs = [(0xC4000250, FEATURES), (0xC40001CF, FORWARD)]
     pairs += [(dice.getrandbits(64), dice.choice(LISTED)) for _ in range(32)]
     pairs += [(0xC4000000 + dice.getrandbits(16), dice.choice(LISTED)) for _ in range(16)]

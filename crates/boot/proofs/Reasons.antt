@@ -27,17 +27,17 @@ use Rattle.boot.specs.declared.Record.the-variants.{Fresh, Up, Closed}
 use Rattle.boot.proofs.Acts.{fresh-is}
 
 -- ---- a test, by what it tells
-holds : (b : Bool) (P : Type 0) → (P → b ≡ true) → ((P → ⊥) → ⊥) → b ≡ true
-holds true P f n = refl
-holds false P f n = absurd (n (λ p. false≢true (f p)))
+pub test-holds : (b : Bool) (P : Type 0) → (P → b ≡ true) → ((P → ⊥) → ⊥) → b ≡ true
+test-holds true P f n = refl
+test-holds false P f n = absurd (n (λ p. false≢true (f p)))
 
-fails : (b : Bool) (P : Type 0) → (b ≡ true → P) → (P → ⊥) → b ≡ false
-fails true P g n = absurd (n (g refl))
-fails false P g n = refl
+pub test-fails : (b : Bool) (P : Type 0) → (b ≡ true → P) → (P → ⊥) → b ≡ false
+test-fails true P g n = absurd (n (g refl))
+test-fails false P g n = refl
 
 -- a check is a line of the table: it lets pass exactly where the condition does not hold
-line : {A : Type 0} (b : Bool) (Q : Type 0) (c next : A) (below : A → Type 0) → (Q → b ≡ false) → ((Q → ⊥) → b ≡ true) → below next → Gives Q c below (cond b next c)
-line true Q c next below f g h = record { where-it-holds = λ q. absurd (true≢false (f q)); elsewhere = λ n. h }
+pub line : {A : Type 0} (b : Bool) (Q : Type 0) (c next : A) (below : A → Type 0) → (Q → b ≡ false) → ((Q → ⊥) → b ≡ true) → (b ≡ true → below next) → Gives Q c below (cond b next c)
+line true Q c next below f g h = record { where-it-holds = λ q. absurd (true≢false (f q)); elsewhere = λ n. h refl }
 line false Q c next below f g h = record { where-it-holds = λ q. refl; elsewhere = λ n. absurd (false≢true (g n)) }
 
 -- ---- a version from 1 to 65,535
@@ -65,11 +65,11 @@ module _ (x3 : ℕ) (page : List ℕ) where
       record {
         where-it-holds = λ n. ap codeIn (r .place n);
         elsewhere = λ n.
-            let p = placed x3 (length page) (holds (placeOk x3 (length page)) _ (place-acts x3 (length page)) n) in
+            let p = placed x3 (length page) (test-holds (placeOk x3 (length page)) _ (place-acts x3 (length page)) n) in
             record {
               where-it-holds = λ m. ap codeIn (r .version p m);
               elsewhere = λ m.
-                  let o = version-only (halfAt 0 page) (holds (versionOk (halfAt 0 page)) _ (λ (t : VersionFacts 4 (halfAt 0 page)). version-of (halfAt 0 page) (t .2) (t .3)) m) in
+                  let o = version-only (halfAt 0 page) (test-holds (versionOk (halfAt 0 page)) _ (λ (t : VersionFacts 4 (halfAt 0 page)). version-of (halfAt 0 page) (t .2) (t .3)) m) in
                   record {
                     where-it-holds = λ l. ap codeIn (r .rules p (omega arith, omega arith, o .0, o .1) l);
                     elsewhere = λ l. accepted (readOf 4 x3 page) refl l;
@@ -100,18 +100,18 @@ pub cold-codes : (s : Record) (x0 x1 x2 x3 most kept : ℕ) (page : List ℕ) �
 unfolding coldCode isFresh
 cold-codes s x0 x1 x2 x3 most kept page =
     rw (gate-chain (isFresh s) (versionOk x1) (leb x2 most) (ltb x0 x2) (leb kept 4096) (codeIn (readOf 4 x3 page)))
-    (line (isFresh s) _ (minus 1) _ _ (fails _ _ (fresh-is s)) (holds _ _ (λ e. ap isFresh e))
-    (line (versionOk x1) _ (minus 2) _ _ (fails _ _ (version-only x1)) (holds _ _ (λ t. version-of x1 (t .0) (t .1)))
-    (line (leb x2 most) (most < x2) (minus 3) _ _ (λ q. lt-leb x2 most q) (λ q. le-leb x2 most (omega arith))
-    (line (ltb x0 x2) (x2 ≤ x0) (minus 4) _ _ (λ q. le-ltb x0 x2 q) (λ q. lt-ltb x0 x2 (omega arith))
-    (kept-gives x3 page kept (leb kept 4096) refl)))))
+    (line (isFresh s) _ (minus 1) _ _ (test-fails _ _ (fresh-is s)) (test-holds _ _ (λ e. ap isFresh e)) (λ f.
+    line (versionOk x1) _ (minus 2) _ _ (test-fails _ _ (version-only x1)) (test-holds _ _ (λ t. version-of x1 (t .0) (t .1))) (λ v.
+    line (leb x2 most) (most < x2) (minus 3) _ _ (λ q. lt-leb x2 most q) (λ q. le-leb x2 most (omega arith)) (λ m.
+    line (ltb x0 x2) (x2 ≤ x0) (minus 4) _ _ (λ q. le-ltb x0 x2 q) (λ q. lt-ltb x0 x2 (omega arith)) (λ n.
+    kept-gives x3 page kept (leb kept 4096) refl)))))
 
 -- ---- warm boot
 cpu-gives : (u : Params) (x0 : ℕ) → Gives ((t : Params) → Up u ≡ Up t → t .cpus ≤ x0) (minus 4) (λ k. k ≡ pos 0) (cpuCode (u .cpus) x0)
 unfolding cpuCode
 cpu-gives u x0 =
     line (ltb x0 (u .cpus)) _ (minus 4) (pos 0) _ (λ q. le-ltb x0 (u .cpus) (q u refl))
-    (λ q. holds (ltb x0 (u .cpus)) (x0 < u .cpus) (λ l. lt-ltb x0 (u .cpus) l) (λ n. q (λ t e. let y : u ≡ t = cc in rw (← y) (omega arith)))) refl
+    (λ q. test-holds (ltb x0 (u .cpus)) (x0 < u .cpus) (λ l. lt-ltb x0 (u .cpus) l) (λ n. q (λ t e. let y : u ≡ t = cc in rw (← y) (omega arith)))) (λ l. refl)
 
 pub warm-codes : (s : Record) (x0 : ℕ) → WarmGives s x0 (warmCode s x0)
 unfolding warmCode

@@ -31,7 +31,7 @@ use Rattle.runtime.specs.Step.{Call, Step, kindOf, afterMove, afterKey, afterTo
 use Rattle.images.specs.Image.{recordOf, isSet, sessionOf, sessionWords}
 use Rattle.images.proofs.Inverse.{session-back}
 use Rattle.queue_image.specs.Image.{listsIn, areBytes}
-use Rattle.queue_image.specs.Steps.{imageStep}
+use Rattle.queue_image.specs.OnImage.{imageStep}
 use Rattle.queue_image.proofs.Fits.{part-bytes}
 use Rattle.queue_image.proofs.Steps.{ok-is}
 use Rattle.queue_image.proofs.Becomes.{Becomes, as-it-was}

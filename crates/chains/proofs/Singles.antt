@@ -13,7 +13,7 @@ use Rattle.runtime.specs.Run.{worldAfter}
 use Rattle.images.specs.Image.{workWords, replyRegisters, replyWords}
 use Rattle.signing.specs.OnImage.{signingOn}
 use Rattle.queue_image.specs.Image.{each, areBytes, Exact}
-use Rattle.queue_image.specs.Steps.{imageStep}
+use Rattle.queue_image.specs.OnImage.{imageStep}
 use Rattle.export_rules.specs.Exports.{moveLeft, moveIn, moveListIn, tokenLeft, tokenIn, signingLeft, signingIn, sessionLeft, queueLeft, CallLeft, callLeft, callLent, callIn}
 use Rattle.chains.specs.Chain.{Lent, lentWorld, lentOn, commandLeft, allAfter, ofBytes}
 use Rattle.chains.specs.Exported.{Exported, pbeam-delegate, pbeam-undelegate, pbeam-delegate-list, pbeam-undelegate-list, pbeam-realm-key, pbeam-platform-token, pbeam-features, pbeam-token-signing, pbeam-key-update, pbeam-forward, pbeam-call, pbeam-sign, exportLeft, commandOf, exportFor, allExported}

@@ -29,7 +29,7 @@ use Rattle.signing.specs.Signing.{signingOf}
 use Rattle.signing.specs.OnImage.{signingOn}
 use Rattle.images.specs.Image.{recordOf, isSet, sessionOf, registerWords}
 use Rattle.queue_image.specs.Image.{listsIn}
-use Rattle.queue_image.specs.Steps.{imageStep}
+use Rattle.queue_image.specs.OnImage.{imageStep}
 use Rattle.export_rules.specs.Exports.{moveLeft, CallLeft, callLeft, callLent, callIn, tokenIn, tokenLeft, signingIn, signingLeft}
 use Rattle.export_rules.proofs.Refusals.{Tells, token-tells, signing-tells}
 use Rattle.chains.specs.Chain.{Lent, lentWorld, lentOn, commandLeft}

@@ -23,7 +23,7 @@ use Rattle.runtime.specs.declared.Kind.{Kind}
 use Rattle.runtime.specs.declared.Kind.the-variants.{ForwardError, Delegate, Undelegate, RealmKey, PlatformToken, Features, TokenSigning, KeyUpdate, Unlisted}
 use Rattle.runtime.specs.Step.{kindOf, callOf, callBy, afterMove, afterKey, afterToken, afterSigning, afterUpdate, replyCode}
 use Rattle.images.specs.Image.{recordOf, recordWords, sessionWords, registerWords, workWords, replyRegisters, replyWords}
-use Rattle.queue_image.specs.Steps.{ImageStep, imageStep}
+use Rattle.queue_image.specs.OnImage.{ImageStep, imageStep}
 use Rattle.export_rules.specs.Exports.{sessionAfter, MoveLeft, moveLeft, moveIn, TokenLeft, tokenLeft, tokenIn, SigningLeft, signingLeft, signingIn, SignLeft, signLeft, sessionLeft, queueLeft, CallLeft, callLeft, callLent, callIn}
 
 pub move-left : (a : Answer) (out table words : List ℕ) (m : Moved) → out ≡ registerWords a → movedTo a table words ≡ m → _≡_ {A = MoveLeft} (record { out = out; table = table; words = words }) (moveLeft m)

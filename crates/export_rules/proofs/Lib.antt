@@ -3,3 +3,4 @@ pub mod Refusals
 pub mod Shown
 pub mod SetUp
 pub mod Unread
+pub mod Codes

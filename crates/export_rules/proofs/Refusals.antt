@@ -44,7 +44,7 @@ use Rattle.runtime.proofs.Refused.{refused}
 use Rattle.images.specs.Image.{recordOf, isSet, sessionOf, sessionWords, registerWords, workWords, replyRegisters, replyWords}
 use Rattle.images.specs.Realm.{numberX0, numberWords, hitX0, hitWords, builtX0}
 use Rattle.queue_image.specs.Image.{listsIn}
-use Rattle.queue_image.specs.Steps.{imageStep}
+use Rattle.queue_image.specs.OnImage.{imageStep}
 use Rattle.export_rules.specs.Exports.{sessionAfter, SetUpLeft, setUpLeft, setUpIn, moveLeft, moveIn, moveListIn, buildLeft, buildIn, tokenLeft, tokenIn, signingLeft, signingIn, signLeft, signIn, sessionLeft, queueLeft, CallLeft, callLeft, worldIn, callIn}
 use Rattle.export_rules.specs.Refusals.{Refuses, x0Alone, ExportsRefuse}
 

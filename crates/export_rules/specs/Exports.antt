@@ -22,7 +22,7 @@ use Rattle.runtime.specs.declared.Kind.{Kind}
 use Rattle.images.specs.Image.{recordOf, isSet, sessionOf, sessionWords, registerWords, replyRegisters, replyWords}
 use Rattle.images.specs.Realm.{builtX0}
 use Rattle.queue_image.specs.Image.{listsIn}
-use Rattle.queue_image.specs.Steps.{ImageStep}
+use Rattle.queue_image.specs.OnImage.{ImageStep}
 
 -- ---- the writer, of its four lists and its fields
 abbrev pub writeIn : ℕ → ℕ → ℕ → List ℕ → List ℕ → List ℕ → List ℕ → List ℕ → Made

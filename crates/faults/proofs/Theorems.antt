@@ -16,9 +16,9 @@ use Rattle.versions.proofs.Editions.{section-count-most}
 use Rattle.sections.specs.Page.{placeOk, versionAt, secAt, platAt}
 use Rattle.sections.specs.Section.{rulesAt}
 use Rattle.sections.specs.Steps.{okAt}
-use Rattle.reader.specs.Answer.{Shown, PlatShown, ReaderAnswer, refused, shows, allShown, readerGate, judge, readOf, minus}
+use Rattle.reader.specs.Answer.{Shown, PlatShown, ReaderAnswer, refused, shows, allShown, readerGate, judge, readOf, codeIn, minus}
 use Rattle.reader.specs.Reading.{refusalNumber}
-use Rattle.faults.specs.Faults.{mkFault, unless, rulesFault, faultOf, refusalOf}
+use Rattle.faults.specs.Faults.{mkFault, unless, rulesFault, faultOf, refusalOf, diagnosisNumber}
 use Rattle.faults.specs.Promise.{BrokenAs, Broken, Diagnoses}
 use Rattle.faults.specs.declared.Rule.{Rule}
 use Rattle.faults.specs.declared.Rule.the-variants as rule
@@ -161,3 +161,12 @@ module _ (r base : ℕ) (page : List ℕ) where
         broken = λ f h. hold-at Told (faultOf r base page) f told h .1;
         mends = mends;
       }
+
+-- and its number is the reader's code
+diagnosis-number : (r base : ℕ) (page : List ℕ) (d : Diagnosis) → faultOf r base page ≡ d → diagnosisNumber d ≡ codeIn (readOf r base page)
+unfolding diagnosisNumber codeIn allShown
+diagnosis-number r base page Clear h = rw (diagnoses r base page .accepts h)
+diagnosis-number r base page (At f) h = rw (diagnoses r base page .code f h)
+
+pub numbered : (r base : ℕ) (page : List ℕ) (d : Diagnosis) → d ≡ faultOf r base page → (d ≡ faultOf r base page) × (diagnosisNumber d ≡ codeIn (readOf r base page))
+numbered r base page d h = (h, diagnosis-number r base page d (sym h))

@@ -5,6 +5,7 @@ use mathlib.Core.Bool.{Bool, true, false, cond, not}
 use mathlib.Core.List.{List}
 use lib.ListN.{length, getD, drop}
 use lib.Dec.{leb, ltb, eqb}
+use lib.IntN.{ℤ, pos}
 use Rattle.words.specs.Tests.{both}
 use Rattle.words.specs.Word.{numAt, wordAt}
 use Rattle.versions.specs.Version.{minorOf, versionOk}
@@ -17,6 +18,7 @@ use Rattle.fields.specs.declared.Seen.{Seen}
 use Rattle.sections.specs.Page.{placeOk, versionAt, paddingAt, countAt, pointerAt, checkAt, foundAt}
 use Rattle.sections.specs.Section.{nothing, inRange}
 use Rattle.sections.specs.Steps.{endOf, clearAt}
+use Rattle.reader.specs.Reading.{refusalNumber}
 use Rattle.reader.specs.declared.Refusal.{Refusal}
 use Rattle.reader.specs.declared.Refusal.the-variants as refusal
 use Rattle.faults.specs.declared.Rule.{Rule}
@@ -174,3 +176,8 @@ refusalOf rule.EntryFlags = refusal.Rules
 refusalOf rule.Checksum = refusal.Rules
 refusalOf rule.ArrayOverlap = refusal.Rules
 refusalOf rule.FieldsOverlap = refusal.Rules
+
+-- the reader's number for a diagnosis: 0 if there is no fault
+unfoldable pub diagnosisNumber : Diagnosis → ℤ
+diagnosisNumber Clear = pos 0
+diagnosisNumber (At f) = refusalNumber (refusalOf (f .rule))

@@ -13,7 +13,8 @@ ghost use Rattle.entries.specs.Steps.{sumAt};
 ghost use Rattle.sections.specs.Page.{placeOk};
 ghost use Rattle.sections.specs.Section.{inRange};
 ghost use Rattle.sections.specs.Steps.{endOf};
-ghost use Rattle.faults.specs.Faults.{mkFault, orElse, firstOf, bankFault, consoleFault, entryFault, entryOf, checkFault, arrayFault, sectionFault, clash, overlap, fieldFault, fieldTests, fieldsFault, platFault, rulesFault, faultOf};
+ghost use Rattle.reader.specs.Answer.{codeIn, readOf};
+ghost use Rattle.faults.specs.Faults.{mkFault, orElse, firstOf, bankFault, consoleFault, entryFault, entryOf, checkFault, arrayFault, sectionFault, clash, overlap, fieldFault, fieldTests, fieldsFault, platFault, rulesFault, faultOf, diagnosisNumber};
 ghost use Rattle.faults.specs.declared.Diagnosis.the-variants.{At};
 ghost use Rattle.faults.specs.declared.Rule.the-variants.{FieldsOverlap};
 
@@ -475,6 +476,7 @@ fn rules_fault(page: &[u8], base: u64, minor: u64, e: Edition) -> Diagnosis
 // The first fault that a reader of an edition finds in a lent page at a base, in the order of its checks; or that there is none.
 pub fn first_fault(page: &[u8], base: u64, edition: u64) -> Diagnosis
     ensures { λ r. ⌜ r ≡ faultOf edition base (now (page .entry)) ⌝ }
+    ensures { λ r. ⌜ diagnosisNumber r ≡ codeIn (readOf edition base (now (page .entry))) ⌝ }
 {
     if page.len() != 4096 {
         return found_at(Rule::Length, 0, 0, 0, page.len() as u64, 4096);

@@ -11,7 +11,8 @@ ghost use Rattle.words.specs.Word.{spanStart, onFrom};
 ghost use Rattle.fields.specs.Steps.{stepAt};
 ghost use Rattle.reader.specs.Answer.{fieldsShown};
 ghost use Rattle.reader.specs.Reading.{readingAnswer};
-ghost use Rattle.field_lookup.specs.Fields.{firstIn, restIn, nthIn, ofTag, valueIn, fieldAs, isNothing, searchEnds, placeSpan, shownFrom, startAt, nthPlace, tagPlace};
+ghost use Rattle.field_lookup.specs.Fields.{firstIn, restIn, nthIn, ofTag, valueIn, fieldAs, isNothing, placeSpan};
+ghost use Rattle.field_lookup.specs.Steps.{searchEnds, shownFrom, startAt, nthPlace, tagPlace};
 
 // The cursor at the first field of a view: the page's length where the view has no pointer or, of a view that no reading made, where it
 // points at broken fields.

@@ -2,7 +2,8 @@
 use fields::FieldPlace;
 ghost use Rattle.fields.specs.Fields.{raw};
 ghost use Rattle.text_lines.specs.Text.{fieldText};
-ghost use Rattle.text_lines.specs.Steps.{placeText, LaidOver};
+ghost use Rattle.text_lines.specs.Laid.{LaidOver};
+ghost use Rattle.text_lines.specs.Steps.{placeText};
 
 // A field that is shown with its value: its tag, the length of the value and the value's bytes.
 fn put_raw(out: &mut [u8], at: usize, tag: u8, value: &[u8]) -> usize

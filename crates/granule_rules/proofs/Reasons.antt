@@ -3,6 +3,7 @@
 -- "BAD_PAS unless that byte is 0 (delegate) or 1 (undelegate)". Assumes nothing.
 use Prim.Native.Nat.{ℕ, _+_, _/_}
 use mathlib.Core.Path.{_≡_, refl, sym, _∙_}
+use mathlib.Core.List.{List}
 use native.Mathlib.Omega.{arith}
 use lib.ListN.{length, getD}
 use lib.Dec.{eqb}
@@ -21,6 +22,8 @@ use Rattle.codes.specs.declared.Code.{Code}
 use Rattle.codes.specs.declared.Code.the-variants.{BadAddr, BadPas, Inval}
 use Rattle.codes.proofs.Reasons.{Tells, tells-eq, tells-not, gives, while-up}
 use Rattle.granule_rules.specs.Granules.{GranuleTable, fromByte, guarded, granuleCode, moveCode, movedBy, whenFit, fitting, moveOf}
+use Rattle.granule_rules.specs.Lists.{moveListOf, codeBy}
+use Rattle.granule_rules.proofs.Done.{list-is}
 use Rattle.granule_rules.specs.declared.Direction.{Direction}
 use Rattle.granule_rules.specs.declared.Direction.the-variants.{Delegate, Undelegate}
 
@@ -75,3 +78,14 @@ unfolding moveOf movedBy moveCode whenFit fitting whenUp answerOf wordsFor
 move-codes s g d t addr =
     gives _ _ Inval _ _ (tells-not _ _ (tells-eq (length (t .words)) ((granuleCount g + 63) / 64))) (λ f.
     while-up s (λ u. granuleCode u d t addr (granuleAt g (length (t .bytes)) addr)) _ (λ u e. granule-gives u g d t addr _ refl))
+
+-- 02, E1 and E6: over a list INVAL first, an empty list's too; then the code of the first single call that is refused, or OK (`longest` in
+-- Done.antt says which call that is)
+pub list-codes : (s : Record) (g : Granules) (d : Direction) (t : GranuleTable) (l : List ℕ) →
+    Gives (length (t .words) ≡ (granuleCount g + 63) / 64 → ⊥) Inval
+    (λ k. k ≡ codeBy (moveOf s g d) t l)
+    (moveListOf s g d t l .answer .code)
+unfolding whenFit fitting answerOf wordsFor
+list-codes s g d t l =
+    rw (list-is s g d t l)
+    (gives _ _ Inval _ _ (tells-not _ _ (tells-eq (length (t .words)) ((granuleCount g + 63) / 64))) (λ f. refl))

@@ -14,7 +14,8 @@ use Rattle.codes.specs.declared.Answer.{Answer}
 use Rattle.codes.specs.declared.Work.the-variants.{Nothing, Reprogram}
 use Rattle.entries.specs.Entry.{wordsPerEntry}
 use Rattle.lookup.specs.Consoles.{consoleNamed}
-use Rattle.lookup.specs.Lookup.{spanOf, countOf}
+use Rattle.lookup.specs.Lookup.{spanOf}
+use Rattle.lookup.specs.Fast.{countOf}
 use Rattle.lookup.specs.declared.ConsoleFound.the-variants as found
 use Rattle.fields.specs.declared.FieldPlace.{FieldPlace}
 use Rattle.fields.specs.declared.FieldPlace.the-variants as place

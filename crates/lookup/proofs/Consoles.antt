@@ -23,7 +23,7 @@ use Rattle.reader.specs.declared.Section.{Section}
 use Rattle.reader.specs.declared.Section.the-variants.{Absent, Empty, Entries}
 use Rattle.reader.specs.declared.View.{View}
 use Rattle.reader.specs.declared.Reading.the-variants.{Accepted}
-use Rattle.lookup.specs.Lookup.{wordOf}
+use Rattle.lookup.specs.Fast.{wordOf}
 use Rattle.lookup.proofs.Lookups.{word-there, word-unhidden}
 use Rattle.lookup.specs.Consoles.{hasName, firstFrom, consoleNamed}
 use Rattle.lookup.specs.declared.ConsoleFound.{ConsoleFound}

@@ -26,7 +26,8 @@ use Rattle.reader.specs.declared.View.{View}
 use Rattle.reader.specs.declared.Reading.{Reading}
 use Rattle.reader.specs.declared.Reading.the-variants.{Accepted, Refused}
 use Rattle.reader.proofs.Whole.{reading-answer, reading-placed}
-use Rattle.lookup.specs.Lookup.{spanOf, spanIn, countOf, wordOf}
+use Rattle.lookup.specs.Lookup.{spanOf, spanIn}
+use Rattle.lookup.specs.Fast.{countOf, wordOf}
 
 -- ---- where the array lies
 module _ (k at count n : ℕ) where

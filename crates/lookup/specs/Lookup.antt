@@ -1,14 +1,14 @@
--- Where a section's array lies in the page, and a word of its entries. Assumes nothing.
-use Prim.Native.Nat.{ℕ, _+_, _*_, _/_}
+-- Where a section's array is in the page. Assumes nothing.
+use Prim.Native.Nat.{ℕ, _+_}
 use mathlib.Core.Bool.{cond}
 use mathlib.Core.List.{List}
 use lib.ListN.{length}
 use lib.Dec.{leb}
-use Rattle.words.specs.Word.{noSpan, spanAt, spanned}
+use Rattle.words.specs.Word.{noSpan, spanAt}
 use Rattle.words.specs.declared.Span.{Span}
-use Rattle.entries.specs.Entry.{wordsPerEntry, size}
-use Rattle.reader.specs.Answer.{ReaderAnswer, refused, shows, entryWord}
-use Rattle.reader.specs.Reading.{sectionOf, shownAs, viewAt}
+use Rattle.entries.specs.Entry.{size}
+use Rattle.reader.specs.Answer.{ReaderAnswer, refused, shows}
+use Rattle.reader.specs.Reading.{sectionOf, viewAt}
 use Rattle.reader.specs.declared.Section.{Section}
 use Rattle.reader.specs.declared.Section.the-variants.{Absent, Empty, Entries}
 
@@ -23,11 +23,3 @@ spanOf k (Entries at count) n = cond (leb (at + size k count) n) (spanAt at (siz
 unfoldable pub spanIn : ℕ → List ℕ → ReaderAnswer → ℕ → Span
 spanIn base page (refused c) k = noSpan
 spanIn base page (shows w e q s) k = spanOf k (sectionOf (viewAt w e base page) k) (length page)
-
--- how many entries a section of a view has: as many as its array's bytes hold
-unfoldable pub countOf : ℕ → Section → List ℕ → ℕ
-countOf k s page = length (spanned (spanOf k s (length page)) page) / (8 * wordsPerEntry k)
-
--- word j of entry i of a section of a view, on a page of minor w
-unfoldable pub wordOf : ℕ → ℕ → ℕ → ℕ → Section → List ℕ → ℕ
-wordOf w k i j s page = entryWord k i j (shownAs w k s page)

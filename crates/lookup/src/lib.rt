@@ -10,7 +10,8 @@ ghost use Rattle.words.specs.Word.{spanned, spanStart, onFrom};
 ghost use Rattle.reader.specs.Answer.{lookIn, lookOf, countIn, wordIn, readOf};
 ghost use Rattle.reader.specs.Reading.{sectionOf, readingAnswer};
 ghost use Rattle.entries.specs.Fast.{isHidden};
-ghost use Rattle.lookup.specs.Lookup.{spanOf, spanIn, countOf, wordOf};
+ghost use Rattle.lookup.specs.Lookup.{spanOf, spanIn};
+ghost use Rattle.lookup.specs.Fast.{countOf, wordOf};
 ghost use Rattle.lookup.specs.Consoles.{consoleNamed};
 
 // A console that is asked for by its name: its number, or that there is none.

@@ -23,9 +23,10 @@ use Rattle.sections.specs.Page.{versionAt, paddingAt, countAt, pointerAt, check
 use Rattle.sections.specs.Section.{platOk, wordsIn, nothing, inRange, secOk, Extent, extent, apart, clearBefore, platExtent, platClear}
 use Rattle.sections.specs.Steps.{okAt, endOf, clearAt, clearFrom, staysAt}
 use Rattle.sections.proofs.Sections.{range-low}
-use Rattle.reader.proofs.Gaps.{not-yes, some-not}
-use Rattle.mend.specs.Mend.{noPlat, noSec, platLeft, stays, left, keepsSection, minorAt, editionAt, platLeftAt, keepsAt, changed, partAt, ofPart, blank, pageTo}
-use Rattle.mend.specs.Steps.{platKept, sectionGoes}
+use Rattle.fields.proofs.Rules.{no-test}
+use Rattle.reader.proofs.Gaps.{some-not}
+use Rattle.mend.specs.Mend.{noPlat, noSec, platLeft, stays, left, keepsSection, minorAt, editionAt, platLeftAt, keepsAt, changed, partAt, ofPart, blank, partsZeroed}
+use Rattle.mend.specs.Steps.{pageTo, platKept, sectionGoes}
 use Rattle.mend.specs.declared.PlatKept.{PlatKept}
 use Rattle.mend.proofs.Kept.{left-later, left-before, keeps-rule}
 use Rattle.mend.proofs.Blank.{blank-length, blank-at, part-zero, part-bounds, part-of, one-part}
@@ -43,6 +44,11 @@ both-false false = refl
 pub never-both : (b : Bool) → Yes b → b ≡ false → ⊥
 never-both b h k = false≢true (sym k ∙ h)
 
+-- ---- all parts gone over
+pub to-all : (base : ℕ) (page : List ℕ) → pageTo 6 base page ≡ partsZeroed base page
+unfolding pageTo partsZeroed
+to-all base page = refl
+
 -- ---- byte by byte
 module _ (base : ℕ) (page : List ℕ) (n : ℕ) where
   pub to-length : length (pageTo n base page) ≡ length page
@@ -55,7 +61,7 @@ module _ (base : ℕ) (page : List ℕ) (n : ℕ) where
   part-stands j c i o =
       rw (
         blank-at (λ i. some n (λ j. both (changed base page j) (ofPart j i))) page i,
-        not-yes (some n (λ j. both (changed base page j) (ofPart j i))) (some-not n (λ j. both (changed base page j) (ofPart j i)) (λ k l y.
+        no-test (some n (λ j. both (changed base page j) (ofPart j i))) (some-not n (λ j. both (changed base page j) (ofPart j i)) (λ k l y.
             let z : k ≡ j = one-part k j i (both-r _ _ y) o in
             never-both (changed base page k) (both-l _ _ y) (rw z (c (omega arith))))),
       )
@@ -80,7 +86,7 @@ module _ (base : ℕ) (page : List ℕ) (n : ℕ) where
   rest-stands i o =
       rw (
         blank-at (λ i. some n (λ j. both (changed base page j) (ofPart j i))) page i,
-        not-yes (some n (λ j. both (changed base page j) (ofPart j i))) (some-not n (λ j. both (changed base page j) (ofPart j i)) (λ k l y. within k i o (both-l _ _ y) (both-r _ _ y))),
+        no-test (some n (λ j. both (changed base page j) (ofPart j i))) (some-not n (λ j. both (changed base page j) (ofPart j i)) (λ k l y. within k i o (both-l _ _ y) (both-r _ _ y))),
       )
 
   -- ---- numbers

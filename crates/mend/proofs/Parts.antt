@@ -21,14 +21,14 @@ use Rattle.sections.specs.Section.{platOk, platExtent}
 use Rattle.sections.specs.Steps.{platEnd, staysAt}
 use Rattle.sections.proofs.Sections.{placed, plat-broken, plat-ended}
 use Rattle.reader.specs.declared.Refusal.the-variants.{Place, Version}
-use Rattle.mend.specs.Mend.{noPlat, platLeft, minorAt, editionAt, changed, partAt, pageTo, mendChanges, mendGate, mendedOf, mendAnswer, mendNumbers, mendOf, mendedPage}
-use Rattle.mend.specs.Steps.{zeroed, platKept, sectionGoes}
+use Rattle.mend.specs.Mend.{noPlat, platLeft, minorAt, editionAt, changed, partAt, mendChanges, mendGate, mendedOf, mendAnswer, mendNumbers, mendOf, mendedPage}
+use Rattle.mend.specs.Steps.{pageTo, zeroed, platKept, sectionGoes}
 use Rattle.mend.specs.declared.Changes.{Changes}
 use Rattle.mend.specs.declared.PlatKept.{PlatKept}
 use Rattle.mend.specs.declared.Mended.{Mended}
 use Rattle.mend.specs.declared.Mended.the-variants.{Done, Refused}
 use Rattle.mend.proofs.Blank.{blank-none, zeroed-blank}
-use Rattle.mend.proofs.Pages.{to-length, plat-to, goes-to}
+use Rattle.mend.proofs.Pages.{to-all, to-length, plat-to, goes-to}
 
 -- ---- zero bytes
 zero-bytes : (n i : ℕ) → getD (leBytes n 0) i 0 ≡ 0
@@ -158,4 +158,4 @@ module _ (base : ℕ) (page : List ℕ) where
 
     pub mend-done : versionOk (versionAt page) ≡ true → (Done (mendChanges base page) ≡ mendedOf base page) × (pageTo 6 base page ≡ mendedPage base page)
     unfolding mendedOf mendGate mendedPage both
-    mend-done v = (rw (h, v), rw (h, v))
+    mend-done v = (rw (h, v), rw (h, v) (to-all base page))

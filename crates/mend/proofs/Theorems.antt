@@ -25,8 +25,10 @@ use Rattle.reader.specs.declared.Refusal.{Refusal}
 use Rattle.reader.specs.declared.Refusal.the-variants.{Place, Version, Rules}
 use Rattle.reader.proofs.Newer.{never, gate-shows, gate-true}
 use Rattle.reader.proofs.Named.{rules-same, view-same}
-use Rattle.reader.proofs.Gaps.{not-yes, some-not}
-use Rattle.mend.specs.Mend.{noPlat, noSec, platLeft, keepsSection, minorAt, editionAt, platLeftAt, keepsAt, changed, ofPart, pageTo, mendChanges, mendGate, mendedOf, mendedPage}
+use Rattle.fields.proofs.Rules.{no-test}
+use Rattle.reader.proofs.Gaps.{some-not}
+use Rattle.mend.specs.Mend.{noPlat, noSec, platLeft, keepsSection, minorAt, editionAt, platLeftAt, keepsAt, changed, ofPart, mendChanges, mendGate, mendedOf, mendedPage, partsZeroed}
+use Rattle.mend.specs.Steps.{pageTo}
 use Rattle.mend.specs.Promise.{Mends}
 use Rattle.mend.specs.declared.Changes.{Changes}
 use Rattle.mend.specs.declared.Mended.{Mended}
@@ -123,7 +125,7 @@ module _ (base : ℕ) (page : List ℕ) (w e : ℕ) (q : PlatShown) (s : ℕ →
   unfolding pageTo
   page-same =
       blank-none _ page (λ i.
-      not-yes (some 6 (λ j. both (changed base page j) (ofPart j i))) (some-not 6 (λ j. both (changed base page j) (ofPart j i)) (λ k l y. never-both (changed base page k) (both-l _ _ y) (none-changed k))))
+      no-test (some 6 (λ j. both (changed base page j) (ofPart j i))) (some-not 6 (λ j. both (changed base page j) (ofPart j i)) (λ k l y. never-both (changed base page k) (both-l _ _ y) (none-changed k))))
 
   comes-out : (mendedPage base page ≡ page) × ((j : ℕ) → changed base page j ≡ false)
       × (mendedOf base page ≡ Done (record { padding = false; plat = false; dram = false; console = false; ncoh = false; coh = false }))
@@ -247,7 +249,7 @@ module _ (base : ℕ) (page : List ℕ) where
   accepts-by c h = let d = done-by c h in ap (readOf 4 base) (page-done c h) ∙ shows-new base page (d .0) (d .1)
 
   byte-by : (i : ℕ) → getD (pageTo 6 base page) i 0 ≡ getD page i 0 → getD (mendedPage base page) i 0 ≡ getD page i 0
-  unfolding mendedPage
+  unfolding mendedPage partsZeroed pageTo
   byte-by i h = cond-byte (both (placeOk base (length page)) (versionOk (versionAt page))) (pageTo 6 base page) page i h
 
   lacks-by : (k : ℕ) → sectionCount (editionAt page) ≤ k → changed base page (suc (suc k)) ≡ false
@@ -268,7 +270,7 @@ module _ (base : ℕ) (page : List ℕ) where
 
 -- every claim of `Mends`, of every base and page
 pub mends : (base : ℕ) (page : List ℕ) → Mends base page
-unfolding changed keepsAt platLeftAt mendedPage
+unfolding changed keepsAt platLeftAt mendedPage partsZeroed pageTo
 mends base page = record {
   place = refused-place base page;
   version = refused-version base page;

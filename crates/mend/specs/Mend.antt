@@ -80,9 +80,9 @@ unfoldable pub blank : (ℕ → Bool) → List ℕ → List ℕ
 blank f [] = []
 blank f (b ∷ bs) = cond (f 0) 0 b ∷ blank (λ i. f (suc i)) bs
 
--- the page once the first n parts were gone over: each that is changed is zeroed in the core
-unfoldable pub pageTo : ℕ → ℕ → List ℕ → List ℕ
-pageTo n base page = blank (λ i. some n (λ j. both (changed base page j) (ofPart j i))) page
+-- each of the six parts that is changed "is set to zero bytes in the core"
+unfoldable pub partsZeroed : ℕ → List ℕ → List ℕ
+partsZeroed base page = blank (λ i. some 6 (λ j. both (changed base page j) (ofPart j i))) page
 
 -- ---- the answer
 unfoldable pub mendChanges : ℕ → List ℕ → Changes
@@ -127,4 +127,4 @@ mendOf base page =
 
 -- ---- the page at exit
 unfoldable pub mendedPage : ℕ → List ℕ → List ℕ
-mendedPage base page = cond (both (placeOk base (length page)) (versionOk (versionAt page))) (pageTo 6 base page) page
+mendedPage base page = cond (both (placeOk base (length page)) (versionOk (versionAt page))) (partsZeroed base page) page

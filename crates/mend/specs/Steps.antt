@@ -1,16 +1,21 @@
--- What one step of the mender does to the page that it is lent. Assumes nothing.
+-- For the steps of `mend`. `to-all` (proofs/Pages.antt) proves `pageTo 6` equal to `partsZeroed`; `padding-step`, `plat-step` and `section-step`
+-- (proofs/Parts.antt) prove that `zeroed`, `platKept` and `sectionGoes` give `changed` and `pageTo` of one part more. Assumes nothing.
 use Prim.Native.Nat.{ℕ, _+_}
 use mathlib.Core.Bool.{Bool, cond, not}
 use mathlib.Core.List.{List}
 use lib.Dec.{ltb}
-use Rattle.words.specs.Tests.{both}
+use Rattle.words.specs.Tests.{both, some}
 use Rattle.words.specs.Word.{laid}
 use Rattle.versions.specs.Edition.{sectionCount}
 use Rattle.sections.specs.Page.{Plat}
 use Rattle.sections.specs.Section.{platOk, platExtent}
 use Rattle.sections.specs.Steps.{staysAt}
-use Rattle.mend.specs.Mend.{platLeft}
+use Rattle.mend.specs.Mend.{platLeft, changed, ofPart, blank}
 use Rattle.mend.specs.declared.PlatKept.{PlatKept}
+
+-- the page once the first n parts were gone over
+unfoldable pub pageTo : ℕ → ℕ → List ℕ → List ℕ
+pageTo n base page = blank (λ i. some n (λ j. both (changed base page j) (ofPart j i))) page
 
 -- bytes put at an offset where a part is changed
 unfoldable pub zeroed : Bool → ℕ → List ℕ → List ℕ → List ℕ

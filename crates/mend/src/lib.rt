@@ -11,8 +11,8 @@ ghost use lib.Dec.{eqb};
 ghost use lib.ListN.{length};
 ghost use Rattle.words.specs.Word.{leBytes, bytesOf};
 ghost use Rattle.sections.specs.Page.{placeOk, paddingAt, platAt};
-ghost use Rattle.mend.specs.Mend.{minorAt, mendChanges, pageTo, mendedOf, mendAnswer, mendOf, mendedPage};
-ghost use Rattle.mend.specs.Steps.{zeroed, platKept, sectionGoes};
+ghost use Rattle.mend.specs.Mend.{minorAt, mendChanges, mendedOf, mendAnswer, mendOf, mendedPage};
+ghost use Rattle.mend.specs.Steps.{pageTo, zeroed, platKept, sectionGoes};
 ghost use Rattle.mend.specs.Report.{mendedNumber, flagWord, reportWords};
 
 // Which of the six parts were changed.

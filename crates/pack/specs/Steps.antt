@@ -1,5 +1,6 @@
--- The packed page, step by step, as the code goes. B is a multiple of 4,096, so a pointer's remainder is its place in the page. Assumes
--- nothing.
+-- For the steps and loops of `pack`. `told-same` (proofs/Answers.antt) proves `retoldAt` equal to `retold` of what reader edition 4 shows;
+-- `sections-all` (proofs/Whole.antt) proves `sectionMoved` equal to the writer's `descriptorAt`; `movable` (proofs/Answers.antt) proves `Movable` of
+-- each section that is read. B is a multiple of 4,096, so a pointer's remainder is its place in the page. Assumes nothing.
 use Prim.Native.Nat.{ℕ, _+_, _*_, _%_, _≤_}
 use mathlib.Core.Path.{_≡_}
 use mathlib.Core.Bool.{cond}

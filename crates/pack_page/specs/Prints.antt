@@ -26,7 +26,8 @@ unfoldable pub refusedLine : ℤ → List ℕ
 refusedLine (pos n) = []
 refusedLine (negsuc n) = refusalLine ++ ((48 + suc n) ∷ (reasonText (suc n) ++ (10 ∷ [])))
 
--- "standard output the packed page, or one line with the refusal"; a target of a page's length is never refused
+-- What goes to standard output: the packed page, or one line with the code and its reason. The program's target is a page long, so it is never
+-- refused.
 unfoldable pub outputOf : Packed → List ℕ
 outputOf (stopped c) = refusedLine c
 outputOf (written (a-page p)) = p

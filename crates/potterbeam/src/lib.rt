@@ -18,7 +18,8 @@ ghost use Rattle.reader.specs.Reading.{sectionOf, readingAnswer, sectionAt, vie
 ghost use Rattle.reader.specs.declared.Reading.the-variants.{Accepted};
 ghost use Rattle.fields.specs.Steps.{stepAt};
 ghost use Rattle.lookup.specs.Lookup.{spanOf, spanIn};
-ghost use Rattle.field_lookup.specs.Fields.{firstIn, restIn, nthIn, ofTag, fieldAs, shownFrom, startAt, nthPlace, tagPlace};
+ghost use Rattle.field_lookup.specs.Fields.{firstIn, restIn, nthIn, ofTag, fieldAs};
+ghost use Rattle.field_lookup.specs.Steps.{shownFrom, startAt, nthPlace, tagPlace};
 ghost use Rattle.lookup.specs.Consoles.{consoleNamed};
 ghost use Rattle.kept.specs.Kept.{keptFor};
 ghost use Rattle.text_lines.specs.Text.{lay, listingOf};
@@ -39,7 +40,8 @@ ghost use Rattle.features.specs.Features.{featuresOf, updateOf, forwardOf};
 ghost use Rattle.images.specs.Image.{recordOf, recordWords, registerWords, workWords, sectionWords, viewOf, viewWords, answerWords, madeNumber, spanWords, fieldWords, consoleNumber};
 ghost use Rattle.images.specs.Realm.{numberX0, numberWords, hitX0, hitWords, agreementX0};
 ghost use Rattle.queue_image.specs.Image.{listsIn, oldestWords};
-ghost use Rattle.export_rules.specs.Exports.{writeIn, SetUpLeft, setUpIn, MoveLeft, moveIn, moveListIn, BuildLeft, buildIn, TokenLeft, tokenIn, SigningLeft, signingIn, SignLeft, signIn, CallLeft, callLent, callIn};
+ghost use Rattle.export_rules.specs.Exports.{writeIn, SetUpLeft, setUpIn, MoveLeft, moveIn, moveListIn, BuildLeft, buildIn};
+ghost use Rattle.export_rules.specs.Exports.{TokenLeft, tokenIn, SigningLeft, signingIn, SignLeft, signIn, CallLeft, callLent, callIn};
 
 // ---- Manifest ----
 
@@ -174,7 +176,8 @@ pub extern "C" fn pbeam_field_count(page: &[u8], view: &[u64; 15]) -> usize
 #[no_mangle]
 pub extern "C" fn pbeam_field(page: &[u8], view: &[u64; 15], index: usize, field: &mut [u64; 4])
     ensures { λ _. ⌜ now (field .exit) ≡ fieldWords (nthPlace index (viewOf (now (view .entry))) (now (page .entry))) ⌝ }
-    ensures { λ _. ⌜ fieldAs (nthPlace index (viewOf (now (view .entry))) (now (page .entry))) (now (page .entry)) ≡ nthIn index (fieldsShown (readingAnswer (now (page .entry)) (Accepted (viewOf (now (view .entry)))))) ⌝ }
+    ensures { λ _. ⌜ fieldAs (nthPlace index (viewOf (now (view .entry))) (now (page .entry))) (now (page .entry))
+        ≡ nthIn index (fieldsShown (readingAnswer (now (page .entry)) (Accepted (viewOf (now (view .entry)))))) ⌝ }
 {
     *field = images::field_words(field_lookup::field_of(page, images::view_of(view), index));
 }
@@ -183,7 +186,8 @@ pub extern "C" fn pbeam_field(page: &[u8], view: &[u64; 15], index: usize, field
 #[no_mangle]
 pub extern "C" fn pbeam_field_of_tag(page: &[u8], view: &[u64; 15], tag: u8, field: &mut [u64; 4])
     ensures { λ _. ⌜ now (field .exit) ≡ fieldWords (tagPlace tag (viewOf (now (view .entry))) (now (page .entry))) ⌝ }
-    ensures { λ _. ⌜ fieldAs (tagPlace tag (viewOf (now (view .entry))) (now (page .entry))) (now (page .entry)) ≡ ofTag tag (fieldsShown (readingAnswer (now (page .entry)) (Accepted (viewOf (now (view .entry)))))) ⌝ }
+    ensures { λ _. ⌜ fieldAs (tagPlace tag (viewOf (now (view .entry))) (now (page .entry))) (now (page .entry))
+        ≡ ofTag tag (fieldsShown (readingAnswer (now (page .entry)) (Accepted (viewOf (now (view .entry)))))) ⌝ }
 {
     *field = images::field_words(field_lookup::field_of_tag(page, images::view_of(view), tag));
 }
@@ -202,7 +206,8 @@ pub extern "C" fn pbeam_field_start(page: &[u8], view: &[u64; 15]) -> usize
 pub extern "C" fn pbeam_field_next(page: &[u8], cursor: usize, field: &mut [u64; 4]) -> usize
     ensures { λ r. ⌜ r ≡ stepAt cursor (now (page .entry)) .next ⌝ }
     ensures { λ _. ⌜ now (field .exit) ≡ fieldWords (stepAt cursor (now (page .entry)) .field) ⌝ }
-    ensures { λ r. ⌜ (fieldAs (stepAt cursor (now (page .entry)) .field) (now (page .entry)) ≡ firstIn (shownFrom cursor (now (page .entry)))) × (shownFrom r (now (page .entry)) ≡ restIn (shownFrom cursor (now (page .entry)))) ⌝ }
+    ensures { λ r. ⌜ (fieldAs (stepAt cursor (now (page .entry)) .field) (now (page .entry))
+        ≡ firstIn (shownFrom cursor (now (page .entry)))) × (shownFrom r (now (page .entry)) ≡ restIn (shownFrom cursor (now (page .entry)))) ⌝ }
 {
     let step = field_lookup::field_next(page, cursor);
     let found = step.field;
@@ -462,12 +467,13 @@ pub extern "C" fn pbeam_platform_token(
     ensures { λ _. ⌜ _≡_ {A = TokenLeft} (record { out = now (out .exit); page = now (page .exit); session = now (session .exit) })
         (tokenIn (now (state .entry)) (now (session .entry)) (now (page .entry)) (now (token .entry)) busy pa size csize) ⌝ }
 {
+    // The slice is made anew: the compiler then passes it to this function, of which pbeam_call is a caller too, in registers: about 2 ns.
     let done = token::platform_token(
         images::record_of(state),
         page,
         images::session_of(session),
         images::is_set(busy),
-        token,
+        &token[..],
         pa,
         size,
         csize,
@@ -522,8 +528,9 @@ pub extern "C" fn pbeam_token_signing(
     ensures { λ _. ⌜ _≡_ {A = SigningLeft} (record { out = now (out .exit); page = now (page .exit); queue = now (queue .exit) })
         (signingIn (now (state .entry)) (now (queue .entry)) (now (page .entry)) (now (key .entry)) opcode pa size curve) ⌝ }
 {
+    // The slice is made anew, as in pbeam_platform_token.
     let record = images::record_of(state);
-    let answer = signing::token_signing_on(record, page, queue, key, opcode, pa, size, curve);
+    let answer = signing::token_signing_on(record, page, queue, &key[..], opcode, pa, size, curve);
     *out = images::registers(answer);
 }
 
@@ -639,6 +646,9 @@ pub extern "C" fn pbeam_realm_build(granules: &[u64; 33], table: &[u8], words: &
 
 // ---- Every command ----
 
+// What `work` says first for 0xC400018F: its second word, err_code, goes to the Non-secure world.
+const WORK_FORWARD: u64 = 2;
+
 // A call of the interface, x0 being the function id. Only the platform token reads and writes the session's image, and only token
 // signing the queue's; each changes where the call is accepted.
 #[no_mangle]
@@ -671,45 +681,30 @@ pub extern "C" fn pbeam_call(
         (callIn (now (granules .entry)) (now (session .entry)) (now (queue .entry)) (now (page .entry)) (now (table .entry)) (now (words .entry))
         (callLent (now (state .entry)) (now (call .entry)) busy (now (key .entry)) (now (token .entry)) (now (public .entry)) width)) ⌝ }
 {
+    // The arguments are read before the id: read in an arm, the compiler loads two of them at a time, which has to wait for the caller's two
+    // stores: about 3 ns.
+    let x1 = call[1];
+    let x2 = call[2];
+    let x3 = call[3];
+    let x4 = call[4];
     *work = [0, 0];
     let kind = runtime::kind_of(call[0]);
     match kind {
         Kind::ForwardError => {
             *out = [0, 0, 0];
-            *work = [2, pbeam_forward(state, call[1])];
+            *work = [WORK_FORWARD, pbeam_forward(state, x1)];
         }
-        Kind::Delegate => pbeam_delegate(state, granules, table, words, call[1], out),
-        Kind::Undelegate => pbeam_undelegate(state, granules, table, words, call[1], out),
-        Kind::RealmKey => pbeam_realm_key(state, page, key, call[1], call[2], call[3], out),
-        // The slices of token and public key are made anew, so that the compiler need not keep those of the call in memory: about 4 ns.
+        Kind::Delegate => pbeam_delegate(state, granules, table, words, x1, out),
+        Kind::Undelegate => pbeam_undelegate(state, granules, table, words, x1, out),
+        Kind::RealmKey => pbeam_realm_key(state, page, key, x1, x2, x3, out),
         Kind::PlatformToken => {
-            pbeam_platform_token(
-                state,
-                session,
-                page,
-                &token[..],
-                busy,
-                call[1],
-                call[2],
-                call[3],
-                out,
-            )
+            pbeam_platform_token(state, session, page, token, busy, x1, x2, x3, out)
         }
-        Kind::Features => pbeam_features(state, call[1], out),
+        Kind::Features => pbeam_features(state, x1, out),
         Kind::TokenSigning => {
-            pbeam_token_signing(
-                state,
-                queue,
-                page,
-                &public[..],
-                call[1],
-                call[2],
-                call[3],
-                call[4],
-                out,
-            )
+            pbeam_token_signing(state, queue, page, public, x1, x2, x3, x4, out)
         }
-        Kind::KeyUpdate => pbeam_key_update(state, width, call[1], out, work),
+        Kind::KeyUpdate => pbeam_key_update(state, width, x1, out, work),
         Kind::Unlisted => {
             *out = images::registers(codes::answered(Code::Unk, 0, 0));
         }

@@ -15,7 +15,8 @@ use Rattle.queue_image.proofs.Sides.{request-wide, response-wide}
 use Rattle.queue_image.proofs.Fits.{request-words, response-words, joined-words, dropped-words}
 use Rattle.queue_image.proofs.InPlace.{requests-wait, responses-wait}
 use Rattle.queue_image.proofs.Moves.{joined-210, dropped-210}
-use Rattle.queue_image.proofs.Waits.{request-joined, response-joined, request-dropped, response-dropped, request-joined-exact, response-joined-exact, request-dropped-exact, response-dropped-exact}
+use Rattle.queue_image.proofs.Waits.{request-joined, response-joined, request-dropped, response-dropped}
+use Rattle.queue_image.proofs.Waits.{request-joined-exact, response-joined-exact, request-dropped-exact, response-dropped-exact}
 
 pub record Becomes (before after : List ℕ) (q : Lists) : Type 0 where
   pub lists : listsIn after ≡ q

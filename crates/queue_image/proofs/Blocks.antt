@@ -84,15 +84,20 @@ module _ {A : Type 0} (f : A → List ℕ) (width : ℕ) (wide : (x : A) → len
   pub dropped-padded : (l : List A) → length l ≤ 8 → blockDropped width (length l) (padded (width * 8) (flat f l)) ≡ padded (width * 8) (flat f (drop 1 l))
   unfolding blockDropped padded flat
   dropped-padded [] h =
-      let z : replicate {A = ℕ} (width * 8 - 0) 0 ≡ replicate width 0 ++ replicate (width * 7) 0 = sym (replicate-append-replicate width (width * 7) 0 ∙ ap (λ (k : ℕ). replicate k 0) (let e : width + width * 7 ≡ width * 8 - 0 = omega arith in e)) in
+      let z : replicate {A = ℕ} (width * 8 - 0) 0 ≡ replicate width 0 ++ replicate (width * 7) 0 = sym
+      (replicate-append-replicate width (width * 7) 0 ∙ ap (λ (k : ℕ). replicate k 0)
+      (let e : width + width * 7 ≡ width * 8 - 0 = omega arith in e)) in
       rw (mul-zero, drop-nil) (zeros-behind [] width (width * 7) (width * 8) (replicate (width * 8 - 0) 0) (rw z (drop-append-seam (replicate width 0) (replicate (width * 7) 0))) (omega arith))
   dropped-padded (x ∷ l) h =
       let a : List ℕ = f x ++ flat f l in
       let n : ℕ = width * 8 - length a in
       let k : length a ≡ width * suc (length l) = laid-length (x ∷ l) in
       let e : drop width (take (width * suc (length l)) (a ++ replicate n 0)) ≡ flat f l = rw (take-at a (replicate n 0) (width * suc (length l)) k) (drop-at (f x) (flat f l) width (wide x)) in
-      let g : length a ≡ length (flat f l ++ replicate width 0) = omega (arith, k, mul-more width (length l), laid-length l, length-append (flat f l) (replicate width 0), length-replicate {A = ℕ} width 0) in
-      rw e (zeros-behind (flat f l) width n (width * 8) (a ++ replicate n 0) (drop-at a (replicate n 0) _ g) (omega (arith, k, mul-more width (length l), laid-length l, rows-within width (suc (length l)) h)))
+      let g : length a ≡ length (flat f l ++ replicate width 0) = omega
+      (arith, k, mul-more width (length l), laid-length l, length-append (flat f l) (replicate width 0), length-replicate {A = ℕ} width 0)
+      in
+      rw e (zeros-behind (flat f l) width n (width * 8) (a ++ replicate n 0) (drop-at a (replicate n 0) _ g)
+      (omega (arith, k, mul-more width (length l), laid-length l, rows-within width (suc (length l)) h)))
 
 -- ---- and eight places stay as many
 module _ (width : ℕ) (p : List ℕ) (l : length p ≡ width * 8) where

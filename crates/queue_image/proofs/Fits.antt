@@ -124,7 +124,9 @@ zeros-words (suc n) = both-of _ _ refl (zeros-words n)
 
 pub request-words : (r : Request) → Yes (requestFits r) → Yes (areWords (requestWords r))
 unfolding requestWords requestFits
-request-words r h = words-append (r .algorithm ∷ r .granule ∷ r .ticket ∷ r .hashid ∷ []) (wordsOf 6 (r .hash)) (both-l _ _ h) (words-read 6 (r .hash) (byte-below (r .hash) (both-r _ _ (both-r _ _ h))))
+request-words r h =
+    words-append (r .algorithm ∷ r .granule ∷ r .ticket ∷ r .hashid ∷ []) (wordsOf 6 (r .hash)) (both-l _ _ h)
+    (words-read 6 (r .hash) (byte-below (r .hash) (both-r _ _ (both-r _ _ h))))
 
 pub response-words : (r : Signed) → Yes (responseFits r) → Yes (areWords (responseWords r))
 unfolding responseWords responseFits
@@ -151,6 +153,7 @@ module _ (s : Side) (w : List ℕ) (h : Yes (areWords w)) where
   unfolding rowDropped rowsWaiting rowsIn part areWords
   dropped-words =
       let t : List ℕ = part (s .start) (s .width * rowsWaiting s w) w in
-      let r : Yes (each isWord (drop (s .width) t)) = each-drop isWord (s .width) t (each-take isWord (s .width * rowsWaiting s w) (drop (s .start) w) (each-drop isWord (s .start) w (words-each w h))) in
+      let r : Yes (each isWord (drop (s .width) t)) = each-drop isWord (s .width) t
+      (each-take isWord (s .width * rowsWaiting s w) (drop (s .start) w) (each-drop isWord (s .start) w (words-each w h))) in
       splice-words (s .number) _ _ (words-cons (rowsWaiting s w - 1) [] (omega arith) refl)
       (splice-words (s .start) (drop (s .width) t ++ replicate (s .width) 0) w (words-append (drop (s .width) t) (replicate (s .width) 0) (each-words _ r) (zeros-words (s .width))) h)

@@ -97,7 +97,8 @@ module _ (s : Side) (row w : List ℕ) where
   unfolding rowAppended rowsWaiting
   row-full h = rw (le-ltb (min 8 (getD w (s .number) 0)) 8 h)
 
-  pub row-joined : (n : ℕ) → n ≡ min 8 (getD w (s .number) 0) → n < 8 → (t : List ℕ) → t ≡ splice (s .start + s .width * n) row w → s .number < length t → set t (s .number) (n + 1) ≡ rowAppended s row w
+  pub row-joined : (n : ℕ) → n ≡ min 8 (getD w (s .number) 0) → n < 8 → (t : List ℕ) → t ≡ splice (s .start + s .width * n) row w →
+      s .number < length t → set t (s .number) (n + 1) ≡ rowAppended s row w
   unfolding rowAppended rowJoined rowsWaiting
   row-joined n e h t p k = rw (← e, lt-ltb n 8 h, ← p, add-one) (put-first (s .number) t (suc n) k)
 

@@ -16,7 +16,8 @@ use Rattle.words.proofs.Bytes.{Bytes, number-padded}
 use Rattle.words.proofs.Read.{mul-suc-8}
 use Rattle.queue.specs.declared.Request.{Request}
 use Rattle.queue.specs.Queue.{Signed, Lists, signedIn}
-use Rattle.queue_image.specs.Image.{rows, requestIn, heldIn, responseIn, listsIn, requestWords, responseWords, oldestWords, flat, padded, queueWords, areBytes, requestFits, responseFits, each, eightFit, queueFits}
+use Rattle.queue_image.specs.Image.{rows, requestIn, heldIn, responseIn, listsIn, requestWords, responseWords, oldestWords}
+use Rattle.queue_image.specs.Image.{flat, padded, queueWords, areBytes, requestFits, responseFits, each, eightFit, queueFits}
 use Rattle.queue_image.proofs.Rows.{flat-length, padded-length}
 use Rattle.queue_image.proofs.Sides.{request-wide, response-wide}
 

@@ -8,7 +8,7 @@ use Rattle.codes.specs.declared.Code.{Code}
 use Rattle.codes.specs.declared.Code.the-variants.{Ok}
 use Rattle.codes.proofs.Gates.{first-ok}
 use Rattle.queue.specs.Queue.{Lists, SigningStep, queued}
-use Rattle.queue_image.specs.Steps.{ImageStep, imageStep}
+use Rattle.queue_image.specs.OnImage.{ImageStep, imageStep}
 
 module _ (k : Code) (new : SigningStep) (page : List ℕ) (q : Lists) (after image : List ℕ) where
   pub image-refuses : isOk k ≡ false → _≡_ {A = ImageStep} (record { answer = answerOf k 0 0; page = page; image = image }) (imageStep (queued k new page q) after image)

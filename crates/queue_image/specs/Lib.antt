@@ -1,4 +1,4 @@
 pub mod Image
 pub mod Sides
 pub mod Waits
-pub mod Steps
+pub mod OnImage

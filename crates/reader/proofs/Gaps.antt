@@ -15,12 +15,10 @@ use Rattle.versions.specs.Edition.{sectionCount, core}
 use Rattle.entries.specs.Entry.{size}
 use Rattle.words.specs.Word.{wordAt}
 use Rattle.fields.specs.Fields.{Scanned, broken, ended, bare, isEnded, taken, reach}
+use Rattle.fields.proofs.Rules.{no-test}
 use Rattle.sections.specs.Page.{versionAt, countAt, pointerAt, foundAt}
 use Rattle.reader.specs.Answer.{inArray, inPlat, namedBy, named}
 use Rattle.reader.specs.Gaps.{BesideArray, BesideFields, OthersUnnamed}
-
-pub not-yes : (b : Bool) → (Yes b → ⊥) → b ≡ false
-not-yes b f = same-test b false (λ y. absurd (f y)) (λ y. absurd (false≢true y))
 
 pub some-not : (n : ℕ) (f : ℕ → Bool) → ((k : ℕ) → k < n → Yes (f k) → ⊥) → Yes (some n f) → ⊥
 unfolding some
@@ -63,12 +61,12 @@ by-edition-not e base page i h g f y =
 module _ (r base : ℕ) (page : List ℕ) (i : ℕ) where
   named-not : 16 ≤ i → (Yes (versionOk (versionAt page)) → Yes (namedBy (min r (minorOf (versionAt page))) base page i) → ⊥) → named r base page i ≡ false
   unfolding named
-  named-not h f = not-yes _ (λ y.
+  named-not h f = no-test _ (λ y.
       either-cases _ _ (λ a. let l = ltb-true i 16 a in omega arith) (λ b. f (both-l _ _ b) (both-r _ _ b)) (both-r _ _ y))
 
   cut-not : (length page ≡ 4096 → ⊥) → named r base page i ≡ false
   unfolding named
-  cut-not h = not-yes _ (λ y. h (eqb-true (length page) 4096 (both-l _ _ y)))
+  cut-not h = no-test _ (λ y. h (eqb-true (length page) 4096 (both-l _ _ y)))
 
 pub others-unnamed : (r base : ℕ) (page : List ℕ) → OthersUnnamed r base page
 others-unnamed r base page = record {

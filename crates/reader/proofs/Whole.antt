@@ -21,7 +21,7 @@ use Rattle.fields.specs.Fields.{ended, fieldsIn, shownFields}
 use Rattle.sections.specs.Section.{platOk, wordsIn, inRange, rulesAt}
 use Rattle.sections.specs.Steps.{okAt, okTo}
 use Rattle.sections.proofs.Sections.{placed, range-low, range-high, array-in, ok-in-range, ok-each, rules-sections, rules-pointer}
-use Rattle.reader.specs.Answer.{Shown, ReaderAnswer, shows, codeIn, shown, shownSec, platShown, allShown, readerGate, judge, readOf}
+use Rattle.reader.specs.Answer.{Shown, ReaderAnswer, shows, codeIn, shownIn, shown, shownSec, platShown, allShown, readerGate, judge, readOf}
 use Rattle.reader.specs.Reading.{sectionOf, shownAs, fieldsOf, readingAnswer, sectionAt, viewAt, readingGate, readingOf, verdictOf, numberIn, sectionRead}
 use Rattle.reader.specs.declared.Section.{Section}
 use Rattle.reader.specs.declared.Section.the-variants.{Absent, Empty, Entries}
@@ -202,6 +202,20 @@ module _ (r base : ℕ) (page : List ℕ) where
   reading-placed v h =
       let e = gate-view _ _ _ _ v h in
       e ∙ sym (ap (λ u. viewAt (u .minor) (u .edition) base page) e)
+
+-- ---- what a section of a reading stands for is the answer's
+gate-section : (p q o : Bool) (u : View) (k : ℕ) (page : List ℕ) → shownAs (u .minor) k (sectionRead (readingGate p q o u) k) page ≡ shownIn (readingAnswer page (readingGate p q o u)) k
+unfolding readingGate sectionRead readingAnswer shownIn shownAs
+gate-section true true true u k page = refl
+gate-section true true false u k page = refl
+gate-section true false o u k page = refl
+gate-section false q o u k page = refl
+
+pub section-told : (r base : ℕ) (page : List ℕ) (k : ℕ) (s : Section) → s ≡ sectionRead (readingOf r base page) k →
+    (s ≡ sectionRead (readingOf r base page) k) × (shownAs (minorOf (versionAt page)) k s page ≡ shownIn (readOf r base page) k)
+unfolding readingOf viewAt
+section-told r base page k s h =
+    (h, ap (λ (x : Section). shownAs (minorOf (versionAt page)) k x page) h ∙ gate-section _ _ _ _ k page ∙ ap (λ a. shownIn a k) (reading-answer r base page))
 
 -- ---- the number of a verdict is the answer's
 number-read : (page : List ℕ) (x : Reading) → numberIn (verdictOf x) ≡ codeIn (readingAnswer page x)

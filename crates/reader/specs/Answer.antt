@@ -71,6 +71,11 @@ unfoldable pub codeIn : ReaderAnswer → ℤ
 codeIn (refused c) = c
 codeIn (shows w e q s) = pos 0
 
+-- section k of an answer; a refused page shows none
+unfoldable pub shownIn : ReaderAnswer → ℕ → Shown
+shownIn (refused c) k = absent
+shownIn (shows w e q s) k = s k
+
 -- "An array can be asked for as the part of the lent page that holds it, never a copy; a refused page or an absent or empty
 -- section gives an empty part." A number that is no section gives one too: it is absent.
 unfoldable pub bytesIn : Shown → List ℕ

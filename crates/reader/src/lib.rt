@@ -4,10 +4,12 @@ ghost use mathlib.Core.Path.{_≡_};
 ghost use mathlib.Core.Bool.{true};
 ghost use Prim.Native.Nat.{min, _<_};
 ghost use lib.ListN.{length};
+ghost use Rattle.versions.specs.Version.{minorOf};
 ghost use Rattle.versions.specs.Edition.{sectionCount};
+ghost use Rattle.sections.specs.Page.{versionAt};
 ghost use Rattle.sections.specs.Steps.{okAt, okTo};
-ghost use Rattle.reader.specs.Answer.{codeIn, readOf};
-ghost use Rattle.reader.specs.Reading.{readingAnswer, refusalNumber, sectionOf, sectionAt, viewAt, readingOf, verdictOf, numberIn, sectionRead};
+ghost use Rattle.reader.specs.Answer.{codeIn, shownIn, readOf};
+ghost use Rattle.reader.specs.Reading.{shownAs, readingAnswer, refusalNumber, sectionOf, sectionAt, viewAt, readingOf, verdictOf, numberIn, sectionRead};
 
 // What is shown of a section: not in the edition, 24 zero bytes, or so many entries at an offset of the page.
 pub enum Section {
@@ -142,6 +144,7 @@ pub fn read(page: &[u8], base: u64, edition: u64) -> Reading
 // number above 3.
 pub fn section_read(page: &[u8], base: u64, edition: u64, k: usize) -> Section
     ensures { λ r. ⌜ r ≡ sectionRead (readingOf edition base (now (page .entry))) k ⌝ }
+    ensures { λ r. ⌜ shownAs (minorOf (versionAt (now (page .entry)))) k r (now (page .entry)) ≡ shownIn (readOf edition base (now (page .entry))) k ⌝ }
 {
     let verdict = judge_page(page, base, edition);
     let Verdict::Fine(w) = verdict else {

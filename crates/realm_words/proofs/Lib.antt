@@ -5,3 +5,4 @@ pub mod Holding
 pub mod Laws
 pub mod Packing
 pub mod Next
+pub mod Facts

@@ -21,7 +21,7 @@ realm-le b = go (eqb b 1)
     go true = omega arith
     go false = omega arith
 
-packed-lt : (t : List ℕ) → packed t < 2 ^ length t
+pub packed-lt : (t : List ℕ) → packed t < 2 ^ length t
 unfolding packed
 packed-lt [] = omega arith
 packed-lt (b ∷ t) = omega (arith, realm-le b, packed-lt t, pow-suc 2 (length t))
@@ -103,7 +103,7 @@ unfolding packedTo
 words-length zero t = refl
 words-length (suc n) t = rw (words-length n (drop 64 t))
 
-words-at : (n : ℕ) (t : List ℕ) (i : ℕ) → i < n → getD (packedTo n t) i 0 ≡ wordFrom t i
+pub words-at : (n : ℕ) (t : List ℕ) (i : ℕ) → i < n → getD (packedTo n t) i 0 ≡ wordFrom t i
 unfolding packedTo
 words-at zero t i h = absurd (not-suc-le-zero h)
 words-at (suc n) t zero h = refl
@@ -122,11 +122,14 @@ words-first n i t h =
     let d : drop 64 (drop (i * 64) t) ≡ drop ((i + 1) * 64) t = drop-drop 64 (i * 64) t ∙ ap (λ x. drop x t) f in
     ap (λ x. packedTo x (drop (i * 64) t)) e ∙ ap (λ l. wordFrom t i ∷ packedTo (n - (i + 1)) l) d
 
--- each granule's bit is its byte
-pub bit-agrees : (t : List ℕ) (i : ℕ) → i < length t → bitAt (realmWords t) i ≡ realmBit (getD t i 0)
-unfolding wordsFor
-bit-agrees t i h =
+-- each bit is its granule's byte; a spare bit is zero, as there is no byte
+pub bit-any : (t : List ℕ) (i : ℕ) → i / 64 < wordsFor (length t) → bitAt (realmWords t) i ≡ realmBit (getD t i 0)
+bit-any t i h =
     let q : i / 64 * 64 + i % 64 ≡ i = omega arith in
-    rw (words-at (wordsFor (length t)) t (i / 64) (omega arith))
+    rw (words-at (wordsFor (length t)) t (i / 64) h)
     (packed-bit (take 64 (drop (i / 64 * 64) t)) (i % 64)
     ∙ ap realmBit (getD-take 64 (drop (i / 64 * 64) t) (i % 64) 0 (omega arith) ∙ getD-drop (i / 64 * 64) t (i % 64) 0 ∙ ap (λ x. getD t x 0) q))
+
+pub bit-agrees : (t : List ℕ) (i : ℕ) → i < length t → bitAt (realmWords t) i ≡ realmBit (getD t i 0)
+unfolding wordsFor
+bit-agrees t i h = bit-any t i (omega arith)

@@ -1,5 +1,5 @@
 -- What is answered from the words, of n granules. Assumes nothing.
-use Prim.Native.Nat.{ℕ, zero, suc, _+_, _-_, _≤_, _<_}
+use Prim.Native.Nat.{ℕ, zero, suc, _+_, _-_, _*_, _/_, _%_, _^_, _≤_, _<_}
 use mathlib.Core.Path.{_≡_}
 use mathlib.Core.Bool.{Bool, true, false, cond}
 use mathlib.Core.List.{List, [], _∷_}
@@ -78,3 +78,9 @@ pub record FirstAt (f : ℕ → ℕ) (n i j : ℕ) : Type 0 where
 
 abbrev pub NoneFrom : (ℕ → ℕ) → ℕ → ℕ → Type 0
 NoneFrom f n i = (m : ℕ) → i ≤ m → m < n → f m ≡ 1 → ⊥
+
+-- "granule i as bit i mod 64 of word i / 64, set where the byte is Realm, spare bits zero": words and table agree. Past the table there is no
+-- Realm byte.
+abbrev pub WordsAgree : List ℕ → List ℕ → Type 0
+WordsAgree t ws = (i : ℕ) → i < 64 * length ws →
+    (getD t i 0 ≡ 1 → getD ws (i / 64) 0 / 2 ^ (i % 64) % 2 ≡ 1) × ((getD t i 0 ≡ 1 → ⊥) → getD ws (i / 64) 0 / 2 ^ (i % 64) % 2 ≡ 0)

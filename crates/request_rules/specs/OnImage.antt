@@ -3,7 +3,7 @@ use Prim.Native.Nat.{ℕ}
 use mathlib.Core.List.{List}
 use Rattle.queue_image.specs.Image.{listsIn, requestWords}
 use Rattle.queue_image.specs.Sides.{requestSide, rowJoined}
-use Rattle.queue_image.specs.Steps.{ImageStep, imageStep}
+use Rattle.queue_image.specs.OnImage.{ImageStep, imageStep}
 use Rattle.request_rules.specs.Push.{requestOf, pushOf}
 
 -- the request's row joins those that wait; of the responses no word changes

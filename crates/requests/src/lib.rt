@@ -9,7 +9,7 @@ ghost use mathlib.Core.List.{List};
 ghost use Prim.Native.Nat.{ℕ, _≤_};
 ghost use lib.ListN.{length};
 ghost use Rattle.queue.specs.Queue.{Lists, listsOf, signingExit, exitOf};
-ghost use Rattle.queue_image.specs.Steps.{ImageStep};
+ghost use Rattle.queue_image.specs.OnImage.{ImageStep};
 ghost use Rattle.request_rules.specs.Push.{requestOf, pushCode, pushOf};
 ghost use Rattle.request_rules.specs.OnImage.{pushOn};
 

@@ -27,7 +27,8 @@ signed-length s =
     let t : length (leBytes 8 (s .ticket)) ≡ 8 = leBytes-length 8 (s .ticket) in
     let n : length (leBytes 2 (length (s .signature))) ≡ 2 = leBytes-length 2 (length (s .signature)) in
     let gt : length (leBytes 8 (s .granule) ++ leBytes 8 (s .ticket)) ≡ 16 = length-append (leBytes 8 (s .granule)) (leBytes 8 (s .ticket)) ∙ omega arith in
-    let gtn : length (leBytes 8 (s .granule) ++ leBytes 8 (s .ticket) ++ leBytes 2 (length (s .signature))) ≡ 18 = length-append (leBytes 8 (s .granule) ++ leBytes 8 (s .ticket)) (leBytes 2 (length (s .signature))) ∙ omega arith in
+    let gtn : length (leBytes 8 (s .granule) ++ leBytes 8 (s .ticket) ++ leBytes 2 (length (s .signature))) ≡ 18 = length-append
+    (leBytes 8 (s .granule) ++ leBytes 8 (s .ticket)) (leBytes 2 (length (s .signature))) ∙ omega arith in
     length-append (leBytes 8 (s .granule) ++ leBytes 8 (s .ticket) ++ leBytes 2 (length (s .signature))) (s .signature) ∙ omega arith
 
 -- laid over the start of a buffer

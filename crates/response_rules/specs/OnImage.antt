@@ -6,7 +6,7 @@ use Rattle.codes.specs.declared.Answer.{Answer}
 use Rattle.queue.specs.Queue.{oldestRequest}
 use Rattle.queue_image.specs.Image.{listsIn, responseWords}
 use Rattle.queue_image.specs.Sides.{requestSide, responseSide, rowJoined, rowDropped}
-use Rattle.queue_image.specs.Steps.{ImageStep, imageStep}
+use Rattle.queue_image.specs.OnImage.{ImageStep, imageStep}
 use Rattle.response_rules.specs.Pull.{pullOf}
 use Rattle.response_rules.specs.Sign.{signedBy, signOf}
 

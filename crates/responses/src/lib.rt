@@ -9,7 +9,7 @@ ghost use Prim.Native.Nat.{_+_, _≤_};
 ghost use lib.ListN.{length};
 ghost use Rattle.words.specs.Word.{splice};
 ghost use Rattle.queue.specs.Queue.{Lists, signedIn, listsOf, oldestResponse, signingExit, exitOf};
-ghost use Rattle.queue_image.specs.Steps.{ImageStep};
+ghost use Rattle.queue_image.specs.OnImage.{ImageStep};
 ghost use Rattle.response_rules.specs.Pull.{responseBytes, pullCode, pullOf};
 ghost use Rattle.response_rules.specs.Sign.{signCode, signOf, signExit};
 ghost use Rattle.response_rules.specs.OnImage.{pullOn, SignImage, signOn};

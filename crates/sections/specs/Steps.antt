@@ -1,4 +1,6 @@
--- The rules of a page's sections up to a number of them, as the loops go. Assumes nothing.
+-- For the loops. `rules-steps` (proofs/Sections.antt) proves `okTo`, `apartTo` and `clearFrom` of all sections of an edition together equal to `rulesAt`
+-- (Section.antt), with padding and platform data; `plat-broken` and `plat-ended` (there too) `platEnd` equal to `platOk`. `staysAt` is what the mender
+-- asks of one section. Assumes nothing.
 use Prim.Native.Nat.{ℕ, _+_}
 use mathlib.Core.Bool.{Bool, cond}
 use mathlib.Core.List.{List}

@@ -139,41 +139,7 @@ fn end_of(page: &[u8], k: u8) -> u64
     pointer_at(page, k) + 8 * (words * count_at(page, k))
 }
 
-// Whether an array from one address up to another does not overlap that of section j.
-fn is_apart(page: &[u8], from: u64, to: u64, j: u8) -> bool
-    requires { ⌜ endOf j (now page) < 0x1_0000_0000_0000_0000 ⌝ }
-    ensures { λ r. ⌜ r ≡ clearAt from to j (now (page .entry)) ⌝ }
-{
-    if to <= pointer_at(page, j) {
-        return true;
-    }
-    if end_of(page, j) <= from {
-        return true;
-    }
-    false
-}
-
-// Whether no two of the first n arrays overlap: each pair in turn, up to the first clash. An empty section has pointer and
-// count 0 and clashes with none. What belongs to section i is read once for all its pairs.
-fn all_apart(page: &[u8], n: u8) -> bool
-    requires { ⌜ (n ≤ 4) × ((k : ℕ) → k < n → endOf k (now page) < 0x1_0000_0000_0000_0000) ⌝ }
-    ensures { λ r. ⌜ r ≡ apartTo n (now (page .entry)) ⌝ }
-{
-    let mut ok = true;
-    'pairs: for i in 0..n {
-        let from = pointer_at(page, i);
-        let to = end_of(page, i);
-        for j in 0..i {
-            if !is_apart(page, from, to, j) {
-                ok = false;
-                break 'pairs;
-            }
-        }
-    }
-    ok
-}
-
-// Whether the addresses from one up to another share none with the array of section k, whatever its words: its end may be no address.
+// Whether [from, to) misses the array of section k. Its end, pointer + size, may exceed 2^64.
 pub fn is_clear(page: &[u8], from: u64, to: u64, k: u8) -> bool
     ensures { λ r. ⌜ r ≡ clearAt from to k (now (page .entry)) ⌝ }
 {
@@ -185,6 +151,26 @@ pub fn is_clear(page: &[u8], from: u64, to: u64, k: u8) -> bool
         return false;
     }
     entries::fits(k as usize, count_at(page, k), from - pointer)
+}
+
+// Whether no two of the first n arrays overlap: each pair in turn, up to the first clash. An empty section has pointer and
+// count 0 and clashes with none. Section i is read once for all its pairs.
+fn all_apart(page: &[u8], n: u8) -> bool
+    requires { ⌜ (n ≤ 4) × ((k : ℕ) → k < n → endOf k (now page) < 0x1_0000_0000_0000_0000) ⌝ }
+    ensures { λ r. ⌜ r ≡ apartTo n (now (page .entry)) ⌝ }
+{
+    let mut ok = true;
+    'pairs: for i in 0..n {
+        let from = pointer_at(page, i);
+        let to = end_of(page, i);
+        for j in 0..i {
+            if !is_clear(page, from, to, j) {
+                ok = false;
+                break 'pairs;
+            }
+        }
+    }
+    ok
 }
 
 // Whether those addresses share none with the first n arrays. Where `to` is 0 there are no

@@ -113,7 +113,8 @@ module _ (r : Record) (page : List ℕ) (q : Lists) (key : List ℕ) (pa size cu
   public-acts = acts 3
 
   -- ---- and only then
-  shared-told : (op : ℕ) → signingOf r page q key op pa size curve .answer .code ≡ Ok → SigningPassed r page pa size × (fails (badCurve (opcodeOf op) curve) Inval (fails (ltb (upOf r .minor) 4) Unk Ok) ≡ Ok)
+  shared-told : (op : ℕ) → signingOf r page q key op pa size curve .answer .code ≡ Ok → SigningPassed r page pa size ×
+      (fails (badCurve (opcodeOf op) curve) Inval (fails (ltb (upOf r .minor) 4) Unk Ok) ≡ Ok)
   unfolding signingOf sharedCode
   shared-told op h =
       let k = queued-ok (sharedCode r (length page) (opcodeOf op) pa size curve) _ page q h in

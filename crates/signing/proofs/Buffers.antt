@@ -49,7 +49,9 @@ module _ (at n : ℕ) (page : List ℕ) (old : Queue) (r : Queued) (s : SigningS
   exit-back c e h = rw (back-at at n page c e) (ap (λ (x : SigningExit). record { answer = x .answer; page = splice at (x .page) page; queue = x .queue }) h)
 
   pub exit-same : at + n ≤ length page → signingExit r (part at n page) ≡ exitOf old s → signingExit r page ≡ exitOf old (putBack at page s)
-  exit-same room h = ap (signingExit r) (sym (back-at at n page (part at n page) (buffer-length at n page room) ∙ back-same at n page room)) ∙ exit-back (part at n page) (buffer-length at n page room) h
+  exit-same room h =
+      ap (signingExit r) (sym (back-at at n page (part at n page) (buffer-length at n page room) ∙ back-same at n page room)) ∙ exit-back
+      (part at n page) (buffer-length at n page room) h
 
 -- ---- an OK wrote no more than the buffer holds
 pub pull-fits : (size : ℕ) (q : Lists) → pullCode size q ≡ Ok → length (responseBytes (oldestResponse (q .responses))) ≤ size

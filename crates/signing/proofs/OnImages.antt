@@ -8,7 +8,7 @@ use Rattle.codes.specs.Codes.{ifOk}
 use Rattle.codes.specs.declared.Answer.{Answer}
 use Rattle.codes.proofs.Gates.{if-ok-by}
 use Rattle.queue.specs.Queue.{SigningStep}
-use Rattle.queue_image.specs.Steps.{ImageStep, imageStep}
+use Rattle.queue_image.specs.OnImage.{ImageStep, imageStep}
 use Rattle.signing.specs.Signing.{putBack}
 use Rattle.signing.proofs.Buffers.{back-at, back-same}
 

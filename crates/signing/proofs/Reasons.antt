@@ -4,7 +4,7 @@
 use Prim.Native.Nat.{ℕ, _+_, _-_, _≤_, _<_}
 use mathlib.Core.Path.{_≡_, refl, sym, _∙_}
 use mathlib.Core.Bool.{false}
-use mathlib.Core.List.{List}
+use mathlib.Core.List.{List, [], _∷_}
 use mathlib.Core.Logic.{_⊎_, inl, inr}
 use native.Mathlib.Omega.{arith}
 use native.Mathlib.Decide.{ℕ-discrete}
@@ -25,7 +25,7 @@ use Rattle.range.specs.Reasons.{PageGives}
 use Rattle.range.specs.declared.OutsideAs.the-variants.{Invalid}
 use Rattle.range.proofs.Ranges.{neither}
 use Rattle.range.proofs.Reasons.{page-gives}
-use Rattle.queue.specs.Queue.{Lists, SigningStep, queued, oldestResponse}
+use Rattle.queue.specs.Queue.{Signed, Lists, SigningStep, queued, oldestResponse}
 use Rattle.request_rules.specs.Push.{requestOf, pushCode, pushOf}
 use Rattle.response_rules.specs.Pull.{pullCode, pullOf}
 use Rattle.signing.specs.Signing.{opcodeOf, isOther, badCurve, sharedCode, publicCode, publicOf, opOf, putBack, opAt, signingOf}
@@ -44,7 +44,7 @@ PushGives size b q =
 abbrev pub PullGives : ℕ → Lists → Code → Type 0
 PullGives size q =
     Gives (length (q .responses) ≡ 0) Again
-    (Gives (size < 18 + length (oldestResponse (q .responses) .signature)) Inval
+    (Gives ((x : Signed) (rest : List Signed) → q .responses ≡ x ∷ rest → size < 18 + length (x .signature)) Inval
     Passes)
 
 abbrev pub PublicGives : ℕ → List ℕ → Code → Type 0
@@ -74,12 +74,23 @@ push-gives b q key =
     gives _ _ Inval _ _ (tells-not _ _ (tells-eq (halfAt 24 b) 1)) (λ h.
     gives _ _ Again _ _ (tells-le 8 (length (q .requests))) (λ n. refl)))))
 
+-- the oldest response is the first
+pull-lines : (size : ℕ) (l : List Signed) →
+    Gives (length l ≡ 0) Again (Gives ((x : Signed) (rest : List Signed) → l ≡ x ∷ rest → size < 18 + length (x .signature)) Inval Passes)
+    (fails (eqb (length l) 0) Again (fails (ltb size (18 + length (oldestResponse l .signature))) Inval Ok))
+unfolding fails oldestResponse
+pull-lines size [] = record { where-it-holds = λ e. refl; elsewhere = λ n. absurd (n refl) }
+pull-lines size (y ∷ l) = gives _ _ Again _ _ (tells-eq (length (y ∷ l)) 0) (λ n. gives _ _ Inval _ _ first (λ k. refl))
+  where
+    first : Tells (ltb size (18 + length (y .signature))) ((x : Signed) (rest : List Signed) → y ∷ l ≡ x ∷ rest → size < 18 + length (x .signature))
+    first =
+        let t = tells-lt size (18 + length (y .signature)) in
+        record { yes-if = λ h. t .yes-if (h y l refl); no-if = λ h. t .no-if (λ k. h (λ x rest e. let w : y ≡ x = cc in rw (← w) k)) }
+
 pull-gives : (b : List ℕ) (q : Lists) (key : List ℕ) → PullGives (length b) q (opOf Pull b q key .answer .code)
 unfolding opOf pullOf pullCode answerOf
 pull-gives b q key =
-    queued-by (PullGives (length b) q) (pullCode (length b) q) _ b q refl
-    (gives _ _ Again _ _ (tells-eq (length (q .responses)) 0) (λ n.
-    gives _ _ Inval _ _ (tells-lt (length b) (18 + length (oldestResponse (q .responses) .signature))) (λ l. refl)))
+    queued-by (PullGives (length b) q) (pullCode (length b) q) _ b q refl (pull-lines (length b) (q .responses))
 
 public-gives : (b : List ℕ) (q : Lists) (key : List ℕ) → PublicGives (length b) key (opOf Key b q key .answer .code)
 unfolding opOf publicOf publicCode answerOf

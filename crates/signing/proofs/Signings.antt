@@ -22,7 +22,7 @@ use Rattle.queue.specs.declared.Queue.{Queue}
 use Rattle.queue.specs.Queue.{Lists, SigningStep, SigningExit, queued, oldestResponse, listsOf, exitOf}
 use Rattle.queue.proofs.Steps.{goes-on}
 use Rattle.queue_image.specs.Image.{listsIn}
-use Rattle.queue_image.specs.Steps.{ImageStep}
+use Rattle.queue_image.specs.OnImage.{ImageStep}
 use Rattle.request_rules.specs.Push.{pushCode, pushed, pushOf}
 use Rattle.response_rules.specs.Pull.{responseBytes, pullCode, pulled, pullOf}
 use Rattle.signing.specs.Signing.{opcodeOf, isOther, badCurve, sharedCode, publicCode, publicOf, opOf, putBack, opAt, signingOf}
@@ -82,16 +82,13 @@ module _ (r : Record) (len : ℕ) (o : Opcode) (pa size curve : ℕ) (t : Bool) 
       gate-go m = goes (sharedCode r len o pa size curve) (placeOf (upOf r) pa) at (shared-ok r len o pa size curve (page-went .0) (sym cb ∙ n) (rw (← cu) m)) (page-went .1)
 
 -- ---- a call by its opcode and gate, as they were told
-module _ (r : Record) (page : List ℕ) (op pa size curve : ℕ) (o : Opcode) (co : o ≡ opcodeOf op) (g : Gate) (cg : g ≡ gated (sharedCode r (length page) o pa size curve) (placeOf (upOf r) pa)) where
-  shared-gated : gated (sharedCode r (length page) (opcodeOf op) pa size curve) (placeOf (upOf r) pa) ≡ g
-  shared-gated = rw (← co) (sym cg)
-
+module _ (r : Record) (page : List ℕ) (op pa size curve : ℕ) (g : Gate) (cg : g ≡ gated (sharedCode r (length page) (opcodeOf op) pa size curve) (placeOf (upOf r) pa)) where
   pub told-stop : (j : Code) → g ≡ Stop j → (sharedCode r (length page) (opcodeOf op) pa size curve ≡ j) × (isOk j ≡ false)
-  told-stop j h = stood (sharedCode r (length page) (opcodeOf op) pa size curve) (placeOf (upOf r) pa) j (shared-gated ∙ h)
+  told-stop j h = stood (sharedCode r (length page) (opcodeOf op) pa size curve) (placeOf (upOf r) pa) j (sym cg ∙ h)
 
   module _ (at : ℕ) (h : g ≡ Go at) where
     shared-went : (sharedCode r (length page) (opcodeOf op) pa size curve ≡ Ok) × (at ≡ placeOf (upOf r) pa)
-    shared-went = went (sharedCode r (length page) (opcodeOf op) pa size curve) (placeOf (upOf r) pa) at (shared-gated ∙ h)
+    shared-went = went (sharedCode r (length page) (opcodeOf op) pa size curve) (placeOf (upOf r) pa) at (sym cg ∙ h)
 
     -- the buffer is within the page
     pub told-room : at + size ≤ length page
@@ -100,17 +97,18 @@ module _ (r : Record) (page : List ℕ) (op pa size curve : ℕ) (o : Opcode) (c
         omega (arith, shared-went .1, p .whole, p .room)
 
     -- and the answer is that of the opcode on it
-    pub told-op : (q : Lists) (key : List ℕ) → opAt o at size page q key ≡ signingOf r page q key op pa size curve
-    unfolding signingOf
-    told-op q key =
-        rw (co, shared-went .1) (goes-on (sharedCode r (length page) (opcodeOf op) pa size curve) page q (opAt (opcodeOf op) (placeOf (upOf r) pa) size page q key) (shared-went .0))
+    module _ (o : Opcode) (co : o ≡ opcodeOf op) where
+      pub told-op : (q : Lists) (key : List ℕ) → opAt o at size page q key ≡ signingOf r page q key op pa size curve
+      unfolding signingOf
+      told-op q key =
+          rw (co, shared-went .1) (goes-on (sharedCode r (length page) (opcodeOf op) pa size curve) page q (opAt (opcodeOf op) (placeOf (upOf r) pa) size page q key) (shared-went .0))
 
-    pub told-served : (old : Queue) (key : List ℕ) (x : SigningExit) → x ≡ exitOf old (opAt o at size page (listsOf old) key) → x ≡ exitOf old (signingOf r page (listsOf old) key op pa size curve)
-    told-served old key x e = e ∙ rw (told-op (listsOf old) key)
+      pub told-served : (old : Queue) (key : List ℕ) (x : SigningExit) → x ≡ exitOf old (opAt o at size page (listsOf old) key) → x ≡ exitOf old (signingOf r page (listsOf old) key op pa size curve)
+      told-served old key x e = e ∙ rw (told-op (listsOf old) key)
 
-    pub told-served-on : (w key : List ℕ) (x : ImageStep) → x ≡ opOn o at size page w key → x ≡ signingOn r page w key op pa size curve
-    unfolding opOn signingOn signingDone
-    told-served-on w key x e = e ∙ rw (told-op (listsIn w) key, co, shared-went .1)
+      pub told-served-on : (w key : List ℕ) (x : ImageStep) → x ≡ opOn o at size page w key → x ≡ signingOn r page w key op pa size curve
+      unfolding opOn signingOn signingDone
+      told-served-on w key x e = e ∙ rw (told-op (listsIn w) key, co, shared-went .1)
 
 -- ---- the public key
 module _ (size : ℕ) (key : List ℕ) where
@@ -131,12 +129,20 @@ module _ (size : ℕ) (key : List ℕ) where
 -- A property of opcode and step that holds in each case: refused, or OK by one of the opcodes, with what the page's gate then tells.
 pub record Cases (P : Opcode → SigningStep → Type 0) (r : Record) (page : List ℕ) (q : Lists) (key : List ℕ) (pa size : ℕ) : Type 0 where
   pub refusal : (o : Opcode) (k : Code) → isOk k ≡ false → P o (record { answer = answerOf k 0 0; page = page; queue = q })
-  pub push : Passed r (length page) Ok pa size → pushCode (part (placeOf (upOf r) pa) size page) q ≡ Ok → P Push (record { answer = answerOf Ok 0 0; page = page; queue = pushed (part (placeOf (upOf r) pa) size page) q })
-  pub pull : Passed r (length page) Ok pa size → pullCode size q ≡ Ok → P Pull (record { answer = answerOf Ok 0 0; page = splice (placeOf (upOf r) pa) (responseBytes (oldestResponse (q .responses))) page; queue = pulled q })
+  pub push : Passed r (length page) Ok pa size → pushCode (part (placeOf (upOf r) pa) size page) q ≡ Ok → P Push
+      (record { answer = answerOf Ok 0 0; page = page; queue = pushed (part (placeOf (upOf r) pa) size page) q })
+  pub pull : Passed r (length page) Ok pa size → pullCode size q ≡ Ok → P Pull
+      (record {
+        answer = answerOf Ok 0 0;
+        page = splice (placeOf (upOf r) pa) (responseBytes (oldestResponse (q .responses))) page;
+        queue =
+            pulled q;
+      })
   pub public : Passed r (length page) Ok pa size → publicCode size key ≡ Ok → P Key (record { answer = answerOf Ok (length key) 0; page = splice (placeOf (upOf r) pa) key page; queue = q })
 
 -- ---- an opcode on its buffer, by the code of its own checks: what it left in the buffer, as the page shows it
-op-by : (at size : ℕ) (page : List ℕ) (q : Lists) → at + size ≤ length page → (P : SigningStep → Type 0) → ((k : Code) → isOk k ≡ false → P (record { answer = answerOf k 0 0; page = page; queue = q })) →
+op-by : (at size : ℕ) (page : List ℕ) (q : Lists) → at + size ≤ length page → (P : SigningStep → Type 0) →
+    ((k : Code) → isOk k ≡ false → P (record { answer = answerOf k 0 0; page = page; queue = q })) →
     (k : Code) (new : SigningStep) (after : List ℕ) → (k ≡ Ok → splice at (new .page) page ≡ after) → (k ≡ Ok → P (record { answer = new .answer; page = after; queue = new .queue })) →
     P (putBack at page (queued k new (part at size page) q))
 unfolding queued putBack

@@ -14,7 +14,7 @@ use Rattle.range.specs.Range.{placeOf}
 use Rattle.codes.specs.Codes.{upOf, isOk}
 use Rattle.queue.specs.Queue.{Lists, SigningStep, queued}
 use Rattle.queue_image.specs.Image.{listsIn}
-use Rattle.queue_image.specs.Steps.{imageStep}
+use Rattle.queue_image.specs.OnImage.{imageStep}
 use Rattle.response_rules.specs.Pull.{pullCode, pullOf}
 use Rattle.signing.specs.Signing.{opcodeOf, sharedCode, publicCode, publicOf, opOf, putBack, opAt, signingOf}
 use Rattle.signing.specs.OnImage.{imageDone, signingDone, signingOn}

@@ -7,7 +7,7 @@ use Rattle.codes.specs.Codes.{upOf}
 use Rattle.range.specs.Range.{placeOf}
 use Rattle.queue_image.specs.Image.{listsIn}
 use Rattle.queue_image.specs.Sides.{responseSide, rowDropped}
-use Rattle.queue_image.specs.Steps.{ImageStep, imageStep}
+use Rattle.queue_image.specs.OnImage.{ImageStep, imageStep}
 use Rattle.request_rules.specs.OnImage.{pushDone}
 use Rattle.signing.specs.Signing.{opcodeOf, opAt, signingOf}
 use Rattle.signing.specs.declared.Opcode.{Opcode}

@@ -12,7 +12,7 @@ ghost use lib.ListN.{length};
 ghost use Rattle.range.specs.Range.{placeOf};
 ghost use Rattle.codes.specs.Codes.{upOf, gated};
 ghost use Rattle.queue.specs.Queue.{Lists, SigningStep, listsOf, signingExit, exitOf};
-ghost use Rattle.queue_image.specs.Steps.{ImageStep};
+ghost use Rattle.queue_image.specs.OnImage.{ImageStep};
 ghost use Rattle.signing.specs.Signing.{opcodeOf, isOther, badCurve, sharedCode, publicOf, opAt, signingOf};
 ghost use Rattle.signing.specs.OnImage.{opOn, signingOn};
 
@@ -35,38 +35,38 @@ fn opcode_of(n: u64) -> Opcode
     }
 }
 
-// Whether the opcode is none that is listed.
-fn is_other(opcode: Opcode) -> bool
-    ensures { λ r. ⌜ r ≡ isOther opcode ⌝ }
+// Whether the opcode is not 1 to 3.
+fn is_other(opcode: u64) -> bool
+    ensures { λ r. ⌜ r ≡ isOther (opcodeOf opcode) ⌝ }
 {
     match opcode {
-        Opcode::Push => false,
-        Opcode::Pull => false,
-        Opcode::Key => false,
-        Opcode::Other => true,
+        1 => false,
+        2 => false,
+        3 => false,
+        _ => true,
     }
 }
 
-// Whether the key of a curve that is not there is asked for.
-fn bad_curve(opcode: Opcode, curve: u64) -> bool
-    ensures { λ r. ⌜ r ≡ badCurve opcode curve ⌝ }
+// Opcode 3 with a curve other than 0.
+fn bad_curve(opcode: u64, curve: u64) -> bool
+    ensures { λ r. ⌜ r ≡ badCurve (opcodeOf opcode) curve ⌝ }
 {
     match opcode {
-        Opcode::Push => false,
-        Opcode::Pull => false,
-        Opcode::Key => {
+        1 => false,
+        2 => false,
+        3 => {
             if curve == 0 {
                 return false;
             }
             true
         }
-        Opcode::Other => false,
+        _ => false,
     }
 }
 
 // The checks that all opcodes share, and the buffer's offset in the page.
-fn gate_of(state: Record, len: usize, opcode: Opcode, pa: u64, size: u64, curve: u64) -> Gate
-    ensures { λ r. ⌜ r ≡ gated (sharedCode state len opcode pa size curve) (placeOf (upOf state) pa) ⌝ }
+fn gate_of(state: Record, len: usize, opcode: u64, pa: u64, size: u64, curve: u64) -> Gate
+    ensures { λ r. ⌜ r ≡ gated (sharedCode state len (opcodeOf opcode) pa size curve) (placeOf (upOf state) pa) ⌝ }
 {
     let first = codes::code_if(is_other(opcode), Code::Inval);
     let gate = range::page_gate(state, len, first, OutsideAs::Invalid, pa, size);
@@ -140,11 +140,10 @@ pub fn token_signing(
     ensures { λ r. ⌜ signingExit r (now (page .exit))
         ≡ exitOf queue (signingOf state (now (page .entry)) (listsOf queue) (now (key .entry)) opcode pa size curve) ⌝ }
 {
-    let asked = opcode_of(opcode);
-    let gate = gate_of(state, page.len(), asked, pa, size, curve);
+    let gate = gate_of(state, page.len(), opcode, pa, size, curve);
     match gate {
         Gate::Stop(code) => queue::refused(code, queue),
-        Gate::Go(at) => serve(page, at, size, queue, key, asked),
+        Gate::Go(at) => serve(page, at, size, queue, key, opcode_of(opcode)),
     }
 }
 
@@ -184,10 +183,9 @@ pub fn token_signing_on(
     ensures { λ r. ⌜ _≡_ {A = ImageStep} (record { answer = r; page = now (page .exit); image = now (image .exit) })
         (signingOn state (now (page .entry)) (now (image .entry)) (now (key .entry)) opcode pa size curve) ⌝ }
 {
-    let asked = opcode_of(opcode);
-    let gate = gate_of(state, page.len(), asked, pa, size, curve);
+    let gate = gate_of(state, page.len(), opcode, pa, size, curve);
     match gate {
         Gate::Stop(code) => codes::answered(code, 0, 0),
-        Gate::Go(at) => serve_on(page, at, size, image, key, asked),
+        Gate::Go(at) => serve_on(page, at, size, image, key, opcode_of(opcode)),
     }
 }

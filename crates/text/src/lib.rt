@@ -6,10 +6,11 @@ use reader::Section;
 use reader::View;
 ghost use Rattle.reader.specs.Answer.{readOf, refused};
 ghost use Rattle.reader.specs.Reading.{refusalNumber, shownAs, readingAnswer};
-ghost use Rattle.field_lookup.specs.Fields.{shownFrom};
+ghost use Rattle.field_lookup.specs.Steps.{shownFrom};
 ghost use Rattle.words.specs.Word.{joined};
 ghost use Rattle.text_lines.specs.Text.{wordText, entryText, countText, stateText, titleText, sectionText, headText, pointerText, platText, fieldsText, listingOf, printed};
-ghost use Rattle.text_lines.specs.Steps.{LaidOver, Listed, seen, refusalOf};
+ghost use Rattle.text_lines.specs.Laid.{LaidOver, Listed};
+ghost use Rattle.text_lines.specs.Steps.{seen, refusalOf};
 
 // Word j of an entry of section k.
 fn put_word(out: &mut [u8], at: usize, k: usize, j: usize, w: u64) -> usize

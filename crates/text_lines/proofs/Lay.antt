@@ -10,7 +10,7 @@ use lib.ListN.{length, take, drop, set, getD, length-append, length-take, length
 use lib.Seq.{length-take-le, take-nil, take-all, take-at, drop-at, drop-drop, take-take, take-suc, set-split, take-append-le, take-append-add, append-snoc}
 use Rattle.text_lines.specs.Text.{lay, listingRoom}
 use Rattle.words.specs.Word.{joined}
-use Rattle.text_lines.specs.Steps.{lastOffset, LaidOver, Listed}
+use Rattle.text_lines.specs.Laid.{lastOffset, LaidOver, Listed}
 
 pub length-lay : (at : ℕ) (vs s : List ℕ) → length (lay at vs s) ≡ length s
 unfolding lay

@@ -13,9 +13,9 @@ use types.Run.{OneOf}
 use denote.Enum.Declared.{tagOf}
 use borrow.Author.Tests.{eq-eqb, ne-eqb}
 use Rattle.words.specs.Tests.{both}
-use Rattle.words.specs.Word.{part, wordAt}
+use Rattle.words.specs.Word.{part, wordAt, joined}
 use Rattle.entries.specs.Entry.{size}
-use Rattle.reader.specs.Answer.{ReaderAnswer, refused, readOf, empty, full, entryWord}
+use Rattle.reader.specs.Answer.{ReaderAnswer, refused, readOf, empty, full, entryWord, fieldsShown}
 use Rattle.reader.specs.Reading.{refusalNumber, sectionOf, shownAs, readingAnswer, readingOf}
 use Rattle.reader.specs.declared.Section.{Section}
 use Rattle.reader.specs.declared.Section.the-variants.{Absent, Empty, Entries}
@@ -27,13 +27,14 @@ use Rattle.reader.specs.declared.Reading.{Reading}
 use Rattle.reader.specs.declared.Reading.the-variants.{Accepted, Refused}
 use Rattle.reader.proofs.Whole.{reading-answer}
 use Rattle.fields.specs.Steps.{stepAt}
-use Rattle.lookup.specs.Lookup.{wordOf}
-use Rattle.field_lookup.specs.Fields.{shownValue, valueIn, fieldAs, isNothing, shownFrom}
+use Rattle.lookup.specs.Fast.{wordOf}
+use Rattle.field_lookup.specs.Fields.{shownValue, valueIn, fieldAs, isNothing}
+use Rattle.field_lookup.specs.Steps.{shownFrom}
 use Rattle.fields.specs.declared.FieldPlace.{FieldPlace}
 use Rattle.fields.specs.declared.FieldPlace.the-variants.{Raw, Withdrawn, Nothing}
 use Rattle.fields.specs.declared.FieldStep.{FieldStep}
 use Rattle.field_lookup.proofs.Fields.{placeShown, step-some, step-first}
-use Rattle.text_lines.specs.Text.{newline, space, noneText, absentText, titleText, hexText, nameText, wordText, gapText, countText, stateText, sectionText, pointerText, fieldText, fieldsText, listingOf, printed}
+use Rattle.text_lines.specs.Text.{newline, space, noneText, absentText, titleText, hexText, nameText, wordText, gapText, countText, stateText, sectionText, headText, platText, pointerText, fieldText, fieldsText, listingOf, printed}
 use Rattle.text_lines.specs.Steps.{seen, placeText, refusalOf}
 
 -- ---- the space before a word
@@ -117,6 +118,12 @@ unfolding stateText shownAs
 state-absent w k s page e = rw e
 
 -- ---- the answer of a reading
+pub seen-listed : (v : View) (page : List ℕ) →
+    headText (v .minor) (v .edition) ++ platText (v .plat) ++ fieldsText (fieldsShown (readingAnswer page (Accepted v))) ++ joined 4 (sectionText (seen v page))
+    ≡ listingOf (readingAnswer page (Accepted v))
+unfolding readingAnswer fieldsShown listingOf seen
+seen-listed v page = refl
+
 pub list-refused : (e base : ℕ) (page : List ℕ) (r : Reading) (c : Refusal) → r ≡ Refused c → r ≡ readingOf e base page → refusalOf r ≡ listingOf (readOf e base page)
 unfolding refusalOf readingAnswer
 list-refused e base page r c h f = rw (← reading-answer e base page, ← f, h)

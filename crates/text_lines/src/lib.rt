@@ -4,7 +4,7 @@
 ghost use Prim.Native.Nat.{_+_, min};
 ghost use mathlib.Core.Path.{_≡_};
 ghost use Rattle.text_lines.specs.Text.{newline, decimal, hexText, byteText, nameText, gapText, valueText};
-ghost use Rattle.text_lines.specs.Steps.{lastOffset, LaidOver};
+ghost use Rattle.text_lines.specs.Laid.{lastOffset, LaidOver};
 
 // The offset n bytes on; the largest number stands for all that lie past it. No text reaches so far, but a step does not know that.
 fn past(at: usize, n: usize) -> usize

@@ -22,7 +22,8 @@ use Rattle.token_rules.specs.Token.{listed, csizeCode, bufferCode, startCode, t
 use Rattle.token_rules.proofs.Tokens.{csize-unlisted, csize-small, csize-ok, buffer-room, stays, sends, token-buffer, token-start, challenge-none, challenge-shown, challenge-starts}
 
 -- ---- the buffer, by the page's gate, with the code of the platform before it
-module _ (r : Record) (len : ℕ) (busy : Bool) (pa size csize : ℕ) (f : Code) (cf : f ≡ fails busy Again Ok) (g : Gate) (cg : g ≡ gated (pageCode r len f BadAddress pa size) (placeOf (upOf r) pa)) where
+module _ (r : Record) (len : ℕ) (busy : Bool) (pa size csize : ℕ) (f : Code) (cf : f ≡ fails busy Again Ok) (g : Gate)
+    (cg : g ≡ gated (pageCode r len f BadAddress pa size) (placeOf (upOf r) pa)) where
   is-page : g ≡ gated (pageCode r len (fails busy Again Ok) BadAddress pa size) (placeOf (upOf r) pa)
   is-page = cg ∙ rw cf
 
@@ -52,13 +53,15 @@ module _ (r : Record) (len : ℕ) (busy : Bool) (pa size csize : ℕ) (f : Code)
         told-buffer b = goes (bufferCode r len busy pa size csize) (placeOf (upOf r) pa) at (is-csize ∙ csize-ok size csize (sym cl ∙ y) b) (page-went .1)
 
 -- ---- the call, by the gates of its buffer and of its start
-module _ (r : Record) (page : List ℕ) (s : Session) (busy : Bool) (token : List ℕ) (pa size csize : ℕ) (g : Gate) (cg : g ≡ gated (bufferCode r (length page) busy pa size csize) (placeOf (upOf r) pa)) where
+module _ (r : Record) (page : List ℕ) (s : Session) (busy : Bool) (token : List ℕ) (pa size csize : ℕ) (g : Gate)
+    (cg : g ≡ gated (bufferCode r (length page) busy pa size csize) (placeOf (upOf r) pa)) where
   left-by : (c : Code) → tokenCode r page s busy token pa size csize ≡ c → isOk c ≡ false → (a : Answer) → a ≡ answerOf c 0 0 → (t : Session) → t ≡ s →
       _≡_ {A = TokenStep} (record { answer = a; page = page; session = t }) (tokenOf r page s busy token pa size csize)
   unfolding tokenOf
   left-by c e o a ca t ct = stays (tokenCode r page s busy token pa size csize) (sendOf (placeOf (upOf r) pa) token (beginOf s csize) size page) page s c a t ca ct e o
 
-  pub told-stop : (c : Code) → g ≡ Stop c → (a : Answer) → a ≡ answerOf c 0 0 → (t : Session) → t ≡ s → _≡_ {A = TokenStep} (record { answer = a; page = page; session = t }) (tokenOf r page s busy token pa size csize)
+  pub told-stop : (c : Code) → g ≡ Stop c → (a : Answer) → a ≡ answerOf c 0 0 → (t : Session) → t ≡ s → _≡_ {A = TokenStep}
+      (record { answer = a; page = page; session = t }) (tokenOf r page s busy token pa size csize)
   told-stop c h a ca t ct =
       let p = stood (bufferCode r (length page) busy pa size csize) (placeOf (upOf r) pa) c (sym cg ∙ h) in
       left-by c (token-buffer r page s busy token pa size csize c (p .0) (p .1)) (p .1) a ca t ct
@@ -73,7 +76,8 @@ module _ (r : Record) (page : List ℕ) (s : Session) (busy : Bool) (token : Lis
         omega (arith, buffer-went .1, m .whole, m .room)
 
     module _ (b : Gate) (cb : b ≡ gated (startCode s csize (length token)) (beginOf s csize)) where
-      pub told-start : (c : Code) → b ≡ Stop c → (a : Answer) → a ≡ answerOf c 0 0 → (t : Session) → t ≡ s → _≡_ {A = TokenStep} (record { answer = a; page = page; session = t }) (tokenOf r page s busy token pa size csize)
+      pub told-start : (c : Code) → b ≡ Stop c → (a : Answer) → a ≡ answerOf c 0 0 → (t : Session) → t ≡ s → _≡_ {A = TokenStep}
+          (record { answer = a; page = page; session = t }) (tokenOf r page s busy token pa size csize)
       told-start c k a ca t ct =
           let p = stood (startCode s csize (length token)) (beginOf s csize) c (sym cb ∙ k) in
           left-by c (token-start r page s busy token pa size csize (buffer-went .0) ∙ p .0) (p .1) a ca t ct
@@ -82,7 +86,9 @@ module _ (r : Record) (page : List ℕ) (s : Session) (busy : Bool) (token : Lis
       unfolding tokenOf
       told-sent from k x e =
           let p = went (startCode s csize (length token)) (beginOf s csize) from (sym cb ∙ k) in
-          e ∙ rw (buffer-went .1, p .1) (sends (tokenCode r page s busy token pa size csize) (sendOf (placeOf (upOf r) pa) token (beginOf s csize) size page) page s (token-start r page s busy token pa size csize (buffer-went .0) ∙ p .0))
+          e ∙ rw (buffer-went .1, p .1) (sends (tokenCode r page s busy token pa size csize)
+          (sendOf (placeOf (upOf r) pa) token (beginOf s csize) size page) page s
+          (token-start r page s busy token pa size csize (buffer-went .0) ∙ p .0))
 
 -- ---- the challenge, by its buffer's gate, and as a part of the page by its place
 module _ (r : Record) (page : List ℕ) (pa size csize : ℕ) where

@@ -199,7 +199,10 @@ module _ (t : List ℕ) (size : ℕ) where
       go : (b : Bool) → tokenAccepted s x ≡ b →
           ((i m : ℕ) → m ≡ length t - i → tokenStepOf s x .session ≡ sessionAt t i → i < length t + size →
           Sent t size i (oksOf (tokenStepOf s x .session) xs) (hunksOf (tokenStepOf s x .session) xs) (leftOf m (tokenStepOf s x .session) xs) (runOf (tokenStepOf s x .session) xs)) →
-          Sent t size k (cond (tokenAccepted s x) 1 0 + oksOf (tokenStepOf s x .session) xs) (shownOf s x ++ hunksOf (tokenStepOf s x .session) xs) (leftOf (cond (tokenAccepted s x) (tokenStepOf s x .answer .x2) left) (tokenStepOf s x .session) xs) (runOf (tokenStepOf s x .session) xs)
+          Sent t size k (cond (tokenAccepted s x) 1 0 + oksOf (tokenStepOf s x .session) xs)
+          (shownOf s x ++ hunksOf (tokenStepOf s x .session) xs)
+          (leftOf (cond (tokenAccepted s x) (tokenStepOf s x .answer .x2) left) (tokenStepOf s x .session) xs)
+          (runOf (tokenStepOf s x .session) xs)
       go true e ih =
           let y = f .0 e in
           let p = step-on t size s x k e (y .0) (y .1) (y .2) o in

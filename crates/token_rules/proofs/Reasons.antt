@@ -3,14 +3,18 @@
 -- start, UNK." Assumes nothing.
 use Prim.Native.Nat.{ℕ, _<_}
 use mathlib.Core.Path.{_≡_, refl}
-use mathlib.Core.Bool.{Bool, true}
+use mathlib.Core.Bool.{Bool, true, false}
 use mathlib.Core.List.{List}
-use mathlib.Core.Logic.{_⊎_}
+use mathlib.Core.Logic.{_⊎_, inl, inr}
 use native.Mathlib.Omega.{arith}
+use native.Mathlib.Decide.{ℕ-discrete}
 use lib.ListN.{length}
+use lib.Dec.{eqb}
+use borrow.Author.Tests.{eq-eqb, ne-eqb}
+use Rattle.words.specs.Tests.{both, either}
 use Rattle.boot.specs.declared.Params.{Params}
 use Rattle.boot.specs.declared.Record.{Record}
-use Rattle.codes.specs.Codes.{fails, andThen, answerOf}
+use Rattle.codes.specs.Codes.{unless, fails, andThen, answerOf}
 use Rattle.codes.specs.Reasons.{Gives, Passes}
 use Rattle.codes.specs.declared.Code.{Code}
 use Rattle.codes.specs.declared.Code.the-variants.{Ok, Unk, BadAddr, Inval, Again}
@@ -34,6 +38,29 @@ tells-listed : (c : ℕ) → Tells (listed c) ((c ≡ 0) ⊎ ChallengeSize c)
 unfolding listed
 tells-listed c = tells-either _ _ _ _ (tells-eq c 0) (tells-either _ _ _ _ (tells-eq c 32) (tells-either _ _ _ _ (tells-eq c 48) (tells-eq c 64)))
 
+-- "token empty, or with c_size 0 of another length than at the session's start"
+tells-start : (s : Session) (c len : ℕ) →
+    Tells (either (eqb len 0) (both (eqb c 0) (unless (eqb len (wholeOf s))))) ((len ≡ 0) ⊎ ((c ≡ 0) × ((sent : ℕ) → s ≡ Sending len sent → ⊥)))
+unfolding wholeOf either both unless
+tells-start (Sending whole sent) c len = tells-either _ _ _ _ (tells-eq len 0) (tells-both _ _ _ _ (tells-eq c 0) other)
+  where
+    t : Tells (unless (eqb len whole)) (len ≡ whole → ⊥)
+    t = tells-not _ _ (tells-eq len whole)
+
+    other : Tells (unless (eqb len whole)) ((k : ℕ) → Sending whole sent ≡ Sending len k → ⊥)
+    other = record { yes-if = λ h. t .yes-if (λ e. h sent (rw e)); no-if = λ h. t .no-if (λ n. h (λ k e. n (let y : len ≡ whole = cc in y))) }
+tells-start Idle c len = go (ℕ-discrete len 0)
+  where
+    none : (k : ℕ) → Idle ≡ Sending len k → ⊥
+    none k e = let z : _≡_ {A = ℕ} 0 1 = cc in omega arith
+
+    go : Dec (len ≡ 0) → Tells (either (eqb len 0) (both (eqb c 0) (unless (eqb len 0)))) ((len ≡ 0) ⊎ ((c ≡ 0) × ((k : ℕ) → Idle ≡ Sending len k → ⊥)))
+    go (yes z) = rw (eq-eqb len 0 z) (record { yes-if = λ h. refl; no-if = λ h. absurd (h (inl z)) })
+    go (no z) =
+        rw (ne-eqb len 0 z)
+        (tells-either false (both (eqb c 0) true) _ _ (record { yes-if = λ e. absurd (z e); no-if = λ h. refl })
+        (tells-both (eqb c 0) true _ _ (tells-eq c 0) (record { yes-if = λ h. refl; no-if = λ h. absurd (h none) })))
+
 -- the code of a call is that of its checks
 token-code : (r : Record) (page : List ℕ) (s : Session) (busy : Bool) (token : List ℕ) (pa size c : ℕ) → tokenOf r page s busy token pa size c .answer .code ≡ tokenCode r page s busy token pa size c
 unfolding tokenOf settled keeps sendOf answerOf
@@ -46,7 +73,7 @@ TokenGives s len size c =
     Gives ((c ≡ 0) ⊎ ChallengeSize c → ⊥) Inval
     (Gives (size < c) Inval
     (Gives ((c ≡ 0) × (s ≡ Idle)) Inval
-    (Gives ((len ≡ 0) ⊎ ((c ≡ 0) × (len ≡ wholeOf s → ⊥))) Unk
+    (Gives ((len ≡ 0) ⊎ ((c ≡ 0) × ((sent : ℕ) → s ≡ Sending len sent → ⊥))) Unk
     Passes)))
 
 rest-gives : (s : Session) (len size c : ℕ) → TokenGives s len size c (andThen (csizeCode size c) (startCode s c len))
@@ -56,7 +83,7 @@ rest-gives s len size c =
     (gives _ _ Inval _ _ (tells-not _ _ (tells-listed c)) (λ l.
     gives _ _ Inval _ _ (tells-lt size c) (λ t.
     gives _ _ Inval _ _ (tells-both _ _ _ _ (tells-eq c 0) (tells-idle s)) (λ i.
-    gives _ _ Unk _ _ (tells-either _ _ _ _ (tells-eq len 0) (tells-both _ _ _ _ (tells-eq c 0) (tells-not _ _ (tells-eq len (wholeOf s))))) (λ k. refl)))))
+    gives _ _ Unk _ _ (tells-start s c len) (λ k. refl)))))
 
 pub token-codes : (r : Record) (page : List ℕ) (s : Session) (busy : Bool) (token : List ℕ) (pa size c : ℕ) →
     PageGives r (length page) (Gives (busy ≡ true) Again) BadAddr pa size (λ (u : Params). TokenGives s (length token) size c)
@@ -67,3 +94,19 @@ token-codes r page s busy token pa size c =
     (page-gives r (length page) (fails busy Again Ok) BadAddress pa size (λ u. andThen (csizeCode size c) (startCode s c (length token))) (Gives (busy ≡ true) Again) _
     (λ after next h. rw (then-fails busy Again Ok next refl, then-none) (gives busy (busy ≡ true) Again next after (tells-yes busy) (λ f. h)))
     (λ u e w o l. rest-gives s (length token) size c))
+
+-- The lookup of the challenge: "empty if the record is not up, the page is not 4,096 bytes long, or a BAD_ADDR or INVAL check above fails."; a
+-- busy platform does not matter
+pub challenge-codes : (r : Record) (page : List ℕ) (pa size c : ℕ) →
+    PageGives r (length page) (λ (after : Code → Type 0). after) BadAddr pa size (λ (u : Params).
+    Gives ((c ≡ 0) ⊎ ChallengeSize c → ⊥) Inval
+    (Gives (size < c) Inval
+    Passes))
+    (bufferCode r (length page) false pa size c)
+unfolding bufferCode csizeCode outsideCode fails
+challenge-codes r page pa size c =
+    page-gives r (length page) Ok BadAddress pa size (λ u. csizeCode size c) (λ (after : Code → Type 0). after) _
+    (λ after next h. rw (then-none next) h)
+    (λ u e w o l.
+    gives _ _ Inval _ _ (tells-not _ _ (tells-listed c)) (λ f.
+    gives _ _ Inval _ _ (tells-lt size c) (λ t. refl)))

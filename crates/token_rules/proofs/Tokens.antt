@@ -146,7 +146,8 @@ module _ (at : ℕ) (token : List ℕ) (i size : ℕ) (page : List ℕ) where
       simp (m, ne-eqb (length token - i - size) 0 (λ e. omega arith))
 
 -- ---- what a call leaves
-pub stays : (k : Code) (new : TokenStep) (page : List ℕ) (s : Session) (c : Code) (a : Answer) (t : Session) → a ≡ answerOf c 0 0 → t ≡ s → k ≡ c → isOk c ≡ false → _≡_ {A = TokenStep} (record { answer = a; page = page; session = t }) (settled k new page s)
+pub stays : (k : Code) (new : TokenStep) (page : List ℕ) (s : Session) (c : Code) (a : Answer) (t : Session) → a ≡ answerOf c 0 0 → t ≡ s →
+    k ≡ c → isOk c ≡ false → _≡_ {A = TokenStep} (record { answer = a; page = page; session = t }) (settled k new page s)
 unfolding settled keeps
 stays k new page s c a t p q e h = rw (e, h, p, q)
 
@@ -179,7 +180,8 @@ module _ (r : Record) (page : List ℕ) (pa size c : ℕ) where
   unfolding challengeOf challengeSpan
   challenge-none j e o = rw (e, o) (refl, span-none page)
 
-  pub challenge-shown : bufferCode r (length page) false pa size c ≡ Ok → (at : ℕ) → at ≡ placeOf (upOf r) pa → (spanAt at c ≡ challengeSpan r page pa size c) × (spanned (spanAt at c) page ≡ challengeOf r page pa size c)
+  pub challenge-shown : bufferCode r (length page) false pa size c ≡ Ok → (at : ℕ) → at ≡ placeOf (upOf r) pa →
+      (spanAt at c ≡ challengeSpan r page pa size c) × (spanned (spanAt at c) page ≡ challengeOf r page pa size c)
   unfolding challengeOf challengeSpan
   challenge-shown e at i =
       let m = buffer-room r (length page) false pa size c e in

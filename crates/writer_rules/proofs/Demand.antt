@@ -19,7 +19,9 @@ use Rattle.writer_rules.specs.Write.{a-page, writeOf, descriptionFits, d
 use Rattle.writer_rules.specs.Wrote.{writeLists, madeBy}
 use Rattle.writer_rules.specs.declared.Wrote.the-variants.{Page}
 use Rattle.writer_rules.specs.Demand.{Demand3}
+use Rattle.writer_rules.specs.Unrefused.{NoneWithdrawn}
 use Rattle.writer_rules.proofs.Round.{round}
+use Rattle.writer_rules.proofs.Makes.{none-count}
 
 -- a list without a withdrawn field is shown as it is
 shown-raw : (fs : List Field) → count 3 fs ≡ 0 → shownFields fs ≡ map (λ f. raw (f .tag) (f .value)) fs
@@ -31,10 +33,10 @@ shown-raw (f ∷ fs) h = go (eqb (f .tag) 3) h (λ z. shown-raw fs z)
     go true z r = absurd (let y : ⊥ = omega arith in y)
     go false z r = ap (λ gs. raw (f .tag) (f .value) ∷ gs) (r (omega arith))
 
-fields-back : (base n v : ℕ) (d : Description) (fs : List Field) (p : List ℕ) → Yes (descriptionFits d) → d .fields ≡ runOf fs → FieldsKeep fs → count 3 fs ≡ 0 →
+fields-back : (base n v : ℕ) (d : Description) (fs : List Field) (p : List ℕ) → Yes (descriptionFits d) → d .fields ≡ runOf fs → FieldsKeep fs → NoneWithdrawn fs →
     writeOf base n v d ≡ a-page p → (r : ℕ) → Yes (editionOk r) → fieldsShown (readOf r base p) ≡ map (λ f. raw (f .tag) (f .value)) fs
 unfolding fieldsShown platDescribed fieldsTold
-fields-back base n v d fs p wd t k z h r e = ap fieldsShown (round base n v d p wd h r e) ∙ rw (t, run-told fs (keep-acts fs k)) (shown-raw fs z)
+fields-back base n v d fs p wd t k z h r e = ap fieldsShown (round base n v d p wd h r e) ∙ rw (t, run-told fs (keep-acts fs k)) (shown-raw fs (none-count fs z))
 
 pub demand3 : Demand3
 demand3 = record {

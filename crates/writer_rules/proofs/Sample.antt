@@ -1,4 +1,5 @@
--- Example 14's page, made from its bank, and a page with fields. A writer that refuses everything fails here. Assumes nothing.
+-- Example 14's page, made from its bank, a page with fields, and one with each section. A writer that refuses everything fails here, and one that
+-- puts a part elsewhere. Assumes nothing.
 use mathlib.Core.Path.{_≡_, refl}
 use mathlib.Core.List.{List, [], _∷_, _++_}
 use Prim.Native.Nat.{ℕ}
@@ -6,7 +7,7 @@ use lib.ListN.{replicate}
 use Rattle.words.specs.Tests.{both, either, every}
 use Rattle.words.specs.Word.{leOf, leBytes, part, numAt, bytesOf, joined}
 use Rattle.versions.specs.Edition.{sectionCount, core, editionOk}
-use Rattle.entries.specs.Entry.{wordsPerEntry, bankOk, entryRule, entryOk, entriesOk, sum}
+use Rattle.entries.specs.Entry.{wordsPerEntry, bankOk, flagsOk, consoleOk, entryRule, entryOk, entriesOk, sum}
 use Rattle.sections.specs.Page.{placeOk}
 use Rattle.reader.proofs.Sample.{bank, page}
 use Rattle.fields.specs.Fields.{mkField, push, step, scan, scanAll, scanOf, judged, fieldsOk, lengthsOk, lengthOk, count, isBare, fieldsTold, tellable, endMark}
@@ -27,6 +28,27 @@ making fs = writeOf 0x80000000 4096 1 (descriptionOf [] [] [] [] fs)
 pub sample-fields : making told ≡ a-page (leBytes 4 1 ++ leBytes 4 0 ++ leBytes 8 0x80000010 ++ told ++ replicate 4073 0)
 unfolding writeOf writerGate pageOf filled coreWords descriptorAt arrayAddress descriptor neg platWord pointTo used platBytes withMark noneLate descriptionOk tellable isBare fieldsTold scanOf judged scanAll scan step push mkField numAt part leOf fieldsOk lengthsOk lengthOk count endMark listsOk listOk descriptionOf four placeOk sum entriesOk entryOk entryRule bankOk wordsPerEntry editionOk core sectionCount joined bytesOf leBytes every either both
 sample-fields = refl
+
+-- an entry in each section, and the fields: "the core, .. then the arrays at once after it in section order, and zero everywhere else"
+abbrev region : List ℕ
+region = 0xA0000000 ∷ 0x1000 ∷ []
+
+abbrev console : List ℕ
+console = 0x9000000 ∷ 1 ∷ 0x31313070 ∷ 0x1000000 ∷ 115200 ∷ 0 ∷ []
+
+abbrev words : List ℕ
+words =
+    4 ∷ 0x800000D0
+    ∷ 1 ∷ 0x80000070 ∷ 0xFFFFFFFEDFFFFF8F ∷ 1 ∷ 0x80000080 ∷ 0xFFFFFFFF44CD0D0E
+    ∷ 1 ∷ 0x800000B0 ∷ 0xFFFFFFFEDFFFEF4F ∷ 1 ∷ 0x800000C0 ∷ 0xFFFFFFFECFFFDF3F
+    ∷ 0x90000000 ∷ 0x10000000
+    ∷ 0x9000000 ∷ 1 ∷ 0x31313070 ∷ 0x1000000 ∷ 115200 ∷ 0
+    ∷ 0xA0000000 ∷ 0x1000 ∷ 0xB0000000 ∷ 0x2000 ∷ []
+
+pub sample-sections : writeOf 0x80000000 4096 4 (descriptionOf (0x90000000 ∷ 0x10000000 ∷ []) console region (0xB0000000 ∷ 0x2000 ∷ []) told)
+    ≡ a-page (bytesOf words ++ told ++ replicate 3881 0)
+unfolding writeOf writerGate pageOf filled coreWords descriptorAt arrayAddress descriptor neg platWord pointTo used platBytes withMark noneLate descriptionOk tellable isBare fieldsTold scanOf judged scanAll scan step push mkField numAt part leOf fieldsOk lengthsOk lengthOk count endMark listsOk listOk descriptionOf four placeOk sum entriesOk entryOk entryRule bankOk consoleOk flagsOk wordsPerEntry editionOk core sectionCount joined bytesOf leBytes every either both
+sample-sections = refl
 
 -- W3: a field that is cut short, a tag 0, a name twice; W5: one byte more than fill the page with the end mark
 pub sample-refused : (making (1 ∷ 2 ∷ 0 ∷ 0x41 ∷ []) ≡ no-page 3)

@@ -8,10 +8,11 @@ use lib.ListN.{length, getD}
 use lib.IntN.{ℤ}
 use Rattle.words.specs.Tests.{Yes}
 use Rattle.versions.specs.Edition.{editionOk}
-use Rattle.fields.specs.Fields.{Field, count, raw}
+use Rattle.fields.specs.Fields.{Field, raw}
 use Rattle.fields.specs.Facts.{runOf, FieldsKeep}
 use Rattle.reader.specs.Answer.{Shown, PlatShown, refused, shows, readOf, fieldsShown, less, named}
 use Rattle.lists.specs.Description.{Description}
+use Rattle.writer_rules.specs.Unrefused.{NoneWithdrawn}
 use Rattle.writer_rules.specs.Write.{a-page, writeOf, descriptionFits, described, platDescribed}
 
 pub record Demand3 : Type 0 where
@@ -29,7 +30,7 @@ pub record Demand3 : Type 0 where
       (r : ℕ) → Yes (editionOk r) → readOf r base p ≡ shows v (min r v) (platDescribed base v d) (described (min r v) d)
   -- The same of fields that are given as a list: of any list that keeps E7's rules and has no withdrawn one, told as its bytes, each field is shown
   -- with its tag and its value, in list order, and no other
-  pub fields : (base n v : ℕ) (d : Description) (fs : List Field) (p : List ℕ) → Yes (descriptionFits d) → d .fields ≡ runOf fs → FieldsKeep fs → count 3 fs ≡ 0 →
+  pub fields : (base n v : ℕ) (d : Description) (fs : List Field) (p : List ℕ) → Yes (descriptionFits d) → d .fields ≡ runOf fs → FieldsKeep fs → NoneWithdrawn fs →
       writeOf base n v d ≡ a-page p → (r : ℕ) → Yes (editionOk r) → fieldsShown (readOf r base p) ≡ map (λ f. raw (f .tag) (f .value)) fs
   -- "Two pages of one length that agree in all the bytes that the smaller edition names get the same answer, whatever their
   -- other bytes hold." Named bytes are those of the first page, by the smaller of the reader's edition and the page's minor. That no

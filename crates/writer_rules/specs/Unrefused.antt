@@ -1,33 +1,65 @@
--- When the writer refuses nothing: 01's conditions as plain facts, with none of the tests that the code is held to. Assumes nothing.
+-- When the writer refuses, and with which number: W1 to W5 as plain facts, with none of the tests and tables that the code is held to. n is the
+-- lent page's length. Assumes nothing.
 use Prim.Native.Nat.{ℕ, _+_, _*_, _/_, _%_, _≤_, _<_}
 use mathlib.Core.Path.{_≡_}
 use mathlib.Core.List.{List}
 use lib.ListN.{length, getD}
-use Rattle.versions.specs.Edition.{sectionCount, core}
 use Rattle.entries.specs.Facts.{BankFacts, ConsoleFacts}
-use Rattle.fields.specs.Fields.{Field, count}
-use Rattle.fields.specs.Facts.{runOf, FieldsKeep}
+use Rattle.fields.specs.Fields.{Field}
+use Rattle.fields.specs.Facts.{runOf, fieldNo, FieldsKeep}
 use Rattle.sections.specs.Facts.{PlaceFacts}
-use Rattle.lists.specs.Description.{Description, withMark}
+use Rattle.lists.specs.Description.{Description}
+use Rattle.writer_rules.specs.Write.{no-page, writeOf}
 
--- none of W1 to W5; n is the lent page's length
-pub record Unrefused (base n v : ℕ) (d : Description) : Type 0 where
-  -- "W1 as -5"
-  pub place : PlaceFacts base n
-  -- "W2 edition not 1 to 4"
-  pub first : 1 ≤ v
-  pub last : v ≤ 4
-  -- "W3 list length not a whole number of entries, or an entry that breaks a reader's rule": "2 words an entry, 6 for a console"
+-- "W1 as -5" is `PlaceFacts`. "W2 edition not 1 to 4"
+abbrev pub EditionFacts : ℕ → Type 0
+EditionFacts v = (1 ≤ v) × (v ≤ 4)
+
+-- 02, E10: "W3 for a description with tag 3"
+abbrev pub NoneWithdrawn : List Field → Type 0
+NoneWithdrawn fs = (i : ℕ) → i < length fs → fieldNo i fs .tag ≡ 3 → ⊥
+
+-- "W3 list length not a whole number of entries, or an entry that breaks a reader's rule": "2 words an entry, 6 for a console"; consoles are list 1
+pub record DescriptionFacts (v : ℕ) (d : Description) : Type 0 where
   pub wholeBanks : (k : ℕ) → k < 4 → (k ≡ 1 → ⊥) → length (d .lists k) % 2 ≡ 0
   pub wholeConsoles : length (d .lists 1) % 6 ≡ 0
   pub banks : (k i : ℕ) → k < 4 → (k ≡ 1 → ⊥) → i < length (d .lists k) / 2 → BankFacts (getD (d .lists k) (2 * i) 0) (getD (d .lists k) (2 * i + 1) 0)
-  pub consoles : (i : ℕ) → i < length (d .lists 1) / 6 → ConsoleFacts v (getD (d .lists 1) (6 * i) 0) (getD (d .lists 1) (6 * i + 1) 0) (getD (d .lists 1) (6 * i + 5) 0)
-  -- 02, E7: "broken fields are .. W3 in the writer, there also any tag 0"; E10: "W3 for a description with tag 3"
+  pub consoles : (i : ℕ) → i < length (d .lists 1) / 6 →
+      ConsoleFacts v (getD (d .lists 1) (6 * i) 0) (getD (d .lists 1) (6 * i + 1) 0) (getD (d .lists 1) (6 * i + 5) 0)
+  -- 02, E7: "broken fields are .. W3 in the writer, there also any tag 0"
   pub fields : List Field
   pub told : d .fields ≡ runOf fields
   pub keep : FieldsKeep fields
-  pub unwithdrawn : count 3 fields ≡ 0
-  -- "W4 a nonempty list for a section after the edition"
-  pub late : (k : ℕ) → k < 4 → sectionCount v ≤ k → length (d .lists k) ≡ 0
-  -- "W5 core and arrays exceed 4,096 bytes"; 02, E7: "W5 counts the fields and, if there are any, their end mark"
-  pub room : core v + 8 * (length (d .lists 0) + length (d .lists 1) + length (d .lists 2) + length (d .lists 3)) + length (withMark (d .fields)) ≤ 4096
+  pub unwithdrawn : NoneWithdrawn fields
+
+-- "W4 a nonempty list for a section after the edition": "plat_dram | 2", "plat_console | 3", "plat_ncoh_region | 4", "plat_coh_region | 4"
+abbrev pub LateFacts : ℕ → Description → Type 0
+LateFacts v d =
+    (v < 2 → length (d .lists 0) ≡ 0) × (v < 3 → length (d .lists 1) ≡ 0) × (v < 4 → length (d .lists 2) ≡ 0) × (v < 4 → length (d .lists 3) ≡ 0)
+
+-- "W5 core and arrays exceed 4,096 bytes"; 02, E7: "W5 counts the fields and, if there are any, their end mark". The core takes s bytes.
+abbrev pub RoomBehind : ℕ → Description → Type 0
+RoomBehind s d =
+    (length (d .fields) ≡ 0 → s + 8 * (length (d .lists 0) + length (d .lists 1) + length (d .lists 2) + length (d .lists 3)) ≤ 4096)
+    × (0 < length (d .fields) →
+    s + 8 * (length (d .lists 0) + length (d .lists 1) + length (d .lists 2) + length (d .lists 3)) + length (d .fields) + 3 ≤ 4096)
+
+-- "Core sizes are 16, 40, 64 and 112 bytes for editions 1 to 4"
+abbrev pub RoomFacts : ℕ → Description → Type 0
+RoomFacts v d = (v ≡ 1 → RoomBehind 16 d) × (v ≡ 2 → RoomBehind 40 d) × (v ≡ 3 → RoomBehind 64 d) × (v ≡ 4 → RoomBehind 112 d)
+
+-- none of W1 to W5
+pub record Unrefused (base n v : ℕ) (d : Description) : Type 0 where
+  pub place : PlaceFacts base n
+  pub edition : EditionFacts v
+  pub description : DescriptionFacts v d
+  pub late : LateFacts v d
+  pub room : RoomFacts v d
+
+-- "Writer refusals, in order": each number where its facts fail and those before it hold
+pub record Refuses (base n v : ℕ) (d : Description) : Type 0 where
+  pub w1 : (PlaceFacts base n → ⊥) → writeOf base n v d ≡ no-page 1
+  pub w2 : PlaceFacts base n → (EditionFacts v → ⊥) → writeOf base n v d ≡ no-page 2
+  pub w3 : PlaceFacts base n → EditionFacts v → (DescriptionFacts v d → ⊥) → writeOf base n v d ≡ no-page 3
+  pub w4 : PlaceFacts base n → EditionFacts v → DescriptionFacts v d → (LateFacts v d → ⊥) → writeOf base n v d ≡ no-page 4
+  pub w5 : PlaceFacts base n → EditionFacts v → DescriptionFacts v d → LateFacts v d → (RoomFacts v d → ⊥) → writeOf base n v d ≡ no-page 5

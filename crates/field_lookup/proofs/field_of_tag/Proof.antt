@@ -2,7 +2,8 @@ use mathlib.Core.Path.{_≡_, refl, sym, ap, _∙_}
 use native.Mathlib.Omega.{arith}
 use lib.ListN.{length}
 use Rattle.fields.specs.Steps.{stepAt}
-use Rattle.field_lookup.specs.Fields.{fieldAs, shownFrom, searchEnds, placeTagged, tagPlace}
+use Rattle.field_lookup.specs.Fields.{fieldAs}
+use Rattle.field_lookup.specs.Steps.{shownFrom, searchEnds, placeTagged, tagPlace}
 use Rattle.fields.specs.declared.FieldStep.{FieldStep}
 use Rattle.field_lookup.proofs.Fields.{tag-here, tag-later, tag-place, goes-on, step-less}
 use borrow.Author.Needs.{needs}

@@ -1,5 +1,5 @@
 use mathlib.Core.Path.{sym, ap, _∙_}
-use Rattle.field_lookup.specs.Fields.{shownFrom}
+use Rattle.field_lookup.specs.Steps.{shownFrom}
 use Rattle.field_lookup.proofs.Fields.{start-none, start-broken, start-there, started}
 use borrow.Author.Needs.{needs}
 use Rattle.field_lookup.proofs.fields_start.Statement.{statement}

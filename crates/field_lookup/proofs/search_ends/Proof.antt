@@ -1,5 +1,5 @@
 use mathlib.Core.Path.{sym, ap, _∙_}
-use Rattle.field_lookup.specs.Fields.{searchEnds}
+use Rattle.field_lookup.specs.Steps.{searchEnds}
 use Rattle.field_lookup.proofs.Fields.{eqb-sym}
 use borrow.Author.Needs.{needs}
 use Rattle.field_lookup.proofs.search_ends.Statement.{statement}

@@ -1,4 +1,4 @@
-use Rattle.lookup.specs.Lookup.{countOf}
+use Rattle.lookup.specs.Fast.{countOf}
 use borrow.Author.Needs.{needs}
 use Rattle.lookup.proofs.count_in.Statement.{statement}
 use Rattle.lookup.proofs.count_in.Tie as tie

@@ -1,5 +1,5 @@
 use mathlib.Core.Path.{ap, _∙_}
-use Rattle.lookup.specs.Lookup.{countOf}
+use Rattle.lookup.specs.Fast.{countOf}
 use Rattle.lookup.proofs.Lookups.{count-view}
 use borrow.Author.Needs.{needs}
 use Rattle.lookup.proofs.count_of.Statement.{statement}

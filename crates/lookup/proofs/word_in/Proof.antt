@@ -1,7 +1,7 @@
 use mathlib.Core.Path.{sym, ap, _∙_}
 use Rattle.reader.specs.Answer.{entryWord}
 use Rattle.reader.specs.Reading.{shownAs}
-use Rattle.lookup.specs.Lookup.{wordOf}
+use Rattle.lookup.specs.Fast.{wordOf}
 use Rattle.lookup.proofs.Lookups.{word-hidden, told-word}
 use borrow.Author.Needs.{needs}
 use Rattle.lookup.proofs.word_in.Statement.{statement}

@@ -3,6 +3,18 @@ use borrow.Author.Needs.{needs}
 use Rattle.potterbeam.proofs.pbeam_call.Statement.{statement}
 use Rattle.potterbeam.proofs.pbeam_call.Tie as tie
 
+element-copy-out-x1 : tie.Need-element-copy-out-x1
+element-copy-out-x1 c = search needs
+
+element-copy-out-x2 : tie.Need-element-copy-out-x2
+element-copy-out-x2 c = search needs
+
+element-copy-out-x3 : tie.Need-element-copy-out-x3
+element-copy-out-x3 c = search needs
+
+element-copy-out-x4 : tie.Need-element-copy-out-x4
+element-copy-out-x4 c = search needs
+
 element-copy-out-kind-of : tie.Need-element-copy-out-kind-of
 element-copy-out-kind-of c = search needs
 
@@ -12,17 +24,11 @@ kind-of-requires c κs = search needs
 enum-told : tie.Need-enum-told
 enum-told c = search needs
 
-element-copy-out-pbeam-forward : tie.Need-element-copy-out-pbeam-forward
-element-copy-out-pbeam-forward c = search needs
-
 pbeam-forward-requires : tie.Need-pbeam-forward-requires
 pbeam-forward-requires c κs = search needs
 
 enum-told-2 : tie.Need-enum-told-2
 enum-told-2 c = search needs
-
-element-copy-out-pbeam-delegate : tie.Need-element-copy-out-pbeam-delegate
-element-copy-out-pbeam-delegate c = search needs
 
 pbeam-delegate-requires : tie.Need-pbeam-delegate-requires
 pbeam-delegate-requires c κs = search needs
@@ -30,23 +36,11 @@ pbeam-delegate-requires c κs = search needs
 enum-told-3 : tie.Need-enum-told-3
 enum-told-3 c = search needs
 
-element-copy-out-pbeam-undelegate : tie.Need-element-copy-out-pbeam-undelegate
-element-copy-out-pbeam-undelegate c = search needs
-
 pbeam-undelegate-requires : tie.Need-pbeam-undelegate-requires
 pbeam-undelegate-requires c κs = search needs
 
 enum-told-4 : tie.Need-enum-told-4
 enum-told-4 c = search needs
-
-element-copy-out-pbeam-realm-key : tie.Need-element-copy-out-pbeam-realm-key
-element-copy-out-pbeam-realm-key c = search needs
-
-element-copy-out-pbeam-realm-key-2 : tie.Need-element-copy-out-pbeam-realm-key-2
-element-copy-out-pbeam-realm-key-2 c = search needs
-
-element-copy-out-pbeam-realm-key-3 : tie.Need-element-copy-out-pbeam-realm-key-3
-element-copy-out-pbeam-realm-key-3 c = search needs
 
 pbeam-realm-key-requires : tie.Need-pbeam-realm-key-requires
 pbeam-realm-key-requires c κs = search needs
@@ -54,23 +48,11 @@ pbeam-realm-key-requires c κs = search needs
 enum-told-5 : tie.Need-enum-told-5
 enum-told-5 c = search needs
 
-element-copy-out-pbeam-platform-token : tie.Need-element-copy-out-pbeam-platform-token
-element-copy-out-pbeam-platform-token c = search needs
-
-element-copy-out-pbeam-platform-token-2 : tie.Need-element-copy-out-pbeam-platform-token-2
-element-copy-out-pbeam-platform-token-2 c = search needs
-
-element-copy-out-pbeam-platform-token-3 : tie.Need-element-copy-out-pbeam-platform-token-3
-element-copy-out-pbeam-platform-token-3 c = search needs
-
 pbeam-platform-token-requires : tie.Need-pbeam-platform-token-requires
 pbeam-platform-token-requires c κs = search needs
 
 enum-told-6 : tie.Need-enum-told-6
 enum-told-6 c = search needs
-
-element-copy-out-pbeam-features : tie.Need-element-copy-out-pbeam-features
-element-copy-out-pbeam-features c = search needs
 
 pbeam-features-requires : tie.Need-pbeam-features-requires
 pbeam-features-requires c κs = search needs
@@ -78,26 +60,11 @@ pbeam-features-requires c κs = search needs
 enum-told-7 : tie.Need-enum-told-7
 enum-told-7 c = search needs
 
-element-copy-out-pbeam-token-signing : tie.Need-element-copy-out-pbeam-token-signing
-element-copy-out-pbeam-token-signing c = search needs
-
-element-copy-out-pbeam-token-signing-2 : tie.Need-element-copy-out-pbeam-token-signing-2
-element-copy-out-pbeam-token-signing-2 c = search needs
-
-element-copy-out-pbeam-token-signing-3 : tie.Need-element-copy-out-pbeam-token-signing-3
-element-copy-out-pbeam-token-signing-3 c = search needs
-
-element-copy-out-pbeam-token-signing-4 : tie.Need-element-copy-out-pbeam-token-signing-4
-element-copy-out-pbeam-token-signing-4 c = search needs
-
 pbeam-token-signing-requires : tie.Need-pbeam-token-signing-requires
 pbeam-token-signing-requires c κs = search needs
 
 enum-told-8 : tie.Need-enum-told-8
 enum-told-8 c = search needs
-
-element-copy-out-pbeam-key-update : tie.Need-element-copy-out-pbeam-key-update
-element-copy-out-pbeam-key-update c = search needs
 
 pbeam-key-update-requires : tie.Need-pbeam-key-update-requires
 pbeam-key-update-requires c κs = search needs
@@ -112,7 +79,12 @@ registers-requires : tie.Need-registers-requires
 registers-requires c κs = search needs
 
 returns : tie.Need-returns
-returns c = let a = c .before .before .before .before .before .before .before .before .before .before .before .before .before .before .before .args in left-forward (a .granules .now) (a .session .now) (a .queue .now) (a .page .now) (a .table .now) (a .words .now) (a .state .now) (a .call .now) (a .busy) (a .key .now) (a .token .now) (a .public .now) (a .width) _ (c .before .before .before .before .before .before .kind-of .ensures) (c .before .before .before .before .enum-told .given .1) _ (c .before .pbeam-forward .ensures)
+returns c =
+    let m = c .before .before .before in
+    let a = m .before .before .before .before .before .before .before .before .before .before .before .before .before .before .before .args in
+    left-forward (a .granules .now) (a .session .now) (a .queue .now) (a .page .now) (a .table .now) (a .words .now) (a .state .now)
+    (a .call .now) (a .busy) (a .key .now) (a .token .now) (a .public .now) (a .width) _
+    (m .before .before .kind-of .ensures) (m .enum-told .given .1) _ (c .before .pbeam-forward .ensures)
 
 same-length : tie.Need-same-length
 same-length c = search needs
@@ -121,7 +93,12 @@ same-length-2 : tie.Need-same-length-2
 same-length-2 c = search needs
 
 returns-2 : tie.Need-returns-2
-returns-2 c = let a = c .before .before .before .before .before .before .before .before .before .before .before .before .before .before .before .before .before .before .before .before .args in left-delegate (a .granules .now) (a .session .now) (a .queue .now) (a .page .now) (a .table .now) (a .words .now) (a .state .now) (a .call .now) (a .busy) (a .key .now) (a .token .now) (a .public .now) (a .width) _ (c .before .before .before .before .before .before .before .before .before .before .before .kind-of .ensures) (c .before .before .before .before .before .before .before .before .before .enum-told2 .given .1) _ _ _ (c .before .before .before .before .pbeam-delegate .ensures)
+returns-2 c =
+    let m = c .before .before .before .before .before .before .before .before in
+    let a = m .before .before .before .before .before .before .before .before .before .before .before .before .before .before .before .args in
+    left-delegate (a .granules .now) (a .session .now) (a .queue .now) (a .page .now) (a .table .now) (a .words .now) (a .state .now)
+    (a .call .now) (a .busy) (a .key .now) (a .token .now) (a .public .now) (a .width) _
+    (m .before .before .kind-of .ensures) (m .enum-told2 .given .1) _ _ _ (c .before .before .before .before .pbeam-delegate .ensures)
 
 same-length-3 : tie.Need-same-length-3
 same-length-3 c = search needs
@@ -130,71 +107,95 @@ same-length-4 : tie.Need-same-length-4
 same-length-4 c = search needs
 
 returns-3 : tie.Need-returns-3
-returns-3 c = let a = c .before .before .before .before .before .before .before .before .before .before .before .before .before .before .before .before .before .before .before .before .args in left-undelegate (a .granules .now) (a .session .now) (a .queue .now) (a .page .now) (a .table .now) (a .words .now) (a .state .now) (a .call .now) (a .busy) (a .key .now) (a .token .now) (a .public .now) (a .width) _ (c .before .before .before .before .before .before .before .before .before .before .before .kind-of .ensures) (c .before .before .before .before .before .before .before .before .before .enum-told3 .given .1) _ _ _ (c .before .before .before .before .pbeam-undelegate .ensures)
+returns-3 c =
+    let m = c .before .before .before .before .before .before .before .before in
+    let a = m .before .before .before .before .before .before .before .before .before .before .before .before .before .before .before .args in
+    left-undelegate (a .granules .now) (a .session .now) (a .queue .now) (a .page .now) (a .table .now) (a .words .now) (a .state .now)
+    (a .call .now) (a .busy) (a .key .now) (a .token .now) (a .public .now) (a .width) _
+    (m .before .before .kind-of .ensures) (m .enum-told3 .given .1) _ _ _ (c .before .before .before .before .pbeam-undelegate .ensures)
 
 same-length-5 : tie.Need-same-length-5
 same-length-5 c = search needs
 
 returns-4 : tie.Need-returns-4
-returns-4 c = let a = c .before .before .before .before .before .before .before .before .before .before .before .before .before .before .before .before .before .before .before .args in left-key (a .granules .now) (a .session .now) (a .queue .now) (a .page .now) (a .table .now) (a .words .now) (a .state .now) (a .call .now) (a .busy) (a .key .now) (a .token .now) (a .public .now) (a .width) _ (c .before .before .before .before .before .before .before .before .before .before .kind-of .ensures) (c .before .before .before .before .before .before .before .before .enum-told4 .given .1) _ _ (c .before .before .pbeam-realm-key .ensures .0) (c .before .before .pbeam-realm-key .ensures .1)
+returns-4 c =
+    let m = c .before .before .before .before .before in
+    let a = m .before .before .before .before .before .before .before .before .before .before .before .before .before .before .before .args in
+    left-key (a .granules .now) (a .session .now) (a .queue .now) (a .page .now) (a .table .now) (a .words .now) (a .state .now)
+    (a .call .now) (a .busy) (a .key .now) (a .token .now) (a .public .now) (a .width) _
+    (m .before .before .kind-of .ensures) (m .enum-told4 .given .1) _ _ (c .before .before .pbeam-realm-key .ensures .0) (c .before .before .pbeam-realm-key .ensures .1)
 
 same-length-6 : tie.Need-same-length-6
 same-length-6 c = search needs
 
 returns-5 : tie.Need-returns-5
-returns-5 c = let a = c .before .before .before .before .before .before .before .before .before .before .before .before .before .before .before .before .before .before .before .before .args in left-token (a .granules .now) (a .session .now) (a .queue .now) (a .page .now) (a .table .now) (a .words .now) (a .state .now) (a .call .now) (a .busy) (a .key .now) (a .token .now) (a .public .now) (a .width) _ (c .before .before .before .before .before .before .before .before .before .before .before .kind-of .ensures) (c .before .before .before .before .before .before .before .before .before .enum-told5 .given .1) _ _ _ (c .before .before .pbeam-platform-token .ensures)
+returns-5 c =
+    let m = c .before .before .before .before .before .before in
+    let a = m .before .before .before .before .before .before .before .before .before .before .before .before .before .before .before .args in
+    left-token (a .granules .now) (a .session .now) (a .queue .now) (a .page .now) (a .table .now) (a .words .now) (a .state .now)
+    (a .call .now) (a .busy) (a .key .now) (a .token .now) (a .public .now) (a .width) _
+    (m .before .before .kind-of .ensures) (m .enum-told5 .given .1) _ _ _ (c .before .before .pbeam-platform-token .ensures)
 
 returns-6 : tie.Need-returns-6
-returns-6 c = let a = c .before .before .before .before .before .before .before .before .before .before .before .before .before .before .args in left-features (a .granules .now) (a .session .now) (a .queue .now) (a .page .now) (a .table .now) (a .words .now) (a .state .now) (a .call .now) (a .busy) (a .key .now) (a .token .now) (a .public .now) (a .width) _ (c .before .before .before .before .before .kind-of .ensures) (c .before .before .before .enum-told6 .given .1) _ (c .pbeam-features .ensures)
+returns-6 c =
+    let m = c .before .before in
+    let a = m .before .before .before .before .before .before .before .before .before .before .before .before .before .before .before .args in
+    left-features (a .granules .now) (a .session .now) (a .queue .now) (a .page .now) (a .table .now) (a .words .now) (a .state .now)
+    (a .call .now) (a .busy) (a .key .now) (a .token .now) (a .public .now) (a .width) _
+    (m .before .before .kind-of .ensures) (m .enum-told6 .given .1) _ (c .pbeam-features .ensures)
 
 same-length-7 : tie.Need-same-length-7
 same-length-7 c = search needs
 
 returns-7 : tie.Need-returns-7
-returns-7 c = let a = c .before .before .before .before .before .before .before .before .before .before .before .before .before .before .before .before .before .before .before .before .before .args in left-signing (a .granules .now) (a .session .now) (a .queue .now) (a .page .now) (a .table .now) (a .words .now) (a .state .now) (a .call .now) (a .busy) (a .key .now) (a .token .now) (a .public .now) (a .width) _ (c .before .before .before .before .before .before .before .before .before .before .before .before .kind-of .ensures) (c .before .before .before .before .before .before .before .before .before .before .enum-told7 .given .1) _ _ _ (c .before .before .pbeam-token-signing .ensures)
+returns-7 c =
+    let m = c .before .before .before .before .before .before in
+    let a = m .before .before .before .before .before .before .before .before .before .before .before .before .before .before .before .args in
+    left-signing (a .granules .now) (a .session .now) (a .queue .now) (a .page .now) (a .table .now) (a .words .now) (a .state .now)
+    (a .call .now) (a .busy) (a .key .now) (a .token .now) (a .public .now) (a .width) _
+    (m .before .before .kind-of .ensures) (m .enum-told7 .given .1) _ _ _ (c .before .before .pbeam-token-signing .ensures)
 
 returns-8 : tie.Need-returns-8
-returns-8 c = let a = c .before .before .before .before .before .before .before .before .before .before .before .before .before .before .before .args in left-update (a .granules .now) (a .session .now) (a .queue .now) (a .page .now) (a .table .now) (a .words .now) (a .state .now) (a .call .now) (a .busy) (a .key .now) (a .token .now) (a .public .now) (a .width) _ (c .before .before .before .before .before .before .kind-of .ensures) (c .before .before .before .before .enum-told8 .given .1) _ _ (c .pbeam-key-update .ensures .0) (c .pbeam-key-update .ensures .1)
+returns-8 c =
+    let m = c .before .before .before in
+    let a = m .before .before .before .before .before .before .before .before .before .before .before .before .before .before .before .args in
+    left-update (a .granules .now) (a .session .now) (a .queue .now) (a .page .now) (a .table .now) (a .words .now) (a .state .now)
+    (a .call .now) (a .busy) (a .key .now) (a .token .now) (a .public .now) (a .width) _
+    (m .before .before .kind-of .ensures) (m .enum-told8 .given .1) _ _ (c .pbeam-key-update .ensures .0) (c .pbeam-key-update .ensures .1)
 
 returns-9 : tie.Need-returns-9
-returns-9 c = let a = c .before .before .before .before .before .before .before .before .before .before .before .before .before .args in left-unlisted (a .granules .now) (a .session .now) (a .queue .now) (a .page .now) (a .table .now) (a .words .now) (a .state .now) (a .call .now) (a .busy) (a .key .now) (a .token .now) (a .public .now) (a .width) _ (c .before .before .before .before .kind-of .ensures) (c .before .before .enum-told9 .given .1) _ (c .before .answered .ensures) _ (c .registers .ensures)
+returns-9 c =
+    let m = c .before .before in
+    let a = m .before .before .before .before .before .before .before .before .before .before .before .before .before .before .before .args in
+    left-unlisted (a .granules .now) (a .session .now) (a .queue .now) (a .page .now) (a .table .now) (a .words .now) (a .state .now)
+    (a .call .now) (a .busy) (a .key .now) (a .token .now) (a .public .now) (a .width) _
+    (m .before .before .kind-of .ensures) (m .enum-told9 .given .1) _ (c .before .answered .ensures) _ (c .registers .ensures)
 
 pub pbeam-call-spec : {M : Type 1} → statement M
 pbeam-call-spec =
     tie.close
     (tie.spec
+    element-copy-out-x1
+    element-copy-out-x2
+    element-copy-out-x3
+    element-copy-out-x4
     element-copy-out-kind-of
     kind-of-requires
     enum-told
-    element-copy-out-pbeam-forward
     pbeam-forward-requires
     enum-told-2
-    element-copy-out-pbeam-delegate
     pbeam-delegate-requires
     enum-told-3
-    element-copy-out-pbeam-undelegate
     pbeam-undelegate-requires
     enum-told-4
-    element-copy-out-pbeam-realm-key
-    element-copy-out-pbeam-realm-key-2
-    element-copy-out-pbeam-realm-key-3
     pbeam-realm-key-requires
     enum-told-5
-    element-copy-out-pbeam-platform-token
-    element-copy-out-pbeam-platform-token-2
-    element-copy-out-pbeam-platform-token-3
     pbeam-platform-token-requires
     enum-told-6
-    element-copy-out-pbeam-features
     pbeam-features-requires
     enum-told-7
-    element-copy-out-pbeam-token-signing
-    element-copy-out-pbeam-token-signing-2
-    element-copy-out-pbeam-token-signing-3
-    element-copy-out-pbeam-token-signing-4
     pbeam-token-signing-requires
     enum-told-8
-    element-copy-out-pbeam-key-update
     pbeam-key-update-requires
     enum-told-9
     answered-requires

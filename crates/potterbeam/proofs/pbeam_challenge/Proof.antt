@@ -18,7 +18,12 @@ x0-requires : tie.Need-x0-requires
 x0-requires c κs = search needs
 
 returns : tie.Need-returns
-returns c = rw (← c .before .before .before .before .record-of .ensures) (rw (← c .before .challenge-code .ensures) (c .x0 .ensures), rw (← c .before .before .before .challenge-place .ensures .0) (c .before .before .span-words .ensures))
+returns c =
+    rw (← c .before .before .before .before .record-of .ensures) (
+      rw (← c .before .challenge-code .ensures) (c .x0 .ensures),
+      rw (← c .before .before .before .challenge-place .ensures .0)
+          (c .before .before .span-words .ensures),
+    )
 
 pub pbeam-challenge-spec : {M : Type 1} → statement M
 pbeam-challenge-spec =

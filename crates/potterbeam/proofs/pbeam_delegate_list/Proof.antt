@@ -22,7 +22,9 @@ same-length-2 c = search needs
 
 returns : tie.Need-returns
 unfolding moveListIn
-returns c = move-left _ _ _ _ _ (c .registers .ensures) (c .before .before .before .before .before .delegate-list .ensures ∙ rw (c .before .before .before .before .before .before .before .before .record-of .ensures))
+returns c =
+    move-left _ _ _ _ _ (c .registers .ensures) (c .before .before .before .before .before .delegate-list .ensures ∙ rw
+    (c .before .before .before .before .before .before .before .before .record-of .ensures))
 
 pub pbeam-delegate-list-spec : {M : Type 1} → statement M
 pbeam-delegate-list-spec =

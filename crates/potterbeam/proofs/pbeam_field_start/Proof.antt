@@ -3,7 +3,7 @@ use Rattle.reader.specs.Answer.{fieldsShown}
 use Rattle.reader.specs.Reading.{readingAnswer}
 use Rattle.reader.specs.declared.View.{View}
 use Rattle.reader.specs.declared.Reading.the-variants.{Accepted}
-use Rattle.field_lookup.specs.Fields.{startAt}
+use Rattle.field_lookup.specs.Steps.{startAt}
 use borrow.Author.Needs.{needs}
 use Rattle.potterbeam.proofs.pbeam_field_start.Statement.{statement}
 use Rattle.potterbeam.proofs.pbeam_field_start.Tie as tie

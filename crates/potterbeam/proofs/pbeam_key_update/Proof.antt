@@ -18,7 +18,11 @@ registers-requires : tie.Need-registers-requires
 registers-requires c κs = search needs
 
 returns : tie.Need-returns
-returns c = rw (← c .before .before .before .before .record-of .ensures) (c .registers .ensures ∙ ap (λ (u : Updated). registerWords (u .answer)) (c .before .before .before .key-update .ensures), c .before .before .work-words .ensures ∙ ap (λ (u : Updated). workWords (u .work)) (c .before .before .before .key-update .ensures))
+returns c =
+    rw (← c .before .before .before .before .record-of .ensures) (
+      c .registers .ensures ∙ ap (λ (u : Updated). registerWords (u .answer)) (c .before .before .before .key-update .ensures),
+      c .before .before .work-words .ensures ∙ ap (λ (u : Updated). workWords (u .work)) (c .before .before .before .key-update .ensures),
+    )
 
 pub pbeam-key-update-spec : {M : Type 1} → statement M
 pbeam-key-update-spec =

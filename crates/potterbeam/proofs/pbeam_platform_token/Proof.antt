@@ -38,7 +38,10 @@ returns c =
     let a = c .before .before .before .before .before .before .before .before .before .before .before .before .before .before .args in
     let r = c .before .before .before .before .before .before .platform-token in
     token-left (r .result .answer) _ (a .session .now) _ _ _ _ (c .registers .ensures) (c .before .put-session .ensures)
-    (told-token (recordOf (a .state .now)) _ (a .page .now) (sessionOf (a .session .now)) _ (isSet (a .busy)) _ (a .token .now) (a .pa) (a .size) (a .csize) (c .before .before .before .before .before .before .before .before .before .before .before .record-of .ensures) (c .before .before .before .before .before .before .before .before .session-of .ensures) (c .before .before .before .before .before .before .before .is-set .ensures) _ (r .ensures))
+    (told-token (recordOf (a .state .now)) _ (a .page .now) (sessionOf (a .session .now)) _ (isSet (a .busy)) _ (a .token .now) (a .pa)
+    (a .size) (a .csize) (c .before .before .before .before .before .before .before .before .before .before .before .record-of .ensures)
+    (c .before .before .before .before .before .before .before .before .session-of .ensures)
+    (c .before .before .before .before .before .before .before .is-set .ensures) _ (r .ensures))
 
 pub pbeam-platform-token-spec : {M : Type 1} → statement M
 pbeam-platform-token-spec =

@@ -18,7 +18,12 @@ same-length : tie.Need-same-length
 same-length c = search needs
 
 returns : tie.Need-returns
-returns c = rw (← c .before .before .before .before .before .record-of .ensures) (c .registers .ensures ∙ ap (λ (k : Keyed). registerWords (k .answer)) (c .before .before .before .realm-key .ensures), ap (λ (k : Keyed). k .page) (c .before .before .before .realm-key .ensures))
+returns c =
+    rw (← c .before .before .before .before .before .record-of .ensures) (
+      c .registers .ensures ∙ ap (λ (k : Keyed). registerWords (k .answer)) (c .before .before .before .realm-key .ensures),
+      ap
+          (λ (k : Keyed). k .page) (c .before .before .before .realm-key .ensures),
+    )
 
 pub pbeam-realm-key-spec : {M : Type 1} → statement M
 pbeam-realm-key-spec =

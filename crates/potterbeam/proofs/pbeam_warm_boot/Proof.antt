@@ -21,7 +21,11 @@ number-requires c κs = search needs
 returns : tie.Need-returns
 returns c =
     let q : toZ w32 (ofZ w32 (c .number .result)) ≡ c .number .result = search needs in
-    rw (← c .before .before .before .record-of .ensures) (q ∙ c .number .ensures ∙ c .before .before .warm .ensures .0, c .before .record-words .ensures ∙ ap recordWords (c .before .before .warm .ensures .1))
+    rw (← c .before .before .before .record-of .ensures) (
+      q ∙ c .number .ensures ∙ c .before .before .warm .ensures .0,
+      c .before .record-words .ensures ∙ ap recordWords
+          (c .before .before .warm .ensures .1),
+    )
 
 pub pbeam-warm-boot-spec : {M : Type 1} → statement M
 pbeam-warm-boot-spec =

@@ -63,7 +63,8 @@ returns c =
     let a = s .args in
     view-laid (viewAt (a .minor) (a .e .minor) (a .base) (a .page .now)) (a .view .now) (s .pre .1) _ _ _ _ _
     (rw (c .before .before .before .before .before .before .before .before .before .before .before .before .before .before .before .before .before .before .before .word-at .ensures ∙ core-plat (a .page .now)) at (c .before .before .before .before .before .before .before .before .before .before .before .before .before .before .before .before .before .before .put-three .ensures))
-    (rw (core-section (a .e .minor) (a .base) 0 (a .page .now) (omega arith)) at (c .before .before .before .before .before .before .before .before .before .before .before .before .before .before .show-section .ensures))
+    (rw (core-section (a .e .minor) (a .base) 0 (a .page .now) (omega arith)) at
+    (c .before .before .before .before .before .before .before .before .before .before .before .before .before .before .show-section .ensures))
     (rw (core-section (a .e .minor) (a .base) 1 (a .page .now) (omega arith)) at (c .before .before .before .before .before .before .before .before .before .before .show-section2 .ensures))
     (rw (core-section (a .e .minor) (a .base) 2 (a .page .now) (omega arith)) at (c .before .before .before .before .before .before .show-section3 .ensures))
     (rw (core-section (a .e .minor) (a .base) 3 (a .page .now) (omega arith)) at (c .before .before .show-section4 .ensures))

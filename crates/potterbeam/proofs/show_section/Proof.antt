@@ -69,7 +69,9 @@ same-length-3 c = search needs
 returns-3 : tie.Need-returns-3
 returns-3 c =
     let a = c .before .before .before .before .before .before .before .before .before .before .before .args in
-    told-entries (a .e .minor) (a .base) (a .k) (a .core .now) (a .view .now) (omega arith) _ _ (c .before .before .before .before .before .before .count-at .ensures) (c .before .before .before .before .pointer-at .ensures) (c .before .before .before .before .before .if2 .left) _ (c .before .before .put-three3 .ensures)
+    told-entries (a .e .minor) (a .base) (a .k) (a .core .now) (a .view .now) (omega arith) _ _
+    (c .before .before .before .before .before .before .count-at .ensures) (c .before .before .before .before .pointer-at .ensures)
+    (c .before .before .before .before .before .if2 .left) _ (c .before .before .put-three3 .ensures)
 
 pub show-section-spec : {M : Type 1} → statement M
 show-section-spec =

@@ -25,7 +25,8 @@ add-t8 c = search needs
 returns-2 : tie.Need-returns-2
 returns-2 c =
     let a = c .before .before .before .before .args in
-    rw (c .only-signed .ensures) (responses-join (c .before .before .before .responses-from .result) (ready (a .side)) (signedIn (a .response)) (c .before .before .before .responses-from .ensures) (search needs))
+    rw (c .only-signed .ensures) (responses-join (c .before .before .before .responses-from .result) (ready (a .side))
+    (signedIn (a .response)) (c .before .before .before .responses-from .ensures) (search needs))
 
 pub join-response-spec : {M : Type 1} → statement M
 join-response-spec =

@@ -51,7 +51,9 @@ unfolding upTo
 returns c =
     let a = c .before .before .before .before .before .before .before .before .before .before .before .args in
     let n = c .before .before .before .before .before .before .before .before .rows-behind in
-    row-dropped (record { number = a .number; start = a .start; width = a .width }) (a .image .now) (n .result) (n .ensures .0) (search needs) (search needs) _ _ (c .before .before .before .before .before .before .move-up .ensures) (c .before .before .clear .ensures) (search needs)
+    row-dropped (record { number = a .number; start = a .start; width = a .width }) (a .image .now) (n .result) (n .ensures .0)
+    (search needs) (search needs) _ _ (c .before .before .before .before .before .before .move-up .ensures)
+    (c .before .before .clear .ensures) (search needs)
 
 pub drop-row-spec : {M : Type 1} → statement M
 drop-row-spec =

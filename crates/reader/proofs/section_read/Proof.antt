@@ -3,7 +3,7 @@ use mathlib.Core.Path.{sym, _∙_}
 use native.Mathlib.Omega.{arith}
 use Rattle.versions.proofs.Editions.{section-count-most}
 use Rattle.sections.proofs.Sections.{ok-each, rules-sections}
-use Rattle.reader.proofs.Whole.{section-absent, fine-reads, fine-section, told-section, refused-section}
+use Rattle.reader.proofs.Whole.{section-absent, fine-reads, fine-section, told-section, refused-section, section-told}
 use borrow.Author.Needs.{needs}
 use Rattle.reader.proofs.section_read.Statement.{statement}
 use Rattle.reader.proofs.section_read.Tie as tie
@@ -23,14 +23,16 @@ enum-told c = search needs
 returns : tie.Need-returns
 returns c =
     let a = c .before .before .before .before .args in
-    refused-section (a .edition) (a .base) (a .page .now) _ (a .k) (sym (c .enum-told .given .1) ∙ c .before .before .judge-page .ensures .0)
+    section-told (a .edition) (a .base) (a .page .now) (a .k) _
+    (refused-section (a .edition) (a .base) (a .page .now) _ (a .k) (sym (c .enum-told .given .1) ∙ c .before .before .judge-page .ensures .0))
 
 returns-2 : tie.Need-returns-2
 returns-2 c =
     let a = c .before .before .before .before .before .before .args in
     let g = c .before .before .verdict .given in
-    section-absent (min (a .edition) (g .0 .0)) (a .base) (a .k) (a .page .now) (omega (arith, section-count-most (min (a .edition) (g .0 .0))))
-    ∙ fine-section (a .edition) (a .base) (a .page .now) (g .0 .0) (a .k) (sym (g .1) ∙ c .before .before .before .before .judge-page .ensures .0)
+    section-told (a .edition) (a .base) (a .page .now) (a .k) _
+    (section-absent (min (a .edition) (g .0 .0)) (a .base) (a .k) (a .page .now) (omega (arith, section-count-most (min (a .edition) (g .0 .0))))
+    ∙ fine-section (a .edition) (a .base) (a .page .now) (g .0 .0) (a .k) (sym (g .1) ∙ c .before .before .before .before .judge-page .ensures .0))
 
 edition-read-requires : tie.Need-edition-read-requires
 edition-read-requires c κs = search needs
@@ -48,7 +50,8 @@ returns-3 : tie.Need-returns-3
 returns-3 c =
     let a = c .before .before .before .before .before .before .before .before .args in
     let g = c .before .before .before .before .verdict .given in
-    told-section (a .edition) (a .base) (a .page .now) (g .0 .0) (a .k) _ (c .before .edition-read .ensures) _ (c .before .before .before .before .before .before .judge-page .ensures .0) (g .1) _ (c .section-at .ensures)
+    section-told (a .edition) (a .base) (a .page .now) (a .k) _
+    (told-section (a .edition) (a .base) (a .page .now) (g .0 .0) (a .k) _ (c .before .edition-read .ensures) _ (c .before .before .before .before .before .before .judge-page .ensures .0) (g .1) _ (c .section-at .ensures))
 
 pub section-read-spec : {M : Type 1} → statement M
 section-read-spec =

@@ -48,8 +48,12 @@ returns-2 c =
     let b = a .buffer .now in
     let q = listsOf (a .queue) in
     let l : 80 ≤ length b = search needs in
-    let e = c .before .before .before .push-code .ensures b q l (ap (λ (x : Request). x .algorithm) (sym (c .before .before .before .before .before .request-of .ensures))) (ap (λ (x : Request). x .hashid) (sym (c .before .before .before .before .before .request-of .ensures))) (sym (c .before .before .before .before .request-count .ensures .0)) in
-    refuses (pushCode b q) b q (a .queue) _ (c .before .before .before .push-code .result) _ (c .refused2 .ensures) (sym e) (sym (c .before .before .is-ok .ensures) ∙ not-true (c .before .before .is-ok .result) (c .before .if2 .taken))
+    let e = c .before .before .before .push-code .ensures b q l
+    (ap (λ (x : Request). x .algorithm) (sym (c .before .before .before .before .before .request-of .ensures)))
+    (ap (λ (x : Request). x .hashid) (sym (c .before .before .before .before .before .request-of .ensures)))
+    (sym (c .before .before .before .before .request-count .ensures .0)) in
+    refuses (pushCode b q) b q (a .queue) _ (c .before .before .before .push-code .result) _ (c .refused2 .ensures) (sym e)
+    (sym (c .before .before .is-ok .ensures) ∙ not-true (c .before .before .is-ok .result) (c .before .if2 .taken))
 
 join-request-requires : tie.Need-join-request-requires
 join-request-requires c κs = search needs
@@ -67,11 +71,22 @@ returns-3 c =
     let b = a .buffer .now in
     let q = listsOf (a .queue) in
     let l : 80 ≤ length b = search needs in
-    let e = c .before .before .before .before .before .push-code .ensures b q l (ap (λ (x : Request). x .algorithm) (sym (c .before .before .before .before .before .before .before .request-of .ensures))) (ap (λ (x : Request). x .hashid) (sym (c .before .before .before .before .before .before .before .request-of .ensures))) (sym (c .before .before .before .before .before .before .request-count .ensures .0)) in
-    let o : pushCode b q ≡ Ok = sym e ∙ ok-is _ (sym (c .before .before .before .before .is-ok .ensures) ∙ not-false (c .before .before .before .before .is-ok .result) (c .before .before .before .if2 .left)) in
+    let e = c .before .before .before .before .before .push-code .ensures b q l
+    (ap (λ (x : Request). x .algorithm) (sym (c .before .before .before .before .before .before .before .request-of .ensures)))
+    (ap (λ (x : Request). x .hashid) (sym (c .before .before .before .before .before .before .before .request-of .ensures)))
+    (sym (c .before .before .before .before .before .before .request-count .ensures .0)) in
+    let o : pushCode b q ≡ Ok = sym e ∙ ok-is _ (sym (c .before .before .before .before .is-ok .ensures) ∙ not-false
+    (c .before .before .before .before .is-ok .result) (c .before .before .before .if2 .left)) in
     let r = c .before .before .before .before .before .before .before .request-of in
     let k : length (waiting (a .queue .requests)) < 8 = push-passed b q o .1 in
-    rw (c .answered .ensures, c .before .before .join-request .ensures, c .before .responses-from .ensures, joined-room (waiting (a .queue .requests)) (r .result) k, r .ensures) (accepts (pushCode b q) b q (a .queue) 0 0 _ _ o)
+    rw (
+      c .answered .ensures,
+      c .before .before .join-request .ensures,
+      c .before .responses-from .ensures,
+      joined-room
+          (waiting (a .queue .requests)) (r .result) k,
+      r .ensures,
+    ) (accepts (pushCode b q) b q (a .queue) 0 0 _ _ o)
 
 pub push-spec : {M : Type 1} → statement M
 push-spec =

@@ -43,7 +43,12 @@ returns-2 c =
     let b = a .buffer .now in
     let w = a .image .now in
     let l : 80 ≤ length b = search needs in
-    rw (c .answered2 .ensures) (push-image-refused b w (c .before .before .before .push-code .result) (c .before .before .before .push-code .ensures b (listsIn w) l (ap (λ (x : Request). x .algorithm) (sym (c .before .before .before .before .before .before .request-of .ensures))) (ap (λ (x : Request). x .hashid) (sym (c .before .before .before .before .before .before .request-of .ensures))) (sym (c .before .before .before .before .requests-waiting .ensures .0))) (sym (c .before .before .is-ok .ensures) ∙ not-true (c .before .before .is-ok .result) (c .before .if2 .taken)))
+    rw (c .answered2 .ensures) (push-image-refused b w (c .before .before .before .push-code .result)
+    (c .before .before .before .push-code .ensures b (listsIn w) l
+    (ap (λ (x : Request). x .algorithm) (sym (c .before .before .before .before .before .before .request-of .ensures)))
+    (ap (λ (x : Request). x .hashid) (sym (c .before .before .before .before .before .before .request-of .ensures)))
+    (sym (c .before .before .before .before .requests-waiting .ensures .0)))
+    (sym (c .before .before .is-ok .ensures) ∙ not-true (c .before .before .is-ok .result) (c .before .if2 .taken)))
 
 add-request-requires : tie.Need-add-request-requires
 add-request-requires c κs = search needs
@@ -57,7 +62,18 @@ returns-3 c =
     let b = a .buffer .now in
     let w = a .image .now in
     let l : 80 ≤ length b = search needs in
-    rw (c .answered3 .ensures, c .before .add-request .ensures, c .before .before .before .before .before .before .before .before .request-of .ensures) (push-image-done b w (c .before .before .before .before .before .push-code .result) (c .before .before .before .before .before .push-code .ensures b (listsIn w) l (ap (λ (x : Request). x .algorithm) (sym (c .before .before .before .before .before .before .before .before .request-of .ensures))) (ap (λ (x : Request). x .hashid) (sym (c .before .before .before .before .before .before .before .before .request-of .ensures))) (sym (c .before .before .before .before .before .before .requests-waiting .ensures .0))) (ok-is _ (sym (c .before .before .before .before .is-ok .ensures) ∙ not-false (c .before .before .before .before .is-ok .result) (c .before .before .before .if2 .left))))
+    rw (
+      c .answered3 .ensures,
+      c .before .add-request .ensures,
+      c .before .before .before .before .before .before .before .before .request-of .ensures,
+    )
+    (push-image-done b w (c .before .before .before .before .before .push-code .result)
+    (c .before .before .before .before .before .push-code .ensures b (listsIn w) l
+    (ap (λ (x : Request). x .algorithm) (sym (c .before .before .before .before .before .before .before .before .request-of .ensures)))
+    (ap (λ (x : Request). x .hashid) (sym (c .before .before .before .before .before .before .before .before .request-of .ensures)))
+    (sym (c .before .before .before .before .before .before .requests-waiting .ensures .0)))
+    (ok-is _ (sym (c .before .before .before .before .is-ok .ensures) ∙ not-false (c .before .before .before .before .is-ok .result)
+    (c .before .before .before .if2 .left))))
 
 pub push-on-spec : {M : Type 1} → statement M
 push-on-spec =

@@ -35,8 +35,15 @@ returns c =
     let a = c .before .before .before .before .before .before .before .before .before .before .args in
     let b = a .buffer .now in
     let q = listsOf (a .queue) in
-    let f : oldestResponse (ready (a .queue .responses)) ≡ signedIn (c .before .before .before .before .before .before .first-response .result) = ready-first (a .queue .responses) (c .before .before .before .before .before .before .first-response .result) (c .before .before .before .before .before .before .first-response .ensures) in
-    refuses (pullCode (length b) q) b q (a .queue) _ (c .before .before .before .pull-code .result) _ (c .refused .ensures) (sym (c .before .before .before .pull-code .ensures q (ready-length (a .queue .responses) ∙ sym (c .before .before .before .before .response-count .ensures .0)) (λ z. ap (λ (x : Signed). length (x .signature)) f ∙ sym (c .before .before .before .before .before .signature-len .ensures .0)))) (sym (c .before .before .is-ok .ensures) ∙ not-true (c .before .before .is-ok .result) (c .before .if1 .taken))
+    let f : oldestResponse (ready (a .queue .responses)) ≡ signedIn
+    (c .before .before .before .before .before .before .first-response .result) = ready-first (a .queue .responses)
+    (c .before .before .before .before .before .before .first-response .result)
+    (c .before .before .before .before .before .before .first-response .ensures) in
+    refuses (pullCode (length b) q) b q (a .queue) _ (c .before .before .before .pull-code .result) _ (c .refused .ensures)
+    (sym (c .before .before .before .pull-code .ensures q
+    (ready-length (a .queue .responses) ∙ sym (c .before .before .before .before .response-count .ensures .0))
+    (λ z. ap (λ (x : Signed). length (x .signature)) f ∙ sym (c .before .before .before .before .before .signature-len .ensures .0))))
+    (sym (c .before .before .is-ok .ensures) ∙ not-true (c .before .before .is-ok .result) (c .before .if1 .taken))
 
 put-response-requires : tie.Need-put-response-requires
 unfolding listsOf
@@ -44,8 +51,14 @@ put-response-requires c κs =
     let a = c .before .before .before .before .before .before .before .before .before .before .args in
     let b = a .buffer .now in
     let q = listsOf (a .queue) in
-    let f : oldestResponse (ready (a .queue .responses)) ≡ signedIn (c .before .before .before .before .before .before .first-response .result) = ready-first (a .queue .responses) (c .before .before .before .before .before .before .first-response .result) (c .before .before .before .before .before .before .first-response .ensures) in
-    rw f at (pull-passed (length b) q (sym (c .before .before .before .pull-code .ensures q (ready-length (a .queue .responses) ∙ sym (c .before .before .before .before .response-count .ensures .0)) (λ z. ap (λ (x : Signed). length (x .signature)) f ∙ sym (c .before .before .before .before .before .signature-len .ensures .0))) ∙ ok-is _ (sym (c .before .before .is-ok .ensures) ∙ not-false (c .before .before .is-ok .result) (c .before .if1 .left))) .1)
+    let f : oldestResponse (ready (a .queue .responses)) ≡ signedIn
+    (c .before .before .before .before .before .before .first-response .result) = ready-first (a .queue .responses)
+    (c .before .before .before .before .before .before .first-response .result)
+    (c .before .before .before .before .before .before .first-response .ensures) in
+    rw f at (pull-passed (length b) q (sym (c .before .before .before .pull-code .ensures q
+    (ready-length (a .queue .responses) ∙ sym (c .before .before .before .before .response-count .ensures .0))
+    (λ z. ap (λ (x : Signed). length (x .signature)) f ∙ sym (c .before .before .before .before .before .signature-len .ensures .0))) ∙
+    ok-is _ (sym (c .before .before .is-ok .ensures) ∙ not-false (c .before .before .is-ok .result) (c .before .if1 .left))) .1)
 
 requests-from-requires : tie.Need-requests-from-requires
 requests-from-requires c κs = search needs
@@ -65,9 +78,13 @@ returns-2 c =
     let a = c .before .before .before .before .before .before .before .before .before .before .before .before .before .before .before .before .args in
     let b = a .buffer .now in
     let q = listsOf (a .queue) in
-    let f : oldestResponse (ready (a .queue .responses)) ≡ signedIn (c .before .before .before .before .before .before .before .before .before .before .before .before .first-response .result) = ready-first (a .queue .responses) (c .before .before .before .before .before .before .before .before .before .before .before .before .first-response .result) (c .before .before .before .before .before .before .before .before .before .before .before .before .first-response .ensures) in
+    let f : oldestResponse (ready (a .queue .responses)) ≡ signedIn
+    (c .before .before .before .before .before .before .before .before .before .before .before .before .first-response .result) =
+    ready-first (a .queue .responses) (c .before .before .before .before .before .before .before .before .before .before .before .before .first-response .result) (c .before .before .before .before .before .before .before .before .before .before .before .before .first-response .ensures) in
     rw (c .answered .ensures, c .before .before .requests-from .ensures, c .before .responses-from .ensures, c .before .before .before .before .before .put-response .ensures, ← f)
-    (accepts (pullCode (length b) q) b q (a .queue) 0 0 _ _ (sym (c .before .before .before .before .before .before .before .before .before .pull-code .ensures q (ready-length (a .queue .responses) ∙ sym (c .before .before .before .before .before .before .before .before .before .before .response-count .ensures .0)) (λ z. ap (λ (x : Signed). length (x .signature)) f ∙ sym (c .before .before .before .before .before .before .before .before .before .before .before .signature-len .ensures .0))) ∙ ok-is _ (sym (c .before .before .before .before .before .before .before .before .is-ok .ensures) ∙ not-false (c .before .before .before .before .before .before .before .before .is-ok .result) (c .before .before .before .before .before .before .before .if1 .left))))
+    (accepts (pullCode (length b) q) b q (a .queue) 0 0 _ _
+    (sym (c .before .before .before .before .before .before .before .before .before .pull-code .ensures q
+    (ready-length (a .queue .responses) ∙ sym (c .before .before .before .before .before .before .before .before .before .before .response-count .ensures .0)) (λ z. ap (λ (x : Signed). length (x .signature)) f ∙ sym (c .before .before .before .before .before .before .before .before .before .before .before .signature-len .ensures .0))) ∙ ok-is _ (sym (c .before .before .before .before .before .before .before .before .is-ok .ensures) ∙ not-false (c .before .before .before .before .before .before .before .before .is-ok .result) (c .before .before .before .before .before .before .before .if1 .left))))
 
 pub pull-spec : {M : Type 1} → statement M
 pull-spec =

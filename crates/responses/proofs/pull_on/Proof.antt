@@ -29,7 +29,12 @@ returns : tie.Need-returns
 returns c =
     let b = c .before .before .before .before .before .before .before .before .before .args .buffer .now in
     let w = c .before .before .before .before .before .before .before .before .before .args .image .now in
-    rw (c .answered .ensures) (pull-image-refused b w (c .before .before .before .pull-code .result) (c .before .before .before .pull-code .ensures (listsIn w) (sym (c .before .before .before .before .before .before .responses-waiting .ensures .0)) (λ z. ap (λ (r : Signed). length (r .signature)) (front-response-is w z) ∙ sym (c .before .before .before .before .front-len .ensures .0))) (sym (c .before .before .is-ok .ensures) ∙ not-true (c .before .before .is-ok .result) (c .before .if1 .taken)))
+    rw (c .answered .ensures) (pull-image-refused b w (c .before .before .before .pull-code .result)
+    (c .before .before .before .pull-code .ensures (listsIn w)
+    (sym (c .before .before .before .before .before .before .responses-waiting .ensures .0))
+    (λ z. ap (λ (r : Signed). length (r .signature)) (front-response-is w z) ∙ sym
+    (c .before .before .before .before .front-len .ensures .0)))
+    (sym (c .before .before .is-ok .ensures) ∙ not-true (c .before .before .is-ok .result) (c .before .if1 .taken)))
 
 front-response-requires : tie.Need-front-response-requires
 front-response-requires c κs = search needs
@@ -39,7 +44,13 @@ unfolding responseIn
 put-response-requires c κs =
     let b = c .before .before .before .before .before .before .before .before .before .before .before .args .buffer .now in
     let w = c .before .before .before .before .before .before .before .before .before .before .before .args .image .now in
-    rw (c .front-response .ensures) (pull-room b w (c .before .before .before .before .before .pull-code .result) (c .before .before .before .before .before .pull-code .ensures (listsIn w) (sym (c .before .before .before .before .before .before .before .before .responses-waiting .ensures .0)) (λ z. ap (λ (r : Signed). length (r .signature)) (front-response-is w z) ∙ sym (c .before .before .before .before .before .before .front-len .ensures .0))) (ok-is _ (sym (c .before .before .before .before .is-ok .ensures) ∙ not-false (c .before .before .before .before .is-ok .result) (c .before .before .before .if1 .left))))
+    rw (c .front-response .ensures) (pull-room b w (c .before .before .before .before .before .pull-code .result)
+    (c .before .before .before .before .before .pull-code .ensures (listsIn w)
+    (sym (c .before .before .before .before .before .before .before .before .responses-waiting .ensures .0))
+    (λ z. ap (λ (r : Signed). length (r .signature)) (front-response-is w z) ∙ sym
+    (c .before .before .before .before .before .before .front-len .ensures .0)))
+    (ok-is _ (sym (c .before .before .before .before .is-ok .ensures) ∙ not-false (c .before .before .before .before .is-ok .result)
+    (c .before .before .before .if1 .left))))
 
 remove-response-requires : tie.Need-remove-response-requires
 remove-response-requires c κs = search needs
@@ -55,7 +66,15 @@ unfolding responseIn
 returns-2 c =
     let b = c .before .before .before .before .before .before .before .before .before .before .before .before .before .before .before .before .before .args .buffer .now in
     let w = c .before .before .before .before .before .before .before .before .before .before .before .before .before .before .before .before .before .args .image .now in
-    rw (c .answered2 .ensures, c .before .remove-response .ensures, c .before .before .before .before .before .put-response .ensures, c .before .before .before .before .before .before .front-response .ensures) (pull-image-done b w (c .before .before .before .before .before .before .before .before .before .before .before .pull-code .result) (c .before .before .before .before .before .before .before .before .before .before .before .pull-code .ensures (listsIn w) (sym (c .before .before .before .before .before .before .before .before .before .before .before .before .before .before .responses-waiting .ensures .0)) (λ z. ap (λ (r : Signed). length (r .signature)) (front-response-is w z) ∙ sym (c .before .before .before .before .before .before .before .before .before .before .before .before .front-len .ensures .0))) (ok-is _ (sym (c .before .before .before .before .before .before .before .before .before .before .is-ok .ensures) ∙ not-false (c .before .before .before .before .before .before .before .before .before .before .is-ok .result) (c .before .before .before .before .before .before .before .before .before .if1 .left))))
+    rw (
+      c .answered2 .ensures,
+      c .before .remove-response .ensures,
+      c .before .before .before .before .before .put-response .ensures,
+      c .before .before .before .before .before .before .front-response .ensures,
+    )
+    (pull-image-done b w (c .before .before .before .before .before .before .before .before .before .before .before .pull-code .result)
+    (c .before .before .before .before .before .before .before .before .before .before .before .pull-code .ensures (listsIn w)
+    (sym (c .before .before .before .before .before .before .before .before .before .before .before .before .before .before .responses-waiting .ensures .0)) (λ z. ap (λ (r : Signed). length (r .signature)) (front-response-is w z) ∙ sym (c .before .before .before .before .before .before .before .before .before .before .before .before .front-len .ensures .0))) (ok-is _ (sym (c .before .before .before .before .before .before .before .before .before .before .is-ok .ensures) ∙ not-false (c .before .before .before .before .before .before .before .before .before .before .is-ok .result) (c .before .before .before .before .before .before .before .before .before .if1 .left))))
 
 pub pull-on-spec : {M : Type 1} → statement M
 pull-on-spec =

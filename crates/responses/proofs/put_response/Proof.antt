@@ -49,7 +49,8 @@ same-length c = search needs
 returns : tie.Need-returns
 returns c =
     let a = c .before .before .before .before .before .before .before .before .before .before .before .before .before .before .before .before .before .before .before .before .args in
-    rw (c .before .before .copy .ensures) (response-laid (a .buffer .now) (a .response) (c .before .before .before .before .before .before .before .before .before .before .before .before .before .before .before .before .before .before .signature-len .result) (c .before .before .before .before .before .before .before .before .before .before .before .before .before .before .before .before .before .before .signature-len .ensures .0) (search needs) _ (c .before .before .before .before .before .before .before .put-quarter .ensures ∙ rw (c .before .before .before .before .before .before .before .before .before .before .before .put-word2 .ensures, c .before .before .before .before .before .before .before .before .before .before .before .before .before .before .before .put-word .ensures)))
+    rw (c .before .before .copy .ensures) (response-laid (a .buffer .now) (a .response)
+    (c .before .before .before .before .before .before .before .before .before .before .before .before .before .before .before .before .before .before .signature-len .result) (c .before .before .before .before .before .before .before .before .before .before .before .before .before .before .before .before .before .before .signature-len .ensures .0) (search needs) _ (c .before .before .before .before .before .before .before .put-quarter .ensures ∙ rw (c .before .before .before .before .before .before .before .before .before .before .before .put-word2 .ensures, c .before .before .before .before .before .before .before .before .before .before .before .before .before .before .before .put-word .ensures)))
 
 pub put-response-spec : {M : Type 1} → statement M
 put-response-spec =

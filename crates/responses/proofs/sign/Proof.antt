@@ -34,7 +34,10 @@ unfolding listsOf
 returns c =
     let a = c .before .before .before .before .before .before .before .before .before .args in
     let q = listsOf (a .queue) in
-    sign-refuses q (a .signature .now) (a .queue) (c .before .before .before .sign-code .result) _ (c .refused .ensures) (sym (c .before .before .before .sign-code .ensures q (sym (c .before .before .before .before .before .request-count .ensures .0)) (ready-length (a .queue .responses) ∙ sym (c .before .before .before .before .response-count .ensures .0)))) (sym (c .before .before .is-ok .ensures) ∙ not-true (c .before .before .is-ok .result) (c .before .if1 .taken))
+    sign-refuses q (a .signature .now) (a .queue) (c .before .before .before .sign-code .result) _ (c .refused .ensures)
+    (sym (c .before .before .before .sign-code .ensures q (sym (c .before .before .before .before .before .request-count .ensures .0))
+    (ready-length (a .queue .responses) ∙ sym (c .before .before .before .before .response-count .ensures .0))))
+    (sym (c .before .before .is-ok .ensures) ∙ not-true (c .before .before .is-ok .result) (c .before .if1 .taken))
 
 first-request-requires : tie.Need-first-request-requires
 first-request-requires c κs = search needs
@@ -47,7 +50,11 @@ unfolding listsOf
 response-of-requires c κs =
     let a = c .before .before .before .before .before .before .before .before .before .before .args in
     let q = listsOf (a .queue) in
-    sign-passed q (a .signature .now) (sym (c .before .before .before .before .sign-code .ensures q (sym (c .before .before .before .before .before .before .request-count .ensures .0)) (ready-length (a .queue .responses) ∙ sym (c .before .before .before .before .before .response-count .ensures .0))) ∙ ok-is _ (sym (c .before .before .before .is-ok .ensures) ∙ not-false (c .before .before .before .is-ok .result) (c .before .before .if1 .left))) .0
+    sign-passed q (a .signature .now) (sym (c .before .before .before .before .sign-code .ensures q
+    (sym (c .before .before .before .before .before .before .request-count .ensures .0))
+    (ready-length (a .queue .responses) ∙ sym (c .before .before .before .before .before .response-count .ensures .0))) ∙ ok-is _
+    (sym (c .before .before .before .is-ok .ensures) ∙ not-false (c .before .before .before .is-ok .result)
+    (c .before .before .if1 .left))) .0
 
 join-response-requires : tie.Need-join-response-requires
 join-response-requires c κs = search needs
@@ -60,9 +67,19 @@ unfolding listsOf signed signedBy queueHolding
 returns-2 c =
     let a = c .before .before .before .before .before .before .before .before .before .before .before .before .before .args in
     let q = listsOf (a .queue) in
-    let o : signCode q (a .signature .now) ≡ Ok = sym (c .before .before .before .before .before .before .before .sign-code .ensures q (sym (c .before .before .before .before .before .before .before .before .before .request-count .ensures .0)) (ready-length (a .queue .responses) ∙ sym (c .before .before .before .before .before .before .before .before .response-count .ensures .0))) ∙ ok-is _ (sym (c .before .before .before .before .before .before .is-ok .ensures) ∙ not-false (c .before .before .before .before .before .before .is-ok .result) (c .before .before .before .before .before .if1 .left)) in
+    let o : signCode q (a .signature .now) ≡ Ok = sym (c .before .before .before .before .before .before .before .sign-code .ensures q
+    (sym (c .before .before .before .before .before .before .before .before .before .request-count .ensures .0))
+    (ready-length (a .queue .responses) ∙ sym (c .before .before .before .before .before .before .before .before .response-count .ensures .0))) ∙ ok-is _ (sym (c .before .before .before .before .before .before .is-ok .ensures) ∙ not-false (c .before .before .before .before .before .before .is-ok .result) (c .before .before .before .before .before .if1 .left)) in
     let l : length (ready (a .queue .responses)) < 8 = sign-passed q (a .signature .now) o .2 in
-    rw (c .answered .ensures, c .before .before .before .requests-from .ensures, c .before .join-response .ensures, joined-room (ready (a .queue .responses)) _ l, c .before .before .response-of .ensures, c .before .before .before .before .first-request .ensures)
+    rw (
+      c .answered .ensures,
+      c .before .before .before .requests-from .ensures,
+      c .before .join-response .ensures,
+      joined-room
+          (ready (a .queue .responses)) _ l,
+      c .before .before .response-of .ensures,
+      c .before .before .before .before .first-request .ensures,
+    )
     (sign-accepts q (a .signature .now) (a .queue) o)
 
 pub sign-spec : {M : Type 1} → statement M

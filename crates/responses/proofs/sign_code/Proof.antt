@@ -13,10 +13,14 @@ returns-3 : tie.Need-returns-3
 returns-3 c = λ q e f. sym (sign-none q (c .before .before .before .args .signature .now) (c .before .before .if1 .left) (c .before .if2 .left) (e ∙ c .if3 .taken))
 
 returns-4 : tie.Need-returns-4
-returns-4 c = λ q e f. sym (sign-full q (c .before .before .before .before .args .signature .now) (c .before .before .before .if1 .left) (c .before .before .if2 .left) (λ z. c .before .if3 .left (sym e ∙ z)) (rw f (c .if4 .taken)))
+returns-4 c =
+    λ q e f. sym (sign-full q (c .before .before .before .before .args .signature .now) (c .before .before .before .if1 .left)
+    (c .before .before .if2 .left) (λ z. c .before .if3 .left (sym e ∙ z)) (rw f (c .if4 .taken)))
 
 returns-5 : tie.Need-returns-5
-returns-5 c = λ q e f. sym (sign-ok q (c .before .before .before .before .args .signature .now) (c .before .before .before .if1 .left) (c .before .before .if2 .left) (λ z. c .before .if3 .left (sym e ∙ z)) (rw f (c .if4 .left)))
+returns-5 c =
+    λ q e f. sym (sign-ok q (c .before .before .before .before .args .signature .now) (c .before .before .before .if1 .left)
+    (c .before .before .if2 .left) (λ z. c .before .if3 .left (sym e ∙ z)) (rw f (c .if4 .left)))
 
 pub sign-code-spec : {M : Type 1} → statement M
 sign-code-spec = tie.close (tie.spec returns returns-2 returns-3 returns-4 returns-5)

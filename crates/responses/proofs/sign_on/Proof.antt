@@ -27,7 +27,11 @@ returns : tie.Need-returns
 returns c =
     let s = c .before .before .before .before .before .before .before .before .before .args .signature .now in
     let w = c .before .before .before .before .before .before .before .before .before .args .image .now in
-    rw (c .answered .ensures) (sign-image-refused w s (c .before .before .before .sign-code .result) (c .before .before .before .sign-code .ensures (listsIn w) (sym (c .before .before .before .before .before .before .requests-waiting .ensures .0)) (sym (c .before .before .before .before .responses-waiting .ensures .0))) (sym (c .before .before .is-ok .ensures) ∙ not-true (c .before .before .is-ok .result) (c .before .if1 .taken)))
+    rw (c .answered .ensures) (sign-image-refused w s (c .before .before .before .sign-code .result)
+    (c .before .before .before .sign-code .ensures (listsIn w)
+    (sym (c .before .before .before .before .before .before .requests-waiting .ensures .0))
+    (sym (c .before .before .before .before .responses-waiting .ensures .0)))
+    (sym (c .before .before .is-ok .ensures) ∙ not-true (c .before .before .is-ok .result) (c .before .if1 .taken)))
 
 front-request-requires : tie.Need-front-request-requires
 front-request-requires c κs = search needs
@@ -36,7 +40,11 @@ response-of-requires : tie.Need-response-of-requires
 response-of-requires c κs =
     let s = c .before .before .before .before .before .before .before .before .before .before .before .args .signature .now in
     let w = c .before .before .before .before .before .before .before .before .before .before .before .args .image .now in
-    sign-passed (listsIn w) s (sym (c .before .before .before .before .before .sign-code .ensures (listsIn w) (sym (c .before .before .before .before .before .before .before .before .requests-waiting .ensures .0)) (sym (c .before .before .before .before .before .before .responses-waiting .ensures .0))) ∙ (ok-is _ (sym (c .before .before .before .before .is-ok .ensures) ∙ not-false (c .before .before .before .before .is-ok .result) (c .before .before .before .if1 .left)))) .0
+    sign-passed (listsIn w) s (sym (c .before .before .before .before .before .sign-code .ensures (listsIn w)
+    (sym (c .before .before .before .before .before .before .before .before .requests-waiting .ensures .0))
+    (sym (c .before .before .before .before .before .before .responses-waiting .ensures .0))) ∙
+    (ok-is _ (sym (c .before .before .before .before .is-ok .ensures) ∙ not-false (c .before .before .before .before .is-ok .result)
+    (c .before .before .before .if1 .left)))) .0
 
 add-response-requires : tie.Need-add-response-requires
 add-response-requires c κs = search needs
@@ -52,7 +60,15 @@ unfolding signedBy
 returns-2 c =
     let s = c .before .before .before .before .before .before .before .before .before .before .before .before .before .before .before .before .args .signature .now in
     let w = c .before .before .before .before .before .before .before .before .before .before .before .before .before .before .before .before .args .image .now in
-    rw (c .answered2 .ensures, c .before .remove-request .ensures, c .before .before .before .add-response .ensures, c .before .before .before .before .response-of .ensures) (sign-image-done w s (c .before .before .before .before .before .before .before .before .before .before .sign-code .result) (c .before .before .before .before .before .before .before .before .before .before .sign-code .ensures (listsIn w) (sym (c .before .before .before .before .before .before .before .before .before .before .before .before .before .requests-waiting .ensures .0)) (sym (c .before .before .before .before .before .before .before .before .before .before .before .responses-waiting .ensures .0))) (ok-is _ (sym (c .before .before .before .before .before .before .before .before .before .is-ok .ensures) ∙ not-false (c .before .before .before .before .before .before .before .before .before .is-ok .result) (c .before .before .before .before .before .before .before .before .if1 .left))) (c .before .before .before .before .before .before .front-request .result) (c .before .before .before .before .before .before .front-request .ensures))
+    rw (
+      c .answered2 .ensures,
+      c .before .remove-request .ensures,
+      c .before .before .before .add-response .ensures,
+      c .before .before .before .before .response-of .ensures,
+    )
+    (sign-image-done w s (c .before .before .before .before .before .before .before .before .before .before .sign-code .result)
+    (c .before .before .before .before .before .before .before .before .before .before .sign-code .ensures (listsIn w)
+    (sym (c .before .before .before .before .before .before .before .before .before .before .before .before .before .requests-waiting .ensures .0)) (sym (c .before .before .before .before .before .before .before .before .before .before .before .responses-waiting .ensures .0))) (ok-is _ (sym (c .before .before .before .before .before .before .before .before .before .is-ok .ensures) ∙ not-false (c .before .before .before .before .before .before .before .before .before .is-ok .result) (c .before .before .before .before .before .before .before .before .if1 .left))) (c .before .before .before .before .before .before .front-request .result) (c .before .before .before .before .before .before .front-request .ensures))
 
 pub sign-on-spec : {M : Type 1} → statement M
 sign-on-spec =

@@ -33,8 +33,8 @@ end-of-requires c κs = c .before .before .before .before .pre .1 (c .before .be
 loop-holds : tie.Need-loop-holds Inv-loop μ-loop Inv-pairs μ-pairs
 loop-holds c = (search needs, search needs, clear-none (c .before .before .before .before .before .args .page .now) (c .before .before .before .pairs .i))
 
-is-apart-requires : tie.Need-is-apart-requires Inv-loop μ-loop Inv-pairs μ-pairs
-is-apart-requires c κs = c .before .before .before .before .before .before .before .pre .1 (c .before .loop .j) (search needs)
+is-clear-requires : tie.Need-is-clear-requires Inv-loop μ-loop Inv-pairs μ-pairs
+is-clear-requires c κs = search needs
 
 add-j : tie.Need-add-j Inv-loop μ-loop Inv-pairs μ-pairs
 add-j c = search needs
@@ -48,7 +48,7 @@ loop-again c =
     let o = c .before .before .before .before .before .before .before .pairs in
     let l = c .before .before .before .loop in
     let e = pair-apart (a .page .now) (o .i) (l .j) _ _ (c .before .before .before .before .before .pointer-at .ensures) (c .before .before .before .before .end-of .ensures) in
-    (search needs, search needs, clear-more (a .page .now) (o .i) (l .j) (l .inv .2) (sym e ∙ sym (c .before .is-apart .ensures) ∙ not-false _ (c .if1 .left)))
+    (search needs, search needs, clear-more (a .page .now) (o .i) (l .j) (l .inv .2) (sym e ∙ sym (c .before .is-clear .ensures) ∙ not-false _ (c .if1 .left)))
 
 add-i : tie.Need-add-i Inv-loop μ-loop Inv-pairs μ-pairs
 add-i c = search needs
@@ -77,7 +77,7 @@ returns-2 c =
     let o = c .before .before .before .before .before .before .before .pairs in
     let l = c .before .before .before .loop in
     let e = pair-apart (a .page .now) (o .i) (l .j) _ _ (c .before .before .before .before .before .pointer-at .ensures) (c .before .before .before .before .end-of .ensures) in
-    sym (apart-not (a .page .now) (a .n) (o .i) (l .j) (search needs) (search needs) (sym e ∙ sym (c .before .is-apart .ensures) ∙ not-true _ (c .if1 .taken)))
+    sym (apart-not (a .page .now) (a .n) (o .i) (l .j) (search needs) (search needs) (sym e ∙ sym (c .before .is-clear .ensures) ∙ not-true _ (c .if1 .taken)))
 
 pub all-apart-spec : {M : Type 1} → statement M
 all-apart-spec =
@@ -91,7 +91,7 @@ all-apart-spec =
     pointer-at-requires
     end-of-requires
     loop-holds
-    is-apart-requires
+    is-clear-requires
     add-j
     loop-less
     loop-again

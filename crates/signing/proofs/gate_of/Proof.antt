@@ -1,3 +1,4 @@
+use Rattle.signing.specs.Signing.{opcodeOf}
 use Rattle.signing.proofs.Signings.{gate-stop, gate-curve, gate-minor, gate-go}
 use borrow.Author.Needs.{needs}
 use Rattle.signing.proofs.gate_of.Statement.{statement}
@@ -21,7 +22,9 @@ enum-told c = search needs
 returns : tie.Need-returns
 returns c =
     let a = c .before .before .before .before .before .args in
-    gate-stop (a .state) (a .len) (a .opcode) (a .pa) (a .size) (a .curve) _ (c .before .before .before .before .is-other .ensures) _ (c .before .before .before .code-if .ensures) _ (c .before .before .page-gate .ensures) _ (c .enum-told .given .1)
+    gate-stop (a .state) (a .len) (opcodeOf (a .opcode)) (a .pa) (a .size) (a .curve) _
+    (c .before .before .before .before .is-other .ensures) _ (c .before .before .before .code-if .ensures) _
+    (c .before .before .page-gate .ensures) _ (c .enum-told .given .1)
 
 bad-curve-requires : tie.Need-bad-curve-requires
 bad-curve-requires c κs = search needs
@@ -29,7 +32,10 @@ bad-curve-requires c κs = search needs
 returns-2 : tie.Need-returns-2
 returns-2 c =
     let a = c .before .before .before .before .before .before .before .before .args in
-    gate-curve (a .state) (a .len) (a .opcode) (a .pa) (a .size) (a .curve) _ (c .before .before .before .before .before .before .before .is-other .ensures) _ (c .before .before .before .before .before .before .code-if .ensures) _ (c .before .before .before .before .before .page-gate .ensures) _ (c .before .before .before .gate .given .1) _ (c .before .bad-curve .ensures) (c .if1 .taken)
+    gate-curve (a .state) (a .len) (opcodeOf (a .opcode)) (a .pa) (a .size) (a .curve) _
+    (c .before .before .before .before .before .before .before .is-other .ensures) _
+    (c .before .before .before .before .before .before .code-if .ensures) _ (c .before .before .before .before .before .page-gate .ensures)
+    _ (c .before .before .before .gate .given .1) _ (c .before .bad-curve .ensures) (c .if1 .taken)
 
 up-of-requires : tie.Need-up-of-requires
 up-of-requires c κs = search needs
@@ -37,12 +43,22 @@ up-of-requires c κs = search needs
 returns-3 : tie.Need-returns-3
 returns-3 c =
     let a = c .before .before .before .before .before .before .before .before .before .before .before .args in
-    gate-minor (a .state) (a .len) (a .opcode) (a .pa) (a .size) (a .curve) _ (c .before .before .before .before .before .before .before .before .before .before .is-other .ensures) _ (c .before .before .before .before .before .before .before .before .before .code-if .ensures) _ (c .before .before .before .before .before .before .before .before .page-gate .ensures) _ (c .before .before .before .before .before .before .gate .given .1) _ (c .before .before .before .before .bad-curve .ensures) (c .before .before .before .if1 .left) _ (c .before .before .up-of .ensures) (search needs)
+    gate-minor (a .state) (a .len) (opcodeOf (a .opcode)) (a .pa) (a .size) (a .curve) _
+    (c .before .before .before .before .before .before .before .before .before .before .is-other .ensures) _
+    (c .before .before .before .before .before .before .before .before .before .code-if .ensures) _
+    (c .before .before .before .before .before .before .before .before .page-gate .ensures) _
+    (c .before .before .before .before .before .before .gate .given .1) _ (c .before .before .before .before .bad-curve .ensures)
+    (c .before .before .before .if1 .left) _ (c .before .before .up-of .ensures) (search needs)
 
 returns-4 : tie.Need-returns-4
 returns-4 c =
     let a = c .before .before .before .before .before .before .before .before .before .before .before .args in
-    gate-go (a .state) (a .len) (a .opcode) (a .pa) (a .size) (a .curve) _ (c .before .before .before .before .before .before .before .before .before .before .is-other .ensures) _ (c .before .before .before .before .before .before .before .before .before .code-if .ensures) _ (c .before .before .before .before .before .before .before .before .page-gate .ensures) _ (c .before .before .before .before .before .before .gate .given .1) _ (c .before .before .before .before .bad-curve .ensures) (c .before .before .before .if1 .left) _ (c .before .before .up-of .ensures) (search needs)
+    gate-go (a .state) (a .len) (opcodeOf (a .opcode)) (a .pa) (a .size) (a .curve) _
+    (c .before .before .before .before .before .before .before .before .before .before .is-other .ensures) _
+    (c .before .before .before .before .before .before .before .before .before .code-if .ensures) _
+    (c .before .before .before .before .before .before .before .before .page-gate .ensures) _
+    (c .before .before .before .before .before .before .gate .given .1) _ (c .before .before .before .before .bad-curve .ensures)
+    (c .before .before .before .if1 .left) _ (c .before .before .up-of .ensures) (search needs)
 
 pub gate-of-spec : {M : Type 1} → statement M
 gate-of-spec =

@@ -33,7 +33,8 @@ same-length c = search needs
 returns : tie.Need-returns
 returns c =
     let a = c .before .before .before .before .before .before .before .before .args in
-    stays _ _ (listsOf (a .queue)) (a .queue) _ (c .before .before .before .before .put-key .ensures (listsOf (a .queue))) (sym (c .before .is-ok .ensures) ∙ not-true (c .before .is-ok .result) (c .if1 .taken))
+    stays _ _ (listsOf (a .queue)) (a .queue) _ (c .before .before .before .before .put-key .ensures (listsOf (a .queue)))
+    (sym (c .before .is-ok .ensures) ∙ not-true (c .before .is-ok .result) (c .if1 .taken))
 
 only-waiting-requires : tie.Need-only-waiting-requires
 only-waiting-requires c κs = search needs
@@ -44,7 +45,9 @@ same-length-2 c = search needs
 returns-2 : tie.Need-returns-2
 returns-2 c =
     let a = c .before .before .before .before .before .before .before .before .before .args in
-    rw (c .only-waiting .ensures) (holds _ _ (listsOf (a .queue)) (a .queue) _ (c .before .before .before .before .before .put-key .ensures (listsOf (a .queue))) (sym (c .before .before .is-ok .ensures) ∙ not-false (c .before .before .is-ok .result) (c .before .if1 .left)))
+    rw (c .only-waiting .ensures) (holds _ _ (listsOf (a .queue)) (a .queue) _
+    (c .before .before .before .before .before .put-key .ensures (listsOf (a .queue)))
+    (sym (c .before .before .is-ok .ensures) ∙ not-false (c .before .before .is-ok .result) (c .before .if1 .left)))
 
 pub public-key-spec : {M : Type 1} → statement M
 public-key-spec =

@@ -18,7 +18,8 @@ returns : tie.Need-returns
 unfolding publicOf
 returns c =
     let a = c .before .before .before .before .args in
-    λ q. rw (c .answered .ensures) (list-refuses (publicCode (length (a .buffer .now)) (a .key .now)) _ (a .buffer .now) q Again (public-empty (length (a .buffer .now)) (a .key .now) (search needs)) refl)
+    λ q. rw (c .answered .ensures) (list-refuses (publicCode (length (a .buffer .now)) (a .key .now)) _ (a .buffer .now) q Again
+    (public-empty (length (a .buffer .now)) (a .key .now) (search needs)) refl)
 
 answered-requires-2 : tie.Need-answered-requires-2
 answered-requires-2 c κs = search needs
@@ -27,7 +28,8 @@ returns-2 : tie.Need-returns-2
 unfolding publicOf
 returns-2 c =
     let a = c .before .before .before .before .before .args in
-    λ q. rw (c .answered2 .ensures) (list-refuses (publicCode (length (a .buffer .now)) (a .key .now)) _ (a .buffer .now) q Inval (public-long (length (a .buffer .now)) (a .key .now) (search needs) (search needs)) refl)
+    λ q. rw (c .answered2 .ensures) (list-refuses (publicCode (length (a .buffer .now)) (a .key .now)) _ (a .buffer .now) q Inval
+    (public-long (length (a .buffer .now)) (a .key .now) (search needs) (search needs)) refl)
 
 copy-requires : tie.Need-copy-requires
 copy-requires c κs = search needs
@@ -42,7 +44,9 @@ returns-3 : tie.Need-returns-3
 unfolding publicOf
 returns-3 c =
     let a = c .before .before .before .before .before .before .before .before .before .args in
-    λ q. rw (c .answered3 .ensures, c .before .before .before .copy .ensures, bytes-in 0 (a .key .now) (a .buffer .now) (omega arith)) (goes-on (publicCode (length (a .buffer .now)) (a .key .now)) (a .buffer .now) q _ (public-ok (length (a .buffer .now)) (a .key .now) (c .before .before .before .before .before .before .if1 .left) (search needs)))
+    λ q. rw (c .answered3 .ensures, c .before .before .before .copy .ensures, bytes-in 0 (a .key .now) (a .buffer .now) (omega arith))
+    (goes-on (publicCode (length (a .buffer .now)) (a .key .now)) (a .buffer .now) q _
+    (public-ok (length (a .buffer .now)) (a .key .now) (c .before .before .before .before .before .before .if1 .left) (search needs)))
 
 pub put-key-spec : {M : Type 1} → statement M
 put-key-spec =

@@ -84,7 +84,8 @@ unfolding part opOn opAt opOf imageDone pullOn
 returns-2 c =
     let a = c .before .before .before .before .before .before .before .before .before .args in
     let e : a .at + a .size - a .at ≡ a .size = omega arith in
-    rw (c .before .before .before .before .before .enum-told2 .given .1, e) (put-back-on (a .at) (a .size) (a .page .now) _ _ _ _ (a .image .now) _ (search needs) (rw e at (c .before .before .pull-on .ensures)))
+    rw (c .before .before .before .before .before .enum-told2 .given .1, e)
+    (put-back-on (a .at) (a .size) (a .page .now) _ _ _ _ (a .image .now) _ (search needs) (rw e at (c .before .before .pull-on .ensures)))
 
 same-length-3 : tie.Need-same-length-3
 same-length-3 c = search needs
@@ -94,7 +95,9 @@ unfolding part opOn opAt opOf imageDone
 returns-3 c =
     let a = c .before .before .before .before .before .before .before .before .args in
     let e : a .at + a .size - a .at ≡ a .size = omega arith in
-    rw (c .before .before .before .before .enum-told3 .given .1, e) (put-back-on (a .at) (a .size) (a .page .now) _ _ _ _ (a .image .now) _ (search needs) (image-same _ _ (a .image .now) (rw e at (c .before .before .put-key .ensures (listsIn (a .image .now))))))
+    rw (c .before .before .before .before .enum-told3 .given .1, e)
+    (put-back-on (a .at) (a .size) (a .page .now) _ _ _ _ (a .image .now) _ (search needs)
+    (image-same _ _ (a .image .now) (rw e at (c .before .before .put-key .ensures (listsIn (a .image .now))))))
 
 returns-4 : tie.Need-returns-4
 unfolding part opOn opAt opOf imageDone

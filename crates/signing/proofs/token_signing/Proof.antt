@@ -9,9 +9,6 @@ use borrow.Author.Needs.{needs}
 use Rattle.signing.proofs.token_signing.Statement.{statement}
 use Rattle.signing.proofs.token_signing.Tie as tie
 
-opcode-of-requires : tie.Need-opcode-of-requires
-opcode-of-requires c κs = search needs
-
 gate-of-requires : tie.Need-gate-of-requires
 gate-of-requires c κs = search needs
 
@@ -24,17 +21,22 @@ refused-requires c κs = search needs
 enum-known-gate-2 : tie.Need-enum-known-gate-2
 enum-known-gate-2 c = search needs
 
+opcode-of-requires : tie.Need-opcode-of-requires
+opcode-of-requires c κs = search needs
+
 serve-requires : tie.Need-serve-requires
 serve-requires c κs =
     let a = c .before .before .before .before .before .before .before .before .args in
-    told-room (a .state) (a .page .now) (a .opcode) (a .pa) (a .size) (a .curve) _ (c .before .before .before .before .before .opcode-of .ensures) _ (c .before .before .before .before .gate-of .ensures) _ (c .before .before .gate2 .given .1)
+    told-room (a .state) (a .page .now) (a .opcode) (a .pa) (a .size) (a .curve) _ (c .before .before .before .before .before .gate-of .ensures) _ (c .before .before .before .gate2 .given .1)
 
 returns : tie.Need-returns
 unfolding signingOf
 returns c =
-    let a = c .before .before .before .before .before .before .before .before .args in
-    let g = told-stop (a .state) (a .page .now) (a .opcode) (a .pa) (a .size) (a .curve) _ (c .before .before .before .before .before .opcode-of .ensures) _ (c .before .before .before .before .gate-of .ensures) _ (c .before .before .gate .given .1) in
-    refuses (sharedCode (a .state) (length (a .page .now)) (opcodeOf (a .opcode)) (a .pa) (a .size) (a .curve)) (a .page .now) (listsOf (a .queue)) (a .queue) (opAt (opcodeOf (a .opcode)) (placeOf (upOf (a .state)) (a .pa)) (a .size) (a .page .now) (listsOf (a .queue)) (a .key .now)) _ _ (c .refused .ensures) (g .0) (g .1)
+    let a = c .before .before .before .before .before .before .before .args in
+    let g = told-stop (a .state) (a .page .now) (a .opcode) (a .pa) (a .size) (a .curve) _ (c .before .before .before .before .gate-of .ensures) _ (c .before .before .gate .given .1) in
+    refuses (sharedCode (a .state) (length (a .page .now)) (opcodeOf (a .opcode)) (a .pa) (a .size) (a .curve)) (a .page .now)
+    (listsOf (a .queue)) (a .queue) (opAt (opcodeOf (a .opcode)) (placeOf (upOf (a .state)) (a .pa)) (a .size) (a .page .now)
+    (listsOf (a .queue)) (a .key .now)) _ _ (c .refused .ensures) (g .0) (g .1)
 
 same-length : tie.Need-same-length
 same-length c = search needs
@@ -42,17 +44,20 @@ same-length c = search needs
 returns-2 : tie.Need-returns-2
 returns-2 c =
     let a = c .before .before .before .before .before .before .before .before .before .before .before .args in
-    told-served (a .state) (a .page .now) (a .opcode) (a .pa) (a .size) (a .curve) _ (c .before .before .before .before .before .before .before .before .opcode-of .ensures) _ (c .before .before .before .before .before .before .before .gate-of .ensures) _ (c .before .before .before .before .before .gate2 .given .1) (a .queue) (a .key .now) _ (c .before .before .serve .ensures)
+    told-served (a .state) (a .page .now) (a .opcode) (a .pa) (a .size) (a .curve) _
+    (c .before .before .before .before .before .before .before .before .gate-of .ensures) _
+    (c .before .before .before .before .before .before .gate2 .given .1) _ (c .before .before .before .opcode-of .ensures) (a .queue)
+    (a .key .now) _ (c .before .before .serve .ensures)
 
 pub token-signing-spec : {M : Type 1} → statement M
 token-signing-spec =
     tie.close
     (tie.spec
-    opcode-of-requires
     gate-of-requires
     enum-known-gate
     refused-requires
     enum-known-gate-2
+    opcode-of-requires
     serve-requires
     returns
     same-length

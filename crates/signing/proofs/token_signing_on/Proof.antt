@@ -11,9 +11,6 @@ use borrow.Author.Needs.{needs}
 use Rattle.signing.proofs.token_signing_on.Statement.{statement}
 use Rattle.signing.proofs.token_signing_on.Tie as tie
 
-opcode-of-requires : tie.Need-opcode-of-requires
-opcode-of-requires c κs = search needs
-
 gate-of-requires : tie.Need-gate-of-requires
 gate-of-requires c κs = search needs
 
@@ -26,17 +23,25 @@ answered-requires c κs = search needs
 enum-known-gate-2 : tie.Need-enum-known-gate-2
 enum-known-gate-2 c = search needs
 
+opcode-of-requires : tie.Need-opcode-of-requires
+opcode-of-requires c κs = search needs
+
 serve-on-requires : tie.Need-serve-on-requires
 serve-on-requires c κs =
     let a = c .before .before .before .before .before .before .before .before .before .args in
-    told-room (a .state) (a .page .now) (a .opcode) (a .pa) (a .size) (a .curve) _ (c .before .before .before .before .before .before .opcode-of .ensures) _ (c .before .before .before .before .before .gate-of .ensures) _ (c .before .before .before .gate2 .given .1)
+    told-room (a .state) (a .page .now) (a .opcode) (a .pa) (a .size) (a .curve) _
+    (c .before .before .before .before .before .before .gate-of .ensures) _ (c .before .before .before .before .gate2 .given .1)
 
 returns : tie.Need-returns
 unfolding signingOn signingDone signingOf
 returns c =
-    let a = c .before .before .before .before .before .before .before .before .args in
-    let g = told-stop (a .state) (a .page .now) (a .opcode) (a .pa) (a .size) (a .curve) _ (c .before .before .before .before .before .opcode-of .ensures) _ (c .before .before .before .before .gate-of .ensures) _ (c .before .before .gate .given .1) in
-    rw (c .answered .ensures, ← g .0) (image-refuses (sharedCode (a .state) (length (a .page .now)) (opcodeOf (a .opcode)) (a .pa) (a .size) (a .curve)) (opAt (opcodeOf (a .opcode)) (placeOf (upOf (a .state)) (a .pa)) (a .size) (a .page .now) (listsIn (a .image .now)) (a .key .now)) (a .page .now) (listsIn (a .image .now)) (imageDone (opcodeOf (a .opcode)) (part (placeOf (upOf (a .state)) (a .pa)) (a .size) (a .page .now)) (a .image .now)) (a .image .now) (rw (← g .0) at (g .1)))
+    let a = c .before .before .before .before .before .before .before .args in
+    let g = told-stop (a .state) (a .page .now) (a .opcode) (a .pa) (a .size) (a .curve) _ (c .before .before .before .before .gate-of .ensures) _ (c .before .before .gate .given .1) in
+    rw (c .answered .ensures, ← g .0) (image-refuses (sharedCode (a .state) (length (a .page .now)) (opcodeOf (a .opcode)) (a .pa) (a .size)
+    (a .curve)) (opAt (opcodeOf (a .opcode)) (placeOf (upOf (a .state)) (a .pa)) (a .size) (a .page .now) (listsIn (a .image .now))
+    (a .key .now)) (a .page .now) (listsIn (a .image .now))
+    (imageDone (opcodeOf (a .opcode)) (part (placeOf (upOf (a .state)) (a .pa)) (a .size) (a .page .now)) (a .image .now)) (a .image .now)
+    (rw (← g .0) at (g .1)))
 
 same-length : tie.Need-same-length
 same-length c = search needs
@@ -44,17 +49,20 @@ same-length c = search needs
 returns-2 : tie.Need-returns-2
 returns-2 c =
     let a = c .before .before .before .before .before .before .before .before .before .before .before .before .args in
-    told-served-on (a .state) (a .page .now) (a .opcode) (a .pa) (a .size) (a .curve) _ (c .before .before .before .before .before .before .before .before .before .opcode-of .ensures) _ (c .before .before .before .before .before .before .before .before .gate-of .ensures) _ (c .before .before .before .before .before .before .gate2 .given .1) (a .image .now) (a .key .now) _ (c .before .before .serve-on .ensures)
+    told-served-on (a .state) (a .page .now) (a .opcode) (a .pa) (a .size) (a .curve) _
+    (c .before .before .before .before .before .before .before .before .before .gate-of .ensures) _
+    (c .before .before .before .before .before .before .before .gate2 .given .1) _ (c .before .before .before .opcode-of .ensures)
+    (a .image .now) (a .key .now) _ (c .before .before .serve-on .ensures)
 
 pub token-signing-on-spec : {M : Type 1} → statement M
 token-signing-on-spec =
     tie.close
     (tie.spec
-    opcode-of-requires
     gate-of-requires
     enum-known-gate
     answered-requires
     enum-known-gate-2
+    opcode-of-requires
     serve-on-requires
     returns
     same-length

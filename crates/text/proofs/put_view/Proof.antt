@@ -1,9 +1,7 @@
 use mathlib.Core.Path.{ap}
-use Rattle.reader.specs.Answer.{fieldsShown}
-use Rattle.reader.specs.Reading.{readingAnswer}
-use Rattle.text_lines.specs.Text.{fieldsText, listingOf}
-use Rattle.text_lines.specs.Steps.{seen}
+use Rattle.text_lines.specs.Text.{fieldsText}
 use Rattle.text_lines.proofs.Lay.{wrote-then, wrote-same}
+use Rattle.text_lines.proofs.Parts.{seen-listed}
 use borrow.Author.Needs.{needs}
 use Rattle.text.proofs.put_view.Statement.{statement}
 use Rattle.text.proofs.put_view.Tie as tie
@@ -27,13 +25,15 @@ same-length : tie.Need-same-length
 same-length c = search needs
 
 returns : tie.Need-returns
-unfolding readingAnswer fieldsShown listingOf seen
 returns c =
-    wrote-then (search needs)
+    let f = c .before .before .before .before .before .before .before .before in
+    let a = f .before .before .before .before .before .before .before .before .before .before .before .args in
+    wrote-same (seen-listed (a .view) (a .page .now))
     (wrote-then (search needs)
-    (wrote-then (search needs) (c .before .before .before .before .before .before .before .before .before .before .before .before .before .before .before .put-head .ensures) (c .before .before .before .before .before .before .before .before .before .before .before .put-plat .ensures))
-    (wrote-same (ap fieldsText (c .before .before .before .before .before .before .before .before .fields-start .ensures .1)) (c .before .before .before .before .before .before .put-fields .ensures)))
-    (c .before .before .put-sections .ensures)
+    (wrote-then (search needs)
+    (wrote-then (search needs) (f .before .before .before .before .before .before .before .put-head .ensures) (f .before .before .before .put-plat .ensures))
+    (wrote-same (ap fieldsText (f .fields-start .ensures .1)) (c .before .before .before .before .before .before .put-fields .ensures)))
+    (c .before .before .put-sections .ensures))
 
 pub put-view-spec : {M : Type 1} → statement M
 put-view-spec =

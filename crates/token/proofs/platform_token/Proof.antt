@@ -30,17 +30,24 @@ enum-known-start-2 c = search needs
 send-requires : tie.Need-send-requires
 send-requires c κs =
     let a = c .before .before .before .before .before .before .before .before .before .before .before .args in
-    told-room (a .state) (a .page .now) (a .session) (a .busy) (a .token .now) (a .pa) (a .size) (a .csize) _ (c .before .before .before .before .before .before .before .before .buffer-of .ensures) _ (c .before .before .before .before .before .before .gate2 .given .1)
+    told-room (a .state) (a .page .now) (a .session) (a .busy) (a .token .now) (a .pa) (a .size) (a .csize) _
+    (c .before .before .before .before .before .before .before .before .buffer-of .ensures) _
+    (c .before .before .before .before .before .before .gate2 .given .1)
 
 returns : tie.Need-returns
 returns c =
     let a = c .before .before .before .before .before .before .before .args in
-    told-stop (a .state) (a .page .now) (a .session) (a .busy) (a .token .now) (a .pa) (a .size) (a .csize) _ (c .before .before .before .before .buffer-of .ensures) _ (c .before .before .gate .given .1) _ (c .refused .ensures .0) _ (c .refused .ensures .1)
+    told-stop (a .state) (a .page .now) (a .session) (a .busy) (a .token .now) (a .pa) (a .size) (a .csize) _
+    (c .before .before .before .before .buffer-of .ensures) _ (c .before .before .gate .given .1) _ (c .refused .ensures .0) _
+    (c .refused .ensures .1)
 
 returns-2 : tie.Need-returns-2
 returns-2 c =
     let a = c .before .before .before .before .before .before .before .before .before .before .before .args in
-    told-start (a .state) (a .page .now) (a .session) (a .busy) (a .token .now) (a .pa) (a .size) (a .csize) _ (c .before .before .before .before .before .before .before .before .buffer-of .ensures) _ (c .before .before .before .before .before .before .gate2 .given .1) _ (c .before .before .before .before .start-of .ensures) _ (c .before .before .start .given .1) _ (c .refused2 .ensures .0) _ (c .refused2 .ensures .1)
+    told-start (a .state) (a .page .now) (a .session) (a .busy) (a .token .now) (a .pa) (a .size) (a .csize) _
+    (c .before .before .before .before .before .before .before .before .buffer-of .ensures) _
+    (c .before .before .before .before .before .before .gate2 .given .1) _ (c .before .before .before .before .start-of .ensures) _
+    (c .before .before .start .given .1) _ (c .refused2 .ensures .0) _ (c .refused2 .ensures .1)
 
 same-length : tie.Need-same-length
 same-length c = search needs
@@ -48,7 +55,11 @@ same-length c = search needs
 returns-3 : tie.Need-returns-3
 returns-3 c =
     let a = c .before .before .before .before .before .before .before .before .before .before .before .before .before .before .args in
-    told-sent (a .state) (a .page .now) (a .session) (a .busy) (a .token .now) (a .pa) (a .size) (a .csize) _ (c .before .before .before .before .before .before .before .before .before .before .before .buffer-of .ensures) _ (c .before .before .before .before .before .before .before .before .before .gate2 .given .1) _ (c .before .before .before .before .before .before .before .start-of .ensures) _ (c .before .before .before .before .before .start2 .given .1) _ (c .before .before .send .ensures)
+    told-sent (a .state) (a .page .now) (a .session) (a .busy) (a .token .now) (a .pa) (a .size) (a .csize) _
+    (c .before .before .before .before .before .before .before .before .before .before .before .buffer-of .ensures) _
+    (c .before .before .before .before .before .before .before .before .before .gate2 .given .1) _
+    (c .before .before .before .before .before .before .before .start-of .ensures) _
+    (c .before .before .before .before .before .start2 .given .1) _ (c .before .before .send .ensures)
 
 pub platform-token-spec : {M : Type 1} → statement M
 platform-token-spec =

@@ -33,7 +33,8 @@ same-length c = search needs
 returns-2 : tie.Need-returns-2
 returns-2 c =
     let a = c .before .before .before .before .before .before .before .before .before .before .args in
-    rw (c .before .answered2 .ensures, c .idle2 .ensures, c .before .before .before .before .put-hunk .ensures) (sym (send-last (a .at) (a .token .now) (a .from) (a .size) (a .page .now) (search needs)))
+    rw (c .before .answered2 .ensures, c .idle2 .ensures, c .before .before .before .before .put-hunk .ensures)
+    (sym (send-last (a .at) (a .token .now) (a .from) (a .size) (a .page .now) (search needs)))
 
 put-hunk-requires-2 : tie.Need-put-hunk-requires-2
 put-hunk-requires-2 c κs = search needs

@@ -15,7 +15,9 @@ returns c =
 returns-2 : tie.Need-returns-2
 returns-2 c =
     let a = c .before .before .args in
-    goes (startCode (a .session) (a .csize) (a .len)) (beginOf (a .session) (a .csize)) 0 (start-again (a .session) (a .csize) (a .len) (search needs) (search needs)) (begin-again (a .session) (a .csize) (a .len) (search needs))
+    goes (startCode (a .session) (a .csize) (a .len)) (beginOf (a .session) (a .csize)) 0
+    (start-again (a .session) (a .csize) (a .len) (search needs) (search needs))
+    (begin-again (a .session) (a .csize) (a .len) (search needs))
 
 enum-known-session : tie.Need-enum-known-session
 enum-known-session c = search needs
@@ -32,19 +34,23 @@ returns-4 : tie.Need-returns-4
 returns-4 c =
     let a = c .before .before .before .before .before .args in
     let g = c .before .before .session .given in
-    stops (startCode (a .session) (a .csize) (a .len)) (beginOf (a .session) (a .csize)) Unk (next-empty (a .session) (a .csize) (a .len) (search needs) (g .0 .0) (g .0 .1 .0) (g .1) (search needs)) refl
+    stops (startCode (a .session) (a .csize) (a .len)) (beginOf (a .session) (a .csize)) Unk
+    (next-empty (a .session) (a .csize) (a .len) (search needs) (g .0 .0) (g .0 .1 .0) (g .1) (search needs)) refl
 
 returns-5 : tie.Need-returns-5
 returns-5 c =
     let a = c .before .before .before .before .before .before .args in
     let g = c .before .before .before .session .given in
-    stops (startCode (a .session) (a .csize) (a .len)) (beginOf (a .session) (a .csize)) Unk (next-other (a .session) (a .csize) (a .len) (search needs) (g .0 .0) (g .0 .1 .0) (g .1) (search needs) (search needs)) refl
+    stops (startCode (a .session) (a .csize) (a .len)) (beginOf (a .session) (a .csize)) Unk
+    (next-other (a .session) (a .csize) (a .len) (search needs) (g .0 .0) (g .0 .1 .0) (g .1) (search needs) (search needs)) refl
 
 returns-6 : tie.Need-returns-6
 returns-6 c =
     let a = c .before .before .before .before .before .before .args in
     let g = c .before .before .before .session .given in
-    goes (startCode (a .session) (a .csize) (a .len)) (beginOf (a .session) (a .csize)) _ (next-ok (a .session) (a .csize) (a .len) (search needs) (g .0 .0) (g .0 .1 .0) (g .1) (search needs) (search needs)) (begin-next (a .session) (a .csize) (a .len) (search needs) (g .0 .0) (g .0 .1 .0) (g .1))
+    goes (startCode (a .session) (a .csize) (a .len)) (beginOf (a .session) (a .csize)) _
+    (next-ok (a .session) (a .csize) (a .len) (search needs) (g .0 .0) (g .0 .1 .0) (g .1) (search needs) (search needs))
+    (begin-next (a .session) (a .csize) (a .len) (search needs) (g .0 .0) (g .0 .1 .0) (g .1))
 
 pub start-of-spec : {M : Type 1} → statement M
 start-of-spec =
