@@ -19,6 +19,8 @@
  * - The first check that fails decides the answer. The checks stand below in their order.
  * - A refused runtime command puts its code into x0 and 0 into x1 and x2, and leaves page, table, words, session and queue as they
  *   were, whatever they hold. A refused list of granules differs: x1 is the number done, and these stay done.
+ * - size_t has 64 bits: the archives are for x86-64 and AArch64 (LP64). On a 32-bit target the prototypes would not be those of the
+ *   library, and PBEAM_CONSOLE_NONE would fit no size_t.
  * - "Stack" is what a call was seen to write on x86-64 at most, accepted or refused, rounded up to a multiple of 32, with its return
  *   address and the words that its caller passes on the stack. It is measured (rust/tests/stack.rs), not proved. All fit 1 KiB.
  * - The figure after "AArch64" is static, rounded in the same way: the frames of the function and of all that it calls, in the archive that
@@ -62,6 +64,8 @@
  *     would have made is believed, whatever memory the board has.
  *   - A request in the queue with ids above 32 bits, or with any ids: pbeam_oldest shows them as they stand, and pbeam_sign takes it. A
  *     push never puts one there.
+ *   - A response in the queue with a length above 104: a pull of it delivers 104 bytes and writes 104 as its length. Where an older response
+ *     is pulled, it moves up with its length word as it stands.
  */
 #ifndef POTTERBEAM_H
 #define POTTERBEAM_H
@@ -332,11 +336,14 @@
 #define PBEAM_RESPONSE_WORD_SIGNATURE 3 /* PBEAM_SIGNATURE_WORDS words, as the hash */
 #define PBEAM_SIGNATURE_WORDS 13
 
-/* View of a page. Section k starts at word PBEAM_VIEW_SECTIONS + PBEAM_VIEW_SECTION_WORDS * k. */
+/* View of a page. Section k starts at word PBEAM_VIEW_SECTIONS + PBEAM_VIEW_SECTION_WORDS * k.
+ * A view holds offsets and counts, no bytes of the page and no B. The functions on fields and pbeam_kept_for find the fields at the offset
+ * plat_data modulo 4,096, and read their tags and lengths in the lent page at each call. So after a command has written into them these
+ * functions answer from the new bytes: pass kept bytes to pbeam_cold_boot, or look the fields up before the first command. */
 #define PBEAM_VIEW_WORDS 15
 #define PBEAM_VIEW_MINOR 0     /* w, the page's minor */
 #define PBEAM_VIEW_EDITION 1   /* e, the smaller of w and the reader's edition */
-#define PBEAM_VIEW_PLAT_DATA 2 /* plat_data as it stands */
+#define PBEAM_VIEW_PLAT_DATA 2 /* plat_data as it stands: 0, or the fields' address */
 #define PBEAM_VIEW_SECTIONS 3
 #define PBEAM_VIEW_SECTION_WORDS 3
 #define PBEAM_VIEW_SECTION_KIND 0
@@ -361,7 +368,7 @@
 #define PBEAM_FOUND_VALUE 1
 #define PBEAM_FOUND_WITHDRAWN 2   /* PBEAM_TAG_CONSOLE, whose value is not shown */
 
-/* The answer of pbeam_console_named where no console has the name: the largest size_t. */
+/* The answer of pbeam_console_named where no console has the name: the largest size_t, which has 64 bits. */
 #define PBEAM_CONSOLE_NONE UINT64_C(0xFFFFFFFFFFFFFFFF)
 
 /* Result registers. Always written whole. */
@@ -472,8 +479,8 @@ size_t pbeam_console_named(const uint8_t *page, size_t page_len, const uint64_t 
 /*
  * pbeam_field_count: how many fields the platform data has.
  * Takes    a page, and the view that pbeam_read made of it.
- * Answers  the number of fields; 0 where plat_data is 0, where an end mark stands alone and, by a view that no reading made, where the
- *          fields are broken or not in the lent page.
+ * Answers  the number of fields; 0 where plat_data is 0, where an end mark stands alone and, by a view that no reading made or of a page
+ *          that was written since, where the fields are broken or not in the lent page.
  * Leaves   page and view as they were.
  * Stack    32 bytes; AArch64 0
  */
@@ -507,8 +514,8 @@ void pbeam_field_of_tag(const uint8_t *page, size_t page_len, const uint64_t vie
 /*
  * pbeam_field_start: the cursor at the first field, for pbeam_field_next.
  * Takes    page and view as pbeam_field_count.
- * Answers  the cursor; page_len where plat_data is 0 and, by a view that no reading made, where the fields are broken or not in the lent
- *          page.
+ * Answers  the cursor: the offset of the first field, or of the end mark if that stands alone; page_len where plat_data is 0 and, by a view
+ *          that no reading made or of a page that was written since, where the fields are broken or not in the lent page.
  * Leaves   page and view as they were.
  * Stack    32 bytes; AArch64 0
  */
@@ -518,11 +525,25 @@ size_t pbeam_field_start(const uint8_t *page, size_t page_len, const uint64_t vi
 /*
  * pbeam_field_next: the field at a cursor.
  * Takes    the page, and a cursor that pbeam_field_start or this function answered for it.
- * Answers  the cursor behind the field; page_len behind the last. field: as pbeam_field; all zero behind the last.
+ * Answers  the cursor after the field, with field as pbeam_field. After the last field that cursor is the offset of the end mark: one more
+ *          call finds no field there, answers page_len and makes field all zero.
  * Leaves   the page as it was.
  * Stack    32 bytes; AArch64 0
- * A walk passes each field once. Any other cursor is taken as the offset of a field: none is found outside the page, but any byte within it may
- * be told as a tag or a length, one of a withdrawn value too. A cursor is for this function alone: it is no place of a value.
+ * A walk passes each field once. It ends where field[0] is PBEAM_FOUND_NONE; a comparison of the cursor with page_len does not end it:
+ *
+ *     uint64_t field[PBEAM_FIELD_WORDS];
+ *     size_t cursor = pbeam_field_start(page, page_len, view);
+ *     for (;;) {
+ *         cursor = pbeam_field_next(page, page_len, cursor, field);
+ *         if (field[PBEAM_FIELD_WORD_FOUND] == PBEAM_FOUND_NONE)
+ *             break;
+ *         if (field[PBEAM_FIELD_WORD_FOUND] == PBEAM_FOUND_VALUE)
+ *             use(field[PBEAM_FIELD_WORD_TAG], page + field[PBEAM_FIELD_WORD_OFFSET], field[PBEAM_FIELD_WORD_LENGTH]);
+ *     }
+ *
+ * Any other cursor is taken as the offset of a field: none is found outside the page, but any byte within it may be told as a tag or a
+ * length, one of a withdrawn value too, and tags 1 to 3 are shown with any length and more than once. A cursor is for this function alone:
+ * it is no place of a value.
  */
 PBEAM_NONNULL(4)
 size_t pbeam_field_next(const uint8_t *page, size_t page_len, size_t cursor, uint64_t field[PBEAM_FIELD_WORDS]);
@@ -533,8 +554,8 @@ size_t pbeam_field_next(const uint8_t *page, size_t page_len, size_t cursor, uin
  * Takes    a page, and the view that pbeam_read made of it as PBEAM_EDITION_LAST.
  * Answers  the highest end of the core, of the arrays and of the fields with their end mark, as an offset in the page, rounded up to a
  *          multiple of 8: from 16 to 4,096. Of a view that no reading made: the core is that of its edition, below 1 taken as 1 and above
- *          4 as 4, entries that do not lie within 4,096 bytes do not count, and broken fields count to the page's end; so it is never
- *          above 4,096.
+ *          4 as 4, and entries that do not lie within 4,096 bytes do not count. Fields that are broken, that are not in the lent page or
+ *          that end above 4,096 count to 4,096, for any page_len; so the answer is never above 4,096.
  * Leaves   page and view as they were.
  * Stack    64 bytes; AArch64 0
  * With so many kept bytes pbeam_read gives the same answer and the same view after any commands, as the edition that the view was read as
@@ -638,12 +659,16 @@ bool pbeam_version_accepted(uint64_t version);
 /*
  * pbeam_agreed_minor: the agreed interface minor, by the version that was offered: the smaller of 5 and its minor.
  * Stack    32 bytes; AArch64 0
+ * It takes any number and looks at bits 0 to 15 alone: of a version with another major it answers 1 to 5 all the same, and 0 of minor 0.
+ * Ask pbeam_version_accepted first.
  */
 uint64_t pbeam_agreed_minor(uint64_t version);
 
 /*
  * pbeam_is_later: whether version a is later than version b.
  * Stack    32 bytes; AArch64 0
+ * It takes any two numbers and compares them as 64 bits: one that is no version, for example above 32 bits, is later than every version
+ * below it. Ask pbeam_version_accepted first.
  */
 bool pbeam_is_later(uint64_t a, uint64_t b);
 

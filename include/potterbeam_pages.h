@@ -16,6 +16,7 @@
  *   alignment in memory, words (uint64_t) are aligned as C asks.
  * - page, target and changed must not overlap. There is no lock: one page is used by one call at a time.
  * - The first check that fails decides the answer. The checks stand below in their order.
+ * - size_t has 64 bits: the archives are for x86-64 and AArch64 (LP64).
  * - "Stack" is what a call was seen to write on x86-64 at most, and after "AArch64" a static bound of the archive that tools/aarch64
  *   builds; both with the words that its caller passes on the stack, rounded up to a multiple of 32 (docs/STACK.md).
  */

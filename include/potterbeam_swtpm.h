@@ -17,6 +17,7 @@
  * - There is no lock. One collector or buffer is used by one call at a time; different ones may be used at the same time.
  * - A call that can be refused answers PBEAM_SWTPM_OK or the number of the refusal. The first check that fails decides; the checks stand
  *   below in their order. A refused call leaves every lent byte and word as it was: buffer, collector, parts and len.
+ * - size_t has 64 bits: the archives are for x86-64 and AArch64 (LP64).
  * - "Stack" is what a call was seen to write on x86-64 at most, and after "AArch64" a static bound of the archive that tools/aarch64
  *   builds; both with the words that its caller passes on the stack, rounded up to a multiple of 32 (docs/STACK.md).
  */

@@ -28,6 +28,7 @@
  *   bytes at out_buffer. Between pbeam_tpm_request and the TPM's own reading the request is in the guest's hands: a platform that
  *   judges its bytes copies them first.
  * - There is no lock. One memory and one session word are used by one call at a time; different guests may call at the same time.
+ * - size_t has 64 bits: the archives are for x86-64 and AArch64 (LP64).
  * - "Stack" is what a call was seen to write on x86-64 at most, and after "AArch64" a static bound of the archive that tools/aarch64
  *   builds; both with the words that its caller passes on the stack, rounded up to a multiple of 32 (docs/STACK.md).
  * - The first check that fails decides the answer. The checks stand below in their order.

@@ -2,8 +2,9 @@
  * Potterbeam RMM-EL3 kit: types over the words of potterbeam.h, for C11 and C++11 or later. Nothing here is exported by the library:
  * each function is `static inline` and calls one of potterbeam.h, or reads and writes what it is lent.
  *
- * Each image has a type of its own, so that a session given for a queue does not compile. Banks, regions and consoles are structs, and
- * lists of them are counted in entries. What pbeam_call takes stands in one struct, pbeam_context_t.
+ * Each image has a type of its own, so that the compiler notices a session given for a queue: an error in C++; in C at least a warning
+ * (-Wincompatible-pointer-types), which -Werror makes an error. Banks, regions and consoles are structs, and lists of them are counted in
+ * entries. What pbeam_call takes stands in one struct, pbeam_context_t.
  *
  * A pointer to an image, a page or a struct is never NULL, unless it says so. All else is as in potterbeam.h: any value is taken.
  */
@@ -501,7 +502,8 @@ static inline size_t pbeam_view_field_start(const pbeam_page_t *page, const pbea
     return pbeam_field_start(page->bytes, sizeof page->bytes, view->words);
 }
 
-/* pbeam_field_next: the field at the cursor, which moves behind it. */
+/* pbeam_field_next: the field at the cursor, which moves past it. A walk ends where pbeam_field_found is false, not at
+ * a cursor. */
 PBEAM_NONNULL(1, 2)
 static inline pbeam_field_t pbeam_view_field_next(const pbeam_page_t *page, size_t *cursor)
 {
@@ -917,7 +919,10 @@ static inline void pbeam_context_undelegate_list(pbeam_context_t *context, const
                           context->words == NULL ? 0 : context->words_count, addresses, addresses == NULL ? 0 : count, out->words);
 }
 
-/* pbeam_challenge: the challenge of a call that starts a token session; (0, 0) for any other call. Answers as pbeam_challenge. */
+/* pbeam_challenge: the challenge of a call that starts a token session; place (0, 0) for any other call. For PBEAM_ID_PLATFORM_TOKEN it
+ * answers as pbeam_challenge. For any other id the code says nothing of the command: it is that of pbeam_challenge with x1 as pa, x2 as
+ * size and c_size 0, for example PBEAM_X0_BAD_ADDR for PBEAM_ID_FEATURES with index 0. A handler that asks for every call goes by place,
+ * not by the code. */
 PBEAM_NONNULL(1, 2, 3)
 static inline uint64_t pbeam_context_challenge(const pbeam_context_t *context, const pbeam_call_t *call, pbeam_place_t *place)
 {

@@ -1,5 +1,5 @@
-"""The granule record of several banks and the realm words beside a table, as
-docs/02-change-requests.md (E2, E6) has them. A record is given by its first words: how many banks,
+"""The granule record of several banks and the realm words beside a table, as docs/RULES.md (BN1 to
+BN8, RW1 to RW9; requests E2, E6) has them. A record is given by its first words: how many banks,
 then base and size of each; the words behind those given are 0. All arithmetic is on plain numbers.
 """
 

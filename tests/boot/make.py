@@ -1,6 +1,6 @@
 #!/usr/bin/env python3
-"""Run vectors for the cold and warm boot checks, made from docs/01-scope.md and
-docs/02-change-requests.md (E5) alone.
+"""Run vectors for the cold and warm boot checks, made from the rules alone (docs/RULES.md: BT1 to
+BT7; request E5).
 
 Run from the repository's root:  python3 tests/boot/make.py
 It rewrites crates/boot_vectors/data/c000, c001, .. (8-byte words: the record's state, cpus, base,

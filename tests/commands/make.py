@@ -1,6 +1,6 @@
 #!/usr/bin/env python3
-"""Run vectors for six runtime commands, made from docs/01-scope.md and docs/02-change-requests.md
-(E2, E5, E6, E8) alone.
+"""Run vectors for six runtime commands, made from the rules alone (docs/RULES.md: RT1 to RT10, CM1
+to CM4, CM6, CM8; requests E2, E5, E6, E8).
 
 Run from the repository's root:  python3 tests/commands/make.py
 It rewrites crates/command_vectors/data/c000, c001, .. (8-byte words: the record's state, cpus,

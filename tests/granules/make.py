@@ -1,6 +1,7 @@
 #!/usr/bin/env python3
 """Run vectors for setting up the granule record, for lists of granules and for questions to the
-realm words, made from docs/01-scope.md and docs/02-change-requests.md (E1, E2, E6, E8) alone.
+realm words, made from the rules alone (docs/RULES.md: CM2, CM3, LG1 to LG6, BN1 to BN8, RW1 to RW9,
+SH1, SH2; requests E1, E2, E6, E8).
 
 Run from the repository's root:  python3 tests/granules/make.py
 It rewrites crates/granule_vectors/data/c000, c001, .. (8-byte words: the boot record's state, cpus,

@@ -1,6 +1,6 @@
 #!/usr/bin/env python3
-"""Inputs of the listing program and what it has to print for them, made from the two papers alone
-by the reader and the listing of tests/reader/make.py.
+"""Inputs of the listing program and what it has to print for them, made from the rules alone
+(docs/RULES.md: LS1 to LS7) by the reader and the listing of tests/reader/make.py.
 
 Run from the repository's root:  python3 tests/listing/make.py
 It rewrites tests/listing/cases: NAME.in, the program's standard input, and NAME.out, its standard

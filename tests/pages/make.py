@@ -1,6 +1,6 @@
 #!/usr/bin/env python3
-"""Run vectors for the packer and the mender, made from the two papers alone: docs/01-scope.md and
-E11 and E12 of docs/02-change-requests.md. The reader and the writer are those of tests/reader and
+"""Run vectors for the packer and the mender, made from the rules alone (docs/RULES.md: PK1 to PK8,
+MD1 to MD8; requests E11 and E12). The reader and the writer are those of tests/reader and
 tests/writer.
 
 Run from the repository's root:  python3 tests/pages/make.py

@@ -1,6 +1,6 @@
 #!/usr/bin/env python3
-"""Run vectors for the boot-manifest reader, made from the two papers alone: docs/01-scope.md and
-E3, E7 and E10 of docs/02-change-requests.md.
+"""Run vectors for the boot-manifest reader, made from the rules alone (docs/RULES.md: RD1 to RD15
+and the manifest rules P1 to F5, FD1 to FD11, LS2 to LS5; requests E3, E7 and E10).
 
 Run from the repository's root:  python3 tests/reader/make.py
 It rewrites crates/reader_vectors/data/c000, c001, .. (8 bytes of reader edition, 8 bytes of B,

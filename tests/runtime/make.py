@@ -1,6 +1,6 @@
 #!/usr/bin/env python3
-"""Run vectors for the runtime as a whole, made from docs/01-scope.md and docs/02-change-requests.md
-(E2, E5, E6, E8) alone: every call goes through the dispatcher; the platform token, token signing,
+"""Run vectors for the runtime as a whole, made from the rules alone (docs/RULES.md: RT1 to RT10, CM1
+to CM8, SQ1 to SQ7; requests E2, E5, E6, E8): every call goes through the dispatcher; the platform token, token signing,
 the challenge lookup, the signer's own step and the oldest request are tried at each edge, in
 sequences on one state.
 

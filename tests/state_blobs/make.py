@@ -1,5 +1,5 @@
 #!/usr/bin/env python3
-"""Run vectors for state blobs, made from 02's request E13 and source document 004 alone.
+"""Run vectors for state blobs, made from the rules alone (docs/RULES.md: SB1 to SB10; request E13).
 
 Run from the repository's root:  python3 tests/state_blobs/make.py
 It rewrites crates/state_blobs_vectors/data/c000, c001, .. (calls of 256 bytes each: seven 8-byte

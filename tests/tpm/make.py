@@ -1,5 +1,5 @@
 #!/usr/bin/env python3
-"""Run vectors for H_TPM_COMM, made from 02 (E9) and 003 alone.
+"""Run vectors for H_TPM_COMM, made from the rules alone (docs/RULES.md: TP1 to TP9; request E9).
 
 Run from the repository's root:  python3 tests/tpm/make.py
 It rewrites crates/tpm_vectors/data/c000, c001, .. (8-byte words: the memory's length and seed and

@@ -1,6 +1,6 @@
 #!/usr/bin/env python3
-"""Run vectors for the boot-manifest writer, made from the two papers alone: docs/01-scope.md and E7
-of docs/02-change-requests.md.
+"""Run vectors for the boot-manifest writer, made from the rules alone (docs/RULES.md: WR1 to WR9;
+requests E7 and E10).
 
 Run from the repository's root:  python3 tests/writer/make.py
 It rewrites crates/writer_vectors/data/c000, c001, .. (8-byte words: B, edition, fill byte, page
