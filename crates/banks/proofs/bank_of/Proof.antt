@@ -3,12 +3,12 @@ use mathlib.Core.Path.{_≡_, sym, ap, _∙_}
 use native.Mathlib.Omega.{arith}
 use borrow.Author.Tests.{lt-leb, le-leb}
 use borrow.Author.Needs.{needs}
 use Rattle.banks.specs.Banks.{banksOf, bankCount}
 use Rattle.banks.proofs.Passing.{left, left-all}
-use Rattle.held_banks.specs.Holding.{bankAmong, bankOf}
-use Rattle.held_banks.proofs.Holding.{seek-last, seek-more, seek-hit}
-use Rattle.held_banks.proofs.bank_of.Statement.{statement}
-use Rattle.held_banks.proofs.bank_of.Tie as tie
+use Rattle.banks.specs.Fast.{bankAmong, bankOf}
+use Rattle.banks.proofs.Fast.{bank-last, bank-more, bank-hit}
+use Rattle.banks.proofs.bank_of.Statement.{statement}
+use Rattle.banks.proofs.bank_of.Tie as tie
 
 abbrev Inv-loop : tie.InvT-loop
 Inv-loop granules address count before₀ i₀ i-end before i = (i ≤ i-end) × (before ≤ 0x10_0000_0000_0000 * i) × (bankAmong 0 (banksOf granules) address ≡ bankAmong before (left granules i) address)
@@ -57,16 +57,16 @@ mul-size-2 c = search needs
 element-copy-out-size : tie.Need-element-copy-out-size Inv-loop μ-loop
 element-copy-out-size c = search needs
 
-offset-in-requires : tie.Need-offset-in-requires Inv-loop μ-loop
-offset-in-requires c κs = search needs
+bank-holds-requires : tie.Need-bank-holds-requires Inv-loop μ-loop
+bank-holds-requires c κs = search needs
 
 returns-2 : tie.Need-returns-2 Inv-loop μ-loop
 unfolding bankOf
 returns-2 c =
     let a = c .before .before .before .before .before .before .before .before .args in
     let l = c .before .before .before .before .before .loop in
-    let d = c .before .offset-in .ensures in
-    simp (le-leb (bankCount (a .granules .now)) 16 (search needs)) (sym (l .inv .2 ∙ seek-hit (a .granules .now) (a .address) (l .i) (l .before) (search needs) (omega arith)))
+    simp (le-leb (bankCount (a .granules .now)) 16 (search needs))
+    (sym (l .inv .2 ∙ bank-hit (a .granules .now) (a .address) (l .i) (l .before) (search needs) _ (c .before .bank-holds .ensures) (c .if2 .taken)))
 
 granules-in-requires : tie.Need-granules-in-requires Inv-loop μ-loop
 granules-in-requires c κs = search needs
@@ -84,8 +84,8 @@ loop-again : tie.Need-loop-again Inv-loop μ-loop
 loop-again c =
     let a = c .before .before .before .before .before .before .before .before .before .args in
     let l = c .before .before .before .before .before .before .loop in
-    let d = c .before .before .offset-in .ensures in
-    (search needs, omega arith, rw (c .granules-in .ensures .0) (l .inv .2 ∙ seek-more (a .granules .now) (a .address) (l .i) (l .before) (search needs) (omega arith)))
+    let m = bank-more (a .granules .now) (a .address) (l .i) (l .before) (search needs) _ (c .before .before .bank-holds .ensures) (c .before .if2 .left) in
+    (search needs, omega arith, rw (c .granules-in .ensures .0) (l .inv .2 ∙ m))
 
 no-bank-requires-2 : tie.Need-no-bank-requires-2 Inv-loop μ-loop
 no-bank-requires-2 c κs = search needs
@@ -95,7 +95,7 @@ unfolding bankOf
 returns-3 c =
     let a = c .before .before .before .before .before .args in
     let l = c .before .before .loop in
-    simp (le-leb (bankCount (a .granules .now)) 16 (search needs)) (c .no-bank2 .ensures ∙ sym (l .inv .2 ∙ seek-last (a .granules .now) (a .address) (l .i) (l .before) (search needs)))
+    simp (le-leb (bankCount (a .granules .now)) 16 (search needs)) (c .no-bank2 .ensures ∙ sym (l .inv .2 ∙ bank-last (a .granules .now) (a .address) (l .i) (l .before) (search needs)))
 
 pub bank-of-spec : {M : Type 1} → statement M
 bank-of-spec =
@@ -115,7 +115,7 @@ bank-of-spec =
     add-size
     mul-size-2
     element-copy-out-size
-    offset-in-requires
+    bank-holds-requires
     returns-2
     granules-in-requires
     add-before
