@@ -1,15 +1,15 @@
 -- A call that judges the record once and looks first in a bank of it finds the granules of `granuleAt`. Assumes nothing.
 use Prim.Native.Nat.{ℕ, _+_, _*_, _/_, _%_, _^_, _≤_, _<_}
 use mathlib.Core.Path.{_≡_, refl, sym, ap, _∙_}
-use mathlib.Core.Bool.{Bool, true, false, cond}
+use mathlib.Core.Bool.{Bool, true, false, cond, false≢true}
 use mathlib.Core.List.{List, [], _∷_}
 use native.Mathlib.Omega.{arith}
 use native.Mathlib.Decide.{ℕ-discrete}
 use lib.ListN.{getD}
-use lib.Dec.{eqb}
-use borrow.Author.Tests.{eqb-true, eq-eqb, ne-eqb}
+use lib.Dec.{ltb, eqb}
+use borrow.Author.Tests.{ltb-true, eqb-true, lt-ltb, eq-eqb, ne-eqb}
 use Rattle.words.specs.Tests.{both, Yes}
-use Rattle.words.proofs.Tests.{both-l, both-r}
+use Rattle.words.proofs.Tests.{both-l, both-r, both-of}
 use Rattle.banks.specs.declared.Granule.{Granule}
 use Rattle.banks.specs.declared.Granule.the-variants.{Nothing, At}
 use Rattle.banks.specs.declared.BankSpan.{BankSpan}
@@ -17,7 +17,7 @@ use Rattle.banks.specs.declared.Found.{Found}
 use Rattle.banks.specs.Banks.{Granules, Bank, bankCount, banksOf, ascend, recordOk, granuleCount, holds, indexIn, placeIn, orElse, placeAmong, bankPlace, granuleAt}
 use Rattle.banks.specs.Fast.{noBank, granuleIn, bankAmong, bankOf, foundIn, foundFrom}
 use Rattle.banks.proofs.Passing.{Follows, follows-is, left, left-more, left-none}
-use Rattle.banks.proofs.Laws.{nowhere, cond-at, held, ok-ascends, ok-few, past-bank, no-granules, cond-none, some-granules}
+use Rattle.banks.proofs.Laws.{nowhere, cond-at, held, ok-ascends, ok-few, past-bank, no-granules, some-granules, falls}
 
 -- a bank of the record, with the granules before it: a granule in it is the record's
 abbrev pub SpanOf : Granules → BankSpan → Type 0
@@ -146,22 +146,21 @@ found-is g b n addr f some m own e = rw (e, ← m) (go (granuleIn b addr) refl)
     go (At i) q = (sym (own addr i q), own)
     go Nothing q = (bank-own g (counted-ok g some) addr, bank-span g (counted-ok g some) addr)
 
--- without granules, or with another number than the table's, no address is on one
-pub none-on : (g : Granules) (n addr : ℕ) → granuleCount g ≡ 0 → granuleAt g n addr ≡ Nothing
-unfolding granuleAt bankPlace
-none-on g n addr z = go (recordOk g) refl
-  where
-    go : (k : Bool) → recordOk g ≡ k → cond (both (eqb (addr % 4096) 0) (eqb (granuleCount g) n)) (cond k (placeAmong 0 (banksOf g) addr) Nothing) Nothing ≡ Nothing
-    go true e = absurd (let s = some-granules g e in omega arith)
-    go false e = cond-none (both (eqb (addr % 4096) 0) (eqb (granuleCount g) n))
+-- a table as long as the record's granules, of which there are some; otherwise no address is on one
+abbrev TableFits : Granules → ℕ → Bool
+TableFits g n = both (ltb 0 (granuleCount g)) (eqb (granuleCount g) n)
 
-pub other-on : (g : Granules) (n addr : ℕ) → (granuleCount g ≡ n → ⊥) → granuleAt g n addr ≡ Nothing
-unfolding granuleAt both
-other-on g n addr d = rw (ne-eqb (granuleCount g) n d) (go (eqb (addr % 4096) 0))
+pub table-fits : (g : Granules) (n : ℕ) → Yes (TableFits g n) → (0 < granuleCount g) × (granuleCount g ≡ n)
+table-fits g n h = (ltb-true _ _ (both-l _ _ h), eqb-true _ _ (both-r _ _ h))
+
+pub table-unfit : (g : Granules) (n addr : ℕ) → TableFits g n ≡ false → granuleAt g n addr ≡ Nothing
+table-unfit g n addr h = go (granuleAt g n addr) refl
   where
-    go : (k : Bool) → cond (both k false) (bankPlace g addr) Nothing ≡ Nothing
-    go true = refl
-    go false = refl
+    go : (k : Granule) → granuleAt g n addr ≡ k → granuleAt g n addr ≡ Nothing
+    go Nothing e = e
+    go (At i) e =
+        let f = falls g n addr i e in
+        absurd (false≢true (sym h ∙ both-of _ _ (lt-ltb 0 (granuleCount g) (some-granules g (f .ok))) (eq-eqb (granuleCount g) n (f .count))))
 
 -- ---- the loop of `bank_of`, which stops at the first bank that holds the address
 module _ (g : Granules) (addr i before : ℕ) where

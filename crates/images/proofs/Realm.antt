@@ -25,11 +25,11 @@ inval = 0xFFFF_FFFF_FFFF_FFFB
 
 -- ---- the answer that a number and a word tell
 abbrev pub numberRead : ℕ → List ℕ → Number
-numberRead x0 w = cond (eqb x0 0) (Number.Is (getD w 0 0)) Number.Inval
+numberRead x0 w = cond (eqb x0 0) (Number.Count (getD w 0 0)) Number.Inval
 
 pub number-told : (n : Number) → numberRead (numberX0 n) (numberWords n) ≡ n
 unfolding numberX0 numberWords x0Of extended
-number-told (Number.Is n) = refl
+number-told (Number.Count n) = refl
 number-told Number.Inval = refl
 
 abbrev pub hitRead : ℕ → List ℕ → Hit
@@ -42,7 +42,7 @@ hit-told Hit.Nothing = refl
 hit-told Hit.Inval = refl
 
 -- ---- the numbers
-pub number-x0 : (n : ℕ) → (numberX0 (Number.Is n) ≡ 0) × (numberX0 Number.Inval ≡ inval)
+pub number-x0 : (n : ℕ) → (numberX0 (Number.Count n) ≡ 0) × (numberX0 Number.Inval ≡ inval)
 unfolding numberX0 x0Of extended
 number-x0 n = (refl, refl)
 

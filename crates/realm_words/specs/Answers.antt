@@ -33,7 +33,7 @@ firstMarked f (suc k) i = cond (eqb (f i) 1) (Hit.At i) (firstMarked f k (suc i)
 
 -- "Set spare bits are not counted or hit.": only the bits of the n granules are asked for
 unfoldable pub realmCountOf : List ℕ → ℕ → Number
-realmCountOf ws n = cond (wordsFit ws n) (Number.Is (marked (bitAt ws) n)) Number.Inval
+realmCountOf ws n = cond (wordsFit ws n) (Number.Count (marked (bitAt ws) n)) Number.Inval
 
 -- "then INVAL for an index not below the granules"
 unfoldable pub realmNextOf : List ℕ → ℕ → ℕ → Hit

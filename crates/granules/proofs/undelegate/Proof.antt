@@ -2,11 +2,8 @@ use borrow.Author.Needs.{needs}
 use Rattle.granules.proofs.undelegate.Statement.{statement}
 use Rattle.granules.proofs.undelegate.Tie as tie
 
-is-ready-requires : tie.Need-is-ready-requires
-is-ready-requires c κs = search needs
-
-move-first-requires : tie.Need-move-first-requires
-move-first-requires c κs = c .before .before .before .is-ready .ensures (c .before .before .if1 .taken)
+move-one-requires : tie.Need-move-one-requires
+move-one-requires c κs = search needs
 
 answered-requires : tie.Need-answered-requires
 answered-requires c κs = search needs
@@ -18,35 +15,8 @@ same-length-2 : tie.Need-same-length-2
 same-length-2 c = search needs
 
 returns : tie.Need-returns
-returns c = rw (c .answered .ensures) (c .before .before .before .before .before .move-first .ensures)
-
-move-one-requires : tie.Need-move-one-requires
-move-one-requires c κs = search needs
-
-answered-requires-2 : tie.Need-answered-requires-2
-answered-requires-2 c κs = search needs
-
-same-length-3 : tie.Need-same-length-3
-same-length-3 c = search needs
-
-same-length-4 : tie.Need-same-length-4
-same-length-4 c = search needs
-
-returns-2 : tie.Need-returns-2
-returns-2 c = rw (c .answered2 .ensures) (c .before .before .before .before .before .move-one .ensures)
+returns c = rw (c .answered .ensures) (c .before .before .before .before .before .move-one .ensures)
 
 pub undelegate-spec : {M : Type 1} → statement M
 undelegate-spec =
-    tie.close
-    (tie.spec
-    is-ready-requires
-    move-first-requires
-    answered-requires
-    same-length
-    same-length-2
-    returns
-    move-one-requires
-    answered-requires-2
-    same-length-3
-    same-length-4
-    returns-2)
+    tie.close (tie.spec move-one-requires answered-requires same-length same-length-2 returns)

@@ -62,7 +62,7 @@ returns-2 c =
     let l = c .before .before .loop in
     let y = sym (c .before .before .before .before .words-fit .ensures) ∙ not-false _ (c .before .before .before .if1 .left) in
     let e : a .granules ≡ 64 * l .at = omega arith in
-    rw y (ap Number.Is (l .inv .3 ∙ ap (marked (bitAt (a .words .now))) (sym e)))
+    rw y (ap Number.Count (l .inv .3 ∙ ap (marked (bitAt (a .words .now))) (sym e)))
 
 mul-low-bits : tie.Need-mul-low-bits Inv-loop μ-loop
 mul-low-bits c = search needs
@@ -94,7 +94,7 @@ returns-3 c =
     let w : l .at ≡ a .granules / 64 = omega arith in
     let s : l .sum ≡ marked (bitAt (a .words .now)) (64 * (a .granules / 64)) = l .inv .3 ∙ rw w in
     let o = c .ones-in2 .ensures .0 ∙ ap ones (c .before .low-bits .ensures) in
-    rw y (ap Number.Is (rw (s, o) (sym (ap (marked (bitAt (a .words .now))) e ∙ marked-word (a .words .now) (a .granules / 64) (a .granules % 64) (omega arith)))))
+    rw y (ap Number.Count (rw (s, o) (sym (ap (marked (bitAt (a .words .now))) e ∙ marked-word (a .words .now) (a .granules / 64) (a .granules % 64) (omega arith)))))
 
 pub count-spec : {M : Type 1} → statement M
 count-spec =
