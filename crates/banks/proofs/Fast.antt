@@ -7,7 +7,7 @@ use native.Mathlib.Omega.{arith}
 use native.Mathlib.Decide.{ℕ-discrete}
 use lib.ListN.{getD}
 use lib.Dec.{ltb, eqb}
-use borrow.Author.Tests.{ltb-true, eqb-true, lt-ltb, eq-eqb, ne-eqb}
+use borrow.Author.Tests.{leb-true, ltb-true, eqb-true, le-leb, lt-ltb, eq-eqb, ne-eqb}
 use Rattle.words.specs.Tests.{both, Yes}
 use Rattle.words.proofs.Tests.{both-l, both-r, both-of}
 use Rattle.banks.specs.declared.Granule.{Granule}
@@ -15,9 +15,9 @@ use Rattle.banks.specs.declared.Granule.the-variants.{Nothing, At}
 use Rattle.banks.specs.declared.BankSpan.{BankSpan}
 use Rattle.banks.specs.declared.Found.{Found}
 use Rattle.banks.specs.Banks.{Granules, Bank, bankCount, banksOf, ascend, recordOk, granuleCount, holds, indexIn, placeIn, orElse, placeAmong, bankPlace, granuleAt}
-use Rattle.banks.specs.Fast.{noBank, granuleIn, bankAmong, bankOf, foundIn, foundFrom}
+use Rattle.banks.specs.Fast.{noBank, granuleIn, bankAmong, bankOf, foundIn, foundFrom, firstBank, hasOneBank}
 use Rattle.banks.proofs.Passing.{Follows, follows-is, left, left-more, left-none}
-use Rattle.banks.proofs.Laws.{nowhere, cond-at, held, ok-ascends, ok-few, past-bank, no-granules, some-granules, falls}
+use Rattle.banks.proofs.Laws.{nowhere, cond-at, held, ok-ascends, ok-few, past-bank, no-granules, some-granules, falls, only-follows, only-granules, only-place, only-ok}
 
 -- a bank of the record, with the granules before it: a granule in it is the record's
 abbrev pub SpanOf : Granules → BankSpan → Type 0
@@ -108,7 +108,7 @@ unaligned-at g n addr d = rw (ne-eqb (addr % 4096) 0 d)
 module _ (g : Granules) (ok : Yes (recordOk g)) where
   of-among : (addr : ℕ) → bankOf g addr ≡ bankAmong 0 (banksOf g) addr
   unfolding bankOf
-  of-among addr = rw (ok-few g ok)
+  of-among addr = let f = leb-true (bankCount g) 16 (ok-few g ok) in rw (le-leb (bankCount g) 16 (omega arith))
 
   at-among : (addr : ℕ) → addr % 4096 ≡ 0 → granuleAt g (granuleCount g) addr ≡ placeAmong 0 (banksOf g) addr
   unfolding granuleAt bankPlace both
@@ -161,6 +161,28 @@ table-unfit g n addr h = go (granuleAt g n addr) refl
     go (At i) e =
         let f = falls g n addr i e in
         absurd (false≢true (sym h ∙ both-of _ _ (lt-ltb 0 (granuleCount g) (some-granules g (f .ok))) (eq-eqb (granuleCount g) n (f .count))))
+
+-- ---- a record of one bank
+pub one-fits : (g : Granules) (n : ℕ) → Yes (hasOneBank g n) → (bankCount g ≡ 1) × Yes (recordOk g) × (granuleCount g ≡ n)
+unfolding hasOneBank
+one-fits g n h =
+    let r = both-r _ _ h in
+    let one : bankCount g ≡ 1 = eqb-true _ _ (both-l _ _ h) in
+    let ok : Yes (recordOk g) = only-ok g one ∙ both-r _ _ r in
+    (one, ok, only-granules g one ok ∙ eqb-true _ _ (both-l _ _ r))
+
+at-place : (g : Granules) (n addr : ℕ) → granuleCount g ≡ n → addr % 4096 ≡ 0 → granuleAt g n addr ≡ bankPlace g addr
+unfolding granuleAt both
+at-place g n addr c m = rw (eq-eqb (addr % 4096) 0 m, eq-eqb (granuleCount g) n c)
+
+pub first-is : (g : Granules) (n addr : ℕ) → Yes (hasOneBank g n) → granuleIn (firstBank g) addr ≡ granuleAt g n addr
+first-is g n addr h = go (ℕ-discrete (addr % 4096) 0) (one-fits g n h)
+  where
+    go : Dec (addr % 4096 ≡ 0) → (bankCount g ≡ 1) × Yes (recordOk g) × (granuleCount g ≡ n) → granuleIn (firstBank g) addr ≡ granuleAt g n addr
+    go (yes m) f =
+        place-in 0 0 (getD g 1 0) (getD g 2 0) addr (only-follows g (f .0) (f .1)) (omega arith) m
+        ∙ sym (only-place g (f .0) (f .1) addr) ∙ sym (at-place g n addr (f .2) m)
+    go (no m) f = unaligned-in (firstBank g) addr m ∙ sym (unaligned-at g n addr m)
 
 -- ---- the loop of `bank_of`, which stops at the first bank that holds the address
 module _ (g : Granules) (addr i before : ℕ) where

@@ -1,10 +1,12 @@
--- `found-is` (proofs/Fast.antt) proves the granule of `foundFrom` equal to `granuleAt`, in a table as long as the record's granules. For
--- speed: a call judges the record once, and a list looks first in the bank of the address before. Assumes nothing.
+-- `found-is` (proofs/Fast.antt) proves the granule of `foundFrom` equal to `granuleAt`, and `first-is` that of `firstBank`. For speed: a call
+-- judges the record once, a list looks first in the bank of the address before, and one bank needs no search. Assumes nothing.
 use Prim.Native.Nat.{ℕ, _+_, _/_, _%_, _^_}
-use mathlib.Core.Bool.{cond}
+use mathlib.Core.Bool.{Bool, cond}
 use mathlib.Core.List.{List, [], _∷_}
+use lib.ListN.{getD}
 use lib.Dec.{leb, eqb}
 use Rattle.words.specs.Tests.{both}
+use Rattle.entries.specs.Entry.{bankOk}
 use Rattle.banks.specs.Banks.{Granules, Bank, bankCount, banksOf, holds, indexIn}
 use Rattle.banks.specs.declared.Granule.{Granule}
 use Rattle.banks.specs.declared.Granule.the-variants.{Nothing, At}
@@ -34,3 +36,10 @@ foundIn g b addr Nothing = record { granule = granuleIn (bankOf g addr) addr; ba
 
 unfoldable pub foundFrom : Granules → BankSpan → (addr : ℕ) → Found
 foundFrom g b addr = foundIn g b addr (granuleIn b addr)
+
+-- ---- a record of one bank, which the set-up takes for n granules
+unfoldable pub hasOneBank : Granules → (n : ℕ) → Bool
+hasOneBank g n = both (eqb (getD g 0 0) 1) (both (eqb (getD g 2 0 / 4096) n) (bankOk (getD g 1 0) (getD g 2 0)))
+
+abbrev pub firstBank : Granules → BankSpan
+firstBank g = record { base = getD g 1 0; size = getD g 2 0; before = 0 }

@@ -6,7 +6,7 @@ ghost use mathlib.Core.Path.{_≡_};
 ghost use Prim.Native.Nat.{_/_, _≤_};
 ghost use Rattle.entries.specs.Entry.{bankOk};
 ghost use Rattle.banks.specs.Banks.{follows, granuleCount, holds, recordFrom, SetUp, setUpOf};
-ghost use Rattle.banks.specs.Fast.{noBank, granuleIn, bankOf, foundFrom};
+ghost use Rattle.banks.specs.Fast.{noBank, granuleIn, bankOf, foundFrom, firstBank, hasOneBank};
 
 // The granule that an address falls on.
 pub enum Granule {
@@ -186,4 +186,31 @@ pub fn find_from(granules: &[u64; 33], bank: BankSpan, address: u64) -> Found
         granule: granule_in(own, address),
         bank: own,
     }
+}
+
+// ---- the shortcut: a record of one bank ----
+
+// Whether a record has one bank, which meets the reader's rule and has n granules.
+pub fn has_one_bank(granules: &[u64; 33], n: usize) -> bool
+    ensures { λ r. ⌜ r ≡ hasOneBank (now (granules .entry)) n ⌝ }
+{
+    if granules[0] != 1 {
+        return false;
+    }
+    if granules[2] / 4096 != n as u64 {
+        return false;
+    }
+    bank_ok(granules[1], granules[2])
+}
+
+// The granule of an address in the first bank.
+pub fn find_first(granules: &[u64; 33], address: u64) -> Granule
+    ensures { λ r. ⌜ r ≡ granuleIn (firstBank (now (granules .entry))) address ⌝ }
+{
+    let first = BankSpan {
+        base: granules[1],
+        size: granules[2],
+        before: 0,
+    };
+    granule_in(first, address)
 }

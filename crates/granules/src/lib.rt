@@ -7,12 +7,14 @@ use codes::Answer;
 use codes::Code;
 pub use granule_rules::Direction;
 ghost use mathlib.Core.Path.{_≡_};
+ghost use mathlib.Core.Bool.{true};
 ghost use Prim.Native.Nat.{_/_, _<_};
 ghost use lib.Dec.{ltb, eqb};
 ghost use lib.ListN.{length};
 ghost use Rattle.words.specs.Tests.{both, Yes};
-ghost use Rattle.codes.specs.Codes.{answerOf};
+ghost use Rattle.codes.specs.Codes.{isUp, answerOf};
 ghost use Rattle.banks.specs.Banks.{Granules, granuleCount, granuleAt};
+ghost use Rattle.banks.specs.Fast.{hasOneBank};
 ghost use Rattle.realm_words.specs.Answers.{wordsFit};
 ghost use Rattle.realm_words.specs.Bits.{realmBit, putBit};
 ghost use Rattle.granule_rules.specs.Granules.{tableOf, fromByte, toByte, isSharedPage, moveAt, moveOf, delegateOf, undelegateOf, movedTo};
@@ -130,6 +132,38 @@ fn move_one(
     move_at(params, granule, direction, table, words, address)
 }
 
+// ---- the shortcut for a single call: most boards have one bank ----
+
+// Whether the boot record is up, the granule record has one bank, of n granules, and the number of words is right.
+fn takes_shortcut(state: Record, granules: &[u64; 33], n: usize, words: &[u64]) -> bool
+    ensures { λ r. ⌜ r ≡ both (isUp state) (both (hasOneBank (now (granules .entry)) n) (wordsFit (now (words .entry)) n)) ⌝ }
+{
+    if !codes::is_up(state) {
+        return false;
+    }
+    if !banks::has_one_bank(granules, n) {
+        return false;
+    }
+    realm_words::words_fit(words, n)
+}
+
+// `move_one` without loops over the banks.
+fn move_shortcut(
+    state: Record,
+    granules: &[u64; 33],
+    direction: Direction,
+    table: &mut [u8],
+    words: &mut [u64],
+    address: u64,
+) -> Code
+    requires { ⌜ (isUp state ≡ true) × Yes (hasOneBank (now granules) (length (now table))) × Yes (wordsFit (now words) (length (now table))) ⌝ }
+    ensures { λ r. ⌜ movedTo (answerOf r 0 0) (now (table .exit)) (now (words .exit)) ≡ moveOf state (now (granules .entry)) direction (tableOf (now (table .entry)) (now (words .entry))) address ⌝ }
+{
+    let params = codes::up_of(state);
+    let granule = banks::find_first(granules, address);
+    move_at(params, granule, direction, table, words, address)
+}
+
 // ---- a list of calls ----
 
 // The single calls of a list, in order, up to the first that is refused; x1 is the number of granules moved. The checks of `move_list` hold
@@ -201,6 +235,10 @@ pub fn delegate(
 ) -> Answer
     ensures { λ r. ⌜ movedTo r (now (table .exit)) (now (words .exit)) ≡ delegateOf state (now (granules .entry)) (tableOf (now (table .entry)) (now (words .entry))) address ⌝ }
 {
+    if takes_shortcut(state, granules, table.len(), words) {
+        let code = move_shortcut(state, granules, Direction::Delegate, table, words, address);
+        return codes::answered(code, 0, 0);
+    }
     let code = move_one(state, granules, Direction::Delegate, table, words, address);
     codes::answered(code, 0, 0)
 }
@@ -215,6 +253,17 @@ pub fn undelegate(
 ) -> Answer
     ensures { λ r. ⌜ movedTo r (now (table .exit)) (now (words .exit)) ≡ undelegateOf state (now (granules .entry)) (tableOf (now (table .entry)) (now (words .entry))) address ⌝ }
 {
+    if takes_shortcut(state, granules, table.len(), words) {
+        let code = move_shortcut(
+            state,
+            granules,
+            Direction::Undelegate,
+            table,
+            words,
+            address,
+        );
+        return codes::answered(code, 0, 0);
+    }
     let code = move_one(
         state,
         granules,

@@ -3,7 +3,7 @@ use realm_words::Hit;
 ghost use mathlib.Core.Path.{_≡_};
 ghost use Prim.Native.Nat.{_-_, _%_, _^_, _<_};
 ghost use lib.Count.{trailingZeros};
-ghost use Rattle.realm_words.specs.Answers.{realmNextOf};
+ghost use Rattle.realm_words.specs.Answers.{hitCode, indexCode, realmNextOf};
 ghost use Rattle.realm_next.specs.Steps.{hitBelow};
 
 // ---- one word ----
@@ -38,6 +38,7 @@ fn hit_below(granules: usize, index: usize) -> Hit
 // The first Realm granule at or after `index`: one word a turn, and none after the word of the hit. A set spare bit is no hit.
 pub fn next(words: &[u64], granules: usize, index: usize) -> Hit
     ensures { λ r. ⌜ r ≡ realmNextOf (now (words .entry)) granules index ⌝ }
+    ensures { λ r. ⌜ hitCode r ≡ indexCode (now (words .entry)) granules index ⌝ }
 {
     if !realm_words::words_fit(words, granules) {
         return Hit::Inval;

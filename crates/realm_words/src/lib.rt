@@ -4,7 +4,7 @@ ghost use Prim.Native.Nat.{_+_, _%_, _^_, _<_, _≤_};
 ghost use lib.ListN.{length, take, drop};
 ghost use lib.Count.{ones};
 ghost use Rattle.realm_words.specs.Bits.{realmBit, packed, wordsFor, withBit};
-ghost use Rattle.realm_words.specs.Answers.{wordsFit, bothFit, realmCountOf, realmAgreeOf, Built, realmBuildOf};
+ghost use Rattle.realm_words.specs.Answers.{countCode, agreeCode, buildCode, wordsFit, bothFit, wordsCode, tableCode, realmCountOf, realmAgreeOf, Built, realmBuildOf};
 
 // The number of Realm granules.
 pub enum Number {
@@ -63,15 +63,24 @@ fn low_bits(w: u64, k: usize) -> u64
     w & ((1u64 << k) - 1)
 }
 
+// The bit of a byte of the table: 1 where it is Realm.
+fn realm_bit(byte: u8) -> u64
+    ensures { λ r. ⌜ (r ≡ realmBit byte) × (r ≤ 1) ⌝ }
+{
+    if byte == 1 {
+        return 1;
+    }
+    0
+}
+
 // The word with the bit of granule `index` set if `byte` is Realm, and cleared otherwise.
 pub fn with_bit(w: u64, index: usize, byte: u8) -> u64
     ensures { λ r. ⌜ r ≡ withBit w (index % 64) (realmBit byte) ⌝ }
 {
-    let unit = 1u64 << (index % 64);
-    if byte == 1 {
-        return w | unit;
-    }
-    w - (w & unit)
+    let k = index % 64;
+    let bit = realm_bit(byte);
+    let unit = 1u64 << k;
+    w - (w & unit) + (bit << k)
 }
 
 // ---- answers from the words alone ----
@@ -79,6 +88,7 @@ pub fn with_bit(w: u64, index: usize, byte: u8) -> u64
 // The number of Realm granules. Spare bits are not counted.
 pub fn count(words: &[u64], granules: usize) -> Number
     ensures { λ r. ⌜ r ≡ realmCountOf (now (words .entry)) granules ⌝ }
+    ensures { λ r. ⌜ countCode r ≡ wordsCode (now (words .entry)) granules ⌝ }
 {
     if !words_fit(words, granules) {
         return Number::Inval;
@@ -96,16 +106,6 @@ pub fn count(words: &[u64], granules: usize) -> Number
 }
 
 // ---- words and table ----
-
-// The bit of a byte of the table: 1 where it is Realm.
-fn realm_bit(byte: u8) -> u64
-    ensures { λ r. ⌜ (r ≡ realmBit byte) × (r ≤ 1) ⌝ }
-{
-    if byte == 1 {
-        return 1;
-    }
-    0
-}
 
 // The bits of at most 64 bytes as one number, the first byte's bit lowest.
 fn packed_of(block: &[u8]) -> u64
@@ -164,6 +164,7 @@ fn both_fit(table: &[u8], words: &[u64], granules: usize) -> bool
 // Whether words and table agree, and the spare bits are zero.
 pub fn agrees(table: &[u8], words: &[u64], granules: usize) -> Agreement
     ensures { λ r. ⌜ r ≡ realmAgreeOf (now (table .entry)) (now (words .entry)) granules ⌝ }
+    ensures { λ r. ⌜ agreeCode r ≡ tableCode (now (table .entry)) (now (words .entry)) granules ⌝ }
 {
     if !both_fit(table, words, granules) {
         return Agreement::Inval;
@@ -179,6 +180,7 @@ pub fn agrees(table: &[u8], words: &[u64], granules: usize) -> Agreement
 // Makes the words agree with the table. Returns false for INVAL, and then changes no word.
 pub fn build(table: &[u8], words: &mut [u64], granules: usize) -> bool
     ensures { λ r. ⌜ _≡_ {A = Built} (record { done = r; words = now (words .exit) }) (realmBuildOf (now (table .entry)) (now (words .entry)) granules) ⌝ }
+    ensures { λ r. ⌜ buildCode r ≡ tableCode (now (table .entry)) (now (words .entry)) granules ⌝ }
 {
     if !both_fit(table, words, granules) {
         return false;

@@ -1,9 +1,17 @@
+use mathlib.Core.Path.{sym, _∙_}
+use Rattle.words.proofs.Tests.{both-l, both-r}
 use borrow.Author.Needs.{needs}
 use Rattle.granules.proofs.delegate.Statement.{statement}
 use Rattle.granules.proofs.delegate.Tie as tie
 
-move-one-requires : tie.Need-move-one-requires
-move-one-requires c κs = search needs
+takes-shortcut-requires : tie.Need-takes-shortcut-requires
+takes-shortcut-requires c κs = search needs
+
+move-shortcut-requires : tie.Need-move-shortcut-requires
+move-shortcut-requires c κs =
+    let y = sym (c .before .before .before .takes-shortcut .ensures) ∙ c .before .before .if1 .taken in
+    let r = both-r _ _ y in
+    (both-l _ _ y, both-l _ _ r, both-r _ _ r)
 
 answered-requires : tie.Need-answered-requires
 answered-requires c κs = search needs
@@ -15,8 +23,35 @@ same-length-2 : tie.Need-same-length-2
 same-length-2 c = search needs
 
 returns : tie.Need-returns
-returns c = rw (c .answered .ensures) (c .before .before .before .before .before .move-one .ensures)
+returns c = rw (c .answered .ensures) (c .before .before .before .before .before .move-shortcut .ensures)
+
+move-one-requires : tie.Need-move-one-requires
+move-one-requires c κs = search needs
+
+answered-requires-2 : tie.Need-answered-requires-2
+answered-requires-2 c κs = search needs
+
+same-length-3 : tie.Need-same-length-3
+same-length-3 c = search needs
+
+same-length-4 : tie.Need-same-length-4
+same-length-4 c = search needs
+
+returns-2 : tie.Need-returns-2
+returns-2 c = rw (c .answered2 .ensures) (c .before .before .before .before .before .move-one .ensures)
 
 pub delegate-spec : {M : Type 1} → statement M
 delegate-spec =
-    tie.close (tie.spec move-one-requires answered-requires same-length same-length-2 returns)
+    tie.close
+    (tie.spec
+    takes-shortcut-requires
+    move-shortcut-requires
+    answered-requires
+    same-length
+    same-length-2
+    returns
+    move-one-requires
+    answered-requires-2
+    same-length-3
+    same-length-4
+    returns-2)

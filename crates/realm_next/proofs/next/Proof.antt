@@ -8,6 +8,7 @@ use borrow.Author.Needs.{needs}
 use Rattle.words.specs.Tests.{both}
 use Rattle.realm_words.specs.Bits.{wordsFor}
 use Rattle.realm_words.specs.Answers.{realmNextOf}
+use Rattle.realm_words.proofs.Codes.{next-told}
 use Rattle.realm_next.proofs.Looking.{Look, look-first, look-more, look-none, look-hit}
 use Rattle.realm_next.proofs.next.Statement.{statement}
 use Rattle.realm_next.proofs.next.Tie as tie
@@ -23,13 +24,16 @@ words-fit-requires c κs = search needs
 
 returns : tie.Need-returns Inv-loop μ-loop
 unfolding realmNextOf both
-returns c = rw (sym (c .before .words-fit .ensures) ∙ not-true _ (c .if1 .taken))
+returns c =
+    let a = c .before .before .before .args in
+    next-told (a .words .now) (a .granules) (a .index) _ (rw (sym (c .before .words-fit .ensures) ∙ not-true _ (c .if1 .taken)))
 
 returns-2 : tie.Need-returns-2 Inv-loop μ-loop
 unfolding realmNextOf both
 returns-2 c =
     let a = c .before .before .before .before .args in
-    rw (sym (c .before .before .words-fit .ensures) ∙ not-false _ (c .before .if1 .left), le-ltb (a .index) (a .granules) (search needs))
+    next-told (a .words .now) (a .granules) (a .index) _
+    (rw (sym (c .before .before .words-fit .ensures) ∙ not-false _ (c .before .if1 .left), le-ltb (a .index) (a .granules) (search needs)))
 
 mul-high-bits : tie.Need-mul-high-bits Inv-loop μ-loop
 mul-high-bits c = search needs
@@ -58,8 +62,9 @@ unfolding realmNextOf both
 returns-3 c =
     let a = c .before .before .before .before .before .before .before .before .before .args in
     let l = c .before .before .loop in
-    rw (sym (c .before .before .before .before .before .before .before .words-fit .ensures) ∙ not-false _ (c .before .before .before .before .before .before .if1 .left), lt-ltb (a .index) (a .granules) (search needs))
-    (sym (look-none (a .words .now) (a .granules) (a .index) (l .at) (l .bits) (l .inv .2) (search needs) (search needs) (omega arith)))
+    next-told (a .words .now) (a .granules) (a .index) _
+    (rw (sym (c .before .before .before .before .before .before .before .words-fit .ensures) ∙ not-false _ (c .before .before .before .before .before .before .if1 .left), lt-ltb (a .index) (a .granules) (search needs))
+    (sym (look-none (a .words .now) (a .granules) (a .index) (l .at) (l .bits) (l .inv .2) (search needs) (search needs) (omega arith))))
 
 mul-bits : tie.Need-mul-bits Inv-loop μ-loop
 mul-bits c = search needs
@@ -99,8 +104,9 @@ returns-4 c =
     let l = c .before .before .before .loop in
     let e : c .before .first-bit .result ≡ trailingZeros 64 (l .bits) = c .before .first-bit .ensures .0 in
     let t : c .before .first-bit .result < 64 = c .before .first-bit .ensures .1 (omega arith) in
-    rw (sym (c .before .before .before .before .before .before .before .before .words-fit .ensures) ∙ not-false _ (c .before .before .before .before .before .before .before .if1 .left), lt-ltb (a .index) (a .granules) (search needs))
-    (c .hit-below .ensures ∙ rw e (sym (look-hit (a .words .now) (a .granules) (a .index) (l .at) (l .bits) (l .inv .2) (rw (← e) t) (search needs))))
+    next-told (a .words .now) (a .granules) (a .index) _
+    (rw (sym (c .before .before .before .before .before .before .before .before .words-fit .ensures) ∙ not-false _ (c .before .before .before .before .before .before .before .if1 .left), lt-ltb (a .index) (a .granules) (search needs))
+    (c .hit-below .ensures ∙ rw e (sym (look-hit (a .words .now) (a .granules) (a .index) (l .at) (l .bits) (l .inv .2) (rw (← e) t) (search needs)))))
 
 pub next-spec : {M : Type 1} → statement M
 next-spec =
