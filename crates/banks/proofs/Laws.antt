@@ -198,10 +198,6 @@ pub no-granules : (g : Granules) → recordOk g ≡ false → granuleCount g ≤
 unfolding granuleCount
 no-granules g e = rw e (omega arith)
 
-pub cond-none : (b : Bool) → cond b Nothing Nothing ≡ Nothing
-cond-none true = refl
-cond-none false = refl
-
 pub some-granules : (g : Granules) → Yes (recordOk g) → 0 < granuleCount g
 unfolding granuleCount recordOk
 some-granules g k = rw k (banks-some (bankCount g) (bankAt g) k)

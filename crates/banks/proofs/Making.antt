@@ -15,7 +15,8 @@ use Rattle.words.proofs.Tests.{both-l, both-r}
 use Rattle.codes.specs.declared.Code.the-variants.{Ok, Inval}
 use Rattle.codes.proofs.Gates.{unless-ok}
 use Rattle.words.proofs.Read.{wordsOf-at, wordsOf-length, wordsOf-suc}
-use Rattle.banks.specs.Banks.{Granules, Bank, banksBy, bankAt, bankCount, banksOf, ascend, banksOk, recordOk, total, granuleCount, bankIn, banksIn, shownCount, takes, setUpCode, recordPart, recordFrom, setUpOf}
+use Rattle.banks.specs.Banks.{Granules, Bank, banksBy, bankAt, bankCount, banksOf, ascend, banksOk, recordOk, total, granuleCount, bankIn, banksIn, shownCount, takes, setUpCode, recordFrom, setUpOf}
+use Rattle.banks.specs.Steps.{recordPart}
 use Rattle.banks.proofs.Passing.{Follows, follows-is}
 
 -- ---- the words, one by one
@@ -30,9 +31,12 @@ fill-more n i shown h =
     let f : 32 - suc i ≡ 31 - i = omega arith in
     rw (add-one, e, f, wordsOf-suc, append-assoc) (ap (λ l. n ∷ l) (set-at (wordsOf i shown) 0 (replicate (31 - i) 0) (wordAt (8 * i) shown) i (wordsOf-length i shown)))
 
+pub record-whole : (n : ℕ) (shown : List ℕ) → recordPart n (2 * n) shown ≡ recordFrom n shown
+unfolding recordPart
+record-whole n shown = refl
+
 -- ---- the banks of the record made
 pub word-in : (n i : ℕ) (shown : List ℕ) → i < 2 * n → getD (recordFrom n shown) (suc i) 0 ≡ wordAt (8 * i) shown
-unfolding recordPart
 word-in n i shown h = List·getD-append (wordsOf (2 * n) shown) (replicate (32 - 2 * n) 0) 0 i (rw (wordsOf-length (2 * n) shown) h) ∙ wordsOf-at (2 * n) shown i h
 
 pub banks-same : (f g : ℕ → Bank) (i n : ℕ) → ((j : ℕ) → j < i + n → f j ≡ g j) → banksBy f i n ≡ banksBy g i n
@@ -49,7 +53,6 @@ bank-made n shown j h =
     rw (a, b, word-in n (2 * j) shown (omega arith), word-in n (2 * j + 1) shown (omega arith), d, e)
 
 pub count-made : (n : ℕ) (shown : List ℕ) → bankCount (recordFrom n shown) ≡ n
-unfolding recordPart
 count-made n shown = refl
 
 pub banks-made : (n : ℕ) (shown : List ℕ) → banksOf (recordFrom n shown) ≡ banksIn n shown

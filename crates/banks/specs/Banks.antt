@@ -14,7 +14,7 @@ use Rattle.codes.specs.declared.Code.the-variants.{Ok, Inval}
 use Rattle.banks.specs.declared.Granule.{Granule}
 use Rattle.banks.specs.declared.Granule.the-variants.{Nothing, At}
 
--- the record, as its 33 words: how many banks, then base and size of each. Words behind those of the banks count for nothing.
+-- the record, as its 33 words: the number of banks, then base and size of each. The words after the last bank count for nothing.
 abbrev pub Granules : Type 0
 Granules = List ℕ
 
@@ -27,7 +27,7 @@ unfoldable pub banksBy : (ℕ → Bank) → ℕ → ℕ → List Bank
 banksBy f i zero = []
 banksBy f i (suc n) = f i ∷ banksBy f (suc i) n
 
--- bank i of a record, behind the count and i pairs of words
+-- bank i of a record, after the count and i pairs of words
 abbrev pub bankAt : Granules → ℕ → Bank
 bankAt g i = record { base = getD g (1 + 2 * i) 0; size = getD g (2 + 2 * i) 0 }
 
@@ -39,7 +39,7 @@ banksOf g = banksBy (bankAt g) 0 (bankCount g)
 
 -- ---- which banks are taken
 -- the reader's rule for a bank, and at or after the end of the one before: else "banks not ascending or overlapping"
-unfoldable pub follows : ℕ → ℕ → ℕ → Bool
+unfoldable pub follows : (low base size : ℕ) → Bool
 follows low base size = both (leb low base) (bankOk base size)
 
 unfoldable pub ascend : ℕ → List Bank → Bool
@@ -63,14 +63,14 @@ unfoldable pub granuleCount : Granules → ℕ
 granuleCount g = cond (recordOk g) (total (banksOf g)) 0
 
 -- ---- the granule that an address falls on
-unfoldable pub holds : ℕ → ℕ → ℕ → Bool
+unfoldable pub holds : (base size addr : ℕ) → Bool
 holds base size addr = both (leb base addr) (ltb addr (base + size))
 
--- in one bank, behind the granules of the banks before: "the table is the banks' granules joined in bank order"
-abbrev pub indexIn : ℕ → ℕ → ℕ → ℕ
+-- in one bank, after the granules of the banks before: "the table is the banks' granules joined in bank order"
+abbrev pub indexIn : (before base addr : ℕ) → ℕ
 indexIn before base addr = before + (addr - base) / 4096
 
-unfoldable pub placeIn : ℕ → ℕ → ℕ → ℕ → Granule
+unfoldable pub placeIn : (before base size addr : ℕ) → Granule
 placeIn before base size addr = cond (holds base size addr) (At (indexIn before base addr)) Nothing
 
 unfoldable pub orElse : Granule → Granule → Granule
@@ -78,7 +78,7 @@ orElse (At i) g = At i
 orElse Nothing g = g
 
 -- in the first of the banks that holds the address: "An address in a hole is not a granule address."
-unfoldable pub placeAmong : ℕ → List Bank → ℕ → Granule
+unfoldable pub placeAmong : (before : ℕ) → List Bank → (addr : ℕ) → Granule
 placeAmong before [] addr = Nothing
 placeAmong before (b ∷ bs) addr = orElse (placeIn before (b .base) (b .size) addr) (placeAmong (before + b .size / 4096) bs addr)
 
@@ -87,11 +87,8 @@ bankPlace g addr = cond (recordOk g) (placeAmong 0 (banksOf g) addr) Nothing
 
 -- in a table of n granules. 01: "BAD_ADDR unless .. the address are multiples of 4,096 and the address falls on a granule of the table."
 -- 02, E2: "Demand 2 reads "granule of the table" so", and "a table of another length makes every address BAD_ADDR"
-abbrev pub placedIn : ℕ → Granule → ℕ → ℕ → Granule
-placedIn m place n addr = cond (both (eqb (addr % 4096) 0) (eqb m n)) place Nothing
-
-unfoldable pub granuleAt : Granules → ℕ → ℕ → Granule
-granuleAt g n addr = placedIn (granuleCount g) (bankPlace g addr) n addr
+unfoldable pub granuleAt : Granules → (n addr : ℕ) → Granule
+granuleAt g n addr = cond (both (eqb (addr % 4096) 0) (eqb (granuleCount g) n)) (bankPlace g addr) Nothing
 
 -- ---- for the theorems
 -- the address of granule i, in banks and in a record's
@@ -104,7 +101,7 @@ addressOf g i = addressIn (banksOf g) i
 
 -- 01's granule of an address, in a table of n granules from address G on: "BAD_ADDR unless G and the address are multiples of 4,096 and
 -- the address falls on a granule of the table."
-abbrev pub singleRange : ℕ → ℕ → ℕ → Granule
+abbrev pub singleRange : (start n addr : ℕ) → Granule
 singleRange start n addr = cond (both (eqb (start % 4096) 0) (both (eqb (addr % 4096) 0) (both (leb start addr) (ltb ((addr - start) / 4096) n)))) (At ((addr - start) / 4096)) Nothing
 
 -- ---- the set-up
@@ -128,12 +125,9 @@ takes shown n =
 unfoldable pub setUpCode : List ℕ → ℕ → Code
 setUpCode shown n = fails (unless (takes shown n)) Inval Ok
 
--- a record of n banks with the first i words of their bytes, and zeros behind; and the whole one
-unfoldable pub recordPart : ℕ → ℕ → List ℕ → Granules
-recordPart n i shown = n ∷ wordsOf i shown ++ replicate (32 - i) 0
-
+-- the record of n banks: the count, base and size of each, and zeros after them
 abbrev pub recordFrom : ℕ → List ℕ → Granules
-recordFrom n shown = recordPart n (2 * n) shown
+recordFrom n shown = n ∷ wordsOf (2 * n) shown ++ replicate (32 - 2 * n) 0
 
 -- the answer, and the record's words at exit: "INVAL, with no record made", leaves them as they were
 pub record SetUp : Type 0 where

@@ -1,18 +1,33 @@
-// The granule record: memory in up to 16 banks. A record is 33 words: how many banks, then base and size of each. The granule table is
-// the banks' granules joined in bank order; an address in a hole between banks is on none.
+// The granule record: memory in up to 16 banks. A record is 33 words: the number of banks, then base and size of each. The granule table
+// is the banks' granules joined in bank order; an address in a hole between banks is on no granule.
 use codes::Code;
 use entries::Bits;
 ghost use mathlib.Core.Path.{_≡_};
-ghost use Prim.Native.Nat.{_≤_};
+ghost use Prim.Native.Nat.{_/_, _≤_};
 ghost use Rattle.entries.specs.Entry.{bankOk};
-ghost use Rattle.words.specs.Tests.{Yes};
-ghost use Rattle.banks.specs.Banks.{follows, bankCount, recordOk, granuleCount, recordFrom, SetUp, setUpOf};
+ghost use Rattle.banks.specs.Banks.{follows, granuleCount, holds, recordFrom, SetUp, setUpOf};
+ghost use Rattle.banks.specs.Fast.{noBank, granuleIn, bankOf, foundFrom, firstBank, hasOneBank};
 
 // The granule that an address falls on.
 pub enum Granule {
     Nothing,
     At(usize),
 }
+
+// A bank, and the number of granules in the banks before it.
+pub struct BankSpan {
+    pub base: u64,
+    pub size: u64,
+    pub before: u64,
+}
+
+// The granule of an address, and the bank to look in first for the next address.
+pub struct Found {
+    pub granule: Granule,
+    pub bank: BankSpan,
+}
+
+// ---- the banks ----
 
 // Whether a bank meets the reader's rule.
 fn bank_ok(base: u64, size: u64) -> bool
@@ -21,7 +36,7 @@ fn bank_ok(base: u64, size: u64) -> bool
     entries::banks_clear(entries::with_bank(Bits::none(), base, size))
 }
 
-// Whether a bank meets the reader's rule and begins at or after the end of the one before.
+// Whether a bank meets the reader's rule and starts at or after `low`, the end of the bank before.
 fn bank_follows(low: u64, base: u64, size: u64) -> bool
     ensures { λ r. ⌜ r ≡ follows low base size ⌝ }
 {
@@ -31,20 +46,7 @@ fn bank_follows(low: u64, base: u64, size: u64) -> bool
     bank_ok(base, size)
 }
 
-// Whether a record has one bank, the usual case, which meets the reader's rule and has n granules.
-pub fn is_only(granules: &[u64; 33], n: usize) -> bool
-    ensures { λ r. ⌜ (Yes r → (bankCount (now (granules .entry)) ≡ 1) × Yes (recordOk (now (granules .entry))) × (granuleCount (now (granules .entry)) ≡ n)) ⌝ }
-{
-    if granules[0] != 1 {
-        return false;
-    }
-    if granules[2] / 4096 != n as u64 {
-        return false;
-    }
-    bank_ok(granules[1], granules[2])
-}
-
-// How many granules a record has; none if the set-up would refuse its banks.
+// The number of granules of a record; 0 if the set-up would refuse its banks.
 pub fn granule_count(granules: &[u64; 33]) -> u64
     ensures { λ r. ⌜ r ≡ granuleCount (now (granules .entry)) ⌝ }
 {
@@ -66,7 +68,7 @@ pub fn granule_count(granules: &[u64; 33]) -> u64
     sum
 }
 
-// The record of so many banks, read from their bytes: 16 bytes a bank, base and size.
+// The record of `count` banks, read from their bytes: 16 bytes a bank, base and size.
 fn record_from(shown: &[u8], count: usize) -> [u64; 33]
     requires { ⌜ count ≤ 16 ⌝ }
     ensures { λ r. ⌜ r ≡ recordFrom count (now (shown .entry)) ⌝ }
@@ -80,7 +82,7 @@ fn record_from(shown: &[u8], count: usize) -> [u64; 33]
 }
 
 // Sets up the record from the banks that the reader shows, in the bytes that the array lookup gives, for a table of n granules. INVAL
-// leaves the record as it was.
+// leaves the record unchanged.
 pub fn set_up(shown: &[u8], n: u64, granules: &mut [u64; 33]) -> Code
     ensures { λ r. ⌜ _≡_ {A = SetUp} (record { code = r; granules = now (granules .exit) }) (setUpOf (now (shown .entry)) n (now (granules .entry))) ⌝ }
 {
@@ -100,4 +102,115 @@ pub fn set_up(shown: &[u8], n: u64, granules: &mut [u64; 33]) -> Code
     }
     *granules = made;
     Code::Ok
+}
+
+// ---- the granule of an address ----
+
+// Whether [base, base + size) holds an address. base + size could overflow.
+fn bank_holds(base: u64, size: u64, address: u64) -> bool
+    ensures { λ r. ⌜ r ≡ holds base size address ⌝ }
+{
+    if address < base {
+        return false;
+    }
+    if size <= address - base {
+        return false;
+    }
+    true
+}
+
+// The granules of a bank of any size.
+fn granules_in(size: u64) -> u64
+    ensures { λ r. ⌜ (r ≡ size / 4096) × (r ≤ 0x10_0000_0000_0000) ⌝ }
+{
+    size / 4096
+}
+
+// No bank: it holds no address.
+pub fn no_bank() -> BankSpan
+    ensures { λ r. ⌜ r ≡ noBank ⌝ }
+{
+    BankSpan {
+        base: 0,
+        size: 0,
+        before: 0,
+    }
+}
+
+// The granule of an address in one bank. The sum wraps for no bank of a record that has granules.
+fn granule_in(bank: BankSpan, address: u64) -> Granule
+    ensures { λ r. ⌜ r ≡ granuleIn bank address ⌝ }
+{
+    let base = bank.base;
+    if address % 4096 != 0 {
+        return Granule::Nothing;
+    }
+    if !bank_holds(base, bank.size, address) {
+        return Granule::Nothing;
+    }
+    let index = std::num::wrapping_add_u64(bank.before, (address - base) / 4096);
+    Granule::At(index as usize)
+}
+
+// The first bank that holds an address, or no bank. The banks are not judged.
+fn bank_of(granules: &[u64; 33], address: u64) -> BankSpan
+    ensures { λ r. ⌜ r ≡ bankOf (now (granules .entry)) address ⌝ }
+{
+    let count = granules[0];
+    if 16 < count {
+        return no_bank();
+    }
+    let mut before: u64 = 0;
+    for i in 0..(count as usize) {
+        let base = granules[1 + 2 * i];
+        let size = granules[2 + 2 * i];
+        if bank_holds(base, size, address) {
+            return BankSpan { base, size, before };
+        }
+        before += granules_in(size);
+    }
+    no_bank()
+}
+
+// The granule of an address in a record that has granules, and its bank. Looks in `bank` first: the addresses of a list mostly lie in one
+// bank after another.
+pub fn find_from(granules: &[u64; 33], bank: BankSpan, address: u64) -> Found
+    ensures { λ r. ⌜ r ≡ foundFrom (now (granules .entry)) bank address ⌝ }
+{
+    let granule = granule_in(bank, address);
+    let Granule::Nothing = granule else {
+        return Found { granule, bank };
+    };
+    let own = bank_of(granules, address);
+    Found {
+        granule: granule_in(own, address),
+        bank: own,
+    }
+}
+
+// ---- the shortcut: a record of one bank ----
+
+// Whether a record has one bank, which meets the reader's rule and has n granules.
+pub fn has_one_bank(granules: &[u64; 33], n: usize) -> bool
+    ensures { λ r. ⌜ r ≡ hasOneBank (now (granules .entry)) n ⌝ }
+{
+    if granules[0] != 1 {
+        return false;
+    }
+    if granules[2] / 4096 != n as u64 {
+        return false;
+    }
+    bank_ok(granules[1], granules[2])
+}
+
+// The granule of an address in the first bank.
+pub fn find_first(granules: &[u64; 33], address: u64) -> Granule
+    ensures { λ r. ⌜ r ≡ granuleIn (firstBank (now (granules .entry))) address ⌝ }
+{
+    let first = BankSpan {
+        base: granules[1],
+        size: granules[2],
+        before: 0,
+    };
+    granule_in(first, address)
 }

@@ -32,7 +32,7 @@ module _ (granules : List ℕ) (m : Lent) (es : List Exported) (l : length (m .q
     still : granuleCount granules ≡ length (allExported granules m es .table)
     still = n ∙ sym (ap (λ (x : World). length (x .table .bytes)) (exports-chain granules m es l w a b) ∙ length-stays granules (lentWorld m) (map commandOf es))
 
-    pub exports-count : realmCountOf (allExported granules m es .words) (granuleCount granules) ≡ Number.Is (realms (allExported granules m es .table))
+    pub exports-count : realmCountOf (allExported granules m es .words) (granuleCount granules) ≡ Number.Count (realms (allExported granules m es .table))
     exports-count = count-walks granules (tableOf (allExported granules m es .table) (allExported granules m es .words)) still exports-agree
 
     pub exports-next : (i : ℕ) → i < granuleCount granules → realmNextOf (allExported granules m es .words) (granuleCount granules) i ≡ nextRealm (allExported granules m es .table) i

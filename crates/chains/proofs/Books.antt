@@ -127,7 +127,7 @@ exports-count-books granules m es y =
       final = realms (allExported granules m es .table);
       at-start = count-walks granules (tableOf (m .table) (m .words)) n a;
       at-end =
-          subst (λ (t : GranuleTable). realmCountOf (t .words) (granuleCount granules) ≡ Number.Is (realms (t .bytes))) (exports-table granules (lentWorld m) m es refl)
+          subst (λ (t : GranuleTable). realmCountOf (t .words) (granuleCount granules) ≡ Number.Count (realms (t .bytes))) (exports-table granules (lentWorld m) m es refl)
           (count-after granules (lentWorld m) (map commandOf es) a n);
       balance = exports-books granules m es .balance;
     }

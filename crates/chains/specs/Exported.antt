@@ -7,9 +7,8 @@ use lib.ListN.{getD, take}
 use lib.Dec.{eqb}
 use Rattle.codes.specs.Codes.{upOf}
 use Rattle.range.specs.Buffers.{BufferIn}
-use Rattle.granule_rules.specs.Granules.{tableOf}
+use Rattle.granule_rules.specs.Granules.{tableOf, toByte}
 use Rattle.granule_rules.specs.Changes.{Change, change, RealmAt}
-use Rattle.granule_rules.specs.Books.{leaves}
 use Rattle.granule_rules.specs.declared.Direction.{Direction}
 use Rattle.attest.specs.Key.{realmKeyOf}
 use Rattle.features.specs.Features.{featuresOf, updateOf, forwardOf}
@@ -171,5 +170,5 @@ pub data NoneAt (addr : ℕ) : List Change → Type 0 where
 -- "Each granule's byte is the one the last accepted call naming it left, or the starting byte if none did.", by the address that it is
 -- called with: of granule i
 pub record ByAddress (granules : List ℕ) (m : Lent) (es : List Exported) (addr i : ℕ) : Type 0 where
-  pub last : (before : List Change) (d : Direction) (behind : List Change) → allTold granules m es ≡ before ++ change d addr ∷ behind → NoneAt addr behind → getD (allExported granules m es .table) i 0 ≡ leaves d
+  pub last : (before : List Change) (d : Direction) (behind : List Change) → allTold granules m es ≡ before ++ change d addr ∷ behind → NoneAt addr behind → getD (allExported granules m es .table) i 0 ≡ toByte d
   pub none : NoneAt addr (allTold granules m es) → getD (allExported granules m es .table) i 0 ≡ getD (m .table) i 0

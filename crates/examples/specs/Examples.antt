@@ -23,7 +23,7 @@ use Rattle.boot.specs.declared.Record.the-variants.{Up}
 use Rattle.codes.specs.Codes.{extended, x0Of, answerOf, unless, fails, isUp, whenUp}
 use Rattle.codes.specs.declared.Code.the-variants.{Ok, BadAddr, BadPas, Inval}
 use Rattle.range.specs.Range.{outside, tooLong}
-use Rattle.granule_rules.specs.Granules.{GranuleTable, fromByte, guarded, granuleCode, moveCode, movedBy, fitting, whenFit, moveOf, delegateOf}
+use Rattle.granule_rules.specs.Granules.{GranuleTable, fromByte, isSharedPage, granuleCode, moveCode, movedBy, fitting, whenFit, moveOf, delegateOf}
 use Rattle.banks.specs.Banks.{Granules, granuleAt}
 use Rattle.banks.specs.declared.Granule.the-variants.{At}
 use Rattle.features.specs.Features.{updateCode}
@@ -88,7 +88,7 @@ check-one s h t = let e : (1 + 0x80000028 + (0x90000000 + (0x10000000 + 0)) + s)
 
 granted : (u : Params) (g : Granules) (t : GranuleTable) (addr i : ℕ) → fitting g t ≡ true → granuleAt g (length (t .bytes)) addr ≡ At i → getD (t .bytes) i 0 ≡ 1 →
     delegateOf (Up u) g t addr ≡ record { answer = answerOf BadPas 0 0; table = t }
-unfolding moveOf movedBy moveCode granuleCode guarded fromByte whenFit whenUp isUp unless fails
+unfolding moveOf movedBy moveCode granuleCode isSharedPage fromByte whenFit whenUp isUp unless fails
 granted u g t addr i w f b = rw (w, f, b)
 
 pub examples : Examples

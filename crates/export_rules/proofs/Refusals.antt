@@ -231,7 +231,7 @@ lists d state granules table words addresses = rw (list-is (recordOf state) gran
 count-told : (a : Number) → (numberX0 a ≡ 0 → ⊥) → numberWords a ≡ 0 ∷ []
 unfolding numberX0 numberWords x0Of extended
 count-told Number.Inval h = refl
-count-told (Number.Is n) h = absurd (h refl)
+count-told (Number.Count n) h = absurd (h refl)
 
 next-told : (a : Hit) → (hitX0 a ≡ 0 → ⊥) → hitWords a ≡ 0 ∷ []
 unfolding hitX0 hitWords x0Of extended

@@ -16,13 +16,13 @@ use Rattle.codes.proofs.Gates.{fails-ok, unless-ok}
 use Rattle.realm_words.specs.Bits.{wordsFor}
 use Rattle.realm_words.proofs.Laws.{realm-lt, put-same, put-other, put-length}
 use Rattle.banks.proofs.Laws.{falls, index-below, index-named, one-address}
-use Rattle.granule_rules.specs.Granules.{GranuleTable, fromByte, toByte, guarded, granuleCode, moveCode, granuleSet, moved, Moved, movedBy, moveAt, whenFit, fitting, moveOf, movedTo}
+use Rattle.granule_rules.specs.Granules.{GranuleTable, fromByte, toByte, isSharedPage, granuleCode, moveCode, granuleSet, moved, Moved, movedBy, moveAt, whenFit, fitting, moveOf, movedTo}
 use Rattle.granule_rules.specs.Acts.{MoveActed}
 use Rattle.banks.specs.declared.Granule.{Granule}
 use Rattle.banks.specs.declared.Granule.the-variants.{Nothing, At}
 use Rattle.granule_rules.specs.declared.Direction.{Direction}
 use Rattle.granule_rules.specs.declared.Direction.the-variants.{Delegate, Undelegate}
-use Rattle.granule_rules.proofs.Moving.{move-addr, move-guarded, move-ok, move-up}
+use Rattle.granule_rules.proofs.Moving.{move-addr, move-shared, move-ok, move-up}
 
 -- ---- granule i of a table: it is that of its bank's address, and of no other
 module _ (g : Granules) (n i : ℕ) where
@@ -38,22 +38,22 @@ module _ (g : Granules) (n i : ℕ) where
 -- of a granule of the table, not the shared page's if it is to be undelegated, whose byte is 0 (delegate) or 1 (undelegate), the answer is OK.
 pub move-passes : (s : Record) (g : Granules) (d : Direction) (t : GranuleTable) (addr i : ℕ) → length (t .words) ≡ wordsFor (granuleCount g) → isUp s ≡ true → granuleAt g (length (t .bytes)) addr ≡ At i →
     (d ≡ Undelegate → addr ≡ upOf s .base → ⊥) → getD (t .bytes) i 0 ≡ fromByte d → moveOf s g d t addr .answer ≡ answerOf Ok 0 0
-unfolding movedTo guarded
+unfolding movedTo isSharedPage
 move-passes s g d t addr i f u e n b =
     ap (λ (m : Moved). m .answer) (sym (move-ok (upOf s) g d (t .bytes) (t .words) addr i e (go d n) b (toByte d) refl ∙ move-up s g d t addr (eq-eqb (length (t .words)) (wordsFor (granuleCount g)) f) u))
   where
-    go : (d : Direction) → (d ≡ Undelegate → addr ≡ upOf s .base → ⊥) → guarded (upOf s) d addr ≡ false
+    go : (d : Direction) → (d ≡ Undelegate → addr ≡ upOf s .base → ⊥) → isSharedPage (upOf s) d addr ≡ false
     go Delegate n = refl
     go Undelegate n = ne-eqb addr (upOf s .base) (n refl)
 
 -- 02, E8: with so many words and the record up, undelegating the shared page is BAD_ADDR, whatever the table
 pub shared-refused : (s : Record) (g : Granules) (t : GranuleTable) → length (t .words) ≡ wordsFor (granuleCount g) → isUp s ≡ true → moveOf s g Undelegate t (upOf s .base) ≡ record { answer = answerOf BadAddr 0 0; table = t }
-unfolding movedTo guarded
+unfolding movedTo isSharedPage
 shared-refused s g t f u = sym (go (granuleAt g (length (t .bytes)) (upOf s .base)) refl ∙ move-up s g Undelegate t (upOf s .base) (eq-eqb (length (t .words)) (wordsFor (granuleCount g)) f) u)
   where
     go : (k : Granule) → granuleAt g (length (t .bytes)) (upOf s .base) ≡ k → _≡_ {A = Moved} (record { answer = answerOf BadAddr 0 0; table = t }) (moveAt (upOf s) g Undelegate t (upOf s .base))
     go Nothing e = move-addr (upOf s) g Undelegate (t .bytes) (t .words) (upOf s .base) e
-    go (At i) e = move-guarded (upOf s) g Undelegate (t .bytes) (t .words) (upOf s .base) i e (eq-eqb (upOf s .base) (upOf s .base) refl)
+    go (At i) e = move-shared (upOf s) g Undelegate (t .bytes) (t .words) (upOf s .base) i e (eq-eqb (upOf s .base) (upOf s .base) refl)
 
 -- the granule's bit is in one of the words
 word-of : (g : Granules) (t : GranuleTable) (addr i : ℕ) → length (t .words) ≡ wordsFor (granuleCount g) → granuleAt g (length (t .bytes)) addr ≡ At i → i / 64 < length (t .words)
@@ -80,12 +80,12 @@ acted u g d t addr (At i) f e h =
     }
 
 -- what an OK tells of the checks that no byte is looked at for
-free : (u : Params) (d : Direction) (t : GranuleTable) (addr : ℕ) (k : Granule) → granuleCode u d t addr k ≡ Ok → guarded u d addr ≡ false
+free : (u : Params) (d : Direction) (t : GranuleTable) (addr : ℕ) (k : Granule) → granuleCode u d t addr k ≡ Ok → isSharedPage u d addr ≡ false
 unfolding granuleCode
 free u d t addr Nothing h = absurd (false≢true (ap isOk h))
 free u d t addr (At i) h = fails-ok _ _ _ refl h .0
 
-pub move-free : (s : Record) (g : Granules) (d : Direction) (t : GranuleTable) (addr : ℕ) → moveOf s g d t addr .answer .code ≡ Ok → (fitting g t ≡ true) × (isUp s ≡ true) × (guarded (upOf s) d addr ≡ false)
+pub move-free : (s : Record) (g : Granules) (d : Direction) (t : GranuleTable) (addr : ℕ) → moveOf s g d t addr .answer .code ≡ Ok → (fitting g t ≡ true) × (isUp s ≡ true) × (isSharedPage (upOf s) d addr ≡ false)
 unfolding moveOf movedBy moveCode whenFit whenUp answerOf
 move-free s g d t addr h =
     let p = unless-ok _ _ _ refl h in
@@ -95,7 +95,7 @@ move-free s g d t addr h =
 -- and only with so many words, the record up, and not the shared page's to be undelegated; what else an OK tells is part of what it did
 pub move-only : (s : Record) (g : Granules) (d : Direction) (t : GranuleTable) (addr : ℕ) → moveOf s g d t addr .answer .code ≡ Ok →
     (length (t .words) ≡ wordsFor (granuleCount g)) × (isUp s ≡ true) × (d ≡ Undelegate → addr ≡ upOf s .base → ⊥)
-unfolding guarded fitting
+unfolding isSharedPage fitting
 move-only s g d t addr h = let p = move-free s g d t addr h in (eqb-true _ _ (p .0), p .1, λ e. eqb-false addr (upOf s .base) (rw e at (p .2)))
 
 -- "Then it becomes 1 or 0."

@@ -23,7 +23,7 @@ use Rattle.granule_rules.proofs.Done.{list-is}
 
 -- ---- the answers
 module _ (g : Granules) (t : GranuleTable) (n : granuleCount g ≡ length (t .bytes)) (a : Agrees t) where
-  pub count-walks : realmCountOf (t .words) (granuleCount g) ≡ Number.Is (realms (t .bytes))
+  pub count-walks : realmCountOf (t .words) (granuleCount g) ≡ Number.Count (realms (t .bytes))
   count-walks = rw (n, a) (count-agrees (t .bytes))
 
   pub next-walks : (i : ℕ) → i < granuleCount g → realmNextOf (t .words) (granuleCount g) i ≡ nextRealm (t .bytes) i

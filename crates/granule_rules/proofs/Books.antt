@@ -20,7 +20,7 @@ use Rattle.granule_rules.specs.Granules.{GranuleTable, fromByte, toByte,
 use Rattle.granule_rules.specs.Acts.{MoveActed}
 use Rattle.granule_rules.specs.Lists.{moveListOf, doneOf}
 use Rattle.granule_rules.specs.Changes.{Change, change}
-use Rattle.granule_rules.specs.Books.{delegations, undelegations, leaves, Names, NoneNames, nil, cons, Books}
+use Rattle.granule_rules.specs.Books.{delegations, undelegations, Names, NoneNames, nil, cons, Books}
 use Rattle.granule_rules.specs.declared.Direction.{Direction}
 use Rattle.granule_rules.specs.declared.Direction.the-variants.{Delegate, Undelegate}
 use Rattle.granule_rules.proofs.Acts.{move-acts}
@@ -61,21 +61,21 @@ not-at i (At j) n = ne-eqb i j (λ e. n (ap At (sym e)))
 module _ (g : Granules) (n i : ℕ) where
   pub leftBy : List Change → ℕ → ℕ
   leftBy [] x = x
-  leftBy (c ∷ cs) x = leftBy cs (cond (isAt i (granuleAt g n (c .address))) (leaves (c .way)) x)
+  leftBy (c ∷ cs) x = leftBy cs (cond (isAt i (granuleAt g n (c .address))) (toByte (c .way)) x)
 
   left-append : (xs ys : List Change) (x : ℕ) → leftBy (xs ++ ys) x ≡ leftBy ys (leftBy xs x)
   unfolding leftBy
   left-append [] ys x = refl
-  left-append (c ∷ xs) ys x = left-append xs ys (cond (isAt i (granuleAt g n (c .address))) (leaves (c .way)) x)
+  left-append (c ∷ xs) ys x = left-append xs ys (cond (isAt i (granuleAt g n (c .address))) (toByte (c .way)) x)
 
   left-none : (cs : List Change) (x : ℕ) → NoneNames g n i cs → leftBy cs x ≡ x
   unfolding leftBy
   left-none [] x nil = refl
   left-none (c ∷ cs) x (cons _ _ m r) = rw (not-at i (granuleAt g n (c .address)) m) (left-none cs x r)
 
-  left-last : (before : List Change) (c : Change) (behind : List Change) (x : ℕ) → Names g n i c → NoneNames g n i behind → leftBy (before ++ c ∷ behind) x ≡ leaves (c .way)
+  left-last : (before : List Change) (c : Change) (behind : List Change) (x : ℕ) → Names g n i c → NoneNames g n i behind → leftBy (before ++ c ∷ behind) x ≡ toByte (c .way)
   unfolding leftBy
-  left-last before c behind x m r = left-append before (c ∷ behind) x ∙ rw (is-at i (granuleAt g n (c .address)) m) (left-none behind (leaves (c .way)) r)
+  left-last before c behind x m r = left-append before (c ∷ behind) x ∙ rw (is-at i (granuleAt g n (c .address)) m) (left-none behind (toByte (c .way)) r)
 
   none-named : (cs : List Change) → ((a : ℕ) → granuleAt g n a ≡ At i → ⊥) → NoneNames g n i cs
   none-named [] h = nil
@@ -124,13 +124,13 @@ account-books g t u cs p =
     }
 
 -- ---- one accepted call
-byte-left : (g : Granules) (d : Direction) (t after : GranuleTable) (a : ℕ) → MoveActed g d t after a → toByte d ≡ leaves d → (i : ℕ) →
-    getD (after .bytes) i 0 ≡ cond (isAt i (granuleAt g (length (t .bytes)) a)) (leaves d) (getD (t .bytes) i 0)
+byte-left : (g : Granules) (d : Direction) (t after : GranuleTable) (a : ℕ) → MoveActed g d t after a → (i : ℕ) →
+    getD (after .bytes) i 0 ≡ cond (isAt i (granuleAt g (length (t .bytes)) a)) (toByte d) (getD (t .bytes) i 0)
 unfolding isAt
-byte-left g d t after a m e i = rw (m .own) (go (eqb i (m .granule)) refl)
+byte-left g d t after a m i = rw (m .own) (go (eqb i (m .granule)) refl)
   where
-    go : (b : Bool) → eqb i (m .granule) ≡ b → getD (after .bytes) i 0 ≡ cond (eqb i (m .granule)) (leaves d) (getD (t .bytes) i 0)
-    go true k = rw (k, eqb-true i (m .granule) k) (m .becomes ∙ e)
+    go : (b : Bool) → eqb i (m .granule) ≡ b → getD (after .bytes) i 0 ≡ cond (eqb i (m .granule)) (toByte d) (getD (t .bytes) i 0)
+    go true k = rw (k, eqb-true i (m .granule) k) (m .becomes)
     go false k = rw k (m .others i (eqb-false i (m .granule) k))
 
 moved-realms : (g : Granules) (d : Direction) (t after : GranuleTable) (a : ℕ) → MoveActed g d t after a → realms (after .bytes) + realmBit (fromByte d) ≡ realms (t .bytes) + realmBit (toByte d)
@@ -140,8 +140,8 @@ moved-realms g d t after a m =
 
 account-one : (g : Granules) (d : Direction) (t after : GranuleTable) (a : ℕ) → MoveActed g d t after a → Account g t (change d a ∷ []) after
 unfolding delegations undelegations leftBy fromByte toByte realmBit
-account-one g Delegate t after a m = record { balance = omega (arith, moved-realms g Delegate t after a m); whole = m .whole; left = byte-left g Delegate t after a m refl }
-account-one g Undelegate t after a m = record { balance = omega (arith, moved-realms g Undelegate t after a m); whole = m .whole; left = byte-left g Undelegate t after a m refl }
+account-one g Delegate t after a m = record { balance = omega (arith, moved-realms g Delegate t after a m); whole = m .whole; left = byte-left g Delegate t after a m }
+account-one g Undelegate t after a m = record { balance = omega (arith, moved-realms g Undelegate t after a m); whole = m .whole; left = byte-left g Undelegate t after a m }
 
 pub call-account : (s : Record) (g : Granules) (d : Direction) (t : GranuleTable) (a : ℕ) → moveOf s g d t a .answer .code ≡ Ok → Account g t (change d a ∷ []) (moveOf s g d t a .table)
 call-account s g d t a h = account-one g d t _ a (move-acts s g d t a h)

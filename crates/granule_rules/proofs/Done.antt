@@ -13,7 +13,7 @@ use Rattle.codes.specs.Codes.{isUp, upOf, isOk, unless, fails, answerOf}
 use Rattle.codes.specs.declared.Code.{Code}
 use Rattle.codes.specs.declared.Code.the-variants.{Ok, Unk, BadAddr, BadPas, Inval, Again}
 use Rattle.banks.specs.Banks.{Granules, granuleAt}
-use Rattle.granule_rules.specs.Granules.{GranuleTable, fromByte, toByte, guarded, Moved, movedBy, fitting, whenFit, moveOf, movedTo}
+use Rattle.granule_rules.specs.Granules.{GranuleTable, fromByte, toByte, isSharedPage, Moved, movedBy, fitting, whenFit, moveOf, movedTo}
 use Rattle.granule_rules.specs.Acts.{MoveActed}
 use Rattle.granule_rules.specs.Lists.{onward, listBy, moveListOf, doneBy, tableBy, codeBy, codeAt, Longest}
 use Rattle.banks.specs.declared.Granule.the-variants.{At}
@@ -111,11 +111,11 @@ module _ (s : Record) (g : Granules) (d : Direction) where
       go Undelegate h = absurd (omega arith)
 
   -- the single call of an address whose granule has the byte that it would get
-  marked-refused : (t : GranuleTable) (a i : ℕ) → fitting g t ≡ true → isUp s ≡ true → guarded (upOf s) d a ≡ false → granuleAt g (length (t .bytes)) a ≡ At i → getD (t .bytes) i 0 ≡ toByte d → moveOf s g d t a .answer .code ≡ BadPas
+  marked-refused : (t : GranuleTable) (a i : ℕ) → fitting g t ≡ true → isUp s ≡ true → isSharedPage (upOf s) d a ≡ false → granuleAt g (length (t .bytes)) a ≡ At i → getD (t .bytes) i 0 ≡ toByte d → moveOf s g d t a .answer .code ≡ BadPas
   unfolding movedTo answerOf
   marked-refused t a i f u n e h = ap (λ (m : Moved). m .answer .code) (sym (move-pas (upOf s) g d (t .bytes) (t .words) a i e n (λ b. differs (sym h ∙ b)) ∙ move-up s g d t a f u))
 
-  again-from : (l : List ℕ) (t : GranuleTable) (j a i : ℕ) → fitting g t ≡ true → (isUp s ≡ true) × (guarded (upOf s) d a ≡ false) → granuleAt g (length (t .bytes)) a ≡ At i → getD (t .bytes) i 0 ≡ toByte d → getD l j 0 ≡ a → j < length l →
+  again-from : (l : List ℕ) (t : GranuleTable) (j a i : ℕ) → fitting g t ≡ true → (isUp s ≡ true) × (isSharedPage (upOf s) d a ≡ false) → granuleAt g (length (t .bytes)) a ≡ At i → getD (t .bytes) i 0 ≡ toByte d → getD l j 0 ≡ a → j < length l →
       j ≤ doneBy (moveOf s g d) t l → (doneBy (moveOf s g d) t l ≡ j) × (codeBy (moveOf s g d) t l ≡ BadPas)
   unfolding doneBy codeBy
   again-from [] t j a i f u e h n m r = absurd (omega arith)

@@ -12,13 +12,13 @@ use Rattle.boot.specs.declared.Record.{Record}
 use Rattle.codes.specs.Codes.{isUp, upOf, isOk, answerOf}
 use Rattle.codes.specs.declared.Answer.{Answer}
 use Rattle.codes.specs.declared.Code.{Code}
-use Rattle.codes.specs.declared.Code.the-variants.{Ok, Unk, BadAddr, BadPas, Inval, Again}
+use Rattle.codes.specs.declared.Code.the-variants.{Ok, Unk, BadAddr, Inval}
 use Rattle.banks.specs.Banks.{Granules, granuleAt}
 use Rattle.banks.specs.declared.Granule.the-variants.{Nothing}
 use Rattle.granule_rules.specs.Granules.{GranuleTable, tableOf, Moved, movedBy, moveAt, fitting, moveOf, movedTo}
 use Rattle.granule_rules.specs.Lists.{onward, listBy, moveListOf}
 use Rattle.granule_rules.specs.declared.Direction.{Direction}
-use Rattle.granule_rules.proofs.Moving.{move-addr, move-unfit, move-down, move-up, fit-kept}
+use Rattle.granule_rules.proofs.Moving.{move-down, move-up, move-nowhere, fit-kept}
 
 -- ---- one more call
 onward-ok : (m : Moved) (k : ℕ) (rest : Moved) → isOk (m .answer .code) ≡ true → onward m k rest ≡ rest
@@ -108,30 +108,8 @@ module _ (s : Record) (g : Granules) (d : Direction) (t : GranuleTable) where
     -- where no address is on a granule of the table, the first is refused
     first-nowhere : isUp s ≡ true → (a : ℕ) (l : List ℕ) → granuleAt g (length (t .bytes)) a ≡ Nothing → _≡_ {A = Moved} (record { answer = answerOf BadAddr 0 0; table = t }) (listBy (moveOf s g d) 0 t (a ∷ l))
     unfolding listBy onward movedTo answerOf
-    first-nowhere h a l e = rw (← (move-addr (upOf s) g d (t .bytes) (t .words) a e ∙ move-up s g d t a f h))
+    first-nowhere h a l e = rw (← move-nowhere s g d t a f h e)
 
     pub list-nowhere : isUp s ≡ true → (l : List ℕ) → (length l ≡ 0 → ⊥) → ((a : ℕ) → granuleAt g (length (t .bytes)) a ≡ Nothing) → _≡_ {A = Moved} (record { answer = answerOf BadAddr 0 0; table = t }) (moveListOf s g d t l)
     list-nowhere h [] n e = absurd (n refl)
     list-nowhere h (a ∷ l) n e = first-nowhere h a l (e a) ∙ list-fit (a ∷ l)
-
--- ---- a single call is a list of one: the code and the table are the same
-abbrev coded : Moved → Moved
-coded m = record { answer = answerOf (m .answer .code) 0 0; table = m .table }
-
-one-code : (k : Code) (x : GranuleTable) → coded (onward (record { answer = answerOf k 0 0; table = x }) 0 (record { answer = answerOf Ok 1 0; table = x })) ≡ record { answer = answerOf k 0 0; table = x }
-unfolding onward answerOf
-one-code Ok x = refl
-one-code Unk x = refl
-one-code BadAddr x = refl
-one-code BadPas x = refl
-one-code Inval x = refl
-one-code Again x = refl
-
-pub list-of-one : (s : Record) (g : Granules) (d : Direction) (t : GranuleTable) (addr : ℕ) (a : Answer) (bytes words : List ℕ) → movedTo a bytes words ≡ moveListOf s g d t (addr ∷ []) →
-    movedTo (answerOf (a .code) 0 0) bytes words ≡ moveOf s g d t addr
-unfolding movedTo moveListOf listBy moveOf movedBy answerOf
-list-of-one s g d t addr a bytes words e = ap coded e ∙ go (fitting g t) refl
-  where
-    go : (z : Bool) → fitting g t ≡ z → coded (cond z (listBy (moveOf s g d) 0 t (addr ∷ [])) (movedBy Inval t t)) ≡ moveOf s g d t addr
-    go true f = one-code (moveOf s g d t addr .answer .code) (moveOf s g d t addr .table)
-    go false f = move-unfit s g d t addr f

@@ -18,7 +18,8 @@ use Rattle.codes.specs.declared.Code.{Code}
 use Rattle.codes.specs.declared.Code.the-variants.{Ok, Unk, BadAddr, BadPas, Inval}
 use Rattle.codes.proofs.Gates.{if-ok-by}
 use Rattle.banks.proofs.Laws.{falls, index-below}
-use Rattle.granule_rules.specs.Granules.{Inside, GranuleTable, tableOf, fromByte, toByte, guarded, granuleCode, moveCode, granuleSet, moved, Moved, movedBy, moveAt, fitting, whenFit, moveOf, movedTo}
+use Rattle.granule_rules.specs.Granules.{GranuleTable, tableOf, fromByte, toByte, isSharedPage, granuleCode, moveCode, granuleSet, moved, Moved, movedBy, moveAt, fitting, whenFit, moveOf, movedTo}
+use Rattle.granule_rules.specs.Steps.{Inside}
 use Rattle.banks.specs.declared.Granule.{Granule}
 use Rattle.banks.specs.declared.Granule.the-variants.{Nothing, At}
 use Rattle.granule_rules.specs.declared.Direction.{Direction}
@@ -47,11 +48,11 @@ module _ (u : Params) (g : Granules) (d : Direction) (t ws : List ℕ) (addr : �
   move-addr e = rw e
 
   module _ (i : ℕ) (e : granuleAt g (length t) addr ≡ At i) where
-    pub move-guarded : guarded u d addr ≡ true → movedTo (answerOf BadAddr 0 0) t ws ≡ moveAt u g d (tableOf t ws) addr
+    pub move-shared : isSharedPage u d addr ≡ true → movedTo (answerOf BadAddr 0 0) t ws ≡ moveAt u g d (tableOf t ws) addr
     unfolding movedTo moveAt movedBy moveCode granuleCode moved granuleSet fails
-    move-guarded k = rw (e, k)
+    move-shared k = rw (e, k)
 
-    module _ (k : guarded u d addr ≡ false) where
+    module _ (k : isSharedPage u d addr ≡ false) where
       pub move-pas : (getD t i 0 ≡ fromByte d → ⊥) → movedTo (answerOf BadPas 0 0) t ws ≡ moveAt u g d (tableOf t ws) addr
       unfolding movedTo moveAt movedBy moveCode granuleCode moved granuleSet unless fails
       move-pas n = rw (e, k, ne-eqb (getD t i 0) (fromByte d) n)
@@ -102,6 +103,10 @@ module _ (s : Record) (g : Granules) (d : Direction) (t : GranuleTable) (addr : 
 
     pub told-up : isUp s ≡ true → (u : Params) → u ≡ upOf s → (m : Moved) → m ≡ moveAt u g d t addr → m ≡ moveOf s g d t addr
     told-up h u v m e = e ∙ rw v (move-up h)
+
+    -- the address is on no granule of the table
+    pub move-nowhere : isUp s ≡ true → granuleAt g (length (t .bytes)) addr ≡ Nothing → movedTo (answerOf BadAddr 0 0) (t .bytes) (t .words) ≡ moveOf s g d t addr
+    move-nowhere h e = move-addr (upOf s) g d (t .bytes) (t .words) addr e ∙ move-up h
 
     -- words that are as many as they must be stay so
     pub fit-kept : fitting g (moveOf s g d t addr .table) ≡ true

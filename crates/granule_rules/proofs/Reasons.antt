@@ -21,7 +21,7 @@ use Rattle.codes.specs.Reasons.{Gives, Passes, WhileUp}
 use Rattle.codes.specs.declared.Code.{Code}
 use Rattle.codes.specs.declared.Code.the-variants.{BadAddr, BadPas, Inval}
 use Rattle.codes.proofs.Reasons.{Tells, tells-eq, tells-not, gives, while-up}
-use Rattle.granule_rules.specs.Granules.{GranuleTable, fromByte, guarded, granuleCode, moveCode, movedBy, whenFit, fitting, moveOf}
+use Rattle.granule_rules.specs.Granules.{GranuleTable, fromByte, isSharedPage, granuleCode, moveCode, movedBy, whenFit, fitting, moveOf}
 use Rattle.granule_rules.specs.Lists.{moveListOf, codeBy}
 use Rattle.granule_rules.proofs.Done.{list-is}
 use Rattle.granule_rules.specs.declared.Direction.{Direction}
@@ -37,10 +37,10 @@ unfolding fromByte
 tells-takes Delegate b = tells-not _ _ (tells-eq b 0)
 tells-takes Undelegate b = tells-not _ _ (tells-eq b 1)
 
-tells-guarded : (u : Params) (d : Direction) (addr : ℕ) → Tells (guarded u d addr) ((d ≡ Undelegate) × (addr ≡ u .base))
-unfolding guarded
-tells-guarded u Delegate addr = record { yes-if = λ h. absurd (let e = h .0 in let z : _≡_ {A = ℕ} 0 1 = cc in omega arith); no-if = λ h. refl }
-tells-guarded u Undelegate addr = record { yes-if = λ h. tells-eq addr (u .base) .yes-if (h .1); no-if = λ h. tells-eq addr (u .base) .no-if (λ e. h (refl, e)) }
+tells-shared : (u : Params) (d : Direction) (addr : ℕ) → Tells (isSharedPage u d addr) ((d ≡ Undelegate) × (addr ≡ u .base))
+unfolding isSharedPage
+tells-shared u Delegate addr = record { yes-if = λ h. absurd (let e = h .0 in let z : _≡_ {A = ℕ} 0 1 = cc in omega arith); no-if = λ h. refl }
+tells-shared u Undelegate addr = record { yes-if = λ h. tells-eq addr (u .base) .yes-if (h .1); no-if = λ h. tells-eq addr (u .base) .no-if (λ e. h (refl, e)) }
 
 -- by the granule of the address, if there is one
 abbrev pub GranuleGives : Params → Granules → Direction → GranuleTable → ℕ → Code → Type 0
@@ -56,7 +56,7 @@ granule-gives u g d t addr Nothing e = record { where-it-holds = λ p. refl; els
 granule-gives u g d t addr (At i) e =
     record {
       where-it-holds = λ p. absurd (p i (granule-lies g (length (t .bytes)) addr i e));
-      elsewhere = λ n. gives _ _ BadAddr _ _ (tells-guarded u d addr) (λ s. gives _ _ BadPas _ _ byte (λ b. refl));
+      elsewhere = λ n. gives _ _ BadAddr _ _ (tells-shared u d addr) (λ s. gives _ _ BadPas _ _ byte (λ b. refl));
     }
   where
     same : (j : ℕ) → LiesAt g (length (t .bytes)) addr j → j ≡ i

@@ -7,7 +7,7 @@ use Rattle.banks.specs.Banks.{Granules, granuleCount, granuleAt}
 use Rattle.banks.specs.declared.Granule.the-variants.{At}
 use Rattle.realm_words.specs.Answers.{realmCountOf, realms}
 use Rattle.realm_words.specs.declared.Number.{Number}
-use Rattle.granule_rules.specs.Granules.{GranuleTable}
+use Rattle.granule_rules.specs.Granules.{GranuleTable, toByte}
 use Rattle.granule_rules.specs.Changes.{Change}
 use Rattle.granule_rules.specs.declared.Direction.{Direction}
 use Rattle.granule_rules.specs.declared.Direction.the-variants.{Delegate, Undelegate}
@@ -31,11 +31,6 @@ undelegations [] = 0
 undelegations (c ∷ cs) = losses (c .way) + undelegations cs
 
 -- ---- the bytes
--- the byte that an accepted call leaves: Realm or Non-secure
-abbrev pub leaves : Direction → ℕ
-leaves Delegate = 1
-leaves Undelegate = 0
-
 -- a call "naming it": its address falls on granule i of a table of n
 abbrev pub Names : Granules → ℕ → ℕ → Change → Type 0
 Names g n i c = granuleAt g n (c .address) ≡ At i
@@ -52,7 +47,7 @@ pub record Books (g : Granules) (t : GranuleTable) (cs : List Change) (after : G
   -- no granule comes or goes
   pub whole : length (after .bytes) ≡ length (t .bytes)
   -- "Each granule's byte is the one the last accepted call naming it left,"
-  pub last : (i : ℕ) (before : List Change) (c : Change) (behind : List Change) → cs ≡ before ++ c ∷ behind → Names g (length (t .bytes)) i c → NoneNames g (length (t .bytes)) i behind → getD (after .bytes) i 0 ≡ leaves (c .way)
+  pub last : (i : ℕ) (before : List Change) (c : Change) (behind : List Change) → cs ≡ before ++ c ∷ behind → Names g (length (t .bytes)) i c → NoneNames g (length (t .bytes)) i behind → getD (after .bytes) i 0 ≡ toByte (c .way)
   -- "or the starting byte if none did."
   pub none : (i : ℕ) → NoneNames g (length (t .bytes)) i cs → getD (after .bytes) i 0 ≡ getD (t .bytes) i 0
   -- a byte of the table that no address names stays
@@ -62,6 +57,6 @@ pub record Books (g : Granules) (t : GranuleTable) (cs : List Change) (after : G
 pub record CountBooks (g : Granules) (t : GranuleTable) (cs : List Change) (after : GranuleTable) : Type 0 where
   pub first : ℕ
   pub final : ℕ
-  pub at-start : realmCountOf (t .words) (granuleCount g) ≡ Number.Is first
-  pub at-end : realmCountOf (after .words) (granuleCount g) ≡ Number.Is final
+  pub at-start : realmCountOf (t .words) (granuleCount g) ≡ Number.Count first
+  pub at-end : realmCountOf (after .words) (granuleCount g) ≡ Number.Count final
   pub balance : first + delegations cs ≡ undelegations cs + final

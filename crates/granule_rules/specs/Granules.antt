@@ -1,20 +1,19 @@
 -- 0xC40001B0, B1: delegate, undelegate. 01: "The granule table is one byte a granule ..: 0 Non-secure, 1 Realm, 2 Root, 3 Secure; other
 -- bytes are none of these (house codes)." Which granule an address falls on is said by the banks (02, E2). Assumes nothing.
-use Prim.Native.Nat.{ℕ, _/_, _<_}
+use Prim.Native.Nat.{ℕ}
 use mathlib.Core.Path.{_≡_}
-use mathlib.Core.Bool.{Bool, true, false}
+use mathlib.Core.Bool.{Bool, false}
 use mathlib.Core.List.{List}
 use lib.ListN.{length, getD, set}
 use lib.Dec.{eqb}
-use Rattle.words.specs.Tests.{Yes}
-use Rattle.banks.specs.Banks.{Granules, bankCount, recordOk, granuleCount, granuleAt}
+use Rattle.banks.specs.Banks.{Granules, granuleCount, granuleAt}
 use Rattle.banks.specs.declared.Granule.{Granule}
 use Rattle.banks.specs.declared.Granule.the-variants.{Nothing, At}
 use Rattle.realm_words.specs.Bits.{realmBit, putBit, realmWords}
 use Rattle.realm_words.specs.Answers.{wordsFit}
 use Rattle.boot.specs.declared.Params.{Params}
 use Rattle.boot.specs.declared.Record.{Record}
-use Rattle.codes.specs.Codes.{unless, fails, isUp, upOf, whenUp, ifOk, answerOf}
+use Rattle.codes.specs.Codes.{unless, fails, upOf, whenUp, ifOk, answerOf}
 use Rattle.codes.specs.declared.Code.{Code}
 use Rattle.codes.specs.declared.Code.the-variants.{Ok, BadAddr, BadPas, Inval}
 use Rattle.codes.specs.declared.Answer.{Answer}
@@ -42,16 +41,16 @@ toByte Undelegate = 0
 
 -- 02, E8: "Once the boot record is up, if the shared page is a granule of the table, undelegating it is refused.": the address is B, u
 -- being what the boot record keeps. Delegating it is as before.
-unfoldable pub guarded : Params → Direction → ℕ → Bool
-guarded u Delegate addr = false
-guarded u Undelegate addr = eqb addr (u .base)
+unfoldable pub isSharedPage : Params → Direction → ℕ → Bool
+isSharedPage u Delegate addr = false
+isSharedPage u Undelegate addr = eqb addr (u .base)
 
 -- "BAD_ADDR unless .. the address falls on a granule of the table. BAD_PAS unless that byte is 0 (delegate) or 1 (undelegate).", amended
 -- by 02, E8: "BAD_ADDR for that granule, right after the granule address check"
 unfoldable pub granuleCode : Params → Direction → GranuleTable → ℕ → Granule → Code
 granuleCode u d t addr Nothing = BadAddr
 granuleCode u d t addr (At i) =
-    fails (guarded u d addr) BadAddr
+    fails (isSharedPage u d addr) BadAddr
     (fails (unless (eqb (getD (t .bytes) i 0) (fromByte d))) BadPas
     Ok)
 
@@ -101,12 +100,3 @@ movedTo a bytes words = record { answer = a; table = tableOf bytes words }
 -- ---- "If words and table agree": 02, E6: "agreement, spare bits zero too"
 abbrev pub Agrees : GranuleTable → Type 0
 Agrees t = t .words ≡ realmWords (t .bytes)
-
--- ---- a granule that lies within the table's bytes, with its bit within the words
-abbrev pub Inside : Granule → List ℕ → List ℕ → Type 0
-Inside k bytes words = (i : ℕ) → k ≡ At i → (i < length bytes) × (i / 64 < length words)
-
--- ---- a boot record that is up, and a granule record of one bank with n granules, for which the words are: nothing but the address and its
--- granule's byte is left to judge
-abbrev pub Ready : Record → Granules → ℕ → List ℕ → Type 0
-Ready s g n ws = (isUp s ≡ true) × (bankCount g ≡ 1) × Yes (recordOk g) × (granuleCount g ≡ n) × Yes (wordsFit ws (granuleCount g))

@@ -1,4 +1,5 @@
 pub mod Granules
+pub mod Steps
 pub mod Acts
 pub mod Lists
 pub mod Changes

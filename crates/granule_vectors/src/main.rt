@@ -78,7 +78,7 @@ fn print_list(input: &[u8], table: &mut [u8], words: &mut [u64], list: &mut [u64
 fn print_number(number: Number) {
     match number {
         Number::Inval => print(b"count INVAL\n"),
-        Number::Is(n) => {
+        Number::Count(n) => {
             print(b"count ");
             io::print_decimal(STDOUT_FILENO, n);
             print(b"\n");

@@ -1,25 +1,27 @@
-// Delegation: the granule table is one byte a granule of the record's banks: 0 Non-secure, 1 Realm, 2 Root, 3 Secure. Beside it stand
-// the realm words, with a bit for each granule.
+// Delegation. The granule table is one byte a granule of the record's banks: 0 Non-secure, 1 Realm, 2 Root, 3 Secure. Next to it are the
+// realm words, with a bit for each granule.
 use banks::Granule;
 use boot::Params;
 use boot::Record;
 use codes::Answer;
 use codes::Code;
 pub use granule_rules::Direction;
-use realm_words::Held;
 ghost use mathlib.Core.Path.{_≡_};
+ghost use mathlib.Core.Bool.{true};
 ghost use Prim.Native.Nat.{_/_, _<_};
+ghost use lib.Dec.{ltb, eqb};
 ghost use lib.ListN.{length};
-ghost use Rattle.words.specs.Tests.{Yes};
-ghost use Rattle.codes.specs.Codes.{answerOf};
+ghost use Rattle.words.specs.Tests.{both, Yes};
+ghost use Rattle.codes.specs.Codes.{isUp, answerOf};
 ghost use Rattle.banks.specs.Banks.{Granules, granuleCount, granuleAt};
+ghost use Rattle.banks.specs.Fast.{hasOneBank};
 ghost use Rattle.realm_words.specs.Answers.{wordsFit};
-ghost use Rattle.realm_words.specs.Bits.{realmBit};
-ghost use Rattle.realm_words.specs.Holding.{Holds, wordBy, putBy, wordHeld};
-ghost use Rattle.granule_rules.specs.Granules.{tableOf, Inside, Ready, fromByte, toByte, guarded, moveAt, moveOf, delegateOf, undelegateOf, movedTo};
+ghost use Rattle.realm_words.specs.Bits.{realmBit, putBit};
+ghost use Rattle.granule_rules.specs.Granules.{tableOf, fromByte, toByte, isSharedPage, moveAt, moveOf, delegateOf, undelegateOf, movedTo};
+ghost use Rattle.granule_rules.specs.Steps.{Inside};
 ghost use Rattle.granule_rules.specs.Lists.{listBy, moveListOf, delegateListOf, undelegateListOf};
 
-// The byte that a granule must have, and the one that it gets.
+// The byte that a granule must have.
 fn from_byte(direction: Direction) -> u8
     ensures { λ r. ⌜ r ≡ fromByte direction ⌝ }
 {
@@ -29,6 +31,7 @@ fn from_byte(direction: Direction) -> u8
     }
 }
 
+// The byte that it gets.
 fn to_byte(direction: Direction) -> u8
     ensures { λ r. ⌜ r ≡ toByte direction ⌝ }
 {
@@ -38,9 +41,9 @@ fn to_byte(direction: Direction) -> u8
     }
 }
 
-// Whether an address is not to be moved though it falls on a granule: the shared page must stay Realm.
-fn is_guarded(params: Params, direction: Direction, address: u64) -> bool
-    ensures { λ r. ⌜ r ≡ guarded params direction address ⌝ }
+// Whether a call would undelegate the shared page, which must stay Realm.
+fn is_shared_page(params: Params, direction: Direction, address: u64) -> bool
+    ensures { λ r. ⌜ r ≡ isSharedPage params direction address ⌝ }
 {
     match direction {
         Direction::Delegate => false,
@@ -48,36 +51,16 @@ fn is_guarded(params: Params, direction: Direction, address: u64) -> bool
     }
 }
 
-// A word, read unless it is the one held.
-fn word_by(words: &[u64], held: Held, at: usize) -> u64
-    requires { ⌜ at < length (now words) ⌝ }
-    ensures { λ r. ⌜ r ≡ wordBy (now (words .entry)) held at ⌝ }
-{
-    if at == held.at {
-        return held.word;
-    }
-    words[at]
-}
-
-// Writes a granule's bit as its byte has it; where the word held is the words' own, every other bit stays (`put-own`). The word written is
-// the one held then. It stands here, not in `realm_words`: a list judges the words' number once, so that no bit's place is tested.
-fn put_bit(words: &mut [u64], held: Held, index: usize, byte: u8) -> Held
+// Writes the bit of granule `index` as its byte has it. It is here, not in `realm_words`: a call checks the number of words once.
+fn put_bit(words: &mut [u64], index: usize, byte: u8)
     requires { ⌜ index / 64 < length (now words) ⌝ }
-    ensures { λ r. ⌜ (now (words .exit) ≡ putBy (now (words .entry)) held index (realmBit byte)) × (r ≡ wordHeld (now (words .entry)) held index (realmBit byte)) ⌝ }
+    ensures { λ _. ⌜ now (words .exit) ≡ putBit (now (words .entry)) index (realmBit byte) ⌝ }
 {
     let at = index / 64;
-    let word = realm_words::with_bit(word_by(words, held, at), index, byte);
-    words[at] = word;
-    Held { at, word }
+    words[at] = realm_words::with_bit(words[at], index, byte);
 }
 
-// A move's code, and the word that is held behind it.
-struct Step {
-    code: Code,
-    held: Held,
-}
-
-// Moves the granule that an address falls on, by whichever granule record, with a boot record that is up and keeps these parameters.
+// The mover: moves the granule of an address, with the parameters of a boot record that is up.
 fn move_at(
     params: Params,
     granule: Granule,
@@ -85,44 +68,106 @@ fn move_at(
     table: &mut [u8],
     words: &mut [u64],
     address: u64,
-    held: Held,
-) -> Step
-    requires { ⌜ Inside granule (now table) (now words) × Holds (now words) held ⌝ }
+) -> Code
+    requires { ⌜ Inside granule (now table) (now words) ⌝ }
     ensures { λ r. ⌜ ((g : Granules) → granule ≡ granuleAt g (length (now (table .entry))) address →
-        movedTo (answerOf (r .code) 0 0) (now (table .exit)) (now (words .exit)) ≡ moveAt params g direction (tableOf (now (table .entry)) (now (words .entry))) address)
-        × Holds (now (words .exit)) (r .held) ⌝ }
+        movedTo (answerOf r 0 0) (now (table .exit)) (now (words .exit)) ≡ moveAt params g direction (tableOf (now (table .entry)) (now (words .entry))) address) ⌝ }
 {
     let Granule::At(at) = granule else {
-        return Step {
-            code: Code::BadAddr, // no granule of the table
-            held,
-        };
+        return Code::BadAddr; // no granule of the table
     };
-    if is_guarded(params, direction, address) {
-        return Step {
-            code: Code::BadAddr, // the shared page's
-            held,
-        };
+    if is_shared_page(params, direction, address) {
+        return Code::BadAddr;
     }
     let from = from_byte(direction);
     let to = to_byte(direction);
     let byte = table[at];
     if byte != from {
-        return Step {
-            code: Code::BadPas,
-            held,
-        };
+        return Code::BadPas;
     }
     table[at] = to;
-    let next = put_bit(words, held, at, to);
-    Step {
-        code: Code::Ok,
-        held: next,
-    }
+    put_bit(words, at, to);
+    Code::Ok
 }
 
-// Moves the granules at a list of addresses, in its order, up to the first that is refused; x1 is how many were moved. The record's
-// granules are the table's. The bank of the address before is held: addresses of a list mostly lie in one bank after another.
+// Whether a record of `count` granules has any, and the table has n = `count` bytes. Otherwise no address is on a granule.
+fn table_fits(count: u64, n: usize) -> bool
+    ensures { λ r. ⌜ r ≡ both (ltb 0 count) (eqb count n) ⌝ }
+{
+    if count == 0 {
+        return false;
+    }
+    if count != n as u64 {
+        return false;
+    }
+    true
+}
+
+// ---- a single call ----
+
+fn move_one(
+    state: Record,
+    granules: &[u64; 33],
+    direction: Direction,
+    table: &mut [u8],
+    words: &mut [u64],
+    address: u64,
+) -> Code
+    ensures { λ r. ⌜ movedTo (answerOf r 0 0) (now (table .exit)) (now (words .exit)) ≡ moveOf state (now (granules .entry)) direction (tableOf (now (table .entry)) (now (words .entry))) address ⌝ }
+{
+    let count = banks::granule_count(granules);
+    if !realm_words::words_fit(words, count as usize) {
+        return Code::Inval;
+    }
+    let up = codes::is_up(state);
+    if !up {
+        return Code::Unk;
+    }
+    if !table_fits(count, table.len()) {
+        return Code::BadAddr;
+    }
+    let params = codes::up_of(state);
+    let found = banks::find_from(granules, banks::no_bank(), address);
+    let granule = found.granule;
+    move_at(params, granule, direction, table, words, address)
+}
+
+// ---- the shortcut for a single call: most boards have one bank ----
+
+// Whether the boot record is up, the granule record has one bank, of n granules, and the number of words is right.
+fn takes_shortcut(state: Record, granules: &[u64; 33], n: usize, words: &[u64]) -> bool
+    ensures { λ r. ⌜ r ≡ both (isUp state) (both (hasOneBank (now (granules .entry)) n) (wordsFit (now (words .entry)) n)) ⌝ }
+{
+    if !codes::is_up(state) {
+        return false;
+    }
+    if !banks::has_one_bank(granules, n) {
+        return false;
+    }
+    realm_words::words_fit(words, n)
+}
+
+// `move_one` without loops over the banks.
+fn move_shortcut(
+    state: Record,
+    granules: &[u64; 33],
+    direction: Direction,
+    table: &mut [u8],
+    words: &mut [u64],
+    address: u64,
+) -> Code
+    requires { ⌜ (isUp state ≡ true) × Yes (hasOneBank (now granules) (length (now table))) × Yes (wordsFit (now words) (length (now table))) ⌝ }
+    ensures { λ r. ⌜ movedTo (answerOf r 0 0) (now (table .exit)) (now (words .exit)) ≡ moveOf state (now (granules .entry)) direction (tableOf (now (table .entry)) (now (words .entry))) address ⌝ }
+{
+    let params = codes::up_of(state);
+    let granule = banks::find_first(granules, address);
+    move_at(params, granule, direction, table, words, address)
+}
+
+// ---- a list of calls ----
+
+// The single calls of a list, in order, up to the first that is refused; x1 is the number of granules moved. The checks of `move_list` hold
+// for each of them.
 fn move_each(
     params: Params,
     granules: &[u64; 33],
@@ -135,25 +180,21 @@ fn move_each(
     ensures { λ r. ⌜ movedTo r (now (table .exit)) (now (words .exit)) ≡ listBy (moveAt params (now (granules .entry)) direction) 0 (tableOf (now (table .entry)) (now (words .entry))) (now (addresses .entry)) ⌝ }
 {
     let n = addresses.len();
-    let mut held = realm_words::nothing_held(words);
-    let mut bank = held_banks::no_bank();
+    let mut bank = banks::no_bank();
     for i in 0..n {
         let address = addresses[i];
-        let sought = held_banks::seek(granules, bank, address);
-        let granule = sought.granule;
-        let step = move_at(params, granule, direction, table, words, address, held);
-        let code = step.code;
+        let found = banks::find_from(granules, bank, address);
+        let granule = found.granule;
+        let code = move_at(params, granule, direction, table, words, address);
         if !codes::is_ok(code) {
             return codes::answered(code, i as u64, 0);
         }
-        held = step.held;
-        bank = sought.bank;
+        bank = found.bank;
     }
     codes::answered(Code::Ok, n as u64, 0)
 }
 
-// A list of addresses. Whether the boot record is up is looked at once, and the banks are judged once. An empty list is OK, up or not, if
-// the words are as many as they must be.
+// The checks that do not depend on the address come once. An empty list is OK, up or not, if the number of words is right.
 fn move_list(
     state: Record,
     granules: &[u64; 33],
@@ -175,66 +216,11 @@ fn move_list(
     if !up {
         return codes::answered(Code::Unk, 0, 0);
     }
-    if count == 0 {
-        return codes::answered(Code::BadAddr, 0, 0);
-    }
-    if count != table.len() as u64 {
+    if !table_fits(count, table.len()) {
         return codes::answered(Code::BadAddr, 0, 0);
     }
     let params = codes::up_of(state);
     move_each(params, granules, direction, table, words, addresses)
-}
-
-// ---- a single call ----
-
-// A single call is a list of one.
-fn move_one(
-    state: Record,
-    granules: &[u64; 33],
-    direction: Direction,
-    table: &mut [u8],
-    words: &mut [u64],
-    address: u64,
-) -> Code
-    ensures { λ r. ⌜ movedTo (answerOf r 0 0) (now (table .exit)) (now (words .exit)) ≡ moveOf state (now (granules .entry)) direction (tableOf (now (table .entry)) (now (words .entry))) address ⌝ }
-{
-    let one = [address];
-    let answer = move_list(state, granules, direction, table, words, &one[..]);
-    let code = answer.code;
-    code
-}
-
-// Whether the call is the usual one: the boot record is up, and the record has one bank, of n granules, for which the words are.
-fn is_ready(state: Record, granules: &[u64; 33], n: usize, words: &[u64]) -> bool
-    ensures { λ r. ⌜ (Yes r → Ready state (now (granules .entry)) n (now (words .entry))) ⌝ }
-{
-    if !codes::is_up(state) {
-        return false;
-    }
-    if !banks::is_only(granules, n) {
-        return false;
-    }
-    realm_words::words_fit(words, n)
-}
-
-// The usual call: no list and no loop over banks, for speed.
-fn move_first(
-    state: Record,
-    granules: &[u64; 33],
-    direction: Direction,
-    table: &mut [u8],
-    words: &mut [u64],
-    address: u64,
-) -> Code
-    requires { ⌜ Ready state (now granules) (length (now table)) (now words) ⌝ }
-    ensures { λ r. ⌜ movedTo (answerOf r 0 0) (now (table .exit)) (now (words .exit)) ≡ moveOf state (now (granules .entry)) direction (tableOf (now (table .entry)) (now (words .entry))) address ⌝ }
-{
-    let params = codes::up_of(state);
-    let granule = held_banks::granule_in(held_banks::first_bank(granules), address);
-    let held = realm_words::nothing_held(words);
-    let step = move_at(params, granule, direction, table, words, address, held);
-    let code = step.code;
-    code
 }
 
 // ---- the commands ----
@@ -249,8 +235,8 @@ pub fn delegate(
 ) -> Answer
     ensures { λ r. ⌜ movedTo r (now (table .exit)) (now (words .exit)) ≡ delegateOf state (now (granules .entry)) (tableOf (now (table .entry)) (now (words .entry))) address ⌝ }
 {
-    if is_ready(state, granules, table.len(), words) {
-        let code = move_first(state, granules, Direction::Delegate, table, words, address);
+    if takes_shortcut(state, granules, table.len(), words) {
+        let code = move_shortcut(state, granules, Direction::Delegate, table, words, address);
         return codes::answered(code, 0, 0);
     }
     let code = move_one(state, granules, Direction::Delegate, table, words, address);
@@ -267,8 +253,8 @@ pub fn undelegate(
 ) -> Answer
     ensures { λ r. ⌜ movedTo r (now (table .exit)) (now (words .exit)) ≡ undelegateOf state (now (granules .entry)) (tableOf (now (table .entry)) (now (words .entry))) address ⌝ }
 {
-    if is_ready(state, granules, table.len(), words) {
-        let code = move_first(
+    if takes_shortcut(state, granules, table.len(), words) {
+        let code = move_shortcut(
             state,
             granules,
             Direction::Undelegate,
@@ -289,7 +275,7 @@ pub fn undelegate(
     codes::answered(code, 0, 0)
 }
 
-// The granules at a list of addresses become Realm, one by one; x1 is how many did.
+// The granules at a list of addresses become Realm, in order; x1 is the number that did.
 pub fn delegate_list(
     state: Record,
     granules: &[u64; 33],
@@ -309,7 +295,7 @@ pub fn delegate_list(
     )
 }
 
-// The granules at a list of addresses become Non-secure, one by one; x1 is how many did.
+// The granules at a list of addresses become Non-secure, in order; x1 is the number that did.
 pub fn undelegate_list(
     state: Record,
     granules: &[u64; 33],

@@ -30,11 +30,11 @@ inval = 0xFFFF_FFFF_FFFF_FFFB
 
 -- ---- the answer that a number and a word tell
 abbrev pub numberRead : ℕ → List ℕ → Number
-numberRead x0 w = cond (eqb x0 0) (Number.Is (getD w 0 0)) Number.Inval
+numberRead x0 w = cond (eqb x0 0) (Number.Count (getD w 0 0)) Number.Inval
 
 pub number-told : (n : Number) → numberRead (numberX0 n) (numberWords n) ≡ n
 unfolding numberX0 numberWords x0Of extended
-number-told (Number.Is n) = refl
+number-told (Number.Count n) = refl
 number-told Number.Inval = refl
 
 abbrev pub hitRead : ℕ → List ℕ → Hit
@@ -47,7 +47,7 @@ hit-told Hit.Nothing = refl
 hit-told Hit.Inval = refl
 
 -- ---- the numbers
-pub number-x0 : (n : ℕ) → (numberX0 (Number.Is n) ≡ 0) × (numberX0 Number.Inval ≡ inval)
+pub number-x0 : (n : ℕ) → (numberX0 (Number.Count n) ≡ 0) × (numberX0 Number.Inval ≡ inval)
 unfolding numberX0 x0Of extended
 number-x0 n = (refl, refl)
 
@@ -85,7 +85,7 @@ unequal a b c next below h = line (eqb a b) _ c next below (λ n. ne-eqb a b n) 
 
 pub count-codes : (ws : List ℕ) (n : ℕ) → Gives (Fitting ws n → ⊥) inval (λ k. k ≡ 0) (numberX0 (realmCountOf ws n))
 unfolding realmCountOf wordsFor numberX0 x0Of extended
-count-codes ws n = rw (through numberX0 (wordsFit ws n) (Number.Is (marked (bitAt ws) n)) Number.Inval) (unequal (length ws) ((n + 63) / 64) inval 0 _ (λ e. refl))
+count-codes ws n = rw (through numberX0 (wordsFit ws n) (Number.Count (marked (bitAt ws) n)) Number.Inval) (unequal (length ws) ((n + 63) / 64) inval 0 _ (λ e. refl))
 
 pub next-codes : (ws : List ℕ) (n i : ℕ) →
     Gives (Fitting ws n → ⊥) inval

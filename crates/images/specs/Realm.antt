@@ -12,11 +12,11 @@ use Rattle.realm_words.specs.declared.Agreement.{Agreement}
 -- ---- how many Realm granules
 unfoldable pub numberX0 : Number → ℕ
 numberX0 Number.Inval = x0Of Code.Inval
-numberX0 (Number.Is n) = x0Of Code.Ok
+numberX0 (Number.Count n) = x0Of Code.Ok
 
 unfoldable pub numberWords : Number → List ℕ
 numberWords Number.Inval = 0 ∷ []
-numberWords (Number.Is n) = n ∷ []
+numberWords (Number.Count n) = n ∷ []
 
 -- ---- the first one at or after an index
 unfoldable pub hitX0 : Hit → ℕ

@@ -240,7 +240,7 @@ pub fn number_x0(number: Number) -> u64
 {
     match number {
         Number::Inval => codes::x0(Code::Inval),
-        Number::Is(_) => codes::x0(Code::Ok),
+        Number::Count(_) => codes::x0(Code::Ok),
     }
 }
 
@@ -249,7 +249,7 @@ pub fn number_words(number: Number) -> [u64; 1]
 {
     match number {
         Number::Inval => [0],
-        Number::Is(n) => [n],
+        Number::Count(n) => [n],
     }
 }
 

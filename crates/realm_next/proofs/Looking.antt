@@ -1,12 +1,11 @@
 -- The first set bit at or after an index, as the loop goes. Assumes nothing.
 use Prim.Native.Nat.{ℕ, zero, suc, _+_, _-_, _*_, _/_, _%_, _^_, _≤_, _<_}
-use mathlib.Core.Path.{_≡_, refl, sym, ap, _∙_}
+use mathlib.Core.Path.{_≡_, sym, ap, _∙_}
 use mathlib.Core.List.{List}
 use native.Mathlib.Omega.{arith}
 use native.Mathlib.Nat.{add-zero, zero-div, not-suc-le-zero}
 use native.Mathlib.Decide.{decLt}
 use lib.ListN.{getD}
-use lib.Bits.{bitOr, and-le-l, and-le-r, or-add-and}
 use lib.Count.{trailingZeros}
 use lib.Pow.{mod-pow-add}
 use borrow.Author.Tests.{lt-ltb, le-ltb}
@@ -14,7 +13,7 @@ use Rattle.realm_words.specs.declared.Hit.{Hit}
 use Rattle.realm_words.specs.Bits.{bitOf, bitAt, wordsFor}
 use Rattle.realm_words.specs.Answers.{firstMarked}
 use Rattle.realm_words.proofs.Bits.{bit-zero, bit-suc}
-use Rattle.realm_next.specs.Steps.{hitBelow, Zeros}
+use Rattle.realm_next.specs.Steps.{hitBelow}
 use Rattle.realm_next.proofs.Trailing.{tz-at, tz-below}
 
 -- ---- numbers that are not marked are passed over
@@ -44,21 +43,6 @@ first-is f n i at p l h e = go (decLt at n)
         let t : i + (at - i) ≡ at = omega arith in
         rw (lt-ltb at n y) (ap (λ x. firstMarked f x i) s ∙ first-skip f (at - i) (suc (n - at - 1)) i (λ j a b. h j a (omega arith)) ∙ rw (t, e))
     go (no y) = rw (le-ltb at n (omega arith)) (first-none f n i (omega arith) (λ j a b. h j a (omega arith)))
-
--- ---- words that are zero are passed over
-pub zeros-none : (ws : List ℕ) (from : ℕ) → Zeros ws from from
-zeros-none ws from k l u = absurd (let z : k < k = omega arith in omega arith)
-
-or-none : (a b : ℕ) → bitOr a b ≡ 0 → (a ≡ 0) × (b ≡ 0)
-or-none a b e = (omega (arith, or-add-and a b, and-le-r a b), omega (arith, or-add-and a b, and-le-l a b))
-
-pub zeros-more : (ws : List ℕ) (from at a b : ℕ) → Zeros ws from at → a ≡ at + 1 → b ≡ at + 2 → bitOr (getD ws a 0) (getD ws b 0) ≡ 0 → Zeros ws from b
-zeros-more ws from at a b h p q e k l u = go (decLt k a) (decLt a k)
-  where
-    go : Dec (k < a) → Dec (a < k) → getD ws k 0 ≡ 0
-    go (yes y) _ = h k l (omega arith)
-    go (no y) (yes x) = let s : k ≡ b = omega arith in rw s (or-none (getD ws a 0) (getD ws b 0) e .1)
-    go (no y) (no x) = let s : k ≡ a = omega arith in rw s (or-none (getD ws a 0) (getD ws b 0) e .0)
 
 -- ---- the bits below k masked out
 high-suc : (w k : ℕ) → w - w % 2 ^ suc k ≡ 2 * (w / 2 - w / 2 % 2 ^ k)
@@ -151,11 +135,3 @@ module _ (ws : List ℕ) (n i at bits : ℕ) (k : Look ws n i at bits) where
     look-hit p =
         first-is (bitAt ws) n i (at * 64 + trailingZeros 64 bits) p hit-after (clear-to (trailingZeros 64 bits) (omega arith) (tz-below 64 bits))
         (sym (k .held (trailingZeros 64 bits) h hit-after) ∙ tz-at 64 bits h)
-
--- no bit of the word is set, nor of the words behind it up to another
-pub look-past : (ws : List ℕ) (n i at bits d to : ℕ) → Look ws n i at bits → bits ≡ 0 → to ≡ at + d → to < wordsFor n → Zeros ws at to → Look ws n i to bits
-look-past ws n i at bits zero to k z e h o = let s : to ≡ at = omega arith in rw s k
-look-past ws n i at bits (suc d) to k z e h o =
-    let s : to ≡ at + d + 1 = omega arith in
-    let l = look-past ws n i at bits d (at + d) k z refl (omega arith) (λ j a b. o j a (omega arith)) in
-    rw s (look-more ws n i (at + d) bits l z bits (omega arith) (z ∙ sym (o (at + d + 1) (omega arith) (omega arith))))

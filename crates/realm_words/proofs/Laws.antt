@@ -42,11 +42,11 @@ marked-realms [] = refl
 marked-realms (b ∷ t) = marked-front (realmAt (b ∷ t)) (length t) ∙ rw (marked-realms t)
 
 -- ---- "If words and table agree the answers equal those of the full walk"
-pub count-agrees : (t : List ℕ) → realmCountOf (realmWords t) (length t) ≡ Number.Is (realms t)
+pub count-agrees : (t : List ℕ) → realmCountOf (realmWords t) (length t) ≡ Number.Count (realms t)
 unfolding realmCountOf
 count-agrees t =
     rw (eq-eqb (length (realmWords t)) (wordsFor (length t)) (words-length (wordsFor (length t)) t))
-    (ap Number.Is (marked-same (bitAt (realmWords t)) (realmAt t) (length t) (bit-agrees t) ∙ marked-realms t))
+    (ap Number.Count (marked-same (bitAt (realmWords t)) (realmAt t) (length t) (bit-agrees t) ∙ marked-realms t))
 
 pub next-agrees : (t : List ℕ) (i : ℕ) → i < length t → realmNextOf (realmWords t) (length t) i ≡ nextRealm t i
 unfolding realmNextOf both

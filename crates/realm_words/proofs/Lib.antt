@@ -1,7 +1,7 @@
 pub mod Agreeing
 pub mod Bits
 pub mod Counting
-pub mod Holding
+pub mod Codes
 pub mod Laws
 pub mod Packing
 pub mod Next

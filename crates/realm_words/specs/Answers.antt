@@ -6,10 +6,32 @@ use mathlib.Core.List.{List, [], _∷_}
 use lib.ListN.{length, getD}
 use lib.Dec.{ltb, eqb}
 use Rattle.words.specs.Tests.{both}
+use Rattle.codes.specs.Codes.{unless, fails}
+use Rattle.codes.specs.declared.Code.{Code}
+use Rattle.codes.specs.declared.Code.the-variants.{Ok, Inval}
 use Rattle.realm_words.specs.Bits.{bitAt, realmBit, wordsFor, realmWords}
 use Rattle.realm_words.specs.declared.Number.{Number}
 use Rattle.realm_words.specs.declared.Hit.{Hit}
 use Rattle.realm_words.specs.declared.Agreement.{Agreement}
+
+-- ---- 01's code of each answer: "INVAL -5" for a refusal, else OK. "No hit is a named answer.": it is no refusal, nor is "no agreement"
+abbrev pub countCode : Number → Code
+countCode Number.Inval = Inval
+countCode (Number.Count n) = Ok
+
+abbrev pub hitCode : Hit → Code
+hitCode Hit.Inval = Inval
+hitCode Hit.Nothing = Ok
+hitCode (Hit.At i) = Ok
+
+abbrev pub agreeCode : Agreement → Code
+agreeCode Agreement.Inval = Inval
+agreeCode Agreement.No = Ok
+agreeCode Agreement.Yes = Ok
+
+abbrev pub buildCode : Bool → Code
+buildCode true = Ok
+buildCode false = Inval
 
 -- ---- the refusals
 -- 02, E6: "INVAL, before all other checks of any call on words, .. if their number is not the record's granules over 64, rounded up"
@@ -20,8 +42,18 @@ wordsFit ws n = eqb (length ws) (wordsFor n)
 abbrev pub bothFit : List ℕ → List ℕ → ℕ → Bool
 bothFit t ws n = both (wordsFit ws n) (eqb (length t) n)
 
+-- the same as checks in 02's order
+unfoldable pub wordsCode : List ℕ → ℕ → Code
+wordsCode ws n = fails (unless (wordsFit ws n)) Inval Ok
+
+unfoldable pub indexCode : List ℕ → (n i : ℕ) → Code
+indexCode ws n i = fails (unless (wordsFit ws n)) Inval (fails (unless (ltb i n)) Inval Ok)
+
+unfoldable pub tableCode : (t ws : List ℕ) → ℕ → Code
+tableCode t ws n = fails (unless (wordsFit ws n)) Inval (fails (unless (eqb (length t) n)) Inval Ok)
+
 -- ---- "The number of Realm granules, and the first one at or after an index, are answered from the words alone"
--- how many of the numbers below n are marked with 1 by f, which marks the others with 0
+-- the number of numbers below n that f marks with 1; f marks the others with 0
 unfoldable pub marked : (ℕ → ℕ) → ℕ → ℕ
 marked f zero = 0
 marked f (suc n) = marked f n + f n
@@ -33,7 +65,7 @@ firstMarked f (suc k) i = cond (eqb (f i) 1) (Hit.At i) (firstMarked f k (suc i)
 
 -- "Set spare bits are not counted or hit.": only the bits of the n granules are asked for
 unfoldable pub realmCountOf : List ℕ → ℕ → Number
-realmCountOf ws n = cond (wordsFit ws n) (Number.Is (marked (bitAt ws) n)) Number.Inval
+realmCountOf ws n = cond (wordsFit ws n) (Number.Count (marked (bitAt ws) n)) Number.Inval
 
 -- "then INVAL for an index not below the granules"
 unfoldable pub realmNextOf : List ℕ → ℕ → ℕ → Hit

@@ -1,16 +1,15 @@
-// Words beside the granule table: granule i is bit i mod 64 of word i / 64, set where the table's byte is Realm; spare bits are zero.
+// Realm words, next to the granule table: granule i is bit i mod 64 of word i / 64, set where the table's byte is Realm; spare bits are zero.
 ghost use mathlib.Core.Path.{_≡_};
 ghost use Prim.Native.Nat.{_+_, _%_, _^_, _<_, _≤_};
 ghost use lib.ListN.{length, take, drop};
 ghost use lib.Count.{ones};
 ghost use Rattle.realm_words.specs.Bits.{realmBit, packed, wordsFor, withBit};
-ghost use Rattle.realm_words.specs.Holding.{noneHeld};
-ghost use Rattle.realm_words.specs.Answers.{wordsFit, bothFit, realmCountOf, realmAgreeOf, Built, realmBuildOf};
+ghost use Rattle.realm_words.specs.Answers.{countCode, agreeCode, buildCode, wordsFit, bothFit, wordsCode, tableCode, realmCountOf, realmAgreeOf, Built, realmBuildOf};
 
-// How many Realm granules there are.
+// The number of Realm granules.
 pub enum Number {
     Inval,
-    Is(u64),
+    Count(u64),
 }
 
 // The first Realm granule at or after an index (`realm_next::next`).
@@ -27,7 +26,7 @@ pub enum Agreement {
     Yes,
 }
 
-// How many words so many granules have. Of the sum with 63 it might wrap.
+// ceil(granules / 64). `granules + 63` could overflow.
 fn words_for(granules: usize) -> usize
     ensures { λ r. ⌜ r ≡ wordsFor granules ⌝ }
 {
@@ -37,7 +36,7 @@ fn words_for(granules: usize) -> usize
     granules / 64 + 1
 }
 
-// Whether the words are as many as so many granules have: the first check of every call on words.
+// Whether there are ceil(granules / 64) words: the first check of every call on words.
 pub fn words_fit(words: &[u64], granules: usize) -> bool
     ensures { λ r. ⌜ r ≡ wordsFit (now (words .entry)) granules ⌝ }
 {
@@ -64,40 +63,32 @@ fn low_bits(w: u64, k: usize) -> u64
     w & ((1u64 << k) - 1)
 }
 
-// The word with the bit of a granule, by its index, written as a byte of the table has it, whatever the bit was.
+// The bit of a byte of the table: 1 where it is Realm.
+fn realm_bit(byte: u8) -> u64
+    ensures { λ r. ⌜ (r ≡ realmBit byte) × (r ≤ 1) ⌝ }
+{
+    if byte == 1 {
+        return 1;
+    }
+    0
+}
+
+// The word with the bit of granule `index` set if `byte` is Realm, and cleared otherwise.
 pub fn with_bit(w: u64, index: usize, byte: u8) -> u64
     ensures { λ r. ⌜ r ≡ withBit w (index % 64) (realmBit byte) ⌝ }
 {
-    let unit = 1u64 << (index % 64);
-    if byte == 1 {
-        return w | unit;
-    }
-    w - (w & unit)
-}
-
-// ---- a granule's bit ----
-
-// A word that is held from one call to the next: granules of a list share words, and to read one again would wait for the store before.
-pub struct Held {
-    pub at: usize,
-    pub word: u64,
-}
-
-// None of the words, as the one behind the last.
-pub fn nothing_held(words: &[u64]) -> Held
-    ensures { λ r. ⌜ r ≡ noneHeld (now (words .entry)) ⌝ }
-{
-    Held {
-        at: words.len(),
-        word: 0,
-    }
+    let k = index % 64;
+    let bit = realm_bit(byte);
+    let unit = 1u64 << k;
+    w - (w & unit) + (bit << k)
 }
 
 // ---- answers from the words alone ----
 
-// How many Realm granules there are. Spare bits are not counted.
+// The number of Realm granules. Spare bits are not counted.
 pub fn count(words: &[u64], granules: usize) -> Number
     ensures { λ r. ⌜ r ≡ realmCountOf (now (words .entry)) granules ⌝ }
+    ensures { λ r. ⌜ countCode r ≡ wordsCode (now (words .entry)) granules ⌝ }
 {
     if !words_fit(words, granules) {
         return Number::Inval;
@@ -109,24 +100,14 @@ pub fn count(words: &[u64], granules: usize) -> Number
     }
     let rest = granules % 64;
     if rest == 0 {
-        return Number::Is(sum);
+        return Number::Count(sum);
     }
-    Number::Is(sum + ones_in(low_bits(words[whole], rest)))
+    Number::Count(sum + ones_in(low_bits(words[whole], rest)))
 }
 
 // ---- words and table ----
 
-// The bit of a byte of the table: 1 where it is Realm.
-fn realm_bit(byte: u8) -> u64
-    ensures { λ r. ⌜ (r ≡ realmBit byte) × (r ≤ 1) ⌝ }
-{
-    if byte == 1 {
-        return 1;
-    }
-    0
-}
-
-// The bits of at most 64 bytes as one number, the first byte's lowest.
+// The bits of at most 64 bytes as one number, the first byte's bit lowest.
 fn packed_of(block: &[u8]) -> u64
     requires { ⌜ length (now block) ≤ 64 ⌝ }
     ensures { λ r. ⌜ r ≡ packed (now (block .entry)) ⌝ }
@@ -140,7 +121,7 @@ fn packed_of(block: &[u8]) -> u64
     bits
 }
 
-// The bits of the eight granules from an index on.
+// The bits of the eight granules from `index` on.
 fn octet(table: &[u8], index: usize) -> u64
     requires { ⌜ index + 8 ≤ length (now table) ⌝ }
     ensures { λ r. ⌜ (r ≡ packed (take 8 (drop index (now (table .entry))))) × (r < 0x100) ⌝ }
@@ -149,7 +130,7 @@ fn octet(table: &[u8], index: usize) -> u64
     packed_of(&table[index..end])
 }
 
-// The word of the granules from an index on: eight octets, of which none waits for another.
+// The word of the 64 granules from `index` on, or of those that are left. No octet waits for another.
 fn word_from(table: &[u8], index: usize) -> u64
     requires { ⌜ index ≤ length (now table) ⌝ }
     ensures { λ r. ⌜ r ≡ packed (take 64 (drop index (now (table .entry)))) ⌝ }
@@ -167,7 +148,7 @@ fn word_from(table: &[u8], index: usize) -> u64
         + octet(table, index + 56) * 0x100_0000_0000_0000
 }
 
-// Whether words and table have the lengths that so many granules ask for.
+// Whether there are `granules` bytes in the table, and ceil(granules / 64) words.
 fn both_fit(table: &[u8], words: &[u64], granules: usize) -> bool
     ensures { λ r. ⌜ r ≡ bothFit (now (table .entry)) (now (words .entry)) granules ⌝ }
 {
@@ -180,9 +161,10 @@ fn both_fit(table: &[u8], words: &[u64], granules: usize) -> bool
     true
 }
 
-// Whether words and table agree, spare bits too.
+// Whether words and table agree, and the spare bits are zero.
 pub fn agrees(table: &[u8], words: &[u64], granules: usize) -> Agreement
     ensures { λ r. ⌜ r ≡ realmAgreeOf (now (table .entry)) (now (words .entry)) granules ⌝ }
+    ensures { λ r. ⌜ agreeCode r ≡ tableCode (now (table .entry)) (now (words .entry)) granules ⌝ }
 {
     if !both_fit(table, words, granules) {
         return Agreement::Inval;
@@ -195,9 +177,10 @@ pub fn agrees(table: &[u8], words: &[u64], granules: usize) -> Agreement
     Agreement::Yes
 }
 
-// Makes the words agree with the table. Answers whether it did: where it refuses, no word changes.
+// Makes the words agree with the table. Returns false for INVAL, and then changes no word.
 pub fn build(table: &[u8], words: &mut [u64], granules: usize) -> bool
     ensures { λ r. ⌜ _≡_ {A = Built} (record { done = r; words = now (words .exit) }) (realmBuildOf (now (table .entry)) (now (words .entry)) granules) ⌝ }
+    ensures { λ r. ⌜ buildCode r ≡ tableCode (now (table .entry)) (now (words .entry)) granules ⌝ }
 {
     if !both_fit(table, words, granules) {
         return false;

@@ -52,7 +52,7 @@ module _ (g : Granules) (w : World) (cs : List Command) where
 
     -- the answers after the sequence, for the record of the table
     module _ (n : granuleCount g ≡ length (w .table .bytes)) where
-      pub count-after : realmCountOf (worldAfter g w cs .table .words) (granuleCount g) ≡ Number.Is (realms (worldAfter g w cs .table .bytes))
+      pub count-after : realmCountOf (worldAfter g w cs .table .words) (granuleCount g) ≡ Number.Count (realms (worldAfter g w cs .table .bytes))
       count-after = count-walks g (worldAfter g w cs .table) (n ∙ sym length-stays) agreement-kept
 
       pub next-after : (i : ℕ) → i < granuleCount g → realmNextOf (worldAfter g w cs .table .words) (granuleCount g) i ≡ nextRealm (worldAfter g w cs .table .bytes) i

@@ -1,12 +1,17 @@
+use mathlib.Core.Path.{sym, _∙_}
+use Rattle.words.proofs.Tests.{both-l, both-r}
 use borrow.Author.Needs.{needs}
 use Rattle.granules.proofs.delegate.Statement.{statement}
 use Rattle.granules.proofs.delegate.Tie as tie
 
-is-ready-requires : tie.Need-is-ready-requires
-is-ready-requires c κs = search needs
+takes-shortcut-requires : tie.Need-takes-shortcut-requires
+takes-shortcut-requires c κs = search needs
 
-move-first-requires : tie.Need-move-first-requires
-move-first-requires c κs = c .before .before .before .is-ready .ensures (c .before .before .if1 .taken)
+move-shortcut-requires : tie.Need-move-shortcut-requires
+move-shortcut-requires c κs =
+    let y = sym (c .before .before .before .takes-shortcut .ensures) ∙ c .before .before .if1 .taken in
+    let r = both-r _ _ y in
+    (both-l _ _ y, both-l _ _ r, both-r _ _ r)
 
 answered-requires : tie.Need-answered-requires
 answered-requires c κs = search needs
@@ -18,7 +23,7 @@ same-length-2 : tie.Need-same-length-2
 same-length-2 c = search needs
 
 returns : tie.Need-returns
-returns c = rw (c .answered .ensures) (c .before .before .before .before .before .move-first .ensures)
+returns c = rw (c .answered .ensures) (c .before .before .before .before .before .move-shortcut .ensures)
 
 move-one-requires : tie.Need-move-one-requires
 move-one-requires c κs = search needs
@@ -39,8 +44,8 @@ pub delegate-spec : {M : Type 1} → statement M
 delegate-spec =
     tie.close
     (tie.spec
-    is-ready-requires
-    move-first-requires
+    takes-shortcut-requires
+    move-shortcut-requires
     answered-requires
     same-length
     same-length-2

@@ -3,10 +3,8 @@ use mathlib.Core.Path.{_≡_, refl, sym, _∙_}
 use native.Mathlib.Omega.{arith}
 use lib.ListN.{length, drop}
 use borrow.Author.Tests.{not-true, not-false}
-use Rattle.held_banks.proofs.Holding.{HeldOf, none-held, judged-once}
-use Rattle.realm_words.specs.Holding.{Holds}
-use Rattle.realm_words.proofs.Holding.{none-holds}
 use Rattle.banks.specs.Banks.{granuleCount}
+use Rattle.banks.proofs.Fast.{SpanOf, none-span, found-is}
 use Rattle.granule_rules.specs.Granules.{tableOf, moveAt, movedTo}
 use Rattle.granule_rules.specs.Lists.{listBy}
 use Rattle.granule_rules.proofs.Moving.{granule-inside, fit-long, told-lengths}
@@ -16,21 +14,20 @@ use Rattle.granules.proofs.move_each.Statement.{statement}
 use Rattle.granules.proofs.move_each.Tie as tie
 
 abbrev Inv-loop : tie.InvT-loop
-Inv-loop params granules direction table₀ words₀ addresses n held₀ bank₀ i₀ table words held bank i = (i ≤ length addresses) × (length table ≡ length table₀) × (length words ≡ length words₀) × Holds words held × HeldOf granules bank × (listBy (moveAt params granules direction) 0 (tableOf table₀ words₀) addresses ≡ listBy (moveAt params granules direction) i (tableOf table words) (drop i addresses))
+Inv-loop params granules direction table₀ words₀ addresses n bank₀ i₀ table words bank i =
+    (i ≤ length addresses) × (length table ≡ length table₀) × (length words ≡ length words₀) × SpanOf granules bank
+    × (listBy (moveAt params granules direction) 0 (tableOf table₀ words₀) addresses ≡ listBy (moveAt params granules direction) i (tableOf table words) (drop i addresses))
 
 abbrev μ-loop : tie.MeasureT-loop
-μ-loop params granules direction table₀ words₀ addresses n held₀ bank₀ i₀ table words held bank i = length addresses - i
-
-nothing-held-requires : tie.Need-nothing-held-requires Inv-loop μ-loop
-nothing-held-requires c κs = search needs
+μ-loop params granules direction table₀ words₀ addresses n bank₀ i₀ table words bank i = length addresses - i
 
 no-bank-requires : tie.Need-no-bank-requires Inv-loop μ-loop
 no-bank-requires c κs = search needs
 
 loop-holds : tie.Need-loop-holds Inv-loop μ-loop
 loop-holds c =
-    let a = c .before .before .before .before .before .before .args in
-    (search needs, refl, refl, rw (c .before .nothing-held .ensures) (none-holds (a .words .now)), rw (c .no-bank .ensures) (none-held (a .granules .now)), refl)
+    let a = c .before .before .before .before .args in
+    (search needs, refl, refl, rw (c .no-bank .ensures) (none-span (a .granules .now)), refl)
 
 mul-address : tie.Need-mul-address Inv-loop μ-loop
 mul-address c = search needs
@@ -38,15 +35,18 @@ mul-address c = search needs
 shared-slice-read-address : tie.Need-shared-slice-read-address Inv-loop μ-loop
 shared-slice-read-address c = search needs
 
-seek-requires : tie.Need-seek-requires Inv-loop μ-loop
-seek-requires c κs = search needs
+find-from-requires : tie.Need-find-from-requires Inv-loop μ-loop
+find-from-requires c κs = search needs
 
 move-at-requires : tie.Need-move-at-requires Inv-loop μ-loop
 move-at-requires c κs =
-    let s = c .before .before .before .before .before .before .before .before .before .before .before .before in
-    let l = c .before .before .before .before .before .loop in
-    let f = judged-once (s .args .granules .now) (l .bank) (length (l .table)) _ _ (s .pre .0) (s .pre .1 ∙ sym (l .inv .1)) (l .inv .4) (c .before .before .seek .ensures) in
-    (granule-inside (s .args .granules .now) (l .table) (l .words) _ _ (fit-long (l .words) (s .args .words .now) (granuleCount (s .args .granules .now)) (l .inv .2) (s .pre .2)) (f .0), l .inv .3)
+    let f = c .before .before in
+    let l = f .before .before .before .loop in
+    let s = f .before .before .before .before .before .before .before .before in
+    let a = s .args in
+    let k = found-is (a .granules .now) (l .bank) (length (l .table)) _ (f .find-from .result) (s .pre .0) (s .pre .1 ∙ sym (l .inv .1)) (l .inv .3) (f .find-from .ensures) in
+    granule-inside (a .granules .now) (l .table) (l .words) _ _
+    (fit-long (l .words) (a .words .now) (granuleCount (a .granules .now)) (l .inv .2) (s .pre .2)) (k .0)
 
 is-ok-requires : tie.Need-is-ok-requires Inv-loop μ-loop
 is-ok-requires c κs = search needs
@@ -62,15 +62,19 @@ same-length-2 c = search needs
 
 returns : tie.Need-returns Inv-loop μ-loop
 returns c =
-    let s = c .before .before .before .before .before .before .before .before .before .before .before .before .before .before .before .before .before .before .before .before in
+    let m = c .before .before .before .before .before .before .before in
+    let f = m .before .before .before in
+    let l = f .before .before .before .loop in
+    let s = f .before .before .before .before .before .before .before .before in
     let a = s .args in
-    let l = c .before .before .before .before .before .before .before .before .before .before .before .before .before .loop in
-    let f = judged-once (a .granules .now) (l .bank) (length (l .table)) _ _ (s .pre .0) (s .pre .1 ∙ sym (l .inv .1)) (l .inv .4) (c .before .before .before .before .before .before .before .before .before .before .seek .ensures) in
-    told-stop (moveAt (a .params) (a .granules .now) (a .direction)) (a .addresses .now) (l .i) (tableOf (l .table) (l .words)) _ (l .inv .5) (c .before .before .before .before .before .before .before .before .before .before .before .before .loop-test .taken) _ _ _ (c .before .before .before .before .before .before .before .move-at .ensures .0 (a .granules .now) (f .0)) _ (c .before .before .is-ok .ensures) (not-true _ (c .before .if1 .taken)) _ (c .answered .ensures)
+    let k = found-is (a .granules .now) (l .bank) (length (l .table)) _ (f .find-from .result) (s .pre .0) (s .pre .1 ∙ sym (l .inv .1)) (l .inv .3) (f .find-from .ensures) in
+    told-stop (moveAt (a .params) (a .granules .now) (a .direction)) (a .addresses .now) (l .i) (tableOf (l .table) (l .words)) _ (l .inv .4)
+    (f .before .before .loop-test .taken) _ _ _ (m .move-at .ensures (a .granules .now) (k .0)) _ (c .before .before .is-ok .ensures) (not-true _ (c .before .if1 .taken))
+    _ (c .answered .ensures)
 
 add-i : tie.Need-add-i Inv-loop μ-loop
 add-i c =
-    let s = c .before .before .before .before .before .before .before .before .before .before .before .before .before .before .before .before .before .before .before .before .before in search needs
+    let s = c .before .before .before .before .before .before .before .before .before .before .before .before .before .before .before .before .before .before in search needs
 
 loop-less : tie.Need-loop-less Inv-loop μ-loop
 loop-less c = search needs
@@ -78,18 +82,20 @@ loop-less c = search needs
 loop-again : tie.Need-loop-again Inv-loop μ-loop
 unfolding movedTo
 loop-again c =
-    let s = c .before .before .before .before .before .before .before .before .before .before .before .before .before .before .before .before .before .before .before .before .before in
+    let m = c .before .before .before .before .before .before .before in
+    let f = m .before .before .before in
+    let l = f .before .before .before .loop in
+    let s = f .before .before .before .before .before .before .before .before in
     let a = s .args in
-    let l = c .before .before .before .before .before .before .before .before .before .before .before .before .before .before .loop in
-    let f = judged-once (a .granules .now) (l .bank) (length (l .table)) _ _ (s .pre .0) (s .pre .1 ∙ sym (l .inv .1)) (l .inv .4) (c .before .before .before .before .before .before .before .before .before .before .before .seek .ensures) in
-    let m = c .before .before .before .before .before .before .before .before .move-at .ensures .0 (a .granules .now) (f .0) in
-    let n = told-lengths (a .params) (a .granules .now) (a .direction) (tableOf (l .table) (l .words)) _ _ m in (
+    let k = found-is (a .granules .now) (l .bank) (length (l .table)) _ (f .find-from .result) (s .pre .0) (s .pre .1 ∙ sym (l .inv .1)) (l .inv .3) (f .find-from .ensures) in
+    let e = m .move-at .ensures (a .granules .now) (k .0) in
+    let n = told-lengths (a .params) (a .granules .now) (a .direction) (tableOf (l .table) (l .words)) _ _ e in (
       search needs,
       n .0 ∙ l .inv .1,
       n .1 ∙ l .inv .2,
-      c .before .before .before .before .before .before .before .before .move-at .ensures .1,
-      f .1,
-      told-more (moveAt (a .params) (a .granules .now) (a .direction)) (a .addresses .now) (l .i) (tableOf (l .table) (l .words)) _ (l .inv .5) (search needs) _ _ _ m _ (c .before .before .before .is-ok .ensures) (not-false _ (c .before .before .if1 .left)),
+      k .1,
+      told-more (moveAt (a .params) (a .granules .now) (a .direction)) (a .addresses .now) (l .i) (tableOf (l .table) (l .words)) _ (l .inv .4)
+          (search needs) _ _ _ e _ (c .before .before .is-ok .ensures) (not-false _ (c .before .if1 .left)),
     )
 
 answered-requires-2 : tie.Need-answered-requires-2 Inv-loop μ-loop
@@ -104,9 +110,9 @@ same-length-4 c = search needs
 returns-2 : tie.Need-returns-2 Inv-loop μ-loop
 unfolding movedTo
 returns-2 c =
-    let a = c .before .before .before .before .before .before .before .before .before .args in
     let l = c .before .before .loop in
-    told-last (moveAt (a .params) (a .granules .now) (a .direction)) (a .addresses .now) (l .i) (tableOf (l .table) (l .words)) _ (l .inv .5) (omega arith) _ (c .answered2 .ensures)
+    let a = c .before .before .before .before .before .before .before .args in
+    told-last (moveAt (a .params) (a .granules .now) (a .direction)) (a .addresses .now) (l .i) (tableOf (l .table) (l .words)) _ (l .inv .4) (omega arith) _ (c .answered2 .ensures)
 
 pub move-each-spec : {M : Type 1} → statement M
 move-each-spec =
@@ -114,12 +120,11 @@ move-each-spec =
     (tie.spec
     Inv-loop
     μ-loop
-    nothing-held-requires
     no-bank-requires
     loop-holds
     mul-address
     shared-slice-read-address
-    seek-requires
+    find-from-requires
     move-at-requires
     is-ok-requires
     answered-requires

@@ -1,10 +1,13 @@
+use Rattle.realm_words.specs.Bits.{putBit}
 use borrow.Author.Needs.{needs}
-use Rattle.realm_words.specs.Holding.{putBy}
 use Rattle.granules.proofs.put_bit.Statement.{statement}
 use Rattle.granules.proofs.put_bit.Tie as tie
 
-word-by-requires : tie.Need-word-by-requires
-word-by-requires c κs = search needs
+mul-with-bit : tie.Need-mul-with-bit
+mul-with-bit c = search needs
+
+slice-read-with-bit : tie.Need-slice-read-with-bit
+slice-read-with-bit c = search needs
 
 with-bit-requires : tie.Need-with-bit-requires
 with-bit-requires c κs = search needs
@@ -19,16 +22,15 @@ same-length : tie.Need-same-length
 same-length c = search needs
 
 returns : tie.Need-returns
-unfolding putBy
-returns c =
-    let w = c .before .word-by .ensures in
-    (rw (c .with-bit .ensures, w), rw (c .with-bit .ensures, w))
+unfolding putBit
+returns c = rw (c .with-bit .ensures)
 
 pub put-bit-spec : {M : Type 1} → statement M
 put-bit-spec =
     tie.close
     (tie.spec
-    word-by-requires
+    mul-with-bit
+    slice-read-with-bit
     with-bit-requires
     mul-words
     slice-write-words

@@ -12,7 +12,7 @@ agreement-x0-requires : tie.Need-agreement-x0-requires
 agreement-x0-requires c κs = search needs
 
 returns : tie.Need-returns
-returns c = rw (← c .before .before .granule-count .ensures, ← c .before .agrees .ensures) (c .agreement-x0 .ensures)
+returns c = rw (← c .before .before .granule-count .ensures, ← c .before .agrees .ensures .0) (c .agreement-x0 .ensures)
 
 pub pbeam-realm-agrees-spec : {M : Type 1} → statement M
 pbeam-realm-agrees-spec =

@@ -8,6 +8,7 @@ use borrow.Author.Needs.{needs}
 use Rattle.realm_words.specs.Bits.{wordsFor, realmWords}
 use Rattle.realm_words.specs.Answers.{bothFit, sameWords, realmAgreeOf}
 use Rattle.realm_words.proofs.Agreeing.{Fits, fits, rest, agree-first, agree-more, agree-not, agree-last}
+use Rattle.realm_words.proofs.Codes.{agree-code}
 use Rattle.realm_words.proofs.agrees.Statement.{statement}
 use Rattle.realm_words.proofs.agrees.Tie as tie
 
@@ -22,7 +23,9 @@ both-fit-requires c κs = search needs
 
 returns : tie.Need-returns Inv-loop μ-loop
 unfolding realmAgreeOf
-returns c = rw (sym (c .before .both-fit .ensures) ∙ not-true _ (c .if1 .taken))
+returns c =
+    let a = c .before .before .before .before .args in
+    agree-code (a .table .now) (a .words .now) (a .granules) _ (rw (sym (c .before .both-fit .ensures) ∙ not-true _ (c .if1 .taken)))
 
 loop-holds : tie.Need-loop-holds Inv-loop μ-loop
 loop-holds c =
@@ -51,7 +54,7 @@ returns-2 c =
     let l = c .before .before .before .before .loop in
     let y : bothFit (a .table .now) (a .words .now) (a .granules) ≡ true = sym (c .before .before .before .before .before .before .both-fit .ensures) ∙ not-false _ (c .before .before .before .before .before .if1 .left) in
     let n : sameWords (a .words .now) (realmWords (a .table .now)) ≡ false = l .inv .2 ∙ agree-not (a .words .now) (a .table .now) (l .i) (search needs) (λ e. c .if2 .taken (e ∙ sym (c .before .word-from .ensures))) in
-    rw (y, n)
+    agree-code (a .table .now) (a .words .now) (a .granules) _ (rw (y, n))
 
 add-i : tie.Need-add-i Inv-loop μ-loop
 add-i c = search needs
@@ -72,7 +75,7 @@ returns-3 c =
     let l = c .before .loop in
     let y : bothFit (a .table .now) (a .words .now) (a .granules) ≡ true = sym (c .before .before .before .both-fit .ensures) ∙ not-false _ (c .before .before .if1 .left) in
     let s : sameWords (a .words .now) (realmWords (a .table .now)) ≡ true = l .inv .2 ∙ agree-last (a .words .now) (a .table .now) (l .i) (omega arith) in
-    rw (y, s)
+    agree-code (a .table .now) (a .words .now) (a .granules) _ (rw (y, s))
 
 pub agrees-spec : {M : Type 1} → statement M
 agrees-spec =

@@ -9,6 +9,7 @@ use borrow.Author.Needs.{needs}
 use Rattle.realm_words.specs.Bits.{wordsFor, packedTo}
 use Rattle.realm_words.specs.Answers.{bothFit, realmBuildOf}
 use Rattle.realm_words.proofs.Agreeing.{Fits, fits, build-none, build-more, build-last}
+use Rattle.realm_words.proofs.Codes.{build-code}
 use Rattle.realm_words.proofs.build.Statement.{statement}
 use Rattle.realm_words.proofs.build.Tie as tie
 
@@ -26,7 +27,9 @@ same-length c = search needs
 
 returns : tie.Need-returns Inv-loop μ-loop
 unfolding realmBuildOf
-returns c = rw (sym (c .before .both-fit .ensures) ∙ not-true _ (c .if1 .taken))
+returns c =
+    let a = c .before .before .before .before .before .args in
+    build-code (a .table .now) (a .words .now) (a .granules) _ (rw (sym (c .before .both-fit .ensures) ∙ not-true _ (c .if1 .taken)))
 
 loop-holds : tie.Need-loop-holds Inv-loop μ-loop
 loop-holds c =
@@ -72,7 +75,8 @@ returns-2 c =
     let y : bothFit (a .table .now) (a .words .now) (a .granules) ≡ true = sym (c .before .before .before .both-fit .ensures) ∙ not-false _ (c .before .before .if1 .left) in
     let f = l .inv .0 in
     let e : l .i ≡ length (a .words .now) = omega arith in
-    rw (y, l .inv .3, build-last (a .table .now) (a .words .now) (l .i) e (f .words-fit ∙ ap wordsFor (sym (f .table-fit))))
+    build-code (a .table .now) (a .words .now) (a .granules) _
+    (rw (y, l .inv .3, build-last (a .table .now) (a .words .now) (l .i) e (f .words-fit ∙ ap wordsFor (sym (f .table-fit)))))
 
 pub build-spec : {M : Type 1} → statement M
 build-spec =

@@ -9,6 +9,7 @@ use borrow.Author.Tests.{eqb-true, not-true, not-false}
 use borrow.Author.Needs.{needs}
 use Rattle.realm_words.specs.Bits.{wordsFor, bitAt}
 use Rattle.realm_words.specs.Answers.{marked, realmCountOf}
+use Rattle.realm_words.proofs.Codes.{count-told}
 use Rattle.realm_words.proofs.Counting.{marked-none, marked-more, marked-word}
 use Rattle.realm_words.specs.declared.Number.{Number}
 use Rattle.realm_words.proofs.count.Statement.{statement}
@@ -25,7 +26,9 @@ words-fit-requires c κs = search needs
 
 returns : tie.Need-returns Inv-loop μ-loop
 unfolding realmCountOf
-returns c = rw (sym (c .before .words-fit .ensures) ∙ not-true _ (c .if1 .taken))
+returns c =
+    let a = c .before .before .before .args in
+    count-told (a .words .now) (a .granules) _ (rw (sym (c .before .words-fit .ensures) ∙ not-true _ (c .if1 .taken)))
 
 loop-holds : tie.Need-loop-holds Inv-loop μ-loop
 loop-holds c = (eqb-true _ _ (sym (c .before .words-fit .ensures) ∙ not-false _ (c .if1 .left)), search needs, search needs, marked-none (c .before .before .before .args .words .now))
@@ -62,7 +65,7 @@ returns-2 c =
     let l = c .before .before .loop in
     let y = sym (c .before .before .before .before .words-fit .ensures) ∙ not-false _ (c .before .before .before .if1 .left) in
     let e : a .granules ≡ 64 * l .at = omega arith in
-    rw y (ap Number.Is (l .inv .3 ∙ ap (marked (bitAt (a .words .now))) (sym e)))
+    count-told (a .words .now) (a .granules) _ (rw y (ap Number.Count (l .inv .3 ∙ ap (marked (bitAt (a .words .now))) (sym e))))
 
 mul-low-bits : tie.Need-mul-low-bits Inv-loop μ-loop
 mul-low-bits c = search needs
@@ -94,7 +97,7 @@ returns-3 c =
     let w : l .at ≡ a .granules / 64 = omega arith in
     let s : l .sum ≡ marked (bitAt (a .words .now)) (64 * (a .granules / 64)) = l .inv .3 ∙ rw w in
     let o = c .ones-in2 .ensures .0 ∙ ap ones (c .before .low-bits .ensures) in
-    rw y (ap Number.Is (rw (s, o) (sym (ap (marked (bitAt (a .words .now))) e ∙ marked-word (a .words .now) (a .granules / 64) (a .granules % 64) (omega arith)))))
+    count-told (a .words .now) (a .granules) _ (rw y (ap Number.Count (rw (s, o) (sym (ap (marked (bitAt (a .words .now))) e ∙ marked-word (a .words .now) (a .granules / 64) (a .granules % 64) (omega arith))))))
 
 pub count-spec : {M : Type 1} → statement M
 count-spec =
