@@ -1,5 +1,5 @@
 -- For the steps of `writer`. Laws of proofs/Pages.antt: `core-law` proves the head and four `sectionOn` equal to `coreWords` over the page;
--- `arrays-law` proves `arraysOn` behind them equal to the lists joined, as `pageOf` has them. Assumes nothing.
+-- `arrays-law` proves `arraysOn` after them equal to the lists joined, as `pageOf` has them. Assumes nothing.
 use Prim.Native.Nat.{ℕ, _+_, _*_}
 use mathlib.Core.Bool.{cond}
 use mathlib.Core.List.{List}

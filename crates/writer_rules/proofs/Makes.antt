@@ -27,7 +27,7 @@ use Rattle.sections.proofs.Sections.{placed}
 use Rattle.sections.proofs.Facts.{place-acts}
 use Rattle.lists.specs.Description.{Description, listOk, listsOk, descriptionOk, noneLate, withMark, platBytes, used}
 use Rattle.lists.proofs.Lists.{marked-none, marked-some}
-use Rattle.writer_rules.specs.Unrefused.{EditionFacts, NoneWithdrawn, DescriptionFacts, LateFacts, RoomBehind, RoomFacts, Unrefused, Refuses}
+use Rattle.writer_rules.specs.Unrefused.{EditionFacts, NoneWithdrawn, DescriptionFacts, LateFacts, RoomAfter, RoomFacts, Unrefused, Refuses}
 use Rattle.writer_rules.specs.Write.{pageOf, no-page, a-page, writerGate, writeOf}
 use Rattle.writer_rules.proofs.Checks.{w-place, w-edition, w-late, w-room, w-made}
 use Rattle.writer_rules.proofs.Round.{writer-gate-page}
@@ -67,7 +67,7 @@ module _ (v : ℕ) (d : Description) (t : DescriptionFacts v d) where
       (every-of (length (d .lists k) / wordsPerEntry k) _ (λ i m. entry-is k i l m)))
 
   fields-are : Yes (tellable (scanOf (d .fields)))
-  fields-are = rw (t .told) (tell-acts (t .fields) (t .keep) (none-count (t .fields) (t .unwithdrawn)))
+  fields-are = rw (t .bytes) (tell-acts (t .fields) (t .keep) (none-count (t .fields) (t .unwithdrawn)))
 
 whole-only : (k : ℕ) (ws : List ℕ) → (k ≡ 1 → ⊥) → length ws % wordsPerEntry k ≡ 0 → length ws % 2 ≡ 0
 unfolding wordsPerEntry
@@ -116,7 +116,7 @@ module _ (v : ℕ) (d : Description) (h : Yes (descriptionOk v d)) where
         banks = λ k i l m. bank-only-at v k (d .lists k) m (entry k l) i;
         consoles = console-only-at v (d .lists 1) (entry 1 (omega arith));
         fields = fieldsTold (scanOf (d .fields));
-        told = f .2;
+        bytes = f .2;
         keep = f .0;
         unwithdrawn = count-none (fieldsTold (scanOf (d .fields))) (f .1);
       }
@@ -163,34 +163,34 @@ late-only v d h = (
   λ l. late-at v (d .lists) h 3 (omega arith) (omega (arith, counts, section-count-mono v 3 (omega arith))),
 )
 
--- ---- W5: the bytes behind a core of s bytes
-behind-acts : (s : ℕ) (d : Description) → RoomBehind s d → s + 8 * length (joined 4 (d .lists)) + length (platBytes d) ≤ 4096
+-- ---- W5: the bytes after a core of s bytes
+after-acts : (s : ℕ) (d : Description) → RoomAfter s d → s + 8 * length (joined 4 (d .lists)) + length (platBytes d) ≤ 4096
 unfolding joined platBytes
-behind-acts s d t = let r = go (decLt 0 (length (d .fields))) in simp length-append (omega arith)
+after-acts s d t = let r = go (decLt 0 (length (d .fields))) in simp length-append (omega arith)
   where
     go : Dec (0 < length (d .fields)) →
         s + 8 * (length (d .lists 0) + length (d .lists 1) + length (d .lists 2) + length (d .lists 3)) + length (withMark (d .fields)) ≤ 4096
     go (yes l) = let m = t .1 l in omega (arith, marked-some (d .fields) (λ z. omega arith))
     go (no l) = let e : length (d .fields) ≡ 0 = omega arith in let m = t .0 e in omega (arith, marked-none (d .fields) e)
 
-behind-only : (s : ℕ) (d : Description) → s + 8 * length (joined 4 (d .lists)) + length (platBytes d) ≤ 4096 → RoomBehind s d
+after-only : (s : ℕ) (d : Description) → s + 8 * length (joined 4 (d .lists)) + length (platBytes d) ≤ 4096 → RoomAfter s d
 unfolding joined platBytes
-behind-only s d h =
+after-only s d h =
     let q = simp length-append at h in
     (λ e. omega (arith, marked-none (d .fields) e), λ l. omega (arith, marked-some (d .fields) (λ z. omega arith)))
 
 room-acts : (v : ℕ) (d : Description) → EditionFacts v → RoomFacts v d → used v d ≤ 4096
 unfolding used
 room-acts zero d e t = absurd (not-suc-le-zero (e .0))
-room-acts (suc zero) d e t = rw (core-sizes .0) (behind-acts 16 d (t .0 refl))
-room-acts (suc (suc zero)) d e t = rw (core-sizes .1) (behind-acts 40 d (t .1 refl))
-room-acts (suc (suc (suc zero))) d e t = rw (core-sizes .2) (behind-acts 64 d (t .2 refl))
-room-acts (suc (suc (suc (suc zero)))) d e t = rw (core-sizes .3) (behind-acts 112 d (t .3 refl))
+room-acts (suc zero) d e t = rw (core-sizes .0) (after-acts 16 d (t .0 refl))
+room-acts (suc (suc zero)) d e t = rw (core-sizes .1) (after-acts 40 d (t .1 refl))
+room-acts (suc (suc (suc zero))) d e t = rw (core-sizes .2) (after-acts 64 d (t .2 refl))
+room-acts (suc (suc (suc (suc zero)))) d e t = rw (core-sizes .3) (after-acts 112 d (t .3 refl))
 room-acts (suc (suc (suc (suc (suc v))))) d e t = absurd (let l = e .1 in let z : ⊥ = omega arith in z)
 
-room-at : (v s : ℕ) (d : Description) → core v ≡ s → used v d ≤ 4096 → RoomBehind s d
+room-at : (v s : ℕ) (d : Description) → core v ≡ s → used v d ≤ 4096 → RoomAfter s d
 unfolding used
-room-at v s d e h = behind-only s d (rw (← e) h)
+room-at v s d e h = after-only s d (rw (← e) h)
 
 room-only : (v : ℕ) (d : Description) → used v d ≤ 4096 → RoomFacts v d
 room-only v d h = (

@@ -28,7 +28,7 @@ pub record DescriptionFacts (v : ℕ) (d : Description) : Type 0 where
       ConsoleFacts v (getD (d .lists 1) (6 * i) 0) (getD (d .lists 1) (6 * i + 1) 0) (getD (d .lists 1) (6 * i + 5) 0)
   -- 02, E7: "broken fields are .. W3 in the writer, there also any tag 0"
   pub fields : List Field
-  pub told : d .fields ≡ runOf fields
+  pub bytes : d .fields ≡ runOf fields
   pub keep : FieldsKeep fields
   pub unwithdrawn : NoneWithdrawn fields
 
@@ -38,15 +38,15 @@ LateFacts v d =
     (v < 2 → length (d .lists 0) ≡ 0) × (v < 3 → length (d .lists 1) ≡ 0) × (v < 4 → length (d .lists 2) ≡ 0) × (v < 4 → length (d .lists 3) ≡ 0)
 
 -- "W5 core and arrays exceed 4,096 bytes"; 02, E7: "W5 counts the fields and, if there are any, their end mark". The core takes s bytes.
-abbrev pub RoomBehind : ℕ → Description → Type 0
-RoomBehind s d =
+abbrev pub RoomAfter : ℕ → Description → Type 0
+RoomAfter s d =
     (length (d .fields) ≡ 0 → s + 8 * (length (d .lists 0) + length (d .lists 1) + length (d .lists 2) + length (d .lists 3)) ≤ 4096)
     × (0 < length (d .fields) →
     s + 8 * (length (d .lists 0) + length (d .lists 1) + length (d .lists 2) + length (d .lists 3)) + length (d .fields) + 3 ≤ 4096)
 
 -- "Core sizes are 16, 40, 64 and 112 bytes for editions 1 to 4"
 abbrev pub RoomFacts : ℕ → Description → Type 0
-RoomFacts v d = (v ≡ 1 → RoomBehind 16 d) × (v ≡ 2 → RoomBehind 40 d) × (v ≡ 3 → RoomBehind 64 d) × (v ≡ 4 → RoomBehind 112 d)
+RoomFacts v d = (v ≡ 1 → RoomAfter 16 d) × (v ≡ 2 → RoomAfter 40 d) × (v ≡ 3 → RoomAfter 64 d) × (v ≡ 4 → RoomAfter 112 d)
 
 -- none of W1 to W5
 pub record Unrefused (base n v : ℕ) (d : Description) : Type 0 where
