@@ -13,7 +13,7 @@ use borrow.Author.Tests.{leb-true, ltb-true, lt-ltb, le-leb, lt-leb, le-ltb}
 use Rattle.words.specs.Tests.{Yes, both, either}
 use Rattle.words.specs.Word.{leOf, part, splice, laid}
 use Rattle.words.proofs.Tests.{both-l, both-r, both-of}
-use Rattle.words.proofs.Store.{bytes-in, drop-splice}
+use Rattle.words.proofs.Store.{length-splice, bytes-in, drop-splice}
 use Rattle.fields.proofs.Rules.{either-false}
 use Rattle.mend.specs.Mend.{partAt, ofPart, blank}
 use Rattle.mend.specs.Steps.{zeroed}
@@ -93,10 +93,6 @@ module _ (at : ℕ) (vs s : List ℕ) (h : at + length vs ≤ length s) (z : (i 
   front : length (take at s) ≡ at
   front = length-take-le at s (omega arith)
 
-  splice-length : length (splice at vs s) ≡ length s
-  unfolding splice
-  splice-length = rw (length-append, length-append, front, length-drop) (omega arith)
-
   splice-low : (i : ℕ) → i < at → getD (splice at vs s) i 0 ≡ getD s i 0
   unfolding splice
   splice-low i l =
@@ -120,7 +116,7 @@ module _ (at : ℕ) (vs s : List ℕ) (h : at + length vs ≤ length s) (z : (i 
 
   splice-blank : splice at vs s ≡ blank (λ i. both (leb at i) (ltb i (at + length vs))) s
   unfolding both
-  splice-blank = ext-getD 0 (splice at vs s) _ (splice-length ∙ sym (blank-length _ s)) (λ i l. rw (blank-at (λ i. both (leb at i) (ltb i (at + length vs))) s i) (go i (decLt i at) (decLt i (at + length vs))))
+  splice-blank = ext-getD 0 (splice at vs s) _ (length-splice at vs s h ∙ sym (blank-length _ s)) (λ i l. rw (blank-at (λ i. both (leb at i) (ltb i (at + length vs))) s i) (go i (decLt i at) (decLt i (at + length vs))))
     where
       go : (i : ℕ) → Dec (i < at) → Dec (i < at + length vs) → getD (splice at vs s) i 0 ≡ cond (both (leb at i) (ltb i (at + length vs))) 0 (getD s i 0)
       go i (yes l) d = rw (lt-leb at i l) (splice-low i l)

@@ -4,11 +4,12 @@ use mathlib.Core.Bool.{Bool, true, false, cond, not}
 use mathlib.Core.Path.{_≡_, refl, sym, ap, _∙_}
 use mathlib.Core.List.{List, [], _∷_, _++_}
 use native.Mathlib.Omega.{arith}
-use lib.ListN.{length, getD}
+use lib.ListN.{length, getD, replicate}
 use lib.Dec.{ltb, eqb, lit≤}
 use borrow.Author.Tests.{eq-eqb, ne-eqb, lt-ltb, le-ltb}
 use Rattle.words.specs.Tests.{Yes, both, some}
 use Rattle.words.specs.Word.{leBytes, bytesOf, laid, wordAt}
+use Rattle.words.proofs.Bytes.{zero-bytes}
 use Rattle.words.proofs.Read.{leBytes-length}
 use Rattle.words.proofs.Lists.{bytesOf-length}
 use Rattle.versions.specs.Version.{versionOk}
@@ -32,11 +33,13 @@ use Rattle.mend.proofs.Blank.{blank-none, zeroed-blank}
 use Rattle.mend.proofs.Pages.{to-all, to-length, plat-to, goes-to}
 
 -- ---- zero bytes
-zero-bytes : (n i : ℕ) → getD (leBytes n 0) i 0 ≡ 0
-unfolding leBytes
-zero-bytes zero i = refl
-zero-bytes (suc n) zero = refl
-zero-bytes (suc n) (suc i) = zero-bytes n i
+zeros-at : (n i : ℕ) → getD (replicate n 0) i 0 ≡ 0
+zeros-at zero i = refl
+zeros-at (suc n) zero = refl
+zeros-at (suc n) (suc i) = zeros-at n i
+
+zero-at : (n i : ℕ) → getD (leBytes n 0) i 0 ≡ 0
+zero-at n i = ap (λ (s : List ℕ). getD s i 0) (zero-bytes n) ∙ zeros-at n i
 
 zero-append : (xs ys : List ℕ) → ((i : ℕ) → getD xs i 0 ≡ 0) → ((i : ℕ) → getD ys i 0 ≡ 0) → (i : ℕ) → getD (xs ++ ys) i 0 ≡ 0
 zero-append [] ys f g i = g i
@@ -46,8 +49,8 @@ zero-append (x ∷ xs) ys f g (suc i) = zero-append xs ys (λ i. f (suc i)) g i
 zero-words : (i : ℕ) → getD (bytesOf (0 ∷ 0 ∷ 0 ∷ [])) i 0 ≡ 0
 unfolding bytesOf
 zero-words =
-    zero-append (leBytes 8 0) (bytesOf (0 ∷ 0 ∷ [])) (zero-bytes 8)
-    (zero-append (leBytes 8 0) (bytesOf (0 ∷ [])) (zero-bytes 8) (zero-append (leBytes 8 0) [] (zero-bytes 8) (λ i. refl)))
+    zero-append (leBytes 8 0) (bytesOf (0 ∷ 0 ∷ [])) (zero-at 8)
+    (zero-append (leBytes 8 0) (bytesOf (0 ∷ [])) (zero-at 8) (zero-append (leBytes 8 0) [] (zero-at 8) (λ i. refl)))
 
 -- ---- one step on the page as it is so far
 module _ (page : List ℕ) where
@@ -112,7 +115,7 @@ module _ (base : ℕ) (page : List ℕ) (place : Yes (placeOk base (length page)
 
   pub padding-step : (r : Bool) (p : List ℕ) → r ≡ not (eqb (paddingAt page) 0) → p ≡ zeroed r 4 (leBytes 4 0) page → (r ≡ changed base page 0) × (p ≡ pageTo 1 base page)
   unfolding changed partAt
-  padding-step r p c h = (c, h ∙ rw c (ap (zeroed (changed base page 0) 4 (leBytes 4 0)) start-to ∙ next-to 0 (leBytes 4 0) (leBytes-length 4 0) (lit≤ tt) (zero-bytes 4)))
+  padding-step r p c h = (c, h ∙ rw c (ap (zeroed (changed base page 0) 4 (leBytes 4 0)) start-to ∙ next-to 0 (leBytes 4 0) (leBytes-length 4 0) (lit≤ tt) (zero-at 4)))
 
   pub plat-step : (e : ℕ) (r : PlatKept) (p p' : List ℕ) → e ≡ editionAt page → p ≡ pageTo 1 base page → r ≡ platKept e base (platAt base p) → p' ≡ zeroed (r .changed) 8 (leBytes 8 0) p →
       (r ≡ platKept (editionAt page) base (platAt base page)) × (r .changed ≡ changed base page 1) × (p' ≡ pageTo 2 base page)
@@ -120,7 +123,7 @@ module _ (base : ℕ) (page : List ℕ) (place : Yes (placeOk base (length page)
   plat-step e r p p' a b c h =
       let x : r ≡ platKept (editionAt page) base (platAt base page) = c ∙ rw (a, b) (plat-to base page 1 (lit≤ tt)) in
       let y : r .changed ≡ not (platOk (editionAt page) base (platAt base page)) = ap (λ (k : PlatKept). k .changed) x in
-      (x, y, h ∙ rw (y, b) (next-to 1 (leBytes 8 0) (leBytes-length 8 0) (lit≤ tt) (zero-bytes 8)))
+      (x, y, h ∙ rw (y, b) (next-to 1 (leBytes 8 0) (leBytes-length 8 0) (lit≤ tt) (zero-at 8)))
 
   pub section-step : (w e k : ℕ) (f : PlatKept) (r : Bool) (p p' : List ℕ) → k < 4 → w ≡ minorAt page → e ≡ editionAt page → f ≡ platKept (editionAt page) base (platAt base page) →
       p ≡ pageTo (suc (suc k)) base page → r ≡ sectionGoes w e base f k p → p' ≡ zeroed r (16 + 24 * k) (bytesOf (0 ∷ 0 ∷ 0 ∷ [])) p →

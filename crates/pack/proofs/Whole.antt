@@ -11,14 +11,14 @@ use lib.Dec.{eqb}
 use borrow.Author.Tests.{lt-ltb, le-ltb, eq-eqb, eqb-true}
 use Rattle.words.specs.Word.{bytesOf, joined, splice, laid}
 use Rattle.words.proofs.Lists.{bytesOf-length, bytesOf-append, joined-length}
-use Rattle.words.proofs.Store.{splice-splice, bytes-in, words-in}
+use Rattle.words.proofs.Store.{length-splice, splice-splice, bytes-in, words-in}
 use Rattle.versions.specs.Edition.{sectionCount, core}
 use Rattle.versions.proofs.Editions.{section-count-most}
 use Rattle.lists.specs.Description.{platBytes, used}
 use Rattle.lists.proofs.Lists.{marked-more}
 use Rattle.writer_rules.specs.Write.{arrayAddress, descriptorAt, pointTo, platWord, coreWords, pageOf}
 use Rattle.writer_rules.proofs.Given.{desc-length}
-use Rattle.writer.proofs.Pages.{over-length, page-law}
+use Rattle.writer.proofs.Pages.{page-law}
 use Rattle.pack.specs.Steps.{arrayWords, sectionMoved, fieldsPlace, keptFrom, retoldAt}
 use Rattle.pack.proofs.Moves.{joined-same, joined-rest}
 
@@ -146,6 +146,6 @@ module _ (base v : ℕ) (page p : List ℕ) (whole : length p ≡ 4096) (fit : u
       let g = steps (bytesOf (v ∷ platWord base v d ∷ [])) S A K p p1 p2 p3 p4 (core v) behind whole (bytesOf-length (v ∷ platWord base v d ∷ [])) (core-is ∙ omega arith) (omega arith) (omega arith) f1 f2 f3 f4 in
       let X = bytesOf (v ∷ platWord base v d ∷ []) ++ (S ++ A) in
       let lx : length X ≡ behind = length-append (bytesOf (v ∷ platWord base v d ∷ [])) (S ++ A) ∙ omega (arith, length-append S A, bytesOf-length (v ∷ platWord base v d ∷ []), core-is) in
-      let ly : length (splice 0 X p) ≡ 4096 = over-length X p (omega arith) ∙ whole in
+      let ly : length (splice 0 X p) ≡ 4096 = length-splice 0 X p (omega arith) ∙ whole in
       let h : p4 ≡ laid behind K (splice 0 (bytesOf (coreWords base v d ++ joined 4 (d .lists))) p) = g ∙ sym (bytes-in behind K (splice 0 X p) (omega arith)) ∙ ap (λ (xs : List ℕ). laid behind K (splice 0 xs p)) core-bytes in
       page-law base v d p whole (core v) behind fit refl (fb ∙ behind-is) end (splice 0 (bytesOf (coreWords base v d ++ joined 4 (d .lists))) p) p4 refl h fe

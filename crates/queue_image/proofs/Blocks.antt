@@ -7,7 +7,7 @@ use native.Mathlib.Omega.{arith}
 use lib.ListN.{length, take, drop, replicate, length-append, length-take, length-drop, length-replicate, replicate-append-replicate}
 use lib.Seq.{length-take-le, take-at, drop-at, take-take, drop-nil, drop-append-seam}
 use Rattle.words.specs.Word.{part, splice}
-use Rattle.words.proofs.Store.{front-splice, part-splice}
+use Rattle.words.proofs.Store.{length-splice, front-splice, part-splice}
 use Rattle.queue_image.specs.Image.{rows, flat, padded}
 use Rattle.queue_image.proofs.Rows.{mul-more, rows-suc, drop-take, flat-append, flat-one, flat-length, padded-in}
 
@@ -28,10 +28,6 @@ module _ (width : ℕ) where
   rows-taken (suc m) (suc n) v = rw (suc-min-suc, rows-taken m n (drop width v))
 
 -- ---- the two moves
-pub length-splice : (at : ℕ) (vs s : List ℕ) → at + length vs ≤ length s → length (splice at vs s) ≡ length s
-unfolding splice
-length-splice at vs s h = rw (length-append, length-append) (omega (arith, length-take at s, length-drop (at + length vs) s))
-
 unfoldable pub blockJoined : ℕ → ℕ → List ℕ → List ℕ → List ℕ
 blockJoined width k row p = splice (width * k) row p
 

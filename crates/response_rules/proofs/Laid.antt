@@ -7,11 +7,10 @@ use native.Mathlib.Omega.{arith}
 use lib.ListN.{length, take, drop, length-append}
 use Rattle.words.specs.Word.{leBytes, splice, laid}
 use Rattle.words.proofs.Read.{leBytes-length}
-use Rattle.words.proofs.Store.{splice-splice, bytes-in, bytes-out, lent-back}
+use Rattle.words.proofs.Store.{length-splice, splice-splice, bytes-in, bytes-out, lent-back}
 use Rattle.queue.specs.declared.Response.{Response}
 use Rattle.queue.specs.Queue.{signedIn}
 use Rattle.queue.proofs.Sides.{taken-all}
-use Rattle.queue_image.proofs.Blocks.{length-splice}
 use Rattle.response_rules.specs.Pull.{responseBytes}
 
 length-laid : (off : ℕ) (vs s : List ℕ) → length (laid off vs s) ≡ length s

@@ -8,8 +8,7 @@ use native.Mathlib.Omega.{arith}
 use lib.ListN.{length, take, drop, length-take}
 use lib.Seq.{take-take}
 use Rattle.words.specs.Word.{part, splice}
-use Rattle.words.proofs.Store.{front-splice}
-use Rattle.queue_image.proofs.Blocks.{length-splice}
+use Rattle.words.proofs.Store.{length-splice, front-splice}
 use Rattle.boot.specs.declared.Params.{Params}
 use Rattle.boot.specs.declared.Record.{Record}
 use Rattle.boot.specs.declared.Record.the-variants.{Up}

@@ -7,7 +7,7 @@ use lib.ListN.{length, take, drop, length-drop}
 use lib.Seq.{length-take-le, drop-drop}
 use borrow.Author.Tests.{ltb-false}
 use Rattle.words.specs.Word.{part, splice}
-use Rattle.words.proofs.Store.{part-back, buffer-back}
+use Rattle.words.proofs.Store.{length-splice, part-back, buffer-back}
 use Rattle.codes.proofs.Gates.{fails-ok}
 use Rattle.codes.specs.declared.Code.the-variants.{Ok}
 use Rattle.queue.specs.declared.Queue.{Queue}
@@ -15,7 +15,6 @@ use Rattle.queue.specs.declared.Queued.{Queued}
 use Rattle.queue.specs.Queue.{Signed, Lists, SigningStep, SigningExit, oldestResponse, signingExit, exitOf}
 use Rattle.response_rules.specs.Pull.{responseBytes, pullCode}
 use Rattle.response_rules.proofs.Acts.{signed-length}
-use Rattle.queue_image.proofs.Blocks.{length-splice}
 use Rattle.signing.specs.Signing.{publicCode, putBack}
 
 -- ---- a buffer of n bytes at an offset of s

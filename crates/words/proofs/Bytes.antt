@@ -41,7 +41,7 @@ words-read zero bs b = refl
 words-read (suc n) bs b = both-of _ _ (lt-ltb (leOf (take 8 bs)) (2 ^ 64) (number-below 8 bs b)) (words-read n (drop 8 bs) (bytes-drop 8 bs b))
 
 -- the bytes of a number come back, with zeros to the end
-zero-bytes : (m : ℕ) → leBytes m 0 ≡ replicate m 0
+pub zero-bytes : (m : ℕ) → leBytes m 0 ≡ replicate m 0
 unfolding leBytes
 zero-bytes zero = refl
 zero-bytes (suc m) = ap (λ (t : List ℕ). 0 ∷ t) (zero-bytes m)

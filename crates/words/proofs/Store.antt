@@ -41,6 +41,10 @@ module _ (i : ℕ) (vs s : List ℕ) where
   unfolding splice
   splice-splice h ws = rw (take-splice h, drop-splice-more h (length ws), length-append) (simp (append-assoc, add-assoc))
 
+pub length-splice : (at : ℕ) (vs s : List ℕ) → at + length vs ≤ length s → length (splice at vs s) ≡ length s
+unfolding splice
+length-splice at vs s h = rw (length-append, length-append) (omega (arith, length-take-le at s (omega arith), length-drop (at + length vs) s))
+
 set-splice : (s : List ℕ) (i b : ℕ) → i < length s → set s i b ≡ splice i (b ∷ []) s
 unfolding splice
 set-splice s i b h = set-split s i b h ∙ rw (add-one, append-snoc)

@@ -9,7 +9,7 @@ use lib.ListN.{length, take, drop, replicate, length-append, length-drop, drop-o
 use lib.Seq.{take-append-seam, take-all}
 use borrow.Author.Tests.{lt-ltb, le-ltb}
 use Rattle.words.specs.Word.{bytesOf, joined, splice, laid}
-use Rattle.words.proofs.Store.{splice-splice, bytes-in, words-in}
+use Rattle.words.proofs.Store.{length-splice, splice-splice, bytes-in, words-in}
 use Rattle.words.proofs.Lists.{bytesOf-length, bytesOf-append, joined-length, joined-mono}
 use Rattle.versions.specs.Edition.{sectionCount, core}
 use Rattle.versions.proofs.Editions.{section-count-most}
@@ -21,14 +21,10 @@ use Rattle.writer.specs.Steps.{sectionOn, arraysOn}
 use Rattle.writer_rules.proofs.Given.{desc-length}
 
 -- ---- these bytes, then the page as it was
-pub over-length : (bs p : List ℕ) → length bs ≤ length p → length (splice 0 bs p) ≡ length p
-unfolding splice
-over-length bs p h = simp (length-append, length-drop) (omega arith)
-
 -- bytes laid at once after those that are there
 bytes-more : (xs ys p : List ℕ) → length p ≡ 4096 → length xs + length ys ≤ 4096 → laid (length xs) ys (splice 0 xs p) ≡ splice 0 (xs ++ ys) p
 bytes-more xs ys p e h =
-    let l : length (splice 0 xs p) ≡ length p = over-length xs p (omega arith) in
+    let l : length (splice 0 xs p) ≡ length p = length-splice 0 xs p (omega arith) in
     bytes-in (length xs) ys (splice 0 xs p) (omega arith) ∙ rw zero-add at (splice-splice 0 xs p (omega arith) ys)
 
 words-more : (xs ws p : List ℕ) → length p ≡ 4096 → 8 * (length xs + length ws) ≤ 4096 →
@@ -66,7 +62,7 @@ pub filled-back : (at : ℕ) (bs p s : List ℕ) → length p ≡ 4096 → lengt
     take at s ++ (replicate (length (take (length s - at) (drop at s))) 0 ++ drop (length s - at) (drop at s)) ≡ filled bs
 unfolding filled splice
 filled-back at bs p s e h f g =
-    let l : length s ≡ 4096 = ap length g ∙ over-length bs p (omega arith) ∙ e in
+    let l : length s ≡ 4096 = ap length g ∙ length-splice 0 bs p (omega arith) ∙ e in
     cleared at s (omega arith) ∙ rw (l, g, f, take-append-seam)
 
 -- the end mark of the fields is of the zeros behind them
