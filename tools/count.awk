@@ -1,7 +1,7 @@
 # The table of instructions: awk -f count.awk ROWS TRACE
 #
 # ROWS has the name of each row, a line each. TRACE has a line an instruction, its function's name last, and four calls of mark() a row: around
-# the library's call, and around that of the C by hand. The row's own instructions do not count.
+# the library's call, and around that of the hand-written C. The row's own instructions do not count.
 
 function thousands(number) {
     return number < 1000 ? number : sprintf("%d,%03d", int(number / 1000), number % 1000)
@@ -29,7 +29,7 @@ END {
         print rows + 0 " rows, " closed + 0 " calls" > "/dev/stderr"
         exit 1
     }
-    print "| Call | Library | C by hand | Ratio |"
+    print "| Call | Library | Hand-written C | Ratio |"
     print "|---|---|---|---|"
     for (row = 1; row <= rows; row++) {
         ours = counted[2 * row - 1]

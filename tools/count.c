@@ -1,5 +1,5 @@
 /*
- * Calls of the AArch64 archives whose instructions tools/aarch64 counts, and the same work by hand in C. Between two calls of mark() all
+ * Calls of the AArch64 archives whose instructions tools/aarch64 counts, and the same work in hand-written C. Between two calls of mark() all
  * instructions but those of the rows themselves count. No libc: the copies below are the platform's, 16 bytes a turn.
  *
  * Prints a line for each row, in the order of the marks: its name. Ends with status 1 where library and C differ.
@@ -90,9 +90,9 @@ static void say(const char *name)
     call(64, 1, "\n", 1);
 }
 
-/* ---- By hand. A page has to be aligned to 8 bytes here, which the library does not ask for. ---- */
+/* ---- Hand-written. A page has to be aligned to 8 bytes here, which the library does not ask for. ---- */
 
-#define BY_HAND __attribute__((noinline))
+#define HAND_WRITTEN __attribute__((noinline))
 #define MEMORY_END (1ull << 52)
 
 static inline word at(const uint8_t *page, word offset)
@@ -129,7 +129,7 @@ static inline word hand_consoles(const uint8_t *array, word count, word minor, w
 }
 
 /* pbeam_read, of pages without platform data. */
-BY_HAND int32_t hand_read(const uint8_t *page, size_t length, word base, word edition, word view[PBEAM_VIEW_WORDS])
+HAND_WRITTEN int32_t hand_read(const uint8_t *page, size_t length, word base, word edition, word view[PBEAM_VIEW_WORDS])
 {
     word from[4] = {0}, to[4] = {0}, bad = 0, core;
     unsigned sections;
@@ -174,7 +174,7 @@ refused:
 }
 
 /* pbeam_write, of banks alone. */
-BY_HAND uint32_t hand_write(word base, word edition, const word *dram, size_t dram_len, uint8_t *to, size_t length)
+HAND_WRITTEN uint32_t hand_write(word base, word edition, const word *dram, size_t dram_len, uint8_t *to, size_t length)
 {
     static const unsigned cores[5] = {0, 16, 40, 64, 112};
     any_word *page_words = (any_word *)to;
@@ -212,7 +212,7 @@ static inline int hand_ready(const word *state, const word *granules, size_t tab
 }
 
 /* pbeam_delegate_list with one bank. */
-BY_HAND void hand_delegate_list(const word *state, const word *granules, uint8_t *table, size_t table_len, word *words, size_t words_len,
+HAND_WRITTEN void hand_delegate_list(const word *state, const word *granules, uint8_t *table, size_t table_len, word *words, size_t words_len,
                                 const word *list, size_t length, word *out)
 {
     size_t done = 0;
@@ -240,7 +240,7 @@ BY_HAND void hand_delegate_list(const word *state, const word *granules, uint8_t
 }
 
 /* pbeam_delegate with one bank. */
-BY_HAND void hand_delegate(const word *state, const word *granules, uint8_t *table, size_t table_len, word *words, size_t words_len,
+HAND_WRITTEN void hand_delegate(const word *state, const word *granules, uint8_t *table, size_t table_len, word *words, size_t words_len,
                            word address, word *out)
 {
     word offset = address - granules[1], place = offset >> 12 | offset << 52, code = 0;
@@ -258,7 +258,7 @@ BY_HAND void hand_delegate(const word *state, const word *granules, uint8_t *tab
 }
 
 /* The copy of token and TPM. */
-BY_HAND void hand_copy(uint8_t *to, const uint8_t *from, size_t length)
+HAND_WRITTEN void hand_copy(uint8_t *to, const uint8_t *from, size_t length)
 {
     memcpy(to, from, length);
 }
@@ -271,7 +271,7 @@ static inline int hand_fits(const word *granules, size_t words)
 }
 
 /* pbeam_realm_build: eight bytes at a time. */
-BY_HAND word hand_build(const word *granules, const uint8_t *table, size_t table_len, word *words, size_t words_len)
+HAND_WRITTEN word hand_build(const word *granules, const uint8_t *table, size_t table_len, word *words, size_t words_len)
 {
     const word low = 0x7f7f7f7f7f7f7f7f;
     if (!hand_fits(granules, words_len) || granules[2] >> 12 != table_len)
@@ -289,7 +289,7 @@ BY_HAND word hand_build(const word *granules, const uint8_t *table, size_t table
 }
 
 /* pbeam_realm_count. */
-BY_HAND word hand_count(const word *granules, const word *words, size_t words_len, word number[1])
+HAND_WRITTEN word hand_count(const word *granules, const word *words, size_t words_len, word number[1])
 {
     word sum = 0;
     number[0] = 0;
@@ -305,7 +305,7 @@ BY_HAND word hand_count(const word *granules, const word *words, size_t words_le
 }
 
 /* pbeam_realm_next: eight words at a time. */
-BY_HAND word hand_next(const word *granules, const word *words, size_t words_len, word index, word found[1])
+HAND_WRITTEN word hand_next(const word *granules, const word *words, size_t words_len, word index, word found[1])
 {
     size_t i = index / 64;
     found[0] = 0;

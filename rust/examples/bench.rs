@@ -2,9 +2,9 @@
 //!
 //! All sides are timed in turn, on pages of the same content and alignment, and the best of many short runs counts.
 //!
-//! - "by hand": the fastest code that we could write, with the library's parameters, rules and images (`src/fast.rs`, `src/inplace.rs`);
+//! - "hand-written": the fastest code that we could write, with the library's parameters, rules and images (`src/fast.rs`, `src/inplace.rs`);
 //!   `tests/fast.rs` and `tests/inplace.rs` hold it to the reference.
-//! - "by hand, SSE2": the same, where the copy is of 16 bytes at a time and not the C library's.
+//! - "hand-written, SSE2": the same, where the copy is of 16 bytes at a time and not the C library's.
 //! - "native": the reference, whose states are Rust values.
 //!
 //! With `--write` the table of docs/BENCHMARK.md is written anew. With `manifest`, `granules` or `commands` only these are timed.
@@ -54,7 +54,7 @@ fn see(word: u64) {
     SEEN.store(word, Ordering::Relaxed);
 }
 
-/// The same words, but no compiler knows: else the reference would be compiled for the very arguments that it is timed with.
+/// The same words, hidden from the compiler, which would otherwise compile the reference for the arguments that it is timed with.
 fn hidden<const N: usize>(words: [u64; N]) -> [u64; N] {
     words.map(|word| {
         see(word);
@@ -89,7 +89,7 @@ impl Up {
 
 // ---- Timing ----
 
-/// One side: a body, repeated so many times.
+/// One side: runs its body a number of times.
 type Side<'a> = Box<dyn FnMut(u32) + 'a>;
 
 fn side<'a>(mut body: impl FnMut() + 'a) -> Side<'a> {
@@ -164,7 +164,7 @@ fn write_table() {
 
 // ---- Manifest ----
 
-/// A reading against the reference and against code written by hand for speed, with the library's parameters.
+/// A reading against the reference and against code that is written for speed, with the library's parameters.
 fn compare_reading(name: &str, base: u64, edition: u64, lists: Lists, fields: &[u8]) {
     let mut page = Page([0; PAGE]);
     write(base, edition, lists, fields, &mut page.0).expect("written");
@@ -184,7 +184,7 @@ fn compare_reading(name: &str, base: u64, edition: u64, lists: Lists, fields: &[
                 side(|| see(read(page, base, 4).expect("accepted").plat_data)),
             ),
             (
-                "by hand",
+                "hand-written",
                 side(|| {
                     assert_eq!(fast::read(page, base, 4, &mut theirs), 0);
                     see(theirs[2]);
@@ -211,7 +211,7 @@ fn compare_cold_boot(name: &str, base: u64, edition: u64, lists: Lists) {
             see(ours[3]);
         }),
         vec![(
-            "by hand",
+            "hand-written",
             side(|| {
                 theirs = [0; 5];
                 let [x0, x1, x2, x3] = x;
@@ -235,7 +235,7 @@ fn compare_listing(name: &str, base: u64, edition: u64, lists: Lists) {
         1,
         side(|| see(Kit::listing(page, base, 4, &mut ours) as u64)),
         vec![(
-            "by hand",
+            "hand-written",
             side(|| see(fast::listing(page, base, 4, &mut theirs) as u64)),
         )],
     );
@@ -259,7 +259,7 @@ fn compare_lookups() {
             see(ours[0]);
         }),
         vec![(
-            "by hand",
+            "hand-written",
             side(|| {
                 fast::array_of(page, &view, section, &mut theirs);
                 see(theirs[0]);
@@ -272,7 +272,7 @@ fn compare_lookups() {
         1,
         side(|| see(Kit::count(page, &view, section) as u64)),
         vec![(
-            "by hand",
+            "hand-written",
             side(|| see(fast::count(page, &view, section) as u64)),
         )],
     );
@@ -281,7 +281,7 @@ fn compare_lookups() {
         1,
         side(|| see(Kit::word(page, &view, section, entry, word))),
         vec![(
-            "by hand",
+            "hand-written",
             side(|| see(fast::word(page, &view, section, entry, word))),
         )],
     );
@@ -305,7 +305,7 @@ fn compare_kept_for() {
             name,
             1,
             side(|| see(Kit::kept_for(page, &view))),
-            vec![("by hand", side(|| see(fast::kept_for(page, &view))))],
+            vec![("hand-written", side(|| see(fast::kept_for(page, &view))))],
         );
     }
 }
@@ -330,7 +330,7 @@ fn compare_console_named() {
             1,
             side(|| see(Kit::console_named(page, &view, &asked) as u64)),
             vec![(
-                "by hand",
+                "hand-written",
                 side(|| see(fast::console_named(page, &view, &asked) as u64)),
             )],
         );
@@ -360,14 +360,14 @@ fn compare_writing(name: &str, base: u64, edition: u64, lists: Lists, fields: &[
                 }),
             ),
             (
-                "by hand",
+                "hand-written",
                 side(|| {
                     assert_eq!(fast::write(base, edition, lists, fields, theirs), answer);
                     see(u64::from(theirs[0]));
                 }),
             ),
             (
-                "by hand, SSE2",
+                "hand-written, SSE2",
                 side(|| {
                     let wrote = fast::write_sse2(base, edition, lists, fields, narrow);
                     assert_eq!(wrote, answer);
@@ -444,7 +444,7 @@ fn board() -> Vec<u8> {
     [&name, &[2, 8, 0, 1, 2, 3, 4, 5, 6, 7, 8][..]].concat()
 }
 
-/// So many fields with values of so many bytes.
+/// `count` fields with values of `length` bytes.
 fn of_fields(count: usize, length: u16) -> Vec<u8> {
     let [low, high] = length.to_le_bytes();
     let field = [vec![77, low, high], vec![5; length.into()]].concat();
@@ -464,7 +464,7 @@ fn all_fields(start: usize, next: impl Fn(usize, &mut FieldImage) -> usize) -> u
 }
 
 /// The fields of a page that was read: how many, the last by its number, the first of a tag, which is there or not, and all by a
-/// cursor. A lookup judges the fields, since any view may come; the code by hand finds its field in that same pass.
+/// cursor. A lookup judges the fields, since any view may come; the hand-written code finds its field in that same pass.
 fn compare_fields(name: &str, edition: u64, lists: Lists, fields: &[u8]) {
     let (mut page, mut view) = (Page([0; PAGE]), [0; 15]);
     write(BASE, edition, lists, fields, &mut page.0).expect("written");
@@ -476,7 +476,7 @@ fn compare_fields(name: &str, edition: u64, lists: Lists, fields: &[u8]) {
         1,
         side(|| see(Kit::field_count(page, &view) as u64)),
         vec![(
-            "by hand",
+            "hand-written",
             side(|| see(fast::field_count(page, &view) as u64)),
         )],
     );
@@ -489,7 +489,7 @@ fn compare_fields(name: &str, edition: u64, lists: Lists, fields: &[u8]) {
             see(ours[2]);
         }),
         vec![(
-            "by hand",
+            "hand-written",
             side(|| {
                 fast::field(page, &view, last, &mut theirs);
                 see(theirs[2]);
@@ -506,7 +506,7 @@ fn compare_fields(name: &str, edition: u64, lists: Lists, fields: &[u8]) {
                 see(ours[2]);
             }),
             vec![(
-                "by hand",
+                "hand-written",
                 side(|| {
                     fast::field_of_tag(page, &view, tag, &mut theirs);
                     see(theirs[2]);
@@ -525,7 +525,7 @@ fn compare_fields(name: &str, edition: u64, lists: Lists, fields: &[u8]) {
             see(ours);
         }),
         vec![(
-            "by hand",
+            "hand-written",
             side(|| {
                 let start = fast::field_start(page, &view);
                 theirs = all_fields(start, |cursor, field| fast::field_next(page, cursor, field));
@@ -538,7 +538,7 @@ fn compare_fields(name: &str, edition: u64, lists: Lists, fields: &[u8]) {
 
 // ---- Packer and mender ----
 
-/// A page with holes: each array lies so many bytes behind the one before, and behind fields of which the first is withdrawn the page ends.
+/// A page with holes: each array starts `by` bytes after the one before. The fields, the first of them withdrawn, are at the page's end.
 fn spread(lists: Lists, fields: &[u8], by: usize) -> Page {
     let (mut packed, mut page) = (Page([0; PAGE]), Page([0xEE; PAGE]));
     write(BASE, 4, lists, &[], &mut packed.0).expect("written");
@@ -590,7 +590,7 @@ fn compare_packing(name: &str, mut page: Page) {
                 }),
             ),
             (
-                "by hand",
+                "hand-written",
                 side(|| {
                     assert_eq!(fast::pack(page, base, theirs), 0);
                     see(u64::from(theirs[0]));
@@ -628,7 +628,7 @@ fn compare_mending(name: &str, page: &Page, broken: &[usize]) {
             see(report[2]);
         }),
         vec![(
-            "by hand",
+            "hand-written",
             side(|| {
                 theirs[..112].copy_from_slice(&core);
                 assert_eq!(fast::mend(theirs, base, &mut expected), 0);
@@ -656,7 +656,7 @@ fn compare_all_mending() {
 
 // ---- Granules ----
 
-/// A record of so many banks, with 512 granules in all and a hole of one behind each bank; and the addresses of its granules.
+/// A record of `count` banks, with 512 granules in all and a hole of one granule after each bank; and the addresses of its granules.
 fn banks(count: u64) -> (GranulesImage, Vec<u64>) {
     let (mut record, mut addresses) = ([0; 33], Vec::new());
     record[0] = count;
@@ -742,7 +742,7 @@ fn compare_granules(count: u64) {
             ours.kit(false, at);
         }),
         vec![(
-            "by hand",
+            "hand-written",
             side(|| {
                 theirs.run(inplace::delegate, at);
                 theirs.run(inplace::undelegate, at);
@@ -756,7 +756,7 @@ fn compare_granules(count: u64) {
             &format!("delegate, {name}, {}", several(count)),
             1,
             side(|| ours.kit(true, at)),
-            vec![("by hand", side(|| theirs.run(inplace::delegate, at)))],
+            vec![("hand-written", side(|| theirs.run(inplace::delegate, at)))],
         );
         assert!(ours.same(&theirs) && ours.out[0] as i64 == code);
     }
@@ -781,7 +781,7 @@ fn compare_lists(count: u64) {
             }),
             vec![
                 (
-                    "by hand",
+                    "hand-written",
                     side(|| {
                         theirs.run(inplace::delegate_list, &list[..]);
                         theirs.run(inplace::undelegate_list, &list[..]);
@@ -815,7 +815,7 @@ fn compare_set_up(count: u64) {
             see(ours[2]);
         }),
         vec![(
-            "by hand",
+            "hand-written",
             side(|| {
                 see(inplace::set_up(&mut theirs, &shown, length));
                 see(theirs[2]);
@@ -826,7 +826,7 @@ fn compare_set_up(count: u64) {
     assert_eq!(ours, record);
 }
 
-/// The Realm words of so many granules in one bank: made of a table, and held against it; how many granules are Realm, and the next one
+/// The Realm words of `granules` granules in one bank: made of a table, and compared with it; how many granules are Realm, and the next one
 /// after an empty stretch. The count also against a walk over the table's bytes.
 fn compare_realm_words(name: &str, granules: u64) {
     let [granules, base] = hidden([granules, 0x8_8000_0000]);
@@ -839,7 +839,7 @@ fn compare_realm_words(name: &str, granules: u64) {
         1,
         side(|| see(Kit::realm_build(&record, &table, &mut words))),
         vec![(
-            "by hand",
+            "hand-written",
             side(|| see(inplace::realm_build(&record, &table, &mut their_words))),
         )],
     );
@@ -849,7 +849,7 @@ fn compare_realm_words(name: &str, granules: u64) {
         1,
         side(|| assert_eq!(Kit::realm_agrees(&record, &table, &words), 0)),
         vec![(
-            "by hand",
+            "hand-written",
             side(|| assert_eq!(inplace::realm_agrees(&record, &table, &words), 0)),
         )],
     );
@@ -863,7 +863,7 @@ fn compare_realm_words(name: &str, granules: u64) {
         }),
         vec![
             (
-                "by hand",
+                "hand-written",
                 side(|| {
                     assert_eq!(inplace::realm_count(&record, &words, &mut theirs), 0);
                     see(theirs[0]);
@@ -885,7 +885,7 @@ fn compare_realm_words(name: &str, granules: u64) {
             see(ours[0]);
         }),
         vec![(
-            "by hand",
+            "hand-written",
             side(|| {
                 assert_eq!(inplace::realm_next(&record, &words, index, &mut theirs), 0);
                 see(theirs[0]);
@@ -939,7 +939,7 @@ fn compare_token(size: u64) {
         }),
         vec![
             (
-                "by hand",
+                "hand-written",
                 side(|| {
                     for i in 0..calls {
                         let (mut out, [pa, size, c_size]) = ([0; 3], x(i));
@@ -990,7 +990,7 @@ fn native_sign(queue: &mut Queue, signature: &[u8]) -> Outcome {
     queue.sign(signature)
 }
 
-/// What a request on its way needs: registers of push and pull, and the signature, which is lent as a key too.
+/// What a request on its way needs: registers of push and pull, and the signature, which is also passed as a key.
 struct Way {
     up: Up,
     push: [u64; 4],
@@ -1035,7 +1035,7 @@ impl Way {
         see(out[0]);
     }
 
-    /// A queue with so many responses.
+    /// A queue with `responses` responses.
     fn waiting(&self, responses: usize, page: &mut [u8]) -> (QueueImage, Queue) {
         let (mut image, mut queue) = ([0; 210], Queue::EMPTY);
         for _ in 0..responses {
@@ -1058,7 +1058,7 @@ impl<F> Signing for F where
 
 /// The hand-written signing with the registers as an array.
 #[inline(always)]
-fn signing_by_hand(
+fn hand_written_signing(
     state: &RecordImage,
     queue: &mut QueueImage,
     page: &mut [u8],
@@ -1069,7 +1069,7 @@ fn signing_by_hand(
     inplace::token_signing(state, queue, page, key, opcode, pa, size, curve, out);
 }
 
-/// A request goes all the way through, while so many responses wait.
+/// A request goes all the way through, while `waiting` responses wait.
 fn compare_queue(waiting: usize) {
     let way = Way::new();
     let mut pages = [(); 3].map(|()| Page([0; PAGE]));
@@ -1089,12 +1089,12 @@ fn compare_queue(waiting: usize) {
         way.native_sign(&mut native);
         way.native(&mut native, theirs, way.pull);
     });
-    let side_by_hand = side(|| {
-        way.image(signing_by_hand, &mut image, placed, way.push);
+    let hand_written_side = side(|| {
+        way.image(hand_written_signing, &mut image, placed, way.push);
         way.image_sign(inplace::sign, &mut image);
-        way.image(signing_by_hand, &mut image, placed, way.pull);
+        way.image(hand_written_signing, &mut image, placed, way.pull);
     });
-    let others = vec![("by hand", side_by_hand), ("native", native_side)];
+    let others = vec![("hand-written", hand_written_side), ("native", native_side)];
     let name = format!("push, sign, pull, {waiting} waiting");
     compare(&name, 3, kit_side, others);
     assert!(kit == image && pages[0].0 == pages[1].0 && pages[0].0 == pages[2].0);
@@ -1117,7 +1117,7 @@ fn compare_oldest() {
             see(ours[9]);
         }),
         vec![(
-            "by hand",
+            "hand-written",
             side(|| {
                 see(inplace::oldest(&image, &mut theirs) as u64);
                 see(theirs[9]);
@@ -1198,7 +1198,7 @@ impl Desk {
         see(self.out[0]);
     }
 
-    fn by_hand(&mut self, x: &[u64; 5]) {
+    fn hand_written(&mut self, x: &[u64; 5]) {
         inplace::call(
             &self.record,
             &mut self.session,
@@ -1245,10 +1245,10 @@ fn compare_call(name: &str, x0: i64, x: [u64; 5], set: impl Fn(&mut Desk)) {
             ours.kit(&x);
         }),
         vec![(
-            "by hand",
+            "hand-written",
             side(|| {
                 set(&mut theirs);
-                theirs.by_hand(&x);
+                theirs.hand_written(&x);
             }),
         )],
     );

@@ -1,7 +1,7 @@
 //! Registers of 16 bytes, for the benchmark's hand-written code: copies, because the C library's memcpy takes the widest vectors that the
 //! machine has, which no firmware gets, and the bits of a granule table's bytes.
 
-/// Copies 64 bytes at a time, in four registers, as long as there are so many on both sides; says how many it copied.
+/// Copies 64 bytes at a time, in four registers, while both sides have 64 left. Returns the number of bytes copied.
 #[cfg(target_arch = "x86_64")]
 #[inline]
 pub fn copy(to: &mut [u8], from: &[u8]) -> usize {
@@ -26,7 +26,7 @@ pub fn copy(_to: &mut [u8], _from: &[u8]) -> usize {
     0
 }
 
-/// The same of words; says how many words it copied.
+/// The same of words. Returns the number of words copied.
 #[inline]
 pub fn copy_words(to: &mut [u8], words: &[u64]) -> usize {
     // As many bytes as the words have; where `copy` copies, the machine is little-endian.
@@ -50,10 +50,13 @@ pub fn ones(bytes: &[u8; 64]) -> u64 {
     bits(0) | bits(1) << 16 | bits(2) << 32 | bits(3) << 48
 }
 
-/// The same eight bytes at a time.
 #[cfg(not(target_arch = "x86_64"))]
+pub use self::ones_by_words as ones;
+
+/// The same, eight bytes at a time.
+#[cfg_attr(target_arch = "x86_64", allow(dead_code))]
 #[inline]
-pub fn ones(bytes: &[u8; 64]) -> u64 {
+pub fn ones_by_words(bytes: &[u8; 64]) -> u64 {
     const LOW: u64 = 0x7f7f_7f7f_7f7f_7f7f;
     let mut bits = 0;
     for (i, cell) in bytes.chunks_exact(8).enumerate() {
@@ -67,7 +70,7 @@ pub fn ones(bytes: &[u8; 64]) -> u64 {
 
 #[cfg(test)]
 mod tests {
-    use super::ones;
+    use super::{ones, ones_by_words};
     use crate::random::Random;
 
     #[test]
@@ -78,7 +81,12 @@ mod tests {
             let byte = |_: u8| random.pick(&[0, 1, 1, 2, 3, 0x80, 0x81, 0xFF, 0xFE, 0x7F]);
             bytes = bytes.map(byte);
             let bits = (0..64).filter(|&i| bytes[i] == 1).map(|i| 1u64 << i);
-            assert_eq!(ones(&bytes), bits.sum(), "{bytes:x?}");
+            let bits: u64 = bits.sum();
+            assert_eq!(
+                [ones(&bytes), ones_by_words(&bytes)],
+                [bits; 2],
+                "{bytes:x?}"
+            );
         }
     }
 }

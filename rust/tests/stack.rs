@@ -198,7 +198,7 @@ fn stack_of<L: Clone, A>(lent: &L, call: impl Fn(&mut L) -> A) -> (usize, A) {
     (seen.bytes, seen.answer)
 }
 
-/// Runs a body under so many words of stack that are written.
+/// Runs a body under `N` words of stack that are written.
 #[inline(never)]
 fn under_words<const N: usize, A>(body: impl FnOnce() -> A) -> A {
     let room = [0u64; N];
@@ -341,7 +341,7 @@ impl Header {
         }
     }
 
-    /// Bytes that a function takes on the stack: each parameter behind the sixth is a word there.
+    /// Bytes that a caller passes on the stack: each parameter after the sixth is a word there.
     fn lent_on_stack(&self, name: &str) -> usize {
         let start = format!(" {name}(");
         let mut lines = self.text.lines();
@@ -397,7 +397,7 @@ impl Header {
         })
     }
 
-    /// The most of each is printed past the test's capture, all lines at once.
+    /// The most of each is printed past the test's capture, in one write.
     fn print(&self) {
         let line = |(name, bytes): (&String, &usize)| {
             format!("most stack of {name:<26} {bytes:>5} bytes\n")
@@ -408,7 +408,7 @@ impl Header {
     }
 }
 
-/// The measure sees what is there: nothing where no call is made, and a kilobyte; and the words of parameters behind the sixth.
+/// The measure sees what is there: nothing where no call is made, and a kilobyte; and the words of parameters after the sixth.
 #[test]
 #[cfg_attr(debug_assertions, ignore = "measured in release builds")]
 fn measure_sees_stack() {
@@ -470,7 +470,7 @@ fn page_with(lists: [&[u64]; 4], fields: &[u8]) -> Vec<u8> {
 /// A name and a serial.
 const BOARD: &[u8] = b"\x01\x04\x00DK-1\x02\x08\x00\x00\x01\x02\x03\x04\x05\x06\x07";
 
-/// So many fields of one byte.
+/// `count` fields of one byte.
 fn fields(count: usize) -> Vec<u8> {
     [4, 1, 0, 9].repeat(count)
 }
@@ -874,7 +874,7 @@ impl Board {
     }
 }
 
-/// A record of so many banks of so many granules, with a hole of one behind each; the last bank ends where one of 2 granules at MEMORY
+/// A record of `count` banks of `granules` granules, with a hole of one granule after each; the last bank ends where one of 2 granules at MEMORY
 /// would, so that the same addresses name its last two.
 fn in_banks(count: u64, granules: u64) -> GranulesImage {
     let mut record = [0; 33];
@@ -1373,7 +1373,7 @@ const SENT: Transfer = Transfer {
     out_size: 8192,
 };
 
-/// No call takes more than the header says, whatever it answers and however long the response is.
+/// No call takes more than the header says, for any answer and any length of the response.
 #[test]
 #[cfg_attr(debug_assertions, ignore = "measured in release builds")]
 fn tpm_keeps_the_figures_of_the_header() {
@@ -1544,7 +1544,7 @@ fn fault(text: &str, headers: &[Header]) -> Option<String> {
         .or_else(|| headers.iter().find_map(Header::stale))
 }
 
-/// Writes a file at once, since other tests read it meanwhile.
+/// Replaces a file by renaming, since other tests read it meanwhile.
 fn replace(path: &str, text: &str) {
     let part = format!("{path}.new");
     std::fs::write(&part, text).expect(&part);
