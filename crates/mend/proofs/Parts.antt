@@ -4,13 +4,15 @@ use mathlib.Core.Bool.{Bool, true, false, cond, not}
 use mathlib.Core.Path.{_≡_, refl, sym, ap, _∙_}
 use mathlib.Core.List.{List, [], _∷_, _++_}
 use native.Mathlib.Omega.{arith}
-use lib.ListN.{length, getD}
+use native.Mathlib.Decide.{decLt}
+use lib.ListN.{length, getD, replicate, getD-replicate, length-replicate, List·getD-eq-default}
 use lib.Dec.{ltb, eqb, lit≤}
 use borrow.Author.Tests.{eq-eqb, ne-eqb, lt-ltb, le-ltb}
 use Rattle.words.specs.Tests.{Yes, both, some}
-use Rattle.words.specs.Word.{leBytes, bytesOf, laid, wordAt}
+use Rattle.words.specs.Word.{leOf, leBytes, bytesOf, laid, wordAt}
 use Rattle.words.proofs.Read.{leBytes-length}
 use Rattle.words.proofs.Lists.{bytesOf-length}
+use Rattle.words.proofs.Bytes.{number-padded}
 use Rattle.versions.specs.Version.{versionOk}
 use Rattle.versions.specs.Edition.{sectionCount}
 use Rattle.fields.specs.Fields.{taken}
@@ -30,12 +32,17 @@ use Rattle.mend.specs.declared.Mended.the-variants.{Done, Refused}
 use Rattle.mend.proofs.Blank.{blank-none, zeroed-blank}
 use Rattle.mend.proofs.Pages.{to-length, plat-to, goes-to}
 
--- ---- zero bytes
+-- ---- zero bytes: those of 0, of which `words` says that they are zeros
 zero-bytes : (n i : ℕ) → getD (leBytes n 0) i 0 ≡ 0
-unfolding leBytes
-zero-bytes zero i = refl
-zero-bytes (suc n) zero = refl
-zero-bytes (suc n) (suc i) = zero-bytes n i
+unfolding leOf
+zero-bytes n i =
+    let z : n - 0 ≡ n = omega arith in
+    let e : leBytes n 0 ≡ replicate n 0 = number-padded n [] (λ j. lit≤ tt) (omega arith) ∙ rw z in
+    ap (λ (t : List ℕ). getD t i 0) e ∙ go (decLt i n)
+  where
+    go : Dec (i < n) → _≡_ {A = ℕ} (getD (replicate n 0) i 0) 0
+    go (yes l) = getD-replicate n i 0 0 l
+    go (no l) = List·getD-eq-default (replicate n 0) 0 {n = i} (rw length-replicate (omega arith))
 
 zero-append : (xs ys : List ℕ) → ((i : ℕ) → getD xs i 0 ≡ 0) → ((i : ℕ) → getD ys i 0 ≡ 0) → (i : ℕ) → getD (xs ++ ys) i 0 ≡ 0
 zero-append [] ys f g i = g i
