@@ -7,7 +7,7 @@ ghost use mathlib.Core.Path.{_≡_};
 ghost use Prim.Native.Nat.{min, _≤_, _<_};
 ghost use Rattle.io.specs.Counts.{Counts};
 ghost use Rattle.words.specs.Word.{wordAt};
-ghost use Rattle.cases.specs.Cases.{recordAt, sameBytes};
+ghost use Rattle.cases.specs.Cases.{recordAt, sameBytes, granulesAt, wordsFrom, readInto, markOf};
 
 // A digit of n, as text.
 fn digit(n: u64) -> u8 {
@@ -41,7 +41,9 @@ pub fn length_at(input: &[u8], at: usize, most: usize) -> usize
 
 // The granule record of a case, by the word at `at`: the offset where it stands. There is how many of its words are given, then these;
 // the others are 0.
-pub fn granules_at(input: &[u8], at: usize) -> [u64; 33] {
+pub fn granules_at(input: &[u8], at: usize) -> [u64; 33]
+    ensures { λ r. ⌜ r ≡ granulesAt at (now (input .entry)) ⌝ }
+{
     let from = length_at(input, at, 40000);
     let given = length_at(input, from, 33);
     let mut granules = [0u64; 33];
@@ -53,14 +55,16 @@ pub fn granules_at(input: &[u8], at: usize) -> [u64; 33] {
 
 // Where the realm words of a case stand: behind its granule record. First how many there are, then these.
 pub fn words_at(input: &[u8], at: usize) -> usize
-    ensures { λ r. ⌜ r ≤ 40272 ⌝ }
+    ensures { λ r. ⌜ (r ≡ wordsFrom at (now (input .entry))) × (r ≤ 40272) ⌝ }
 {
     let from = length_at(input, at, 40000);
     from + 8 + 8 * length_at(input, from, 33)
 }
 
 // Fills a list with the words that stand in bytes; none longer than any case has.
-pub fn read_words(bytes: &[u8], list: &mut [u64]) {
+pub fn read_words(bytes: &[u8], list: &mut [u64])
+    ensures { λ _. ⌜ now (list .exit) ≡ readInto (now (bytes .entry)) (now (list .entry)) ⌝ }
+{
     if 600 < list.len() {
         return;
     }
@@ -114,7 +118,7 @@ pub fn print_same(what: &[u8], held: &[u8], expected: &[u8]) {
 
 // A byte as a digit.
 fn wide(byte: u8) -> u64
-    ensures { λ r. ⌜ r < 256 ⌝ }
+    ensures { λ r. ⌜ (r ≡ byte) × (r < 256) ⌝ }
 {
     byte as u64
 }
@@ -122,7 +126,9 @@ fn wide(byte: u8) -> u64
 // A number that tells one run of bytes from another: the bytes as digits in two bases, after the run's length, by what they leave
 // modulo the prime 2^32 - 5. The bases are large, and no power of either up to the 4,096th is a quotient of two differences of bytes:
 // so runs of one length up to 4,096 that differ in one byte or in two never have the same number in either base.
-pub fn mark(part: &[u8]) -> u64 {
+pub fn mark(part: &[u8]) -> u64
+    ensures { λ r. ⌜ r ≡ markOf (now (part .entry)) ⌝ }
+{
     let mut high = part.len() as u64 % 0xFFFF_FFFB;
     let mut low = high;
     for i in 0..part.len() {
