@@ -84,7 +84,11 @@ module _ (x3 : ℕ) (page : List ℕ) where
       go : (4096 < kept) ⊎ (PlaceFacts x3 (length page) → ⊥) → codeIn (readOf 4 x3 page) ≡ minus 5
       go (inl l) = absurd (true≢false (sym e ∙ lt-leb kept 4096 l))
       go (inr n) = page-gives .where-it-holds n
-  kept-gives kept false e = record { where-it-holds = λ q. refl; elsewhere = λ n. absurd (n (inr (λ p. false≢true (sym e ∙ le-leb kept 4096 (let l : 4096 < kept → ⊥ = λ l. n (inl l) in omega arith))))) }
+  kept-gives kept false e =
+      record {
+        where-it-holds = λ q. refl;
+        elsewhere = λ n. absurd (n (inr (λ p. false≢true (sym e ∙ le-leb kept 4096 (let l : 4096 < kept → ⊥ = λ l. n (inl l) in omega arith)))));
+      }
 
 -- ---- cold boot
 gate-chain : (f v m n k : Bool) (c : ℤ) → coldGate f v m n k c ≡ cond f (cond v (cond m (cond n (cond k c (minus 5)) (minus 4)) (minus 3)) (minus 2)) (minus 1)

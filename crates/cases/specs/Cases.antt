@@ -5,7 +5,7 @@ use mathlib.Core.List.{List, [], _∷_, _++_}
 use lib.ListN.{length, getD, drop, replicate}
 use lib.Dec.{ltb, eqb}
 use Rattle.words.specs.Tests.{both, every}
-use Rattle.words.specs.Word.{wordAt, wordsOf}
+use Rattle.words.specs.Word.{wordAt, wordsOf, spanned}
 use Rattle.boot.specs.declared.Record.{Record}
 use Rattle.boot.specs.declared.Record.the-variants.{Fresh, Up, Closed}
 
@@ -42,6 +42,9 @@ wordsFrom at input = granulesFrom at input + 8 + 8 * granulesGiven at input
 -- a list filled with the words that bytes hold; one of more than 600 words stays as it is
 unfoldable pub readInto : List ℕ → List ℕ → List ℕ
 readInto bytes list = cond (ltb 600 (length list)) list (wordsOf (length list) bytes)
+
+unfoldable pub fillInto : ℕ → List ℕ → List ℕ → List ℕ
+fillInto at input list = readInto (spanned (record { at = wordsFrom at input + 8; len = 8 * length list }) input) list
 
 -- bytes as the digits of a number, behind a number n, modulo the prime 2^32 - 5
 unfoldable pub digits : ℕ → ℕ → List ℕ → ℕ

@@ -7,7 +7,7 @@ ghost use mathlib.Core.Path.{_≡_};
 ghost use Prim.Native.Nat.{min, _≤_, _<_};
 ghost use Rattle.io.specs.Counts.{Counts};
 ghost use Rattle.words.specs.Word.{wordAt};
-ghost use Rattle.cases.specs.Cases.{recordAt, sameBytes, granulesAt, wordsFrom, readInto, markOf};
+ghost use Rattle.cases.specs.Cases.{recordAt, sameBytes, granulesAt, wordsFrom, readInto, fillInto, markOf};
 
 // A digit of n, as text.
 fn digit(n: u64) -> u8 {
@@ -74,7 +74,9 @@ pub fn read_words(bytes: &[u8], list: &mut [u64])
 }
 
 // Fills a list with the realm words of a case.
-pub fn fill_words(input: &[u8], at: usize, list: &mut [u64]) {
+pub fn fill_words(input: &[u8], at: usize, list: &mut [u64])
+    ensures { λ _. ⌜ now (list .exit) ≡ fillInto at (now (input .entry)) (now (list .entry)) ⌝ }
+{
     if 600 < list.len() {
         return;
     }

@@ -44,7 +44,9 @@ words-agree t i h =
 -- and no other words do
 pub agree-words : (t ws : List ℕ) → length ws ≡ wordsFor (length t) → ((k : ℕ) → getD ws k 0 < 2 ^ 64) → WordsAgree t ws → ws ≡ realmWords t
 unfolding bitOf
-agree-words t ws l small a = ext-getD 0 ws (realmWords t) (l ∙ sym (words-length (wordsFor (length t)) t)) (λ k h. word-same 64 (getD ws k 0) (getD (realmWords t) k 0) (small k) (below k (omega arith)) (bits k h))
+agree-words t ws l small a =
+    ext-getD 0 ws (realmWords t) (l ∙ sym (words-length (wordsFor (length t)) t))
+    (λ k h. word-same 64 (getD ws k 0) (getD (realmWords t) k 0) (small k) (below k (omega arith)) (bits k h))
   where
     below : (k : ℕ) → k < wordsFor (length t) → getD (realmWords t) k 0 < 2 ^ 64
     below k h = rw (words-at (wordsFor (length t)) t k h) (omega (arith, packed-lt (take 64 (drop (k * 64) t)), pow-mono (few (drop (k * 64) t))))

@@ -51,8 +51,11 @@ loop-less c = search needs
 loop-again : tie.Need-loop-again Inv-loop μ-loop
 loop-again c =
     let a = c .before .before .before .before .before .before .args in
-    let l = c .before .before .loop in
-    (search needs, rw (l .inv .1, c .word-at .ensures, c .before .before .before .before .length-at .ensures .0) (zeros-more (l .i) (min (wordAt (a .at) (a .input .now)) 40000 + 8) (a .input .now) (omega arith)))
+    let l = c .before .before .loop in (
+      search needs,
+      rw (l .inv .1, c .word-at .ensures, c .before .before .before .before .length-at .ensures .0)
+          (zeros-more (l .i) (min (wordAt (a .at) (a .input .now)) 40000 + 8) (a .input .now) (omega arith)),
+    )
 
 returns : tie.Need-returns Inv-loop μ-loop
 unfolding granulesAt granulesGiven granulesFrom
