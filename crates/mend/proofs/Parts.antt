@@ -33,7 +33,7 @@ use Rattle.mend.proofs.Blank.{blank-none, zeroed-blank}
 use Rattle.mend.proofs.Pages.{to-all, to-length, plat-to, goes-to}
 
 -- ---- zero bytes
-zeros-at : (n i : ℕ) → getD (replicate n 0) i 0 ≡ 0
+zeros-at : (n i : ℕ) → _≡_ {A = ℕ} (getD (replicate n 0) i 0) 0
 zeros-at zero i = refl
 zeros-at (suc n) zero = refl
 zeros-at (suc n) (suc i) = zeros-at n i
