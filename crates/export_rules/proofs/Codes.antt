@@ -18,7 +18,7 @@ use Rattle.runtime.specs.declared.Kind.the-variants.{ForwardError, Delegate, Un
 use Rattle.runtime.specs.Step.{World, Call, kindOf, afterMove, afterKey, afterToken, afterSigning, afterUpdate, callBy, callOf, replyCode}
 use Rattle.images.specs.Image.{recordOf, isSet, sessionOf, registerWords, replyRegisters}
 use Rattle.queue_image.specs.Image.{listsIn}
-use Rattle.queue_image.specs.Steps.{imageStep}
+use Rattle.queue_image.specs.OnImage.{imageStep}
 use Rattle.export_rules.specs.Exports.{setUpLeft, setUpIn, moveLeft, moveIn, moveListIn, tokenLeft, tokenIn, signingLeft, signingIn, signLeft, signIn, worldIn, callLeft, callIn}
 use Rattle.export_rules.specs.Codes.{x0In, ExportsTell}
 use Rattle.export_rules.proofs.Refusals.{token-tells, signing-tells}

@@ -12,7 +12,6 @@ use reader::View;
 use realm_words::Agreement;
 use realm_words::Hit;
 use realm_words::Number;
-use runtime::Reply;
 use token::Session;
 use words::Span;
 use writer::Wrote;
@@ -22,8 +21,7 @@ ghost use lib.ListN.{length};
 ghost use Rattle.codes.specs.Codes.{ifOk};
 ghost use Rattle.kept.specs.Kept.{keptFor};
 ghost use Rattle.reader.specs.Reading.{sectionOf};
-ghost use Rattle.runtime.specs.Step.{replyCode};
-ghost use Rattle.images.specs.Image.{recordOf, recordWords, isSet, sessionOf, sessionWords, registerWords, workWords, sectionIn, viewOf, spanWords, fieldWords, consoleNumber, wroteNumber, replyRegisters, replyWords};
+ghost use Rattle.images.specs.Image.{recordOf, recordWords, isSet, sessionOf, sessionWords, registerWords, workWords, sectionIn, viewOf, spanWords, fieldWords, consoleNumber, wroteNumber};
 ghost use Rattle.images.specs.Realm.{numberX0, numberWords, hitX0, hitWords, agreementX0, builtX0};
 
 pub fn record_of(image: &[u64; 5]) -> Record
@@ -203,34 +201,6 @@ pub fn console_number(found: ConsoleFound) -> usize
     match found {
         ConsoleFound::At(i) => i,
         ConsoleFound::Nothing => 0xFFFF_FFFF_FFFF_FFFF,
-    }
-}
-
-// A reply's code; one that goes to the Non-secure world is never refused.
-pub fn reply_code(reply: Reply) -> Code
-    ensures { λ r. ⌜ r ≡ replyCode reply ⌝ }
-{
-    match reply {
-        Reply::Forward(_) => Code::Ok,
-        Reply::Back { answer, work: _ } => answer.code,
-    }
-}
-
-pub fn reply_registers(reply: Reply) -> [u64; 3]
-    ensures { λ r. ⌜ r ≡ replyRegisters reply ⌝ }
-{
-    match reply {
-        Reply::Forward(_) => [0, 0, 0],
-        Reply::Back { answer, work: _ } => registers(answer),
-    }
-}
-
-pub fn reply_words(reply: Reply) -> [u64; 2]
-    ensures { λ r. ⌜ r ≡ replyWords reply ⌝ }
-{
-    match reply {
-        Reply::Forward(error) => [2, error],
-        Reply::Back { answer: _, work } => work_words(work),
     }
 }
 
