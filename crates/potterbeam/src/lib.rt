@@ -79,7 +79,8 @@ fn show(page: &[u8], base: u64, minor: u64, e: Edition, view: &mut [u64])
     requires { ⌜ (length (now page) ≡ 4096) × (length (now view) ≡ 15) × (rulesAt minor (e .minor) base (now page) ≡ true) ⌝ }
     ensures { λ _. ⌜ now (view .exit) ≡ viewWords (viewAt minor (e .minor) base (now (page .entry))) ⌝ }
 {
-    let core = &page[0..112];
+    let end = Edition::CORE_4 as usize;
+    let core = &page[0..end];
     put_three(view, 0, minor, e.minor, words::word_at(core, 8));
     show_section(core, base, e, 0, view);
     show_section(core, base, e, 1, view);
