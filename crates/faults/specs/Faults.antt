@@ -1,4 +1,4 @@
--- The first fault of a page, in the order of the reader's checks (RD2, RD6, RD7): the rule, where it is broken, and the word found there.
+-- The first fault of a page, in the order of the reader's checks (RD2, RD6, RD7): the rule, its place in the page, and the word found there.
 -- Each test is the reader's own (crates sections, entries, fields). Law `clear-accepts` proves that there is no fault exactly if the
 -- reader accepts. Assumes nothing.
 use Prim.Native.Nat.{ℕ, zero, suc, _+_, _-_, _*_, _%_, _^_, min}

@@ -1,4 +1,4 @@
-// The first fault of a manifest page: the broken rule, where it is, and the word found there. Names, order and contents are in
+// The first fault of a manifest page: the broken rule, its place in the page, and the word found there. Names, order and contents are in
 // docs/RULES.md, chapter 5.
 use fields::FieldsEnd;
 use fields::Seen;

@@ -64,7 +64,7 @@ isNothing (Raw t at n) = false
 isNothing Withdrawn = false
 isNothing Nothing = true
 
--- the span of a field's value; empty if the field is withdrawn or there is none
+-- the span of a field's value; empty if the field is withdrawn or absent
 unfoldable pub placeSpan : FieldPlace → Span
 placeSpan (Raw t at n) = record { at = at; len = n }
 placeSpan Withdrawn = record { at = 0; len = 0 }

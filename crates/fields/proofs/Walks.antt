@@ -24,6 +24,7 @@ use Rattle.fields.proofs.Scans.{never, follow, head-scan, head-room}
 unfoldable pub left : ℕ → List ℕ → List Field
 left at bs = fieldsIn (scanAll (drop at bs))
 
+-- whether an end mark follows
 unfoldable pub ends : ℕ → List ℕ → Bool
 ends at bs = isEnded (scanAll (drop at bs))
 
