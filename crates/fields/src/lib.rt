@@ -39,7 +39,7 @@ pub enum FieldsEnd {
     Ended(usize),
 }
 
-// Where a pass over the fields stops: at a broken rule; after an end mark at `end`, with `passed` fields before it; or at the slice's end
+// Where a pass over the fields stops: at a broken rule; after an end mark, at `end`, with `passed` fields before it; or at the slice's end
 // without a mark, and then `console` is whether it passed a tag 3.
 enum Stop {
     Broken,
