@@ -1,4 +1,4 @@
--- Entries by their place in the page, as the loops go, and that this is what the rules say of their words. Assumes nothing.
+-- Entries by their offset in the page, for the loops, and that this equals the rules of their words. Assumes nothing.
 use Prim.Native.Nat.{ℕ, zero, suc, _+_, _-_, _*_, _%_, _^_, _≤_, _<_}
 use mathlib.Core.Path.{_≡_, refl, sym, ap, _∙_}
 use mathlib.Core.Bool.{Bool, true, false}
@@ -17,7 +17,7 @@ use Rattle.entries.specs.Entry.{wordsPerEntry, size, entryOk, entriesOk,
 use Rattle.entries.specs.Array.{wordsAt, soundOf, entryPlace}
 use Rattle.entries.specs.Steps.{entryAt, entriesAt, sumAt}
 
--- ---- words in an entry
+-- ---- the number of words in an entry
 pub per-one : wordsPerEntry 1 ≡ 6
 unfolding wordsPerEntry
 per-one = refl
@@ -34,7 +34,7 @@ per-range zero = omega arith
 per-range (suc zero) = omega arith
 per-range (suc (suc k)) = omega arith
 
--- bytes of c consoles, and of c banks or regions
+-- the size of c consoles, and of c banks or regions
 pub size-one : (c : ℕ) → size 1 c ≡ 48 * c
 unfolding size wordsPerEntry
 size-one c = omega arith
@@ -43,7 +43,7 @@ pub size-other : (k c : ℕ) → (k ≡ 1 → ⊥) → size k c ≡ 16 * c
 unfolding size
 size-other k c h = rw (per-other k h) (omega arith)
 
--- an array that fits behind an offset ends within the page, whatever its entry's words were called
+-- an array that fits between an offset and the page's end ends within the page; w is the number of words that the code uses
 pub fits-end : (k c at n w : ℕ) (b : Bool) → w ≡ wordsPerEntry k → b ≡ leb (size k c) (n - at) → b ≡ true → at ≤ n → at + 8 * (w * c) ≤ n
 unfolding size
 fits-end k c at n w b e f g h =
@@ -89,14 +89,14 @@ unfolding sum
 sum-snoc [] y = omega arith
 sum-snoc (x ∷ xs) y = rw (sum-snoc xs y) (omega arith)
 
--- one word more
+-- one more word
 pub sum-step : (page : List ℕ) (at off i m acc w r : ℕ) → 8 * (i + 1) ≤ m → off ≡ at + 8 * i → acc ≡ sum (wordsOf i (part at m page)) % 2 ^ 64 → w ≡ wordAt off page →
     r ≡ (acc + w) % 2 ^ 64 → r ≡ sum (wordsOf (i + 1) (part at m page)) % 2 ^ 64
 sum-step page at off i m acc w r h o e f g =
     let k : w ≡ wordAt (at + 8 * i) page = rw o at f in
     rw (add-one, wordsOf-suc, sum-snoc, num-part 8 at m (8 * i) page (omega arith), ← k) (omega arith)
 
--- one bank more
+-- one more bank
 pub sum-bank : (page : List ℕ) (at off i m acc x y t r : ℕ) → 16 * (i + 1) ≤ m → off ≡ at + 16 * i → acc ≡ sum (wordsOf (2 * i) (part at m page)) % 2 ^ 64 →
     x ≡ wordAt off page → y ≡ wordAt (off + 8) page → t ≡ (acc + x) % 2 ^ 64 → r ≡ (t + y) % 2 ^ 64 → r ≡ sum (wordsOf (2 * (i + 1)) (part at m page)) % 2 ^ 64
 sum-bank page at off i m acc x y t r h o e f g u v =
@@ -104,7 +104,7 @@ sum-bank page at off i m acc x y t r h o e f g u v =
     let two : r ≡ sum (wordsOf (2 * i + 1 + 1) (part at m page)) % 2 ^ 64 = sum-step page at (off + 8) (2 * i + 1) m t y r (omega arith) (omega arith) one g v in
     two ∙ ap (λ n. sum (wordsOf n (part at m page)) % 2 ^ 64) (let z : 2 * i + 1 + 1 ≡ 2 * (i + 1) = omega arith in z)
 
--- what was found of n entries of a section is found of its count
+-- what holds for n entries holds for the section's count, if n is that count
 module _ (w k at n count : ℕ) (page : List ℕ) (s : ℕ) (ok : Bool) where
   pub consoles-found : k ≡ 1 → n ≡ count → (s ≡ sumAt at (6 * n) page % 2 ^ 64) × (ok ≡ entriesAt w 1 at n page) →
       (s ≡ sumAt at (wordsPerEntry k * count) page % 2 ^ 64) × (ok ≡ entriesAt w k at count page)
@@ -131,7 +131,7 @@ total-law c p s k x h m t a b d e =
 pub not-zero : (n : ℕ) → (n ≡ 0 → ⊥) → 0 < n
 not-zero n h = omega arith
 
--- the rule of an array by the sums as they were told
+-- the rule of an array, given the sums that the code computed
 module _ (w k at c p s : ℕ) (page : List ℕ) (n : c ≡ 0 → ⊥) (z : p % 8 ≡ 0) (x h m t : ℕ) (cx : x ≡ sumAt at (wordsPerEntry k * c) page % 2 ^ 64)
     (ch : h ≡ (c + p) % 2 ^ 64) (cm : m ≡ (x + s) % 2 ^ 64) (ct : t ≡ (h + m) % 2 ^ 64) where
   total : t ≡ (c + p + sum (wordsAt k c at page) + s) % 2 ^ 64

@@ -1,4 +1,4 @@
--- The tests of entries hold exactly where the plain facts do. Assumes nothing.
+-- The tests of entries hold exactly if the plain facts do. Assumes nothing.
 use Prim.Native.Nat.{ℕ, zero, suc, _+_, _*_, _%_, _^_, _≤_, _<_}
 use mathlib.Core.Path.{_≡_, refl, sym, _∙_}
 use mathlib.Core.List.{List}
@@ -50,7 +50,7 @@ console-only w b n f h =
     let u = both-r _ _ t in
     (eqb-true _ _ (both-l _ _ h), ltb-true _ _ (both-l _ _ t), leb-true _ _ (both-l _ _ u), flags-only w f (both-r _ _ u))
 
--- ---- an entry in its place
+-- ---- an entry at its offset
 bank-place : (at i : ℕ) → at + 8 * (2 * i) ≡ at + 16 * i
 bank-place at i = omega arith
 
@@ -85,7 +85,7 @@ unfolding wordsSum
 sum-of page at m zero h = sum-none page at (part at m page)
 sum-of page at m (suc n) h = rw (wordsOf-suc, sum-snoc, num-part 8 at m (8 * n) page (omega arith), sum-of page at m n (omega arith))
 
--- its words are the page's
+-- its words are the page's words
 array-sum : (k c at : ℕ) (page : List ℕ) → sum (wordsAt k c at page) ≡ wordsSum at (wordsPerEntry k * c) page
 unfolding wordsAt size
 array-sum k c at page = sum-of page at (8 * (wordsPerEntry k * c)) (wordsPerEntry k * c) (omega arith)

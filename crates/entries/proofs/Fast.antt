@@ -1,4 +1,4 @@
--- Bits gathered with "or" are clear where the rule holds of each entry. Assumes nothing.
+-- Bits combined with "or" are clear exactly if every entry keeps its rule. Assumes nothing.
 use Prim.Native.Nat.{ℕ, _+_, _-_, _*_, _/_, _%_, _^_, _≤_, _<_}
 use mathlib.Core.Path.{_≡_, refl, sym, ap, _∙_}
 use mathlib.Core.Bool.{Bool, true, false}
@@ -18,7 +18,7 @@ use Rattle.entries.specs.Fast.{bankClear, consoleClear}
 use Rattle.entries.specs.declared.Bits.{Bits}
 use Rattle.entries.proofs.Entries.{per-other}
 
--- ---- two numbers gathered are clear where both are
+-- ---- two numbers combined with "or" are clear exactly if both are
 or-left : (a b : ℕ) → a ≤ bitOr a b
 or-left a b = omega (arith, or-add-and a b, and-le-r a b)
 
@@ -47,7 +47,7 @@ or-below k a b =
     both-of _ _ (lt-ltb a (2 ^ k) (omega (arith, or-left a b))) (lt-ltb b (2 ^ k) (omega (arith, or-right a b))))
     (λ h. lt-ltb (bitOr a b) (2 ^ k) (or-lt k a b (ltb-true _ _ (both-l _ _ h)) (ltb-true _ _ (both-r _ _ h))))
 
--- three tests of two, or two of three
+-- three tests for each of two, or two for each of three
 mix : (a x b y c z : Bool) → both (both a x) (both (both b y) (both c z)) ≡ both (both a (both b c)) (both x (both y z))
 unfolding both
 mix false x b y c z = refl
@@ -60,7 +60,7 @@ mix true true true false true z = refl
 mix true true true true false z = refl
 mix true true true true true z = refl
 
--- ---- bits of some entries, and of one more
+-- ---- the bits of several entries and of one more
 abbrev more : Bits → Bits → Bits
 more b d = record { low = bitOr (b .low) (d .low); high = bitOr (b .high) (d .high); flags = bitOr (b .flags) (d .flags) }
 
@@ -70,7 +70,7 @@ bank-more b d f =
     rw (or-low (b .low) (d .low), or-below 53 (b .low) (d .low), or-below 52 (b .high) (d .high))
     (mix (eqb (b .low % 4096) 0) (eqb (d .low % 4096) 0) (ltb (b .low) (2 ^ 53)) (ltb (d .low) (2 ^ 53)) (ltb (b .high) (2 ^ 52)) (ltb (d .high) (2 ^ 52)))
 
--- flags that pass, of some consoles and of one more
+-- the flags of several consoles and of one more
 pass-more : (x y z : Bool) → either (both x y) z ≡ both (either x z) (either y z)
 unfolding either both
 pass-more true y z = refl
@@ -141,7 +141,7 @@ pub with-console : (w : ℕ) (b : Bits) (base pages span last f : ℕ) → base 
 with-console w b base pages span last f p q r s t =
     console-more w b (record { low = base; high = bitOr span last; flags = f }) ∙ ap (both (consoleClear w b)) (console-one w base pages span last f p q r s t)
 
--- ---- as the loops go: one entry more of the array at an offset
+-- ---- for the loops: one more entry of the array at an offset
 entries-step : (w k at i : ℕ) (page : List ℕ) → both (entriesAt w k at i page) (entryAt w k (entryPlace k at i) page) ≡ entriesAt w k at (i + 1) page
 unfolding entriesAt every
 entries-step w k at i page = rw add-one

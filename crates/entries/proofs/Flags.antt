@@ -11,7 +11,7 @@ use Rattle.words.specs.Tests.{both}
 use Rattle.entries.specs.Entry.{wordsPerEntry, sixthCleared, shownWords}
 use Rattle.entries.specs.Fast.{isHidden}
 
--- on a page of minor 4 or less they are shown as they stand
+-- a page of minor 4 or less shows them unchanged
 pub shown-plain : (v k : ℕ) → v ≤ 4 → (ws : List ℕ) → shownWords v k ws ≡ ws
 unfolding shownWords
 shown-plain v zero h ws = refl

@@ -7,15 +7,15 @@ use Rattle.words.specs.Tests.{both}
 use Rattle.words.specs.Word.{part, wordsOf}
 use Rattle.entries.specs.Entry.{wordsPerEntry, size, entriesOk, checkOk}
 
--- the words of an array of c entries of section k at an offset
+-- the words of the c entries of section k at an offset
 unfoldable pub wordsAt : ℕ → ℕ → ℕ → List ℕ → List ℕ
 wordsAt k c at page = wordsOf (wordsPerEntry k * c) (part at (size k c) page)
 
--- The part of a section's rule that no edition changes, on a page of minor w, of count c, pointer p, checksum s and the
--- array's words ws: "count 1 or more, a pointer that is a multiple of 8", "each checksum holds", and the entries' rules.
+-- The part of a section's rule that is the same in every edition, on a page of minor w, for count c, pointer p, checksum s and the array's
+-- words ws: "count 1 or more, a pointer that is a multiple of 8", "each checksum holds", and the entries' rules.
 unfoldable pub soundOf : ℕ → ℕ → ℕ → ℕ → ℕ → List ℕ → Bool
 soundOf w k c p s ws = both (ltb 0 c) (both (eqb (p % 8) 0) (both (checkOk c p ws s) (entriesOk w k c ws)))
 
--- the offset of entry i of the array at an offset
+-- the offset of entry i of the array at offset `at`
 unfoldable pub entryPlace : ℕ → ℕ → ℕ → ℕ
 entryPlace k at i = at + 8 * (wordsPerEntry k * i)

@@ -7,14 +7,14 @@ use lib.ListN.{getD}
 use lib.Dec.{leb, ltb, eqb}
 use Rattle.words.specs.Tests.{both, either, every}
 
--- words in an entry of section k: "A bank or region entry is 16 bytes: base, size. A console entry is 48 bytes: base,
+-- the number of words in an entry of section k (ML4): "A bank or region entry is 16 bytes: base, size. A console entry is 48 bytes: base,
 -- map_pages, name (8 bytes), clk_in_hz, baud_rate, flags."
 unfoldable pub wordsPerEntry : ℕ → ℕ
 wordsPerEntry zero = 2
 wordsPerEntry (suc zero) = 6
 wordsPerEntry (suc (suc k)) = 2
 
--- bytes of c entries
+-- the size of c entries, in bytes
 unfoldable pub size : ℕ → ℕ → ℕ
 size k c = 8 * (wordsPerEntry k * c)
 
@@ -22,7 +22,7 @@ size k c = 8 * (wordsPerEntry k * c)
 unfoldable pub bankOk : ℕ → ℕ → Bool
 bankOk b s = both (eqb (b % 4096) 0) (both (eqb (s % 4096) 0) (both (ltb 0 s) (leb (b + s) (2 ^ 52))))
 
--- "flags 0", as 02, E3 amends it: "flags must be zero only when the page's minor is 4 or less", w being the page's minor
+-- "flags 0", as 02, E3 amends it: "flags must be zero only when the page's minor is 4 or less"; w is the page's minor
 unfoldable pub flagsOk : ℕ → ℕ → Bool
 flagsOk w f = either (eqb f 0) (ltb 4 w)
 
@@ -30,31 +30,33 @@ flagsOk w f = either (eqb f 0) (ltb 4 w)
 unfoldable pub consoleOk : ℕ → ℕ → ℕ → ℕ → Bool
 consoleOk w b n f = both (eqb (b % 4096) 0) (both (ltb 0 n) (both (leb (b + 4096 * n) (2 ^ 52)) (flagsOk w f)))
 
--- the rule of an entry of section k by its first, second and last word, on a page of minor w; of a bank the second is the last
+-- the rule of an entry of section k, given its first, second and last word, on a page of minor w; the second word of a bank is also its
+-- last
 unfoldable pub entryRule : ℕ → ℕ → ℕ → ℕ → ℕ → Bool
 entryRule w k a b z = cond (eqb k 1) (consoleOk w a b z) (bankOk a b)
 
--- the rule of the entry whose words start at place j of ws
+-- the rule of the entry whose words start at index j of ws
 unfoldable pub entryOk : ℕ → ℕ → List ℕ → ℕ → Bool
 entryOk w k ws j = entryRule w k (getD ws j 0) (getD ws (j + 1) 0) (getD ws (j + (wordsPerEntry k - 1)) 0)
 
--- the rule of each of c entries
+-- each of c entries keeps its rule
 unfoldable pub entriesOk : ℕ → ℕ → ℕ → List ℕ → Bool
 entriesOk w k c ws = every c (λ i. entryOk w k ws (wordsPerEntry k * i))
 
--- words with zero for the one at place n, and for each sixth one from there
+-- the words ws with 0 at index n and at every sixth index after it
 unfoldable pub sixthCleared : ℕ → List ℕ → List ℕ
 sixthCleared n [] = []
 sixthCleared zero (w ∷ ws) = 0 ∷ sixthCleared 5 ws
 sixthCleared (suc n) (w ∷ ws) = w ∷ sixthCleared n ws
 
--- the entries of section k as they are shown on a page of minor w. 02, E3: "For minor 5 and above .. any value passes, and the console
--- is shown and listed with flags 0, while the array lookup gives the page's bytes."
+-- the entries of section k as a page of minor w shows them. 02, E3: "For minor 5 and above .. any value passes, and the console is shown
+-- and listed with flags 0, while the array lookup gives the page's bytes."
 unfoldable pub shownWords : ℕ → ℕ → List ℕ → List ℕ
 shownWords w zero ws = ws
 shownWords w (suc zero) ws = cond (ltb 4 w) (sixthCleared 5 ws) ws
 shownWords w (suc (suc k)) ws = ws
 
+-- the sum of the words
 unfoldable pub sum : List ℕ → ℕ
 sum [] = 0
 sum (w ∷ ws) = w + sum ws

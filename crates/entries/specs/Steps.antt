@@ -8,14 +8,14 @@ use Rattle.words.specs.Word.{part, wordAt, wordsOf}
 use Rattle.entries.specs.Entry.{wordsPerEntry, entryRule, sum}
 use Rattle.entries.specs.Array.{entryPlace}
 
--- the rule of the entry at an offset
+-- the rule of the entry at offset `at`
 unfoldable pub entryAt : ℕ → ℕ → ℕ → List ℕ → Bool
 entryAt w k at page = entryRule w k (wordAt at page) (wordAt (at + 8) page) (wordAt (at + 8 * (wordsPerEntry k - 1)) page)
 
--- the rule of each of c entries at an offset
+-- each of the c entries from `at` on keeps its rule
 unfoldable pub entriesAt : ℕ → ℕ → ℕ → ℕ → List ℕ → Bool
 entriesAt w k at c page = every c (λ i. entryAt w k (entryPlace k at i) page)
 
--- the sum of n words from an offset on
+-- the sum of the n words from `at` on
 unfoldable pub sumAt : ℕ → ℕ → List ℕ → ℕ
 sumAt at n page = sum (wordsOf n (part at (8 * n) page))

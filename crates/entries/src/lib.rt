@@ -1,4 +1,4 @@
-// The entries of a section's array, read where they lie in the page: their rules, and the checksum of their words.
+// The entries of a section's array, read in the page: their rules (E1 to E5) and their checksum (S4).
 // A section is its number in 01's table: 0 DRAM banks, 1 consoles, 2 non-coherent regions, 3 coherent regions.
 ghost use mathlib.Core.Path.{_≡_};
 ghost use Prim.Native.Nat.{_+_, _*_, _%_, _^_, _≤_};
@@ -10,7 +10,7 @@ ghost use Rattle.entries.specs.Array.{wordsAt, soundOf};
 ghost use Rattle.entries.specs.Steps.{entriesAt, sumAt};
 ghost use Rattle.entries.specs.Fast.{noBits, bankClear, consoleClear};
 
-// The words in an entry of section k.
+// The number of words in an entry of section `k`: 6 for a console, 2 for a bank or region.
 pub fn entry_words(k: usize) -> usize
     ensures { λ r. ⌜ (r ≡ wordsPerEntry k) × (2 ≤ r) × (r ≤ 6) ⌝ }
 {
@@ -20,8 +20,8 @@ pub fn entry_words(k: usize) -> usize
     2
 }
 
-// Whether count entries of section k fit into so many bytes. By a division, since the product might not fit a word; by a constant in
-// each case, of which the compiler makes no division.
+// Whether `count` entries of section `k` fit into `room` bytes. Divides, because the product could overflow; a constant divisor costs no
+// division.
 pub fn fits(k: usize, count: u64, room: u64) -> bool
     ensures { λ r. ⌜ r ≡ leb (size k count) room ⌝ }
 {
@@ -37,8 +37,8 @@ pub fn fits(k: usize, count: u64, room: u64) -> bool
     true
 }
 
-// Bits of many entries, gathered with "or": the rule holds of each of them where these stay clear. So a loop over entries has no exit
-// before its end, and the compiler takes several entries at a time.
+// Bits of many entries, combined with "or". The rule holds for every entry exactly if they are clear (`banks_clear`, `consoles_clear`). So
+// the loop has no early exit and the compiler can vectorize it.
 pub struct Bits {
     pub low: u64,
     pub high: u64,
@@ -46,7 +46,7 @@ pub struct Bits {
 }
 
 impl Bits {
-    // Those of no entry.
+    // The bits of no entry.
     pub fn none() -> Self
         ensures { λ r. ⌜ r ≡ noBits ⌝ }
     {
@@ -58,7 +58,7 @@ impl Bits {
     }
 }
 
-// The bits with those of one more bank or region. A size of 0 wraps, so it is too high.
+// Adds a bank or region to `bits`. If `size` is 0, size - 1 wraps to a huge number and fails the limit.
 pub fn with_bank(bits: Bits, base: u64, size: u64) -> Bits
     ensures { λ r. ⌜ bankClear r ≡ both (bankClear bits) (bankOk base size) ⌝ }
 {
@@ -71,7 +71,7 @@ pub fn with_bank(bits: Bits, base: u64, size: u64) -> Bits
     }
 }
 
-// The bits with those of one more console, on a page of that minor. Its pages are counted: a product might not fit a word.
+// Adds a console, on a page of minor `minor`, to `bits`. Counts in pages, because 4096 * pages could overflow.
 pub fn with_console(bits: Bits, minor: u64, base: u64, pages: u64, flags: u64) -> Bits
     ensures { λ r. ⌜ consoleClear minor r ≡ both (consoleClear minor bits) (consoleOk minor base pages flags) ⌝ }
 {
@@ -84,7 +84,7 @@ pub fn with_console(bits: Bits, minor: u64, base: u64, pages: u64, flags: u64) -
     }
 }
 
-// Whether the bits of banks or regions are clear.
+// Whether every bank or region in `bits` keeps its rule.
 pub fn banks_clear(bits: Bits) -> bool
     ensures { λ r. ⌜ r ≡ bankClear bits ⌝ }
 {
@@ -100,7 +100,7 @@ pub fn banks_clear(bits: Bits) -> bool
     true
 }
 
-// Whether the bits of consoles on a page of that minor are.
+// Whether every console in `bits`, on a page of minor `minor`, keeps its rule.
 pub fn consoles_clear(bits: Bits, minor: u64) -> bool
     ensures { λ r. ⌜ r ≡ consoleClear minor bits ⌝ }
 {
@@ -119,13 +119,13 @@ pub fn consoles_clear(bits: Bits, minor: u64) -> bool
     true
 }
 
-// What entries were found to be: the sum of their words modulo 2^64, and whether the rule holds of each.
+// The result for several entries: the sum of their words modulo 2^64, and whether every entry keeps its rule.
 struct Found {
     sum: u64,
     ok: bool,
 }
 
-// The sum of n words from an offset on, modulo 2^64.
+// The sum of the `n` words from `at` on, modulo 2^64.
 fn sum_words(page: &[u8], at: usize, n: usize) -> u64
     requires { ⌜ at + 8 * n ≤ length (now page) ⌝ }
     ensures { λ r. ⌜ r ≡ sumAt at n (now (page .entry)) % 2 ^ 64 ⌝ }
@@ -141,7 +141,7 @@ fn sum_words(page: &[u8], at: usize, n: usize) -> u64
     sum
 }
 
-// Count banks or regions at an offset, added and judged in one loop; k is their section.
+// Sums and checks `count` banks or regions of section `k` at `at`, in one loop.
 fn find_banks(page: &[u8], minor: u64, k: usize, at: usize, count: usize) -> Found
     requires { ⌜ (k ≡ 1 → ⊥) × (at + 16 * count ≤ length (now page)) ⌝ }
     ensures { λ r. ⌜ (r .sum ≡ sumAt at (2 * count) (now (page .entry)) % 2 ^ 64) × (r .ok ≡ entriesAt minor k at count (now (page .entry))) ⌝ }
@@ -163,7 +163,7 @@ fn find_banks(page: &[u8], minor: u64, k: usize, at: usize, count: usize) -> Fou
     Found { sum, ok }
 }
 
-// The rule of each of count consoles at an offset.
+// Whether each of the `count` consoles at `at` keeps its rule.
 fn consoles_ok(page: &[u8], minor: u64, at: usize, count: usize) -> bool
     requires { ⌜ at + 48 * count ≤ length (now page) ⌝ }
     ensures { λ r. ⌜ r ≡ entriesAt minor 1 at count (now (page .entry)) ⌝ }
@@ -181,7 +181,7 @@ fn consoles_ok(page: &[u8], minor: u64, at: usize, count: usize) -> bool
     consoles_clear(bits, minor)
 }
 
-// Count consoles at an offset. Added by themselves: their words are too many to be judged in the same loop without loss.
+// Sums and checks `count` consoles at `at`. Two loops, because one loop over all six words of a console is slower.
 fn find_consoles(page: &[u8], minor: u64, at: usize, count: usize) -> Found
     requires { ⌜ at + 48 * count ≤ length (now page) ⌝ }
     ensures { λ r. ⌜ (r .sum ≡ sumAt at (6 * count) (now (page .entry)) % 2 ^ 64) × (r .ok ≡ entriesAt minor 1 at count (now (page .entry))) ⌝ }
@@ -191,8 +191,8 @@ fn find_consoles(page: &[u8], minor: u64, at: usize, count: usize) -> Found
     Found { sum, ok }
 }
 
-// Count entries of section k at an offset. One entry is a call of its own: most boards have one bank or console, and of a number that it
-// knows the compiler makes no loop.
+// Sums and checks `count` entries of section `k` at `at`. Most boards have one bank or console; a constant count of 1 lets the compiler
+// drop the loop.
 fn find(page: &[u8], minor: u64, k: usize, at: usize, count: usize) -> Found
     requires { ⌜ at + size k count ≤ length (now page) ⌝ }
     ensures { λ r. ⌜ (r .sum ≡ sumAt at (wordsPerEntry k * count) (now (page .entry)) % 2 ^ 64) × (r .ok ≡ entriesAt minor k at count (now (page .entry))) ⌝ }
@@ -209,7 +209,7 @@ fn find(page: &[u8], minor: u64, k: usize, at: usize, count: usize) -> Found
     find_banks(page, minor, k, at, count)
 }
 
-// The part of a section's rule that no edition changes, where its array lies within the page.
+// The part of a section's rule that is the same in every edition: count, alignment of the pointer, entries and checksum.
 fn is_sound(
     page: &[u8],
     minor: u64,
@@ -237,7 +237,7 @@ fn is_sound(
     found.ok
 }
 
-// The same for any offset and count: false where the array does not lie within the page.
+// The same for any offset and count. Returns false if the array is not within the page.
 pub fn sound_at(
     page: &[u8],
     minor: u64,

@@ -1,4 +1,4 @@
--- The rule that is named is broken, where it is told: one pass over the definitions, a fact a leaf. Assumes nothing.
+-- The rule that a diagnosis names is broken at the place reported: one pass over the definitions, one fact for each leaf. Assumes nothing.
 use Prim.Native.Nat.{ℕ, zero, suc, _+_, _-_, _*_, _%_, _^_, _≤_, _<_}
 use mathlib.Core.Path.{_≡_, refl, sym, ap, _∙_}
 use mathlib.Core.Bool.{Bool, true, false, false≢true}
@@ -57,12 +57,12 @@ wanted-lt : (c p : ℕ) (ws : List ℕ) → wantedSum c p ws < 2 ^ 64
 unfolding wantedSum
 wanted-lt c p ws = omega arith
 
--- a number of the page from an offset on is one of the page
+-- a number in the page from an offset on is a number in the page
 num-drop : (n from at : ℕ) (page : List ℕ) → numAt n at (drop from page) ≡ numAt n (from + at) page
 unfolding numAt part
 num-drop n from at page = rw (drop-drop at from page)
 
--- ---- what the marks tell: a field of that tag before
+-- ---- what a seen tag implies: a field before has that tag
 abbrev Before : ℕ → List ℕ → ℕ → ℕ → Type 0
 Before from page i u = ((j : ℕ) × (j < i) × (getD page (fieldPlace from page j) 0 ≡ u)) × (1 ≤ u) × (u ≤ 3)
 
@@ -74,7 +74,7 @@ unfolding isSeen noneSeen
 marks-none from page u h =
     either-cases _ _ (λ x. absurd (false≢true (both-r _ _ x))) (λ y. either-cases _ _ (λ x. absurd (false≢true (both-r _ _ x))) (λ x. absurd (false≢true (both-r _ _ x))) y) h
 
--- of one tag: it is this field's, or was seen before
+-- one tag: this field has it, or it was seen before
 one-mark : (u t k : ℕ) (b : Bool) {P : Type 0} → 1 ≤ k → k ≤ 3 → (u ≡ t → 1 ≤ u → u ≤ 3 → P) → (both (eqb u k) b ≡ true → P) → both (eqb u k) (either (eqb t k) b) ≡ true → P
 one-mark u t k b l m f g h =
     let e : u ≡ k = eqb-true _ _ (both-l _ _ h) in
@@ -153,7 +153,7 @@ module _ (r w e base : ℕ) (page : List ℕ) where
   -- ---- a section
   module _ (k : ℕ) (lk : k < sectionCount e) (ls : okTo w e base k page ≡ true) (hc : ltb 0 (countAt k page) ≡ true) (ha : eqb (pointerAt k page % 8) 0 ≡ true)
       (hr : inRange e base k (countAt k page) (pointerAt k page) ≡ true) (hn : firstOf (countAt k page) (entryOf w k (pointerAt k page - base) page) ≡ Clear) where
-    -- with the word that is wanted the section keeps its rule
+    -- with the wanted checksum the section keeps its rule
     wanted-ok : secOk w e base k (mkSec (countAt k page) (pointerAt k page) (wantedSum (countAt k page) (pointerAt k page) (arrayWords base k page)) (secAt base page k .bytes)) ≡ true
     unfolding secOk mkSec secAt wordsIn wordsAt soundOf checkOk wantedSum
     wanted-ok =
@@ -192,7 +192,7 @@ module _ (r w e base : ℕ) (page : List ℕ) where
       hold-first Good (sectionCount e) _ (λ j l c.
       hold-unless Good _ _ _ (λ h. let x = either-none _ _ h in (refl, (leb-false _ _ (x .1), leb-false _ _ (x .0), l, all, apart, (refl, refl)))) (λ g. tt))
 
-  -- ---- the fields: the pointer's offset is where they begin
+  -- ---- the fields, which start at the offset of the pointer
   abbrev start : ℕ
   start = wordAt 8 page - base
 

@@ -1,5 +1,5 @@
--- Nothing is found exactly where the reader's rule holds: of an entry, an array, a section, the overlaps, the fields, the page.
--- Assumes nothing.
+-- There is no fault exactly if the reader's rule holds: for an entry, an array, a section, the overlaps, the fields and the page. Assumes
+-- nothing.
 use Prim.Native.Nat.{ℕ, zero, suc, _+_, _-_, _*_, _≤_, _<_, min}
 use mathlib.Core.Path.{_≡_, refl, sym, ap, _∙_}
 use mathlib.Core.Bool.{Bool, true, false, cond}
@@ -121,7 +121,7 @@ overlaps-clear n page =
 abbrev Walks : ℕ → ℕ → List ℕ → Type 0
 Walks n from bs = (s : Seen) (i at : ℕ) → length bs ≤ at + n → isClear (walkFault n s from i at bs) ≡ endsAt at s bs
 
--- one field: t its tag, m its length
+-- one field: t is its tag, m its length
 module _ (n from : ℕ) (bs : List ℕ) (ih : Walks n from bs) (s : Seen) (i at : ℕ) (h : at < length bs) (r : length bs ≤ at + suc n) (t m : ℕ)
     (ct : getD bs at 0 ≡ t) (cm : numAt 2 (at + 1) bs ≡ m) where
   abbrev Same : Type 0

@@ -1,4 +1,4 @@
--- Laws of the definitions, as the code's turns and returns tell them. Assumes nothing.
+-- Laws of the definitions, in the form that the turns and returns of the code need. Assumes nothing.
 use Prim.Native.Nat.{ℕ, suc, _+_, _-_, _*_, _%_, _^_, _≤_, _<_}
 use mathlib.Core.Path.{_≡_, refl, sym, _∙_}
 use mathlib.Core.Bool.{Bool, true, false, cond}
@@ -36,7 +36,7 @@ unfolding either
 either-true true = refl
 either-true false = refl
 
--- ---- entries one behind the other
+-- ---- entries one after another
 pub place-first : (k at : ℕ) → entryPlace k at 0 ≡ at
 unfolding entryPlace
 place-first k at = omega arith
@@ -72,7 +72,7 @@ module _ (r : Rule) (k off from to : ℕ) (page : List ℕ) (j : ℕ) where
   unfolding clash unless
   clash-at h = rw h
 
--- ---- the fields, turn by turn: t and m were read at the place, and d was told of them
+-- ---- the fields, turn by turn: the code read t and m at the offset, and d is its result for them
 unless-clear : (b : Bool) (f : Fault) (d : Diagnosis) → unless b f d ≡ Clear → b ≡ true
 unfolding unless
 unless-clear true f d h = refl
@@ -110,11 +110,11 @@ pub walk-out : (s : Seen) (from i at : ℕ) (bs : List ℕ) (t m : ℕ) → t �
 unfolding walkFault
 walk-out s from i at bs t m ct cm e = rw (let z : length bs - i ≡ 0 = omega arith in z, ct, cm, e)
 
--- from an offset on, as code lends it
+-- from an offset on, as the code lends it
 pub fields-lent : (from at : ℕ) (bs : List ℕ) → fieldsFault from (take (length bs - at) (drop at bs)) ≡ fieldsFault from (drop at bs)
 fields-lent from at bs = rw (take-all (length bs - at) (drop at bs) (rw length-drop (omega arith)))
 
--- ---- the checksum, by the sums as they were told: u is the word that is wanted
+-- ---- the checksum, given the sums that the code computed: u is the wanted checksum
 wanted-law : (t u : ℕ) → t < 2 ^ 64 → u < 2 ^ 64 → (u + t) % 2 ^ 64 ≡ 0 → u ≡ (2 ^ 64 - t) % 2 ^ 64
 wanted-law t u l m h = omega arith
 
@@ -142,13 +142,13 @@ module _ (k at c p s : ℕ) (page : List ℕ) (n x h t u : ℕ) (cn : n ≡ word
   check-bad l e =
       rw (ne-eqb ((c + p + sum (wordsAt k c at page) + s) % 2 ^ 64) 0 (λ z. e (same-law (c + p + sum (wordsAt k c at page)) t u s told-total cu lu l z)), told-wanted)
 
--- ---- a section by its three words as they were read
+-- ---- a section, given the three words that the code read
 pub told-section : (w e base k : ℕ) (page : List ℕ) (c p s : ℕ) → c ≡ countAt k page → p ≡ pointerAt k page → s ≡ checkAt k page →
     (d : Diagnosis) → d ≡ sectionTests w e base k c p s page → d ≡ sectionFault w e base page k
 unfolding sectionFault
 told-section w e base k page c p s cc' cp cs d h = h ∙ rw (cc', cp, cs)
 
--- the overlaps of an array by its words as they were read
+-- the overlaps of an array, given the words that the code read
 pub told-overlap : (page : List ℕ) (i w c p : ℕ) → w ≡ wordsPerEntry i → c ≡ countAt i page → p ≡ pointerAt i page →
     (d : Diagnosis) → d ≡ firstOf i (clash rule.ArrayOverlap i (24 + 24 * i) p (p + 8 * (w * c)) page) → d ≡ overlap page i
 unfolding overlap

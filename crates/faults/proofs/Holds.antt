@@ -1,4 +1,4 @@
--- What holds of the fault that a diagnosis names, if it names one. Assumes nothing.
+-- A property of the fault that a diagnosis reports, if it reports one. Assumes nothing.
 use Prim.Native.Nat.{ℕ, zero, suc, _<_}
 use mathlib.Core.Path.{_≡_, refl}
 use mathlib.Core.Bool.{Bool, true, false, cond}

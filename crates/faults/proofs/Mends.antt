@@ -1,4 +1,4 @@
--- A page with a section's checksum put in its place: all else of the section stays. Assumes nothing.
+-- A page with the checksum of a section replaced: the rest of the section stays unchanged. Assumes nothing.
 use Prim.Native.Nat.{ℕ, _+_, _-_, _*_, _^_, _≤_, _<_}
 use mathlib.Core.Path.{_≡_, sym, ap, _∙_}
 use mathlib.Core.Bool.{true}
@@ -16,7 +16,7 @@ use Rattle.sections.specs.Page.{countAt, pointerAt, arrayAt, mkSec, secAt}
 use Rattle.sections.specs.Section.{secOk}
 use Rattle.sections.specs.Steps.{okAt}
 
--- a word u put at an offset
+-- the word u written at offset off
 module _ (off u : ℕ) (page : List ℕ) (l : off + 8 ≤ length page) where
   abbrev put : List ℕ
   put = laid off (leBytes 8 u) page
@@ -24,7 +24,7 @@ module _ (off u : ℕ) (page : List ℕ) (l : off + 8 ≤ length page) where
   is-splice : put ≡ splice off (leBytes 8 u) page
   is-splice = put-in 8 off u page l
 
-  -- what stands before it
+  -- the bytes before it
   front-same : take off put ≡ take off page
   front-same = rw is-splice (front-splice off (leBytes 8 u) page (omega arith))
 
@@ -33,7 +33,7 @@ module _ (off u : ℕ) (page : List ℕ) (l : off + 8 ≤ length page) where
   num-before n at h =
       ap (λ x. numAt n x put) (sym (zero-add at)) ∙ sym (num-part n 0 off at put h) ∙ ap (numAt n at) front-same ∙ num-part n 0 off at page h ∙ ap (λ x. numAt n x page) (zero-add at)
 
-  -- what stands behind it
+  -- the bytes after it
   back-same : drop (off + 8) put ≡ drop (off + 8) page
   back-same = rw is-splice (rw (leBytes-length 8 u) at (drop-splice off (leBytes 8 u) page (omega arith)))
 

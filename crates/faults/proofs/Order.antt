@@ -1,4 +1,4 @@
--- Laws of tests put in order: what the code's turns and returns tell of them, and when nothing is found. Assumes nothing.
+-- Laws of tests in order: what the turns and returns of the code imply, and when there is no fault. Assumes nothing.
 use Prim.Native.Nat.{ℕ, zero, suc, _+_, _<_}
 use mathlib.Core.Path.{_≡_, refl, sym, _∙_}
 use mathlib.Core.Bool.{Bool, true, false, cond, false≢true}
@@ -22,7 +22,7 @@ module _ (a b d : Diagnosis) (e : d ≡ a) where
   unfolding orElse
   or-next h r q = rw (← e, h) q
 
--- ---- the first of many, as a loop that counts up goes
+-- ---- the first of many, for a loop that counts up
 pub first-none : (f : ℕ → Diagnosis) → firstOf 0 f ≡ Clear
 unfolding firstOf
 first-none f = refl
@@ -36,7 +36,7 @@ first-at (suc n) f i x l p q = go (decLt i n) (λ m. first-at n f i x m p q)
     go (yes m) r = rw (r m, q)
     go (no m) r = let e : n ≡ i = omega arith in rw (e, p)
 
--- d being what was told of one of them
+-- d is the code's result for f i
 module _ (f : ℕ → Diagnosis) (i : ℕ) (d : Diagnosis) (h : firstOf i f ≡ Clear) (e : d ≡ f i) where
   pub told-more : d ≡ Clear → firstOf (i + 1) f ≡ Clear
   unfolding firstOf orElse
@@ -48,7 +48,7 @@ module _ (f : ℕ → Diagnosis) (i : ℕ) (d : Diagnosis) (h : firstOf i f ≡ 
 pub told-all : (f : ℕ → Diagnosis) (i n : ℕ) → firstOf i f ≡ Clear → i ≡ n → Clear ≡ firstOf n f
 told-all f i n h e = rw (← e) (sym h)
 
--- ---- when nothing is found
+-- ---- when there is no fault
 unfoldable pub isClear : Diagnosis → Bool
 isClear Clear = true
 isClear (At f) = false

@@ -1,5 +1,5 @@
--- Example 4's bank with the plain sum for its checksum: the fault is told with the word that 01 gives. Behind it a size that is no multiple of
--- 4,096 is met first. Assumes nothing.
+-- Example 4's bank with the plain sum as its checksum: the fault reports the checksum that 01 gives. If the size is also not a multiple of
+-- 4,096, the fault is the size, because entries come before the checksum. Assumes nothing.
 use Prim.Native.Nat.{ℕ}
 use mathlib.Core.Path.{_≡_, refl}
 use mathlib.Core.List.{List, _++_}
@@ -18,7 +18,7 @@ use Rattle.faults.specs.Faults.{mkFault, unless, orElse, firstOf, bankFa
 use Rattle.faults.specs.declared.Rule.the-variants as rule
 use Rattle.faults.specs.declared.Diagnosis.the-variants.{At}
 
--- one bank at 0x90000000, by its size and checksum
+-- a page with one bank at 0x90000000, given its size and checksum
 unfoldable pub oneBank : ℕ → ℕ → List ℕ
 oneBank s check =
     leBytes 4 2 ++ leBytes 4 0 ++ leBytes 8 0
@@ -30,7 +30,7 @@ pub sample : (faultOf 4 0x80000000 (oneBank 0x10000000 0x120000029) ≡ At (mkFa
 unfolding oneBank faultOf rulesFault platFault sectionFault sectionTests arrayFault checkFault wantedSum entryOf entryFault bankFault firstOf orElse unless mkFault nothing inRange placeOk wordsAt entryPlace checkOk sum size wordsPerEntry editionOk core sectionCount versionOk aboveOf majorOf minorOf wordsOf numAt part leBytes leOf every either both
 sample = (refl, refl)
 
--- a page of edition 1 with the board name told twice: the second, field 1, stands behind the first, at offset 20
+-- a page of edition 1 with two board names: the second, field 1, follows the first at offset 20
 unfoldable pub twoNames : List ℕ
 twoNames =
     leBytes 4 1 ++ leBytes 4 0 ++ leBytes 8 0x80000010

@@ -1,4 +1,4 @@
--- What is claimed of a diagnosis (specs/Promise.antt). Assumes nothing.
+-- What is proved of every diagnosis (specs/Promise.antt). Assumes nothing.
 use Prim.Native.Nat.{ℕ, _-_, _%_, _^_, _≤_, _<_, min}
 use mathlib.Core.Path.{_≡_, refl, sym, ap, _∙_}
 use mathlib.Core.Bool.{Bool, true, false, false≢true}
@@ -48,7 +48,7 @@ unfolding both
 both-assoc true b c = refl
 both-assoc false b c = refl
 
--- ---- rules apart
+-- ---- different rules are unequal
 unfoldable ruleOf : Diagnosis → Rule
 ruleOf Clear = rule.Length
 ruleOf (At f) = f .rule
@@ -82,7 +82,7 @@ module _ (r base : ℕ) (page : List ℕ) where
   accepted x y q s h =
       clear-is _ (fault-clear r base page ∙ rw (← both-assoc (editionOk r) (versionOk (versionAt page)) (rulesAt w e base page)) (gate-shows _ _ _ _ x y q s (sym gate ∙ h)))
 
-  -- ---- the fault: its rule is broken, and the reader's code is that rule's
+  -- ---- the fault: its rule is broken, and its code is the reader's code
   abbrev Told : Fault → Type 0
   Told f = (readOf r base page ≡ refused (refusalNumber (refusalOf (f .rule)))) × Broken r base page f
 
@@ -134,7 +134,7 @@ module _ (r base : ℕ) (page : List ℕ) where
       (λ f c x. (at-rules p (both-of _ _ o v) (rules-not f c) ∙ ap (λ y. refused (refusalNumber y)) (sym (x .0)), x .1))
       (rules-broken r w e base page)))))
 
-  -- ---- the checksum that is wanted
+  -- ---- the wanted checksum
   length-is : (f : Fault) → faultOf r base page ≡ At f → f .rule ≡ rule.Checksum → length page ≡ 4096
   unfolding faultOf unless mkFault ruleOf
   length-is f h q = go (eqb (length page) 4096) refl
@@ -162,7 +162,7 @@ module _ (r base : ℕ) (page : List ℕ) where
         mends = mends;
       }
 
--- and its number is the reader's code
+-- its number is the reader's code
 diagnosis-number : (r base : ℕ) (page : List ℕ) (d : Diagnosis) → faultOf r base page ≡ d → diagnosisNumber d ≡ codeIn (readOf r base page)
 unfolding diagnosisNumber codeIn allShown
 diagnosis-number r base page Clear h = rw (diagnoses r base page .accepts h)

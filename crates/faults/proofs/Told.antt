@@ -1,4 +1,4 @@
--- The whole page, return by return: what was read and told, and what follows. Assumes nothing.
+-- The whole page, return by return: what the code read and computed, and what follows from it. Assumes nothing.
 use Prim.Native.Nat.{ℕ, _+_, _^_, _<_, min}
 use mathlib.Core.Path.{_≡_, refl, sym, _∙_}
 use mathlib.Core.Bool.{true, false, cond, false≢true}
@@ -60,7 +60,7 @@ module _ (w e base : ℕ) (page : List ℕ) (hp : placeOk base (length page) ≡
       unfolding orElse
       from-sections = from-plat ∙ rw (clear-is _ (plat-clear e base q page ∙ is-plat .0), is-plat .1)
 
-      -- the fields end at an address
+      -- the address after the fields does not wrap
       pub told-top : q + m < 2 ^ 64
       unfolding platAt
       told-top =
@@ -81,7 +81,7 @@ module _ (w e base : ℕ) (page : List ℕ) (hp : placeOk base (length page) ≡
           pub told-overlaps : (r : Diagnosis) → r ≡ orElse (firstOf n (overlap page)) (firstOf n (clash rule.FieldsOverlap 0 8 q (q + m) page)) → r ≡ rulesFault w e base page
           told-overlaps r c = or-next _ _ o (co ∙ rw cn) f r (c ∙ rw cn) ∙ sym from-sections
 
--- past the place, the edition and the version
+-- after length, base, edition and version
 pub told-rules : (r base : ℕ) (page : List ℕ) → length page ≡ 4096 → placeOk base (length page) ≡ true → editionOk r ≡ true → versionOk (versionAt page) ≡ true →
     (w e : ℕ) → w ≡ minorOf (versionAt page) → e ≡ min r w → (d : Diagnosis) → d ≡ rulesFault w e base page → d ≡ faultOf r base page
 unfolding faultOf unless

@@ -1,5 +1,6 @@
--- The first fault of a page, in the order of the reader's checks: which rule, where, what stands there. Each test is the reader's own
--- (crates sections, entries, fields); that no fault is found exactly where the reader accepts is law `clear-accepts`. Assumes nothing.
+-- The first fault of a page, in the order of the reader's checks (RD2, RD6, RD7): the rule, its place in the page, and the word found there.
+-- Each test is the reader's own (crates sections, entries, fields). Law `clear-accepts` proves that there is no fault exactly if the
+-- reader accepts. Assumes nothing.
 use Prim.Native.Nat.{ℕ, zero, suc, _+_, _-_, _*_, _%_, _^_, min}
 use mathlib.Core.Bool.{Bool, true, false, cond, not}
 use mathlib.Core.List.{List}
@@ -27,28 +28,28 @@ use Rattle.faults.specs.declared.Fault.{Fault}
 use Rattle.faults.specs.declared.Diagnosis.{Diagnosis}
 use Rattle.faults.specs.declared.Diagnosis.the-variants.{Clear, At}
 
--- rule, section, index, offset, word found, word wanted
+-- a fault: rule, section, index, offset, word found, word wanted
 unfoldable pub mkFault : Rule → ℕ → ℕ → ℕ → ℕ → ℕ → Fault
 mkFault r k i off x y = record { rule = r; section = k; index = i; offset = off; found = x; wanted = y }
 
 -- ---- how tests are put in order
--- the fault where a test fails, else what follows
+-- the fault f if the test fails, otherwise d
 unfoldable pub unless : Bool → Fault → Diagnosis → Diagnosis
 unless true f d = d
 unless false f d = At f
 
--- the first of two
+-- the first fault of two diagnoses
 unfoldable pub orElse : Diagnosis → Diagnosis → Diagnosis
 orElse Clear d = d
 orElse (At f) d = At f
 
--- the first of f 0, f 1, .. f (n - 1)
+-- the first fault of f 0, f 1, .. f (n - 1)
 unfoldable pub firstOf : ℕ → (ℕ → Diagnosis) → Diagnosis
 firstOf zero f = Clear
 firstOf (suc n) f = orElse (firstOf n f) (f n)
 
--- ---- an entry: the tests of `entryRule`, one by one. The entry is number i of section k and stands at an offset of the page.
--- "bank and region: base and size multiples of 4,096, size not 0, base + size at most 2^52"
+-- ---- an entry: the tests of `entryRule`, one by one. It is entry i of section k, at offset `at` of the page.
+-- "bank and region: base and size multiples of 4,096, size not 0, base + size at most 2^52" (E1 to E4)
 unfoldable pub bankFault : ℕ → ℕ → ℕ → ℕ → ℕ → Diagnosis
 bankFault k i at b s =
     unless (eqb (b % 4096) 0) (mkFault rule.EntryBase k i at b 0)
@@ -56,7 +57,7 @@ bankFault k i at b s =
     (unless (ltb 0 s) (mkFault rule.EntryEmpty k i (at + 8) s 0)
     (unless (leb (b + s) (2 ^ 52)) (mkFault rule.EntryEnd k i (at + 8) s 0) Clear)))
 
--- "console: base a multiple of 4,096, map_pages not 0, base + 4,096 x map_pages at most 2^52, flags 0" on a page of minor w
+-- "console: base a multiple of 4,096, map_pages not 0, base + 4,096 x map_pages at most 2^52, flags 0" on a page of minor w (E1, E3 to E5)
 unfoldable pub consoleFault : ℕ → ℕ → ℕ → ℕ → ℕ → ℕ → ℕ → Diagnosis
 consoleFault w k i at b n f =
     unless (eqb (b % 4096) 0) (mkFault rule.EntryBase k i at b 0)
@@ -64,20 +65,22 @@ consoleFault w k i at b n f =
     (unless (leb (b + 4096 * n) (2 ^ 52)) (mkFault rule.EntryEnd k i (at + 8) n 0)
     (unless (flagsOk w f) (mkFault rule.EntryFlags k i (at + 40) f 0) Clear)))
 
+-- entry i of section k at offset `at` of a page of minor w
 unfoldable pub entryFault : ℕ → ℕ → ℕ → ℕ → List ℕ → Diagnosis
 entryFault w k i at page =
     cond (eqb k 1) (consoleFault w k i at (wordAt at page) (wordAt (at + 8) page) (wordAt (at + 40) page))
     (bankFault k i at (wordAt at page) (wordAt (at + 8) page))
 
--- entry i of the array of section k at an offset
+-- entry i of the array of section k at offset `at`
 unfoldable pub entryOf : ℕ → ℕ → ℕ → List ℕ → ℕ → Diagnosis
 entryOf w k at page i = entryFault w k i (entryPlace k at i) page
 
 -- ---- a section
--- the checksum that count, pointer and the array's words want
+-- the correct checksum for count, pointer and the array's words
 unfoldable pub wantedSum : ℕ → ℕ → List ℕ → ℕ
 wantedSum c p ws = (2 ^ 64 - (c + p + sum ws) % 2 ^ 64) % 2 ^ 64
 
+-- the checksum (S4)
 unfoldable pub checkFault : ℕ → ℕ → ℕ → ℕ → List ℕ → Diagnosis
 checkFault k c p s ws = unless (checkOk c p ws s) (mkFault rule.Checksum k 0 (32 + 24 * k) s (wantedSum c p ws)) Clear
 
@@ -85,7 +88,7 @@ checkFault k c p s ws = unless (checkOk c p ws s) (mkFault rule.Checksum k 0 (32
 unfoldable pub arrayFault : ℕ → ℕ → ℕ → ℕ → ℕ → ℕ → List ℕ → Diagnosis
 arrayFault w k c p s at page = orElse (firstOf c (entryOf w k at page)) (checkFault k c p s (wordsAt k c at page))
 
--- the tests of `secOk`: 24 zero bytes, or count, pointer, place and array
+-- the tests of `secOk` (S1 to S4): 24 zero bytes, or count, pointer, place and array
 unfoldable pub sectionTests : ℕ → ℕ → ℕ → ℕ → ℕ → ℕ → ℕ → List ℕ → Diagnosis
 sectionTests w e base k c p s page =
     cond (nothing c p s) Clear
@@ -93,22 +96,24 @@ sectionTests w e base k c p s page =
     (unless (eqb (p % 8) 0) (mkFault rule.ArrayPointer k 0 (24 + 24 * k) p 0)
     (unless (inRange e base k c p) (mkFault rule.ArrayPlace k 0 (24 + 24 * k) p 0) (arrayFault w k c p s (p - base) page))))
 
+-- section k of a page of minor w, read as edition e
 unfoldable pub sectionFault : ℕ → ℕ → ℕ → List ℕ → ℕ → Diagnosis
 sectionFault w e base page k = sectionTests w e base k (countAt k page) (pointerAt k page) (checkAt k page) page
 
--- ---- overlaps: of the addresses from one up to another, whose pointer stands at an offset, with the array of section j
+-- ---- overlaps: [from, to), whose pointer is at offset off of the page, with the array of section j
 unfoldable pub clash : Rule → ℕ → ℕ → ℕ → ℕ → List ℕ → ℕ → Diagnosis
 clash r k off from to page j = unless (clearAt from to j page) (mkFault r k j off from 0) Clear
 
--- the array of section i with one before it
+-- the array of section i with each array before it, in order (S5)
 unfoldable pub overlap : List ℕ → ℕ → Diagnosis
 overlap page i = firstOf i (clash rule.ArrayOverlap i (24 + 24 * i) (pointerAt i page) (endOf i page) page)
 
--- ---- the fields, which begin at an offset of the page: bs is the page from there on
+-- ---- the fields, which start at an offset of the page: bs is the page from there on
+-- a fault of field i, with tag + 256 * length as the word found
 unfoldable pub fieldFault : Rule → ℕ → ℕ → ℕ → ℕ → Fault
 fieldFault r i off t m = mkFault r 0 i off (t + 256 * m) 0
 
--- field i at an offset of bs, with tag t and length m, those before it having left these marks; n is the length of bs
+-- field i at offset `at` of bs, with tag t and length m; s has the tags of the fields before it, n is the length of bs
 unfoldable pub fieldTests : Seen → ℕ → ℕ → ℕ → ℕ → ℕ → ℕ → Diagnosis
 fieldTests s from i at t m n =
     unless (leb (at + 3 + m) n) (fieldFault rule.NoEndMark i (from + at) t m)
@@ -116,7 +121,7 @@ fieldTests s from i at t m n =
     (unless (lengthOk t m) (fieldFault rule.FieldLength i (from + at) t m)
     (unless (not (isSeen s t)) (fieldFault rule.FieldTwice i (from + at) t m) Clear)))
 
--- at most n fields, up to the end mark: enough where there are no more than n bytes
+-- at most n fields, up to the end mark: enough for at most n bytes
 unfoldable pub walkFault : ℕ → Seen → ℕ → ℕ → ℕ → List ℕ → Diagnosis
 walkFault zero s from i at bs = At (fieldFault rule.NoEndMark i (from + at) (getD bs at 0) (numAt 2 (at + 1) bs))
 walkFault (suc n) s from i at bs =
@@ -124,6 +129,7 @@ walkFault (suc n) s from i at bs =
     let m = numAt 2 (at + 1) bs in
     orElse (fieldTests s from i at t m (length bs)) (cond (eqb t 0) Clear (walkFault n (seenWith s t) from (i + 1) (at + 3 + m) bs))
 
+-- all fields of bs, which starts at offset `from` of the page (F1 to F4)
 unfoldable pub fieldsFault : ℕ → List ℕ → Diagnosis
 fieldsFault from bs = walkFault (length bs) noneSeen from 0 0 bs
 
@@ -134,7 +140,7 @@ platFault e base q page =
     (unless (both (leb (base + core e) q) (ltb q (base + 4096))) (mkFault rule.PlatPointer 0 0 8 q 0) (fieldsFault (q - base) (drop (q - base) page)))
 
 -- ---- the page
--- code -7, of a page of minor w read as edition e
+-- the rules with code -7, for a page of minor w read as edition e
 unfoldable pub rulesFault : ℕ → ℕ → ℕ → List ℕ → Diagnosis
 rulesFault w e base page =
     let q = wordAt 8 page in

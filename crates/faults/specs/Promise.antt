@@ -1,4 +1,4 @@
--- What a diagnosis says of a page, rule by rule, as facts about its bytes. Assumes nothing.
+-- What a diagnosis states about a page, rule by rule, as facts about its bytes. Assumes nothing.
 use Prim.Native.Nat.{ℕ, zero, suc, _+_, _-_, _*_, _%_, _^_, _≤_, _<_, min}
 use mathlib.Core.Bool.{true, false, cond}
 use mathlib.Core.Path.{_≡_}
@@ -23,43 +23,44 @@ use Rattle.faults.specs.declared.Rule.the-variants as rule
 use Rattle.faults.specs.declared.Fault.{Fault}
 use Rattle.faults.specs.declared.Diagnosis.the-variants.{Clear, At}
 
--- the offset of field j of a page, the first being at an offset
+-- the offset of field j of a page whose first field is at offset `from`
 unfoldable pub fieldPlace : ℕ → List ℕ → ℕ → ℕ
 fieldPlace from page zero = from
 fieldPlace from page (suc j) = fieldPlace from page j + 3 + numAt 2 (fieldPlace from page j + 1) page
 
--- what the second word of an entry counts: bytes of a bank or region, pages of a console
+-- the unit of the second word of an entry: 1 byte for a bank or region, 4,096 for the pages of a console
 unfoldable pub unit : ℕ → ℕ
 unit k = cond (eqb k 1) 4096 1
 
--- the array's words of section k
+-- the words of the array of section k
 abbrev pub arrayWords : ℕ → ℕ → List ℕ → List ℕ
 arrayWords base k page = wordsAt k (countAt k page) (pointerAt k page - base) page
 
--- the offset, and the word there
+-- the fault reports offset n and the word there
 abbrev pub WordAt : List ℕ → ℕ → Fault → Type 0
 WordAt page n f = (f .offset ≡ n) × (f .found ≡ wordAt n page)
 
+-- the fault reports offset n and the 4 bytes there
 abbrev pub HalfAt : List ℕ → ℕ → Fault → Type 0
 HalfAt page n f = (f .offset ≡ n) × (f .found ≡ halfAt n page)
 
--- the section is the first of the edition that breaks its rule by itself, and this is a word of its core
+-- the section is the first of the edition that breaks its rule by itself, and the fault reports the word at n + 24 * section
 abbrev pub InSection : ℕ → ℕ → ℕ → List ℕ → ℕ → Fault → Type 0
 InSection w e base page n f = (f .section < sectionCount e) × (okTo w e base (f .section) page ≡ true) × WordAt page (n + 24 * f .section) f
 
--- the entry is the first of that section that breaks its rule, and this is word d of it
+-- the entry is the first of its section that breaks its rule, and the fault reports word d of it
 abbrev pub InEntry : ℕ → ℕ → ℕ → List ℕ → ℕ → Fault → Type 0
 InEntry w e base page d f =
     (f .section < sectionCount e) × (okTo w e base (f .section) page ≡ true) × (f .index < countAt (f .section) page)
     × (entriesAt w (f .section) (pointerAt (f .section) page - base) (f .index) page ≡ true)
     × WordAt page (entryPlace (f .section) (pointerAt (f .section) page - base) (f .index) + 8 * d) f
 
--- it is the field that is told: its tag and its length
+-- the fault reports field `index`: its offset, and tag + 256 * length
 abbrev pub InField : ℕ → List ℕ → Fault → Type 0
 InField base page f =
     (f .offset ≡ fieldPlace (wordAt 8 page - base) page (f .index)) × (f .found ≡ getD page (f .offset) 0 + 256 * numAt 2 (f .offset + 1) page)
 
--- the broken rule, of a page of minor w that a reader of edition r reads as edition e
+-- the rule is broken, for a page of minor w that a reader of edition r reads as edition e
 abbrev pub BrokenAs : Rule → ℕ → ℕ → ℕ → ℕ → List ℕ → Fault → Type 0
 BrokenAs rule.Length r w e base page f = (length page ≡ 4096 → ⊥) × (f .found ≡ length page)
 BrokenAs rule.Base r w e base page f = ((0 < base) × (base % 4096 ≡ 0) × (base ≤ 2 ^ 52 - 4096) → ⊥) × (f .found ≡ base)
@@ -82,7 +83,7 @@ BrokenAs rule.EntrySize r w e base page f = (f .found % 4096 ≡ 0 → ⊥) × I
 BrokenAs rule.EntryEmpty r w e base page f = (f .found ≡ 0) × InEntry w e base page 1 f
 BrokenAs rule.EntryEnd r w e base page f = (2 ^ 52 < wordAt (f .offset - 8) page + unit (f .section) * f .found) × InEntry w e base page 1 f
 BrokenAs rule.EntryFlags r w e base page f = (f .found ≡ 0 → ⊥) × (w ≤ 4) × InEntry w e base page 5 f
--- with the word that is wanted the section keeps its rule
+-- with the wanted checksum the section keeps its rule
 BrokenAs rule.Checksum r w e base page f =
     ((countAt (f .section) page + pointerAt (f .section) page + sum (arrayWords base (f .section) page) + f .found) % 2 ^ 64 ≡ 0 → ⊥)
     × (f .wanted < 2 ^ 64) × (base + core e ≤ pointerAt (f .section) page)
@@ -95,17 +96,19 @@ BrokenAs rule.FieldsOverlap r w e base page f =
     (f .found < endOf (f .index) page) × (pointerAt (f .index) page < f .found + taken (foundAt base page (f .found))) × (f .index < sectionCount e)
     × (okTo w e base (sectionCount e) page ≡ true) × (apartTo (sectionCount e) page ≡ true) × WordAt page 8 f
 
+-- the fault's rule is broken
 abbrev pub Broken : ℕ → ℕ → List ℕ → Fault → Type 0
 Broken r base page f = BrokenAs (f .rule) r (minorOf (versionAt page)) (min r (minorOf (versionAt page))) base page f
 
+-- what is proved of every diagnosis
 pub record Diagnoses (r base : ℕ) (page : List ℕ) : Type 0 where
-  -- no fault exactly where the reader accepts, and then it shows the page
+  -- no fault exactly if the reader accepts, and then it shows the page
   pub accepts : faultOf r base page ≡ Clear → readOf r base page ≡ allShown (minorOf (versionAt page)) (min r (minorOf (versionAt page))) (platAt base page) (secAt base page)
   pub accepted : (w e : ℕ) (q : PlatShown) (s : ℕ → Shown) → readOf r base page ≡ shows w e q s → faultOf r base page ≡ Clear
   -- the rule's code is the reader's
   pub code : (f : Fault) → faultOf r base page ≡ At f → readOf r base page ≡ refused (refusalNumber (refusalOf (f .rule)))
-  -- the rule is broken, where it is told
+  -- the rule is broken at the place reported
   pub broken : (f : Fault) → faultOf r base page ≡ At f → Broken r base page f
-  -- the word that is wanted, put in its place, makes the section keep its rule
+  -- the wanted checksum, written at the offset, makes the section keep its rule
   pub mends : (f : Fault) → faultOf r base page ≡ At f → f .rule ≡ rule.Checksum →
       okAt (minorOf (versionAt page)) (min r (minorOf (versionAt page))) base (f .section) (laid (f .offset) (leBytes 8 (f .wanted)) page) ≡ true

@@ -1,4 +1,5 @@
-// The first fault of a manifest's page, for the field: which rule is broken, where it lies, and the word that stands there.
+// The first fault of a manifest page: the broken rule, its place in the page, and the word found there. Names, order and contents are in
+// docs/RULES.md, chapter 5.
 use fields::FieldsEnd;
 use fields::Seen;
 use versions::Edition;
@@ -18,7 +19,7 @@ ghost use Rattle.faults.specs.Faults.{mkFault, orElse, firstOf, bankFaul
 ghost use Rattle.faults.specs.declared.Diagnosis.the-variants.{At};
 ghost use Rattle.faults.specs.declared.Rule.the-variants.{FieldsOverlap};
 
-// The rules in the order of the checks: -5 the first two, -6 the next two, -7 all others.
+// The rules in the order of the checks, P1 to F5. The code is -5 for the first two, -6 for the next two and -7 for all others.
 pub enum Rule {
     Length,
     Base,
@@ -43,9 +44,9 @@ pub enum Rule {
     FieldsOverlap,
 }
 
-// A broken rule. Section and index are 0 where the rule is of no section or entry. The index is that of the entry or the field; of an
-// overlap it is the section whose array is met. Found is the word at the offset; of a field its tag and length, of the page's length,
-// the base and the edition the number itself. Wanted is the right word of a checksum, and 4,096 for a length; else 0.
+// A broken rule. `section` and `index` are 0 if the rule has none. `index` is the number of the entry or field; for an overlap it is the
+// section whose array is hit. `found` is the word at `offset`; for a field it is tag + 256 * length; for the page's length, the base and
+// the edition it is that number. `wanted` is the correct checksum, 4,096 for a length, otherwise 0.
 pub struct Fault {
     pub rule: Rule,
     pub section: u8,
@@ -55,11 +56,13 @@ pub struct Fault {
     pub wanted: u64,
 }
 
+// The result of a diagnosis: no fault, or the first one.
 pub enum Diagnosis {
     Clear,
     At(Fault),
 }
 
+// A fault with these values.
 fn found_at(
     rule: Rule,
     section: u8,
@@ -80,7 +83,7 @@ fn found_at(
     })
 }
 
-// The first rule that bank or region i at an offset breaks.
+// The first rule that bank or region `i` at offset `at` breaks.
 fn bank_fault(k: u8, i: usize, at: usize, base: u64, size: u64) -> Diagnosis
     requires { ⌜ at < 0x1000 ⌝ }
     ensures { λ r. ⌜ r ≡ bankFault k i at base size ⌝ }
@@ -103,7 +106,7 @@ fn bank_fault(k: u8, i: usize, at: usize, base: u64, size: u64) -> Diagnosis
     Diagnosis::Clear
 }
 
-// The first rule that console i at an offset breaks, on a page of that minor.
+// The first rule that console `i` at offset `at` breaks, on a page of minor `minor`.
 fn console_fault(
     minor: u64,
     k: u8,
@@ -137,7 +140,7 @@ fn console_fault(
     Diagnosis::Clear
 }
 
-// The first rule that entry i of section k at an offset breaks.
+// The first rule that entry `i` of section `k` at offset `at` breaks.
 fn entry_fault(page: &[u8], minor: u64, k: u8, i: usize, at: usize) -> Diagnosis
     requires { ⌜ at < 0x1000 ⌝ }
     ensures { λ r. ⌜ r ≡ entryFault minor k i at (now (page .entry)) ⌝ }
@@ -158,7 +161,7 @@ fn entry_fault(page: &[u8], minor: u64, k: u8, i: usize, at: usize) -> Diagnosis
     bank_fault(k, i, at, first, second)
 }
 
-// The same of each of count entries in order.
+// The first fault of `count` entries, in order.
 fn entries_fault(page: &[u8], minor: u64, k: u8, at: usize, count: usize) -> Diagnosis
     requires { ⌜ at + size k count ≤ 0x1000 ⌝ }
     ensures { λ r. ⌜ r ≡ firstOf count (entryOf minor k at (now (page .entry))) ⌝ }
@@ -175,7 +178,7 @@ fn entries_fault(page: &[u8], minor: u64, k: u8, at: usize, count: usize) -> Dia
     Diagnosis::Clear
 }
 
-// The sum of n words from an offset on, modulo 2^64.
+// The sum of the `n` words from `at` on, modulo 2^64.
 fn sum_words(page: &[u8], at: usize, n: usize) -> u64
     requires { ⌜ at + 8 * n ≤ 0x1000 ⌝ }
     ensures { λ r. ⌜ r ≡ sumAt at n (now (page .entry)) % 2 ^ 64 ⌝ }
@@ -189,7 +192,7 @@ fn sum_words(page: &[u8], at: usize, n: usize) -> u64
     sum
 }
 
-// The checksum of section k, with the one that is wanted.
+// Checks the checksum of section `k`. The fault reports the correct one as `wanted`.
 fn check_fault(page: &[u8], k: u8, at: usize, count: u64, pointer: u64, check: u64) -> Diagnosis
     requires { ⌜ at + size k count ≤ 0x1000 ⌝ }
     ensures { λ r. ⌜ r ≡ checkFault k count pointer check (wordsAt k count at (now (page .entry))) ⌝ }
@@ -204,7 +207,7 @@ fn check_fault(page: &[u8], k: u8, at: usize, count: u64, pointer: u64, check: u
     Diagnosis::Clear
 }
 
-// The array of section k: its entries in order, then its checksum.
+// The first fault of the array of section `k`: its entries in order, then its checksum.
 fn array_fault(
     page: &[u8],
     minor: u64,
@@ -224,7 +227,7 @@ fn array_fault(
     check_fault(page, k, at, count, pointer, check)
 }
 
-// The first rule that section k breaks by itself, on a page of that minor read as edition e.
+// The first rule that section `k` by itself breaks, on a page of minor `minor` read as edition `e`.
 fn section_fault(page: &[u8], base: u64, minor: u64, e: Edition, k: u8) -> Diagnosis
     requires { ⌜ base ≤ 0x10_0000_0000_0000 ⌝ }
     ensures { λ r. ⌜ r ≡ sectionFault minor (e .minor) base (now (page .entry)) k ⌝ }
@@ -255,7 +258,7 @@ fn section_fault(page: &[u8], base: u64, minor: u64, e: Edition, k: u8) -> Diagn
     )
 }
 
-// Whether an array lies wholly between the core and the page's end.
+// Whether an array is wholly in [base + core size, base + 4096).
 fn is_placed(base: u64, e: Edition, k: u8, count: u64, pointer: u64) -> bool
     requires { ⌜ base ≤ 0x10_0000_0000_0000 ⌝ }
     ensures { λ r. ⌜ r ≡ inRange (e .minor) base k count pointer ⌝ }
@@ -269,7 +272,7 @@ fn is_placed(base: u64, e: Edition, k: u8, count: u64, pointer: u64) -> bool
     entries::fits(k as usize, count, base + 4096 - pointer)
 }
 
-// Each of the first n sections in order.
+// The first fault of the first `n` sections, each by itself.
 fn sections_fault(page: &[u8], base: u64, minor: u64, e: Edition, n: u8) -> Diagnosis
     requires { ⌜ base ≤ 0x10_0000_0000_0000 ⌝ }
     ensures { λ r. ⌜ r ≡ firstOf n (sectionFault minor (e .minor) base (now (page .entry))) ⌝ }
@@ -283,7 +286,7 @@ fn sections_fault(page: &[u8], base: u64, minor: u64, e: Edition, n: u8) -> Diag
     Diagnosis::Clear
 }
 
-// The first of n arrays that shares an address from one up to another; the pointer to these stands at an offset.
+// The first of `n` arrays that overlaps [from, to). The fault reports `offset`, where the page holds the pointer `from`.
 fn clash_fault(
     page: &[u8],
     rule: Rule,
@@ -303,7 +306,7 @@ fn clash_fault(
     Diagnosis::Clear
 }
 
-// The array of section i with those before it.
+// The first overlap of the array of section `i` with one before it.
 fn overlap_fault(page: &[u8], i: u8) -> Diagnosis
     requires { ⌜ endOf i (now page) < 0x1_0000_0000_0000_0000 ⌝ }
     ensures { λ r. ⌜ r ≡ overlap (now (page .entry)) i ⌝ }
@@ -322,6 +325,7 @@ fn overlap_fault(page: &[u8], i: u8) -> Diagnosis
     )
 }
 
+// The first overlap among the first `n` arrays.
 fn overlaps_fault(page: &[u8], n: u8) -> Diagnosis
     requires { ⌜ (n ≤ 4) × ((k : ℕ) → k < n → endOf k (now page) < 0x1_0000_0000_0000_0000) ⌝ }
     ensures { λ r. ⌜ r ≡ firstOf n (overlap (now (page .entry))) ⌝ }
@@ -335,7 +339,7 @@ fn overlaps_fault(page: &[u8], n: u8) -> Diagnosis
     Diagnosis::Clear
 }
 
-// The byte and the two-byte number at an offset. A byte past the end counts as 0.
+// The byte at `at`, or 0 past the end.
 fn byte_at(s: &[u8], at: usize) -> u8
     ensures { λ r. ⌜ r ≡ getD (now (s .entry)) at 0 ⌝ }
 {
@@ -345,6 +349,7 @@ fn byte_at(s: &[u8], at: usize) -> u8
     s[at]
 }
 
+// The two-byte number at `at`. Bytes past the end count as 0.
 fn pair_at(s: &[u8], at: usize) -> usize
     requires { ⌜ at ≤ 0x1001 ⌝ }
     ensures { λ r. ⌜ (r ≡ numAt 2 at (now (s .entry))) × (r < 0x1_0000) ⌝ }
@@ -352,6 +357,7 @@ fn pair_at(s: &[u8], at: usize) -> usize
     (byte_at(s, at) as usize) + (byte_at(s, at + 1) as usize) * 0x100
 }
 
+// A fault of field `i`, with tag + 256 * length as the word found.
 fn field_found(rule: Rule, i: usize, offset: usize, tag: u8, len: usize) -> Diagnosis
     requires { ⌜ len < 0x1_0000 ⌝ }
     ensures { λ r. ⌜ r ≡ At (fieldFault rule i offset tag len) ⌝ }
@@ -360,7 +366,7 @@ fn field_found(rule: Rule, i: usize, offset: usize, tag: u8, len: usize) -> Diag
     found_at(rule, 0, i, offset, found, 0)
 }
 
-// The first rule that field i breaks, which stands at an offset of n bytes. These begin at an offset of the page.
+// The first rule that field `i` breaks. The field is at `at` of the `n` bytes that start at offset `from` of the page.
 fn field_fault(
     seen: Seen,
     from: usize,
@@ -392,7 +398,7 @@ fn field_fault(
     Diagnosis::Clear
 }
 
-// The fields in order, up to their end mark.
+// The first fault of the fields in order, up to their end mark. `part` starts at offset `from` of the page.
 fn fields_fault(part: &[u8], from: usize) -> Diagnosis
     requires { ⌜ (from ≤ 0x1000) × (length (now part) ≤ 0x1000) ⌝ }
     ensures { λ r. ⌜ r ≡ fieldsFault from (now (part .entry)) ⌝ }
@@ -421,7 +427,7 @@ fn fields_fault(part: &[u8], from: usize) -> Diagnosis
     )
 }
 
-// The platform pointer, and the fields that it points at.
+// The first fault of the platform pointer and its fields.
 fn plat_fault(page: &[u8], base: u64, e: Edition, plat: u64) -> Diagnosis
     requires { ⌜ (length (now page) ≡ 4096) × (base ≤ 0x10_0000_0000_0000) ⌝ }
     ensures { λ r. ⌜ r ≡ platFault (e .minor) base plat (now (page .entry)) ⌝ }
@@ -439,7 +445,8 @@ fn plat_fault(page: &[u8], base: u64, e: Edition, plat: u64) -> Diagnosis
     fields_fault(&page[at..], at)
 }
 
-// The arrays and the fields, which end at an address, where each by itself is good.
+// The first overlap, if each section and the fields are good by themselves: of two arrays, then of the fields, which are at [plat, end),
+// and an array.
 fn overlaps(page: &[u8], plat: u64, end: u64, n: u8) -> Diagnosis
     requires { ⌜ (n ≤ 4) × ((k : ℕ) → k < n → endOf k (now page) < 0x1_0000_0000_0000_0000) ⌝ }
     ensures { λ r. ⌜ r ≡ orElse (firstOf n (overlap (now (page .entry)))) (firstOf n (clash FieldsOverlap 0 8 plat end (now (page .entry)))) ⌝ }
@@ -451,7 +458,7 @@ fn overlaps(page: &[u8], plat: u64, end: u64, n: u8) -> Diagnosis
     clash_fault(page, Rule::FieldsOverlap, 0, 8, plat, end, n)
 }
 
-// The first fault of a page of that minor, read as edition e. Its place is good.
+// The first fault with code -7 of a page of minor `minor`, read as edition `e`.
 fn rules_fault(page: &[u8], base: u64, minor: u64, e: Edition) -> Diagnosis
     requires { ⌜ placeOk base (length (now page)) ≡ true ⌝ }
     ensures { λ r. ⌜ r ≡ rulesFault minor (e .minor) base (now (page .entry)) ⌝ }
@@ -473,7 +480,7 @@ fn rules_fault(page: &[u8], base: u64, minor: u64, e: Edition) -> Diagnosis
     overlaps(page, plat, plat + (taken as u64), n)
 }
 
-// The first fault that a reader of an edition finds in a lent page at a base, in the order of its checks; or that there is none.
+// The first fault that a reader of `edition` finds in a lent page at `base`, in the order of its checks; `Clear` if the page has no fault.
 pub fn first_fault(page: &[u8], base: u64, edition: u64) -> Diagnosis
     ensures { λ r. ⌜ r ≡ faultOf edition base (now (page .entry)) ⌝ }
     ensures { λ r. ⌜ diagnosisNumber r ≡ codeIn (readOf edition base (now (page .entry))) ⌝ }

@@ -59,7 +59,7 @@ told-yes (ended fs m) n h = refl
 told-yes (bare fs) n h = never (cc)
 
 module _ (page : List ℕ) (v : View) where
-  -- the cursor that a walk starts from
+  -- the cursor at which a walk starts
   pub start-none : v .plat ≡ 0 → length page ≡ startAt (v .plat) page
   unfolding startAt
   start-none z = rw (eq-eqb (v .plat) 0 z)
@@ -82,7 +82,7 @@ module _ (page : List ℕ) (v : View) where
       rw (← start-there z n h)
       (no-fields page v (fieldsFrom (v .plat % 4096) page) (ap fieldsIn (fields-some (v .plat) page z) ∙ sym (from-told (v .plat % 4096) page n h)))
 
-  -- and passes the fields that are shown
+  -- the walk passes the fields that are shown
   pub started : shownFrom (startAt (v .plat) page) page ≡ fieldsShown (readingAnswer page (Accepted v))
   unfolding shownFrom
   started = go (decLt 0 (v .plat))
@@ -93,7 +93,7 @@ module _ (page : List ℕ) (v : View) where
           let z : v .plat ≡ 0 = omega arith in
           rw (← start-none z) (no-fields page v (fieldsFrom (length page) page) (fields-none (v .plat) page z ∙ sym (from-out (length page) page (omega arith))))
 
-  -- ---- how many
+  -- ---- the number of fields
   shown-length : (fs : List Field) → length (shownFields fs) ≡ length fs
   unfolding shownFields
   shown-length [] = refl
@@ -125,19 +125,19 @@ step-shown at page =
     (λ x l r h. rw h (refl, refl))
     (λ t v m x r. rw (r .shown, le-leb (v + m) (length page) (omega (arith, r .next, r .within))) (refl, refl))
 
--- what the code's step promises, by its equation
+-- what the code's step promises, from its equation
 pub stepped : (at : ℕ) (page : List ℕ) (s : FieldStep) → s ≡ stepAt at page →
     (s ≡ stepAt at page) × ((fieldAs (s .field) page ≡ firstIn (shownFrom at page)) × (shownFrom (s .next) page ≡ restIn (shownFrom at page)))
 stepped at page s h =
     (h, (ap (λ (x : FieldStep). fieldAs (x .field) page) h ∙ step-shown at page .0, ap (λ (x : FieldStep). shownFrom (x .next) page) h ∙ step-shown at page .1))
 
--- what a place that stands for a field shows
+-- the field that is shown at a place
 unfoldable pub placeShown : FieldPlace → List ℕ → FieldShown
 placeShown (Raw t at n) page = raw t (part at n page)
 placeShown Withdrawn page = withdrawn
 placeShown Nothing page = withdrawn
 
--- a field there is the first of those left
+-- a field at the cursor is the first of those left
 some-by : (at : ℕ) (page : List ℕ) → isNothing (stepAt at page .field) ≡ false →
     (fieldAs (stepAt at page .field) page ≡ field (placeShown (stepAt at page .field) page))
     × (shownFrom at page ≡ placeShown (stepAt at page .field) page ∷ shownFrom (stepAt at page .next) page)
@@ -155,11 +155,11 @@ module _ (at : ℕ) (page : List ℕ) (h : isNothing (stepAt at page .field) ≡
   pub step-first : fieldAs (stepAt at page .field) page ≡ field (placeShown (stepAt at page .field) page)
   step-first = some-by at page h .0
 
-  -- a walk comes to its end
+  -- each step leaves fewer fields, so a walk ends
   pub step-less : length (shownFrom (stepAt at page .next) page) < length (shownFrom at page)
   step-less = rw step-some (omega arith)
 
--- no field there: none is left
+-- no field at the cursor: none is left
 first-none : (fs : List FieldShown) → noField ≡ firstIn fs → fs ≡ []
 unfolding firstIn
 first-none [] h = refl
@@ -175,7 +175,7 @@ pub step-none : (at : ℕ) (page : List ℕ) → isNothing (stepAt at page .fiel
 unfolding fieldAs
 step-none at page h = first-none (shownFrom at page) (sym (ap (λ f. fieldAs f page) (nothing-is _ h)) ∙ step-shown at page .0)
 
--- ---- field i, as a loop goes
+-- ---- field i, for the loop
 none-step : (at : ℕ) (page : List ℕ) → shownFrom at page ≡ [] → stepAt at page .field ≡ Nothing
 unfolding shownFrom
 none-step at page =
@@ -211,7 +211,7 @@ pub nth-place : (i : ℕ) (v : View) (page : List ℕ) → fieldAs (nthPlace i v
 unfolding nthPlace
 nth-place i v page = nth-shown i (startAt (v .plat) page) page ∙ ap (nthIn i) (started page v)
 
--- ---- the first field of a tag, as a loop goes
+-- ---- the first field with a tag, for the loop
 pub eqb-sym : (m n : ℕ) → eqb m n ≡ eqb n m
 eqb-sym m n = same-test (eqb m n) (eqb n m) (λ h. eq-eqb n m (sym (eqb-true m n h))) (λ h. eq-eqb m n (sym (eqb-true n m h)))
 

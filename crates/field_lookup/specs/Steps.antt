@@ -11,35 +11,36 @@ use Rattle.fields.specs.declared.FieldPlace.{FieldPlace}
 use Rattle.fields.specs.declared.FieldPlace.the-variants.{Raw, Withdrawn, Nothing}
 use Rattle.reader.specs.declared.View.{View}
 
--- the fields that are left at a cursor
+-- the fields from cursor `at` on
 unfoldable pub shownFrom : ℕ → List ℕ → List FieldShown
 shownFrom at page = shownFields (fieldsFrom at page)
 
--- the cursor at the first field of a platform pointer; the page's length where there is no pointer, or broken fields
+-- the cursor at the first field of platform pointer q; the page's length if there is no pointer or the fields are broken
 unfoldable pub startAt : ℕ → List ℕ → ℕ
 startAt q page = cond (eqb q 0) (length page) (cond (isEnded (scanOf (drop (q % 4096) page))) (q % 4096) (length page))
 
--- where field i from a cursor on lies
+-- the place of field i, counted from cursor `at`
 unfoldable pub placeNth : ℕ → ℕ → List ℕ → FieldPlace
 placeNth zero at page = stepAt at page .field
 placeNth (suc i) at page = placeNth i (stepAt at page .next) page
 
--- a search for a tag ends at a field that has it, and where no field is left
+-- a search for tag t ends at this field: it has the tag, or no field is left
 unfoldable pub searchEnds : ℕ → FieldPlace → Bool
 searchEnds t (Raw u v m) = eqb u t
 searchEnds t Withdrawn = eqb 3 t
 searchEnds t Nothing = true
 
--- where the first of the next n fields with a tag lies
+-- the place of the first of the next n fields with tag t
 unfoldable pub placeTagged : ℕ → ℕ → ℕ → List ℕ → FieldPlace
 placeTagged t zero at page = Nothing
 placeTagged t (suc n) at page =
     let s = stepAt at page in
     cond (searchEnds t (s .field)) (s .field) (placeTagged t n (s .next) page)
 
--- the same of a view
+-- the place of field i of a view
 unfoldable pub nthPlace : ℕ → View → List ℕ → FieldPlace
 nthPlace i v page = placeNth i (startAt (v .plat) page) page
 
+-- the place of the first field of a view with tag t
 unfoldable pub tagPlace : ℕ → View → List ℕ → FieldPlace
 tagPlace t v page = placeTagged t (length (shownFrom (startAt (v .plat) page) page)) (startAt (v .plat) page) page

@@ -1,4 +1,4 @@
-// The fields of the platform data, as they are asked for of a view and its page: by number, by tag, and by a cursor that walks over them.
+// Lookups in the fields of the platform data (FD10), given a view and its page: by number, by tag, and with a cursor that walks over them.
 use fields::FieldPlace;
 use fields::FieldStep;
 use fields::FieldsEnd;
@@ -14,8 +14,8 @@ ghost use Rattle.reader.specs.Reading.{readingAnswer};
 ghost use Rattle.field_lookup.specs.Fields.{firstIn, restIn, nthIn, ofTag, valueIn, fieldAs, isNothing, placeSpan};
 ghost use Rattle.field_lookup.specs.Steps.{searchEnds, shownFrom, startAt, nthPlace, tagPlace};
 
-// The cursor at the first field of a view: the page's length where the view has no pointer or, of a view that no reading made, where it
-// points at broken fields.
+// The cursor at the first field of a view. It is the page's length if the view has no pointer, or if a hand-written view points at broken
+// fields.
 pub fn fields_start(page: &[u8], view: View) -> usize
     ensures { λ r. ⌜ r ≡ startAt (view .plat) (now (page .entry)) ⌝ }
     ensures { λ r. ⌜ shownFrom r (now (page .entry)) ≡ fieldsShown (readingAnswer (now (page .entry)) (Reading.Accepted view)) ⌝ }
@@ -32,7 +32,7 @@ pub fn fields_start(page: &[u8], view: View) -> usize
     at
 }
 
-// The field at a cursor, and the cursor behind it: a walk from the first field passes all of them, in page order.
+// The field at `cursor`, and the cursor after it. A walk from the first field passes all fields, in page order.
 pub fn field_next(page: &[u8], cursor: usize) -> FieldStep
     ensures { λ r. ⌜ r ≡ stepAt cursor (now (page .entry)) ⌝ }
     ensures { λ r. ⌜ fieldAs (r .field) (now (page .entry)) ≡ firstIn (shownFrom cursor (now (page .entry))) ⌝ }
@@ -41,7 +41,7 @@ pub fn field_next(page: &[u8], cursor: usize) -> FieldStep
     fields::step_at(page, cursor)
 }
 
-// How many fields a view shows.
+// The number of fields that a view shows.
 pub fn field_count(page: &[u8], view: View) -> usize
     ensures { λ r. ⌜ r ≡ length (fieldsShown (readingAnswer (now (page .entry)) (Reading.Accepted view))) ⌝ }
 {
@@ -56,7 +56,7 @@ pub fn field_count(page: &[u8], view: View) -> usize
     fields::count(&page[at..])
 }
 
-// Whether there is no such field.
+// Whether `field` is `Nothing`.
 pub fn is_nothing(field: FieldPlace) -> bool
     ensures { λ r. ⌜ r ≡ isNothing field ⌝ }
 {
@@ -71,7 +71,7 @@ pub fn is_nothing(field: FieldPlace) -> bool
     }
 }
 
-// Field i of a view, in page order.
+// Field `i` of a view, in page order; `Nothing` if there is no such field.
 pub fn field_of(page: &[u8], view: View, i: usize) -> FieldPlace
     ensures { λ r. ⌜ r ≡ nthPlace i view (now (page .entry)) ⌝ }
     ensures { λ r. ⌜ fieldAs r (now (page .entry)) ≡ nthIn i (fieldsShown (readingAnswer (now (page .entry)) (Reading.Accepted view))) ⌝ }
@@ -92,7 +92,7 @@ pub fn field_of(page: &[u8], view: View, i: usize) -> FieldPlace
     }
 }
 
-// Whether a search for a tag ends at a field: it has the tag, or there is none.
+// Whether a search for `tag` ends at this field: it has the tag, or no field is left.
 fn search_ends(field: FieldPlace, tag: u8) -> bool
     ensures { λ r. ⌜ r ≡ searchEnds tag field ⌝ }
 {
@@ -107,7 +107,7 @@ fn search_ends(field: FieldPlace, tag: u8) -> bool
     }
 }
 
-// The first field of a view with a tag: the board name has tag 1, the serial tag 2, the withdrawn field tag 3.
+// The first field of a view with this tag: 1 is the board name, 2 the serial, 3 the withdrawn field.
 pub fn field_of_tag(page: &[u8], view: View, tag: u8) -> FieldPlace
     ensures { λ r. ⌜ r ≡ tagPlace tag view (now (page .entry)) ⌝ }
     ensures { λ r. ⌜ fieldAs r (now (page .entry)) ≡ ofTag tag (fieldsShown (readingAnswer (now (page .entry)) (Reading.Accepted view))) ⌝ }
@@ -123,7 +123,7 @@ pub fn field_of_tag(page: &[u8], view: View, tag: u8) -> FieldPlace
     }
 }
 
-// Where the value of a field lies; nowhere where none is shown.
+// The span of a field's value; empty if no value is shown.
 fn span_of(field: FieldPlace) -> Span
     ensures { λ r. ⌜ r ≡ placeSpan field ⌝ }
 {
@@ -134,7 +134,7 @@ fn span_of(field: FieldPlace) -> Span
     }
 }
 
-// The value of a field, as the part of the page that holds it; empty where none is shown.
+// The value of a field, as a part of the page itself; empty if no value is shown.
 pub fn value_of(page: &[u8], field: FieldPlace) -> &[u8]
     ensures { λ r. ⌜ now r ≡ valueIn (fieldAs field (now (page .entry))) ⌝ }
     ensures { λ r. ⌜ r .ptr ≡ onFrom (page .entry .ptr) (spanStart (placeSpan field) (now (page .entry))) ⌝ }

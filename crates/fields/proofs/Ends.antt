@@ -1,4 +1,5 @@
--- Whether fields end in a mark from a place on, field by field: the laws of `Stops` for crates that see no head and no stop. Assumes nothing.
+-- Whether the fields from an offset on end with a mark, field by field: the laws of `Stops` for crates that cannot see the private `Head`
+-- and `Stop`. Assumes nothing.
 use Prim.Native.Nat.{ℕ, _+_, _≤_, _<_}
 use mathlib.Core.Path.{_≡_, refl, sym, ap, _∙_}
 use mathlib.Core.Bool.{Bool, true, false}
@@ -33,7 +34,7 @@ mark-ended broken = refl
 mark-ended (ended fs n) = refl
 mark-ended (bare fs) = refl
 
--- the fields from a place on are good and end in a mark, those before it having left these marks
+-- the fields from `at` on are good and end with a mark, s being the tags before them
 unfoldable pub endsAt : ℕ → Seen → List ℕ → Bool
 endsAt at s bs = isEnded (judged (okFrom s) (scanAll (drop at bs)))
 
@@ -48,7 +49,7 @@ pub ends-past : (at : ℕ) (s : Seen) (bs : List ℕ) → length bs ≤ at → e
 unfolding isMark
 ends-past at s bs h = ends-stop at 0 s bs ∙ ap isMark (stop-edge at 0 s bs h)
 
--- the field at a place: t its tag, m its length
+-- the field at an offset: t is its tag, m its length
 module _ (at : ℕ) (s : Seen) (bs : List ℕ) (h : at < length bs) (t m : ℕ) (ct : getD bs at 0 ≡ t) (cm : numAt 2 (at + 1) bs ≡ m) where
   ends-broken : headAt at bs ≡ head.Broken → endsAt at s bs ≡ false
   unfolding isMark

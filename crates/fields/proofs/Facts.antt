@@ -1,5 +1,5 @@
--- Bytes are read as fields exactly where these stand in them and keep the rules; fields that keep the rules are read back from their bytes.
--- Assumes nothing.
+-- Bytes scan as fields exactly if they contain these fields and the fields keep the rules; fields that keep the rules are read back from
+-- their bytes. Assumes nothing.
 use Prim.Native.Nat.{ℕ, zero, suc, _+_, _-_, _*_, _/_, _%_, _^_, _≤_, _<_}
 use mathlib.Core.Path.{_≡_, refl, sym, ap, _∙_}
 use mathlib.Core.Bool.{Bool, true, false, cond, false≢true}
@@ -66,7 +66,7 @@ unfolding lengthsOk
 lengths-acts [] h = refl
 lengths-acts (f ∷ fs) h = both-of _ _ (length-acts (f .tag) (length (f .value)) (h 0 (omega arith))) (lengths-acts fs (λ i l. h (suc i) (omega arith)))
 
--- how often a tag appears: not at all where no field has it, once where no two have it
+-- how often a tag appears: never if no field has it, at most once if no two fields have it
 counts : (t u : ℕ) (n : ℕ) {P : Type 0} → (u ≡ t → cond (eqb u t) 1 0 + n ≡ suc n → P) → ((u ≡ t → ⊥) → cond (eqb u t) 1 0 + n ≡ n → P) → P
 counts t u n {P = P} y z = go (eqb u t) refl
   where
@@ -152,7 +152,7 @@ stand-scan (f ∷ fs) bs n h t =
       (let e : 3 + length (f .value) + (n - (3 + length (f .value))) ≡ n = omega arith in e),
     )
 
--- of a step that came to an end mark
+-- a step that reached an end mark
 step-stands : (x c z e : Bool) (f : Field) (s : Scanned) (fs : List Field) (m : ℕ) {P : Type 0} → step x c z e f s ≡ ended fs m →
     (c ≡ false → z ≡ true → e ≡ true → fs ≡ [] → m ≡ 3 → P) → (c ≡ false → (gs : List Field) (k : ℕ) → fs ≡ f ∷ gs → s ≡ ended gs k → m ≡ 3 + length (f .value) + k → P) → P
 unfolding step push
@@ -193,7 +193,7 @@ module _ (bs : List ℕ) (fs : List Field) (n : ℕ) where
       let j = judged-passed fieldsOk (scanAll bs) (ended fs n) (λ e. never (cc)) h in
       (keep-only fs (j .1), scan-stand (length bs) bs fs n (j .0))
 
--- ---- fields as bytes are read back
+-- ---- reading the bytes of fields gives the fields back
 read-length : (t n : ℕ) (rest : List ℕ) → n < 2 ^ 16 → numAt 2 1 (t ∷ (leBytes 2 n ++ rest)) ≡ n
 unfolding numAt part leBytes leOf
 read-length t n rest h = omega arith
@@ -224,12 +224,12 @@ pub run-told : (fs : List Field) → Yes (fieldsOk fs) → scanOf (runOf fs) ≡
 unfolding scanOf judged fieldsOk
 run-told fs h = rw (run-scan fs (both-l _ _ h), h)
 
--- so they may be told to the writer, if none has tag 3
+-- the writer takes them, if none has tag 3
 pub tell-acts : (fs : List Field) → FieldsKeep fs → count 3 fs ≡ 0 → Yes (tellable (scanOf (runOf fs)))
 unfolding tellable isBare fieldsTold both
 tell-acts fs k z = rw (run-told fs (keep-acts fs k)) (eq-eqb (count 3 fs) 0 z)
 
--- and bytes that may be told are such fields
+-- bytes that the writer takes are such fields
 head-bytes : (bs : List ℕ) → 3 + numAt 2 1 bs ≤ length bs → Bytes bs → bs ≡ fieldBytes (getD bs 0 0) (part 3 (numAt 2 1 bs) bs) ++ drop (3 + numAt 2 1 bs) bs
 unfolding fieldBytes leBytes numAt part leOf
 head-bytes [] h b = absurd (not-suc-le-zero h)

@@ -1,4 +1,4 @@
--- Nothing behind the end mark is read. Assumes nothing.
+-- No byte after the end mark is read. Assumes nothing.
 use Prim.Native.Nat.{ℕ, zero, suc, _+_, _≤_, _<_}
 use mathlib.Core.Path.{_≡_, refl, ap}
 use mathlib.Core.Bool.{Bool, true, false, false≢true}
@@ -13,7 +13,7 @@ use Rattle.fields.specs.Fields.{Field, mkField, Scanned, broken, ended, 
 use Rattle.fields.proofs.Scans.{never, part-length, step-3, step-ended}
 use Rattle.fields.proofs.Rules.{listed, judged-passed}
 
--- a step that ends, with another field and another rest that are the same as far as it looked
+-- a step that ends gives the same result for another field and another tail that agree as far as it read
 step-same : (x c z e : Bool) (f g : Field) (s t : Scanned) (fs : List Field) (m : ℕ) → step x c z e f s ≡ ended fs m →
     (c ≡ false → 3 + length (f .value) ≤ m → f ≡ g) → ((gs : List Field) (k : ℕ) → c ≡ false → s ≡ ended gs k → m ≡ 3 + length (f .value) + k → t ≡ ended gs k) →
     step x c z e g t ≡ ended fs m
@@ -25,7 +25,7 @@ step-same false false true false f g s t fs m h p q = h
 step-same false false false e f g s t fs m h p q =
     step-ended false false e f s fs m h (λ a b c. absurd (false≢true b)) (λ a b gs k i j n. rw (← p refl (omega arith), q gs k refl j n, i, n))
 
--- the same bytes below m
+-- p and q have the same bytes below m
 abbrev Agree : List ℕ → List ℕ → ℕ → Type 0
 Agree p q m = (i : ℕ) → i < m → getD p i 0 ≡ getD q i 0
 
@@ -48,21 +48,21 @@ scan-same (suc n) p q l fs m h a =
     let long : length (part 3 w p) ≡ w = part-length 3 w p (ltb-false (length p) (3 + w) c) in
     scan-same n (drop (3 + w) p) (drop (3 + w) q) (rw (length-drop, length-drop, l)) gs k s (λ i z. rw (getD-drop, getD-drop) (a (3 + w + i) (omega arith)))))
 
--- of two slices of one length with the same bytes through the end mark, both hold the same fields
+-- two slices of equal length with the same bytes through the end mark hold the same fields
 pub ended-same : (p q : List ℕ) (fs : List Field) (m : ℕ) → length p ≡ length q → scanOf p ≡ ended fs m → Agree p q m → scanOf q ≡ ended fs m
 unfolding scanOf scanAll judged listed
 ended-same p q fs m l h a =
     let j = judged-passed fieldsOk (scanAll p) (ended fs m) (λ e. never (cc)) h in
     rw (← l, scan-same (length p) p q l fs m (j .0) a, j .1)
 
--- so what is read is as far as the naming rule says: through the end mark, or all where there is none
+-- so the scan reads what the naming rule counts: through the end mark, or all bytes if there is no mark
 pub found-same : (p q : List ℕ) (u : Scanned) → length p ≡ length q → length p ≤ 4096 → scanOf p ≡ u → Agree p q (reach u) → scanOf q ≡ u
 unfolding reach
 found-same p q broken l m h a = rw (ext-getD 0 p q l (λ i k. a i (omega arith))) at h
 found-same p q (ended fs k) l m h a = ended-same p q fs k l h a
 found-same p q (bare fs) l m h a = rw (ext-getD 0 p q l (λ i k. a i (omega arith))) at h
 
--- ---- fields lie within the bytes
+-- ---- the fields are within the bytes
 step-room : (x c z e : Bool) (f : Field) (s : Scanned) (fs : List Field) (m : ℕ) {P : Type 0} → step x c z e f s ≡ ended fs m →
     (c ≡ false → m ≡ 3 → P) → (c ≡ false → (gs : List Field) (k : ℕ) → s ≡ ended gs k → m ≡ 3 + length (f .value) + k → P) → P
 unfolding step

@@ -1,4 +1,4 @@
--- Laws of the step that is handed out. Assumes nothing.
+-- Laws of the step that callers see. Assumes nothing.
 use Prim.Native.Nat.{ℕ, _+_, _≤_, _<_}
 use mathlib.Core.Path.{_≡_, refl}
 use mathlib.Core.Bool.{Bool, true, false, cond}
@@ -21,7 +21,7 @@ use Rattle.fields.specs.declared.FieldStep.{FieldStep}
 use Rattle.fields.proofs.Scans.{head-room, head-told}
 use Rattle.fields.proofs.Walks.{from-stop, from-field}
 
--- ---- by what stands at the place
+-- ---- by the head at the offset
 pub step-stop : (at : ℕ) (bs : List ℕ) (d : Head) → headAt at bs ≡ d → OneOf (0 ∷ 1 ∷ []) (tagOf the-type d) → record { field = Nothing; next = length bs } ≡ stepAt at bs
 unfolding stepAt fieldStepOf
 step-stop at bs head.Broken e k = rw e
@@ -38,7 +38,8 @@ module _ (at : ℕ) (bs : List ℕ) {t v m x : ℕ} (e : headAt at bs ≡ head.F
   step-withdrawn h = rw (e, eq-eqb t 3 h)
 
 -- ---- by what is shown
--- a field that is shown with its value: tag and length stand before the value, all within the bytes, and the rest is shown from behind it
+-- a field shown with its value: its tag and length are before the value, all of it is within the bytes, and the other shown fields are
+-- those after it
 pub record RawAt (at : ℕ) (bs : List ℕ) (t v m x : ℕ) : Type 0 where
   pub tag : getD bs at 0 ≡ t
   pub len : numAt 2 (at + 1) bs ≡ m
@@ -47,7 +48,7 @@ pub record RawAt (at : ℕ) (bs : List ℕ) (t v m x : ℕ) : Type 0 where
   pub within : x ≤ length bs
   pub shown : shownFields (fieldsFrom at bs) ≡ raw t (part v m bs) ∷ shownFields (fieldsFrom x bs)
 
--- a step finds no field, the withdrawn one, or one that is shown with its value
+-- a step finds no field, the withdrawn field, or a field shown with its value
 module _ (at : ℕ) (bs : List ℕ) (P : FieldStep → Type 0)
     (none : shownFields (fieldsFrom at bs) ≡ [] → P (record { field = Nothing; next = length bs }))
     (gone : (x : ℕ) → at < x → x ≤ length bs → shownFields (fieldsFrom at bs) ≡ withdrawn ∷ shownFields (fieldsFrom x bs) → P (record { field = Withdrawn; next = x }))

@@ -1,4 +1,4 @@
--- Where one pass stops, as a loop over the fields goes. Assumes nothing.
+-- Where one pass stops, for the loop over the fields. Assumes nothing.
 use Prim.Native.Nat.{ℕ, suc, _+_, _-_, _≤_, _<_}
 use mathlib.Core.Path.{_≡_, refl, ap, _∙_}
 use mathlib.Core.Bool.{Bool, true, false, cond, not}
@@ -22,17 +22,17 @@ use Rattle.fields.specs.declared.Stop.the-variants as stop
 use Rattle.fields.proofs.Scans.{follow, head-scan, head-room, part-length}
 use Rattle.fields.proofs.Rules.{okFrom, ok-start, ok-none, ok-not, ok-more, either-false}
 
--- a stop that is counted from k on, with c fields before it, and whether tag 3 is among these
+-- a stop counted from offset k, after c fields; b is whether tag 3 is among them
 unfoldable pub later : ℕ → ℕ → Bool → Stop → Stop
 later k c b stop.Broken = stop.Broken
 later k c b (stop.Mark n m) = stop.Mark (k + n) (c + m)
 later k c b (stop.Edge a) = stop.Edge (either b a)
 
--- where the pass stops if it has come to a place, c fields passed, with those marks
+-- where the pass stops from offset `at` on, after c fields with the tags s
 unfoldable pub stopAt : ℕ → ℕ → Seen → List ℕ → Stop
 stopAt at c s bs = later at c (s .console) (stopOf (judged (okFrom s) (scanAll (drop at bs))))
 
--- ---- what the stop tells: the reader of its extent, the writer whether there is no mark and no tag 3
+-- ---- what a stop means: for the reader the extent of the fields, for the writer that there is no mark and no tag 3
 unfoldable pub extentOf : Stop → FieldsEnd
 extentOf stop.Broken = fieldsEnd.Broken
 extentOf (stop.Mark n m) = fieldsEnd.Ended n
@@ -70,7 +70,7 @@ told-tellable broken = refl
 told-tellable (ended fs n) = refl
 told-tellable (bare fs) = not-not (eqb (count 3 fs) 0)
 
--- ---- from an offset on: past the end, and within as code lends it
+-- ---- from an offset on: past the end, and within the slice as the code lends it
 pub told-out : (at : ℕ) (bs : List ℕ) → length bs ≤ at → endTold (scanOf (drop at bs)) ≡ fieldsEnd.Broken
 unfolding endTold scanOf scanAll scan judged fieldsOk lengthsOk count both
 told-out at bs h = rw (drop-of-length-le bs h)
@@ -91,7 +91,7 @@ push-not ok f broken h = refl
 push-not ok f (ended fs n) h = rw (h fs)
 push-not ok f (bare fs) h = rw (h fs)
 
--- tag 3 met now, seen before, or still to come
+-- tag 3 is met now, was seen before, or comes later
 met-more : (e b : Bool) (n : ℕ) → either b (not (eqb (cond e 1 0 + n) 0)) ≡ either (either e b) (not (eqb n 0))
 unfolding either
 met-more true true n = refl
@@ -116,7 +116,7 @@ push-more ok ok' f (ended fs n) at c seen h = rw (h fs) (go (ok' fs))
         ap (λ x. stop.Mark x (c + suc (length fs))) p ∙ ap (stop.Mark (at + 3 + length (f .value) + n)) q
     go false = refl
 
--- ---- the loop's laws: start, the four ways to leave, and one turn
+-- ---- the loop's laws: the start, the four exits, and one turn
 later-zero : (s : Stop) → later 0 0 false s ≡ s
 unfolding later either
 later-zero stop.Broken = refl

@@ -1,4 +1,4 @@
--- The fields that are left at a place, as a loop over them goes. Assumes nothing.
+-- The fields that are left at an offset, for the loop over them. Assumes nothing.
 use Prim.Native.Nat.{ℕ, zero, suc, _+_, _≤_, _<_}
 use mathlib.Core.Path.{_≡_, refl, sym, ap, _∙_}
 use mathlib.Core.Bool.{Bool, true, false, false≢true}
@@ -20,10 +20,11 @@ use Rattle.fields.specs.declared.FieldsEnd.the-variants as fieldsEnd
 use Rattle.fields.proofs.Rules.{judged-passed}
 use Rattle.fields.proofs.Scans.{never, follow, head-scan, head-room}
 
--- the fields from a place on, and whether an end mark comes
+-- the fields from `at` on
 unfoldable pub left : ℕ → List ℕ → List Field
 left at bs = fieldsIn (scanAll (drop at bs))
 
+-- whether an end mark follows
 unfoldable pub ends : ℕ → List ℕ → Bool
 ends at bs = isEnded (scanAll (drop at bs))
 
@@ -40,7 +41,7 @@ push-fields f broken h = absurd (false≢true h)
 push-fields f (ended fs n) h = refl
 push-fields f (bare fs) h = absurd (false≢true h)
 
--- ---- the loop's laws: the start, the ways to leave, and one turn
+-- ---- the loop's laws: the start, the exits, and one turn
 told-ended : (s : Scanned) (n : ℕ) {P : Type 0} → endTold s ≡ fieldsEnd.Ended n → ((fs : List Field) → s ≡ ended fs n → P) → P
 unfolding endTold
 told-ended broken n h k = never (cc)
@@ -64,7 +65,7 @@ pub left-edge : (at : ℕ) (bs : List ℕ) → length bs ≤ at → left at bs �
 unfolding left scanAll scan fieldsIn
 left-edge at bs h = rw (drop-of-length-le bs h)
 
--- a place with no field: nothing is left, whether an end mark is there or the bytes are cut short
+-- an offset without a field: no field is left, at an end mark and at bytes that are cut short
 left-not : (at : ℕ) (bs : List ℕ) (d : Head) → headAt at bs ≡ d → OneOf (0 ∷ 1 ∷ []) (tagOf the-type d) → Dec (at < length bs) → left at bs ≡ []
 unfolding left follow fieldsIn
 left-not at bs d e k (no l) = left-edge at bs (omega arith)
@@ -87,7 +88,7 @@ module _ (at : ℕ) (bs : List ℕ) {t v n x : ℕ} (e : headAt at bs ≡ head.F
   unfolding left ends follow
   left-field g = rw (head-scan at bs there, e) (push-fields (mkField t (part v n bs)) (scanAll (drop x bs)) (sym left-ends ∙ g))
 
--- ---- walking from a place gives the fields that are left, in order
+-- ---- a walk from an offset passes the fields that are left, in order
 walked-on : (n at : ℕ) (bs : List ℕ) → length bs ≤ at + suc n → ends at bs ≡ true →
     ((x : ℕ) → length bs ≤ x + n → ends x bs ≡ true → walked n x bs ≡ left x bs) → (d : Head) → headAt at bs ≡ d → walkedOn d bs (λ x. walked n x bs) ≡ left at bs
 unfolding walkedOn
@@ -109,7 +110,7 @@ walked-all bs fs m h =
     let s = left-start bs m (ap endTold h) in
     walked-left (length bs) 0 bs (omega arith) (s .1) ∙ s .0 ∙ ap fieldsIn h
 
--- ---- a walk from any place, step by step
+-- ---- a walk from any offset, step by step
 head-out : (at : ℕ) (bs : List ℕ) → length bs ≤ at → headAt at bs ≡ head.Broken
 unfolding headAt headOf
 head-out at bs h = rw (lt-ltb (length bs) (at + 3 + numAt 2 (at + 1) bs) (omega arith))
@@ -162,7 +163,7 @@ from-field at bs {t} {v} {m} {x} e =
     let r = head-room at bs e in
     walked-fuel (length bs) (suc (length bs)) at bs (omega arith) (omega arith) ∙ by-step (length bs) at bs e
 
--- from where good fields stand it passes them, in order
+-- from the start of good fields it passes them all, in order
 pub from-told : (at : ℕ) (bs : List ℕ) (n : ℕ) → endTold (scanOf (drop at bs)) ≡ fieldsEnd.Ended n → fieldsFrom at bs ≡ fieldsIn (scanOf (drop at bs))
 unfolding fieldsFrom left ends isEnded scanOf
 from-told at bs n h =

@@ -1,4 +1,4 @@
--- Bytes that differ in withdrawn values alone hold fields that are shown the same. Assumes nothing.
+-- Bytes that differ only in withdrawn values hold fields that are shown the same. Assumes nothing.
 use Prim.Native.Nat.{ℕ, zero, suc, _+_, _-_, _≤_, _<_}
 use mathlib.Core.Path.{_≡_, refl, sym, ap, _∙_}
 use mathlib.Core.Bool.{Bool, true, false, cond, false≢true}
@@ -16,13 +16,13 @@ use Rattle.fields.specs.Withdrawn.{inWithdrawn}
 use Rattle.fields.proofs.Scans.{never, part-length}
 use Rattle.fields.proofs.Rules.{listed, judged-passed}
 
--- fields that differ in withdrawn values alone
+-- fields that differ only in withdrawn values
 pub record Alike (fs gs : List Field) : Type 0 where
   pub shown : shownFields fs ≡ shownFields gs
   pub lengths : lengthsOk fs ≡ lengthsOk gs
   pub counts : (t : ℕ) → count t fs ≡ count t gs
 
--- fields like these, through an end mark at the same place
+-- s holds fields that differ from fs only in withdrawn values, with the end mark at the same offset
 pub record Like (fs : List Field) (m : ℕ) (s : Scanned) : Type 0 where
   pub others : List Field
   pub is : s ≡ ended others m
@@ -75,7 +75,7 @@ step-like false false true true f g s t fs m a l n h =
 step-like false false true false f g s t fs m a l n h = never (cc)
 step-like false false false e f g s t fs m a l n h = push-like f g s t fs m a (l refl) (n refl) h
 
--- ---- the bytes that are no withdrawn value
+-- ---- the bytes outside withdrawn values
 pub both-no : (b : Bool) → both b false ≡ false
 unfolding both
 both-no true = refl
@@ -97,7 +97,7 @@ behind f fs i =
     rw (le-ltb (3 + length (f .value) + i) (3 + length (f .value)) (omega arith), e)
 
 -- ---- all fields
--- the same bytes where no withdrawn value of these fields lies
+-- p and q have the same bytes outside the withdrawn values of fs
 abbrev Same : List ℕ → List ℕ → List Field → Type 0
 Same p q fs = (i : ℕ) → inWithdrawn fs i ≡ false → getD p i 0 ≡ getD q i 0
 
@@ -116,7 +116,7 @@ shown-like t w p q gs l n a = go (eqb t 3) refl
 rest-same : (w : ℕ) (p q : List ℕ) (f : Field) (gs : List Field) → length (f .value) ≡ w → Same p q (f ∷ gs) → Same (drop (3 + w) p) (drop (3 + w) q) gs
 rest-same w p q f gs n a i z = rw (getD-drop, getD-drop) (a (3 + w + i) (rw (← n) (behind f gs i ∙ z)))
 
--- a scan with its length, first tag and first length told
+-- a scan, given its length, first tag and first length
 abbrev scanBy : ℕ → ℕ → ℕ → ℕ → List ℕ → Scanned
 scanBy n l t w bs = step (eqb l 0) (ltb l (3 + w)) (eqb t 0) (eqb w 0) (mkField t (part 3 w bs)) (scan n (drop (3 + w) bs))
 
@@ -146,7 +146,7 @@ scan-like (suc n) p q fs m l a h =
     (shown-like (getD p 0 0) w p q gs l v a', scan-like n (drop (3 + w) p) (drop (3 + w) q) gs k (rw (length-drop, length-drop, l)) (rest-same w p q (mkField (getD p 0 0) (part 3 w p)) gs v a') s))
     h)
 
--- by the rules too: of two slices of one length, the same but in withdrawn values, both hold fields that are shown the same
+-- the same with the rules: two slices of equal length that differ only in withdrawn values hold fields that are shown the same
 pub like-scanned : (p q : List ℕ) (fs : List Field) (m : ℕ) → length p ≡ length q → Same p q fs → scanOf p ≡ ended fs m → Like fs m (scanOf q)
 unfolding scanOf scanAll judged listed
 like-scanned p q fs m l a h =

@@ -1,4 +1,4 @@
--- Which bytes are a withdrawn value. Assumes nothing.
+-- Which bytes belong to a withdrawn value. Assumes nothing.
 use Prim.Native.Nat.{ℕ, _+_, _-_}
 use mathlib.Core.Bool.{Bool, false, cond}
 use mathlib.Core.List.{List, [], _∷_}
@@ -7,7 +7,7 @@ use lib.Dec.{leb, ltb, eqb}
 use Rattle.words.specs.Tests.{both}
 use Rattle.fields.specs.Fields.{Field}
 
--- byte i of bytes that hold these fields from their start on lies in the value of one with tag 3
+-- byte i, counted from the first of these fields, is in the value of a field with tag 3
 unfoldable pub inWithdrawn : List Field → ℕ → Bool
 inWithdrawn [] i = false
 inWithdrawn (f ∷ fs) i =

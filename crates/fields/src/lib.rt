@@ -1,4 +1,5 @@
-// Board facts in the platform data: fields of a tag, a two-byte length and a value, up to an end mark, judged and read where they lie.
+// Board facts in the platform data (FD1 to FD8): fields of a tag, a two-byte length and a value, up to an end mark, checked and read in
+// the slice.
 ghost use mathlib.Core.Path.{_≡_};
 ghost use Prim.Native.Nat.{_+_, _<_, _≤_};
 ghost use lib.ListN.{length, drop};
@@ -6,8 +7,8 @@ ghost use Rattle.words.specs.Word.{numAt};
 ghost use Rattle.fields.specs.Fields.{lengthOk, scanOf, tellable, fieldsIn};
 ghost use Rattle.fields.specs.Steps.{headAt, isSeen, seenWith, noneSeen, allowed, stopOf, endTold, stepAt};
 
-// What stands at an offset: nothing whole, or a tag 0 with a length; the end mark; or a field, with the place and length of its
-// value and the place behind it. Private: of tag 3 no entry may hand the place out.
+// What is at an offset: broken bytes (cut short, or tag 0 with a length); the end mark; or a field, with the offset and length of its
+// value and the offset after it. Private, because no function may give out the offset of a value with tag 3 (FD9).
 enum Head {
     Broken,
     End,
@@ -19,48 +20,48 @@ enum Head {
     },
 }
 
-// A field as it is handed out: its tag, and where its value lies; the withdrawn field, tag 3, whose value is not shown; or that there is no
-// such field.
+// A field as callers see it: its tag with the offset and length of its value; the withdrawn field, tag 3, without its value; or no field.
 pub enum FieldPlace {
     Raw { tag: u8, at: usize, len: usize },
     Withdrawn,
     Nothing,
 }
 
-// A step of a walk over the fields: the field at a place, and the place behind it.
+// One step of a walk over the fields: the field at an offset, and the offset after it.
 pub struct FieldStep {
     pub field: FieldPlace,
     pub next: usize,
 }
 
-// What a slice holds from its start on: broken fields, or good ones and an end mark, with the number of bytes through the mark.
+// How the fields of a slice end: broken, or with an end mark, and then the number of bytes through the mark.
 pub enum FieldsEnd {
     Broken,
     Ended(usize),
 }
 
-// Where a pass over fields stops: at a broken rule, behind an end mark with so many fields passed, or at the slice's end with no mark,
-// with whether tag 3 was passed.
+// Where a pass over the fields stops: at a broken rule; after an end mark, at `end`, with `passed` fields before it; or at the slice's end
+// without a mark, and then `console` is whether it passed a tag 3.
 enum Stop {
     Broken,
     Mark { end: usize, passed: usize },
     Edge { console: bool },
 }
 
-// Which of the tags 1 to 3 were passed.
+// Which of the tags 1 to 3 a pass has met so far.
 pub struct Seen {
     pub name: bool,
     pub serial: bool,
     pub console: bool,
 }
 
+// `x` as a `usize`.
 fn wide(x: u8) -> usize
     ensures { λ r. ⌜ (r ≡ x) × (r < 0x100) ⌝ }
 {
     x as usize
 }
 
-// The two-byte number at an offset within the slice.
+// The two-byte number at `at`.
 fn pair(s: &[u8], at: usize) -> usize
     requires { ⌜ at + 2 ≤ length (now s) ⌝ }
     ensures { λ r. ⌜ (r ≡ numAt 2 at (now (s .entry))) × (r < 0x1_0000) ⌝ }
@@ -68,7 +69,7 @@ fn pair(s: &[u8], at: usize) -> usize
     wide(s[at]) + wide(s[at + 1]) * 0x100
 }
 
-// What stands at an offset, whatever was before it: the rules on tags 1 to 3 are not looked at.
+// What is at `at`. Checks neither the lengths of tags 1 to 3 nor whether they repeat.
 fn field_at(part: &[u8], at: usize) -> Head
     ensures { λ r. ⌜ r ≡ headAt at (now (part .entry)) ⌝ }
 {
@@ -99,7 +100,7 @@ fn field_at(part: &[u8], at: usize) -> Head
     Head::End
 }
 
-// The field at an offset as it is handed out, and the offset behind it: the slice's length where there is no field.
+// The field at `at` and the offset after it. If there is no field, `next` is the slice's length.
 pub fn step_at(part: &[u8], at: usize) -> FieldStep
     ensures { λ r. ⌜ r ≡ stepAt at (now (part .entry)) ⌝ }
 {
@@ -133,7 +134,7 @@ pub fn step_at(part: &[u8], at: usize) -> FieldStep
     }
 }
 
-// Whether a field of that tag may have a value of so many bytes.
+// Whether a field with this tag may have a value of `len` bytes (FD2).
 pub fn length_ok(tag: u8, len: usize) -> bool
     ensures { λ r. ⌜ r ≡ lengthOk tag len ⌝ }
 {
@@ -155,6 +156,7 @@ pub fn length_ok(tag: u8, len: usize) -> bool
     len < 0x1_0000
 }
 
+// Whether `tag` is one of 1 to 3 and in `seen`.
 pub fn is_seen(seen: Seen, tag: u8) -> bool
     ensures { λ r. ⌜ r ≡ isSeen seen tag ⌝ }
 {
@@ -170,6 +172,7 @@ pub fn is_seen(seen: Seen, tag: u8) -> bool
     false
 }
 
+// No tag met so far.
 pub fn none_seen() -> Seen
     ensures { λ r. ⌜ r ≡ noneSeen ⌝ }
 {
@@ -180,6 +183,7 @@ pub fn none_seen() -> Seen
     }
 }
 
+// `seen` with `tag` added. Tags other than 1 to 3 are not recorded.
 pub fn marked(seen: Seen, tag: u8) -> Seen
     ensures { λ r. ⌜ r ≡ seenWith seen tag ⌝ }
 {
@@ -207,7 +211,7 @@ pub fn marked(seen: Seen, tag: u8) -> Seen
     seen
 }
 
-// Whether a field may follow those that were seen.
+// Whether a field may follow the fields in `seen`: its length is allowed and tags 1 to 3 do not repeat.
 fn allowed(seen: Seen, tag: u8, len: usize) -> bool
     ensures { λ r. ⌜ r ≡ allowed seen tag len ⌝ }
 {
@@ -217,7 +221,7 @@ fn allowed(seen: Seen, tag: u8, len: usize) -> bool
     !is_seen(seen, tag)
 }
 
-// One pass over the fields from the slice's start.
+// One pass over the fields, from the slice's start.
 fn walk(part: &[u8]) -> Stop
     ensures { λ r. ⌜ r ≡ stopOf (scanOf (now (part .entry))) ⌝ }
 {
@@ -251,7 +255,7 @@ fn walk(part: &[u8]) -> Stop
     Stop::Edge { console }
 }
 
-// Judges the fields from the slice's start through their end mark; what stands behind the mark is not looked at.
+// Checks the fields from the slice's start through their end mark. Reads nothing after the mark (FD7).
 pub fn scan(part: &[u8]) -> FieldsEnd
     ensures { λ r. ⌜ r ≡ endTold (scanOf (now (part .entry))) ⌝ }
 {
@@ -263,7 +267,7 @@ pub fn scan(part: &[u8]) -> FieldsEnd
     }
 }
 
-// The same from an offset of a slice on: broken past its end.
+// The same from offset `at` on. Broken if `at` is past the slice's end.
 pub fn scan_at(page: &[u8], at: usize) -> FieldsEnd
     ensures { λ r. ⌜ r ≡ endTold (scanOf (drop at (now (page .entry)))) ⌝ }
 {
@@ -273,7 +277,7 @@ pub fn scan_at(page: &[u8], at: usize) -> FieldsEnd
     scan(&page[at..])
 }
 
-// Whether a description may be written: fields that keep the rules up to its last byte, with no tag 0 and no tag 3 among them.
+// Whether the writer takes a description: its fields keep the rules up to its last byte, and none has tag 0 or tag 3.
 pub fn description_ok(description: &[u8]) -> bool
     ensures { λ r. ⌜ r ≡ tellable (scanOf (now (description .entry))) ⌝ }
 {
@@ -285,7 +289,7 @@ pub fn description_ok(description: &[u8]) -> bool
     }
 }
 
-// How many fields a reader shows: none of broken ones.
+// The number of fields that a reader shows; 0 if they are broken.
 pub fn count(part: &[u8]) -> usize
     ensures { λ r. ⌜ r ≡ length (fieldsIn (scanOf (now (part .entry)))) ⌝ }
 {

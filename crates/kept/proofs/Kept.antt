@@ -1,4 +1,4 @@
--- 02, E5: the kept bytes of a view cover all that a reader of its edition looks at, and are never above 4,096. Assumes nothing.
+-- 02, E5: the kept bytes of a view cover everything that a reader of its edition looks at, and are at most 4,096. Assumes nothing.
 use Prim.Native.Nat.{ℕ, zero, suc, _+_, _-_, _%_, _≤_, _<_, min, max}
 use mathlib.Core.Path.{_≡_, refl, sym, ap, _∙_}
 use mathlib.Core.Bool.{Bool, true, false, cond, false≢true}
@@ -36,7 +36,7 @@ use Rattle.lookup.specs.Lookup.{spanOf}
 use Rattle.kept.specs.Kept.{spanEnd, sectionEnd, highestOf, fieldsReach, keptFor}
 use Rattle.lookup.proofs.Lookups.{place-in}
 
--- ---- never above 4,096
+-- ---- at most 4,096
 none-end : spanEnd noSpan ≡ 0
 unfolding spanEnd noSpan
 none-end = refl
@@ -78,7 +78,7 @@ pub kept-most : (v : View) (page : List ℕ) → keptFor v page ≤ 4096
 unfolding keptFor
 kept-most v page = omega (arith, highest-most v page 4)
 
--- ---- where the fields end, as the pass over them tells
+-- ---- where the fields end, given the result of the pass over them
 told-broken : (s : Scanned) → endTold s ≡ Broken → reach s ≡ 4096
 unfolding endTold reach
 told-broken broken h = refl
@@ -110,7 +110,7 @@ module _ (q : ℕ) (page : List ℕ) where
     pub reach-ended : (n : ℕ) → endTold (scanOf (drop (q % 4096) page)) ≡ Ended n → n ≤ 4096 - q % 4096 → q % 4096 + n ≡ fieldsReach q page
     reach-ended n h l = rw (reach-there, told-ended (scanOf (drop (q % 4096) page)) n h) (omega arith)
 
--- ---- it covers what a reader looks at
+-- ---- the kept bytes cover what a reader looks at
 module _ (v : View) (page : List ℕ) where
   start-within : (n : ℕ) → max (core (v .edition)) (fieldsReach (v .plat) page) ≤ highestOf v page n
   unfolding highestOf
@@ -138,7 +138,7 @@ size-none : (k count : ℕ) → count ≡ 0 → size k count ≡ 0
 unfolding size
 size-none k count h = rw (h, mul-zero)
 
--- where an array of the edition that lies within the page ends
+-- where an array of the edition ends, if it is within the page
 pub array-end : (e base : ℕ) (page : List ℕ) (k : ℕ) → k < sectionCount e → (size k (countAt k page) ≡ 0 → ⊥) → inPage base (pointerAt k page) (size k (countAt k page)) ≡ true →
     base + sectionEnd k (sectionAt e base page k) ≡ pointerAt k page + size k (countAt k page)
 unfolding sectionEnd spanEnd spanAt inPage
@@ -158,7 +158,7 @@ beside-by e base page i k false true false a b c h m = inr (inl (let x = array-e
 beside : (e base : ℕ) (page : List ℕ) (i k : ℕ) → k < sectionCount e → sectionEnd k (sectionAt e base page k) ≤ i → BesideArray base page i k
 beside e base page i k = beside-by e base page i k _ _ _ refl refl refl
 
--- ---- the fields that a pointer into a page finds
+-- ---- the fields at a pointer into the page
 found-none : (base q : ℕ) (page : List ℕ) → q ≡ 0 → q + reach (foundAt base page q) ≡ 0
 unfolding foundAt reach
 found-none base q page z = rw (eq-eqb q 0 z) (omega arith)
@@ -190,8 +190,8 @@ fields-by base q page i false true a b m l o h = inr (inl (o, let x = fields-end
 fields-beside : (base : ℕ) (page : List ℕ) (i : ℕ) → base % 4096 ≡ 0 → length page ≡ 4096 → isEnded (foundAt base page (wordAt 8 page)) ≡ true → fieldsReach (wordAt 8 page) page ≤ i → BesideFields base page i
 fields-beside base page i = fields-by base (wordAt 8 page) page i _ _ refl refl
 
--- No byte from K on is named, for a reader of any edition, K being that of the view that it makes of the page: of a page at a place that it may
--- have, with fields that are not broken, or no pointer.
+-- No byte from K on is named, for a reader of any edition, where K is computed from the view that this reader makes of the page. The page
+-- has a good base and length, and either no pointer or fields that are not broken.
 pub kept-covers : (r base : ℕ) (page : List ℕ) → Yes (placeOk base (length page)) → isEnded (foundAt base page (wordAt 8 page)) ≡ true → (i : ℕ) →
     keptFor (viewAt (minorOf (versionAt page)) (min r (minorOf (versionAt page))) base page) page ≤ i → named r base page i ≡ false
 unfolding keptFor viewAt

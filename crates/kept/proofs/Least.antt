@@ -1,5 +1,5 @@
--- 02, E5: of a page that a reader accepts, the kept bytes of its view are the fewest that cover what it looks at, up to a multiple of 8. Assumes
--- nothing.
+-- 02, E5: for an accepted page, the kept bytes of its view are the fewest that cover what the reader looks at, rounded up to a multiple of
+-- 8. Assumes nothing.
 use Prim.Native.Nat.{ℕ, zero, suc, _+_, _-_, _*_, _/_, _%_, _≤_, _<_, min}
 use mathlib.Core.Path.{_≡_, refl, sym, ap, _∙_}
 use mathlib.Core.Bool.{Bool, true, false, false≢true}
@@ -36,14 +36,14 @@ size-some zero c z h = z (omega arith)
 size-some (suc zero) c z h = z (omega arith)
 size-some (suc (suc k)) c z h = z (omega arith)
 
--- fields that are not broken end in a mark
+-- fields that are not broken end with a mark of 3 bytes
 mark-room : (bs : List ℕ) (s : Scanned) → scanOf bs ≡ s → isEnded s ≡ true → 3 ≤ reach s
 unfolding scanOf isEnded reach
 mark-room bs broken e h = absurd (false≢true h)
 mark-room bs (ended fs m) e h = ended-3 bs fs m (judged-passed fieldsOk (scanAll bs) (ended fs m) (λ x. never (cc)) e .0)
 mark-room bs (bare fs) e h = absurd (false≢true h)
 
--- ---- what a page passed that a reader accepts
+-- ---- the checks that an accepted page passed
 module _ (r base : ℕ) (page : List ℕ) (w e : ℕ) (q : PlatShown) (t : ℕ → Shown) (h : readOf r base page ≡ shows w e q t) where
   pub accepted-place : Yes (placeOk base (length page))
   unfolding readOf judge
@@ -63,7 +63,7 @@ module _ (r base : ℕ) (page : List ℕ) (w e : ℕ) (q : PlatShown) (t : ℕ �
   unfolding platOk platAt mkPlat foundAt isEnded
   accepted-fields = either-cases _ _ (λ z. rw z) (λ b. both-r _ _ (both-r _ _ b)) accepted-plat
 
-  -- ---- bytes of which the named ones are
+  -- ---- n bytes that contain all named bytes
   module _ (n : ℕ) (c : (i : ℕ) → Yes (named r base page i) → i < n) where
     byte-covered : (i : ℕ) → Yes (namedBy e base page i) → i < n
     unfolding readOf judge named placeOk
@@ -75,7 +75,7 @@ module _ (r base : ℕ) (page : List ℕ) (w e : ℕ) (q : PlatShown) (t : ℕ �
     unfolding namedBy core
     core-covered = let y : core e - 1 < n = byte-covered (core e - 1) (either-l _ _ (lt-ltb (core e - 1) (core e) (omega arith))) in omega arith
 
-    -- the last byte of an array
+    -- they contain the last byte of an array
     last-covered : (k : ℕ) → k < sectionCount e → (countAt k page ≡ 0 → ⊥) → sectionEnd k (sectionAt e base page k) ≤ n
     unfolding namedBy inArray inPage
     last-covered k l z =
@@ -100,7 +100,7 @@ module _ (r base : ℕ) (page : List ℕ) (w e : ℕ) (q : PlatShown) (t : ℕ �
         go (yes l) (no z) = rw (← section-empty e base k page l (omega arith)) (omega arith)
         go (yes l) (yes z) = last-covered k l (λ x. omega arith)
 
-    -- the end mark
+    -- they contain the end mark
     mark-covered : (wordAt 8 page ≡ 0 → ⊥) → fieldsReach (wordAt 8 page) page ≤ n
     unfolding namedBy inPlat inPage platOk platAt mkPlat
     mark-covered z =
@@ -129,7 +129,7 @@ module _ (r base : ℕ) (page : List ℕ) (w e : ℕ) (q : PlatShown) (t : ℕ �
         let y : sectionEnd m (sectionAt e base page m) ≤ n = array-covered m in
         rw (section-is w e base page m (omega arith)) (omega arith)
 
-    -- so no smaller multiple of 8 covers them
+    -- so no smaller multiple of 8 covers the named bytes
     pub kept-least : keptFor (viewAt w e base page) page ≤ 8 * ((n + 7) / 8)
     unfolding keptFor
     kept-least = let x = highest-covered 4 (omega arith) in omega arith

@@ -1,4 +1,4 @@
--- 02, E5: how many kept bytes at the start of the page cover a manifest. Assumes nothing.
+-- 02, E5: the number of kept bytes at the start of the page that cover a manifest (KB5, KB6). Assumes nothing.
 use Prim.Native.Nat.{ℕ, zero, suc, _+_, _*_, _/_, _%_, min, max}
 use mathlib.Core.Bool.{cond}
 use mathlib.Core.List.{List}
@@ -12,24 +12,25 @@ use Rattle.reader.specs.declared.Section.{Section}
 use Rattle.reader.specs.declared.View.{View}
 use Rattle.lookup.specs.Lookup.{spanOf}
 
+-- the offset after a span
 unfoldable pub spanEnd : Span → ℕ
 spanEnd p = p .at + p .len
 
--- Where the array of a section k ends. 0 for one that lies nowhere: absent, empty or, of a view that no reading made, not within a page of
--- 4,096 bytes.
+-- The offset after the array of a section k. 0 if the page has no such array: absent, empty or, in a hand-written view, not within a page of 4,096
+-- bytes.
 unfoldable pub sectionEnd : ℕ → Section → ℕ
 sectionEnd k s = spanEnd (spanOf k s 4096)
 
--- Where the fields at a platform pointer end: 02, E7: "through the end mark, or all from the pointer on if they are broken", up to the end of a
--- page of 4,096 bytes. B is a multiple of 4,096, so the pointer's remainder is their place in the page.
+-- The offset after the fields at platform pointer q: 02, E7: "through the end mark, or all from the pointer on if they are broken", up to
+-- the end of a page of 4,096 bytes. B is a multiple of 4,096, so q % 4096 is their offset in the page.
 unfoldable pub fieldsReach : ℕ → List ℕ → ℕ
 fieldsReach q page = cond (eqb q 0) 0 (min 4096 (q % 4096 + reach (scanOf (drop (q % 4096) page))))
 
--- the highest end of the core, of the edition that the page was read as, of the fields and of the first n arrays
+-- the highest end of the core (of the edition that the page was read as), of the fields and of the first n arrays
 unfoldable pub highestOf : View → List ℕ → ℕ → ℕ
 highestOf v page zero = max (core (v .edition)) (fieldsReach (v .plat) page)
 highestOf v page (suc n) = max (highestOf v page n) (sectionEnd n (sectionOf v n))
 
--- "a number K of kept bytes at the start of the page" that covers the manifest of a view: all that it takes, rounded up to 8
+-- "a number K of kept bytes at the start of the page" that covers the manifest of a view: the highest end, rounded up to a multiple of 8
 unfoldable pub keptFor : View → List ℕ → ℕ
 keptFor v page = 8 * ((highestOf v page 4 + 7) / 8)

@@ -1,4 +1,4 @@
-// How many bytes the manifest takes from the page's start: kept at cold boot, no runtime command changes them.
+// The kept bytes that a manifest needs (KB5): the number of bytes at the page's start that no runtime command may change.
 use fields::FieldsEnd;
 use reader::Section;
 use reader::View;
@@ -8,6 +8,7 @@ ghost use Prim.Native.Nat.{_≤_, max};
 ghost use Rattle.versions.specs.Edition.{core};
 ghost use Rattle.kept.specs.Kept.{sectionEnd, fieldsReach, keptFor};
 
+// max(a, b).
 fn larger(a: u64, b: u64) -> u64
     ensures { λ r. ⌜ r ≡ max a b ⌝ }
 {
@@ -17,7 +18,7 @@ fn larger(a: u64, b: u64) -> u64
     a
 }
 
-// Where the array of a section k ends in a page of 4,096 bytes; 0 where it lies nowhere.
+// The offset after the array of a section `k` in a page of 4,096 bytes; 0 if it has no array there.
 fn section_end(section: Section, k: usize) -> u64
     ensures { λ r. ⌜ (r ≡ sectionEnd k section) × (r ≤ 4096) ⌝ }
 {
@@ -25,7 +26,7 @@ fn section_end(section: Section, k: usize) -> u64
     (place.at + place.len) as u64
 }
 
-// Where the fields at a platform pointer end: 0 without a pointer, 4,096 where they are broken or end behind it.
+// The offset after the fields at platform pointer `plat`: 0 without a pointer, 4,096 if they are broken or end past the page.
 fn fields_reach(page: &[u8], plat: u64) -> u64
     ensures { λ r. ⌜ (r ≡ fieldsReach plat (now (page .entry))) × (r ≤ 4096) ⌝ }
 {
@@ -43,7 +44,7 @@ fn fields_reach(page: &[u8], plat: u64) -> u64
     (at + n) as u64
 }
 
-// The higher end of the core of an edition and of the fields at a platform pointer.
+// The larger of the core size of `edition` and the end of the fields at `plat`.
 pub fn core_end(page: &[u8], edition: u64, plat: u64) -> u64
     ensures { λ r. ⌜ (r ≡ max (core edition) (fieldsReach plat (now (page .entry)))) × (r ≤ 4096) ⌝ }
 {
@@ -51,15 +52,16 @@ pub fn core_end(page: &[u8], edition: u64, plat: u64) -> u64
     larger(edition.core_size(), fields_reach(page, plat))
 }
 
-// The higher of an end and of that of the array of a section k.
+// max(end, end of the array of a section `k`).
 pub fn higher_end(end: u64, section: Section, k: usize) -> u64
     ensures { λ r. ⌜ r ≡ max end (sectionEnd k section) ⌝ }
 {
     larger(end, section_end(section, k))
 }
 
-// How many bytes the manifest of a view takes from the page's start: the highest end of core, fields and arrays, rounded up to 8. With so many
-// kept bytes at cold boot, no runtime command changes what a reader of the view's edition sees. At most 4,096 of any view and page.
+// The number of bytes at the page's start that the manifest of a view takes: the highest end of core, fields and arrays, rounded up to a
+// multiple of 8. If cold boot keeps this many, no runtime command changes what a reader of the view's edition sees. At most 4,096 for any
+// view and page.
 pub fn kept_for(page: &[u8], view: View) -> u64
     ensures { λ r. ⌜ (r ≡ keptFor view (now (page .entry))) × (r ≤ 4096) ⌝ }
 {

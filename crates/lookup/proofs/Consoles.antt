@@ -29,7 +29,7 @@ use Rattle.lookup.specs.Consoles.{hasName, firstFrom, consoleNamed}
 use Rattle.lookup.specs.declared.ConsoleFound.{ConsoleFound}
 use Rattle.lookup.specs.declared.ConsoleFound.the-variants.{At, Nothing}
 
--- ---- as a loop goes
+-- ---- for the loop
 module _ (f : ℕ → Bool) (n i : ℕ) where
   pub first-end : n ≤ i → Nothing ≡ firstFrom (n - i) i f
   unfolding firstFrom
@@ -46,11 +46,11 @@ module _ (f : ℕ → Bool) (n i : ℕ) where
 pub first-start : (n : ℕ) (f : ℕ → Bool) → firstFrom (n - 0) 0 f ≡ firstFrom n 0 f
 first-start n f = let e : n - 0 ≡ n = omega arith in rw e
 
--- console i has the name, by the bytes of the array: 48 for each console, the name behind base and size
+-- console i has the name, by the bytes of the array: 48 for each console, the name after base and map_pages
 abbrev pub namedAt : List ℕ → List ℕ → ℕ → Bool
 namedAt bs name i = eqb (wordAt (48 * i + 16) bs) (wordAt 0 name)
 
--- the test, by words that were read
+-- the test, given the words that the code read
 module _ (bs name : List ℕ) (i : ℕ) {x w : ℕ} (p : x ≡ wordAt (48 * i + 16) bs) (q : w ≡ wordAt 0 name) where
   pub name-is : x ≡ w → namedAt bs name i ≡ true
   name-is e = eq-eqb _ _ (sym p ∙ e ∙ q)
@@ -58,7 +58,7 @@ module _ (bs name : List ℕ) (i : ℕ) {x w : ℕ} (p : x ≡ wordAt (48 * i + 
   pub name-not : (x ≡ w → ⊥) → namedAt bs name i ≡ false
   name-not n = ne-eqb _ _ (λ z. n (p ∙ z ∙ sym q))
 
--- ---- the names in the bytes of the array are those that are shown
+-- ---- the names in the bytes of the array are those shown
 name-there : (w at count i : ℕ) (page : List ℕ) → at + size 1 count ≤ length page → i < count → wordAt (48 * i + 16) (part at (size 1 count) page) ≡ wordOf w 1 i 2 (Entries at count) page
 unfolding size wordsPerEntry isHidden both
 name-there w at count i page h l =
@@ -94,7 +94,7 @@ module _ (page : List ℕ) (v : View) where
   unfolding lookIn countIn entryCount wordsPerEntry readingAnswer
   consoles-count = refl
 
-  -- the first of the array's consoles with a name is the view's
+  -- the first console of the array with a name is the first one of the view
   pub array-named : (bs name : List ℕ) → bs ≡ lookIn (readingAnswer page (Accepted v)) 1 → firstFrom (length bs / 48) 0 (namedAt bs name) ≡ consoleNamed (readingAnswer page (Accepted v)) name
   unfolding consoleNamed hasName
   array-named bs name e =
@@ -102,7 +102,7 @@ module _ (page : List ℕ) (v : View) where
       (first-same (countIn (readingAnswer page (Accepted v)) 1) 0 (namedAt (lookIn (readingAnswer page (Accepted v)) 1) name) (λ i. eqb (wordIn (readingAnswer page (Accepted v)) 1 i 2) (wordAt 0 name))
       (λ k a b. ap (λ x. eqb x (wordAt 0 name)) (console-word k (omega arith))))
 
--- ---- the first one, and that there is none
+-- ---- a search that finds a console, and one that does not
 none-more : (f : ℕ → Bool) (i j : ℕ) → f i ≡ false → ((k : ℕ) → i + 1 ≤ k → k < j → f k ≡ false) → (k : ℕ) → i ≤ k → k < j → f k ≡ false
 none-more f i j e r k a b = go (decLt i k)
   where
@@ -132,7 +132,7 @@ first-none f (suc n) i h k a b = go (f i) refl h (first-none f n (i + 1))
     go true e g ih = never (cc)
     go false e g ih = none-more f i (i + suc n) e (λ x y z. ih g x y (omega arith)) k a b
 
--- the console that is found has the name, and none before it has
+-- the console found has the name, and no console before it has
 pub console-at : (a : ReaderAnswer) (name : List ℕ) (i : ℕ) → consoleNamed a name ≡ At i →
     (i < countIn a 1) × ((hasName a name i ≡ true) × ((k : ℕ) → k < i → hasName a name k ≡ false))
 unfolding consoleNamed
@@ -141,7 +141,7 @@ console-at a name i h =
     let l : i < 0 + countIn a 1 = r .1 .0 in
     (omega arith, (r .1 .1 .0, λ k b. r .1 .1 .1 k (omega arith) b))
 
--- where none is found, none has it
+-- if no console is found, no console has the name
 pub console-none : (a : ReaderAnswer) (name : List ℕ) → consoleNamed a name ≡ Nothing → (k : ℕ) → k < countIn a 1 → hasName a name k ≡ false
 unfolding consoleNamed
 console-none a name h k b = first-none (hasName a name) (countIn a 1) 0 h k (omega arith) (omega arith)
@@ -151,7 +151,7 @@ name-word : (name : List ℕ) → length name ≡ 8 → wordAt 0 name ≡ leOf n
 unfolding numAt part
 name-word name l = ap leOf (take-all 8 name (omega arith))
 
--- a console has a name of 8 bytes exactly if its name's bytes, in order, are these
+-- a console has a name of 8 bytes exactly if the bytes of its name are these, in order
 pub name-bytes : (a : ReaderAnswer) (name : List ℕ) (i : ℕ) → length name ≡ 8 → ((j : ℕ) → getD name j 0 < 256) → hasName a name i ≡ true → leBytes 8 (wordIn a 1 i 2) ≡ name
 unfolding hasName
 name-bytes a name i l b h = ap (leBytes 8) (eqb-true _ _ h ∙ name-word name l) ∙ (rw (take-all 8 name (omega arith)) at (number-back 8 name b (omega arith)))

@@ -29,7 +29,7 @@ use Rattle.reader.proofs.Whole.{reading-answer, reading-placed}
 use Rattle.lookup.specs.Lookup.{spanOf, spanIn}
 use Rattle.lookup.specs.Fast.{countOf, wordOf}
 
--- ---- where the array lies
+-- ---- where the array is
 module _ (k at count n : ℕ) where
   pub place-in : at + size k count ≤ n → spanOf k (Entries at count) n ≡ spanAt at (size k count)
   unfolding spanOf
@@ -39,7 +39,7 @@ module _ (k at count n : ℕ) where
   unfolding spanOf
   place-out h = rw (lt-leb (at + size k count) n h)
 
--- ---- the bytes there
+-- ---- its bytes
 some-there : (b : Bool) (at n : ℕ) (ws page : List ℕ) → leb (at + n) (length page) ≡ b →
     spanned (cond b (spanAt at n) noSpan) page ≡ bytesIn (cond b (full ws (part at n page)) empty)
 unfolding bytesIn
@@ -64,7 +64,7 @@ pub count-view : (page : List ℕ) (v : View) (k : ℕ) → countOf k (sectionOf
 unfolding countIn readingAnswer
 count-view page v k = count-shown (v .minor) k (sectionOf v k) page
 
--- ---- where the part begins
+-- ---- where the part starts
 some-starts : (b : Bool) (at n : ℕ) (page : List ℕ) → leb (at + n) (length page) ≡ b → spanStart (cond b (spanAt at n) noSpan) page ≡ cond b (spanAt at n) noSpan .at
 some-starts true at n page h = start-in at n page (leb-true (at + n) (length page) h)
 some-starts false at n page h = start-none page
@@ -80,7 +80,7 @@ unfolding spanIn
 answer-starts base page (refused c) k = start-none page
 answer-starts base page (shows w e q s) k = section-starts k (sectionOf (viewAt w e base page) k) page
 
--- the same of the addresses, by the place that was told
+-- the same for addresses, given the span that the code computed
 pub told-starts : (base : ℕ) (page : List ℕ) (n : ReaderAnswer) (k : ℕ) (x : Span) → x ≡ spanIn base page n k → (a b : ℕ × ℕ) → b ≡ onFrom a (spanStart x page) → b ≡ onFrom a (spanIn base page n k .at)
 told-starts base page n k x e a b h = h ∙ rw (e, answer-starts base page n k)
 
@@ -111,7 +111,7 @@ module _ (k at count i j : ℕ) (page : List ℕ) where
   by-tests : wordOf 0 k i j (Entries at count) page ≡ cond (leb (at + size k count) (length page)) (cond (ltb j (wordsPerEntry k)) (getD (wordsAt k count at page) (wordsPerEntry k * i + j) 0) 0) 0
   by-tests = by-shown 0 ∙ rw (shown-plain 0 k (lit≤ tt) (wordsAt k count at page))
 
-  -- a word that is shown as 0, and one that is shown as it stands
+  -- a word that is shown as 0, and one that is shown unchanged
   hidden-tests : (b : Bool) (w : ℕ) → isHidden w k j ≡ b → wordOf w k i j (Entries at count) page ≡ cond b 0 (wordOf 0 k i j (Entries at count) page)
   hidden-tests b w h = go (ltb j (wordsPerEntry k)) refl
     where
@@ -153,11 +153,11 @@ word-hidden w k i j Absent page h = refl
 word-hidden w k i j Empty page h = refl
 word-hidden w k i j (Entries at count) page h = sym (hidden-tests k at count i j page true w h)
 
--- the same by the test and the section as they were told
+-- the same, given the test and the section that the code computed
 pub told-word : (w k i j : ℕ) (s t : Section) (page : List ℕ) (h : Bool) → h ≡ isHidden w k j → h ≡ false → s ≡ t → (r : ℕ) → r ≡ wordOf 0 k i j t page → r ≡ wordOf w k i j s page
 told-word w k i j s t page h ch n e r m = m ∙ rw (← e) (word-unhidden w k i j s page (sym ch ∙ n))
 
--- word j of entry i, below count, lies in the array's words
+-- word j of entry i is within the array's words if i is below count
 pub word-place : (i count j w : ℕ) → i < count → j < w → w * i + j < w * count
 word-place i count j w h l = omega (arith, mul-suc w i, mul-le-mul-left w h)
 
@@ -173,7 +173,7 @@ module _ (r base k : ℕ) (page : List ℕ) where
   answer-of : (x : Reading) → x ≡ readingOf r base page → readingAnswer page x ≡ readOf r base page
   answer-of x h = ap (readingAnswer page) h ∙ reading-answer r base page
 
-  -- of the section that is read alone, by the reading
+  -- the section that is read alone, by the reading
   place-by : (x : Reading) → x ≡ readingOf r base page →
       (spanOf k (sectionRead x k) (length page) ≡ spanIn base page (readOf r base page) k) × (spanned (spanOf k (sectionRead x k) (length page)) page ≡ lookOf r base page k)
   unfolding lookOf lookIn spanOf spanIn readingAnswer sectionRead

@@ -8,15 +8,15 @@ use Rattle.reader.specs.Answer.{ReaderAnswer, countIn, wordIn}
 use Rattle.lookup.specs.declared.ConsoleFound.{ConsoleFound}
 use Rattle.lookup.specs.declared.ConsoleFound.the-variants.{At, Nothing}
 
--- Console i has the 8 bytes given as its name. 01: "name (8 bytes)": the consoles are section 1, and word 2 of one is its name.
+-- Console i has the 8 bytes given as its name. 01: "name (8 bytes)": consoles are section 1, and the name is word 2 of an entry.
 unfoldable pub hasName : ReaderAnswer → List ℕ → ℕ → Bool
 hasName a name i = eqb (wordIn a 1 i 2) (wordAt 0 name)
 
--- the first of n numbers from i on that a test holds of
+-- the first of the n numbers i, i + 1, .. for which f holds
 unfoldable pub firstFrom : ℕ → ℕ → (ℕ → Bool) → ConsoleFound
 firstFrom zero i f = Nothing
 firstFrom (suc n) i f = cond (f i) (At i) (firstFrom n (i + 1) f)
 
--- the first console of an answer with a name
+-- the first console of an answer with this name
 unfoldable pub consoleNamed : ReaderAnswer → List ℕ → ConsoleFound
 consoleNamed a name = firstFrom (countIn a 1) 0 (hasName a name)

@@ -1,5 +1,5 @@
--- For speed: one section of a view is decoded, not four. `count-view` and `word-view` (proofs/Lookups.antt) prove `countOf` equal to `countIn` and `wordOf` equal
--- to `wordIn` (reader/specs/Answer.antt). Assumes nothing.
+-- For speed: decodes one section of a view, not four. `count-view` and `word-view` (proofs/Lookups.antt) prove `countOf` equal to
+-- `countIn` and `wordOf` equal to `wordIn` (reader/specs/Answer.antt). Assumes nothing.
 use Prim.Native.Nat.{ℕ, _*_, _/_}
 use mathlib.Core.List.{List}
 use lib.ListN.{length}
@@ -10,10 +10,10 @@ use Rattle.reader.specs.Reading.{shownAs}
 use Rattle.reader.specs.declared.Section.{Section}
 use Rattle.lookup.specs.Lookup.{spanOf}
 
--- how many entries a section of a view has: as many as its array's bytes hold
+-- the number of entries of a section k: the size of its array / the size of an entry
 unfoldable pub countOf : ℕ → Section → List ℕ → ℕ
 countOf k s page = length (spanned (spanOf k s (length page)) page) / (8 * wordsPerEntry k)
 
--- word j of entry i of a section of a view, on a page of minor w
+-- word j of entry i of a section k, on a page of minor w
 unfoldable pub wordOf : ℕ → ℕ → ℕ → ℕ → Section → List ℕ → ℕ
 wordOf w k i j s page = entryWord k i j (shownAs w k s page)

@@ -12,14 +12,14 @@ use Rattle.reader.specs.Reading.{sectionOf, viewAt}
 use Rattle.reader.specs.declared.Section.{Section}
 use Rattle.reader.specs.declared.Section.the-variants.{Absent, Empty, Entries}
 
--- "the part of the lent page that holds it": where the array of a section k lies in a page of n bytes. "an absent or empty section gives
--- an empty part", and so do, of a view that no reading made, entries that do not lie within the page.
+-- "the part of the lent page that holds it": the span of the array of a section k in a page of n bytes. "an absent or empty section gives
+-- an empty part", and so do entries of a hand-written view that are not within the page (RD15).
 unfoldable pub spanOf : ℕ → Section → ℕ → Span
 spanOf k Absent n = noSpan
 spanOf k Empty n = noSpan
 spanOf k (Entries at count) n = cond (leb (at + size k count) n) (spanAt at (size k count)) noSpan
 
--- the same of a reader's answer: "a refused page .. gives an empty part"
+-- the same for a reader's answer: "a refused page .. gives an empty part"
 unfoldable pub spanIn : ℕ → List ℕ → ReaderAnswer → ℕ → Span
 spanIn base page (refused c) k = noSpan
 spanIn base page (shows w e q s) k = spanOf k (sectionOf (viewAt w e base page) k) (length page)

@@ -1,5 +1,5 @@
-// What can be asked of a page's sections: an array as the part of the lent page that holds it, how many entries it has, and each word of an
-// entry; a console by its name.
+// Lookups in a page's sections (RD12): an array as a part of the lent page, its number of entries, each word of an entry, and a console by
+// its name.
 use reader::Reading;
 use reader::Section;
 use reader::View;
@@ -14,13 +14,13 @@ ghost use Rattle.lookup.specs.Lookup.{spanOf, spanIn};
 ghost use Rattle.lookup.specs.Fast.{countOf, wordOf};
 ghost use Rattle.lookup.specs.Consoles.{consoleNamed};
 
-// A console that is asked for by its name: its number, or that there is none.
+// The result of a search for a console: its index, or `Nothing` if no console has the name.
 pub enum ConsoleFound {
     At(usize),
     Nothing,
 }
 
-// Where count entries of section k at an offset lie in a page of so many bytes; nowhere where they do not lie within it.
+// The span of `count` entries of section `k` at `at` in a page of `room` bytes; empty if they are not within the page.
 fn place_at(room: usize, k: usize, at: usize, count: usize) -> Span
     ensures { λ r. ⌜ r ≡ spanOf k (Section.Entries at count) room ⌝ }
 {
@@ -33,7 +33,7 @@ fn place_at(room: usize, k: usize, at: usize, count: usize) -> Span
     words::span_at(at, 8 * (entries::entry_words(k) * count))
 }
 
-// Where a section's array lies in a page of so many bytes.
+// The span of a section's array in a page of `room` bytes; empty if the section has no entries.
 pub fn place_in(room: usize, section: Section, k: usize) -> Span
     ensures { λ r. ⌜ r ≡ spanOf k section room ⌝ }
 {
@@ -44,8 +44,8 @@ pub fn place_in(room: usize, section: Section, k: usize) -> Span
     }
 }
 
-// Where the array of section k of a view lies in the page: nowhere for a section that is absent or empty, for a number above 3,
-// and, of a view that no reading made, for entries that do not lie within the page.
+// The span of the array of section `k` of a view. Empty if the section is absent or empty or `k` is above 3; also for a hand-written view
+// whose entries are not within the page (RD15).
 pub fn place_of(page: &[u8], view: View, k: usize) -> Span
     ensures { λ r. ⌜ r ≡ spanOf k (sectionOf view k) (length (now (page .entry))) ⌝ }
     ensures { λ r. ⌜ spanned r (now (page .entry)) ≡ lookIn (readingAnswer (now (page .entry)) (Reading.Accepted view)) k ⌝ }
@@ -53,7 +53,7 @@ pub fn place_of(page: &[u8], view: View, k: usize) -> Span
     place_in(page.len(), reader::section_of(view, k), k)
 }
 
-// The array of section k of a view, as the part of the page that holds it; empty where it lies nowhere.
+// The array of section `k` of a view, as a part of the page itself; empty if the section has no entries.
 pub fn array_of(page: &[u8], view: View, k: usize) -> &[u8]
     ensures { λ r. ⌜ now r ≡ lookIn (readingAnswer (now (page .entry)) (Reading.Accepted view)) k ⌝ }
     ensures { λ r. ⌜ r .ptr ≡ onFrom (page .entry .ptr) (spanOf k (sectionOf view k) (length (now (page .entry))) .at) ⌝ }
@@ -61,7 +61,7 @@ pub fn array_of(page: &[u8], view: View, k: usize) -> &[u8]
     words::part_of(page, place_of(page, view, k))
 }
 
-// How many entries a section k has: 0 where its array is empty.
+// The number of entries of a section; 0 if its array is empty.
 pub fn count_in(page: &[u8], section: Section, k: usize) -> usize
     ensures { λ r. ⌜ r ≡ countOf k section (now (page .entry)) ⌝ }
 {
@@ -69,14 +69,14 @@ pub fn count_in(page: &[u8], section: Section, k: usize) -> usize
     array.len() / (8 * entries::entry_words(k))
 }
 
-// The same of section k of a view.
+// The number of entries of section `k` of a view.
 pub fn count_of(page: &[u8], view: View, k: usize) -> usize
     ensures { λ r. ⌜ r ≡ countIn (readingAnswer (now (page .entry)) (Reading.Accepted view)) k ⌝ }
 {
     count_in(page, reader::section_of(view, k), k)
 }
 
-// Whether word j of an entry is shown as 0: a console's flags, from minor 5 on.
+// Whether word `j` of an entry is shown as 0: the flags of a console, from minor 5 on (RD11).
 fn is_hidden(minor: u64, k: usize, j: usize) -> bool
     ensures { λ r. ⌜ r ≡ isHidden minor k j ⌝ }
 {
@@ -89,7 +89,8 @@ fn is_hidden(minor: u64, k: usize, j: usize) -> bool
     4 < minor
 }
 
-// Word j of entry i of count entries of section k at an offset, as it stands: as a page of minor 0 shows it. 0 where there is no such word.
+// Word `j` of entry `i`, unchanged, of `count` entries of section `k` at `at`; 0 if there is no such word. This is what a page of minor 0
+// shows.
 fn word_at(page: &[u8], k: usize, at: usize, count: usize, i: usize, j: usize) -> u64
     ensures { λ r. ⌜ r ≡ wordOf 0 k i j (Section.Entries at count) (now (page .entry)) ⌝ }
 {
@@ -109,7 +110,7 @@ fn word_at(page: &[u8], k: usize, at: usize, count: usize, i: usize, j: usize) -
     words::word_at(page, at + 8 * (step * i + j))
 }
 
-// Word j of entry i of a section k, on a page of that minor: 0 where the section has no entry i, or its entries no word j.
+// Word `j` of entry `i` of a section `k`, on a page of minor `minor`; 0 if there is no such entry or word.
 pub fn word_in(page: &[u8], minor: u64, section: Section, k: usize, i: usize, j: usize) -> u64
     ensures { λ r. ⌜ r ≡ wordOf minor k i j section (now (page .entry)) ⌝ }
 {
@@ -123,15 +124,14 @@ pub fn word_in(page: &[u8], minor: u64, section: Section, k: usize, i: usize, j:
     }
 }
 
-// Word j of entry i of section k of a view, as 01 numbers them from 0: 0 where the section has no entry i, or its entries no
-// word j.
+// Word `j` of entry `i` of section `k` of a view, all numbered from 0; 0 if there is no such entry or word.
 pub fn word_of(page: &[u8], view: View, k: usize, i: usize, j: usize) -> u64
     ensures { λ r. ⌜ r ≡ wordIn (readingAnswer (now (page .entry)) (Reading.Accepted view)) k i j ⌝ }
 {
     word_in(page, view.minor, reader::section_of(view, k), k, i, j)
 }
 
-// The first console of a view whose name's 8 bytes are those given; a name that is shorter is padded with zeros by the caller.
+// The first console of a view whose 8 bytes of name equal `name`. The caller pads a shorter name with zeros.
 pub fn find_console(page: &[u8], view: View, name: &[u8; 8]) -> ConsoleFound
     ensures { λ r. ⌜ r ≡ consoleNamed (readingAnswer (now (page .entry)) (Reading.Accepted view)) (now (name .entry)) ⌝ }
 {
@@ -149,8 +149,8 @@ pub fn find_console(page: &[u8], view: View, name: &[u8; 8]) -> ConsoleFound
     ConsoleFound::Nothing
 }
 
-// Where the array of section k lies in a page at a base, as a reader of an edition finds it; nowhere where it refuses the page or
-// shows no entries.
+// The span of the array of section `k` in a page at `base`, as a reader of `edition` finds it. Empty if the page is refused or the section
+// has no entries.
 pub fn place(page: &[u8], base: u64, edition: u64, k: usize) -> Span
     ensures { λ r. ⌜ r ≡ spanIn base (now (page .entry)) (readOf edition base (now (page .entry))) k ⌝ }
     ensures { λ r. ⌜ spanned r (now (page .entry)) ≡ lookOf edition base (now (page .entry)) k ⌝ }
@@ -158,7 +158,7 @@ pub fn place(page: &[u8], base: u64, edition: u64, k: usize) -> Span
     place_in(page.len(), reader::section_read(page, base, edition, k), k)
 }
 
-// The array lookup: the array of section k as the part of the page that holds it.
+// The array lookup: the array of section `k`, as a part of the page itself.
 pub fn array(page: &[u8], base: u64, edition: u64, k: usize) -> &[u8]
     ensures { λ r. ⌜ now r ≡ lookOf edition base (now (page .entry)) k ⌝ }
     ensures { λ r. ⌜ r .ptr ≡ onFrom (page .entry .ptr) (spanIn base (now (page .entry)) (readOf edition base (now (page .entry))) k .at) ⌝ }

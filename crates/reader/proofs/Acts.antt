@@ -1,4 +1,4 @@
--- A reader accepts exactly under 01's conditions, listed as plain facts. Assumes nothing.
+-- A reader accepts exactly under 01's conditions, given as plain facts. Assumes nothing.
 use Prim.Native.Nat.{ℕ, _+_}
 use mathlib.Core.Path.{_≡_, refl, sym, _∙_}
 use mathlib.Core.Bool.{Bool, true, false}
@@ -61,13 +61,13 @@ module _ (r base : ℕ) (page : List ℕ) (w e : ℕ) (t : Accepts r base page w
       (gate-true _ _ _ _ (place-acts base (length page) (t .place)) (version-acts r (versionAt page) (t .version)) rules-are
       ∙ rw (plat-found e base page (t .fields) (t .taken) (t .plat)))
 
--- A page that meets them all is accepted, and shown as it is.
+-- A page that meets all conditions is accepted and shown.
 pub reads-acts : (r base : ℕ) (page : List ℕ) (w e : ℕ) (t : Accepts r base page w e) → ReadsPage r base page w e (t .fields)
 reads-acts r base page w e t =
     let a = accepts r base page w e t in
     record { shown = λ k. shown w e k (secAt base page k); answer = a; view = shows-page r base page w e _ _ a }
 
--- and only such a page is
+-- Only such a page is accepted.
 pub reads-only : (r base : ℕ) (page : List ℕ) (w e : ℕ) (q : PlatShown) (s : ℕ → Shown) → readOf r base page ≡ shows w e q s → AcceptedPage r base page w e q
 unfolding readOf judge allShown platShown platAt mkPlat okTo apartTo clearTo clearFrom rulesAt
 reads-only r base page w e q s h =

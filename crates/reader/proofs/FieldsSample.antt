@@ -1,5 +1,5 @@
--- 02, E7: pages of edition 1 with a board name, a serial and a raw field, and what is shown and named of them; and pages with fields that are
--- refused. Assumes nothing.
+-- 02, E7: sample pages of edition 1 with a board name, a serial and a raw field, and what is shown and named of them; also pages whose
+-- fields are refused. Assumes nothing.
 use Prim.Native.Nat.{ℕ, _+_}
 use mathlib.Core.Bool.{Bool, true, false}
 use mathlib.Core.Path.{_≡_, refl}
@@ -18,24 +18,24 @@ use Rattle.reader.specs.Answer.{refused, minus, shown, platShown, allSho
 unfoldable pub facts : List ℕ
 facts = 1 ∷ 3 ∷ 0 ∷ 112 ∷ 98 ∷ 49 ∷ 2 ∷ 8 ∷ 0 ∷ 8 ∷ 7 ∷ 6 ∷ 5 ∷ 4 ∷ 3 ∷ 2 ∷ 1 ∷ 9 ∷ 0 ∷ 0 ∷ 0 ∷ 0 ∷ 0 ∷ []
 
--- a 0.1 page for B = 0x80000000 with the platform pointer at an offset, and bytes at the page's start behind the core
+-- a 0.1 page for B = 0x80000000: the platform pointer is B + offset, `bytes` follows the core, and `rest` bytes of 5 follow those
 unfoldable pub pageWith : ℕ → List ℕ → ℕ → List ℕ
 pageWith offset bytes rest = leBytes 8 1 ++ leBytes 8 (0x80000000 + offset) ++ bytes ++ replicate rest 5
 
 pub fields-shown :
-    -- the fields are shown in page order, by any edition; what stands behind the end mark is not
+    -- any edition shows the fields in page order, and nothing after the end mark
     (fieldsShown (readOf 1 0x80000000 (pageWith 16 facts 4057)) ≡ raw 1 (112 ∷ 98 ∷ 49 ∷ []) ∷ raw 2 (8 ∷ 7 ∷ 6 ∷ 5 ∷ 4 ∷ 3 ∷ 2 ∷ 1 ∷ []) ∷ raw 9 [] ∷ [])
     × (fieldsShown (readOf 4 0x80000000 (pageWith 16 facts 4057)) ≡ raw 1 (112 ∷ 98 ∷ 49 ∷ []) ∷ raw 2 (8 ∷ 7 ∷ 6 ∷ 5 ∷ 4 ∷ 3 ∷ 2 ∷ 1 ∷ []) ∷ raw 9 [] ∷ [])
-    -- from the serial on
+    -- a pointer to the serial shows the fields from there on
     × (fieldsShown (readOf 4 0x80000000 (pageWith 22 facts 4057)) ≡ raw 2 (8 ∷ 7 ∷ 6 ∷ 5 ∷ 4 ∷ 3 ∷ 2 ∷ 1 ∷ []) ∷ raw 9 [] ∷ [])
-    -- into the core, at the value's bytes, and out of the page
+    -- refused: a pointer into the core, into a value, and past the page
     × (readOf 4 0x80000000 (pageWith 15 facts 4057) ≡ refused (minus 7))
     × (readOf 4 0x80000000 (pageWith 17 facts 4057) ≡ refused (minus 7))
     × (readOf 4 0x80000000 (pageWith 4096 facts 4057) ≡ refused (minus 7))
 unfolding facts pageWith fieldsShown readOf judge readerGate allShown platShown shown shownFields shownField fieldsIn rules platClear clearBefore platOk isEnded platAt mkPlat foundAt secAt mkSec arrayAt inPage placeOk scanOf scanAll scan step push mkField judged fieldsOk lengthsOk lengthOk count editionOk core sectionCount versionOk aboveOf majorOf minorOf numAt part leBytes leOf every either both
 fields-shown = (refl, refl, refl, refl, refl, refl)
 
--- named are the core, and the fields through their end mark; of broken ones all bytes from the pointer on
+-- named are the core and the fields through their end mark; if the fields are broken, all bytes from the pointer on
 pub fields-named : (map (named 4 0x80000000 (pageWith 16 facts 4057)) (15 ∷ 16 ∷ 38 ∷ 39 ∷ 4095 ∷ []) ≡ true ∷ true ∷ true ∷ false ∷ false ∷ [])
     × (map (named 4 0x80000000 (pageWith 17 facts 4057)) (15 ∷ 16 ∷ 17 ∷ 39 ∷ 4095 ∷ []) ≡ true ∷ false ∷ true ∷ true ∷ true ∷ [])
 unfolding facts pageWith named namedBy inArray inPlat reach foundAt inPage scanOf scanAll scan step push mkField judged fieldsOk lengthsOk lengthOk count core sectionCount versionOk aboveOf majorOf minorOf numAt part leBytes leOf some either both

@@ -1,5 +1,5 @@
--- 02, E3: a page with one console whose flags are set, read at the limit. At minor 4 it is refused; at minor 5 it is accepted, the console
--- is shown with flags 0 and its other words as they stand, and the lookup has the page's bytes. For the readers of editions 3 and 4, which
+-- 02, E3: a sample page with one console whose flags are set, read at the limit. At minor 4 it is refused; at minor 5 it is accepted, the
+-- console is shown with flags 0 and its other words unchanged, and the lookup gives the page's bytes. Holds for editions 3 and 4, which
 -- have consoles. Assumes nothing.
 use Prim.Native.Nat.{ℕ}
 use mathlib.Core.Path.{_≡_, refl}
@@ -20,7 +20,7 @@ use Rattle.reader.specs.Answer.{ReaderAnswer, refused, minus, shown, sho
 unfoldable pub flagged : List ℕ
 flagged = leBytes 8 0x90000000 ++ leBytes 8 1 ++ leBytes 8 0x3131306C70 ++ leBytes 8 24000000 ++ leBytes 8 115200 ++ leBytes 8 1
 
--- a page of a minor for B = 0x80000000: no bank, and this console behind the core of edition 4
+-- a page of this minor for B = 0x80000000: no bank, and this console after the core of edition 4
 unfoldable pub flaggedPage : ℕ → List ℕ
 flaggedPage minor =
     leBytes 4 minor ++ replicate 36 0

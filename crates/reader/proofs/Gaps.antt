@@ -1,5 +1,5 @@
--- No byte is named but the core, the arrays, the fields and, of a page whose version is refused, the first 16. An edition that names every byte
--- fails here. Assumes nothing.
+-- No byte is named except the core, the arrays, the fields and, if the version is refused, the first 16. A definition that names every
+-- byte fails here. Assumes nothing.
 use Prim.Native.Nat.{ℕ, zero, suc, min, _+_, _≤_, _<_}
 use mathlib.Core.Bool.{Bool, true, false, false≢true}
 use mathlib.Core.Logic.{inl, inr}
@@ -31,7 +31,7 @@ beside-not base page i k (inl h) y = let a : pointerAt k page ≤ base + i = leb
 beside-not base page i k (inr (inl h)) y = let a : base + i < pointerAt k page + size k (countAt k page) = ltb-true _ _ (both-r _ _ (both-r _ _ y)) in omega arith
 beside-not base page i k (inr (inr h)) y = false≢true (sym h ∙ both-l _ _ y)
 
--- fields that end reach through their end mark, and no further
+-- fields with an end mark reach through the mark and no further
 pub ended-taken : (s : Scanned) → isEnded s ≡ true → reach s ≡ taken s
 unfolding isEnded reach taken
 ended-taken broken h = absurd (false≢true h)

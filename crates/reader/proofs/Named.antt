@@ -1,4 +1,4 @@
--- The bytes that an edition names are all that a reader looks at. Assumes nothing.
+-- A reader looks only at the bytes that an edition names. Assumes nothing.
 use Prim.Native.Nat.{ℕ, _+_, _-_, _*_, min, _≤_, _<_}
 use mathlib.Core.Bool.{Bool, true, false, cond}
 use mathlib.Core.Path.{_≡_, refl, sym, ap}
@@ -23,7 +23,7 @@ use Rattle.sections.specs.Section.{secOk, clearBefore, platClear, rules}
 use Rattle.reader.specs.Answer.{ReaderAnswer, shown, allShown, readerGate, judge, readOf, inArray, inPlat, namedBy, named}
 use Rattle.reader.proofs.Newer.{shows-same}
 
--- ---- answers by what is read
+-- ---- the answer depends only on what is read
 gate-same : (p v v' o o' : Bool) (c c' : ReaderAnswer) → (Yes p → v ≡ v') → (Yes p → Yes v → (o ≡ o') × (c ≡ c')) → readerGate p v o c ≡ readerGate p v' o' c'
 unfolding readerGate
 gate-same true true v' o o' c c' f g = rw (← f refl, g refl refl .0, g refl refl .1)
@@ -75,7 +75,7 @@ place-length : (base n : ℕ) → Yes (placeOk base n) → Yes (eqb n 4096)
 unfolding placeOk
 place-length base n t = both-l _ _ t
 
--- ---- two pages that agree in core and arrays of an edition
+-- ---- two pages that agree in the core and the arrays of an edition
 module _ (e base : ℕ) (p q : List ℕ) (l : length p ≡ length q) (g : (i : ℕ) → Yes (either (ltb i (core e)) (some (sectionCount e) (inArray base p i))) → getD p i 0 ≡ getD q i 0) where
   pub core-same : (off n : ℕ) → off + n ≤ core e → numAt n off p ≡ numAt n off q
   unfolding numAt

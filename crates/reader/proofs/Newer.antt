@@ -15,7 +15,7 @@ use Rattle.sections.specs.Page.{Sec, Plat}
 use Rattle.sections.specs.Section.{inRange, secOk, platOk, rules}
 use Rattle.reader.specs.Answer.{Shown, PlatShown, ReaderAnswer, refused, shows, shown, platShown, allShown, readerGate, judge, readOf, less}
 
--- ---- what a later edition accepts, an earlier one accepts
+-- ---- an earlier edition accepts what a later one accepts
 module _ (w a b base : ℕ) (h : a ≤ b) where
   low-mono : (q : ℕ) → Yes (leb (base + core b) q) → Yes (leb (base + core a) q)
   unfolding core
@@ -40,7 +40,7 @@ module _ (w a b base : ℕ) (h : a ≤ b) where
 pub never : {n : ℤ} {w e : ℕ} {q : PlatShown} {s : ℕ → Shown} → refused n ≡ shows w e q s → ⊥
 never h = let z : _≡_ {A = ℕ} 0 1 = cc in omega arith
 
--- what an accepted page passed
+-- the checks that an accepted page passed
 pub gate-shows : (p v o : Bool) (c : ReaderAnswer) (w e : ℕ) (q : PlatShown) (s : ℕ → Shown) → readerGate p v o c ≡ shows w e q s → (Yes p × Yes v × Yes o) × (c ≡ shows w e q s)
 unfolding readerGate
 gate-shows true true true c w e q s h = ((refl, refl, refl), h)

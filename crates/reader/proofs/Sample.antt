@@ -1,4 +1,4 @@
--- Example 14's page, read: the reader accepts it and shows its bank. What refuses everything, or shows every page alike, fails
+-- Example 14's page: the reader accepts it and shows its bank. A definition that refuses everything, or shows every page alike, fails
 -- here. Assumes nothing.
 use Prim.Native.Nat.{ℕ}
 use mathlib.Core.Bool.{true, false}
@@ -33,8 +33,8 @@ pub sample : (countIn (readOf 4 0x80000000 page) 0 ≡ 1)
 unfolding bank page countIn entryCount wordIn entryWord lookIn bytesIn readOf judge readerGate allShown platShown shown shownSec rules platClear platExtent taken foundAt clearBefore apart extent secOk inRange nothing wordsIn platOk platAt mkPlat secAt mkSec arrayAt inPage placeOk soundOf checkOk sum shownWords entriesOk entryOk entryRule bankOk size wordsPerEntry editionOk core sectionCount versionOk aboveOf majorOf minorOf wordsOf numAt part leBytes leOf every either both
 sample = (refl, refl, refl, refl, refl)
 
--- the bytes that are named there: the core and the bank up to byte 55; by edition 1 the first 16, and so if the version is refused;
--- of a page that is a byte short none
+-- the bytes named: the core and the bank up to byte 55; for edition 1, or if the version is refused, the first 16; for a page that is one
+-- byte short, none
 pub sample-named : (named 4 0x80000000 page 55 ≡ true)
     × (named 4 0x80000000 page 56 ≡ false)
     × (named 1 0x80000000 page 15 ≡ true)

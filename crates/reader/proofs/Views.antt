@@ -1,4 +1,4 @@
--- What an accepted page shows, field by field. A reader that shows every page alike fails here. Assumes nothing.
+-- What an accepted page shows, field by field. A definition that shows every page alike fails here. Assumes nothing.
 use Prim.Native.Nat.{ℕ, _+_, _-_, _*_, _≤_, _<_, min}
 use mathlib.Core.Path.{_≡_, refl, sym, ap, _∙_}
 use mathlib.Core.Bool.{true, false, cond}
@@ -27,7 +27,7 @@ use Rattle.reader.specs.declared.Section.the-variants.{Entries}
 use Rattle.reader.proofs.Whole.{shown-absent, shown-empty, shown-entries}
 use Rattle.reader.proofs.Newer.{gate-shows}
 
--- entries of a section whose rule holds lie within the page
+-- the entries of a section whose rule holds are within the page
 entries-lie : (w e base k : ℕ) (page : List ℕ) → length page ≡ 4096 → okAt w e base k page ≡ true → (countAt k page ≡ 0 → ⊥) →
     shownAs w k (Entries (pointerAt k page - base) (countAt k page)) page ≡ full (shownWords w k (wordsAt k (countAt k page) (pointerAt k page - base) page)) (part (pointerAt k page - base) (size k (countAt k page)) page)
 unfolding shownAs
@@ -61,7 +61,7 @@ flags-shown w c at i page bs h m =
 pub shows-each : (w w' e e' : ℕ) (q q' : PlatShown) (s s' : ℕ → Shown) → shows w e q s ≡ shows w' e' q' s' → (w ≡ w') × (e ≡ e') × (q ≡ q') × (s ≡ s')
 shows-each w w' e e' q q' s s' h = (cc, cc, cc, cc)
 
--- of a page that a reader accepts
+-- what a reader shows of a page that it accepts
 pub shows-page : (r base : ℕ) (page : List ℕ) (w e : ℕ) (q : PlatShown) (s : ℕ → Shown) → readOf r base page ≡ shows w e q s → PageShown r base page w e q s
 unfolding readOf judge allShown platShown platAt mkPlat rulesAt shownAs
 shows-page r base page w e q s h =

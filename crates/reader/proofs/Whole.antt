@@ -57,7 +57,7 @@ module _ (w e base k : ℕ) (page : List ℕ) where
         le-leb (pointerAt k page - base + size k (countAt k page)) (length page) (omega arith),
       )
 
--- ---- what the code gives of one section
+-- ---- what the code returns for one section
 module _ (e base k : ℕ) (page : List ℕ) where
   pub section-absent : sectionCount e ≤ k → Absent ≡ sectionAt e base page k
   unfolding sectionAt
@@ -85,7 +85,7 @@ shown-at w e base k page n o = go (decLt k (sectionCount e)) (decLt 0 (countAt k
         let y : (countAt k page ≡ 0 → ⊥) = λ q. omega arith in
         ap seenAs (sym (section-entries e base k page l y)) ∙ shown-entries w e base k page n l (o l) y
 
--- ---- the four
+-- ---- the four sections
 section-view : (w e base : ℕ) (page : List ℕ) (k : ℕ) → sectionOf (viewAt w e base page) k ≡ sectionAt e base page k
 unfolding sectionOf viewAt
 section-view w e base page zero = refl
@@ -94,7 +94,7 @@ section-view w e base page (suc (suc zero)) = refl
 section-view w e base page (suc (suc (suc zero))) = refl
 section-view w e base page (suc (suc (suc (suc k)))) = section-absent e base (suc (suc (suc (suc k)))) page (omega (arith, section-count-most e))
 
--- the fields of the view's pointer are those at the page's own
+-- the fields at the view's pointer are the fields at the page's pointer
 cond-else : {A : Type 0} (b : Bool) (x y z : A) → y ≡ z → cond b x y ≡ cond b x z
 cond-else true x y z h = refl
 cond-else false x y z h = h
@@ -122,7 +122,7 @@ view-shows w e base page p t =
     ∙ ap {B = ReaderAnswer} (λ s. shows w e (record { pointer = wordAt 8 page; fields = shownFields (fieldsIn s) }) (λ k. shown w e k (secAt base page k)))
     (fields-view e base (wordAt 8 page) page (n .2) (rules-pointer w e base page t))
 
--- ---- what the enum stands for
+-- ---- what the enum means
 gate-answer : (page : List ℕ) (p v o : Bool) (u : View) (a : ReaderAnswer) → (Yes p → Yes o → readingAnswer page (Accepted u) ≡ a) →
     readingAnswer page (readingGate p v o u) ≡ readerGate p v o a
 unfolding readingAnswer readingGate readerGate
@@ -142,7 +142,7 @@ gate-view true true false u v h = ap (λ x. viewIn x u) h
 gate-view true false o u v h = ap (λ x. viewIn x u) h
 gate-view false q o u v h = ap (λ x. viewIn x u) h
 
--- ---- what the verdict tells of the reading
+-- ---- what the verdict implies for the reading
 abbrev isFine : Verdict → Bool
 isFine (Fine w) = true
 isFine (Wrong c) = false
@@ -171,7 +171,7 @@ module _ (r base : ℕ) (page : List ℕ) where
   pub refused-reads : (c : Refusal) → Wrong c ≡ verdictOf (readingOf r base page) → Refused c ≡ readingOf r base page
   refused-reads c h = verdict-refused c (readingOf r base page) h
 
-  -- a page that is found fine is of the right length, keeps its rules, and is shown
+  -- a page with verdict `Fine` has 4,096 bytes, keeps its rules and is shown
   pub fine-reads : (w : ℕ) → Fine w ≡ verdictOf (readingOf r base page) →
       (length page ≡ 4096) × (rulesAt w (min r w) base page ≡ true) × (Accepted (viewAt w (min r w) base page) ≡ readingOf r base page)
   unfolding readingOf viewAt
@@ -179,7 +179,7 @@ module _ (r base : ℕ) (page : List ℕ) where
       let g = gate-fine _ _ _ _ w h in
       rw (g .2) (placed base (length page) (g .0) .0, g .1, g .3)
 
-  -- and its sections are the page's own
+  -- its sections are those of the page
   pub fine-section : (w k : ℕ) → Fine w ≡ verdictOf (readingOf r base page) → sectionAt (min r w) base page k ≡ sectionRead (readingOf r base page) k
   unfolding sectionRead
   fine-section w k h = sym (section-view w (min r w) base page k) ∙ ap (λ x. sectionRead x k) (fine-reads w h .2)
@@ -196,14 +196,14 @@ module _ (r base : ℕ) (page : List ℕ) where
   unfolding readingOf readOf judge rulesAt
   reading-answer = gate-answer page _ _ _ _ _ (λ p o. view-shows _ _ base page p o)
 
-  -- the view of an accepted page has the places that the page's own pointers name
+  -- the view of an accepted page has the offsets that the page's own pointers give
   pub reading-placed : (v : View) → Accepted v ≡ readingOf r base page → v ≡ viewAt (v .minor) (v .edition) base page
   unfolding readingOf viewAt
   reading-placed v h =
       let e = gate-view _ _ _ _ v h in
       e ∙ sym (ap (λ u. viewAt (u .minor) (u .edition) base page) e)
 
--- ---- what a section of a reading stands for is the answer's
+-- ---- a section of a reading means the section of the answer
 gate-section : (p q o : Bool) (u : View) (k : ℕ) (page : List ℕ) → shownAs (u .minor) k (sectionRead (readingGate p q o u) k) page ≡ shownIn (readingAnswer page (readingGate p q o u)) k
 unfolding readingGate sectionRead readingAnswer shownIn shownAs
 gate-section true true true u k page = refl
@@ -217,7 +217,7 @@ unfolding readingOf viewAt
 section-told r base page k s h =
     (h, ap (λ (x : Section). shownAs (minorOf (versionAt page)) k x page) h ∙ gate-section _ _ _ _ k page ∙ ap (λ a. shownIn a k) (reading-answer r base page))
 
--- ---- the number of a verdict is the answer's
+-- ---- the number of a verdict is the code of the answer
 number-read : (page : List ℕ) (x : Reading) → numberIn (verdictOf x) ≡ codeIn (readingAnswer page x)
 unfolding numberIn verdictOf codeIn readingAnswer
 number-read page (Accepted v) = refl
@@ -252,7 +252,7 @@ module _ (r base : ℕ) (page : List ℕ) where
         unfolding readingOf readingGate both
         read-shows o = rw (h, g, v, o)
 
-        -- the verdict by minor, edition and the test of the rules as they were told
+        -- the verdict, given the minor, the edition and the result of the rules that the code computed
         module _ (w e : ℕ) (cw : w ≡ minorOf (versionAt page)) (ce : e ≡ min r w) (z : Bool) (cz : z ≡ both (placeOk base (length page)) (rulesAt w e base page)) where
           was-rules : (b : Bool) → z ≡ b → rulesAt (minorOf (versionAt page)) (min r (minorOf (versionAt page))) base page ≡ b
           unfolding both

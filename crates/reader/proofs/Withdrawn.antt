@@ -27,7 +27,7 @@ use Rattle.reader.proofs.Newer.{gate-shows, gate-true}
 use Rattle.reader.proofs.Named.{core-same, sec-same, rules-same, view-same, low-page, found-in}
 use Rattle.reader.proofs.Gaps.{some-not, ended-taken}
 
--- ---- platform data that is judged and shown the same
+-- ---- platform data that passes the same tests and is shown the same
 record PlatLike (x y : Plat) : Type 0 where
   at-same : x .at ≡ y .at
   ends : isEnded (x .found) ≡ isEnded (y .found)
@@ -47,7 +47,7 @@ module _ (w e base pad : ℕ) (x y : Plat) (f : ℕ → Sec) (a : PlatLike x y) 
   unfolding allShown platShown
   view-like = rw (a .at-same, a .shown)
 
--- ---- fields that are judged and shown the same
+-- ---- fields that pass the same tests and are shown the same
 record FoundLike (s t : Scanned) : Type 0 where
   ends : isEnded s ≡ isEnded t
   takes : taken s ≡ taken t
@@ -62,10 +62,10 @@ none-found : (base : ℕ) (p q : List ℕ) (at : ℕ) → at ≡ 0 → FoundLike
 unfolding foundAt
 none-found base p q at z = rw (eq-eqb at 0 z) (record { ends = refl; takes = refl; shown = refl })
 
--- ---- a page whose platform data keeps the rules of an edition, and another that differs in withdrawn values alone
+-- ---- a page p whose platform data keeps the rules of an edition, and a page q that differs only in withdrawn values
 module _ (e base : ℕ) (p q : List ℕ) (l : length p ≡ length q) (pos : 0 < base) (a : (i : ℕ) → withdrawnByte base p i ≡ false → getD p i 0 ≡ getD q i 0)
     (o : Yes (platOk e base (platAt base p))) (c : (k : ℕ) → k < sectionCount e → Yes (platClear (platAt base p) (secAt base p) k)) where
-  -- the fields lie behind the core
+  -- the fields of p are after the core
   lies : (i : ℕ) → Yes (inPlat base p i) → (base + core e ≤ wordAt 8 p) × (wordAt 8 p ≤ base + i) × (base + i < wordAt 8 p + taken (foundAt base p (wordAt 8 p)))
   unfolding inPlat platOk platAt mkPlat
   lies i y =
@@ -79,7 +79,7 @@ module _ (e base : ℕ) (p q : List ℕ) (l : length p ≡ length q) (pos : 0 < 
       (leb-true _ _ (both-l _ _ z), lo, rw (← t) hi))
       o
 
-  -- and share no byte with an array
+  -- they share no byte with an array
   array-out : (i : ℕ) → Yes (inPlat base p i) → (k : ℕ) → k < sectionCount e → Yes (inArray base p i k) → ⊥
   unfolding inArray platClear platExtent extent apart platAt mkPlat secAt mkSec
   array-out i y k b z =

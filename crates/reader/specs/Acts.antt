@@ -1,4 +1,4 @@
--- When a reader accepts: 01's conditions as plain facts, with none of the tests that the code is held to. Assumes nothing.
+-- When a reader accepts: 01's conditions as plain facts, without the tests that the code is proved against. Assumes nothing.
 use Prim.Native.Nat.{ℕ, _+_, _*_, _^_, min, _≤_, _<_}
 use mathlib.Core.Path.{_≡_}
 use mathlib.Core.Logic.{_⊎_}
@@ -12,31 +12,31 @@ use Rattle.sections.specs.Facts.{PlaceFacts, SectionFacts, ApartFacts, PlatFact
 use Rattle.reader.specs.Answer.{Shown, PlatShown, refused, shows, minus, readOf}
 use Rattle.reader.specs.Views.{PageShown}
 
--- a reader of edition r and a page of version v: none of "reader edition not 1 to 4; manifest version not accepted"; "bit 31 zero, major 0,
--- minor 1 or more"
+-- a reader of edition r and a page of version v: none of "reader edition not 1 to 4; manifest version not accepted"; "bit 31 zero, major
+-- 0, minor 1 or more"
 abbrev pub VersionFacts : ℕ → ℕ → Type 0
 VersionFacts r v = (1 ≤ r) × (r ≤ 4) × (1 ≤ v) × (v < 2 ^ 16)
 
--- A reader of edition r, on a page of minor w, works with e = the smaller of r and w. "It accepts when all hold":
+-- A reader of edition r, on a page of minor w, works with e = min(r, w). "It accepts when all hold":
 pub record Accepts (r base : ℕ) (page : List ℕ) (w e : ℕ) : Type 0 where
-  -- none of -5
+  -- no -5: P1 and P2 hold
   pub place : PlaceFacts base (length page)
-  -- none of -6; the version of such a page is its minor
+  -- no -6: V1 and V2 hold; the version of such a page equals its minor
   pub version : VersionFacts r (halfAt 0 page)
   pub minor : w ≡ halfAt 0 page
   pub edition : e ≡ min r w
-  -- "padding is zero"
+  -- "padding is zero" (R1)
   pub padding : halfAt 4 page ≡ 0
-  -- plat_data, and the fields that it points at, which take so many bytes through their end mark
+  -- plat_data, and the fields that it points at, which take `taken` bytes through their end mark
   pub fields : List Field
   pub taken : ℕ
   pub plat : PlatFacts e base page fields taken
   -- each section of e by itself
   pub sections : (k : ℕ) → k < sectionCount e → SectionFacts w e base page k
-  -- "no two arrays overlap"
+  -- "no two arrays overlap" (S5)
   pub apart : (j k : ℕ) → j < k → k < sectionCount e →
       ApartFacts j (wordAt (16 + 24 * j) page) (wordAt (24 + 24 * j) page) k (wordAt (16 + 24 * k) page) (wordAt (24 + 24 * k) page)
-  -- 02, E7: fields "overlap no array that the reader reads"
+  -- 02, E7: fields "overlap no array that the reader reads" (F5)
   pub clear : (k : ℕ) → k < sectionCount e →
       (wordAt 8 page + taken ≤ wordAt (24 + 24 * k) page) ⊎ (wordAt (24 + 24 * k) page + size k (wordAt (16 + 24 * k) page) ≤ wordAt 8 page)
 
@@ -44,18 +44,18 @@ pub record Accepts (r base : ℕ) (page : List ℕ) (w e : ℕ) : Type 0 where
 abbrev pub platWith : List ℕ → List Field → PlatShown
 platWith page fs = record { pointer = wordAt 8 page; fields = shownFields fs }
 
--- the answer then: w, e, plat_data, the fields and each section as the page has them
+-- the answer to such a page: w, e, plat_data, the fields and each section as the page has them
 pub record ReadsPage (r base : ℕ) (page : List ℕ) (w e : ℕ) (fs : List Field) : Type 0 where
   pub shown : ℕ → Shown
   pub answer : readOf r base page ≡ shows w e (platWith page fs) shown
   pub view : PageShown r base page w e (platWith page fs) shown
 
--- an answer came under these conditions, and shows the fields that they name
+-- the conditions hold for an accepted page, and the answer shows the fields that they name
 pub record AcceptedPage (r base : ℕ) (page : List ℕ) (w e : ℕ) (q : PlatShown) : Type 0 where
   pub conditions : Accepts r base page w e
   pub plat : q ≡ platWith page (conditions .fields)
 
--- "in this order of checks": the code of a page that does not meet them
+-- "in this order of checks": the code of a page that does not meet the conditions
 pub record Refuses (r base : ℕ) (page : List ℕ) : Type 0 where
   pub place : (PlaceFacts base (length page) → ⊥) → readOf r base page ≡ refused (minus 5)
   pub version : PlaceFacts base (length page) → (VersionFacts r (halfAt 0 page) → ⊥) → readOf r base page ≡ refused (minus 6)

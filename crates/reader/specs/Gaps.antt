@@ -13,20 +13,20 @@ use Rattle.fields.specs.Fields.{isEnded, taken}
 use Rattle.sections.specs.Page.{versionAt, countAt, pointerAt, inPage, foundAt}
 use Rattle.reader.specs.Answer.{named}
 
--- byte i lies before the array of section k or behind it, or that array does not lie within the page
+-- byte i is before or after the array of section k, or that array is not within the page
 abbrev pub BesideArray : ℕ → List ℕ → ℕ → ℕ → Type 0
 BesideArray base page i k =
     (base + i < pointerAt k page)
     ⊎ ((pointerAt k page + size k (countAt k page) ≤ base + i) ⊎ (inPage base (pointerAt k page) (size k (countAt k page)) ≡ false))
 
--- byte i lies before the fields, or behind the end mark of fields that have one, or their pointer does not lie within the page. Of broken
--- fields every byte of the page from the pointer on is named, so none lies behind them.
+-- byte i is before the fields, or after the end mark of fields that have one, or their pointer is not within the page. If the fields are
+-- broken, every byte from the pointer to the page's end is named, so no byte is after them.
 abbrev pub BesideFields : ℕ → List ℕ → ℕ → Type 0
 BesideFields base page i =
     (base + i < wordAt 8 page)
     ⊎ (((isEnded (foundAt base page (wordAt 8 page)) ≡ true) × (wordAt 8 page + taken (foundAt base page (wordAt 8 page)) ≤ base + i)) ⊎ (inPage base (wordAt 8 page) 1 ≡ false))
 
--- no byte is named but those that 01 and 02, E7 give; the edition is the smaller of the reader's and the page's minor
+-- no byte is named except those of 01 and of 02, E7; the edition is min(r, w), w being the page's minor
 pub record OthersUnnamed (r base : ℕ) (page : List ℕ) : Type 0 where
   -- "The bytes an edition names are its core and each array that its sections place within the page", and the fields
   pub gap : (i : ℕ) → core (min r (minorOf (versionAt page))) ≤ i →

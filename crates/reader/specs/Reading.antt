@@ -1,4 +1,4 @@
--- What the reader's enum stands for: 01's numbers and values, with the page that it was read from. Assumes nothing.
+-- What the reader's enums mean: 01's numbers and values, given the page that was read. Assumes nothing.
 use Prim.Native.Nat.{ℕ, zero, suc, _+_, _-_, _%_, min}
 use mathlib.Core.Bool.{Bool, true, false, cond}
 use mathlib.Core.List.{List, []}
@@ -25,13 +25,13 @@ use Rattle.reader.specs.declared.Reading.the-variants.{Accepted, Refused
 use Rattle.reader.specs.declared.Verdict.{Verdict}
 use Rattle.reader.specs.declared.Verdict.the-variants.{Fine, Refused as Wrong}
 
--- 01's codes
+-- 01's code of a refusal
 abbrev pub refusalNumber : Refusal → ℤ
 refusalNumber Place = minus 5
 refusalNumber Version = minus 6
 refusalNumber Rules = minus 7
 
--- section k of a view; a number above 3 is none
+-- section k of a view; absent if k is above 3
 unfoldable pub sectionOf : View → ℕ → Section
 sectionOf v zero = v .dram
 sectionOf v (suc zero) = v .console
@@ -39,24 +39,26 @@ sectionOf v (suc (suc zero)) = v .ncoh
 sectionOf v (suc (suc (suc zero))) = v .coh
 sectionOf v (suc (suc (suc (suc k)))) = Absent
 
--- Section k of a view on a page of minor w. Of a view that no reading made, entries that do not lie within the page are none.
+-- Section k of a view on a page of minor w. Entries of a hand-written view that are not within the page count as none.
 unfoldable pub shownAs : ℕ → ℕ → Section → List ℕ → Shown
 shownAs w k Absent page = absent
 shownAs w k Empty page = empty
 shownAs w k (Entries at count) page =
     cond (leb (at + size k count) (length page)) (full (shownWords w k (wordsAt k count at page)) (part at (size k count) page)) empty
 
--- The fields of a view's platform pointer. B is a multiple of 4,096, so the pointer's remainder is their place in the page. Of a view that
--- no reading made they are whatever stands at that place, and none where it is broken.
+-- The fields of a view's platform pointer q. B is a multiple of 4,096, so q % 4096 is their offset in the page. For a hand-written view
+-- they are the fields at that offset; none if those are broken.
 unfoldable pub fieldsOf : ℕ → List ℕ → Scanned
 fieldsOf q page = cond (eqb q 0) (ended [] 0) (scanOf (drop (q % 4096) page))
 
+-- the answer that a reading means, given its page
 unfoldable pub readingAnswer : List ℕ → Reading → ReaderAnswer
 readingAnswer page (Refused c) = refused (refusalNumber c)
 readingAnswer page (Accepted v) =
     shows (v .minor) (v .edition) (record { pointer = v .plat; fields = shownFields (fieldsIn (fieldsOf (v .plat) page)) }) (λ k. shownAs (v .minor) k (sectionOf v k) page)
 
--- ---- where the arrays lie: an array is "the part of the lent page that holds it", at its pointer
+-- ---- where the arrays are: an array is "the part of the lent page that holds it", at its pointer
+-- section k of an accepted page read as edition e
 unfoldable pub sectionAt : ℕ → ℕ → List ℕ → ℕ → Section
 sectionAt e base page k =
     cond (ltb k (sectionCount e)) (cond (eqb (countAt k page) 0) Empty (Entries (pointerAt k page - base) (countAt k page))) Absent
@@ -74,7 +76,7 @@ viewAt w e base page =
       coh = sectionAt e base page 3;
     }
 
--- ---- what the reader gives
+-- ---- the reader's result
 -- the checks in 01's order, as in `readerGate`
 unfoldable pub readingGate : Bool → Bool → Bool → View → Reading
 readingGate true true true v = Accepted v
@@ -82,24 +84,24 @@ readingGate true true false v = Refused Rules
 readingGate true false o v = Refused Version
 readingGate false a o v = Refused Place
 
--- of a reader of edition r at base B; that it stands for `readOf` is law `reading-answer`
+-- the reading of a reader of edition r at base B; law `reading-answer` proves that it means `readOf`
 unfoldable pub readingOf : ℕ → ℕ → List ℕ → Reading
 readingOf r base page =
     readingGate (placeOk base (length page)) (both (editionOk r) (versionOk (versionAt page)))
     (rulesAt (minorOf (versionAt page)) (min r (minorOf (versionAt page))) base page)
     (viewAt (minorOf (versionAt page)) (min r (minorOf (versionAt page))) base page)
 
--- the verdict in it: the minor of a page that is accepted, or the code
+-- the verdict of a reading: the minor of an accepted page, or the refusal
 unfoldable pub verdictOf : Reading → Verdict
 verdictOf (Accepted v) = Fine (v .minor)
 verdictOf (Refused c) = Wrong c
 
--- its number: 0, or 01's code
+-- the number of a verdict: 0, or 01's code
 unfoldable pub numberIn : Verdict → ℤ
 numberIn (Fine w) = pos 0
 numberIn (Wrong c) = refusalNumber c
 
--- section k of a reading: absent where the page is refused
+-- section k of a reading; absent if the page is refused
 unfoldable pub sectionRead : Reading → ℕ → Section
 sectionRead (Accepted v) k = sectionOf v k
 sectionRead (Refused c) k = Absent

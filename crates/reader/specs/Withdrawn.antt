@@ -1,5 +1,5 @@
--- 02, E10: what a withdrawn value is not: read. The bytes that an edition names contain it ("through the end mark"), so demand 3 does not say
--- it. Assumes nothing.
+-- 02, E10: a withdrawn value is not read (FD9). The bytes that an edition names contain it ("through the end mark"), so demand 3 does not
+-- cover this. Assumes nothing.
 use Prim.Native.Nat.{ℕ, _+_, _-_}
 use mathlib.Core.Bool.{Bool, false}
 use mathlib.Core.Path.{_≡_}
@@ -12,11 +12,12 @@ use Rattle.fields.specs.Withdrawn.{inWithdrawn}
 use Rattle.sections.specs.Page.{foundAt}
 use Rattle.reader.specs.Answer.{Shown, PlatShown, shows, readOf, inPlat}
 
--- byte i of the page is one of the fields, and lies in the value of one that is withdrawn
+-- byte i of the page is in the value of a withdrawn field
 unfoldable pub withdrawnByte : ℕ → List ℕ → ℕ → Bool
 withdrawnByte base page i = both (inPlat base page i) (inWithdrawn (fieldsIn (foundAt base page (wordAt 8 page))) (base + i - wordAt 8 page))
 
--- Two pages of one length that differ in the withdrawn value of the first alone: a reader that accepts the first answers the same of both.
+-- If two pages of equal length differ only in the withdrawn value of the first, and a reader accepts the first, it gives both the same
+-- answer.
 abbrev pub ValueUnread : Type 0
 ValueUnread =
     (r base : ℕ) (p q : List ℕ) → length p ≡ length q → ((i : ℕ) → withdrawnByte base p i ≡ false → getD p i 0 ≡ getD q i 0) →

@@ -1,4 +1,4 @@
-// The manifest reader: a lent page is judged where it lies, and shown as a view of places in it.
+// The manifest reader: checks a lent page in place and returns a view of offsets in it.
 use versions::Edition;
 ghost use mathlib.Core.Path.{_≡_};
 ghost use mathlib.Core.Bool.{true};
@@ -11,14 +11,14 @@ ghost use Rattle.sections.specs.Steps.{okAt, okTo};
 ghost use Rattle.reader.specs.Answer.{codeIn, shownIn, readOf};
 ghost use Rattle.reader.specs.Reading.{shownAs, readingAnswer, refusalNumber, sectionOf, sectionAt, viewAt, readingOf, verdictOf, numberIn, sectionRead};
 
-// What is shown of a section: not in the edition, 24 zero bytes, or so many entries at an offset of the page.
+// What is shown of a section (RD10): absent (not in the edition), empty (24 zero bytes), or `count` entries at offset `at` of the page.
 pub enum Section {
     Absent,
     Empty,
     Entries { at: usize, count: usize },
 }
 
-// All that an accepted page shows: its minor, the edition that it was read as, the platform pointer and the four sections.
+// Everything that an accepted page shows: its minor, the edition that it was read as, the platform pointer and the four sections.
 pub struct View {
     pub minor: u64,
     pub edition: u64,
@@ -29,25 +29,26 @@ pub struct View {
     pub coh: Section,
 }
 
-// Why a page is refused: its place (-5), the edition or the version (-6), any other rule (-7).
+// Why a page is refused: length or base (-5), edition or version (-6), any other rule (-7).
 pub enum Refusal {
     Place,
     Version,
     Rules,
 }
 
+// A reader's answer: the view of an accepted page, or why the page is refused.
 pub enum Reading {
     Accepted(View),
     Refused(Refusal),
 }
 
-// The verdict alone: the minor of a page that is accepted, or why it is refused.
+// The verdict alone: the minor of an accepted page, or why the page is refused.
 pub enum Verdict {
     Fine(u64),
     Refused(Refusal),
 }
 
-// The code's number.
+// The number of a refusal: -5, -6 or -7.
 pub fn number(code: Refusal) -> i32
     ensures { λ r. ⌜ r ≡ refusalNumber code ⌝ }
 {
@@ -58,7 +59,7 @@ pub fn number(code: Refusal) -> i32
     }
 }
 
-// What is shown of section k, whose rule holds if it is in edition e.
+// What is shown of section `k`. If `k` is in edition `e`, its rule holds.
 fn section_at(page: &[u8], base: u64, minor: u64, e: Edition, k: u8) -> Section
     requires { ⌜ (length (now page) ≡ 4096) × (k < sectionCount (e .minor) → okAt minor (e .minor) base k (now page) ≡ true) ⌝ }
     ensures { λ r. ⌜ r ≡ sectionAt (e .minor) base (now (page .entry)) k ⌝ }
@@ -92,7 +93,7 @@ fn view_at(page: &[u8], base: u64, minor: u64, e: Edition) -> View
     }
 }
 
-// The edition that a reader of an edition reads a page of that minor as: the smaller.
+// The edition that a reader of `edition` reads a page of minor `minor` as: min(edition, minor).
 pub fn edition_read(edition: u64, minor: u64) -> Edition
     ensures { λ r. ⌜ r .minor ≡ min edition minor ⌝ }
 {
@@ -101,7 +102,8 @@ pub fn edition_read(edition: u64, minor: u64) -> Edition
     }
 }
 
-// Judges a lent page at a base, as a reader of an edition: the first code in the order of the checks, or that none holds.
+// Checks a lent page at `base` as a reader of `edition` (RD1, RD2). Returns the page's minor, or the first refusal in the order of the
+// checks.
 pub fn judge_page(page: &[u8], base: u64, edition: u64) -> Verdict
     ensures { λ r. ⌜ r ≡ verdictOf (readingOf edition base (now (page .entry))) ⌝ }
     ensures { λ r. ⌜ numberIn r ≡ codeIn (readOf edition base (now (page .entry))) ⌝ }
@@ -124,8 +126,8 @@ pub fn judge_page(page: &[u8], base: u64, edition: u64) -> Verdict
     Verdict::Fine(minor)
 }
 
-// Reads a lent page at a base, as a reader of an edition: all that it shows, or the first code in the order of the checks. The
-// view's places are those that the page's own pointers name.
+// Reads a lent page at `base` as a reader of `edition`. Returns everything that the page shows, or the first refusal in the order of the
+// checks. The offsets in the view are those that the page's own pointers give.
 pub fn read(page: &[u8], base: u64, edition: u64) -> Reading
     ensures { λ r. ⌜ r ≡ readingOf edition base (now (page .entry)) ⌝ }
     ensures { λ r. ⌜ readingAnswer (now (page .entry)) r ≡ readOf edition base (now (page .entry)) ⌝ }
@@ -140,8 +142,8 @@ pub fn read(page: &[u8], base: u64, edition: u64) -> Reading
     }
 }
 
-// Section k of a lent page at a base, as a reader of an edition reads it, without its view: absent where it refuses the page, and so is a
-// number above 3.
+// Section `k` of a lent page at `base`, as a reader of `edition` reads it, without building the view. Absent if the page is refused or `k`
+// is above 3.
 pub fn section_read(page: &[u8], base: u64, edition: u64, k: usize) -> Section
     ensures { λ r. ⌜ r ≡ sectionRead (readingOf edition base (now (page .entry))) k ⌝ }
     ensures { λ r. ⌜ shownAs (minorOf (versionAt (now (page .entry)))) k r (now (page .entry)) ≡ shownIn (readOf edition base (now (page .entry))) k ⌝ }
@@ -156,7 +158,7 @@ pub fn section_read(page: &[u8], base: u64, edition: u64, k: usize) -> Section
     section_at(page, base, w, edition_read(edition, w), k as u8)
 }
 
-// Section k of a view; a number above 3 is absent.
+// Section `k` of a view. Absent if `k` is above 3.
 pub fn section_of(view: View, k: usize) -> Section
     ensures { λ r. ⌜ r ≡ sectionOf view k ⌝ }
 {

@@ -1,4 +1,4 @@
--- The tests of sections and platform data hold exactly where the plain facts do. Assumes nothing.
+-- The tests of sections and platform data hold exactly if the plain facts do. Assumes nothing.
 use Prim.Native.Nat.{ℕ, _+_, _-_, _*_, _%_, _^_, _≤_, _<_}
 use mathlib.Core.Path.{_≡_, refl, sym, ap, _∙_}
 use mathlib.Core.Bool.{true, false, false≢true}
@@ -61,7 +61,7 @@ module _ (w e base k : ℕ) (page : List ℕ) where
       inr (array-only g (rw (array-in e base k (countAt k page) (pointerAt k page) g page) at y)))
       h
 
--- ---- two spans
+-- ---- two ranges
 leb-acts : (a b c d : ℕ) → (a ≤ b) ⊎ (c ≤ d) → Yes (either (leb a b) (leb c d))
 leb-acts a b c d t = ⊎-elim (λ l. either-l _ _ (le-leb a b l)) (λ l. either-r _ _ (le-leb c d l)) t
 

@@ -1,4 +1,4 @@
--- The arrays and the fields of a page whose rules hold take no more than what its core leaves. Assumes nothing.
+-- The arrays and fields of a page whose rules hold fit together between its core and its end. Assumes nothing.
 use Prim.Native.Nat.{ℕ, suc, _+_, _-_, _≤_, _<_}
 use mathlib.Core.Path.{_≡_}
 use mathlib.Core.Bool.{true, cond}
@@ -20,12 +20,12 @@ use Rattle.sections.specs.Steps.{okAt, endOf, apartAt, clearTo, apartTo,
 use Rattle.sections.proofs.Sections.{range-low, range-high, found-within, rules-steps, rules-at, rules-pointer}
 use Rattle.sections.proofs.Spans.{addedUp, NoneShared, AllWithin, spans-fit}
 
--- ---- where the fields lie
+-- ---- where the fields are
 taken-none : (base q : ℕ) (page : List ℕ) → q ≡ 0 → taken (foundAt base page q) ≡ 0
 unfolding foundAt taken
 taken-none base q page z = rw (eq-eqb q 0 z)
 
--- the fields of a page whose rules hold take no byte, or lie behind the core
+-- the fields of a page whose rules hold have no bytes, or are between the core and the page's end
 pub fields-lie : (e base : ℕ) (page : List ℕ) → length page ≡ 4096 → platOk e base (platAt base page) ≡ true →
     (taken (foundAt base page (wordAt 8 page)) ≡ 0) ⊎ ((base + core e ≤ wordAt 8 page) × (wordAt 8 page + taken (foundAt base page (wordAt 8 page)) ≤ base + 4096))
 unfolding platOk platAt mkPlat
@@ -38,12 +38,12 @@ fields-lie e base page n h =
     inr (l, omega (arith, found-within base (wordAt 8 page) page n)))
     h
 
--- ---- where the arrays lie
+-- ---- where the arrays are
 size-none : (k c : ℕ) → c ≡ 0 → size k c ≡ 0
 unfolding size
 size-none k c e = rw e (omega arith)
 
--- the array of a section whose rule holds is empty, or lies behind the core
+-- the array of a section whose rule holds is empty, or is between the core and the page's end
 module _ (w e base : ℕ) (page : List ℕ) where
   pub array-lies : (k : ℕ) → okAt w e base k page ≡ true →
       (size k (countAt k page) ≡ 0) ⊎ ((base + core e ≤ pointerAt k page) × (pointerAt k page + size k (countAt k page) ≤ base + 4096))
@@ -71,7 +71,7 @@ module _ (w e base : ℕ) (page : List ℕ) where
       (λ t. inr (leb-true _ _ t))
       (every-at i (λ j. apartAt i j page) (every-at n (λ i. clearTo i i page) h i g) j l)
 
-  -- where the arrays of the edition lie and, as one span more, the fields
+  -- the spans of the arrays of the edition, and of the fields as the last one
   unfoldable spanFrom : ℕ → ℕ
   spanFrom k = cond (ltb k (sectionCount e)) (pointerAt k page) (wordAt 8 page)
 
@@ -103,6 +103,6 @@ module _ (w e base : ℕ) (page : List ℕ) where
             let o : j < sectionCount e = omega arith in
             rw (le-ltb i (sectionCount e) (omega arith), lt-ltb j (sectionCount e) o) (fields-apart (sectionCount e) (rest-apart .1) j o)
 
-    -- all arrays and the fields together take no more than what the core leaves of the page
+    -- all arrays and the fields together have at most 4096 - core e bytes
     pub arrays-fit : core e ≤ 4096 → base + core e + addedUp (suc (sectionCount e)) spanLength ≤ base + 4096
     arrays-fit c = spans-fit (suc (sectionCount e)) spanFrom spanLength (base + core e) (base + 4096) (omega arith) spans-within spans-apart

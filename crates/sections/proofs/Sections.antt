@@ -23,7 +23,7 @@ use Rattle.fields.proofs.Same.{taken-room}
 use Rattle.fields.specs.declared.FieldsEnd.{FieldsEnd}
 use Rattle.fields.specs.declared.FieldsEnd.the-variants as fieldsEnd
 
--- ---- the place of a page
+-- ---- base and length of a page
 pub placed : (base n : ℕ) → Yes (placeOk base n) → (n ≡ 4096) × (0 < base) × (base % 4096 ≡ 0) × (base ≤ 2 ^ 52 - 4096)
 unfolding placeOk
 placed base n t =
@@ -45,7 +45,7 @@ module _ (e base k c p : ℕ) (h : inRange e base k c p ≡ true) where
   unfolding inRange
   range-high = leb-true _ _ (both-r _ _ h)
 
-  -- the array is then within the page
+  -- such an array is within the page
   pub array-in : (page : List ℕ) → arrayAt base page p (size k c) ≡ part (p - base) (size k c) page
   unfolding arrayAt inPage
   array-in page =
@@ -69,7 +69,7 @@ module _ (w e base k : ℕ) (page : List ℕ) where
   unfolding okAt secOk secAt mkSec either both wordsIn wordsAt
   ok-sound h g = rw (h, g, array-in e base k (countAt k page) (pointerAt k page) g page)
 
-  -- an array that begins behind the core: whether it is in range is whether it ends within the page
+  -- an array that starts after the core is in range exactly if it ends within the page
   pub ok-placed : nothing (countAt k page) (pointerAt k page) (checkAt k page) ≡ false → base + core e ≤ pointerAt k page → length page ≡ 4096 →
       okAt w e base k page ≡ both (leb (pointerAt k page - base + size k (countAt k page)) (length page))
       (soundOf w k (countAt k page) (pointerAt k page) (checkAt k page) (wordsAt k (countAt k page) (pointerAt k page - base) page))
@@ -85,12 +85,12 @@ module _ (w e base k : ℕ) (page : List ℕ) where
           rw (lt-leb (pointerAt k page - base + size k (countAt k page)) (length page) (omega arith))
           (ok-range h (rw (le-leb (base + core e) (pointerAt k page) g, lt-leb (pointerAt k page + size k (countAt k page)) (base + 4096) (omega arith))))
 
-  -- one that begins before it
+  -- an array that starts before the core's end breaks the rule
   pub ok-low : nothing (countAt k page) (pointerAt k page) (checkAt k page) ≡ false → pointerAt k page < base + core e → okAt w e base k page ≡ false
   unfolding inRange both
   ok-low h g = ok-range h (rw (lt-leb (base + core e) (pointerAt k page) g))
 
-  -- the same by the three words as they were read
+  -- the same, given the three words that the code read
   module _ (n p x : ℕ) (cn : n ≡ countAt k page) (cp : p ≡ pointerAt k page) (cx : x ≡ checkAt k page) (z : Bool) (cz : z ≡ nothing n p x) where
     was-nothing : nothing (countAt k page) (pointerAt k page) (checkAt k page) ≡ z
     was-nothing = rw (← cn, ← cp, ← cx) (sym cz)
@@ -111,7 +111,7 @@ module _ (w e base k : ℕ) (page : List ℕ) where
   unfolding okAt secOk secAt mkSec nothing
   ok-in-range h z = either-cases _ _ (λ n. absurd (z (eqb-true _ _ (both-l _ _ n)))) (λ n. both-l _ _ n) h
 
-  -- a good section ends within the page
+  -- the array of a good section ends within the page
   pub ok-end : okAt w e base k page ≡ true → endOf k page ≤ base + 4096
   unfolding okAt secOk secAt mkSec nothing endOf
   ok-end h =
@@ -129,7 +129,7 @@ module _ (w e base : ℕ) (page : List ℕ) where
   unfolding okTo
   ok-none = every-none (λ k. okAt w e base k page)
 
-  -- by what was told of one
+  -- one more section, given the code's result for it
   pub ok-more : (n : ℕ) → okTo w e base n page ≡ true → (z : Bool) → z ≡ okAt w e base n page → z ≡ true → okTo w e base (n + 1) page ≡ true
   unfolding okTo
   ok-more n p z c q = every-more n (λ k. okAt w e base k page) p (sym c ∙ q)
@@ -156,7 +156,7 @@ module _ (page : List ℕ) where
   unfolding clearTo
   clear-more i j p q = every-more j (λ j. apartAt i j page) p q
 
-  -- the array of section i by its two addresses
+  -- the array of section i, given its two addresses
   pub pair-apart : (i j from to : ℕ) → from ≡ pointerAt i page → to ≡ endOf i page → clearAt from to j page ≡ apartAt i j page
   unfolding clearAt apartAt
   pair-apart i j from to p q = rw (p, q)
@@ -191,7 +191,7 @@ module _ (from to : ℕ) (page : List ℕ) where
   unfolding clearFrom clearAt either
   clear-from-0 n z = every-of n (λ k. clearAt from to k page) (λ k l. rw (le-leb to (pointerAt k page) (omega arith)))
 
--- one array, as the code compares: by its length, since its end may be no address
+-- one array, compared as in the code: by its size, because its end may exceed 2^64
 module _ (from to k : ℕ) (page : List ℕ) where
   clear-below : to ≤ pointerAt k page → clearAt from to k page ≡ true
   unfolding clearAt either
@@ -210,7 +210,7 @@ module _ (from to k : ℕ) (page : List ℕ) where
         go (yes l) = rw (le-leb (size k (countAt k page)) (from - pointerAt k page) l, le-leb (pointerAt k page + size k (countAt k page)) from (omega arith))
         go (no l) = rw (lt-leb (size k (countAt k page)) (from - pointerAt k page) (omega arith), lt-leb (pointerAt k page + size k (countAt k page)) from (omega arith))
 
-  -- the same by the words as they were read
+  -- the same, given the words that the code read
   module _ (p : ℕ) (cp : p ≡ pointerAt k page) where
     pub told-below : to ≤ p → true ≡ clearAt from to k page
     told-below h = sym (clear-below (rw (← cp) h))
@@ -222,14 +222,14 @@ module _ (from to k : ℕ) (page : List ℕ) where
       pub told-above : p ≤ from → (n : ℕ) → n ≡ countAt k page → (r : Bool) → r ≡ leb (size k n) (from - p) → r ≡ clearAt from to k page
       told-above g n cn r q = q ∙ rw (cn, cp) (sym (clear-above (rw (← cp) h) (rw (← cp) g)))
 
--- fields that a reader takes, as the pass over them tells
+-- fields that a reader accepts, given the result of the pass over them
 pub end-told : (s : Scanned) → cond (isEnded s) (fieldsEnd.Ended (taken s)) fieldsEnd.Broken ≡ endTold s
 unfolding isEnded taken endTold
 end-told broken = refl
 end-told (ended fs n) = refl
 end-told (bare fs) = refl
 
--- the platform data, as the pointer lies
+-- the platform data, by where the pointer is
 module _ (e base q : ℕ) (page : List ℕ) where
   pub plat-none : q ≡ 0 → platEnd e base (mkPlat q (foundAt base page q)) ≡ fieldsEnd.Ended 0
   unfolding platEnd platOk mkPlat foundAt either taken
@@ -251,7 +251,7 @@ module _ (e base q : ℕ) (page : List ℕ) where
           rw (ne-eqb q 0 n, le-leb (base + core e) q h, lt-ltb q (base + 4096) l, le-leb base q (omega arith), le-leb (q + 1) (base + 4096) (omega arith))
           (end-told (scanOf (drop (q - base) page)))
 
--- what the pass over the fields tells of the rule
+-- what the result of the pass over the fields implies for the rule
 by-broken : (b : Bool) (n : ℕ) → fieldsEnd.Broken ≡ cond b (fieldsEnd.Ended n) fieldsEnd.Broken → b ≡ false
 by-broken true n h = absurd (let z : _≡_ {A = ℕ} 0 1 = cc in omega arith)
 by-broken false n h = refl
@@ -269,7 +269,7 @@ module _ (e base : ℕ) (q : Plat) where
   unfolding platEnd
   plat-ended m h = by-ended (platOk e base q) (taken (q .found)) m h
 
--- fields take no more bytes than there are from the pointer to the page's end
+-- the fields have at most as many bytes as there are from the pointer to the page's end
 taken-case : (b : Bool) (s t : Scanned) (n : ℕ) → taken s ≤ n → taken t ≤ n → taken (cond b s t) ≤ n
 taken-case true s t n x y = x
 taken-case false s t n x y = y
@@ -284,7 +284,7 @@ found-within base q page l =
 pub found-room : (base q : ℕ) (page : List ℕ) → length page ≡ 4096 → taken (foundAt base page q) ≤ 4096
 found-room base q page l = omega (arith, found-within base q page l)
 
--- so they end where no address wraps
+-- so the address after them does not wrap
 pub plat-top : (e base : ℕ) (page : List ℕ) → length page ≡ 4096 → platOk e base (platAt base page) ≡ true →
     wordAt 8 page + taken (foundAt base page (wordAt 8 page)) ≤ base + 8192
 unfolding platOk platAt mkPlat
@@ -329,7 +329,7 @@ module _ (w e base : ℕ) (page : List ℕ) where
         unfolding both
         rules-clear a = rw (rules-steps w e base page, eq-eqb (paddingAt page) 0 p, q, o, a)
 
--- the same by the words as they were read and the answers that were told
+-- the same, given the words that the code read and the results of its calls
 module _ (w e base : ℕ) (page : List ℕ) (d : ℕ) (cd : d ≡ paddingAt page) where
   pub told-padding : (d ≡ 0 → ⊥) → false ≡ rulesAt w e base page
   told-padding n = sym (rules-padding w e base page (λ z. n (cd ∙ z)))
@@ -391,7 +391,7 @@ module _ (w e base k from to : ℕ) (page : List ℕ) where
     unfolding staysAt both
     stays-clear a = rw (o, a)
 
--- the same by the words as they were read and the answers that were told
+-- the same, given the words that the code read and the results of its calls
 module _ (w e base k : ℕ) (page : List ℕ) (z : Bool) (c : z ≡ okAt w e base k page) where
   pub told-end : z ≡ true → endOf k page ≤ base + 4096
   told-end h = ok-end w e base k page (sym c ∙ h)

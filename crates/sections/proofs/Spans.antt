@@ -1,4 +1,4 @@
--- Spans that share no byte are together no longer than the room that they all lie in. Assumes nothing.
+-- Spans that share no byte are together at most as long as the room that contains them. Assumes nothing.
 use Prim.Native.Nat.{ℕ, zero, suc, _+_, _≤_, _<_}
 use mathlib.Core.Path.{_≡_, refl}
 use mathlib.Core.Bool.{Bool, true, false, cond}
@@ -13,11 +13,11 @@ unfoldable pub addedUp : ℕ → (ℕ → ℕ) → ℕ
 addedUp zero f = 0
 addedUp (suc n) f = addedUp n f + f n
 
--- of n spans, each of s k bytes from at k on: no two share a byte
+-- n spans, span k being [at k, at k + s k): no two share a byte
 abbrev pub NoneShared : ℕ → (ℕ → ℕ) → (ℕ → ℕ) → Type 0
 NoneShared n at s = (i j : ℕ) → j < i → i < n → (at i + s i ≤ at j) ⊎ (at j + s j ≤ at i)
 
--- and each is empty, or lies from lo up to hi
+-- each span is empty or within [lo, hi)
 abbrev pub AllWithin : ℕ → (ℕ → ℕ) → (ℕ → ℕ) → ℕ → ℕ → Type 0
 AllWithin n at s lo hi = (k : ℕ) → k < n → (s k ≡ 0) ⊎ ((lo ≤ at k) × (at k + s k ≤ hi))
 
@@ -42,11 +42,11 @@ module _ (at s : ℕ → ℕ) (m : ℕ) where
   all-parts zero = refl
   all-parts (suc n) = omega (arith, all-parts n, both-parts n)
 
--- shorter spans share nothing either
+-- shorter spans share no byte either
 shorter : (n : ℕ) (at s t : ℕ → ℕ) → ((k : ℕ) → t k ≤ s k) → NoneShared n at s → NoneShared n at t
 shorter n at s t h a i j l g = ⊎-elim (λ u. inl (omega (arith, h i))) (λ u. inr (omega (arith, h j))) (a i j l g)
 
--- ---- by the last span: the others lie below it or above it
+-- ---- by the last span: the others are below it or above it
 module _ (n : ℕ) (at s : ℕ → ℕ) (lo hi : ℕ) (w : AllWithin (suc n) at s lo hi) (a : NoneShared (suc n) at s) where
   below : AllWithin n at (lower at s (at n)) lo (at n)
   unfolding lower

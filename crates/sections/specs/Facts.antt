@@ -1,6 +1,6 @@
--- The rules of sections and platform data as plain facts of the page's words, with none of the tests that the code is held to. w is the page's
--- minor, e the edition that it is read as. The numbers of the tables that they cite are laws: `core-sizes` (versions), `per-one`,
--- `per-other`, `size-one`, `size-other` (entries). Assumes nothing.
+-- The rules of sections and platform data as plain facts about the page's words, without the tests that the code is proved against. w is
+-- the page's minor, e the edition that it is read as. The numbers of the tables that they cite are laws: `core-sizes` (versions),
+-- `per-one`, `per-other`, `size-one`, `size-other` (entries). Assumes nothing.
 use Prim.Native.Nat.{ℕ, _+_, _-_, _*_, _%_, _^_, _≤_, _<_}
 use mathlib.Core.Path.{_≡_}
 use mathlib.Core.Logic.{_⊎_}
@@ -17,8 +17,9 @@ use Rattle.fields.specs.Facts.{FieldsKeep, FieldsStand}
 abbrev pub PlaceFacts : ℕ → ℕ → Type 0
 PlaceFacts base n = (n ≡ 4096) × (0 < base) × (base % 4096 ≡ 0) × (base ≤ 2 ^ 52 - 4096)
 
--- section k with count c, pointer p and checksum s: "count 1 or more, a pointer that is a multiple of 8, and an array wholly between the core of e
--- and the page's end", "count, pointer, all 8-byte words of the array and the checksum itself sum to 0 modulo 2^64", and its entries' rules
+-- section k with count c, pointer p and checksum s: "count 1 or more, a pointer that is a multiple of 8, and an array wholly between the
+-- core of e and the page's end", "count, pointer, all 8-byte words of the array and the checksum itself sum to 0 modulo 2^64", and its
+-- entries' rules
 pub record ArrayFacts (w e base : ℕ) (page : List ℕ) (k c p s : ℕ) : Type 0 where
   pub counted : 1 ≤ c
   pub align : p % 8 ≡ 0
@@ -27,18 +28,19 @@ pub record ArrayFacts (w e base : ℕ) (page : List ℕ) (k c p s : ℕ) : Type 
   pub checksum : (c + p + wordsSum (p - base) (wordsPerEntry k * c) page + s) % 2 ^ 64 ≡ 0
   pub entries : EntriesFacts w k c (p - base) page
 
--- "each section of e is either 24 zero bytes (shown as empty), or has .." these; "A section is 24 bytes: count, pointer, checksum", the first at 16
+-- "each section of e is either 24 zero bytes (shown as empty), or has .." these; "A section is 24 bytes: count, pointer, checksum", the
+-- first at 16
 abbrev pub SectionFacts : ℕ → ℕ → ℕ → List ℕ → ℕ → Type 0
 SectionFacts w e base page k =
     ((wordAt (16 + 24 * k) page ≡ 0) × (wordAt (24 + 24 * k) page ≡ 0) × (wordAt (32 + 24 * k) page ≡ 0))
     ⊎ ArrayFacts w e base page k (wordAt (16 + 24 * k) page) (wordAt (24 + 24 * k) page) (wordAt (32 + 24 * k) page)
 
--- one of two arrays, with count c and pointer p each, ends where the other begins, or before
+-- of two arrays, given section, count and pointer of each, one ends at or before the start of the other
 abbrev pub ApartFacts : ℕ → ℕ → ℕ → ℕ → ℕ → ℕ → Type 0
 ApartFacts k c p k' c' p' = (p + size k c ≤ p') ⊎ (p' + size k' c' ≤ p)
 
--- "plat_data is 0 or lies from B + core size of e to B + 4,095"; 02, E7: "Fields through the end mark must lie in the page". The fields are fs, and
--- take n bytes through their end mark; "no pointer, shows an empty list"
+-- "plat_data is 0 or lies from B + core size of e to B + 4,095"; 02, E7: "Fields through the end mark must lie in the page". The fields
+-- are fs, of n bytes through their end mark; "no pointer, shows an empty list"
 abbrev pub PlatFacts : ℕ → ℕ → List ℕ → List Field → ℕ → Type 0
 PlatFacts e base page fs n =
     ((wordAt 8 page ≡ 0) × (fs ≡ []) × (n ≡ 0))

@@ -1,5 +1,5 @@
--- When a reader accepts: "It accepts when all hold". w is the page's minor, e the edition that it is read as, and f says what
--- the page holds of each section. Assumes nothing.
+-- When a reader accepts: "It accepts when all hold". w is the page's minor, e the edition that it is read as, and f k is what the page
+-- holds of section k. Assumes nothing.
 use Prim.Native.Nat.{ℕ, _+_, _*_}
 use mathlib.Core.Bool.{Bool}
 use mathlib.Core.List.{List}
@@ -12,8 +12,8 @@ use Rattle.entries.specs.Array.{soundOf}
 use Rattle.fields.specs.Fields.{isEnded, taken}
 use Rattle.sections.specs.Page.{Sec, Plat, paddingAt, platAt, secAt}
 
--- "plat_data is 0 or lies from B + core size of e to B + 4,095"; 02, E7: "Fields through the end mark must lie in the page": "broken fields
--- are -7"
+-- "plat_data is 0 or lies from B + core size of e to B + 4,095" (R2); 02, E7: "Fields through the end mark must lie in the page": "broken
+-- fields are -7" (F1 to F4)
 unfoldable pub platOk : ℕ → ℕ → Plat → Bool
 platOk e base q = either (eqb (q .at) 0) (both (leb (base + core e) (q .at)) (both (ltb (q .at) (base + 4096)) (isEnded (q .found))))
 
@@ -21,34 +21,35 @@ platOk e base q = either (eqb (q .at) 0) (both (leb (base + core e) (q .at)) (bo
 unfoldable pub wordsIn : ℕ → Sec → List ℕ
 wordsIn k s = wordsOf (wordsPerEntry k * s .count) (s .bytes)
 
--- "24 zero bytes (shown as empty)"
+-- "24 zero bytes (shown as empty)" (RD8)
 unfoldable pub nothing : ℕ → ℕ → ℕ → Bool
 nothing c p s = both (eqb c 0) (both (eqb p 0) (eqb s 0))
 
--- "an array wholly between the core of e and the page's end"
+-- "an array wholly between the core of e and the page's end" (S3)
 unfoldable pub inRange : ℕ → ℕ → ℕ → ℕ → ℕ → Bool
 inRange e base k c p = both (leb (base + core e) p) (leb (p + size k c) (base + 4096))
 
--- The rule of section k by itself: "each section of e is either 24 zero bytes .., or has count 1 or more, a pointer that is a
--- multiple of 8, and an array wholly between the core of e and the page's end", with its checksum and its entries' rules.
+-- The rule of section k by itself: "each section of e is either 24 zero bytes .., or has count 1 or more, a pointer that is a multiple of
+-- 8, and an array wholly between the core of e and the page's end", with its checksum and its entries' rules.
 unfoldable pub secOk : ℕ → ℕ → ℕ → ℕ → Sec → Bool
 secOk w e base k s =
     either (nothing (s .count) (s .ptr) (s .chk))
     (both (inRange e base k (s .count) (s .ptr)) (soundOf w k (s .count) (s .ptr) (s .chk) (wordsIn k s)))
 
--- the addresses of an array, from one up to another
+-- a range of addresses [from, to)
 pub record Extent : Type 0 where
   pub from : ℕ
   pub to : ℕ
 
+-- the addresses of a section's array
 unfoldable pub extent : ℕ → Sec → Extent
 extent k s = record { from = s .ptr; to = s .ptr + size k (s .count) }
 
--- two spans that share no byte; they may touch
+-- two ranges share no byte; they may touch
 unfoldable pub apart : Extent → Extent → Bool
 apart a b = either (leb (a .to) (b .from)) (leb (b .to) (a .from))
 
--- "no two arrays overlap": section i stands apart from each section before it
+-- "no two arrays overlap" (S5): the array of section i misses the array of each section before it
 unfoldable pub clearBefore : (ℕ → Sec) → ℕ → Bool
 clearBefore f i = every i (λ j. apart (extent i (f i)) (extent j (f j)))
 
@@ -56,7 +57,7 @@ clearBefore f i = every i (λ j. apart (extent i (f i)) (extent j (f j)))
 unfoldable pub platExtent : Plat → Extent
 platExtent q = record { from = q .at; to = q .at + taken (q .found) }
 
--- 02, E7: the fields "overlap no array that the reader reads"
+-- 02, E7: the fields "overlap no array that the reader reads" (F5); here the array of section k
 unfoldable pub platClear : Plat → (ℕ → Sec) → ℕ → Bool
 platClear q f k = apart (platExtent q) (extent k (f k))
 
@@ -68,6 +69,6 @@ rules w e base pad q f =
     (both (every (sectionCount e) (λ k. secOk w e base k (f k)))
     (both (every (sectionCount e) (λ k. clearBefore f k)) (every (sectionCount e) (λ k. platClear q f k)))))
 
--- the same of a page
+-- the same for a page
 unfoldable pub rulesAt : ℕ → ℕ → ℕ → List ℕ → Bool
 rulesAt w e base page = rules w e base (paddingAt page) (platAt base page) (secAt base page)

@@ -1,6 +1,6 @@
--- For the loops. `rules-steps` (proofs/Sections.antt) proves `okTo`, `apartTo` and `clearFrom` of all sections of an edition together equal to `rulesAt`
--- (Section.antt), with padding and platform data; `plat-broken` and `plat-ended` (there too) `platEnd` equal to `platOk`. `staysAt` is what the mender
--- asks of one section. Assumes nothing.
+-- For the loops. `rules-steps` (proofs/Sections.antt) proves `okTo`, `apartTo` and `clearFrom` of all sections of an edition together
+-- equal to `rulesAt` (Section.antt), with padding and platform data; `plat-broken` and `plat-ended` (also there) `platEnd` equal to
+-- `platOk`. `staysAt` is what the mender needs of one section. Assumes nothing.
 use Prim.Native.Nat.{ℕ, _+_}
 use mathlib.Core.Bool.{Bool, cond}
 use mathlib.Core.List.{List}
@@ -13,7 +13,7 @@ use Rattle.fields.specs.declared.FieldsEnd.the-variants.{Broken, Ended}
 use Rattle.sections.specs.Page.{countAt, pointerAt, secAt, Plat}
 use Rattle.sections.specs.Section.{platOk, secOk}
 
--- the platform data: how many bytes the fields take through their end mark, or that its rule is broken
+-- the platform data: the number of bytes of the fields through their end mark, or broken
 unfoldable pub platEnd : ℕ → ℕ → Plat → FieldsEnd
 platEnd e base q = cond (platOk e base q) (Ended (taken (q .found))) Broken
 
@@ -21,11 +21,11 @@ platEnd e base q = cond (platOk e base q) (Ended (taken (q .found))) Broken
 unfoldable pub okAt : ℕ → ℕ → ℕ → ℕ → List ℕ → Bool
 okAt w e base k page = secOk w e base k (secAt base page k)
 
--- the rule of each of the first n sections by itself
+-- each of the first n sections keeps its rule by itself
 unfoldable pub okTo : ℕ → ℕ → ℕ → ℕ → List ℕ → Bool
 okTo w e base n page = every n (λ k. okAt w e base k page)
 
--- the address at which the array of section k ends
+-- the address after the array of section k
 unfoldable pub endOf : ℕ → List ℕ → ℕ
 endOf k page = pointerAt k page + size k (countAt k page)
 
@@ -41,15 +41,15 @@ clearTo i n page = every n (λ j. apartAt i j page)
 unfoldable pub apartTo : ℕ → List ℕ → Bool
 apartTo n page = every n (λ i. clearTo i i page)
 
--- the addresses from one up to another share none with the array of section k
+-- [from, to) misses the array of section k
 unfoldable pub clearAt : ℕ → ℕ → ℕ → List ℕ → Bool
 clearAt from to k page = either (leb to (pointerAt k page)) (leb (endOf k page) from)
 
--- and with none of the first n
+-- [from, to) misses the first n arrays
 unfoldable pub clearFrom : ℕ → ℕ → ℕ → List ℕ → Bool
 clearFrom from to n page = every n (λ k. clearAt from to k page)
 
--- section k keeps its rule by itself, its array overlaps none before it, and shares no address from one up to another
+-- section k keeps its rule by itself, and its array misses those of the sections before it and [from, to)
 unfoldable pub staysAt : ℕ → ℕ → ℕ → ℕ → ℕ → ℕ → List ℕ → Bool
 staysAt w e base k from to page =
     both (okAt w e base k page) (both (clearFrom (pointerAt k page) (endOf k page) k page) (clearAt from to k page))

@@ -1,5 +1,5 @@
-// The rules of a manifest's page, read where its words lie: the place, the padding, the platform pointer with its fields, each section
-// by itself, and that no two arrays overlap, nor fields and an array.
+// The rules of a manifest page, read in place: base and length, padding, the platform pointer with its fields, each section by itself, and
+// that no two arrays overlap, nor the fields and an array.
 use fields::FieldsEnd;
 use versions::Edition;
 ghost use mathlib.Core.Bool.{cond};
@@ -13,7 +13,7 @@ ghost use Rattle.sections.specs.Section.{nothing, rulesAt};
 ghost use Rattle.sections.specs.Steps.{platEnd, okAt, okTo, endOf, apartTo, clearAt, clearFrom, staysAt};
 ghost use Rattle.fields.specs.declared.FieldsEnd.the-variants.{Broken};
 
-// Whether a page of n bytes at this base is a place for a manifest.
+// Whether a page of `n` bytes at `base` can hold a manifest (P1, P2).
 pub fn place_ok(base: u64, n: usize) -> bool
     ensures { λ r. ⌜ r ≡ placeOk base n ⌝ }
 {
@@ -32,40 +32,43 @@ pub fn place_ok(base: u64, n: usize) -> bool
     true
 }
 
-// The fields of the core, in place.
+// The version: 4 bytes at offset 0.
 pub fn version_at(page: &[u8]) -> u64
     ensures { λ r. ⌜ r ≡ versionAt (now (page .entry)) ⌝ }
 {
     words::half_at(page, 0)
 }
 
+// The padding: 4 bytes at offset 4.
 pub fn padding_at(page: &[u8]) -> u64
     ensures { λ r. ⌜ r ≡ paddingAt (now (page .entry)) ⌝ }
 {
     words::half_at(page, 4)
 }
 
-// Count, pointer and checksum of section k.
+// The count of section `k`.
 pub fn count_at(page: &[u8], k: u8) -> u64
     ensures { λ r. ⌜ r ≡ countAt k (now (page .entry)) ⌝ }
 {
     words::word_at(page, 16 + 24 * (k as usize))
 }
 
+// The pointer of section `k`.
 pub fn pointer_at(page: &[u8], k: u8) -> u64
     ensures { λ r. ⌜ r ≡ pointerAt k (now (page .entry)) ⌝ }
 {
     words::word_at(page, 24 + 24 * (k as usize))
 }
 
+// The checksum of section `k`.
 pub fn check_at(page: &[u8], k: u8) -> u64
     ensures { λ r. ⌜ r ≡ checkAt k (now (page .entry)) ⌝ }
 {
     words::word_at(page, 32 + 24 * (k as usize))
 }
 
-// The rule of the platform pointer and of the fields that it points at, on a page read as edition e: how many bytes they take
-// through their end mark, none without a pointer; or that the rule is broken. Here and below size is that of the edition's core, told once.
+// The rule of the platform pointer and its fields, on a page read as edition `e` (R2, F1 to F4): the number of bytes of the fields through
+// their end mark, 0 without a pointer, or broken. `size`, here and below, is the core size of `e`, which the caller computes once.
 fn plat_end(page: &[u8], base: u64, e: Edition, size: u64, plat: u64) -> FieldsEnd
     requires { ⌜ (length (now page) ≡ 4096) × (base ≤ 0x10_0000_0000_0000) × (size ≡ core (e .minor)) × (size ≤ 112) ⌝ }
     ensures { λ r. ⌜ r ≡ platEnd (e .minor) base (mkPlat plat (foundAt base (now (page .entry)) plat)) ⌝ }
@@ -83,7 +86,7 @@ fn plat_end(page: &[u8], base: u64, e: Edition, size: u64, plat: u64) -> FieldsE
     fields::scan_at(page, at)
 }
 
-// Whether a section's three words are zero.
+// Whether the three words of a section are 0.
 pub fn is_nothing(count: u64, pointer: u64, check: u64) -> bool
     ensures { λ r. ⌜ r ≡ nothing count pointer check ⌝ }
 {
@@ -99,7 +102,8 @@ pub fn is_nothing(count: u64, pointer: u64, check: u64) -> bool
     true
 }
 
-// The rule of section k by itself, on a page of that minor read as edition e. That the array ends within the page is for `sound_at` to say.
+// Whether section `k` by itself keeps its rule, on a page of minor `minor` read as edition `e`. `sound_at` checks that the array ends
+// within the page.
 fn section_ok(page: &[u8], base: u64, minor: u64, e: Edition, size: u64, k: u8) -> bool
     requires { ⌜ (length (now page) ≡ 4096) × (base ≤ 0x10_0000_0000_0000) × (size ≡ core (e .minor)) × (size ≤ 112) ⌝ }
     ensures { λ r. ⌜ r ≡ okAt minor (e .minor) base k (now (page .entry)) ⌝ }
@@ -117,7 +121,7 @@ fn section_ok(page: &[u8], base: u64, minor: u64, e: Edition, size: u64, k: u8) 
     entries::sound_at(page, minor, k as usize, at, count, pointer, check)
 }
 
-// The rule of each of the first n sections by itself.
+// Whether each of the first `n` sections keeps its rule by itself.
 fn sections_ok(page: &[u8], base: u64, minor: u64, e: Edition, size: u64, n: u8) -> bool
     requires { ⌜ (length (now page) ≡ 4096) × (base ≤ 0x10_0000_0000_0000) × (size ≡ core (e .minor)) × (size ≤ 112) ⌝ }
     ensures { λ r. ⌜ r ≡ okTo minor (e .minor) base n (now (page .entry)) ⌝ }
@@ -130,7 +134,7 @@ fn sections_ok(page: &[u8], base: u64, minor: u64, e: Edition, size: u64, n: u8)
     true
 }
 
-// The address at which the array of section k ends.
+// The address after the array of section `k`.
 fn end_of(page: &[u8], k: u8) -> u64
     requires { ⌜ endOf k (now page) < 0x1_0000_0000_0000_0000 ⌝ }
     ensures { λ r. ⌜ r ≡ endOf k (now (page .entry)) ⌝ }
@@ -153,8 +157,8 @@ pub fn is_clear(page: &[u8], from: u64, to: u64, k: u8) -> bool
     entries::fits(k as usize, count_at(page, k), from - pointer)
 }
 
-// Whether no two of the first n arrays overlap: each pair in turn, up to the first clash. An empty section has pointer and
-// count 0 and clashes with none. Section i is read once for all its pairs.
+// Whether no two of the first `n` arrays overlap (S5). Compares the pairs in turn, up to the first overlap, and reads section `i` once for
+// all its pairs. An empty section has pointer and count 0 and overlaps none.
 fn all_apart(page: &[u8], n: u8) -> bool
     requires { ⌜ (n ≤ 4) × ((k : ℕ) → k < n → endOf k (now page) < 0x1_0000_0000_0000_0000) ⌝ }
     ensures { λ r. ⌜ r ≡ apartTo n (now (page .entry)) ⌝ }
@@ -173,8 +177,7 @@ fn all_apart(page: &[u8], n: u8) -> bool
     ok
 }
 
-// Whether those addresses share none with the first n arrays. Where `to` is 0 there are no
-// addresses, as for fields without a pointer.
+// Whether [from, to) misses the first `n` arrays. If `to` is 0 there is nothing to compare: no fields without a pointer.
 fn all_clear(page: &[u8], from: u64, to: u64, n: u8) -> bool
     ensures { λ r. ⌜ r ≡ clearFrom from to n (now (page .entry)) ⌝ }
 {
@@ -189,7 +192,7 @@ fn all_clear(page: &[u8], from: u64, to: u64, n: u8) -> bool
     true
 }
 
-// The rules of a page of that minor, read as edition e.
+// Whether a page of minor `minor`, read as edition `e`, keeps R1, R2 and all rules of its fields and sections (-7).
 fn rules_ok(page: &[u8], base: u64, minor: u64, e: Edition) -> bool
     requires { ⌜ (length (now page) ≡ 4096) × (base ≤ 0x10_0000_0000_0000) ⌝ }
     ensures { λ r. ⌜ r ≡ rulesAt minor (e .minor) base (now (page .entry)) ⌝ }
@@ -214,7 +217,7 @@ fn rules_ok(page: &[u8], base: u64, minor: u64, e: Edition) -> bool
     all_clear(page, plat, end, n)
 }
 
-// Whether a page is a place for a manifest and keeps its rules, of that minor and read as edition e.
+// Whether a page of minor `minor`, read as edition `e`, has a good base and length and keeps all rules of its contents.
 pub fn page_ok(page: &[u8], base: u64, minor: u64, e: Edition) -> bool
     ensures { λ r. ⌜ r ≡ both (placeOk base (length (now (page .entry)))) (rulesAt minor (e .minor) base (now (page .entry))) ⌝ }
 {
@@ -224,8 +227,8 @@ pub fn page_ok(page: &[u8], base: u64, minor: u64, e: Edition) -> bool
     rules_ok(page, base, minor, e)
 }
 
-// The rule of a page's platform pointer and its fields alone: how many bytes the fields take, or that it is broken. It is broken on a page
-// that is no place for a manifest.
+// The rule of the platform pointer and its fields alone: the number of bytes of the fields, or broken. Also broken if base or length is
+// bad.
 pub fn plat_rule(page: &[u8], base: u64, e: Edition) -> FieldsEnd
     ensures { λ r. ⌜ r ≡ cond (placeOk base (length (now (page .entry)))) (platEnd (e .minor) base (platAt base (now (page .entry)))) Broken ⌝ }
 {
@@ -235,8 +238,7 @@ pub fn plat_rule(page: &[u8], base: u64, e: Edition) -> FieldsEnd
     plat_end(page, base, e, e.core_size(), words::word_at(page, 8))
 }
 
-// Whether section k keeps its rule by itself, and its array shares no address with those of the sections before it, nor with those from
-// one up to another.
+// Whether section `k` keeps its rule by itself, and its array misses the arrays of the sections before it and [from, to).
 pub fn section_stays(
     page: &[u8],
     base: u64,

@@ -37,7 +37,7 @@ section-count-last (suc (suc zero)) h = omega arith
 section-count-last (suc (suc (suc zero))) h = omega arith
 section-count-last (suc (suc (suc (suc n)))) h = refl
 
--- a later edition has the sections of an earlier one
+-- a later edition has all sections of an earlier one
 section-count-step : (n : ℕ) → sectionCount n ≤ sectionCount (suc n)
 unfolding sectionCount
 section-count-step zero = lit≤ tt
@@ -56,7 +56,7 @@ section-count-min a b = go (decLe a b)
     go (yes h) = rw (let e : min a b ≡ a = omega arith in e) (omega (arith, section-count-mono a b h))
     go (no h) = rw (let e : min a b ≡ b = omega arith in e) (let l : sectionCount b ≤ sectionCount a = section-count-mono b a (omega arith) in omega arith)
 
--- the editions that there are
+-- the editions are 1 to 4
 pub edition-of : (r : ℕ) → 1 ≤ r → r ≤ 4 → Yes (editionOk r)
 unfolding editionOk
 edition-of r a b = both-of _ _ (le-leb 1 r a) (le-leb r 4 b)

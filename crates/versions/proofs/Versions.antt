@@ -1,4 +1,4 @@
--- What a version's fields say of it as a number. Assumes nothing.
+-- What the fields of a version imply for its number. Assumes nothing.
 use Prim.Native.Nat.{ℕ, _/_, _%_, _^_, _≤_, _<_}
 use mathlib.Core.Path.{_≡_}
 use mathlib.Core.Bool.{Bool}
@@ -10,7 +10,7 @@ use Rattle.words.specs.Tests.{Yes, both, either}
 use Rattle.words.proofs.Tests.{both-l, both-r, both-of, either-l, either-r, either-cases, same-test}
 use Rattle.versions.specs.Version.{minorOf, majorOf, aboveOf, versionOk, later}
 
--- an accepted version is its minor
+-- an accepted version equals its minor
 pub version-minor : (v : ℕ) → Yes (versionOk v) → (minorOf v ≡ v) × (1 ≤ v)
 unfolding versionOk minorOf majorOf aboveOf
 version-minor v h =
@@ -19,7 +19,7 @@ version-minor v h =
     let c : 1 ≤ v % 2 ^ 16 = leb-true _ _ (both-r _ _ (both-r _ _ h)) in
     (omega arith, omega arith)
 
--- and each number from 1 to 65,535 is one
+-- each number from 1 to 65,535 is an accepted version
 pub version-of : (v : ℕ) → 1 ≤ v → v < 2 ^ 16 → Yes (versionOk v)
 unfolding versionOk minorOf majorOf aboveOf
 version-of v a b =
@@ -28,7 +28,7 @@ version-of v a b =
     let z : 1 ≤ v % 2 ^ 16 = omega arith in
     both-of _ _ (eq-eqb (v / 2 ^ 31) 0 x) (both-of _ _ (eq-eqb (v / 2 ^ 16 % 2 ^ 15) 0 y) (le-leb 1 (v % 2 ^ 16) z))
 
--- of two versions the later has the larger major, or the same and the larger minor
+-- the later of two versions has the larger major, or the same major and the larger minor
 module _ (a b : ℕ) (h : a < 2 ^ 31) (g : b < 2 ^ 31) where
   abbrev byFields : Bool
   byFields = either (ltb (majorOf b) (majorOf a)) (both (eqb (majorOf b) (majorOf a)) (ltb (minorOf b) (minorOf a)))

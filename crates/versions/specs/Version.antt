@@ -1,4 +1,4 @@
--- 01, Versions. Assumes nothing.
+-- 01, Versions (VN1 to VN4). Assumes nothing.
 use Prim.Native.Nat.{ℕ, _/_, _%_, _^_, min}
 use mathlib.Core.Bool.{Bool}
 use lib.Dec.{leb, ltb, eqb}
@@ -12,7 +12,7 @@ minorOf v = v % 2 ^ 16
 unfoldable pub majorOf : ℕ → ℕ
 majorOf v = v / 2 ^ 16 % 2 ^ 15
 
--- bit 31 zero." Of a number above 32 bits, all that lies above bit 30.
+-- bit 31 zero." For a number above 32 bits: all bits above bit 30.
 unfoldable pub aboveOf : ℕ → ℕ
 aboveOf v = v / 2 ^ 31
 
@@ -20,7 +20,7 @@ aboveOf v = v / 2 ^ 31
 unfoldable pub versionOk : ℕ → Bool
 versionOk v = both (eqb (aboveOf v) 0) (both (eqb (majorOf v) 0) (leb 1 (minorOf v)))
 
--- whether a is later than b: versions are numbers, the major above the minor
+-- whether a is later than b: versions compare as numbers, the major above the minor
 unfoldable pub later : ℕ → ℕ → Bool
 later a b = ltb b a
 

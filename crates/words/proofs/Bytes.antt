@@ -1,4 +1,4 @@
--- Lists of bytes: numbers read from them are small, and words read from them are, written again, those bytes. Assumes nothing.
+-- Lists of bytes: bounds of the numbers read from them, and that writing these numbers gives the bytes back. Assumes nothing.
 use Prim.Native.Nat.{ℕ, zero, suc, _+_, _-_, _*_, _/_, _%_, _^_, _≤_, _<_}
 use mathlib.Core.Path.{_≡_, refl, ap, _∙_}
 use mathlib.Core.List.{List, [], _∷_, _++_, append-nil}
@@ -12,7 +12,7 @@ use Rattle.words.specs.Tests.{Yes}
 use Rattle.words.specs.Word.{leOf, leBytes, part, wordsOf, bytesOf, areWords}
 use Rattle.words.proofs.Tests.{both-of}
 
--- each is below 256
+-- each number is below 256
 abbrev pub Bytes : List ℕ → Type 0
 Bytes bs = (i : ℕ) → getD bs i 0 < 256
 
@@ -40,7 +40,7 @@ unfolding wordsOf areWords
 words-read zero bs b = refl
 words-read (suc n) bs b = both-of _ _ (lt-ltb (leOf (take 8 bs)) (2 ^ 64) (number-below 8 bs b)) (words-read n (drop 8 bs) (bytes-drop 8 bs b))
 
--- the bytes of a number come back, with zeros to the end
+-- writing the number of m or fewer bytes as m bytes gives the bytes, padded with zeros
 pub zero-bytes : (m : ℕ) → leBytes m 0 ≡ replicate m 0
 unfolding leBytes
 zero-bytes zero = refl
@@ -56,7 +56,7 @@ number-padded (suc m) (x ∷ bs) b h =
     let high : (x + 256 * leOf bs) / 256 ≡ leOf bs = omega arith in
     rw (low, high, suc-sub-suc, number-padded m bs (λ j. b (suc j)) (omega arith))
 
--- as many as they are
+-- writing the number of n bytes as n bytes gives the bytes
 pub number-back : (n : ℕ) (bs : List ℕ) → Bytes bs → n ≤ length bs → leBytes n (leOf (take n bs)) ≡ take n bs
 number-back n bs b h =
     let l : length (take n bs) ≡ n = length-take-le n bs h in

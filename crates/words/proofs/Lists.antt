@@ -1,4 +1,4 @@
--- Lists of words as bytes, and lists one behind the other. Assumes nothing.
+-- Lists of words as bytes, and lists one after another. Assumes nothing.
 use Prim.Native.Nat.{ℕ, zero, suc, _+_, _*_, _/_, _^_, _≤_, _<_}
 use mathlib.Core.Path.{_≡_, refl}
 use mathlib.Core.List.{List, [], _∷_, _++_, append-assoc}
@@ -14,7 +14,7 @@ use Rattle.words.specs.Word.{leOf, part, numAt, wordAt, halfAt, wordsOf,
 use Rattle.words.proofs.Tests.{both-l, both-r, both-of}
 use Rattle.words.proofs.Read.{leBytes-length, leOf-leBytes, leBytes-split, mul-suc-8}
 
--- ---- the bytes of a list of words: eight for each
+-- ---- the bytes of a list of words: eight for each word
 pub bytesOf-length : (ws : List ℕ) → length (bytesOf ws) ≡ 8 * length ws
 unfolding bytesOf
 bytesOf-length [] = refl
@@ -37,7 +37,7 @@ bytesOf-take zero ws = refl
 bytesOf-take (suc k) [] = take-nil (8 * suc k)
 bytesOf-take (suc k) (w ∷ ws) = simp (mul-suc-8, take-add, take-at, drop-at, leBytes-length, bytesOf-take k ws)
 
--- they read back
+-- reading them gives the words back
 pub wordsOf-bytesOf : (ws rest : List ℕ) → Yes (areWords ws) → wordsOf (length ws) (bytesOf ws ++ rest) ≡ ws
 unfolding wordsOf bytesOf areWords
 wordsOf-bytesOf [] rest h = refl
@@ -52,7 +52,7 @@ word-at i [] rest h l = absurd (not-suc-le-zero l)
 word-at zero (w ∷ ws) rest h l = simp (append-assoc, take-at, leBytes-length) (leOf-leBytes 8 w (ltb-true w (2 ^ 64) (both-l _ _ h)))
 word-at (suc i) (w ∷ ws) rest h l = rw (mul-suc-8, ← drop-drop) (simp (append-assoc, drop-at, leBytes-length) (word-at i ws rest (both-r _ _ h) (omega arith)))
 
--- n words from place i on, if they are all there
+-- the n words from index i on, if all are there
 pub part-at : (i n : ℕ) (ws rest : List ℕ) → i + n ≤ length ws → part (8 * i) (8 * n) (bytesOf ws ++ rest) ≡ bytesOf (take n (drop i ws))
 unfolding part
 part-at i n ws rest h =
@@ -63,7 +63,7 @@ part-at i n ws rest h =
       bytesOf-take,
     )
 
--- the halves of a first word below 2^32
+-- the halves of a first word that is below 2^32
 pub halves : (v : ℕ) (ws rest : List ℕ) → v < 2 ^ 32 → (halfAt 0 (bytesOf (v ∷ ws) ++ rest) ≡ v) × (halfAt 4 (bytesOf (v ∷ ws) ++ rest) ≡ 0)
 unfolding numAt part bytesOf
 halves v ws rest h =
@@ -72,8 +72,8 @@ halves v ws rest h =
       rw (leBytes-split 4 4 v) (simp (append-assoc, drop-at, take-at, leBytes-length, z) (leOf-leBytes 4 0 (lit≤ tt))),
     )
 
--- ---- lists one behind the other
--- list k stands behind the first k
+-- ---- lists one after another
+-- list k follows the first k lists
 pub joined-at : (n : ℕ) (f : ℕ → List ℕ) (rest : List ℕ) (k : ℕ) → k < n → take (length (f k)) (drop (length (joined k f)) (joined n f ++ rest)) ≡ f k
 unfolding joined
 joined-at zero f rest k l = absurd (not-suc-le-zero l)
@@ -86,7 +86,7 @@ joined-at (suc n) f rest k l = go (decLt k n) (joined-at n f (f n ++ rest) k)
 pub joined-get : (n : ℕ) (f : ℕ → List ℕ) (rest : List ℕ) (k j : ℕ) → k < n → j < length (f k) → getD (joined n f ++ rest) (length (joined k f) + j) 0 ≡ getD (f k) j 0
 joined-get n f rest k j h l = rw (← getD-drop, ← getD-take (length (f k)) (drop (length (joined k f)) (joined n f ++ rest)) j 0 l, joined-at n f rest k h)
 
--- lists of one length
+-- lists of equal length
 pub joined-length : (n m : ℕ) (f : ℕ → List ℕ) → ((k : ℕ) → length (f k) ≡ m) → length (joined n f) ≡ m * n
 unfolding joined
 joined-length zero m f h = omega arith

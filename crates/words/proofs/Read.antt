@@ -1,4 +1,4 @@
--- The facts about a number in bytes, once for every width. Assumes nothing.
+-- Laws of a number in bytes, stated once for every width. Assumes nothing.
 use Prim.Native.Nat.{ℕ, zero, suc, _+_, _-_, _*_, _/_, _^_, _≤_, _<_}
 use mathlib.Core.Path.{_≡_, refl, sym, ap, _∙_}
 use mathlib.Core.List.{List, [], _∷_, _++_}
@@ -26,14 +26,14 @@ num-suc n (suc i) (x ∷ xs) = num-suc n i xs
 pub num-one : (off : ℕ) (s : List ℕ) → numAt 1 off s ≡ getD s off 0
 num-one off s = omega (arith, num-suc 0 off s, num-zero (suc off) s)
 
--- two numbers side by side are one
+-- two adjacent numbers are one number
 pub num-add : (m n off : ℕ) (s : List ℕ) → numAt (m + n) off s ≡ numAt m off s + 256 ^ m * numAt n (off + m) s
 num-add zero n off s = rw (zero-add, add-zero) (omega (arith, num-zero off s))
 num-add (suc m) n off s =
     rw (suc-add, num-suc, num-suc, pow-suc, add-suc, ← suc-add)
     (omega (arith, num-add m n (suc off) s, mul-assoc (256 ^ m) 256 (numAt n (suc off + m) s), mul-left-comm (256 ^ m) 256 (numAt n (suc off + m) s)))
 
--- past the end: 0
+-- a number past the end is 0
 pub num-out : (n off : ℕ) (s : List ℕ) → length s ≤ off → numAt n off s ≡ 0
 unfolding numAt part leOf
 num-out n off s h = rw (drop-of-length-le s h, take-nil)
@@ -44,7 +44,7 @@ unfolding leBytes
 leBytes-length zero x = refl
 leBytes-length (suc n) x = ap suc (leBytes-length n (x / 256))
 
--- they read back
+-- reading them gives the number back
 pub leOf-leBytes : (n x : ℕ) → x < 256 ^ n → leOf (leBytes n x) ≡ x
 unfolding leBytes leOf
 leOf-leBytes zero x h = omega arith
@@ -56,7 +56,7 @@ unfolding leBytes
 leBytes-split zero n x = rw (zero-add, div-one)
 leBytes-split (suc m) n x = rw (suc-add, leBytes-split m n (x / 256), div-div-eq-div-mul, pow-suc, mul-comm 256 (256 ^ m))
 
--- ---- the number that the bytes from a place to the end make, as a loop down from the end goes
+-- ---- the number made by the bytes from i to the end, for a loop that runs down from the end
 unfoldable pub restOf : ℕ → List ℕ → ℕ
 restOf i s = leOf (drop i s)
 
@@ -72,11 +72,11 @@ pub rest-num : (n i : ℕ) (s : List ℕ) → length s ≤ i + n → restOf i s 
 unfolding restOf numAt part
 rest-num n i s h = ap leOf (sym (take-all n (drop i s) (omega (arith, length-drop i s))))
 
--- of a list that ends before, two widths give the same number
+-- two widths that both reach the end of the list give the same number
 pub num-short : (m n i : ℕ) (s : List ℕ) → length s ≤ i + m → length s ≤ i + n → numAt m i s ≡ numAt n i s
 num-short m n i s h k = sym (rest-num m i s h) ∙ rest-num n i s k
 
--- one byte more, from the high end, below at most 7 others
+-- the sum of at most 6 bytes leaves room for one more
 pub rest-room : (n i at sum : ℕ) → at < i → n < at + 8 → i ≤ n → sum < 256 ^ (n - i) → sum < 256 ^ 6
 rest-room n i at sum h k l b = let m : 256 ^ (n - i) ≤ 256 ^ 6 = pow-le-pow-right (lit≤ tt) {j = 6} (omega arith) in omega arith
 
@@ -87,7 +87,7 @@ pub rest-start : (n : ℕ) → 0 < 256 ^ (n - n)
 rest-start n = rw (let e : n - n ≡ 0 = omega arith in e) (omega arith)
 
 -- ---- numbers in a part of a list, and lists of words
--- a number of a part is a number of the whole
+-- a number in a part is a number in the whole
 pub num-part : (w off n j : ℕ) (s : List ℕ) → j + w ≤ n → numAt w j (part off n s) ≡ numAt w (off + j) s
 unfolding numAt part
 num-part w off n j s h =
@@ -96,7 +96,7 @@ num-part w off n j s h =
     let m : j + i < n = omega arith in
     simp (getD-take, getD-drop) (ap (λ x. getD s x 0) (let e : off + (j + i) ≡ (off + j) + i = omega arith in e))))
 
--- a whole word of the part of n bytes from an offset on, as code lends it
+-- a whole word in the lent part of n bytes from an offset on
 pub word-lent : (from n j off : ℕ) (s : List ℕ) → from + n ≤ length s → j + 8 ≤ n → off ≡ from + j → wholeWord j (take (from + n - from) (drop from s)) ≡ wordAt off s
 unfolding wholeWord part
 word-lent from n j off s l h e =
@@ -124,7 +124,7 @@ unfolding wordsOf numAt part
 wordsOf-suc zero bs = refl
 wordsOf-suc (suc n) bs = rw (mul-suc-8, ← drop-drop) (ap {B = List ℕ} (λ t. leOf (take 8 bs) ∷ t) (wordsOf-suc n (drop 8 bs)))
 
--- a part of two lists that have the same bytes there
+-- the parts of two lists that have the same bytes there
 pub part-same : (off n : ℕ) (p q : List ℕ) → length p ≡ length q → ((i : ℕ) → off ≤ i → i < off + n → getD p i 0 ≡ getD q i 0) → part off n p ≡ part off n q
 unfolding part
 part-same off n p q l h =

@@ -1,4 +1,4 @@
--- Bytes laid over a list at an offset. Assumes nothing.
+-- Bytes written over a list at an offset. Assumes nothing.
 use Prim.Native.Nat.{ℕ, _+_, _-_, _*_, _/_, _%_, _^_, _≤_, _<_}
 use mathlib.Core.Path.{_≡_, refl, sym, ap, _∙_}
 use mathlib.Core.Bool.{Bool, true, false, cond}
@@ -24,7 +24,7 @@ module _ (i : ℕ) (vs s : List ℕ) where
   unfolding splice
   take-splice h = take-at _ _ _ (head-length h)
 
-  -- behind and before what is laid over, all is as it was
+  -- the bytes after and before those written stay unchanged
   pub drop-splice : i ≤ length s → drop (i + length vs) (splice i vs s) ≡ drop (i + length vs) s
   unfolding splice
   drop-splice h = drop-at (take i s ++ vs) _ _ (head-length h)
@@ -36,7 +36,7 @@ module _ (i : ℕ) (vs s : List ℕ) where
   drop-splice-more : i ≤ length s → (k : ℕ) → drop (i + length vs + k) (splice i vs s) ≡ drop (i + length vs + k) s
   drop-splice-more h k = sym (drop-drop k (i + length vs) (splice i vs s)) ∙ ap (drop k) (drop-splice h) ∙ drop-drop k (i + length vs) s
 
-  -- two runs, one at once after the other
+  -- two runs, one directly after the other
   pub splice-splice : i ≤ length s → (ws : List ℕ) → splice (i + length vs) ws (splice i vs s) ≡ splice i (vs ++ ws) s
   unfolding splice
   splice-splice h ws = rw (take-splice h, drop-splice-more h (length ws), length-append) (simp (append-assoc, add-assoc))
@@ -61,7 +61,7 @@ put-add m n s at w h =
     (ap (λ (k : ℕ). splice (at + k) (leBytes n (w / 256 ^ m)) (splice at (leBytes m w) s)) (sym (leBytes-length m w))
     ∙ splice-splice at (leBytes m w) s h (leBytes n (w / 256 ^ m)))
 
--- what fits is laid; of what does not, no byte is
+-- bytes that fit are written; if they do not all fit, none is
 pub bytes-in : (at : ℕ) (vs s : List ℕ) → at + length vs ≤ length s → laid at vs s ≡ splice at vs s
 unfolding laid
 bytes-in at vs s h = rw (le-leb (at + length vs) (length s) h)
@@ -76,7 +76,7 @@ put-in n at w s h = bytes-in at (leBytes n w) s (rw leBytes-length h)
 pub put-out : (n at w : ℕ) (s : List ℕ) → length s < at + n → laid at (leBytes n w) s ≡ s
 put-out n at w s h = bytes-out at (leBytes n w) s (rw leBytes-length h)
 
--- what was put is read back
+-- reading gives back what was written
 pub part-splice : (at : ℕ) (vs s : List ℕ) → at ≤ length s → part at (length vs) (splice at vs s) ≡ vs
 unfolding part splice
 part-splice at vs s h = rw (append-assoc) (simp (drop-at, take-at, length-take-le at s h))
@@ -98,7 +98,7 @@ words-in at ws s h = bytes-in at (bytesOf ws) s (rw bytesOf-length h)
 pub words-out : (at : ℕ) (ws s : List ℕ) → length s < at + 8 * length ws → laid at (bytesOf ws) s ≡ s
 words-out at ws s h = bytes-out at (bytesOf ws) s (rw bytesOf-length h)
 
--- the first i of them
+-- the first i words
 unfoldable pub wordsTo : ℕ → List ℕ → ℕ → List ℕ → List ℕ
 wordsTo at ws i s = splice at (bytesOf (take i ws)) s
 
@@ -118,7 +118,7 @@ unfolding wordsTo
 words-all at ws s i e h = rw (e, words-in at ws s h, take-length)
 
 -- ---- bytes, one by one
--- the first i of them, from the start on
+-- the first i bytes
 unfoldable pub bytesTo : List ℕ → ℕ → List ℕ → List ℕ
 bytesTo vs i s = splice 0 (take i vs) s
 
@@ -139,7 +139,7 @@ pub bytes-all : (vs s : List ℕ) (i : ℕ) → i ≡ length vs → length vs �
 unfolding bytesTo
 bytes-all vs s i e h = rw (e, bytes-in 0 vs s (omega arith), take-length)
 
--- eight of them more, read as a word
+-- eight more bytes, read as a word
 pub word-more : (vs : List ℕ) (k : ℕ) (s : List ℕ) → Bytes vs → 8 * (k + 1) ≤ length vs → length vs ≤ length s →
     splice (8 * k) (leBytes 8 (numAt 8 (8 * k) vs)) (bytesTo vs (8 * k) s) ≡ bytesTo vs (8 * (k + 1)) s
 unfolding bytesTo numAt part
@@ -154,7 +154,7 @@ lent : (at : ℕ) (vs s : List ℕ) → take at s ++ splice 0 vs (drop at s) ≡
 unfolding splice
 lent at vs s = rw (drop-drop (0 + length vs) at s) (simp (append-assoc, zero-add))
 
--- a part lent from an offset on, and laid over there, is the whole laid over at that offset
+-- writing to the start of the part lent from an offset on writes to the whole at that offset
 pub lent-back : (at : ℕ) (vs s : List ℕ) → at + length vs ≤ length s → take at s ++ (laid 0 vs (take (length s - at) (drop at s)) ++ drop (length s - at) (drop at s)) ≡ laid at vs s
 lent-back at vs s h =
     let p : length (drop at s) ≤ length s - at = omega (arith, length-drop at s) in
@@ -174,7 +174,7 @@ over n vs t h k =
     let e : drop (0 + length vs) (take n t) ++ drop n t ≡ drop (0 + length vs) t = sym (drop-append-le (0 + length vs) (take n t) (drop n t) (omega arith)) ∙ ap (drop (0 + length vs)) (take-append-drop n t) in
     append-assoc vs (drop (0 + length vs) (take n t)) (drop n t) ∙ ap (λ (r : List ℕ). vs ++ r) e
 
--- a part lent from an offset on for n bytes: as it was, and laid over from its start
+-- a part of n bytes lent from an offset on, unchanged or written from its start
 pub part-back : (at n : ℕ) (s : List ℕ) → take at s ++ (take n (drop at s) ++ drop n (drop at s)) ≡ s
 part-back at n s = ap (λ (l : List ℕ). take at s ++ l) (take-append-drop n (drop at s)) ∙ take-append-drop at s
 
@@ -184,7 +184,7 @@ buffer-back at n vs s h k = ap (λ (l : List ℕ). take at s ++ l) within ∙ le
     within : splice 0 vs (take n (drop at s)) ++ drop n (drop at s) ≡ splice 0 vs (drop at s)
     within = over n vs (drop at s) (omega (arith, length-drop at s)) k
 
--- bytes laid over as many others are all there is; over more, they are the first
+-- bytes written over equally many are the whole result; over more, they are its start
 pub laid-all : (vs s : List ℕ) → length vs ≡ length s → laid 0 vs s ≡ vs
 unfolding splice
 laid-all vs s e =
@@ -209,7 +209,7 @@ pub span-in : (at n : ℕ) (s : List ℕ) → at + n ≤ length s → spanned (s
 unfolding spanAt
 span-in at n s h = span-by (eqb n 0) at n s (eqb-true n 0) h
 
--- and where it begins: a span that lies within s begins at its own place
+-- the offset of that part: a span within s starts at its own offset
 pub start-none : (s : List ℕ) → spanStart noSpan s ≡ noSpan .at
 unfolding spanStart noSpan
 start-none s = rw (le-leb 0 (length s) (omega arith))

@@ -1,4 +1,4 @@
--- Laws of tests, and of "for each" and "for some" over the numbers below n. Assumes nothing.
+-- Laws of tests, of `every` and of `some`. Assumes nothing.
 use Prim.Native.Nat.{ℕ, zero, suc, _+_, _<_}
 use mathlib.Core.Path.{_≡_, refl, sym}
 use mathlib.Core.Bool.{Bool, true, false, cond, false≢true}
@@ -42,7 +42,7 @@ unfolding either
 either-map true b c f h = refl
 either-map false b c f h = f h
 
--- tests that imply each other are the same
+-- tests that imply each other are equal
 pub same-test : (a b : Bool) → (Yes a → Yes b) → (Yes b → Yes a) → a ≡ b
 same-test true b f g = sym (f refl)
 same-test false true f g = g refl
@@ -76,7 +76,7 @@ some-of (suc n) f i l h = go (decLt i n) (some-of n f i)
     go (yes a) r = either-l _ _ (r a h)
     go (no a) r = either-r _ _ (rw (let e : i ≡ n = omega arith in e) at h)
 
--- ---- `every`, as a loop that counts up goes
+-- ---- `every`, for a loop that counts up
 pub every-none : (f : ℕ → Bool) → every 0 f ≡ true
 unfolding every
 every-none f = refl
@@ -95,7 +95,7 @@ unfolding every both
 every-not zero f k h e = absurd (not-suc-le-zero h)
 every-not (suc n) f k h e = ⊎-elim (λ q. rw (← q, e, both-false)) (λ l. rw (every-not n f k l e)) (eq-or-lt-of-le (le-of-suc-le-suc h))
 
--- ---- a choice by a test
+-- ---- a choice made by a test
 pub cond-same : {A : Type 0} (b : Bool) (x y z : A) → (Yes b → x ≡ y) → cond b x z ≡ cond b y z
 cond-same true x y z h = h refl
 cond-same false x y z h = refl

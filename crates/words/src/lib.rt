@@ -1,25 +1,26 @@
-// Little-endian fields of a lent slice: 8-byte words and 4-byte halves, read and written at any offset; 2-byte quarters and lists
-// of words written. The smaller of two numbers.
+// Little-endian numbers in a slice: reads 8-byte words and 4-byte halves at any offset, writes 8, 4 or 2 bytes and lists of words; copies,
+// clears and cuts slices.
 ghost use mathlib.Core.Path.{_≡_};
 ghost use Prim.Native.Nat.{min, _+_, _<_, _≤_};
 ghost use lib.ListN.{length, replicate};
 ghost use Rattle.words.specs.Word.{leBytes, numAt, wordAt, halfAt, bytesOf, splice, laid, spanAt, spanned, spanStart, onFrom};
 ghost use Rattle.words.specs.Fast.{wholeWord};
 
-// Where a part of a slice begins, and how many bytes it has.
+// A part of a slice: the `len` bytes [at, at + len).
 pub struct Span {
     pub at: usize,
     pub len: usize,
 }
 
+// `x` as 64 bits.
 fn wide(x: u8) -> u64
     ensures { λ r. ⌜ (r ≡ x) × (r < 0x100) ⌝ }
 {
     x as u64
 }
 
-// The numbers of 1, 4 and 8 bytes at an offset within the slice. Four and eight are one sum of bytes read in place: of that the compiler
-// makes one load, early enough to take several words of a loop at a time.
+// The 1, 4 or 8 bytes at `at` as a number. `quad` and `eight` are one sum of bytes in place: the compiler turns it into one load and can
+// vectorize a loop over words.
 fn byte(s: &[u8], at: usize) -> u64
     requires { ⌜ at < length (now s) ⌝ }
     ensures { λ r. ⌜ (r ≡ numAt 1 at (now (s .entry))) × (r < 0x100) ⌝ }
@@ -51,7 +52,7 @@ fn eight(s: &[u8], at: usize) -> u64
         + wide(s[at + 7]) * 0x100_0000_0000_0000
 }
 
-// The word at an offset of which at most 7 bytes are there.
+// The word at `at` if the slice has at most 7 bytes from there on. Bytes past the end count as 0.
 fn rest(s: &[u8], at: usize) -> u64
     requires { ⌜ (at ≤ length (now s)) × (length (now s) < at + 8) ⌝ }
     ensures { λ r. ⌜ r ≡ wordAt at (now (s .entry)) ⌝ }
@@ -65,7 +66,7 @@ fn rest(s: &[u8], at: usize) -> u64
     sum
 }
 
-// The word at an offset. A byte past the end counts as 0.
+// The word (8 bytes) at `at`. Bytes past the end count as 0 (PG5).
 pub fn word_at(s: &[u8], at: usize) -> u64
     ensures { λ r. ⌜ r ≡ wordAt at (now (s .entry)) ⌝ }
 {
@@ -78,8 +79,8 @@ pub fn word_at(s: &[u8], at: usize) -> u64
     eight(s, at)
 }
 
-// The word at an offset; 0 where it does not lie whole within the slice. Loops over entries read with this: it has no case for a part
-// of a word, which would keep the compiler from taking several at a time.
+// The word at `at`, or 0 if its 8 bytes are not all in the slice. Loops over entries use it: with no case for a partial word, the compiler
+// can vectorize them.
 pub fn whole_word(s: &[u8], at: usize) -> u64
     ensures { λ r. ⌜ r ≡ wholeWord at (now (s .entry)) ⌝ }
 {
@@ -92,7 +93,7 @@ pub fn whole_word(s: &[u8], at: usize) -> u64
     eight(s, at)
 }
 
-// The half at an offset. A byte past the end counts as 0.
+// The half (4 bytes) at `at`. Bytes past the end count as 0 (PG5).
 pub fn half_at(s: &[u8], at: usize) -> u64
     ensures { λ r. ⌜ r ≡ halfAt at (now (s .entry)) ⌝ }
 {
@@ -105,7 +106,7 @@ pub fn half_at(s: &[u8], at: usize) -> u64
     quad(s, at)
 }
 
-// The 1, 2, 4 and 8 low bytes of w, put at an offset within the slice.
+// Writes the low 1, 2, 4 or 8 bytes of `w` at `at`.
 fn put_byte(s: &mut [u8], at: usize, w: u64)
     requires { ⌜ at + 1 ≤ length (now s) ⌝ }
     ensures { λ _. ⌜ now (s .exit) ≡ splice at (leBytes 1 w) (now (s .entry)) ⌝ }
@@ -137,7 +138,7 @@ fn put_eight(s: &mut [u8], at: usize, w: u64)
     put_quad(s, at + 4, w / 0x1_0000_0000);
 }
 
-// Puts the word w at an offset; where it does not fit whole, no byte changes.
+// Writes the 8 bytes of `w` at `at`. If they do not all fit, no byte changes (PG5).
 pub fn put_word(s: &mut [u8], at: usize, w: u64)
     ensures { λ _. ⌜ now (s .exit) ≡ laid at (leBytes 8 w) (now (s .entry)) ⌝ }
 {
@@ -150,7 +151,7 @@ pub fn put_word(s: &mut [u8], at: usize, w: u64)
     put_eight(s, at, w);
 }
 
-// Puts the low half of w at an offset; where it does not fit whole, no byte changes.
+// Writes the low 4 bytes of `w` at `at`. If they do not all fit, no byte changes (PG5).
 pub fn put_half(s: &mut [u8], at: usize, w: u64)
     ensures { λ _. ⌜ now (s .exit) ≡ laid at (leBytes 4 w) (now (s .entry)) ⌝ }
 {
@@ -163,7 +164,7 @@ pub fn put_half(s: &mut [u8], at: usize, w: u64)
     put_quad(s, at, w);
 }
 
-// Puts the low quarter of w at an offset; where it does not fit whole, no byte changes.
+// Writes the low 2 bytes of `w` at `at`. If they do not all fit, no byte changes (PG5).
 pub fn put_quarter(s: &mut [u8], at: usize, w: u64)
     ensures { λ _. ⌜ now (s .exit) ≡ laid at (leBytes 2 w) (now (s .entry)) ⌝ }
 {
@@ -176,7 +177,7 @@ pub fn put_quarter(s: &mut [u8], at: usize, w: u64)
     put_pair(s, at, w);
 }
 
-// Puts a list of words from an offset on; where they do not all fit, no byte changes.
+// Writes all of `words`, one after another, from `at` on. If they do not all fit, no byte changes.
 pub fn put_words(s: &mut [u8], at: usize, words: &[u64])
     ensures { λ _. ⌜ now (s .exit) ≡ laid at (bytesOf (now (words .entry))) (now (s .entry)) ⌝ }
 {
@@ -193,7 +194,7 @@ pub fn put_words(s: &mut [u8], at: usize, words: &[u64])
     }
 }
 
-// Puts zero everywhere.
+// Sets every byte to 0.
 pub fn clear(s: &mut [u8])
     ensures { λ _. ⌜ now (s .exit) ≡ replicate (length (now (s .entry))) 0 ⌝ }
 {
@@ -202,8 +203,8 @@ pub fn clear(s: &mut [u8])
     }
 }
 
-// Copies all bytes of a slice over the start of another; where they do not fit, no byte changes. A word at a time: one load and one store
-// where the processor takes unaligned words, and fewer turns where it does not.
+// Copies all of `from` to the start of `to`. If `to` is shorter, no byte changes. Copies 8 bytes a turn: one load and one store on a
+// processor with unaligned access, and fewer turns on any other.
 pub fn copy(to: &mut [u8], from: &[u8])
     ensures { λ _. ⌜ now (to .exit) ≡ laid 0 (now (from .entry)) (now (to .entry)) ⌝ }
 {
@@ -219,7 +220,7 @@ pub fn copy(to: &mut [u8], from: &[u8])
     }
 }
 
-// The smaller of two numbers.
+// min(a, b).
 pub fn smaller(a: u64, b: u64) -> u64
     ensures { λ r. ⌜ r ≡ min a b ⌝ }
 {
@@ -229,7 +230,7 @@ pub fn smaller(a: u64, b: u64) -> u64
     b
 }
 
-// The span of so many bytes at an offset; that of no bytes is at 0.
+// The span of `len` bytes at `at`. An empty span is at 0.
 pub fn span_at(at: usize, len: usize) -> Span
     ensures { λ r. ⌜ r ≡ spanAt at len ⌝ }
 {
@@ -239,7 +240,7 @@ pub fn span_at(at: usize, len: usize) -> Span
     Span { at, len }
 }
 
-// The part of a slice that a span names, at its place in the slice; empty, at the slice's start, where it does not lie within it.
+// The bytes of `s` in `span`, as a part of `s` itself. If `span` is not within `s`, an empty part at the start of `s`.
 pub fn part_of(s: &[u8], span: Span) -> &[u8]
     ensures { λ r. ⌜ now r ≡ spanned span (now (s .entry)) ⌝ }
     ensures { λ r. ⌜ r .ptr ≡ onFrom (s .entry .ptr) (spanStart span (now (s .entry))) ⌝ }
