@@ -1,4 +1,4 @@
--- What the program writes for an input. Assumes nothing.
+-- What the program writes for an input (LS1). Assumes nothing.
 use Prim.Native.Nat.{ℕ}
 use mathlib.Core.Path.{_≡_}
 use mathlib.Core.List.{List}

@@ -1,4 +1,4 @@
--- Mending a page. 02, E12: "The mender goes over padding, platform pointer with its fields, DRAM, consoles, non-coherent, coherent, in this order."
+-- Mending a page (MD2). 02, E12: "The mender goes over padding, platform pointer with its fields, DRAM, consoles, non-coherent, coherent, in this order."
 -- Rules and overlaps are the reader's own definitions. Assumes nothing.
 use Prim.Native.Nat.{ℕ, zero, suc, _+_, _*_, min}
 use mathlib.Core.Bool.{Bool, true, false, cond, not}
@@ -100,7 +100,7 @@ mendChanges base page =
       coh = changed base page 5;
     }
 
--- "Refusals: -5 and -6 as the reader gives them, page untouched."
+-- MD1: "Refusals: -5 and -6 as the reader gives them, page untouched."
 unfoldable pub mendGate : Bool → Bool → Changes → Mended
 mendGate true true c = Done c
 mendGate true false c = Refused Version

@@ -1,4 +1,4 @@
--- What the program reports, as ASCII numbers, and what it mends for an input. Assumes nothing.
+-- What the program (MD8) reports, as ASCII numbers, and what it mends for an input. Assumes nothing.
 use Prim.Native.Nat.{ℕ, _≤_}
 use mathlib.Core.Bool.{Bool, cond}
 use mathlib.Core.Path.{_≡_}

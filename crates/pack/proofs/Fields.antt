@@ -119,7 +119,7 @@ unfolding withMark endMark
 mark-most [] = omega arith
 mark-most (b ∷ bs) = rw length-append (omega arith)
 
--- ---- what the reader found in a page: its fields keep the rules, and the kept ones fit where they were
+-- ---- what the reader found in a page: its fields keep the rules, and the kept ones take no more bytes than before
 abbrev pub KeptFits : Scanned → Type 0
 KeptFits u = Yes (fieldsOk (fieldsIn u)) × (length (withMark (fieldsKept (shownFields (fieldsIn u)))) ≤ taken u)
 

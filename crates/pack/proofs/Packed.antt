@@ -181,7 +181,7 @@ module _ (base n : ℕ) (page p : List ℕ) (b : Bytes page) (w e : ℕ) (q : Pl
   unfolding packOf packedFrom
   packs-again = rw (newest-same, le-leb w 4 early, retold-again) (ap written m)
 
--- ---- what the packer answers
+-- ---- the packer's answer
 never-written : {P : Type 0} {c : ℤ} {m : Made} → stopped c ≡ written m → P
 never-written h = absurd (let z : _≡_ {A = ℕ} 0 1 = cc in let y : ⊥ = omega arith in y)
 

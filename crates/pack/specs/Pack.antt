@@ -1,4 +1,4 @@
--- Packing a page. 02, E11: "The new page is exactly what the writer makes, at the page's own minor, from what reader edition 4 shows, with fields
+-- Packing a page (PK1). 02, E11: "The new page is exactly what the writer makes, at the page's own minor, from what reader edition 4 shows, with fields
 -- kept in page order and withdrawn ones dropped." Assumes nothing.
 use Prim.Native.Nat.{ℕ}
 use mathlib.Core.Bool.{cond}
@@ -31,12 +31,12 @@ fieldsKept (withdrawn ∷ fs) = fieldsKept fs
 unfoldable pub retold : PlatShown → (ℕ → Shown) → Description
 retold q s = record { lists = λ k. entriesIn (s k); fields = fieldsKept (q .fields) }
 
--- the result of packing: a code, or what the writer makes. "Refusals: the reader's codes; then -6 for minor 5 and above; then W1 for the target."
+-- the result of packing: a code, or what the writer makes. PK2: "Refusals: the reader's codes; then -6 for minor 5 and above; then W1 for the target."
 pub data Packed : Type 0 where
   stopped : ℤ → Packed
   written : Made → Packed
 
--- the result of packing, from what reader edition 4 answers
+-- the result of packing, from the answer of reader edition 4
 unfoldable pub packedFrom : ℕ → ℕ → ReaderAnswer → Packed
 packedFrom base n (refused c) = stopped c
 packedFrom base n (shows w e q s) = cond (leb w 4) (written (writeOf base n w (retold q s))) (stopped (minus 6))

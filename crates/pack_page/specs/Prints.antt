@@ -1,4 +1,4 @@
--- What the program writes for an input; text as ASCII numbers. Assumes nothing.
+-- What the program writes for an input (PK8); text as ASCII numbers. Assumes nothing.
 use Prim.Native.Nat.{ℕ, suc, _+_}
 use mathlib.Core.Path.{_≡_}
 use mathlib.Core.Bool.{cond}

@@ -64,7 +64,7 @@ refused-response-writes-nothing largest p b len h =
 from-zeros : (os : List Offer) (b : List ℕ) → heldBy (collectorAfterAll os (record { image = newImage; buffer = b })) ≡ afterOffers os (started b)
 from-zeros os b = call-steps os (record { image = newImage; buffer = b }) ∙ ap (afterOffers os) (zeros-new b)
 
--- for calls from C: the collector depends on the accepted responses alone, and is complete exactly if 02 says so
+-- for calls from C: the collector depends on the accepted responses alone, and is complete exactly as 02 defines it
 pub exported-holds-accepted : (os : List Offer) (b : List ℕ) → HoldsJoined (acceptedOf os (started b)) (heldBy (collectorAfterAll os (record { image = newImage; buffer = b })))
 exported-holds-accepted os b = rw (from-zeros os b) (holds-accepted os b)
 

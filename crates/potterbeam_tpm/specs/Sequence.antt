@@ -24,7 +24,7 @@ unfoldable pub commCalls : List ExportedCall → List CommCall
 commCalls [] = []
 commCalls (x ∷ xs) = record { asked = x .asked; memory = x .memory; response = x .response; forbidden = says (x .forbidden); fault = says (x .fault) } ∷ commCalls xs
 
--- the word is not 0 exactly if the last accepted operation is execute, or no call was accepted and it was not 0 at the start
+-- TP9: the word is not 0 exactly if the last accepted operation is execute, or no call was accepted and it was not 0 at the start
 pub record WordOpenExactly (w : ℕ) (xs : List ExportedCall) : Type 0 where
   pub opens : OpenBy (latestOf (tpmSessionOf w) (commCalls xs)) (w ≡ 0 → ⊥) → wordOver w xs ≡ 0 → ⊥
   pub only : (wordOver w xs ≡ 0 → ⊥) → OpenBy (latestOf (tpmSessionOf w) (commCalls xs)) (w ≡ 0 → ⊥)

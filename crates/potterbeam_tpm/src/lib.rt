@@ -90,7 +90,7 @@ pub extern "C" fn pbeam_tpm_comm(
     tpm::hcall_number(code)
 }
 
-// Sets `place` to offset and length of the request in the memory; both 0 if there is none.
+// Sets `place` to offset and length of the request in the memory; both 0 if there is no request.
 #[no_mangle]
 pub extern "C" fn pbeam_tpm_request(
     operation: u64,

@@ -65,7 +65,7 @@ unfoldable pub completeOver : List StateResponse → Bool
 completeOver [] = false
 completeOver (p ∷ ps) = eqb (length (joinedData (p ∷ ps))) (p .total)
 
--- 02, E13: "cut from one blob at the number of bytes then held, with that blob's length as totlength"
+-- SB9. 02, E13: "cut from one blob at the number of bytes then held, with that blob's length as totlength"
 abbrev pub CutFrom : List ℕ → ℕ → StateResponse → Type 0
 CutFrom blob held p = (p .total ≡ length blob) × (p .bytes ≡ part held (length (p .bytes)) blob)
 
@@ -80,13 +80,13 @@ Cuts blob [] h = Unit {0}
 Cuts blob (o ∷ os) h = CutHere blob o h × Cuts blob os (afterOffer o h)
 
 -- ---- the claims of the theorems
--- "the bytes held are that blob's first ones"; once a response was accepted, the total is the blob's length
+-- SB9: "the bytes held are that blob's first ones"; once a response was accepted, the total is the blob's length
 pub record HoldsFirst (blob : List ℕ) (h : Held) : Type 0 where
   pub within : h .collector .held ≤ length blob
   pub bytes : take (h .collector .held) (h .buffer) ≡ take (h .collector .held) blob
   pub whole : h .collector .accepted ≡ true → h .collector .total ≡ length blob
 
--- "A collector joins responses into a lent buffer": the state holds the data of these responses
+-- SB7: "A collector joins responses into a lent buffer": the state holds the data of these responses
 abbrev pub HoldsJoined : List StateResponse → Held → Type 0
 HoldsJoined ps h = (h .collector ≡ collectorOver ps) × (take (h .collector .held) (h .buffer) ≡ joinedData ps)
 

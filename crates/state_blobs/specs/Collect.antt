@@ -1,4 +1,4 @@
--- The collector. 02, E13: "A collector joins responses into a lent buffer, each after the bytes held." Assumes nothing.
+-- The collector (SB7). 02, E13: "A collector joins responses into a lent buffer, each after the bytes held." Assumes nothing.
 use Prim.Native.Nat.{ℕ, _+_}
 use mathlib.Core.Bool.{Bool, true, false, cond, not}
 use mathlib.Core.List.{List}
@@ -18,7 +18,7 @@ use Rattle.state_blobs.specs.declared.Collected.{Collected}
 unfoldable pub newCollector : Collector
 newCollector = record { accepted = false; total = 0; held = 0 }
 
--- 02, E13: "It is complete exactly when a response was accepted and it holds totlength bytes."
+-- SB8. 02, E13: "It is complete exactly when a response was accepted and it holds totlength bytes."
 unfoldable pub isComplete : Collector → Bool
 isComplete c = both (c .accepted) (eqb (c .held) (c .total))
 
@@ -26,7 +26,7 @@ isComplete c = both (c .accepted) (eqb (c .held) (c .total))
 unfoldable pub otherTotal : Collector → ℕ → Bool
 otherTotal c total = both (c .accepted) (not (eqb (c .total) total))
 
--- 02, E13: "in the collector then: totlength differs from the first; held and new bytes past totlength; past the buffer; no data while bytes are
+-- SB4. 02, E13: "in the collector then: totlength differs from the first; held and new bytes past totlength; past the buffer; no data while bytes are
 -- missing": for `n` new bytes of a blob, its total, and the size of the buffer
 unfoldable pub decide : Collector → ℕ → ℕ → ℕ → Verdict
 decide c total n room =
@@ -46,7 +46,7 @@ pub record Outcome : Type 0 where
 unfoldable pub outcome : Collected → List ℕ → Outcome
 outcome r b = record { verdict = r .verdict; collector = r .collector; buffer = b }
 
--- 02, E13: "On refusal collector and lent buffers stay unchanged."
+-- SB10. 02, E13: "On refusal collector and lent buffers stay unchanged."
 unfoldable pub unchanged : StateRefusal → Collector → List ℕ → Outcome
 unchanged why c b = record { verdict = verdict.Refused why; collector = c; buffer = b }
 

@@ -83,7 +83,7 @@ signedDecimal (pos n) = decimal n
 signedDecimal (negsuc n) = dash ++ decimal (suc n)
 
 -- ---- words
--- a word: "each as 0x and 16 lower-case hex digits"
+-- LS3: a word: "each as 0x and 16 lower-case hex digits"
 unfoldable pub hexText : ℕ → List ℕ
 hexText w = zeroX ++ digits 16 16 w
 
@@ -91,7 +91,7 @@ hexText w = zeroX ++ digits 16 16 w
 unfoldable pub byteText : ℕ → List ℕ
 byteText b = digits 16 2 b
 
--- "a console's name: its 8 bytes in order as 16 such digits, no 0x"
+-- LS3: "a console's name: its 8 bytes in order as 16 such digits, no 0x"
 unfoldable pub nameByte : ℕ → ℕ → List ℕ
 nameByte w i = byteText (getD (leBytes 8 w) i 0)
 
@@ -168,17 +168,17 @@ fieldsText [] = []
 fieldsText (f ∷ fs) = fieldText f ++ fieldsText fs
 
 -- ---- the whole listing
--- for a refused page: "one line, `refused` and the code"
+-- LS5: for a refused page: "one line, `refused` and the code"
 unfoldable pub listingOf : ReaderAnswer → List ℕ
 listingOf (refused c) = refusedText ++ signedDecimal c ++ newline
 listingOf (shows w e q s) = headText w e ++ platText (q .pointer) ++ fieldsText (q .fields) ++ joined 4 (sectionText s)
 
--- "The listing program reads from standard input 8 bytes of B, then the page, as reader of edition 4." "Input of any length but
+-- LS1: "The listing program reads from standard input 8 bytes of B, then the page, as reader of edition 4." "Input of any length but
 -- 4,104 bytes: `refused -5`."
 unfoldable pub printed : List ℕ → List ℕ
 printed input = listingOf (cond (eqb (length input) 4104) (readOf 4 (wordAt 0 input) (drop 8 input)) (refused (minus 5)))
 
--- the length of the longest listing: a 0.65535 page read as edition 1, whose fields take all bytes after the core, each with a tag above 99 and a
+-- LS6: the length of the longest listing: a 0.65535 page read as edition 1, whose fields take all bytes after the core, each with a tag above 99 and a
 -- value of 1,000 bytes or more
 abbrev pub listingRoom : ℕ
 listingRoom = 12336

@@ -48,7 +48,7 @@ buffersChecks a n rest = inputChecks a n (outputChecks a n rest)
 unfoldable pub resourceCheck : Arguments → List ℕ → Bool → ReturnCode
 resourceCheck a response fault = returnsIf (either fault (ltb (a .outsize) (length response))) Resource Success
 
--- "Refusals, in order: H_FUNCTION if the platform forbids access; H_PARAMETER for an operation other than 1 or 2; the rest for execute
+-- TP3: "Refusals, in order: H_FUNCTION if the platform forbids access; H_PARAMETER for an operation other than 1 or 2; the rest for execute
 -- only"
 unfoldable pub callChecks : Arguments → Bool → ReturnCode → ReturnCode
 callChecks a forbidden execute =
@@ -76,15 +76,15 @@ pub record CommStep : Type 0 where
 abbrev pub stepLeft : Returned → List ℕ → CommStep
 stepLeft r memory = record { code = r .code; r4 = r .r4; session = r .session; memory = memory }
 
--- "The response .. is written at the output address; r4 is its length"; "execute opens one if none is open"
+-- TP4: "The response .. is written at the output address; r4 is its length"; "execute opens one if none is open"
 unfoldable pub executedStep : Arguments → List ℕ → List ℕ → CommStep
 executedStep a memory response = record { code = Success; r4 = length response; session = Open; memory = splice (a .outbuffer) response memory }
 
--- r4 is "0 for close"; "A closed session closes again without complaint"
+-- TP5: r4 is "0 for close"; "A closed session closes again without complaint"
 unfoldable pub closedStep : List ℕ → CommStep
 closedStep memory = record { code = Success; r4 = 0; session = None; memory = memory }
 
--- "A refused call changes no memory or session."
+-- TP6: "A refused call changes no memory or session."
 unfoldable pub refusedStep : ReturnCode → TpmSession → List ℕ → CommStep
 refusedStep k s memory = record { code = k; r4 = 0; session = s; memory = memory }
 
@@ -101,7 +101,7 @@ commOf s a memory response forbidden fault = effectOf (commCode a memory respons
 unfoldable pub hasRequest : Arguments → ℕ → Bool → Bool
 hasRequest a n forbidden = both (isExecute (a .operation)) (isSuccess (requestCode a n forbidden))
 
--- "The request can be asked for as its part of the first slice, empty for close or where a check before H_RESOURCE refuses."
+-- TP7: "The request can be asked for as its part of the first slice, empty for close or where a check before H_RESOURCE refuses."
 unfoldable pub tpmRequest : Arguments → List ℕ → Bool → List ℕ
 tpmRequest a memory forbidden = cond (hasRequest a (length memory) forbidden) (part (a .inbuffer) (a .insize) memory) []
 

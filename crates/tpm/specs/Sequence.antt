@@ -50,7 +50,7 @@ latestOf s (x ∷ xs) = latestOr (latestOf (commStep s x .session) xs) (cond (co
 abbrev pub OpenBy : Latest → Type 0 → Type 0
 OpenBy l start = (l ≡ operation 1) ⊎ ((l ≡ no-operation) × start)
 
--- the session is open exactly if the last accepted operation is execute, or no call was accepted and it was open at the start
+-- TP9: the session is open exactly if the last accepted operation is execute, or no call was accepted and it was open at the start
 pub record OpenExactly (s : TpmSession) (xs : List CommCall) : Type 0 where
   pub opens : OpenBy (latestOf s xs) (s ≡ Open) → sessionOver s xs ≡ Open
   pub only : sessionOver s xs ≡ Open → OpenBy (latestOf s xs) (s ≡ Open)

@@ -56,7 +56,7 @@ pub record Unrefused (base n v : ℕ) (d : Description) : Type 0 where
   pub late : LateFacts v d
   pub room : RoomFacts v d
 
--- "Writer refusals, in order": each number if its facts fail and all facts before it hold
+-- WR3: "Writer refusals, in order": each number if its facts fail and all facts before it hold
 pub record Refuses (base n v : ℕ) (d : Description) : Type 0 where
   pub w1 : (PlaceFacts base n → ⊥) → writeOf base n v d ≡ no-page 1
   pub w2 : PlaceFacts base n → (EditionFacts v → ⊥) → writeOf base n v d ≡ no-page 2

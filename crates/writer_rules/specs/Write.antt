@@ -20,7 +20,7 @@ use Rattle.lists.specs.Description.{Description, descriptionOk, noneLate, platB
 unfoldable pub neg : ℕ → ℕ
 neg x = (2 ^ 64 - x % 2 ^ 64) % 2 ^ 64
 
--- count, pointer and checksum of section k with the list ws at address p
+-- WR7: count, pointer and checksum of section `k` with the list `ws` at address `p`
 unfoldable pub descriptor : ℕ → ℕ → List ℕ → List ℕ
 descriptor k p [] = 0 ∷ 0 ∷ 0 ∷ []
 descriptor k p (w ∷ ws) =
@@ -35,7 +35,7 @@ arrayAddress base v l k = base + (core v + 8 * length (joined k l))
 unfoldable pub descriptorAt : ℕ → ℕ → (ℕ → List ℕ) → ℕ → List ℕ
 descriptorAt base v l k = descriptor k (arrayAddress base v l k) (l k)
 
--- the platform pointer: it "points at them, or writes pointer 0 if there are none"
+-- WR8: the platform pointer: it "points at them, or writes pointer 0 if there are none"
 unfoldable pub pointTo : ℕ → List ℕ → ℕ
 pointTo a [] = 0
 pointTo a (b ∷ bs) = a
@@ -52,7 +52,7 @@ coreWords base v d = v ∷ platWord base v d ∷ joined (sectionCount v) (descri
 unfoldable pub filled : List ℕ → List ℕ
 filled bs = bs ++ replicate (4096 - length bs) 0
 
--- the whole page: core, arrays, fields, zero
+-- WR6: the whole page: core, arrays, fields, zero
 unfoldable pub pageOf : ℕ → ℕ → Description → List ℕ
 pageOf base v d = filled (bytesOf (coreWords base v d ++ joined 4 (d .lists)) ++ platBytes d)
 
@@ -61,7 +61,7 @@ pub data Made : Type 0 where
   no-page : ℕ → Made
   a-page : List ℕ → Made
 
--- "Writer refusals, in order": W1 as -5, W2 edition, W3 lists and fields, W4 late section, W5 room
+-- WR3: "Writer refusals, in order": W1 as -5, W2 edition, W3 lists and fields, W4 late section, W5 room
 unfoldable pub writerGate : Bool → Bool → Bool → Bool → Bool → List ℕ → Made
 writerGate true true true true true p = a-page p
 writerGate true true true true false p = no-page 5
