@@ -18,7 +18,7 @@ pub extern "C" fn pbeam_pack(page: &[u8], base: u64, target: &mut [u8]) -> i32
 }
 
 // Mends the page at `base`: zeroes each part in the core that breaks a rule or overlaps a part kept before it. Returns 0 and sets `changed[i]` to 1
-// for each changed part; or returns the code, sets `changed` to zeros and leaves the page unchanged.
+// for each changed part and to 0 for the others; or returns the code, sets `changed` to zeros and leaves the page unchanged.
 #[no_mangle]
 pub extern "C" fn pbeam_mend(page: &mut [u8], base: u64, changed: &mut [u64; 6]) -> i32
     ensures { λ r. ⌜ r ≡ mendedNumber (mendedOf base (now (page .entry))) ⌝ }

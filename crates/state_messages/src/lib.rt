@@ -176,7 +176,7 @@ pub fn write_request(buffer: &mut [u8], request: StateRequest) -> MessageWritten
     MessageWritten::Length(16)
 }
 
-// Writes a response with the data `bytes` at the start of the buffer. Refuses data longer than `largest`.
+// Writes a response with the data `bytes` at the start of the buffer. Returns its length. Refuses data longer than `largest`.
 pub fn write_response(
     buffer: &mut [u8],
     largest: u32,
