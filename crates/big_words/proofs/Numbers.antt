@@ -1,4 +1,4 @@
--- The laws of a number in bytes, the highest first, once for every width. Assumes nothing.
+-- The laws of big-endian numbers, for every width. Assumes nothing.
 use Prim.Native.Nat.{ℕ, zero, suc, _+_, _*_, _/_, _%_, _^_, _≤_, _<_}
 use mathlib.Core.Path.{_≡_, refl, ap, _∙_}
 use mathlib.Core.List.{List, [], _∷_, _++_, reverse, reverse-cons, reverse-append, reverse-reverse}
@@ -39,14 +39,14 @@ big-suc n off s h =
 pub big-one : (off : ℕ) (s : List ℕ) → off < length s → bigAt 1 off s ≡ getD s off 0
 big-one off s h = let e : getD s (off + 0) 0 ≡ getD s off 0 = rw add-zero in omega (arith, big-suc 0 off s (omega arith), big-zero off s)
 
--- two numbers side by side are one
+-- two numbers next to each other are one
 pub big-add : (m n off : ℕ) (s : List ℕ) → off + (m + n) ≤ length s → bigAt (m + n) off s ≡ bigAt m off s * 256 ^ n + bigAt n (off + m) s
 big-add m zero off s h = rw add-zero (omega (arith, big-zero (off + m) s))
 big-add m (suc n) off s h =
     rw (add-suc, big-suc (m + n) off s (omega arith), big-suc n (off + m) s (omega arith), pow-suc, add-assoc)
     (omega (arith, big-add m n off s (omega arith), mul-assoc (bigAt m off s) (256 ^ n) 256))
 
--- ---- a number put: the bytes of w, the highest first, are those of the swapped number, the lowest first
+-- ---- a number written: the big-endian bytes of w are the little-endian bytes of the swapped number
 le-step : (n b x : ℕ) → b < 256 → leBytes (suc n) (b + 256 * x) ≡ b ∷ leBytes n x
 unfolding leBytes
 le-step n b x h =
@@ -69,7 +69,7 @@ unfolding beBytes leBytes
 swap-bytes w r e =
     le-four (w / 256 / 256 / 256 % 256) (w / 256 / 256 % 256) (w / 256 % 256) (w % 256) r (omega arith) (omega arith) (omega arith) (omega arith) e
 
--- the usual sum: the first byte counts 256 to the number of those behind it
+-- the usual sum: the first of n bytes counts 256 ^ (n - 1), and the other bytes follow
 le-snoc : (bs : List ℕ) (b : ℕ) → leOf (bs ++ (b ∷ [])) ≡ leOf bs + b * 256 ^ length bs
 unfolding leOf
 le-snoc [] b = omega arith
@@ -79,7 +79,7 @@ pub be-cons : (b : ℕ) (bs : List ℕ) → beOf (b ∷ bs) ≡ b * 256 ^ length
 unfolding beOf
 be-cons b bs = rw (reverse-cons b bs, le-snoc (reverse bs) b, length-reverse) (omega arith)
 
--- what stands behind other bytes reads back
+-- a number that follows other bytes reads back
 pub big-behind : (n x off : ℕ) (pre rest : List ℕ) → length pre ≡ off → x < 256 ^ n → bigAt n off (pre ++ (beBytes n x ++ rest)) ≡ x
 unfolding bigAt part
 big-behind n x off pre rest e h = rw (drop-at pre (beBytes n x ++ rest) off e, take-at (beBytes n x) rest n (be-length n x)) (be-back n x h)

@@ -1,17 +1,18 @@
-// Big-endian numbers of four bytes, read from and written to a lent slice at any offset.
+// Big-endian 4-byte numbers, read from and written to a lent slice at any offset.
 ghost use mathlib.Core.Path.{_≡_};
 ghost use Prim.Native.Nat.{_+_, _<_, _≤_};
 ghost use lib.ListN.{length};
 ghost use Rattle.words.specs.Word.{leBytes, laid};
 ghost use Rattle.big_words.specs.Big.{beBytes, bigAt, wholeBig};
 
+// The byte as a 32-bit number.
 fn wide(x: u8) -> u32
     ensures { λ r. ⌜ (r ≡ x) × (r < 0x100) ⌝ }
 {
     x as u32
 }
 
-// The numbers of two and of four bytes at an offset within the slice.
+// The 2-byte number at offset `at`, which must be within the slice.
 fn pair_at(s: &[u8], at: usize) -> u32
     requires { ⌜ at + 2 ≤ length (now s) ⌝ }
     ensures { λ r. ⌜ (r ≡ bigAt 2 at (now (s .entry))) × (r < 0x1_0000) ⌝ }
@@ -21,6 +22,7 @@ fn pair_at(s: &[u8], at: usize) -> u32
     high * 0x100 + low
 }
 
+// The 4-byte number at offset `at`, which must be within the slice.
 fn quad_at(s: &[u8], at: usize) -> u32
     requires { ⌜ at + 4 ≤ length (now s) ⌝ }
     ensures { λ r. ⌜ r ≡ bigAt 4 at (now (s .entry)) ⌝ }
@@ -30,7 +32,7 @@ fn quad_at(s: &[u8], at: usize) -> u32
     high * 0x1_0000 + low
 }
 
-// The number at an offset; 0 where it does not lie whole within the slice.
+// The 4-byte number at offset `at`; 0 if it is not wholly within the slice.
 pub fn big_at(s: &[u8], at: usize) -> u32
     ensures { λ r. ⌜ r ≡ wholeBig at (now (s .entry)) ⌝ }
 {
@@ -43,8 +45,7 @@ pub fn big_at(s: &[u8], at: usize) -> u32
     quad_at(s, at)
 }
 
-// The number whose bytes are those of w in the other order. Written so, the compiler makes one instruction of it, and one store of
-// `put_half`.
+// `w` with its four bytes reversed. The compiler turns this form into one instruction, and `put_half` into one store.
 fn swapped(w: u32) -> u32
     ensures { λ r. ⌜ leBytes 4 r ≡ beBytes 4 w ⌝ }
 {
@@ -57,7 +58,7 @@ fn swapped(w: u32) -> u32
     first + second * 0x100 + third * 0x1_0000 + fourth * 0x100_0000
 }
 
-// Puts the number w at an offset; where it does not fit whole, no byte changes.
+// Writes `w` at offset `at`; if it does not fit, no byte changes.
 pub fn put_big(s: &mut [u8], at: usize, w: u32)
     ensures { λ _. ⌜ now (s .exit) ≡ laid at (beBytes 4 w) (now (s .entry)) ⌝ }
 {

@@ -1,11 +1,11 @@
-// The line of a platform field, laid into a lent slice as far as it fits.
+// The line of a platform field, written into a lent slice as far as it fits.
 use fields::FieldPlace;
 ghost use Rattle.fields.specs.Fields.{raw};
 ghost use Rattle.text_lines.specs.Text.{fieldText};
 ghost use Rattle.text_lines.specs.Laid.{LaidOver};
 ghost use Rattle.text_lines.specs.Steps.{placeText};
 
-// A field that is shown with its value: its tag, the length of the value and the value's bytes.
+// Writes a field with its value: tag, length and the bytes of the value.
 fn put_raw(out: &mut [u8], at: usize, tag: u8, value: &[u8]) -> usize
     ensures { λ r. ⌜ LaidOver at (fieldText (raw tag (now (value .entry)))) (now (out .entry)) r (now (out .exit)) ⌝ }
 {
@@ -16,7 +16,7 @@ fn put_raw(out: &mut [u8], at: usize, tag: u8, value: &[u8]) -> usize
     text_lines::put_end(out, to)
 }
 
-// A field at a place, with its value; nothing where there is no field.
+// Writes the line of a field with its value; nothing if there is no field.
 pub fn put_field(out: &mut [u8], at: usize, field: FieldPlace, value: &[u8]) -> usize
     ensures { λ r. ⌜ LaidOver at (placeText field (now (value .entry))) (now (out .entry)) r (now (out .exit)) ⌝ }
 {

@@ -1,4 +1,4 @@
-// Lists the manifest page on standard input: 8 bytes of B, then the page, as a reader of edition 4 shows it.
+// Lists the manifest page on standard input, as a reader of edition 4 shows it: 8 bytes of B, then the page.
 use libc::STDIN_FILENO;
 use libc::STDOUT_FILENO;
 ghost use Prim.Native.Nat.{_≤_, _<_};
@@ -7,8 +7,8 @@ ghost use Rattle.io.specs.Counts.{Counts};
 ghost use Rattle.text_lines.specs.Text.{listingRoom};
 ghost use Rattle.listing.specs.Prints.{PrintsAll};
 
-// The text of an input of which n bytes were read into `room`. The room has to hold one byte more than the input of a page, so that a
-// longer input shows, and `out` the longest text: so nothing of what is printed is lost.
+// Writes the listing of an input whose first `n` bytes are in `room`. The room must hold at least 4,105 bytes, one more than a valid input, so that a
+// longer input is noticed; `out` must hold the longest listing, so nothing is cut.
 fn show(room: &[u8], n: usize, out: &mut [u8]) -> usize
     requires { ⌜ Counts n (now room) × (4104 < length (now room)) × (listingRoom ≤ length (now out)) ⌝ }
     ensures { λ r. ⌜ Counts r (now (out .exit)) ⌝ }
@@ -17,6 +17,7 @@ fn show(room: &[u8], n: usize, out: &mut [u8]) -> usize
     text::list_input(&room[..n], out)
 }
 
+// Reads standard input and writes its listing.
 fn main() {
     let mut input = [0u8; 4105];
     let n = io::read_full(STDIN_FILENO, &mut input);

@@ -58,7 +58,7 @@ sum-more ws i s r h e f = rw (add-one, take-suc ws i 0 h, sum-snoc) (omega arith
 pub sum-all : (ws : List ℕ) (i : ℕ) → i ≡ length ws → sum (take i ws) ≡ sum ws
 sum-all ws i e = rw (e, take-length)
 
--- one bank more
+-- one more bank
 pub sum-bank : (ws : List ℕ) (i at acc t r : ℕ) → 2 * (i + 1) ≤ length ws → at ≡ 2 * i → acc ≡ sum (take (2 * i) ws) % 2 ^ 64 →
     t ≡ (acc + getD ws at 0) % 2 ^ 64 → r ≡ (t + getD ws (at + 1) 0) % 2 ^ 64 → r ≡ sum (take (2 * (i + 1)) ws) % 2 ^ 64
 sum-bank ws i at acc t r h o e u v =
@@ -66,7 +66,7 @@ sum-bank ws i at acc t r h o e u v =
     let two : r ≡ sum (take (at + 1 + 1) ws) % 2 ^ 64 = sum-more ws (at + 1) t r (omega arith) (sum-more ws at acc t (omega arith) a u) v in
     two ∙ ap (λ n. sum (take n ws) % 2 ^ 64) (let z : at + 1 + 1 ≡ 2 * (i + 1) = omega arith in z)
 
--- as many whole entries as the length says
+-- the number of whole entries that the length gives
 pub whole-room : (k n : ℕ) → wordsPerEntry k * (n / wordsPerEntry k) ≤ n
 whole-room k n = omega (arith, div-add-mod n (wordsPerEntry k))
 
@@ -84,7 +84,7 @@ described-four : (w : ℕ) (a b c d : List ℕ) → listsOk w (four a b c d) ≡
 unfolding listsOk every both four
 described-four w a b c d = refl
 
--- the totals of sums that there are
+-- the totals, if the lists are sound
 abbrev totalsIn : Sums → Totals
 totalsIn Unsound = record { dram = 0; console = 0; ncoh = 0; coh = 0 }
 totalsIn (Sound t) = t
@@ -123,7 +123,7 @@ module _ (w : ℕ) (a b c d : List ℕ) where
   pub sums-told : {r : Sums} → r ≡ sumsOf w a b c d → (r ≡ sumsOf w a b c d) × (sumsNumber r ≡ cond (listsOk w (four a b c d)) 0 3)
   sums-told h = (h, ap sumsNumber h ∙ sums-number)
 
-  -- what is learnt from the answer
+  -- what follows from the answer
   pub unsound-lists : sumsOf w a b c d ≡ Unsound → listsOk w (four a b c d) ≡ false
   unsound-lists e = sym sums-sound ∙ ap isSound e
 
@@ -151,7 +151,7 @@ unfolding sumTo
 to-mono k zero n = rw add-zero (omega arith)
 to-mono k (suc j) n = let i = to-mono k j n in rw (let e : k + suc j ≡ suc (k + j) = omega arith in e) (omega arith)
 
--- with k of the lengths gone, the next is more than is left
+-- after k lengths, the next is more than the room that is left
 pub to-over : (k left room : ℕ) (n : List ℕ) → k < 4 → left + sumTo k n ≡ room → left < getD n k 0 → room < sumTo 4 n
 to-over k left room n h e o =
     let m : sumTo (k + 1) n ≤ sumTo (k + 1 + (4 - (k + 1))) n = to-mono (k + 1) (4 - (k + 1)) n in
@@ -205,7 +205,7 @@ unfolding withMark
 marked-more [] = omega arith
 marked-more (b ∷ bs) = omega (arith, length-append (b ∷ bs) endMark)
 
--- ---- the room behind the core
+-- ---- the room after the core
 module _ (v s : ℕ) (a b c d fs : List ℕ) (e : s ≡ core v) where
   pub room-not : 4096 - s < length (withMark fs) → leb (used v (descriptionOf a b c d fs)) 4096 ≡ false
   unfolding used platBytes descriptionOf

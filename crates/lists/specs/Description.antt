@@ -11,11 +11,12 @@ use Rattle.versions.specs.Edition.{sectionCount, core}
 use Rattle.entries.specs.Entry.{wordsPerEntry, entriesOk}
 use Rattle.fields.specs.Fields.{scanOf, tellable, endMark}
 
--- a description: a list of words for each section, and fields as they will stand on the page, with no end mark
+-- a description: the words of each section's list, and the bytes of the fields without an end mark
 pub record Description : Type 0 where
   pub lists : ℕ → List ℕ
   pub fields : List ℕ
 
+-- the four lists by section: `a` for section 0 to `d` for section 3, and [] for any other number
 unfoldable pub four : List ℕ → List ℕ → List ℕ → List ℕ → ℕ → List ℕ
 four a b c d zero = a
 four a b c d (suc zero) = b
@@ -23,17 +24,19 @@ four a b c d (suc (suc zero)) = c
 four a b c d (suc (suc (suc zero))) = d
 four a b c d (suc (suc (suc (suc n)))) = []
 
+-- the description with lists `a` to `d` and fields `fs`
 unfoldable pub descriptionOf : List ℕ → List ℕ → List ℕ → List ℕ → List ℕ → Description
 descriptionOf a b c d fs = record { lists = four a b c d; fields = fs }
 
--- W3: "list length not a whole number of entries, or an entry that breaks a reader's rule"; all four lists, also those of
--- sections after the edition
+-- W3: "list length not a whole number of entries, or an entry that breaks a reader's rule"; `v` is the page's minor
 unfoldable pub listOk : ℕ → ℕ → List ℕ → Bool
 listOk v k ws = both (eqb (length ws % wordsPerEntry k) 0) (entriesOk v k (length ws / wordsPerEntry k) ws)
 
+-- W3 for all four lists, including those of sections after the edition
 unfoldable pub listsOk : ℕ → (ℕ → List ℕ) → Bool
 listsOk v l = every 4 (λ k. listOk v k (l k))
 
+-- W3 whole: the lists and the fields
 unfoldable pub descriptionOk : ℕ → Description → Bool
 descriptionOk v d = both (listsOk v (d .lists)) (tellable (scanOf (d .fields)))
 
@@ -41,12 +44,12 @@ descriptionOk v d = both (listsOk v (d .lists)) (tellable (scanOf (d .fields)))
 unfoldable pub noneLate : ℕ → (ℕ → List ℕ) → Bool
 noneLate v l = every 4 (λ k. either (ltb k (sectionCount v)) (eqb (length (l k)) 0))
 
--- fields with their end mark behind them; without fields no byte
+-- the fields followed by their end mark; [] if there are no fields
 unfoldable pub withMark : List ℕ → List ℕ
 withMark [] = []
 withMark (b ∷ bs) = (b ∷ bs) ++ endMark
 
--- the bytes of the platform data
+-- the bytes of the platform data: the fields and their end mark
 unfoldable pub platBytes : Description → List ℕ
 platBytes d = withMark (d .fields)
 

@@ -1,4 +1,4 @@
-// The writer's checks of the description: whole entries and fields within their rules, no entry of a section after the edition, and room.
+// The writer's checks of a description, W3 to W5: whole entries and valid fields, no entry of a section after the edition, and enough room.
 use entries::Bits;
 use versions::Edition;
 ghost use mathlib.Core.Path.{_≡_};
@@ -12,7 +12,7 @@ ghost use Rattle.lists.specs.Description.{four, descriptionOf, listOk, l
 ghost use Rattle.lists.specs.Fast.{sumsOf, sumsNumber};
 ghost use Rattle.lists.specs.Steps.{sumTo, lateTo};
 
-// The sums of the four lists' words, modulo 2^64.
+// The sums of the words of each list, modulo 2^64.
 pub struct Totals {
     pub dram: u64,
     pub console: u64,
@@ -20,19 +20,19 @@ pub struct Totals {
     pub coh: u64,
 }
 
-// The same; or that one list is not whole entries, each within its rule.
+// The totals, or `Unsound` if a list is not a whole number of entries or an entry breaks its rule.
 pub enum Sums {
     Unsound,
     Sound(Totals),
 }
 
-// What a list was found to be: the sum of its words modulo 2^64, and whether the rule holds of each entry.
+// The sum of a list's words modulo 2^64, and whether every entry keeps its rule.
 struct Summed {
     sum: u64,
     ok: bool,
 }
 
-// Count banks or regions of a list, added and judged in one loop; k is their section.
+// Sums and checks the first `count` banks or regions of `words` in one loop. `k` is their section, not 1.
 fn sum_banks(words: &[u64], minor: u64, k: usize, count: usize) -> Summed
     requires { ⌜ (k ≡ 1 → ⊥) × (2 * count ≤ length (now words)) ⌝ }
     ensures { λ r. ⌜ (r .sum ≡ sum (take (2 * count) (now (words .entry))) % 2 ^ 64) × (r .ok ≡ entriesOk minor k count (now (words .entry))) ⌝ }
@@ -52,7 +52,7 @@ fn sum_banks(words: &[u64], minor: u64, k: usize, count: usize) -> Summed
     Summed { sum, ok }
 }
 
-// The sum of a list's words, modulo 2^64.
+// The sum of all words, modulo 2^64.
 fn sum_of(words: &[u64]) -> u64
     ensures { λ r. ⌜ r ≡ sum (now (words .entry)) % 2 ^ 64 ⌝ }
 {
@@ -63,7 +63,7 @@ fn sum_of(words: &[u64]) -> u64
     total
 }
 
-// The rule of each of count consoles of a list, for a page of that minor.
+// Whether each of the first `count` consoles of `words` keeps its rule on a page of version 0.`minor`.
 fn consoles_ok(words: &[u64], minor: u64, count: usize) -> bool
     requires { ⌜ 6 * count ≤ length (now words) ⌝ }
     ensures { λ r. ⌜ r ≡ entriesOk minor 1 count (now (words .entry)) ⌝ }
@@ -77,7 +77,7 @@ fn consoles_ok(words: &[u64], minor: u64, count: usize) -> bool
     entries::consoles_clear(bits, minor)
 }
 
-// Whether a list is whole entries of section k, each within its rule, and the sum of its words if it is.
+// Whether `words` is a whole number of entries of section `k`, each within its rule. If so, `sum` is the sum of the words.
 fn sum_list(words: &[u64], minor: u64, k: usize) -> Summed
     ensures { λ r. ⌜ (r .ok ≡ listOk minor k (now (words .entry))) × (r .ok ≡ true → r .sum ≡ sum (now (words .entry)) % 2 ^ 64) ⌝ }
 {
@@ -94,7 +94,7 @@ fn sum_list(words: &[u64], minor: u64, k: usize) -> Summed
     sum_banks(words, minor, k, count)
 }
 
-// W3: the sums of all four lists, also of those of sections after the edition.
+// W3: checks and sums all four lists, including those of sections after the edition.
 pub fn sum_lists(minor: u64, dram: &[u64], console: &[u64], ncoh: &[u64], coh: &[u64]) -> Sums
     ensures { λ r. ⌜ r ≡ sumsOf minor (now (dram .entry)) (now (console .entry)) (now (ncoh .entry)) (now (coh .entry)) ⌝ }
     ensures { λ r. ⌜ sumsNumber r ≡ cond (listsOk minor (four (now (dram .entry)) (now (console .entry)) (now (ncoh .entry)) (now (coh .entry)))) 0 3 ⌝ }
@@ -123,14 +123,14 @@ pub fn sum_lists(minor: u64, dram: &[u64], console: &[u64], ncoh: &[u64], coh: &
     })
 }
 
-// W3: whether the fields may be written.
+// W3: whether `fields` may be written.
 pub fn fields_ok(fields: &[u8]) -> bool
     ensures { λ r. ⌜ r ≡ tellable (scanOf (now (fields .entry))) ⌝ }
 {
     fields::description_ok(fields)
 }
 
-// Whether each list from a section on is empty, by the four lengths.
+// Whether the lists of sections [from, 4) are empty; `n` has the four lengths.
 fn empty_from(from: usize, n: [usize; 4]) -> bool
     ensures { λ r. ⌜ r ≡ lateTo from 4 n ⌝ }
 {
@@ -142,7 +142,7 @@ fn empty_from(from: usize, n: [usize; 4]) -> bool
     true
 }
 
-// W4: whether each list of a section after the edition is empty.
+// W4: whether the list of every section after the edition is empty.
 pub fn none_late(e: Edition, dram: &[u64], console: &[u64], ncoh: &[u64], coh: &[u64]) -> bool
     ensures { λ r. ⌜ r ≡ noneLate (e .minor) (four (now (dram .entry)) (now (console .entry)) (now (ncoh .entry)) (now (coh .entry))) ⌝ }
 {
@@ -150,7 +150,7 @@ pub fn none_late(e: Edition, dram: &[u64], console: &[u64], ncoh: &[u64], coh: &
     empty_from(e.sections() as usize, n)
 }
 
-// Whether four arrays of so many words fit into a room. No sum of lengths is made: it might not fit a word.
+// Whether n[0] + n[1] + n[2] + n[3] <= room. Subtracts, because the sum could overflow.
 fn fits(room: usize, n: [usize; 4]) -> bool
     ensures { λ r. ⌜ r ≡ leb (sumTo 4 n) room ⌝ }
 {
@@ -164,7 +164,7 @@ fn fits(room: usize, n: [usize; 4]) -> bool
     true
 }
 
-// How many bytes fields take on a page: themselves and their end mark, or none.
+// The bytes that `fields` take on a page: their length plus 3 for the end mark, or 0 if there are none.
 fn marked_size(fields: &[u8]) -> usize
     requires { ⌜ length (now fields) ≤ 4096 ⌝ }
     ensures { λ r. ⌜ r ≡ length (withMark (now (fields .entry))) ⌝ }

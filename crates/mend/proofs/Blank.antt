@@ -51,7 +51,7 @@ part-zero off n p h = leOf-zero (take n (drop off p)) (λ i. go i (decLt i n))
     go i (yes l) = simp (getD-take, getD-drop) (h (off + i) (omega arith) (omega arith))
     go i (no l) = List·getD-eq-default (take n (drop off p)) 0 (rw length-take (omega arith))
 
--- ---- a part's bounds; a byte is of one part only
+-- ---- the bounds of a part; a byte belongs to one part only
 part-grows : (j : ℕ) → partAt j ≤ partAt (suc j)
 unfolding partAt
 part-grows zero = omega arith
@@ -129,7 +129,7 @@ cond-twice true true n = refl
 cond-twice true false n = refl
 cond-twice false b n = refl
 
--- a part zeroed beside others
+-- a part zeroed next to others
 pub zeroed-blank : (b : Bool) (j : ℕ) (vs : List ℕ) (f : ℕ → Bool) (page : List ℕ) → length vs ≡ partAt (suc j) - partAt j → partAt (suc j) ≤ length page → ((i : ℕ) → getD vs i 0 ≡ 0) →
     zeroed b (partAt j) vs (blank f page) ≡ blank (λ i. either (f i) (both b (ofPart j i))) page
 unfolding zeroed both ofPart

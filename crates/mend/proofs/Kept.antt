@@ -1,4 +1,4 @@
--- What is kept of the parts that are gone over, by what they say alone. Assumes nothing.
+-- Which sections are kept, from the parts alone, without the page. Assumes nothing.
 use Prim.Native.Nat.{ℕ, zero, suc, _+_, _≤_, _<_}
 use mathlib.Core.Bool.{Bool, true, false, cond, not}
 use mathlib.Core.Path.{_≡_, refl, sym, _∙_}
@@ -88,13 +88,13 @@ module _ (w e base : ℕ) (q : Plat) (f : ℕ → Sec) where
   unfolding left
   left-other n k h = rw (ne-eqb k n h)
 
-  -- a section that was not gone over is as it came
+  -- a section that was not checked yet is unchanged
   pub left-later : (n k : ℕ) → n ≤ k → left w e base q f n k ≡ f k
   unfolding left
   left-later zero k h = refl
   left-later (suc n) k h = left-other n k (λ z. omega arith) ∙ left-later n k (omega arith)
 
-  -- one that was is kept or empty
+  -- a section that was checked is kept or empty
   pub left-before : (n k : ℕ) → k < n → left w e base q f n k ≡ cond (keepsSection w e base q f k) (f k) noSec
   left-before zero k h = absurd (not-suc-le-zero h)
   left-before (suc n) k h = go (decLt k n) (left-before n k)
@@ -103,7 +103,7 @@ module _ (w e base : ℕ) (q : Plat) (f : ℕ → Sec) where
       go (yes l) r = left-other n k (λ z. omega arith) ∙ r l
       go (no l) r = rw (let z : k ≡ n = omega arith in z) (left-at n)
 
-  -- the sections that are left at last
+  -- the sections that are left in the end
   unfoldable pub lastOf : ℕ → Sec
   lastOf k = cond (keepsSection w e base q f k) (f k) noSec
 
@@ -144,7 +144,7 @@ module _ (w e base : ℕ) (q : Plat) (f : ℕ → Sec) where
   unfolding keepsSection
   keeps-none k h = none-stays w e base q (left w e base q f k) k (left-later k k (omega arith) ∙ h)
 
-  -- nothing goes where all rules hold
+  -- if all rules hold, every section is kept
   keeps-of : (k : ℕ) → ((j : ℕ) → j < k → left w e base q f k j ≡ f j) → Yes (stays w e base q f k) → Yes (keepsSection w e base q f k)
   unfolding keepsSection
   keeps-of k r h = rw (stays-same w e base q (left w e base q f k) f k (left-later k k (omega arith)) r) h

@@ -1,4 +1,4 @@
--- The page while it is gone over: what it says of each part, by what it said at first. A kept part lies behind the core, so no zeros reach it.
+-- The page during mending: what the reader finds for each part, compared with the page at entry. A kept part is after the core, so no zeros reach it.
 -- Assumes nothing.
 use Prim.Native.Nat.{ℕ, zero, suc, _+_, _-_, _*_, _≤_, _<_}
 use mathlib.Core.Bool.{Bool, true, false, cond, not, false≢true}
@@ -40,7 +40,7 @@ both-then false b c h = refl
 pub never-both : (b : Bool) → Yes b → b ≡ false → ⊥
 never-both b h k = false≢true (sym k ∙ h)
 
--- ---- all parts gone over
+-- ---- all parts mended
 pub to-all : (base : ℕ) (page : List ℕ) → pageTo 6 base page ≡ partsZeroed base page
 unfolding pageTo partsZeroed
 to-all base page = refl
@@ -51,7 +51,7 @@ module _ (base : ℕ) (page : List ℕ) (n : ℕ) where
   unfolding pageTo
   to-length = blank-length _ page
 
-  -- a part that is not changed, or not gone over yet
+  -- a part that is not changed, or not mended yet
   pub part-stands : (j : ℕ) → (j < n → changed base page j ≡ false) → (i : ℕ) → Yes (ofPart j i) → getD (pageTo n base page) i 0 ≡ getD page i 0
   unfolding pageTo
   part-stands j c i o =
@@ -67,7 +67,7 @@ module _ (base : ℕ) (page : List ℕ) (n : ℕ) where
   part-zeroed j l c i o =
       rw (blank-at (λ i. some n (λ j. both (changed base page j) (ofPart j i))) page i, some-of n (λ j. both (changed base page j) (ofPart j i)) j l (both-of _ _ c o))
 
-  -- no part that is changed reaches out of the core
+  -- no changed part reaches past the core
   within : (k i : ℕ) → (i < 4) ⊎ (core (editionAt page) ≤ i) → Yes (changed base page k) → Yes (ofPart k i) → ⊥
   unfolding core changed partAt
   within zero i (inl o) c x = let b = part-bounds 0 i x in omega arith
@@ -114,7 +114,7 @@ module _ (base : ℕ) (page : List ℕ) (n : ℕ) where
   unfolding partAt
   pointer-zeroed l c = num-zeroed 1 l c 8 8 (omega arith) (omega arith)
 
-  -- the words of section k, of which off tells: 16, 24, 32
+  -- the words of section k: off is 16, 24 or 32
   pub word-stands : (k : ℕ) → (suc (suc k) < n → changed base page (suc (suc k)) ≡ false) → (off : ℕ) → 16 ≤ off → off ≤ 32 → wordAt (off + 24 * k) (pageTo n base page) ≡ wordAt (off + 24 * k) page
   unfolding partAt
   word-stands k c off a b = num-stands (suc (suc k)) c 8 (off + 24 * k) (omega arith) (omega arith)
@@ -142,7 +142,7 @@ module _ (w e base : ℕ) (p q : List ℕ) (l : length p ≡ length q) (s : (i :
   unfolding foundAt
   found-rest a h = rw (ext-getD 0 (drop (a - base) p) (drop (a - base) q) (simp (length-drop, l)) (λ i k. simp getD-drop (s (a - base + i) (omega arith))))
 
-  -- the rule of a section of the same words
+  -- the rule of a section with the same words
   sec-rest : (k x y z : ℕ) → secOk w e base k (mkSec x y z (arrayAt base p y (size k x))) ≡ secOk w e base k (mkSec x y z (arrayAt base q y (size k x)))
   unfolding secOk wordsIn mkSec
   sec-rest k x y z = ap (either (nothing x y z)) (both-then (inRange e base k x y) _ _ (λ r. rw (array-rest y (size k x) (range-low e base k x y r))))
@@ -151,7 +151,7 @@ module _ (w e base : ℕ) (p q : List ℕ) (l : length p ≡ length q) (s : (i :
   unfolding platOk mkPlat
   plat-rest a = ap (either (eqb a 0)) (both-then (leb (base + core e) a) (both (ltb a (base + 4096)) (isEnded (foundAt base p a))) (both (ltb a (base + 4096)) (isEnded (foundAt base q a))) (λ r. rw (found-rest a (leb-true _ _ r))))
 
-  -- one that holds sees the same
+  -- a section whose rule holds shows the same
   pub found-held : (a : ℕ) → Yes (platOk e base (mkPlat a (foundAt base q a))) → foundAt base p a ≡ foundAt base q a
   unfolding platOk mkPlat foundAt
   found-held a h = either-cases _ _ (λ z. rw z) (λ b. found-rest a (leb-true _ _ (both-l _ _ b))) h
@@ -164,7 +164,7 @@ module _ (w e base : ℕ) (p q : List ℕ) (l : length p ≡ length q) (s : (i :
       (λ b. array-rest y (size k x) (range-low e base k x y (both-l _ _ b)))
       h
 
--- ---- the page while it is gone over
+-- ---- the page during mending
 module _ (base : ℕ) (page : List ℕ) (n : ℕ) where
   pub rest : (i : ℕ) → core (editionAt page) ≤ i → getD (pageTo n base page) i 0 ≡ getD page i 0
   rest i h = rest-stands base page n i (inr h)
@@ -180,7 +180,7 @@ module _ (base : ℕ) (page : List ℕ) (n : ℕ) where
             (λ h. ap (mkPlat (wordAt 8 page)) (found-held (minorAt page) (editionAt page) base (pageTo n base page) page (to-length base page n) rest (wordAt 8 page) h)),
       )
 
-  -- section k, before it is changed: its own rule, and where it lies
+  -- section k before it is changed: its own rule and its extent
   ok-to : (k : ℕ) → n ≤ suc (suc k) → okAt (minorAt page) (editionAt page) base k (pageTo n base page) ≡ secOk (minorAt page) (editionAt page) base k (secAt base page k)
   unfolding okAt secAt
   ok-to k l =
@@ -188,7 +188,7 @@ module _ (base : ℕ) (page : List ℕ) (n : ℕ) where
       rw (word-stands base page n k c 16 (lit≤ tt) (lit≤ tt), word-stands base page n k c 24 (lit≤ tt) (lit≤ tt), word-stands base page n k c 32 (lit≤ tt) (lit≤ tt))
       (sec-rest (minorAt page) (editionAt page) base (pageTo n base page) page (to-length base page n) rest k (countAt k page) (pointerAt k page) (checkAt k page))
 
-  -- the extent of section k, and of one that was gone over
+  -- the extent of section k, and of one that was mended before
   extent-to : (k : ℕ) → n ≤ suc (suc k) → extent k (secAt base (pageTo n base page) k) ≡ extent k (secAt base page k)
   unfolding extent secAt mkSec
   extent-to k l =
@@ -220,7 +220,7 @@ own-extent : (k base : ℕ) (p : List ℕ) → _≡_ {A = Extent} (record { from
 unfolding extent secAt mkSec endOf
 own-extent k base p = refl
 
--- section k is changed by the page as it is so far just when it is by the page at first
+-- section k is changed by the test on the page so far exactly if it is by the test on the page at entry
 module _ (base : ℕ) (page : List ℕ) (k : ℕ) where
   before-to : k < sectionCount (editionAt page) →
       clearFrom (pointerAt k (pageTo (suc (suc k)) base page)) (endOf k (pageTo (suc (suc k)) base page)) k (pageTo (suc (suc k)) base page)

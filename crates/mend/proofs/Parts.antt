@@ -1,4 +1,4 @@
--- The mender's steps, one after the other: each leaves the page with one part more gone over. Assumes nothing.
+-- The mender's steps in order: each leaves the page with one more part mended. Assumes nothing.
 use Prim.Native.Nat.{ℕ, zero, suc, _+_, _-_, _*_, _≤_, _<_}
 use mathlib.Core.Bool.{Bool, true, false, cond, not}
 use mathlib.Core.Path.{_≡_, refl, sym, ap, _∙_}
@@ -52,7 +52,7 @@ zero-words =
     zero-append (leBytes 8 0) (bytesOf (0 ∷ 0 ∷ [])) (zero-at 8)
     (zero-append (leBytes 8 0) (bytesOf (0 ∷ [])) (zero-at 8) (zero-append (leBytes 8 0) [] (zero-at 8) (λ i. refl)))
 
--- ---- one step on the page as it is so far
+-- ---- one step on the page so far
 module _ (page : List ℕ) where
   pub padding-kept : paddingAt page ≡ 0 → (false ≡ not (eqb (paddingAt page) 0)) × (page ≡ zeroed false 4 (leBytes 4 0) page)
   unfolding zeroed
@@ -62,7 +62,7 @@ module _ (page : List ℕ) where
   unfolding zeroed
   padding-goes h p e = (rw (ne-eqb (paddingAt page) 0 h), e)
 
--- the platform data: what the reader's rule tells of it
+-- the platform data: what the result of the reader's rule means
 module _ (e base : ℕ) (page : List ℕ) where
   pub plat-goes : Broken ≡ platEnd e base (platAt base page) → (p : List ℕ) → p ≡ laid 8 (leBytes 8 0) page →
       (_≡_ {A = PlatKept} (record { changed = true; from = 0; to = 0 }) (platKept e base (platAt base page))) × (p ≡ zeroed true 8 (leBytes 8 0) page)
@@ -74,7 +74,7 @@ module _ (e base : ℕ) (page : List ℕ) where
   unfolding platKept platLeft platExtent platAt mkPlat zeroed
   plat-stays m h = let a = plat-ended e base (platAt base page) m h in (rw (a .0, a .1), refl)
 
--- what an entry of `sections` tells of a page that is a place for a manifest
+-- what an entry of `sections` promises for a page with a good base and length
 pub rule-told : {b : Bool} {r x : FieldsEnd} → Yes b → r ≡ cond b x Broken → r ≡ x
 rule-told {x = x} h e = e ∙ ap (λ t. cond t x Broken) h
 
@@ -84,7 +84,7 @@ module _ (w e base : ℕ) (f : PlatKept) (k : ℕ) (page : List ℕ) where
   unfolding sectionGoes zeroed both
   section-lacks h = (rw (le-ltb k (sectionCount e) h), refl)
 
-  -- by the test as it was told of a place for a manifest
+  -- by the result of the test, for a page with a good base and length
   module _ (v : Yes (placeOk base (length page))) (z : Bool) (c : z ≡ both (placeOk base (length page)) (staysAt w e base k (f .from) (f .to) page)) where
     stays-told : (b : Bool) → z ≡ b → staysAt w e base k (f .from) (f .to) page ≡ b
     unfolding both
@@ -134,7 +134,7 @@ module _ (base : ℕ) (page : List ℕ) (place : Yes (placeOk base (length page)
       (x, h ∙ rw (x, d) (next-to (suc (suc k)) (bytesOf (0 ∷ 0 ∷ 0 ∷ [])) (bytesOf-length (0 ∷ 0 ∷ 0 ∷ []) ∙ (let e : 8 * 3 ≡ 16 + 24 * suc k - (16 + 24 * k) = omega arith in e)) (omega arith) zero-words))
 
 -- ---- the answer, return by return
--- what the enum stands for
+-- the meaning of the enum
 gate-numbers : (p v : Bool) (c : Changes) → mendAnswer (mendGate p v c) ≡ mendNumbers p v (c .padding ∷ c .plat ∷ c .dram ∷ c .console ∷ c .ncoh ∷ c .coh ∷ [])
 unfolding mendAnswer mendGate mendNumbers
 gate-numbers true true c = refl

@@ -1,5 +1,5 @@
--- 02, E12: three sections of a 0.4 page name one array. The first has a wrong checksum and goes; so it pushes nothing out, and the second is
--- kept; the third overlaps that one and goes. Assumes nothing.
+-- 02, E12: three sections of a 0.4 page name one array. The first has a wrong checksum and is dropped, so it overlaps nothing and the second is kept;
+-- the third overlaps the second and is dropped. Assumes nothing.
 use Prim.Native.Nat.{ℕ}
 use mathlib.Core.Bool.{true, false}
 use mathlib.Core.Path.{_≡_, refl}
@@ -17,7 +17,7 @@ use Rattle.sections.specs.Section.{platOk, wordsIn, nothing, inRange, secOk, ex
 use Rattle.mend.specs.Mend.{noSec, platLeft, stays, left, keepsSection, platLeftAt, keepsAt, changed, mendChanges, mendGate, mendedOf}
 use Rattle.mend.specs.declared.Mended.the-variants.{Done}
 
--- a section of one entry behind the core, by its checksum
+-- a section of one entry after the core, by its checksum
 unfoldable pub oneThere : ℕ → List ℕ
 oneThere check = leBytes 8 1 ++ leBytes 8 0x80000070 ++ leBytes 8 check
 

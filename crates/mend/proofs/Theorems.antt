@@ -194,7 +194,7 @@ gate-changes true true x c h = ap (changesIn x) h
 gate-changes true false x c h = absurd (never-both true refl (sym (ap isDone h)))
 gate-changes false v x c h = absurd (never-both true refl (sym (ap isDone h)))
 
--- ---- what is said of the page whether or not it is refused
+-- ---- claims for any page, refused or not
 cond-byte : (b : Bool) (x y : List ℕ) (i : ℕ) → getD x i 0 ≡ getD y i 0 → getD (cond b x y) i 0 ≡ getD y i 0
 cond-byte true x y i h = h
 cond-byte false x y i h = refl
@@ -268,7 +268,7 @@ module _ (base : ℕ) (page : List ℕ) where
   out-of-core i (inl h) = rest-stands base page 6 i (inl h)
   out-of-core i (inr h) = rest-stands base page 6 i (inr (omega (arith, core-most)))
 
--- every claim of `Mends`, of every base and page
+-- every claim of `Mends`, for every base and page
 pub mends : (base : ℕ) (page : List ℕ) → Mends base page
 unfolding changed keepsAt platLeftAt mendedPage partsZeroed pageTo
 mends base page = record {

@@ -1,4 +1,4 @@
--- What a caller reads off the mender's numbers is what it answered. Assumes nothing.
+-- The mender's numbers identify its answer. Assumes nothing.
 use Prim.Native.Nat.{ℕ}
 use mathlib.Core.Bool.{Bool, true, false, cond, true≢false}
 use mathlib.Core.Path.{_≡_, refl, sym, ap}
@@ -12,7 +12,7 @@ use Rattle.mend.specs.Report.{mendedNumber, flagWord, changeWords, repor
 use Rattle.mend.specs.declared.Changes.{Changes}
 use Rattle.mend.specs.declared.Mended.the-variants.{Done, Refused}
 
--- "padding, platform pointer with its fields, DRAM, consoles, non-coherent, coherent, in this order": 1 where it was changed, else 0
+-- "padding, platform pointer with its fields, DRAM, consoles, non-coherent, coherent, in this order": 1 if it was changed, else 0
 pub report-told : (c : Changes) →
     (getD (reportWords (Done c)) 0 0 ≡ cond (c .padding) 1 0) × (getD (reportWords (Done c)) 1 0 ≡ cond (c .plat) 1 0) × (getD (reportWords (Done c)) 2 0 ≡ cond (c .dram) 1 0)
     × (getD (reportWords (Done c)) 3 0 ≡ cond (c .console) 1 0) × (getD (reportWords (Done c)) 4 0 ≡ cond (c .ncoh) 1 0) × (getD (reportWords (Done c)) 5 0 ≡ cond (c .coh) 1 0)
@@ -24,7 +24,7 @@ pub refused-told : (r : Refusal) → reportWords (Refused r) ≡ replicate 6 0
 unfolding reportWords
 refused-told r = refl
 
--- the number is 0 exactly where the page was mended
+-- the number is 0 exactly if the page was mended
 pub mended-told : (c : Changes) → mendedNumber (Done c) ≡ pos 0
 unfolding mendedNumber
 mended-told c = refl

@@ -1,5 +1,5 @@
--- Mending a page. 02, E12: "The mender goes over padding, platform pointer with its fields, DRAM, consoles, non-coherent, coherent, in this
--- order." What a rule and an overlap is are the reader's own definitions. Assumes nothing.
+-- Mending a page (MD2). 02, E12: "The mender goes over padding, platform pointer with its fields, DRAM, consoles, non-coherent, coherent, in this order."
+-- Rules and overlaps are the reader's own definitions. Assumes nothing.
 use Prim.Native.Nat.{ℕ, zero, suc, _+_, _*_, min}
 use mathlib.Core.Bool.{Bool, true, false, cond, not}
 use mathlib.Core.List.{List, [], _∷_}
@@ -19,10 +19,11 @@ use Rattle.mend.specs.declared.Changes.{Changes}
 use Rattle.mend.specs.declared.Mended.{Mended}
 use Rattle.mend.specs.declared.Mended.the-variants.{Done, Refused}
 
--- what zero bytes in the core say: no pointer, an empty section
+-- what zero bytes in the core mean: no platform pointer
 unfoldable pub noPlat : Plat
 noPlat = mkPlat 0 (ended [] 0)
 
+-- what zero bytes in the core mean: an empty section
 unfoldable pub noSec : Sec
 noSec = mkSec 0 0 0 []
 
@@ -30,17 +31,17 @@ noSec = mkSec 0 0 0 []
 unfoldable pub platLeft : ℕ → ℕ → Plat → Plat
 platLeft e base q = cond (platOk e base q) q noPlat
 
--- section k, where q and g say what is left of the parts before it and w is the page's minor: it neither "breaks a rule by itself, or
--- overlaps one kept before it"
+-- whether section `k` stays: it neither "breaks a rule by itself, or overlaps one kept before it". `q` and `g` are the parts left before it, `w` is
+-- the page's minor.
 unfoldable pub stays : ℕ → ℕ → ℕ → Plat → (ℕ → Sec) → ℕ → Bool
 stays w e base q g k = both (secOk w e base k (g k)) (both (clearBefore g k) (platClear q g k))
 
--- the sections once the first n were gone over, the others being as they came
+-- the sections after mending the first `n`; the others are unchanged
 unfoldable pub left : ℕ → ℕ → ℕ → Plat → (ℕ → Sec) → ℕ → ℕ → Sec
 left w e base q f zero k = f k
 left w e base q f (suc n) k = cond (eqb k n) (cond (stays w e base q (left w e base q f n) n) (f n) noSec) (left w e base q f n k)
 
--- section k is kept
+-- whether section `k` is kept
 unfoldable pub keepsSection : ℕ → ℕ → ℕ → Plat → (ℕ → Sec) → ℕ → Bool
 keepsSection w e base q f k = stays w e base q (left w e base q f k) k
 
@@ -49,12 +50,15 @@ keepsSection w e base q f k = stays w e base q (left w e base q f k) k
 abbrev pub minorAt : List ℕ → ℕ
 minorAt page = minorOf (versionAt page)
 
+-- the edition that the page is read as
 abbrev pub editionAt : List ℕ → ℕ
 editionAt page = min 4 (minorAt page)
 
+-- the platform data that is left on the page
 unfoldable pub platLeftAt : ℕ → List ℕ → Plat
 platLeftAt base page = platLeft (editionAt page) base (platAt base page)
 
+-- whether section `k` of the page is kept
 unfoldable pub keepsAt : ℕ → List ℕ → ℕ → Bool
 keepsAt base page k = keepsSection (minorAt page) (editionAt page) base (platLeftAt base page) (secAt base page) k
 
@@ -65,17 +69,17 @@ changed base page zero = not (eqb (paddingAt page) 0)
 changed base page (suc zero) = not (platOk (editionAt page) base (platAt base page))
 changed base page (suc (suc k)) = both (ltb k (sectionCount (editionAt page))) (not (keepsAt base page k))
 
--- where part j begins in the core; it ends where the next begins
+-- the offset of part `j` in the core; it ends where the next part starts
 unfoldable pub partAt : ℕ → ℕ
 partAt zero = 4
 partAt (suc zero) = 8
 partAt (suc (suc k)) = 16 + 24 * k
 
--- byte i is one of part j
+-- whether byte `i` belongs to part `j`
 unfoldable pub ofPart : ℕ → ℕ → Bool
 ofPart j i = both (leb (partAt j) i) (ltb i (partAt (suc j)))
 
--- bytes with zero for those that f names
+-- the bytes, with zero for each byte `i` with `f i`
 unfoldable pub blank : (ℕ → Bool) → List ℕ → List ℕ
 blank f [] = []
 blank f (b ∷ bs) = cond (f 0) 0 b ∷ blank (λ i. f (suc i)) bs
@@ -84,7 +88,7 @@ blank f (b ∷ bs) = cond (f 0) 0 b ∷ blank (λ i. f (suc i)) bs
 unfoldable pub partsZeroed : ℕ → List ℕ → List ℕ
 partsZeroed base page = blank (λ i. some 6 (λ j. both (changed base page j) (ofPart j i))) page
 
--- ---- the answer
+-- ---- the answer: for each of the six parts, whether it is changed
 unfoldable pub mendChanges : ℕ → List ℕ → Changes
 mendChanges base page =
     record {
@@ -96,35 +100,38 @@ mendChanges base page =
       coh = changed base page 5;
     }
 
--- "Refusals: -5 and -6 as the reader gives them, page untouched."
+-- MD1: "Refusals: -5 and -6 as the reader gives them, page untouched."
 unfoldable pub mendGate : Bool → Bool → Changes → Mended
 mendGate true true c = Done c
 mendGate true false c = Refused Version
 mendGate false v c = Refused Place
 
+-- the answer of the mender for a page at `base`
 unfoldable pub mendedOf : ℕ → List ℕ → Mended
 mendedOf base page = mendGate (placeOk base (length page)) (versionOk (versionAt page)) (mendChanges base page)
 
--- ---- what the enum stands for: the code, or for each of the six parts, in their order, whether it was changed
+-- ---- the answer in 02's numbers: the code, or for each of the six parts, in order, whether it was changed
 pub data MendAnswer : Type 0 where
   unmended : ℤ → MendAnswer
   mended : List Bool → MendAnswer
 
+-- the enum `Mended` in 02's numbers
 unfoldable pub mendAnswer : Mended → MendAnswer
 mendAnswer (Refused c) = unmended (refusalNumber c)
 mendAnswer (Done c) = mended (c .padding ∷ c .plat ∷ c .dram ∷ c .console ∷ c .ncoh ∷ c .coh ∷ [])
 
--- the same by 02's numbers, of a page: as in `mendGate`
+-- the answer in 02's numbers, by the same checks as `mendGate`
 unfoldable pub mendNumbers : Bool → Bool → List Bool → MendAnswer
 mendNumbers true true c = mended c
 mendNumbers true false c = unmended (minus 6)
 mendNumbers false v c = unmended (minus 5)
 
+-- the answer in 02's numbers for a page at `base`
 unfoldable pub mendOf : ℕ → List ℕ → MendAnswer
 mendOf base page =
     mendNumbers (placeOk base (length page)) (versionOk (versionAt page))
     (changed base page 0 ∷ changed base page 1 ∷ changed base page 2 ∷ changed base page 3 ∷ changed base page 4 ∷ changed base page 5 ∷ [])
 
--- ---- the page at exit
+-- ---- the page at exit: mended, or unchanged if it is refused
 unfoldable pub mendedPage : ℕ → List ℕ → List ℕ
 mendedPage base page = cond (both (placeOk base (length page)) (versionOk (versionAt page))) (partsZeroed base page) page

@@ -1,4 +1,4 @@
--- What 02 claims of the mender, of every page and base. Assumes nothing.
+-- What 02 claims of the mender, for every page and base. Assumes nothing.
 use Prim.Native.Nat.{ℕ, zero, suc, _+_, _≤_, _<_}
 use mathlib.Core.Bool.{Bool, false, cond, not}
 use mathlib.Core.Logic.{_⊎_}
@@ -18,44 +18,46 @@ use Rattle.mend.specs.Mend.{noPlat, noSec, minorAt, editionAt, keepsAt, 
 use Rattle.mend.specs.declared.Changes.{Changes}
 use Rattle.mend.specs.declared.Mended.the-variants.{Done, Refused}
 
+-- 02's claims for one base and page
 pub record Mends (base : ℕ) (page : List ℕ) : Type 0 where
-  -- "Refusals: -5 and -6 as the reader gives them, page untouched."
+  -- MD1: "Refusals: -5 and -6 as the reader gives them, page untouched."
   pub place : readOf 4 base page ≡ refused (minus 5) → mendedOf base page ≡ Refused Place
   pub version : readOf 4 base page ≡ refused (minus 6) → mendedOf base page ≡ Refused Version
   pub refusal : (c : Refusal) → mendedOf base page ≡ Refused c → (readOf 4 base page ≡ refused (refusalNumber c)) × (mendedPage base page ≡ page)
-  -- and no other: a page that the reader refuses with -7 is mended
+  -- and no other refusal: a page that the reader refuses with -7 is mended
   pub damaged : readOf 4 base page ≡ refused (minus 7) → mendedOf base page ≡ Done (mendChanges base page)
-  -- "Afterwards reader edition 4 accepts, shows all that was kept": the pointer with its fields, and each section with the entries and the
-  -- lookup bytes that the page held before; what was not kept is shown as none or empty
+  -- MD7: "Afterwards reader edition 4 accepts, shows all that was kept": the pointer with its fields, and each section with the entries and lookup bytes
+  -- that the page held before; a part that was not kept is shown as none or empty
   pub accepts : (c : Changes) → mendedOf base page ≡ Done c →
       readOf 4 base (mendedPage base page) ≡ shows (minorAt page) (editionAt page) (platShown (cond (platOk (editionAt page) base (platAt base page)) (platAt base page) noPlat))
       (λ k. shown (minorAt page) (editionAt page) k (cond (keepsAt base page k) (secAt base page k) noSec))
-  -- "It reports for each of the six whether it was changed": each member is that of its own part
+  -- MD4: "It reports for each of the six whether it was changed": each member of the report belongs to its part
   pub report : (c : Changes) → mendedOf base page ≡ Done c →
       (c .padding ≡ changed base page 0) × (c .plat ≡ changed base page 1) × (c .dram ≡ changed base page 2)
       × (c .console ≡ changed base page 3) × (c .ncoh ≡ changed base page 4) × (c .coh ≡ changed base page 5)
-  -- "and an accepted page comes out unchanged with six times no"
+  -- MD7: "and an accepted page comes out unchanged with six times no"
   pub accepted : (w e : ℕ) (q : PlatShown) (s : ℕ → Shown) → readOf 4 base page ≡ shows w e q s →
       (mendedPage base page ≡ page) × ((j : ℕ) → changed base page j ≡ false)
       × (mendedOf base page ≡ Done (record { padding = false; plat = false; dram = false; console = false; ncoh = false; coh = false }))
-  -- "Padding that breaks its rule is zeroed; a platform pointer .. that breaks a rule by itself": they come first, so they overlap nothing
+  -- MD2: "Padding that breaks its rule is zeroed; a platform pointer .. that breaks a rule by itself": they come first, so there is nothing before them to
+  -- overlap
   pub padding : changed base page 0 ≡ not (eqb (paddingAt page) 0)
   pub pointer : changed base page 1 ≡ not (platOk (editionAt page) base (platAt base page))
-  -- "or section that breaks a rule by itself, or overlaps one kept before it": a part that was not kept pushes nothing out
+  -- MD3: "or section that breaks a rule by itself, or overlaps one kept before it": a part that was not kept does not count as an overlap
   pub section : (k : ℕ) → k < sectionCount (editionAt page) → changed base page (suc (suc k)) ≡ not (keepsAt base page k)
   pub kept : (k : ℕ) →
       keepsAt base page k ≡ both (secOk (minorAt page) (editionAt page) base k (secAt base page k))
       (both (every k (λ j. either (not (keepsAt base page j)) (apart (extent k (secAt base page k)) (extent j (secAt base page j)))))
       (either (not (platOk (editionAt page) base (platAt base page))) (apart (platExtent (platAt base page)) (extent k (secAt base page k)))))
-  -- 24 zero bytes break no rule and overlap nothing: they are kept, and report no
+  -- MD4: 24 zero bytes break no rule and overlap nothing: they are kept and reported as unchanged
   pub blanks : (c : Changes) → mendedOf base page ≡ Done c → (k : ℕ) → k < sectionCount (editionAt page) →
       countAt k page ≡ 0 → pointerAt k page ≡ 0 → checkAt k page ≡ 0 → changed base page (suc (suc k)) ≡ false
-  -- "a section that the page's edition lacks is not touched and reports no"
+  -- MD5: "a section that the page's edition lacks is not touched and reports no"
   pub lacks : (k : ℕ) → sectionCount (editionAt page) ≤ k →
       (changed base page (suc (suc k)) ≡ false) × ((i : ℕ) → Yes (ofPart (suc (suc k)) i) → getD (mendedPage base page) i 0 ≡ getD page i 0)
-  -- of each of the six, a part that is changed is zero bytes in the core, and one that is not keeps its bytes
+  -- for each of the six: a changed part is zero bytes in the core, an unchanged part keeps its bytes
   pub zeros : (c : Changes) → mendedOf base page ≡ Done c → (j : ℕ) → j < 6 → Yes (changed base page j) → (i : ℕ) → Yes (ofPart j i) → getD (mendedPage base page) i 0 ≡ 0
   pub stands : (j : ℕ) → changed base page j ≡ false → (i : ℕ) → Yes (ofPart j i) → getD (mendedPage base page) i 0 ≡ getD page i 0
-  -- no byte outside core bytes 4 to 111 ever changes
+  -- MD6: no byte outside core bytes [4, 112) ever changes
   pub long : length (mendedPage base page) ≡ length page
   pub outside : (i : ℕ) → (i < 4) ⊎ (112 ≤ i) → getD (mendedPage base page) i 0 ≡ getD page i 0

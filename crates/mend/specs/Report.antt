@@ -14,14 +14,15 @@ unfoldable pub mendedNumber : Mended → ℤ
 mendedNumber (Done c) = pos 0
 mendedNumber (Refused c) = refusalNumber c
 
--- "for each of the six whether it was changed": 1 where it was
+-- "for each of the six whether it was changed": 1 if it was
 unfoldable pub flagWord : Bool → ℕ
 flagWord b = cond b 1 0
 
+-- the words of the six parts, in order
 unfoldable pub changeWords : Changes → List ℕ
 changeWords c = flagWord (c .padding) ∷ flagWord (c .plat) ∷ flagWord (c .dram) ∷ flagWord (c .console) ∷ flagWord (c .ncoh) ∷ flagWord (c .coh) ∷ []
 
--- all zero where the page is refused
+-- the words of the six parts; all zero if the page is refused
 unfoldable pub reportWords : Mended → List ℕ
 reportWords (Done c) = changeWords c
 reportWords (Refused c) = replicate 6 0

@@ -1,5 +1,5 @@
 -- For the steps of `mend`. `to-all` (proofs/Pages.antt) proves `pageTo 6` equal to `partsZeroed`; `padding-step`, `plat-step` and `section-step`
--- (proofs/Parts.antt) prove that `zeroed`, `platKept` and `sectionGoes` give `changed` and `pageTo` of one part more. Assumes nothing.
+-- (proofs/Parts.antt) prove that `zeroed`, `platKept` and `sectionGoes` give `changed` and `pageTo` for one more part. Assumes nothing.
 use Prim.Native.Nat.{ℕ, _+_}
 use mathlib.Core.Bool.{Bool, cond, not}
 use mathlib.Core.List.{List}
@@ -13,15 +13,15 @@ use Rattle.sections.specs.Steps.{staysAt}
 use Rattle.mend.specs.Mend.{platLeft, changed, ofPart, blank}
 use Rattle.mend.specs.declared.PlatKept.{PlatKept}
 
--- the page once the first n parts were gone over
+-- the page after mending the first `n` parts
 unfoldable pub pageTo : ℕ → ℕ → List ℕ → List ℕ
 pageTo n base page = blank (λ i. some n (λ j. both (changed base page j) (ofPart j i))) page
 
--- bytes put at an offset where a part is changed
+-- the bytes put at an offset if the part is changed, otherwise the page unchanged
 unfoldable pub zeroed : Bool → ℕ → List ℕ → List ℕ → List ℕ
 zeroed b at zeros page = cond b (laid at zeros page) page
 
--- whether the platform data is changed, and the addresses of the fields that are kept
+-- whether the platform data is changed, and the addresses [from, to) of the kept fields
 unfoldable pub platKept : ℕ → ℕ → Plat → PlatKept
 platKept e base q =
     record {
@@ -30,6 +30,6 @@ platKept e base q =
       to = platExtent (platLeft e base q) .to;
     }
 
--- whether section k is changed, among those that the page has before it
+-- whether section `k` is changed, given the sections that are left before it
 unfoldable pub sectionGoes : ℕ → ℕ → ℕ → PlatKept → ℕ → List ℕ → Bool
 sectionGoes w e base p k page = both (ltb k (sectionCount e)) (not (staysAt w e base k (p .from) (p .to) page))

@@ -1,5 +1,5 @@
-// The mender: a damaged page is mended where it lies, part by part. What a part may keep is judged by the reader's own rules, on the page
-// as it is so far: a part that was dropped is zero there, so it pushes nothing out.
+// The mender: mends a damaged page in place, part by part. The reader's own rules decide whether a part is kept, on the page as mended so far: a part
+// that was dropped is zero there, so it cannot overlap a later part.
 use fields::FieldsEnd;
 use reader::Refusal;
 use versions::Edition;
@@ -25,20 +25,20 @@ pub struct Changes {
     pub coh: bool,
 }
 
-// A page was mended, or why not: its place (-5) or its version (-6).
+// `Done` if the page was mended, otherwise why not: its place (-5) or its version (-6).
 pub enum Mended {
     Done(Changes),
     Refused(Refusal),
 }
 
-// Whether the platform data was changed, and the addresses of the fields that were kept: none from 0 to 0.
+// Whether the platform data was changed, and the addresses [from, to) of the kept fields; [0, 0) if there are none.
 struct PlatKept {
     changed: bool,
     from: u64,
     to: u64,
 }
 
-// Zeroes padding that is not zero.
+// Zeroes the padding if it is not zero. Returns whether it did.
 fn mend_padding(page: &mut [u8]) -> bool
     ensures { λ r. ⌜ (r ≡ not (eqb (paddingAt (now (page .entry))) 0)) × (now (page .exit) ≡ zeroed r 4 (leBytes 4 0) (now (page .entry))) ⌝ }
 {
@@ -49,7 +49,7 @@ fn mend_padding(page: &mut [u8]) -> bool
     true
 }
 
-// Zeroes a platform pointer that breaks its rule, or points at fields that break theirs.
+// Zeroes the platform pointer if it breaks its rule or points at fields that break theirs.
 fn mend_plat(page: &mut [u8], base: u64, e: Edition) -> PlatKept
     requires { ⌜ placeOk base (length (now page)) ≡ true ⌝ }
     ensures { λ r. ⌜ (r ≡ platKept (e .minor) base (platAt base (now (page .entry)))) × (now (page .exit) ≡ zeroed (r .changed) 8 (leBytes 8 0) (now (page .entry))) ⌝ }
@@ -72,7 +72,7 @@ fn mend_plat(page: &mut [u8], base: u64, e: Edition) -> PlatKept
     }
 }
 
-// Zeroes a section of the edition that breaks its rule, or overlaps one before it or the fields.
+// Zeroes section `k` if the edition has it and it breaks its rule, or overlaps an earlier section or the fields. Returns whether it did.
 fn mend_section(page: &mut [u8], base: u64, minor: u64, e: Edition, fields: PlatKept, k: u8) -> bool
     requires { ⌜ placeOk base (length (now page)) ≡ true ⌝ }
     ensures { λ r. ⌜ (r ≡ sectionGoes minor (e .minor) base fields k (now (page .entry))) × (now (page .exit) ≡ zeroed r (16 + 24 * k) (bytesOf (0 ∷ 0 ∷ 0 ∷ [])) (now (page .entry))) ⌝ }
@@ -89,7 +89,7 @@ fn mend_section(page: &mut [u8], base: u64, minor: u64, e: Edition, fields: Plat
     true
 }
 
-// The six parts in their order.
+// Mends the six parts in order.
 fn mend_parts(page: &mut [u8], base: u64, minor: u64, e: Edition) -> Changes
     requires { ⌜ (placeOk base (length (now page)) ≡ true) × (minor ≡ minorAt (now page)) × (e .minor ≡ min 4 minor) ⌝ }
     ensures { λ r. ⌜ (r ≡ mendChanges base (now (page .entry))) × (now (page .exit) ≡ pageTo 6 base (now (page .entry))) ⌝ }
@@ -111,7 +111,7 @@ fn mend_parts(page: &mut [u8], base: u64, minor: u64, e: Edition) -> Changes
     }
 }
 
-// Mends a lent page at a base, read as the smaller of 4 and its minor. A refused page stays as it was.
+// Mends the lent page at `base`, read as edition min(4, minor). A refused page stays unchanged.
 pub fn mend(page: &mut [u8], base: u64) -> Mended
     ensures { λ r. ⌜ r ≡ mendedOf base (now (page .entry)) ⌝ }
     ensures { λ _. ⌜ now (page .exit) ≡ mendedPage base (now (page .entry)) ⌝ }
@@ -129,7 +129,7 @@ pub fn mend(page: &mut [u8], base: u64) -> Mended
     Mended::Done(mend_parts(page, base, minor, e))
 }
 
-// The answer's number: 0, or that of the code.
+// The number of an answer: 0, or the code of the refusal.
 pub fn number(mended: Mended) -> i32
     ensures { λ r. ⌜ r ≡ mendedNumber mended ⌝ }
 {
@@ -139,6 +139,7 @@ pub fn number(mended: Mended) -> i32
     }
 }
 
+// 1 if the part was changed, otherwise 0.
 fn flag(changed: bool) -> u64
     ensures { λ r. ⌜ r ≡ flagWord changed ⌝ }
 {
@@ -148,7 +149,7 @@ fn flag(changed: bool) -> u64
     0
 }
 
-// A word for each of the six parts: 1 where it was changed. All zero where the page was refused.
+// One word for each of the six parts: 1 if it was changed. All zero if the page was refused.
 pub fn report_words(mended: Mended) -> [u64; 6]
     ensures { λ r. ⌜ r ≡ reportWords mended ⌝ }
 {

@@ -1,4 +1,4 @@
--- Lines put one behind the other, and the page of an input. Assumes nothing.
+-- Lines one after another, and the page of an input. Assumes nothing.
 use Prim.Native.Nat.{ℕ, _+_, _-_, _≤_, _<_}
 use mathlib.Core.Bool.{Bool, true, false}
 use mathlib.Core.Path.{_≡_, refl, sym, ap, _∙_}
@@ -20,7 +20,7 @@ use Rattle.mend.specs.declared.Mended.{Mended}
 use Rattle.mend.specs.declared.Mended.the-variants.{Refused}
 use Rattle.mend_page.specs.Text.{saidText, lineText, mendedInput, inputLeft}
 
--- ---- text behind text
+-- ---- text after text
 pub text-more : {at at' : ℕ} {t u : List ℕ} (vs ws s : List ℕ) → at ≡ length vs → t ≡ splice 0 vs s → at' ≡ at + length ws → u ≡ splice at ws t →
     (at' ≡ length (vs ++ ws)) × (u ≡ splice 0 (vs ++ ws) s)
 text-more vs ws s a b c d =

@@ -1,5 +1,5 @@
-// Mends the manifest page on standard input: 8 bytes of B, then the page. The mended page goes to standard output, and a line for each
-// of the six parts to standard error: whether it was changed. Of a page that is refused, only the code is told, on standard error.
+// Mends the manifest page on standard input: 8 bytes of B, then the page. Writes the mended page to standard output, and to standard error a line for
+// each of the six parts: whether it was changed. For a refused page, writes only the code, to standard error.
 use libc::STDERR_FILENO;
 use libc::STDIN_FILENO;
 use libc::STDOUT_FILENO;
@@ -13,7 +13,7 @@ ghost use Rattle.io.specs.Counts.{Counts};
 ghost use Rattle.words.specs.Word.{splice};
 ghost use Rattle.mend_page.specs.Text.{lineText, changesText, refusalText, reportText, MendsInput};
 
-// Puts text at an offset, and answers the offset behind it.
+// Copies `text` to offset `at`. Returns the offset after it.
 fn put(out: &mut [u8], at: usize, text: &[u8]) -> usize
     requires { ⌜ (at + length (now text) ≤ length (now out)) × (length (now out) ≡ 64) ⌝ }
     ensures { λ r. ⌜ (r ≡ at + length (now (text .entry))) × (now (out .exit) ≡ splice at (now (text .entry)) (now (out .entry))) ⌝ }
@@ -22,7 +22,7 @@ fn put(out: &mut [u8], at: usize, text: &[u8]) -> usize
     at + text.len()
 }
 
-// A part's line.
+// Writes the line of a part: its title, then yes or no. Returns the offset after it.
 fn put_line(out: &mut [u8], at: usize, title: &[u8], changed: bool) -> usize
     requires { ⌜ (at + length (now title) + 5 ≤ length (now out)) × (length (now out) ≡ 64) ⌝ }
     ensures { λ r. ⌜ (r ≡ at + length (lineText (now (title .entry)) changed))
@@ -35,6 +35,7 @@ fn put_line(out: &mut [u8], at: usize, title: &[u8], changed: bool) -> usize
     put(out, to, b" no\n")
 }
 
+// Writes the lines of the six parts. Returns their length.
 fn put_changes(out: &mut [u8], changes: Changes) -> usize
     requires { ⌜ length (now out) ≡ 64 ⌝ }
     ensures { λ r. ⌜ (r ≡ length (changesText changes)) × (now (out .exit) ≡ splice 0 (changesText changes) (now (out .entry))) × (r ≤ 63) ⌝ }
@@ -47,6 +48,7 @@ fn put_changes(out: &mut [u8], changes: Changes) -> usize
     put_line(out, coh, b"coh", changes.coh)
 }
 
+// Writes the line of a refusal. Returns its length.
 fn put_refused(out: &mut [u8], code: Refusal) -> usize
     requires { ⌜ length (now out) ≡ 64 ⌝ }
     ensures { λ r. ⌜ (r ≡ length (refusalText code)) × (now (out .exit) ≡ splice 0 (refusalText code) (now (out .entry))) × (r ≤ 63) ⌝ }
@@ -58,7 +60,7 @@ fn put_refused(out: &mut [u8], code: Refusal) -> usize
     }
 }
 
-// All that is reported.
+// Writes the report of an answer. Returns its length.
 fn put_report(out: &mut [u8], mended: Mended) -> usize
     requires { ⌜ length (now out) ≡ 64 ⌝ }
     ensures { λ r. ⌜ Counts r (now (out .exit)) ⌝ }
@@ -70,8 +72,7 @@ fn put_report(out: &mut [u8], mended: Mended) -> usize
     }
 }
 
-// Mends the page of an input of which n bytes were read into the room. The room holds one byte more than the input of a page, so that a
-// longer input shows.
+// Mends the page of an input whose first `n` bytes are in `room`. The room holds one byte more than a valid input, so that a longer input is noticed.
 fn mend_input(room: &mut [u8], n: usize) -> Mended
     requires { ⌜ Counts n (now room) × (length (now room) ≡ 4105) ⌝ }
     ensures { λ r. ⌜ MendsInput (now (room .entry)) n r (now (room .exit)) ⌝ }
@@ -83,6 +84,7 @@ fn mend_input(room: &mut [u8], n: usize) -> Mended
     mend::mend(&mut room[8..4104], base)
 }
 
+// Reads standard input, mends the page, and writes the page and the report.
 fn main() {
     let mut input = [0u8; 4105];
     let n = io::read_full(STDIN_FILENO, &mut input);

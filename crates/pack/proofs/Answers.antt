@@ -1,4 +1,4 @@
--- The packer's answer, return by return, and what an accepted page gives the code. Assumes nothing.
+-- The packer's answer, return by return, and what the code may rely on for an accepted page. Assumes nothing.
 use Prim.Native.Nat.{ℕ, zero, suc, _+_, _-_, _*_, _%_, _≤_, _<_}
 use mathlib.Core.Path.{_≡_, refl, sym, ap, fun-ext, _∙_}
 use mathlib.Core.Bool.{true}
@@ -75,7 +75,7 @@ module _ (w e base : ℕ) (page : List ℕ) (n : length page ≡ 4096) (m : base
   pub movable : Movable page k
   movable = record { inside = moved-inside (array-lies w e base page k o); sums = λ z. rw (array-words z) at (moved-sums z) }
 
--- ---- the fields that a walk from their place passes are those that were found
+-- ---- a walk over the fields passes exactly those that the reader found
 place-by : (base q : ℕ) (page : List ℕ) → q ≡ 0 → fieldsIn (foundAt base page q) ≡ []
 unfolding foundAt fieldsIn
 place-by base q page z = rw (eq-eqb q 0 z)
@@ -106,7 +106,7 @@ module _ (w e base : ℕ) (page : List ℕ) (n : length page ≡ 4096) (m : base
       let y : (wordAt 8 page ≡ 0 → ⊥) = λ q. omega arith in
       rw (ne-eqb (wordAt 8 page) 0 y) (found-in e base (wordAt 8 page) page y m (rules-pointer w e base page t))
 
--- ---- what is shown is what the code tells the writer
+-- ---- what is shown is what the code passes to the writer
 array-none : (page : List ℕ) (k : ℕ) → countAt k page ≡ 0 → arrayWords page k ≡ []
 unfolding arrayWords wordsAt wordsOf
 array-none page k z = rw (z, (let e : wordsPerEntry k * 0 ≡ 0 = omega arith in e))
@@ -155,7 +155,7 @@ module _ (base : ℕ) (page : List ℕ) where
         let p = placed base (length page) (o .0) in
         rw z (pack-page base page w e q s r l) ∙ ap (λ (d : Description). written (a-page (pageOf base w d))) (o .3 ∙ told-same base page w l (p .0) (p .2) (o .2)))
 
-    -- and of the page it finds all that it needs
+    -- and the page has all that the code needs
     pub page-ready : w ≤ 4 → (length page ≡ 4096) × (base ≤ 0x10_0000_0000_0000) × ((k : ℕ) → k < sectionCount w → Movable page k) × (used w (retoldAt w page) ≤ 4096)
     page-ready l =
         fine-shown (λ e q s r.
@@ -163,7 +163,7 @@ module _ (base : ℕ) (page : List ℕ) where
         let p = placed base (length page) (o .0) in
         (p .0, omega arith, (λ k m. movable w w base page (p .0) (p .2) k (rules-at w w base page (o .2) k m)), rw (← told-same base page w l (p .0) (p .2) (o .2)) (told-room base page w l (o .2) (p .0))))
 
--- ---- a refusal leaves the target as it was; else it is the page made
+-- ---- after a refusal the target is unchanged, otherwise it is the page made
 pub packs-not : {F : Type 0} (r : Packing) (target : List ℕ) (m x : Packed) → packedBy target r ≡ x → target ≡ targetAfter target x → m ≡ x → F →
     (packedBy target r ≡ m) × ((target ≡ targetAfter target m) × F)
 packs-not r target m x h g e f = rw e (h, (g, f))
@@ -172,7 +172,7 @@ pub packs-page : {F : Type 0} (before after p : List ℕ) (m : Packed) → m ≡
 unfolding packedBy targetAfter pageAfter
 packs-page before after p m e g f = rw e (ap (λ (x : List ℕ). written (a-page x)) g, (g, f))
 
--- ---- the number of an answer is that of what it stands for
+-- ---- the number of an answer is the number of its meaning
 number-by : (target : List ℕ) (r : Packing) → packingNumber r ≡ packedNumber (packedBy target r)
 unfolding packingNumber packedNumber packedBy
 number-by target packing.Page = refl

@@ -1,5 +1,4 @@
--- Fields without the withdrawn ones: as bytes they are read back as they are, and they are no longer than what they were read from. Assumes
--- nothing.
+-- Fields without the withdrawn ones: their bytes read back as the same fields, and take no more bytes than before. Assumes nothing.
 use Prim.Native.Nat.{ℕ, zero, suc, _+_, _-_, _≤_}
 use mathlib.Core.Path.{_≡_, refl, ap}
 use mathlib.Core.Bool.{Bool, true, false, cond}
@@ -74,7 +73,7 @@ kept-three (f ∷ fs) = go (eqb (f .tag) 3) refl (kept-three fs)
     go true e r = r
     go false e r = rw (e, r)
 
--- so they may be told: they keep the rules and take up every byte, and none of them has tag 3
+-- so the writer accepts them: they keep the rules, take up every byte, and none has tag 3
 pub kept-told : (fs : List Field) → Yes (fieldsOk fs) → scanOf (fieldsKept (shownFields fs)) ≡ bare (keptOf fs)
 kept-told fs h = rw (kept-run fs) (run-told (keptOf fs) (kept-ok fs h))
 
@@ -120,7 +119,7 @@ unfolding withMark endMark
 mark-most [] = omega arith
 mark-most (b ∷ bs) = rw length-append (omega arith)
 
--- ---- what was found in a page: its fields keep the rules, and those that are kept fit where they stood
+-- ---- what the reader found in a page: its fields keep the rules, and the kept ones take no more bytes than before
 abbrev pub KeptFits : Scanned → Type 0
 KeptFits u = Yes (fieldsOk (fieldsIn u)) × (length (withMark (fieldsKept (shownFields (fieldsIn u)))) ≤ taken u)
 

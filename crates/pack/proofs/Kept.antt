@@ -1,4 +1,4 @@
--- The fields that are kept, as bytes of the page they stand in. Assumes nothing.
+-- The fields that are kept, as bytes of their page. Assumes nothing.
 use Prim.Native.Nat.{ℕ, suc, _+_, _-_, _*_, _/_, _%_, _≤_, _<_}
 use mathlib.Core.Path.{_≡_, ap, _∙_}
 use mathlib.Core.Bool.{Bool, true, false, cond}
@@ -23,7 +23,7 @@ use Rattle.pack.specs.Pack.{fieldsKept}
 use Rattle.pack.specs.Steps.{fieldsPlace, keptFrom}
 use Rattle.pack.proofs.Moves.{part-add, part-join, part-none}
 
--- ---- a field's tag and length stand before its value
+-- ---- a field's tag and length come before its value
 part-one : (at : ℕ) (s : List ℕ) → at < length s → part at 1 s ≡ getD s at 0 ∷ []
 unfolding part
 part-one at s h = rw (drop-cons s at 0 h)
@@ -50,7 +50,7 @@ field-part {at} {t} {v} {n} {x} page b r =
     let y : at + 1 + 2 ≡ v = omega arith in
     rw (l, z, part-add at 1 (2 + n) page, part-one at page (omega arith), part-add (at + 1) 2 n page, part-two (at + 1) page (omega arith) b, r .tag, r .len, y)
 
--- ---- a step: none is left; a withdrawn field, which is left out; or one that is kept
+-- ---- a step: no field is left, a withdrawn field is left out, or a field is kept
 module _ (at : ℕ) (page : List ℕ) (s : FieldStep) (e : s ≡ stepAt at page) where
   pub kept-stop : s .field ≡ Nothing → keptFrom at page ≡ []
   unfolding keptFrom fieldsKept
@@ -84,12 +84,12 @@ module _ (at x : ℕ) (page : List ℕ) (l : at < x) (m : x ≤ length page) (k 
   pub length-more : length (keptFrom at page) ≡ (x - at) + length (keptFrom x page)
   length-more = ap length k ∙ length-append (part at (x - at) page) (keptFrom x page) ∙ rw (part-length at (x - at) page (omega arith))
 
--- a run ends before a withdrawn field, and the next begins behind it
+-- a run ends before a withdrawn field, and the next starts after it
 pub run-over : (at x run to next : ℕ) (page vs p s : List ℕ) → keptFrom at page ≡ keptFrom x page → to ≤ length p → vs ≡ part run (at - run) page → next ≡ to + length vs → s ≡ splice to vs p →
     splice next (part x (x - x) page ++ keptFrom x page) s ≡ splice to (part run (at - run) page ++ keptFrom at page) p
 run-over at x run to next page vs p s k l g m i = rw (i, m, part-none x page, k, ← g) (splice-splice to vs p l (keptFrom x page))
 
--- ---- where they begin
+-- ---- where they start
 module _ (page : List ℕ) where
   pub place-none : wordAt 8 page ≡ 0 → length page ≡ fieldsPlace page
   unfolding fieldsPlace

@@ -52,7 +52,7 @@ list-of w k c ws e h = rw (e, some-words k c .0, some-words k c .1) (both-of _ _
 none-ok : (w k : ℕ) → Yes (listOk w k [])
 none-ok w k = list-of w k 0 [] (omega arith) (described-none w k [])
 
--- ---- lists one behind the other: as long as their parts, and no longer for empty ones
+-- ---- lists one after another: as long as their parts, and empty ones add nothing
 joined-most : (n : ℕ) (l : ℕ → List ℕ) (z : ℕ → ℕ) → ((k : ℕ) → k < n → 8 * length (l k) ≤ z k) → 8 * length (joined n l) ≤ addedUp n z
 unfolding joined addedUp
 joined-most zero l z h = lit≤ tt
@@ -67,7 +67,7 @@ joined-late (suc n) m l h e = go (decLe m n) (joined-late n m l)
     go (yes a) r = rw length-append (omega (arith, r a e, e n a))
     go (no a) r = rw (let z : m ≡ suc n = omega arith in z) refl
 
--- ---- what the writer is told of a page of minor w
+-- ---- the description that the writer gets for a page of minor w
 unfoldable pub toldBy : ℕ → List ℕ → ℕ → Description
 toldBy base page w = retold (platShown (platAt base page)) (λ k. shown w w k (secAt base page k))
 
@@ -129,7 +129,7 @@ module _ (base : ℕ) (page : List ℕ) (w : ℕ) (early : w ≤ 4) (t : rulesAt
       go k (inl e) = rw e (either-r _ _ refl)
       go k (inr e) = either-l _ _ (lt-ltb k (sectionCount w) (e .0))
 
-  -- ---- W5: the arrays and the fields fit behind the core
+  -- ---- W5: the arrays and the fields fit after the core
   list-most : (k : ℕ) → k < sectionCount w → 8 * length (toldBy base page w .lists k) ≤ spanLength w w base page k
   unfolding spanLength size
   list-most k l = rw (lt-ltb k (sectionCount w) l) (go (told-each k))
@@ -156,7 +156,7 @@ module _ (base : ℕ) (page : List ℕ) (w : ℕ) (early : w ≤ 4) (t : rulesAt
       let f = found-fits base page (wordAt 8 page) .1 in
       rw told-fields (omega (arith, fields-span))
 
-  -- ---- the fields may be told: they keep the rules, take up every byte, and none is withdrawn
+  -- ---- the writer accepts the fields: they keep the rules, take up every byte, and none is withdrawn
   pub told-scanned : scanOf (toldBy base page w .fields) ≡ bare (keptOf (fieldsIn (foundAt base page (wordAt 8 page))))
   told-scanned = rw told-fields (kept-told _ (found-fits base page (wordAt 8 page) .0))
 
@@ -169,7 +169,7 @@ module _ (base : ℕ) (page : List ℕ) (w : ℕ) (early : w ≤ 4) (t : rulesAt
       let n = placed base (length page) p in
       w-made base 4096 w (toldBy base page w) (rw (n .0) at p) (edition-of w lo early) told-lists told-tellable none-late (le-leb _ _ (told-room (n .0)))
 
--- ---- of a page that a reader of edition 4 accepts
+-- ---- for a page that a reader of edition 4 accepts
 module _ (base : ℕ) (page : List ℕ) (w e : ℕ) (q : PlatShown) (s : ℕ → Shown) (h : readOf 4 base page ≡ shows w e q s) (early : w ≤ 4) where
   pub opened : Yes (placeOk base (length page)) × (1 ≤ w) × (rulesAt w w base page ≡ true) × (retold q s ≡ toldBy base page w)
       × (platShown (platAt base page) ≡ q) × ((λ k. shown w w k (secAt base page k)) ≡ s)
@@ -182,11 +182,11 @@ module _ (base : ℕ) (page : List ℕ) (w e : ℕ) (q : PlatShown) (s : ℕ →
       let n : versionAt page ≡ w = sym (v .0) ∙ i .0 in
       (g .0 .0, rw n at (v .1), rw (i .0, m) at (g .0 .2), rw (← i .2, ← i .3, i .0, m), i .2, rw (i .0, m) at (i .3))
 
-  -- the writer makes its page of what is shown: none of W2 to W5
+  -- the writer makes a page from what is shown: no refusal of W2 to W5
   pub pack-made : writeOf base 4096 w (retold q s) ≡ a-page (pageOf base w (retold q s))
   pack-made = rw (opened .3) (told-made base page w early (opened .2) (opened .0) (opened .1))
 
-  -- so no refusal is left but the target's
+  -- so the only refusal left is the target's
   pub pack-page : packOf base 4096 page ≡ written (a-page (pageOf base w (retold q s)))
   unfolding packOf packedFrom
   pack-page = rw (h, le-leb w 4 early) (ap written pack-made)

@@ -29,7 +29,7 @@ none-left zero c h = omega arith
 none-left (suc zero) c h = omega arith
 none-left (suc (suc k)) c h = omega arith
 
--- a checksum makes up for the pointer alone where the words are the same: q is the old pointer and s the old checksum
+-- if the words are the same, the checksum changes only by the pointer: q is the old pointer and s the old checksum
 check-moved : (c q p m r s t : ℕ) → (c + q + t + s) % 2 ^ 64 ≡ 0 → (m + q) % 2 ^ 64 ≡ p → (r + m) % 2 ^ 64 ≡ s → r < 2 ^ 64 → r ≡ neg (c + p + t)
 unfolding neg
 check-moved c q p m r s t a e f l = omega arith
@@ -62,7 +62,7 @@ module _ (page : List ℕ) (k : ℕ) where
       (rw array-length (sym (some-words k (countAt k page) .1)))
       (check-moved (countAt k page) (pointerAt k page) p m r (checkAt k page) (sum (arrayWords page k)) (eqb-true _ _ (s .sums z)) e f l)
 
--- ---- lists one behind the other, the next laid at once behind those that are there
+-- ---- lists one after another, each placed directly after the one before
 module _ (f : ℕ → List ℕ) where
   pub joined-none : length (joined 0 f) ≡ 0
   unfolding joined
@@ -81,7 +81,7 @@ module _ (f : ℕ → List ℕ) where
   unfolding joined
   laid-more at k to vs s p h e g i = rw (add-one, i, g, e, bytesOf-append, ← bytesOf-length (joined k f)) (splice-splice at (bytesOf (joined k f)) p h (bytesOf (f k)))
 
-  -- lists that are the same, and none behind the first n
+  -- equal lists, with no list after the first n
   pub joined-same : (n : ℕ) (g : ℕ → List ℕ) → ((k : ℕ) → k < n → f k ≡ g k) → joined n f ≡ joined n g
   unfolding joined
   joined-same zero g h = refl
@@ -92,7 +92,7 @@ module _ (f : ℕ → List ℕ) where
   joined-rest n zero h = rw add-zero refl
   joined-rest n (suc m) h = rw (add-suc, h (n + m) (omega arith), append-nil) (joined-rest n m h)
 
--- the words of the sections are three each
+-- three words for each section
 pub section-more : (first k : ℕ) (page three s p : List ℕ) → k < 4 → length p ≡ 4096 → length s ≡ 4096 → s ≡ splice 16 (bytesOf (joined k (sectionMoved first page))) p →
     three ≡ descriptor k (first + 8 * length (joined k (arrayWords page))) (arrayWords page k) →
     laid (16 + 24 * k) (bytesOf three) s ≡ splice 16 (bytesOf (joined (k + 1) (sectionMoved first page))) p
@@ -121,7 +121,7 @@ part-none a s = ap (λ (n : ℕ). take n (drop a s)) (let e : a - a ≡ 0 = omeg
 pub lent-length : (a b : ℕ) (s : List ℕ) → a ≤ b → b ≤ length s → length (take (b - a) (drop a s)) ≡ b - a
 lent-length a b s h g = length-take-le (b - a) (drop a s) (omega (arith, length-drop a s))
 
--- the array of a section, as code lends it
+-- the array of a section, as the code lends it
 pub array-lent : (page : List ℕ) (k at n : ℕ) → Bytes page → pointerAt k page % 4096 + size k (countAt k page) ≤ length page → at ≡ pointerAt k page % 4096 → n ≡ size k (countAt k page) →
     take (at + n - at) (drop at page) ≡ bytesOf (arrayWords page k)
 unfolding part

@@ -37,7 +37,7 @@ use Rattle.pack.proofs.Fields.{keptOf}
 use Rattle.pack.proofs.Made.{per-pos, toldBy, Each, told-none, told-some, told-each, words-length, told-scanned, opened}
 
 -- ---- the fields
--- those that are kept are shown as the remaining ones
+-- the kept fields are shown as the remaining ones
 remains : (fs : List Field) → shownFields (keptOf fs) ≡ remaining (shownFields fs)
 unfolding remaining shownFields keptOf shownField
 remains [] = refl
@@ -48,7 +48,7 @@ remains (f ∷ fs) = go (eqb (f .tag) 3) refl (remains fs)
     go true e r = r
     go false e r = rw (e, r)
 
--- and of the remaining ones all are kept
+-- and all remaining ones are kept
 kept-remaining : (fs : List FieldShown) → fieldsKept (remaining fs) ≡ fieldsKept fs
 unfolding fieldsKept remaining
 kept-remaining [] = refl
@@ -114,7 +114,7 @@ module _ (base : ℕ) (page : List ℕ) (w : ℕ) (early : w ≤ 4) (t : rulesAt
             rw (told-some base page w early t k l c, full-again c)
             (list-full (wordsIn k (secAt base page k)) (rw (words-length base page w early t k) (mul-pos (per-pos k) c)) ∙ ap (full (wordsIn k (secAt base page k))) (bytes-back c))
 
-  -- it is described as it was shown
+  -- its description is what was shown
   pub shown-again : described w (toldBy base page w) ≡ (λ k. shown w w k (secAt base page k))
   unfolding described shown
   shown-again = fun-ext (λ k. go k (decLt k (sectionCount w)))
@@ -127,12 +127,12 @@ module _ (base : ℕ) (page : List ℕ) (w : ℕ) (early : w ≤ 4) (t : rulesAt
 plat-is : (x y : PlatShown) → x .pointer ≡ y .pointer → x .fields ≡ y .fields → x ≡ y
 plat-is x y a f = ap (λ p. record { pointer = p; fields = x .fields }) a ∙ ap (λ l. record { pointer = y .pointer; fields = l }) f
 
--- no reader of another edition than 1 to 4 reads it
+-- only readers of editions 1 to 4 read it
 no-edition : (r base : ℕ) (page : List ℕ) → Yes (placeOk base (length page)) → editionOk r ≡ false → readOf r base page ≡ refused (minus 6)
 unfolding readOf judge readerGate both
 no-edition r base page p e = rw (p, e)
 
--- of a page that a reader of edition 4 accepts, with the page p that the writer makes from what it shows
+-- for a page that a reader of edition 4 accepts, and the page p that the writer makes from what it shows
 module _ (base n : ℕ) (page p : List ℕ) (b : Bytes page) (w e : ℕ) (q : PlatShown) (s : ℕ → Shown) (h : readOf 4 base page ≡ shows w e q s) (early : w ≤ 4)
     (m : writeOf base n w (retold q s) ≡ a-page p) where
   before : Yes (placeOk base (length page)) × (1 ≤ w) × (rulesAt w w base page ≡ true) × (retold q s ≡ toldBy base page w)
@@ -181,7 +181,7 @@ module _ (base n : ℕ) (page p : List ℕ) (b : Bytes page) (w e : ℕ) (q : Pl
   unfolding packOf packedFrom
   packs-again = rw (newest-same, le-leb w 4 early, retold-again) (ap written m)
 
--- ---- what the packer answers
+-- ---- the packer's answer
 never-written : {P : Type 0} {c : ℤ} {m : Made} → stopped c ≡ written m → P
 never-written h = absurd (let z : _≡_ {A = ℕ} 0 1 = cc in let y : ⊥ = omega arith in y)
 
@@ -189,7 +189,7 @@ cond-written : (c : Bool) (m : Made) (z : ℤ) (p : List ℕ) → cond c (writte
 cond-written true m z p h = (refl, cc)
 cond-written false m z p h = never-written h
 
--- a page that was made was accepted, has a minor up to 4, and is the writer's
+-- if a page was made, the old one was accepted, has a minor up to 4, and the new one is the writer's
 made-by : (base n : ℕ) (a : ReaderAnswer) (p : List ℕ) {P : Type 0} → packedFrom base n a ≡ written (a-page p) →
     ((w e : ℕ) (q : PlatShown) (s : ℕ → Shown) → a ≡ shows w e q s → w ≤ 4 → writeOf base n w (retold q s) ≡ a-page p → P) → P
 unfolding packedFrom

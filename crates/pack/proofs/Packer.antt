@@ -1,4 +1,4 @@
--- What 02, E11 asks of the packer, proved. Assumes nothing.
+-- What 02, E11 requires of the packer, proved. Assumes nothing.
 use Prim.Native.Nat.{ℕ, _<_}
 use mathlib.Core.Path.{_≡_, sym}
 use mathlib.Core.List.{List}
@@ -25,13 +25,13 @@ packer = record {
   untouched = λ base page lent. pack-untouched lent (packOf base (length lent) page);
 }
 
--- `same` and `again` of a call of `pack` that made a page: their premises are what `pack` promises, of the answer and of the page lent.
+-- `same` and `again` for a call of `pack` that made a page. Their premises are the promises of `pack` about the answer and the lent page.
 pub packed-lent : (base n : ℕ) (page after : List ℕ) → packedBy after Page ≡ packOf base n page → ((i : ℕ) → getD page i 0 < 256) →
     ((r : ℕ) → readOf r base after ≡ repacked (wordAt 8 after) (readOf r base page)) × (packOf base n after ≡ written (a-page after))
 unfolding packedBy
 packed-lent base n page after h b = (pack-same base n page after b (sym h), pack-again base n page after b (sym h))
 
--- The same of a call of `pbeam_pack` that answers 0, by its promises.
+-- The same for a call of `pbeam_pack` that returns 0, by its promises.
 pub packed-called : (base : ℕ) (page before after : List ℕ) → packedNumber (packOf base (length before) page) ≡ pos 0 →
     after ≡ targetAfter before (packOf base (length before) page) → ((i : ℕ) → getD page i 0 < 256) →
     ((r : ℕ) → readOf r base after ≡ repacked (wordAt 8 after) (readOf r base page)) × (packOf base (length before) after ≡ written (a-page after))

@@ -1,4 +1,4 @@
--- The number of the packer's answer tells what was answered. Assumes nothing.
+-- The number of the packer's answer identifies the answer. Assumes nothing.
 use Prim.Native.Nat.{ℕ, suc}
 use mathlib.Core.Bool.{Bool, true, false, cond, true≢false}
 use mathlib.Core.Path.{_≡_, refl, sym, ap, _∙_}
@@ -17,7 +17,7 @@ use Rattle.pack.specs.Pack.{retold, Packed, stopped, written, packedFrom
 use Rattle.pack.specs.declared.Packing.{Packing}
 use Rattle.pack.specs.declared.Packing.the-variants.{Page, Refused, Target}
 
--- 0 for a page that was made, 1 for the target (W1), else the reader's code, which is negative: so no two are the same
+-- 0 for a page, 1 for the target (W1), otherwise the reader's code, which is negative: so all numbers differ
 abbrev pub Tells : Packing → ℤ → Type 0
 Tells Page x = x ≡ pos 0
 Tells Target x = x ≡ pos 1
@@ -38,11 +38,11 @@ tells target Page = refl
 tells target Target = refl
 tells target (Refused c) = (refl, negative c)
 
--- of every call: `packedBy target r ≡ packOf ..` is what `pack` promises of its answer r
+-- for every call: `packedBy target r ≡ packOf ..` is the promise of `pack` about its answer r
 pub packed-told : (base n : ℕ) (page target : List ℕ) (r : Packing) → packedBy target r ≡ packOf base n page → Tells r (packedNumber (packOf base n page))
 packed-told base n page target r h = rw (← h) (tells target r)
 
--- ---- 0 alone says that a page was made, and the target then holds it
+-- ---- only 0 means that a page was made, and then the target holds it
 abbrev magnitude : ℤ → ℕ
 magnitude (pos n) = n
 magnitude (negsuc n) = suc n

@@ -1,4 +1,4 @@
--- The packed page as a whole: its steps one behind the other are the page that the writer makes. Assumes nothing.
+-- The packed page as a whole: its steps in sequence make the page that the writer makes. Assumes nothing.
 use Prim.Native.Nat.{ℕ, _+_, _-_, _*_, _≤_, _<_}
 use mathlib.Core.Path.{_≡_, refl, sym, ap, _∙_}
 use mathlib.Core.Bool.{Bool, true, false, cond, true≢false}
@@ -22,7 +22,7 @@ use Rattle.writer.proofs.Pages.{page-law}
 use Rattle.pack.specs.Steps.{arrayWords, sectionMoved, fieldsPlace, keptFrom, retoldAt}
 use Rattle.pack.proofs.Moves.{joined-same, joined-rest}
 
--- ---- the lists that the writer is told are the arrays of the page
+-- ---- the lists passed to the writer are the arrays of the page
 module _ (v : ℕ) (page : List ℕ) where
   pub list-in : (k : ℕ) → k < sectionCount v → retoldAt v page .lists k ≡ arrayWords page k
   unfolding retoldAt
@@ -72,14 +72,14 @@ point-by false a at end [] e h = absurd (true≢false (sym (eq-eqb at end (omega
 point-by true a at end (b ∷ bs) e h = let z : at ≡ end = eqb-true at end e in absurd (let y : ⊥ = omega arith in y)
 point-by false a at end (b ∷ bs) e h = refl
 
--- ---- bytes in front of others
+-- ---- bytes before others
 front : (xs ys p : List ℕ) → length xs ≤ length p → splice 0 xs (splice (length xs) ys p) ≡ splice 0 (xs ++ ys) p
 unfolding splice
 front xs ys p h =
     let t : drop (0 + length xs) (take (length xs) p ++ (ys ++ drop (length xs + length ys) p)) ≡ ys ++ drop (length xs + length ys) p = drop-at (take (length xs) p) _ (0 + length xs) (length-take-le (length xs) p h ∙ sym (zero-add (length xs))) in
     rw (append-assoc (take (length xs) p) ys, t, length-append, zero-add) (sym (append-assoc xs ys _))
 
--- sections, arrays and fields from offset 16 on, then what stands before them
+-- sections, arrays and fields from offset 16 on, then the 16 bytes before them
 steps : (h s a f p p1 p2 p3 p4 : List ℕ) (at behind : ℕ) → length p ≡ 4096 → length h ≡ 16 → at ≡ 16 + length s → behind ≡ at + length a → behind + length f ≤ 4096 →
     p1 ≡ splice 16 s p → p2 ≡ splice at a p1 → p3 ≡ splice behind f p2 → p4 ≡ splice 0 h p3 → p4 ≡ splice behind f (splice 0 (h ++ (s ++ a)) p)
 steps h s a f p p1 p2 p3 p4 at behind n l e g r i j k m =
@@ -116,7 +116,7 @@ module _ (base v : ℕ) (page p : List ℕ) (whole : length p ≡ 4096) (fit : u
   unfolding core
   core-is = refl
 
-  -- the offset behind the arrays, as the writer counts it
+  -- the offset after the arrays, as the writer counts it
   behind-is : core v + 8 * length (joined (sectionCount v) (arrayWords page))
       ≡ core v + 8 * length (retoldAt v page .lists 0) + 8 * length (retoldAt v page .lists 1) + 8 * length (retoldAt v page .lists 2) + 8 * length (retoldAt v page .lists 3)
   unfolding joined

@@ -1,4 +1,4 @@
--- Packing a page. 02, E11: "The new page is exactly what the writer makes, at the page's own minor, from what reader edition 4 shows, with fields
+-- Packing a page (PK1). 02, E11: "The new page is exactly what the writer makes, at the page's own minor, from what reader edition 4 shows, with fields
 -- kept in page order and withdrawn ones dropped." Assumes nothing.
 use Prim.Native.Nat.{ℕ}
 use mathlib.Core.Bool.{cond}
@@ -15,7 +15,7 @@ use Rattle.writer_rules.specs.Wrote.{pageAfter}
 use Rattle.pack.specs.declared.Packing.{Packing}
 use Rattle.pack.specs.declared.Packing.the-variants.{Page, Refused, Target}
 
--- the words of the entries that are shown
+-- the words of the entries that a section shows
 unfoldable pub entriesIn : Shown → List ℕ
 entriesIn absent = []
 entriesIn empty = []
@@ -27,24 +27,25 @@ fieldsKept [] = []
 fieldsKept (raw t v ∷ fs) = fieldBytes t v ++ fieldsKept fs
 fieldsKept (withdrawn ∷ fs) = fieldsKept fs
 
--- what is shown, as the writer is told it
+-- what a reader shows, as a description for the writer
 unfoldable pub retold : PlatShown → (ℕ → Shown) → Description
 retold q s = record { lists = λ k. entriesIn (s k); fields = fieldsKept (q .fields) }
 
--- "Refusals: the reader's codes; then -6 for minor 5 and above; then W1 for the target."
+-- the result of packing: a code, or what the writer makes. PK2: "Refusals: the reader's codes; then -6 for minor 5 and above; then W1 for the target."
 pub data Packed : Type 0 where
   stopped : ℤ → Packed
   written : Made → Packed
 
+-- the result of packing, from the answer of reader edition 4
 unfoldable pub packedFrom : ℕ → ℕ → ReaderAnswer → Packed
 packedFrom base n (refused c) = stopped c
 packedFrom base n (shows w e q s) = cond (leb w 4) (written (writeOf base n w (retold q s))) (stopped (minus 6))
 
--- of a page at base B, into a target of n bytes at the same base
+-- the result of packing a page at base B into a target of `n` bytes at the same base
 unfoldable pub packOf : ℕ → ℕ → List ℕ → Packed
 packOf base n page = packedFrom base n (readOf 4 base page)
 
--- ---- what the code's enum stands for, with the target at exit
+-- ---- the enum `Packing` and the target at exit, as a result of packing
 unfoldable pub packedBy : List ℕ → Packing → Packed
 packedBy target Page = written (a-page target)
 packedBy target (Refused c) = stopped (refusalNumber c)
@@ -61,7 +62,7 @@ packedNumber (stopped c) = c
 packedNumber (written (no-page n)) = pos n
 packedNumber (written (a-page p)) = pos 0
 
--- the same of the code's enum
+-- the same for the enum `Packing`
 unfoldable pub packingNumber : Packing → ℤ
 packingNumber Page = pos 0
 packingNumber (Refused c) = refusalNumber c

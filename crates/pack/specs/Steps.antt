@@ -1,6 +1,6 @@
 -- For the steps and loops of `pack`. `told-same` (proofs/Answers.antt) proves `retoldAt` equal to `retold` of what reader edition 4 shows;
 -- `sections-all` (proofs/Whole.antt) proves `sectionMoved` equal to the writer's `descriptorAt`; `movable` (proofs/Answers.antt) proves `Movable` of
--- each section that is read. B is a multiple of 4,096, so a pointer's remainder is its place in the page. Assumes nothing.
+-- each section that is read. B is a multiple of 4,096, so pointer % 4096 is the offset in the page. Assumes nothing.
 use Prim.Native.Nat.{ℕ, _+_, _*_, _%_, _≤_}
 use mathlib.Core.Path.{_≡_}
 use mathlib.Core.Bool.{cond}
@@ -23,24 +23,24 @@ use Rattle.pack.specs.Pack.{fieldsKept}
 unfoldable pub arrayWords : List ℕ → ℕ → List ℕ
 arrayWords page k = wordsAt k (countAt k page) (pointerAt k page % 4096) page
 
--- The array of section k lies within the page, and its checksum holds: what the rules say of a section that is read. One of 24 zero bytes
--- has no checksum.
+-- The array of section `k` is within the page and its checksum holds, as the rules require of a section that is read. A section of 24 zero bytes has
+-- no checksum.
 pub record Movable (page : List ℕ) (k : ℕ) : Type 0 where
   pub inside : pointerAt k page % 4096 + size k (countAt k page) ≤ length page
   pub sums : (countAt k page ≡ 0 → ⊥) → Yes (checkOk (countAt k page) (pointerAt k page) (arrayWords page k) (checkAt k page))
 
--- the three words of section k, the arrays one behind the other from an address on
+-- the three words of section `k`, with the arrays one after another from address `first`
 unfoldable pub sectionMoved : ℕ → List ℕ → ℕ → List ℕ
 sectionMoved first page k = descriptor k (first + 8 * length (joined k (arrayWords page))) (arrayWords page k)
 
--- where the fields begin; the page's end without a pointer
+-- the offset of the fields; the length of the page if it has no platform pointer
 unfoldable pub fieldsPlace : List ℕ → ℕ
 fieldsPlace page = cond (eqb (wordAt 8 page) 0) (length page) (wordAt 8 page % 4096)
 
--- the fields from a place on, less the withdrawn ones
+-- the fields from an offset on, without the withdrawn ones
 unfoldable pub keptFrom : ℕ → List ℕ → List ℕ
 keptFrom at page = fieldsKept (shownFields (fieldsFrom at page))
 
--- what the writer is told of a page of minor v
+-- the description that the code passes to the writer, for a page of minor `v`
 unfoldable pub retoldAt : ℕ → List ℕ → Description
 retoldAt v page = record { lists = λ k. cond (ltb k (sectionCount v)) (arrayWords page k) []; fields = keptFrom (fieldsPlace page) page }

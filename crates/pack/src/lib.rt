@@ -1,5 +1,5 @@
-// The packer: what a reader of edition 4 shows of a page, written again without holes into another lent page. Arrays and fields go from
-// page to page once, with no buffer between.
+// The packer: writes what a reader of edition 4 shows of a page into another lent page, without holes. Arrays and fields are copied once, from page to
+// page.
 use fields::FieldPlace;
 use reader::Refusal;
 use reader::Verdict;
@@ -18,14 +18,14 @@ ghost use Rattle.writer_rules.specs.Write.{descriptor, pageOf};
 ghost use Rattle.pack.specs.Pack.{packOf, packedBy, targetAfter, packingNumber};
 ghost use Rattle.pack.specs.Steps.{arrayWords, Movable, sectionMoved, fieldsPlace, keptFrom, retoldAt};
 
-// A page was made; or why not: the page's own refusal, or the target's length (W1).
+// `Page` if a page was made, otherwise why not: the reader's refusal of the page, or `Target` if the target is not 4,096 bytes long (W1).
 pub enum Packing {
     Page,
     Refused(Refusal),
     Target,
 }
 
-// The answer's number: 0 for a page, the reader's codes, 1 for the target.
+// The number of an answer: 0 for a page, the reader's code, or 1 for the target.
 pub fn number(packing: Packing) -> i32
     ensures { λ r. ⌜ r ≡ packingNumber packing ⌝ }
 {
@@ -36,7 +36,7 @@ pub fn number(packing: Packing) -> i32
     }
 }
 
-// Puts bytes at an offset, and answers the offset behind them.
+// Writes `bytes` at offset `at`. Returns the offset after them.
 fn put_bytes(target: &mut [u8], at: usize, bytes: &[u8]) -> usize
     requires { ⌜ (at + length (now bytes) ≤ length (now target)) × (length (now target) ≡ 4096) ⌝ }
     ensures { λ r. ⌜ (r ≡ at + length (now (bytes .entry))) × (now (target .exit) ≡ splice at (now (bytes .entry)) (now (target .entry))) ⌝ }
@@ -45,7 +45,7 @@ fn put_bytes(target: &mut [u8], at: usize, bytes: &[u8]) -> usize
     at + bytes.len()
 }
 
-// The bytes that the array of section k takes.
+// The size of the array of section `k` in bytes.
 fn array_size(page: &[u8], k: u8) -> usize
     requires { ⌜ (Movable (now page) k) × (length (now page) ≡ 4096) ⌝ }
     ensures { λ r. ⌜ (r ≡ size k (countAt k (now (page .entry)))) × (r ≤ 4096) ⌝ }
@@ -54,7 +54,7 @@ fn array_size(page: &[u8], k: u8) -> usize
     8 * (words * (sections::count_at(page, k) as usize))
 }
 
-// The array of section k, where it lies in the page.
+// The array of section `k`, as a slice of the page.
 fn array_of(page: &[u8], k: u8) -> &[u8]
     requires { ⌜ (Movable (now page) k) × (length (now page) ≡ 4096) ⌝ }
     ensures { λ r. ⌜ now r ≡ bytesOf (arrayWords (now (page .entry)) k) ⌝ }
@@ -64,8 +64,8 @@ fn array_of(page: &[u8], k: u8) -> &[u8]
     &page[at..end]
 }
 
-// Count, pointer and checksum of section k with its array at another address; zeros for an empty section. The words are the same there, so
-// the checksum makes up for the pointer alone.
+// Returns count, pointer and checksum of section `k` with its array moved to `pointer`; zeros for an empty section. Its words stay the same, so the
+// checksum changes only by the difference of the pointers.
 fn section_words(page: &[u8], k: u8, pointer: u64) -> [u64; 3]
     requires { ⌜ Movable (now page) k ⌝ }
     ensures { λ r. ⌜ r ≡ descriptor k pointer (arrayWords (now (page .entry)) k) ⌝ }
@@ -79,7 +79,7 @@ fn section_words(page: &[u8], k: u8, pointer: u64) -> [u64; 3]
     [count, pointer, check]
 }
 
-// Puts the words of the first n sections, their arrays one behind the other from an address on.
+// Writes the words of the first `n` sections; their arrays follow one another from address `first`.
 fn put_sections(page: &[u8], first: u64, n: u8, target: &mut [u8])
     requires { ⌜ (length (now page) ≡ 4096) × (length (now target) ≡ 4096) × (n ≤ 4) × ((k : ℕ) → k < n → Movable (now page) k)
         × (first + 8 * length (joined n (arrayWords (now page))) < 0x1_0000_0000_0000_0000) ⌝ }
@@ -93,7 +93,7 @@ fn put_sections(page: &[u8], first: u64, n: u8, target: &mut [u8])
     }
 }
 
-// Puts the arrays of the first n sections one behind the other from an offset on, and answers the offset behind them.
+// Copies the arrays of the first `n` sections, one after another from offset `from`. Returns the offset after them.
 fn put_arrays(page: &[u8], from: usize, n: u8, target: &mut [u8]) -> usize
     requires { ⌜ (length (now page) ≡ 4096) × (length (now target) ≡ 4096) × ((k : ℕ) → k < n → Movable (now page) k)
         × (from + 8 * length (joined n (arrayWords (now page))) ≤ 4096) ⌝ }
@@ -107,7 +107,7 @@ fn put_arrays(page: &[u8], from: usize, n: u8, target: &mut [u8]) -> usize
     at
 }
 
-// Where the fields begin; the page's end without a pointer.
+// The offset of the fields; the length of the page if it has no platform pointer.
 fn fields_place(page: &[u8]) -> usize
     ensures { λ r. ⌜ r ≡ fieldsPlace (now (page .entry)) ⌝ }
 {
@@ -118,8 +118,8 @@ fn fields_place(page: &[u8]) -> usize
     (plat % 4096) as usize
 }
 
-// Puts the fields that stand from a place of the page on, less the withdrawn ones, at an offset, and answers the offset behind them. They
-// go in runs: all from `run` on up to the cursor are still to be put.
+// Copies the fields that start at `from` in the page to offset `at` of the target, without the withdrawn ones. Returns the offset after them. Copies
+// in runs: the bytes from `run` to the cursor are not copied yet.
 fn put_fields(page: &[u8], from: usize, at: usize, target: &mut [u8]) -> usize
     requires { ⌜ (length (now page) ≡ 4096) × (length (now target) ≡ 4096) × (from ≤ 4096) × (at + length (keptFrom from (now page)) ≤ 4096) ⌝ }
     ensures { λ r. ⌜ (r ≡ at + length (keptFrom from (now (page .entry)))) × (now (target .exit) ≡ splice at (keptFrom from (now (page .entry))) (now (target .entry))) ⌝ }
@@ -147,7 +147,7 @@ fn put_fields(page: &[u8], from: usize, at: usize, target: &mut [u8]) -> usize
     }
 }
 
-// The platform pointer: where the fields are put; 0 where there are none.
+// The platform pointer: the address of the fields, or 0 if there are none.
 fn plat_pointer(base: u64, at: usize, end: usize) -> u64
     requires { ⌜ (base ≤ 0x10_0000_0000_0000) × (at ≤ 4096) ⌝ }
     ensures { λ r. ⌜ r ≡ cond (eqb at end) 0 (base + at) ⌝ }
@@ -158,7 +158,7 @@ fn plat_pointer(base: u64, at: usize, end: usize) -> u64
     base + (at as u64)
 }
 
-// Makes the whole page from one of minor e: sections, arrays, fields, version and platform pointer, zero behind them.
+// Makes the whole page from one of minor `e`: sections, arrays, fields, version, platform pointer, then zeros.
 fn put_page(page: &[u8], base: u64, e: Edition, target: &mut [u8])
     requires { ⌜ (length (now page) ≡ 4096) × (length (now target) ≡ 4096) × (base ≤ 0x10_0000_0000_0000)
         × ((k : ℕ) → k < sectionCount (e .minor) → Movable (now page) k) × (used (e .minor) (retoldAt (e .minor) (now page)) ≤ 4096) ⌝ }
@@ -174,9 +174,8 @@ fn put_page(page: &[u8], base: u64, e: Edition, target: &mut [u8])
     words::clear(&mut target[end..]);
 }
 
-// Packs a page of a base into a target for the same base: what a reader of edition 4 shows of it, written at the page's own minor, without
-// holes and without withdrawn fields. A page that the reader refuses, one of minor 5 and above, and a target that is no page leave the
-// target as it was.
+// Packs the page at `base` into a target for the same base: what a reader of edition 4 shows, at the page's own minor, without holes and without
+// withdrawn fields. The target stays unchanged if the reader refuses the page, if its minor is 5 or above, or if the target is not 4,096 bytes long.
 pub fn pack(page: &[u8], base: u64, target: &mut [u8]) -> Packing
     ensures { λ r. ⌜ packedBy (now (target .exit)) r ≡ packOf base (length (now (target .entry))) (now (page .entry)) ⌝ }
     ensures { λ r. ⌜ now (target .exit) ≡ targetAfter (now (target .entry)) (packOf base (length (now (target .entry))) (now (page .entry))) ⌝ }

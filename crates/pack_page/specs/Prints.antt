@@ -1,4 +1,4 @@
--- What the program writes, by what it read, as ASCII numbers where it is text. Assumes nothing.
+-- What the program writes for an input (PK8); text as ASCII numbers. Assumes nothing.
 use Prim.Native.Nat.{ℕ, suc, _+_}
 use mathlib.Core.Path.{_≡_}
 use mathlib.Core.Bool.{cond}
@@ -15,29 +15,29 @@ use Rattle.pack.specs.Pack.{Packed, stopped, written, packOf}
 unfoldable pub refusalLine : List ℕ
 refusalLine = 114 ∷ 101 ∷ 102 ∷ 117 ∷ 115 ∷ 101 ∷ 100 ∷ 32 ∷ 45 ∷ []
 
--- what is refused: ` place`, ` version`, ` rules`
+-- the reason of a refusal: ` place`, ` version`, ` rules`
 unfoldable pub reasonText : ℕ → List ℕ
 reasonText n =
     cond (eqb n 5) (32 ∷ 112 ∷ 108 ∷ 97 ∷ 99 ∷ 101 ∷ [])
     (cond (eqb n 6) (32 ∷ 118 ∷ 101 ∷ 114 ∷ 115 ∷ 105 ∷ 111 ∷ 110 ∷ []) (32 ∷ 114 ∷ 117 ∷ 108 ∷ 101 ∷ 115 ∷ []))
 
--- the line of a code: its one digit, and what is refused
+-- the line of a code: its one digit, then the reason
 unfoldable pub refusedLine : ℤ → List ℕ
 refusedLine (pos n) = []
 refusedLine (negsuc n) = refusalLine ++ ((48 + suc n) ∷ (reasonText (suc n) ++ (10 ∷ [])))
 
--- What goes to standard output: the packed page, or one line with the code and its reason. The program's target is a page long, so it is never
--- refused.
+-- What goes to standard output: the packed page, or one line with the code and its reason. The program's target is always 4,096 bytes long, so W1
+-- never happens.
 unfoldable pub outputOf : Packed → List ℕ
 outputOf (stopped c) = refusedLine c
 outputOf (written (a-page p)) = p
 outputOf (written (no-page n)) = []
 
--- 8 bytes of B, then the page; an input of another length has no page
+-- the output for an input: 8 bytes of B, then the page; an input of another length is refused with -5
 unfoldable pub packPrinted : List ℕ → List ℕ
 packPrinted input = outputOf (cond (eqb (length input) 4104) (packOf (wordAt 0 input) 4096 (drop 8 input)) (stopped (minus 5)))
 
--- Reading stops where the room is full or the input ends. So where n bytes were read into a room, they are the first bytes of the input,
--- as many as the room holds. Of each such input, the first r bytes of t are all that is written.
+-- Reading stops when the room is full or the input ends. So the `n` bytes read into the room are the first min(room, input) bytes of the input. For
+-- every such input, the first `r` bytes of `t` are the whole output.
 abbrev pub PacksAll : List ℕ → ℕ → ℕ → List ℕ → Type 0
 PacksAll room n r t = (input : List ℕ) → take n room ≡ take (length room) input → take r t ≡ packPrinted input

@@ -1,5 +1,4 @@
-// Packs the manifest page on standard input: 8 bytes of B, then the page. Writes the packed page to standard output, or one line with the
-// refusal.
+// Packs the manifest page on standard input: 8 bytes of B, then the page. Writes the packed page to standard output, or one line with the refusal.
 use libc::STDIN_FILENO;
 use libc::STDOUT_FILENO;
 use pack::Packing;
@@ -11,7 +10,7 @@ ghost use Rattle.io.specs.Counts.{Counts};
 ghost use Rattle.reader.specs.Reading.{refusalNumber};
 ghost use Rattle.pack_page.specs.Prints.{refusedLine, packPrinted, PacksAll};
 
-// Puts a text at the start of a room that holds it, and answers its length.
+// Copies `text` to the start of `out`, which must hold it. Returns its length.
 fn put(out: &mut [u8], text: &[u8]) -> usize
     requires { ⌜ length (now text) ≤ length (now out) ⌝ }
     ensures { λ r. ⌜ (r ≡ length (now (text .entry))) × (take r (now (out .exit)) ≡ now (text .entry)) ⌝ }
@@ -20,7 +19,7 @@ fn put(out: &mut [u8], text: &[u8]) -> usize
     text.len()
 }
 
-// The line of a code.
+// Writes the line of a refusal. Returns its length.
 fn put_code(out: &mut [u8], code: Refusal) -> usize
     requires { ⌜ length (now out) ≡ 4096 ⌝ }
     ensures { λ r. ⌜ (r ≤ 4096) × (take r (now (out .exit)) ≡ refusedLine (refusalNumber code)) ⌝ }
@@ -32,7 +31,7 @@ fn put_code(out: &mut [u8], code: Refusal) -> usize
     }
 }
 
-// The packed page of an input, or the line of its refusal, with the number of its bytes.
+// Writes the packed page of an input, or the line of its refusal. Returns the number of bytes.
 fn pack_input(input: &[u8], out: &mut [u8]) -> usize
     requires { ⌜ length (now out) ≡ 4096 ⌝ }
     ensures { λ r. ⌜ (r ≤ 4096) × (take r (now (out .exit)) ≡ packPrinted (now (input .entry))) ⌝ }
@@ -47,8 +46,7 @@ fn pack_input(input: &[u8], out: &mut [u8]) -> usize
     }
 }
 
-// The same of an input of which n bytes were read into `room`. The room has to hold one byte more than the input of a page, so that a
-// longer input shows.
+// The same for the first `n` bytes of `room`. The room must hold at least 4,105 bytes, one more than a valid input, so that a longer input is noticed.
 fn show(room: &[u8], n: usize, out: &mut [u8]) -> usize
     requires { ⌜ Counts n (now room) × (4104 < length (now room)) × (length (now out) ≡ 4096) ⌝ }
     ensures { λ r. ⌜ Counts r (now (out .exit)) ⌝ }
@@ -57,6 +55,7 @@ fn show(room: &[u8], n: usize, out: &mut [u8]) -> usize
     pack_input(&room[..n], out)
 }
 
+// Reads standard input, packs the page and writes the result.
 fn main() {
     let mut input = [0u8; 4105];
     let n = io::read_full(STDIN_FILENO, &mut input);

@@ -1,4 +1,4 @@
-// Packing and mending of manifest pages, for C and Rust: for tools on a host. No boot and no runtime command needs them.
+// Packing and mending of manifest pages for C and Rust, for tools on a host. No boot and no runtime command needs them.
 ghost use mathlib.Core.Path.{_≡_};
 ghost use Prim.Native.Nat.{ℕ, _<_};
 ghost use lib.ListN.{length, getD};
@@ -6,8 +6,8 @@ ghost use Rattle.pack.specs.Pack.{packOf, targetAfter, packedNumber};
 ghost use Rattle.mend.specs.Mend.{mendedOf, mendedPage};
 ghost use Rattle.mend.specs.Report.{mendedNumber, reportWords};
 
-// Packs a page of a base into a target for the same base. Answers 0, the code of a page that is refused, or 1 for W1: a target that is not
-// 4,096 bytes long.
+// Packs the page at `base` into a target for the same base. Returns 0, the code of a refused page, or 1 (W1) for a target that is not 4,096 bytes
+// long.
 #[no_mangle]
 pub extern "C" fn pbeam_pack(page: &[u8], base: u64, target: &mut [u8]) -> i32
     ensures { λ r. ⌜ r ≡ packedNumber (packOf base (length (now (target .entry))) (now (page .entry))) ⌝ }
@@ -17,8 +17,8 @@ pub extern "C" fn pbeam_pack(page: &[u8], base: u64, target: &mut [u8]) -> i32
     pack::number(pack::pack(page, base, target))
 }
 
-// Mends a page at a base: parts that break a rule, or overlap one kept before, are zeroed in the core. Answers 0 and a word for each of
-// the six parts, 1 where it was changed; or the code and zeros, with the page as it was.
+// Mends the page at `base`: zeroes each part in the core that breaks a rule or overlaps a part kept before it. Returns 0 and sets `changed[i]` to 1
+// for each changed part and to 0 for the others; or returns the code, sets `changed` to zeros and leaves the page unchanged.
 #[no_mangle]
 pub extern "C" fn pbeam_mend(page: &mut [u8], base: u64, changed: &mut [u64; 6]) -> i32
     ensures { λ r. ⌜ r ≡ mendedNumber (mendedOf base (now (page .entry))) ⌝ }

@@ -1,5 +1,5 @@
--- Calls of the exported collector are steps of the collector, so the theorems of E13 hold for them; and refused calls leave what they are
--- lent. Assumes nothing.
+-- Calls of the exported collector are steps of the collector, so the theorems of E13 hold for them; refused calls change nothing that they are lent.
+-- Assumes nothing.
 use Prim.Native.Nat.{ℕ}
 use mathlib.Core.Path.{_≡_, refl, ap, _∙_}
 use mathlib.Core.Bool.{Bool, true, false, cond}
@@ -22,7 +22,7 @@ pub zeros-new : (b : List ℕ) → heldBy (record { image = newImage; buffer = b
 unfolding heldBy newImage collectorOf started newCollector
 zeros-new b = refl
 
--- any image, a forged one too
+-- any image, including a forged one
 pub call-step : (o : Offer) (l : LentCollector) → heldBy (collectorAfter o l) ≡ afterOffer o (heldBy l)
 unfolding heldBy collectorAfter afterOffer collectorOf verdictLeft unchanged pieceAppended
 call-step o l = collect-cases (collectorOf (l .image)) (l .buffer) (o .largest) (o .message) (λ why q. rw q) (λ p e a q. rw q)
@@ -32,14 +32,14 @@ unfolding collectorAfterAll afterOffers
 call-steps [] l = refl
 call-steps (o ∷ os) l = call-steps os (collectorAfter o l) ∙ ap (afterOffers os) (call-step o l)
 
--- 02, E13: "On refusal collector and lent buffers stay unchanged.": every word of the image, of a forged one too
+-- 02, E13: "On refusal collector and lent buffers stay unchanged.": every word of the image, including a forged one
 pub exported-refused-changes-nothing : (o : Offer) (l : LentCollector) →
     (collectLeft (collect (o .largest) (o .message) (collectorOf (l .image)) (l .buffer)) (l .image) .answer ≡ 0 → ⊥) → collectorAfter o l ≡ l
 unfolding collectorAfter verdictLeft unchanged pieceAppended
 exported-refused-changes-nothing o l h =
     collect-cases (collectorOf (l .image)) (l .buffer) (o .largest) (o .message) (λ why q. rw q) (λ p e a q. absurd (h (rw q)))
 
--- and of writing: the buffer, and the word lent for the length
+-- the same for writing: the buffer, and the word lent for the length
 abbrev tried : Bool → Bool → ℕ → List ℕ → List ℕ → Message
 tried f g n s b = cond f (notWritten refusal.AboveLargest b) (cond g (notWritten refusal.NoRoom b) (record { answer = wrote.Length n; buffer = s }))
 
@@ -64,7 +64,7 @@ refused-response-writes-nothing largest p b len h =
 from-zeros : (os : List Offer) (b : List ℕ) → heldBy (collectorAfterAll os (record { image = newImage; buffer = b })) ≡ afterOffers os (started b)
 from-zeros os b = call-steps os (record { image = newImage; buffer = b }) ∙ ap (afterOffers os) (zeros-new b)
 
--- for calls from C: the collector is that of the responses accepted, and complete exactly when 02 says so
+-- for calls from C: the collector depends on the accepted responses alone, and is complete exactly as 02 defines it
 pub exported-holds-accepted : (os : List Offer) (b : List ℕ) → HoldsJoined (acceptedOf os (started b)) (heldBy (collectorAfterAll os (record { image = newImage; buffer = b })))
 exported-holds-accepted os b = rw (from-zeros os b) (holds-accepted os b)
 

@@ -1,5 +1,5 @@
-// State blobs for C and Rust: every entry under one prefix. A collector is a lent image of three 32-bit words; a refused call leaves
-// every lent word and byte as it was. The answer of a call that can be refused is 0, or the number of the refusal.
+// State blobs for C and Rust; every function has the prefix pbeam_swtpm. A collector is a lent image of three 32-bit words. A call that can be refused
+// returns 0 or the number of the refusal, and a refused call leaves every lent word and byte unchanged.
 use state_blobs::Collector;
 use state_blobs::Verdict;
 use state_messages::MessageWritten;
@@ -13,6 +13,7 @@ ghost use Rattle.state_messages.specs.Messages.{readRequest, readResponse, told
 ghost use Rattle.state_blobs.specs.Collect.{isComplete, collect};
 ghost use Rattle.potterbeam_swtpm.specs.Exports.{stateRefusalNumber, PartsLeft, requestLeft, responseLeft, WriteLeft, writeLeft, CollectLeft, collectLeft, collectorOf};
 
+// The number of a refusal, from 1 to 10.
 fn refusal_number(why: StateRefusal) -> u32
     ensures { λ r. ⌜ r ≡ stateRefusalNumber why ⌝ }
 {
@@ -30,7 +31,7 @@ fn refusal_number(why: StateRefusal) -> u32
     }
 }
 
-// Reads a request that must have that code: its code, state_flags, type and offset.
+// Reads a request, whose command code must be `code`. Sets `parts` to code, state_flags, type and offset.
 #[no_mangle]
 pub extern "C" fn pbeam_swtpm_read_request(message: &[u8], code: u32, parts: &mut [u32; 4]) -> u32
     ensures { λ r. ⌜ _≡_ {A = PartsLeft} (record { answer = r; parts = now (parts .exit) })
@@ -46,7 +47,7 @@ pub extern "C" fn pbeam_swtpm_read_request(message: &[u8], code: u32, parts: &mu
     }
 }
 
-// Writes a request at the start of the buffer, and how long it is.
+// Writes a request at the start of the buffer, and its length to `len`.
 #[no_mangle]
 pub extern "C" fn pbeam_swtpm_write_request(
     buffer: &mut [u8],
@@ -77,7 +78,7 @@ pub extern "C" fn pbeam_swtpm_write_request(
     }
 }
 
-// Reads a response: its state_flags and totlength, and where its data begins in the message and how long it is.
+// Reads a response. Sets `parts` to state_flags, totlength, and the offset and length of its data in the message.
 #[no_mangle]
 pub extern "C" fn pbeam_swtpm_read_response(
     message: &[u8],
@@ -97,7 +98,7 @@ pub extern "C" fn pbeam_swtpm_read_response(
     }
 }
 
-// Writes a response with that data at the start of the buffer, and how long it is.
+// Writes a response with the given data at the start of the buffer, and its length to `len`.
 #[no_mangle]
 pub extern "C" fn pbeam_swtpm_write_response(
     buffer: &mut [u8],
@@ -126,6 +127,7 @@ pub extern "C" fn pbeam_swtpm_write_response(
     }
 }
 
+// The collector of an image; any first word except 0 means that a response was accepted.
 fn collector_of(image: &[u32; 3]) -> Collector
     ensures { λ r. ⌜ r ≡ collectorOf (now (image .entry)) ⌝ }
 {
@@ -136,7 +138,7 @@ fn collector_of(image: &[u32; 3]) -> Collector
     }
 }
 
-// Adds a response's data to the bytes held in the buffer.
+// Adds the data of a response to the bytes held in the buffer.
 #[no_mangle]
 pub extern "C" fn pbeam_swtpm_collect(
     image: &mut [u32; 3],
@@ -167,7 +169,7 @@ pub extern "C" fn pbeam_swtpm_complete(image: &[u32; 3]) -> bool
     collector_of(image).is_complete()
 }
 
-// How many bytes are held: the offset to ask for next.
+// The number of bytes held: the offset to ask for next.
 #[no_mangle]
 pub extern "C" fn pbeam_swtpm_held(image: &[u32; 3]) -> u32
     ensures { λ r. ⌜ r ≡ collectorOf (now (image .entry)) .held ⌝ }

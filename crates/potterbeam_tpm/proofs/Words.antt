@@ -23,7 +23,7 @@ unfolding tpmSessionOf tpmSessionWord
 session-back None = refl
 session-back Open = refl
 
--- the word after a call is read as the session after it, also a word that no session has
+-- the word after a call reads as the session after it, even if no session has that word
 pub word-after : (word : ℕ) (a : Arguments) (memory response : List ℕ) (forbidden fault : ℕ) →
     tpmSessionOf (commIn word a memory response forbidden fault .session) ≡ commOf (tpmSessionOf word) a memory response (says forbidden) (says fault) .session
 unfolding commIn commLeft
@@ -56,7 +56,7 @@ open-by : (l : Latest) (A B : Type 0) → (A → B) → OpenBy l A → OpenBy l 
 open-by l A B f (inl e) = inl e
 open-by l A B f (inr p) = inr (p .0, f (p .1))
 
--- so `open-exactly` of crate tpm holds of the word
+-- so `open-exactly` of crate tpm holds for the word
 pub word-open-exactly : (w : ℕ) (xs : List ExportedCall) → WordOpenExactly w xs
 word-open-exactly w xs =
     record {

@@ -1,4 +1,4 @@
-// H_TPM_COMM for C and Rust. The session is a lent word, what the call returns numbers and a lent word.
+// H_TPM_COMM for C and Rust. The session is a lent word; r3 is the return value, and r4 goes to a lent word.
 use tpm::Arguments;
 use tpm::ReturnCode;
 use tpm::TpmSession;
@@ -9,6 +9,7 @@ ghost use Rattle.tpm.specs.ReturnCodes.{isSuccess};
 ghost use Rattle.tpm.specs.Comm.{tpmRequestSpan};
 ghost use Rattle.potterbeam_tpm.specs.Exports.{argumentsOf, tpmSessionOf, tpmSessionWord, leftBy, says as Exports·says, commIn, placeWords};
 
+// The session of a word: any number except 0 is open.
 fn session_of(word: u64) -> TpmSession
     ensures { λ r. ⌜ r ≡ tpmSessionOf word ⌝ }
 {
@@ -18,6 +19,7 @@ fn session_of(word: u64) -> TpmSession
     TpmSession::Open
 }
 
+// The word of a session: 0 none, 1 open.
 fn session_word(session: TpmSession) -> u64
     ensures { λ r. ⌜ r ≡ tpmSessionWord session ⌝ }
 {
@@ -27,7 +29,7 @@ fn session_word(session: TpmSession) -> u64
     }
 }
 
-// The session's word after a call: written where the call is accepted, else as it was.
+// The session's word after a call: the new one if the call is accepted, otherwise unchanged.
 fn word_after(code: ReturnCode, session: TpmSession, word: u64) -> u64
     ensures { λ r. ⌜ r ≡ cond (isSuccess code) (tpmSessionWord session) word ⌝ }
 {
@@ -37,7 +39,7 @@ fn word_after(code: ReturnCode, session: TpmSession, word: u64) -> u64
     word
 }
 
-// A flag of the platform: any number but 0 is a yes.
+// A flag of the platform: any number except 0 is true.
 fn says(flag: u64) -> bool
     ensures { λ r. ⌜ r ≡ Exports·says flag ⌝ }
 {
@@ -47,7 +49,7 @@ fn says(flag: u64) -> bool
     true
 }
 
-// H_TPM_COMM. Answers r3; r4 and the session's word are lent.
+// H_TPM_COMM. Returns r3, and writes r4 and the session's word.
 #[no_mangle]
 pub extern "C" fn pbeam_tpm_comm(
     session: &mut u64,
@@ -88,7 +90,7 @@ pub extern "C" fn pbeam_tpm_comm(
     tpm::hcall_number(code)
 }
 
-// Where the request lies in the memory: its offset and its length, both 0 where there is none.
+// Sets `place` to offset and length of the request in the memory; both 0 if there is no request.
 #[no_mangle]
 pub extern "C" fn pbeam_tpm_request(
     operation: u64,

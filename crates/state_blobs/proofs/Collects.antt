@@ -1,4 +1,4 @@
--- One message given to the collector: what its answer tells, and what a refused one leaves. Assumes nothing.
+-- One message for the collector: what its answer implies, and that a refusal changes nothing. Assumes nothing.
 use Prim.Native.Nat.{ℕ, _+_, _≤_}
 use mathlib.Core.Path.{_≡_, refl, sym, ap, _∙_}
 use mathlib.Core.Bool.{Bool, true, false, cond}
@@ -28,7 +28,7 @@ passed false true r z h = never (cc)
 passed false false true z h = never (cc)
 passed false false false z h = (refl, refl, refl)
 
--- bytes that are accepted fit the total and the buffer
+-- accepted bytes fit the total and the buffer
 pub decide-fits : (c : Collector) (total n room : ℕ) → decide c total n room ≡ verdict.Accepted →
     (otherTotal c total ≡ false) × (c .held + n ≤ total) × (c .held + n ≤ room)
 unfolding decide
@@ -36,7 +36,7 @@ decide-fits c total n room h =
     let f = passed (otherTotal c total) (ltb total (c .held + n)) (ltb room (c .held + n)) (both (eqb n 0) (ltb (c .held) total)) h in
     (f .0, ltb-false _ _ (f .1), ltb-false _ _ (f .2))
 
--- ---- the collector's step by what the reader told
+-- ---- the collector's step, from what the reader returned
 pub collect-rejected : (largest : ℕ) (m : List ℕ) (c : Collector) (b : List ℕ) {why : StateRefusal} → toldOf (readResponse largest m) ≡ told.Refused why → collect largest m c b ≡ unchanged why c b
 unfolding collect collectGot
 collect-rejected largest m c b h = rw (told-rejected (readResponse largest m) h)

@@ -20,7 +20,7 @@ pub front-started : (blob b : List ℕ) → HoldsFirst blob (started b)
 unfolding started newCollector
 front-started blob b = record { within = omega arith; bytes = refl; whole = λ e. absurd (false≢true e) }
 
--- the bytes behind those held are the blob's next ones
+-- the bytes after those held are the blob's next ones
 front-join : (held : ℕ) (vs b blob : List ℕ) → held ≤ length b → take held b ≡ take held blob → vs ≡ part held (length vs) blob →
     take (held + length vs) (splice held vs b) ≡ take (held + length vs) blob
 unfolding splice part
@@ -74,7 +74,7 @@ pub refused-changes-nothing : (o : Offer) (h : Held) {why : StateRefusal} → co
 unfolding afterOffer
 refused-changes-nothing o h r = let s = refused-same (o .largest) (o .message) (h .collector) (h .buffer) r in rw (s .0, s .1)
 
--- so refused messages may be left out of any sequence
+-- so refused messages can be left out of any sequence
 pub refused-skipped : (xs ys : List Offer) (o : Offer) (h : Held) {why : StateRefusal} →
     collect (o .largest) (o .message) (afterOffers xs h .collector) (afterOffers xs h .buffer) .verdict ≡ verdict.Refused why → afterOffers (xs ++ (o ∷ ys)) h ≡ afterOffers (xs ++ ys) h
 unfolding afterOffers

@@ -1,4 +1,4 @@
--- What the collector is after any messages, by the responses that were accepted: no word of it depends on anything else. Assumes nothing.
+-- The collector after any messages, as a function of the accepted responses alone. Assumes nothing.
 use Prim.Native.Nat.{ℕ, _+_, _≤_}
 use mathlib.Core.Path.{_≡_, refl, sym, ap, _∙_}
 use mathlib.Core.Bool.{Bool, true, false, not}
@@ -16,7 +16,7 @@ use Rattle.state_blobs.specs.Blobs.{Offer, Held, started, afterOffer, af
 use Rattle.state_blobs.specs.declared.Collector.{Collector}
 use Rattle.state_blobs.proofs.Collects.{decide-fits, collect-cases}
 
--- one response more
+-- one more response
 joined-more : (ps : List StateResponse) (p : StateResponse) → joinedData (ps ++ (p ∷ [])) ≡ joinedData ps ++ p .bytes
 unfolding joinedData
 joined-more [] p = append-nil (p .bytes)
@@ -37,7 +37,7 @@ unfolding collectorOver otherTotal both
 over-more [] p h = refl
 over-more (q ∷ ps) p h = rw (eqb-true (q .total) (p .total) (same _ h))
 
--- the bytes behind those held are the response's
+-- the bytes after those held are the response's
 front-more : (held : ℕ) (vs b l : List ℕ) → held ≤ length b → take held b ≡ l → take (held + length vs) (splice held vs b) ≡ l ++ vs
 unfolding splice
 front-more held vs b l h e =

@@ -1,5 +1,5 @@
--- The blob's next bytes, written as a response, are accepted and appended: so the premise of `held-are-first` can be met, and a blob can be
--- collected whole. Assumes nothing.
+-- The blob's next bytes, written as a response, are accepted and appended: so the premise of `held-are-first` can be met, and a whole blob can be
+-- collected. Assumes nothing.
 use Prim.Native.Nat.{ℕ, _+_, _^_, _≤_, _<_}
 use mathlib.Core.Path.{_≡_, refl}
 use mathlib.Core.Bool.{Bool, true, false, not}
@@ -30,7 +30,7 @@ unfolding both
 some-data true n held total z d = le-ltb held total (let q : held ≡ total = d (z refl) in omega arith)
 some-data false n held total z d = refl
 
--- the next n bytes of the blob are accepted: some, or none when nothing is missing
+-- the next n bytes of the blob are accepted; n may be 0 only if nothing is missing
 pub next-accepted : (blob : List ℕ) (h : Held) (n : ℕ) → HoldsFirst blob h → MayFollow blob h n →
     decide (h .collector) (length blob) n (length (h .buffer)) ≡ verdict.Accepted
 unfolding decide otherTotal
@@ -43,7 +43,7 @@ next-accepted blob h n f m =
       some-data (eqb n 0) n (c .held) (length blob) (eqb-true n 0) (m .2),
     )
 
--- so a response that was written with them is, and they are appended
+-- so a response written with them is accepted, and they are appended
 pub piece-collected : (blob : List ℕ) (h : Held) (flags n largest : ℕ) → HoldsFirst blob h → MayFollow blob h n →
     flags < 2 ^ 32 → length blob < 2 ^ 32 → n ≤ largest →
     collect largest (responseMessage (pieceOf blob flags (h .collector .held) n)) (h .collector) (h .buffer)

@@ -1,4 +1,4 @@
--- Small messages and what they do: a check on the definitions. Assumes nothing.
+-- Small messages and their results: a check of the definitions. Assumes nothing.
 use Prim.Native.Nat.{ℕ}
 use mathlib.Core.Path.{_≡_, refl}
 use mathlib.Core.Bool.{true, false}
@@ -15,11 +15,11 @@ use Rattle.state_messages.specs.declared.MessageWritten.the-variants as wrote
 use Rattle.state_blobs.specs.declared.Verdict.the-variants as verdict
 use Rattle.state_blobs.specs.declared.Collector.{Collector}
 
--- four bytes of a small number
+-- a small number in four bytes
 unfoldable small : ℕ → List ℕ
 small x = 0 ∷ 0 ∷ 0 ∷ x ∷ []
 
--- a response of that result, total and length, with the bytes behind them
+-- a response with that result, total and length, followed by the bytes
 unfoldable message : ℕ → ℕ → ℕ → List ℕ → List ℕ
 message result total n bytes = small result ++ (small 1 ++ (small total ++ (small n ++ bytes)))
 
@@ -45,7 +45,7 @@ samples :
     × (readResponse 1 (message 0 5 2 (7 ∷ 8 ∷ [])) ≡ rejected refusal.AboveLargest)
     × (readResponse 9 (message 3 5 2 (7 ∷ 8 ∷ [])) ≡ rejected refusal.Failed)
     × (readResponse 1 (message 3 5 2 (7 ∷ 8 ∷ [])) ≡ rejected refusal.AboveLargest)
-    -- both messages written, with bytes behind them; above the largest and no room, then no room alone
+    -- both messages written, with bytes after them; above the largest and no room, then no room alone
     × (writeRequest (record { code = 12; flags = 1; kind = 2; offset = 3 }) (replicate 17 9) ≡ record { answer = wrote.Length 16; buffer = small 12 ++ (small 1 ++ (small 2 ++ (small 3 ++ (9 ∷ [])))) })
     × (writeRequest (record { code = 12; flags = 1; kind = 2; offset = 3 }) (replicate 15 9) ≡ notWritten refusal.NoRoom (replicate 15 9))
     × (writeResponse 2 twoBytes (replicate 19 9) ≡ record { answer = wrote.Length 18; buffer = message 3 5 2 (7 ∷ 8 ∷ 9 ∷ []) })
@@ -58,7 +58,7 @@ samples :
     × (collect 9 (message 0 3 2 (9 ∷ 9 ∷ [])) (holds 3 2) (replicate 3 0) ≡ unchanged refusal.PastTotal (holds 3 2) (replicate 3 0))
     × (collect 9 (message 0 3 1 (9 ∷ [])) (holds 3 2) (replicate 2 0) ≡ unchanged refusal.PastBuffer (holds 3 2) (replicate 2 0))
     × (collect 9 (message 0 3 0 []) (holds 3 2) (replicate 3 0) ≡ unchanged refusal.NoData (holds 3 2) (replicate 3 0))
-    -- two refusals at once: the first in order; a totlength below the first one's differs too
+    -- two reasons to refuse: the first in order decides; a totlength below the first one's also differs
     × (collect 9 (message 0 2 1 (9 ∷ [])) (holds 3 2) (replicate 2 0) ≡ unchanged refusal.TotalDiffers (holds 3 2) (replicate 2 0))
     × (collect 9 (message 0 3 2 (9 ∷ 9 ∷ [])) (holds 3 2) (replicate 2 0) ≡ unchanged refusal.PastTotal (holds 3 2) (replicate 2 0))
     × (collect 9 (message 0 3 0 []) (holds 3 2) (replicate 1 0) ≡ unchanged refusal.PastBuffer (holds 3 2) (replicate 1 0))

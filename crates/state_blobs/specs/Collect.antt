@@ -1,4 +1,4 @@
--- The collector. 02, E13: "A collector joins responses into a lent buffer, each after the bytes held." Assumes nothing.
+-- The collector (SB7). 02, E13: "A collector joins responses into a lent buffer, each after the bytes held." Assumes nothing.
 use Prim.Native.Nat.{ℕ, _+_}
 use mathlib.Core.Bool.{Bool, true, false, cond, not}
 use mathlib.Core.List.{List}
@@ -14,10 +14,11 @@ use Rattle.state_blobs.specs.declared.Verdict.the-variants as verdict
 use Rattle.state_blobs.specs.declared.Collector.{Collector}
 use Rattle.state_blobs.specs.declared.Collected.{Collected}
 
+-- a collector that holds nothing
 unfoldable pub newCollector : Collector
 newCollector = record { accepted = false; total = 0; held = 0 }
 
--- 02, E13: "It is complete exactly when a response was accepted and it holds totlength bytes."
+-- SB8. 02, E13: "It is complete exactly when a response was accepted and it holds totlength bytes."
 unfoldable pub isComplete : Collector → Bool
 isComplete c = both (c .accepted) (eqb (c .held) (c .total))
 
@@ -25,8 +26,8 @@ isComplete c = both (c .accepted) (eqb (c .held) (c .total))
 unfoldable pub otherTotal : Collector → ℕ → Bool
 otherTotal c total = both (c .accepted) (not (eqb (c .total) total))
 
--- 02, E13: "in the collector then: totlength differs from the first; held and new bytes past totlength; past the buffer; no data while
--- bytes are missing": for n new bytes of a blob of that total, and a buffer of so much room
+-- SB4. 02, E13: "in the collector then: totlength differs from the first; held and new bytes past totlength; past the buffer; no data while bytes are
+-- missing": for `n` new bytes of a blob, its total, and the size of the buffer
 unfoldable pub decide : Collector → ℕ → ℕ → ℕ → Verdict
 decide c total n room =
     cond (otherTotal c total) (verdict.Refused refusal.TotalDiffers)
@@ -35,20 +36,21 @@ decide c total n room =
     (cond (both (eqb n 0) (ltb (c .held) total)) (verdict.Refused refusal.NoData)
     verdict.Accepted)))
 
--- what a call answers, and the collector and the buffer that it leaves
+-- the answer of a call, and the collector and buffer after it
 pub record Outcome : Type 0 where
   pub verdict : Verdict
   pub collector : Collector
   pub buffer : List ℕ
 
+-- the same, from what the code returns and the buffer at exit
 unfoldable pub outcome : Collected → List ℕ → Outcome
 outcome r b = record { verdict = r .verdict; collector = r .collector; buffer = b }
 
--- 02, E13: "On refusal collector and lent buffers stay unchanged."
+-- SB10. 02, E13: "On refusal collector and lent buffers stay unchanged."
 unfoldable pub unchanged : StateRefusal → Collector → List ℕ → Outcome
 unchanged why c b = record { verdict = verdict.Refused why; collector = c; buffer = b }
 
--- "each after the bytes held": new bytes vs of a blob of that total
+-- "each after the bytes held": the new bytes `vs` are appended
 unfoldable pub pieceAppended : Collector → ℕ → List ℕ → List ℕ → Outcome
 pieceAppended c total vs b =
     record {
@@ -57,17 +59,20 @@ pieceAppended c total vs b =
       buffer = splice (c .held) vs b;
     }
 
+-- the outcome of a verdict: bytes appended, or everything unchanged
 unfoldable pub settle : Verdict → Collector → ℕ → List ℕ → List ℕ → Outcome
 settle verdict.Accepted c total vs b = pieceAppended c total vs b
 settle (verdict.Refused why) c total vs b = unchanged why c b
 
+-- the outcome for new bytes: `decide`, then `settle`
 unfoldable pub offerBytes : Collector → ℕ → List ℕ → List ℕ → Outcome
 offerBytes c total vs b = settle (decide c total (length vs) (length b)) c total vs b
 
+-- the outcome for a response that was read or refused
 unfoldable pub collectGot : Got → Collector → List ℕ → Outcome
 collectGot (got p) c b = offerBytes c (p .total) (p .bytes) b
 collectGot (rejected why) c b = unchanged why c b
 
--- a message given to the collector, with the largest size of data: first what the reader refuses
+-- the outcome for a message, with the largest size of data: the reader's refusals come first
 unfoldable pub collect : ℕ → List ℕ → Collector → List ℕ → Outcome
 collect largest m c b = collectGot (readResponse largest m) c b

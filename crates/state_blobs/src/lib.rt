@@ -6,18 +6,20 @@ ghost use Prim.Native.Nat.{_+_, _<_, _≤_};
 ghost use lib.ListN.{length};
 ghost use Rattle.state_blobs.specs.Collect.{newCollector, isComplete, otherTotal, decide, outcome, pieceAppended, offerBytes, collect};
 
+// Whether a response is accepted, or why not.
 pub enum Verdict {
     Accepted,
     Refused(StateRefusal),
 }
 
-// How much of a blob is held: whether a response was accepted, the blob's length as the first accepted one told it, and the bytes held.
+// The part of a blob held so far: whether a response was accepted, the totlength of the first accepted response, and the number of bytes held.
 pub struct Collector {
     pub accepted: bool,
     pub total: u32,
     pub held: u32,
 }
 
+// The answer of a call, and the collector after it.
 pub struct Collected {
     pub verdict: Verdict,
     pub collector: Collector,
@@ -52,7 +54,7 @@ impl Collector {
         self.held as usize
     }
 
-    // Whether the first accepted response told another total.
+    // Whether a response was accepted before, with a totlength other than `total`.
     fn other_total(self, total: u32) -> bool
         ensures { λ r. ⌜ r ≡ otherTotal self total ⌝ }
     {
@@ -62,7 +64,8 @@ impl Collector {
         false
     }
 
-    // Whether so many new bytes of a blob may follow those held, in a buffer of so much room. The sum is of 64 bits, so it never wraps.
+    // Whether `len` new bytes of a blob of `total` bytes may follow those held, in a buffer of `room` bytes. The sum has 64 bits, so it cannot
+    // overflow.
     fn decide(self, total: u32, len: usize, room: usize) -> Verdict
         requires { ⌜ len < 0x1_0000_0000 ⌝ }
         ensures { λ r. ⌜ r ≡ decide self total len room ⌝ }
@@ -87,7 +90,7 @@ impl Collector {
         Verdict::Accepted
     }
 
-    // Puts new bytes that fit behind those held.
+    // Copies new bytes, which must fit, after those held.
     fn append(self, total: u32, bytes: &[u8], buffer: &mut [u8]) -> Collected
         requires { ⌜ (self .held + length (now bytes) ≤ total) × (self .held + length (now bytes) ≤ length (now buffer)) ⌝ }
         ensures { λ r. ⌜ outcome r (now (buffer .exit)) ≡ pieceAppended self total (now (bytes .entry)) (now (buffer .entry)) ⌝ }
@@ -106,7 +109,7 @@ impl Collector {
         }
     }
 
-    // Puts new bytes of a blob behind those held, where they may follow.
+    // Copies new bytes after those held if `decide` accepts them.
     fn offer(self, total: u32, bytes: &[u8], buffer: &mut [u8]) -> Collected
         requires { ⌜ length (now bytes) < 0x1_0000_0000 ⌝ }
         ensures { λ r. ⌜ outcome r (now (buffer .exit)) ≡ offerBytes self total (now (bytes .entry)) (now (buffer .entry)) ⌝ }
@@ -121,7 +124,7 @@ impl Collector {
         }
     }
 
-    // Adds a response's data to the bytes held in the buffer; on a refusal, collector and buffer are as they were.
+    // Adds the data of a response to the bytes held in the buffer. On a refusal, collector and buffer stay unchanged.
     pub fn collect(self, message: &[u8], largest: u32, buffer: &mut [u8]) -> Collected
         ensures { λ r. ⌜ outcome r (now (buffer .exit)) ≡ collect largest (now (message .entry)) self (now (buffer .entry)) ⌝ }
     {

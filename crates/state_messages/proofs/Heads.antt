@@ -1,4 +1,4 @@
--- The four numbers that a message begins with. Assumes nothing.
+-- The four numbers at the start of a message. Assumes nothing.
 use Prim.Native.Nat.{ℕ, _+_, _^_, _<_}
 use mathlib.Core.Path.{_≡_, refl, ap, _∙_}
 use mathlib.Core.List.{List, [], _++_, append-assoc}
@@ -15,7 +15,7 @@ pub head-length : (a b c d : ℕ) → length (headBytes a b c d) ≡ 16
 unfolding headBytes
 head-length a b c d = simp (length-append, be-length)
 
--- one number more behind those put at the start
+-- one more number after those at the start
 next : (vs s : List ℕ) (off x : ℕ) → length vs ≡ off → splice off (beBytes 4 x) (splice 0 vs s) ≡ splice 0 (vs ++ beBytes 4 x) s
 next vs s off x e = ap (λ (k : ℕ). splice k (beBytes 4 x) (splice 0 vs s)) (let z : off ≡ 0 + length vs = omega arith in z) ∙ splice-splice 0 vs s (omega arith) (beBytes 4 x)
 

@@ -19,7 +19,7 @@ use Rattle.state_messages.proofs.Readings.{never}
 use Rattle.state_messages.proofs.Heads.{head-first, head-second, head-third, head-fourth, head-rest}
 use Rattle.state_messages.proofs.Writes.{request-length, response-length}
 
--- ---- the bytes that were written stand at the start of the buffer
+-- ---- the written bytes are at the start of the buffer
 abbrev roomy : Bool → List ℕ → List ℕ → Message
 roomy f vs b = cond f (notWritten refusal.NoRoom b) (record { answer = wrote.Length (length vs); buffer = splice 0 vs b })
 

@@ -1,4 +1,4 @@
--- What a response that was read tells of its message. Assumes nothing.
+-- What an accepted response implies about its message. Assumes nothing.
 use Prim.Native.Nat.{ℕ, _+_, _≤_}
 use mathlib.Core.Path.{_≡_, refl, ap}
 use mathlib.Core.Bool.{Bool, true, false, cond}
@@ -16,7 +16,7 @@ use Rattle.state_messages.specs.declared.StateRefusal.the-variants as re
 use Rattle.state_messages.specs.declared.Piece.{Piece}
 use Rattle.state_messages.specs.declared.ResponseRead.the-variants as told
 
--- two constructors are never the same: `cc` tells so by two numbers
+-- two constructors always differ: `cc` shows it by two numbers
 pub never : {P : Type 0} → _≡_ {A = ℕ} 0 1 → P
 never q = absurd (let z : ⊥ = omega arith in z)
 
@@ -39,7 +39,7 @@ read-got largest m {p} h =
     let long : length m ≤ 16 + bigAt 4 12 m = ltb-false _ _ (f .1) in
     (omega arith, ltb-false _ _ (f .2), eqb-true _ _ (f .3), f .4)
 
--- what was told is what was read
+-- the code returns what was read
 pub told-rejected : (g : Got) {why : StateRefusal} → toldOf g ≡ told.Refused why → g ≡ rejected why
 unfolding toldOf
 told-rejected (got p) h = never (cc)
@@ -50,7 +50,7 @@ unfolding toldOf
 told-got (got p) h k = k p refl (cc)
 told-got (rejected why) h k = never (cc)
 
--- the place that is told holds the data
+-- the returned offset and length hold the data
 pub place-holds : (largest : ℕ) (m : List ℕ) {p : StateResponse} → readResponse largest m ≡ got p → (p .bytes ≡ drop 16 m) × (length m ≡ 16 + length (p .bytes))
 unfolding responseParts
 place-holds largest m {p} h =

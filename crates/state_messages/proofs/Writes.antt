@@ -1,4 +1,4 @@
--- Messages laid at the start of a buffer. Assumes nothing.
+-- Messages written at the start of a buffer. Assumes nothing.
 use Prim.Native.Nat.{ℕ, _+_, _-_, _≤_, _<_}
 use mathlib.Core.Path.{_≡_, ap, _∙_}
 use mathlib.Core.List.{List, _++_}
@@ -22,14 +22,14 @@ pub response-length : (p : StateResponse) → length (responseMessage p) ≡ 16 
 unfolding responseMessage
 response-length p = simp (length-append, head-length)
 
--- ---- the buffer after a part lent from an offset on was copied into; that part is all that is behind the offset
+-- ---- the buffer after a copy into its slice from an offset on; that slice is everything after the offset
 pub lent-splice : (at : ℕ) (vs s : List ℕ) → at + length vs ≤ length s → take at s ++ (laid 0 vs (take (length s - at) (drop at s)) ++ drop (length s - at) (drop at s)) ≡ splice at vs s
 lent-splice at vs s h = lent-back at vs s h ∙ bytes-in at vs s h
 
 pub lent-all : (n : ℕ) (s : List ℕ) → take (length s - n) (drop n s) ≡ drop n s
 lent-all n s = take-all (length s - n) (drop n s) (rw length-drop (omega arith))
 
--- ---- what has room is written; of what has not, no byte is
+-- ---- a message that fits is written; otherwise no byte changes
 pub write-in : (vs b : List ℕ) {n : ℕ} → length vs ≡ n → n ≤ length b → writeMessage vs b ≡ record { answer = wrote.Length n; buffer = splice 0 vs b }
 unfolding writeMessage
 write-in vs b {n} e h = rw (e, le-ltb (length b) n h)
@@ -51,7 +51,7 @@ pub response-out : (largest : ℕ) (p : StateResponse) (b : List ℕ) → length
 unfolding writeResponse
 response-out largest p b h l = rw (le-ltb largest (length (p .bytes)) h) (write-out (responseMessage p) b (response-length p) l)
 
--- the four numbers, then the data in what is lent behind them
+-- the four numbers, then the data in the slice after them
 pub response-put : (p : StateResponse) (b s : List ℕ) → s ≡ splice 0 (headBytes (p .result) (p .flags) (p .total) (length (p .bytes))) b → 16 + length (p .bytes) ≤ length s →
     take 16 s ++ (laid 0 (p .bytes) (take (length s - 16) (drop 16 s)) ++ drop (length s - 16) (drop 16 s)) ≡ splice 0 (responseMessage p) b
 unfolding responseMessage

@@ -1,5 +1,5 @@
-// GET_STATEBLOB of swtpm's control channel: the request for a piece of a state blob and the response that carries one, read from and
-// written to lent slices. Every number is of four bytes, big-endian. The type of a blob is called `kind` here.
+// GET_STATEBLOB of swtpm's control channel: the request for a piece of a state blob and the response that carries one, read from and written to lent
+// slices. Every number has 4 bytes, big-endian. `kind` is the type of a blob.
 ghost use mathlib.Core.Path.{_≡_};
 ghost use Prim.Native.Nat.{_+_, _≤_};
 ghost use lib.ListN.{length, drop};
@@ -7,7 +7,7 @@ ghost use Rattle.words.specs.Word.{splice, onFrom};
 ghost use Rattle.big_words.specs.Big.{beBytes, bigAt};
 ghost use Rattle.state_messages.specs.Messages.{headBytes, readRequest, readResponse, toldOf, Message, writeRequest, responseOf, writeResponse};
 
-// A request: the command code, state_flags, the type of blob, and the offset of the piece in it.
+// A request: the command code, state_flags, the type of blob, and the offset of the piece in the blob.
 pub struct StateRequest {
     pub code: u32,
     pub flags: u32,
@@ -15,14 +15,14 @@ pub struct StateRequest {
     pub offset: u32,
 }
 
-// The numbers of a response to write: tpm_result, state_flags and totlength. Its length field is the length of its data.
+// The numbers of a response to write: tpm_result, state_flags and totlength. The length field is the length of the data.
 pub struct ResponseHeader {
     pub result: u32,
     pub flags: u32,
     pub total: u32,
 }
 
-// What an accepted response holds: state_flags, totlength, and where its data begins in the message and how long it is.
+// An accepted response: state_flags, totlength, and its data as the bytes [at, at + len) of the message.
 pub struct Piece {
     pub flags: u32,
     pub total: u32,
@@ -30,8 +30,8 @@ pub struct Piece {
     pub len: u32,
 }
 
-// Why a message, a buffer or a piece is refused: the reader's reasons in their order, the writer's second one, then the collector's.
-// A message that is cut short is never too long, so these two share one place in the order.
+// Why a message, a buffer or a piece is refused: the reader's reasons in order, the writer's second one, then the collector's. No message is both cut
+// short and too long, so these two share one place in the order.
 pub enum StateRefusal {
     CutShort,
     TooLong,
@@ -45,22 +45,25 @@ pub enum StateRefusal {
     NoData,
 }
 
+// A request, or why it is refused.
 pub enum RequestRead {
     Accepted(StateRequest),
     Refused(StateRefusal),
 }
 
+// The piece of a response, or why it is refused.
 pub enum ResponseRead {
     Accepted(Piece),
     Refused(StateRefusal),
 }
 
-// The length of the message that was written, or why none was.
+// The length of the message that was written, or why none was written.
 pub enum MessageWritten {
     Length(usize),
     Refused(StateRefusal),
 }
 
+// The 4-byte number at offset `at`, which must be within the slice.
 fn number_at(s: &[u8], at: usize) -> u32
     requires { ⌜ at + 4 ≤ length (now s) ⌝ }
     ensures { λ r. ⌜ r ≡ bigAt 4 at (now (s .entry)) ⌝ }
@@ -68,7 +71,7 @@ fn number_at(s: &[u8], at: usize) -> u32
     big_words::big_at(s, at)
 }
 
-// Reads a request that must have that code.
+// Reads a request, whose command code must be `code`.
 pub fn read_request(message: &[u8], code: u32) -> RequestRead
     ensures { λ r. ⌜ r ≡ readRequest code (now (message .entry)) ⌝ }
 {
@@ -90,14 +93,14 @@ pub fn read_request(message: &[u8], code: u32) -> RequestRead
     })
 }
 
-// How long a response with so much data is. The sum is of 64 bits, as in 32 it would wrap.
+// 16 + len, the length of a response with `len` bytes of data. 64 bits, because the sum could overflow 32.
 fn response_length(len: u32) -> usize
     ensures { λ r. ⌜ r ≡ 16 + len ⌝ }
 {
     16 + len as usize
 }
 
-// Reads a response whose data must not be longer than the largest size.
+// Reads a response, whose data must have at most `largest` bytes.
 pub fn read_response(message: &[u8], largest: u32) -> ResponseRead
     ensures { λ r. ⌜ r ≡ toldOf (readResponse largest (now (message .entry))) ⌝ }
 {
@@ -126,7 +129,7 @@ pub fn read_response(message: &[u8], largest: u32) -> ResponseRead
     })
 }
 
-// The data of an accepted response, as the part of the message that holds it: what follows the four numbers.
+// The data of an accepted response, as a slice of the message: the bytes after the four numbers.
 pub fn data_of(message: &[u8]) -> &[u8]
     ensures { λ r. ⌜ now r ≡ drop 16 (now (message .entry)) ⌝ }
     ensures { λ r. ⌜ (16 ≤ length (now (message .entry)) → r .ptr ≡ onFrom (message .entry .ptr) 16) ⌝ }
@@ -137,6 +140,7 @@ pub fn data_of(message: &[u8]) -> &[u8]
     &message[16..]
 }
 
+// Writes `w` at offset `at`, which must be within the slice.
 fn put_number(s: &mut [u8], at: usize, w: u32)
     requires { ⌜ at + 4 ≤ length (now s) ⌝ }
     ensures { λ _. ⌜ now (s .exit) ≡ splice at (beBytes 4 w) (now (s .entry)) ⌝ }
@@ -144,7 +148,7 @@ fn put_number(s: &mut [u8], at: usize, w: u32)
     big_words::put_big(s, at, w);
 }
 
-// The four numbers that a message begins with.
+// Writes the four numbers at the start of a message.
 fn put_head(s: &mut [u8], a: u32, b: u32, c: u32, d: u32)
     requires { ⌜ 16 ≤ length (now s) ⌝ }
     ensures { λ _. ⌜ now (s .exit) ≡ splice 0 (headBytes a b c d) (now (s .entry)) ⌝ }
@@ -155,7 +159,7 @@ fn put_head(s: &mut [u8], a: u32, b: u32, c: u32, d: u32)
     put_number(s, 12, d);
 }
 
-// Writes a request at the start of a buffer.
+// Writes a request at the start of the buffer. Returns its length.
 pub fn write_request(buffer: &mut [u8], request: StateRequest) -> MessageWritten
     ensures { λ r. ⌜ _≡_ {A = Message} (record { answer = r; buffer = now (buffer .exit) }) (writeRequest request (now (buffer .entry))) ⌝ }
 {
@@ -172,7 +176,7 @@ pub fn write_request(buffer: &mut [u8], request: StateRequest) -> MessageWritten
     MessageWritten::Length(16)
 }
 
-// Writes a response with that data at the start of a buffer; data longer than the largest size is refused.
+// Writes a response with the data `bytes` at the start of the buffer. Returns its length. Refuses data longer than `largest`.
 pub fn write_response(
     buffer: &mut [u8],
     largest: u32,

@@ -1,4 +1,4 @@
--- 01's example 14 as its view gives it, the same page with fields, a console's line, an empty section, and the three codes. Assumes nothing.
+-- 01's example 14 by its view, the same page with fields, a console's line, an empty section, and the three codes. Assumes nothing.
 use Prim.Native.Nat.{ℕ, zero, suc}
 use mathlib.Core.Path.{_≡_, refl}
 use mathlib.Core.List.{List, [], _∷_, _++_}
@@ -46,7 +46,7 @@ pub example-14 : listingOf (shows 2 2 (record { pointer = 0; fields = [] }) sect
 unfolding listingOf headText platText fieldsText pointerText sectionText stateText countText entryText partText wordText gapText hexText decimal places placesIn titleText joined newline space zeroX manifestText readAsText platformText noneText absentText entryWord entryCount bytesIn wordsPerEntry both leBytes
 example-14 = refl
 
--- the same page with fields behind its bank: a board name, a withdrawn one and an empty one, in page order after the platform line
+-- the same page with fields after its bank: a board name, a withdrawn field and an empty one, in page order after the platform line
 -- `platform 0x0000000080000038`
 abbrev pointerLine : List ℕ
 pointerLine = 112 ∷ 108 ∷ 97 ∷ 116 ∷ 102 ∷ 111 ∷ 114 ∷ 109 ∷ 32 ∷ 48 ∷ 120 ∷ 48 ∷ 48 ∷ 48 ∷ 48 ∷ 48 ∷ 48 ∷ 48 ∷ 48 ∷ 56 ∷ 48 ∷ 48 ∷ 48 ∷ 48 ∷ 48 ∷ 51 ∷ 56 ∷ 10 ∷ []

@@ -1,4 +1,4 @@
--- How long the text of fields is: at most three bytes for each byte that they take. Assumes nothing.
+-- The length of the text of fields: at most three bytes for each byte that the fields take. Assumes nothing.
 use Prim.Native.Nat.{ℕ, zero, suc, _+_, _-_, _*_, _≤_, _<_}
 use mathlib.Core.Path.{_≡_, refl, ap}
 use mathlib.Core.Bool.{Bool, true, false, cond, false≢true}
@@ -41,7 +41,7 @@ withdrawn-most : length (fieldText withdrawn) ≤ 12
 unfolding fieldText withdrawnText newline
 withdrawn-most = lit≤ tt
 
--- tag 3 has a value of one byte, so its line, of 12 bytes, is no longer than a raw field's of that length may be
+-- tag 3 has a value of one byte; its line has 12 bytes, no more than the bound for a raw field of that length
 three-long : (t n : ℕ) → t ≡ 3 → Yes (lengthOk t n) → n ≡ 1
 unfolding lengthOk
 three-long t n z h = eqb-true n 1 (rw z at h)
@@ -90,7 +90,7 @@ unfolding scanOf scanAll listed fieldsOk
 scanned-text bs b l =
     text-by (scanOf bs) (λ fs m h. let j = judged-passed fieldsOk (scanAll bs) (ended fs m) (λ e. never (cc)) h in scan-text (length bs) bs fs m b l (j .0) (both-l _ _ (j .1)))
 
--- ---- of a page
+-- ---- the fields of a page
 text-case : (b : Bool) (s t : Scanned) → length (fieldsText (shownFields (fieldsIn s))) ≤ 3 * taken s - 9 → length (fieldsText (shownFields (fieldsIn t))) ≤ 3 * taken t - 9 →
     length (fieldsText (shownFields (fieldsIn (cond b s t)))) ≤ 3 * taken (cond b s t) - 9
 text-case true s t x y = x

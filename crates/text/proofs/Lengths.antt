@@ -1,4 +1,4 @@
--- How long the text of a number or a word is. Assumes nothing.
+-- The length of the text of a number or a word. Assumes nothing.
 use Prim.Native.Nat.{ℕ, zero, suc, _*_, _/_, _^_, _≤_, _<_}
 use mathlib.Core.Path.{_≡_, refl, ap}
 use mathlib.Core.Bool.{cond}

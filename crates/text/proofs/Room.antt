@@ -67,7 +67,7 @@ count-most k s c h l =
     let d : length (decimal n) ≤ 3 = decimal-most 2 n (omega arith) in
     rw (length-append, length-append) (omega (arith, entries-most k s n))
 
--- the entries that so many bytes hold
+-- the number of entries that fit in that many bytes
 divided : (k n c : ℕ) → n ≤ size k c → n / (8 * wordsPerEntry k) ≤ c
 unfolding size wordsPerEntry
 divided zero n c h = omega arith
@@ -83,7 +83,7 @@ array-most base page p n = go (inPage base p n)
     go false = omega arith
 
 module _ (w e base : ℕ) (page : List ℕ) (k : ℕ) where
-  -- of the edition: its count, and its entries
+  -- a section of the edition: its count and its entries
   state-in : k < sectionCount e → countAt k page < 1000 → length (stateText k (shown w e k (secAt base page k))) ≤ 4 + 19 * wordsPerEntry k * countAt k page
   unfolding shown shownSec secAt mkSec stateText entryCount bytesIn
   state-in l h = rw (lt-ltb k (sectionCount e) l) (go (eqb (countAt k page) 0))
@@ -95,7 +95,7 @@ module _ (w e base : ℕ) (page : List ℕ) (k : ℕ) where
       go true = count-most k empty (countAt k page) (divided k 0 (countAt k page) (omega arith)) h
       go false = count-most k (full _ bs) (countAt k page) (divided k (length bs) (countAt k page) (array-most base page (pointerAt k page) _)) h
 
-  -- not of the edition
+  -- a section that the edition lacks
   state-out : sectionCount e ≤ k → length (stateText k (shown w e k (secAt base page k))) ≤ 7
   unfolding shown stateText absentText newline
   state-out l = rw (le-ltb k (sectionCount e) l) (lit≤ tt)
@@ -206,7 +206,7 @@ listing-fits r base page b = gate-most _ _ _ _ accepted
         rw (length-append, length-append, length-append)
         (omega (arith, head-most w (min r w) (omega arith) (omega arith), plat-most (wordAt 8 page), sections-most w base page b (placed base (length page) p .0) (min r w) o))
 
--- in a room of that length no listing is cut
+-- no listing is cut in a slice of that length
 pub listing-whole : (r base : ℕ) (page out : List ℕ) → Bytes page → listingRoom ≤ length out →
     take (length (listingOf (readOf r base page))) (lay 0 (listingOf (readOf r base page)) out) ≡ listingOf (readOf r base page)
 listing-whole r base page out b h = lay-whole (listingOf (readOf r base page)) out (omega (arith, listing-fits r base page b))

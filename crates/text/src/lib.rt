@@ -1,5 +1,5 @@
-// The listing's text, laid into a lent slice as far as it fits. Each step puts a part of it at an offset, and answers where the
-// next part goes, which may be past the slice's end: so the last one answers how long the text is, whether or not it fits.
+// The listing's text, written into a lent slice as far as it fits. Each function writes a part at an offset and returns the offset after it, even if
+// that is past the end of the slice: so the last offset is the length of the whole text.
 use reader::Reading;
 use reader::Refusal;
 use reader::Section;
@@ -12,7 +12,7 @@ ghost use Rattle.text_lines.specs.Text.{wordText, entryText, countText, stateTe
 ghost use Rattle.text_lines.specs.Laid.{LaidOver, Listed};
 ghost use Rattle.text_lines.specs.Steps.{seen, refusalOf};
 
-// Word j of an entry of section k.
+// Writes word `j` of an entry of section `k`: a console's name as bytes, any other word in hex.
 fn put_word(out: &mut [u8], at: usize, k: usize, j: usize, w: u64) -> usize
     ensures { λ r. ⌜ LaidOver at (wordText k j w) (now (out .entry)) r (now (out .exit)) ⌝ }
 {
@@ -25,8 +25,8 @@ fn put_word(out: &mut [u8], at: usize, k: usize, j: usize, w: u64) -> usize
     text_lines::put_name(out, at, w)
 }
 
-// Entry i of a section k, on a page of that minor: its words, and the end of the line. This and what it is a part of take the section,
-// not its view: a view costs stack at each step that it goes down.
+// Writes entry `i` of section `k` on a page of that minor: its words and the end of the line. This and the functions that call it take the section,
+// not the view, because passing a view costs stack at each level.
 fn put_entry(
     out: &mut [u8],
     at: usize,
@@ -48,7 +48,7 @@ fn put_entry(
     text_lines::put_end(out, to)
 }
 
-// The first n entries of a section k, on a page of that minor.
+// Writes the first `n` entries of section `k`, on a page of that minor.
 fn put_entries(
     out: &mut [u8],
     at: usize,
@@ -67,7 +67,7 @@ fn put_entries(
     to
 }
 
-// The count of a section k, and its entries.
+// Writes the count of section `k` and its entries.
 fn put_count(
     out: &mut [u8],
     at: usize,
@@ -84,7 +84,7 @@ fn put_count(
     put_entries(out, to, page, minor, section, k, n)
 }
 
-// What follows the name of a section k: that it is absent, or its count and entries.
+// Writes what follows the name of section `k`: `absent`, or its count and entries.
 fn put_state(
     out: &mut [u8],
     at: usize,
@@ -101,7 +101,7 @@ fn put_state(
     }
 }
 
-// The name of section k.
+// Writes the name of section `k`.
 fn put_title(out: &mut [u8], at: usize, k: usize) -> usize
     ensures { λ r. ⌜ LaidOver at (titleText k) (now (out .entry)) r (now (out .exit)) ⌝ }
 {
@@ -113,7 +113,7 @@ fn put_title(out: &mut [u8], at: usize, k: usize) -> usize
     }
 }
 
-// A section k, on a page of that minor.
+// Writes section `k`, on a page of that minor.
 fn put_section(
     out: &mut [u8],
     at: usize,
@@ -129,7 +129,7 @@ fn put_section(
     put_state(out, to, page, minor, section, k)
 }
 
-// The four sections of a view.
+// Writes the four sections of a view.
 fn put_sections(out: &mut [u8], at: usize, page: &[u8], view: View) -> usize
     ensures { λ r. ⌜ LaidOver at (joined 4 (sectionText (seen view (now (page .entry))))) (now (out .entry)) r (now (out .exit)) ⌝ }
 {
@@ -141,7 +141,7 @@ fn put_sections(out: &mut [u8], at: usize, page: &[u8], view: View) -> usize
     to
 }
 
-// The first line: the version, whose major is 0, and the edition that the page was read as.
+// Writes the first line: the version, whose major is 0, and the edition that the page was read as.
 fn put_head(out: &mut [u8], at: usize, minor: u64, edition: u64) -> usize
     ensures { λ r. ⌜ LaidOver at (headText minor edition) (now (out .entry)) r (now (out .exit)) ⌝ }
 {
@@ -152,7 +152,7 @@ fn put_head(out: &mut [u8], at: usize, minor: u64, edition: u64) -> usize
     text_lines::put_end(out, to)
 }
 
-// The platform pointer, or that there is none.
+// Writes the platform pointer, or `none` if it is 0.
 fn put_pointer(out: &mut [u8], at: usize, plat: u64) -> usize
     ensures { λ r. ⌜ LaidOver at (pointerText plat) (now (out .entry)) r (now (out .exit)) ⌝ }
 {
@@ -162,7 +162,7 @@ fn put_pointer(out: &mut [u8], at: usize, plat: u64) -> usize
     text_lines::put_hex(out, at, plat)
 }
 
-// The second line.
+// Writes the second line: the platform pointer.
 fn put_plat(out: &mut [u8], at: usize, plat: u64) -> usize
     ensures { λ r. ⌜ LaidOver at (platText plat) (now (out .entry)) r (now (out .exit)) ⌝ }
 {
@@ -171,7 +171,7 @@ fn put_plat(out: &mut [u8], at: usize, plat: u64) -> usize
     text_lines::put_end(out, to)
 }
 
-// The fields from a cursor on.
+// Writes the fields from cursor `start` on.
 fn put_fields(out: &mut [u8], at: usize, page: &[u8], start: usize) -> usize
     ensures { λ r. ⌜ LaidOver at (fieldsText (shownFrom start (now (page .entry)))) (now (out .entry)) r (now (out .exit)) ⌝ }
 {
@@ -189,7 +189,7 @@ fn put_fields(out: &mut [u8], at: usize, page: &[u8], start: usize) -> usize
     }
 }
 
-// The listing of an accepted page.
+// Writes the listing of an accepted page.
 fn put_view(out: &mut [u8], page: &[u8], view: View) -> usize
     ensures { λ r. ⌜ LaidOver 0 (listingOf (readingAnswer (now (page .entry)) (Reading.Accepted view))) (now (out .entry)) r (now (out .exit)) ⌝ }
 {
@@ -200,7 +200,7 @@ fn put_view(out: &mut [u8], page: &[u8], view: View) -> usize
     put_sections(out, to, page, view)
 }
 
-// The line of a code.
+// Writes the line of a code.
 fn put_code(out: &mut [u8], code: Refusal) -> usize
     ensures { λ r. ⌜ LaidOver 0 (listingOf (refused (refusalNumber code))) (now (out .entry)) r (now (out .exit)) ⌝ }
 {
@@ -211,7 +211,7 @@ fn put_code(out: &mut [u8], code: Refusal) -> usize
     }
 }
 
-// The line of a reading that refuses; nothing of one that does not.
+// Writes the line of a reading that refuses; nothing for an accepted one.
 fn put_refused(out: &mut [u8], reading: Reading) -> usize
     ensures { λ r. ⌜ LaidOver 0 (refusalOf reading) (now (out .entry)) r (now (out .exit)) ⌝ }
 {
@@ -221,8 +221,8 @@ fn put_refused(out: &mut [u8], reading: Reading) -> usize
     }
 }
 
-// The listing of a page at a base, as a reader of an edition reads it: laid over out from its start as far as it fits, the rest
-// of out as it was. The answer is the length of the whole text: more than that of out where it does not fit.
+// Writes the listing of a page at `base`, read as `edition`, to the start of `out`, as far as it fits; the rest of `out` is unchanged. Returns the
+// length of the whole text, which exceeds `out.len()` if it does not fit.
 pub fn list(page: &[u8], base: u64, edition: u64, out: &mut [u8]) -> usize
     ensures { λ r. ⌜ Listed (listingOf (readOf edition base (now (page .entry)))) (now (out .entry)) r (now (out .exit)) ⌝ }
 {
@@ -233,7 +233,7 @@ pub fn list(page: &[u8], base: u64, edition: u64, out: &mut [u8]) -> usize
     put_view(out, page, view)
 }
 
-// What the listing program prints of its input: B in 8 bytes, then the page, read as edition 4.
+// Writes the listing of the program's input: 8 bytes of B, then the page, read as edition 4. Returns the length of the whole text.
 pub fn list_input(input: &[u8], out: &mut [u8]) -> usize
     ensures { λ r. ⌜ Listed (printed (now (input .entry))) (now (out .entry)) r (now (out .exit)) ⌝ }
 {

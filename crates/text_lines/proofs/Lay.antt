@@ -16,12 +16,12 @@ pub length-lay : (at : ℕ) (vs s : List ℕ) → length (lay at vs s) ≡ lengt
 unfolding lay
 length-lay at vs s = rw (length-append, length-append, length-take, length-take, length-drop) (omega arith)
 
--- nothing changes nothing
+-- an empty text changes nothing
 pub lay-none : (at : ℕ) (s : List ℕ) → lay at [] s ≡ s
 unfolding lay
 lay-none at s = rw (take-nil, append-nil, add-zero, take-append-drop)
 
--- ---- where all of vs fits, and where it reaches the end
+-- ---- if all of vs fits, and if it reaches the end
 module _ (at : ℕ) (vs s : List ℕ) where
   lay-in : at + length vs ≤ length s → lay at vs s ≡ take at s ++ vs ++ drop (at + length vs) s
   unfolding lay
@@ -34,7 +34,7 @@ module _ (at : ℕ) (vs s : List ℕ) where
   head-length : at ≤ length s → length (take at s ++ vs) ≡ at + length vs
   head-length h = rw (length-append, length-take-le at s h)
 
--- from the end on nothing fits
+-- nothing fits after the end
 lay-past : (at : ℕ) (ws s : List ℕ) → length s ≤ at → lay at ws s ≡ s
 unfolding lay
 lay-past at ws s h =
@@ -42,7 +42,7 @@ lay-past at ws s h =
     let z : length s - at ≡ 0 = omega arith in
     rw (drop-of-length-le s e, append-nil, z, append-nil, take-all at s h)
 
--- one run after the other is both as one
+-- two texts one after the other are one text
 module _ (at : ℕ) (vs ws s : List ℕ) where
   lay-then-in : at + length vs ≤ length s → lay (at + length vs) ws (lay at vs s) ≡ lay at (vs ++ ws) s
   unfolding lay
@@ -85,7 +85,7 @@ lay-more at i vs s h k =
     rw (add-one, take-suc vs i 0 k)
     (set-lay (lay at (take i vs) s) (at + i) (getD vs i 0) n ∙ rw l at (lay-then-in at (take i vs) (getD vs i 0 ∷ []) s (omega arith)))
 
--- as much of vs as fits is all that counts
+-- only the part of vs that fits counts
 pub lay-fits : (at n : ℕ) (vs s : List ℕ) → n ≡ min (length vs) (length s - at) → lay at (take n vs) s ≡ lay at vs s
 lay-fits at n vs s e = go (decLt (length vs) (length s - at))
   where
@@ -114,11 +114,11 @@ wrote-put at n r vs s t e g f =
     let h : t ≡ lay at vs s = f ∙ lay-fits at n vs s e in
     record { cursor = g; same = ap length h ∙ length-lay at vs s; bytes = h }
 
--- the same text by another name
+-- equal texts
 pub wrote-same : {at r : ℕ} {vs ws s t : List ℕ} → vs ≡ ws → LaidOver at vs s r t → LaidOver at ws s r t
 wrote-same {at} {r} {vs} {ws} {s} {t} e p = rw (← e) p
 
--- one part more of many
+-- one more part of many
 pub wrote-more : (f : ℕ → List ℕ) (i : ℕ) {at m r : ℕ} {s t u : List ℕ} → length s ≤ lastOffset → LaidOver at (joined i f) s m t → LaidOver m (f i) t r u → LaidOver at (joined (i + 1) f) s r u
 unfolding joined
 wrote-more f i h p q = rw add-one (wrote-then h p q)
@@ -127,7 +127,7 @@ wrote-more f i h p q = rw add-one (wrote-then h p q)
 pub listed : {r : ℕ} {vs s t : List ℕ} → length vs ≤ listingRoom → LaidOver 0 vs s r t → Listed vs s r t
 listed {r} {vs} {s} {t} h p = record { long = omega arith; most = omega arith; same = p .same; bytes = p .bytes }
 
--- a text that fits is all there
+-- a text that fits is complete
 pub lay-whole : (vs s : List ℕ) → length vs ≤ length s → take (length vs) (lay 0 vs s) ≡ vs
 lay-whole vs s h = rw (lay-in 0 vs s (omega arith)) (take-at vs _ _ refl)
 

@@ -19,11 +19,11 @@ use Rattle.text_lines.specs.Text.{placesIn, places, decimal, byteText, n
 ten : (r : ℕ) → 0 < r → 10 ≤ 10 ^ r
 ten (suc r) h = let p : 10 ^ 0 ≤ 10 ^ r = pow-le-pow-right (lit≤ tt) {i = 0} {j = r} (omega arith) in rw pow-suc (omega arith)
 
--- one digit less
+-- one digit fewer
 less-one : (r : ℕ) → suc r - 1 ≡ r
 less-one r = omega arith
 
--- the fewest digits of a number below 10, and of one that is not
+-- the number of digits below 10, and from 10 on
 one-place : (n r : ℕ) → n < 10 → Fewest 10 1 n r → r ≡ 1
 one-place n zero h f = absurd (not-suc-le-zero (f .0))
 one-place n (suc zero) h f = refl
@@ -59,7 +59,7 @@ unfolding decimal places
 decimal-put n r t f e = e ∙ ap (λ x. digits 10 x n) (places-in n n r (omega arith) f)
 
 -- ---- hexadecimal numbers of a fixed width
--- a number below 16 ^ k takes k digits where k is the least
+-- with at least k digits, a number below 16 ^ k takes exactly k
 pub width : (k n r : ℕ) → n < 16 ^ k → Fewest 16 k n r → r ≡ k
 width k n r h f = go (decLt k r)
   where
@@ -70,7 +70,7 @@ width k n r h f = go (decLt k r)
         absurd (let z : ⊥ = omega arith in z)
     go (no l) = let p : k ≤ r = f .0 in omega arith
 
--- what `io::hex` puts is so many digits
+-- what `io::hex` writes is that number of digits
 pub hex-put : (k n r : ℕ) (t : List ℕ) → n < 16 ^ k → Fewest 16 k n r → take r t ≡ digits 16 r n → take r t ≡ digits 16 k n
 hex-put k n r t h f e = e ∙ ap (λ x. digits 16 x n) (width k n r h f)
 

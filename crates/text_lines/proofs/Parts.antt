@@ -61,7 +61,7 @@ module _ (k j w : ℕ) where
   unfolding wordText both
   word-name e f = rw (eq-eqb k 1 e, eq-eqb j 2 f)
 
--- ---- what a section is asked for, and a view
+-- ---- what a lookup returns for a section, and a view
 pub word-shown : (w k i j : ℕ) (s : Section) (page : List ℕ) (r : ℕ) → r ≡ wordOf w k i j s page → r ≡ entryWord k i j (shownAs w k s page)
 unfolding wordOf
 word-shown w k i j s page r h = h
@@ -86,7 +86,7 @@ pub pointer-some : (p : ℕ) → (p ≡ 0 → ⊥) → hexText p ≡ pointerText
 unfolding pointerText
 pointer-some p h = rw (ne-eqb p 0 h)
 
--- ---- a field: its line, and those of the fields behind it
+-- ---- a field: its line, and the lines of the fields after it
 place-line : (f : FieldPlace) (page vs : List ℕ) → isNothing f ≡ false → vs ≡ shownValue (placeShown f page) → placeText f vs ≡ fieldText (placeShown f page)
 unfolding isNothing shownValue placeShown placeText
 place-line (Raw t v m) page vs n w = rw w
@@ -143,8 +143,7 @@ input-read input page base h e f =
     let g : page ≡ drop 8 input = f ∙ take-all (length input - 8) (drop 8 input) (omega (arith, length-drop 8 input)) in
     rw (eq-eqb (length input) 4104 h, e, g)
 
--- What an input starts with shows all that is printed of it, if it is more than the input of a page: a longer one is refused whatever
--- follows.
+-- The start of an input decides its listing if it is longer than a valid input: a longer one is refused for any continuation.
 pub input-start : (n : ℕ) (input : List ℕ) → 4104 < n → printed (take n input) ≡ printed input
 input-start n input h = go (decLt (length input) n)
   where

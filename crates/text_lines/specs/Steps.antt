@@ -13,17 +13,17 @@ use Rattle.fields.specs.declared.FieldPlace.{FieldPlace}
 use Rattle.fields.specs.declared.FieldPlace.the-variants.{Raw, Withdrawn, Nothing}
 use Rattle.text_lines.specs.Text.{fieldText, listingOf}
 
--- section k of a view, as it is shown with the page
+-- section `k` of a view, as it is shown with the page
 unfoldable pub seen : View → List ℕ → ℕ → Shown
 seen v page k = shownAs (v .minor) k (sectionOf v k) page
 
--- the line of a field at a place, by its value; none where there is no field
+-- the line of a field and its value; empty if there is no field
 unfoldable pub placeText : FieldPlace → List ℕ → List ℕ
 placeText (Raw t at n) v = fieldText (raw t v)
 placeText Withdrawn v = fieldText withdrawn
 placeText Nothing v = []
 
--- the line of a reading that refuses
+-- the line of a reading that refuses; empty otherwise
 unfoldable pub refusalOf : Reading → List ℕ
 refusalOf (Refused c) = listingOf (refused (refusalNumber c))
 refusalOf (Accepted v) = []

@@ -1,4 +1,4 @@
--- The listing's text, as ASCII numbers: 01's example 14 and the paragraph after it, in its words. Assumes nothing.
+-- The listing's text, as ASCII numbers: 01's example 14 and the paragraph after it. Assumes nothing.
 use Prim.Native.Nat.{ℕ, zero, suc, _+_, _-_, _/_}
 use mathlib.Core.Bool.{cond}
 use mathlib.Core.List.{List, [], _∷_, _++_}
@@ -12,7 +12,7 @@ use Rattle.entries.specs.Entry.{wordsPerEntry}
 use Rattle.fields.specs.Fields.{FieldShown, raw, withdrawn}
 use Rattle.reader.specs.Answer.{Shown, absent, empty, full, ReaderAnswer, refused, shows, minus, readOf, entryWord, entryCount}
 
--- vs over s from an offset on as far as it fits; the rest of s as it was
+-- `vs` over `s` from an offset on, as far as it fits; the rest of `s` is unchanged
 unfoldable pub lay : ℕ → List ℕ → List ℕ → List ℕ
 lay at vs s = take at s ++ take (length s - at) vs ++ drop (at + length vs) s
 
@@ -20,6 +20,7 @@ lay at vs s = take at s ++ take (length s - at) vs ++ drop (at + length vs) s
 unfoldable pub newline : List ℕ
 newline = 10 ∷ []
 
+-- one space
 unfoldable pub space : List ℕ
 space = 32 ∷ []
 
@@ -63,44 +64,47 @@ titleText (suc (suc zero)) = 110 ∷ 99 ∷ 111 ∷ 104 ∷ []
 titleText (suc (suc (suc k))) = 99 ∷ 111 ∷ 104 ∷ []
 
 -- ---- numbers
--- the digits of n below 10, or of n / 10 and one more: f is a bound of how often n is divided
+-- the number of decimal digits of `n`: 1 below 10, otherwise one more than `n / 10`; `f` bounds the number of divisions
 unfoldable pub placesIn : ℕ → ℕ → ℕ
 placesIn zero n = 1
 placesIn (suc f) n = cond (ltb n 10) 1 (suc (placesIn f (n / 10)))
 
--- how many decimal digits n has: the fewest that hold it, and at least one
+-- the number of decimal digits of `n`, at least one
 unfoldable pub places : ℕ → ℕ
 places n = placesIn n n
 
+-- a number in decimal
 unfoldable pub decimal : ℕ → List ℕ
 decimal n = digits 10 (places n) n
 
+-- a number in decimal, with `-` if it is negative
 unfoldable pub signedDecimal : ℤ → List ℕ
 signedDecimal (pos n) = decimal n
 signedDecimal (negsuc n) = dash ++ decimal (suc n)
 
 -- ---- words
--- a word: "each as 0x and 16 lower-case hex digits"
+-- LS3: a word: "each as 0x and 16 lower-case hex digits"
 unfoldable pub hexText : ℕ → List ℕ
 hexText w = zeroX ++ digits 16 16 w
 
--- a byte: two such digits
+-- a byte: two hex digits
 unfoldable pub byteText : ℕ → List ℕ
 byteText b = digits 16 2 b
 
--- "a console's name: its 8 bytes in order as 16 such digits, no 0x"
+-- LS3: "a console's name: its 8 bytes in order as 16 such digits, no 0x"
 unfoldable pub nameByte : ℕ → ℕ → List ℕ
 nameByte w i = byteText (getD (leBytes 8 w) i 0)
 
+-- the name of a console: its 8 bytes
 unfoldable pub nameText : ℕ → List ℕ
 nameText w = joined 8 (nameByte w)
 
--- word j of an entry of section k; the consoles are section 1, and word 2 of one is its name
+-- word `j` of an entry of section `k`; section 1 has the consoles, and word 2 of a console is its name
 unfoldable pub wordText : ℕ → ℕ → ℕ → List ℕ
 wordText k j w = cond (both (eqb k 1) (eqb j 2)) (nameText w) (hexText w)
 
 -- ---- sections
--- a space before each word of an entry but the first
+-- a space before each word of an entry except the first
 unfoldable pub gapText : ℕ → List ℕ
 gapText zero = []
 gapText (suc j) = space
@@ -123,7 +127,7 @@ stateText k absent = absentText ++ newline
 stateText k empty = countText k empty
 stateText k (full ws bs) = countText k (full ws bs)
 
--- section k of sections as they are shown
+-- section `k` of the shown sections: its name, then what it holds
 unfoldable pub sectionText : (ℕ → Shown) → ℕ → List ℕ
 sectionText s k = titleText k ++ space ++ stateText k (s k)
 
@@ -136,6 +140,7 @@ headText w e = manifestText ++ decimal w ++ readAsText ++ decimal e ++ newline
 unfoldable pub pointerText : ℕ → List ℕ
 pointerText p = cond (eqb p 0) noneText (hexText p)
 
+-- the second line: `platform `, then none or the pointer
 unfoldable pub platText : ℕ → List ℕ
 platText p = platformText ++ pointerText p ++ newline
 
@@ -144,6 +149,7 @@ platText p = platformText ++ pointerText p ++ newline
 unfoldable pub valueByte : List ℕ → ℕ → List ℕ
 valueByte v i = space ++ byteText (getD v i 0)
 
+-- all bytes of a value, each after a space
 unfoldable pub valueText : List ℕ → List ℕ
 valueText v = joined (length v) (valueByte v)
 
@@ -161,18 +167,18 @@ unfoldable pub fieldsText : List FieldShown → List ℕ
 fieldsText [] = []
 fieldsText (f ∷ fs) = fieldText f ++ fieldsText fs
 
--- ---- all of it
--- of a page that is refused: "one line, `refused` and the code"
+-- ---- the whole listing
+-- LS5: for a refused page: "one line, `refused` and the code"
 unfoldable pub listingOf : ReaderAnswer → List ℕ
 listingOf (refused c) = refusedText ++ signedDecimal c ++ newline
 listingOf (shows w e q s) = headText w e ++ platText (q .pointer) ++ fieldsText (q .fields) ++ joined 4 (sectionText s)
 
--- "The listing program reads from standard input 8 bytes of B, then the page, as reader of edition 4." "Input of any length but
+-- LS1: "The listing program reads from standard input 8 bytes of B, then the page, as reader of edition 4." "Input of any length but
 -- 4,104 bytes: `refused -5`."
 unfoldable pub printed : List ℕ → List ℕ
 printed input = listingOf (cond (eqb (length input) 4104) (readOf 4 (wordAt 0 input) (drop 8 input)) (refused (minus 5)))
 
--- the length of the longest listing: a 0.65535 page read as edition 1, whose fields take all bytes behind the core, with a tag above 99 and
--- a value of 1,000 bytes or more each
+-- LS6: the length of the longest listing: a 0.65535 page read as edition 1, whose fields take all bytes after the core, each with a tag above 99 and a
+-- value of 1,000 bytes or more
 abbrev pub listingRoom : ℕ
 listingRoom = 12336

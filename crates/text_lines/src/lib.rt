@@ -1,12 +1,12 @@
-// What the lines of the listing's text are laid with, into a lent slice as far as it fits. Each step puts a part of it at an offset, and
-// answers where the next part goes, which may be past the slice's end: so the last one answers how long the text is, whether or not
-// it fits. The text is defined in specs/; the code that lays its lines is in `field_text` and `text`.
+// Building blocks of the listing's lines. Each function writes text at an offset of a lent slice, as far as it fits, and returns the offset after the
+// text, even if that is past the end of the slice: so the last offset is the length of the whole text. specs/ defines the text; `field_text` and
+// `text` write its lines.
 ghost use Prim.Native.Nat.{_+_, min};
 ghost use mathlib.Core.Path.{_≡_};
 ghost use Rattle.text_lines.specs.Text.{newline, decimal, hexText, byteText, nameText, gapText, valueText};
 ghost use Rattle.text_lines.specs.Laid.{lastOffset, LaidOver};
 
-// The offset n bytes on; the largest number stands for all that lie past it. No text reaches so far, but a step does not know that.
+// `at + n`, or the largest number if that overflows. No text is that long, but a single step cannot know that.
 fn past(at: usize, n: usize) -> usize
     ensures { λ r. ⌜ r ≡ min (at + n) lastOffset ⌝ }
 {
@@ -16,7 +16,7 @@ fn past(at: usize, n: usize) -> usize
     at + n
 }
 
-// Any bytes.
+// Writes any bytes.
 pub fn put(out: &mut [u8], at: usize, text: &[u8]) -> usize
     ensures { λ r. ⌜ LaidOver at (now (text .entry)) (now (out .entry)) r (now (out .exit)) ⌝ }
 {
@@ -28,7 +28,7 @@ pub fn put(out: &mut [u8], at: usize, text: &[u8]) -> usize
     past(at, text.len())
 }
 
-// A number in decimal.
+// Writes a number in decimal.
 pub fn put_decimal(out: &mut [u8], at: usize, n: u64) -> usize
     ensures { λ r. ⌜ LaidOver at (decimal n) (now (out .entry)) r (now (out .exit)) ⌝ }
 {
@@ -37,7 +37,7 @@ pub fn put_decimal(out: &mut [u8], at: usize, n: u64) -> usize
     put(out, at, &digits[..k])
 }
 
-// A word: 0x and 16 digits.
+// Writes a word: 0x and 16 digits.
 pub fn put_hex(out: &mut [u8], at: usize, w: u64) -> usize
     ensures { λ r. ⌜ LaidOver at (hexText w) (now (out .entry)) r (now (out .exit)) ⌝ }
 {
@@ -47,7 +47,7 @@ pub fn put_hex(out: &mut [u8], at: usize, w: u64) -> usize
     put(out, to, &digits[..k])
 }
 
-// A byte: two digits.
+// Writes a byte: two hex digits.
 pub fn put_byte(out: &mut [u8], at: usize, b: u8) -> usize
     ensures { λ r. ⌜ LaidOver at (byteText b) (now (out .entry)) r (now (out .exit)) ⌝ }
 {
@@ -56,7 +56,7 @@ pub fn put_byte(out: &mut [u8], at: usize, b: u8) -> usize
     put(out, at, &digits[..k])
 }
 
-// A console's name: its 8 bytes in order.
+// Writes the name of a console: its 8 bytes in order, as hex digits.
 pub fn put_name(out: &mut [u8], at: usize, w: u64) -> usize
     ensures { λ r. ⌜ LaidOver at (nameText w) (now (out .entry)) r (now (out .exit)) ⌝ }
 {
@@ -69,7 +69,7 @@ pub fn put_name(out: &mut [u8], at: usize, w: u64) -> usize
     to
 }
 
-// The space before word j of an entry; none before the first.
+// Writes the space before word `j` of an entry; nothing before the first word.
 pub fn put_gap(out: &mut [u8], at: usize, j: usize) -> usize
     ensures { λ r. ⌜ LaidOver at (gapText j) (now (out .entry)) r (now (out .exit)) ⌝ }
 {
@@ -79,7 +79,7 @@ pub fn put_gap(out: &mut [u8], at: usize, j: usize) -> usize
     put(out, at, b" ")
 }
 
-// The bytes of a value, each after a space.
+// Writes the bytes of a value, each after a space.
 pub fn put_value(out: &mut [u8], at: usize, value: &[u8]) -> usize
     ensures { λ r. ⌜ LaidOver at (valueText (now (value .entry))) (now (out .entry)) r (now (out .exit)) ⌝ }
 {
@@ -92,7 +92,7 @@ pub fn put_value(out: &mut [u8], at: usize, value: &[u8]) -> usize
     to
 }
 
-// The end of a line.
+// Writes the end of a line.
 pub fn put_end(out: &mut [u8], at: usize) -> usize
     ensures { λ r. ⌜ LaidOver at newline (now (out .entry)) r (now (out .exit)) ⌝ }
 {

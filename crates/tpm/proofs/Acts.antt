@@ -1,4 +1,4 @@
--- What a refusal leaves, and what an accepted call did. Assumes nothing.
+-- A refusal changes nothing; what an accepted call does. Assumes nothing.
 use Prim.Native.Nat.{ℕ, _≤_}
 use mathlib.Core.Path.{_≡_, refl, sym, ap, subst, _∙_}
 use mathlib.Core.Bool.{Bool, true, false, cond}
@@ -41,18 +41,18 @@ module _ (s : TpmSession) (a : Arguments) (memory response : List ℕ) (forbidde
   unfolding commOf effectOf refusedStep
   comm-refused h = rw (ap isSuccess (sym code-is) ∙ h) (record { none = refl; session = refl; memory-same = refl })
 
-  -- a refusal comes only where 02 gives it, and where none before it came
+  -- a refusal happens only for 02's reason, and only if no earlier reason holds
   pub comm-reason : Reason a memory response forbidden fault (commOf s a memory response forbidden fault .code)
   comm-reason = subst (Reason a memory response forbidden fault) (sym code-is) (comm-why a memory response forbidden fault)
 
-  -- a call succeeds exactly where 02 has no refusal for it
+  -- a call succeeds exactly if 02 has no refusal for it
   pub comm-accepts : commOf s a memory response forbidden fault .code ≡ Success → Accepts a memory response forbidden fault
   comm-accepts h = accepts a memory response forbidden fault (sym code-is ∙ h)
 
   pub comm-accepted : Accepts a memory response forbidden fault → commOf s a memory response forbidden fault .code ≡ Success
   comm-accepted p = code-is ∙ accepted-if a memory response forbidden fault p
 
-  -- what an accepted execute found
+  -- what holds for an accepted execute
   executes : commOf s a memory response forbidden fault .code ≡ Success → a .operation ≡ 1 → Executes a memory response fault
   executes h e = go (comm-accepts h .kind)
     where
@@ -77,7 +77,7 @@ module _ (s : TpmSession) (a : Arguments) (memory response : List ℕ) (forbidde
       (refl, record { none = refl; session = refl; memory-same = refl })
 
 -- ---- the request
--- "as its part of the first slice": whatever the platform's fault and response are
+-- "as its part of the first slice": for any fault and response of the platform
 pub request-is : (a : Arguments) (memory : List ℕ) (forbidden : Bool) → Reached a forbidden → Placed a (length memory) → tpmRequest a memory forbidden ≡ part (a .inbuffer) (a .insize) memory
 unfolding tpmRequest hasRequest requestCode callChecks returnsIf isExecute isSuccess both either
 request-is a memory forbidden r p = rw (r .allowed, eq-eqb (a .operation) 1 (r .execute), buffers-in a (length memory) Success p)
@@ -91,7 +91,7 @@ request-none a memory forbidden n = go (hasRequest a (length memory) forbidden) 
     go true h = absurd (n (has-reached a (length memory) forbidden h) (has-placed a (length memory) forbidden h))
     go false h = refl
 
--- what the place names is the request
+-- the span is the request
 pub request-spanned : (a : Arguments) (memory : List ℕ) (forbidden : Bool) → spanned (tpmRequestSpan a (length memory) forbidden) memory ≡ tpmRequest a memory forbidden
 unfolding tpmRequestSpan tpmRequest
 request-spanned a memory forbidden = go (hasRequest a (length memory) forbidden) refl
@@ -100,7 +100,7 @@ request-spanned a memory forbidden = go (hasRequest a (length memory) forbidden)
     go true h = span-in (a .inbuffer) (a .insize) memory (has-placed a (length memory) forbidden h .input .ends)
     go false h = span-none memory
 
--- the request begins at its own place
+-- the request starts at its own offset
 pub request-starts : (a : Arguments) (memory : List ℕ) (forbidden : Bool) → spanStart (tpmRequestSpan a (length memory) forbidden) memory ≡ tpmRequestSpan a (length memory) forbidden .at
 unfolding tpmRequestSpan
 request-starts a memory forbidden = go (hasRequest a (length memory) forbidden) refl

@@ -1,4 +1,4 @@
--- What a chain of checks tells. Assumes nothing.
+-- What the result of a chain of checks implies. Assumes nothing.
 use mathlib.Core.Path.{_≡_, refl, sym, ap, _∙_}
 use mathlib.Core.Bool.{Bool, true, false, cond, not, false≢true}
 use borrow.Author.Tests.{not-true, not-false}
@@ -6,7 +6,7 @@ use Rattle.tpm.specs.declared.ReturnCode.{ReturnCode}
 use Rattle.tpm.specs.declared.ReturnCode.the-variants.{Success, Function, Parameter, P2, P3, P4, P5, Resource}
 use Rattle.tpm.specs.ReturnCodes.{isSuccess, returnsIf}
 
--- what some checks gave, and if that is success what the checks after them give
+-- the result of some checks, and if it is success, the result of the checks after them
 unfoldable pub onSuccess : ReturnCode → ReturnCode → ReturnCode
 onSuccess k rest = cond (isSuccess k) rest k
 
@@ -26,13 +26,13 @@ pub not-success : (k : ReturnCode) → isSuccess k ≡ false → k ≡ Success �
 unfolding isSuccess
 not-success k n h = false≢true (sym n ∙ ap isSuccess h)
 
--- what a success tells of the check before it
+-- what a success implies about the check before it
 pub returns-ok : (b : Bool) (k rest : ReturnCode) → isSuccess k ≡ false → returnsIf b k rest ≡ Success → (b ≡ false) × (rest ≡ Success)
 unfolding returnsIf
 returns-ok true k rest n h = absurd (not-success k n h)
 returns-ok false k rest n h = (refl, h)
 
--- ---- checks that go on to others: the rest is looked at only where they pass
+-- ---- checks followed by others: the others matter only if these pass
 abbrev pub Continues : (ReturnCode → ReturnCode) → Type 0
 Continues f = (rest : ReturnCode) → f rest ≡ onSuccess (f Success) rest
 
@@ -64,7 +64,7 @@ pub on-goes : (f : ReturnCode → ReturnCode) → Continues f → isSuccess (f S
 unfolding onSuccess
 on-goes f p n rest = p rest ∙ rw n
 
--- as the code asks: b tells whether k is a success
+-- as in the code: b is whether k is a success
 pub passed : (k j : ReturnCode) (b : Bool) → k ≡ j → b ≡ isSuccess k → not b ≡ false → isSuccess j ≡ true
 passed k j b e t h = ap isSuccess (sym e) ∙ sym t ∙ not-false b h
 

@@ -22,7 +22,7 @@ pub buffer-on : (o w : ReturnCode) → isSuccess o ≡ false → isSuccess w ≡
 unfolding bufferChecks
 buffer-on o w p q t start size n = both-on (returnsIf (leb n start) o) (returnsIf (either t (ltb n (start + size))) w) (returns-on _ o p) (returns-on _ w q)
 
--- what a success tells of the buffer before it
+-- what a success implies about the buffer before it
 pub record Passed (t : Bool) (start size n : ℕ) (rest : ReturnCode) : Type 0 where
   pub fit : t ≡ false
   pub within : Within start size n
@@ -59,7 +59,7 @@ buffers-on : (a : Arguments) (n : ℕ) → Continues (buffersChecks a n)
 unfolding buffersChecks
 buffers-on a n = both-on (inputChecks a n) (outputChecks a n) (input-on a n) (output-on a n)
 
--- as the code has them, one behind the other
+-- as in the code, one after the other
 pub input-stops : (a : Arguments) (n : ℕ) (k : ReturnCode) → k ≡ inputChecks a n Success → isSuccess k ≡ false → k ≡ buffersChecks a n Success
 unfolding buffersChecks
 input-stops a n k e h = e ∙ sym (on-stops (inputChecks a n) (input-on a n) (ap isSuccess (sym e) ∙ h) (outputChecks a n Success))
@@ -68,7 +68,7 @@ pub input-goes : (a : Arguments) (n : ℕ) (j k : ReturnCode) → j ≡ inputChe
 unfolding buffersChecks
 input-goes a n j k e h o = o ∙ sym (on-goes (inputChecks a n) (input-on a n) (ap isSuccess (sym e) ∙ h) (outputChecks a n Success))
 
--- what a success tells of them, and when they pass
+-- what a success implies about them, and when they pass
 pub placed : (a : Arguments) (n : ℕ) (rest : ReturnCode) → buffersChecks a n rest ≡ Success → (Placed a n) × (rest ≡ Success)
 unfolding buffersChecks isSuccess
 placed a n rest h =
@@ -83,7 +83,7 @@ buffers-in a n rest p =
     ∙ buffer-in P4 P5 _ _ _ n _ (le-ltb (a .outsize) 4096 (p .wide)) (p .output)
 
 -- ---- the whole chain
--- all checks are those before H_RESOURCE, and then for execute that one
+-- all checks are those before H_RESOURCE, then for execute H_RESOURCE
 pub comm-then : (a : Arguments) (memory response : List ℕ) (forbidden fault : Bool) →
     commCode a memory response forbidden fault ≡ onSuccess (requestCode a (length memory) forbidden) (cond (isExecute (a .operation)) (resourceCheck a response fault) Success)
 unfolding commCode requestCode callChecks returnsIf onSuccess isSuccess either
@@ -97,7 +97,7 @@ comm-then a memory response forbidden fault = go forbidden (isExecute (a .operat
     go false false true = refl
     go false false false = refl
 
--- where the checks before H_RESOURCE pass for execute, the buffers lie in the memory
+-- if an execute passes the checks before H_RESOURCE, the buffers are inside the memory
 pub request-placed : (a : Arguments) (n : ℕ) (forbidden : Bool) → isSuccess (requestCode a n forbidden) ≡ true → a .operation ≡ 1 → Placed a n
 unfolding requestCode callChecks isExecute isSuccess
 request-placed a n forbidden h e =

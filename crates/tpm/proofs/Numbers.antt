@@ -1,4 +1,4 @@
--- The return code that a number of r3 names. Assumes nothing.
+-- The return code of a number in r3. Assumes nothing.
 use mathlib.Core.Path.{_≡_, refl}
 use mathlib.Core.Bool.{cond}
 use lib.Dec.{eqb}

@@ -1,4 +1,4 @@
--- A refusal comes only where 02 gives it, and where no refusal before it came. Assumes nothing.
+-- A refusal happens only for 02's reason, and only if no earlier reason holds. Assumes nothing.
 use Prim.Native.Nat.{ℕ, _+_, _≤_, _<_}
 use mathlib.Core.Path.{_≡_, refl, subst}
 use mathlib.Core.Bool.{Bool, true, false, cond, not}
@@ -16,7 +16,7 @@ use Rattle.tpm.specs.Comm.{isExecute, isClose, bufferChecks, buffersChec
 use Rattle.tpm.specs.Claims.{Within, Placed, Accepts, Reached, BadSize, InputPlaced, Reason}
 use Rattle.tpm.proofs.Checks.{either-no}
 
--- what holds of a code, by the checks that lead to it
+-- what holds for a code, by the checks that lead to it
 returns-by : (P : ReturnCode → Type 0) (b : Bool) (k rest : ReturnCode) → (b ≡ true → P k) → (b ≡ false → P rest) → P (returnsIf b k rest)
 unfolding returnsIf
 returns-by P true k rest f g = f refl
@@ -45,7 +45,7 @@ module _ (a : Arguments) (memory response : List ℕ) (forbidden fault : Bool) w
   abbrev Why : ReturnCode → Type 0
   Why k = Reason a memory response forbidden fault k
 
-  -- of an execute that is allowed
+  -- for an execute that is allowed
   execute-why : Reached a forbidden → Why (buffersChecks a (length memory) (resourceCheck a response fault))
   unfolding buffersChecks resourceCheck
   execute-why r =

@@ -1,4 +1,4 @@
--- The session over calls one after the other. Assumes nothing.
+-- The session over calls one after another. Assumes nothing.
 use Prim.Native.Nat.{ℕ}
 use mathlib.Core.Path.{_≡_, refl, sym, ap, _∙_}
 use mathlib.Core.Bool.{Bool, true, false, cond, false≢true}
@@ -69,8 +69,8 @@ unfolding opened isExecute isOpen
 opens-by l s (inl e) = rw e
 opens-by l s (inr p) = rw (p .0, p .1)
 
--- over any sequence of calls, from any session: it is open exactly if the operation accepted last was execute, or as at the start if
--- none was accepted
+-- over any sequence of calls, from any session: it is open exactly if the last accepted operation is execute, or if no call was accepted and it was
+-- open at the start
 pub run-open : (s : TpmSession) (xs : List CommCall) → OpenExactly s xs
 unfolding isOpen
 run-open s xs =

@@ -11,8 +11,8 @@ use Rattle.tpm.specs.Comm.{isExecute, isClose, bufferChecks, buffersChec
 abbrev asking : ℕ → ℕ → ℕ → ℕ → ℕ → ReturnCode
 asking operation inbuffer insize outbuffer outsize = requestCode (record { operation = operation; inbuffer = inbuffer; insize = insize; outbuffer = outbuffer; outsize = outsize }) 8192 false
 
--- both buffers at one address; a request of no bytes; close looks at no buffer; an operation in the low half only; a request at the
--- end; one past all sums of 64 bits; too large; past the end; an output at the end; too small; past the end
+-- both buffers at one address; a request of no bytes; close checks no buffer; an operation in the low half only; a request at the end; one past all
+-- 64-bit sums; too large; past the end; an output at the end; too small; past the end
 pub samples :
     (asking 1 4096 4096 4096 4096 ≡ Success)
     × (asking 1 8191 0 0 8192 ≡ Success)

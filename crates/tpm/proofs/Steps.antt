@@ -1,4 +1,4 @@
--- What a call does, by its return code. Assumes nothing.
+-- The effect of a call, by its return code. Assumes nothing.
 use Prim.Native.Nat.{ℕ, _≤_}
 use mathlib.Core.Path.{_≡_, sym, _∙_}
 use mathlib.Core.Bool.{Bool, true, false}
@@ -23,12 +23,12 @@ module _ (s : TpmSession) (a : Arguments) (memory response : List ℕ) (forbidde
   unfolding commOf effectOf onSuccess
   comm-stops h = rw (comm-then a memory response forbidden fault, h, h)
 
-  -- none does, and the call is no execute
+  -- none refuses, and the call is no execute
   pub comm-closes : isSuccess (requestCode a (length memory) forbidden) ≡ true → (a .operation ≡ 1 → ⊥) → commOf s a memory response forbidden fault ≡ closedStep memory
   unfolding commOf effectOf onSuccess isExecute isSuccess
   comm-closes h n = rw (comm-then a memory response forbidden fault, h, ne-eqb (a .operation) 1 n)
 
-  -- none does, and H_RESOURCE decides
+  -- none refuses, and H_RESOURCE decides
   comm-execute : isSuccess (requestCode a (length memory) forbidden) ≡ true → a .operation ≡ 1 →
       commOf s a memory response forbidden fault ≡ effectOf (resourceCheck a response fault) s a memory response
   unfolding commOf onSuccess isExecute
@@ -44,7 +44,7 @@ module _ (s : TpmSession) (a : Arguments) (memory response : List ℕ) (forbidde
   unfolding resourceCheck returnsIf either effectOf isSuccess isExecute
   comm-executes h e f l = comm-execute h e ∙ rw (f, le-ltb (a .outsize) (length response) l, eq-eqb (a .operation) 1 e)
 
-  -- as the code leaves it: a memory that is the response over the one at entry
+  -- as the code leaves it: the memory at entry, overwritten by the response
   pub comm-leaves : (left : List ℕ) → left ≡ splice (a .outbuffer) response memory → isSuccess (requestCode a (length memory) forbidden) ≡ true → a .operation ≡ 1 → fault ≡ false → length response ≤ a .outsize →
       record { code = Success; r4 = length response; session = Open; memory = left } ≡ commOf s a memory response forbidden fault
   unfolding executedStep

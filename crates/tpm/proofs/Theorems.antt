@@ -18,19 +18,19 @@ use Rattle.tpm.proofs.Acts.{comm-refused, comm-reason, comm-accepted, c
 use Rattle.tpm.proofs.Runs.{run-open}
 use Rattle.tpm.proofs.Numbers.{codeNumbered, numbered-named}
 
--- one call, from any session, with any arguments, memory and response, whatever the platform says
+-- one call, from any session, for any arguments, memory and response, and any flags of the platform
 pub record CommTheorems (s : TpmSession) (a : Arguments) (memory response : List ℕ) (forbidden fault : Bool) : Type 0 where
-  -- "A refused call changes no memory or session."
+  -- TP6: "A refused call changes no memory or session."
   pub refused-changes-nothing : isSuccess (commOf s a memory response forbidden fault .code) ≡ false → Unchanged s memory (commOf s a memory response forbidden fault)
-  -- "Refusals, in order: ..": each code comes where 02 gives it and no refusal before it applies
+  -- TP3: "Refusals, in order: ..": each code comes for 02's reason, and no earlier reason holds
   pub refused-with-reason : Reason a memory response forbidden fault (commOf s a memory response forbidden fault .code)
   -- no other call is refused
   pub accepted-otherwise : Accepts a memory response forbidden fault → commOf s a memory response forbidden fault .code ≡ Success
-  -- "The response comes from the platform in a second slice and is written at the output address; r4 is its length": no other byte
+  -- TP4: "The response comes from the platform in a second slice and is written at the output address; r4 is its length": no other byte
   -- changes. "execute opens one if none is open"
   pub execute-writes-response-only : commOf s a memory response forbidden fault .code ≡ Success → a .operation ≡ 1 →
       Written (a .outbuffer) memory response (commOf s a memory response forbidden fault)
-  -- r4 is "0 for close"; "A closed session closes again without complaint"
+  -- TP5: r4 is "0 for close"; "A closed session closes again without complaint"
   pub close-closes : forbidden ≡ false → a .operation ≡ 2 → (commOf s a memory response forbidden fault .code ≡ Success) × Unchanged None memory (commOf s a memory response forbidden fault)
 
 pub comm-theorems : (s : TpmSession) (a : Arguments) (memory response : List ℕ) (forbidden fault : Bool) → CommTheorems s a memory response forbidden fault
@@ -43,13 +43,13 @@ comm-theorems s a memory response forbidden fault =
       close-closes = comm-closed s a memory response forbidden fault;
     }
 
--- "A closed session closes again without complaint; execute opens one if none is open." Over any sequence of calls, from any session:
--- it is open exactly if the last operation that was accepted is execute, or none was accepted and it was open at the start.
+-- TP9: "A closed session closes again without complaint; execute opens one if none is open." Over any sequence of calls, from any session: it is open
+-- exactly if the last accepted operation is execute, or no call was accepted and it was open at the start.
 pub open-exactly : (s : TpmSession) (xs : List CommCall) → OpenExactly s xs
 open-exactly = run-open
 
--- "The request can be asked for as its part of the first slice, empty for close or where a check before H_RESOURCE refuses.": its part
--- for an execute that the platform allows with both buffers in place, empty for any other call
+-- TP7: "The request can be asked for as its part of the first slice, empty for close or where a check before H_RESOURCE refuses.": its part for an execute
+-- that the platform allows with both buffers in place, empty for any other call
 pub record RequestTheorems (a : Arguments) (memory : List ℕ) (forbidden : Bool) : Type 0 where
   pub request-is-its-part : Reached a forbidden → Placed a (length memory) → tpmRequest a memory forbidden ≡ part (a .inbuffer) (a .insize) memory
   pub request-is-empty : (Reached a forbidden → Placed a (length memory) → ⊥) → tpmRequest a memory forbidden ≡ []
@@ -59,6 +59,6 @@ pub request-theorems : (a : Arguments) (memory : List ℕ) (forbidden : Bool) �
 request-theorems a memory forbidden =
     record { request-is-its-part = request-is a memory forbidden; request-is-empty = request-none a memory forbidden; request-is-placed = request-spanned a memory forbidden }
 
--- "Answers are by name": each has a number of its own, so r3 names it, and 0 is H_SUCCESS alone
+-- "Answers are by name": each code has its own number, so r3 identifies it, and only 0 is H_SUCCESS
 pub numbers-differ : (j k : ReturnCode) → hcallNumber j ≡ hcallNumber k → j ≡ k
 numbers-differ j k e = sym (numbered-named j) ∙ ap codeNumbered e ∙ numbered-named k

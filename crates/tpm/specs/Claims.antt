@@ -1,4 +1,4 @@
--- What is proved of one call of H_TPM_COMM, said without its chain of checks. Quotes are from 02, E9, or 003. Assumes nothing.
+-- What is proved of one call of H_TPM_COMM, without its chain of checks. Quotes are from 02, E9, or 003. Assumes nothing.
 use Prim.Native.Nat.{ℕ, _+_, _≤_, _<_}
 use mathlib.Core.Path.{_≡_}
 use mathlib.Core.Bool.{Bool, true, false}
@@ -14,12 +14,12 @@ use Rattle.tpm.specs.declared.TpmSession.the-variants.{Open}
 use Rattle.tpm.specs.Comm.{CommStep}
 
 -- ---- when a call is accepted
--- a buffer that begins inside a memory of n bytes and ends within it
+-- a buffer that starts inside a memory of `n` bytes and ends within it
 pub record Within (start size n : ℕ) : Type 0 where
   pub begins : start < n
   pub ends : start + size ≤ n
 
--- "both buffers lie inside guest memory", of the sizes that 003 allows: "Must be less than or equal to 4KB", "Must be at least 4KB"
+-- "both buffers lie inside guest memory", with sizes that 003 allows: "Must be less than or equal to 4KB", "Must be at least 4KB"
 pub record Placed (a : Arguments) (n : ℕ) : Type 0 where
   pub input : Within (a .inbuffer) (a .insize) n
   pub output : Within (a .outbuffer) (a .outsize) n
@@ -33,7 +33,7 @@ pub record Executes (a : Arguments) (memory response : List ℕ) (fault : Bool) 
   pub works : fault ≡ false
   pub room : length response ≤ a .outsize
 
--- access is allowed, and the call is a close or such an execute
+-- access is allowed, and the call is a close or an execute as above
 pub record Accepts (a : Arguments) (memory response : List ℕ) (forbidden fault : Bool) : Type 0 where
   pub allowed : forbidden ≡ false
   pub kind : (a .operation ≡ 2) ⊎ Executes a memory response fault
@@ -44,7 +44,7 @@ pub record Reached (a : Arguments) (forbidden : Bool) : Type 0 where
   pub allowed : forbidden ≡ false
   pub execute : a .operation ≡ 1
 
--- a buffer that begins inside the memory, of a size that is unfit by itself or past the memory's end
+-- a buffer that starts inside the memory, with a size that is unfit by itself or reaches past the memory's end
 pub record BadSize (unfit : Type 0) (start size n : ℕ) : Type 0 where
   pub begins : start < n
   pub bad : unfit ⊎ (n < start + size)
@@ -54,6 +54,7 @@ pub record InputPlaced (a : Arguments) (n : ℕ) : Type 0 where
   pub input : Within (a .inbuffer) (a .insize) n
   pub short : a .insize ≤ 4096
 
+-- the condition of each code
 abbrev pub Reason : Arguments → List ℕ → List ℕ → Bool → Bool → ReturnCode → Type 0
 Reason a memory response forbidden fault Success = Accepts a memory response forbidden fault
 Reason a memory response forbidden fault Function = forbidden ≡ true
@@ -64,14 +65,14 @@ Reason a memory response forbidden fault P4 = Reached a forbidden × InputPlaced
 Reason a memory response forbidden fault P5 = Reached a forbidden × InputPlaced a (length memory) × BadSize (a .outsize < 4096) (a .outbuffer) (a .outsize) (length memory)
 Reason a memory response forbidden fault Resource = Reached a forbidden × Placed a (length memory) × ((fault ≡ true) ⊎ (a .outsize < length response))
 
--- ---- what a call did
--- r4 is 0, and the session s and every byte of the memory are as they were
+-- ---- what a call does
+-- r4 is 0, and the session `s` and every byte of the memory are unchanged
 pub record Unchanged (s : TpmSession) (memory : List ℕ) (t : CommStep) : Type 0 where
   pub none : t .r4 ≡ 0
   pub session : t .session ≡ s
   pub memory-same : t .memory ≡ memory
 
--- r4 is the response's length, the session is open, the response stands at an address, and every byte before and behind it is as it was
+-- r4 is the length of the response, the session is open, the response is at address `at`, and every byte before and after it is unchanged
 pub record Written (at : ℕ) (memory response : List ℕ) (t : CommStep) : Type 0 where
   pub told : t .r4 ≡ length response
   pub session : t .session ≡ Open

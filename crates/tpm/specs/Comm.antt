@@ -19,12 +19,13 @@ use Rattle.tpm.specs.ReturnCodes.{isSuccess, returnsIf}
 unfoldable pub isExecute : ℕ → Bool
 isExecute operation = eqb operation 1
 
+-- operation 2
 unfoldable pub isClose : ℕ → Bool
 isClose operation = eqb operation 2
 
--- ---- the checks; the last argument is what those after them give
--- One buffer in a memory of n bytes, "starting at guest address 0": its start lies inside; its size is not unfit by itself; its end is
--- not past the memory's.
+-- ---- the checks; the last argument is the result of the checks after them
+-- One buffer in a memory of `n` bytes, "starting at guest address 0": its start is inside, its size is not unfit by itself, and its end is not past
+-- the memory's end.
 unfoldable pub bufferChecks : ReturnCode → ReturnCode → Bool → ℕ → ℕ → ℕ → ReturnCode → ReturnCode
 bufferChecks outside badsize unfit start size n rest =
     returnsIf (leb n start) outside
@@ -39,6 +40,7 @@ inputChecks a n rest = bufferChecks P2 P3 (ltb 4096 (a .insize)) (a .inbuffer) (
 abbrev pub outputChecks : Arguments → ℕ → ReturnCode → ReturnCode
 outputChecks a n rest = bufferChecks P4 P5 (ltb (a .outsize) 4096) (a .outbuffer) (a .outsize) n rest
 
+-- the checks of both buffers: the request's, then the output's
 unfoldable pub buffersChecks : Arguments → ℕ → ReturnCode → ReturnCode
 buffersChecks a n rest = inputChecks a n (outputChecks a n rest)
 
@@ -46,7 +48,7 @@ buffersChecks a n rest = inputChecks a n (outputChecks a n rest)
 unfoldable pub resourceCheck : Arguments → List ℕ → Bool → ReturnCode
 resourceCheck a response fault = returnsIf (either fault (ltb (a .outsize) (length response))) Resource Success
 
--- "Refusals, in order: H_FUNCTION if the platform forbids access; H_PARAMETER for an operation other than 1 or 2; the rest for execute
+-- TP3: "Refusals, in order: H_FUNCTION if the platform forbids access; H_PARAMETER for an operation other than 1 or 2; the rest for execute
 -- only"
 unfoldable pub callChecks : Arguments → Bool → ReturnCode → ReturnCode
 callChecks a forbidden execute =
@@ -54,11 +56,11 @@ callChecks a forbidden execute =
     (returnsIf (not (either (isExecute (a .operation)) (isClose (a .operation)))) Parameter
     (cond (isExecute (a .operation)) execute Success))
 
--- those before H_RESOURCE, in a memory of n bytes
+-- the checks before H_RESOURCE, in a memory of `n` bytes
 unfoldable pub requestCode : Arguments → ℕ → Bool → ReturnCode
 requestCode a n forbidden = callChecks a forbidden (buffersChecks a n Success)
 
--- all of them
+-- all checks
 unfoldable pub commCode : Arguments → List ℕ → List ℕ → Bool → Bool → ReturnCode
 commCode a memory response forbidden fault = callChecks a forbidden (buffersChecks a (length memory) (resourceCheck a response fault))
 
@@ -70,38 +72,39 @@ pub record CommStep : Type 0 where
   pub session : TpmSession
   pub memory : List ℕ
 
--- what the function returns, with the memory at exit
+-- what the function returns, and the memory at exit
 abbrev pub stepLeft : Returned → List ℕ → CommStep
 stepLeft r memory = record { code = r .code; r4 = r .r4; session = r .session; memory = memory }
 
--- "The response .. is written at the output address; r4 is its length"; "execute opens one if none is open"
+-- TP4: "The response .. is written at the output address; r4 is its length"; "execute opens one if none is open"
 unfoldable pub executedStep : Arguments → List ℕ → List ℕ → CommStep
 executedStep a memory response = record { code = Success; r4 = length response; session = Open; memory = splice (a .outbuffer) response memory }
 
--- r4 is "0 for close"; "A closed session closes again without complaint"
+-- TP5: r4 is "0 for close"; "A closed session closes again without complaint"
 unfoldable pub closedStep : List ℕ → CommStep
 closedStep memory = record { code = Success; r4 = 0; session = None; memory = memory }
 
--- "A refused call changes no memory or session."
+-- TP6: "A refused call changes no memory or session."
 unfoldable pub refusedStep : ReturnCode → TpmSession → List ℕ → CommStep
 refusedStep k s memory = record { code = k; r4 = 0; session = s; memory = memory }
 
--- what follows from the code
+-- the effect of a call with return code `k`
 unfoldable pub effectOf : ReturnCode → TpmSession → Arguments → List ℕ → List ℕ → CommStep
 effectOf k s a memory response = cond (isSuccess k) (cond (isExecute (a .operation)) (executedStep a memory response) (closedStep memory)) (refusedStep k s memory)
 
+-- a call: its code by all checks, then its effect
 unfoldable pub commOf : TpmSession → Arguments → List ℕ → List ℕ → Bool → Bool → CommStep
 commOf s a memory response forbidden fault = effectOf (commCode a memory response forbidden fault) s a memory response
 
 -- ---- the request
--- an execute that the checks before H_RESOURCE let pass
+-- whether there is a request: an execute that passes the checks before H_RESOURCE
 unfoldable pub hasRequest : Arguments → ℕ → Bool → Bool
 hasRequest a n forbidden = both (isExecute (a .operation)) (isSuccess (requestCode a n forbidden))
 
--- "The request can be asked for as its part of the first slice, empty for close or where a check before H_RESOURCE refuses."
+-- TP7: "The request can be asked for as its part of the first slice, empty for close or where a check before H_RESOURCE refuses."
 unfoldable pub tpmRequest : Arguments → List ℕ → Bool → List ℕ
 tpmRequest a memory forbidden = cond (hasRequest a (length memory) forbidden) (part (a .inbuffer) (a .insize) memory) []
 
--- where it lies in a memory of n bytes; offset and length are 0 where it is empty
+-- offset and length of the request in a memory of `n` bytes; both 0 if there is no request
 unfoldable pub tpmRequestSpan : Arguments → ℕ → Bool → Span
 tpmRequestSpan a n forbidden = cond (hasRequest a n forbidden) (spanAt (a .inbuffer) (a .insize)) noSpan

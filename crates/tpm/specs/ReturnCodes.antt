@@ -15,6 +15,7 @@ hcallNumber P3 = negsuc 55
 hcallNumber P4 = negsuc 56
 hcallNumber P5 = negsuc 57
 
+-- whether the code is H_SUCCESS
 unfoldable pub isSuccess : ReturnCode → Bool
 isSuccess Success = true
 isSuccess Function = false
@@ -25,7 +26,7 @@ isSuccess P3 = false
 isSuccess P4 = false
 isSuccess P5 = false
 
--- a check: this code if the test holds, else what the checks after it give
+-- a check: code `k` if the test holds, otherwise the result of the checks after it
 unfoldable pub returnsIf : Bool → ReturnCode → ReturnCode → ReturnCode
 returnsIf true k rest = k
 returnsIf false k rest = rest

@@ -1,5 +1,5 @@
-// H_TPM_COMM, the hypervisor's side: a guest sends a request to a TPM and gets the response, or closes its TPM session. The guest
-// memory is lent from guest address 0 on, so a guest physical address is an offset into it.
+// H_TPM_COMM, the hypervisor's side: a guest sends a request to a TPM and gets the response, or closes its TPM session. The guest memory is lent from
+// guest address 0 on, so a guest physical address is an offset into it.
 use words::Span;
 ghost use mathlib.Core.Path.{_≡_};
 ghost use lib.ListN.{length};
@@ -8,7 +8,7 @@ ghost use Rattle.tpm.specs.declared.TpmSession.the-variants.{None};
 ghost use Rattle.tpm.specs.ReturnCodes.{hcallNumber, isSuccess};
 ghost use Rattle.tpm.specs.Comm.{bufferChecks, buffersChecks, requestCode, stepLeft, commOf, tpmRequest, tpmRequestSpan};
 
-// The return codes of 003, less their H_.
+// The return codes of 003, without their H_.
 pub enum ReturnCode {
     Success,
     Function,
@@ -27,6 +27,7 @@ pub enum TpmSession {
 }
 
 impl TpmSession {
+    // No session.
     pub fn none() -> Self
         ensures { λ r. ⌜ r ≡ None ⌝ }
     {
@@ -41,7 +42,7 @@ pub struct Returned {
     pub session: TpmSession,
 }
 
-// The arguments of 003, r4 to r8: the operation (1 execute, 2 close), where the request is and where the response goes.
+// The arguments of 003, r4 to r8: the operation (1 execute, 2 close), address and size of the request, address and size of the output.
 pub struct Arguments {
     pub operation: u64,
     pub inbuffer: u64,
@@ -50,7 +51,7 @@ pub struct Arguments {
     pub outsize: u64,
 }
 
-// A return code as r3 has it.
+// The number of a return code, as in r3.
 pub fn hcall_number(code: ReturnCode) -> i64
     ensures { λ r. ⌜ r ≡ hcallNumber code ⌝ }
 {
@@ -66,6 +67,7 @@ pub fn hcall_number(code: ReturnCode) -> i64
     }
 }
 
+// Whether the code is H_SUCCESS.
 pub fn is_success(code: ReturnCode) -> bool
     ensures { λ r. ⌜ r ≡ isSuccess code ⌝ }
 {
@@ -81,8 +83,8 @@ pub fn is_success(code: ReturnCode) -> bool
     }
 }
 
-// The checks of one buffer in a memory of len bytes: its start, then its size, which the caller may know to be unfit by itself, then
-// its end. No sum is made: it might wrap.
+// Checks one buffer in a memory of `len` bytes: its start, then its size (`unfit` if the caller rejects it by itself), then its end. Subtracts,
+// because the sum could overflow.
 fn buffer_check(
     outside: ReturnCode,
     badsize: ReturnCode,
@@ -105,7 +107,7 @@ fn buffer_check(
     ReturnCode::Success
 }
 
-// The checks of the request's buffer, then those of the output's.
+// Checks the request's buffer, then the output's.
 fn buffers_check(asked: Arguments, n: u64) -> ReturnCode
     ensures { λ r. ⌜ r ≡ buffersChecks asked n ReturnCode.Success ⌝ }
 {
@@ -139,15 +141,15 @@ fn request_check(asked: Arguments, len: u64, forbidden: bool) -> ReturnCode
     buffers_check(asked, len)
 }
 
+// Bundles what a call returns.
 fn outcome(code: ReturnCode, r4: u64, session: TpmSession) -> Returned
     ensures { λ r. ⌜ (r .code ≡ code) × (r .r4 ≡ r4) × (r .session ≡ session) ⌝ }
 {
     Returned { code, r4, session }
 }
 
-// H_TPM_COMM. Execute writes the response that the platform lends at outbuffer and opens a session if there is none; r4 is the
-// response's length. Close closes the session. A refused call changes nothing. Look at the request before this call: the response may
-// be written over it.
+// H_TPM_COMM. Execute writes the platform's response at `outbuffer` and opens a session unless one is open; r4 is the length of the response. Close
+// closes the session. A refused call changes nothing. Read the request before this call: the response may overwrite it.
 pub fn comm(
     session: TpmSession,
     asked: Arguments,
@@ -179,7 +181,7 @@ pub fn comm(
     outcome(ReturnCode::Success, written, TpmSession::Open)
 }
 
-// Where the request of an execute lies in the memory. There is none for close, or where a check before H_RESOURCE refuses.
+// The offset and length of an execute's request in the memory; both 0 for close, or if a check before H_RESOURCE refuses.
 pub fn request_place(asked: Arguments, memory: &[u8], forbidden: bool) -> Span
     ensures { λ r. ⌜ r ≡ tpmRequestSpan asked (length (now (memory .entry))) forbidden ⌝ }
 {
@@ -194,7 +196,7 @@ pub fn request_place(asked: Arguments, memory: &[u8], forbidden: bool) -> Span
     words::span_at(asked.inbuffer as usize, asked.insize as usize)
 }
 
-// The request of an execute, as its part of the memory; empty where there is none.
+// The request of an execute, as a slice of the memory; empty for close, or if a check before H_RESOURCE refuses.
 pub fn request(asked: Arguments, memory: &[u8], forbidden: bool) -> &[u8]
     ensures { λ r. ⌜ now r ≡ tpmRequest asked (now (memory .entry)) forbidden ⌝ }
     ensures { λ r. ⌜ r .ptr ≡ onFrom (memory .entry .ptr) (tpmRequestSpan asked (length (now (memory .entry))) forbidden .at) ⌝ }

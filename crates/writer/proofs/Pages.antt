@@ -1,4 +1,4 @@
--- The page made in the order of its addresses: these bytes, then what was there, and zero at the end. Assumes nothing.
+-- The page made in address order: the new bytes, then the old ones, and zero at the end. Assumes nothing.
 use Prim.Native.Nat.{ℕ, suc, _+_, _-_, _*_, min, _≤_, _<_}
 use mathlib.Core.Path.{_≡_, refl, sym, ap, _∙_}
 use mathlib.Core.List.{List, [], _∷_, _++_, append-assoc, append-nil}
@@ -20,8 +20,8 @@ use Rattle.writer_rules.specs.Write.{descriptor, arrayAddress, pointTo, platWor
 use Rattle.writer.specs.Steps.{sectionOn, arraysOn}
 use Rattle.writer_rules.proofs.Given.{desc-length}
 
--- ---- these bytes, then the page as it was
--- bytes laid at once after those that are there
+-- ---- the new bytes, then the page as it was
+-- bytes placed directly after those already written
 bytes-more : (xs ys p : List ℕ) → length p ≡ 4096 → length xs + length ys ≤ 4096 → laid (length xs) ys (splice 0 xs p) ≡ splice 0 (xs ++ ys) p
 bytes-more xs ys p e h =
     let l : length (splice 0 xs p) ≡ length p = length-splice 0 xs p (omega arith) in
@@ -51,8 +51,8 @@ mark-3 : length endMark ≡ 3
 unfolding endMark
 mark-3 = refl
 
--- ---- zero behind them
--- a part lent from an offset on, and cleared
+-- ---- zeros after them
+-- a slice from an offset on, cleared
 cleared : (at : ℕ) (s : List ℕ) → at ≤ length s → take at s ++ (replicate (length (take (length s - at) (drop at s))) 0 ++ drop (length s - at) (drop at s)) ≡ take at s ++ replicate (length s - at) 0
 cleared at s h =
     let p : length (drop at s) ≤ length s - at = omega (arith, length-drop at s) in
@@ -65,7 +65,7 @@ filled-back at bs p s e h f g =
     let l : length s ≡ 4096 = ap length g ∙ length-splice 0 bs p (omega arith) ∙ e in
     cleared at s (omega arith) ∙ rw (l, g, f, take-append-seam)
 
--- the end mark of the fields is of the zeros behind them
+-- the end mark is part of the zeros after the fields
 filled-end : (ys : List ℕ) → length ys + 3 ≤ 4096 → filled ys ≡ filled (ys ++ endMark)
 unfolding filled endMark
 filled-end ys h =
@@ -105,7 +105,7 @@ headTo base v d k = v ∷ platWord base v d ∷ joined (min k (sectionCount v)) 
 unfoldable offset : ℕ → Description → ℕ → ℕ
 offset v d k = core v + 8 * length (joined k (d .lists))
 
--- p is the page that is written over
+-- p is the page that is overwritten
 module _ (base v : ℕ) (d : Description) (p : List ℕ) (whole : length p ≡ 4096) where
   head-length : (k : ℕ) → length (headTo base v d k) ≡ 2 + 3 * min k (sectionCount v)
   unfolding headTo descriptorAt
@@ -166,7 +166,7 @@ module _ (base v : ℕ) (d : Description) (p : List ℕ) (whole : length p ≡ 4
       let h4 : p4 ≡ splice 0 (bytesOf (headTo base v d 3)) p = e4 ∙ head-more 2 c p3 (omega arith) g2 h3 in
       e5 ∙ head-more 3 e p4 (omega arith) g3 h4 ∙ ap (λ (ws : List ℕ). splice 0 (bytesOf ws) p) head-all
 
-  -- ---- the arrays behind it
+  -- ---- the arrays after the core
   core-bytes : 8 * length (coreWords base v d) ≡ core v
   unfolding core
   core-bytes = rw (← head-all, head-length 4) (omega (arith, section-count-most v))
@@ -220,7 +220,7 @@ module _ (base v : ℕ) (d : Description) (p : List ℕ) (whole : length p ≡ 4
     pub fields-in : behind + length (d .fields) ≤ 4096
     fields-in = omega (arith, marked-in, marked-more (d .fields))
 
-    -- the fields behind them, then zero
+    -- the fields after the arrays, then zero
     pub page-law : (end : ℕ) (r s : List ℕ) → r ≡ splice 0 (bytesOf (coreWords base v d ++ joined 4 (d .lists))) p → s ≡ laid behind (d .fields) r → end ≡ behind + length (d .fields) →
         take end s ++ (replicate (length (take (length s - end) (drop end s))) 0 ++ drop (length s - end) (drop end s)) ≡ pageOf base v d
     unfolding pageOf platBytes

@@ -1,4 +1,4 @@
--- The writer's answer, return by return, by the tests and sums as they were told. Assumes nothing.
+-- The writer's answer, return by return, from the results of the tests and the sums. Assumes nothing.
 use Prim.Native.Nat.{ℕ, _≤_}
 use mathlib.Core.Path.{_≡_, refl, sym, _∙_}
 use mathlib.Core.Bool.{Bool, true, false}
@@ -25,7 +25,7 @@ use Rattle.writer_rules.specs.declared.Wrote.the-variants.{Page, Place, Edition
 use Rattle.writer_rules.proofs.Checks.{w-place, w-edition, w-lists, w-fields, w-late, w-room, w-made, wrote-not, wrote-page}
 
 module _ (base v : ℕ) (a b c d fs page : List ℕ) where
-  -- what is said of an answer, with the page at exit
+  -- the claim about an answer and the page at exit
   abbrev Leaves : Wrote → List ℕ → Type 0
   Leaves r after =
       (madeBy after r ≡ writeLists base v a b c d fs page) × ((after ≡ pageAfter page (writeLists base v a b c d fs page)) × Yes (descriptionFits (descriptionOf a b c d fs)))
@@ -64,7 +64,7 @@ module _ (base v : ℕ) (a b c d fs page : List ℕ) where
               unfolding descriptionOf
               told-made h after g = wrote-page page after (pageOf base v (descriptionOf a b c d fs)) _ (w-made base (length page) v (descriptionOf a b c d fs) (sym cp ∙ hp) (sym ce ∙ he) (sound-lists v a b c d t (sym cs ∙ hs)) (sym ck ∙ hk) (sym cl ∙ hl) (sym cm ∙ h)) g y
 
-  -- what the page is made under
+  -- the conditions under which the page is made
   pub told-ready : (p : Bool) → p ≡ placeOk base (length page) → p ≡ true → (s : Sums) → s ≡ sumsOf v a b c d → (t : Totals) → s ≡ Sound t → (m : Bool) → m ≡ leb (used v (descriptionOf a b c d fs)) 4096 → m ≡ true →
       (base ≤ 0x10_0000_0000_0000) × (length page ≡ 4096) × (used v (descriptionOf a b c d fs) ≤ 4096) × (t ≡ totalsOf a b c d)
   told-ready p cp hp s cs t hs m cm hm =

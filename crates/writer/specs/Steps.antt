@@ -9,11 +9,11 @@ use Rattle.words.specs.Word.{bytesOf, laid}
 use Rattle.versions.specs.Edition.{sectionCount}
 use Rattle.writer_rules.specs.Write.{descriptor}
 
--- the three words of section k, where the edition has it
+-- the three words of section `k`, if the edition has it
 unfoldable pub sectionOn : ℕ → ℕ → ℕ → List ℕ → List ℕ → List ℕ
 sectionOn v k p ws page = cond (ltb k (sectionCount v)) (laid (16 + 24 * k) (bytesOf (descriptor k p ws)) page) page
 
--- the arrays one behind the other, from an offset on
+-- the arrays one after another, from an offset on
 unfoldable pub arraysOn : ℕ → (ℕ → List ℕ) → List ℕ → List ℕ
 arraysOn at l page =
     let b = at + 8 * length (l 0) in

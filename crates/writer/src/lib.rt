@@ -1,4 +1,4 @@
-// The manifest writer: it judges the description, then makes the page.
+// The manifest writer: checks the description, then makes the page.
 use lists::Sums;
 use lists::Totals;
 use versions::Edition;
@@ -15,7 +15,7 @@ ghost use Rattle.writer_rules.specs.Write.{descriptor, platWord, coreWords, pag
 ghost use Rattle.writer_rules.specs.Wrote.{writeLists, madeBy, pageAfter};
 ghost use Rattle.writer.specs.Steps.{sectionOn, arraysOn};
 
-// Count, pointer and checksum of section k with a list at an address, given the sum of its words; zeros for an empty list.
+// Returns count, pointer and checksum of section `k` with its list at `pointer`; `total` is the sum of its words. Zeros for an empty list.
 fn section_words(k: usize, pointer: u64, words: &[u64], total: u64) -> [u64; 3]
     requires { ⌜ total ≡ sum (now words) % 2 ^ 64 ⌝ }
     ensures { λ r. ⌜ r ≡ descriptor k pointer (now (words .entry)) ⌝ }
@@ -29,7 +29,7 @@ fn section_words(k: usize, pointer: u64, words: &[u64], total: u64) -> [u64; 3]
     [count, pointer, std::num::wrapping_sub_u64(0, all)]
 }
 
-// Puts the words of section k where the edition has it, and answers the address behind its array.
+// Writes the words of section `k` if the edition has it. Returns the address after its array.
 fn put_section(page: &mut [u8], e: Edition, k: u8, pointer: u64, words: &[u64], total: u64) -> u64
     requires { ⌜ (pointer + 8 * length (now words) < 0x1_0000_0000_0000_0000) × (total ≡ sum (now words) % 2 ^ 64) ⌝ }
     ensures { λ r. ⌜ (r ≡ pointer + 8 * length (now (words .entry))) × (now (page .exit) ≡ sectionOn (e .minor) k pointer (now (words .entry)) (now (page .entry))) ⌝ }
@@ -43,7 +43,7 @@ fn put_section(page: &mut [u8], e: Edition, k: u8, pointer: u64, words: &[u64], 
     next
 }
 
-// Puts an array at an offset, and answers the offset behind it.
+// Writes an array at offset `at`. Returns the offset after it.
 fn put_array(page: &mut [u8], at: usize, words: &[u64]) -> usize
     requires { ⌜ at + 8 * length (now words) < 0x1_0000_0000_0000_0000 ⌝ }
     ensures { λ r. ⌜ (r ≡ at + 8 * length (now (words .entry))) × (now (page .exit) ≡ laid at (bytesOf (now (words .entry))) (now (page .entry))) ⌝ }
@@ -52,7 +52,7 @@ fn put_array(page: &mut [u8], at: usize, words: &[u64]) -> usize
     at + 8 * words.len()
 }
 
-// Puts the fields at an offset, and answers the offset behind them. Their end mark is of the zeros that follow.
+// Writes the fields at offset `at`. Returns the offset after them. Their end mark is part of the zeros that follow.
 fn put_fields(page: &mut [u8], at: usize, fields: &[u8]) -> usize
     requires { ⌜ (at + length (now fields) ≤ length (now page)) × (length (now page) ≡ 4096) ⌝ }
     ensures { λ r. ⌜ (r ≡ at + length (now (fields .entry))) × (now (page .exit) ≡ laid at (now (fields .entry)) (now (page .entry))) ⌝ }
@@ -61,7 +61,7 @@ fn put_fields(page: &mut [u8], at: usize, fields: &[u8]) -> usize
     at + fields.len()
 }
 
-// The platform pointer: the address behind core and arrays, or 0 without fields.
+// The platform pointer: the address after core and arrays, or 0 if there are no fields.
 fn plat_pointer(
     base: u64,
     e: Edition,
@@ -82,7 +82,7 @@ fn plat_pointer(
     first + 8 * (count as u64)
 }
 
-// Puts the core over the page's start: version, padding, platform pointer, the sections' words.
+// Writes the core: version, padding, platform pointer and the words of the sections.
 fn put_core(
     base: u64,
     e: Edition,
@@ -111,7 +111,7 @@ fn put_core(
     put_section(page, e, 3, fourth, coh, totals.coh);
 }
 
-// Puts the arrays behind the core, in section order, and answers the offset behind them.
+// Writes the arrays after the core, in section order. Returns the offset after them.
 fn put_arrays(
     at: usize,
     dram: &[u64],
@@ -130,7 +130,7 @@ fn put_arrays(
     put_array(page, fourth, coh)
 }
 
-// Makes the whole page in the order of addresses: core, arrays, fields, zero behind them.
+// Makes the whole page in address order: core, arrays, fields, then zeros.
 fn put_page(
     base: u64,
     e: Edition,
@@ -154,9 +154,8 @@ fn put_page(
     words::clear(&mut page[end..]);
 }
 
-// Writes a manifest of an edition for a base into the lent page: exactly core, arrays and fields, and zero everywhere else. Refused by
-// the first check in 01's order, it leaves the page as it was. That the lists are of 64-bit words is promised for what is said of the
-// pages made (`written` in demand 3).
+// Writes the manifest of an edition for a base into the lent page: core, arrays and fields, and zero everywhere else. If a check refuses, in 01's
+// order, the page stays unchanged. The promise that the lists hold 64-bit words is a premise of `written` in demand 3.
 pub fn write(
     base: u64,
     edition: u64,

@@ -53,14 +53,14 @@ module _ (base n v : ℕ) (d : Description) where
             unfolding writeOf writerGate descriptionOk both
             w-made c = rw (h, g, a, t, b, c)
 
--- lent lists are of 64-bit words
+-- lent lists hold 64-bit words
 pub lists-fit : (a b c d fs : List ℕ) → ((i : ℕ) → Fits w64 (getD a i 0)) → ((i : ℕ) → Fits w64 (getD b i 0)) → ((i : ℕ) → Fits w64 (getD c i 0)) → ((i : ℕ) → Fits w64 (getD d i 0)) →
     Yes (descriptionFits (descriptionOf a b c d fs))
 unfolding descriptionFits descriptionOf four every both
 lists-fit a b c d fs e f g h =
     rw (words-below a (λ i. omega (arith, e i)), words-below b (λ i. omega (arith, f i)), words-below c (λ i. omega (arith, g i)), words-below d (λ i. omega (arith, h i)))
 
--- a refusal leaves the page as it was; else it is the page made; f is what holds in each case
+-- after a refusal the page is unchanged, otherwise it is the page made; f gives what holds in each case
 pub wrote-not : {F : Type 0} (r : Wrote) (n : ℕ) (page : List ℕ) (m : Made) → madeBy page r ≡ no-page n → m ≡ no-page n → F →
     (madeBy page r ≡ m) × ((page ≡ pageAfter page m) × F)
 unfolding pageAfter

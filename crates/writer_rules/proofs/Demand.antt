@@ -23,7 +23,7 @@ use Rattle.writer_rules.specs.Unrefused.{NoneWithdrawn}
 use Rattle.writer_rules.proofs.Round.{round}
 use Rattle.writer_rules.proofs.Makes.{none-count}
 
--- a list without a withdrawn field is shown as it is
+-- a list without a withdrawn field is shown unchanged
 shown-raw : (fs : List Field) → count 3 fs ≡ 0 → shownFields fs ≡ map (λ f. raw (f .tag) (f .value)) fs
 unfolding count shownFields shownField
 shown-raw [] h = refl
@@ -47,7 +47,7 @@ demand3 = record {
   unread = unnamed;
 }
 
--- The third statement, of a call of `write` that made a page: its premises are what `write` promises, of the answer and of the lists lent.
+-- The third statement for a call of `write` that made a page. Its premises are the promises of `write` about the answer and the lent lists.
 pub written-lent : (base v : ℕ) (dram console ncoh coh fields before after : List ℕ) →
     madeBy after Page ≡ writeLists base v dram console ncoh coh fields before → Yes (descriptionFits (descriptionOf dram console ncoh coh fields)) →
     (r : ℕ) → Yes (editionOk r) →

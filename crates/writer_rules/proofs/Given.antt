@@ -1,4 +1,4 @@
--- What a page says of one section and of the platform data that the writer makes, by itself. Assumes nothing.
+-- What the reader finds in one section and in the platform data that the writer makes, each by itself. Assumes nothing.
 use Prim.Native.Nat.{ℕ, zero, suc, _+_, _-_, _*_, _/_, _%_, _^_, _≤_, _<_}
 use mathlib.Core.Bool.{Bool, true, false≢true}
 use mathlib.Core.Path.{_≡_, refl, sym, ap, _∙_}
@@ -26,14 +26,14 @@ use Rattle.lists.specs.Description.{listOk, withMark}
 use Rattle.writer_rules.specs.Write.{neg, descriptor, pointTo, shownList}
 
 -- ---- one section
--- what a page says of the section that a list makes
+-- the section that the reader finds for a list
 unfoldable pub given : ℕ → ℕ → List ℕ → Sec
 given k p [] = mkSec 0 0 0 []
 given k p (w ∷ ws) =
     let c = length (w ∷ ws) / wordsPerEntry k in
     mkSec c p (neg (c + p + sum (w ∷ ws))) (bytesOf (w ∷ ws))
 
--- the checksum holds, and is a word
+-- the checksum holds and is below 2^64
 neg-zero : (x : ℕ) → (x + neg x) % 2 ^ 64 ≡ 0
 unfolding neg
 neg-zero x = omega arith
@@ -58,7 +58,7 @@ desc-words k p (w ∷ ws) h n =
     let c : length (w ∷ ws) / wordsPerEntry k < 2 ^ 64 = omega (arith, div-le-self (length (w ∷ ws)) (wordsPerEntry k)) in
     both-of _ _ (lt-ltb _ _ c) (both-of _ _ (lt-ltb _ _ h) (both-of _ _ (lt-ltb _ _ (neg-word _)) refl))
 
--- a list that the writer takes: whole entries, each within its rule
+-- a list that the writer accepts: whole entries, each within its rule
 module _ (v k : ℕ) (ws : List ℕ) (t : Yes (listOk v k ws)) where
   whole : wordsPerEntry k * (length ws / wordsPerEntry k) ≡ length ws
   unfolding listOk
@@ -93,7 +93,7 @@ module _ (v k p w : ℕ) (ws : List ℕ) (t : Yes (listOk v k (w ∷ ws))) where
   unfolding soundOf
   sound-given al = rw al (both-of _ _ (lt-ltb _ _ some-entry) (both-of _ _ refl (both-of _ _ (check-neg _ p (w ∷ ws)) (entries v k (w ∷ ws) t))))
 
--- what a page says of a section, by the words and the array that its list makes
+-- the section that the reader finds, by the words and the array that its list makes
 no-array : (base n : ℕ) (page : List ℕ) → 0 < base → arrayAt base page 0 n ≡ []
 unfolding arrayAt inPage both
 no-array base n page h = rw (lt-leb base 0 h)
@@ -111,7 +111,7 @@ sec-ok base v k p [] t a lo hi al = either-l _ _ (both-of _ _ refl (both-of _ _ 
 sec-ok base v k p (w ∷ ws) t a lo hi al =
     either-r _ _ (both-of _ _ (range-given v k p w ws t base lo hi) (rw (words-given v k p w ws t a) (sound-given v k p w ws t al)))
 
--- two sections' arrays stand apart
+-- the arrays of two sections do not overlap
 pub apart-of : (v i j p q : ℕ) (us ws : List ℕ) → Yes (listOk v j ws) → q + 8 * length ws ≤ p → Yes (apart (extent i (given i p us)) (extent j (given j q ws)))
 unfolding apart extent given mkSec size
 apart-of v i j p q [] ws t h = either-l _ _ (omega (arith, le-leb))
@@ -126,7 +126,7 @@ shown-list v k p (w ∷ ws) m t a =
     rw (words-given v k p w ws t a, shown-plain v k m (w ∷ ws), ne-eqb (length (w ∷ ws) / wordsPerEntry k) 0 (λ z. omega arith))
 
 -- ---- the platform data, with its fields at address a
--- what a page says of the fields
+-- the fields that the reader finds
 unfoldable pub foundGiven : List ℕ → Scanned
 foundGiven [] = ended [] 0
 foundGiven (b ∷ bs) = ended (fieldsTold (scanOf (b ∷ bs))) (length (b ∷ bs) + 3)
@@ -146,7 +146,7 @@ bare-told broken t = absurd (false≢true t)
 bare-told (ended fs n) t = absurd (false≢true t)
 bare-told (bare fs) t = refl
 
--- fields that may be told are read back behind their pointer
+-- fields that the writer accepts are read back at their pointer
 read-back : (b : ℕ) (bs zeros : List ℕ) → Yes (tellable (scanOf (b ∷ bs))) → scanOf (withMark (b ∷ bs) ++ zeros) ≡ foundGiven (b ∷ bs)
 unfolding withMark foundGiven
 read-back b bs zeros t = rw append-assoc (description-read (b ∷ bs) zeros _ (bare-told (scanOf (b ∷ bs)) t))
@@ -167,7 +167,7 @@ module _ (base a : ℕ) (pos : 0 < base) where
       let n = mark-length b bs in
       either-r _ _ (both-of _ _ (le-leb _ _ low) (both-of _ _ (omega (arith, lt-ltb)) refl))
 
-  -- the fields stand apart from an array before them
+  -- the fields do not overlap an array before them
   pub clear-made : (v k p : ℕ) (ws fs : List ℕ) → Yes (listOk v k ws) → p + 8 * length ws ≤ a → Yes (apart (platExtent (mkPlat (pointTo a fs) (foundGiven fs))) (extent k (given k p ws)))
   unfolding apart platExtent mkPlat pointTo foundGiven taken extent given mkSec size
   clear-made v k p ws [] t h = either-l _ _ (omega (arith, le-leb))

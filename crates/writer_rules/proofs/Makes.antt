@@ -1,5 +1,4 @@
--- When the writer makes a page, and which refusal it gives otherwise, each by plain facts. A writer that refuses everything fails here. Assumes
--- nothing.
+-- When the writer makes a page and which refusal it returns otherwise, as plain facts. A writer that refuses everything fails here. Assumes nothing.
 use Prim.Native.Nat.{ℕ, zero, suc, _+_, _-_, _*_, _/_, _%_, _≤_, _<_}
 use mathlib.Core.Path.{_≡_, refl}
 use mathlib.Core.Bool.{false}
@@ -200,7 +199,7 @@ room-only v d h = (
   λ e. room-at v 112 d (rw e (core-sizes .3)) h,
 )
 
--- ---- "A page is made when the writer does not refuse", and a refusal comes only where 01 gives it
+-- ---- "A page is made when the writer does not refuse", and the writer refuses only for 01's reasons
 module _ (base n v : ℕ) (d : Description) where
   pub makes : Unrefused base n v d → writeOf base n v d ≡ a-page (pageOf base v d)
   makes t =
@@ -208,7 +207,7 @@ module _ (base n v : ℕ) (d : Description) where
       w-made base n v d (place-acts base n (t .place)) (edition-of v (e .0) (e .1)) (lists-are v d (t .description)) (fields-are v d (t .description))
       (late-acts v d (t .late)) (le-leb (used v d) 4096 (room-acts v d e (t .room)))
 
-  -- of fields in bytes, as lent ones are
+  -- for fields in bytes, as lent ones are
   pub makes-only : (p : List ℕ) → Bytes (d .fields) → writeOf base n v d ≡ a-page p → Unrefused base n v d
   unfolding writeOf
   makes-only p b h =

@@ -1,4 +1,4 @@
--- What the writer makes, every reader shows. Assumes nothing.
+-- Every reader shows what the writer writes. Assumes nothing.
 use Prim.Native.Nat.{ℕ, suc, _+_, _-_, _*_, _%_, _^_, min, _≤_, _<_}
 use mathlib.Core.Bool.{Bool, true, false}
 use mathlib.Core.Path.{_≡_, refl, ap, _∙_}
@@ -39,7 +39,7 @@ pub record Fit (base v : ℕ) (d : Description) : Type 0 where
   pub small : Yes (descriptionFits d)
   pub room : used v d ≤ 4096
 
--- what a page says of the platform data
+-- the platform data that the reader finds
 unfoldable platGiven : ℕ → ℕ → Description → Plat
 platGiven base v d = mkPlat (platWord base v d) (foundGiven (d .fields))
 
@@ -68,7 +68,7 @@ module _ (base v : ℕ) (d : Description) (g : Fit base v d) where
   one : (k : ℕ) → k < sectionCount v → k < 4
   one k h = omega (arith, section-count-most v)
 
-  -- where an array stands
+  -- where an array starts
   place-low : (k : ℕ) → base + core v ≤ arrayAddress base v (d .lists) k
   unfolding arrayAddress
   place-low k = omega arith
@@ -99,7 +99,7 @@ module _ (base v : ℕ) (d : Description) (g : Fit base v d) where
       let t = g .top in
       desc-words k (arrayAddress base v (d .lists) k) (d .lists k) (omega arith) (omega arith)
 
-  -- where the fields stand: behind core and arrays
+  -- where the fields start: after core and arrays
   plat-low : base + core v ≤ arrayAddress base v (d .lists) 4
   plat-low = place-low 4
 
@@ -135,7 +135,7 @@ module _ (base v : ℕ) (d : Description) (g : Fit base v d) where
   unfolding pageOf filled used
   page-length = let r = g .room in simp (length-append, length-replicate, bytes-length) (omega arith)
 
-  -- what the page says of a section is what its list makes
+  -- the section that the reader finds is the one its list makes
   field : (k : ℕ) → k < sectionCount v → (j : ℕ) → j < 3 → wordAt (16 + 8 * j + 24 * k) (pageOf base v d) ≡ getD (descriptorAt base v (d .lists) k) j 0
   unfolding pageOf filled coreWords descriptorAt
   field k h j m =
@@ -164,7 +164,7 @@ module _ (base v : ℕ) (d : Description) (g : Fit base v d) where
       rw (field k h 0 (lit≤ tt), field k h 1 (lit≤ tt), field k h 2 (lit≤ tt))
       (sec-made base v k _ (d .lists k) (pageOf base v d) (ok k (one k h)) (g .positive) (place-low k) (place-end k (one k h)) (array k (one k h)))
 
-  -- what it says of the platform data
+  -- the same for the platform data
   plat-pointer : wordAt 8 (pageOf base v d) ≡ platWord base v d
   unfolding pageOf filled coreWords
   plat-pointer = rw (append-assoc, word-at 1 (pageWords base v d) _ page-words (omega arith))
@@ -243,7 +243,7 @@ writer-gate-page true true false d e p q h = absurd (no-made h)
 writer-gate-page true false c d e p q h = absurd (no-made h)
 writer-gate-page false b c d e p q h = absurd (no-made h)
 
--- what holds of a page that was made
+-- what holds for a page that was made
 pub made-fit : (base n v : ℕ) (d : Description) (p : List ℕ) → Yes (descriptionFits d) → writeOf base n v d ≡ a-page p →
     Fit base v d × Yes (placeOk base 4096) × Yes (editionOk v) × (pageOf base v d ≡ p)
 unfolding writeOf

@@ -18,7 +18,7 @@ pub sample : writeOf 0x80000000 4096 2 (descriptionOf (0x90000000 ∷ 0x10000000
 unfolding bank page writeOf writerGate pageOf filled coreWords descriptorAt arrayAddress descriptor neg platWord pointTo used platBytes withMark noneLate descriptionOk tellable isBare fieldsTold scanOf judged scanAll scan fieldsOk lengthsOk count listsOk listOk descriptionOf four placeOk sum entriesOk entryOk entryRule bankOk wordsPerEntry editionOk core sectionCount joined bytesOf leBytes every either both
 sample = refl
 
--- a board name and an empty field of tag 9, behind a core of 16 bytes
+-- a board name and an empty field of tag 9, after a core of 16 bytes
 abbrev told : List ℕ
 told = 1 ∷ 1 ∷ 0 ∷ 0x41 ∷ 9 ∷ 0 ∷ 0 ∷ []
 
@@ -50,7 +50,7 @@ pub sample-sections : writeOf 0x80000000 4096 4 (descriptionOf (0x90000000 ∷ 0
 unfolding writeOf writerGate pageOf filled coreWords descriptorAt arrayAddress descriptor neg platWord pointTo used platBytes withMark noneLate descriptionOk tellable isBare fieldsTold scanOf judged scanAll scan step push mkField numAt part leOf fieldsOk lengthsOk lengthOk count endMark listsOk listOk descriptionOf four placeOk sum entriesOk entryOk entryRule bankOk consoleOk flagsOk wordsPerEntry editionOk core sectionCount joined bytesOf leBytes every either both
 sample-sections = refl
 
--- W3: a field that is cut short, a tag 0, a name twice; W5: one byte more than fill the page with the end mark
+-- W3: a field that is cut short, a tag 0, a name twice; W5: one byte more than the page holds with the end mark
 pub sample-refused : (making (1 ∷ 2 ∷ 0 ∷ 0x41 ∷ []) ≡ no-page 3)
     × (making (0 ∷ 0 ∷ 0 ∷ []) ≡ no-page 3)
     × (making (1 ∷ 1 ∷ 0 ∷ 0x41 ∷ told) ≡ no-page 3)

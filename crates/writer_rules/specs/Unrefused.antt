@@ -1,5 +1,5 @@
--- When the writer refuses, and with which number: W1 to W5 as plain facts, with none of the tests and tables that the code is held to. n is the
--- lent page's length. Assumes nothing.
+-- When the writer refuses and with which number: W1 to W5 as plain facts, without the tests and tables that the code is proved against. `n` is the
+-- length of the lent page. Assumes nothing.
 use Prim.Native.Nat.{ℕ, _+_, _*_, _/_, _%_, _≤_, _<_}
 use mathlib.Core.Path.{_≡_}
 use mathlib.Core.List.{List}
@@ -48,7 +48,7 @@ RoomAfter s d =
 abbrev pub RoomFacts : ℕ → Description → Type 0
 RoomFacts v d = (v ≡ 1 → RoomAfter 16 d) × (v ≡ 2 → RoomAfter 40 d) × (v ≡ 3 → RoomAfter 64 d) × (v ≡ 4 → RoomAfter 112 d)
 
--- none of W1 to W5
+-- no refusal: all of W1 to W5 pass
 pub record Unrefused (base n v : ℕ) (d : Description) : Type 0 where
   pub place : PlaceFacts base n
   pub edition : EditionFacts v
@@ -56,7 +56,7 @@ pub record Unrefused (base n v : ℕ) (d : Description) : Type 0 where
   pub late : LateFacts v d
   pub room : RoomFacts v d
 
--- "Writer refusals, in order": each number where its facts fail and those before it hold
+-- WR3: "Writer refusals, in order": each number if its facts fail and all facts before it hold
 pub record Refuses (base n v : ℕ) (d : Description) : Type 0 where
   pub w1 : (PlaceFacts base n → ⊥) → writeOf base n v d ≡ no-page 1
   pub w2 : PlaceFacts base n → (EditionFacts v → ⊥) → writeOf base n v d ≡ no-page 2

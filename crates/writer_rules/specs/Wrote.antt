@@ -1,4 +1,4 @@
--- What the writer's enum stands for, with the lent page at exit. Assumes nothing.
+-- The enum `Wrote` and the lent page at exit, as an answer of `writeOf`. Assumes nothing.
 use Prim.Native.Nat.{ℕ}
 use mathlib.Core.List.{List}
 use lib.ListN.{length}

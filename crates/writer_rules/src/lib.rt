@@ -1,6 +1,7 @@
-// What the writer is: its definitions in specs/, and the laws and theorems on them in proofs/, demand 3 whole. The code is in `writer`.
+// The rules of the writer: definitions in specs/, and their laws and theorems in proofs/, including all of demand 3. The code is in `writer`.
 
-// A page was made, or why not: W1 the place, W2 the edition, W3 a list or the fields, W4 a section after the edition, W5 no room.
+// `Page` if a page was made, otherwise the refusal: `Place` (W1), `Edition` (W2), `Lists` (W3, a list or the fields), `Late` (W4, an entry of a
+// section after the edition), `Room` (W5).
 pub enum Wrote {
     Page,
     Place,

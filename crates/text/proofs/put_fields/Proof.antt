@@ -15,7 +15,7 @@ use native.Mathlib.Omega.{arith}
 use Rattle.text.proofs.put_fields.Statement.{statement}
 use Rattle.text.proofs.put_fields.Tie as tie
 
--- whatever lays the rest from here on lays all of it
+-- writing the fields from `cursor` on at `to` completes the text of all fields
 abbrev Inv-loop : tie.InvT-loop
 Inv-loop out₀ at page start to₀ cursor₀ out to cursor =
     (length out ≡ length out₀)
