@@ -13,6 +13,7 @@ use Rattle.codes.specs.declared.Answer.{Answer}
 use Rattle.codes.specs.declared.Gate.{Gate}
 use Rattle.codes.specs.declared.Gate.the-variants.{Stop, Go}
 
+-- the number of each code
 abbrev pub numberOf : Code → ℤ
 numberOf Ok = pos 0
 numberOf Unk = minus 1
@@ -26,12 +27,15 @@ unfoldable pub extended : ℤ → ℕ
 extended (pos n) = n
 extended (negsuc n) = 2 ^ 64 - suc n
 
+-- the code as x0 holds it
 unfoldable pub x0Of : Code → ℕ
 x0Of c = extended (numberOf c)
 
+-- the answer with code c, x1 and x2
 unfoldable pub answerOf : Code → ℕ → ℕ → Answer
 answerOf c x1 x2 = record { code = c; x0 = x0Of c; x1 = x1; x2 = x2 }
 
+-- whether the code is OK
 abbrev pub isOk : Code → Bool
 isOk Ok = true
 isOk Unk = false
@@ -40,6 +44,7 @@ isOk BadPas = false
 isOk Inval = false
 isOk Again = false
 
+-- not
 unfoldable pub unless : Bool → Bool
 unless true = false
 unless false = true
@@ -49,6 +54,7 @@ unfoldable pub fails : Bool → Code → Code → Code
 fails true c next = c
 fails false c next = next
 
+-- whether the boot record is up
 unfoldable pub isUp : Record → Bool
 isUp Fresh = false
 isUp (Up u) = true

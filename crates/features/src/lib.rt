@@ -15,7 +15,7 @@ pub struct Updated {
     pub work: Work,
 }
 
-// 0xC40001B4: returns feature register `index`, which has one bit: token signing is present.
+// 0xC40001B4: returns feature register `index` in x1. Register 0 is 1: token signing is present.
 pub fn features(state: Record, index: u64) -> Answer
     ensures { λ r. ⌜ r ≡ featuresOf state index ⌝ }
 {
