@@ -11,6 +11,6 @@ pub record ImageStep : Type 0 where
   pub page : List ℕ
   pub image : List ℕ
 
--- after an OK the next image is `done`; a refusal leaves the image unchanged, even if no queue has such an image
+-- after an OK the next image is `new`; a refusal leaves the image unchanged, even if no queue has such an image
 unfoldable pub imageStep : SigningStep → List ℕ → List ℕ → ImageStep
 imageStep s new image = record { answer = s .answer; page = s .page; image = ifOk (s .answer .code) new image }
