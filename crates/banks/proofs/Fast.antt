@@ -19,7 +19,7 @@ use Rattle.banks.specs.Fast.{noBank, granuleIn, bankAmong, bankOf, found
 use Rattle.banks.proofs.Passing.{Follows, follows-is, left, left-more, left-none}
 use Rattle.banks.proofs.Laws.{nowhere, cond-at, held, ok-ascends, ok-few, past-bank, no-granules, some-granules, falls, only-follows, only-granules, only-place, only-ok}
 
--- a bank of the record, with the granules before it: a granule in it is the record's
+-- a bank of the record, with the granules before it: a granule in that bank is the record's granule of the address
 abbrev pub SpanOf : Granules → BankSpan → Type 0
 SpanOf g b = (addr i : ℕ) → granuleIn b addr ≡ At i → granuleAt g (granuleCount g) addr ≡ At i
 

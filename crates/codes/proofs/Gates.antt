@@ -47,7 +47,7 @@ then-ok BadPas next h = absurd (false≢true (ap isOk h))
 then-ok Inval next h = absurd (false≢true (ap isOk h))
 then-ok Again next h = absurd (false≢true (ap isOk h))
 
--- two rows of which the first fails, and two of which the first passes
+-- two rows: the first fails, or the first passes
 pub then-stop : (k next j : Code) → k ≡ j → isOk j ≡ false → andThen k next ≡ j
 unfolding andThen
 then-stop k next j e h = rw (e, h)

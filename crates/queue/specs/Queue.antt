@@ -55,11 +55,11 @@ unfoldable pub appended : {A : Type 0} → List A → A → List A
 appended l x = cond (ltb (length l) 8) (l ++ (x ∷ [])) l
 
 -- ---- zeros, the content of a free place
--- of the requests
+-- a free place of the requests
 unfoldable pub noRequest : Request
 noRequest = record { algorithm = 0; granule = 0; ticket = 0; hashid = 0; hash = replicate 48 0 }
 
--- of the responses
+-- a free place of the responses
 unfoldable pub noResponse : Response
 noResponse = record { granule = 0; ticket = 0; len = 0; signature = replicate 104 0 }
 

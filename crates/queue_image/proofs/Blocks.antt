@@ -1,4 +1,4 @@
--- Eight rows of one width: a row added after the first k, and the first of k dropped. Assumes nothing.
+-- Eight rows of the same width: a row added after the first k, and the first of k dropped. Assumes nothing.
 use Prim.Native.Nat.{ℕ, zero, suc, min, _+_, _-_, _*_, _≤_, _<_}
 use mathlib.Core.Path.{_≡_, refl, sym, ap, _∙_}
 use mathlib.Core.List.{List, [], _∷_, _++_, append-assoc, append-nil}

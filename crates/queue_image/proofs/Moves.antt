@@ -144,7 +144,7 @@ module _ {s o : Side} (b : Beside s o) (w : List ℕ) (l : length w ≡ 210) whe
       (joined-rows (s .width) p k (min 8 n) row e h))
       w l
 
-  -- the first is gone
+  -- the first row is dropped
   pub dropped-waits : waitingRows s (rowDropped s w) ≡ drop 1 (waitingRows s w)
   dropped-waits =
       by-image b (λ (v : List ℕ). waitingRows s (rowDropped s v) ≡ drop 1 (waitingRows s v))

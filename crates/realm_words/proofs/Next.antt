@@ -102,7 +102,7 @@ module _ (ws : List ℕ) (n i : ℕ) where
       let l = t .0 .1 in
       (t .0, λ m a b c. first-none (bitAt ws) (n - i) i (t .1) m a (omega arith) c)
 
-  -- and only such a call is not INVAL
+  -- INVAL is the answer only if one of the two does not hold
   pub next-inval : realmNextOf ws n i ≡ Hit.Inval → Asked → ⊥
   next-inval h a = first-named (bitAt ws) (n - i) i (sym (answers a) ∙ h)
 

@@ -75,8 +75,8 @@ pub fn push(buffer: &[u8], queue: Queue) -> Queued
     }
 }
 
-// Push on the queue's image: all checks run before the first word is written, and only the requests' side changes. Reads the request once,
-// too.
+// Push on the queue's image: all checks run before the first word is written, and only the requests' side changes. Also reads the
+// request only once.
 pub fn push_on(buffer: &[u8], image: &mut [u64; 210]) -> Answer
     ensures { λ r. ⌜ _≡_ {A = ImageStep} (record { answer = r; page = now (buffer .entry); image = now (image .exit) }) (pushOn (now (buffer .entry)) (now (image .entry))) ⌝ }
 {
