@@ -73,8 +73,8 @@ GoesOn token b s (x ∷ xs) = (tokenAccepted s x ≡ true → (x .csize ≡ 0) �
 unfoldable pub ceil : ℕ → ℕ → ℕ
 ceil l b = (l + (b - 1)) / b
 
--- n calls are OK, their hunks joined are `bytes`, x2 of the last OK is `left`, and the session after all is s. If it has ended, n is ceil(L
--- / b) and the hunks are the token; otherwise n is less, and the hunks are the token's first n * b bytes.
+-- n calls are OK, their hunks joined are `bytes`, x2 of the last OK is `left`, and the session after all is s. If it has ended, n is
+-- ceil(L / b) and the hunks are the token; otherwise n is less, and the hunks are the token's first n * b bytes.
 pub record Calls (token : List ℕ) (b n : ℕ) (bytes : List ℕ) (left : ℕ) (s : Session) : Type 0 where
   pub ended : s ≡ Idle → (n ≡ ceil (length token) b) × (bytes ≡ token) × (left ≡ 0)
   pub before : (s ≡ Idle → ⊥) → (n < ceil (length token) b) × (bytes ≡ take (n * b) token) × (left ≡ length token - n * b)
