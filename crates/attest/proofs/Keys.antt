@@ -21,7 +21,7 @@ use Rattle.range.specs.declared.OutsideAs.the-variants.{BadAddress}
 use Rattle.range.proofs.Ranges.{passed}
 use Rattle.attest.specs.Key.{keyRest, keyCode, Keyed, keyed, realmKeyOf}
 
--- a refusal: zeros, and the page as it was
+-- a refusal has zeros in x1 and x2 and leaves the page unchanged
 pub stays : (k : Code) (at : ℕ) (page key : List ℕ) (c : Code) → k ≡ c → isOk c ≡ false → _≡_ {A = Keyed} (record { answer = answerOf c 0 0; page = page }) (keyed k at page key)
 unfolding keyed
 stays k at page key c e h = rw (e, h)
@@ -30,7 +30,7 @@ pub writes : (k : Code) (at : ℕ) (page key : List ℕ) → k ≡ Ok → _≡_ 
 unfolding keyed
 writes k at page key e = rw e
 
--- the checks behind the range check
+-- the checks after the range check
 module _ (size curve : ℕ) (key : List ℕ) where
   pub rest-curve : (curve ≡ 0 → ⊥) → keyRest size curve key ≡ Inval
   unfolding keyRest fails unless
@@ -50,13 +50,13 @@ module _ (size curve : ℕ) (key : List ℕ) where
       unfolding keyRest fails unless either
       rest-ok l = rw (eq-eqb curve 0 h, ne-eqb (length key) 0 n, le-ltb size (length key) l)
 
--- a refused call leaves the page as it was, with zeros in the other registers
+-- a refused call leaves the page unchanged, with zeros in x1 and x2
 pub key-refused : (r : Record) (page key : List ℕ) (pa size curve : ℕ) → isOk (realmKeyOf r page key pa size curve .answer .code) ≡ false →
     realmKeyOf r page key pa size curve ≡ record { answer = answerOf (realmKeyOf r page key pa size curve .answer .code) 0 0; page = page }
 unfolding realmKeyOf keyed answerOf
 key-refused r page key pa size curve h = rw h
 
--- the call by the page's gate, as it was told
+-- the call, by the gate g of the common checks
 module _ (r : Record) (page key : List ℕ) (pa size curve : ℕ) (g : Gate) (cg : g ≡ gated (pageCode r (length page) Ok BadAddress pa size) (placeOf (upOf r) pa)) where
   pub told-stop : (c : Code) → g ≡ Stop c → (a : Answer) → a ≡ answerOf c 0 0 → _≡_ {A = Keyed} (record { answer = a; page = page }) (realmKeyOf r page key pa size curve)
   unfolding realmKeyOf keyCode

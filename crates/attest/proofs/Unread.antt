@@ -1,4 +1,4 @@
--- The realm key call reads no byte of the page: on two pages of one length its answer is the same. Assumes nothing.
+-- The realm key call reads no byte of the page: for two pages of the same length its answer is the same. Assumes nothing.
 use Prim.Native.Nat.{ℕ}
 use mathlib.Core.Path.{_≡_}
 use mathlib.Core.List.{List}

@@ -17,7 +17,7 @@ use Rattle.codes.specs.declared.Answer.{Answer}
 unfoldable pub keyRest : ℕ → ℕ → List ℕ → Code
 keyRest size curve key = fails (unless (eqb curve 0)) Inval (fails (either (eqb (length key) 0) (ltb size (length key))) Unk Ok)
 
--- "outside BAD_ADDR; too long INVAL;", then the others
+-- "outside BAD_ADDR; too long INVAL;", then the checks of `keyRest`
 unfoldable pub keyCode : Record → List ℕ → ℕ → ℕ → ℕ → List ℕ → Code
 keyCode r page pa size curve key = andThen (pageCode r (length page) Ok BadAddress pa size) (keyRest size curve key)
 
@@ -34,5 +34,6 @@ keyed k at page key =
       page = ifOk k (splice at key page) page;
     }
 
+-- the realm key command
 unfoldable pub realmKeyOf : Record → List ℕ → List ℕ → ℕ → ℕ → ℕ → Keyed
 realmKeyOf r page key pa size curve = keyed (keyCode r page pa size curve key) (placeOf (upOf r) pa) page key

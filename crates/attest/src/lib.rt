@@ -1,4 +1,4 @@
-// Attestation: the realm key.
+// Attestation: the realm key command.
 use boot::Record;
 use codes::Answer;
 use codes::Code;
@@ -9,7 +9,7 @@ ghost use Prim.Native.Nat.{_+_, _≤_};
 ghost use lib.ListN.{length};
 ghost use Rattle.attest.specs.Key.{Keyed, keyRest, keyed, realmKeyOf};
 
-// The realm key into a buffer at an offset within the page.
+// Writes the realm key into a buffer of `size` bytes at offset `at` of the page.
 fn put_key(page: &mut [u8], key: &[u8], at: usize, size: u64, curve: u64) -> Answer
     requires { ⌜ at + size ≤ length (now page) ⌝ }
     ensures { λ r. ⌜ _≡_ {A = Keyed} (record { answer = r; page = now (page .exit) }) (keyed (keyRest size curve (now (key .entry))) at (now (page .entry)) (now (key .entry))) ⌝ }
@@ -27,7 +27,7 @@ fn put_key(page: &mut [u8], key: &[u8], at: usize, size: u64, curve: u64) -> Ans
     codes::answered(Code::Ok, key.len() as u64, 0)
 }
 
-// 0xC40001B2: writes the realm key that the platform lends at pa, into a buffer of so many bytes; x1 is its length.
+// 0xC40001B2: writes the realm key that the platform lends into the buffer of `size` bytes at `pa`; x1 is the key's length.
 pub fn realm_key(
     state: Record,
     page: &mut [u8],

@@ -1,4 +1,4 @@
--- A call that judges the record once and looks first in a bank of it finds the granules of `granuleAt`. Assumes nothing.
+-- A call that checks the record once and looks first in a given bank finds the granules of `granuleAt`. Assumes nothing.
 use Prim.Native.Nat.{ℕ, _+_, _*_, _/_, _%_, _^_, _≤_, _<_}
 use mathlib.Core.Path.{_≡_, refl, sym, ap, _∙_}
 use mathlib.Core.Bool.{Bool, true, false, cond, false≢true}
@@ -19,7 +19,7 @@ use Rattle.banks.specs.Fast.{noBank, granuleIn, bankAmong, bankOf, found
 use Rattle.banks.proofs.Passing.{Follows, follows-is, left, left-more, left-none}
 use Rattle.banks.proofs.Laws.{nowhere, cond-at, held, ok-ascends, ok-few, past-bank, no-granules, some-granules, falls, only-follows, only-granules, only-place, only-ok}
 
--- a bank of the record, with the granules before it: a granule in it is the record's
+-- a bank of the record, with the granules before it: a granule in that bank is the record's granule of the address
 abbrev pub SpanOf : Granules → BankSpan → Type 0
 SpanOf g b = (addr i : ℕ) → granuleIn b addr ≡ At i → granuleAt g (granuleCount g) addr ≡ At i
 
@@ -64,7 +64,7 @@ unfolding placeIn
 place-by before base size addr k e = rw e
 
 -- ---- banks in ascending order
--- a granule in the bank of x is the granule among them all: a bank before it ends at or below its base
+-- a granule in the bank of x is the granule among all banks: a bank before it ends at or below its base
 among-span : (low before : ℕ) (bs : List Bank) (x addr i : ℕ) → Yes (ascend low bs) → 4096 * before ≤ low → granuleIn (bankAmong before bs x) addr ≡ At i → (low ≤ addr) × (placeAmong before bs addr ≡ At i)
 unfolding ascend bankAmong placeAmong orElse
 among-span low before [] x addr i a c h = absurd (none-at addr i h)
@@ -146,7 +146,7 @@ found-is g b n addr f some m own e = rw (e, ← m) (go (granuleIn b addr) refl)
     go (At i) q = (sym (own addr i q), own)
     go Nothing q = (bank-own g (counted-ok g some) addr, bank-span g (counted-ok g some) addr)
 
--- a table as long as the record's granules, of which there are some; otherwise no address is on one
+-- the record has granules, and the table has as many; otherwise no address is on a granule
 abbrev TableFits : Granules → ℕ → Bool
 TableFits g n = both (ltb 0 (granuleCount g)) (eqb (granuleCount g) n)
 

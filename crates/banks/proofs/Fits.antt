@@ -1,4 +1,4 @@
--- 02, E2: the set-up is OK exactly where the banks shown fit, and a record has granules exactly where its own do. In plain facts. Assumes
+-- 02, E2: the set-up is OK exactly if the banks shown fit, and a record has granules exactly if its own do. In plain facts. Assumes
 -- nothing.
 use Prim.Native.Nat.{ℕ, zero, suc, _+_, _*_, _/_, _%_, _^_, _≤_, _<_}
 use mathlib.Core.Path.{_≡_, refl, sym, _∙_}
@@ -21,7 +21,7 @@ use Rattle.banks.specs.Fit.{granulesTo, BanksFit}
 use Rattle.banks.proofs.Passing.{Follows, follows-is}
 use Rattle.banks.proofs.Making.{word-in, count-made}
 
--- ---- banks by a function, number i and k - 1 more
+-- ---- the banks f i, .., f (i + k - 1)
 module _ (f : ℕ → Bank) where
   abbrev base : ℕ → ℕ
   base i = f i .base
@@ -46,7 +46,7 @@ module _ (f : ℕ → Bank) where
   ascend-head low i zero h l = absurd (not-suc-le-zero l)
   ascend-head low i (suc k) h l = follows-is low (base i) (size i) (both-l _ _ h) .after
 
-  -- and begins at or after the end of the one before
+  -- and starts at or after the end of the one before
   ascend-next : (low i k : ℕ) → Yes (ascend low (banksBy f i k)) → (j : ℕ) → i ≤ j → suc j < i + k → base j + size j ≤ base (suc j)
   unfolding ascend banksBy
   ascend-next low i zero h j a b = absurd (let z : ⊥ = omega arith in z)
@@ -56,7 +56,7 @@ module _ (f : ℕ → Bank) where
       go (yes e) ih = rw e (ascend-head (base i + size i) (suc i) k (both-r _ _ h) (omega arith))
       go (no e) ih = ih (omega arith) (omega arith)
 
-  -- the other way
+  -- the converse
   follow : (low b s : ℕ) → low ≤ b → b % 4096 ≡ 0 → s % 4096 ≡ 0 → 0 < s → b + s ≤ 2 ^ 52 → Yes (follows low b s)
   unfolding follows bankOk
   follow low b s l p q z e = both-of _ _ (le-leb low b l) (both-of _ _ (eq-eqb (b % 4096) 0 p) (both-of _ _ (eq-eqb (s % 4096) 0 q) (both-of _ _ (lt-ltb 0 s z) (le-leb (b + s) (2 ^ 52) e))))
@@ -81,7 +81,7 @@ module _ (f : ℕ → Bank) where
   total-to zero = refl
   total-to (suc k) = let e : 0 + k ≡ k = omega arith in total-end 0 k ∙ rw (e, total-to k)
 
-  -- both ways together
+  -- both directions
   pub fit-taken : (c n : ℕ) → BanksFit base size c n → Yes (banksOk c (banksBy f 0 c)) × (total (banksBy f 0 c) ≡ n)
   unfolding banksOk
   fit-taken c n v =
@@ -107,7 +107,7 @@ module _ (f : ℕ → Bank) where
 abbrev pub Shown : List ℕ → ℕ → Type 0
 Shown shown n = (length shown % 16 ≡ 0) × BanksFit (λ i. wordAt (16 * i) shown) (λ i. wordAt (16 * i + 8) shown) (length shown / 16) n
 
--- a record of these: the count, then base and size of each
+-- a record of these banks: the count, then base and size of each
 pub record Holds (g : Granules) (shown : List ℕ) : Type 0 where
   pub count : getD g 0 0 ≡ length shown / 16
   pub bases : (i : ℕ) → i < length shown / 16 → getD g (1 + 2 * i) 0 ≡ wordAt (16 * i) shown
@@ -146,7 +146,7 @@ module _ (shown : List ℕ) (n : ℕ) (g : Granules) where
       go true e = absurd (r (set-up-only (rw e)))
       go false e = rw e
 
--- ---- "later, a record whose banks the set-up would refuse has no granules", and one that it would take has their sum
+-- ---- "later, a record whose banks the set-up would refuse has no granules", and one that it would accept has their sum
 module _ (g : Granules) where
   abbrev pub Fit : ℕ → Type 0
   Fit n = BanksFit (λ i. getD g (1 + 2 * i) 0) (λ i. getD g (2 + 2 * i) 0) (getD g 0 0) n

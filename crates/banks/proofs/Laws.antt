@@ -1,5 +1,5 @@
--- What the rest may use of the granule record: an index lies below the table's length, two addresses of one granule are one, and every
--- index has its address. And that one bank is the single range of 01. Assumes nothing.
+-- Laws of the granule record for other crates: an index is below the table's length, two addresses of the same granule are equal, and every
+-- index has an address. And one bank is the single range of 01. Assumes nothing.
 use Prim.Native.Nat.{ℕ, _+_, _-_, _*_, _/_, _%_, _^_, _≤_, _<_}
 use mathlib.Core.Path.{_≡_, refl, sym, ap, _∙_}
 use mathlib.Core.Bool.{Bool, true, false, cond}
@@ -21,7 +21,7 @@ use Rattle.banks.specs.Banks.{Granules, Bank, banksBy, bankAt, bankCount
 use Rattle.banks.proofs.Making.{banks-some, made-one, made-good}
 use Rattle.banks.proofs.Passing.{Follows, follows-is, or-nothing}
 
--- ---- how an answer came about
+-- ---- cases of an answer
 pub nowhere : (i : ℕ) → Nothing ≡ At i → ⊥
 nowhere i h = let z : _≡_ {A = ℕ} 0 1 = cc in omega arith
 
@@ -116,7 +116,7 @@ among-one low before (b ∷ bs) x y i a m n h k =
     apart : (z : ℕ) → Yes (holds (b .base) (b .size) z) → indexIn before (b .base) z ≡ i → Within (before + b .size / 4096) (total bs) i → ⊥
     apart z p d w = let u = held (b .base) (b .size) z p in let v = f in omega arith
 
--- ---- all that the rest asks
+-- ---- the laws for other crates
 pub index-below : (g : Granules) (n addr i : ℕ) → granuleAt g n addr ≡ At i → i < n
 index-below g n addr i h =
     let f = falls g n addr i h in
@@ -193,7 +193,7 @@ granules-le g = go (recordOk g) refl
     go true e = let r = among-le 0 (banksOf g) (ok-ascends g e) (omega arith) in omega arith
     go false e = omega arith
 
--- ---- a record without granules is one that is not taken
+-- ---- a record that the set-up would refuse has no granules
 pub no-granules : (g : Granules) → recordOk g ≡ false → granuleCount g ≤ 0
 unfolding granuleCount
 no-granules g e = rw e (omega arith)
@@ -249,7 +249,7 @@ module _ (g : Granules) (one : bankCount g ≡ 1) where
   unfolding recordOk banksOk ascend follows both
   only-ok = rw (only-bank g one, one, le-leb 0 (getD g 1 0) (omega arith)) (both-true (bankOk (getD g 1 0) (getD g 2 0)))
 
--- of a record that the set-up made of one bank, in a table of the length that it was made for
+-- for a record that the set-up made of one bank, in a table of the length that it was made for
 pub one-bank-made : (shown : List ℕ) (n : ℕ) (g : Granules) → length shown ≡ 16 → setUpCode shown n ≡ Ok → (addr : ℕ) → granuleAt (setUpOf shown n g .granules) n addr ≡ singleRange (wordAt 0 shown) n addr
 one-bank-made shown n g l h addr =
     let m = made-good shown n g h in

@@ -15,7 +15,7 @@ use Rattle.banks.proofs.Laws.{nowhere, or-cases, held, in-bank, past-ba
 use Rattle.banks.proofs.Fits.{total-to, fit-taken, taken-fit, granules-sum}
 
 module _ (f : ℕ → Bank) (addr : ℕ) where
-  -- the bank that an address was found in, of k banks from number j on
+  -- the bank that holds an address, of k banks starting with bank j
   record In (before j k i : ℕ) : Type 0 where
     bank : ℕ
     first : j ≤ bank
@@ -41,7 +41,7 @@ module _ (f : ℕ → Bank) (addr : ℕ) where
           let z : r .bank - j ≡ suc (r .bank - suc j) = omega arith in
           record { bank = r .bank; first = omega (arith, r .first); last = omega (arith, r .last); from = r .from; below = r .below; index = r .index ∙ rw z (omega arith) }
 
-  -- banks ascend: each begins at or after where the first may
+  -- banks ascend: each starts at or after `low`
   base-from : (low j k b : ℕ) → Yes (ascend low (banksBy f j k)) → j ≤ b → b < j + k → low ≤ f b .base
   unfolding ascend banksBy
   base-from low j zero b h p q = absurd (let z : ⊥ = omega arith in z)

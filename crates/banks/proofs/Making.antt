@@ -1,4 +1,4 @@
--- The set-up: the record made, word by word, has the banks that are shown, and what refuses it. Assumes nothing.
+-- The set-up: the record that it makes has the banks shown, and when it refuses. Assumes nothing.
 use Prim.Native.Nat.{ℕ, zero, suc, _+_, _-_, _*_, _%_, _<_}
 use mathlib.Core.Path.{_≡_, refl, sym, ap, _∙_}
 use mathlib.Core.Bool.{Bool, true, false, cond, false≢true}
@@ -62,7 +62,7 @@ pub granules-made : (n : ℕ) (shown : List ℕ) → granuleCount (recordFrom n 
 unfolding granuleCount recordOk
 granules-made n shown = rw (banks-made n shown, count-made n shown)
 
--- ---- what the set-up takes
+-- ---- what the set-up accepts
 both-no : (b : Bool) (t n : ℕ) → (cond b t 0 ≡ n → ⊥) → both b (eqb t n) ≡ false
 unfolding both
 both-no true t n h = ne-eqb t n h
@@ -85,7 +85,7 @@ banks-some (suc n) f h =
     let p : Follows 0 (f 0 .base) (f 0 .size) = follows-is 0 (f 0 .base) (f 0 .size) (both-l _ _ (both-r _ _ (both-r _ _ h))) in
     omega arith
 
--- the tests behind the first, by name
+-- the tests after the first
 abbrev fine : List ℕ → Bool
 fine shown = banksOk (shownCount shown) (banksIn (shownCount shown) shown)
 
@@ -113,7 +113,7 @@ pub part-not : (shown : List ℕ) (n : ℕ) → (length shown % 16 ≡ 0 → ⊥
 unfolding takes both
 part-not shown n h = simp (ne-eqb (length shown % 16) 0 h)
 
--- ---- what the set-up made
+-- ---- what the set-up makes
 module _ (shown : List ℕ) (n : ℕ) (g : Granules) (h : setUpCode shown n ≡ Ok) where
   made-is : setUpOf shown n g .granules ≡ recordFrom (shownCount shown) shown
   unfolding setUpOf
@@ -131,13 +131,13 @@ module _ (shown : List ℕ) (n : ℕ) (g : Granules) (h : setUpCode shown n ≡ 
   unfolding takes
   took-sum = eqb-true _ _ (both-r _ _ (both-r _ _ took))
 
-  -- a record that the set-up made is good, and has as many granules as the table
+  -- a record that the set-up makes is accepted, and has as many granules as the table
   pub made-good : Yes (recordOk (setUpOf shown n g .granules)) × (granuleCount (setUpOf shown n g .granules) ≡ n)
   unfolding recordOk
   made-good = rw made-is (rw (banks-made (shownCount shown) shown, count-made (shownCount shown) shown) took-banks, granules-made (shownCount shown) shown ∙ rw took-banks took-sum)
 
 module _ (shown : List ℕ) (n : ℕ) (g : Granules) (l : length shown ≡ 16) (h : setUpCode shown n ≡ Ok) where
-  -- of 16 bytes: one bank, whose base is their first word
+  -- for 16 bytes: one bank, whose base is their first word
   pub made-one : (bankCount (setUpOf shown n g .granules) ≡ 1) × (getD (setUpOf shown n g .granules) 1 0 ≡ wordAt 0 shown)
   made-one =
       let c : shownCount shown ≡ 1 = omega arith in

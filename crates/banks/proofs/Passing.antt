@@ -1,4 +1,4 @@
--- The banks one after another, as a loop goes: what is left to judge and to add. Assumes nothing.
+-- The loop over the banks: what is left to check and to add. Assumes nothing.
 use Prim.Native.Nat.{ℕ, zero, suc, _+_, _-_, _*_, _/_, _%_, _^_, _≤_, _<_}
 use mathlib.Core.Path.{_≡_, refl, sym, _∙_}
 use mathlib.Core.Bool.{Bool, true, false}
@@ -35,7 +35,7 @@ follows-is low base size h =
       ends = leb-true _ _ (both-r _ _ h3);
     }
 
--- ---- the banks from number i on
+-- ---- the banks from bank i on
 pub banks-more : (f : ℕ → Bank) (n i : ℕ) → i < n → banksBy f i (n - i) ≡ f i ∷ banksBy f (i + 1) (n - (i + 1))
 unfolding banksBy
 banks-more f n i h = go (n - i) refl
@@ -49,7 +49,7 @@ unfolding orElse
 or-nothing (At i) = refl
 or-nothing Nothing = refl
 
--- ---- the loop before bank i: all banks are judged and counted by what is left
+-- ---- the loop before bank i: the result depends on what is left
 abbrev pub left : List ℕ → ℕ → List Bank
 left g i = banksBy (bankAt g) i (bankCount g - i)
 
@@ -74,7 +74,7 @@ stage-first g =
     let z : bankCount g - 0 ≡ bankCount g = omega arith in
     record { end-fits = omega arith; count-fits = omega arith; judged = rw z; counted = rw z (omega arith) }
 
--- ---- what the loop answers
+-- ---- what the loop returns
 both-none : (a b : Bool) → both a (both b false) ≡ false
 unfolding both
 both-none true true = refl
@@ -124,7 +124,7 @@ module _ (g : Granules) (i low sum : ℕ) (s : Stage g i low sum) where
     unfolding total
     stage-counted = s .counted ∙ rw none-left (omega arith)
 
-  -- one bank more, with its two words as the code reads them
+  -- one more bank, with its two words as the code reads them
   module _ (base size : ℕ) (h : i < bankCount g) (b : base ≡ getD g (1 + 2 * i) 0) (z : size ≡ getD g (2 + 2 * i) 0) where
     one-left : left g i ≡ record { base = base; size = size } ∷ left g (i + 1)
     one-left = left-more g i h ∙ rw (b, z)

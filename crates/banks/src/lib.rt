@@ -1,5 +1,5 @@
 // The granule record: memory in up to 16 banks. A record is 33 words: the number of banks, then base and size of each. The granule table
-// is the banks' granules joined in bank order; an address in a hole between banks is on no granule.
+// has the banks' granules in bank order; an address in a hole between banks is on no granule.
 use codes::Code;
 use entries::Bits;
 ghost use mathlib.Core.Path.{_≡_};
@@ -8,7 +8,7 @@ ghost use Rattle.entries.specs.Entry.{bankOk};
 ghost use Rattle.banks.specs.Banks.{follows, granuleCount, holds, recordFrom, SetUp, setUpOf};
 ghost use Rattle.banks.specs.Fast.{noBank, granuleIn, bankOf, foundFrom, firstBank, hasOneBank};
 
-// The granule that an address falls on.
+// The granule of an address: its index in the table, or nothing.
 pub enum Granule {
     Nothing,
     At(usize),
@@ -46,7 +46,7 @@ fn bank_follows(low: u64, base: u64, size: u64) -> bool
     bank_ok(base, size)
 }
 
-// The number of granules of a record; 0 if the set-up would refuse its banks.
+// Returns the number of granules of a record; 0 if the set-up would refuse its banks.
 pub fn granule_count(granules: &[u64; 33]) -> u64
     ensures { λ r. ⌜ r ≡ granuleCount (now (granules .entry)) ⌝ }
 {
@@ -68,7 +68,7 @@ pub fn granule_count(granules: &[u64; 33]) -> u64
     sum
 }
 
-// The record of `count` banks, read from their bytes: 16 bytes a bank, base and size.
+// Returns the record of `count` banks, read from their bytes: 16 bytes a bank, base and size.
 fn record_from(shown: &[u8], count: usize) -> [u64; 33]
     requires { ⌜ count ≤ 16 ⌝ }
     ensures { λ r. ⌜ r ≡ recordFrom count (now (shown .entry)) ⌝ }
@@ -81,7 +81,7 @@ fn record_from(shown: &[u8], count: usize) -> [u64; 33]
     made
 }
 
-// Sets up the record from the banks that the reader shows, in the bytes that the array lookup gives, for a table of n granules. INVAL
+// Sets up the record for a table of `n` granules. `shown` has the banks that the reader shows, as the array lookup returns them. INVAL
 // leaves the record unchanged.
 pub fn set_up(shown: &[u8], n: u64, granules: &mut [u64; 33]) -> Code
     ensures { λ r. ⌜ _≡_ {A = SetUp} (record { code = r; granules = now (granules .exit) }) (setUpOf (now (shown .entry)) n (now (granules .entry))) ⌝ }
@@ -106,7 +106,7 @@ pub fn set_up(shown: &[u8], n: u64, granules: &mut [u64; 33]) -> Code
 
 // ---- the granule of an address ----
 
-// Whether [base, base + size) holds an address. base + size could overflow.
+// Whether `address` is in [base, base + size). Subtracts, because base + size could overflow.
 fn bank_holds(base: u64, size: u64, address: u64) -> bool
     ensures { λ r. ⌜ r ≡ holds base size address ⌝ }
 {
@@ -119,14 +119,14 @@ fn bank_holds(base: u64, size: u64, address: u64) -> bool
     true
 }
 
-// The granules of a bank of any size.
+// Returns the number of granules of a bank of any size.
 fn granules_in(size: u64) -> u64
     ensures { λ r. ⌜ (r ≡ size / 4096) × (r ≤ 0x10_0000_0000_0000) ⌝ }
 {
     size / 4096
 }
 
-// No bank: it holds no address.
+// Returns a bank that holds no address.
 pub fn no_bank() -> BankSpan
     ensures { λ r. ⌜ r ≡ noBank ⌝ }
 {
@@ -137,7 +137,7 @@ pub fn no_bank() -> BankSpan
     }
 }
 
-// The granule of an address in one bank. The sum wraps for no bank of a record that has granules.
+// Returns the granule of an address in one bank. The addition wraps for no bank of a record that has granules.
 fn granule_in(bank: BankSpan, address: u64) -> Granule
     ensures { λ r. ⌜ r ≡ granuleIn bank address ⌝ }
 {
@@ -152,7 +152,7 @@ fn granule_in(bank: BankSpan, address: u64) -> Granule
     Granule::At(index as usize)
 }
 
-// The first bank that holds an address, or no bank. The banks are not judged.
+// Returns the first bank that holds an address, or no bank. Does not check the banks.
 fn bank_of(granules: &[u64; 33], address: u64) -> BankSpan
     ensures { λ r. ⌜ r ≡ bankOf (now (granules .entry)) address ⌝ }
 {
@@ -172,8 +172,8 @@ fn bank_of(granules: &[u64; 33], address: u64) -> BankSpan
     no_bank()
 }
 
-// The granule of an address in a record that has granules, and its bank. Looks in `bank` first: the addresses of a list mostly lie in one
-// bank after another.
+// Returns the granule of an address, and its bank; the record must have granules. Looks in `bank` first: consecutive addresses of a list
+// are mostly in the same bank.
 pub fn find_from(granules: &[u64; 33], bank: BankSpan, address: u64) -> Found
     ensures { λ r. ⌜ r ≡ foundFrom (now (granules .entry)) bank address ⌝ }
 {
@@ -190,7 +190,7 @@ pub fn find_from(granules: &[u64; 33], bank: BankSpan, address: u64) -> Found
 
 // ---- the shortcut: a record of one bank ----
 
-// Whether a record has one bank, which meets the reader's rule and has n granules.
+// Whether a record has one bank, which meets the reader's rule and has `n` granules.
 pub fn has_one_bank(granules: &[u64; 33], n: usize) -> bool
     ensures { λ r. ⌜ r ≡ hasOneBank (now (granules .entry)) n ⌝ }
 {
@@ -203,7 +203,7 @@ pub fn has_one_bank(granules: &[u64; 33], n: usize) -> bool
     bank_ok(granules[1], granules[2])
 }
 
-// The granule of an address in the first bank.
+// Returns the granule of an address in the first bank.
 pub fn find_first(granules: &[u64; 33], address: u64) -> Granule
     ensures { λ r. ⌜ r ≡ granuleIn (firstBank (now (granules .entry))) address ⌝ }
 {

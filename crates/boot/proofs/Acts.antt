@@ -1,5 +1,5 @@
--- When a boot succeeds, and what it then does. Each statement lists the conditions of 01 as they stand there, and none of the definitions
--- of the boot's own checks. Assumes nothing.
+-- When a boot succeeds, and what it then does. Each statement lists 01's conditions and uses no definition of the boot's checks. Assumes
+-- nothing.
 use Prim.Native.Nat.{ℕ, _^_, min, _≤_, _<_}
 use mathlib.Core.Path.{_≡_, refl, sym, ap, _∙_}
 use mathlib.Core.Bool.{Bool, true, false, false≢true, cond}
@@ -17,14 +17,14 @@ use Rattle.boot.specs.declared.Record.{Record}
 use Rattle.boot.specs.declared.Record.the-variants.{Fresh, Up, Closed}
 use Rattle.boot.proofs.Booting.{kept-up}
 
--- the checks of a cold boot that pass hand on the page's code
+-- a cold boot that passes its checks returns the page's code
 cold-passes : (f v m n k : Bool) (c : ℤ) → f ≡ true → v ≡ true → m ≡ true → n ≡ true → k ≡ true → coldGate f v m n k c ≡ c
 unfolding coldGate
 cold-passes f v m n k c a b d e g = rw (a, b, d, e, g, coldGate)
 
--- Cold boot of a fresh record with a version from 1 to 65,535 (minor 1 or more, all else 0), x2 at most the monitor's maximum, x0 below x2,
--- K at most 4,096 and a page at x3 that a reader of edition 4 accepts: 0, and "it keeps x2, B and the agreed minor when up", the minor being
--- "the smaller of 5 and the offered minor", and K.
+-- Cold boot succeeds with code 0 if the record is fresh, the version is from 1 to 65,535 (minor 1 or more, all else 0), x2 is at most the
+-- monitor's maximum, x0 is below x2, K is at most 4,096 and a reader of edition 4 accepts the page at x3. Then "it keeps x2, B and the
+-- agreed minor when up", the minor being "the smaller of 5 and the offered minor", and K.
 pub cold-acts : (x0 x1 x2 x3 most kept : ℕ) (page : List ℕ) (w e : ℕ) (q : PlatShown) (s : ℕ → Shown) → 1 ≤ x1 → x1 < 2 ^ 16 → x2 ≤ most → x0 < x2 → kept ≤ 4096 → readOf 4 x3 page ≡ shows w e q s →
     (coldCode Fresh x0 x1 x2 x3 most kept page ≡ pos 0) × (coldNext Fresh x0 x1 x2 x3 most kept page ≡ Up (record { cpus = x2; base = x3; minor = min 5 x1; kept = kept }))
 unfolding coldNext coldCode isFresh codeIn after paramsOf agreed
@@ -57,7 +57,7 @@ cold-only s x0 x1 x2 x3 most kept page h =
     let v = version-minor x1 (p .1) in
     (fresh-is s (p .0), v .1, omega (arith, v .0), leb-true _ _ (p .2), ltb-true _ _ (p .3), leb-true _ _ (p .4), p .5)
 
--- Warm boot of a record that is up, x0 below the cold boot's x2: 0, and the record as it was. So "A CPU may warm boot twice."
+-- Warm boot of a record that is up, with x0 below the cold boot's x2, returns 0 and the record unchanged. So "A CPU may warm boot twice."
 pub warm-acts : (u : Params) (x0 : ℕ) → x0 < u .cpus → (warmCode (Up u) x0 ≡ pos 0) × (warmNext (Up u) x0 ≡ Up u)
 unfolding warmCode warmNext
 warm-acts u x0 h = let k = kept-up (u .cpus) x0 (Up u) h in (sym (k .0), sym (k .1))

@@ -17,7 +17,7 @@ use Rattle.boot.specs.Boot.{isFresh, coldGate, coldCode, after, paramsOf
 use Rattle.boot.specs.declared.Record.{Record}
 use Rattle.boot.specs.declared.Record.the-variants.{Up, Closed}
 
--- a code that is not 0 closes
+-- any code other than 0 closes the record
 pub closes : (c : Refusal) (s : Record) → Closed ≡ after (refusalNumber c) s
 unfolding after
 closes Place s = refl

@@ -24,7 +24,7 @@ unfolding allBooted
 closed-stays [] = refl
 closed-stays (b ∷ bs) = rw (closed-step b) (closed-stays bs)
 
--- a boot that answers a negative code closes the record, whatever it was
+-- a boot with a negative code closes the record, for any record
 pub cold-closes : (s : Record) (x0 x1 x2 x3 most kept : ℕ) (page : List ℕ) (n : ℕ) → coldCode s x0 x1 x2 x3 most kept page ≡ negsuc n → coldNext s x0 x1 x2 x3 most kept page ≡ Closed
 unfolding coldNext after
 cold-closes s x0 x1 x2 x3 most kept page n h = rw h
@@ -33,7 +33,7 @@ pub warm-closes : (s : Record) (x0 n : ℕ) → warmCode s x0 ≡ negsuc n → w
 unfolding warmNext after
 warm-closes s x0 n h = rw h
 
--- a record that is up keeps what it keeps, over any sequence of boots, until one closes it
+-- a record that is up keeps its parameters over any sequence of boots, until one closes it
 up-step : (u : Params) (b : Boot) → (booted (Up u) b ≡ Up u) ⊎ (booted (Up u) b ≡ Closed)
 unfolding booted coldNext coldCode coldGate isFresh warmNext warmCode cpuCode after
 up-step u (cold x0 x1 x2 x3 most kept page) = inr refl

@@ -20,12 +20,12 @@ gate-plain true false m n c = refl
 gate-plain false v m n c = refl
 
 module _ (s : Record) (x0 x1 x2 x3 most : ℕ) (page : List ℕ) where
-  -- a number of kept bytes that the page has room for changes no code of a cold boot
+  -- any K from 0 to 4,096 gives the codes of 01's cold boot
   pub cold-plain : (kept : ℕ) → kept ≤ 4096 → coldCode s x0 x1 x2 x3 most kept page ≡ plainCode s x0 x1 x2 x3 most page
   unfolding coldCode plainCode
   cold-plain kept h = rw (le-leb kept 4096 h) (gate-plain _ _ _ _ _)
 
-  -- and with K = 0 the record that it leaves keeps no byte
+  -- with K = 0 the next record keeps no bytes
   pub cold-none-kept : (coldCode s x0 x1 x2 x3 most 0 page ≡ plainCode s x0 x1 x2 x3 most page)
       × (coldNext s x0 x1 x2 x3 most 0 page ≡ after (plainCode s x0 x1 x2 x3 most page) (Up (paramsOf x1 x2 x3 0)))
   unfolding coldNext

@@ -1,4 +1,4 @@
--- Cold and warm boot give each of their codes as 01's tables say. Assumes nothing.
+-- Cold and warm boot give each of their codes as 01's tables require. Assumes nothing.
 use Prim.Native.Nat.{ℕ, _^_, _≤_, _<_}
 use mathlib.Core.Path.{_≡_, refl, sym, ap, _∙_}
 use mathlib.Core.Bool.{Bool, true, false, true≢false, false≢true, cond}
@@ -26,7 +26,7 @@ use Rattle.boot.specs.declared.Record.{Record}
 use Rattle.boot.specs.declared.Record.the-variants.{Fresh, Up, Closed}
 use Rattle.boot.proofs.Acts.{fresh-is}
 
--- ---- a test, by what it tells
+-- ---- a test and the fact that it decides
 pub test-holds : (b : Bool) (P : Type 0) → (P → b ≡ true) → ((P → ⊥) → ⊥) → b ≡ true
 test-holds true P f n = refl
 test-holds false P f n = absurd (n (λ p. false≢true (f p)))
@@ -35,7 +35,7 @@ pub test-fails : (b : Bool) (P : Type 0) → (b ≡ true → P) → (P → ⊥) 
 test-fails true P g n = absurd (n (g refl))
 test-fails false P g n = refl
 
--- a check is a line of the table: it lets pass exactly where the condition does not hold
+-- a check is one line of the table: it passes exactly if the condition does not hold
 pub line : {A : Type 0} (b : Bool) (Q : Type 0) (c next : A) (below : A → Type 0) → (Q → b ≡ false) → ((Q → ⊥) → b ≡ true) → (b ≡ true → below next) → Gives Q c below (cond b next c)
 line true Q c next below f g h = record { where-it-holds = λ q. absurd (true≢false (f q)); elsewhere = λ n. h refl }
 line false Q c next below f g h = record { where-it-holds = λ q. refl; elsewhere = λ n. absurd (false≢true (g n)) }

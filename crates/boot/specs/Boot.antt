@@ -15,7 +15,7 @@ use Rattle.boot.specs.declared.Record.the-variants.{Fresh, Up, Closed}
 use Rattle.boot.specs.declared.BootCode.{BootCode}
 use Rattle.boot.specs.declared.BootCode.the-variants.{Done, State, Version, Cpus, Cpu, Manifest}
 
--- 01's number of each case; success is 0, as in 002
+-- the number that 01 gives each code; success is 0, as in 002
 abbrev pub bootNumber : BootCode → ℤ
 bootNumber Done = pos 0
 bootNumber State = minus 1
@@ -24,6 +24,7 @@ bootNumber Cpus = minus 3
 bootNumber Cpu = minus 4
 bootNumber (Manifest c) = refusalNumber c
 
+-- whether the record is fresh
 unfoldable pub isFresh : Record → Bool
 isFresh Fresh = true
 isFresh (Up u) = false
@@ -40,12 +41,12 @@ coldGate true true false n k c = minus 3
 coldGate true false m n k c = minus 2
 coldGate false v m n k c = minus 1
 
--- x0 is the CPU, x1 the version offered, x2 the number of CPUs, x3 the base B, most the monitor's maximum, kept K
+-- the code of a cold boot: x0 is the CPU, x1 the version offered, x2 the number of CPUs, x3 the base B, most the monitor's maximum, kept K
 unfoldable pub coldCode : Record → ℕ → ℕ → ℕ → ℕ → ℕ → ℕ → List ℕ → ℤ
 coldCode s x0 x1 x2 x3 most kept page =
     coldGate (isFresh s) (versionOk x1) (leb x2 most) (ltb x0 x2) (leb kept 4096) (codeIn (readOf 4 x3 page))
 
--- the record after a boot: the one given if the code is 0, else closed
+-- the record after a boot with code c: s if c is 0, otherwise closed
 unfoldable pub after : ℤ → Record → Record
 after (pos n) s = s
 after (negsuc n) s = Closed
@@ -54,10 +55,11 @@ after (negsuc n) s = Closed
 unfoldable pub paramsOf : ℕ → ℕ → ℕ → ℕ → Params
 paramsOf x1 x2 x3 kept = record { cpus = x2; base = x3; minor = agreed x1; kept = kept }
 
+-- the record after a cold boot
 unfoldable pub coldNext : Record → ℕ → ℕ → ℕ → ℕ → ℕ → ℕ → List ℕ → Record
 coldNext s x0 x1 x2 x3 most kept page = after (coldCode s x0 x1 x2 x3 most kept page) (Up (paramsOf x1 x2 x3 kept))
 
--- -4 "x0 not below the cold boot's x2"
+-- the CPU check of a warm boot: -4 "x0 not below the cold boot's x2"
 unfoldable pub cpuCode : ℕ → ℕ → ℤ
 cpuCode cpus x0 = cond (ltb x0 cpus) (pos 0) (minus 4)
 
@@ -67,5 +69,6 @@ warmCode Fresh x0 = minus 1
 warmCode (Up u) x0 = cpuCode (u .cpus) x0
 warmCode Closed x0 = minus 1
 
+-- the record after a warm boot
 unfoldable pub warmNext : Record → ℕ → Record
 warmNext s x0 = after (warmCode s x0) s

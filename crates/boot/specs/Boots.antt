@@ -9,11 +9,12 @@ pub data Boot : Type 0 where
   cold : ℕ → ℕ → ℕ → ℕ → ℕ → ℕ → List ℕ → Boot
   warm : ℕ → ℕ → ℕ → ℕ → Boot
 
--- the record after one boot, and after a sequence of them
+-- the record after one boot
 unfoldable pub booted : Record → Boot → Record
 booted s (cold x0 x1 x2 x3 most kept page) = coldNext s x0 x1 x2 x3 most kept page
 booted s (warm x0 x1 x2 x3) = warmNext s x0
 
+-- the record after a sequence of boots
 unfoldable pub allBooted : Record → List Boot → Record
 allBooted s [] = s
 allBooted s (b ∷ bs) = allBooted (booted s b) bs

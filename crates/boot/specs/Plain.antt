@@ -1,4 +1,4 @@
--- 01's cold boot as it stands, with no number of kept bytes. Assumes nothing.
+-- 01's cold boot, before 02, E5 added the kept bytes. Assumes nothing.
 use Prim.Native.Nat.{ℕ}
 use mathlib.Core.Bool.{Bool, true, false}
 use mathlib.Core.List.{List}
@@ -17,5 +17,6 @@ plainGate true true false n c = minus 3
 plainGate true false m n c = minus 2
 plainGate false v m n c = minus 1
 
+-- the code of 01's cold boot
 unfoldable pub plainCode : Record → ℕ → ℕ → ℕ → ℕ → ℕ → List ℕ → ℤ
 plainCode s x0 x1 x2 x3 most page = plainGate (isFresh s) (versionOk x1) (leb x2 most) (ltb x0 x2) (codeIn (readOf 4 x3 page))

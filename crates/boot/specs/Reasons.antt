@@ -1,4 +1,4 @@
--- When each code is given, for the theorems: a table of conditions in 01's order, each a plain fact with the code that it gives. The first
+-- When each boot code is given, for the theorems: a table of conditions in 01's order, each a plain fact with its code. The first condition
 -- that holds gives the code. Assumes nothing.
 use Prim.Native.Nat.{ℕ, _^_, _≤_, _<_}
 use mathlib.Core.Path.{_≡_}
@@ -14,7 +14,7 @@ use Rattle.boot.specs.declared.Params.{Params}
 use Rattle.boot.specs.declared.Record.{Record}
 use Rattle.boot.specs.declared.Record.the-variants.{Fresh, Up}
 
--- a line of the table: where the condition holds the code k is c; where it does not, the lines below say what k is
+-- one line of the table: if the condition holds the code k is c; otherwise the lines below give k
 pub record Gives {A : Type 0} (Condition : Type 0) (c : A) (below : A → Type 0) (k : A) : Type 0 where
   pub where-it-holds : Condition → k ≡ c
   pub elsewhere : (Condition → ⊥) → below k
@@ -34,7 +34,7 @@ ColdGives s x0 x1 x2 x3 most kept page =
     (Gives ((w e : ℕ) → Accepts 4 x3 page w e → ⊥) (minus 7)
     (λ k. k ≡ pos 0)))))))
 
--- and of warm boot: -1 the record is not up; -4 "x0 not below the cold boot's x2"
+-- 01's conditions of warm boot: -1 the record is not up; -4 "x0 not below the cold boot's x2"
 abbrev pub WarmGives : Record → ℕ → ℤ → Type 0
 WarmGives s x0 =
     Gives ((u : Params) → s ≡ Up u → ⊥) (minus 1)

@@ -1,11 +1,11 @@
-// Cold and warm boot: the monitor checks the boot registers and the manifest, and keeps a record of the outcome.
+// Cold and warm boot: each checks the boot registers, cold boot also checks the manifest, and both return the next boot record.
 use reader::Verdict;
 ghost use mathlib.Core.Path.{_≡_};
 ghost use Rattle.reader.specs.Reading.{numberIn};
 ghost use Rattle.boot.specs.Boot.{bootNumber, isFresh, coldCode, coldNext, after, cpuCode, warmCode, warmNext};
 
-// What a record that is up keeps of its cold boot: x2, the base B, the agreed interface minor, and the number K of kept bytes at the
-// start of the page, which no runtime command writes.
+// What a boot record keeps of its cold boot: x2 (`cpus`), the base B, the agreed interface minor, and K (`kept`). No runtime command writes
+// the first K bytes of the page.
 pub struct Params {
     pub cpus: u64,
     pub base: u64,
@@ -13,14 +13,14 @@ pub struct Params {
     pub kept: u64,
 }
 
-// The boot record.
+// The boot record: no boot yet, up, or closed for good by a failed boot.
 pub enum Record {
     Fresh,
     Up(Params),
     Closed,
 }
 
-// The outcome of a boot: 0, or why it is refused, -1 to -4 or the manifest's code.
+// The outcome of a boot: success, or the first check that fails.
 pub enum BootCode {
     Done,
     State,
@@ -30,13 +30,13 @@ pub enum BootCode {
     Manifest(reader::Refusal),
 }
 
-// The next record, with the code.
+// The result of a boot: the next record and the code.
 pub struct Booted {
     pub next: Record,
     pub code: BootCode,
 }
 
-// The code's number.
+// Returns the number of a boot code: 0, -1 to -4, or the manifest's code.
 pub fn number(code: BootCode) -> i32
     ensures { λ r. ⌜ r ≡ bootNumber code ⌝ }
 {
@@ -60,7 +60,7 @@ fn is_fresh(state: Record) -> bool
     }
 }
 
-// A boot that failed: the record is closed for good.
+// Refuses a boot: the record is closed for good.
 fn failed(code: BootCode) -> Booted
     ensures { λ r. ⌜ (r .next ≡ Record.Closed) × (r .code ≡ code) ⌝ }
 {
@@ -70,7 +70,7 @@ fn failed(code: BootCode) -> Booted
     }
 }
 
-// Warm boot of CPU x0 on a record that is up with so many CPUs.
+// Warm boot of CPU `x0` on a record that is up with `cpus` CPUs.
 fn warm_up(state: Record, cpus: u64, x0: u64) -> Booted
     ensures { λ r. ⌜ (bootNumber (r .code) ≡ cpuCode cpus x0) × (r .next ≡ after (cpuCode cpus x0) state) ⌝ }
 {
@@ -83,7 +83,7 @@ fn warm_up(state: Record, cpus: u64, x0: u64) -> Booted
     }
 }
 
-// The code of a verdict on a page; 0 of one that is accepted.
+// Returns the boot code of a verdict on the page: `Done` if the page is accepted.
 fn code_of(verdict: Verdict) -> BootCode
     ensures { λ r. ⌜ bootNumber r ≡ numberIn verdict ⌝ }
 {
@@ -94,14 +94,14 @@ fn code_of(verdict: Verdict) -> BootCode
 }
 
 impl Record {
-    // A record that no boot has seen.
+    // Returns the record before any boot.
     pub fn fresh() -> Self
         ensures { λ r. ⌜ r ≡ Record.Fresh ⌝ }
     {
         Record::Fresh
     }
 
-    // Cold boot with x0 to x3 on a monitor of at most so many CPUs, with so many kept bytes at the start of the page, and the manifest's
+    // Cold boot with x0 to x3. The monitor supports at most `most` CPUs, `kept` bytes at the start of the page are kept, and `page` is the
     // page at x3, read as edition 4.
     pub fn cold(
         self,
@@ -146,7 +146,7 @@ impl Record {
         }
     }
 
-    // Warm boot with x0 to x3, of which only x0 counts.
+    // Warm boot with x0 to x3; only x0 counts.
     pub fn warm(self, x0: u64, x1: u64, x2: u64, x3: u64) -> Booted
         ensures { λ r. ⌜ (bootNumber (r .code) ≡ warmCode self x0) × (r .next ≡ warmNext self x0) ⌝ }
     {

@@ -1,4 +1,4 @@
--- What a chain of checks tells, and the gate that hands it on. Assumes nothing.
+-- What follows from the code of a row of checks, and from its gate. Assumes nothing.
 use Prim.Native.Nat.{ℕ}
 use mathlib.Core.Path.{_≡_, refl, sym, ap, _∙_}
 use mathlib.Core.Bool.{Bool, true, false, false≢true}
@@ -9,25 +9,25 @@ use Rattle.codes.specs.declared.Code.{Code}
 use Rattle.codes.specs.declared.Code.the-variants.{Ok, Unk, BadAddr, BadPas, Inval, Again}
 use Rattle.codes.specs.declared.Gate.the-variants.{Stop, Go}
 
--- what an OK tells of the check before it
+-- if the row is OK, its first test does not hold and the next checks are OK
 pub fails-ok : (b : Bool) (c next : Code) → isOk c ≡ false → fails b c next ≡ Ok → (b ≡ false) × (next ≡ Ok)
 unfolding fails
 fails-ok true c next n h = absurd (false≢true (sym n ∙ ap isOk h))
 fails-ok false c next n h = (refl, h)
 
--- what an OK tells of a check that fails unless a test holds
+-- if the row is OK, the negated test holds and the next checks are OK
 pub unless-ok : (b : Bool) (c next : Code) → isOk c ≡ false → fails (unless b) c next ≡ Ok → (b ≡ true) × (next ≡ Ok)
 unfolding unless
 unless-ok true c next n h = (refl, fails-ok false c next n h .1)
 unless-ok false c next n h = absurd (false≢true (sym (fails-ok true c next n h .0)))
 
--- what an OK tells of a check that fails if either of two tests holds
+-- if the row is OK, neither of the two tests holds and the next checks are OK
 pub either-ok : (a b : Bool) (c next : Code) → isOk c ≡ false → fails (either a b) c next ≡ Ok → (a ≡ false) × (b ≡ false) × (next ≡ Ok)
 unfolding either
 either-ok true b c next n h = absurd (false≢true (sym (fails-ok true c next n h .0)))
 either-ok false b c next n h = let p = fails-ok b c next n h in (refl, p .0, p .1)
 
--- what an OK tells of the checks at the front
+-- if two rows together are OK, the first is OK
 pub first-ok : (k next : Code) → andThen k next ≡ Ok → k ≡ Ok
 unfolding andThen
 first-ok Ok next h = refl
@@ -37,7 +37,7 @@ first-ok BadPas next h = h
 first-ok Inval next h = h
 first-ok Again next h = h
 
--- what an OK tells of the checks at the end
+-- if two rows together are OK, the second is OK
 pub then-ok : (k next : Code) → andThen k next ≡ Ok → next ≡ Ok
 unfolding andThen
 then-ok Ok next h = h
@@ -47,7 +47,7 @@ then-ok BadPas next h = absurd (false≢true (ap isOk h))
 then-ok Inval next h = absurd (false≢true (ap isOk h))
 then-ok Again next h = absurd (false≢true (ap isOk h))
 
--- checks whose front stops, and checks whose front passes
+-- two rows: the first fails, or the first passes
 pub then-stop : (k next j : Code) → k ≡ j → isOk j ≡ false → andThen k next ≡ j
 unfolding andThen
 then-stop k next j e h = rw (e, h)
@@ -56,7 +56,7 @@ pub then-go : (k next : Code) → k ≡ Ok → andThen k next ≡ next
 unfolding andThen
 then-go k next e = rw e
 
--- ---- what a gate tells of its code
+-- ---- what follows from a gate
 pub went : (k : Code) (n at : ℕ) → gated k n ≡ Go at → (k ≡ Ok) × (at ≡ n)
 unfolding gated
 went Ok n at h = (refl, cc)
@@ -84,7 +84,7 @@ unfolding gated
 goes k n at e p = rw (e, p)
 
 -- ---- what a call leaves
--- what holds of the new value where the code is OK, and of the old where it is not
+-- a property of the result follows if it holds of the new value after OK and of the old value after a refusal
 pub if-ok-by : {A : Type 0} (P : A → Type 0) (k : Code) (new old : A) → (k ≡ Ok → P new) → (isOk k ≡ false → P old) → P (ifOk k new old)
 if-ok-by P Ok new old f g = f refl
 if-ok-by P Unk new old f g = g refl

@@ -1,4 +1,4 @@
--- A chain of checks is told by a table of its conditions. Assumes nothing.
+-- A row of checks follows a table of conditions. Assumes nothing.
 use Prim.Native.Nat.{ℕ, _≤_, _<_}
 use mathlib.Core.Path.{_≡_, refl, sym, _∙_}
 use mathlib.Core.Bool.{Bool, true, false, true≢false, false≢true}
@@ -15,7 +15,7 @@ use Rattle.codes.specs.Reasons.{Gives, WhileUp}
 use Rattle.codes.specs.declared.Code.{Code}
 use Rattle.codes.specs.declared.Code.the-variants.{Ok, Unk, BadAddr, BadPas, Inval, Again}
 
--- ---- a test tells a fact
+-- ---- a test decides a fact
 pub record Tells (b : Bool) (P : Type 0) : Type 0 where
   pub yes-if : P → b ≡ true
   pub no-if : (P → ⊥) → b ≡ false
@@ -61,7 +61,7 @@ unfolding unless
 unless-not true h = refl
 unless-not false h = absurd (true≢false h)
 
--- ---- a check is a line of the table
+-- ---- a check is one line of the table
 pub gives : (b : Bool) (P : Type 0) (c next : Code) (below : Code → Type 0) → Tells b P → (b ≡ false → below next) → Gives P c below (fails b c next)
 unfolding fails
 gives true P c next below t x = record { where-it-holds = λ p. refl; elsewhere = λ n. absurd (true≢false (t .no-if n)) }
@@ -73,7 +73,7 @@ while-up Fresh next below h = refl
 while-up (Up u) next below h = h u refl
 while-up Closed next below h = refl
 
--- ---- checks, and those after them, are one chain
+-- ---- two rows of checks are one row
 pub then-fails : (b : Bool) (c k next : Code) → isOk c ≡ false → andThen (fails b c k) next ≡ fails b c (andThen k next)
 unfolding andThen fails
 then-fails true c k next h = rw h

@@ -13,6 +13,7 @@ use Rattle.codes.specs.declared.Answer.{Answer}
 use Rattle.codes.specs.declared.Gate.{Gate}
 use Rattle.codes.specs.declared.Gate.the-variants.{Stop, Go}
 
+-- the number of each code
 abbrev pub numberOf : Code → ℤ
 numberOf Ok = pos 0
 numberOf Unk = minus 1
@@ -26,12 +27,15 @@ unfoldable pub extended : ℤ → ℕ
 extended (pos n) = n
 extended (negsuc n) = 2 ^ 64 - suc n
 
+-- the code as x0 holds it
 unfoldable pub x0Of : Code → ℕ
 x0Of c = extended (numberOf c)
 
+-- the answer with code c, x1 and x2
 unfoldable pub answerOf : Code → ℕ → ℕ → Answer
 answerOf c x1 x2 = record { code = c; x0 = x0Of c; x1 = x1; x2 = x2 }
 
+-- whether the code is OK
 abbrev pub isOk : Code → Bool
 isOk Ok = true
 isOk Unk = false
@@ -40,15 +44,17 @@ isOk BadPas = false
 isOk Inval = false
 isOk Again = false
 
+-- not
 unfoldable pub unless : Bool → Bool
 unless true = false
 unless false = true
 
--- a check: the code if the test holds, else the checks after it. A command's checks are these, read downwards in 01's order.
+-- one check: the code c if the test holds, otherwise the code of the next checks. A command's checks read downwards in 01's order.
 unfoldable pub fails : Bool → Code → Code → Code
 fails true c next = c
 fails false c next = next
 
+-- whether the boot record is up
 unfoldable pub isUp : Record → Bool
 isUp Fresh = false
 isUp (Up u) = true
@@ -64,14 +70,14 @@ upOf Closed = record { cpus = 0; base = 0; minor = 0; kept = 0 }
 unfoldable pub whenUp : Record → Code → Code
 whenUp s k = fails (unless (isUp s)) Unk k
 
--- the new value if the code is OK, else the old: what a refused call leaves
+-- the new value if the code is OK, otherwise the old value: what a refused call leaves
 abbrev pub ifOk : {A : Type 0} → Code → A → A → A
 ifOk k new old = cond (isOk k) new old
 
--- checks, and those after them
+-- the code of two rows of checks: the first if it fails, otherwise the second
 unfoldable pub andThen : Code → Code → Code
 andThen k next = ifOk k next k
 
--- a code, and the place that goes with OK, as the checks hand them on
+-- the result of checks with code k: stop with k, or go on with n if k is OK
 unfoldable pub gated : Code → ℕ → Gate
 gated k n = cond (isOk k) (Go n) (Stop k)

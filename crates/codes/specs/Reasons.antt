@@ -1,5 +1,5 @@
--- When each runtime code is given, for the theorems: a table of conditions in 01's order (`Gives`, of `boot`), each a plain fact with the code
--- that it gives. The first that holds gives the code; where none holds the code is OK. Assumes nothing.
+-- When each runtime code is given, for the theorems: a table of conditions in 01's order (`Gives`, of `boot`), each a plain fact with its
+-- code. The first condition that holds gives the code; if none holds the code is OK. Assumes nothing.
 use mathlib.Core.Path.{_≡_}
 pub use Rattle.boot.specs.Reasons.{Gives}
 use Rattle.boot.specs.declared.Params.{Params}
@@ -8,7 +8,7 @@ use Rattle.boot.specs.declared.Record.the-variants.{Fresh, Up, Closed}
 use Rattle.codes.specs.declared.Code.{Code}
 use Rattle.codes.specs.declared.Code.the-variants.{Ok, Unk}
 
--- its end: no condition held
+-- the end of a table: no condition holds, so the code is OK
 abbrev pub Passes : Code → Type 0
 Passes k = k ≡ Ok
 

@@ -1,9 +1,10 @@
-// The runtime's codes, and the answer of a command.
+// The runtime codes and the answer of a command.
 use boot::Params;
 use boot::Record;
 ghost use mathlib.Core.Path.{_≡_};
 ghost use Rattle.codes.specs.Codes.{x0Of, answerOf, isOk, fails, isUp, upOf};
 
+// The code of a runtime command.
 pub enum Code {
     Ok,
     Unk,
@@ -13,7 +14,7 @@ pub enum Code {
     Again,
 }
 
-// What a command answers: its code, and the result registers, x0 being the code. An unused register is 0.
+// The answer of a command: its code and the result registers. x0 holds the code; an unused register is 0.
 pub struct Answer {
     pub code: Code,
     pub x0: u64,
@@ -21,19 +22,19 @@ pub struct Answer {
     pub x2: u64,
 }
 
-// What the platform has to do beside.
+// What the platform must do after the answer.
 pub enum Work {
     Nothing,
     Reprogram(u64),
 }
 
-// What checks hand on: the code of the first that fails, or a place.
+// The result of a row of checks: the code of the first check that fails, or an offset if all pass.
 pub enum Gate {
     Stop(Code),
     Go(usize),
 }
 
-// The code as x0 holds it: sign-extended to 64 bits.
+// Returns the code sign-extended to 64 bits, as x0 holds it.
 pub fn x0(code: Code) -> u64
     ensures { λ r. ⌜ r ≡ x0Of code ⌝ }
 {
@@ -47,7 +48,7 @@ pub fn x0(code: Code) -> u64
     }
 }
 
-// The answer of a code and two result registers.
+// Returns the answer with this code, x1 and x2.
 pub fn answered(code: Code, x1: u64, x2: u64) -> Answer
     ensures { λ r. ⌜ r ≡ answerOf code x1 x2 ⌝ }
 {
@@ -59,7 +60,7 @@ pub fn answered(code: Code, x1: u64, x2: u64) -> Answer
     }
 }
 
-// Whether a call was accepted.
+// Whether the code is OK.
 pub fn is_ok(code: Code) -> bool
     ensures { λ r. ⌜ r ≡ isOk code ⌝ }
 {
@@ -73,7 +74,7 @@ pub fn is_ok(code: Code) -> bool
     }
 }
 
-// One check: the code if the test holds, else OK.
+// Returns `code` if the test holds, otherwise OK.
 pub fn code_if(test: bool, code: Code) -> Code
     ensures { λ r. ⌜ r ≡ fails test code Code.Ok ⌝ }
 {
@@ -94,7 +95,7 @@ pub fn is_up(state: Record) -> bool
     }
 }
 
-// What a boot record keeps; zeros where it is not up.
+// Returns what a boot record keeps; zeros if it is not up.
 pub fn up_of(state: Record) -> Params
     ensures { λ r. ⌜ r ≡ upOf state ⌝ }
 {

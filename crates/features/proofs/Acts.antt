@@ -1,5 +1,5 @@
--- When features and key update are OK, and what they then do. Each statement lists the conditions of 01 as they stand there, and none of
--- the definitions of the checks. Assumes nothing.
+-- When features and key update are OK, and what they then do. Each statement lists 01's conditions and uses no definition of the checks.
+-- Assumes nothing.
 use Prim.Native.Nat.{ℕ, _+_, _-_, _^_, min, _≤_}
 use mathlib.Core.Path.{_≡_, refl, sym}
 use mathlib.Core.Bool.{true}
@@ -53,7 +53,7 @@ update-only s m mecid h =
     let l : mecid ≤ 2 ^ (min m 15 + 1) - 1 = ltb-false _ _ (q .1) in
     (p .0, ltb-false _ _ (r .1), w, rw e at l)
 
--- "forwards err_code (x1) to the Non-secure world", whatever the record is
+-- "forwards err_code (x1) to the Non-secure world", for any record
 pub forward-acts : (s : Record) (x1 : ℕ) → forwardOf s x1 ≡ x1
 unfolding forwardOf
 forward-acts s x1 = refl

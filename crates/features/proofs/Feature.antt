@@ -1,4 +1,4 @@
--- Features and key update, return by return, and what a refusal answers. Assumes nothing.
+-- Features and key update, return by return, and the answer of a refusal. Assumes nothing.
 use Prim.Native.Nat.{ℕ, _+_, _-_, _*_, _/_, _^_, min, _≤_, _<_}
 use mathlib.Core.Path.{_≡_}
 use mathlib.Core.Bool.{true, false}
@@ -56,7 +56,7 @@ module _ (s : Record) (index : ℕ) where
       unfolding featuresOf featuresBy whenUp featuresCode fails unless
       features-ok l = rw (h, eq-eqb index 0 i, le-ltb (upOf s .minor) 4 l)
 
--- a refused call has zeros in the other registers
+-- a refused call has zeros in x1 and x2
 pub features-refused : (s : Record) (index : ℕ) → isOk (featuresOf s index .code) ≡ false → featuresOf s index ≡ answerOf (featuresOf s index .code) 0 0
 unfolding featuresOf featuresBy answerOf
 features-refused s index h = rw h
@@ -95,7 +95,7 @@ module _ (s : Record) (m mecid : ℕ) where
           unfolding updateOf updateBy whenUp updateCode fails unless either
           update-ok n = rw (h, le-ltb 65535 mecid l, b, le-ltb 15 m w, le-ltb (upOf s .minor) 5 n)
 
--- a refused call has zeros in the registers, and nothing to do
+-- a refused call has zeros in x1 and x2, and leaves nothing for the platform to do
 pub update-refused : (s : Record) (m mecid : ℕ) → isOk (updateOf s m mecid .answer .code) ≡ false →
     updateOf s m mecid ≡ record { answer = answerOf (updateOf s m mecid .answer .code) 0 0; work = Nothing }
 unfolding updateOf updateBy answerOf

@@ -15,10 +15,11 @@ use Rattle.features.specs.declared.Updated.{Updated}
 unfoldable pub featuresCode : Params → ℕ → Code
 featuresCode u index = fails (unless (eqb index 0)) Inval (fails (ltb (u .minor) 4) Unk Ok)
 
--- "x1 is 1 (token signing present)."
+-- the answer of features: "x1 is 1 (token signing present)."
 unfoldable pub featuresBy : Code → Answer
 featuresBy k = answerOf k (ifOk k 1 0) 0
 
+-- the features command
 unfoldable pub featuresOf : Record → ℕ → Answer
 featuresOf s index = featuresBy (whenUp s (featuresCode (upOf s) index))
 
@@ -30,13 +31,14 @@ updateCode u m mecid =
     (fails (either (ltb 15 m) (ltb (u .minor) 5)) Unk
     Ok)
 
--- "else the mecid to reprogram": an answer beside the registers
+-- "else the mecid to reprogram": work for the platform, next to the registers
 unfoldable pub updateBy : Code → ℕ → Updated
 updateBy k mecid = record { answer = answerOf k 0 0; work = ifOk k (Reprogram mecid) Nothing }
 
+-- the key update command
 unfoldable pub updateOf : Record → ℕ → ℕ → Updated
 updateOf s m mecid = updateBy (whenUp s (updateCode (upOf s) m mecid)) mecid
 
--- "forwards err_code (x1) to the Non-secure world; it has no result": what is forwarded, whatever the record is
+-- "forwards err_code (x1) to the Non-secure world; it has no result": the code forwarded, for any record
 unfoldable pub forwardOf : Record → ℕ → ℕ
 forwardOf s x1 = x1

@@ -1,4 +1,4 @@
-// Features, key update, and the error that is forwarded.
+// Features, key update and the forwarded error.
 use boot::Record;
 use codes::Answer;
 use codes::Code;
@@ -9,13 +9,13 @@ ghost use Prim.Native.Nat.{_+_, _-_, _^_, _≤_};
 ghost use Rattle.features.specs.Features.{featuresOf, updateOf, forwardOf};
 ghost use Rattle.codes.specs.Codes.{answerOf};
 
-// What a key update answers, and what the platform has to do.
+// The result of a key update: the answer, and what the platform must do.
 pub struct Updated {
     pub answer: Answer,
     pub work: Work,
 }
 
-// 0xC40001B4: whether token signing is there, by the index of a feature register.
+// 0xC40001B4: returns feature register `index` in x1. Register 0 is 1: token signing is present.
 pub fn features(state: Record, index: u64) -> Answer
     ensures { λ r. ⌜ r ≡ featuresOf state index ⌝ }
 {
@@ -32,7 +32,7 @@ pub fn features(state: Record, index: u64) -> Answer
     codes::answered(Code::Ok, 1, 0)
 }
 
-// Whether a mecid has more than so many bits.
+// Whether `mecid` does not fit `bits` bits.
 fn is_above(mecid: u64, bits: u64) -> bool
     requires { ⌜ bits ≤ 16 ⌝ }
     ensures { λ r. ⌜ r ≡ ltb (2 ^ bits - 1) mecid ⌝ }
@@ -43,7 +43,7 @@ fn is_above(mecid: u64, bits: u64) -> bool
     true
 }
 
-// A refused update.
+// Refuses an update with `code`.
 fn refused(code: Code) -> Updated
     ensures { λ r. ⌜ (r .answer ≡ answerOf code 0 0) × (r .work ≡ Work.Nothing) ⌝ }
 {
@@ -53,7 +53,7 @@ fn refused(code: Code) -> Updated
     }
 }
 
-// 0xC40001B6: the mecid to reprogram, width being MECIDWidthm1.
+// 0xC40001B6: returns the mecid to reprogram; `width` is MECIDWidthm1.
 pub fn key_update(state: Record, width: u64, mecid: u64) -> Updated
     ensures { λ r. ⌜ r ≡ updateOf state width mecid ⌝ }
 {
@@ -79,7 +79,7 @@ pub fn key_update(state: Record, width: u64, mecid: u64) -> Updated
     }
 }
 
-// 0xC400018F: the error code that goes to the Non-secure world, whatever the record is. There is no result.
+// 0xC400018F: returns the error code to forward to the Non-secure world, for any record. The command has no result.
 pub fn forward(state: Record, x1: u64) -> u64
     ensures { λ r. ⌜ r ≡ forwardOf state x1 ⌝ }
 {

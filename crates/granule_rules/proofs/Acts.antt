@@ -1,4 +1,4 @@
--- When delegation is OK, and what an OK did. Assumes nothing.
+-- When delegation is OK, and what it then does. Assumes nothing.
 use Prim.Native.Nat.{ℕ, _/_, _<_}
 use mathlib.Core.Path.{_≡_, refl, sym, ap, _∙_}
 use mathlib.Core.Bool.{true, false, false≢true}
@@ -24,7 +24,7 @@ use Rattle.granule_rules.specs.declared.Direction.{Direction}
 use Rattle.granule_rules.specs.declared.Direction.the-variants.{Delegate, Undelegate}
 use Rattle.granule_rules.proofs.Moving.{move-addr, move-shared, move-ok, move-up}
 
--- ---- granule i of a table: it is that of its bank's address, and of no other
+-- ---- granule i of a table has one address, that of its bank
 module _ (g : Granules) (n i : ℕ) where
   pub granule-on : Yes (recordOk g) → granuleCount g ≡ n → i < n → granuleAt g n (addressOf g i) ≡ At i
   granule-on ok e h = rw (← e) (index-named g i ok (omega arith))
@@ -34,8 +34,8 @@ module _ (g : Granules) (n i : ℕ) where
       let f = falls g n addr i h in
       one-address g n addr (addressOf g i) i h (granule-on (f .ok) (f .count) (index-below g n addr i h))
 
--- A refusal comes only where 01 and 02 give it: with as many words as the record's granules ask for, the record up and the address that
--- of a granule of the table, not the shared page's if it is to be undelegated, whose byte is 0 (delegate) or 1 (undelegate), the answer is OK.
+-- A call is refused only if 01 or 02 refuses it. The answer is OK if the number of words is right, the record is up, the address is that of
+-- a granule of the table (when undelegating, not of the shared page), and its byte is 0 (delegate) or 1 (undelegate).
 pub move-passes : (s : Record) (g : Granules) (d : Direction) (t : GranuleTable) (addr i : ℕ) → length (t .words) ≡ wordsFor (granuleCount g) → isUp s ≡ true → granuleAt g (length (t .bytes)) addr ≡ At i →
     (d ≡ Undelegate → addr ≡ upOf s .base → ⊥) → getD (t .bytes) i 0 ≡ fromByte d → moveOf s g d t addr .answer ≡ answerOf Ok 0 0
 unfolding movedTo isSharedPage
@@ -46,7 +46,7 @@ move-passes s g d t addr i f u e n b =
     go Delegate n = refl
     go Undelegate n = ne-eqb addr (upOf s .base) (n refl)
 
--- 02, E8: with so many words and the record up, undelegating the shared page is BAD_ADDR, whatever the table
+-- 02, E8: with the right number of words and the record up, undelegating the shared page is BAD_ADDR, for any table
 pub shared-refused : (s : Record) (g : Granules) (t : GranuleTable) → length (t .words) ≡ wordsFor (granuleCount g) → isUp s ≡ true → moveOf s g Undelegate t (upOf s .base) ≡ record { answer = answerOf BadAddr 0 0; table = t }
 unfolding movedTo isSharedPage
 shared-refused s g t f u = sym (go (granuleAt g (length (t .bytes)) (upOf s .base)) refl ∙ move-up s g Undelegate t (upOf s .base) (eq-eqb (length (t .words)) (wordsFor (granuleCount g)) f) u)
@@ -79,7 +79,7 @@ acted u g d t addr (At i) f e h =
       wholeWords = put-length (t .words) i _;
     }
 
--- what an OK tells of the checks that no byte is looked at for
+-- what follows from OK for the checks that read no byte
 free : (u : Params) (d : Direction) (t : GranuleTable) (addr : ℕ) (k : Granule) → granuleCode u d t addr k ≡ Ok → isSharedPage u d addr ≡ false
 unfolding granuleCode
 free u d t addr Nothing h = absurd (false≢true (ap isOk h))
@@ -92,7 +92,8 @@ move-free s g d t addr h =
     let q = unless-ok _ _ _ refl (p .1) in
     (p .0, q .0, free (upOf s) d t addr _ (q .1))
 
--- and only with so many words, the record up, and not the shared page's to be undelegated; what else an OK tells is part of what it did
+-- and only with the right number of words, the record up, and not to undelegate the shared page; `MoveActed` has the rest of what follows
+-- from OK
 pub move-only : (s : Record) (g : Granules) (d : Direction) (t : GranuleTable) (addr : ℕ) → moveOf s g d t addr .answer .code ≡ Ok →
     (length (t .words) ≡ wordsFor (granuleCount g)) × (isUp s ≡ true) × (d ≡ Undelegate → addr ≡ upOf s .base → ⊥)
 unfolding isSharedPage fitting

@@ -42,7 +42,7 @@ module _ (s : Record) (g : Granules) (d : Direction) where
       if-ok-by Agrees (whenFit g t (whenUp s (moveCode (upOf s) g d t addr))) (granuleSet d t (granuleAt g (length (t .bytes)) addr)) t
       (λ e. set-keeps g d t addr (granuleAt g (length (t .bytes)) addr) refl a) (λ e. a)
 
--- ---- what each single call keeps, a list keeps
+-- ---- a property that each single call keeps is kept by a list
 module _ (s : Record) (g : Granules) (d : Direction) (P : GranuleTable → Type 0) (keeps : (t : GranuleTable) (addr : ℕ) → P t → P (moveOf s g d t addr .table)) where
   tables-hold : (t : GranuleTable) (l : List ℕ) → P t → P (tableBy (moveOf s g d) t l)
   unfolding tableBy

@@ -1,4 +1,4 @@
--- 02, E14: the books balance over each accepted call, and go on from table to table. Assumes nothing.
+-- 02, E14: the books balance over each accepted call, and compose from table to table. Assumes nothing.
 use Prim.Native.Nat.{ℕ, zero, suc, _+_, _<_}
 use mathlib.Core.Path.{_≡_, refl, sym, ap, _∙_}
 use mathlib.Core.Bool.{Bool, true, false, cond}
@@ -27,7 +27,7 @@ use Rattle.granule_rules.proofs.Acts.{move-acts}
 use Rattle.granule_rules.proofs.Done.{list-is}
 use Rattle.granule_rules.proofs.Changes.{list-by}
 
--- ---- Realm bytes of two tables of one length that differ in one byte at most
+-- ---- Realm bytes of two tables of the same length that differ in at most one byte
 realms-same : (xs ys : List ℕ) → length xs ≡ length ys → ((j : ℕ) → getD xs j 0 ≡ getD ys j 0) → realms xs ≡ realms ys
 unfolding realms
 realms-same [] [] n h = refl
@@ -44,7 +44,7 @@ realms-one (x ∷ xs) (y ∷ ys) zero l n h = rw (realms-same xs ys (omega arith
 realms-one (x ∷ xs) (y ∷ ys) (suc i) l n h =
     rw (h 0 (λ e. omega arith)) (omega (arith, realms-one xs ys i (omega arith) (omega arith) (λ j k. h (suc j) (λ e. k (omega arith)))))
 
--- ---- the byte that the changes leave, one after the other
+-- ---- the byte that the changes leave, one after another
 pub isAt : ℕ → Granule → Bool
 isAt i Nothing = false
 isAt i (At j) = eqb i j
@@ -81,7 +81,7 @@ module _ (g : Granules) (n i : ℕ) where
   none-named [] h = nil
   none-named (c ∷ cs) h = cons c cs (h (c .address)) (none-named cs h)
 
--- ---- the same with the bytes by that fold: it goes on from table to table
+-- ---- the same with the bytes from that fold: it composes from table to table
 pub record Account (g : Granules) (t : GranuleTable) (cs : List Change) (after : GranuleTable) : Type 0 where
   pub balance : realms (t .bytes) + delegations cs ≡ undelegations cs + realms (after .bytes)
   pub whole : length (after .bytes) ≡ length (t .bytes)
@@ -146,7 +146,7 @@ account-one g Undelegate t after a m = record { balance = omega (arith, moved-re
 pub call-account : (s : Record) (g : Granules) (d : Direction) (t : GranuleTable) (a : ℕ) → moveOf s g d t a .answer .code ≡ Ok → Account g t (change d a ∷ []) (moveOf s g d t a .table)
 call-account s g d t a h = account-one g d t _ a (move-acts s g d t a h)
 
--- "each granule of a list counted as a call": x1 says how many of them to enter
+-- "each granule of a list counted as a call": x1 is the number of them to enter
 pub list-number : (s : Record) (g : Granules) (d : Direction) (t : GranuleTable) (l : List ℕ) → moveListOf s g d t l .answer .x1 ≡ doneOf s g d t l
 unfolding answerOf
 list-number s g d t l = ap (λ (m : Moved). m .answer .x1) (list-is s g d t l)

@@ -1,4 +1,4 @@
--- What holds of each accepted call holds of any call and of any list. Assumes nothing.
+-- A property of each accepted call holds of any call and of any list. Assumes nothing.
 use Prim.Native.Nat.{ℕ}
 use mathlib.Core.Path.{_≡_, refl}
 use mathlib.Core.Bool.{Bool, true, false, cond}
@@ -14,12 +14,12 @@ use Rattle.banks.specs.Banks.{Granules}
 use Rattle.granule_rules.specs.declared.Direction.{Direction}
 use Rattle.granule_rules.proofs.Done.{ok-code, stays, list-is}
 
--- A relation between a table, the changes to it and the table then, which holds of no change and goes on from table to table
+-- A relation between a table, the changes to it and the next table, which holds of no change and composes from table to table
 module _ (R : GranuleTable → List Change → GranuleTable → Type 0) (none : (t : GranuleTable) → R t [] t)
     (join : (t u v : GranuleTable) (xs ys : List Change) → R t xs u → R u ys v → R t (xs ++ ys) v)
     (s : Record) (g : Granules) (d : Direction)
     (one : (t : GranuleTable) (a : ℕ) → moveOf s g d t a .answer .code ≡ Ok → R t (change d a ∷ []) (moveOf s g d t a .table)) where
-  -- a call is one change, or none where it is refused
+  -- a call is one change, or no change if it is refused
   pub call-by : (t : GranuleTable) (a : ℕ) → R t (cond (isOk (moveOf s g d t a .answer .code)) (change d a ∷ []) []) (moveOf s g d t a .table)
   call-by t a = go (isOk (moveOf s g d t a .answer .code)) refl
     where

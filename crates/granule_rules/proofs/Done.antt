@@ -1,4 +1,4 @@
--- 02, E1: what a list of granules does, over its single calls. Assumes nothing.
+-- 02, E1: what a list of granules does, in terms of its single calls. Assumes nothing.
 use Prim.Native.Nat.{ℕ, zero, suc, _+_, _<_, _≤_}
 use mathlib.Core.Path.{_≡_, refl, sym, ap, _∙_}
 use mathlib.Core.Bool.{Bool, true, false, false≢true}
@@ -30,9 +30,9 @@ ok-code BadPas h = absurd (false≢true h)
 ok-code Inval h = absurd (false≢true h)
 ok-code Again h = absurd (false≢true h)
 
--- ---- for any single call that leaves the table where it refuses
+-- ---- for any single call that leaves the table unchanged if it refuses
 module _ (f : GranuleTable → ℕ → Moved) where
-  -- the number done, and where the list stops
+  -- the number done, and the place of the first refusal
   first-done : (t : GranuleTable) (a : ℕ) (l : List ℕ) → 0 < doneBy f t (a ∷ l) → isOk (f t a .answer .code) ≡ true
   unfolding doneBy
   first-done t a l h = go (isOk (f t a .answer .code)) refl
@@ -71,7 +71,7 @@ module _ (f : GranuleTable → ℕ → Moved) where
         go true e r = rw (e, r, suc-add, add-suc)
         go false e r = rw (e, stays t a e, add-zero)
 
--- ---- the command's
+-- ---- for the command's own single calls
 module _ (s : Record) (g : Granules) (d : Direction) where
   pub stays : (t : GranuleTable) (a : ℕ) → isOk (moveOf s g d t a .answer .code) ≡ false → moveOf s g d t a .table ≡ t
   stays t a h = ap (λ (m : Moved). m .table) (move-refused s g d t a h)
@@ -81,8 +81,8 @@ module _ (s : Record) (g : Granules) (d : Direction) where
   unfit-done t [] f = refl
   unfit-done t (a ∷ l) f = rw (← move-unfit s g d t a f)
 
-  -- "The result, the table and the number done equal single calls made in list order, stopping at the first refusal.": with words that
-  -- are not as many as they must be none is done, and an empty list is INVAL too
+  -- "The result, the table and the number done equal single calls made in list order, stopping at the first refusal.": with the wrong
+  -- number of words no call is done, and an empty list is INVAL, too
   pub list-is : (t : GranuleTable) (l : List ℕ) → moveListOf s g d t l ≡
       record { answer = answerOf (whenFit g t (codeBy (moveOf s g d) t l)) (doneBy (moveOf s g d) t l) 0; table = tableBy (moveOf s g d) t (take (doneBy (moveOf s g d) t l) l) }
   unfolding moveListOf movedBy tableBy whenFit unless fails
@@ -93,8 +93,8 @@ module _ (s : Record) (g : Granules) (d : Direction) where
       go true f = rw f (list-by (moveOf s g d) stays 0 t l ∙ rw zero-add)
       go false f = rw (f, unfit-done t l f)
 
-  -- ---- an address that comes again
-  -- the byte that a granule gets stays, whatever else the list does
+  -- ---- an address that is repeated
+  -- the byte that a granule gets stays, for any later calls of the list
   mark-stays : (t after : GranuleTable) (a i : ℕ) → MoveActed g d t after a → getD (t .bytes) i 0 ≡ toByte d → getD (after .bytes) i 0 ≡ toByte d
   mark-stays t after a i m h = go (eqb i (m .granule)) refl
     where
@@ -110,7 +110,7 @@ module _ (s : Record) (g : Granules) (d : Direction) where
       go Delegate h = absurd (omega arith)
       go Undelegate h = absurd (omega arith)
 
-  -- the single call of an address whose granule has the byte that it would get
+  -- the single call of an address whose granule already has the byte that it would get
   marked-refused : (t : GranuleTable) (a i : ℕ) → fitting g t ≡ true → isUp s ≡ true → isSharedPage (upOf s) d a ≡ false → granuleAt g (length (t .bytes)) a ≡ At i → getD (t .bytes) i 0 ≡ toByte d → moveOf s g d t a .answer .code ≡ BadPas
   unfolding movedTo answerOf
   marked-refused t a i f u n e h = ap (λ (m : Moved). m .answer .code) (sym (move-pas (upOf s) g d (t .bytes) (t .words) a i e n (λ b. differs (sym h ∙ b)) ∙ move-up s g d t a f u))
@@ -150,8 +150,8 @@ module _ (s : Record) (g : Granules) (d : Direction) where
       let p = again l (moveOf s g d t b .table) i j (omega arith) (omega arith) e (omega arith) in
       rw k (ap suc (p .0), p .1)
 
-  -- "An address already done in this list is refused with BAD_PAS when it is reached again.": the i-th and the j-th address are one,
-  -- and all calls before the j-th are accepted
+  -- "An address already done in this list is refused with BAD_PAS when it is reached again.": the i-th and the j-th address are equal, and
+  -- all calls before the j-th are accepted
   pub list-again : (t : GranuleTable) (l : List ℕ) (i j : ℕ) → i < j → j < length l → getD l i 0 ≡ getD l j 0 → j ≤ doneBy (moveOf s g d) t l →
       moveListOf s g d t l ≡ record { answer = answerOf BadPas j 0; table = tableBy (moveOf s g d) t (take j l) }
   unfolding whenFit unless fails

@@ -1,4 +1,4 @@
--- A list of granules, as its loop goes, and what it is of its single calls. Assumes nothing.
+-- A list of granules as its loop runs, in terms of its single calls. Assumes nothing.
 use Prim.Native.Nat.{ℕ, suc, _+_, _<_}
 use mathlib.Core.Path.{_≡_, refl, sym, ap, _∙_}
 use mathlib.Core.Bool.{Bool, true, false, cond}
@@ -29,7 +29,7 @@ onward-stop : (m : Moved) (k : ℕ) (rest : Moved) → isOk (m .answer .code) �
 unfolding onward
 onward-stop m k rest h = ap (λ b. cond b rest (record { answer = answerOf (m .answer .code) k 0; table = m .table })) h
 
--- ---- the list from its i-th address on, as the loop goes
+-- ---- the list from its i-th address on, in the loop
 module _ (f : GranuleTable → ℕ → Moved) (l : List ℕ) (i : ℕ) (t : GranuleTable) where
   list-last : i ≡ length l → _≡_ {A = Moved} (record { answer = answerOf Ok (length l) 0; table = t }) (listBy f i t (drop i l))
   unfolding listBy
@@ -49,7 +49,7 @@ module _ (f : GranuleTable → ℕ → Moved) (l : List ℕ) (i : ℕ) (t : Gran
     list-stop : isOk (m .answer .code) ≡ false → record { answer = answerOf (m .answer .code) i 0; table = m .table } ≡ listBy f i t (drop i l)
     list-stop k = sym (here ∙ onward-stop m i _ k)
 
--- the same by the code of the call and the table that it left, as they were told; `whole` is the list as its loop has it so far
+-- the same from the code of the call and the table that it leaves; `whole` is the list as its loop has it so far
 module _ (f : GranuleTable → ℕ → Moved) (l : List ℕ) (i : ℕ) (t : GranuleTable) (whole : Moved) (w : whole ≡ listBy f i t (drop i l)) where
   pub told-last : i ≡ length l → (r : Answer) → r ≡ answerOf Ok (length l) 0 → _≡_ {A = Moved} (record { answer = r; table = t }) whole
   told-last e r q = rw q (list-last f l i t e ∙ sym w)
@@ -63,8 +63,8 @@ module _ (f : GranuleTable → ℕ → Moved) (l : List ℕ) (i : ℕ) (t : Gran
     unfolding movedTo answerOf
     told-stop y r q = rw q (list-stop f l i t h (movedTo (answerOf k 0 0) bytes words) e (sym o ∙ y) ∙ sym w)
 
--- ---- the record is looked at once
--- two single calls that are one on tables of a kind, which the second leaves
+-- ---- the record is checked once
+-- two single calls that are equal on tables with property P, which the second call keeps
 module _ (P : GranuleTable → Type 0) (f h : GranuleTable → ℕ → Moved) (e : (t : GranuleTable) (a : ℕ) → P t → f t a ≡ h t a) (kept : (t : GranuleTable) (a : ℕ) → P t → P (h t a .table)) where
   same-list : (k : ℕ) (t : GranuleTable) (l : List ℕ) → P t → listBy f k t l ≡ listBy h k t l
   unfolding listBy
@@ -105,7 +105,7 @@ module _ (s : Record) (g : Granules) (d : Direction) (t : GranuleTable) where
     list-down h [] n = absurd (n refl)
     list-down h (a ∷ l) n = first-down h a l ∙ list-fit (a ∷ l)
 
-    -- where no address is on a granule of the table, the first is refused
+    -- if no address is on a granule of the table, the first call is refused
     first-nowhere : isUp s ≡ true → (a : ℕ) (l : List ℕ) → granuleAt g (length (t .bytes)) a ≡ Nothing → _≡_ {A = Moved} (record { answer = answerOf BadAddr 0 0; table = t }) (listBy (moveOf s g d) 0 t (a ∷ l))
     unfolding listBy onward movedTo answerOf
     first-nowhere h a l e = rw (← move-nowhere s g d t a f h e)

@@ -24,8 +24,8 @@ use Rattle.banks.specs.declared.Granule.{Granule}
 use Rattle.banks.specs.declared.Granule.the-variants.{Nothing, At}
 use Rattle.granule_rules.specs.declared.Direction.{Direction}
 
--- ---- the granule of an address, and that it lies within the table
--- whether the words fit, by the m granules of the record
+-- ---- the granule of an address is within the table
+-- whether the words fit, from the m granules of the record
 pub fit-told : (g : Granules) (bytes words : List ℕ) (m : ℕ) (r b : Bool) → m ≡ granuleCount g → r ≡ wordsFit words m → r ≡ b → fitting g (tableOf bytes words) ≡ b
 fit-told g bytes words m r b c e h = ap (wordsFit words) (sym c) ∙ sym e ∙ h
 
@@ -61,7 +61,7 @@ module _ (u : Params) (g : Granules) (d : Direction) (t ws : List ℕ) (addr : �
       unfolding movedTo moveAt movedBy moveCode granuleCode moved granuleSet unless fails
       move-ok b v y = rw (e, k, eq-eqb (getD t i 0) (fromByte d) b, y)
 
--- no call changes how many bytes or words there are
+-- no call changes the number of bytes or words
 abbrev pub AsLong : GranuleTable → GranuleTable → Type 0
 AsLong t after = (length (after .bytes) ≡ length (t .bytes)) × (length (after .words) ≡ length (t .words))
 
@@ -78,7 +78,7 @@ move-lengths : (u : Params) (g : Granules) (d : Direction) (t : GranuleTable) (a
 unfolding moveAt
 move-lengths u g d t addr = by-lengths (moveCode u g d t addr) g d t addr
 
--- the same of a move as it was told
+-- the same for a move m that equals `moveAt`
 pub told-lengths : (u : Params) (g : Granules) (d : Direction) (t : GranuleTable) (addr : ℕ) (m : Moved) → m ≡ moveAt u g d t addr → AsLong t (m .table)
 told-lengths u g d t addr m e = rw e (move-lengths u g d t addr)
 
@@ -108,11 +108,11 @@ module _ (s : Record) (g : Granules) (d : Direction) (t : GranuleTable) (addr : 
     pub move-nowhere : isUp s ≡ true → granuleAt g (length (t .bytes)) addr ≡ Nothing → movedTo (answerOf BadAddr 0 0) (t .bytes) (t .words) ≡ moveOf s g d t addr
     move-nowhere h e = move-addr (upOf s) g d (t .bytes) (t .words) addr e ∙ move-up h
 
-    -- words that are as many as they must be stay so
+    -- the right number of words stays right
     pub fit-kept : fitting g (moveOf s g d t addr .table) ≡ true
     fit-kept = fit-long (moveOf s g d t addr .table .words) (t .words) (granuleCount g) (lengths-kept .1) f
 
--- a refused move leaves the table as it was, with zeros in the other registers
+-- a refused move leaves the table unchanged, with zeros in x1 and x2
 pub move-refused : (s : Record) (g : Granules) (d : Direction) (t : GranuleTable) (addr : ℕ) → isOk (moveOf s g d t addr .answer .code) ≡ false →
     moveOf s g d t addr ≡ record { answer = answerOf (moveOf s g d t addr .answer .code) 0 0; table = t }
 unfolding moveOf movedBy answerOf

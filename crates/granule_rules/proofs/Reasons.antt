@@ -1,6 +1,6 @@
--- When delegation gives each of its codes. 02, E6: INVAL first, if the words are not as many as the granules ask for; 01: "BAD_ADDR unless .. the
--- address are multiples of 4,096 and the address falls on a granule of the table"; 02, E8: BAD_ADDR for the shared page, to be undelegated; 01:
--- "BAD_PAS unless that byte is 0 (delegate) or 1 (undelegate)". Assumes nothing.
+-- When delegation gives each of its codes. 02, E6: INVAL first, if the number of words is wrong; 01: "BAD_ADDR unless .. the address are
+-- multiples of 4,096 and the address falls on a granule of the table"; 02, E8: BAD_ADDR for undelegating the shared page; 01: "BAD_PAS
+-- unless that byte is 0 (delegate) or 1 (undelegate)". Assumes nothing.
 use Prim.Native.Nat.{ℕ, _+_, _/_}
 use mathlib.Core.Path.{_≡_, refl, sym, _∙_}
 use mathlib.Core.List.{List}
@@ -42,7 +42,7 @@ unfolding isSharedPage
 tells-shared u Delegate addr = record { yes-if = λ h. absurd (let e = h .0 in let z : _≡_ {A = ℕ} 0 1 = cc in omega arith); no-if = λ h. refl }
 tells-shared u Undelegate addr = record { yes-if = λ h. tells-eq addr (u .base) .yes-if (h .1); no-if = λ h. tells-eq addr (u .base) .no-if (λ e. h (refl, e)) }
 
--- by the granule of the address, if there is one
+-- by the granule of the address, if it has one
 abbrev pub GranuleGives : Params → Granules → Direction → GranuleTable → ℕ → Code → Type 0
 GranuleGives u g d t addr =
     Gives ((i : ℕ) → LiesAt g (length (t .bytes)) addr i → ⊥) BadAddr
@@ -79,8 +79,8 @@ move-codes s g d t addr =
     gives _ _ Inval _ _ (tells-not _ _ (tells-eq (length (t .words)) ((granuleCount g + 63) / 64))) (λ f.
     while-up s (λ u. granuleCode u d t addr (granuleAt g (length (t .bytes)) addr)) _ (λ u e. granule-gives u g d t addr _ refl))
 
--- 02, E1 and E6: over a list INVAL first, an empty list's too; then the code of the first single call that is refused, or OK (`longest` in
--- Done.antt says which call that is)
+-- 02, E1 and E6: for a list INVAL first, also if it is empty; then the code of the first single call that is refused, or OK (`longest` in
+-- Done.antt shows which call that is)
 pub list-codes : (s : Record) (g : Granules) (d : Direction) (t : GranuleTable) (l : List ℕ) →
     Gives (length (t .words) ≡ (granuleCount g + 63) / 64 → ⊥) Inval
     (λ k. k ≡ codeBy (moveOf s g d) t l)

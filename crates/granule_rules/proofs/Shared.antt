@@ -17,7 +17,7 @@ use Rattle.granule_rules.specs.declared.Direction.the-variants.{Delegate
 use Rattle.granule_rules.proofs.Acts.{move-only, move-acts}
 use Rattle.banks.proofs.Laws.{one-address}
 
--- a call at another granule leaves it
+-- a call on another granule leaves it unchanged
 other-stays : (g : Granules) (d : Direction) (t after : GranuleTable) (a addr : ℕ) → MoveActed g d t after a → (r : RealmAt g addr t) → (a ≡ addr → ⊥) → RealmAt g addr after
 other-stays g d t after a addr m r n =
     record {
@@ -29,7 +29,7 @@ other-stays g d t after a addr m r n =
 one-index : (i j : ℕ) → At i ≡ At j → i ≡ j
 one-index i j h = cc
 
--- a granule that is Realm is not delegated
+-- a granule that is Realm cannot be delegated
 realm-taken : (g : Granules) (t after : GranuleTable) (a addr : ℕ) → MoveActed g Delegate t after a → RealmAt g addr t → a ≡ addr → ⊥
 unfolding fromByte
 realm-taken g t after a addr m r e =
@@ -42,7 +42,7 @@ pub shared-kept : (s : Record) (g : Granules) (d : Direction) (t : GranuleTable)
 shared-kept s g Delegate t a h r = let m = move-acts s g Delegate t a h in other-stays g Delegate t _ a (upOf s .base) m r (realm-taken g t _ a (upOf s .base) m r)
 shared-kept s g Undelegate t a h r = other-stays g Undelegate t _ a (upOf s .base) (move-acts s g Undelegate t a h) r (move-only s g Undelegate t a h .2 refl)
 
--- "Delegating it is as before.": the granule that an address falls on is Realm once it is delegated
+-- "Delegating it is as before.": the granule of an address is Realm after it is delegated
 pub delegated-realm : (s : Record) (g : Granules) (t : GranuleTable) (addr : ℕ) → moveOf s g Delegate t addr .answer .code ≡ Ok → RealmAt g addr (moveOf s g Delegate t addr .table)
 unfolding toByte
 delegated-realm s g t addr h =

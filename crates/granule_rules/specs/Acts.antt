@@ -1,4 +1,4 @@
--- What an accepted call did. Assumes nothing.
+-- What an accepted call does. Assumes nothing.
 use Prim.Native.Nat.{ℕ}
 use mathlib.Core.Path.{_≡_}
 use lib.ListN.{length, getD}
@@ -8,8 +8,8 @@ use Rattle.granule_rules.specs.Granules.{GranuleTable, fromByte, toByte}
 use Rattle.banks.specs.declared.Granule.the-variants.{At}
 use Rattle.granule_rules.specs.declared.Direction.{Direction}
 
--- The granule is the address's own, its byte was the one that it must have and is the one that it gets, and every
--- other byte is as it was. 02, E6: so is its bit, whatever it was, and every other bit is as it was
+-- The granule is that of the address, its byte is `fromByte` before and `toByte` after the call, and every other byte is unchanged. 02, E6:
+-- its bit is that of the new byte, for any bit before, and every other bit is unchanged
 pub record MoveActed (g : Granules) (d : Direction) (t after : GranuleTable) (addr : ℕ) : Type 0 where
   pub granule : ℕ
   pub own : granuleAt g (length (t .bytes)) addr ≡ At granule

@@ -12,20 +12,23 @@ use Rattle.granule_rules.specs.Changes.{Change}
 use Rattle.granule_rules.specs.declared.Direction.{Direction}
 use Rattle.granule_rules.specs.declared.Direction.the-variants.{Delegate, Undelegate}
 
--- ---- the numbers: "the number of Realm bytes" is `realms`, of all bytes of the table, also where the record has no granule
--- "accepted delegations", "accepted undelegations"
+-- ---- the numbers: "the number of Realm bytes" is `realms` of all bytes of the table, even if the record has no granules
+-- "accepted delegations" of one call
 abbrev pub gains : Direction → ℕ
 gains Delegate = 1
 gains Undelegate = 0
 
+-- "accepted undelegations" of one call
 abbrev pub losses : Direction → ℕ
 losses Delegate = 0
 losses Undelegate = 1
 
+-- the number of delegations
 unfoldable pub delegations : List Change → ℕ
 delegations [] = 0
 delegations (c ∷ cs) = gains (c .way) + delegations cs
 
+-- the number of undelegations
 unfoldable pub undelegations : List Change → ℕ
 undelegations [] = 0
 undelegations (c ∷ cs) = losses (c .way) + undelegations cs
@@ -35,25 +38,25 @@ undelegations (c ∷ cs) = losses (c .way) + undelegations cs
 abbrev pub Names : Granules → ℕ → ℕ → Change → Type 0
 Names g n i c = granuleAt g n (c .address) ≡ At i
 
--- every one of them names another granule, or none
+-- no change names granule i
 pub data NoneNames (g : Granules) (n i : ℕ) : List Change → Type 0 where
   nil : NoneNames g n i []
   cons : (c : Change) (cs : List Change) → (Names g n i c → ⊥) → NoneNames g n i cs → NoneNames g n i (c ∷ cs)
 
--- ---- the books: from a table, by accepted calls in their order, to the table then
+-- ---- the books: from table t, by accepted calls in order, to table `after`
 pub record Books (g : Granules) (t : GranuleTable) (cs : List Change) (after : GranuleTable) : Type 0 where
   -- "the number of Realm bytes at the end is that at the start, plus accepted delegations, less accepted undelegations"
   pub balance : realms (t .bytes) + delegations cs ≡ undelegations cs + realms (after .bytes)
-  -- no granule comes or goes
+  -- the number of granules does not change
   pub whole : length (after .bytes) ≡ length (t .bytes)
   -- "Each granule's byte is the one the last accepted call naming it left,"
   pub last : (i : ℕ) (before : List Change) (c : Change) (behind : List Change) → cs ≡ before ++ c ∷ behind → Names g (length (t .bytes)) i c → NoneNames g (length (t .bytes)) i behind → getD (after .bytes) i 0 ≡ toByte (c .way)
   -- "or the starting byte if none did."
   pub none : (i : ℕ) → NoneNames g (length (t .bytes)) i cs → getD (after .bytes) i 0 ≡ getD (t .bytes) i 0
-  -- a byte of the table that no address names stays
+  -- a byte of the table that no address names is unchanged
   pub unnamed : (i : ℕ) → ((a : ℕ) → granuleAt g (length (t .bytes)) a ≡ At i → ⊥) → getD (after .bytes) i 0 ≡ getD (t .bytes) i 0
 
--- the same of the number that the words answer (02, E6): some numbers at the start and at the end, not INVAL, which balance
+-- the same for the count from the words (02, E6): at the start and at the end it is a number, not INVAL, and the numbers balance
 pub record CountBooks (g : Granules) (t : GranuleTable) (cs : List Change) (after : GranuleTable) : Type 0 where
   pub first : ℕ
   pub final : ℕ

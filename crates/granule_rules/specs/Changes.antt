@@ -1,4 +1,4 @@
--- What the theorems over calls speak of. Assumes nothing.
+-- Definitions for the theorems over calls. Assumes nothing.
 use Prim.Native.Nat.{ℕ}
 use mathlib.Core.Path.{_≡_}
 use lib.ListN.{length, getD}
@@ -8,11 +8,12 @@ use Rattle.banks.specs.Banks.{Granules}
 use Rattle.banks.specs.declared.Granule.the-variants.{At}
 use Rattle.granule_rules.specs.declared.Direction.{Direction}
 
--- an accepted call on a granule: which way it went, and the address that it named
+-- an accepted call on a granule: its direction and its address
 pub record Change : Type 0 where
   pub way : Direction
   pub address : ℕ
 
+-- the change with this direction and address
 abbrev pub change : Direction → ℕ → Change
 change d addr = record { way = d; address = addr }
 

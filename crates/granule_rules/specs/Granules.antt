@@ -1,5 +1,6 @@
--- 0xC40001B0, B1: delegate, undelegate. 01: "The granule table is one byte a granule ..: 0 Non-secure, 1 Realm, 2 Root, 3 Secure; other
--- bytes are none of these (house codes)." Which granule an address falls on is said by the banks (02, E2). Assumes nothing.
+-- 0xC40001B0, B1: delegate, undelegate.
+-- 01: "The granule table is one byte a granule ..: 0 Non-secure, 1 Realm, 2 Root, 3 Secure; other bytes are none of these (house codes)."
+-- The banks decide the granule of an address (02, E2). Assumes nothing.
 use Prim.Native.Nat.{ℕ}
 use mathlib.Core.Path.{_≡_}
 use mathlib.Core.Bool.{Bool, false}
@@ -25,6 +26,7 @@ pub record GranuleTable : Type 0 where
   pub bytes : List ℕ
   pub words : List ℕ
 
+-- the table of these bytes and words
 abbrev pub tableOf : List ℕ → List ℕ → GranuleTable
 tableOf bytes words = record { bytes = bytes; words = words }
 
@@ -39,8 +41,8 @@ unfoldable pub toByte : Direction → ℕ
 toByte Delegate = 1
 toByte Undelegate = 0
 
--- 02, E8: "Once the boot record is up, if the shared page is a granule of the table, undelegating it is refused.": the address is B, u
--- being what the boot record keeps. Delegating it is as before.
+-- 02, E8: "Once the boot record is up, if the shared page is a granule of the table, undelegating it is refused.": the address is B, which
+-- the boot record keeps in u. Delegating it is as before.
 unfoldable pub isSharedPage : Params → Direction → ℕ → Bool
 isSharedPage u Delegate addr = false
 isSharedPage u Undelegate addr = eqb addr (u .base)
@@ -54,6 +56,7 @@ granuleCode u d t addr (At i) =
     (fails (unless (eqb (getD (t .bytes) i 0) (fromByte d))) BadPas
     Ok)
 
+-- the code of a call after the checks of words and boot record
 unfoldable pub moveCode : Params → Granules → Direction → GranuleTable → ℕ → Code
 moveCode u g d t addr = granuleCode u d t addr (granuleAt g (length (t .bytes)) addr)
 
@@ -62,6 +65,7 @@ unfoldable pub granuleSet : Direction → GranuleTable → Granule → GranuleTa
 granuleSet d t Nothing = t
 granuleSet d t (At i) = tableOf (set (t .bytes) i (toByte d)) (putBit (t .words) i (realmBit (toByte d)))
 
+-- the table after a call that is OK
 unfoldable pub moved : Granules → Direction → GranuleTable → ℕ → GranuleTable
 moved g d t addr = granuleSet d t (granuleAt g (length (t .bytes)) addr)
 
@@ -70,10 +74,11 @@ pub record Moved : Type 0 where
   pub answer : Answer
   pub table : GranuleTable
 
+-- the result of a call with code k: `new` if k is OK, otherwise the table is unchanged
 unfoldable pub movedBy : Code → GranuleTable → GranuleTable → Moved
 movedBy k new old = record { answer = answerOf k 0 0; table = ifOk k new old }
 
--- with words that are as many as they must be, and a boot record that is up and keeps u
+-- a call with the right number of words, and a boot record that is up and keeps u
 unfoldable pub moveAt : Params → Granules → Direction → GranuleTable → ℕ → Moved
 moveAt u g d t addr = movedBy (moveCode u g d t addr) (moved g d t addr) t
 
@@ -81,19 +86,23 @@ moveAt u g d t addr = movedBy (moveCode u g d t addr) (moved g d t addr) t
 abbrev pub fitting : Granules → GranuleTable → Bool
 fitting g t = wordsFit (t .words) (granuleCount g)
 
+-- INVAL if the number of words is wrong, otherwise k
 unfoldable pub whenFit : Granules → GranuleTable → Code → Code
 whenFit g t k = fails (unless (fitting g t)) Inval k
 
+-- delegation in either direction
 unfoldable pub moveOf : Record → Granules → Direction → GranuleTable → ℕ → Moved
 moveOf s g d t addr = movedBy (whenFit g t (whenUp s (moveCode (upOf s) g d t addr))) (moved g d t addr) t
 
+-- the delegate command
 abbrev pub delegateOf : Record → Granules → GranuleTable → ℕ → Moved
 delegateOf s g t addr = moveOf s g Delegate t addr
 
+-- the undelegate command
 abbrev pub undelegateOf : Record → Granules → GranuleTable → ℕ → Moved
 undelegateOf s g t addr = moveOf s g Undelegate t addr
 
--- what a call promises of the lent bytes and words
+-- the result of a call, from its answer and the lent bytes and words at exit
 unfoldable pub movedTo : Answer → List ℕ → List ℕ → Moved
 movedTo a bytes words = record { answer = a; table = tableOf bytes words }
 

@@ -1,4 +1,5 @@
--- For `move_at`, which is given a granule: `granule-inside` (proofs/Moving.antt) proves `Inside` of the granule of `granuleAt`. Assumes nothing.
+-- For `move_at`, whose caller passes a granule: `granule-inside` (proofs/Moving.antt) proves `Inside` for the granule of `granuleAt`.
+-- Assumes nothing.
 use Prim.Native.Nat.{ℕ, _/_, _<_}
 use mathlib.Core.Path.{_≡_}
 use mathlib.Core.List.{List}

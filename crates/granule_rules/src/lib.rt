@@ -1,6 +1,6 @@
-// What delegation is: its definitions in specs/, and the laws and theorems on them in proofs/. The code is in `granules`.
+// The rules of delegation: definitions in specs/, laws and theorems in proofs/. The code is in `granules`.
 
-// Which way a granule goes: from Non-secure to Realm, or back.
+// The direction of a move: Non-secure to Realm, or back.
 pub enum Direction {
     Delegate,
     Undelegate,

@@ -1,5 +1,5 @@
-// Delegation. The granule table is one byte a granule of the record's banks: 0 Non-secure, 1 Realm, 2 Root, 3 Secure. Next to it are the
-// realm words, with a bit for each granule.
+// Delegation. The granule table has one byte for each granule of the record's banks: 0 Non-secure, 1 Realm, 2 Root, 3 Secure. The realm
+// words have one bit for each granule.
 use banks::Granule;
 use boot::Params;
 use boot::Record;
@@ -21,7 +21,7 @@ ghost use Rattle.granule_rules.specs.Granules.{tableOf, fromByte, toByte, isSha
 ghost use Rattle.granule_rules.specs.Steps.{Inside};
 ghost use Rattle.granule_rules.specs.Lists.{listBy, moveListOf, delegateListOf, undelegateListOf};
 
-// The byte that a granule must have.
+// Returns the byte that a granule must have.
 fn from_byte(direction: Direction) -> u8
     ensures { λ r. ⌜ r ≡ fromByte direction ⌝ }
 {
@@ -31,7 +31,7 @@ fn from_byte(direction: Direction) -> u8
     }
 }
 
-// The byte that it gets.
+// Returns the byte that a granule gets.
 fn to_byte(direction: Direction) -> u8
     ensures { λ r. ⌜ r ≡ toByte direction ⌝ }
 {
@@ -51,7 +51,7 @@ fn is_shared_page(params: Params, direction: Direction, address: u64) -> bool
     }
 }
 
-// Writes the bit of granule `index` as its byte has it. It is here, not in `realm_words`: a call checks the number of words once.
+// Writes the bit of granule `index` for its new byte. Does not check the number of words: each call has checked it once.
 fn put_bit(words: &mut [u64], index: usize, byte: u8)
     requires { ⌜ index / 64 < length (now words) ⌝ }
     ensures { λ _. ⌜ now (words .exit) ≡ putBit (now (words .entry)) index (realmBit byte) ⌝ }
@@ -60,7 +60,7 @@ fn put_bit(words: &mut [u64], index: usize, byte: u8)
     words[at] = realm_words::with_bit(words[at], index, byte);
 }
 
-// The mover: moves the granule of an address, with the parameters of a boot record that is up.
+// Moves the granule of `address`, with the parameters of a boot record that is up.
 fn move_at(
     params: Params,
     granule: Granule,
@@ -90,7 +90,7 @@ fn move_at(
     Code::Ok
 }
 
-// Whether a record of `count` granules has any, and the table has n = `count` bytes. Otherwise no address is on a granule.
+// Whether the record has granules and the table has n = `count` bytes. Otherwise no address is on a granule.
 fn table_fits(count: u64, n: usize) -> bool
     ensures { λ r. ⌜ r ≡ both (ltb 0 count) (eqb count n) ⌝ }
 {
@@ -134,7 +134,7 @@ fn move_one(
 
 // ---- the shortcut for a single call: most boards have one bank ----
 
-// Whether the boot record is up, the granule record has one bank, of n granules, and the number of words is right.
+// Whether the boot record is up, the granule record has one bank of `n` granules, and the number of words is right.
 fn takes_shortcut(state: Record, granules: &[u64; 33], n: usize, words: &[u64]) -> bool
     ensures { λ r. ⌜ r ≡ both (isUp state) (both (hasOneBank (now (granules .entry)) n) (wordsFit (now (words .entry)) n)) ⌝ }
 {
@@ -166,8 +166,8 @@ fn move_shortcut(
 
 // ---- a list of calls ----
 
-// The single calls of a list, in order, up to the first that is refused; x1 is the number of granules moved. The checks of `move_list` hold
-// for each of them.
+// Makes the single calls of a list in order, up to the first refusal; x1 is the number of granules moved. `move_list` has made the checks
+// that all of them share.
 fn move_each(
     params: Params,
     granules: &[u64; 33],
@@ -194,7 +194,8 @@ fn move_each(
     codes::answered(Code::Ok, n as u64, 0)
 }
 
-// The checks that do not depend on the address come once. An empty list is OK, up or not, if the number of words is right.
+// Makes the checks that do not depend on the address once. An empty list is OK if the number of words is right, even if the boot record is
+// not up.
 fn move_list(
     state: Record,
     granules: &[u64; 33],
@@ -225,7 +226,7 @@ fn move_list(
 
 // ---- the commands ----
 
-// 0xC40001B0: the granule at an address becomes Realm, if it is Non-secure.
+// 0xC40001B0: makes the granule at `address` Realm, if it is Non-secure.
 pub fn delegate(
     state: Record,
     granules: &[u64; 33],
@@ -243,7 +244,7 @@ pub fn delegate(
     codes::answered(code, 0, 0)
 }
 
-// 0xC40001B1: the granule at an address becomes Non-secure, if it is Realm.
+// 0xC40001B1: makes the granule at `address` Non-secure, if it is Realm.
 pub fn undelegate(
     state: Record,
     granules: &[u64; 33],
@@ -275,7 +276,7 @@ pub fn undelegate(
     codes::answered(code, 0, 0)
 }
 
-// The granules at a list of addresses become Realm, in order; x1 is the number that did.
+// Delegates the granules at `addresses` in order, up to the first refusal; x1 is the number delegated.
 pub fn delegate_list(
     state: Record,
     granules: &[u64; 33],
@@ -295,7 +296,7 @@ pub fn delegate_list(
     )
 }
 
-// The granules at a list of addresses become Non-secure, in order; x1 is the number that did.
+// Undelegates the granules at `addresses` in order, up to the first refusal; x1 is the number undelegated.
 pub fn undelegate_list(
     state: Record,
     granules: &[u64; 33],

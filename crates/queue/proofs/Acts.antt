@@ -1,4 +1,4 @@
--- What the lookup of the oldest request tells, by the array and its count; and what an answer of OK tells of the code. Assumes nothing.
+-- What the lookup of the oldest request returns, from the array and its count; and what follows from an answer of OK. Assumes nothing.
 use Prim.Native.Nat.{ℕ, zero, suc, _≤_}
 use mathlib.Core.Path.{_≡_, refl, ap}
 use mathlib.Core.Bool.{Bool, cond}

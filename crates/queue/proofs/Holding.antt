@@ -1,4 +1,4 @@
--- Arrays that hold a list and zeros behind it. Assumes nothing.
+-- Arrays that hold a list and zeros after it. Assumes nothing.
 use Prim.Native.Nat.{ℕ, zero, suc, _+_, _-_, _<_, _≤_}
 use mathlib.Core.Path.{_≡_, refl, sym, ap, _∙_}
 use mathlib.Core.List.{List, [], _∷_, _++_, map, map-append}
@@ -17,7 +17,7 @@ use Rattle.queue.specs.Queue.{Signed, Lists, waiting, held, ready, signe
 use Rattle.queue.proofs.Sides.{taken-all, joined-room, joined-full}
 
 module _ {A : Type 0} where
-  -- one more behind the list
+  -- one more entry after the list
   pub pad-set : (n : ℕ) (z x : A) (l : List A) → length l < n → set (padTo n z l) (length l) x ≡ padTo n z (l ++ (x ∷ []))
   unfolding padTo
   pad-set n z x l h =
@@ -30,7 +30,7 @@ module _ {A : Type 0} where
   drop-replicate (suc k) zero z = ap (λ (m : ℕ). replicate m z) (sym (zero-sub (suc k)))
   drop-replicate (suc k) (suc n) z = drop-replicate k n z ∙ ap (λ (m : ℕ). replicate m z) (sym (suc-sub-suc n k))
 
-  -- ---- filled one by one
+  -- ---- filled entry by entry
   pub fill-none : (z x : A) (items : List A) → items ≡ replicate 8 x → x ≡ z → items ≡ padTo 8 z []
   unfolding padTo
   fill-none z x items e h = e ∙ rw h
@@ -59,7 +59,7 @@ signed-laid r n t h e p =
     let z : t ≡ padTo 104 0 d = p ∙ ap (λ (l : List ℕ). laid 0 l (replicate 104 0)) k ∙ pad-laid 104 d (omega (arith, length-take (r .len) (r .signature))) in
     rw (z, e)
 
--- ---- the side of requests: n wait, and those behind the first g are moved to the front, one by one
+-- ---- the requests: n wait, and those after the first g are moved to the front, one by one
 module _ (s : Requests) (eight : length (s .items) ≡ 8) (n g : ℕ) (counted : n ≡ length (waiting s)) (within : n ≤ 8) where
   abbrev moved : List Request
   moved = drop g (take n (s .items))
@@ -86,7 +86,7 @@ module _ (s : Requests) (eight : length (s .items) ≡ 8) (n g : ℕ) (counted :
       let k : 0 ≡ n - g = omega arith in
       ap (λ (j : ℕ). record { items = items; count = j }) k ∙ requests-all 0 items e k
 
--- ---- the side of responses, each with zeros behind its signature
+-- ---- the responses, each with zeros after its signature
 module _ (s : Responses) (eight : length (s .items) ≡ 8) (n g : ℕ) (counted : n ≡ length (held s)) (within : n ≤ 8) where
   abbrev behind : List Signed
   behind = drop g (map signedIn (take n (s .items)))
@@ -121,7 +121,7 @@ module _ (s : Responses) (eight : length (s .items) ≡ 8) (n g : ℕ) (counted 
       let k : 0 ≡ n - g = omega arith in
       ap (λ (j : ℕ). record { items = items; count = j }) k ∙ responses-all 0 items e k
 
--- ---- one more at the end, where fewer than eight wait
+-- ---- one more at the end if fewer than eight wait
 module _ (k : Requests) (l : List Request) (x : Request) (e : k ≡ requestsHolding l) where
   counted-requests : k .count ≡ length l
   unfolding requestsHolding
@@ -155,7 +155,7 @@ module _ (k : Responses) (l : List Signed) (x : Signed) (e : k ≡ responsesHold
       in
       rw (e, joined-room l x m, s, length-append)
 
--- ---- the queue that holds lists stands for them
+-- ---- the queue that holds some lists is read as those lists
 pad-back : {A : Type 0} (n k : ℕ) (z : A) (l : List A) → k ≡ length l → take k (padTo n z l) ≡ l
 unfolding padTo
 pad-back n k z l e = take-at l (replicate (n - length l) z) k (sym e)

@@ -1,4 +1,4 @@
--- A side of the queue: how many wait, and the oldest. Assumes nothing.
+-- A side of the queue: the number that wait, and the oldest. Assumes nothing.
 use Prim.Native.Nat.{ℕ, zero, suc, _<_, _≤_}
 use mathlib.Core.Path.{_≡_, refl, ap, _∙_}
 use mathlib.Core.List.{List, [], _∷_, _++_}
@@ -9,7 +9,7 @@ use borrow.Author.Tests.{lt-ltb, le-ltb}
 use Rattle.queue.specs.Queue.{appended}
 
 module _ {A : Type 0} where
-  -- ---- joining
+  -- ---- adding at the end
   pub joined-room : (l : List A) (x : A) → length l < 8 → appended l x ≡ l ++ (x ∷ [])
   unfolding appended
   joined-room l x h = rw (lt-ltb (length l) 8 h)

@@ -1,4 +1,4 @@
--- What a signing call hands back, refused or not. Assumes nothing.
+-- What a signing call returns, refused or not. Assumes nothing.
 use Prim.Native.Nat.{ℕ}
 use mathlib.Core.Path.{_≡_}
 use mathlib.Core.Bool.{false}
@@ -13,7 +13,7 @@ use Rattle.queue.specs.Queue.{Lists, SigningStep, SigningExit, listsOf, 
 use Rattle.queue.proofs.Holding.{lists-back}
 
 module _ (k : Code) (page : List ℕ) (lists : Lists) where
-  -- checks that pass hand on to what comes after them
+  -- checks that pass continue with the next step
   pub goes-on : (new : SigningStep) → k ≡ Ok → new ≡ queued k new page lists
   unfolding queued
   goes-on new e = rw e
@@ -31,7 +31,7 @@ module _ (k : Code) (page : List ℕ) (lists : Lists) (old : Queue) where
   unfolding queued exitOf queueNext answerOf
   accepts x1 x2 after next e = rw e
 
--- what the queue stands for then
+-- the lists of the next queue
 pub next-lists : (k : Code) (new : Lists) (old : Queue) → listsOf (queueNext k new old) ≡ ifOk k new (listsOf old)
 unfolding queueNext
 next-lists k new old = if-ok-by (λ (q : Queue). listsOf q ≡ ifOk k new (listsOf old)) k (queueHolding new) old (λ h. rw h (lists-back new)) (λ h. rw h)

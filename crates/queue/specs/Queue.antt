@@ -24,90 +24,107 @@ pub record Signed : Type 0 where
   pub ticket : ℕ
   pub signature : List ℕ
 
--- what waits on either side
+-- what waits on both sides
 pub record Lists : Type 0 where
   pub requests : List Request
   pub responses : List Signed
 
--- ---- what the arrays stand for: as many as the count says, at most eight; of a signature as many bytes as its length says
+-- ---- the lists that the arrays hold: `count` entries, at most eight; `len` bytes of a signature
+-- the requests that wait
 unfoldable pub waiting : Requests → List Request
 waiting side = take (side .count) (side .items)
 
+-- the responses that wait, with their arrays
 unfoldable pub held : Responses → List Response
 held side = take (side .count) (side .items)
 
+-- a response with its signature as a list
 unfoldable pub signedIn : Response → Signed
 signedIn r = record { granule = r .granule; ticket = r .ticket; signature = take (r .len) (r .signature) }
 
+-- the responses that wait
 unfoldable pub ready : Responses → List Signed
 ready side = map signedIn (held side)
 
+-- both sides of a queue as lists
 unfoldable pub listsOf : Queue → Lists
 listsOf q = record { requests = waiting (q .requests); responses = ready (q .responses) }
 
--- one more at the end, where fewer than eight wait
+-- the list with x at its end if it has fewer than eight entries, otherwise unchanged
 unfoldable pub appended : {A : Type 0} → List A → A → List A
 appended l x = cond (ltb (length l) 8) (l ++ (x ∷ [])) l
 
--- ---- zeros: what stands in a place where none waits
+-- ---- zeros, the content of a free place
+-- a free place of the requests
 unfoldable pub noRequest : Request
 noRequest = record { algorithm = 0; granule = 0; ticket = 0; hashid = 0; hash = replicate 48 0 }
 
+-- a free place of the responses
 unfoldable pub noResponse : Response
 noResponse = record { granule = 0; ticket = 0; len = 0; signature = replicate 104 0 }
 
--- ---- the oldest; zeros where none waits
+-- ---- the oldest; zeros if no entry waits
+-- the oldest request
 unfoldable pub oldestRequest : List Request → Request
 oldestRequest l = getD l 0 noRequest
 
+-- the oldest response
 unfoldable pub oldestResponse : List Signed → Signed
 oldestResponse l = getD l 0 (record { granule = 0; ticket = 0; signature = [] })
 
+-- whether a request waits
 unfoldable pub waitingOf : List Request → Waiting
 waitingOf l = cond (eqb (length l) 0) None Some
 
+-- the oldest request, and whether a request waits
 unfoldable pub oldestOf : List Request → Oldest
 oldestOf l = record { waiting = waitingOf l; request = oldestRequest l }
 
--- ---- the queue that holds these lists and nothing else: zeros in every place past what waits, and past each signature
--- a list with x behind it, to n places
+-- ---- the queue that holds these lists and nothing else: zeros in every place after what waits, and after each signature
+-- the list l, filled with x to n places
 unfoldable pub padTo : {A : Type 0} → ℕ → A → List A → List A
 padTo n x l = l ++ replicate (n - length l) x
 
+-- the array of these requests
 unfoldable pub requestsHolding : List Request → Requests
 requestsHolding l = record { items = padTo 8 noRequest l; count = length l }
 
+-- the response with this signature, zeros after it
 unfoldable pub responseHolding : Signed → Response
 responseHolding s = record { granule = s .granule; ticket = s .ticket; len = length (s .signature); signature = padTo 104 0 (s .signature) }
 
+-- the array of these responses
 unfoldable pub responsesHolding : List Signed → Responses
 responsesHolding l = record { items = padTo 8 noResponse (map responseHolding l); count = length l }
 
+-- the queue that holds these lists
 unfoldable pub queueHolding : Lists → Queue
 queueHolding q = record { requests = requestsHolding (q .requests); responses = responsesHolding (q .responses) }
 
--- ---- a signing command: the answer, the page at exit, and what waits then
+-- ---- a signing command: the answer, the page at exit, and what then waits
 pub record SigningStep : Type 0 where
   pub answer : Answer
   pub page : List ℕ
   pub queue : Lists
 
--- a refusal has zeros, and leaves the page and both sides as they were
+-- the result of a call with code k: `new` if k is OK; a refusal has zeros in x1 and x2 and leaves page and queue unchanged
 unfoldable pub queued : Code → SigningStep → List ℕ → Lists → SigningStep
 queued k new page q = ifOk k new (record { answer = answerOf k 0 0; page = page; queue = q })
 
--- ---- what a call hands back: the answer, the page at exit, and the queue
+-- ---- what a call returns: the answer, the page at exit, and the queue
 pub record SigningExit : Type 0 where
   pub answer : Answer
   pub page : List ℕ
   pub queue : Queue
 
+-- the same from the returned value and the page at exit
 abbrev pub signingExit : Queued → List ℕ → SigningExit
 signingExit r page = record { answer = r .answer; page = page; queue = r .queue }
 
--- accepted, the queue holds what then waits and nothing else; refused, it is the queue that was handed in
+-- after an OK the queue holds what then waits and nothing else; after a refusal it is unchanged
 unfoldable pub queueNext : Code → Lists → Queue → Queue
 queueNext k new old = ifOk k (queueHolding new) old
 
+-- the result s of a call on the queue `old`
 unfoldable pub exitOf : Queue → SigningStep → SigningExit
 exitOf old s = record { answer = s .answer; page = s .page; queue = queueNext (s .answer .code) (s .queue) old }

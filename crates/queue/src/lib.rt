@@ -1,5 +1,5 @@
-// The signing queue: requests that wait to be signed, and responses that wait to be pulled. Each side is an array of eight by
-// value, the oldest first, shifted on take. A count above eight, which no call leaves, stands for eight.
+// The signing queue: requests that wait to be signed, and responses that wait to be pulled. Each side is an array of eight by value, oldest
+// first; taking the oldest moves the others up. A count above eight, which no call leaves, counts as eight.
 use codes::Answer;
 use codes::Code;
 ghost use mathlib.Core.Path.{_≡_};
@@ -10,7 +10,7 @@ ghost use Rattle.codes.specs.Codes.{answerOf};
 ghost use Rattle.queue.specs.Queue.{waiting, held, ready, signedIn, listsOf, appended, noRequest, noResponse, oldestRequest, oldestOf};
 ghost use Rattle.queue.specs.Queue.{requestsHolding, responseHolding, responsesHolding, queueHolding};
 
-// A request to sign a realm's token. Algorithm and hash id are the numbers of their four bytes.
+// A request to sign a realm's token. `algorithm` and `hashid` are 4-byte numbers.
 pub struct Request {
     pub algorithm: u64,
     pub granule: u64,
@@ -19,7 +19,7 @@ pub struct Request {
     pub hash: [u8; 48],
 }
 
-// A response: the request's granule and ticket, and a signature of len bytes; a len above 104 stands for 104.
+// A response: the request's granule and ticket, and a signature of `len` bytes; a `len` above 104 counts as 104.
 pub struct Response {
     pub granule: u64,
     pub ticket: u64,
@@ -27,22 +27,25 @@ pub struct Response {
     pub signature: [u8; 104],
 }
 
+// The requests that wait, oldest first.
 pub struct Requests {
     pub items: [Request; 8],
     pub count: usize,
 }
 
+// The responses that wait, oldest first.
 pub struct Responses {
     pub items: [Response; 8],
     pub count: usize,
 }
 
+// The signing queue: both sides.
 pub struct Queue {
     pub requests: Requests,
     pub responses: Responses,
 }
 
-// What a call on the queue answers, and the queue after it.
+// The result of a call on the queue: the answer and the next queue.
 pub struct Queued {
     pub answer: Answer,
     pub queue: Queue,
@@ -54,14 +57,14 @@ pub enum Waiting {
     Some,
 }
 
-// The oldest request; zeros where none waits.
+// The oldest request; zeros if no request waits.
 pub struct Oldest {
     pub waiting: Waiting,
     pub request: Request,
 }
 
 impl Queue {
-    // A queue with no request and no response.
+    // Returns a queue with no request and no response.
     pub fn empty() -> Self
         ensures { λ r. ⌜ r ≡ queueHolding (record { requests = []; responses = [] }) ⌝ }
     {
@@ -78,7 +81,7 @@ impl Queue {
     }
 }
 
-// Zeros, as they stand in a place where none waits.
+// Returns the zeros of a free place.
 fn no_request() -> Request
     ensures { λ r. ⌜ r ≡ noRequest ⌝ }
 {
@@ -102,7 +105,7 @@ fn no_response() -> Response
     }
 }
 
-// A refused call on the queue: zeros in the other registers, and the very queue.
+// Refuses a call on the queue: zeros in x1 and x2, the queue unchanged.
 pub fn refused(code: Code, queue: Queue) -> Queued
     ensures { λ r. ⌜ r ≡ record { answer = answerOf code 0 0; queue = queue } ⌝ }
 {
@@ -112,7 +115,7 @@ pub fn refused(code: Code, queue: Queue) -> Queued
     }
 }
 
-// How many wait.
+// Returns the number of requests that wait.
 pub fn request_count(side: Requests) -> usize
     ensures { λ r. ⌜ (r ≡ length (waiting side)) × (r ≤ 8) ⌝ }
 {
@@ -123,6 +126,7 @@ pub fn request_count(side: Requests) -> usize
     n
 }
 
+// Returns the number of responses that wait.
 pub fn response_count(side: Responses) -> usize
     ensures { λ r. ⌜ (r ≡ length (held side)) × (r ≤ 8) ⌝ }
 {
@@ -133,7 +137,7 @@ pub fn response_count(side: Responses) -> usize
     n
 }
 
-// How many bytes the signature of a response has; a length above 104 stands for 104.
+// Returns the number of bytes of a response's signature; a length above 104 counts as 104.
 pub fn signature_len(response: Response) -> usize
     ensures { λ r. ⌜ (r ≡ length (signedIn response .signature)) × (r ≤ 104) ⌝ }
 {
@@ -144,7 +148,7 @@ pub fn signature_len(response: Response) -> usize
     n
 }
 
-// A response with zeros behind its signature.
+// Returns the response with zeros after its signature.
 fn only_signed(response: Response) -> Response
     ensures { λ r. ⌜ r ≡ responseHolding (signedIn response) ⌝ }
 {
@@ -160,7 +164,7 @@ fn only_signed(response: Response) -> Response
     }
 }
 
-// The side without its oldest, so many of them: the others moved up, and zeros in every place past them.
+// Drops the oldest `gone` requests, moves the rest up and zeroes the freed places.
 pub fn requests_from(side: Requests, gone: usize) -> Requests
     ensures { λ r. ⌜ r ≡ requestsHolding (drop gone (waiting side)) ⌝ }
 {
@@ -179,6 +183,7 @@ pub fn requests_from(side: Requests, gone: usize) -> Requests
     Requests { items, count }
 }
 
+// Drops the oldest `gone` responses, moves the rest up and zeroes the freed places.
 pub fn responses_from(side: Responses, gone: usize) -> Responses
     ensures { λ r. ⌜ r ≡ responsesHolding (drop gone (ready side)) ⌝ }
 {
@@ -197,7 +202,7 @@ pub fn responses_from(side: Responses, gone: usize) -> Responses
     Responses { items, count }
 }
 
-// The queue with what waits, and zeros in every other place.
+// Returns the queue with zeros in every place where nothing waits.
 pub fn only_waiting(queue: Queue) -> Queue
     ensures { λ r. ⌜ r ≡ queueHolding (listsOf queue) ⌝ }
 {
@@ -209,7 +214,7 @@ pub fn only_waiting(queue: Queue) -> Queue
     }
 }
 
-// The side with one more at its end, where fewer than eight wait; zeros in every place past them.
+// Adds a request at the end if fewer than eight wait; zeroes every place after those that wait.
 pub fn join_request(side: Requests, request: Request) -> Requests
     ensures { λ r. ⌜ r ≡ requestsHolding (appended (waiting side) request) ⌝ }
 {
@@ -226,6 +231,7 @@ pub fn join_request(side: Requests, request: Request) -> Requests
     }
 }
 
+// Adds a response at the end if fewer than eight wait; zeroes every place after those that wait.
 pub fn join_response(side: Responses, response: Response) -> Responses
     ensures { λ r. ⌜ r ≡ responsesHolding (appended (ready side) (signedIn response)) ⌝ }
 {
@@ -242,7 +248,7 @@ pub fn join_response(side: Responses, response: Response) -> Responses
     }
 }
 
-// The oldest of a side; zeros where none waits.
+// Returns the oldest request; zeros if no request waits.
 pub fn first_request(side: Requests) -> Request
     ensures { λ r. ⌜ r ≡ oldestRequest (waiting side) ⌝ }
 {
@@ -253,6 +259,7 @@ pub fn first_request(side: Requests) -> Request
     requests[0]
 }
 
+// Returns the oldest response; zeros if no response waits.
 pub fn first_response(side: Responses) -> Response
     ensures { λ r. ⌜ r ≡ getD (held side) 0 noResponse ⌝ }
 {
@@ -263,7 +270,7 @@ pub fn first_response(side: Responses) -> Response
     responses[0]
 }
 
-// The oldest request, all its fields, or that there is none.
+// Returns the oldest request with all its fields, and whether a request waits.
 pub fn oldest_request(queue: Queue) -> Oldest
     ensures { λ r. ⌜ r ≡ oldestOf (listsOf queue .requests) ⌝ }
 {

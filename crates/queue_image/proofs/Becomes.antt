@@ -1,4 +1,4 @@
--- What an image becomes under each move: the queue that it then stands for, still 210 words, and exact if it was. Assumes nothing.
+-- What an image becomes under each move: the queue that it then holds, still 210 words, and exact if it was. Assumes nothing.
 use Prim.Native.Nat.{ℕ, _<_}
 use mathlib.Core.Path.{_≡_, refl, ap, _∙_}
 use mathlib.Core.List.{List, [], _∷_, _++_}

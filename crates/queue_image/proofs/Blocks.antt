@@ -1,4 +1,4 @@
--- Eight places of rows, of one width: a row joined behind the first k, and the first of k dropped. Assumes nothing.
+-- Eight rows of the same width: a row added after the first k, and the first of k dropped. Assumes nothing.
 use Prim.Native.Nat.{ℕ, zero, suc, min, _+_, _-_, _*_, _≤_, _<_}
 use mathlib.Core.Path.{_≡_, refl, sym, ap, _∙_}
 use mathlib.Core.List.{List, [], _∷_, _++_, append-assoc, append-nil}
@@ -11,7 +11,7 @@ use Rattle.words.proofs.Store.{length-splice, front-splice, part-splice}
 use Rattle.queue_image.specs.Image.{rows, flat, padded}
 use Rattle.queue_image.proofs.Rows.{mul-more, rows-suc, drop-take, flat-append, flat-one, flat-length, padded-in}
 
--- ---- rows read no further than they reach
+-- ---- rows depend only on their own words
 module _ (width : ℕ) where
   rows-front : (n : ℕ) (v : List ℕ) → rows width n (take (width * n) v) ≡ rows width n v
   unfolding rows
@@ -34,7 +34,7 @@ blockJoined width k row p = splice (width * k) row p
 unfoldable pub blockDropped : ℕ → ℕ → List ℕ → List ℕ
 blockDropped width k p = splice 0 (drop width (take (width * k) p) ++ replicate width 0) p
 
--- the words of k rows lie within those of eight
+-- the words of k rows are within those of eight
 pub rows-within : (width k : ℕ) → k ≤ 8 → width * k ≤ width * 8
 rows-within width k h = mul-le-mul-left width h
 
@@ -56,7 +56,7 @@ module _ (width : ℕ) (p : List ℕ) (l : length p ≡ width * 8) where
       let n : length t ≡ width * k = length-take-le (width * k) (drop width p) (omega (arith, length-drop width p)) in
       rw (suc-sub-suc, sub-zero) (rows-same width k (blockDropped width (suc k) p) (drop width p) (rw (e, append-assoc) (take-at t _ (width * k) n)))
 
--- ---- rows laid over zeros stay so
+-- ---- rows followed by zeros stay so
 zeros-behind : (t : List ℕ) (width n m : ℕ) (p : List ℕ) → drop (length (t ++ replicate width 0)) p ≡ replicate n 0 → m - length t ≡ width + n → splice 0 (t ++ replicate width 0) p ≡ padded m t
 unfolding splice padded
 zeros-behind t width n m p e h = rw (zero-add, e, h) (append-assoc t (replicate width 0) (replicate n 0) ∙ ap (λ (z : List ℕ). t ++ z) (replicate-append-replicate width n 0))
@@ -95,7 +95,7 @@ module _ {A : Type 0} (f : A → List ℕ) (width : ℕ) (wide : (x : A) → len
       rw e (zeros-behind (flat f l) width n (width * 8) (a ++ replicate n 0) (drop-at a (replicate n 0) _ g)
       (omega (arith, k, mul-more width (length l), laid-length l, rows-within width (suc (length l)) h)))
 
--- ---- and eight places stay as many
+-- ---- and eight rows stay eight
 module _ (width : ℕ) (p : List ℕ) (l : length p ≡ width * 8) where
   pub joined-length : (k : ℕ) (row : List ℕ) → length row ≡ width → k < 8 → length (blockJoined width k row p) ≡ width * 8
   unfolding blockJoined

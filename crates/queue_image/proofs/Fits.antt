@@ -1,5 +1,5 @@
--- Any image of words stands for a queue that fits. The row of what fits is words, and an image of words stays one under the moves of its
--- sides. Assumes nothing.
+-- Any image of words holds a queue that fits. The row of an entry that fits is words, and an image of words stays one under the moves of
+-- its sides. Assumes nothing.
 use Prim.Native.Nat.{ℕ, zero, suc, _+_, _-_, _*_, _/_, _%_, _^_, _≤_, _<_}
 use mathlib.Core.Path.{_≡_, refl, _∙_}
 use mathlib.Core.Bool.{Bool}
@@ -37,7 +37,7 @@ unfolding areBytes each bytesOf
 bytes-of [] = refl
 bytes-of (w ∷ ws) = each-append _ (leBytes 8 w) (bytesOf ws) (low-bytes 8 w) (bytes-of ws)
 
--- ---- words are below 2^64 one by one, and a place past them reads as 0
+-- ---- each word is below 2^64, and a place past the end reads as 0
 isWord : ℕ → Bool
 isWord w = ltb w (2 ^ 64)
 
@@ -74,7 +74,7 @@ response-fits row l h =
     (two-words row 0 1 h)
     (both-of _ _ (le-leb (length (take (getD row 2 0) s)) 104 (omega (arith, length-take (getD row 2 0) s))) (each-take _ (getD row 2 0) s (bytes-of (drop 3 row))))
 
--- ---- so do the rows of either side
+-- ---- so do the rows of each side
 module _ {A : Type 0} (f : List ℕ → A) (ok : A → Bool) (width : ℕ) (one : (row : List ℕ) → length row ≡ width → Yes (each isWord row) → Yes (ok (f row))) where
   rows-fit : (n : ℕ) (v : List ℕ) → width * n ≤ length v → Yes (each isWord v) → Yes (each ok (map f (rows width n v)))
   unfolding rows each
@@ -99,7 +99,7 @@ image-fits w l h =
     (side-fits requestIn requestFits 10 request-fits (getD w 0 0) (drop 2 w) (omega (arith, length-drop 2 w)) (each-drop isWord 2 w e))
     (side-fits responseIn responseFits 16 response-fits (getD w 1 0) (drop 82 w) (omega (arith, length-drop 82 w)) (each-drop isWord 82 w e))
 
--- ---- what is read from bytes and written to them: a part of bytes is bytes, bytes over bytes are, and a number of n bytes is below 256 ^ n
+-- ---- reading and writing bytes: a part of bytes is bytes, bytes written over bytes are bytes, and a number of n bytes is below 256 ^ n
 pub part-bytes : (off n : ℕ) (s : List ℕ) → Yes (areBytes s) → Yes (areBytes (part off n s))
 unfolding part areBytes
 part-bytes off n s h = each-take _ n (drop off s) (each-drop _ off s h)

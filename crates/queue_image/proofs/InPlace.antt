@@ -1,4 +1,4 @@
--- The stores of a call on an image where it lies: a row joined, and the rows behind the oldest moved up. Assumes nothing.
+-- The stores of a call on an image in place: a row added, and the rows after the oldest moved up. Assumes nothing.
 use Prim.Native.Nat.{ℕ, zero, suc, min, _+_, _-_, _*_, _<_, _≤_}
 use mathlib.Core.Path.{_≡_, refl, sym, ap, _∙_}
 use mathlib.Core.List.{List, [], _∷_, map}
@@ -41,7 +41,7 @@ module _ (start width : ℕ) (s : List ℕ) where
       rw (x, add-one, take-suc (drop (start + width) s) i 0 k)
       (ap (λ (j : ℕ). set (splice start vs s) (start + j) (getD (drop (start + width) s) i 0)) (sym l) ∙ put-next start vs s (getD (drop (start + width) s) i 0) (omega arith))
 
--- ---- zeros put, one by one
+-- ---- zeros written, one by one
 module _ (at : ℕ) (s : List ℕ) where
   unfoldable pub zerosTo : ℕ → List ℕ
   zerosTo n = splice at (replicate n 0) s
@@ -58,7 +58,7 @@ module _ (at : ℕ) (s : List ℕ) where
       (ap (λ (j : ℕ). set (splice at (replicate i 0) s) (at + j) 0) (sym l) ∙ put-next at (replicate i 0) s 0 (omega arith))
 
 -- ---- the oldest row dropped
--- the rows behind it
+-- the rows after it
 behind : (width start : ℕ) (w : List ℕ) (n : ℕ) → drop width (part start (width * n) w) ≡ part (start + width) (width * (n - 1)) w
 unfolding part
 behind width start w zero = rw mul-zero (drop-none width)
@@ -73,11 +73,11 @@ times-le width zero n h = rw mul-zero (omega arith)
 times-le width (suc m) zero h = absurd (omega arith)
 times-le width (suc m) (suc n) h = let i = times-le width m n (omega arith) in rw (mul-more width m, mul-more width n) (omega arith)
 
--- the place that is freed lies on the side
+-- the freed place is on the side
 pub row-room : (width n : ℕ) → n ≤ 7 → width + width * n ≤ width * 8
 row-room width n h = rw (← mul-more width n) (times-le width (suc n) 8 (omega arith))
 
--- the stores of a drop: the rows behind moved up, zeros behind them, and the number
+-- the stores of a drop: the rows after the oldest moved up, zeros after them, and the number
 pub row-dropped : (s : Side) (w : List ℕ) (n : ℕ) → n ≡ min 8 (getD w (s .number) 0) - 1 → s .start + s .width * 8 ≤ length w → s .number < s .start → (u t : List ℕ) →
     u ≡ upTo (s .start) (s .width) w (s .width * n) → t ≡ splice (s .start + s .width * n) (replicate (s .width) 0) u → length t ≡ length w → set t (s .number) n ≡ rowDropped s w
 unfolding rowDropped rowsIn rowsWaiting upTo part
@@ -91,7 +91,7 @@ row-dropped s w n e h k u t q p l =
     ∙ rw (p, q, b, ← e) (ap (λ (i : ℕ). splice (s .number) (n ∷ []) (splice (s .start + i) (replicate (s .width) 0) (splice (s .start) vs w))) (sym j)
     ∙ ap (splice (s .number) (n ∷ [])) (splice-splice (s .start) vs w (omega arith) (replicate (s .width) 0)))
 
--- ---- a row joined
+-- ---- a row added
 module _ (s : Side) (row w : List ℕ) where
   pub row-full : 8 ≤ min 8 (getD w (s .number) 0) → w ≡ rowAppended s row w
   unfolding rowAppended rowsWaiting
@@ -106,7 +106,7 @@ module _ (s : Side) (row w : List ℕ) where
   unfolding rowAppended
   row-room-joined h = rw (lt-ltb (rowsWaiting s w) 8 h)
 
--- ---- as many rows wait as the lists have
+-- ---- the lists have as many entries as rows wait
 pub requests-wait : (w : List ℕ) → rowsWaiting requestSide w ≡ length (listsIn w .requests)
 unfolding rowsWaiting listsIn
 requests-wait w = waits w requestIn 10 (getD w 0 0) 2
@@ -124,7 +124,7 @@ row-signature at w h =
     let n : length (bytesOf (drop 3 row)) ≡ 104 = bytesOf-length (drop 3 row) ∙ omega (arith, length-drop 3 row) in
     length-take (getD row 2 0) (bytesOf (drop 3 row)) ∙ rw (n, row-at 16 at 2 w (omega arith))
 
--- ---- what stands in the first place is the oldest, where one waits
+-- ---- the entry in the first place is the oldest, if one waits
 module _ (w : List ℕ) where
   first : {A : Type 0} (f : List ℕ → A) (width at n : ℕ) (d : A) → (n ≡ 0 → ⊥) → getD (take n (map f (rows width 8 (drop at w)))) 0 d ≡ f (part at width w)
   unfolding rows part

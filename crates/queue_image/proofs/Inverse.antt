@@ -1,4 +1,4 @@
--- The image of a queue, and the queue of an image, are inverse to each other. Assumes nothing.
+-- Reading an image as a queue and writing a queue as an image are inverse to each other. Assumes nothing.
 use Prim.Native.Nat.{ℕ, zero, suc, _+_, _-_, _*_, _≤_}
 use mathlib.Core.Path.{_≡_, refl, ap}
 use mathlib.Core.Bool.{Bool}
@@ -21,7 +21,7 @@ use Rattle.queue_image.specs.Image.{flat, padded, queueWords, areBytes, 
 use Rattle.queue_image.proofs.Rows.{flat-length, padded-length}
 use Rattle.queue_image.proofs.Sides.{request-wide, response-wide}
 
--- ---- what holds of each holds of each in a part
+-- ---- a property of each entry holds of each entry of a part
 module _ {A : Type 0} (f : A → Bool) where
   pub each-take : (k : ℕ) (l : List A) → Yes (each f l) → Yes (each f (take k l))
   unfolding each
@@ -35,7 +35,7 @@ module _ {A : Type 0} (f : A → Bool) where
   each-drop (suc k) [] h = refl
   each-drop (suc k) (x ∷ l) h = each-drop k l (both-r _ _ h)
 
--- ---- bytes come back from their words, with zeros to the end of the last
+-- ---- bytes are read back from their words, with zeros to the end of the last word
 pub byte-below : (bs : List ℕ) → Yes (areBytes bs) → Bytes bs
 unfolding areBytes each
 byte-below [] h i = lit≤ tt
@@ -64,7 +64,7 @@ padded-full : (n : ℕ) (l : List ℕ) → length l ≡ n → padded n l ≡ l
 unfolding padded
 padded-full n l e = rw (let z : n - length l ≡ 0 = omega arith in z) (append-nil l)
 
--- ---- a request and a response come back from their rows
+-- ---- a request and a response are read back from their rows
 pub request-back : (r : Request) → Yes (requestFits r) → requestIn (requestWords r) ≡ r
 unfolding requestIn requestWords requestFits
 request-back r h =
@@ -77,7 +77,7 @@ response-back r h =
     let l : length (r .signature) ≤ 104 = leb-true _ _ (both-l _ _ (both-r _ _ h)) in
     rw (bytes-back 13 (r .signature) (omega arith) (both-r _ _ (both-r _ _ h)), take-append-seam)
 
--- the oldest request's words tell it, field by field; zeros where none waits
+-- the words of the oldest request give each of its fields; zeros if no request waits
 pub oldest-told : (r : Request) (l : List Request) → Yes (requestFits r) → requestIn (oldestWords (r ∷ l)) ≡ r
 unfolding oldestWords
 oldest-told r l h = request-back r h
@@ -95,7 +95,7 @@ pub oldest-none : oldestWords [] ≡ replicate 10 0
 unfolding oldestWords
 oldest-none = refl
 
--- ---- a side comes back from its rows, whatever follows them
+-- ---- a side is read back from its rows, for any words after them
 module _ {A : Type 0} (f : List ℕ → A) (g : A → List ℕ) (ok : A → Bool) (width : ℕ) (wide : (x : A) → length (g x) ≡ width) (back : (x : A) → Yes (ok x) → f (g x) ≡ x) where
   rows-back : (n : ℕ) (l : List A) (rest : List ℕ) → Yes (each ok l) → length l ≤ n → take (length l) (map f (rows width n (flat g l ++ rest))) ≡ l
   unfolding rows flat each
@@ -114,7 +114,7 @@ module _ {A : Type 0} (f : List ℕ → A) (g : A → List ℕ) (ok : A → Bool
   unfolding eightFit padded
   side-back n l rest h = rw append-assoc (rows-back 8 l _ (both-r _ _ h) (leb-true _ _ (both-l _ _ h)))
 
--- ---- a queue comes back from its image
+-- ---- a queue is read back from its image
 pub queue-back : (q : Lists) → Yes (queueFits q) → listsIn (queueWords q) ≡ q
 unfolding listsIn queueWords queueFits eightFit
 queue-back q h =
@@ -129,11 +129,11 @@ queue-back q h =
       rw append-nil at (side-back responseIn responseWords responseFits 16 response-wide response-back 128 b [] (both-r _ _ h)),
     )
 
--- and an image that a queue has comes back from its queue
+-- and an image of a queue is written back from its queue
 pub queue-again : (w : List ℕ) (q : Lists) → w ≡ queueWords q → Yes (queueFits q) → queueWords (listsIn w) ≡ w
 queue-again w q e h = rw (e, queue-back q h)
 
--- ---- zeros are the image of the queue in which nothing waits
+-- ---- zeros are the image of the empty queue
 pub zeros-in : listsIn (replicate 210 0) ≡ record { requests = []; responses = [] }
 unfolding listsIn
 zeros-in = refl

@@ -1,5 +1,5 @@
--- The moves of the image's sides: one row more on a side, and the oldest row less, leave what waits there with one more at the end, or
--- without the first, and every word of the other side as it was. Once for both sides. Assumes nothing.
+-- The moves of the image's sides: adding a row leaves what waits there with one more at the end, dropping the oldest leaves it without the
+-- first, and both leave every word of the other side unchanged. Proved once for both sides. Assumes nothing.
 use Prim.Native.Nat.{ℕ, suc, min, _+_, _-_, _*_, _≤_, _<_}
 use mathlib.Core.Path.{_≡_, refl, sym, ap, _∙_, subst}
 use mathlib.Core.List.{List, [], _∷_, _++_, append-assoc, append-nil}
@@ -28,7 +28,7 @@ unfolding sidesLaid turned
 image-turned ofRequests n p m q = refl
 image-turned ofResponses n p m q = refl
 
--- what lies behind a side's places
+-- the words after a side's places
 behind : {s o : Side} → Beside s o → List ℕ → List ℕ
 behind ofRequests q = q
 behind ofResponses q = []
@@ -50,7 +50,7 @@ module _ (n : ℕ) (p : List ℕ) (m : ℕ) (q : List ℕ) where
   places-in ofRequests k = refl
   places-in ofResponses k = drop-at q p 80 k ∙ sym (append-nil p)
 
-  -- words over a side's places, and its number
+  -- words written over a side's places, and its number
   over-in : {s o : Side} (b : Beside s o) → length q ≡ o .width * 8 → (x i : ℕ) (vs : List ℕ) → i + length vs ≤ length p →
       splice (s .number) (x ∷ []) (splice (s .start + i) vs (sidesLaid b n p m q)) ≡ sidesLaid b x (splice i vs p) m q
   unfolding sidesLaid splice
@@ -144,7 +144,7 @@ module _ {s o : Side} (b : Beside s o) (w : List ℕ) (l : length w ≡ 210) whe
       (joined-rows (s .width) p k (min 8 n) row e h))
       w l
 
-  -- the first is gone
+  -- the first row is dropped
   pub dropped-waits : waitingRows s (rowDropped s w) ≡ drop 1 (waitingRows s w)
   dropped-waits =
       by-image b (λ (v : List ℕ). waitingRows s (rowDropped s v) ≡ drop 1 (waitingRows s v))
@@ -160,8 +160,8 @@ module _ {s o : Side} (b : Beside s o) (w : List ℕ) (l : length w ≡ 210) whe
       (dropped-rows (s .width) p k (min 8 n) h))
       w l
 
--- ---- the other side is as it was
--- wherever a number and places are put on a side
+-- ---- the other side is unchanged
+-- for any number and places written on a side
 module _ {s o : Side} (b : Beside s o) (n : ℕ) (p : List ℕ) (m : ℕ) (q : List ℕ) (k : length p ≡ s .width * 8) (j : length q ≡ o .width * 8) where
   side-beside : sideIn o (sidesLaid b n p m q) ≡ m ∷ q
   side-beside = rw (image-turned b n p m q) (side-in (turned b) m q n p j k)

@@ -1,4 +1,4 @@
--- Rows of words, as loops go over them: read one by one, and laid one by one. Assumes nothing.
+-- Rows of words in loops: read one by one, and written one by one. Assumes nothing.
 use Prim.Native.Nat.{ℕ, zero, suc, _+_, _-_, _*_, _≤_, _<_}
 use mathlib.Core.Path.{_≡_, refl, sym, ap, _∙_}
 use mathlib.Core.List.{List, [], _∷_, _++_, append-assoc, append-nil, map, map-append}
@@ -29,7 +29,7 @@ rows-suc width zero w = rw mul-zero
 rows-suc width (suc n) w = rw (mul-more, ← drop-drop) (ap {B = List (List ℕ)} (λ t. take width w ∷ t) (rows-suc width n (drop width w)))
 
 module _ {A : Type 0} (f : List ℕ → A) (width start : ℕ) (w : List ℕ) (items : List A) where
-  -- the first i of the rows from a place on, over the items of an array
+  -- the first i rows from offset `at`, over the items of an array
   unfoldable pub readTo : ℕ → List A
   readTo i = map f (rows width i (drop start w)) ++ drop i items
 
@@ -48,7 +48,7 @@ module _ {A : Type 0} (f : List ℕ → A) (width start : ℕ) (w : List ℕ) (i
   unfolding readTo
   read-all i now e h g = e ∙ rw (g, drop-of-length-le items {i = 8} (omega arith)) (append-nil _)
 
--- ---- the fields of a row, where they lie
+-- ---- the fields of a row, in place
 pub row-first : (width at : ℕ) (w : List ℕ) → 0 < width → getD w at 0 ≡ getD (part at width w) 0 0
 unfolding part
 row-first width at w h = rw (getD-take width (drop at w) 0 0 h, getD-drop, add-zero)
@@ -62,7 +62,7 @@ drop-take zero m l = rw zero-add
 drop-take (suc k) m [] = simp take-nil
 drop-take (suc k) m (x ∷ l) = rw suc-add (drop-take k m l)
 
--- the bytes of its last m words, put over an array of as many
+-- the bytes of its last m words, written over an array of the same length
 pub row-bytes : (k m at : ℕ) (w z : List ℕ) (n : ℕ) → n ≡ m → at + (k + m) ≤ length w → length z ≡ 8 * m → laid 0 (bytesOf (take n (drop (at + k) w))) z ≡ bytesOf (drop k (part at (k + m) w))
 unfolding part
 row-bytes k m at w z n e h l =
@@ -70,7 +70,7 @@ row-bytes k m at w z n e h l =
     let j : length (take m (drop (at + k) w)) ≡ m = length-take-le m (drop (at + k) w) (omega (arith, length-drop (at + k) w)) in
     rw (t, e) (laid-all (bytesOf (take m (drop (at + k) w))) z (bytesOf-length (take m (drop (at + k) w)) ∙ rw j (sym l)))
 
--- ---- rows laid
+-- ---- rows written
 pub splice-none : (at : ℕ) (s : List ℕ) → s ≡ splice at [] s
 unfolding splice
 splice-none at s = paste-zero s at []
@@ -122,7 +122,7 @@ module _ {A : Type 0} (f : A → List ℕ) where
   flat-length width wide [] = sym (mul-zero width)
   flat-length width wide (x ∷ l) = length-append (f x) (flat f l) ∙ rw (wide x, flat-length width wide l, mul-more)
 
--- ---- rows laid over zeros
+-- ---- rows written over zeros
 pub padded-length : (n : ℕ) (l : List ℕ) → length l ≤ n → length (padded n l) ≡ n
 unfolding padded
 padded-length n l h = length-append l (replicate (n - length l) 0) ∙ rw (length-replicate {A = ℕ} (n - length l) 0) (omega arith)

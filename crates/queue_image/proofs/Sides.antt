@@ -20,14 +20,14 @@ pub response-wide : (r : Signed) → length (responseWords r) ≡ 16
 unfolding responseWords
 response-wide r = rw (wordsOf-length 13 (r .signature))
 
--- ---- the side of responses, and what it stands for
+-- ---- the responses, as lists
 held-taken : (n : ℕ) (l : List (List ℕ)) → map signedIn (take n (map heldIn l)) ≡ take n (map responseIn l)
 unfolding responseIn
 held-taken zero l = refl
 held-taken (suc n) [] = refl
 held-taken (suc n) (x ∷ l) = ap (λ t. signedIn (heldIn x) ∷ t) (held-taken n l)
 
--- the queue that an image stands for, by value and as lists
+-- the queue of an image, by value and as lists
 pub lists-in : (w : List ℕ) → listsOf (queueIn w) ≡ listsIn w
 unfolding listsOf waiting ready held queueIn listsIn
 lists-in w = rw held-taken
@@ -46,7 +46,7 @@ module _ (w : List ℕ) where
     eight-rows : length (map f (rows width 8 (drop at w))) ≡ 8
     eight-rows = simp (length-map, rows-length)
 
-    -- as many as the number says, at most eight
+    -- `number` entries, at most eight
     pub waits : min 8 n ≡ length (take n (map f (rows width 8 (drop at w))))
     waits = omega (arith, length-take n (map f (rows width 8 (drop at w))), eight-rows)
 

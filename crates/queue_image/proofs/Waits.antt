@@ -1,5 +1,5 @@
--- The moves of the image's sides, said of the queue that the image stands for: which lists they leave, that the image stays one of 210
--- words, and that an image with zeros wherever nothing waits stays one. Assumes nothing.
+-- The moves of the image's sides, stated for the queue of the image: the lists after a move, that the image keeps 210 words, and that an
+-- image with zeros wherever nothing waits stays one. Assumes nothing.
 use Prim.Native.Nat.{ℕ, zero, suc, min, _-_, _*_, _≤_, _<_}
 use mathlib.Core.Path.{_≡_, refl, sym, ap, _∙_}
 use mathlib.Core.List.{List, [], _∷_, _++_, map, map-append}
@@ -91,7 +91,7 @@ module _ {A : Type 0} (f : A → List ℕ) (width : ℕ) (wide : (x : A) → len
   places-length : (l : List A) → length l ≤ 8 → length (padded (width * 8) (flat f l)) ≡ width * 8
   places-length l h = padded-length (width * 8) (flat f l) (omega (arith, flat-length f width wide l, rows-within width (length l) h))
 
--- a side of what waits and zeros, beside anything
+-- a side of what waits and zeros, with any other side
 module _ {A : Type 0} (f : A → List ℕ) {s o : Side} (b : Beside s o) (wide : (x : A) → length (f x) ≡ s .width) (l : List A) (m : ℕ) (q : List ℕ) (j : length q ≡ o .width * 8) where
   abbrev laidOut : List A → List ℕ
   laidOut t = sidesLaid b (length t) (padded (s .width * 8) (flat f t)) m q

@@ -1,4 +1,4 @@
--- What the theorems on the image's two sides speak of. Assumes nothing.
+-- Definitions for the theorems on the image's two sides. Assumes nothing.
 use Prim.Native.Nat.{ℕ, _*_}
 use mathlib.Core.Path.{_≡_}
 use mathlib.Core.List.{List, _∷_}
@@ -7,7 +7,7 @@ use Rattle.words.specs.Word.{part}
 use Rattle.queue_image.specs.Image.{rows}
 use Rattle.queue_image.specs.Sides.{Side, requestSide, responseSide}
 
--- either side with the other one
+-- a side s and the other side o
 pub data Beside : Side → Side → Type 0 where
   ofRequests : Beside requestSide responseSide
   ofResponses : Beside responseSide requestSide
@@ -20,7 +20,7 @@ waitingRows s w = take (getD w (s .number) 0) (rows (s .width) 8 (drop (s .start
 unfoldable pub sideIn : Side → List ℕ → List ℕ
 sideIn s w = getD w (s .number) 0 ∷ part (s .start) (s .width * 8) w
 
--- a side is as it was: every word of it, and so the rows that wait
+-- a side is unchanged: every word of it, and so the rows that wait
 pub record Stays (s : Side) (before after : List ℕ) : Type 0 where
   pub everyWord : sideIn s after ≡ sideIn s before
   pub everyRow : waitingRows s after ≡ waitingRows s before

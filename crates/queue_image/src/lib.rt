@@ -1,5 +1,5 @@
-// The signing queue as a lent image of 210 words, for C. A call works on the side that it needs, where it lies: a row joins those that
-// wait, or the oldest is dropped. An image is read as a queue too. One that no queue has is an input like any other.
+// The signing queue as a lent image of 210 words, for C. A call changes only the side that it needs, in place: it adds a row, or drops the
+// oldest. `queue_of` reads an image as a queue by value. Any image is a valid input, including one that no queue has.
 use queue::Queue;
 use queue::Request;
 use queue::Requests;
@@ -13,7 +13,7 @@ ghost use Rattle.queue.specs.Queue.{signedIn};
 ghost use Rattle.queue_image.specs.Image.{requestIn, heldIn, responseIn, listsIn, queueIn, requestWords, responseWords, oldestWords};
 ghost use Rattle.queue_image.specs.Sides.{requestSide, responseSide, rowAppended, rowDropped};
 
-// The request whose ten words begin at a place of an image.
+// Reads the request in the ten words at `at`.
 fn request_in(image: &[u64], at: usize) -> Request
     requires { ⌜ at + 10 ≤ length (now image) ⌝ }
     ensures { λ r. ⌜ r ≡ requestIn (part at 10 (now (image .entry))) ⌝ }
@@ -31,7 +31,7 @@ fn request_in(image: &[u64], at: usize) -> Request
     }
 }
 
-// The response whose sixteen words begin at a place of an image.
+// Reads the response in the sixteen words at `at`.
 fn response_in(image: &[u64], at: usize) -> Response
     requires { ⌜ at + 16 ≤ length (now image) ⌝ }
     ensures { λ r. ⌜ r ≡ heldIn (part at 16 (now (image .entry))) ⌝ }
@@ -48,7 +48,7 @@ fn response_in(image: &[u64], at: usize) -> Response
     }
 }
 
-// Either side of an image: all eight places are read, and the image's own number says how many of them count.
+// Reads all eight places of the requests; `count` is the image's own number.
 fn requests_in(image: &[u64]) -> Requests
     requires { ⌜ length (now image) ≡ 210 ⌝ }
     ensures { λ r. ⌜ r ≡ queueIn (now (image .entry)) .requests ⌝ }
@@ -77,6 +77,7 @@ fn responses_in(image: &[u64]) -> Responses
     }
 }
 
+// Reads the image as a queue by value.
 pub fn queue_of(image: &[u64; 210]) -> Queue
     ensures { λ r. ⌜ r ≡ queueIn (now (image .entry)) ⌝ }
 {
@@ -88,7 +89,7 @@ pub fn queue_of(image: &[u64; 210]) -> Queue
     }
 }
 
-// Puts n words of bytes at a place; a byte past their end counts as 0.
+// Writes `bytes` as `n` words at `at`; bytes past their end are 0.
 fn put_bytes(image: &mut [u64], at: usize, bytes: &[u8], n: usize)
     requires { ⌜ (at + n ≤ length (now image)) × (n ≤ 13) ⌝ }
     ensures { λ _. ⌜ now (image .exit) ≡ splice at (wordsOf n (now (bytes .entry))) (now (image .entry)) ⌝ }
@@ -98,7 +99,7 @@ fn put_bytes(image: &mut [u64], at: usize, bytes: &[u8], n: usize)
     }
 }
 
-// Puts the ten words of a request at a place.
+// Writes the ten words of a request at `at`.
 fn put_request(image: &mut [u64], at: usize, request: Request)
     requires { ⌜ at + 10 ≤ length (now image) ⌝ }
     ensures { λ _. ⌜ now (image .exit) ≡ splice at (requestWords request) (now (image .entry)) ⌝ }
@@ -123,7 +124,7 @@ fn put_response(image: &mut [u64], at: usize, response: Response)
     put_bytes(image, at + 3, &signature[..n], 13);
 }
 
-// How many rows wait on the side with this number; a number above eight stands for eight.
+// Returns min(8, image[number]): the number of rows that wait on a side.
 fn rows_waiting(image: &[u64], number: usize) -> usize
     requires { ⌜ number < length (now image) ⌝ }
     ensures { λ r. ⌜ (r ≡ min 8 (getD (now (image .entry)) number 0)) × (r ≤ 8) ⌝ }
@@ -135,20 +136,21 @@ fn rows_waiting(image: &[u64], number: usize) -> usize
     n as usize
 }
 
-// How many wait on either side of an image.
+// Returns the number of requests that wait.
 pub fn requests_waiting(image: &[u64; 210]) -> usize
     ensures { λ r. ⌜ (r ≡ length (listsIn (now (image .entry)) .requests)) × (r ≤ 8) ⌝ }
 {
     rows_waiting(image, 0)
 }
 
+// Returns the number of responses that wait.
 pub fn responses_waiting(image: &[u64; 210]) -> usize
     ensures { λ r. ⌜ (r ≡ length (listsIn (now (image .entry)) .responses)) × (r ≤ 8) ⌝ }
 {
     rows_waiting(image, 1)
 }
 
-// One more at the end of a side; where eight wait, the image as it was.
+// Adds a request at the end; leaves the image unchanged if eight wait.
 pub fn add_request(image: &mut [u64; 210], request: Request)
     ensures { λ _. ⌜ now (image .exit) ≡ rowAppended requestSide (requestWords request) (now (image .entry)) ⌝ }
 {
@@ -160,6 +162,7 @@ pub fn add_request(image: &mut [u64; 210], request: Request)
     image[0] = (n + 1) as u64;
 }
 
+// Adds a response at the end; leaves the image unchanged if eight wait.
 pub fn add_response(image: &mut [u64; 210], response: Response)
     ensures { λ _. ⌜ now (image .exit) ≡ rowAppended responseSide (responseWords (signedIn response)) (now (image .entry)) ⌝ }
 {
@@ -171,7 +174,7 @@ pub fn add_response(image: &mut [u64; 210], response: Response)
     image[1] = (n + 1) as u64;
 }
 
-// Moves n words up by as many places as a row has.
+// Moves `n` words from `start + width` to `start`.
 fn move_up(image: &mut [u64], start: usize, width: usize, n: usize)
     requires { ⌜ start + width + n ≤ length (now image) ⌝ }
     ensures { λ _. ⌜ now (image .exit) ≡ splice start (part (start + width) n (now (image .entry))) (now (image .entry)) ⌝ }
@@ -182,7 +185,7 @@ fn move_up(image: &mut [u64], start: usize, width: usize, n: usize)
     }
 }
 
-// Puts n zeros at a place.
+// Writes `n` zeros at `at`.
 fn clear(image: &mut [u64], at: usize, n: usize)
     requires { ⌜ at + n ≤ length (now image) ⌝ }
     ensures { λ _. ⌜ now (image .exit) ≡ splice at (replicate n 0) (now (image .entry)) ⌝ }
@@ -192,7 +195,7 @@ fn clear(image: &mut [u64], at: usize, n: usize)
     }
 }
 
-// How many rows wait behind the oldest.
+// Returns the number of rows that wait after the oldest.
 fn rows_behind(image: &[u64], number: usize) -> usize
     requires { ⌜ number < length (now image) ⌝ }
     ensures { λ r. ⌜ (r ≡ min 8 (getD (now (image .entry)) number 0) - 1) × (r ≤ 7) ⌝ }
@@ -204,7 +207,7 @@ fn rows_behind(image: &[u64], number: usize) -> usize
     n - 1
 }
 
-// The oldest row of a side dropped: those behind it move up, and the place that is freed is zeroed.
+// Drops the oldest row of a side: moves the rows after it up and zeroes the freed place.
 fn drop_row(image: &mut [u64], number: usize, start: usize, width: usize)
     requires { ⌜ (number < start) × (width ≤ 16) × (start + width * 8 ≤ length (now image)) ⌝ }
     ensures { λ _. ⌜ now (image .exit) ≡ rowDropped (record { number = number; start = start; width = width }) (now (image .entry)) ⌝ }
@@ -216,33 +219,35 @@ fn drop_row(image: &mut [u64], number: usize, start: usize, width: usize)
     image[number] = behind as u64;
 }
 
-// The oldest of a side dropped.
+// Drops the oldest request.
 pub fn remove_request(image: &mut [u64; 210])
     ensures { λ _. ⌜ now (image .exit) ≡ rowDropped requestSide (now (image .entry)) ⌝ }
 {
     drop_row(image, 0, 2, 10);
 }
 
+// Drops the oldest response.
 pub fn remove_response(image: &mut [u64; 210])
     ensures { λ _. ⌜ now (image .exit) ≡ rowDropped responseSide (now (image .entry)) ⌝ }
 {
     drop_row(image, 1, 82, 16);
 }
 
-// What stands in the first place of a side: the oldest, where one waits.
+// Returns the request in the first place: the oldest, if one waits.
 pub fn front_request(image: &[u64; 210]) -> Request
     ensures { λ r. ⌜ r ≡ requestIn (part 2 10 (now (image .entry))) ⌝ }
 {
     request_in(image, 2)
 }
 
+// Returns the response in the first place: the oldest, if one waits.
 pub fn front_response(image: &[u64; 210]) -> Response
     ensures { λ r. ⌜ r ≡ heldIn (part 82 16 (now (image .entry))) ⌝ }
 {
     response_in(image, 82)
 }
 
-// How many bytes the signature of the response at a place has; a length above 104 stands for 104.
+// Returns the number of bytes of the signature in the response at `at`; a length above 104 counts as 104.
 fn len_in(image: &[u64], at: usize) -> usize
     requires { ⌜ at + 16 ≤ length (now image) ⌝ }
     ensures { λ r. ⌜ (r ≡ length (responseIn (part at 16 (now (image .entry))) .signature)) × (r ≤ 104) ⌝ }
@@ -254,13 +259,14 @@ fn len_in(image: &[u64], at: usize) -> usize
     n as usize
 }
 
+// Returns the number of bytes of the signature in the first response.
 pub fn front_len(image: &[u64; 210]) -> usize
     ensures { λ r. ⌜ (r ≡ length (responseIn (part 82 16 (now (image .entry))) .signature)) × (r ≤ 104) ⌝ }
 {
     len_in(image, 82)
 }
 
-// The words of the oldest request, of its row alone; zeros where none waits.
+// Returns the ten words of the oldest request; zeros if no request waits.
 pub fn oldest_words(image: &[u64; 210]) -> [u64; 10]
     ensures { λ r. ⌜ r ≡ oldestWords (listsIn (now (image .entry)) .requests) ⌝ }
 {

@@ -1,4 +1,4 @@
--- A buffer in the page: the checks of record, page and range pass, and what is written there. Assumes nothing.
+-- A buffer in the page passes the checks of record, page and range; and what a write there changes. Assumes nothing.
 use Prim.Native.Nat.{ℕ, _+_, _-_, _≤_}
 use mathlib.Core.Path.{_≡_, refl, ap, _∙_}
 use mathlib.Core.List.{List}
@@ -19,7 +19,7 @@ use Rattle.range.specs.declared.OutsideAs.{OutsideAs}
 use Rattle.range.proofs.Ranges.{neither, page-range, range-ok, Passed}
 
 module _ (u : Params) (page : List ℕ) (pa size : ℕ) (i : BufferIn u page pa size) where
-  -- with the record up, the gate of a command on the page goes
+  -- if the record is up and the buffer is in the page, the common checks pass
   pub in-passes : (first : Code) (out : OutsideAs) → first ≡ Ok → pageCode (Up u) (length page) first out pa size ≡ Ok
   unfolding isUp upOf
   in-passes first out f = page-range (Up u) (length page) first out pa size refl (i .whole) (ap isOk f) ∙ range-ok u out pa size (i .from) (i .below) (i .fits)
@@ -27,13 +27,13 @@ module _ (u : Params) (page : List ℕ) (pa size : ℕ) (i : BufferIn u page pa 
   pub in-room : pa - u .base + size ≤ length page
   in-room = omega (arith, i .whole, i .from, i .below, i .fits)
 
--- and if it goes, the buffer lies in the page
+-- if they pass, the buffer is in the page
 pub passed-in : (r : Record) (page : List ℕ) (first : Code) (pa size : ℕ) → Passed r (length page) first pa size → BufferIn (upOf r) page pa size
 unfolding outside tooLong
 passed-in r page first pa size p =
     let o = neither _ _ (p .within) in
     record { whole = p .whole; from = ltb-false _ _ (o .0); below = leb-false _ _ (o .1); fits = ltb-false _ _ (p .short) }
 
--- bytes laid over the page
+-- bytes written at an offset change no other byte of the page
 pub splice-written : (at : ℕ) (vs page : List ℕ) → at ≤ length page → WrittenAt at vs page (splice at vs page)
 splice-written at vs page h = record { there = part-splice at vs page h; before = front-splice at vs page h; behind = drop-splice at vs page h }

@@ -1,4 +1,4 @@
--- The range check and the gate of a command on the page: each return, and what a code of OK tells. Assumes nothing.
+-- The range check and the common checks of a command on the page: each return, and what follows from OK. Assumes nothing.
 use Prim.Native.Nat.{ℕ, _+_, _-_, _<_, _≤_}
 use mathlib.Core.Path.{_≡_, refl, _∙_}
 use mathlib.Core.Bool.{Bool, true, false, true≢false}
@@ -57,7 +57,7 @@ pub kept-none : (u : Params) (pa : ℕ) → u .kept ≡ 0 → outside u pa ≡ e
 unfolding outside
 kept-none u pa h = rw (h, add-zero)
 
--- a buffer that is not outside and not too long lies in the page
+-- a buffer that is not outside and not too long ends in the page
 room-of : (u : Params) (pa size : ℕ) → outside u pa ≡ false → tooLong u pa size ≡ false → placeOf u pa + size ≤ 4096
 unfolding outside tooLong placeOf
 room-of u pa size h k =
@@ -67,7 +67,7 @@ room-of u pa size h k =
     let d : size ≤ u .base + 4096 - pa = ltb-false _ _ k in
     omega arith
 
--- ---- the gate
+-- ---- the common checks
 module _ (r : Record) (len : ℕ) (first : Code) (out : OutsideAs) (pa size : ℕ) where
   pub page-down : isUp r ≡ false → pageCode r len first out pa size ≡ Unk
   unfolding pageCode whenUp fails unless
@@ -91,7 +91,7 @@ module _ (r : Record) (len : ℕ) (first : Code) (out : OutsideAs) (pa size : �
           g ≡ gated (pageCode r len first out pa size) (placeOf (upOf r) pa)
       told-range f u v g e = e ∙ rw (v, ← page-range f)
 
--- what a gate that goes tells: each check, and that the buffer lies in the page
+-- what follows if the common checks pass: each check, and that the buffer is in the page
 pub record Passed (r : Record) (len : ℕ) (first : Code) (pa size : ℕ) : Type 0 where
   pub up : isUp r ≡ true
   pub whole : len ≡ 4096

@@ -29,7 +29,7 @@ tells-long : (u : Params) (pa size : ℕ) → Tells (tooLong u pa size) (TooLong
 unfolding tooLong
 tells-long u pa size = tells-lt (u .base + 4096 - pa) size
 
--- the checks on the page, and those after them, as one chain
+-- the checks on the page and those after them, as one row
 chain : ℕ → Code → OutsideAs → ℕ → ℕ → (Params → Code) → Params → Code
 chain len first out pa size rest u =
     fails (unless (eqb len 4096)) Unk (andThen first (fails (outside u pa) (outsideCode out) (fails (tooLong u pa size) Inval (rest u))))
@@ -47,7 +47,7 @@ page-chain r len first out pa size rest =
       then-none,
     )
 
--- `first` is told by its own lines; what is below is told of a page of 4,096 bytes, and a buffer that is not outside nor too long
+-- `first` has its own lines; the lines below assume a page of 4,096 bytes and a buffer that is neither outside nor too long
 module _ (r : Record) (len : ℕ) (first : Code) (out : OutsideAs) (pa size : ℕ) (rest : Params → Code) (lines : (Code → Type 0) → Code → Type 0) (below : Params → Code → Type 0)
     (before : (after : Code → Type 0) (next : Code) → after next → lines after (andThen first next))
     (behind : (u : Params) → r ≡ Up u → unless (eqb len 4096) ≡ false → outside u pa ≡ false → tooLong u pa size ≡ false → below u (rest u)) where

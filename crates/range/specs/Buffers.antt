@@ -1,4 +1,4 @@
--- A buffer in the page, as the theorems on commands speak of it. Assumes nothing.
+-- A buffer in the page, for the theorems on commands. Assumes nothing.
 use Prim.Native.Nat.{ℕ, _+_, _-_, _≤_, _<_}
 use mathlib.Core.Path.{_≡_}
 use mathlib.Core.List.{List}
@@ -6,15 +6,15 @@ use lib.ListN.{length, take, drop}
 use Rattle.words.specs.Word.{part}
 use Rattle.boot.specs.declared.Params.{Params}
 
--- No refusal of the range check, and none of the page's length: the page is 4,096 bytes long, pa is not below B + K and below B + 4,096, and
--- the size does not exceed B + 4,096 - pa.
+-- The buffer passes the checks of page and range: the page has 4,096 bytes, pa is in [B + K, B + 4,096), and the size is at most
+-- B + 4,096 - pa.
 pub record BufferIn (u : Params) (page : List ℕ) (pa size : ℕ) : Type 0 where
   pub whole : length page ≡ 4096
   pub from : u .base + u .kept ≤ pa
   pub below : pa < u .base + 4096
   pub fits : size ≤ u .base + 4096 - pa
 
--- Some bytes stand at an offset of the page, and every byte before and behind them is as it was
+-- The bytes are at offset `at` of the page, and every byte before and after them is unchanged
 pub record WrittenAt (at : ℕ) (bytes page after : List ℕ) : Type 0 where
   pub there : part at (length bytes) after ≡ bytes
   pub before : take at after ≡ take at page

@@ -1,5 +1,5 @@
--- 01, Range check: the only place that compares a buffer with the page; and the checks that every command on the page begins with.
--- Assumes nothing.
+-- 01, Range check: the only place that compares a buffer with the page; and the checks that every command on the page starts with. Assumes
+-- nothing.
 use Prim.Native.Nat.{ℕ, _+_, _-_}
 use mathlib.Core.Bool.{Bool}
 use lib.Dec.{leb, ltb, eqb}
@@ -21,21 +21,21 @@ outside u pa = either (ltb pa (u .base + u .kept)) (leb (u .base + 4096) pa)
 unfoldable pub tooLong : Params → ℕ → ℕ → Bool
 tooLong u pa size = ltb (u .base + 4096 - pa) size
 
--- its offset in the page
+-- the buffer's offset in the page
 unfoldable pub placeOf : Params → ℕ → ℕ
 placeOf u pa = pa - u .base
 
--- realm key and platform token: "outside BAD_ADDR"; token signing: "outside .. INVAL"
+-- the code of a buffer outside. Realm key and platform token: "outside BAD_ADDR"; token signing: "outside .. INVAL"
 unfoldable pub outsideCode : OutsideAs → Code
 outsideCode BadAddress = BadAddr
 outsideCode Invalid = Inval
 
--- "too long INVAL" for every command
+-- the code of the range check: "too long INVAL" for every command
 unfoldable pub rangeCode : Params → OutsideAs → ℕ → ℕ → Code
 rangeCode u out pa size = fails (outside u pa) (outsideCode out) (fails (tooLong u pa size) Inval Ok)
 
--- "while it is not up, every command but 0xC400018F answers UNK before its own checks; 0xC40001B2, B3 and B5 do so too on a lent page
--- not 4,096 bytes long (house rules)". `first` is what a command checks before its buffer: OK where it checks nothing.
+-- "while it is not up, every command but 0xC400018F answers UNK before its own checks; 0xC40001B2, B3 and B5 do so too on a lent page not
+-- 4,096 bytes long (house rules)". `first` is the code of what a command checks before its buffer: OK if it checks nothing.
 unfoldable pub pageCode : Record → ℕ → Code → OutsideAs → ℕ → ℕ → Code
 pageCode r len first out pa size =
     whenUp r

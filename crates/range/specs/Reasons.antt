@@ -1,4 +1,4 @@
--- When the checks that every command on the page begins with give a code. Assumes nothing.
+-- When the checks that every command on the page starts with give each code. Assumes nothing.
 use Prim.Native.Nat.{ℕ, _+_, _-_, _≤_, _<_}
 use mathlib.Core.Path.{_≡_}
 use mathlib.Core.Logic.{_⊎_}
@@ -17,7 +17,7 @@ abbrev pub TooLong : Params → ℕ → ℕ → Type 0
 TooLong u pa size = u .base + 4096 - pa < size
 
 -- not up UNK; "0xC40001B2, B3 and B5 do so too on a lent page not 4,096 bytes long"; what the command checks before its buffer; outside,
--- with the code that the command gives it; too long INVAL; then what is below
+-- with the command's code for it; too long INVAL; then the lines below
 abbrev pub PageGives : Record → ℕ → ((Code → Type 0) → Code → Type 0) → Code → ℕ → ℕ → (Params → Code → Type 0) → Code → Type 0
 PageGives r len first out pa size below =
     WhileUp r (λ (u : Params).

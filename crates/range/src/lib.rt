@@ -1,4 +1,4 @@
-// The checks that every command and lookup on the page begins with: record, page and the range of its buffer.
+// The checks that every command and lookup on the page starts with: record, page and the range of its buffer.
 use boot::Params;
 use boot::Record;
 use codes::Code;
@@ -7,7 +7,7 @@ ghost use mathlib.Core.Path.{_≡_};
 ghost use Rattle.codes.specs.Codes.{upOf, gated};
 ghost use Rattle.range.specs.Range.{outsideCode, rangeCode, placeOf, pageCode};
 
-// What a command answers to a buffer outside the page: BAD_ADDR or INVAL.
+// The code that a command gives to a buffer outside the page: BAD_ADDR or INVAL.
 pub enum OutsideAs {
     BadAddress,
     Invalid,
@@ -22,8 +22,8 @@ fn outside_code(out: OutsideAs) -> Code
     }
 }
 
-// The range check of a buffer at pa of so many bytes, and its offset in the page; a buffer that begins in the kept bytes is outside. No sum
-// is made: it might wrap.
+// Checks a buffer of `size` bytes at `pa` and returns its offset in the page. A buffer that starts in the kept bytes is outside. Subtracts
+// instead of adding, because a sum could overflow.
 fn range_gate(params: Params, out: OutsideAs, pa: u64, size: u64) -> Gate
     ensures { λ r. ⌜ r ≡ gated (rangeCode params out pa size) (placeOf params pa) ⌝ }
 {
@@ -44,8 +44,8 @@ fn range_gate(params: Params, out: OutsideAs, pa: u64, size: u64) -> Gate
     Gate::Go(at as usize)
 }
 
-// The gate of a command on a page of so many bytes: record up, page whole, the command's own first check, range. It goes on with the
-// buffer's offset in the page.
+// Runs the common checks of a command on a page of `len` bytes: the record is up, the page has 4,096 bytes, the command's own check
+// `first`, the buffer's range. Returns the buffer's offset in the page.
 pub fn page_gate(state: Record, len: usize, first: Code, out: OutsideAs, pa: u64, size: u64) -> Gate
     ensures { λ r. ⌜ r ≡ gated (pageCode state len first out pa size) (placeOf (upOf state) pa) ⌝ }
 {

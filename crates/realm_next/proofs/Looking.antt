@@ -1,4 +1,4 @@
--- The first set bit at or after an index, as the loop goes. Assumes nothing.
+-- The first set bit at or after an index, in the loop. Assumes nothing.
 use Prim.Native.Nat.{ℕ, zero, suc, _+_, _-_, _*_, _/_, _%_, _^_, _≤_, _<_}
 use mathlib.Core.Path.{_≡_, sym, ap, _∙_}
 use mathlib.Core.List.{List}
@@ -16,7 +16,7 @@ use Rattle.realm_words.proofs.Bits.{bit-zero, bit-suc}
 use Rattle.realm_next.specs.Steps.{hitBelow}
 use Rattle.realm_next.proofs.Trailing.{tz-at, tz-below}
 
--- ---- numbers that are not marked are passed over
+-- ---- numbers that are not marked are skipped
 abbrev Clear : (ℕ → ℕ) → ℕ → ℕ → Type 0
 Clear f from to = (j : ℕ) → from ≤ j → j < to → f j ≡ 0
 
@@ -65,7 +65,7 @@ high-above w (suc k) (suc j) h =
     let e : 2 * (w / 2 - w / 2 % 2 ^ k) / 2 ≡ w / 2 - w / 2 % 2 ^ k = omega arith in
     rw (bit-suc (w - w % 2 ^ suc k) j, high-suc, e) (high-above (w / 2) k j (omega arith) ∙ sym (bit-suc w j))
 
--- ---- the loop: no bit from i up to word `at` is set, and these are that word's bits from i on
+-- ---- the loop: no bit of [i, 64 * at) is set, and `bits` has the bits of word `at` from i on
 pub record Look (ws : List ℕ) (n i at bits : ℕ) : Type 0 where
   pub below : at * 64 < n
   pub begun : i < at * 64 + 64
@@ -90,7 +90,7 @@ look-first ws n i bits h e =
     }
 
 module _ (ws : List ℕ) (n i at bits : ℕ) (k : Look ws n i at bits) where
-  -- the word's bits below the b-th are passed over too, where none is set
+  -- the first b bits of the word are skipped, too, if no bit of them is set
   clear-to : (b : ℕ) → b ≤ 64 → ((j : ℕ) → j < b → bitOf bits j ≡ 0) → Clear (bitAt ws) i (at * 64 + b)
   clear-to b l h j a c = go (decLt j (at * 64))
     where
@@ -122,7 +122,7 @@ module _ (ws : List ℕ) (n i at bits : ℕ) (k : Look ws n i at bits) where
     unfolding wordsFor
     look-none p h = first-none (bitAt ws) n i (omega arith) (λ j a b. clear j a (omega arith))
 
-  -- some bit is: the lowest one is not among those masked out
+  -- a bit is set: the lowest set bit is not among the cleared ones
   module _ (h : trailingZeros 64 bits < 64) where
     hit-after : i ≤ at * 64 + trailingZeros 64 bits
     hit-after = go (decLt (at * 64 + trailingZeros 64 bits) i)

@@ -8,14 +8,14 @@ ghost use Rattle.realm_next.specs.Steps.{hitBelow};
 
 // ---- one word ----
 
-// The lowest set bit of a word; 64 if none is set.
+// Returns the position of the lowest set bit; 64 if no bit is set.
 fn first_bit(w: u64) -> usize
     ensures { λ r. ⌜ (r ≡ trailingZeros 64 w) × (0 < w → r < 64) ⌝ }
 {
     u64::trailing_zeros(w) as usize
 }
 
-// The word with its bits below bit k masked out.
+// Returns the word with its bits below bit `k` cleared.
 fn high_bits(w: u64, k: usize) -> u64
     requires { ⌜ k < 64 ⌝ }
     ensures { λ r. ⌜ r ≡ w - w % 2 ^ k ⌝ }
@@ -25,7 +25,7 @@ fn high_bits(w: u64, k: usize) -> u64
 
 // ---- the search ----
 
-// The hit at `index`, or none if that is a spare bit: `index` is not below `granules`.
+// Returns a hit at `index`, or nothing if that is a spare bit (`index` >= `granules`).
 fn hit_below(granules: usize, index: usize) -> Hit
     ensures { λ r. ⌜ r ≡ hitBelow granules index ⌝ }
 {
@@ -35,7 +35,8 @@ fn hit_below(granules: usize, index: usize) -> Hit
     Hit::Nothing
 }
 
-// The first Realm granule at or after `index`: one word a turn, and none after the word of the hit. A set spare bit is no hit.
+// Returns the first Realm granule at or after `index`. Reads one word per step and no word after that of the hit. A set spare bit is no
+// hit.
 pub fn next(words: &[u64], granules: usize, index: usize) -> Hit
     ensures { λ r. ⌜ r ≡ realmNextOf (now (words .entry)) granules index ⌝ }
     ensures { λ r. ⌜ hitCode r ≡ indexCode (now (words .entry)) granules index ⌝ }

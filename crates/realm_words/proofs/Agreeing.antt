@@ -1,4 +1,4 @@
--- Words built from a table, and compared with it, as the loops go. Assumes nothing.
+-- Words built from a table, and compared with it, in the loops. Assumes nothing.
 use Prim.Native.Nat.{ℕ, suc, _+_, _-_, _*_, _<_}
 use mathlib.Core.Path.{_≡_, refl, ap, _∙_}
 use mathlib.Core.Bool.{Bool, true, false, false≢true}
@@ -55,7 +55,7 @@ pub record Fits (t ws : List ℕ) (n : ℕ) : Type 0 where
 pub fits : (t ws : List ℕ) (n : ℕ) → Yes (bothFit t ws n) → Fits t ws n
 fits t ws n h = record { words-fit = eqb-true _ _ (both-l _ _ h); table-fit = eqb-true _ _ (both-r _ _ h) }
 
--- ---- agreement is an equation
+-- ---- agreement means equality
 pub same-is : (xs ys : List ℕ) → Yes (sameWords xs ys) → xs ≡ ys
 unfolding sameWords
 same-is [] [] h = refl

@@ -1,4 +1,4 @@
--- Each answer's code is that of the first check that fails. Assumes nothing.
+-- The code of each answer is that of the first check that fails. Assumes nothing.
 use Prim.Native.Nat.{ℕ, zero, suc, _-_}
 use mathlib.Core.Path.{_≡_, refl, ap, _∙_}
 use mathlib.Core.Bool.{Bool, true, false, cond}

@@ -16,7 +16,7 @@ ones-bit zero h = refl
 ones-bit (suc zero) h = refl
 ones-bit (suc (suc b)) h = absurd (let z : _≡_ {A = ℕ} 0 1 = omega arith in omega arith)
 
--- one bit more of a word
+-- one more bit of a word
 ones-more : (w k : ℕ) → ones (w % 2 ^ suc k) ≡ ones (w % 2 ^ k) + bitOf w k
 unfolding bitOf
 ones-more w k =
@@ -38,7 +38,7 @@ module _ (ws : List ℕ) where
   unfolding marked
   marked-none = refl
 
-  -- a whole word more
+  -- one more whole word
   pub marked-more : (q s w : ℕ) → getD ws q 0 < 2 ^ 64 → s ≡ marked (bitAt ws) (64 * q) → w ≡ ones (getD ws q 0) → s + w ≡ marked (bitAt ws) (64 * (q + 1))
   marked-more q s w h a b =
       let e : 64 * (q + 1) ≡ 64 * q + 64 = omega arith in

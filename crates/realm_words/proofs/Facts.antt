@@ -15,7 +15,7 @@ use Rattle.realm_words.specs.Answers.{WordsAgree}
 use Rattle.realm_words.proofs.Bits.{bit-zero, bit-suc}
 use Rattle.realm_words.proofs.Packing.{packed-lt, wordFrom, words-length, words-at, bit-any}
 
--- ---- a word is told by its bits
+-- ---- a word is determined by its bits
 word-same : (n w v : ℕ) → w < 2 ^ n → v < 2 ^ n → ((k : ℕ) → k < n → bitOf w k ≡ bitOf v k) → w ≡ v
 word-same zero w v a b h = omega arith
 word-same (suc n) w v a b h =

@@ -1,5 +1,5 @@
--- 02, E6: "If words and table agree the answers equal those of the full walk"; a granule's byte and bit written together keep agreement;
--- "a build call sets it up". Words and table agree where the words are `realmWords` of the table. Assumes nothing.
+-- 02, E6: "If words and table agree the answers equal those of the full walk"; writing a granule's byte and bit together keeps agreement;
+-- "a build call sets it up". Words and table agree if the words are `realmWords` of the table. Assumes nothing.
 use Prim.Native.Nat.{ℕ, zero, suc, _+_, _-_, _*_, _/_, _%_, _≤_, _<_}
 use mathlib.Core.Path.{_≡_, refl, sym, ap, _∙_}
 use mathlib.Core.Bool.{Bool, true, false, cond}
@@ -54,7 +54,7 @@ next-agrees t i h =
     rw (eq-eqb (length (realmWords t)) (wordsFor (length t)) (words-length (wordsFor (length t)) t), lt-ltb i (length t) h)
     (first-same (bitAt (realmWords t)) (realmAt t) (length t - i) i (λ j l. bit-agrees t j (omega arith)))
 
--- ---- "write their granule's bit too and no other", whatever the words were
+-- ---- "write their granule's bit too and no other", for any words before
 pub realm-lt : (b : ℕ) → realmBit b < 2
 realm-lt b = omega (arith, realm-le b)
 
@@ -77,7 +77,7 @@ put-other ws i j v l n = go (ℕ-discrete (j / 64) (i / 64)) (decLt (i / 64) (le
         rw (e, getD-set-same ws (i / 64) (withBit (getD ws (i / 64) 0) (i % 64) v) 0 b)
         (bit-other (getD ws (i / 64) 0) (i % 64) (j % 64) v l (λ z. n (let q : j ≡ i = omega arith in q)))
 
--- ---- a granule's byte and its bit written together: agreement is kept, spare bits too
+-- ---- writing a granule's byte and its bit together keeps agreement, also of the spare bits
 packed-put : (t : List ℕ) (i v : ℕ) → i < length t → withBit (packed t) i (realmBit v) ≡ packed (set t i v)
 unfolding packed
 packed-put [] i v h = absurd (not-suc-le-zero h)
@@ -119,7 +119,7 @@ pub agree-yes : (t : List ℕ) → realmAgreeOf t (realmWords t) (length t) ≡ 
 unfolding realmAgreeOf
 agree-yes t = rw (fit-both t (realmWords t) (words-length (wordsFor (length t)) t), is-same (realmWords t))
 
--- and Yes is told of no others
+-- no other words get Yes
 pub agree-told : (t ws : List ℕ) (n : ℕ) → realmAgreeOf t ws n ≡ Agreement.Yes → ws ≡ realmWords t
 unfolding realmAgreeOf
 agree-told t ws n = go (bothFit t ws n) (sameWords ws (realmWords t)) refl
@@ -129,7 +129,7 @@ agree-told t ws n = go (bothFit t ws n) (sameWords ws (realmWords t)) refl
     go true false e h = let z : _≡_ {A = ℕ} 0 1 = cc in absurd (omega arith)
     go false s e h = let z : _≡_ {A = ℕ} 0 1 = cc in absurd (omega arith)
 
--- nor of a table of another length
+-- a table of another length does not get Yes
 pub agree-sized : (t ws : List ℕ) (n : ℕ) → realmAgreeOf t ws n ≡ Agreement.Yes → length t ≡ n
 unfolding realmAgreeOf
 agree-sized t ws n = go (bothFit t ws n) refl
@@ -138,11 +138,11 @@ agree-sized t ws n = go (bothFit t ws n) refl
     go true e h = fits t ws n e .table-fit
     go false e h = let z : _≡_ {A = ℕ} 0 1 = cc in absurd (omega arith)
 
--- build makes agreement, whatever the words were
+-- a build makes words and table agree, for any words before
 pub build-agrees : (t ws : List ℕ) → length ws ≡ wordsFor (length t) → realmBuildOf t ws (length t) ≡ record { done = true; words = realmWords t }
 unfolding realmBuildOf
 build-agrees t ws e = rw (fit-both t ws e)
 
--- and changes nothing where it holds
+-- and changes nothing if they agree before
 pub build-stays : (t : List ℕ) → realmBuildOf t (realmWords t) (length t) ≡ record { done = true; words = realmWords t }
 build-stays t = build-agrees t (realmWords t) (words-length (wordsFor (length t)) t)

@@ -1,4 +1,5 @@
--- 02, E6: "the first one at or after an index": what each of the three answers tells, and when it is given, in plain facts. Assumes nothing.
+-- 02, E6: "the first one at or after an index": what follows from each of the three answers, and when it is given, in plain facts. Assumes
+-- nothing.
 use Prim.Native.Nat.{ℕ, zero, suc, _+_, _-_, _/_, _≤_, _<_}
 use mathlib.Core.Path.{_≡_, refl, sym, ap, _∙_}
 use mathlib.Core.Bool.{Bool, true, false, cond}
@@ -14,7 +15,7 @@ use Rattle.realm_words.specs.declared.Hit.{Hit}
 use Rattle.realm_words.specs.Bits.{bitAt, wordsFor}
 use Rattle.realm_words.specs.Answers.{wordsFit, firstMarked, realmNextOf, FirstAt, NoneFrom}
 
--- ---- answers of two names differ
+-- ---- different answers differ
 at-nothing : (j : ℕ) → Hit.At j ≡ Hit.Nothing → ⊥
 at-nothing j h = let z : _≡_ {A = ℕ} 0 1 = cc in omega arith
 
@@ -64,7 +65,7 @@ first-named f (suc k) i h = go (eqb (f i) 1) h (first-named f k (suc i))
     go true q ih = at-inval _ q
     go false q ih = ih q
 
--- ---- what is told: the words are as many as the granules ask for, the index is below these, and ..
+-- ---- what follows from an answer: the number of words is right, the index is below the granules, and ..
 module _ (ws : List ℕ) (n i : ℕ) where
   abbrev pub Asked : Type 0
   Asked = (length ws ≡ (n + 63) / 64) × (i < n)
@@ -86,7 +87,7 @@ module _ (ws : List ℕ) (n i : ℕ) where
       go true y q = (asked y, q)
       go false y q = absurd (z (sym q))
 
-  -- .. "the first one at or after an index": the granule is marked, at or after the index, and none between them is
+  -- .. "the first one at or after an index": the granule is marked, at or after the index, and no granule between them is marked
   pub next-first : (j : ℕ) → realmNextOf ws n i ≡ Hit.At j → Asked × FirstAt (bitAt ws) n i j
   next-first j h =
       let t = told (Hit.At j) h (at-inval j) in
@@ -94,18 +95,18 @@ module _ (ws : List ℕ) (n i : ℕ) where
       let l = t .0 .1 in
       (t .0, record { from = r .from; below = omega (arith, r .below); marks = r .marks; before = r .before })
 
-  -- .. "No hit": no granule at or after the index is
+  -- .. "No hit": no granule at or after the index is marked
   pub next-none : realmNextOf ws n i ≡ Hit.Nothing → Asked × NoneFrom (bitAt ws) n i
   next-none h =
       let t = told Hit.Nothing h nothing-inval in
       let l = t .0 .1 in
       (t .0, λ m a b c. first-none (bitAt ws) (n - i) i (t .1) m a (omega arith) c)
 
-  -- and only a question that is not so is refused
+  -- INVAL is the answer only if one of the two does not hold
   pub next-inval : realmNextOf ws n i ≡ Hit.Inval → Asked → ⊥
   next-inval h a = first-named (bitAt ws) (n - i) i (sym (answers a) ∙ h)
 
-  -- ---- and the other way: each answer is given where its facts hold
+  -- ---- the converse: each answer is given if its facts hold
   pub next-is : (j : ℕ) → Asked → FirstAt (bitAt ws) n i j → realmNextOf ws n i ≡ Hit.At j
   next-is j a f = go (realmNextOf ws n i) refl
     where

@@ -1,4 +1,4 @@
--- The words of a table, and each granule's bit in them. Assumes nothing.
+-- The words of a table, and the bit of each granule in them. Assumes nothing.
 use Prim.Native.Nat.{ℕ, zero, suc, _+_, _-_, _*_, _/_, _%_, _^_, _≤_, _<_}
 use mathlib.Core.Path.{_≡_, refl, sym, ap, _∙_}
 use mathlib.Core.Bool.{Bool, true, false, cond}
@@ -26,7 +26,7 @@ unfolding packed
 packed-lt [] = omega arith
 packed-lt (b ∷ t) = omega (arith, realm-le b, packed-lt t, pow-suc 2 (length t))
 
--- there is room for one bit more
+-- there is room for one more bit
 pub packed-room : (t : List ℕ) (i : ℕ) → 0 < i → i ≤ length t → length t ≤ 64 → 2 * packed (drop i t) + 1 < 2 ^ 64
 packed-room t i p h l =
     let d : length (drop i t) ≤ 63 = rw length-drop (omega arith) in
@@ -43,7 +43,7 @@ packed-more t i b bits p h e f =
     let d : drop (i - 1) t ≡ getD t (i - 1) 0 ∷ drop i t = drop-cons t (i - 1) 0 (omega arith) ∙ ap (λ x. getD t (i - 1) 0 ∷ drop x t) s in
     rw (d, e, f)
 
--- eight bytes, and those behind them
+-- eight bytes, and those after them
 packed-append : (xs ys : List ℕ) → packed (xs ++ ys) ≡ packed xs + 2 ^ length xs * packed ys
 unfolding packed
 packed-append [] ys = omega arith
@@ -75,7 +75,7 @@ eight-octets i t h =
     let g = octet-more 8 (i + 48) (i + 56) t (omega arith) (omega arith) in
     omega arith
 
--- every bit of it, with 0 past the end
+-- every bit of it, 0 past the end
 pub packed-bit : (t : List ℕ) (i : ℕ) → bitOf (packed t) i ≡ realmBit (getD t i 0)
 unfolding packed realmBit bitOf
 packed-bit [] i = rw zero-div
@@ -84,7 +84,7 @@ packed-bit (b ∷ t) (suc i) =
     let e : (realmBit b + 2 * packed t) / 2 ≡ packed t = omega (arith, realm-le b) in
     rw (bit-suc (realmBit b + 2 * packed t) i, e) (packed-bit t i)
 
--- a block that the table's end cuts short
+-- a block that is shorter because the table ends
 pub block-short : (t : List ℕ) (i : ℕ) → length t - i < 64 → take (length t - i) (drop i t) ≡ take 64 (drop i t)
 block-short t i h =
     let l : length (drop i t) ≤ length t - i = rw length-drop (omega arith) in
@@ -122,7 +122,7 @@ words-first n i t h =
     let d : drop 64 (drop (i * 64) t) ≡ drop ((i + 1) * 64) t = drop-drop 64 (i * 64) t ∙ ap (λ x. drop x t) f in
     ap (λ x. packedTo x (drop (i * 64) t)) e ∙ ap (λ l. wordFrom t i ∷ packedTo (n - (i + 1)) l) d
 
--- each bit is its granule's byte; a spare bit is zero, as there is no byte
+-- each bit is that of its granule's byte; a spare bit is zero, because it has no byte
 pub bit-any : (t : List ℕ) (i : ℕ) → i / 64 < wordsFor (length t) → bitAt (realmWords t) i ≡ realmBit (getD t i 0)
 bit-any t i h =
     let q : i / 64 * 64 + i % 64 ≡ i = omega arith in

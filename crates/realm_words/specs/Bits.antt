@@ -6,7 +6,8 @@ use mathlib.Core.List.{List, [], _∷_}
 use lib.ListN.{length, getD, set, take, drop}
 use lib.Dec.{eqb}
 
--- ---- a bit of a word, and a granule's
+-- ---- a bit of a word, and of a granule
+-- bit k of a word
 unfoldable pub bitOf : ℕ → ℕ → ℕ
 bitOf w k = w / 2 ^ k % 2
 
@@ -14,11 +15,12 @@ bitOf w k = w / 2 ^ k % 2
 abbrev pub bitAt : List ℕ → ℕ → ℕ
 bitAt ws i = bitOf (getD ws (i / 64) 0) (i % 64)
 
--- "Delegate and undelegate write their granule's bit too and no other": the word with bit k as v, 0 or 1, whatever it was, and the
--- words with granule i's bit so
+-- "Delegate and undelegate write their granule's bit too and no other"
+-- the word w with bit k = v, 0 or 1, for any bit before
 unfoldable pub withBit : ℕ → ℕ → ℕ → ℕ
 withBit w k v = w - bitOf w k * 2 ^ k + v * 2 ^ k
 
+-- the words with the bit of granule i = v
 unfoldable pub putBit : List ℕ → ℕ → ℕ → List ℕ
 putBit ws i v = set ws (i / 64) (withBit (getD ws (i / 64) 0) (i % 64) v)
 
@@ -27,20 +29,20 @@ putBit ws i v = set ws (i / 64) (withBit (getD ws (i / 64) 0) (i % 64) v)
 unfoldable pub realmBit : ℕ → ℕ
 realmBit b = cond (eqb b 1) 1 0
 
--- the bits of some bytes as one number, the first byte's lowest; its bits behind them are zero
+-- the bits of some bytes as one number; the first byte is bit 0, and the bits after the last byte are zero
 unfoldable pub packed : List ℕ → ℕ
 packed [] = 0
 packed (b ∷ t) = realmBit b + 2 * packed t
 
--- n words, of 64 bytes each as far as there are bytes
+-- n words, each of the next 64 bytes, or of those that are left
 unfoldable pub packedTo : ℕ → List ℕ → List ℕ
 packedTo zero t = []
 packedTo (suc n) t = packed (take 64 t) ∷ packedTo n (drop 64 t)
 
--- "granules over 64, rounded up"
+-- "granules over 64, rounded up": ceil(n / 64)
 unfoldable pub wordsFor : ℕ → ℕ
 wordsFor n = (n + 63) / 64
 
--- "agreement, spare bits zero too": words and table agree where the words are these
+-- "agreement, spare bits zero too": words and table agree if the words are these
 abbrev pub realmWords : List ℕ → List ℕ
 realmWords t = packedTo (wordsFor (length t)) t

@@ -1,4 +1,4 @@
-// Realm words, next to the granule table: granule i is bit i mod 64 of word i / 64, set where the table's byte is Realm; spare bits are zero.
+// Realm words, next to the granule table: granule i is bit i mod 64 of word i / 64, set if the table's byte is Realm; spare bits are zero.
 ghost use mathlib.Core.Path.{_≡_};
 ghost use Prim.Native.Nat.{_+_, _%_, _^_, _<_, _≤_};
 ghost use lib.ListN.{length, take, drop};
@@ -6,20 +6,20 @@ ghost use lib.Count.{ones};
 ghost use Rattle.realm_words.specs.Bits.{realmBit, packed, wordsFor, withBit};
 ghost use Rattle.realm_words.specs.Answers.{countCode, agreeCode, buildCode, wordsFit, bothFit, wordsCode, tableCode, realmCountOf, realmAgreeOf, Built, realmBuildOf};
 
-// The number of Realm granules.
+// The number of Realm granules, or INVAL.
 pub enum Number {
     Inval,
     Count(u64),
 }
 
-// The first Realm granule at or after an index (`realm_next::next`).
+// The first Realm granule at or after an index, nothing, or INVAL (`realm_next::next`).
 pub enum Hit {
     Inval,
     Nothing,
     At(usize),
 }
 
-// Whether words and table agree.
+// Whether words and table agree, or INVAL.
 pub enum Agreement {
     Inval,
     No,
@@ -48,14 +48,14 @@ pub fn words_fit(words: &[u64], granules: usize) -> bool
 
 // ---- one word ----
 
-// The set bits of a word.
+// Returns the number of set bits of a word.
 fn ones_in(w: u64) -> u64
     ensures { λ r. ⌜ (r ≡ ones w) × (r ≤ 64) ⌝ }
 {
     u64::count_ones(w) as u64
 }
 
-// The bits of a word below bit k.
+// Returns the bits of a word below bit `k`.
 fn low_bits(w: u64, k: usize) -> u64
     requires { ⌜ k < 64 ⌝ }
     ensures { λ r. ⌜ r ≡ w % 2 ^ k ⌝ }
@@ -63,7 +63,7 @@ fn low_bits(w: u64, k: usize) -> u64
     w & ((1u64 << k) - 1)
 }
 
-// The bit of a byte of the table: 1 where it is Realm.
+// Returns the bit for a byte of the table: 1 if it is Realm.
 fn realm_bit(byte: u8) -> u64
     ensures { λ r. ⌜ (r ≡ realmBit byte) × (r ≤ 1) ⌝ }
 {
@@ -73,7 +73,7 @@ fn realm_bit(byte: u8) -> u64
     0
 }
 
-// The word with the bit of granule `index` set if `byte` is Realm, and cleared otherwise.
+// Returns the word with the bit of granule `index` set if `byte` is Realm, and cleared otherwise.
 pub fn with_bit(w: u64, index: usize, byte: u8) -> u64
     ensures { λ r. ⌜ r ≡ withBit w (index % 64) (realmBit byte) ⌝ }
 {
@@ -85,7 +85,7 @@ pub fn with_bit(w: u64, index: usize, byte: u8) -> u64
 
 // ---- answers from the words alone ----
 
-// The number of Realm granules. Spare bits are not counted.
+// Returns the number of Realm granules. Spare bits are not counted.
 pub fn count(words: &[u64], granules: usize) -> Number
     ensures { λ r. ⌜ r ≡ realmCountOf (now (words .entry)) granules ⌝ }
     ensures { λ r. ⌜ countCode r ≡ wordsCode (now (words .entry)) granules ⌝ }
@@ -107,7 +107,7 @@ pub fn count(words: &[u64], granules: usize) -> Number
 
 // ---- words and table ----
 
-// The bits of at most 64 bytes as one number, the first byte's bit lowest.
+// Returns the bits of at most 64 bytes as one number; the first byte is bit 0.
 fn packed_of(block: &[u8]) -> u64
     requires { ⌜ length (now block) ≤ 64 ⌝ }
     ensures { λ r. ⌜ r ≡ packed (now (block .entry)) ⌝ }
@@ -121,7 +121,7 @@ fn packed_of(block: &[u8]) -> u64
     bits
 }
 
-// The bits of the eight granules from `index` on.
+// Returns the bits of the eight granules [index, index + 8).
 fn octet(table: &[u8], index: usize) -> u64
     requires { ⌜ index + 8 ≤ length (now table) ⌝ }
     ensures { λ r. ⌜ (r ≡ packed (take 8 (drop index (now (table .entry))))) × (r < 0x100) ⌝ }
@@ -130,7 +130,8 @@ fn octet(table: &[u8], index: usize) -> u64
     packed_of(&table[index..end])
 }
 
-// The word of the 64 granules from `index` on, or of those that are left. No octet waits for another.
+// Returns the word of the granules [index, min(index + 64, table.len())). The eight octets do not depend on each other, so the processor
+// can compute them in parallel.
 fn word_from(table: &[u8], index: usize) -> u64
     requires { ⌜ index ≤ length (now table) ⌝ }
     ensures { λ r. ⌜ r ≡ packed (take 64 (drop index (now (table .entry)))) ⌝ }
@@ -148,7 +149,7 @@ fn word_from(table: &[u8], index: usize) -> u64
         + octet(table, index + 56) * 0x100_0000_0000_0000
 }
 
-// Whether there are `granules` bytes in the table, and ceil(granules / 64) words.
+// Whether the table has `granules` bytes and there are ceil(granules / 64) words.
 fn both_fit(table: &[u8], words: &[u64], granules: usize) -> bool
     ensures { λ r. ⌜ r ≡ bothFit (now (table .entry)) (now (words .entry)) granules ⌝ }
 {
@@ -161,7 +162,7 @@ fn both_fit(table: &[u8], words: &[u64], granules: usize) -> bool
     true
 }
 
-// Whether words and table agree, and the spare bits are zero.
+// Whether words and table agree, with all spare bits zero.
 pub fn agrees(table: &[u8], words: &[u64], granules: usize) -> Agreement
     ensures { λ r. ⌜ r ≡ realmAgreeOf (now (table .entry)) (now (words .entry)) granules ⌝ }
     ensures { λ r. ⌜ agreeCode r ≡ tableCode (now (table .entry)) (now (words .entry)) granules ⌝ }

@@ -1,5 +1,4 @@
--- When a push is OK, and what it then does. The statement lists the conditions of 01 as they stand there, and none of the definitions of the
--- checks. Assumes nothing.
+-- When a push is OK, and what it then does. The statement lists 01's conditions and uses no definition of the checks. Assumes nothing.
 use Prim.Native.Nat.{ℕ, _≤_, _<_}
 use mathlib.Core.Path.{_≡_, refl}
 use mathlib.Core.List.{List, [], _∷_, _++_}
@@ -14,8 +13,8 @@ use Rattle.queue.proofs.Acts.{queued-ok}
 use Rattle.request_rules.specs.Push.{requestOf, pushCode, pushed, pushOf}
 use Rattle.request_rules.proofs.Pushes.{push-ok}
 
--- A buffer of 80 bytes or more with algorithm id 0 and hash id 1, and fewer than eight requests waiting: OK, "the request joins the end", the
--- buffer and the responses are as they were.
+-- A push is OK with a buffer of 80 bytes or more, algorithm id 0, hash id 1, and fewer than eight requests waiting. Then "the request joins
+-- the end"; the buffer and the responses are unchanged.
 pub buffer-push-acts : (b : List ℕ) (q : Lists) → 80 ≤ length b → halfAt 0 b ≡ 0 → halfAt 24 b ≡ 1 → length (q .requests) < 8 →
     pushOf b q ≡ record {
       answer = record { code = Ok; x0 = 0; x1 = 0; x2 = 0 };
@@ -28,7 +27,7 @@ pub buffer-push-acts : (b : List ℕ) (q : Lists) → 80 ≤ length b → halfAt
 unfolding pushOf queued pushed requestOf answerOf x0Of extended
 buffer-push-acts b q l a h n = rw (push-ok b q l (requestOf b) refl a h n, a, h)
 
--- and only then: by the code of the checks, and by the answer
+-- and only then: from the code of the checks, and from the answer
 pub push-told : (b : List ℕ) (q : Lists) → pushCode b q ≡ Ok → (80 ≤ length b) × (halfAt 0 b ≡ 0) × (halfAt 24 b ≡ 1) × (length (q .requests) < 8)
 unfolding pushCode requestOf
 push-told b q h =

@@ -19,7 +19,7 @@ use Rattle.queue_image.proofs.Steps.{image-refuses, image-accepts}
 use Rattle.request_rules.specs.Push.{requestOf, pushCode, pushOf}
 use Rattle.request_rules.specs.OnImage.{pushDone, pushOn}
 
--- what an OK tells of the buffer and of the requests that wait
+-- what follows from OK for the buffer and the requests that wait
 pub push-passed : (b : List ℕ) (q : Lists) → pushCode b q ≡ Ok → (80 ≤ length b) × (length (q .requests) < 8)
 unfolding pushCode
 push-passed b q h =

@@ -34,6 +34,6 @@ pushCode b q =
 unfoldable pub pushed : List ℕ → Lists → Lists
 pushed b q = record { requests = q .requests ++ (requestOf b ∷ []); responses = q .responses }
 
--- a push of the request in the buffer b, which stays as it was
+-- a push of the request in the buffer b, which is unchanged
 unfoldable pub pushOf : List ℕ → Lists → SigningStep
 pushOf b q = queued (pushCode b q) (record { answer = answerOf Ok 0 0; page = b; queue = pushed b q }) b q

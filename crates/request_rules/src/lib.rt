@@ -1,1 +1,1 @@
-// What a push is: its definitions in specs/, and the laws and theorems on them in proofs/. The code is in `requests`.
+// The rules of a push: definitions in specs/, laws and theorems in proofs/. The code is in `requests`.

@@ -1,4 +1,4 @@
-// Requests: read from their buffer, and pushed to the queue.
+// Requests: read from their buffer and pushed to the queue.
 use codes::Answer;
 use codes::Code;
 use queue::Queue;
@@ -13,7 +13,7 @@ ghost use Rattle.queue_image.specs.OnImage.{ImageStep};
 ghost use Rattle.request_rules.specs.Push.{requestOf, pushCode, pushOf};
 ghost use Rattle.request_rules.specs.OnImage.{pushOn};
 
-// The request in a buffer; the bytes between its fields are not read.
+// Reads the request in a buffer of 80 bytes or more; the bytes between its fields are not read.
 fn request_of(buffer: &[u8]) -> Request
     requires { ⌜ 80 ≤ length (now buffer) ⌝ }
     ensures { λ r. ⌜ r ≡ requestOf (now (buffer .entry)) ⌝ }
@@ -29,7 +29,7 @@ fn request_of(buffer: &[u8]) -> Request
     }
 }
 
-// The checks of a push behind that of its size, by the ids of the request that was read, where so many requests wait.
+// Returns the code of the push checks after the size check, for these ids and `waiting` requests.
 fn push_code(algorithm: u64, hashid: u64, waiting: usize) -> Code
     ensures { λ r. ⌜ ((b : List ℕ) (q : Lists) → 80 ≤ length b → requestOf b .algorithm ≡ algorithm → requestOf b .hashid ≡ hashid → length (q .requests) ≡ waiting → r ≡ pushCode b q) ⌝ }
 {
@@ -45,7 +45,8 @@ fn push_code(algorithm: u64, hashid: u64, waiting: usize) -> Code
     Code::Ok
 }
 
-// Push: the request in the buffer joins the end of those that wait. The request is read once; that copy is judged, and that copy joins.
+// Push: the request in the buffer joins the end of those that wait. Reads the request once and checks that copy, so a page that changes
+// during the call cannot change what joins.
 pub fn push(buffer: &[u8], queue: Queue) -> Queued
     ensures { λ r. ⌜ signingExit r (now (buffer .entry)) ≡ exitOf queue (pushOf (now (buffer .entry)) (listsOf queue)) ⌝ }
 {
@@ -74,8 +75,8 @@ pub fn push(buffer: &[u8], queue: Queue) -> Queued
     }
 }
 
-// Push on the queue's image: all checks come before the first word is copied, and only the requests' side is touched. Here too the
-// request is read once.
+// Push on the queue's image: all checks run before the first word is written, and only the requests' side changes. Also reads the
+// request only once.
 pub fn push_on(buffer: &[u8], image: &mut [u64; 210]) -> Answer
     ensures { λ r. ⌜ _≡_ {A = ImageStep} (record { answer = r; page = now (buffer .entry); image = now (image .exit) }) (pushOn (now (buffer .entry)) (now (image .entry))) ⌝ }
 {

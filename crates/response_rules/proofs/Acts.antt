@@ -1,5 +1,5 @@
--- When a pull and the signer's own step are OK, and what they then do. Each statement lists the conditions of 01 as they stand there, and none
--- of the definitions of the checks. Assumes nothing.
+-- When a pull and the signer's own step are OK, and what they then do. Each statement lists 01's conditions and uses no definition of the
+-- checks. Assumes nothing.
 use Prim.Native.Nat.{ℕ, _+_, _≤_, _<_}
 use mathlib.Core.Path.{_≡_, refl, _∙_}
 use mathlib.Core.List.{List, [], _∷_, _++_}
@@ -31,13 +31,13 @@ signed-length s =
     (leBytes 8 (s .granule) ++ leBytes 8 (s .ticket)) (leBytes 2 (length (s .signature))) ∙ omega arith in
     length-append (leBytes 8 (s .granule) ++ leBytes 8 (s .ticket) ++ leBytes 2 (length (s .signature))) (s .signature) ∙ omega arith
 
--- laid over the start of a buffer
+-- bytes written over the start of a buffer
 front-over : (b vs : List ℕ) (n : ℕ) → length vs ≡ n → splice 0 vs b ≡ vs ++ drop n b
 unfolding splice
 front-over b vs n e = rw (e, zero-add)
 
--- A response waits, and 18 + its signature's length is at most the buffer's size: OK; the buffer has at its start "rec_granule, req_ticket,
--- 2-byte length, signature", and is as it was behind them; the response is dropped, the requests are as they were.
+-- A pull is OK if a response waits and 18 + its signature's length is at most the buffer's size. Then the buffer starts with "rec_granule,
+-- req_ticket, 2-byte length, signature" and is otherwise unchanged; the response is dropped, and the requests are unchanged.
 pub buffer-pull-acts : (b : List ℕ) (asked : List Request) (r : Signed) (rest : List Signed) → 18 + length (r .signature) ≤ length b →
     pullOf b (record { requests = asked; responses = r ∷ rest }) ≡ record {
       answer = record { code = Ok; x0 = 0; x1 = 0; x2 = 0 };
@@ -48,7 +48,7 @@ unfolding pullOf queued pulled responseBytes oldestResponse answerOf x0Of extend
 buffer-pull-acts b asked r rest l =
     rw (pull-ok (length b) (record { requests = asked; responses = r ∷ rest }) (λ e. omega arith) r refl l, front-over b (responseBytes r) (18 + length (r .signature)) (signed-length r))
 
--- and only then: by the code of the checks, and by the answer
+-- and only then: from the code of the checks, and from the answer
 pub pull-told : (size : ℕ) (q : Lists) → pullCode size q ≡ Ok → (1 ≤ length (q .responses)) × (18 + length (oldestResponse (q .responses) .signature) ≤ size)
 unfolding pullCode
 pull-told size q h =
@@ -60,8 +60,8 @@ pub buffer-pull-only : (b : List ℕ) (q : Lists) → pullOf b q .answer .code �
 unfolding pullOf
 buffer-pull-only b q h = pull-told (length b) q (queued-ok (pullCode (length b) q) _ b q h)
 
--- A signature of 1 to 104 bytes, a request waits, and fewer than eight responses: OK, "the oldest request becomes the newest response", with its
--- rec_granule, its req_ticket and the signature.
+-- The signer's step is OK if the signature has 1 to 104 bytes, a request waits, and fewer than eight responses wait. Then "the oldest
+-- request becomes the newest response", with its rec_granule, its req_ticket and the signature.
 pub sign-acts : (s : List ℕ) (r : Request) (rest : List Request) (done : List Signed) → 1 ≤ length s → length s ≤ 104 → length done < 8 →
     signOf (record { requests = r ∷ rest; responses = done }) s ≡ record {
       answer = record { code = Ok; x0 = 0; x1 = 0; x2 = 0 };

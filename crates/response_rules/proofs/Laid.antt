@@ -20,7 +20,7 @@ length-laid off vs s = go (decLe (off + length vs) (length s))
     go (yes a) = ap length (bytes-in off vs s a) ∙ length-splice off vs s a
     go (no a) = ap length (bytes-out off vs s (omega arith))
 
--- a field more, at once after those before it
+-- one more field, directly after those before it
 grow : (vs ws s : List ℕ) (k : ℕ) → length vs ≡ k → k + length ws ≤ length s → laid k ws (splice 0 vs s) ≡ splice 0 (vs ++ ws) s
 grow vs ws s k e h =
     let l : length (splice 0 vs s) ≡ length s = length-splice 0 vs s (omega arith) in
@@ -33,7 +33,7 @@ four a b c d s ha hb hc h =
     let abc : length ((a ++ b) ++ c) ≡ 18 = length-append (a ++ b) c ∙ omega arith in
     rw (bytes-in 0 a s (omega arith), grow a b s 8 ha (omega arith), grow (a ++ b) c s 16 ab (omega arith)) (grow ((a ++ b) ++ c) d s 18 abc h)
 
--- the stores of a response, the signature lent last
+-- the stores of a response, the signature last
 pub response-laid : (s : List ℕ) (r : Response) (n : ℕ) → n ≡ length (signedIn r .signature) → 18 + length (signedIn r .signature) ≤ length s → (t : List ℕ) →
     t ≡ laid 16 (leBytes 2 n) (laid 8 (leBytes 8 (r .ticket)) (laid 0 (leBytes 8 (r .granule)) s)) →
     take 18 t ++ (laid 0 (take n (r .signature)) (take (length t - 18) (drop 18 t)) ++ drop (length t - 18) (drop 18 t)) ≡ splice 0 (responseBytes (signedIn r)) s

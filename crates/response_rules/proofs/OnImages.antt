@@ -23,7 +23,7 @@ use Rattle.response_rules.specs.Sign.{signCode, signedBy, signOf}
 use Rattle.response_rules.specs.OnImage.{pullOn, signDone, SignImage, signOn}
 
 -- ---- pull
--- what an OK tells
+-- what follows from OK
 pub pull-passed : (size : ℕ) (q : Lists) → pullCode size q ≡ Ok → (length (q .responses) ≡ 0 → ⊥) × (18 + length (oldestResponse (q .responses) .signature) ≤ size)
 unfolding pullCode
 pull-passed size q h =
@@ -49,7 +49,7 @@ module _ (b w : List ℕ) (k : Code) (e : k ≡ pullCode (length b) (listsIn w))
         rw (← front-response-is w (p .0)) (image-accepts (pullCode (length b) (listsIn w)) _ b (listsIn w) (rowDropped responseSide w) w (rw e at o) refl)
 
 -- ---- the signer's step
--- what an OK tells
+-- what follows from OK
 pub sign-passed : (q : Lists) (s : List ℕ) → signCode q s ≡ Ok → (length s ≤ 104) × (length (q .requests) ≡ 0 → ⊥) × (length (q .responses) < 8)
 unfolding signCode
 sign-passed q s h =

@@ -13,7 +13,7 @@ use Rattle.queue.specs.declared.Responses.{Responses}
 use Rattle.queue.specs.Queue.{Signed, Lists, SigningStep, held, ready, signedIn, noResponse, oldestResponse, queued}
 use Rattle.response_rules.specs.Pull.{pullCode, pullOf}
 
--- ---- the side of responses, and what it stands for
+-- ---- the responses, as lists
 pub ready-length : (s : Responses) → length (ready s) ≡ length (held s)
 unfolding ready
 ready-length s = length-map (held s) signedIn
@@ -41,7 +41,7 @@ module _ (size : ℕ) (q : Lists) where
     unfolding pullCode fails
     pull-ok h = rw (ne-eqb (length (q .responses)) 0 n, e, le-ltb size (18 + length (r .signature)) h)
 
--- "response kept": a refused pull leaves the buffer and both sides as they were, with zeros in the other registers
+-- "response kept": a refused pull leaves the buffer and both sides unchanged, with zeros in x1 and x2
 pub pull-refused : (b : List ℕ) (q : Lists) → isOk (pullOf b q .answer .code) ≡ false → pullOf b q ≡ record { answer = answerOf (pullOf b q .answer .code) 0 0; page = b; queue = q }
 unfolding pullOf queued answerOf
 pull-refused b q =

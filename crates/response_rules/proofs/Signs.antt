@@ -46,7 +46,7 @@ module _ (q : Lists) (s : List ℕ) where
         unfolding signCode fails
         sign-ok h = rw (ne-eqb (length s) 0 n, le-ltb 104 (length s) l, ne-eqb (length (q .requests)) 0 r, lt-leb 8 (length (q .responses)) h)
 
--- a refused step leaves both sides as they were, with zeros in the other registers
+-- a refused step leaves both sides unchanged, with zeros in x1 and x2
 pub sign-refused : (q : Lists) (s : List ℕ) → isOk (signOf q s .answer .code) ≡ false → signOf q s ≡ record { answer = answerOf (signOf q s .answer .code) 0 0; queue = q }
 unfolding signOf answerOf
 sign-refused q s h = rw h

@@ -10,18 +10,19 @@ use Rattle.queue_image.specs.OnImage.{ImageStep, imageStep}
 use Rattle.response_rules.specs.Pull.{pullOf}
 use Rattle.response_rules.specs.Sign.{signedBy, signOf}
 
--- a pull into the buffer b, from the image w: of the requests no word changes
+-- a pull into the buffer b, from the image w: no word of the requests changes
 unfoldable pub pullOn : List ℕ → List ℕ → ImageStep
 pullOn b w = imageStep (pullOf b (listsIn w)) (rowDropped responseSide w) w
 
--- the row of the response joins the responses, and that of the oldest request is dropped
+-- the row of the response is added to the responses, and that of the oldest request is dropped
 unfoldable pub signDone : List ℕ → List ℕ → List ℕ
 signDone w s = rowDropped requestSide (rowJoined responseSide (responseWords (signedBy (oldestRequest (listsIn w .requests)) s)) w)
 
--- the answer, and the image then
+-- the answer, and the next image
 pub record SignImage : Type 0 where
   pub answer : Answer
   pub image : List ℕ
 
+-- the signer's own step on the image w
 unfoldable pub signOn : List ℕ → List ℕ → SignImage
 signOn w s = record { answer = signOf (listsIn w) s .answer; image = ifOk (signOf (listsIn w) s .answer .code) (signDone w s) w }

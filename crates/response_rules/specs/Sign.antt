@@ -21,7 +21,7 @@ signCode q s =
     (fails (leb 8 (length (q .responses))) Again
     Ok)))
 
--- the response to a request: rec_granule and req_ticket are never altered
+-- the response to a request; rec_granule and req_ticket never change
 unfoldable pub signedBy : Request → List ℕ → Signed
 signedBy r s = record { granule = r .granule; ticket = r .ticket; signature = s }
 
@@ -29,11 +29,12 @@ signedBy r s = record { granule = r .granule; ticket = r .ticket; signature = s 
 unfoldable pub signed : Lists → List ℕ → Lists
 signed q s = record { requests = drop 1 (q .requests); responses = q .responses ++ (signedBy (oldestRequest (q .requests)) s ∷ []) }
 
--- the answer, and what waits then
+-- the answer, and what then waits
 pub record SignStep : Type 0 where
   pub answer : Answer
   pub queue : Lists
 
+-- the signer's own step
 unfoldable pub signOf : Lists → List ℕ → SignStep
 signOf q s = record { answer = answerOf (signCode q s) 0 0; queue = ifOk (signCode q s) (signed q s) q }
 

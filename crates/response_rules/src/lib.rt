@@ -1,2 +1,1 @@
-// What a pull and the signer's own step are: their definitions in specs/, and the laws and theorems on them in proofs/. The code is in
-// `responses`.
+// The rules of a pull and of the signer's own step: definitions in specs/, laws and theorems in proofs/. The code is in `responses`.

@@ -14,7 +14,7 @@ ghost use Rattle.response_rules.specs.Pull.{responseBytes, pullCode, pullOf};
 ghost use Rattle.response_rules.specs.Sign.{signCode, signOf, signExit};
 ghost use Rattle.response_rules.specs.OnImage.{pullOn, SignImage, signOn};
 
-// Writes a response at the start of a buffer that holds it.
+// Writes a response at the start of a buffer that is long enough.
 fn put_response(buffer: &mut [u8], response: Response)
     requires { ⌜ 18 + length (signedIn response .signature) ≤ length (now buffer) ⌝ }
     ensures { λ _. ⌜ now (buffer .exit) ≡ splice 0 (responseBytes (signedIn response)) (now (buffer .entry)) ⌝ }
@@ -27,7 +27,7 @@ fn put_response(buffer: &mut [u8], response: Response)
     words::copy(&mut buffer[18..], &signature[..n]);
 }
 
-// The checks of a pull into so many bytes, where so many responses wait and the signature of the oldest has so many bytes.
+// Returns the code of the pull checks for a buffer of `size` bytes, `waiting` responses and an oldest signature of `len` bytes.
 fn pull_code(size: usize, waiting: usize, len: usize) -> Code
     requires { ⌜ len ≤ 104 ⌝ }
     ensures { λ r. ⌜ ((q : Lists) → length (q .responses) ≡ waiting → ((length (q .responses) ≡ 0 → ⊥) → length (oldestResponse (q .responses) .signature) ≡ len) → r ≡ pullCode size q) ⌝ }
@@ -41,7 +41,7 @@ fn pull_code(size: usize, waiting: usize, len: usize) -> Code
     Code::Ok
 }
 
-// Pull: writes the oldest response into the buffer and drops it; one that does not fit is kept.
+// Pull: writes the oldest response into the buffer and drops it; keeps a response that does not fit.
 pub fn pull(buffer: &mut [u8], queue: Queue) -> Queued
     ensures { λ r. ⌜ signingExit r (now (buffer .exit)) ≡ exitOf queue (pullOf (now (buffer .entry)) (listsOf queue)) ⌝ }
 {
@@ -65,7 +65,7 @@ pub fn pull(buffer: &mut [u8], queue: Queue) -> Queued
     }
 }
 
-// The response that carries a signature, for a granule and a ticket.
+// Returns the response with this granule, ticket and signature.
 fn response_of(granule: u64, ticket: u64, signature: &[u8]) -> Response
     requires { ⌜ length (now signature) ≤ 104 ⌝ }
     ensures { λ r. ⌜ signedIn r ≡ record { granule = granule; ticket = ticket; signature = now (signature .entry) } ⌝ }
@@ -80,7 +80,7 @@ fn response_of(granule: u64, ticket: u64, signature: &[u8]) -> Response
     }
 }
 
-// The checks of the signer's step, where so many requests and responses wait.
+// Returns the code of the signer's checks if `requests` requests and `responses` responses wait.
 fn sign_code(signature: &[u8], requests: usize, responses: usize) -> Code
     ensures { λ r. ⌜ ((q : Lists) → length (q .requests) ≡ requests → length (q .responses) ≡ responses → r ≡ signCode q (now (signature .entry))) ⌝ }
 {
@@ -125,7 +125,7 @@ pub fn sign(queue: Queue, signature: &[u8]) -> Queued
     }
 }
 
-// Pull on the queue's image: all checks come before the first word is copied, and only the responses' side is touched.
+// Pull on the queue's image: all checks run before the first word is copied, and only the responses' side changes.
 pub fn pull_on(buffer: &mut [u8], image: &mut [u64; 210]) -> Answer
     ensures { λ r. ⌜ _≡_ {A = ImageStep} (record { answer = r; page = now (buffer .exit); image = now (image .exit) }) (pullOn (now (buffer .entry)) (now (image .entry))) ⌝ }
 {

@@ -1,5 +1,5 @@
--- When token signing is OK, and what an OK did. The conditions are listed as they stand in 01, by none of the definitions of the checks.
--- Assumes nothing.
+-- When token signing is OK, and what it then does. The statements list 01's conditions and use no definition of the checks. Assumes
+-- nothing.
 use Prim.Native.Nat.{ℕ, _+_, _-_, _≤_, _<_}
 use mathlib.Core.Path.{_≡_, refl, sym, ap, _∙_}
 use mathlib.Core.Bool.{false, true≢false}
@@ -69,12 +69,12 @@ module _ (u : Params) (page : List ℕ) (key : List ℕ) (pa size : ℕ) (i : Bu
       ap (λ (a : Answer). a .code) (op-answer (record { requests = asked; responses = r ∷ rest }) 2 curve refl refl)
       ∙ ap (λ (s : SigningStep). s .answer .code) (buffer-pull-acts buffer asked r rest (omega (arith, buffer-size)))
 
-  -- key: curve 0, and a public key that is not empty nor longer than the size
+  -- key: curve 0, and a public key that is neither empty nor longer than the size
   pub public-passes : (q : Lists) → (length key ≡ 0 → ⊥) → length key ≤ size → signingOf (Up u) page q key 3 pa size 0 .answer .code ≡ Ok
   unfolding opcodeOf isOther badCurve opOf publicOf queued unless answerOf
   public-passes q n l = ap (λ (a : Answer). a .code) (op-answer q 3 0 refl refl) ∙ rw (public-ok (length buffer) key n (omega (arith, buffer-size)))
 
--- ---- what an OK did
+-- ---- what an OK does
 module _ (r : Record) (page : List ℕ) (q : Lists) (key : List ℕ) (pa size curve : ℕ) where
   at : ℕ
   at = placeOf (upOf r) pa

@@ -1,4 +1,4 @@
--- What is done in a buffer, said of the page that it was lent from. Assumes nothing.
+-- What a call does in a buffer, stated for the page that lends it. Assumes nothing.
 use Prim.Native.Nat.{ℕ, _+_, _≤_}
 use mathlib.Core.Path.{_≡_, refl, sym, ap, _∙_}
 use mathlib.Core.List.{List, _++_, append-assoc}
@@ -19,7 +19,7 @@ use Rattle.signing.specs.Signing.{publicCode, putBack}
 
 -- ---- a buffer of n bytes at an offset of s
 module _ (at n : ℕ) (s : List ℕ) where
-  -- c in its place
+  -- c written at its offset
   pub back-at : (c : List ℕ) → length c ≡ n → take at s ++ (c ++ drop n (drop at s)) ≡ splice at c s
   unfolding splice
   back-at c e = rw (e, ← drop-drop n at s) (sym (append-assoc (take at s) c (drop n (drop at s))))
@@ -29,19 +29,19 @@ module _ (at n : ℕ) (s : List ℕ) where
     unfolding part
     buffer-length = length-take-le n (drop at s) (omega (arith, length-drop at s))
 
-    -- as it was: s is as it was
+    -- an unchanged buffer leaves s unchanged
     pub back-same : splice at (part at n s) s ≡ s
     unfolding part
     back-same = sym (back-at (part at n s) buffer-length) ∙ part-back at n s
 
-    -- with vs written at its start: s has vs at the offset
+    -- vs written at the buffer's start is vs written at its offset of s
     pub back-over : (vs : List ℕ) → length vs ≤ n → splice at (splice 0 vs (part at n s)) s ≡ splice at vs s
     unfolding part
     back-over vs h =
         let l : length (splice 0 vs (part at n s)) ≡ n = length-splice 0 vs (part at n s) (omega (arith, buffer-length)) ∙ buffer-length in
         sym (back-at (splice 0 vs (part at n s)) l) ∙ buffer-back at n vs s room h
 
--- a call on a lent buffer, which is c at exit; one that only reads it
+-- a call on a lent buffer, which is c at exit; and a call that only reads it
 module _ (at n : ℕ) (page : List ℕ) (old : Queue) (r : Queued) (s : SigningStep) where
   pub exit-back : (c : List ℕ) → length c ≡ n → signingExit r c ≡ exitOf old s → signingExit r (take at page ++ (c ++ drop n (drop at page))) ≡ exitOf old (putBack at page s)
   unfolding putBack exitOf
@@ -52,7 +52,7 @@ module _ (at n : ℕ) (page : List ℕ) (old : Queue) (r : Queued) (s : SigningS
       ap (signingExit r) (sym (back-at at n page (part at n page) (buffer-length at n page room) ∙ back-same at n page room)) ∙ exit-back
       (part at n page) (buffer-length at n page room) h
 
--- ---- an OK wrote no more than the buffer holds
+-- ---- an OK writes at most the size of the buffer
 pub pull-fits : (size : ℕ) (q : Lists) → pullCode size q ≡ Ok → length (responseBytes (oldestResponse (q .responses))) ≤ size
 unfolding pullCode
 pull-fits size q h =

@@ -1,4 +1,4 @@
--- What is done in a buffer and on an image, said of the page that the buffer was lent from. Assumes nothing.
+-- What a call does in a buffer and on an image, stated for the page that lends the buffer. Assumes nothing.
 use Prim.Native.Nat.{ℕ, _+_, _≤_}
 use mathlib.Core.Path.{_≡_, refl, sym, ap, _∙_}
 use mathlib.Core.List.{List, _++_}
@@ -17,7 +17,7 @@ module _ (at n : ℕ) (page : List ℕ) (a : Answer) (image : List ℕ) (s : Sig
   unfolding imageStep putBack
   over t h = ap (λ (x : ImageStep). record { answer = x .answer; page = splice at (x .page) page; image = x .image }) h
 
-  -- a call on a lent buffer, which is c at exit; one that only reads it
+  -- a call on a lent buffer, which is c at exit; and a call that only reads it
   pub put-back-on : (c : List ℕ) → length c ≡ n → _≡_ {A = ImageStep} (record { answer = a; page = c; image = image }) (imageStep s new w) →
       _≡_ {A = ImageStep} (record { answer = a; page = take at page ++ (c ++ drop n (drop at page)); image = image }) (imageStep (putBack at page s) new w)
   put-back-on c e h = rw (back-at at n page c e) (over _ h)
@@ -26,7 +26,7 @@ module _ (at n : ℕ) (page : List ℕ) (a : Answer) (image : List ℕ) (s : Sig
       _≡_ {A = ImageStep} (record { answer = a; page = page; image = image }) (imageStep (putBack at page s) new w)
   put-same-on room h = ap (λ (p : List ℕ). record { answer = a; page = p; image = image }) (sym (back-same at n page room)) ∙ over _ h
 
--- a call that leaves the image, accepted or not
+-- a call that leaves the image unchanged, accepted or not
 pub image-same : (s : SigningStep) (t : SigningStep) (w : List ℕ) → t ≡ s → _≡_ {A = ImageStep} (record { answer = t .answer; page = t .page; image = w }) (imageStep s w w)
 unfolding imageStep
 image-same s t w e =

@@ -32,7 +32,7 @@ use Rattle.signing.specs.Signing.{opcodeOf, isOther, badCurve, sharedCod
 use Rattle.signing.specs.declared.Opcode.the-variants.{Push, Pull, Key}
 use Rattle.signing.proofs.Buffers.{buffer-length}
 
--- ---- an opcode's own checks, b being the buffer of so many bytes
+-- ---- an opcode's own checks, for the buffer b of `size` bytes
 abbrev pub PushGives : ℕ → List ℕ → Lists → Code → Type 0
 PushGives size b q =
     Gives (size < 80) Inval
@@ -53,11 +53,11 @@ PublicGives size key =
     (Gives (size < length key) Inval
     Passes)
 
--- the opcode's own, by its number
+-- the checks of an opcode, by its number
 abbrev pub OpGives : ℕ → ℕ → List ℕ → Lists → List ℕ → Code → Type 0
 OpGives op size b q key k = (op ≡ 1 → PushGives size b q k) × (op ≡ 2 → PullGives size q k) × (op ≡ 3 → PublicGives size key k)
 
--- a step that is answered OK where its checks pass
+-- a step with code k answers k
 queued-code : (k : Code) (new : SigningStep) (page : List ℕ) (q : Lists) → new .answer .code ≡ Ok → queued k new page q .answer .code ≡ k
 unfolding queued answerOf
 queued-code k new page q h = if-ok-by (λ (s : SigningStep). s .answer .code ≡ k) k new _ (λ e. h ∙ sym e) (λ e. refl)
@@ -135,7 +135,7 @@ tells-curve op curve = go (ℕ-discrete op 1) (ℕ-discrete op 2) (ℕ-discrete 
     go (no a) (no b) (yes d) = rw d (record { yes-if = λ h. t .yes-if (h .1); no-if = λ h. t .no-if (λ n. h (refl, n)) })
     go (no a) (no b) (no d) = rw (ne-eqb op 1 a, ne-eqb op 2 b, ne-eqb op 3 d) (record { yes-if = λ h. absurd (d (h .0)); no-if = λ h. refl })
 
--- ---- the command: the shared checks behind those of the page, then the opcode's own
+-- ---- the command: the shared checks after those of the page, then the opcode's own
 behind : Params → List ℕ → Lists → List ℕ → ℕ → ℕ → ℕ → ℕ → Code
 behind u page q key op pa size curve =
     fails (badCurve (opcodeOf op) curve) Inval (fails (ltb (u .minor) 4) Unk (opOf (opcodeOf op) (part (pa - u .base) size page) q key .answer .code))
@@ -152,7 +152,7 @@ signing-code r page q key op pa size curve =
     step-code _ _ page q
     ∙ rw (then-then, then-fails (badCurve (opcodeOf op) curve) Inval _ own refl, then-fails (ltb (upOf r .minor) 4) Unk Ok own refl, then-none)
 
--- the opcode's own checks, where the shared ones of page and buffer pass: the buffer has its size
+-- the opcode's own checks, if the shared checks of page and buffer pass: the buffer has its size
 sized : (u : Params) (page : List ℕ) (q : Lists) (key : List ℕ) (op pa size : ℕ) → unless (eqb (length page) 4096) ≡ false → outside u pa ≡ false → tooLong u pa size ≡ false →
     OpGives op size (part (pa - u .base) size page) q key (opOf (opcodeOf op) (part (pa - u .base) size page) q key .answer .code)
 unfolding outside tooLong

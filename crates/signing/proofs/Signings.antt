@@ -51,12 +51,12 @@ module _ (r : Record) (len : ℕ) (o : Opcode) (pa size curve : ℕ) where
       unfolding sharedCode andThen fails
       shared-ok m = rw (p, b, le-ltb (upOf r .minor) 4 m)
 
-  -- what the page's gate tells of a call that passes them
+  -- what follows from the common checks of a call that passes them
   pub shared-passed : sharedCode r len o pa size curve ≡ Ok → Passed r len (fails (isOther o) Inval Ok) pa size
   unfolding sharedCode
   shared-passed h = passed _ _ _ _ _ _ (first-ok _ _ h)
 
--- the gate of those checks, return by return, by the answers that were told
+-- the gate of those checks, return by return, from the results of the functions that it calls
 module _ (r : Record) (len : ℕ) (o : Opcode) (pa size curve : ℕ) (t : Bool) (ct : t ≡ isOther o) (k : Code) (ck : k ≡ fails t Inval Ok)
     (g : Gate) (cg : g ≡ gated (pageCode r len k Invalid pa size) (placeOf (upOf r) pa)) where
   page-gated : gated (pageCode r len (fails (isOther o) Inval Ok) Invalid pa size) (placeOf (upOf r) pa) ≡ g
@@ -81,7 +81,7 @@ module _ (r : Record) (len : ℕ) (o : Opcode) (pa size curve : ℕ) (t : Bool) 
       pub gate-go : 4 ≤ u .minor → Go at ≡ gated (sharedCode r len o pa size curve) (placeOf (upOf r) pa)
       gate-go m = goes (sharedCode r len o pa size curve) (placeOf (upOf r) pa) at (shared-ok r len o pa size curve (page-went .0) (sym cb ∙ n) (rw (← cu) m)) (page-went .1)
 
--- ---- a call by its opcode and gate, as they were told
+-- ---- a call, from its opcode and gate
 module _ (r : Record) (page : List ℕ) (op pa size curve : ℕ) (g : Gate) (cg : g ≡ gated (sharedCode r (length page) (opcodeOf op) pa size curve) (placeOf (upOf r) pa)) where
   pub told-stop : (j : Code) → g ≡ Stop j → (sharedCode r (length page) (opcodeOf op) pa size curve ≡ j) × (isOk j ≡ false)
   told-stop j h = stood (sharedCode r (length page) (opcodeOf op) pa size curve) (placeOf (upOf r) pa) j (sym cg ∙ h)
@@ -126,7 +126,7 @@ module _ (size : ℕ) (key : List ℕ) where
     public-ok h = rw (ne-eqb (length key) 0 n, le-ltb size (length key) h)
 
 -- ---- what a call leaves
--- A property of opcode and step that holds in each case: refused, or OK by one of the opcodes, with what the page's gate then tells.
+-- A property of opcode and step that holds in each case: refused, or OK by one of the opcodes, with what follows from the common checks.
 pub record Cases (P : Opcode → SigningStep → Type 0) (r : Record) (page : List ℕ) (q : Lists) (key : List ℕ) (pa size : ℕ) : Type 0 where
   pub refusal : (o : Opcode) (k : Code) → isOk k ≡ false → P o (record { answer = answerOf k 0 0; page = page; queue = q })
   pub push : Passed r (length page) Ok pa size → pushCode (part (placeOf (upOf r) pa) size page) q ≡ Ok → P Push
@@ -140,7 +140,7 @@ pub record Cases (P : Opcode → SigningStep → Type 0) (r : Record) (page : Li
       })
   pub public : Passed r (length page) Ok pa size → publicCode size key ≡ Ok → P Key (record { answer = answerOf Ok (length key) 0; page = splice (placeOf (upOf r) pa) key page; queue = q })
 
--- ---- an opcode on its buffer, by the code of its own checks: what it left in the buffer, as the page shows it
+-- ---- an opcode on its buffer, by the code of its own checks: the buffer at exit, as part of the page
 op-by : (at size : ℕ) (page : List ℕ) (q : Lists) → at + size ≤ length page → (P : SigningStep → Type 0) →
     ((k : Code) → isOk k ≡ false → P (record { answer = answerOf k 0 0; page = page; queue = q })) →
     (k : Code) (new : SigningStep) (after : List ℕ) → (k ≡ Ok → splice at (new .page) page ≡ after) → (k ≡ Ok → P (record { answer = new .answer; page = after; queue = new .queue })) →
@@ -175,12 +175,12 @@ module _ (P : Opcode → SigningStep → Type 0) (r : Record) (page : List ℕ) 
   unfolding queued
   signing-cases o = if-ok-by (P o) (sharedCode r (length page) o pa size curve) _ _ (λ h. op-cases o (shared-passed r (length page) o pa size curve h)) (λ h. c .refusal o _ h)
 
-  -- it holds of the call
+  -- the property holds of the call
   pub signing-by : P (opcodeOf op) (signingOf r page q key op pa size curve)
   unfolding signingOf at
   signing-by = signing-cases (opcodeOf op)
 
--- a refused call leaves the page and both sides as they were, with zeros in the other registers
+-- a refused call leaves the page and both sides unchanged, with zeros in x1 and x2
 pub signing-refused : (r : Record) (page : List ℕ) (q : Lists) (key : List ℕ) (op pa size curve : ℕ) → isOk (signingOf r page q key op pa size curve .answer .code) ≡ false →
     signingOf r page q key op pa size curve ≡ record { answer = answerOf (signingOf r page q key op pa size curve .answer .code) 0 0; page = page; queue = q }
 unfolding answerOf

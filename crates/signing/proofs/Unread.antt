@@ -1,5 +1,5 @@
--- Token signing reads no byte of the page but for a push: on two pages of one length its answer, and what then waits, are the same, also
--- on the queue's image. Assumes nothing.
+-- Only a push reads the page: for any other opcode and two pages of the same length the answer, and what then waits, are the same, also on
+-- the queue's image. Assumes nothing.
 use Prim.Native.Nat.{ℕ, _-_}
 use mathlib.Core.Path.{_≡_, refl}
 use mathlib.Core.Bool.{Bool, true, false, cond}
@@ -21,7 +21,7 @@ use Rattle.signing.specs.OnImage.{imageDone, signingDone, signingOn}
 use Rattle.signing.specs.declared.Opcode.{Opcode}
 use Rattle.signing.specs.declared.Opcode.the-variants.{Push, Pull, Key, Other}
 
--- the same but for the page
+-- equal except for the page
 abbrev pub SameSigning : SigningStep → SigningStep → Type 0
 SameSigning x y = (x .answer ≡ y .answer) × (x .queue ≡ y .queue)
 
@@ -40,7 +40,7 @@ queued-same : (b : Bool) (x y u v : SigningStep) → SameSigning x y → SameSig
 queued-same true x y u v h k = h
 queued-same false x y u v h k = k
 
--- an opcode in two buffers of one length
+-- an opcode in two buffers of the same length
 op-unread : (o : Opcode) (a b : List ℕ) (q : Lists) (key : List ℕ) → (o ≡ Push → ⊥) → length a ≡ length b → SameSigning (opOf o a q key) (opOf o b q key)
 unfolding opOf pullOf publicOf queued
 op-unread Push a b q key n e = absurd (n refl)

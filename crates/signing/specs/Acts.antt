@@ -1,4 +1,4 @@
--- When token signing is accepted, and what an accepted call did, opcode by opcode. Assumes nothing.
+-- When token signing is accepted, and what an accepted call does, opcode by opcode. Assumes nothing.
 use Prim.Native.Nat.{ℕ, _≤_}
 use mathlib.Core.Path.{_≡_}
 use mathlib.Core.Bool.{true}
@@ -11,19 +11,19 @@ use Rattle.codes.specs.Codes.{isUp, upOf}
 use Rattle.codes.specs.declared.Code.the-variants.{Ok}
 use Rattle.queue.specs.Queue.{Signed, Lists, SigningStep}
 
--- The record is up with minor 4 or more, and the buffer lies in the page
+-- The record is up with minor 4 or more, and the buffer is in the page
 pub record SigningPassed (r : Record) (page : List ℕ) (pa size : ℕ) : Type 0 where
   pub up : isUp r ≡ true
   pub minor : 4 ≤ upOf r .minor
   pub buffer : BufferIn (upOf r) page pa size
 
--- The registers of an OK, what waits then, and the bytes that stand at an offset of the page, every other byte being as it was
+-- The registers of an OK, what then waits, and the bytes at offset `at` of the page; every other byte is unchanged
 pub record SigningActed (x1 : ℕ) (waits : Lists) (at : ℕ) (bytes page : List ℕ) (s : SigningStep) : Type 0 where
   pub told : s .answer ≡ record { code = Ok; x0 = 0; x1 = x1; x2 = 0 }
   pub left : s .queue ≡ waits
   pub written : WrittenAt at bytes page (s .page)
 
--- "the request joins the end", b being the buffer: nothing else changes
+-- "the request joins the end", for the buffer b: nothing else changes
 abbrev pub PushActed : List ℕ → List ℕ → Lists → SigningStep → Type 0
 PushActed b page q s =
     s ≡ record {
@@ -35,7 +35,7 @@ PushActed b page q s =
       };
     }
 
--- "writes rec_granule, req_ticket, 2-byte length, signature, and drops it": of the response r that came first, before the rest
+-- "writes rec_granule, req_ticket, 2-byte length, signature, and drops it": of the response r, the oldest
 abbrev pub PullActed : ℕ → List ℕ → Lists → SigningStep → Type 0
 PullActed at page q s =
     (r : Signed) (rest : List Signed) → q .responses ≡ r ∷ rest →

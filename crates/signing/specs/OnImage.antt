@@ -13,20 +13,21 @@ use Rattle.signing.specs.Signing.{opcodeOf, opAt, signingOf}
 use Rattle.signing.specs.declared.Opcode.{Opcode}
 use Rattle.signing.specs.declared.Opcode.the-variants.{Push, Pull, Key, Other}
 
--- what an accepted call with the buffer b leaves of the image w: push touches the requests, pull the responses, key neither
+-- what an accepted call with the buffer b leaves of the image w: push changes the requests, pull the responses, key nothing
 unfoldable pub imageDone : Opcode → List ℕ → List ℕ → List ℕ
 imageDone Push b w = pushDone b w
 imageDone Pull b w = rowDropped responseSide w
 imageDone Key b w = w
 imageDone Other b w = w
 
--- an opcode, the buffer being so many bytes at an offset of the page
+-- an opcode on the buffer of `size` bytes at offset `at` of the page
 unfoldable pub opOn : Opcode → ℕ → ℕ → List ℕ → List ℕ → List ℕ → ImageStep
 opOn o at size page w key = imageStep (opAt o at size page (listsIn w) key) (imageDone o (part at size page) w) w
 
--- the command: what it leaves of the image w where it is accepted, its buffer being so many bytes at pa
+-- what an accepted command leaves of the image w, for the buffer of `size` bytes at pa
 unfoldable pub signingDone : Record → List ℕ → List ℕ → ℕ → ℕ → ℕ → List ℕ
 signingDone r page w op pa size = imageDone (opcodeOf op) (part (placeOf (upOf r) pa) size page) w
 
+-- the token signing command on an image
 unfoldable pub signingOn : Record → List ℕ → List ℕ → List ℕ → ℕ → ℕ → ℕ → ℕ → ImageStep
 signingOn r page w key op pa size curve = imageStep (signingOf r page (listsIn w) key op pa size curve) (signingDone r page w op pa size) w

@@ -21,6 +21,7 @@ use Rattle.signing.specs.declared.Opcode.the-variants.{Push, Pull, Key, 
 unfoldable pub opcodeOf : ℕ → Opcode
 opcodeOf n = cond (eqb n 1) Push (cond (eqb n 2) Pull (cond (eqb n 3) Key Other))
 
+-- whether the opcode is not 1, 2 or 3
 unfoldable pub isOther : Opcode → Bool
 isOther Push = false
 isOther Pull = false
@@ -46,22 +47,22 @@ sharedCode r len o pa size curve =
 unfoldable pub publicCode : ℕ → List ℕ → Code
 publicCode size key = fails (eqb (length key) 0) Again (fails (ltb size (length key)) Inval Ok)
 
--- the public key into the buffer b
+-- the public key, written into the buffer b
 unfoldable pub publicOf : List ℕ → Lists → List ℕ → SigningStep
 publicOf b q key = queued (publicCode (length b) key) (record { answer = answerOf Ok (length key) 0; page = splice 0 key b; queue = q }) b q
 
--- ---- an opcode's own checks, and what it does when they pass, in the buffer b. The shared checks refuse any other opcode.
+-- ---- an opcode's own checks, and what it does if they pass, in the buffer b. The shared checks refuse any other opcode.
 unfoldable pub opOf : Opcode → List ℕ → Lists → List ℕ → SigningStep
 opOf Push b q key = pushOf b q
 opOf Pull b q key = pullOf b q
 opOf Key b q key = publicOf b q key
 opOf Other b q key = record { answer = answerOf Inval 0 0; page = b; queue = q }
 
--- what was done in a buffer, with the buffer put back at its offset of the page
+-- the result s in a buffer, with the buffer put back at its offset of the page
 unfoldable pub putBack : ℕ → List ℕ → SigningStep → SigningStep
 putBack at page s = record { answer = s .answer; page = splice at (s .page) page; queue = s .queue }
 
--- the buffer is so many bytes at an offset of the page
+-- an opcode on the buffer of `size` bytes at offset `at` of the page
 unfoldable pub opAt : Opcode → ℕ → ℕ → List ℕ → Lists → List ℕ → SigningStep
 opAt o at size page q key = putBack at page (opOf o (part at size page) q key)
 

@@ -16,7 +16,7 @@ ghost use Rattle.queue_image.specs.OnImage.{ImageStep};
 ghost use Rattle.signing.specs.Signing.{opcodeOf, isOther, badCurve, sharedCode, publicOf, opAt, signingOf};
 ghost use Rattle.signing.specs.OnImage.{opOn, signingOn};
 
-// What a token signing call asks for.
+// The opcode of a token signing call.
 pub enum Opcode {
     Push,
     Pull,
@@ -35,7 +35,7 @@ fn opcode_of(n: u64) -> Opcode
     }
 }
 
-// Whether the opcode is not 1 to 3.
+// Whether the opcode is not 1, 2 or 3.
 fn is_other(opcode: u64) -> bool
     ensures { λ r. ⌜ r ≡ isOther (opcodeOf opcode) ⌝ }
 {
@@ -47,7 +47,7 @@ fn is_other(opcode: u64) -> bool
     }
 }
 
-// Opcode 3 with a curve other than 0.
+// Whether the opcode is 3 and the curve is not 0.
 fn bad_curve(opcode: u64, curve: u64) -> bool
     ensures { λ r. ⌜ r ≡ badCurve (opcodeOf opcode) curve ⌝ }
 {
@@ -64,7 +64,7 @@ fn bad_curve(opcode: u64, curve: u64) -> bool
     }
 }
 
-// The checks that all opcodes share, and the buffer's offset in the page.
+// Runs the checks that all opcodes share; returns the buffer's offset in the page.
 fn gate_of(state: Record, len: usize, opcode: u64, pa: u64, size: u64, curve: u64) -> Gate
     ensures { λ r. ⌜ r ≡ gated (sharedCode state len (opcodeOf opcode) pa size curve) (placeOf (upOf state) pa) ⌝ }
 {
@@ -83,7 +83,7 @@ fn gate_of(state: Record, len: usize, opcode: u64, pa: u64, size: u64, curve: u6
     Gate::Go(at)
 }
 
-// Key: writes the public key that the platform lends into the buffer; x1 is its length. The same whatever waits.
+// Key: writes the public key that the platform lends into the buffer; x1 is its length. The queue plays no part.
 fn put_key(buffer: &mut [u8], key: &[u8]) -> Answer
     ensures { λ r. ⌜ ((q : Lists) → _≡_ {A = SigningStep} (record { answer = r; page = now (buffer .exit); queue = q }) (publicOf (now (buffer .entry)) q (now (key .entry)))) ⌝ }
 {
@@ -112,7 +112,7 @@ fn public_key(buffer: &mut [u8], queue: Queue, key: &[u8]) -> Queued
     }
 }
 
-// A call whose buffer passed, at an offset of the page: the buffer is lent to what the opcode asks for.
+// Serves an opcode on the checked buffer of `size` bytes at offset `at` of the page.
 fn serve(page: &mut [u8], at: usize, size: u64, queue: Queue, key: &[u8], opcode: Opcode) -> Queued
     requires { ⌜ at + size ≤ length (now page) ⌝ }
     ensures { λ r. ⌜ signingExit r (now (page .exit)) ≡ exitOf queue (opAt opcode at size (now (page .entry)) (listsOf queue) (now (key .entry))) ⌝ }
@@ -126,7 +126,7 @@ fn serve(page: &mut [u8], at: usize, size: u64, queue: Queue, key: &[u8], opcode
     }
 }
 
-// 0xC40001B5: push, pull or key, by opcode, on a buffer of so many bytes at pa. The key is the public one that the platform lends.
+// 0xC40001B5: push, pull or key by opcode, on the buffer of `size` bytes at `pa`. The platform lends its public key.
 pub fn token_signing(
     state: Record,
     page: &mut [u8],
@@ -147,7 +147,7 @@ pub fn token_signing(
     }
 }
 
-// A call on the queue's image whose buffer passed: push has the requests, pull the responses, key neither.
+// Serves an opcode on the queue's image, after the shared checks: push changes the requests, pull the responses, key nothing.
 fn serve_on(
     page: &mut [u8],
     at: usize,

@@ -1,4 +1,4 @@
--- The token's steps, return by return, by the gates and answers as they were told. Assumes nothing.
+-- The steps of the token, return by return, from the results of the functions that they call. Assumes nothing.
 use Prim.Native.Nat.{ℕ, _+_, _≤_, _<_}
 use mathlib.Core.Path.{_≡_, refl, sym, _∙_}
 use mathlib.Core.Bool.{Bool, true, false}
@@ -21,7 +21,7 @@ use Rattle.token_rules.specs.declared.Session.{Session}
 use Rattle.token_rules.specs.Token.{listed, csizeCode, bufferCode, startCode, tokenCode, beginOf, TokenStep, sendOf, tokenOf, challengeOf, challengeSpan}
 use Rattle.token_rules.proofs.Tokens.{csize-unlisted, csize-small, csize-ok, buffer-room, stays, sends, token-buffer, token-start, challenge-none, challenge-shown, challenge-starts}
 
--- ---- the buffer, by the page's gate, with the code of the platform before it
+-- ---- the buffer, from the gate of the common checks, with the platform's code before it
 module _ (r : Record) (len : ℕ) (busy : Bool) (pa size csize : ℕ) (f : Code) (cf : f ≡ fails busy Again Ok) (g : Gate)
     (cg : g ≡ gated (pageCode r len f BadAddress pa size) (placeOf (upOf r) pa)) where
   is-page : g ≡ gated (pageCode r len (fails busy Again Ok) BadAddress pa size) (placeOf (upOf r) pa)
@@ -52,7 +52,7 @@ module _ (r : Record) (len : ℕ) (busy : Bool) (pa size csize : ℕ) (f : Code)
         pub told-buffer : csize ≤ size → Go at ≡ gated (bufferCode r len busy pa size csize) (placeOf (upOf r) pa)
         told-buffer b = goes (bufferCode r len busy pa size csize) (placeOf (upOf r) pa) at (is-csize ∙ csize-ok size csize (sym cl ∙ y) b) (page-went .1)
 
--- ---- the call, by the gates of its buffer and of its start
+-- ---- the call, from the gates of its buffer and of its start
 module _ (r : Record) (page : List ℕ) (s : Session) (busy : Bool) (token : List ℕ) (pa size csize : ℕ) (g : Gate)
     (cg : g ≡ gated (bufferCode r (length page) busy pa size csize) (placeOf (upOf r) pa)) where
   left-by : (c : Code) → tokenCode r page s busy token pa size csize ≡ c → isOk c ≡ false → (a : Answer) → a ≡ answerOf c 0 0 → (t : Session) → t ≡ s →
@@ -90,7 +90,7 @@ module _ (r : Record) (page : List ℕ) (s : Session) (busy : Bool) (token : Lis
           (sendOf (placeOf (upOf r) pa) token (beginOf s csize) size page) page s
           (token-start r page s busy token pa size csize (buffer-went .0) ∙ p .0))
 
--- ---- the challenge, by its buffer's gate, and as a part of the page by its place
+-- ---- the challenge, from its buffer's gate, and as a part of the page from its place
 module _ (r : Record) (page : List ℕ) (pa size csize : ℕ) where
   module _ (g : Gate) (cg : g ≡ gated (bufferCode r (length page) false pa size csize) (placeOf (upOf r) pa)) where
     pub told-none : (c : Code) → g ≡ Stop c → (noSpan ≡ challengeSpan r page pa size csize) × (spanned noSpan page ≡ challengeOf r page pa size csize)

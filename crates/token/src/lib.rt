@@ -1,4 +1,4 @@
-// The platform token, sent hunk by hunk, and the lookup of its challenge.
+// The platform token, sent in hunks, and the lookup of its challenge.
 use boot::Record;
 use codes::Code;
 use codes::Gate;
@@ -15,7 +15,7 @@ ghost use Rattle.range.specs.Range.{placeOf};
 ghost use Rattle.codes.specs.Codes.{upOf, answerOf, gated};
 ghost use Rattle.token_rules.specs.Token.{listed, bufferCode, startCode, beginOf, tokenExit, sendOf, tokenOf, challengeOf, challengeSpan};
 
-// Whether c_size is one of a challenge, or 0.
+// Whether `csize` is 0, 32, 48 or 64.
 fn is_listed(csize: u64) -> bool
     ensures { λ r. ⌜ r ≡ listed csize ⌝ }
 {
@@ -28,7 +28,7 @@ fn is_listed(csize: u64) -> bool
     }
 }
 
-// The checks of record, page, platform and buffer, and the buffer's offset in the page.
+// Checks record, page, platform and buffer; returns the buffer's offset in the page.
 fn buffer_of(state: Record, len: usize, busy: bool, pa: u64, size: u64, csize: u64) -> Gate
     ensures { λ r. ⌜ r ≡ gated (bufferCode state len busy pa size csize) (placeOf (upOf state) pa) ⌝ }
 {
@@ -46,7 +46,7 @@ fn buffer_of(state: Record, len: usize, busy: bool, pa: u64, size: u64, csize: u
     Gate::Go(at)
 }
 
-// The checks of session and token, and where in the token the call begins.
+// Checks session and token; returns the offset in the token at which the call starts.
 fn start_of(session: Session, csize: u64, len: usize) -> Gate
     ensures { λ r. ⌜ r ≡ gated (startCode session csize len) (beginOf session csize) ⌝ }
 {
@@ -68,7 +68,7 @@ fn start_of(session: Session, csize: u64, len: usize) -> Gate
     Gate::Go(sent as usize)
 }
 
-// Writes n bytes of the token, from a place in it on, at an offset of the page.
+// Copies `n` bytes of the token, from offset `from`, to offset `at` of the page.
 fn put_hunk(page: &mut [u8], at: usize, token: &[u8], from: usize, n: usize)
     requires { ⌜ (at + n ≤ length (now page)) × (from + n ≤ length (now token)) ⌝ }
     ensures { λ _. ⌜ now (page .exit) ≡ splice at (part from n (now (token .entry))) (now (page .entry)) ⌝ }
@@ -77,7 +77,7 @@ fn put_hunk(page: &mut [u8], at: usize, token: &[u8], from: usize, n: usize)
     words::copy(&mut page[at..], &token[from..end]);
 }
 
-// The next hunk, the smaller of buffer and rest, at an offset of the page. Past the token's end there is no rest.
+// Sends the next hunk, min(size, rest) bytes, to offset `at` of the page. Past the token's end the rest is 0.
 fn send(page: &mut [u8], at: usize, token: &[u8], from: usize, size: u64) -> Tokened
     requires { ⌜ at + size ≤ length (now page) ⌝ }
     ensures { λ r. ⌜ tokenExit r (now (page .exit)) ≡ sendOf at (now (token .entry)) from size (now (page .entry)) ⌝ }
@@ -108,7 +108,7 @@ fn send(page: &mut [u8], at: usize, token: &[u8], from: usize, size: u64) -> Tok
     }
 }
 
-// A refused call.
+// Refuses a call with `code`; the session is unchanged.
 fn refused(code: Code, session: Session) -> Tokened
     ensures { λ r. ⌜ (r .answer ≡ answerOf code 0 0) × (r .session ≡ session) ⌝ }
 {
@@ -118,8 +118,8 @@ fn refused(code: Code, session: Session) -> Tokened
     }
 }
 
-// 0xC40001B3: the next hunk of the token that the platform lends, at pa, into a buffer of so many bytes; x1 is the hunk, x2 the
-// rest. A nonzero c_size starts again.
+// 0xC40001B3: writes the next hunk of the token that the platform lends into the buffer of `size` bytes at `pa`; x1 is the length of the
+// hunk, x2 of the rest. A nonzero `csize` starts again.
 pub fn platform_token(
     state: Record,
     page: &mut [u8],
@@ -145,7 +145,7 @@ pub fn platform_token(
     }
 }
 
-// Where the challenge of a start lies in the page: c_size bytes at pa; nowhere where there is none.
+// Returns the place of a start's challenge in the page: `csize` bytes at `pa`; offset 0 and length 0 if a check fails.
 pub fn challenge_place(state: Record, page: &[u8], pa: u64, size: u64, csize: u64) -> Span
     ensures { λ r. ⌜ r ≡ challengeSpan state (now (page .entry)) pa size csize ⌝ }
     ensures { λ r. ⌜ spanned r (now (page .entry)) ≡ challengeOf state (now (page .entry)) pa size csize ⌝ }
@@ -157,7 +157,7 @@ pub fn challenge_place(state: Record, page: &[u8], pa: u64, size: u64, csize: u6
     words::span_at(at, csize as usize)
 }
 
-// Why there is no challenge: the code of the first check that the call fails, or OK. With OK and c_size 0 the call is no start.
+// Returns the code of the first check that fails for the challenge, or OK. With OK and `csize` 0 the call is no start.
 pub fn challenge_code(state: Record, page: &[u8], pa: u64, size: u64, csize: u64) -> Code
     ensures { λ r. ⌜ r ≡ bufferCode state (length (now (page .entry))) false pa size csize ⌝ }
 {
@@ -168,7 +168,7 @@ pub fn challenge_code(state: Record, page: &[u8], pa: u64, size: u64, csize: u64
     }
 }
 
-// The challenge of a start, as that part of the page; empty where there is none.
+// Returns the challenge of a start, as a part of the page; empty if a check fails.
 pub fn challenge(state: Record, page: &[u8], pa: u64, size: u64, csize: u64) -> &[u8]
     ensures { λ r. ⌜ now r ≡ challengeOf state (now (page .entry)) pa size csize ⌝ }
     ensures { λ r. ⌜ r .ptr ≡ onFrom (page .entry .ptr) (challengeSpan state (now (page .entry)) pa size csize .at) ⌝ }

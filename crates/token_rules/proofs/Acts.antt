@@ -1,5 +1,5 @@
--- When the checks of record, page, platform and buffer pass, and what the lookup of a challenge then shows. The statements list the conditions
--- of 01 as they stand there, and none of the definitions of the checks. Assumes nothing.
+-- When the checks of record, page, platform and buffer pass, and what the lookup of a challenge then shows. The statements list 01's
+-- conditions and use no definition of the checks. Assumes nothing.
 use Prim.Native.Nat.{ℕ, _-_, _≤_}
 use mathlib.Core.Path.{_≡_, refl, sym, ap, _∙_}
 use mathlib.Core.Bool.{Bool, true, false, true≢false}
@@ -72,8 +72,8 @@ buffer-only r page busy pa size c h =
       holds = ltb-false _ _ (t .0);
     }
 
--- A call on a platform that is not busy, with the record up, a page of 4,096 bytes, a buffer within it, and c_size 0, 32, 48 or 64 and at most the
--- buffer's size, passes the checks that look at neither session nor token: what `token-starts` and `token-goes` ask for
+-- A call passes the checks that look at neither session nor token if the platform is not busy, the record is up, the page has 4,096 bytes,
+-- the buffer is within it, and c_size is 0, 32, 48 or 64 and at most the buffer's size. `token-starts` and `token-goes` need this.
 pub token-ready : (x : TokenCall) (u : Params) → x .state ≡ Up u → x .busy ≡ false → BufferIn u (x .page) (x .pa) (x .size) → (x .csize ≡ 0) ⊎ ChallengeSize (x .csize) → x .csize ≤ x .size → Ready x
 unfolding Ready
 token-ready x u e b i k h = rw e (buffer-passes u (x .page) (x .busy) (x .pa) (x .size) (x .csize) b i k h)
@@ -95,7 +95,7 @@ start-only s c len h =
           (λ e. true≢false (ap isIdle (sym e) ∙ i), eqb-true _ _ (unless-not _ w)),
     )
 
--- a call that is OK passed these checks, and those of session and token
+-- a call that is OK passes these checks and those of session and token
 pub token-only : (s : Session) (x : TokenCall) → tokenAccepted s x ≡ true → TokenPassed s x
 unfolding tokenCode
 token-only s x h =
@@ -103,8 +103,8 @@ token-only s x h =
     let t = start-only s (x .csize) (length (x .token)) (then-ok _ _ k) in
     record { passed = buffer-only (x .state) (x .page) (x .busy) (x .pa) (x .size) (x .csize) (first-ok _ _ k); token = t .0; begun = t .1 }
 
--- "A lookup before a start shows the challenge": with the record up, a page of 4,096 bytes, a buffer within it, and a challenge's size that is at
--- most the buffer's
+-- "A lookup before a start shows the challenge": with the record up, a page of 4,096 bytes, a buffer within it, and a challenge size of at
+-- most the buffer's size
 pub challenge-acts : (u : Params) (page : List ℕ) (pa size c : ℕ) → BufferIn u page pa size → ChallengeSize c → c ≤ size →
     ChallengeActed u page pa c (challengeOf (Up u) page pa size c) (challengeSpan (Up u) page pa size c) (bufferCode (Up u) (length page) false pa size c)
 unfolding challengeOf challengeSpan part spanAt placeOf upOf
@@ -118,7 +118,8 @@ challenge-acts u page pa size c i k h =
       passes = p;
     }
 
--- "empty if the record is not up, the page is not 4,096 bytes long, or a BAD_ADDR or INVAL check above fails": it is shown only then
+-- "empty if the record is not up, the page is not 4,096 bytes long, or a BAD_ADDR or INVAL check above fails": a challenge is shown only
+-- then
 pub challenge-only : (r : Record) (page : List ℕ) (pa size c : ℕ) → (challengeOf r page pa size c ≡ [] → ⊥) → BufferPassed r page false pa size c
 unfolding challengeOf
 challenge-only r page pa size c f =

@@ -1,4 +1,4 @@
--- How many calls a token takes, and that their hunks are the token. Assumes nothing.
+-- The number of calls that a token takes, and that their hunks are the token. Assumes nothing.
 use Prim.Native.Nat.{ℕ, _+_, _-_, _*_, _≤_, _<_, min}
 use mathlib.Core.Path.{_≡_, refl, sym, ap, _∙_}
 use mathlib.Core.Bool.{Bool, true, false, cond, false≢true, true≢false}
@@ -26,7 +26,7 @@ use Rattle.token_rules.specs.Token.{startCode, tokenCode, beginOf, hunkO
 use Rattle.token_rules.specs.Calls.{TokenCall, tokenStepOf, tokenAccepted, shownOf, Ready, runOf, oksOf, hunksOf, leftOf, GoesOn, ceil, Calls}
 use Rattle.token_rules.proofs.Tokens.{Room, buffer-room, start-empty, start-again, begin-again, next-idle, next-ok, begin-next, sends, token-start, token-refused}
 
--- ---- the session once k bytes of the token were asked for
+-- ---- the session after k bytes of the token are requested
 unfoldable sessionAt : List ℕ → ℕ → Session
 sessionAt t k = cond (leb (length t) k) Idle (Sending (length t) k)
 
@@ -79,7 +79,7 @@ module _ (t : List ℕ) (i size : ℕ) where
       go (yes a) = rw (let e : min size (length t - i) ≡ size = omega arith in e)
       go (no a) = take-all (min size (length t - i)) (drop i t) (omega (arith, length-drop i t)) ∙ sym (take-all size (drop i t) (omega (arith, length-drop i t)))
 
--- what was laid over the page stands there
+-- bytes written at an offset of the page are read back there
 written : (at n : ℕ) (vs page : List ℕ) → length vs ≡ n → at ≤ length page → part at n (splice at vs page) ≡ vs
 written at n vs page e h = ap (λ (m : ℕ). part at m (splice at vs page)) (sym e) ∙ part-splice at vs page h
 
@@ -125,7 +125,7 @@ module _ (s : Session) (x : TokenCall) (h : tokenAccepted s x ≡ true) where
       ∙ written at n (part i n (x .token)) (x .page) (hunk-length (x .token) i (x .size)) l
       ∙ hunk-bytes (x .token) i (x .size))
 
-  -- those bytes stand at pa, and no other byte of the page changes
+  -- those bytes are at pa, and no other byte of the page changes
   pub token-writes : WrittenAt (placeOf (upOf (x .state)) (x .pa)) (shownOf s x) (x .page) (tokenStepOf s x .page)
   unfolding sendOf
   token-writes =
@@ -136,7 +136,7 @@ module _ (s : Session) (x : TokenCall) (h : tokenAccepted s x ≡ true) where
       let f : tokenStepOf s x .page ≡ splice at (part i (hunkOf (x .token) i (x .size)) (x .token)) (x .page) = ap (λ (t : TokenStep). t .page) step-is in
       rw (e, f) (splice-written at _ (x .page) l)
 
--- a further call that is OK: the session is open, and the next bytes are sent
+-- a further call that is OK: the session is open, and the call sends the next bytes
 record Next (t : List ℕ) (size k : ℕ) (s : Session) (x : TokenCall) : Type 0 where
   below : k < length t
   after : tokenStepOf s x .session ≡ sessionAt t (k + size)
@@ -155,18 +155,18 @@ step-on t size s x k h c z e o =
       left = left-is s x h ∙ (cc);
     }
 
--- a call that is refused shows nothing and leaves the session
+-- a refused call shows no bytes and leaves the session unchanged
 step-off : (s : Session) (x : TokenCall) → tokenAccepted s x ≡ false → (shownOf s x ≡ []) × (tokenStepOf s x .session ≡ s)
 unfolding shownOf tokenAccepted tokenStepOf
 step-off s x h = (rw h, ap (λ (t : TokenStep). t .session) (token-refused (x .state) (x .page) s (x .busy) (x .token) (x .pa) (x .size) (x .csize) h))
 
--- a call that passes the checks of session and token, and the others, is OK
+-- a call that passes the checks of session and token, and all others, is OK
 ready-ok : (s : Session) (x : TokenCall) → Ready x → startCode s (x .csize) (length (x .token)) ≡ Ok → tokenAccepted s x ≡ true
 unfolding Ready tokenAccepted tokenStepOf tokenOf sendOf settled answerOf
 ready-ok s x a h = rw (token-start (x .state) (x .page) s (x .busy) (x .token) (x .pa) (x .size) (x .csize) a ∙ h)
 
 -- ---- any calls after the start
--- n buffers of size were sent of t, from place k on
+-- n buffers of `size` bytes of t are sent, from offset k
 record Sent (t : List ℕ) (size k n : ℕ) (bytes : List ℕ) (left : ℕ) (s : Session) : Type 0 where
   joined : bytes ≡ take (n * size) (drop k t)
   rest : left ≡ length t - (k + n * size)
@@ -211,7 +211,7 @@ module _ (t : List ℕ) (size : ℕ) where
           let p = step-off s x e in
           rw (e, p .0) (sent-same t size k _ _ _ _ (ih k left r (p .1 ∙ o) l))
 
--- ---- the whole, from a start that is OK
+-- ---- the whole token, from a start that is OK
 ceil-is : (l b n : ℕ) → 0 < b → l ≤ n * b → n * b < l + b → n ≡ ceil l b
 unfolding ceil
 ceil-is l b n p h k = sym (div-eq-of-lt-le b (omega arith) (rw (add-one, suc-mul) (omega arith)))
@@ -238,8 +238,8 @@ module _ (s : Session) (x : TokenCall) (xs : List TokenCall) (n : x .csize ≡ 0
       rw (h, shown-is s x h, b)
       (sent-more (x .token) (x .size) 0 _ _ _ _ (goes-on (x .token) (x .size) xs _ (0 + x .size) _ (rw b at d) (rw b at a) (omega (arith, l)) f))
 
-  -- "a token of L bytes takes exactly L / b calls, rounded up, refusals not counted", and the hunks joined are the token: of a start
-  -- that is OK, in any session, and any calls after it of which those that are OK go on with its token and buffer
+  -- "a token of L bytes takes exactly L / b calls, rounded up, refusals not counted", and the hunks joined are the token: for a start that
+  -- is OK, in any session, and any calls after it of which those that are OK continue with its token and buffer
   pub token-calls : Calls (x .token) (x .size) (oksOf s (x ∷ xs)) (hunksOf s (x ∷ xs)) (leftOf 0 s (x ∷ xs)) (runOf s (x ∷ xs))
   token-calls =
       let t : List ℕ = x .token in
@@ -256,7 +256,7 @@ module _ (s : Session) (x : TokenCall) (xs : List TokenCall) (n : x .csize ≡ 0
             (ceil-above (length t) b m z l, p .joined, p .rest ∙ (omega arith));
       }
 
-  -- and it does end: until then a call with c_size 0 and that token is OK, if the checks of record, page, platform and buffer pass
+  -- and it ends: until then a call with c_size 0 and that token is OK, if the checks of record, page, platform and buffer pass
   pub token-goes : (runOf s (x ∷ xs) ≡ Idle → ⊥) → (y : TokenCall) → Ready y → y .csize ≡ 0 → y .token ≡ x .token → tokenAccepted (runOf s (x ∷ xs)) y ≡ true
   token-goes e y a c d =
       let t : List ℕ = x .token in
@@ -266,6 +266,6 @@ module _ (s : Session) (x : TokenCall) (xs : List TokenCall) (n : x .csize ≡ 0
       let w : length (y .token) ≡ length t = ap length d in
       ready-ok (runOf s (x ∷ xs)) y a (next-ok _ (y .csize) (length (y .token)) c (length t) k (p .ends ∙ at-open t k l) (omega arith) w)
 
--- "A nonzero c_size always starts again, also in mid-session": in any session it is OK, if those checks pass and the token is not empty
+-- "A nonzero c_size always starts again, also in mid-session": it is OK in any session, if those checks pass and the token is not empty
 pub token-starts : (s : Session) (x : TokenCall) → Ready x → (x .csize ≡ 0 → ⊥) → (length (x .token) ≡ 0 → ⊥) → tokenAccepted s x ≡ true
 token-starts s x a n e = ready-ok s x a (start-again s (x .csize) (length (x .token)) n e)

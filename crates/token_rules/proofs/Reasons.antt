@@ -61,13 +61,13 @@ tells-start Idle c len = go (ℕ-discrete len 0)
         (tells-either false (both (eqb c 0) true) _ _ (record { yes-if = λ e. absurd (z e); no-if = λ h. refl })
         (tells-both (eqb c 0) true _ _ (tells-eq c 0) (record { yes-if = λ h. refl; no-if = λ h. absurd (h none) })))
 
--- the code of a call is that of its checks
+-- the code of a call is the code of its checks
 token-code : (r : Record) (page : List ℕ) (s : Session) (busy : Bool) (token : List ℕ) (pa size c : ℕ) → tokenOf r page s busy token pa size c .answer .code ≡ tokenCode r page s busy token pa size c
 unfolding tokenOf settled keeps sendOf answerOf
 token-code r page s busy token pa size c =
     if-ok-by (λ (t : TokenStep). t .answer .code ≡ tokenCode r page s busy token pa size c) (tokenCode r page s busy token pa size c) _ _ (λ e. rw e) (λ e. refl)
 
--- the checks behind those of page and buffer
+-- the checks after those of page and buffer
 abbrev pub TokenGives : Session → ℕ → ℕ → ℕ → Code → Type 0
 TokenGives s len size c =
     Gives ((c ≡ 0) ⊎ ChallengeSize c → ⊥) Inval

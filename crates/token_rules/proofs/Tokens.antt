@@ -59,7 +59,7 @@ module _ (size c : ℕ) where
     unfolding csizeCode fails unless
     csize-ok h = rw (i, le-ltb size c h)
 
--- a buffer that passes lies in the page, and the challenge in the buffer
+-- a buffer that passes is in the page, and the challenge is in the buffer
 pub record Room (r : Record) (len pa size c : ℕ) : Type 0 where
   pub whole : len ≡ 4096
   pub room : placeOf (upOf r) pa + size ≤ 4096
@@ -115,7 +115,7 @@ part-length : (i n : ℕ) (s : List ℕ) → i + n ≤ length s → length (part
 unfolding part
 part-length i n s h = length-take-le n (drop i s) (omega (arith, length-drop i s))
 
--- a part of the token, copied to the page's part from an offset on
+-- copying n bytes of the token from offset i to offset `at` of the page
 pub hunk-back : (at i n : ℕ) (token page : List ℕ) → at + n ≤ length page → i + n ≤ length token →
     take at page ++ (laid 0 (part i n token) (take (length page - at) (drop at page)) ++ drop (length page - at) (drop at page)) ≡ splice at (part i n token) page
 hunk-back at i n token page h k =
@@ -155,7 +155,7 @@ pub sends : (k : Code) (new : TokenStep) (page : List ℕ) (s : Session) → k �
 unfolding settled
 sends k new page s e = rw e
 
--- the code of a call, by its buffer's and its start's
+-- the code of a call, from its buffer's code and its start's code
 module _ (r : Record) (page : List ℕ) (s : Session) (busy : Bool) (token : List ℕ) (pa size c : ℕ) where
   pub token-buffer : (j : Code) → bufferCode r (length page) busy pa size c ≡ j → isOk j ≡ false → tokenCode r page s busy token pa size c ≡ j
   unfolding tokenCode
@@ -165,7 +165,7 @@ module _ (r : Record) (page : List ℕ) (s : Session) (busy : Bool) (token : Lis
   unfolding tokenCode
   token-start e = then-go _ _ e
 
--- a refused call leaves the page and the session as they were, with zeros in the other registers
+-- a refused call leaves page and session unchanged, with zeros in x1 and x2
 pub token-refused : (r : Record) (page : List ℕ) (s : Session) (busy : Bool) (token : List ℕ) (pa size c : ℕ) → isOk (tokenOf r page s busy token pa size c .answer .code) ≡ false →
     tokenOf r page s busy token pa size c ≡ record { answer = answerOf (tokenOf r page s busy token pa size c .answer .code) 0 0; page = page; session = s }
 unfolding tokenOf sendOf settled keeps answerOf
@@ -173,9 +173,9 @@ token-refused r page s busy token pa size c =
     if-ok-by (λ (t : TokenStep). isOk (t .answer .code) ≡ false → t ≡ record { answer = answerOf (t .answer .code) 0 0; page = page; session = s })
     (tokenCode r page s busy token pa size c) _ _ (λ e h. absurd (true≢false h)) (λ e h. refl)
 
--- ---- the challenge, and where it lies
+-- ---- the challenge and its place
 module _ (r : Record) (page : List ℕ) (pa size c : ℕ) where
-  -- it is empty
+  -- the challenge is empty if a check fails
   pub challenge-none : (j : Code) → bufferCode r (length page) false pa size c ≡ j → isOk j ≡ false → (noSpan ≡ challengeSpan r page pa size c) × (spanned noSpan page ≡ challengeOf r page pa size c)
   unfolding challengeOf challengeSpan
   challenge-none j e o = rw (e, o) (refl, span-none page)
@@ -187,7 +187,7 @@ module _ (r : Record) (page : List ℕ) (pa size c : ℕ) where
       let m = buffer-room r (length page) false pa size c e in
       rw (i, e) (refl, span-in (placeOf (upOf r) pa) c page (omega (arith, m .whole, m .room, m .holds)))
 
-  -- the part begins at its own place
+  -- the part of the page starts at the challenge's offset
   pub challenge-starts : spanStart (challengeSpan r page pa size c) page ≡ challengeSpan r page pa size c .at
   unfolding challengeSpan
   challenge-starts =

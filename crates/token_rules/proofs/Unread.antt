@@ -1,4 +1,4 @@
--- The token call reads no byte of the page: on two pages of one length its answer and the next session are the same. Assumes nothing.
+-- The token call reads no byte of the page: for two pages of the same length its answer and the next session are the same. Assumes nothing.
 use Prim.Native.Nat.{ℕ}
 use mathlib.Core.Path.{_≡_, refl}
 use mathlib.Core.Bool.{Bool, true, false, cond}
@@ -10,7 +10,7 @@ use Rattle.codes.specs.Codes.{upOf, isOk}
 use Rattle.token_rules.specs.declared.Session.{Session}
 use Rattle.token_rules.specs.Token.{TokenStep, tokenCode, beginOf, sendOf, keeps, settled, tokenOf}
 
--- the same but for the page
+-- equal except for the page
 abbrev pub SameToken : TokenStep → TokenStep → Type 0
 SameToken x y = (x .answer ≡ y .answer) × (x .session ≡ y .session)
 

@@ -1,5 +1,5 @@
--- Calls of 0xC40001B3, one after the other. 01: "With a fixed buffer of b bytes, b at least the start's c_size, one start and the
--- same token lent throughout, a token of L bytes takes exactly L / b calls, rounded up, refusals not counted". Assumes nothing.
+-- Calls of 0xC40001B3, one after another. 01: "With a fixed buffer of b bytes, b at least the start's c_size, one start and the same token
+-- lent throughout, a token of L bytes takes exactly L / b calls, rounded up, refusals not counted". Assumes nothing.
 use Prim.Native.Nat.{ℕ, _+_, _-_, _*_, _/_, _<_}
 use mathlib.Core.Path.{_≡_}
 use mathlib.Core.Bool.{Bool, true, cond}
@@ -15,7 +15,7 @@ use Rattle.token_rules.specs.declared.Session.the-variants.{Idle}
 use Rattle.token_rules.specs.Token.{bufferCode, TokenStep, tokenOf}
 
 -- ---- one call
--- all that a call is given but the session: the page is as it stands then, so other commands may have changed it since the call before
+-- the inputs of a call except the session. Each call has its own page, because other commands may have changed it since the call before
 pub record TokenCall : Type 0 where
   pub state : Record
   pub page : List ℕ
@@ -25,14 +25,15 @@ pub record TokenCall : Type 0 where
   pub size : ℕ
   pub csize : ℕ
 
+-- the result of the call x in session s
 unfoldable pub tokenStepOf : Session → TokenCall → TokenStep
 tokenStepOf s x = tokenOf (x .state) (x .page) s (x .busy) (x .token) (x .pa) (x .size) (x .csize)
 
--- it answers OK
+-- whether the call answers OK
 unfoldable pub tokenAccepted : Session → TokenCall → Bool
 tokenAccepted s x = isOk (tokenStepOf s x .answer .code)
 
--- the bytes that stand in the page at pa after an OK, as many as x1 says; none after a refusal
+-- the x1 bytes of the page at pa after an OK; no bytes after a refusal
 unfoldable pub shownOf : Session → TokenCall → List ℕ
 shownOf s x = cond (tokenAccepted s x) (part (placeOf (upOf (x .state)) (x .pa)) (tokenStepOf s x .answer .x1) (tokenStepOf s x .page)) []
 
@@ -40,13 +41,13 @@ shownOf s x = cond (tokenAccepted s x) (part (placeOf (upOf (x .state)) (x .pa))
 unfoldable pub Ready : TokenCall → Type 0
 Ready x = bufferCode (x .state) (length (x .page)) (x .busy) (x .pa) (x .size) (x .csize) ≡ Ok
 
--- ---- calls one after the other
+-- ---- calls one after another
 -- the session after them
 unfoldable pub runOf : Session → List TokenCall → Session
 runOf s [] = s
 runOf s (x ∷ xs) = runOf (tokenStepOf s x .session) xs
 
--- "refusals not counted": how many of them are OK
+-- "refusals not counted": the number of calls that are OK
 unfoldable pub oksOf : Session → List TokenCall → ℕ
 oksOf s [] = 0
 oksOf s (x ∷ xs) = cond (tokenAccepted s x) 1 0 + oksOf (tokenStepOf s x .session) xs
@@ -56,24 +57,24 @@ unfoldable pub hunksOf : Session → List TokenCall → List ℕ
 hunksOf s [] = []
 hunksOf s (x ∷ xs) = shownOf s x ++ hunksOf (tokenStepOf s x .session) xs
 
--- x2 of the last of them that is OK; r if none is
+-- x2 of the last call that is OK; r if no call is
 unfoldable pub leftOf : ℕ → Session → List TokenCall → ℕ
 leftOf r s [] = r
 leftOf r s (x ∷ xs) = leftOf (cond (tokenAccepted s x) (tokenStepOf s x .answer .x2) r) (tokenStepOf s x .session) xs
 
--- "With a fixed buffer of b bytes, .. one start and the same token lent throughout": each of them that is OK has c_size 0, this
--- buffer's size and this token. One that is refused is any call.
+-- "With a fixed buffer of b bytes, .. one start and the same token lent throughout": each call that is OK has c_size 0, this buffer size
+-- and this token. A refused call may be any call.
 abbrev pub GoesOn : List ℕ → ℕ → Session → List TokenCall → Type 0
 GoesOn token b s [] = Unit {0}
 GoesOn token b s (x ∷ xs) = (tokenAccepted s x ≡ true → (x .csize ≡ 0) × (x .size ≡ b) × (x .token ≡ token)) × GoesOn token b (tokenStepOf s x .session) xs
 
--- ---- what they make together
--- "L / b calls, rounded up"
+-- ---- what the calls deliver together
+-- "L / b calls, rounded up": ceil(l / b)
 unfoldable pub ceil : ℕ → ℕ → ℕ
 ceil l b = (l + (b - 1)) / b
 
 -- n calls are OK, their hunks joined are `bytes`, x2 of the last OK is `left`, and the session after all is s. If it has ended, n is
--- L / b, rounded up, and the hunks are the token; if not, n is less, and they are the token's first n * b bytes.
+-- ceil(L / b) and the hunks are the token; otherwise n is less, and the hunks are the token's first n * b bytes.
 pub record Calls (token : List ℕ) (b n : ℕ) (bytes : List ℕ) (left : ℕ) (s : Session) : Type 0 where
   pub ended : s ≡ Idle → (n ≡ ceil (length token) b) × (bytes ≡ token) × (left ≡ 0)
   pub before : (s ≡ Idle → ⊥) → (n < ceil (length token) b) × (bytes ≡ take (n * b) token) × (left ≡ length token - n * b)

@@ -18,20 +18,24 @@ use Rattle.token_rules.specs.declared.Tokened.{Tokened}
 use Rattle.token_rules.specs.declared.Session.{Session}
 use Rattle.token_rules.specs.declared.Session.the-variants.{Idle, Sending}
 
--- ---- a session: none, or the token's length at its start and how much of it is sent
+-- ---- a session: none, or the token's length at its start and how many bytes are sent
+-- whether there is no session
 unfoldable pub isIdle : Session → Bool
 isIdle Idle = true
 isIdle (Sending whole sent) = false
 
+-- the length of the session's token
 unfoldable pub wholeOf : Session → ℕ
 wholeOf Idle = 0
 wholeOf (Sending whole sent) = whole
 
+-- the number of bytes that are sent
 unfoldable pub sentOf : Session → ℕ
 sentOf Idle = 0
 sentOf (Sending whole sent) = sent
 
 -- ---- the checks
+-- whether c_size is 0, 32, 48 or 64
 unfoldable pub listed : ℕ → Bool
 listed c = either (eqb c 0) (either (eqb c 32) (either (eqb c 48) (eqb c 64)))
 
@@ -39,7 +43,7 @@ listed c = either (eqb c 0) (either (eqb c 32) (either (eqb c 48) (eqb c 64)))
 unfoldable pub csizeCode : ℕ → ℕ → Code
 csizeCode size c = fails (unless (listed c)) Inval (fails (ltb size c) Inval Ok)
 
--- "platform busy AGAIN; outside BAD_ADDR; too long INVAL;", then those of c_size: the checks that token and challenge share
+-- "platform busy AGAIN; outside BAD_ADDR; too long INVAL;", then the checks of c_size: the checks that token and challenge share
 unfoldable pub bufferCode : Record → ℕ → Bool → ℕ → ℕ → ℕ → Code
 bufferCode r len busy pa size c = andThen (pageCode r len (fails busy Again Ok) BadAddress pa size) (csizeCode size c)
 
@@ -50,21 +54,21 @@ startCode s c len =
     (fails (either (eqb len 0) (both (eqb c 0) (unless (eqb len (wholeOf s))))) Unk
     Ok)
 
--- all of them, in this order
+-- all checks of a token call, in this order
 unfoldable pub tokenCode : Record → List ℕ → Session → Bool → List ℕ → ℕ → ℕ → ℕ → Code
 tokenCode r page s busy token pa size c = andThen (bufferCode r (length page) busy pa size c) (startCode s c (length token))
 
--- ---- a call that passes them
--- "A nonzero c_size always starts again, also in mid-session": where in the token a call begins
+-- ---- a call that passes the checks
+-- "A nonzero c_size always starts again, also in mid-session": the offset in the token at which the call starts
 unfoldable pub beginOf : Session → ℕ → ℕ
 beginOf s c = cond (eqb c 0) (sentOf s) 0
 
--- "the next hunk, the smaller of buffer and rest": its length, of a call that begins at i. A session past its token's end, which no
--- call leaves, has no rest.
+-- "the next hunk, the smaller of buffer and rest": the length of the hunk at offset i. If i exceeds the token, which no call leaves, the
+-- hunk is empty.
 unfoldable pub hunkOf : List ℕ → ℕ → ℕ → ℕ
 hunkOf token i size = min size (length token - i)
 
--- the rest after it
+-- the rest after that hunk
 unfoldable pub restOf : List ℕ → ℕ → ℕ → ℕ
 restOf token i size = length token - i - hunkOf token i size
 
@@ -72,13 +76,13 @@ restOf token i size = length token - i - hunkOf token i size
 unfoldable pub nextSession : List ℕ → ℕ → ℕ → Session
 nextSession token i size = cond (eqb (restOf token i size) 0) Idle (Sending (length token) (i + hunkOf token i size))
 
--- the answer, the page at exit and the next session
+-- the result of a token call: the answer, the page at exit and the next session
 pub record TokenStep : Type 0 where
   pub answer : Answer
   pub page : List ℕ
   pub session : Session
 
--- what a call answers, with the page at exit
+-- the same from the returned value and the page at exit
 abbrev pub tokenExit : Tokened → List ℕ → TokenStep
 tokenExit t page = record { answer = t .answer; page = page; session = t .session }
 
@@ -91,13 +95,15 @@ sendOf at token i size page =
       session = nextSession token i size;
     }
 
--- a refusal: zeros, and the page and the session as they were
+-- a refusal: zeros in x1 and x2, page and session unchanged
 unfoldable pub keeps : Code → List ℕ → Session → TokenStep
 keeps k page s = record { answer = answerOf k 0 0; page = page; session = s }
 
+-- the result of a call with code k: `new` if k is OK, otherwise a refusal
 unfoldable pub settled : Code → TokenStep → List ℕ → Session → TokenStep
 settled k new page s = ifOk k new (keeps k page s)
 
+-- the platform token command
 unfoldable pub tokenOf : Record → List ℕ → Session → Bool → List ℕ → ℕ → ℕ → ℕ → TokenStep
 tokenOf r page s busy token pa size c =
     settled (tokenCode r page s busy token pa size c) (sendOf (placeOf (upOf r) pa) token (beginOf s c) size page) page s
@@ -105,10 +111,10 @@ tokenOf r page s busy token pa size c =
 -- ---- the challenge
 -- "A lookup before a start shows the challenge, c_size bytes at pa, as that part of the page; empty if the record is not up, the page is
 -- not 4,096 bytes long, or a BAD_ADDR or INVAL check above fails." A busy platform does not matter. The INVAL check of c_size 0 needs no
--- case: there the part is empty.
+-- case: the part is then empty.
 unfoldable pub challengeOf : Record → List ℕ → ℕ → ℕ → ℕ → List ℕ
 challengeOf r page pa size c = ifOk (bufferCode r (length page) false pa size c) (part (placeOf (upOf r) pa) c page) []
 
--- where it lies in the page; nowhere where it is empty
+-- the challenge's place in the page; offset 0 and length 0 if a check fails
 unfoldable pub challengeSpan : Record → List ℕ → ℕ → ℕ → ℕ → Span
 challengeSpan r page pa size c = ifOk (bufferCode r (length page) false pa size c) (spanAt (placeOf (upOf r) pa) c) noSpan
