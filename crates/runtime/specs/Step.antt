@@ -120,7 +120,7 @@ afterUpdate u w = record { reply = Back (u .answer) (u .work); next = w }
 unfoldable pub afterSign : SignStep → World → Step
 afterSign s w = back (s .answer) (withQueue (s .queue) w)
 
--- ---- the step
+-- ---- the step of a call, for the kind of its id; and of any command
 unfoldable pub callBy : Kind → Granules → World → Call → Step
 callBy ForwardError g w c = record { reply = Forward (forwardOf (c .state) (c .x1)); next = w }
 callBy Delegate g w c = afterMove (delegateOf (c .state) g (w .table) (c .x1)) w
