@@ -26,7 +26,7 @@ command-account g w c = command-by (Account g) (account-none g) (account-join g)
 pub granule-books : (g : Granules) (w : World) (cs : List Command) → Books g (w .table) (gathered g (changesOf g) w cs) (worldAfter g w cs .table)
 granule-books g w cs = account-books g (w .table) _ _ (run-by (Account g) (account-none g) (account-join g) g (λ s d t a h. call-account s g d t a h) w cs)
 
--- The same for the count of the realm words, if words and table agree at the start.
+-- The same for the count of the realm words, if the comparison of words and table answers yes at the start.
 pub count-books : (g : Granules) (w : World) (cs : List Command) → realmAgreeOf (w .table .bytes) (w .table .words) (granuleCount g) ≡ Agreement.Yes → CountBooks g (w .table) (gathered g (changesOf g) w cs) (worldAfter g w cs .table)
 count-books g w cs y =
     let a : Agrees (w .table) = agree-told (w .table .bytes) (w .table .words) (granuleCount g) y in
