@@ -217,24 +217,28 @@ PBEAM_ASSERT(offsetof(pbeam_console_t, flags) == 8 * PBEAM_CONSOLE_FLAGS, "words
 
 /* ---- Little-endian fields, at any address ---- */
 
+/* The 16-bit number at `at`. */
 PBEAM_NONNULL(1)
 static inline uint16_t pbeam_get16(const uint8_t *at)
 {
     return (uint16_t)(at[0] | (unsigned)at[1] << 8);
 }
 
+/* The 32-bit number at `at`. */
 PBEAM_NONNULL(1)
 static inline uint32_t pbeam_get32(const uint8_t *at)
 {
     return pbeam_get16(at) | (uint32_t)pbeam_get16(at + 2) << 16;
 }
 
+/* The 64-bit number at `at`. */
 PBEAM_NONNULL(1)
 static inline uint64_t pbeam_get64(const uint8_t *at)
 {
     return pbeam_get32(at) | (uint64_t)pbeam_get32(at + 4) << 32;
 }
 
+/* Writes a 16-bit number to `at`. */
 PBEAM_NONNULL(1)
 static inline void pbeam_put16(uint8_t *at, uint16_t number)
 {
@@ -242,6 +246,7 @@ static inline void pbeam_put16(uint8_t *at, uint16_t number)
     at[1] = (uint8_t)(number >> 8);
 }
 
+/* Writes a 32-bit number to `at`. */
 PBEAM_NONNULL(1)
 static inline void pbeam_put32(uint8_t *at, uint32_t number)
 {
@@ -249,6 +254,7 @@ static inline void pbeam_put32(uint8_t *at, uint32_t number)
     pbeam_put16(at + 2, (uint16_t)(number >> 16));
 }
 
+/* Writes a 64-bit number to `at`. */
 PBEAM_NONNULL(1)
 static inline void pbeam_put64(uint8_t *at, uint64_t number)
 {
@@ -612,13 +618,14 @@ static inline bool pbeam_view_console_named(const pbeam_page_t *page, const pbea
     return entry != PBEAM_CONSOLE_NONE;
 }
 
-/* Offset and length of a place. */
+/* Offset of a place. */
 PBEAM_NONNULL(1)
 static inline size_t pbeam_place_offset(const pbeam_place_t *place)
 {
     return (size_t)place->words[PBEAM_PLACE_OFFSET];
 }
 
+/* Length of a place. */
 PBEAM_NONNULL(1)
 static inline size_t pbeam_place_length(const pbeam_place_t *place)
 {
@@ -674,18 +681,21 @@ static inline bool pbeam_record_is_up(const pbeam_record_t *record)
     return record->words[PBEAM_STATE_KIND] == PBEAM_STATE_UP;
 }
 
+/* x2 of the cold boot: the number of CPUs. */
 PBEAM_NONNULL(1)
 static inline uint64_t pbeam_record_cpus(const pbeam_record_t *record)
 {
     return record->words[PBEAM_STATE_CPUS];
 }
 
+/* B, the physical address of the page. */
 PBEAM_NONNULL(1)
 static inline uint64_t pbeam_record_base(const pbeam_record_t *record)
 {
     return record->words[PBEAM_STATE_BASE];
 }
 
+/* The agreed minor. */
 PBEAM_NONNULL(1)
 static inline uint64_t pbeam_record_minor(const pbeam_record_t *record)
 {
@@ -701,6 +711,7 @@ static inline uint64_t pbeam_record_kept(const pbeam_record_t *record)
 
 /* ---- Registers of a call ---- */
 
+/* A call with any registers; x0 is the function id. */
 static inline pbeam_call_t pbeam_call_of(uint64_t x0, uint64_t x1, uint64_t x2, uint64_t x3, uint64_t x4)
 {
     pbeam_call_t call;
@@ -712,69 +723,81 @@ static inline pbeam_call_t pbeam_call_of(uint64_t x0, uint64_t x1, uint64_t x2, 
     return call;
 }
 
+/* PBEAM_ID_FORWARD. */
 static inline pbeam_call_t pbeam_call_forward(uint64_t err_code)
 {
     return pbeam_call_of(PBEAM_ID_FORWARD, err_code, 0, 0, 0);
 }
 
+/* PBEAM_ID_DELEGATE. */
 static inline pbeam_call_t pbeam_call_delegate(uint64_t address)
 {
     return pbeam_call_of(PBEAM_ID_DELEGATE, address, 0, 0, 0);
 }
 
+/* PBEAM_ID_UNDELEGATE. */
 static inline pbeam_call_t pbeam_call_undelegate(uint64_t address)
 {
     return pbeam_call_of(PBEAM_ID_UNDELEGATE, address, 0, 0, 0);
 }
 
+/* PBEAM_ID_REALM_KEY. */
 static inline pbeam_call_t pbeam_call_realm_key(uint64_t pa, uint64_t size)
 {
     return pbeam_call_of(PBEAM_ID_REALM_KEY, pa, size, PBEAM_CURVE_SECP384R1, 0);
 }
 
+/* PBEAM_ID_PLATFORM_TOKEN. */
 static inline pbeam_call_t pbeam_call_platform_token(uint64_t pa, uint64_t size, uint64_t c_size)
 {
     return pbeam_call_of(PBEAM_ID_PLATFORM_TOKEN, pa, size, c_size, 0);
 }
 
+/* PBEAM_ID_FEATURES. */
 static inline pbeam_call_t pbeam_call_features(void)
 {
     return pbeam_call_of(PBEAM_ID_FEATURES, PBEAM_FEATURES_INDEX, 0, 0, 0);
 }
 
+/* PBEAM_ID_TOKEN_SIGNING with PBEAM_OPCODE_PUSH. */
 static inline pbeam_call_t pbeam_call_push(uint64_t pa, uint64_t size)
 {
     return pbeam_call_of(PBEAM_ID_TOKEN_SIGNING, PBEAM_OPCODE_PUSH, pa, size, 0);
 }
 
+/* PBEAM_ID_TOKEN_SIGNING with PBEAM_OPCODE_PULL. */
 static inline pbeam_call_t pbeam_call_pull(uint64_t pa, uint64_t size)
 {
     return pbeam_call_of(PBEAM_ID_TOKEN_SIGNING, PBEAM_OPCODE_PULL, pa, size, 0);
 }
 
+/* PBEAM_ID_TOKEN_SIGNING with PBEAM_OPCODE_KEY. */
 static inline pbeam_call_t pbeam_call_public_key(uint64_t pa, uint64_t size)
 {
     return pbeam_call_of(PBEAM_ID_TOKEN_SIGNING, PBEAM_OPCODE_KEY, pa, size, PBEAM_CURVE_SECP384R1);
 }
 
+/* PBEAM_ID_KEY_UPDATE. */
 static inline pbeam_call_t pbeam_call_key_update(uint64_t mecid)
 {
     return pbeam_call_of(PBEAM_ID_KEY_UPDATE, mecid, 0, 0, 0);
 }
 
-/* Result registers. */
+/* x0 of the result. */
 PBEAM_NONNULL(1)
 static inline uint64_t pbeam_registers_x0(const pbeam_registers_t *out)
 {
     return out->words[PBEAM_OUT_X0];
 }
 
+/* x1 of the result. */
 PBEAM_NONNULL(1)
 static inline uint64_t pbeam_registers_x1(const pbeam_registers_t *out)
 {
     return out->words[PBEAM_OUT_X1];
 }
 
+/* x2 of the result. */
 PBEAM_NONNULL(1)
 static inline uint64_t pbeam_registers_x2(const pbeam_registers_t *out)
 {
@@ -788,13 +811,14 @@ static inline int32_t pbeam_registers_code(const pbeam_registers_t *out)
     return (int32_t)(uint32_t)(out->words[PBEAM_OUT_X0] & 0xFFFFFFFF);
 }
 
-/* Whether work is of this kind, PBEAM_WORK_REPROGRAM or PBEAM_WORK_FORWARD; and its value. */
+/* Whether work is of this kind: PBEAM_WORK_REPROGRAM or PBEAM_WORK_FORWARD. */
 PBEAM_NONNULL(1)
 static inline bool pbeam_work_is(const pbeam_work_t *work, uint64_t kind)
 {
     return work->words[PBEAM_WORK_KIND] == kind;
 }
 
+/* The value of work. */
 PBEAM_NONNULL(1)
 static inline uint64_t pbeam_work_value(const pbeam_work_t *work)
 {
@@ -803,7 +827,7 @@ static inline uint64_t pbeam_work_value(const pbeam_work_t *work)
 
 /* ---- Runtime commands, EL3's side ---- */
 
-/* Session and queue after a reset. */
+/* The session after a reset. */
 PBEAM_NONNULL(1)
 static inline void pbeam_session_reset(pbeam_session_t *session)
 {
@@ -811,6 +835,7 @@ static inline void pbeam_session_reset(pbeam_session_t *session)
         session->words[i] = 0;
 }
 
+/* The queue after a reset. */
 PBEAM_NONNULL(1)
 static inline void pbeam_queue_reset(pbeam_queue_t *queue)
 {
@@ -899,7 +924,7 @@ static inline void pbeam_context_call(pbeam_context_t *context, const pbeam_call
                call->words, out->words, work->words);
 }
 
-/* pbeam_delegate_list, pbeam_undelegate_list: several addresses in one call. Also on a refusal, pbeam_registers_x1 of out is the number of
+/* pbeam_delegate_list: several addresses in one call. Also on a refusal, pbeam_registers_x1 of out is the number of
  * granules changed, and these stay changed. */
 PBEAM_NONNULL(1, 4)
 static inline void pbeam_context_delegate_list(pbeam_context_t *context, const uint64_t *addresses, size_t count,
@@ -910,6 +935,7 @@ static inline void pbeam_context_delegate_list(pbeam_context_t *context, const u
                         context->words == NULL ? 0 : context->words_count, addresses, addresses == NULL ? 0 : count, out->words);
 }
 
+/* pbeam_undelegate_list, in the same way. */
 PBEAM_NONNULL(1, 4)
 static inline void pbeam_context_undelegate_list(pbeam_context_t *context, const uint64_t *addresses, size_t count,
                                                  pbeam_registers_t *out)
@@ -954,31 +980,35 @@ static inline void pbeam_queue_sign(pbeam_queue_t *queue, pbeam_bytes_t signatur
     pbeam_sign(queue->words, bytes.at, bytes.length, out->words);
 }
 
-/* Fields of a request. */
+/* Algorithm id of a request. */
 PBEAM_NONNULL(1)
 static inline uint64_t pbeam_request_sig_alg_id(const pbeam_request_t *request)
 {
     return request->words[PBEAM_REQUEST_WORD_ALGORITHM];
 }
 
+/* rec_granule of a request. */
 PBEAM_NONNULL(1)
 static inline uint64_t pbeam_request_rec_granule(const pbeam_request_t *request)
 {
     return request->words[PBEAM_REQUEST_WORD_GRANULE];
 }
 
+/* req_ticket of a request. */
 PBEAM_NONNULL(1)
 static inline uint64_t pbeam_request_req_ticket(const pbeam_request_t *request)
 {
     return request->words[PBEAM_REQUEST_WORD_TICKET];
 }
 
+/* Hash id of a request. */
 PBEAM_NONNULL(1)
 static inline uint64_t pbeam_request_hash_alg_id(const pbeam_request_t *request)
 {
     return request->words[PBEAM_REQUEST_WORD_HASH_ID];
 }
 
+/* Copies the PBEAM_HASH_BYTES bytes of a request's hash to `hash`. */
 PBEAM_NONNULL(1, 2)
 static inline void pbeam_request_hash_buf(const pbeam_request_t *request, uint8_t hash[PBEAM_HASH_BYTES])
 {

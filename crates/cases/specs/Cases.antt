@@ -27,12 +27,15 @@ recordAt input =
 unfoldable pub granulesFrom : ℕ → List ℕ → ℕ
 granulesFrom at input = min (wordAt at input) 40000
 
+-- the number of words given, at most 33
 unfoldable pub granulesGiven : ℕ → List ℕ → ℕ
 granulesGiven at input = min (wordAt (granulesFrom at input) input) 33
 
+-- the first n words of `bytes`, then zeros up to 33 words
 unfoldable pub wordsThenZeros : ℕ → List ℕ → List ℕ
 wordsThenZeros n bytes = wordsOf n bytes ++ replicate (33 - n) 0
 
+-- the 33 words of the granule record
 unfoldable pub granulesAt : ℕ → List ℕ → List ℕ
 granulesAt at input = wordsThenZeros (granulesGiven at input) (drop (granulesFrom at input + 8) input)
 

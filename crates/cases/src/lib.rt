@@ -147,7 +147,7 @@ pub fn print_word(x: u64) {
     io::print_hex(STDOUT_FILENO, x, 16);
 }
 
-// The boot record at the start of a case: word 0 is 1 for up, with its values in words 1 to 4, 2 for closed, any other number for fresh.
+// The boot record at the start of a case: word 0 is 1 for up (words 1 to 4 are its values), 2 for closed, any other number for fresh.
 pub fn record_at(input: &[u8]) -> Record
     ensures { λ r. ⌜ r ≡ recordAt (now (input .entry)) ⌝ }
 {

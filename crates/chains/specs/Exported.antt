@@ -70,6 +70,7 @@ exportLeft granules m (pbeam-sign signature) = signsLeft (signIn (m .queue) sign
 abbrev callFor : List ℕ → List ℕ → ℕ → List ℕ → List ℕ → List ℕ → ℕ → Command
 callFor state x busy key token public width = call (callLent state x busy key token public width)
 
+-- the command of each export
 unfoldable pub commandOf : Exported → Command
 commandOf (pbeam-delegate state address) = callFor state (0xC40001B0 ∷ address ∷ []) 0 [] [] [] 0
 commandOf (pbeam-undelegate state address) = callFor state (0xC40001B1 ∷ address ∷ []) 0 [] [] [] 0

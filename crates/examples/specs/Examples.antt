@@ -93,6 +93,7 @@ granted : (u : Params) (g : Granules) (t : GranuleTable) (addr i : ℕ) → fitt
 unfolding moveOf movedBy moveCode granuleCode isSharedPage fromByte whenFit whenUp isUp unless fails
 granted u g t addr i w f b = rw (w, f, b)
 
+-- the proof of all examples
 pub examples : Examples
 unfolding later agreed readWith readOf judge readerGate allShown rules platClear platExtent taken foundAt clearBefore apart extent secOk nothing platOk platAt mkPlat secAt mkSec size numAt part leBytes leOf versionOk aboveOf majorOf minorOf checkOk sum both either every joined isPage writeOf writerGate placeOk editionOk descriptionOk tellable isBare fieldsTold scanOf judged scanAll scan fieldsOk lengthsOk count listsOk listOk noneLate used platBytes withMark descriptionOf four core sectionCount wordsPerEntry entriesOk entryOk entryRule bankOk consoleOk flagsOk outside tooLong x0Of extended updateCode fails unless
 examples = record {

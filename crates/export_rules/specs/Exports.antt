@@ -37,6 +37,7 @@ pub record SetUpLeft : Type 0 where
   pub x0 : ℕ
   pub granules : List ℕ
 
+-- from the answer of the set-up
 unfoldable pub setUpLeft : SetUp → SetUpLeft
 setUpLeft s = record { x0 = x0Of (s .code); granules = s .granules }
 
@@ -50,6 +51,7 @@ pub record MoveLeft : Type 0 where
   pub table : List ℕ
   pub words : List ℕ
 
+-- from the answer of a delegation
 unfoldable pub moveLeft : Moved → MoveLeft
 moveLeft m = record { out = registerWords (m .answer); table = m .table .bytes; words = m .table .words }
 
@@ -66,6 +68,7 @@ pub record BuildLeft : Type 0 where
   pub x0 : ℕ
   pub words : List ℕ
 
+-- from the answer of building
 unfoldable pub buildLeft : Built → BuildLeft
 buildLeft b = record { x0 = builtX0 (b .done); words = b .words }
 
@@ -79,6 +82,7 @@ pub record TokenLeft : Type 0 where
   pub page : List ℕ
   pub session : List ℕ
 
+-- from the token's step and the session's image before it
 unfoldable pub tokenLeft : TokenStep → List ℕ → TokenLeft
 tokenLeft t image = record { out = registerWords (t .answer); page = t .page; session = sessionAfter (t .answer .code) (t .session) image }
 
@@ -92,6 +96,7 @@ pub record SigningLeft : Type 0 where
   pub page : List ℕ
   pub queue : List ℕ
 
+-- from the step on the queue's image
 unfoldable pub signingLeft : ImageStep → SigningLeft
 signingLeft s = record { out = registerWords (s .answer); page = s .page; queue = s .image }
 
@@ -104,6 +109,7 @@ pub record SignLeft : Type 0 where
   pub out : List ℕ
   pub queue : List ℕ
 
+-- from the signer's step on the queue's image
 unfoldable pub signLeft : SignImage → SignLeft
 signLeft s = record { out = registerWords (s .answer); queue = s .image }
 
@@ -121,10 +127,11 @@ pub record CallLeft : Type 0 where
   pub session : List ℕ
   pub queue : List ℕ
 
--- only the command that uses session or queue writes its image, and only if it is accepted
+-- the session's image after a command of this kind: changed only if the command uses it and is accepted
 unfoldable pub sessionLeft : Kind → Code → Session → List ℕ → List ℕ
 sessionLeft kind k s image = cond (usesSession kind) (sessionAfter k s image) image
 
+-- the same for the queue; `new` is its image after an accepted command
 unfoldable pub queueLeft : Kind → Code → List ℕ → List ℕ → List ℕ
 queueLeft kind k new image = cond (usesQueue kind) (ifOk k new image) image
 

@@ -12,9 +12,11 @@ use Rattle.export_rules.specs.Exports.{TokenLeft, tokenIn, SigningLeft, 
 abbrev pub SameTokenLeft : TokenLeft → TokenLeft → Type 0
 SameTokenLeft x y = (x .out ≡ y .out) × (x .session ≡ y .session)
 
+-- the same for token signing
 abbrev pub SameSigningLeft : SigningLeft → SigningLeft → Type 0
 SameSigningLeft x y = (x .out ≡ y .out) × (x .queue ≡ y .queue)
 
+-- the same for any command
 pub record SameCallLeft (x y : CallLeft) : Type 0 where
   pub out : x .out ≡ y .out
   pub work : x .work ≡ y .work

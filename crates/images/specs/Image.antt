@@ -68,23 +68,25 @@ workWords (Reprogram mecid) = 1 ∷ mecid ∷ []
 unfoldable pub sectionBy : ℕ → ℕ → ℕ → Section
 sectionBy tag at count = cond (eqb tag 0) Absent (cond (eqb tag 1) Empty (Entries at count))
 
--- the three words of a section: its kind, its offset, its number of entries
+-- the first word of a section: its kind
 unfoldable pub tagWord : Section → ℕ
 tagWord Absent = 0
 tagWord Empty = 1
 tagWord (Entries at count) = 2
 
+-- the offset of its entries; 0 without entries
 unfoldable pub placeWord : Section → ℕ
 placeWord Absent = 0
 placeWord Empty = 0
 placeWord (Entries at count) = at
 
+-- its number of entries; 0 without entries
 unfoldable pub countWord : Section → ℕ
 countWord Absent = 0
 countWord Empty = 0
 countWord (Entries at count) = count
 
--- the section in words i, i + 1 and i + 2 of an image
+-- the section whose three words start at word i of an image
 unfoldable pub sectionIn : ℕ → List ℕ → Section
 sectionIn i w = sectionBy (getD w i 0) (getD w (i + 1) 0) (getD w (i + 2) 0)
 

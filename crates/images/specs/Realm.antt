@@ -14,6 +14,7 @@ unfoldable pub numberX0 : Number → ℕ
 numberX0 Number.Inval = x0Of Code.Inval
 numberX0 (Number.Count n) = x0Of Code.Ok
 
+-- the number, 0 if refused
 unfoldable pub numberWords : Number → List ℕ
 numberWords Number.Inval = 0 ∷ []
 numberWords (Number.Count n) = n ∷ []
@@ -24,6 +25,7 @@ hitX0 Hit.Inval = x0Of Code.Inval
 hitX0 Hit.Nothing = 1
 hitX0 (Hit.At i) = x0Of Code.Ok
 
+-- the index, 0 if no granule was found
 unfoldable pub hitWords : Hit → List ℕ
 hitWords Hit.Inval = 0 ∷ []
 hitWords Hit.Nothing = 0 ∷ []

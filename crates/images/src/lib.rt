@@ -112,7 +112,7 @@ pub fn work_words(work: Work) -> [u64; 2]
     }
 }
 
-// The section in words `at`, `at + 1` and `at + 2` of a view's image.
+// The section whose three words start at word `at` of a view's image.
 fn section_in(image: &[u64; 15], at: usize) -> Section
     requires { ⌜ at ≤ 12 ⌝ }
     ensures { λ r. ⌜ r ≡ sectionIn at (now (image .entry)) ⌝ }

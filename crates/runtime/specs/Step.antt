@@ -36,16 +36,19 @@ pub record World : Type 0 where
   pub session : Session
   pub queue : Lists
 
--- the world w with another page, table, session or queue
+-- the world w with page p
 abbrev pub withPage : List ℕ → World → World
 withPage p w = record { page = p; table = w .table; session = w .session; queue = w .queue }
 
+-- the world w with table t
 abbrev pub withTable : GranuleTable → World → World
 withTable t w = record { page = w .page; table = t; session = w .session; queue = w .queue }
 
+-- the world w with session s
 abbrev pub withSession : Session → World → World
 withSession s w = record { page = w .page; table = w .table; session = s; queue = w .queue }
 
+-- the world w with queue q
 abbrev pub withQueue : Lists → World → World
 withQueue q w = record { page = w .page; table = w .table; session = w .session; queue = q }
 
@@ -99,28 +102,35 @@ kindOf id =
     Unlisted)))))))
 
 -- ---- the step of each command: its answer, with the part of the world that it may change replaced
+-- a command that changes nothing
 abbrev pub back : Answer → World → Step
 back a w = record { reply = Back a Nothing; next = w }
 
+-- delegation changes the table
 unfoldable pub afterMove : Moved → World → Step
 afterMove m w = back (m .answer) (withTable (m .table) w)
 
+-- the realm key changes the page
 unfoldable pub afterKey : Keyed → World → Step
 afterKey k w = back (k .answer) (withPage (k .page) w)
 
+-- the platform token changes page and session
 unfoldable pub afterToken : TokenStep → World → Step
 afterToken t w = back (t .answer) (withSession (t .session) (withPage (t .page) w))
 
+-- token signing changes page and queue
 unfoldable pub afterSigning : SigningStep → World → Step
 afterSigning s w = back (s .answer) (withQueue (s .queue) (withPage (s .page) w))
 
+-- a key update changes nothing here, and gives the platform work
 unfoldable pub afterUpdate : Updated → World → Step
 afterUpdate u w = record { reply = Back (u .answer) (u .work); next = w }
 
+-- the signer's step changes the queue
 unfoldable pub afterSign : SignStep → World → Step
 afterSign s w = back (s .answer) (withQueue (s .queue) w)
 
--- ---- the step of a call, for the kind of its id; and of any command
+-- ---- the step of a call of this kind
 unfoldable pub callBy : Kind → Granules → World → Call → Step
 callBy ForwardError g w c = record { reply = Forward (forwardOf (c .state) (c .x1)); next = w }
 callBy Delegate g w c = afterMove (delegateOf (c .state) g (w .table) (c .x1)) w
@@ -132,9 +142,11 @@ callBy TokenSigning g w c = afterSigning (signingOf (c .state) (w .page) (w .que
 callBy KeyUpdate g w c = afterUpdate (updateOf (c .state) (c .width) (c .x1)) w
 callBy Unlisted g w c = back (answerOf Unk 0 0) w
 
+-- the step of a call
 unfoldable pub callOf : Granules → World → Call → Step
 callOf g w c = callBy (kindOf (c .id)) g w c
 
+-- the step of any command
 unfoldable pub stepOf : Granules → World → Command → Step
 stepOf g w (call c) = callOf g w c
 stepOf g w (sign s) = afterSign (signOf (w .queue) s) w
@@ -163,7 +175,7 @@ pub record CallExit : Type 0 where
 abbrev pub callExit : Stepped → List ℕ → List ℕ → List ℕ → CallExit
 callExit r page table words = record { reply = r .reply; page = page; table = table; words = words; session = r .session; queue = r .queue }
 
--- only the platform token uses the session, and only token signing the queue
+-- only the platform token uses the session
 abbrev pub usesSession : Kind → Bool
 usesSession ForwardError = false
 usesSession Delegate = false
@@ -175,6 +187,7 @@ usesSession TokenSigning = false
 usesSession KeyUpdate = false
 usesSession Unlisted = false
 
+-- only token signing uses the queue
 abbrev pub usesQueue : Kind → Bool
 usesQueue ForwardError = false
 usesQueue Delegate = false

@@ -147,7 +147,7 @@ fn print_oldest(queue: Queue) {
     }
 }
 
-// Prints a response. A length above 104, the most for a signature, counts as 104.
+// Prints a response with its stored length, and min(length, 104) bytes of its signature.
 fn print_response(response: Response) {
     print(b"response");
     print_word(response.granule);
