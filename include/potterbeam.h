@@ -5,67 +5,67 @@
  * "002" below is the public RMM-EL3 interface document. "Page" is the shared buffer of 4,096 bytes at physical address B. All fields
  * in it are little-endian.
  *
- * Of every function:
+ * For every function:
  *
- * - Any number, page, list, table and image is taken as input. There is no condition on values; every call returns, and touches only
- *   what it is lent. The library allocates nothing and keeps nothing between calls.
- * - A slice is a pointer and a count of elements. The pointer may be NULL only where the count is 0. An image (state, granules, session,
- *   queue, view, place, field, out, work, request, call) is a pointer to a fixed number of 64-bit words and is never NULL, also where
+ * - It accepts any number, page, list, table and image. No value is forbidden; every call returns, and reads and writes only what it is
+ *   lent. The library allocates nothing and keeps nothing between calls.
+ * - A slice is a pointer and a count of elements. The pointer may be NULL only if the count is 0. An image (state, granules, session,
+ *   queue, view, place, field, out, work, request, call) is a pointer to a fixed number of 64-bit words and is never NULL, even if
  *   the call does not need it.
- * - A page is lent by the address at which the caller sees it; B is only a number to the library. So a page needs no alignment in
- *   memory, and a caller that maps it elsewhere passes both. Words (uint64_t) are aligned as C asks.
- * - Lent buffers must not overlap. (Two that the call only reads may.)
- * - There is no lock. One image, page or table is used by one call at a time; different ones may be used at the same time.
- * - The first check that fails decides the answer. The checks stand below in their order.
- * - A refused runtime command puts its code into x0 and 0 into x1 and x2, and leaves page, table, words, session and queue as they
- *   were, whatever they hold. A refused list of granules differs: x1 is the number done, and these stay done.
- * - size_t has 64 bits: the archives are for x86-64 and AArch64 (LP64). On a 32-bit target the prototypes would not be those of the
- *   library, and PBEAM_CONSOLE_NONE would fit no size_t.
- * - "Stack" is what a call was seen to write on x86-64 at most, accepted or refused, rounded up to a multiple of 32, with its return
- *   address and the words that its caller passes on the stack. It is measured (rust/tests/stack.rs), not proved. All fit 1 KiB.
- * - The figure after "AArch64" is static, rounded in the same way: the frames of the function and of all that it calls, in the archive that
- *   tools/aarch64 builds, and the words that its caller passes on the stack. It is without what the platform's memcpy, memmove and memset
- *   take. docs/STACK.md has both figures; programs write them, there and here.
+ * - The caller passes a page by the address at which it sees the page; B is only a number to the library. So a page needs no alignment in
+ *   memory, and a caller that maps it elsewhere passes both. Words (uint64_t) have C's alignment.
+ * - Lent buffers must not overlap, except two that the call only reads.
+ * - There is no lock. Use one image, page or table in one call at a time; different ones may be used at the same time.
+ * - The first check that fails decides the answer. The checks are listed below in their order.
+ * - A refused runtime command returns its code in x0 and 0 in x1 and x2, and leaves page, table, words, session and queue unchanged, for any
+ *   contents. A refused list of granules differs: x1 is the number of granules changed, and these stay changed.
+ * - size_t has 64 bits: the archives are for x86-64 and AArch64 (LP64). On a 32-bit target the prototypes would not match the
+ *   library, and PBEAM_CONSOLE_NONE would not fit a size_t.
+ * - "Stack" is the most that a call was seen to write on x86-64, accepted or refused, rounded up to a multiple of 32, with its return
+ *   address and the words that its caller passes on the stack. It is measured (rust/tests/stack.rs), not proved. All fit in 1 KiB.
+ * - The figure after "AArch64" is static, rounded in the same way: the frames of the function and of all functions that it calls, in the
+ *   archive that tools/aarch64 builds, and the words that its caller passes on the stack. It does not include the platform's memcpy,
+ *   memmove and memset. docs/STACK.md has both figures; programs write them, there and here.
  *
- * potterbeam_types.h has a struct for each image, lists that are counted in entries, and one struct for all that pbeam_call takes. The
- * functions here take plain words and count them: two banks are 4.
+ * potterbeam_types.h has a struct for each image, lists that are counted in entries, and one struct for all arguments of pbeam_call. The
+ * functions here count words: a list of two banks has length 4.
  *
- * Packing and mending of pages, for tools on a host, are a library of their own: potterbeam_pages.h, libpotterbeam_pages.a.
+ * Packing and mending of pages, for tools on a host, are in a separate library: potterbeam_pages.h, libpotterbeam_pages.a.
  *
- * What the library cannot check, and EL3 has to do:
+ * What the library cannot check, and EL3 must do:
  *
- * The boot record. EL3 keeps one of its own, apart from the monitor's: every command takes B, the agreed minor and the kept bytes from it.
- *   EL3 gets it up with pbeam_cold_boot, over the registers and the page that it is about to hand to the monitor, before it enters the
- *   monitor, since the monitor may call EL3 while it boots. Before each warm boot it calls pbeam_warm_boot. Both sides check the same, so
- *   both records hold the same. A record that EL3 finds closed means: do not enter the monitor.
- * Kept bytes. With K kept bytes in EL3's record no command writes below B + K, so a manifest that lies there can be read at any later boot.
- *   pbeam_kept_for says how many bytes a manifest takes; with 0 the first command may overwrite it. No register carries K: the monitor
- *   finds the same number with pbeam_kept_for on the same page, and puts its buffers at B + K and above. If EL3 takes another K it has
- *   to tell the monitor. The monitor itself may still write there: only the commands are held to it.
- * Boot errors. The monitor ends each boot with RMM_BOOT_COMPLETE (0xC40001CF, the code in x1). That call is the platform's: pbeam_call
- *   answers PBEAM_X0_UNK. If x1 is not 0, EL3 closes its record with pbeam_close and lets no CPU enter the monitor again. Every
- *   command but 0xC400018F is PBEAM_X0_UNK from then on.
- * The page. During a call no other CPU and no other world may write it. 002 gives it to the Realm world and leaves it to the monitor that
- *   one CPU uses it at a time; EL3 holds a lock of its own around each call all the same, since session, queue and table need one.
- *   What is promised of a call holds only of a page that stays still.
- * The platform token. From an accepted start to the session's end the same bytes must be lent at each call. A new length is noticed
- *   (PBEAM_X0_UNK), other bytes of the same length are not: the monitor then gets the start of one token and the rest of another, each
- *   hunk answered OK. So a start that is answered PBEAM_X0_AGAIN must not touch the token that is lent: the session before it may still go
+ * The boot record. EL3 keeps its own, separate from the monitor's: every command takes B, the agreed minor and the kept bytes from it.
+ *   Before EL3 enters the monitor it calls pbeam_cold_boot with the registers and the page that it is about to pass to the monitor, because
+ *   the monitor may call EL3 while it boots. Before each warm boot it calls pbeam_warm_boot. Both sides make the same checks, so
+ *   both records are equal. If EL3's record is closed, EL3 must not enter the monitor.
+ * Kept bytes. With K kept bytes in EL3's record no command writes below B + K, so a manifest in [B, B + K) can be read at any later boot.
+ *   pbeam_kept_for returns the number of bytes that a manifest takes; with K = 0 the first command may overwrite it. No register carries K:
+ *   the monitor calls pbeam_kept_for on the same page, gets the same number, and puts its buffers at B + K and above. If EL3 uses another K
+ *   it must pass that number to the monitor. K restricts only the commands: the monitor itself may still write below B + K.
+ * Boot errors. The monitor ends each boot with RMM_BOOT_COMPLETE (0xC40001CF, the code in x1). The platform serves that call: pbeam_call
+ *   answers PBEAM_X0_UNK. If x1 is not 0, EL3 closes its record with pbeam_close and lets no CPU enter the monitor again. From then on
+ *   every command except 0xC400018F answers PBEAM_X0_UNK.
+ * The page. During a call no other CPU and no other world may write it. 002 gives it to the Realm world and makes the monitor responsible
+ *   for its use by one CPU at a time; EL3 still needs its own lock around each call, for session, queue and table.
+ *   The promises for a call hold only if the page does not change during the call.
+ * The platform token. Lend the same bytes at each call from an accepted start to the session's end. The library notices a new length
+ *   (PBEAM_X0_UNK), but not other bytes of the same length: the monitor then gets the start of one token and the rest of another, each
+ *   hunk answered OK. So do not change the lent token after a start that answers PBEAM_X0_AGAIN: the session before it may still go
  *   on. Make a new token in a second buffer, lend that one in the call that starts with it, and keep the first until that call is OK.
  * Result registers. After a command the monitor's x0 to x2 are those of `out`. No command has a result in x3 or x4: leave the monitor's
  *   own values there, and in x5 to x17 (SMCCC).
- * 0xC400018F does not return to the monitor, so `out` goes nowhere. The Non-secure world gets x0 to x4 (002). 002 names err_code alone, which
- *   is the value of `work`: it goes into x0. Which of the monitor's registers go into x1 to x4 is the platform's; we suggest x2 to x5.
- * Hand-made images. Any words are taken, and no call touches more than it is lent; but an answer is only as true as the words.
- *   - A record that is up is believed: B says which addresses are in the page, the kept bytes which of them are free, the minor which
- *     commands there are. None is checked; with more than 4,095 kept bytes every buffer is outside.
- *   - A session that has sent as much as its token or more: the next call that goes on is OK with hunk 0 and rest 0, and ends it.
- *   - A granule record is judged by each call that takes it: one that pbeam_set_up_granules would not have made has no granules. One that it
- *     would have made is believed, whatever memory the board has.
- *   - A request in the queue with ids above 32 bits, or with any ids: pbeam_oldest shows them as they stand, and pbeam_sign takes it. A
- *     push never puts one there.
- *   - A response in the queue with a length above 104: a pull of it delivers 104 bytes and writes 104 as its length. Where an older response
- *     is pulled, it moves up with its length word as it stands.
+ * 0xC400018F does not return to the monitor, so `out` is not used. The Non-secure world gets x0 to x4 (002). 002 names only err_code, which
+ *   is the value of `work`: put it into x0. Which of the monitor's registers go into x1 to x4 is up to the platform; we suggest x2 to x5.
+ * Forged images. Any words are accepted, and no call reads or writes more than it is lent; but an answer is only as true as the words.
+ *   - A record that is up is trusted: B defines which addresses are in the page, the kept bytes which of them are free, the minor which
+ *     commands exist. None of the three is checked; with more than 4,095 kept bytes every buffer is outside.
+ *   - A session that has sent as much as its token or more: the next call that continues it is OK with hunk 0 and rest 0, and ends it.
+ *   - Each call checks the granule record that it takes: one that pbeam_set_up_granules would not have made has no granules. One that it
+ *     would have made is trusted, even if the board has other memory.
+ *   - A request in the queue with ids above 32 bits, or with any ids: pbeam_oldest returns them unchanged, and pbeam_sign accepts it. A
+ *     push never stores such a request.
+ *   - A response in the queue with a length above 104: a pull of it delivers 104 bytes and writes 104 as its length. If an older response
+ *     is pulled, it moves up with its length word unchanged.
  */
 #ifndef POTTERBEAM_H
 #define POTTERBEAM_H
@@ -79,14 +79,14 @@
 #define PBEAM_VERSION_MINOR 3
 #define PBEAM_VERSION_PATCH 0
 
-/* Arguments that are never NULL, by their numbers, where the compiler can warn of it. */
+/* The numbers of the arguments that must not be NULL, for compilers that can warn. */
 #if defined(__GNUC__) || defined(__clang__)
 #define PBEAM_NONNULL(...) __attribute__((nonnull(__VA_ARGS__)))
 #else
 #define PBEAM_NONNULL(...)
 #endif
 
-/* ---- Function ids: x0 of a call, compared as 64 bits; 002's name behind each ---- */
+/* ---- Function ids: x0 of a call, compared as 64 bits; each with 002's name ---- */
 
 #define PBEAM_ID_FORWARD UINT64_C(0xC400018F)        /* RMM_RMI_REQ_COMPLETE */
 #define PBEAM_ID_DELEGATE UINT64_C(0xC40001B0)       /* RMM_GTSI_DELEGATE */
@@ -99,7 +99,8 @@
 
 /* ---- Codes ---- */
 
-/* Boot (all) and reader (0 and the manifest's three), int32_t. 002 hands a boot's code to EL3 in x1 of RMM_BOOT_COMPLETE. */
+/* Codes of boot (all) and reader (0 and the three PBEAM_MANIFEST codes), int32_t. The monitor passes a boot's code to EL3 in x1 of
+ * RMM_BOOT_COMPLETE (002). */
 #define PBEAM_BOOT_DONE 0           /* the record is up */
 #define PBEAM_READ_ACCEPTED 0       /* the view shows the page */
 #define PBEAM_BOOT_STATE (-1)       /* cold: record not fresh; warm: record not up */
@@ -111,14 +112,14 @@
 #define PBEAM_MANIFEST_RULES (-7)   /* any other rule of the manifest broken */
 
 /* Writer, uint32_t: 0, or the number of the refusal W1 to W5. */
-#define PBEAM_WRITE_PAGE 0       /* the page was made */
+#define PBEAM_WRITE_PAGE 0       /* the page is written */
 #define PBEAM_WRITE_W1_PLACE 1   /* as PBEAM_MANIFEST_PLACE */
 #define PBEAM_WRITE_W2_EDITION 2 /* edition not 1 to 4 */
 #define PBEAM_WRITE_W3_LISTS 3   /* a list is not whole entries, or an entry breaks its rule; fields are broken, or one has tag 0 or 3 */
 #define PBEAM_WRITE_W4_LATE 4    /* a list for a section after the edition is not empty */
 #define PBEAM_WRITE_W5_ROOM 5    /* core, arrays and fields with their end mark exceed 4,096 bytes */
 
-/* Runtime commands: the number. 002's NOMEM (-4) is never answered, so it has no name here. */
+/* Codes of the runtime commands. No command answers 002's NOMEM (-4), so it has no name here. */
 #define PBEAM_OK 0
 #define PBEAM_UNK (-1)
 #define PBEAM_BAD_ADDR (-2)
@@ -126,7 +127,7 @@
 #define PBEAM_INVAL (-5)
 #define PBEAM_AGAIN (-6)
 
-/* The same codes as x0 holds them: sign-extended to 64 bits. Compare out[PBEAM_OUT_X0] with these. */
+/* The same codes in x0, sign-extended to 64 bits. Compare out[PBEAM_OUT_X0] with these. */
 #define PBEAM_X0_OK UINT64_C(0x0000000000000000)
 #define PBEAM_X0_UNK UINT64_C(0xFFFFFFFFFFFFFFFF)
 #define PBEAM_X0_BAD_ADDR UINT64_C(0xFFFFFFFFFFFFFFFE)
@@ -140,9 +141,9 @@
 #define PBEAM_ADDRESS_LIMIT UINT64_C(0x10000000000000) /* 2^52: no bank, region or console ends above it */
 #define PBEAM_BASE_MOST UINT64_C(0xFFFFFFFFFF000)      /* 2^52 - 4,096: the highest B */
 
-/* A version is minor in bits 0 to 15, major in bits 16 to 30, bit 31 zero. Accepted: major 0, minor 1 or more. So 0.5 is 5, and a
- * version is compared as a number: 0.10 is later than 0.9. */
-#define PBEAM_INTERFACE_MINOR 5  /* the agreed minor is the smaller of this and the offered one */
+/* A version has the minor in bits 0 to 15, the major in bits 16 to 30, and bit 31 is zero. Accepted: major 0, minor 1 or more. So 0.5 is 5,
+ * and versions compare as numbers: 0.10 is later than 0.9. */
+#define PBEAM_INTERFACE_MINOR 5  /* the agreed minor is min(5, offered minor) */
 #define PBEAM_SIGNING_MINOR 4    /* features and token signing need this agreed minor */
 #define PBEAM_KEY_UPDATE_MINOR 5 /* key update needs this agreed minor */
 
@@ -152,7 +153,7 @@
 #define PBEAM_EDITION_FIRST 1
 #define PBEAM_EDITION_LAST 4
 
-/* Core size by edition: arrays lie behind it. A section belongs to an edition when the core reaches over it. */
+/* Core size by edition. Arrays follow the core. An edition has the sections that are within its core. */
 #define PBEAM_CORE_BYTES_1 16
 #define PBEAM_CORE_BYTES_2 40
 #define PBEAM_CORE_BYTES_3 64
@@ -161,20 +162,20 @@
 /* Offsets in the page. */
 #define PBEAM_CORE_VERSION 0   /* 4 bytes */
 #define PBEAM_CORE_PADDING 4   /* 4 bytes, zero */
-#define PBEAM_CORE_PLAT_DATA 8 /* 8 bytes: 0, or the address of the fields in the page behind the core, any alignment */
+#define PBEAM_CORE_PLAT_DATA 8 /* 8 bytes: 0, or the address of the fields, in the page after the core, any alignment */
 #define PBEAM_CORE_DRAM 16     /* section, since edition 2 */
 #define PBEAM_CORE_CONSOLE 40  /* section, since edition 3 */
 #define PBEAM_CORE_NCOH 64     /* section, since edition 4 */
 #define PBEAM_CORE_COH 88      /* section, since edition 4 */
 
-/* A section, and offsets in it. 24 zero bytes are an empty section. Count, pointer, all words of the array and checksum sum to 0
+/* A section, and offsets in it. 24 zero bytes are an empty section. The sum of count, pointer, all words of the array and checksum is 0
  * modulo 2^64. */
 #define PBEAM_SECTION_BYTES 24
 #define PBEAM_SECTION_COUNT 0    /* number of entries */
 #define PBEAM_SECTION_POINTER 8  /* physical address of the array, a multiple of 8 */
 #define PBEAM_SECTION_CHECKSUM 16
 
-/* Numbers of the sections, as the lookups take them. */
+/* Section numbers, for the lookups. */
 #define PBEAM_DRAM 0
 #define PBEAM_CONSOLE 1
 #define PBEAM_NCOH 2
@@ -189,8 +190,8 @@
 #define PBEAM_BANK_SIZE 1
 
 /* A console, and word numbers in it. Base is a multiple of 4,096, map_pages is not 0, base + 4,096 x map_pages is at most
- * PBEAM_ADDRESS_LIMIT, flags are 0 on a page of minor 4 or less, and when written. Name, clock and baud rate may be
- * anything. On a page of minor 5 or more flags may be anything too: pbeam_word then shows them as 0, while the array has the page's own. */
+ * PBEAM_ADDRESS_LIMIT, flags are 0 on a page of minor 4 or less, and when written. Name, clock and baud rate may have any
+ * value. On a page of minor 5 or more flags may have any value: pbeam_word then returns 0 for them, while the array has the page's own. */
 #define PBEAM_CONSOLE_BYTES 48
 #define PBEAM_CONSOLE_WORDS 6
 #define PBEAM_CONSOLE_BASE 0
@@ -199,17 +200,17 @@
 #define PBEAM_CONSOLE_CLK_IN_HZ 3
 #define PBEAM_CONSOLE_BAUD_RATE 4
 #define PBEAM_CONSOLE_FLAGS 5
-#define PBEAM_CONSOLE_NAME_BYTES 8 /* a shorter name has zeros behind it */
+#define PBEAM_CONSOLE_NAME_BYTES 8 /* a shorter name is padded with zeros */
 
-/* Platform data: fields one after another, and an end mark, which is a tag and a length of 0. Through the end mark they lie in the page
- * and share no byte with an array that the reader reads. Byte offsets in a field. */
+/* Platform data: fields one after another, and an end mark, which is a tag and a length of 0. Fields and end mark are in the page
+ * and share no byte with an array that the reader reads. Byte offsets in a field: */
 #define PBEAM_FIELD_TAG 0     /* 1 byte */
 #define PBEAM_FIELD_LENGTH 1  /* 2 bytes: length of the value */
-#define PBEAM_FIELD_VALUE 3   /* so many bytes */
+#define PBEAM_FIELD_VALUE 3   /* the value, of that length */
 #define PBEAM_FIELD_END_BYTES 3
-#define PBEAM_FIELD_VALUE_MOST 65535 /* no page holds so much; a description is refused for its room then */
+#define PBEAM_FIELD_VALUE_MOST 65535 /* more than a page holds: pbeam_write refuses it with PBEAM_WRITE_W5_ROOM */
 
-/* Tags. Those below PBEAM_TAG_FREE appear at most once; the others may repeat, with any value. The values hold any bytes. */
+/* Tags. Those below PBEAM_TAG_FREE appear at most once; the others may repeat. A value is any bytes. */
 #define PBEAM_TAG_END 0     /* the end mark, length 0; with another length the fields are broken */
 #define PBEAM_TAG_NAME 1    /* board name, PBEAM_NAME_LEAST to PBEAM_NAME_MOST bytes */
 #define PBEAM_TAG_SERIAL 2  /* serial, PBEAM_SERIAL_BYTES bytes */
@@ -221,33 +222,33 @@
 #define PBEAM_SERIAL_BYTES 8
 #define PBEAM_CHOICE_BYTES 1
 
-/* No listing is longer: bytes for the text of pbeam_listing. */
+/* The longest listing, in bytes: a buffer of this size holds any text of pbeam_listing. */
 #define PBEAM_LISTING_ROOM 12336
 
 /* ---- Runtime commands: arguments ---- */
 
-/* Granule table: one byte a granule. Any other byte is none of these. */
+/* Granule table: one byte for each granule. Any other byte is an unknown state. */
 #define PBEAM_GRANULE_BYTES 4096
 #define PBEAM_GRANULE_NON_SECURE 0
 #define PBEAM_GRANULE_REALM 1
 #define PBEAM_GRANULE_ROOT 2
 #define PBEAM_GRANULE_SECURE 3
 
-#define PBEAM_CURVE_SECP384R1 0 /* the one curve, of realm key and public key */
+#define PBEAM_CURVE_SECP384R1 0 /* the only curve, for realm key and public key */
 
-/* c_size of the platform token: 0 goes on with a session, the others start one. */
+/* c_size of the platform token: 0 continues a session, the others start one. */
 #define PBEAM_CHALLENGE_NONE 0
 #define PBEAM_CHALLENGE_SHA256 32
 #define PBEAM_CHALLENGE_SHA384 48
 #define PBEAM_CHALLENGE_SHA512 64
 
-#define PBEAM_FEATURES_INDEX 0        /* the one feature register */
+#define PBEAM_FEATURES_INDEX 0        /* the only feature register */
 #define PBEAM_FEATURE_TOKEN_SIGNING 1 /* its value: bit 0, token signing is present */
 
 /* Opcodes of token signing. */
-#define PBEAM_OPCODE_PUSH 1 /* a request joins the queue */
-#define PBEAM_OPCODE_PULL 2 /* the oldest response leaves it */
-#define PBEAM_OPCODE_KEY 3  /* the public key */
+#define PBEAM_OPCODE_PUSH 1 /* adds a request to the queue */
+#define PBEAM_OPCODE_PULL 2 /* takes the oldest response from it */
+#define PBEAM_OPCODE_KEY 3  /* gets the public key */
 
 /* A request in the buffer of a push: byte offsets. Bytes 4 to 7 and 28 to 31 are not read. */
 #define PBEAM_REQUEST_BYTES 80
@@ -260,11 +261,11 @@
 #define PBEAM_ALGORITHM_SECP384R1 0
 #define PBEAM_HASH_SHA2_384 1
 
-/* A response as a pull writes it: byte offsets. A buffer of PBEAM_RESPONSE_BYTES_MOST holds any response. */
+/* A response in the buffer of a pull: byte offsets. A buffer of PBEAM_RESPONSE_BYTES_MOST bytes holds any response. */
 #define PBEAM_RESPONSE_GRANULE 0    /* 8 bytes: rec_granule of the request */
 #define PBEAM_RESPONSE_TICKET 8     /* 8 bytes: req_ticket of the request */
 #define PBEAM_RESPONSE_LENGTH 16    /* 2 bytes: length of the signature */
-#define PBEAM_RESPONSE_SIGNATURE 18 /* so many bytes */
+#define PBEAM_RESPONSE_SIGNATURE 18 /* the signature, of that length */
 #define PBEAM_RESPONSE_BYTES_MOST 122
 #define PBEAM_SIGNATURE_BYTES_MOST 104
 
@@ -272,9 +273,9 @@
 #define PBEAM_MECID_MOST 65535
 #define PBEAM_WIDTH_MOST 15
 
-/* ---- Images: sizes in words, and word numbers. All zero: fresh record, idle session, empty queue. ---- */
+/* ---- Images: number of words, and word indices. All zero: fresh record, idle session, empty queue. ---- */
 
-/* Boot record. Only boot writes it. */
+/* Boot record. Only a boot and pbeam_close write it. */
 #define PBEAM_STATE_WORDS 5
 #define PBEAM_STATE_KIND 0
 #define PBEAM_STATE_CPUS 1  /* x2 of the cold boot; 0 when not up */
@@ -283,34 +284,35 @@
 #define PBEAM_STATE_KEPT 4  /* K, the number of kept bytes at the page's start; 0 when not up */
 #define PBEAM_STATE_FRESH 0
 #define PBEAM_STATE_UP 1
-#define PBEAM_STATE_CLOSED 2 /* as written; any other number is read as closed too */
+#define PBEAM_STATE_CLOSED 2 /* the number that is written; a number above it also reads as closed */
 
-/* Granule record: the number of banks of memory, then base and size of each (PBEAM_BANK_WORDS). The words behind the last bank count for
- * nothing. pbeam_set_up_granules makes it, and no other function writes it.
- * Granule i of the table is granule i of the banks, joined in their order: an address between two banks is on no granule. A record has no
- * granules, so that no address is on one, unless pbeam_set_up_granules would take its banks: 1 to 16 of them, each as the reader accepts
- * it, each beginning at or after the end of the one before. All zero has none. */
+/* Granule record: the number of banks of memory, then base and size of each (PBEAM_BANK_WORDS). The words after the last bank are not
+ * used. Only pbeam_set_up_granules writes it.
+ * Granule i of the table is granule i of the banks, joined in their order: an address between two banks is on no granule. A record has
+ * granules only if pbeam_set_up_granules would accept its banks: 1 to 16 of them, each as the reader accepts it, each starting at or after
+ * the end of the one before. Otherwise, and if it is all zero, no address is on a granule. */
 #define PBEAM_GRANULES_WORDS 33
 #define PBEAM_GRANULES_COUNT 0
 #define PBEAM_GRANULES_FIRST_BANK 1
 #define PBEAM_GRANULES_BANKS_MOST 16
 
-/* Realm words: how many granules a word has a bit for, and what pbeam_realm_next and pbeam_realm_agrees answer beside the codes. */
+/* Realm words: the number of granules for each word, and what pbeam_realm_next and pbeam_realm_agrees return in addition to the codes. */
 #define PBEAM_REALM_WORD_GRANULES 64
 #define PBEAM_REALM_NONE 1   /* no Realm granule at or after the index */
-#define PBEAM_REALM_DIFFER 1 /* words and table do not agree */
+#define PBEAM_REALM_DIFFER 1 /* words and table differ */
 
 /* Token session. */
 #define PBEAM_SESSION_WORDS 3
 #define PBEAM_SESSION_KIND 0
 #define PBEAM_SESSION_WHOLE 1 /* length of the token at the start; 0 when idle */
-#define PBEAM_SESSION_SENT 2  /* how many bytes of it are sent; 0 when idle */
+#define PBEAM_SESSION_SENT 2  /* number of bytes sent; 0 when idle */
 #define PBEAM_SESSION_IDLE 0
-#define PBEAM_SESSION_SENDING 1 /* as written; any other number is read as sending too */
+#define PBEAM_SESSION_SENDING 1 /* the number that is written; a number above it also reads as sending */
 
-/* Signing queue: two counts, eight requests, eight responses, the oldest first. A count above 8 is read as 8, a signature's length
- * above 104 as 104. An accepted push writes one request and the number of requests, an accepted pull the responses that wait and their
- * number, pbeam_sign both sides, the key no word. A place that is freed becomes zero; every other word stays. A refused call writes no word. */
+/* Signing queue: two counts, eight requests, eight responses, the oldest first. A count above 8 reads as 8, a signature's length
+ * above 104 as 104. An accepted push writes one request and the number of requests; an accepted pull writes the waiting responses and their
+ * number; pbeam_sign writes requests and responses; the key writes no word. A freed slot becomes zero; every other word is unchanged. A
+ * refused call writes no word. */
 #define PBEAM_QUEUE_WORDS 210
 #define PBEAM_QUEUE_REQUESTS 0
 #define PBEAM_QUEUE_RESPONSES 1
@@ -333,17 +335,17 @@
 #define PBEAM_RESPONSE_WORD_GRANULE 0
 #define PBEAM_RESPONSE_WORD_TICKET 1
 #define PBEAM_RESPONSE_WORD_LENGTH 2
-#define PBEAM_RESPONSE_WORD_SIGNATURE 3 /* PBEAM_SIGNATURE_WORDS words, as the hash */
+#define PBEAM_RESPONSE_WORD_SIGNATURE 3 /* PBEAM_SIGNATURE_WORDS words, in the byte order of the hash */
 #define PBEAM_SIGNATURE_WORDS 13
 
 /* View of a page. Section k starts at word PBEAM_VIEW_SECTIONS + PBEAM_VIEW_SECTION_WORDS * k.
- * A view holds offsets and counts, no bytes of the page and no B. The functions on fields and pbeam_kept_for find the fields at the offset
- * plat_data modulo 4,096, and read their tags and lengths in the lent page at each call. So after a command has written into them these
- * functions answer from the new bytes: pass kept bytes to pbeam_cold_boot, or look the fields up before the first command. */
+ * A view holds offsets and counts, no bytes of the page and no B. The functions on fields and pbeam_kept_for find the fields at offset
+ * plat_data modulo 4,096, and read their tags and lengths in the lent page at each call. If a command overwrites the fields, these
+ * functions use the new bytes: pass kept bytes to pbeam_cold_boot, or look the fields up before the first command. */
 #define PBEAM_VIEW_WORDS 15
 #define PBEAM_VIEW_MINOR 0     /* w, the page's minor */
-#define PBEAM_VIEW_EDITION 1   /* e, the smaller of w and the reader's edition */
-#define PBEAM_VIEW_PLAT_DATA 2 /* plat_data as it stands: 0, or the fields' address */
+#define PBEAM_VIEW_EDITION 1   /* e = min(w, the reader's edition) */
+#define PBEAM_VIEW_PLAT_DATA 2 /* plat_data of the page: 0, or the fields' address */
 #define PBEAM_VIEW_SECTIONS 3
 #define PBEAM_VIEW_SECTION_WORDS 3
 #define PBEAM_VIEW_SECTION_KIND 0
@@ -351,14 +353,14 @@
 #define PBEAM_VIEW_SECTION_COUNT 2  /* number of entries; 0 without entries */
 #define PBEAM_VIEW_ABSENT 0         /* not in edition e */
 #define PBEAM_VIEW_EMPTY 1
-#define PBEAM_VIEW_ENTRIES 2 /* as written; any other number is read as entries too */
+#define PBEAM_VIEW_ENTRIES 2 /* the number that is written; a number above it also reads as entries */
 
-/* A part of the page. (0, 0) where it is empty. */
+/* A part of the page, (0, 0) if it is empty. */
 #define PBEAM_PLACE_WORDS 2
 #define PBEAM_PLACE_OFFSET 0
 #define PBEAM_PLACE_LENGTH 1
 
-/* A field that was asked for. All zero where there is none; offset and length are 0 where it is withdrawn. */
+/* The result of a field lookup. All zero if there is no such field; offset and length are 0 if it is withdrawn. */
 #define PBEAM_FIELD_WORDS 4
 #define PBEAM_FIELD_WORD_FOUND 0  /* one of the three below */
 #define PBEAM_FIELD_WORD_TAG 1
@@ -368,21 +370,21 @@
 #define PBEAM_FOUND_VALUE 1
 #define PBEAM_FOUND_WITHDRAWN 2   /* PBEAM_TAG_CONSOLE, whose value is not shown */
 
-/* The answer of pbeam_console_named where no console has the name: the largest size_t, which has 64 bits. */
+/* The result of pbeam_console_named if no console has the name: the largest size_t, which has 64 bits. */
 #define PBEAM_CONSOLE_NONE UINT64_C(0xFFFFFFFFFFFFFFFF)
 
-/* Result registers. Always written whole. */
+/* Result registers. Every call writes all of them. */
 #define PBEAM_OUT_WORDS 3
 #define PBEAM_OUT_X0 0
 #define PBEAM_OUT_X1 1
 #define PBEAM_OUT_X2 2
 
-/* What the platform has to do after a command. Always written whole. */
+/* What the platform must do after a command. Every call writes both words. */
 #define PBEAM_WORK_WORDS 2
 #define PBEAM_WORK_KIND 0
 #define PBEAM_WORK_VALUE 1
 #define PBEAM_WORK_NOTHING 0   /* value 0 */
-#define PBEAM_WORK_REPROGRAM 1 /* value: the mecid whose key is to be made anew */
+#define PBEAM_WORK_REPROGRAM 1 /* value: the mecid that needs a new key */
 #define PBEAM_WORK_FORWARD 2   /* value: err_code for the Non-secure world */
 
 /* Registers of a call, x0 to x4. */
@@ -400,29 +402,29 @@ extern "C" {
 /* ---- Manifest ---- */
 
 /*
- * pbeam_read: read a manifest page.
- * Takes    the page at B = base, and the reader's edition. With w the page's minor, e is the smaller of edition and w.
- * Answers  PBEAM_READ_ACCEPTED, or by the first check that fails:
+ * pbeam_read: reads a manifest page.
+ * Takes    the page at B = base, and the reader's edition. With w the page's minor, e is min(edition, w).
+ * Returns  PBEAM_READ_ACCEPTED, or by the first check that fails:
  *          PBEAM_MANIFEST_PLACE    page not 4,096 bytes long; B zero, not a multiple of 4,096, or above PBEAM_BASE_MOST
  *          PBEAM_MANIFEST_VERSION  edition not 1 to 4; the manifest's version has bit 31 set, major not 0, or minor 0
- *          PBEAM_MANIFEST_RULES    padding not zero; plat_data neither 0 nor from B + core size of e to B + 4,095; a section of e
- *                                  neither 24 zero bytes nor sound (count, pointer, array between core and page's end,
+ *          PBEAM_MANIFEST_RULES    padding not zero; plat_data neither 0 nor in [B + core size of e, B + 4,096); a section of e
+ *                                  neither 24 zero bytes nor valid (count, pointer, array between core and page's end,
  *                                  checksum, each entry's rule); two arrays overlap; the fields that plat_data points at are broken
  *                                  (no end mark in the page, tag 0 with a length, a length that tags 1 to 3 may not have, one of
  *                                  these twice) or share a byte with an array
- * Leaves   the page as it was. view: what the page shows; refused: all zero.
+ * Leaves   the page unchanged. view: what the page shows; refused: all zero.
  * Stack    256 bytes; AArch64 288
- * A later minor is never refused. Sections after e are not read, nor what stands behind the end mark. Fields belong to every edition.
+ * A later minor is never refused. Sections after e and bytes after the end mark are not read. Fields belong to every edition.
  */
 PBEAM_NONNULL(5)
 int32_t pbeam_read(const uint8_t *page, size_t page_len, uint64_t base, uint64_t edition, uint64_t view[PBEAM_VIEW_WORDS]);
 
 /*
- * pbeam_array: read a page, and find the array of one section.
+ * pbeam_array: reads a page and finds the array of one section.
  * Takes    the page, base and edition as pbeam_read, and the section's number.
- * Answers  nothing. place: the part of the page that holds the array; (0, 0) where the page is refused, the section absent or empty,
- *          or its number above 3. pbeam_read says why a page is refused.
- * Leaves   the page as it was.
+ * Writes   place: the part of the page that holds the array; (0, 0) if the page is refused, the section is absent or empty,
+ *          or its number is above 3. pbeam_read returns why a page is refused.
+ * Leaves   the page unchanged.
  * Stack    256 bytes; AArch64 320
  */
 PBEAM_NONNULL(6)
@@ -430,24 +432,23 @@ void pbeam_array(const uint8_t *page, size_t page_len, uint64_t base, uint64_t e
                  uint64_t place[PBEAM_PLACE_WORDS]);
 
 /*
- * pbeam_array_of: find the array of one section by a view.
+ * pbeam_array_of: finds the array of one section with a view.
  * Takes    a page, the view that pbeam_read made of it, and the section's number.
- * Answers  nothing. place: the part of the page that holds the array; (0, 0) where the section is absent or empty, its number above
- *          3, or its entries do not lie within the lent page.
- * Leaves   page and view as they were.
+ * Writes   place: the part of the page that holds the array; (0, 0) if the section is absent or empty, its number is above
+ *          3, or its entries are not all within the lent page.
+ * Leaves   page and view unchanged.
  * Stack    32 bytes; AArch64 0
- * With another page, or one written since, the answer is by the view's places: a view that no reading made cannot lead outside the
- * page.
+ * For another page, or one written since, place comes from the view alone. Even for a forged view it is within the page.
  */
 PBEAM_NONNULL(3, 5)
 void pbeam_array_of(const uint8_t *page, size_t page_len, const uint64_t view[PBEAM_VIEW_WORDS], size_t section,
                     uint64_t place[PBEAM_PLACE_WORDS]);
 
 /*
- * pbeam_count: how many entries a section has.
+ * pbeam_count: the number of entries in a section.
  * Takes    page, view and section as pbeam_array_of.
- * Answers  the number of entries; 0 where pbeam_array_of gives (0, 0).
- * Leaves   page and view as they were.
+ * Returns  the number of entries; 0 if pbeam_array_of gives (0, 0).
+ * Leaves   page and view unchanged.
  * Stack    32 bytes; AArch64 0
  */
 PBEAM_NONNULL(3)
@@ -456,8 +457,8 @@ size_t pbeam_count(const uint8_t *page, size_t page_len, const uint64_t view[PBE
 /*
  * pbeam_word: one word of an entry.
  * Takes    page, view and section as pbeam_array_of; entry and word, both counted from 0 (PBEAM_BANK_BASE .., PBEAM_CONSOLE_BASE ..).
- * Answers  the word; 0 where there is no such entry or word, and for the flags of a console where the view's minor is 5 or above.
- * Leaves   page and view as they were.
+ * Returns  the word; 0 if there is no such entry or word, and for the flags of a console if the view's minor is 5 or above.
+ * Leaves   page and view unchanged.
  * Stack    32 bytes; AArch64 0
  */
 PBEAM_NONNULL(3)
@@ -465,11 +466,11 @@ uint64_t pbeam_word(const uint8_t *page, size_t page_len, const uint64_t view[PB
                     size_t word);
 
 /*
- * pbeam_console_named: the first console with a name.
+ * pbeam_console_named: finds the first console with a name.
  * Takes    page and view as pbeam_array_of; the name, padded with zeros to 8 bytes.
- * Answers  the number of the first console whose 8 bytes of name are those given, from 0 on, as pbeam_word takes it; PBEAM_CONSOLE_NONE
- *          where there is none.
- * Leaves   page, view and name as they were.
+ * Returns  the index, counted from 0, of the first console with these 8 bytes of name, for use as `entry` of pbeam_word;
+ *          PBEAM_CONSOLE_NONE if no console has them.
+ * Leaves   page, view and name unchanged.
  * Stack    32 bytes; AArch64 0
  */
 PBEAM_NONNULL(3, 4)
@@ -477,34 +478,34 @@ size_t pbeam_console_named(const uint8_t *page, size_t page_len, const uint64_t 
                            const uint8_t name[PBEAM_CONSOLE_NAME_BYTES]);
 
 /*
- * pbeam_field_count: how many fields the platform data has.
+ * pbeam_field_count: the number of fields in the platform data.
  * Takes    a page, and the view that pbeam_read made of it.
- * Answers  the number of fields; 0 where plat_data is 0, where an end mark stands alone and, by a view that no reading made or of a page
- *          that was written since, where the fields are broken or not in the lent page.
- * Leaves   page and view as they were.
+ * Returns  the number of fields; 0 if plat_data is 0 or points at an end mark. Also 0 if the fields are broken or not in the lent page, which
+ *          is possible with a forged view or a page that was written since.
+ * Leaves   page and view unchanged.
  * Stack    32 bytes; AArch64 0
  */
 PBEAM_NONNULL(3)
 size_t pbeam_field_count(const uint8_t *page, size_t page_len, const uint64_t view[PBEAM_VIEW_WORDS]);
 
 /*
- * pbeam_field: a field by its number.
- * Takes    page and view as pbeam_field_count; index, from 0 on in page order.
- * Answers  nothing. field: PBEAM_FOUND_VALUE, the tag, and offset and length of the value in the page; PBEAM_FOUND_WITHDRAWN, the tag and
- *          zeros where the field is withdrawn; all zero where there is no such field. An empty value has an offset too.
- * Leaves   page and view as they were.
+ * pbeam_field: finds a field by its index.
+ * Takes    page and view as pbeam_field_count; index, counted from 0 in page order.
+ * Writes   field: PBEAM_FOUND_VALUE, the tag, and offset and length of the value in the page; PBEAM_FOUND_WITHDRAWN, the tag and
+ *          zeros if the field is withdrawn; all zero if there is no such field. An empty value also has an offset.
+ * Leaves   page and view unchanged.
  * Stack    64 bytes; AArch64 0
- * Each call starts at the first field: to pass all of them, walk with pbeam_field_start and pbeam_field_next.
+ * Each call starts at the first field: to visit all of them, walk with pbeam_field_start and pbeam_field_next.
  */
 PBEAM_NONNULL(3, 5)
 void pbeam_field(const uint8_t *page, size_t page_len, const uint64_t view[PBEAM_VIEW_WORDS], size_t index,
                  uint64_t field[PBEAM_FIELD_WORDS]);
 
 /*
- * pbeam_field_of_tag: the first field of a tag: so the board name (PBEAM_TAG_NAME) and the serial (PBEAM_TAG_SERIAL).
- * Takes    page and view as pbeam_field_count; the tag. PBEAM_TAG_END is no field's.
- * Answers  nothing. field: as pbeam_field.
- * Leaves   page and view as they were.
+ * pbeam_field_of_tag: finds the first field with a tag, for example the board name (PBEAM_TAG_NAME) or the serial (PBEAM_TAG_SERIAL).
+ * Takes    page and view as pbeam_field_count; the tag. No field has PBEAM_TAG_END.
+ * Writes   field, as pbeam_field.
+ * Leaves   page and view unchanged.
  * Stack    64 bytes; AArch64 0
  */
 PBEAM_NONNULL(3, 5)
@@ -514,9 +515,9 @@ void pbeam_field_of_tag(const uint8_t *page, size_t page_len, const uint64_t vie
 /*
  * pbeam_field_start: the cursor at the first field, for pbeam_field_next.
  * Takes    page and view as pbeam_field_count.
- * Answers  the cursor: the offset of the first field, or of the end mark if that stands alone; page_len where plat_data is 0 and, by a view
- *          that no reading made or of a page that was written since, where the fields are broken or not in the lent page.
- * Leaves   page and view as they were.
+ * Returns  the cursor: the offset of the first field, or of the end mark if there is no field; page_len if plat_data is 0. Also page_len if
+ *          the fields are broken or not in the lent page, which is possible with a forged view or a page that was written since.
+ * Leaves   page and view unchanged.
  * Stack    32 bytes; AArch64 0
  */
 PBEAM_NONNULL(3)
@@ -524,12 +525,12 @@ size_t pbeam_field_start(const uint8_t *page, size_t page_len, const uint64_t vi
 
 /*
  * pbeam_field_next: the field at a cursor.
- * Takes    the page, and a cursor that pbeam_field_start or this function answered for it.
- * Answers  the cursor after the field, with field as pbeam_field. After the last field that cursor is the offset of the end mark: one more
- *          call finds no field there, answers page_len and makes field all zero.
- * Leaves   the page as it was.
+ * Takes    the page, and a cursor that pbeam_field_start or this function returned for it.
+ * Returns  the cursor after the field, with field as pbeam_field. After the last field that cursor is the offset of the end mark: one more
+ *          call finds no field there, returns page_len and sets field to all zero.
+ * Leaves   the page unchanged.
  * Stack    32 bytes; AArch64 0
- * A walk passes each field once. It ends where field[0] is PBEAM_FOUND_NONE; a comparison of the cursor with page_len does not end it:
+ * A walk visits each field once. End it when field[0] is PBEAM_FOUND_NONE, not by comparing the cursor with page_len:
  *
  *     uint64_t field[PBEAM_FIELD_WORDS];
  *     size_t cursor = pbeam_field_start(page, page_len, view);
@@ -541,63 +542,63 @@ size_t pbeam_field_start(const uint8_t *page, size_t page_len, const uint64_t vi
  *             use(field[PBEAM_FIELD_WORD_TAG], page + field[PBEAM_FIELD_WORD_OFFSET], field[PBEAM_FIELD_WORD_LENGTH]);
  *     }
  *
- * Any other cursor is taken as the offset of a field: none is found outside the page, but any byte within it may be told as a tag or a
- * length, one of a withdrawn value too, and tags 1 to 3 are shown with any length and more than once. A cursor is for this function alone:
- * it is no place of a value.
+ * Any other cursor is taken as the offset of a field. Nothing outside the page is read, but any byte of the page, including a withdrawn value,
+ * may be returned as a tag or a length, and tags 1 to 3 may appear with any length and more than once. Pass a cursor only to this function:
+ * it is not the offset of a value.
  */
 PBEAM_NONNULL(4)
 size_t pbeam_field_next(const uint8_t *page, size_t page_len, size_t cursor, uint64_t field[PBEAM_FIELD_WORDS]);
 
 /*
- * pbeam_kept_for: how many bytes at the page's start the manifest takes: the number of kept bytes to give pbeam_cold_boot, so that no
- *          command overwrites it.
+ * pbeam_kept_for: the number of bytes at the page's start that the manifest takes. Pass it to pbeam_cold_boot as kept bytes, and no
+ *          command overwrites the manifest.
  * Takes    a page, and the view that pbeam_read made of it as PBEAM_EDITION_LAST.
- * Answers  the highest end of the core, of the arrays and of the fields with their end mark, as an offset in the page, rounded up to a
- *          multiple of 8: from 16 to 4,096. Of a view that no reading made: the core is that of its edition, below 1 taken as 1 and above
- *          4 as 4, and entries that do not lie within 4,096 bytes do not count. Fields that are broken, that are not in the lent page or
- *          that end above 4,096 count to 4,096, for any page_len; so the answer is never above 4,096.
- * Leaves   page and view as they were.
+ * Returns  the highest end of the core, of the arrays and of the fields with their end mark, as an offset in the page, rounded up to a
+ *          multiple of 8: from 16 to 4,096. For a forged view: the core is that of its edition, where 0 counts as 1 and a number above
+ *          4 as 4, and entries that are not within 4,096 bytes do not count. Fields that are broken, that are not in the lent page or
+ *          that end above 4,096 count as 4,096, for any page_len; so the result is never above 4,096.
+ * Leaves   page and view unchanged.
  * Stack    64 bytes; AArch64 0
- * With so many kept bytes pbeam_read gives the same answer and the same view after any commands, as the edition that the view was read as
- * (proved).
+ * With this number of kept bytes pbeam_read returns the same code and the same view after any commands, for the edition that the view was
+ * read as (proved).
  */
 PBEAM_NONNULL(3)
 uint64_t pbeam_kept_for(const uint8_t *page, size_t page_len, const uint64_t view[PBEAM_VIEW_WORDS]);
 
 /*
- * pbeam_listing: what a page shows, as text: a line for version and edition, one for plat_data, one a field, and for each section its
- *          number of entries with a line an entry, or that it is absent.
- * Takes    the page, base and edition as pbeam_read, and a room for the text.
- * Answers  the length of the whole text, also where it does not fit: if it is above text_len, the text was cut. It is never above
- *          PBEAM_LISTING_ROOM (proved), so a room of that length holds any text.
- * Leaves   the page as it was. text: ASCII from its first byte on, each line ended by '\n', with no '\0' behind it; as much as fits. What
- *          is behind the text stays as it was. Of a page that is refused the text is one line, "refused -5", "refused -6" or
+ * pbeam_listing: what a page shows, as text: a line for version and edition, one for plat_data, one for each field, and for each section its
+ *          number of entries with a line for each entry, or that it is absent.
+ * Takes    the page, base and edition as pbeam_read, and a buffer for the text.
+ * Returns  the length of the whole text, even if it does not fit: if it is above text_len, the text was cut. It is never above
+ *          PBEAM_LISTING_ROOM (proved), so a buffer of that length holds any text.
+ * Leaves   the page unchanged. text: ASCII from its first byte, each line ended by '\n', no '\0' at the end; as much as fits. Bytes
+ *          after the text are unchanged. For a refused page the text is one line, "refused -5", "refused -6" or
  *          "refused -7", with the code of pbeam_read.
  * Stack    576 bytes; AArch64 896
- * A field is its tag and the length of its value in decimal, and each byte of the value as two lower-case hex digits, parted by blanks; the
- * withdrawn one is "3 withdrawn".
- * A word is written as 0x and 16 lower-case hex digits, a console's name as its 8 bytes in order, 16 such digits without 0x; the flags of a
- * console are 0 on a page of minor 5 or above, as pbeam_word shows them. No byte of the page is written as it stands, so the text is safe
+ * A field is its tag and the length of its value in decimal, and each byte of the value as two lower-case hex digits, separated by blanks;
+ * the withdrawn one is "3 withdrawn".
+ * A word is 0x and 16 lower-case hex digits, a console's name 16 such digits without 0x for its 8 bytes in order; the flags of a
+ * console are 0 on a page of minor 5 or above, as for pbeam_word. No byte of the page is copied to the text, so it is safe
  * to print.
  */
 size_t pbeam_listing(const uint8_t *page, size_t page_len, uint64_t base, uint64_t edition, uint8_t *text, size_t text_len);
 
 /*
- * pbeam_write: write a manifest page.
- * Takes    B = base, the edition, four lists of words in the order of their entries (PBEAM_BANK_WORDS an entry, PBEAM_CONSOLE_WORDS for a
- *          console; each length counts words), the fields of the platform data as they are to stand in the page, without an end mark
+ * pbeam_write: writes a manifest page.
+ * Takes    B = base, the edition, four lists of entries as words (PBEAM_BANK_WORDS for a bank or region, PBEAM_CONSOLE_WORDS for a
+ *          console; each length counts words), the bytes of the fields of the platform data, without an end mark
  *          (fields_len counts bytes), and the page.
- * Answers  PBEAM_WRITE_PAGE, or by the first check that fails:
+ * Returns  PBEAM_WRITE_PAGE, or by the first check that fails:
  *          PBEAM_WRITE_W1_PLACE    page not 4,096 bytes long; B zero, not a multiple of 4,096, or above PBEAM_BASE_MOST
  *          PBEAM_WRITE_W2_EDITION  edition not 1 to 4
- *          PBEAM_WRITE_W3_LISTS    a list's length is not a whole number of entries, or an entry breaks its rule; all four count; a field
- *                                  is cut short, has tag 0, the withdrawn tag 3, or a length that tag 1 or 2 may not have, or is the second
- *                                  of these
+ *          PBEAM_WRITE_W3_LISTS    in any of the four lists: the length is not a whole number of entries, or an entry breaks its rule;
+ *                                  a field is cut short, has tag 0, the withdrawn tag 3, or a length that tag 1 or 2 may not have, or
+ *                                  is the second with tag 1 or 2
  *          PBEAM_WRITE_W4_LATE     a list for a section after the edition is not empty
  *          PBEAM_WRITE_W5_ROOM     core and arrays, and fields with their end mark if there are any, exceed 4,096 bytes
- * Leaves   the whole page written: version, the sections, the arrays at once after the core in section order, then the fields with their
- *          end mark and plat_data at them, or plat_data 0 without fields; zero everywhere else; an empty list gives 24 zero bytes.
- *          Refused, the page stays as it was. Lists and fields stay as they were.
+ * Leaves   the whole page written: version, the sections, the arrays directly after the core in section order, then the fields with their
+ *          end mark and plat_data pointing at them, or plat_data 0 without fields; zero everywhere else. An empty list becomes a section
+ *          of 24 zero bytes. Refused, the page is unchanged. Lists and fields are unchanged.
  * Stack    448 bytes; AArch64 608
  */
 uint32_t pbeam_write(uint64_t base, uint64_t edition, const uint64_t *dram, size_t dram_len, const uint64_t *console,
@@ -608,19 +609,19 @@ uint32_t pbeam_write(uint64_t base, uint64_t edition, const uint64_t *dram, size
 
 /*
  * pbeam_cold_boot: the first boot after a reset.
- * Takes    the boot record; x0 the CPU, x1 the version offered, x2 the number of CPUs, x3 = B; the monitor's maximum of CPUs; K = kept, the
- *          number of bytes at the page's start that no command may write (0: none; pbeam_kept_for: those of the manifest); the page at B,
+ * Takes    the boot record; x0 the CPU, x1 the version offered, x2 the number of CPUs, x3 = B; most, the monitor's maximum of CPUs; K = kept,
+ *          the number of bytes at the page's start that no command may write (0, or the result of pbeam_kept_for); the page at B,
  *          which is read as PBEAM_EDITION_LAST.
- * Answers  PBEAM_BOOT_DONE, or by the first check that fails:
+ * Returns  PBEAM_BOOT_DONE, or by the first check that fails:
  *          PBEAM_BOOT_STATE        record not fresh
  *          PBEAM_BOOT_VERSION      x1 above 32 bits; bit 31 set, major not 0, or minor 0
  *          PBEAM_BOOT_CPUS         x2 above most
- *          PBEAM_BOOT_CPU          x0 not below x2; so with x2 = 0 always
+ *          PBEAM_BOOT_CPU          x0 not below x2; so always if x2 is 0
  *          PBEAM_MANIFEST_PLACE    K above 4,096
  *          PBEAM_MANIFEST_PLACE, PBEAM_MANIFEST_VERSION, PBEAM_MANIFEST_RULES  as pbeam_read
- * Leaves   the page as it was. state: up, with x2, B, the agreed minor and K; refused: closed, for good.
+ * Leaves   the page unchanged. state: up, with x2, B, the agreed minor and K; refused: closed, permanently.
  * Stack    288 bytes; AArch64 288
- * The view is not kept. With K = 0 read the page with pbeam_read before a command writes into it. K need not cover the manifest; with K =
+ * The boot keeps no view. With K = 0 call pbeam_read before a command writes into the page. K need not cover the manifest; with K =
  * 4,096 every buffer is outside.
  */
 PBEAM_NONNULL(1)
@@ -630,17 +631,17 @@ int32_t pbeam_cold_boot(uint64_t state[PBEAM_STATE_WORDS], uint64_t x0, uint64_t
 /*
  * pbeam_warm_boot: a CPU's boot after the cold boot.
  * Takes    the boot record; x0 the CPU. x1 to x3 are ignored.
- * Answers  PBEAM_BOOT_DONE, or by the first check that fails:
+ * Returns  PBEAM_BOOT_DONE, or by the first check that fails:
  *          PBEAM_BOOT_STATE        record not up
  *          PBEAM_BOOT_CPU          x0 not below the cold boot's x2
- * Leaves   state: up, as it was, kept bytes too; refused: closed, for good. A CPU may warm boot twice.
+ * Leaves   state: up and unchanged; refused: closed, permanently. A CPU may warm boot twice.
  * Stack    32 bytes; AArch64 32
  */
 PBEAM_NONNULL(1)
 int32_t pbeam_warm_boot(uint64_t state[PBEAM_STATE_WORDS], uint64_t x0, uint64_t x1, uint64_t x2, uint64_t x3);
 
 /*
- * pbeam_close: closes the record for good, whatever it was. For EL3, when the monitor reports that its boot failed.
+ * pbeam_close: closes the record permanently, from any state. EL3 calls it when the monitor reports that its boot failed.
  * Leaves   state: closed.
  * Stack    32 bytes; AArch64 0
  */
@@ -650,39 +651,39 @@ void pbeam_close(uint64_t state[PBEAM_STATE_WORDS]);
 /* ---- Versions. A version is a number: minor in bits 0 to 15, major in bits 16 to 30, so 0.10 (0x0A) is later than 0.9. ---- */
 
 /*
- * pbeam_version_accepted: whether a version is accepted, for boot interface and manifest alike: major 0, minor 1 or more, and no bit
+ * pbeam_version_accepted: whether a version is accepted, for the boot interface and for the manifest: major 0, minor 1 or more, and no bit
  *          above bit 30 set.
  * Stack    32 bytes; AArch64 0
  */
 bool pbeam_version_accepted(uint64_t version);
 
 /*
- * pbeam_agreed_minor: the agreed interface minor, by the version that was offered: the smaller of 5 and its minor.
+ * pbeam_agreed_minor: the agreed interface minor for an offered version: min(5, its minor).
  * Stack    32 bytes; AArch64 0
- * It takes any number and looks at bits 0 to 15 alone: of a version with another major it answers 1 to 5 all the same, and 0 of minor 0.
- * Ask pbeam_version_accepted first.
+ * It uses only bits 0 to 15 of any number: it also returns 1 to 5 for a version with another major, and 0 for minor 0.
+ * Call pbeam_version_accepted first.
  */
 uint64_t pbeam_agreed_minor(uint64_t version);
 
 /*
  * pbeam_is_later: whether version a is later than version b.
  * Stack    32 bytes; AArch64 0
- * It takes any two numbers and compares them as 64 bits: one that is no version, for example above 32 bits, is later than every version
- * below it. Ask pbeam_version_accepted first.
+ * It compares any two numbers as 64 bits: a number that is not a version, for example one above 32 bits, is later than every version
+ * below it. Call pbeam_version_accepted first.
  */
 bool pbeam_is_later(uint64_t a, uint64_t b);
 
-/* ---- Runtime commands. A buffer is `size` bytes at physical address pa. It is outside when pa is below B + K or not below B + 4,096,
- * and too long when size exceeds B + 4,096 - pa. B, K (the number of kept bytes) and the agreed minor are those of the boot record. ---- */
+/* ---- Runtime commands. A buffer is `size` bytes at physical address pa. It is outside if pa is not in [B + K, B + 4,096), and too long if
+ * size exceeds B + 4,096 - pa. B, K (the number of kept bytes) and the agreed minor are those of the boot record. ---- */
 
 /*
- * pbeam_set_up_granules: the granule record of the banks that a manifest shows. Once, before the first command that takes the record.
- * Takes    room for the record; the banks' bytes, as pbeam_array or pbeam_array_of with PBEAM_DRAM gives their place in the page
- *          (PBEAM_BANK_BYTES a bank); and the length of the granule table.
- * Answers  PBEAM_X0_OK, or PBEAM_X0_INVAL if there is no bank, a part of one or more than PBEAM_GRANULES_BANKS_MOST; if a bank breaks the
- *          reader's rule (base and size multiples of 4,096, size not 0, base + size at most 2^52); if a bank begins before the end of the
- *          one before it (they may touch); or if table_len is not the sum of the sizes over PBEAM_GRANULE_BYTES.
- * Leaves   on OK the record, with 0 in the words behind its last bank. With PBEAM_X0_INVAL no record is made: the words stay as they were.
+ * pbeam_set_up_granules: makes the granule record from the banks of a manifest. Call it once, before the first command that takes the record.
+ * Takes    the words of the record; the banks' bytes (PBEAM_BANK_BYTES for each bank), at the place in the page that pbeam_array or
+ *          pbeam_array_of gives for PBEAM_DRAM; and the length of the granule table.
+ * Returns  PBEAM_X0_OK, or PBEAM_X0_INVAL if there is no bank, a part of a bank or more than PBEAM_GRANULES_BANKS_MOST banks; if a bank
+ *          breaks the reader's rule (base and size multiples of 4,096, size not 0, base + size at most 2^52); if a bank starts before the
+ *          end of the one before it (they may touch); or if table_len is not the sum of the sizes / PBEAM_GRANULE_BYTES.
+ * Leaves   on OK the record, with 0 in the words after its last bank. With PBEAM_X0_INVAL the words are unchanged.
  * Stack    320 bytes; AArch64 352
  * It needs no boot record and keeps no pointer: the page may be overwritten afterwards. The reader accepts more than this: banks in any order,
  * overlapping ones, up to 249. Such a board has no record, and its commands answer PBEAM_X0_BAD_ADDR.
@@ -691,27 +692,27 @@ PBEAM_NONNULL(1)
 uint64_t pbeam_set_up_granules(uint64_t granules[PBEAM_GRANULES_WORDS], const uint8_t *banks, size_t banks_len, uint64_t table_len);
 
 /*
- * pbeam_delegate (0xC40001B0): a granule goes from Non-secure to Realm.
+ * pbeam_delegate (0xC40001B0): changes a granule from Non-secure to Realm.
  * Takes    the boot record, the granule record, the granule table, the Realm words, and the granule's address.
  * Answers  out: x0 PBEAM_X0_OK, or by the first check that fails:
- *          PBEAM_X0_INVAL     words_len is not the record's granules over 64, rounded up (0 for a record without granules)
+ *          PBEAM_X0_INVAL     words_len is not ceil(granules of the record / 64), which is 0 for a record without granules
  *          PBEAM_X0_UNK       record not up
- *          PBEAM_X0_BAD_ADDR  address not a multiple of 4,096, or on no granule of the record's banks; the granule record one without
- *                             granules; the table of another length than the record's granules: then every address
+ *          PBEAM_X0_BAD_ADDR  address not a multiple of 4,096, or on no granule of the record's banks; any address if the granule record
+ *                             has no granules, or table_len is not the number of the record's granules
  *          PBEAM_X0_BAD_PAS   the granule's byte is not PBEAM_GRANULE_NON_SECURE
- * Leaves   on OK that byte as PBEAM_GRANULE_REALM and its bit in the words set, and every other byte and bit as it was. Refused, table and
- *          words as they were.
+ * Leaves   on OK that byte PBEAM_GRANULE_REALM and its bit in the words set; every other byte and bit is unchanged. Refused, table and
+ *          words are unchanged.
  * Stack    256 bytes; AArch64 192
- * The byte alone is changed: the change in hardware is the platform's, after an OK.
+ * The library updates table and words. Changing the hardware after an OK is up to the platform.
  */
 PBEAM_NONNULL(1, 2, 8)
 void pbeam_delegate(const uint64_t state[PBEAM_STATE_WORDS], const uint64_t granules[PBEAM_GRANULES_WORDS], uint8_t *table,
                     size_t table_len, uint64_t *words, size_t words_len, uint64_t address, uint64_t out[PBEAM_OUT_WORDS]);
 
 /*
- * pbeam_undelegate (0xC40001B1): a granule goes from Realm to Non-secure.
- * As pbeam_delegate, with PBEAM_X0_BAD_PAS where the byte is not PBEAM_GRANULE_REALM; on OK it becomes PBEAM_GRANULE_NON_SECURE, and its
- * bit is cleared. Before that check the shared page, address B, is PBEAM_X0_BAD_ADDR whatever its byte: it has to stay Realm.
+ * pbeam_undelegate (0xC40001B1): changes a granule from Realm to Non-secure.
+ * As pbeam_delegate, with PBEAM_X0_BAD_PAS if the byte is not PBEAM_GRANULE_REALM; on OK it becomes PBEAM_GRANULE_NON_SECURE, and its
+ * bit is cleared. Before that check address B, the shared page, is PBEAM_X0_BAD_ADDR for any byte: it must stay Realm.
  * Stack    288 bytes; AArch64 192
  */
 PBEAM_NONNULL(1, 2, 8)
@@ -719,16 +720,16 @@ void pbeam_undelegate(const uint64_t state[PBEAM_STATE_WORDS], const uint64_t gr
                       size_t table_len, uint64_t *words, size_t words_len, uint64_t address, uint64_t out[PBEAM_OUT_WORDS]);
 
 /*
- * pbeam_delegate_list: the granules at a list of addresses go from Non-secure to Realm, one by one in the list's order, up to the first
- *          that is refused. It has no function id: which call of the monitor's brings a list is the platform's.
- * Takes    what pbeam_delegate takes, with a list of addresses (any number, none too) in place of one.
- * Answers  out: x0 PBEAM_X0_OK, or the code that pbeam_delegate gives for the address that is refused; x1 the number of granules done,
- *          also when x0 is a refusal: so x1 is the index of the refused address. x2 0. PBEAM_X0_INVAL of the words comes first, for an empty
- *          list too; then an empty list is OK with 0, up or not.
- * Leaves   as x1 single calls would: the granules before the refused address are Realm and stay so; no other byte or bit changes. An address
- *          that comes twice is refused with PBEAM_X0_BAD_PAS the second time.
+ * pbeam_delegate_list: changes the granules at a list of addresses from Non-secure to Realm, one after another, up to the first
+ *          that is refused. It has no function id: which call of the monitor passes a list is up to the platform.
+ * Takes    what pbeam_delegate takes, with a list of addresses (of any length, also 0) in place of one address.
+ * Answers  out: x0 PBEAM_X0_OK, or the code that pbeam_delegate gives for the address that is refused; x1 the number of granules changed,
+ *          also when x0 is a refusal: so x1 is the index of the refused address. x2 is 0. The check of words_len (PBEAM_X0_INVAL) comes
+ *          first, also for an empty list; after it an empty list is OK with x1 = 0 for any boot record.
+ * Leaves   what x1 single calls leave: the granules before the refused address are Realm and stay so; no other byte or bit changes. An
+ *          address that is in the list twice is refused with PBEAM_X0_BAD_PAS the second time.
  * Stack    256 bytes; AArch64 192
- * The bytes alone are changed: the change in hardware is the platform's, for the first x1 addresses, on a refusal too.
+ * The library updates table and words. Changing the hardware for the first x1 addresses, also after a refusal, is up to the platform.
  */
 PBEAM_NONNULL(1, 2, 9)
 void pbeam_delegate_list(const uint64_t state[PBEAM_STATE_WORDS], const uint64_t granules[PBEAM_GRANULES_WORDS], uint8_t *table,
@@ -744,25 +745,25 @@ void pbeam_undelegate_list(const uint64_t state[PBEAM_STATE_WORDS], const uint64
                            size_t table_len, uint64_t *words, size_t words_len, const uint64_t *addresses, size_t addresses_len,
                            uint64_t out[PBEAM_OUT_WORDS]);
 
-/* ---- Realm words: a bit beside each byte of the granule table. Granule i is bit i mod 64 of word i / 64, set where its byte is
- * PBEAM_GRANULE_REALM; the spare bits of the last word are 0. There are as many words as the record's granules over 64, rounded up;
- * with any other number every function below, and delegation, answers PBEAM_X0_INVAL. Delegation keeps words and table in agreement
- * where they agreed before; pbeam_realm_build makes them agree. None of these looks at the boot record. ---- */
+/* ---- Realm words: one bit for each byte of the granule table. Granule i is bit i mod 64 of word i / 64, set if its byte is
+ * PBEAM_GRANULE_REALM; the spare bits of the last word are 0. There are ceil(granules of the record / 64) words; with any other number
+ * the four functions below return PBEAM_X0_INVAL, and delegation answers it. If words and table agree, they agree after any delegation;
+ * pbeam_realm_build makes them agree. The four functions do not take the boot record. ---- */
 
 /*
- * pbeam_realm_count: how many granules are Realm, from the words alone: a board does not stall over a walk of the table.
- * Takes    the granule record, the words, and room for a number.
- * Answers  PBEAM_X0_OK with the number, or PBEAM_X0_INVAL with 0. Set spare bits are not counted.
+ * pbeam_realm_count: the number of Realm granules. It reads only the words, so a board does not stall while the table is scanned.
+ * Takes    the granule record, the words, and a word for the number.
+ * Returns  PBEAM_X0_OK with the number, or PBEAM_X0_INVAL with 0. Set spare bits are not counted.
  * Stack    32 bytes; AArch64 0
  */
 PBEAM_NONNULL(1, 4)
 uint64_t pbeam_realm_count(const uint64_t granules[PBEAM_GRANULES_WORDS], const uint64_t *words, size_t words_len, uint64_t number[1]);
 
 /*
- * pbeam_realm_next: the first Realm granule at or after an index, from the words alone, stopping at the first hit.
- * Takes    the granule record, the words, the index to begin at, and room for the index found.
- * Answers  PBEAM_X0_OK with the index; PBEAM_REALM_NONE with 0 where there is none; PBEAM_X0_INVAL with 0, also for an index that is not
- *          below the record's granules. To go through all: begin at 0, then at the index found + 1, while that is below the granules.
+ * pbeam_realm_next: the first Realm granule at or after an index. It reads only the words and stops at the first hit.
+ * Takes    the granule record, the words, the index to start at, and a word for the index found.
+ * Returns  PBEAM_X0_OK with the index; PBEAM_REALM_NONE with 0 if there is no such granule; PBEAM_X0_INVAL with 0, also for an index that is
+ *          not below the number of granules. To visit all: start at 0, then at the index found + 1, while that is below this number.
  * Stack    32 bytes; AArch64 0
  */
 PBEAM_NONNULL(1, 5)
@@ -770,9 +771,9 @@ uint64_t pbeam_realm_next(const uint64_t granules[PBEAM_GRANULES_WORDS], const u
                           uint64_t found[1]);
 
 /*
- * pbeam_realm_agrees: whether the words are those of the table, spare bits too. It walks the table.
+ * pbeam_realm_agrees: whether words and table agree, including the spare bits. It reads the whole table.
  * Takes    the granule record, the granule table and the words.
- * Answers  PBEAM_X0_OK where they agree, PBEAM_REALM_DIFFER where they do not, or PBEAM_X0_INVAL, also for a table of another length than
+ * Returns  PBEAM_X0_OK if they agree, PBEAM_REALM_DIFFER if they differ, or PBEAM_X0_INVAL, also if table_len is not the number of
  *          the record's granules.
  * Stack    160 bytes; AArch64 64
  */
@@ -781,10 +782,10 @@ uint64_t pbeam_realm_agrees(const uint64_t granules[PBEAM_GRANULES_WORDS], const
                             size_t words_len);
 
 /*
- * pbeam_realm_build: makes the words of a table. Once, before the first command that takes them; whatever the words held.
+ * pbeam_realm_build: builds the words from a table. Call it once, before the first command that takes them; the words may hold anything.
  * Takes    the granule record, the granule table and the words.
- * Answers  PBEAM_X0_OK, or PBEAM_X0_INVAL, also for a table of another length than the record's granules.
- * Leaves   on OK the words of the table, spare bits 0. With PBEAM_X0_INVAL the words as they were.
+ * Returns  PBEAM_X0_OK, or PBEAM_X0_INVAL, also if table_len is not the number of the record's granules.
+ * Leaves   on OK the words of the table, spare bits 0. With PBEAM_X0_INVAL the words are unchanged.
  * Stack    160 bytes; AArch64 64
  */
 PBEAM_NONNULL(1)
@@ -793,13 +794,13 @@ uint64_t pbeam_realm_build(const uint64_t granules[PBEAM_GRANULES_WORDS], const 
 
 /*
  * pbeam_realm_key (0xC40001B2): the realm attestation key.
- * Takes    the boot record, the page, the platform's key (empty when there is none), pa, size and curve.
+ * Takes    the boot record, the page, the platform's key (empty if it has no key), pa, size and curve.
  * Answers  out: x0 PBEAM_X0_OK with x1 the key's length, or by the first check that fails:
  *          PBEAM_X0_UNK       record not up; page not 4,096 bytes long
  *          PBEAM_X0_BAD_ADDR  outside
  *          PBEAM_X0_INVAL     too long; curve not PBEAM_CURVE_SECP384R1
  *          PBEAM_X0_UNK       key empty, or longer than size
- * Leaves   on OK the key's bytes at pa, and every other byte of the page as it was. Refused, the page as it was.
+ * Leaves   on OK the key's bytes at pa; every other byte of the page is unchanged. Refused, the page is unchanged.
  * Stack    64 bytes; AArch64 96
  */
 PBEAM_NONNULL(1, 9)
@@ -808,20 +809,20 @@ void pbeam_realm_key(const uint64_t state[PBEAM_STATE_WORDS], uint8_t *page, siz
 
 /*
  * pbeam_platform_token (0xC40001B3): the next hunk of the platform token.
- * Takes    the boot record, the session, the page, the token (the same at each call from a start to the session's end; empty when
- *          there is none), busy (not 0 while the platform cannot serve), pa, size, and c_size: the challenge's size starts a
- *          session, also in mid-session; PBEAM_CHALLENGE_NONE goes on.
- * Answers  out: x0 PBEAM_X0_OK with x1 the hunk (the smaller of size and what is left) and x2 the rest after it, or by the first check
+ * Takes    the boot record, the session, the page, the token (the same at each call from a start to the session's end; empty if the
+ *          platform has no token), busy (not 0 while the platform cannot serve), pa, size, and c_size: the challenge's size starts a
+ *          session, also in mid-session; PBEAM_CHALLENGE_NONE continues one.
+ * Answers  out: x0 PBEAM_X0_OK with x1 = min(size, bytes left), the length of the hunk, and x2 the rest after it, or by the first check
  *          that fails:
  *          PBEAM_X0_UNK       record not up; page not 4,096 bytes long
  *          PBEAM_X0_AGAIN     busy
  *          PBEAM_X0_BAD_ADDR  outside
  *          PBEAM_X0_INVAL     too long; c_size not 0, 32, 48 or 64; c_size above size; c_size 0 with no session
- *          PBEAM_X0_UNK       token empty, or with c_size 0 of another length than at the start
- * Leaves   on OK the hunk, the token's next bytes, at pa, and every other byte of the page as it was. session: idle after rest 0,
- *          else sending. Refused, page and session as they were.
+ *          PBEAM_X0_UNK       token empty; c_size 0 and token_len differs from that at the start
+ * Leaves   on OK the hunk, the token's next bytes, at pa; every other byte of the page is unchanged. session: idle after rest 0,
+ *          otherwise sending. Refused, page and session are unchanged.
  * Stack    192 bytes; AArch64 192
- * The hunk is written over the challenge: call pbeam_challenge first. Size 0 with c_size 0 in a session is OK and moves nothing.
+ * The hunk overwrites the challenge: call pbeam_challenge first. Size 0 with c_size 0 in a session is OK and delivers nothing.
  */
 PBEAM_NONNULL(1, 2, 11)
 void pbeam_platform_token(const uint64_t state[PBEAM_STATE_WORDS], uint64_t session[PBEAM_SESSION_WORDS], uint8_t *page,
@@ -829,17 +830,17 @@ void pbeam_platform_token(const uint64_t state[PBEAM_STATE_WORDS], uint64_t sess
                           uint64_t csize, uint64_t out[PBEAM_OUT_WORDS]);
 
 /*
- * pbeam_challenge: the challenge of a start, for the platform to make its token.
+ * pbeam_challenge: the place of the challenge, from which the platform makes its token.
  * Takes    the boot record, the page, and pa, size and c_size of the start.
- * Answers  PBEAM_X0_OK with place: c_size bytes at pa, as that part of the page; (0, 0) with c_size 0, which is no start. Or place (0, 0)
- *          and, by the first check that fails:
+ * Returns  PBEAM_X0_OK, with offset and length in the page of the c_size bytes at pa as place; (0, 0) if c_size is 0, which is no start. Or
+ *          place (0, 0) and, by the first check that fails:
  *          PBEAM_X0_UNK       record not up; page not 4,096 bytes long
  *          PBEAM_X0_BAD_ADDR  outside
  *          PBEAM_X0_INVAL     too long; c_size not 0, 32, 48 or 64, or above size
- * Leaves   the page as it was.
+ * Leaves   the page unchanged.
  * Stack    32 bytes; AArch64 32
- * Make a token where the answer is PBEAM_X0_OK and place is not (0, 0): any other call is no start, or will be refused with that code
- * (a busy platform apart, which this does not look at).
+ * Make a token only if the result is PBEAM_X0_OK and place is not (0, 0): any other call is no start, or will be refused with that code.
+ * This function does not check whether the platform is busy.
  */
 PBEAM_NONNULL(1, 7)
 uint64_t pbeam_challenge(const uint64_t state[PBEAM_STATE_WORDS], const uint8_t *page, size_t page_len, uint64_t pa, uint64_t size,
@@ -858,7 +859,7 @@ PBEAM_NONNULL(1, 3)
 void pbeam_features(const uint64_t state[PBEAM_STATE_WORDS], uint64_t index, uint64_t out[PBEAM_OUT_WORDS]);
 
 /*
- * pbeam_token_signing (0xC40001B5): push a request, pull a response, or get the public key.
+ * pbeam_token_signing (0xC40001B5): pushes a request, pulls a response, or gets the public key.
  * Takes    the boot record, the queue, the page, the public key (empty while it is not ready), opcode, pa, size and curve.
  * Answers  out: x0 PBEAM_X0_OK, with x1 the key's length for PBEAM_OPCODE_KEY, or by the first check that fails:
  *          PBEAM_X0_UNK       record not up; page not 4,096 bytes long
@@ -870,9 +871,9 @@ void pbeam_features(const uint64_t state[PBEAM_STATE_WORDS], uint64_t index, uin
  *          pull: PBEAM_X0_INVAL  the response is longer than size; it is kept
  *          key:  PBEAM_X0_AGAIN  key empty
  *          key:  PBEAM_X0_INVAL  key longer than size
- * Leaves   on OK: push: the request at the end of those that wait, the page as it was; pull: the oldest response at pa, and dropped
- *          from the queue; key: the key at pa, the queue as it was. Bytes of the page behind what is
- *          written stay as they were. Refused, page and queue as they were.
+ * Leaves   on OK: push: the request after the other waiting ones, the page unchanged; pull: the oldest response at pa, and removed
+ *          from the queue; key: the key at pa, the queue unchanged. Every other byte of the page is unchanged. Refused, page and queue are
+ *          unchanged.
  * Stack    288 bytes; AArch64 448
  */
 PBEAM_NONNULL(1, 2, 11)
@@ -885,11 +886,11 @@ void pbeam_token_signing(const uint64_t state[PBEAM_STATE_WORDS], uint64_t queue
  * Takes    the boot record, width = MECIDR_EL2.MECIDWidthm1 (m), and the mecid.
  * Answers  out: x0 PBEAM_X0_OK with work (PBEAM_WORK_REPROGRAM, mecid), or by the first check that fails:
  *          PBEAM_X0_UNK       record not up
- *          PBEAM_X0_INVAL     mecid above PBEAM_MECID_MOST, or above 2^(m+1) - 1, m taken as 15 if larger
+ *          PBEAM_X0_INVAL     mecid above PBEAM_MECID_MOST, or above 2^(min(m, 15) + 1) - 1
  *          PBEAM_X0_UNK       m above PBEAM_WIDTH_MOST; agreed minor below PBEAM_KEY_UPDATE_MINOR
  *          Refused, work is (PBEAM_WORK_NOTHING, 0).
  * Stack    32 bytes; AArch64 0
- * The library makes no key: the platform does, when work says so.
+ * The library makes no key: the platform does, if work is PBEAM_WORK_REPROGRAM.
  */
 PBEAM_NONNULL(1, 4, 5)
 void pbeam_key_update(const uint64_t state[PBEAM_STATE_WORDS], uint64_t width, uint64_t mecid, uint64_t out[PBEAM_OUT_WORDS],
@@ -898,23 +899,23 @@ void pbeam_key_update(const uint64_t state[PBEAM_STATE_WORDS], uint64_t width, u
 /*
  * pbeam_forward (0xC400018F): the error code of an RMI call, for the Non-secure world.
  * Takes    the boot record, which may be in any state, and x1.
- * Answers  err_code, which is x1. It is never refused.
+ * Returns  err_code, which is x1. It is never refused.
  * Stack    32 bytes; AArch64 0
  */
 PBEAM_NONNULL(1)
 uint64_t pbeam_forward(const uint64_t state[PBEAM_STATE_WORDS], uint64_t x1);
 
-/* ---- The signer's side: no commands of the interface; they look at no boot record ---- */
+/* ---- The signer's side: these are not commands of the interface, and they do not take the boot record ---- */
 
 /*
- * pbeam_sign: the oldest request becomes the newest response.
+ * pbeam_sign: turns the oldest request into the newest response.
  * Takes    the queue, and the signature of its oldest request.
  * Answers  out: x0 PBEAM_X0_OK, or by the first check that fails:
  *          PBEAM_X0_INVAL     signature not 1 to PBEAM_SIGNATURE_BYTES_MOST bytes long
  *          PBEAM_X0_AGAIN     no request
  *          PBEAM_X0_AGAIN     eight responses waiting; the request is kept
- * Leaves   on OK the queue with one request less and one response more: its rec_granule and req_ticket, and the signature. Refused,
- *          the queue as it was.
+ * Leaves   on OK the queue with one request less and one response more: rec_granule and req_ticket of the request, and the signature.
+ *          Refused, the queue is unchanged.
  * Stack    224 bytes; AArch64 192
  */
 PBEAM_NONNULL(1, 4)
@@ -923,16 +924,16 @@ void pbeam_sign(uint64_t queue[PBEAM_QUEUE_WORDS], const uint8_t *signature, siz
 /*
  * pbeam_oldest: the oldest request.
  * Takes    the queue.
- * Answers  how many requests wait, with all fields of the oldest in request; 0 where none does, with request all zero.
- * Leaves   the queue as it was: the request waits until pbeam_sign takes it.
+ * Returns  the number of waiting requests, with all fields of the oldest in request; 0 with request all zero if no request waits.
+ * Leaves   the queue unchanged: the request waits until pbeam_sign removes it.
  * Stack    32 bytes; AArch64 0
  */
 PBEAM_NONNULL(1, 2)
 size_t pbeam_oldest(const uint64_t queue[PBEAM_QUEUE_WORDS], uint64_t request[PBEAM_REQUEST_WORDS]);
 
 /*
- * pbeam_responses: how many responses wait to be pulled.
- * Leaves   the queue as it was.
+ * pbeam_responses: the number of responses that wait for a pull.
+ * Leaves   the queue unchanged.
  * Stack    32 bytes; AArch64 0
  */
 PBEAM_NONNULL(1)
@@ -941,17 +942,17 @@ size_t pbeam_responses(const uint64_t queue[PBEAM_QUEUE_WORDS]);
 /* ---- Dispatcher ---- */
 
 /*
- * pbeam_call: every command by its function id.
+ * pbeam_call: runs the command of a function id.
  * Takes    the boot record, session, queue and page; the granule record, the granule table and the Realm words; the realm key;
  *          the platform token and the busy flag; the public key of token signing; width = MECIDWidthm1; and call, the registers:
  *            PBEAM_ID_FORWARD x1 err_code; PBEAM_ID_DELEGATE, PBEAM_ID_UNDELEGATE x1 address; PBEAM_ID_REALM_KEY x1 pa, x2 size, x3 curve;
  *            PBEAM_ID_PLATFORM_TOKEN x1 pa, x2 size, x3 c_size; PBEAM_ID_FEATURES x1 index; PBEAM_ID_TOKEN_SIGNING x1 opcode, x2 pa, x3 size,
  *            x4 curve; PBEAM_ID_KEY_UPDATE x1 mecid.
- *          What a command does not need may be of any content, and a slice empty.
- * Answers  out and work as the command. PBEAM_ID_FORWARD: out all zero, work (PBEAM_WORK_FORWARD, err_code), for any boot record. Any
- *          other id: PBEAM_X0_UNK. Every command but PBEAM_ID_FORWARD: PBEAM_X0_UNK while the record is not up. The words' number is checked
- *          before that, by PBEAM_ID_DELEGATE and PBEAM_ID_UNDELEGATE alone: no other id looks at the words.
- * Leaves   what the command leaves; all else as it was. Only PBEAM_ID_PLATFORM_TOKEN reads or writes the session, only
+ *          What a command does not need may have any content, and a slice may be empty.
+ * Answers  out and work of the command. PBEAM_ID_FORWARD: out all zero, work (PBEAM_WORK_FORWARD, err_code), for any boot record. An id
+ *          that is not listed: PBEAM_X0_UNK. Every command except PBEAM_ID_FORWARD: PBEAM_X0_UNK while the record is not up. Only
+ *          PBEAM_ID_DELEGATE and PBEAM_ID_UNDELEGATE use the words, and check words_len before the record.
+ * Leaves   what the command leaves; everything else is unchanged. Only PBEAM_ID_PLATFORM_TOKEN reads or writes the session, only
  *          PBEAM_ID_TOKEN_SIGNING the queue.
  * Stack    512 bytes with PBEAM_ID_TOKEN_SIGNING, 512 bytes with any other id; AArch64 576
  */

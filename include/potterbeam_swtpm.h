@@ -1,24 +1,24 @@
 /*
  * Potterbeam state blobs of a software TPM, for C11 and C++11 or later. Link with libpotterbeam_swtpm.a.
  *
- * GET_STATEBLOB of swtpm's control channel ("004" below is its manual page, swtpm_ioctls(3)): the request for a piece of a state blob and
- * the response that carries one, read and written, and a collector that joins the pieces into one buffer. In a message every number is of
+ * GET_STATEBLOB of swtpm's control channel ("004" below is its manual page, swtpm_ioctls(3)): reads and writes the request for a piece of a
+ * state blob and the response that carries one, and collects the pieces in one buffer. In a message every number has
  * four bytes, big-endian; here numbers are plain uint32_t.
  *
  *   request    command code, state_flags, type, offset                             16 bytes
  *   response   tpm_result, state_flags, totlength, length, then `length` bytes      16 bytes and the data
  *
- * Of every function:
+ * For every function:
  *
- * - Any number, message, buffer and collector is taken as input. There is no condition on values; every call returns, and touches only
+ * - It accepts any number, message, buffer and collector. No value is forbidden; every call returns, and reads and writes only
  *   what it is lent. The library allocates nothing and keeps nothing between calls. It needs no other library.
- * - A slice is a pointer and a count of bytes. The pointer may be NULL only where the count is 0. collector, parts and len are never NULL.
- * - Lent memory must not overlap. (What two parameters only read may.) Bytes need no alignment; words are aligned as C asks.
- * - There is no lock. One collector or buffer is used by one call at a time; different ones may be used at the same time.
- * - A call that can be refused answers PBEAM_SWTPM_OK or the number of the refusal. The first check that fails decides; the checks stand
- *   below in their order. A refused call leaves every lent byte and word as it was: buffer, collector, parts and len.
+ * - A slice is a pointer and a count of bytes. The pointer may be NULL only if the count is 0. collector, parts and len are never NULL.
+ * - Lent memory must not overlap, except what two parameters only read. Bytes need no alignment; words have C's alignment.
+ * - There is no lock. Use one collector or buffer in one call at a time; different ones may be used at the same time.
+ * - A call that can be refused returns PBEAM_SWTPM_OK or the number of the refusal. The first check that fails decides; the checks are
+ *   listed below in their order. A refused call leaves every lent byte and word unchanged: buffer, collector, parts and len.
  * - size_t has 64 bits: the archives are for x86-64 and AArch64 (LP64).
- * - "Stack" is what a call was seen to write on x86-64 at most, and after "AArch64" a static bound of the archive that tools/aarch64
+ * - "Stack" is the most that a call was seen to write on x86-64, and after "AArch64" a static bound of the archive that tools/aarch64
  *   builds; both with the words that its caller passes on the stack, rounded up to a multiple of 32 (docs/STACK.md).
  */
 #ifndef POTTERBEAM_SWTPM_H
@@ -31,7 +31,7 @@
 /* ---- Answers ---- */
 
 #define PBEAM_SWTPM_OK 0
-#define PBEAM_SWTPM_CUT_SHORT 1     /* fewer bytes than the message must have; so also an error answer of 4 bytes, which swtpm may give */
+#define PBEAM_SWTPM_CUT_SHORT 1     /* fewer bytes than the message must have, for example swtpm's error answer of 4 bytes */
 #define PBEAM_SWTPM_TOO_LONG 2      /* more bytes than the message must have */
 #define PBEAM_SWTPM_WRONG_CODE 3    /* request: another command code than the caller's */
 #define PBEAM_SWTPM_ABOVE_LARGEST 4 /* response: more data than the caller's largest size */
@@ -47,8 +47,8 @@
 #define PBEAM_SWTPM_REQUEST_BYTES 16 /* a request */
 #define PBEAM_SWTPM_HEAD_BYTES 16    /* a response without its data */
 
-/* Numbers of swtpm's own tpm_ioctl.h (0.7.1), for the caller to pass. The library knows none of them: it compares a code only with the
- * one that it is given, and no type or flag with anything. */
+/* Numbers of swtpm's own tpm_ioctl.h (0.7.1), for the caller to pass. The library does not use them: it compares a code only with the
+ * caller's, and does not check types and flags. */
 #define PBEAM_SWTPM_CMD_GET_STATEBLOB 12   /* command code of the control channel */
 #define PBEAM_SWTPM_BLOB_TYPE_PERMANENT 1  /* type */
 #define PBEAM_SWTPM_BLOB_TYPE_VOLATILE 2   /* type */
@@ -75,7 +75,7 @@
 #define PBEAM_SWTPM_COLLECTOR_TOTAL 1    /* totlength of the first accepted response */
 #define PBEAM_SWTPM_COLLECTOR_HELD 2     /* bytes held, at the start of the buffer */
 
-/* The answer in words. */
+/* The answer as text. */
 static inline const char *pbeam_swtpm_text(uint32_t answer)
 {
     switch (answer) {
@@ -99,86 +99,86 @@ extern "C" {
 #endif
 
 /*
- * pbeam_swtpm_read_request: read a request.
+ * pbeam_swtpm_read_request: reads a request.
  * Takes    the message, and the command code that it must have.
- * Answers  PBEAM_SWTPM_OK, or by the first check that fails:
+ * Returns  PBEAM_SWTPM_OK, or by the first check that fails:
  *          PBEAM_SWTPM_CUT_SHORT   fewer than 16 bytes
  *          PBEAM_SWTPM_TOO_LONG    more than 16 bytes
- *          PBEAM_SWTPM_WRONG_CODE  its code is another
- * Leaves   the message as it was. On OK parts: code, state_flags, type and offset, whatever the last three are.
+ *          PBEAM_SWTPM_WRONG_CODE  it has another code
+ * Leaves   the message unchanged. On OK parts: code, state_flags, type and offset; the last three may be any numbers.
  * Stack    32 bytes; AArch64 0
  */
 uint32_t pbeam_swtpm_read_request(const uint8_t *message, size_t message_len, uint32_t code,
                                   uint32_t parts[PBEAM_SWTPM_PARTS_WORDS]);
 
 /*
- * pbeam_swtpm_write_request: write a request at the start of a buffer.
+ * pbeam_swtpm_write_request: writes a request to the start of a buffer.
  * Takes    the buffer; command code, state_flags, type and offset, any numbers.
- * Answers  PBEAM_SWTPM_OK, or:
+ * Returns  PBEAM_SWTPM_OK, or:
  *          PBEAM_SWTPM_NO_ROOM     the buffer has fewer than 16 bytes
- * Leaves   on OK the message in the buffer's first 16 bytes, the bytes behind them as they were, and 16 in *len.
+ * Leaves   on OK the message in the buffer's first 16 bytes, the bytes after it unchanged, and 16 in *len.
  * Stack    32 bytes; AArch64 0
  */
 uint32_t pbeam_swtpm_write_request(uint8_t *buffer, size_t buffer_len, uint32_t code, uint32_t flags, uint32_t type, uint32_t offset,
                                    size_t *len);
 
 /*
- * pbeam_swtpm_read_response: read a response.
+ * pbeam_swtpm_read_response: reads a response.
  * Takes    the message, and the largest size of its data.
- * Answers  PBEAM_SWTPM_OK, or by the first check that fails:
- *          PBEAM_SWTPM_CUT_SHORT      fewer than 16 bytes, or less data than the length field says
- *          PBEAM_SWTPM_TOO_LONG       more data than the length field says
+ * Returns  PBEAM_SWTPM_OK, or by the first check that fails:
+ *          PBEAM_SWTPM_CUT_SHORT      fewer than 16 bytes, or less data than the length field gives
+ *          PBEAM_SWTPM_TOO_LONG       more data than the length field gives
  *          PBEAM_SWTPM_ABOVE_LARGEST  the length field is above largest
  *          PBEAM_SWTPM_FAILED         tpm_result is not zero
- * Leaves   the message as it was. On OK parts: state_flags, totlength, where the data begins in the message, and how long it is.
+ * Leaves   the message unchanged. On OK parts: state_flags, totlength, and offset and length of the data in the message.
  * Stack    32 bytes; AArch64 0
- * The message is all that was received, no byte more: on a stream read 16 bytes, then as many as bytes 12 to 15 say.
+ * The message must be exactly one response: on a stream read 16 bytes, then the number of bytes in bytes 12 to 15.
  */
 uint32_t pbeam_swtpm_read_response(const uint8_t *message, size_t message_len, uint32_t largest,
                                    uint32_t parts[PBEAM_SWTPM_PARTS_WORDS]);
 
 /*
- * pbeam_swtpm_write_response: write a response at the start of a buffer.
+ * pbeam_swtpm_write_response: writes a response to the start of a buffer.
  * Takes    the buffer, the largest size of data; tpm_result, state_flags and totlength, any numbers; the data.
- * Answers  PBEAM_SWTPM_OK, or by the first check that fails:
+ * Returns  PBEAM_SWTPM_OK, or by the first check that fails:
  *          PBEAM_SWTPM_ABOVE_LARGEST  data_len is above largest
  *          PBEAM_SWTPM_NO_ROOM        the buffer has fewer than 16 + data_len bytes
- * Leaves   the data as it was. On OK the message at the buffer's start, the bytes behind it as they were, and 16 + data_len in *len.
+ * Leaves   the data unchanged. On OK the message at the buffer's start, the bytes after it unchanged, and 16 + data_len in *len.
  * Stack    64 bytes; AArch64 96
  */
 uint32_t pbeam_swtpm_write_response(uint8_t *buffer, size_t buffer_len, uint32_t largest, uint32_t result, uint32_t flags,
                                     uint32_t total, const uint8_t *data, size_t data_len, size_t *len);
 
 /*
- * pbeam_swtpm_collect: add a response's data to the bytes held.
+ * pbeam_swtpm_collect: appends a response's data to the bytes held.
  * Takes    the collector, the message, the largest size of its data, and the buffer: the same at each call of one collection.
- * Answers  PBEAM_SWTPM_OK, or by the first check that fails:
+ * Returns  PBEAM_SWTPM_OK, or by the first check that fails:
  *          PBEAM_SWTPM_CUT_SHORT, _TOO_LONG, _ABOVE_LARGEST, _FAILED  as pbeam_swtpm_read_response
- *          PBEAM_SWTPM_TOTAL_DIFFERS  a response was accepted before, and its totlength was another
+ *          PBEAM_SWTPM_TOTAL_DIFFERS  an earlier response was accepted with another totlength
  *          PBEAM_SWTPM_PAST_TOTAL     bytes held and new ones exceed totlength
- *          PBEAM_SWTPM_PAST_BUFFER    they exceed the buffer; also without new bytes, where the buffer is shorter than what is held
+ *          PBEAM_SWTPM_PAST_BUFFER    they exceed the buffer; also without new bytes, if the buffer is shorter than the bytes held
  *          PBEAM_SWTPM_NO_DATA        no new bytes, and fewer held than totlength
- * Leaves   the message as it was. On OK the data behind the bytes held, every other byte of the buffer as it was, and the collector
- *          with that many bytes more.
+ * Leaves   the message unchanged. On OK the data after the bytes held, every other byte of the buffer unchanged, and the collector's
+ *          count of bytes held increased by the length of the data.
  * Stack    64 bytes; AArch64 96
- * state_flags are not looked at. If each accepted response was cut from one blob at the number of bytes then held, with that blob's length
- * as totlength, the buffer begins with the blob's first bytes: ask for offset pbeam_swtpm_held each time. (swtpm 0.7.1 differs: it sends
- * all that is left at once, and its totlength counts from the offset on. Ask it once, from offset 0. See docs/SWTPM.md.)
+ * state_flags are not checked. If each accepted response was cut from one blob at the number of bytes then held, with that blob's length
+ * as totlength, the buffer starts with the blob's first bytes: request offset pbeam_swtpm_held each time. (swtpm 0.7.1 differs: one
+ * response carries all remaining bytes, and its totlength counts from the offset. Send it one request, with offset 0. See docs/SWTPM.md.)
  */
 uint32_t pbeam_swtpm_collect(uint32_t collector[PBEAM_SWTPM_COLLECTOR_WORDS], const uint8_t *message, size_t message_len,
                              uint32_t largest, uint8_t *buffer, size_t buffer_len);
 
 /*
  * pbeam_swtpm_complete: whether the whole blob is held.
- * Answers  true exactly when a response was accepted and totlength bytes are held; so never for a new collector.
- * Leaves   the collector as it was.
+ * Returns  true exactly if a response was accepted and totlength bytes are held; so never for a new collector.
+ * Leaves   the collector unchanged.
  * Stack    32 bytes; AArch64 0
  */
 bool pbeam_swtpm_complete(const uint32_t collector[PBEAM_SWTPM_COLLECTOR_WORDS]);
 
 /*
- * pbeam_swtpm_held: how many bytes are held: the offset to ask for next.
- * Leaves   the collector as it was.
+ * pbeam_swtpm_held: the number of bytes held, which is the offset to request next.
+ * Leaves   the collector unchanged.
  * Stack    32 bytes; AArch64 0
  */
 uint32_t pbeam_swtpm_held(const uint32_t collector[PBEAM_SWTPM_COLLECTOR_WORDS]);

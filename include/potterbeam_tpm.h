@@ -1,37 +1,37 @@
 /*
- * Potterbeam H_TPM_COMM, for C11 and C++11 or later. Link with libpotterbeam_tpm.a; nothing of the RMM-EL3 kit is needed.
+ * Potterbeam H_TPM_COMM, for C11 and C++11 or later. Link with libpotterbeam_tpm.a; it does not need the RMM-EL3 kit.
  *
  * The hypervisor's side of the hypercall by which a guest sends a request to a TPM and gets the response (operation 1, execute), or
  * closes its TPM session (operation 2, close). "003" below is the public document that describes it, QEMU's ppc-spapr-uv-hcalls.
  *
  * How a hypercall goes:
  *
- *   1  pbeam_tpm_request says where the request lies in the guest's memory, if there is one to send.
+ *   1  pbeam_tpm_request returns the place of the request in the guest's memory, if there is one to send.
  *   2  The platform sends it to the TPM, and has a response or a fault.
  *   3  pbeam_tpm_comm checks the call, writes the response into the guest's memory and gives r3, r4 and the session.
  *
- * examples/c/tpm_comm.c is such a handler. Look at the request before the call: the guest may use one address for both buffers, and
- * then the response stands where the request was.
+ * examples/c/tpm_comm.c is such a handler. Read the request before the call: the guest may use one address for both buffers, and
+ * then the response overwrites the request.
  *
- * Of both functions:
+ * For both functions:
  *
- * - Any number, memory, response and session word is taken as input. There is no condition on values; every call returns, and touches
+ * - It accepts any number, memory, response and session word. No value is forbidden; every call returns, and reads and writes
  *   only what it is lent. The library allocates nothing, keeps nothing between calls and calls no function of yours.
- * - A slice is a pointer and a count of bytes. The pointer may be NULL only where the count is 0. Every other pointer is never NULL, and
- *   a word (uint64_t) is aligned as C asks. Memory and response need no alignment.
- * - `memory` is the guest's memory from guest address 0 on, as the hypervisor sees it, in one piece. A guest physical address is an
+ * - A slice is a pointer and a count of bytes. The pointer may be NULL only if the count is 0. Every other pointer is never NULL, and
+ *   a word (uint64_t) has C's alignment. Memory and response need no alignment.
+ * - `memory` is the guest's memory from guest address 0, as the hypervisor sees it, in one piece. A guest physical address is an
  *   offset into it; memory_len bytes exist.
- * - Lent buffers and words must not overlap each other: the response comes in a buffer of the hypervisor's own, outside the memory.
- *   The two buffers of the guest may overlap, or be one.
+ * - Lent buffers and words must not overlap: the response is in a buffer of the hypervisor, outside the memory.
+ *   The two buffers of the guest may overlap, or be the same.
  * - Nothing else may write the memory, the response or a lent word during a call: neither another processor of the guest nor a device.
- *   No check depends on a byte of the memory, so a guest that writes it all the same can change no answer, and spoils no more than the
- *   bytes at out_buffer. Between pbeam_tpm_request and the TPM's own reading the request is in the guest's hands: a platform that
- *   judges its bytes copies them first.
- * - There is no lock. One memory and one session word are used by one call at a time; different guests may call at the same time.
+ *   No check depends on a byte of the memory, so a guest that writes it anyway cannot change an answer, and can damage only the
+ *   bytes at out_buffer. Between pbeam_tpm_request and the time when the TPM reads the request the guest may change it: a platform that
+ *   checks its bytes must copy them first.
+ * - There is no lock. Use one memory and one session word in one call at a time; different guests may call at the same time.
  * - size_t has 64 bits: the archives are for x86-64 and AArch64 (LP64).
- * - "Stack" is what a call was seen to write on x86-64 at most, and after "AArch64" a static bound of the archive that tools/aarch64
+ * - "Stack" is the most that a call was seen to write on x86-64, and after "AArch64" a static bound of the archive that tools/aarch64
  *   builds; both with the words that its caller passes on the stack, rounded up to a multiple of 32 (docs/STACK.md).
- * - The first check that fails decides the answer. The checks stand below in their order.
+ * - The first check that fails decides the answer. The checks are listed below in their order.
  */
 #ifndef POTTERBEAM_TPM_H
 #define POTTERBEAM_TPM_H
@@ -44,7 +44,7 @@
 #define PBEAM_TPM_EXECUTE UINT64_C(1) /* TPM_COMM_OP_EXECUTE */
 #define PBEAM_TPM_CLOSE UINT64_C(2)   /* TPM_COMM_OP_CLOSE_SESSION */
 
-/* ---- Return codes, r3, int64_t. 003 has the names and no numbers; these are PAPR's, as Linux and QEMU have them ---- */
+/* ---- Return codes, r3, int64_t. 003 has the names but no numbers; the numbers are PAPR's, as in Linux and QEMU ---- */
 
 #define PBEAM_TPM_H_SUCCESS INT64_C(0)
 #define PBEAM_TPM_H_FUNCTION INT64_C(-2)   /* the platform forbids access */
@@ -60,12 +60,12 @@
 #define PBEAM_TPM_IN_SIZE_MOST UINT64_C(4096)
 #define PBEAM_TPM_OUT_SIZE_LEAST UINT64_C(4096)
 
-/* ---- Session: one word that the hypervisor keeps for each guest, at the start 0 ---- */
+/* ---- Session: one word that the hypervisor keeps for each guest, initially 0 ---- */
 
 #define PBEAM_TPM_SESSION_NONE UINT64_C(0)
-#define PBEAM_TPM_SESSION_OPEN UINT64_C(1) /* as written; any other number is read as open too */
+#define PBEAM_TPM_SESSION_OPEN UINT64_C(1) /* the number that is written; a number above it also reads as open */
 
-/* ---- A part of the memory: (0, 0) where it is empty ---- */
+/* ---- A part of the memory: (0, 0) if it is empty ---- */
 
 #define PBEAM_TPM_PLACE_WORDS 2
 #define PBEAM_TPM_PLACE_OFFSET 0
@@ -77,23 +77,23 @@ extern "C" {
 
 /*
  * pbeam_tpm_comm: the hypercall.
- * Takes    the guest's session; operation, in_buffer, in_size, out_buffer and out_size as the guest's r4 to r8 have them; the guest's
- *          memory; the TPM's response; and what the platform says, 0 for no and any other number for yes: that access is forbidden,
- *          that there was a fault. For a close, and where an earlier check refuses, response and fault do not count.
- * Answers  r3, as int64_t: PBEAM_TPM_H_SUCCESS, or by the first check that fails:
+ * Takes    the guest's session; operation, in_buffer, in_size, out_buffer and out_size, which are the guest's r4 to r8; the guest's
+ *          memory; the TPM's response; and two flags of the platform, not 0 if set: access is forbidden, and
+ *          there was a fault. For a close, and if an earlier check refuses, response and fault are not used.
+ * Returns  r3, as int64_t: PBEAM_TPM_H_SUCCESS, or by the first check that fails:
  *          PBEAM_TPM_H_FUNCTION   access is forbidden
  *          PBEAM_TPM_H_PARAMETER  operation not 1 or 2
- *          and for execute alone:
+ *          and only for execute:
  *          PBEAM_TPM_H_P2         in_buffer at or past memory_len
  *          PBEAM_TPM_H_P3         in_size above 4,096, or in_buffer + in_size past memory_len
  *          PBEAM_TPM_H_P4         out_buffer at or past memory_len
  *          PBEAM_TPM_H_P5         out_size below 4,096, or out_buffer + out_size past memory_len
  *          PBEAM_TPM_H_RESOURCE   fault; response_len above out_size
- *          No sum wraps. A request of 0 bytes is taken, and so is a response of 0 bytes, or of more than 4,096.
+ *          No sum overflows. A request of 0 bytes is accepted, and so is a response of 0 bytes, or of more than 4,096.
  * Leaves   accepted execute: the response at out_buffer, no other byte of the memory changed; *r4 is response_len; *session is
  *          PBEAM_TPM_SESSION_OPEN, also if it was open before.
- *          accepted close: the memory as it was; *r4 is 0; *session is PBEAM_TPM_SESSION_NONE, also if there was none.
- *          refused: the memory and *session as they were, whatever number that is; *r4 is 0.
+ *          accepted close: the memory unchanged; *r4 is 0; *session is PBEAM_TPM_SESSION_NONE, even if no session was open.
+ *          refused: the memory and *session unchanged, for any number in *session; *r4 is 0.
  * Stack    96 bytes; AArch64 128
  */
 int64_t pbeam_tpm_comm(uint64_t *session, uint64_t operation, uint64_t in_buffer, uint64_t in_size, uint64_t out_buffer,
@@ -101,14 +101,14 @@ int64_t pbeam_tpm_comm(uint64_t *session, uint64_t operation, uint64_t in_buffer
                        uint64_t forbidden, uint64_t fault, uint64_t *r4);
 
 /*
- * pbeam_tpm_request: where the request lies.
+ * pbeam_tpm_request: the place of the request in the guest's memory.
  * Takes    the arguments, the memory and `forbidden` as pbeam_tpm_comm.
- * Leaves   the memory as it was. place: the offset of the request in the memory, which is in_buffer, and its length, which is in_size,
+ * Leaves   the memory unchanged. place: the offset of the request in the memory, which is in_buffer, and its length, which is in_size,
  *          for an execute that no check before PBEAM_TPM_H_RESOURCE refuses. (0, 0) for a close, for a call that such a check refuses,
  *          and for a request of 0 bytes.
  * Stack    32 bytes; AArch64 32
- * (0, 0) on an execute: there is nothing to send. Call pbeam_tpm_comm all the same: it gives the refusal. With fault set, a request of 0
- * bytes is PBEAM_TPM_H_RESOURCE.
+ * If place is (0, 0) on an execute, there is nothing to send. Call pbeam_tpm_comm anyway: it returns the refusal. With fault set, a request of
+ * 0 bytes is PBEAM_TPM_H_RESOURCE.
  */
 void pbeam_tpm_request(uint64_t operation, uint64_t in_buffer, uint64_t in_size, uint64_t out_buffer, uint64_t out_size,
                        const uint8_t *memory, size_t memory_len, uint64_t forbidden, uint64_t place[PBEAM_TPM_PLACE_WORDS]);

@@ -1,12 +1,12 @@
 /*
- * Potterbeam RMM-EL3 kit: types over the words of potterbeam.h, for C11 and C++11 or later. Nothing here is exported by the library:
+ * Potterbeam RMM-EL3 kit: types over the words of potterbeam.h, for C11 and C++11 or later. The library exports nothing of this header:
  * each function is `static inline` and calls one of potterbeam.h, or reads and writes what it is lent.
  *
- * Each image has a type of its own, so that the compiler notices a session given for a queue: an error in C++; in C at least a warning
+ * Each image has its own type, so the compiler notices a session passed as a queue: an error in C++; in C at least a warning
  * (-Wincompatible-pointer-types), which -Werror makes an error. Banks, regions and consoles are structs, and lists of them are counted in
- * entries. What pbeam_call takes stands in one struct, pbeam_context_t.
+ * entries. One struct, pbeam_context_t, holds the arguments of pbeam_call.
  *
- * A pointer to an image, a page or a struct is never NULL, unless it says so. All else is as in potterbeam.h: any value is taken.
+ * A pointer to an image, a page or a struct is never NULL, unless its comment allows it. Otherwise as in potterbeam.h: any value is accepted.
  */
 #ifndef POTTERBEAM_TYPES_H
 #define POTTERBEAM_TYPES_H
@@ -23,13 +23,13 @@
 #define PBEAM_ASSERT(holds, text) _Static_assert(holds, text)
 #endif
 
-/* ---- 002's own names. Define PBEAM_NO_002_NAMES before this header where the firmware has them already. ---- */
+/* ---- 002's own names. Define PBEAM_NO_002_NAMES before this header if the firmware defines them already. ---- */
 
-#define PBEAM_ID_BOOT_COMPLETE UINT64_C(0xC40001CF) /* RMM_BOOT_COMPLETE: the platform's; pbeam_call answers PBEAM_X0_UNK */
+#define PBEAM_ID_BOOT_COMPLETE UINT64_C(0xC40001CF) /* RMM_BOOT_COMPLETE: the platform serves it; pbeam_call answers PBEAM_X0_UNK */
 
 #ifndef PBEAM_NO_002_NAMES
 
-/* Codes of RMM_BOOT_COMPLETE. 002's unknown error is a boot on a record in the wrong state here. */
+/* Codes of RMM_BOOT_COMPLETE. 002's unknown error is here a boot on a record in the wrong state. */
 #define E_RMM_BOOT_SUCCESS PBEAM_BOOT_DONE
 #define E_RMM_BOOT_ERR_UNKNOWN PBEAM_BOOT_STATE
 #define E_RMM_BOOT_VERSION_NOT_VALID PBEAM_BOOT_VERSION
@@ -39,7 +39,7 @@
 #define E_RMM_BOOT_MANIFEST_VERSION_NOT_SUPPORTED PBEAM_MANIFEST_VERSION
 #define E_RMM_BOOT_MANIFEST_DATA_ERROR PBEAM_MANIFEST_RULES
 
-/* Codes of the runtime commands, as pbeam_registers_code gives them. */
+/* Codes of the runtime commands, as pbeam_registers_code returns them. */
 #define E_RMM_OK PBEAM_OK
 #define E_RMM_UNK PBEAM_UNK
 #define E_RMM_BAD_ADDR PBEAM_BAD_ADDR
@@ -68,7 +68,7 @@
 
 /* ---- Types ---- */
 
-/* The shared page, where the caller sees it. */
+/* The shared page, at the address where the caller sees it. */
 typedef struct {
     uint8_t bytes[PBEAM_PAGE_BYTES];
 } pbeam_page_t;
@@ -135,17 +135,17 @@ typedef struct {
     uint64_t name; /* pbeam_console_set_name, pbeam_console_text */
     uint64_t clk_in_hz;
     uint64_t baud_rate;
-    uint64_t flags; /* 0 to be written; read as 0 from a page of minor 5 or above, whatever the page has */
+    uint64_t flags; /* must be 0 to be written; read as 0 from a page of minor 5 or above */
 } pbeam_console_t;
 
-/* Bytes that a call only reads. A NULL pointer is no byte, whatever the length. */
+/* Bytes that a call only reads. A NULL pointer is an empty slice, for any length. */
 typedef struct {
     const uint8_t *at;
     size_t length;
 } pbeam_bytes_t;
 
-/* The four lists of a manifest, and its fields as pbeam_fields_add puts them. A count is a number of entries; a pointer may be NULL where
- * it is 0. */
+/* The four lists of a manifest, and its fields as pbeam_fields_add writes them. A count is a number of entries; the pointer may be NULL if
+ * the count is 0. */
 typedef struct {
     const pbeam_bank_t *dram;
     size_t dram_count;
@@ -155,7 +155,7 @@ typedef struct {
     size_t ncoh_count;
     const pbeam_region_t *coh;
     size_t coh_count;
-    pbeam_bytes_t fields; /* all zero: none */
+    pbeam_bytes_t fields; /* all zero: no fields */
 } pbeam_lists_t;
 
 /* x0 to x3 of a cold boot. */
@@ -166,16 +166,16 @@ typedef struct {
     uint64_t base;    /* x3: B */
 } pbeam_cold_t;
 
-/* All that a runtime command takes beside its registers. All zero: nothing is served. */
+/* All that a runtime command takes in addition to its registers. If it is all zero, no command is served. */
 typedef struct {
-    pbeam_record_t record;   /* EL3's own */
+    pbeam_record_t record;   /* EL3's own record */
     pbeam_session_t session;
     pbeam_queue_t queue;
     pbeam_page_t *page;      /* NULL: no page, so the commands that need it answer PBEAM_X0_UNK */
     pbeam_granules_t granules; /* pbeam_context_set_up_granules, before the first command; all zero: no granule */
-    uint8_t *table;          /* a byte a granule of its banks; NULL: no granule */
+    uint8_t *table;          /* one byte for each granule of its banks; NULL: no granule */
     size_t table_count;
-    uint64_t *words;         /* a bit a granule; pbeam_context_build_words, before the first command; NULL: none */
+    uint64_t *words;         /* one bit for each granule; pbeam_context_build_words, before the first command; NULL: no words */
     size_t words_count;
     pbeam_bytes_t realm_key;
     pbeam_bytes_t token;     /* see "The platform token" in potterbeam.h */
@@ -184,7 +184,7 @@ typedef struct {
     uint64_t mecid_width;    /* MECIDR_EL2.MECIDWidthm1 */
 } pbeam_context_t;
 
-/* A response as the monitor finds it in its buffer. */
+/* A response in the monitor's buffer. */
 typedef struct {
     uint64_t rec_granule;
     uint64_t req_ticket;
@@ -217,24 +217,28 @@ PBEAM_ASSERT(offsetof(pbeam_console_t, flags) == 8 * PBEAM_CONSOLE_FLAGS, "words
 
 /* ---- Little-endian fields, at any address ---- */
 
+/* The 16-bit number at `at`. */
 PBEAM_NONNULL(1)
 static inline uint16_t pbeam_get16(const uint8_t *at)
 {
     return (uint16_t)(at[0] | (unsigned)at[1] << 8);
 }
 
+/* The 32-bit number at `at`. */
 PBEAM_NONNULL(1)
 static inline uint32_t pbeam_get32(const uint8_t *at)
 {
     return pbeam_get16(at) | (uint32_t)pbeam_get16(at + 2) << 16;
 }
 
+/* The 64-bit number at `at`. */
 PBEAM_NONNULL(1)
 static inline uint64_t pbeam_get64(const uint8_t *at)
 {
     return pbeam_get32(at) | (uint64_t)pbeam_get32(at + 4) << 32;
 }
 
+/* Writes a 16-bit number to `at`. */
 PBEAM_NONNULL(1)
 static inline void pbeam_put16(uint8_t *at, uint16_t number)
 {
@@ -242,6 +246,7 @@ static inline void pbeam_put16(uint8_t *at, uint16_t number)
     at[1] = (uint8_t)(number >> 8);
 }
 
+/* Writes a 32-bit number to `at`. */
 PBEAM_NONNULL(1)
 static inline void pbeam_put32(uint8_t *at, uint32_t number)
 {
@@ -249,6 +254,7 @@ static inline void pbeam_put32(uint8_t *at, uint32_t number)
     pbeam_put16(at + 2, (uint16_t)(number >> 16));
 }
 
+/* Writes a 64-bit number to `at`. */
 PBEAM_NONNULL(1)
 static inline void pbeam_put64(uint8_t *at, uint64_t number)
 {
@@ -256,7 +262,7 @@ static inline void pbeam_put64(uint8_t *at, uint64_t number)
     pbeam_put32(at + 4, (uint32_t)(number >> 32));
 }
 
-/* ---- Codes in words, for a log ---- */
+/* ---- Codes as text, for a log ---- */
 
 /* A boot's code. */
 static inline const char *pbeam_boot_text(int32_t code)
@@ -300,7 +306,7 @@ static inline const char *pbeam_write_text(uint32_t refusal)
     }
 }
 
-/* A runtime command's code, as x0 holds it. */
+/* A runtime command's code, in the form of x0. */
 static inline const char *pbeam_x0_text(uint64_t x0)
 {
     switch (x0) {
@@ -325,7 +331,7 @@ static inline pbeam_bytes_t pbeam_bytes(const uint8_t *at, size_t length)
     return bytes;
 }
 
-/* The name of a console from a C string. false, and no change, where it has more than 8 characters. */
+/* Sets the name of a console from a C string. Returns false, and changes nothing, if it has more than 8 characters. */
 PBEAM_NONNULL(1, 2)
 static inline bool pbeam_console_set_name(pbeam_console_t *console, const char *name)
 {
@@ -340,7 +346,7 @@ static inline bool pbeam_console_set_name(pbeam_console_t *console, const char *
     return true;
 }
 
-/* The name of a console as a C string. One of 8 characters has no end mark in the manifest; here it has. */
+/* The name of a console as a C string. A name of 8 characters has no '\0' in the manifest; here it has one. */
 PBEAM_NONNULL(1, 2)
 static inline void pbeam_console_text(const pbeam_console_t *console, char text[9])
 {
@@ -350,8 +356,8 @@ static inline void pbeam_console_text(const pbeam_console_t *console, char text[
 }
 
 /*
- * Adds a field behind the *used bytes of a description, which it counts up. false, and no change, where the value is longer than
- * PBEAM_FIELD_VALUE_MOST or the room is too short. The rules of tags are pbeam_write's to check.
+ * Adds a field after the first *used bytes of a description, and increases *used. Returns false, and changes nothing, if the value is longer
+ * than PBEAM_FIELD_VALUE_MOST or the room is too short. pbeam_write checks the rules of the tags.
  */
 PBEAM_NONNULL(1, 3)
 static inline bool pbeam_fields_add(uint8_t *fields, size_t room, size_t *used, uint8_t tag, pbeam_bytes_t value)
@@ -372,8 +378,8 @@ static inline bool pbeam_fields_add(uint8_t *fields, size_t room, size_t *used, 
 /* ---- Manifest ---- */
 
 /*
- * pbeam_write with lists that are counted in entries. A count that no memory holds (above SIZE_MAX / the size of an entry) is
- * PBEAM_WRITE_W3_LISTS before all other checks: in words it would wrap around to a short list.
+ * pbeam_write with lists that are counted in entries. A count above SIZE_MAX / the size of an entry is
+ * PBEAM_WRITE_W3_LISTS before all other checks: the count of words would overflow to that of a short list.
  */
 PBEAM_NONNULL(3, 4)
 static inline uint32_t pbeam_manifest_write(uint64_t base, uint64_t edition, const pbeam_lists_t *lists, pbeam_page_t *page)
@@ -397,8 +403,8 @@ static inline int32_t pbeam_manifest_read(const pbeam_page_t *page, uint64_t bas
 }
 
 /*
- * pbeam_listing as a string: as much of the text as fits before a '\0'. A room of PBEAM_LISTING_ROOM + 1 characters holds any text; it was
- * cut where the answer, the whole text's length, is not below the room. Into a room of 0 nothing is written.
+ * pbeam_listing as a string: as much of the text as fits before a '\0'. A room of PBEAM_LISTING_ROOM + 1 characters holds any text. Returns
+ * the whole text's length; the text was cut if that is not below the room. A room of 0 stays unchanged.
  */
 PBEAM_NONNULL(1)
 static inline size_t pbeam_manifest_listing(const pbeam_page_t *page, uint64_t base, uint64_t edition, char *text, size_t room)
@@ -417,7 +423,7 @@ static inline uint64_t pbeam_view_minor(const pbeam_view_t *view)
     return view->words[PBEAM_VIEW_MINOR];
 }
 
-/* The edition that it was read as, e. */
+/* The edition that the page was read as, e. */
 PBEAM_NONNULL(1)
 static inline uint64_t pbeam_view_edition(const pbeam_view_t *view)
 {
@@ -431,14 +437,14 @@ static inline uint64_t pbeam_view_plat_data(const pbeam_view_t *view)
     return view->words[PBEAM_VIEW_PLAT_DATA];
 }
 
-/* pbeam_kept_for: how many bytes at the page's start the manifest takes, of a view that was read as PBEAM_EDITION_LAST. */
+/* pbeam_kept_for: the number of bytes at the page's start that the manifest takes, for a view that was read as PBEAM_EDITION_LAST. */
 PBEAM_NONNULL(1, 2)
 static inline uint64_t pbeam_view_kept(const pbeam_page_t *page, const pbeam_view_t *view)
 {
     return pbeam_kept_for(page->bytes, sizeof page->bytes, view->words);
 }
 
-/* PBEAM_VIEW_ABSENT, PBEAM_VIEW_EMPTY or PBEAM_VIEW_ENTRIES; a section's number above 3 is absent. */
+/* PBEAM_VIEW_ABSENT, PBEAM_VIEW_EMPTY or PBEAM_VIEW_ENTRIES; PBEAM_VIEW_ABSENT if the section's number is above 3. */
 PBEAM_NONNULL(1)
 static inline uint64_t pbeam_view_section(const pbeam_view_t *view, size_t section)
 {
@@ -463,7 +469,7 @@ static inline size_t pbeam_view_count(const pbeam_page_t *page, const pbeam_view
     return pbeam_count(page->bytes, sizeof page->bytes, view->words, section);
 }
 
-/* One word of an entry, as pbeam_word. The functions behind it give whole entries. */
+/* One word of an entry, as pbeam_word. Functions below return whole entries. */
 PBEAM_NONNULL(1, 2)
 static inline uint64_t pbeam_view_word(const pbeam_page_t *page, const pbeam_view_t *view, size_t section, size_t entry, size_t word)
 {
@@ -477,7 +483,7 @@ static inline size_t pbeam_view_field_count(const pbeam_page_t *page, const pbea
     return pbeam_field_count(page->bytes, sizeof page->bytes, view->words);
 }
 
-/* pbeam_field: a field by its number, in page order. */
+/* pbeam_field: a field by its index, in page order. */
 PBEAM_NONNULL(1, 2)
 static inline pbeam_field_t pbeam_view_field(const pbeam_page_t *page, const pbeam_view_t *view, size_t index)
 {
@@ -486,7 +492,7 @@ static inline pbeam_field_t pbeam_view_field(const pbeam_page_t *page, const pbe
     return field;
 }
 
-/* pbeam_field_of_tag: the first field of a tag. */
+/* pbeam_field_of_tag: the first field with a tag. */
 PBEAM_NONNULL(1, 2)
 static inline pbeam_field_t pbeam_view_field_of_tag(const pbeam_page_t *page, const pbeam_view_t *view, uint8_t tag)
 {
@@ -502,8 +508,8 @@ static inline size_t pbeam_view_field_start(const pbeam_page_t *page, const pbea
     return pbeam_field_start(page->bytes, sizeof page->bytes, view->words);
 }
 
-/* pbeam_field_next: the field at the cursor, which moves past it. A walk ends where pbeam_field_found is false, not at
- * a cursor. */
+/* pbeam_field_next: the field at *cursor; moves *cursor past it. End a walk when pbeam_field_found is false, not by comparing
+ * cursors. */
 PBEAM_NONNULL(1, 2)
 static inline pbeam_field_t pbeam_view_field_next(const pbeam_page_t *page, size_t *cursor)
 {
@@ -512,29 +518,29 @@ static inline pbeam_field_t pbeam_view_field_next(const pbeam_page_t *page, size
     return field;
 }
 
-/* Whether a field was found; a withdrawn one is, so that a walk goes on behind it. */
+/* Whether a field was found, also if it is withdrawn, so that a walk goes on after it. */
 PBEAM_NONNULL(1)
 static inline bool pbeam_field_found(const pbeam_field_t *field)
 {
     return field->words[PBEAM_FIELD_WORD_FOUND] != PBEAM_FOUND_NONE;
 }
 
-/* Whether a field was found that is withdrawn: it has a tag, PBEAM_TAG_CONSOLE, and no value. */
+/* Whether the field found is withdrawn: it has a tag, PBEAM_TAG_CONSOLE, and no value. */
 PBEAM_NONNULL(1)
 static inline bool pbeam_field_withdrawn(const pbeam_field_t *field)
 {
     return field->words[PBEAM_FIELD_WORD_FOUND] == PBEAM_FOUND_WITHDRAWN;
 }
 
-/* The tag of a field; PBEAM_TAG_END where there is none. */
+/* The tag of a field; PBEAM_TAG_END if no field was found. */
 PBEAM_NONNULL(1)
 static inline uint8_t pbeam_field_tag(const pbeam_field_t *field)
 {
     return (uint8_t)(field->words[PBEAM_FIELD_WORD_TAG] & 0xFF);
 }
 
-/* The value of a field, as the part of the page that it is; no byte where there is no field, where it is withdrawn, or where a field that no
- * lookup made lies outside the page. */
+/* The value of a field, as a part of the page; empty if no field was found, if it is withdrawn, or if a forged field is outside the
+ * page. */
 PBEAM_NONNULL(1, 2)
 static inline pbeam_bytes_t pbeam_field_value(const pbeam_page_t *page, const pbeam_field_t *field)
 {
@@ -544,7 +550,7 @@ static inline pbeam_bytes_t pbeam_field_value(const pbeam_page_t *page, const pb
     return pbeam_bytes(page->bytes + offset, (size_t)length);
 }
 
-/* The board name; no byte where there is none. It has no '\0' behind it. */
+/* The board name, empty if the page has none. It has no '\0' at the end. */
 PBEAM_NONNULL(1, 2)
 static inline pbeam_bytes_t pbeam_view_board_name(const pbeam_page_t *page, const pbeam_view_t *view)
 {
@@ -552,7 +558,7 @@ static inline pbeam_bytes_t pbeam_view_board_name(const pbeam_page_t *page, cons
     return pbeam_field_value(page, &field);
 }
 
-/* The serial, PBEAM_SERIAL_BYTES bytes; no byte where there is none. */
+/* The serial, PBEAM_SERIAL_BYTES bytes; empty if the page has none. */
 PBEAM_NONNULL(1, 2)
 static inline pbeam_bytes_t pbeam_view_serial(const pbeam_page_t *page, const pbeam_view_t *view)
 {
@@ -560,7 +566,7 @@ static inline pbeam_bytes_t pbeam_view_serial(const pbeam_page_t *page, const pb
     return pbeam_field_value(page, &field);
 }
 
-/* A bank of dram; all zero where there is no such entry. No bank that was accepted has size 0. */
+/* A bank of dram; all zero if there is no such entry. No accepted bank has size 0. */
 PBEAM_NONNULL(1, 2)
 static inline pbeam_bank_t pbeam_view_dram(const pbeam_page_t *page, const pbeam_view_t *view, size_t entry)
 {
@@ -570,7 +576,7 @@ static inline pbeam_bank_t pbeam_view_dram(const pbeam_page_t *page, const pbeam
     return bank;
 }
 
-/* A region of ncoh or coh; all zero where there is no such entry, and for another section. */
+/* A region of ncoh or coh; all zero if there is no such entry, and for another section. */
 PBEAM_NONNULL(1, 2)
 static inline pbeam_region_t pbeam_view_region(const pbeam_page_t *page, const pbeam_view_t *view, size_t section, size_t entry)
 {
@@ -581,7 +587,7 @@ static inline pbeam_region_t pbeam_view_region(const pbeam_page_t *page, const p
     return region;
 }
 
-/* A console; all zero where there is no such entry. No console that was accepted has map_pages 0. */
+/* A console; all zero if there is no such entry. No accepted console has map_pages 0. */
 PBEAM_NONNULL(1, 2)
 static inline pbeam_console_t pbeam_view_console(const pbeam_page_t *page, const pbeam_view_t *view, size_t entry)
 {
@@ -595,8 +601,8 @@ static inline pbeam_console_t pbeam_view_console(const pbeam_page_t *page, const
     return console;
 }
 
-/* pbeam_console_named: the first console with a name, given as a C string. false, and the console all zero, where there is none, and where
- * the name has more than 8 characters. */
+/* pbeam_console_named: the first console with a name, given as a C string. Returns false, and sets *console to all zero, if no console has
+ * the name or the name has more than 8 characters. */
 PBEAM_NONNULL(1, 2, 3, 4)
 static inline bool pbeam_view_console_named(const pbeam_page_t *page, const pbeam_view_t *view, const char *name,
                                             pbeam_console_t *console)
@@ -612,13 +618,14 @@ static inline bool pbeam_view_console_named(const pbeam_page_t *page, const pbea
     return entry != PBEAM_CONSOLE_NONE;
 }
 
-/* Offset and length of a place. */
+/* Offset of a place. */
 PBEAM_NONNULL(1)
 static inline size_t pbeam_place_offset(const pbeam_place_t *place)
 {
     return (size_t)place->words[PBEAM_PLACE_OFFSET];
 }
 
+/* Length of a place. */
 PBEAM_NONNULL(1)
 static inline size_t pbeam_place_length(const pbeam_place_t *place)
 {
@@ -627,7 +634,7 @@ static inline size_t pbeam_place_length(const pbeam_place_t *place)
 
 /* ---- Boot record ---- */
 
-/* A version from major and minor. false, and no change, where major is above 32,767 or minor above 65,535. */
+/* A version from major and minor. Returns false, and changes nothing, if major is above 32,767 or minor above 65,535. */
 PBEAM_NONNULL(3)
 static inline bool pbeam_version(uint64_t major, uint64_t minor, uint64_t *version)
 {
@@ -645,14 +652,14 @@ static inline void pbeam_record_reset(pbeam_record_t *record)
         record->words[i] = 0;
 }
 
-/* Closes the record for good, whatever it was: for a boot error that the other side reports. */
+/* Closes the record permanently, from any state: for a boot error that the other side reports. */
 PBEAM_NONNULL(1)
 static inline void pbeam_record_close(pbeam_record_t *record)
 {
     pbeam_close(record->words);
 }
 
-/* pbeam_cold_boot. `kept`: how many bytes at the page's start no command may write; pbeam_view_kept says what a manifest takes. */
+/* pbeam_cold_boot. `kept`: the number of bytes at the page's start that no command may write; pbeam_view_kept returns what a manifest takes. */
 PBEAM_NONNULL(1, 2, 5)
 static inline int32_t pbeam_record_cold_boot(pbeam_record_t *record, const pbeam_cold_t *x, uint64_t most, uint64_t kept,
                                              const pbeam_page_t *page)
@@ -667,32 +674,35 @@ static inline int32_t pbeam_record_warm_boot(pbeam_record_t *record, uint64_t cp
     return pbeam_warm_boot(record->words, cpu, 0, 0, 0);
 }
 
-/* Whether the record is up: the words below count only then. */
+/* Whether the record is up. The values below are valid only then. */
 PBEAM_NONNULL(1)
 static inline bool pbeam_record_is_up(const pbeam_record_t *record)
 {
     return record->words[PBEAM_STATE_KIND] == PBEAM_STATE_UP;
 }
 
+/* x2 of the cold boot: the number of CPUs. */
 PBEAM_NONNULL(1)
 static inline uint64_t pbeam_record_cpus(const pbeam_record_t *record)
 {
     return record->words[PBEAM_STATE_CPUS];
 }
 
+/* B, the physical address of the page. */
 PBEAM_NONNULL(1)
 static inline uint64_t pbeam_record_base(const pbeam_record_t *record)
 {
     return record->words[PBEAM_STATE_BASE];
 }
 
+/* The agreed minor. */
 PBEAM_NONNULL(1)
 static inline uint64_t pbeam_record_minor(const pbeam_record_t *record)
 {
     return record->words[PBEAM_STATE_MINOR];
 }
 
-/* The number of kept bytes: the first buffer begins at so many bytes behind B. */
+/* K, the number of kept bytes: a buffer starts at B + K or above. */
 PBEAM_NONNULL(1)
 static inline uint64_t pbeam_record_kept(const pbeam_record_t *record)
 {
@@ -701,6 +711,7 @@ static inline uint64_t pbeam_record_kept(const pbeam_record_t *record)
 
 /* ---- Registers of a call ---- */
 
+/* A call with any registers; x0 is the function id. */
 static inline pbeam_call_t pbeam_call_of(uint64_t x0, uint64_t x1, uint64_t x2, uint64_t x3, uint64_t x4)
 {
     pbeam_call_t call;
@@ -712,69 +723,81 @@ static inline pbeam_call_t pbeam_call_of(uint64_t x0, uint64_t x1, uint64_t x2, 
     return call;
 }
 
+/* PBEAM_ID_FORWARD. */
 static inline pbeam_call_t pbeam_call_forward(uint64_t err_code)
 {
     return pbeam_call_of(PBEAM_ID_FORWARD, err_code, 0, 0, 0);
 }
 
+/* PBEAM_ID_DELEGATE. */
 static inline pbeam_call_t pbeam_call_delegate(uint64_t address)
 {
     return pbeam_call_of(PBEAM_ID_DELEGATE, address, 0, 0, 0);
 }
 
+/* PBEAM_ID_UNDELEGATE. */
 static inline pbeam_call_t pbeam_call_undelegate(uint64_t address)
 {
     return pbeam_call_of(PBEAM_ID_UNDELEGATE, address, 0, 0, 0);
 }
 
+/* PBEAM_ID_REALM_KEY. */
 static inline pbeam_call_t pbeam_call_realm_key(uint64_t pa, uint64_t size)
 {
     return pbeam_call_of(PBEAM_ID_REALM_KEY, pa, size, PBEAM_CURVE_SECP384R1, 0);
 }
 
+/* PBEAM_ID_PLATFORM_TOKEN. */
 static inline pbeam_call_t pbeam_call_platform_token(uint64_t pa, uint64_t size, uint64_t c_size)
 {
     return pbeam_call_of(PBEAM_ID_PLATFORM_TOKEN, pa, size, c_size, 0);
 }
 
+/* PBEAM_ID_FEATURES. */
 static inline pbeam_call_t pbeam_call_features(void)
 {
     return pbeam_call_of(PBEAM_ID_FEATURES, PBEAM_FEATURES_INDEX, 0, 0, 0);
 }
 
+/* PBEAM_ID_TOKEN_SIGNING with PBEAM_OPCODE_PUSH. */
 static inline pbeam_call_t pbeam_call_push(uint64_t pa, uint64_t size)
 {
     return pbeam_call_of(PBEAM_ID_TOKEN_SIGNING, PBEAM_OPCODE_PUSH, pa, size, 0);
 }
 
+/* PBEAM_ID_TOKEN_SIGNING with PBEAM_OPCODE_PULL. */
 static inline pbeam_call_t pbeam_call_pull(uint64_t pa, uint64_t size)
 {
     return pbeam_call_of(PBEAM_ID_TOKEN_SIGNING, PBEAM_OPCODE_PULL, pa, size, 0);
 }
 
+/* PBEAM_ID_TOKEN_SIGNING with PBEAM_OPCODE_KEY. */
 static inline pbeam_call_t pbeam_call_public_key(uint64_t pa, uint64_t size)
 {
     return pbeam_call_of(PBEAM_ID_TOKEN_SIGNING, PBEAM_OPCODE_KEY, pa, size, PBEAM_CURVE_SECP384R1);
 }
 
+/* PBEAM_ID_KEY_UPDATE. */
 static inline pbeam_call_t pbeam_call_key_update(uint64_t mecid)
 {
     return pbeam_call_of(PBEAM_ID_KEY_UPDATE, mecid, 0, 0, 0);
 }
 
-/* Result registers. */
+/* x0 of the result. */
 PBEAM_NONNULL(1)
 static inline uint64_t pbeam_registers_x0(const pbeam_registers_t *out)
 {
     return out->words[PBEAM_OUT_X0];
 }
 
+/* x1 of the result. */
 PBEAM_NONNULL(1)
 static inline uint64_t pbeam_registers_x1(const pbeam_registers_t *out)
 {
     return out->words[PBEAM_OUT_X1];
 }
 
+/* x2 of the result. */
 PBEAM_NONNULL(1)
 static inline uint64_t pbeam_registers_x2(const pbeam_registers_t *out)
 {
@@ -788,13 +811,14 @@ static inline int32_t pbeam_registers_code(const pbeam_registers_t *out)
     return (int32_t)(uint32_t)(out->words[PBEAM_OUT_X0] & 0xFFFFFFFF);
 }
 
-/* Whether work is of this kind: PBEAM_WORK_REPROGRAM or PBEAM_WORK_FORWARD; and its value. */
+/* Whether work is of this kind: PBEAM_WORK_REPROGRAM or PBEAM_WORK_FORWARD. */
 PBEAM_NONNULL(1)
 static inline bool pbeam_work_is(const pbeam_work_t *work, uint64_t kind)
 {
     return work->words[PBEAM_WORK_KIND] == kind;
 }
 
+/* The value of work. */
 PBEAM_NONNULL(1)
 static inline uint64_t pbeam_work_value(const pbeam_work_t *work)
 {
@@ -803,7 +827,7 @@ static inline uint64_t pbeam_work_value(const pbeam_work_t *work)
 
 /* ---- Runtime commands, EL3's side ---- */
 
-/* Session and queue as they are after a reset. */
+/* The session after a reset. */
 PBEAM_NONNULL(1)
 static inline void pbeam_session_reset(pbeam_session_t *session)
 {
@@ -811,6 +835,7 @@ static inline void pbeam_session_reset(pbeam_session_t *session)
         session->words[i] = 0;
 }
 
+/* The queue after a reset. */
 PBEAM_NONNULL(1)
 static inline void pbeam_queue_reset(pbeam_queue_t *queue)
 {
@@ -818,14 +843,14 @@ static inline void pbeam_queue_reset(pbeam_queue_t *queue)
         queue->words[i] = 0;
 }
 
-/* Whether a session is under way: the token must stay as it is then. */
+/* Whether a session is in progress: the token must not change then. */
 PBEAM_NONNULL(1)
 static inline bool pbeam_session_is_sending(const pbeam_session_t *session)
 {
     return session->words[PBEAM_SESSION_KIND] != PBEAM_SESSION_IDLE;
 }
 
-/* How many granules the banks of an accepted page have: the length that the table must have. */
+/* The number of granules in the banks of an accepted page, which is the length that the table must have. */
 PBEAM_NONNULL(1, 2)
 static inline uint64_t pbeam_view_granules(const pbeam_page_t *page, const pbeam_view_t *view)
 {
@@ -835,8 +860,8 @@ static inline uint64_t pbeam_view_granules(const pbeam_page_t *page, const pbeam
     return granules;
 }
 
-/* pbeam_set_up_granules: the context's granule record, from the banks that a view of the page shows, for the table that the context has.
- * Answers PBEAM_X0_OK, or PBEAM_X0_INVAL with the record as it was. */
+/* pbeam_set_up_granules: makes the context's granule record from the banks that a view of the page shows, for the context's table.
+ * Returns PBEAM_X0_OK, or PBEAM_X0_INVAL with the record unchanged. */
 PBEAM_NONNULL(1, 2, 3)
 static inline uint64_t pbeam_context_set_up_granules(pbeam_context_t *context, const pbeam_page_t *page, const pbeam_view_t *view)
 {
@@ -847,14 +872,14 @@ static inline uint64_t pbeam_context_set_up_granules(pbeam_context_t *context, c
     return pbeam_set_up_granules(context->granules.words, banks.at, banks.length, context->table == NULL ? 0 : context->table_count);
 }
 
-/* How many Realm words a table of so many granules has. */
+/* The number of Realm words for a table: ceil(granules / 64). */
 static inline size_t pbeam_words_for(size_t granules)
 {
     return granules / PBEAM_REALM_WORD_GRANULES + (granules % PBEAM_REALM_WORD_GRANULES != 0);
 }
 
-/* pbeam_realm_build: the context's Realm words, from its granule table. Answers PBEAM_X0_OK, or PBEAM_X0_INVAL with the words as they
- * were. */
+/* pbeam_realm_build: builds the context's Realm words from its granule table. Returns PBEAM_X0_OK, or PBEAM_X0_INVAL with the words
+ * unchanged. */
 PBEAM_NONNULL(1)
 static inline uint64_t pbeam_context_build_words(pbeam_context_t *context)
 {
@@ -862,7 +887,7 @@ static inline uint64_t pbeam_context_build_words(pbeam_context_t *context)
                              context->words, context->words == NULL ? 0 : context->words_count);
 }
 
-/* pbeam_realm_agrees: whether the context's words are those of its table. Answers as pbeam_realm_agrees. */
+/* Whether the context's words and table agree. Returns what pbeam_realm_agrees does. */
 PBEAM_NONNULL(1)
 static inline uint64_t pbeam_context_words_agree(const pbeam_context_t *context)
 {
@@ -870,21 +895,21 @@ static inline uint64_t pbeam_context_words_agree(const pbeam_context_t *context)
                               context->words, context->words == NULL ? 0 : context->words_count);
 }
 
-/* pbeam_realm_count: how many granules of the context are Realm. Answers as pbeam_realm_count. */
+/* The number of Realm granules of the context. Returns what pbeam_realm_count does. */
 PBEAM_NONNULL(1, 2)
 static inline uint64_t pbeam_context_realm_count(const pbeam_context_t *context, uint64_t *number)
 {
     return pbeam_realm_count(context->granules.words, context->words, context->words == NULL ? 0 : context->words_count, number);
 }
 
-/* pbeam_realm_next: the first Realm granule of the context at or after an index. Answers as pbeam_realm_next. */
+/* The first Realm granule of the context at or after an index. Returns what pbeam_realm_next does. */
 PBEAM_NONNULL(1, 3)
 static inline uint64_t pbeam_context_realm_next(const pbeam_context_t *context, uint64_t index, uint64_t *found)
 {
     return pbeam_realm_next(context->granules.words, context->words, context->words == NULL ? 0 : context->words_count, index, found);
 }
 
-/* pbeam_call: one command. */
+/* pbeam_call: runs one command. */
 PBEAM_NONNULL(1, 2, 3, 4)
 static inline void pbeam_context_call(pbeam_context_t *context, const pbeam_call_t *call, pbeam_registers_t *out, pbeam_work_t *work)
 {
@@ -899,8 +924,8 @@ static inline void pbeam_context_call(pbeam_context_t *context, const pbeam_call
                call->words, out->words, work->words);
 }
 
-/* pbeam_delegate_list, pbeam_undelegate_list: so many addresses at once. On a refusal too, pbeam_registers_x1 of out is how many were
- * done, and these stay so. */
+/* pbeam_delegate_list: several addresses in one call. Also on a refusal, pbeam_registers_x1 of out is the number of
+ * granules changed, and these stay changed. */
 PBEAM_NONNULL(1, 4)
 static inline void pbeam_context_delegate_list(pbeam_context_t *context, const uint64_t *addresses, size_t count,
                                                pbeam_registers_t *out)
@@ -910,6 +935,7 @@ static inline void pbeam_context_delegate_list(pbeam_context_t *context, const u
                         context->words == NULL ? 0 : context->words_count, addresses, addresses == NULL ? 0 : count, out->words);
 }
 
+/* pbeam_undelegate_list, in the same way. */
 PBEAM_NONNULL(1, 4)
 static inline void pbeam_context_undelegate_list(pbeam_context_t *context, const uint64_t *addresses, size_t count,
                                                  pbeam_registers_t *out)
@@ -920,9 +946,9 @@ static inline void pbeam_context_undelegate_list(pbeam_context_t *context, const
 }
 
 /* pbeam_challenge: the challenge of a call that starts a token session; place (0, 0) for any other call. For PBEAM_ID_PLATFORM_TOKEN it
- * answers as pbeam_challenge. For any other id the code says nothing of the command: it is that of pbeam_challenge with x1 as pa, x2 as
- * size and c_size 0, for example PBEAM_X0_BAD_ADDR for PBEAM_ID_FEATURES with index 0. A handler that asks for every call goes by place,
- * not by the code. */
+ * returns what pbeam_challenge does. For any other id the result is not the command's code: it is that of pbeam_challenge with x1 as pa, x2
+ * as size and c_size 0, for example PBEAM_X0_BAD_ADDR for PBEAM_ID_FEATURES with index 0. A handler that calls this for every command must
+ * look at place, not at the code. */
 PBEAM_NONNULL(1, 2, 3)
 static inline uint64_t pbeam_context_challenge(const pbeam_context_t *context, const pbeam_call_t *call, pbeam_place_t *place)
 {
@@ -932,21 +958,21 @@ static inline uint64_t pbeam_context_challenge(const pbeam_context_t *context, c
                            is_token ? call->words[PBEAM_CALL_X3] : PBEAM_CHALLENGE_NONE, place->words);
 }
 
-/* pbeam_responses: how many responses wait to be pulled. */
+/* pbeam_responses: the number of responses that wait for a pull. */
 PBEAM_NONNULL(1)
 static inline size_t pbeam_queue_responses(const pbeam_queue_t *queue)
 {
     return pbeam_responses(queue->words);
 }
 
-/* pbeam_oldest: how many requests wait, and the oldest. */
+/* pbeam_oldest: the number of waiting requests, and the oldest one. */
 PBEAM_NONNULL(1, 2)
 static inline size_t pbeam_queue_oldest(const pbeam_queue_t *queue, pbeam_request_t *request)
 {
     return pbeam_oldest(queue->words, request->words);
 }
 
-/* pbeam_sign: the signature of the oldest request. */
+/* pbeam_sign: answers the oldest request with a signature. */
 PBEAM_NONNULL(1, 3)
 static inline void pbeam_queue_sign(pbeam_queue_t *queue, pbeam_bytes_t signature, pbeam_registers_t *out)
 {
@@ -954,31 +980,35 @@ static inline void pbeam_queue_sign(pbeam_queue_t *queue, pbeam_bytes_t signatur
     pbeam_sign(queue->words, bytes.at, bytes.length, out->words);
 }
 
-/* Fields of a request. */
+/* Algorithm id of a request. */
 PBEAM_NONNULL(1)
 static inline uint64_t pbeam_request_sig_alg_id(const pbeam_request_t *request)
 {
     return request->words[PBEAM_REQUEST_WORD_ALGORITHM];
 }
 
+/* rec_granule of a request. */
 PBEAM_NONNULL(1)
 static inline uint64_t pbeam_request_rec_granule(const pbeam_request_t *request)
 {
     return request->words[PBEAM_REQUEST_WORD_GRANULE];
 }
 
+/* req_ticket of a request. */
 PBEAM_NONNULL(1)
 static inline uint64_t pbeam_request_req_ticket(const pbeam_request_t *request)
 {
     return request->words[PBEAM_REQUEST_WORD_TICKET];
 }
 
+/* Hash id of a request. */
 PBEAM_NONNULL(1)
 static inline uint64_t pbeam_request_hash_alg_id(const pbeam_request_t *request)
 {
     return request->words[PBEAM_REQUEST_WORD_HASH_ID];
 }
 
+/* Copies the PBEAM_HASH_BYTES bytes of a request's hash to `hash`. */
 PBEAM_NONNULL(1, 2)
 static inline void pbeam_request_hash_buf(const pbeam_request_t *request, uint8_t hash[PBEAM_HASH_BYTES])
 {
@@ -988,7 +1018,7 @@ static inline void pbeam_request_hash_buf(const pbeam_request_t *request, uint8_
 
 /* ---- Runtime commands, the monitor's side ---- */
 
-/* Lays a request into the buffer of a push, which has PBEAM_REQUEST_BYTES. Bytes that are not read become zero. */
+/* Writes a request to the buffer of a push, which has PBEAM_REQUEST_BYTES bytes. Bytes that EL3 does not read become zero. */
 PBEAM_NONNULL(1, 4)
 static inline void pbeam_put_request(uint8_t *at, uint64_t rec_granule, uint64_t req_ticket, const uint8_t hash[PBEAM_HASH_BYTES])
 {
@@ -1000,7 +1030,7 @@ static inline void pbeam_put_request(uint8_t *at, uint64_t rec_granule, uint64_t
         at[PBEAM_REQUEST_HASH + i] = hash[i];
 }
 
-/* The response that a pull left in a buffer of `size` bytes. false where its signature goes past the buffer, or size is below 18. */
+/* The response that a pull wrote to a buffer of `size` bytes. Returns false if its signature ends after the buffer, or size is below 18. */
 PBEAM_NONNULL(1, 3)
 static inline bool pbeam_get_response(const uint8_t *at, size_t size, pbeam_response_t *response)
 {

@@ -1,6 +1,6 @@
-// Boots what the numbered cases of data/ describe, in turn, up to the first that is missing. A case is 8-byte words: the record
-// (0 fresh, 1 up, 2 closed, then what it keeps), the number of steps; each step is cold (0) or warm (1), x0 to x3, the monitor's
-// maximum, K, the page's length, and the page. Prints the code and the next record of each step.
+// Runs the boots of the numbered cases of data/, in turn, up to the first number without a case. A case is 8-byte words: the boot record
+// (0 fresh, 1 up, 2 closed, then its four values) and the number of steps. A step is cold (0) or warm (1), x0 to x3, the monitor's
+// maximum of CPUs, K, the page's length, and the page. Prints the code and the next record of each step.
 use boot::Booted;
 use boot::Params;
 use boot::Record;
@@ -8,7 +8,7 @@ use libc::STDOUT_FILENO;
 use words::Span;
 ghost use Prim.Native.Nat.{_+_, _≤_};
 
-// The record after a step, and where the next step starts.
+// The record after a step, and the offset of the next step.
 struct Stepped {
     next: Record,
     at: usize,
@@ -55,7 +55,7 @@ fn print_code(code: i32) {
     io::print_decimal(STDOUT_FILENO, magnitude(code));
 }
 
-// A boot with the registers of a step, whose words stand at an offset of the case.
+// Boots with the registers of the step at offset `at` of the case.
 fn boot_with(state: Record, input: &[u8], at: usize, page: &[u8]) -> Booted
     requires { ⌜ at ≤ 100000 ⌝ }
 {

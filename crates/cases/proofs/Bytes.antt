@@ -1,4 +1,4 @@
--- Two runs of bytes, as the loop goes. Assumes nothing.
+-- The loop that compares two slices of bytes. Assumes nothing.
 use Prim.Native.Nat.{ℕ, _+_, _<_}
 use mathlib.Core.Path.{_≡_}
 use mathlib.Core.Bool.{true, false}

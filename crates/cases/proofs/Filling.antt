@@ -1,4 +1,4 @@
--- Lists filled word by word, and bytes taken as digits, as the loops go. Assumes nothing.
+-- The loops that fill a list word by word and hash bytes as digits. Assumes nothing.
 use Prim.Native.Nat.{ℕ, suc, _+_, _-_, _*_, _%_, _≤_, _<_}
 use mathlib.Core.Path.{_≡_, refl, sym, ap, _∙_}
 use mathlib.Core.List.{List, [], _∷_, _++_, append-assoc, append-nil}

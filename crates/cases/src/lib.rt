@@ -1,4 +1,4 @@
-// The numbered case files of a program: c000, c001, .., and what such programs share.
+// Loads the numbered case files of a test program (c000, c001, ..), and reads and prints what the test programs have in common.
 use boot::Params;
 use boot::Record;
 use libc::STDOUT_FILENO;
@@ -9,13 +9,13 @@ ghost use Rattle.io.specs.Counts.{Counts};
 ghost use Rattle.words.specs.Word.{wordAt};
 ghost use Rattle.cases.specs.Cases.{recordAt, sameBytes, granulesAt, wordsFrom, readInto, fillInto, markOf};
 
-// A digit of n, as text.
+// The last decimal digit of n, in ASCII.
 fn digit(n: u64) -> u8 {
     48 + (n % 10) as u8
 }
 
-// Puts the bytes of case n at the start of input, as far as they fit, and prints its number. Answers how many there are: 0 where
-// there is no such case. What they are is the file's, which no promise can say.
+// Reads the bytes of case `n` to the start of `input`, as many as fit, and prints its number. Returns the number of bytes read, 0 if there
+// is no such case. The contents come from a file, so nothing is promised about them.
 pub fn load(n: u64, input: &mut [u8]) -> usize
     ensures { λ r. ⌜ Counts r (now (input .exit)) ⌝ }
 {
@@ -32,15 +32,15 @@ pub fn load(n: u64, input: &mut [u8]) -> usize
     length
 }
 
-// The length that a word of a case gives, or the most that there is room for where it is more.
+// min(the word at offset `at`, most).
 pub fn length_at(input: &[u8], at: usize, most: usize) -> usize
     ensures { λ r. ⌜ (r ≡ min (wordAt at (now (input .entry))) most) × (r ≤ most) ⌝ }
 {
     words::smaller(words::word_at(input, at), most as u64) as usize
 }
 
-// The granule record of a case, by the word at `at`: the offset where it stands. There is how many of its words are given, then these;
-// the others are 0.
+// The granule record of a case. The word at `at` is its offset; at this offset is the number n of words given, then n words. The others
+// are 0.
 pub fn granules_at(input: &[u8], at: usize) -> [u64; 33]
     ensures { λ r. ⌜ r ≡ granulesAt at (now (input .entry)) ⌝ }
 {
@@ -53,7 +53,7 @@ pub fn granules_at(input: &[u8], at: usize) -> [u64; 33]
     granules
 }
 
-// Where the realm words of a case stand: behind its granule record. First how many there are, then these.
+// The offset of the realm words of a case, which follow its granule record: first their number, then the words.
 pub fn words_at(input: &[u8], at: usize) -> usize
     ensures { λ r. ⌜ (r ≡ wordsFrom at (now (input .entry))) × (r ≤ 40272) ⌝ }
 {
@@ -61,7 +61,7 @@ pub fn words_at(input: &[u8], at: usize) -> usize
     from + 8 + 8 * length_at(input, from, 33)
 }
 
-// Fills a list with the words that stand in bytes; none longer than any case has.
+// Fills `list` with words from `bytes`. A list of more than 600 words, which no case has, stays unchanged.
 pub fn read_words(bytes: &[u8], list: &mut [u64])
     ensures { λ _. ⌜ now (list .exit) ≡ readInto (now (bytes .entry)) (now (list .entry)) ⌝ }
 {
@@ -85,6 +85,7 @@ pub fn fill_words(input: &[u8], at: usize, list: &mut [u64])
     read_words(words::part_of(input, Span { at: from, len }), list);
 }
 
+// Prints a list of words on one line.
 pub fn print_words(list: &[u64]) {
     io::write_all(STDOUT_FILENO, b"words");
     for i in 0..list.len() {
@@ -93,7 +94,7 @@ pub fn print_words(list: &[u64]) {
     io::write_all(STDOUT_FILENO, b"\n");
 }
 
-// Whether two runs of bytes are the same.
+// Whether two slices have equal length and bytes.
 pub fn same(a: &[u8], b: &[u8]) -> bool
     ensures { λ r. ⌜ r ≡ sameBytes (now (a .entry)) (now (b .entry)) ⌝ }
 {
@@ -108,7 +109,7 @@ pub fn same(a: &[u8], b: &[u8]) -> bool
     true
 }
 
-// Prints what two runs of bytes are, and whether they are the same.
+// Prints the name `what`, and whether `held` equals `expected`.
 pub fn print_same(what: &[u8], held: &[u8], expected: &[u8]) {
     io::write_all(STDOUT_FILENO, what);
     if same(held, expected) {
@@ -118,16 +119,15 @@ pub fn print_same(what: &[u8], held: &[u8], expected: &[u8]) {
     io::write_all(STDOUT_FILENO, b" not as expected\n");
 }
 
-// A byte as a digit.
+// A byte as a 64-bit number.
 fn wide(byte: u8) -> u64
     ensures { λ r. ⌜ (r ≡ byte) × (r < 256) ⌝ }
 {
     byte as u64
 }
 
-// A number that tells one run of bytes from another: the bytes as digits in two bases, after the run's length, by what they leave
-// modulo the prime 2^32 - 5. The bases are large, and no power of either up to the 4,096th is a quotient of two differences of bytes:
-// so runs of one length up to 4,096 that differ in one byte or in two never have the same number in either base.
+// A 64-bit hash: length and bytes as digits in two bases, modulo the prime 2^32 - 5. No power of either base up to the 4,096th is a quotient
+// of two differences of bytes, so two slices of equal length up to 4,096 that differ in one or two bytes differ in both halves.
 pub fn mark(part: &[u8]) -> u64
     ensures { λ r. ⌜ r ≡ markOf (now (part .entry)) ⌝ }
 {
@@ -141,13 +141,13 @@ pub fn mark(part: &[u8]) -> u64
     high * 0x1_0000_0000 + low
 }
 
-// Prints a number in 16 digits, after a space.
+// Prints a space and a number in 16 hex digits.
 pub fn print_word(x: u64) {
     io::write_all(STDOUT_FILENO, b" ");
     io::print_hex(STDOUT_FILENO, x, 16);
 }
 
-// The boot record that a case starts with: 1 up with what it keeps, 2 closed, else fresh.
+// The boot record at the start of a case: word 0 is 1 for up (words 1 to 4 are its values), 2 for closed, any other number for fresh.
 pub fn record_at(input: &[u8]) -> Record
     ensures { λ r. ⌜ r ≡ recordAt (now (input .entry)) ⌝ }
 {

@@ -1,5 +1,5 @@
--- 02, E6 at the C edge: any sequence of exports keeps words and table in agreement, and the answers from the words stay those of the full
--- walk over the table. Assumes nothing.
+-- 02, E6 at the C edge: if words and table agree, they agree after any sequence of exports, and the answers from the words equal those of a
+-- full scan of the table. Assumes nothing.
 use Prim.Native.Nat.{ℕ, _<_}
 use mathlib.Core.Path.{_≡_, sym, ap, _∙_, subst}
 use mathlib.Core.List.{List, map}
@@ -18,16 +18,16 @@ use Rattle.chains.specs.Chain.{Lent, lentWorld, ofBytes}
 use Rattle.chains.specs.Exported.{Exported, commandOf, allExported}
 use Rattle.chains.proofs.Singles.{exports-chain}
 
--- what is lent has words and a table that agree
+-- the lent words and table agree
 abbrev pub LentAgrees : Lent → Type 0
 LentAgrees m = Agrees (tableOf (m .table) (m .words))
 
--- from an image of 210 words and a page of bytes, with bytes lent to each
+-- for a queue's image of 210 words, a page of bytes, and bytes lent to each call
 module _ (granules : List ℕ) (m : Lent) (es : List Exported) (l : length (m .queue) ≡ 210) (w : Yes (areWords (m .queue))) (a : Yes (areBytes (m .page))) (b : Yes (each ofBytes (map commandOf es))) (g : LentAgrees m) where
   pub exports-agree : LentAgrees (allExported granules m es)
   exports-agree = subst (λ (x : World). Agrees (x .table)) (sym (exports-chain granules m es l w a b)) (agreement-kept granules (lentWorld m) (map commandOf es) g)
 
-  -- the record is that of the table
+  -- the table has one byte for each granule of the record
   module _ (n : granuleCount granules ≡ length (m .table)) where
     still : granuleCount granules ≡ length (allExported granules m es .table)
     still = n ∙ sym (ap (λ (x : World). length (x .table .bytes)) (exports-chain granules m es l w a b) ∙ length-stays granules (lentWorld m) (map commandOf es))

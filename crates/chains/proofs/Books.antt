@@ -1,4 +1,4 @@
--- 02, E14: the books on granules over any sequence of exports, kept by what their words tell. Assumes nothing.
+-- 02, E14: the balance of Realm granules over any sequence of exports, counted from the words of `out`. Assumes nothing.
 use Prim.Native.Nat.{ℕ}
 use mathlib.Core.Path.{_≡_, refl, sym, ap, subst}
 use mathlib.Core.Bool.{Bool, true, false, cond}
@@ -32,7 +32,7 @@ use Rattle.chains.specs.Chain.{Lent, lentWorld, lentOn}
 use Rattle.chains.specs.Exported.{Exported, pbeam-delegate, pbeam-undelegate, pbeam-delegate-list, pbeam-undelegate-list, pbeam-realm-key, pbeam-platform-token, pbeam-features, pbeam-token-signing, pbeam-key-update, pbeam-forward, pbeam-call, pbeam-sign, exportLeft, commandOf, allExported, changesTold, allTold, NoneAt, nowhere, elsewhere, ByAddress}
 use Rattle.chains.proofs.Tables.{zero-ok, export-table, exports-table}
 
--- ---- what out tells is what was accepted
+-- ---- `out` reports exactly the accepted changes
 no-change : (a b : Bool) → _≡_ {A = List Change} (cond a [] []) (cond b [] [])
 no-change true true = refl
 no-change true false = refl
@@ -63,7 +63,7 @@ module _ (granules : List ℕ) (m : Lent) where
   told-by KeyUpdate c = no-change (oks KeyUpdate c) (zeros KeyUpdate c)
   told-by Unlisted c = no-change (oks Unlisted c) (zeros Unlisted c)
 
-  -- a command that is not of the granules changes none
+  -- a command other than delegation changes no granule
   not-one : (b : Bool) → _≡_ {A = List Change} (cond b [] []) []
   not-one true = refl
   not-one false = refl
@@ -99,11 +99,11 @@ accounts granules m (e ∷ es) =
     account-join granules (tableOf (m .table) (m .words)) (tableOf (exportLeft granules m e .table) (exportLeft granules m e .words)) _ _ _ (export-account granules m e) (accounts granules (lentOn (exportLeft granules m e)) es)
 
 -- "over any sequence of delegate, undelegate and list calls with one granule record, from any starting table": with any other exports in
--- between, whatever images are lent to each but for the granule record's, and whatever those hold. Nothing is asked of the caller.
+-- between, and any images except the granule record's for each call. There is no condition on the caller.
 pub exports-books : (granules : List ℕ) (m : Lent) (es : List Exported) → Books granules (tableOf (m .table) (m .words)) (allTold granules m es) (tableOf (allExported granules m es .table) (allExported granules m es .words))
 exports-books granules m es = account-books granules (tableOf (m .table) (m .words)) (tableOf (allExported granules m es .table) (allExported granules m es .words)) (allTold granules m es) (accounts granules m es)
 
--- ---- by addresses: a granule has one
+-- ---- by address: each granule has exactly one
 none-names : (granules : List ℕ) (n addr i : ℕ) → granuleAt granules n addr ≡ At i → (cs : List Change) → NoneAt addr cs → NoneNames granules n i cs
 none-names granules n addr i e [] nowhere = nil
 none-names granules n addr i e (c ∷ cs) (elsewhere _ _ h r) = cons c cs (λ k. h (one-address granules n (c .address) addr i k e)) (none-names granules n addr i e cs r)
@@ -116,7 +116,7 @@ exports-by-address granules m es addr i e =
       none = λ r. b .none i (none-names granules (length (m .table)) addr i e (allTold granules m es) r);
     }
 
--- ---- the words' number
+-- ---- the count of the realm words
 pub exports-count-books : (granules : List ℕ) (m : Lent) (es : List Exported) → realmAgreeOf (m .table) (m .words) (granuleCount granules) ≡ Agreement.Yes →
     CountBooks granules (tableOf (m .table) (m .words)) (allTold granules m es) (tableOf (allExported granules m es .table) (allExported granules m es .words))
 exports-count-books granules m es y =

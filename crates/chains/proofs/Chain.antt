@@ -1,6 +1,6 @@
--- Images chain: the image that a call leaves reads back as the state that the definitions say, accepted or refused. So a sequence of
--- exported calls is a sequence of the runtime's steps. What the queue's laws ask is what the types of the exports give: an image of 210
--- words, and a page or a signature of bytes. Assumes nothing.
+-- The image that an accepted or refused call leaves reads back as the next state of the definitions. So a sequence of exported calls is a
+-- sequence of steps of `runtime`. The laws of the queue need an image of 210 words, and a page or a signature of bytes: the types of the
+-- exports guarantee both. Assumes nothing.
 use Prim.Native.Nat.{ℕ}
 use mathlib.Core.Path.{_≡_, refl, sym, ap}
 use mathlib.Core.Bool.{Bool, true, false, cond}
@@ -38,7 +38,7 @@ use Rattle.queue_image.proofs.Becomes.{Becomes, as-it-was}
 use Rattle.export_rules.specs.Exports.{sessionAfter, tokenLeft, tokenIn, signingLeft, signingIn, signLeft, signIn, sessionLeft, queueLeft, worldIn, callLeft, callIn}
 use Rattle.chains.proofs.Queues.{push-becomes, pull-becomes, sign-becomes}
 
--- ---- the platform token: a session that is written reads back, and an image that is left as it was stands for the session before
+-- ---- the platform token: a written session reads back, and an unchanged image is that of the session before
 session-reads : (b : Bool) (s : Session) (image : List ℕ) → (b ≡ false → s ≡ sessionOf image) → sessionOf (cond b (sessionWords s) image) ≡ s
 session-reads true s image same = session-back s
 session-reads false s image same = sym (same refl)
@@ -56,8 +56,8 @@ pub session-chain : (state image page token : List ℕ) (busy pa size c : ℕ) �
 unfolding tokenIn
 session-chain state image page token busy pa size c = token-chain (recordOf state) image page token (isSet busy) pa size c
 
--- ---- token signing, and the signer's own step, on an image of 210 words
--- a queue and its image, both as a code leaves them
+-- ---- token signing and the signer's step, on an image of 210 words
+-- a queue and its image after a call with this code
 left-both : (k : Code) (P : List ℕ → Lists → Type 0) (new old : List ℕ) (q p : Lists) → (k ≡ Ok → P new q) → P old p → P (ifOk k new old) (ifOk k q p)
 left-both k P new old q p h g = go (isOk k) (λ e. h (ok-is k e))
   where
@@ -93,7 +93,7 @@ module _ (image : List ℕ) (l : length image ≡ 210) (w : Yes (areWords image)
 
 -- ---- any command: both images
 module _ (g : Granules) (session queue page table words : List ℕ) (c : Call) where
-  -- the runtime's step from the world that the images stand for
+  -- the step of `runtime` from the world of the images
   by : Kind → Step
   by k = callBy k g (worldIn session queue page table words) c
 
@@ -127,7 +127,7 @@ module _ (granules session queue page table words : List ℕ) (c : Call) (l : le
   unfolding callIn callLeft callOf by
   call-becomes = queue-by granules session queue page table words c l w a (kindOf (c .id))
 
-  -- all that a call leaves stands for the next world
+  -- what a call leaves is the next world
   pub call-chain : worldIn (callIn granules session queue page table words c .session) (callIn granules session queue page table words c .queue) (callIn granules session queue page table words c .page) (callIn granules session queue page table words c .table) (callIn granules session queue page table words c .words)
       ≡ callOf granules (worldIn session queue page table words) c .next
   unfolding callIn callLeft callOf by

@@ -1,4 +1,4 @@
--- What a push, a pull and the signer's own step make of an image of the queue. Assumes nothing.
+-- The queue's image after a push, a pull and the signer's step. Assumes nothing.
 use Prim.Native.Nat.{ℕ, _^_, _≤_}
 use mathlib.Core.Path.{_≡_, refl}
 use mathlib.Core.List.{List, [], _∷_}

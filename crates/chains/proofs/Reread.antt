@@ -1,4 +1,4 @@
--- 02, E5: a page whose manifest lies in the kept bytes is read with the same answer after any sequence of commands. Assumes nothing.
+-- 02, E5: if the manifest is within the kept bytes, a reader gets the same answer after any sequence of commands. Assumes nothing.
 use Prim.Native.Nat.{ℕ, _+_, _*_, _/_, _≤_, _<_}
 use mathlib.Core.Path.{_≡_, refl, sym, ap, _∙_, subst}
 use mathlib.Core.Bool.{false, false≢true}
@@ -77,7 +77,7 @@ module _ (n : ℕ) (page last : List ℕ) (k : KeptTo n page last) where
       go (shows w e q t) f = ap viewWords (view-same w e base (f w e q t refl))
 
 -- ---- after any commands
--- "a page that cold boot accepted": with the record that it leaves, a reader of any edition gets the same answer again
+-- "a page that cold boot accepted": with the record that cold boot leaves, a reader of any edition gets the same answer again
 pub commands-reread : (g : Granules) (u : Params) (w : World) (cs : List Command) (r : ℕ) → AllHave (Up u) cs → Covers (u .kept) r (u .base) (w .page) →
     readOf r (u .base) (worldAfter g w cs .page) ≡ readOf r (u .base) (w .page)
 commands-reread g u w cs r h c = kept-read (u .kept) (w .page) (worldAfter g w cs .page) (kept g u w cs h) r (u .base) c
@@ -92,7 +92,7 @@ unfolding paramsOf
 cold-reread g s x0 x1 x2 x3 most n w cs e h r c =
     commands-reread g (paramsOf x1 x2 x3 n) w cs r (subst (λ (b : Record). AllHave b cs) (cold-up s x0 x1 x2 x3 most n (w .page) e) h) c
 
--- what a record that is up becomes by further boots is a record that those commands may have: as it was, or not up
+-- after further boots a record that is up is unchanged or not up, so those commands may have it
 pub boots-keep : (u : Params) (bs : List Boot) → (allBooted (Up u) bs ≡ Up u) ⊎ (isUp (allBooted (Up u) bs) ≡ false)
 unfolding isUp
 boots-keep u bs = go (up-stays u bs)
@@ -129,16 +129,15 @@ module _ (g : Granules) (u : Params) (page : List ℕ) (r : ℕ) (c : Covers (u 
   boots-read s w (boot b ∷ es) e k t = (read-again w k, boots-read (booted s b) w es (boot-step s b e) k t)
   boots-read s w (command x ∷ es) e k t = boots-read s (nextOf g w x) es e (next-kept w x (has-record s x e (t .0)) k) (t .1)
 
--- "A monitor rereads the manifest at each warm boot": from a cold boot that accepts a page with a number of kept bytes that covers what a
--- reader's edition names, over any boots and commands in any order, each command with the record as it then is, that reader's answer is the
--- same at each boot
+-- "A monitor rereads the manifest at each warm boot": if cold boot accepts a page and the kept bytes cover the named bytes of a reader's
+-- edition, that reader gets the same answer at each boot, over any boots and commands in any order, each command with the record at its time
 pub boots-reread : (g : Granules) (s : Record) (x0 x1 x2 x3 most n : ℕ) (w : World) (es : List Event) → coldCode s x0 x1 x2 x3 most n (w .page) ≡ pos 0 →
     InTurn (coldNext s x0 x1 x2 x3 most n (w .page)) es → (r : ℕ) → Covers n r x3 (w .page) → ReadAtBoots g r x3 (w .page) w es
 unfolding paramsOf
 boots-reread g s x0 x1 x2 x3 most n w es e t r c =
     boots-read g (paramsOf x1 x2 x3 n) (w .page) r c _ w es (inl (cold-up s x0 x1 x2 x3 most n (w .page) e)) (record { bytes = refl; whole = refl }) t
 
--- ---- the number that `kept_for` answers
+-- ---- the number that `kept_for` returns
 module _ (r base : ℕ) (page : List ℕ) (w e : ℕ) (q : PlatShown) (t : ℕ → Shown) (h : readOf r base page ≡ shows w e q t) where
   -- it covers the manifest of a page that the reader accepts: "the core and each array that its sections place within the page", and the fields
   pub kept-for-covers : Covers (keptFor (viewAt w e base page) page) r base page
@@ -159,15 +158,15 @@ module _ (r base : ℕ) (page : List ℕ) (w e : ℕ) (q : PlatShown) (t : ℕ �
   unfolding answerWords
   view-is = rw (h, view-back (viewAt w e base page))
 
-  -- of the view that `pbeam_read` writes
+  -- for the view that `pbeam_read` writes
   pub view-covers : Covers (keptFor (viewOf (answerWords base page (readOf r base page))) page) r base page
   view-covers = rw view-is kept-for-covers
 
-  -- and is the least multiple of 8 that does
+  -- and is the least multiple of 8 that covers it
   pub view-least : (n : ℕ) → Covers n r base page → keptFor (viewOf (answerWords base page (readOf r base page))) page ≤ 8 * ((n + 7) / 8)
   view-least n c = rw view-is (kept-least r base page w e q t h n c)
 
--- ---- the same of any sequence of exports, from an image of 210 words and a page of bytes, with bytes lent to each
+-- ---- the same for any sequence of exports, with a queue's image of 210 words, a page of bytes, and bytes lent to each call
 module _ (granules : List ℕ) (m : Lent) (es : List Exported) (l : length (m .queue) ≡ 210) (v : Yes (areWords (m .queue))) (a : Yes (areBytes (m .page))) (b : Yes (each ofBytes (map commandOf es))) where
   -- no kept byte of the lent page changes
   pub exports-kept : (u : Params) → AllHave (Up u) (map commandOf es) → KeptTo (u .kept) (m .page) (allExported granules m es .page)
@@ -178,14 +177,14 @@ module _ (granules : List ℕ) (m : Lent) (es : List Exported) (l : length (m .q
     unfolding paramsOf
     cold-kept = exports-kept (paramsOf x1 x2 x3 n) (subst (λ (r : Record). AllHave r (map commandOf es)) (cold-up s x0 x1 x2 x3 most n (m .page) e) h)
 
-    -- A page that cold boot accepted with a number of kept bytes that covers what a reader's edition names: that reader's answer is the same
-    -- again, and so is the view.
+    -- If cold boot accepted the page and the kept bytes cover the named bytes of a reader's edition, that reader gets the same answer and the
+    -- same view again.
     pub exports-reread : (r : ℕ) → Covers n r x3 (m .page) →
         (readOf r x3 (allExported granules m es .page) ≡ readOf r x3 (m .page))
         × (answerWords x3 (allExported granules m es .page) (readOf r x3 (allExported granules m es .page)) ≡ answerWords x3 (m .page) (readOf r x3 (m .page)))
     exports-reread r c = (kept-read n _ _ cold-kept r x3 c, view-read n _ _ cold-kept r x3 c)
 
-    -- `kept_for`: the number that it answers of the view that a reader of that edition shows is such a number
+    -- the result of `kept_for` for the view of a reader of that edition is such a number of kept bytes
     pub kept-for-reread : (r w t : ℕ) (q : PlatShown) (f : ℕ → Shown) → readOf r x3 (m .page) ≡ shows w t q f → n ≡ keptFor (viewOf (answerWords x3 (m .page) (readOf r x3 (m .page)))) (m .page) →
         (readOf r x3 (allExported granules m es .page) ≡ readOf r x3 (m .page))
         × (answerWords x3 (allExported granules m es .page) (readOf r x3 (allExported granules m es .page)) ≡ answerWords x3 (m .page) (readOf r x3 (m .page)))

@@ -1,5 +1,5 @@
--- Any sequence of exported calls, each on the images, the page, the table and its words that the one before it left, is a sequence of the runtime's
--- steps. Assumes nothing.
+-- Any sequence of exported calls, each on the images, page, table and words that the call before it left, is a sequence of steps of
+-- `runtime`. Assumes nothing.
 use Prim.Native.Nat.{ℕ}
 use mathlib.Core.Path.{_≡_, refl, ap, _∙_}
 use mathlib.Core.Bool.{Bool}
@@ -35,8 +35,8 @@ use Rattle.chains.specs.Chain.{Lent, lentWorld, commandLeft, lentAfter, 
 use Rattle.export_rules.specs.Exports.{moveLeft, callLeft, callIn}
 use Rattle.chains.proofs.Chain.{signer-becomes, sign-chain, call-becomes, call-chain}
 
--- ---- a page of bytes stays one
--- a refusal leaves what was
+-- ---- a page of bytes stays a page of bytes
+-- a refusal changes nothing
 if-ok-holds : {A : Type 0} (ok : A → Bool) (k : Code) (new old : A) → Yes (ok old) → (k ≡ Ok → Yes (ok new)) → Yes (ok (ifOk k new old))
 if-ok-holds {A} ok k new old f h = if-ok-by (λ (x : A). Yes (ok x)) k new old h (λ e. f)
 
@@ -137,7 +137,7 @@ module _ (granules : List ℕ) where
   exact-sound m [] h b e = e
   exact-sound m (c ∷ cs) h b e = exact-sound (lentAfter granules m c) cs (step-sound m h c (both-l _ _ b)) (both-r _ _ b) (step-becomes m h c (both-l _ _ b) .exact e)
 
-  -- from an image of 210 words and a page of bytes, with bytes lent to each
+  -- for a queue's image of 210 words, a page of bytes, and bytes lent to each call
   module _ (m : Lent) (cs : List Command) (l : length (m .queue) ≡ 210) (w : Yes (areWords (m .queue))) (a : Yes (areBytes (m .page))) (b : Yes (each ofBytes cs)) where
     lent-sound : Yes (sound m)
     unfolding sound
@@ -146,6 +146,6 @@ module _ (granules : List ℕ) where
     pub run-chain : lentWorld (allAfter granules m cs) ≡ worldAfter granules (lentWorld m) cs
     run-chain = run-sound m cs lent-sound b
 
-    -- what waits stays all that the queue's image holds
+    -- the queue's image holds exactly what waits
     pub run-exact : Exact (m .queue) → Exact (allAfter granules m cs .queue)
     run-exact e = exact-sound m cs lent-sound b e

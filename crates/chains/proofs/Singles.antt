@@ -1,5 +1,5 @@
--- The dispatcher is the exports of its commands: a call leaves what the export of its id leaves, whatever else is lent. So any sequence of
--- exports is a sequence of the runtime's steps. Assumes nothing.
+-- pbeam_call leaves what the export of the command with that id leaves, for any other arguments. So any sequence of exports is a sequence of
+-- steps of `runtime`. Assumes nothing.
 use Prim.Native.Nat.{ℕ}
 use mathlib.Core.Path.{_≡_, refl, sym, ap, _∙_, subst}
 use mathlib.Core.List.{List, [], _∷_, map}
@@ -34,13 +34,13 @@ module _ (granules : List ℕ) (m : Lent) where
   dispatched-by KeyUpdate state x busy key token public width e = rw e
   dispatched-by Unlisted state x busy key token public width e = refl
 
-  -- a call of the dispatcher is a call of the export of its id, with whatever is lent beside what that one uses
+  -- pbeam_call equals the export of its id, for any arguments that this export does not use
   pub dispatcher-exports : (state x : List ℕ) (busy : ℕ) (key token public : List ℕ) (width : ℕ) →
       exportLeft granules m (pbeam-call state x busy key token public width) ≡ exportLeft granules m (exportFor (kindOf (getD x 0 0)) state x busy key token public width)
   unfolding exportLeft
   dispatcher-exports state x busy key token public width = dispatched-by (kindOf (getD x 0 0)) state x busy key token public width refl
 
-  -- and each export is the command with its id
+  -- each export equals the command with its id
   pub single : (e : Exported) → exportLeft granules m e ≡ commandLeft granules m (commandOf e)
   unfolding exportLeft commandLeft commandOf exportFor kindOf moveListIn
   single (pbeam-delegate state address) = sym (dispatched-by Delegate state (0xC40001B0 ∷ address ∷ []) 0 [] [] [] 0 refl)
@@ -63,7 +63,7 @@ exports-commands granules m [] = refl
 exports-commands granules m (e ∷ es) =
     exports-commands granules (lentOn (exportLeft granules m e)) es ∙ ap (λ (l : CallLeft). allAfter granules (lentOn l) (map commandOf es)) (single granules m e)
 
--- from an image of 210 words and a page of bytes, with bytes lent to each
+-- for a queue's image of 210 words, a page of bytes, and bytes lent to each call
 module _ (granules : List ℕ) (m : Lent) (es : List Exported) (l : length (m .queue) ≡ 210) (w : Yes (areWords (m .queue))) (a : Yes (areBytes (m .page))) (b : Yes (each ofBytes (map commandOf es))) where
   pub exports-chain : lentWorld (allExported granules m es) ≡ worldAfter granules (lentWorld m) (map commandOf es)
   exports-chain = ap lentWorld (exports-commands granules m es) ∙ run-chain granules m (map commandOf es) l w a b

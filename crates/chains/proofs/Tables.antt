@@ -1,4 +1,4 @@
--- The granule table over any sequence of exports, whatever images are lent with it; 02, E8 for callers from C. Assumes nothing.
+-- The granule table over any sequence of exports, for any other lent images; 02, E8 for C callers. Assumes nothing.
 use Prim.Native.Nat.{ℕ}
 use mathlib.Core.Path.{_≡_, refl, sym, ap, ap₂, _∙_, subst}
 use mathlib.Core.Bool.{true}
@@ -36,7 +36,7 @@ use Rattle.chains.specs.Chain.{Lent, lentWorld, lentOn, commandLeft}
 use Rattle.chains.specs.Exported.{Exported, pbeam-delegate, pbeam-undelegate, pbeam-delegate-list, pbeam-undelegate-list, pbeam-realm-key, pbeam-platform-token, pbeam-features, pbeam-token-signing, pbeam-key-update, pbeam-forward, pbeam-call, pbeam-sign, exportLeft, commandOf, allExported, exportUnder, RealmIn, baseIn, ExportsIntoRealm}
 use Rattle.chains.proofs.Singles.{single}
 
--- ---- the table alone
+-- ---- only the table
 module _ (granules : List ℕ) where
   command-table : (m : Lent) (c : Command) → tableOf (commandLeft granules m c .table) (commandLeft granules m c .words) ≡ nextOf granules (lentWorld m) c .table
   unfolding commandLeft callIn callLeft moveLeft stepOf afterMove afterSign
@@ -47,7 +47,7 @@ module _ (granules : List ℕ) where
   pub export-table : (m : Lent) (e : Exported) → nextOf granules (lentWorld m) (commandOf e) .table ≡ tableOf (exportLeft granules m e .table) (exportLeft granules m e .words)
   export-table m e = sym (command-table m (commandOf e)) ∙ ap (λ (l : CallLeft). tableOf (l .table) (l .words)) (sym (single granules m e))
 
-  -- any sequence of exports leaves the table, with its words, that the sequence of their commands leaves, from any world with that table
+  -- any sequence of exports leaves the same table and words as the sequence of their commands, from any world with that table
   pub exports-table : (w : World) (m : Lent) (es : List Exported) → w .table ≡ lentWorld m .table → worldAfter granules w (map commandOf es) .table ≡ tableOf (allExported granules m es .table) (allExported granules m es .words)
   unfolding worldAfter allExported
   exports-table w m [] h = h
@@ -92,14 +92,14 @@ module _ (granules image : List ℕ) (m : Lent) (es : List Exported) (r : RealmI
   after = allExported granules m (map (exportUnder image) es)
 
   -- "If it was Realm at boot it is Realm after any later calls on that table with the same boot and granule records. E1's lists obey this
-  -- too.": any sequence of exports, with whatever images of session and queue
+  -- too.": any sequence of exports, with any images of session and queue
   pub exports-shared-stays : RealmIn granules (baseIn image) after
   exports-shared-stays =
       subst (RealmAt granules (baseIn image))
       (ap (λ (cs : List Command). worldAfter granules (lentWorld m) cs .table) (commands-under image es) ∙ exports-table granules (lentWorld m) m (map (exportUnder image) es) refl)
       (shared-stays (recordOf image) granules (lentWorld m) (map commandOf es) r)
 
-  -- whenever a realm key, a hunk or a response is then written, the page's granule is Realm
+  -- when a realm key, a hunk or a response is written afterwards, the page's granule is Realm
   pub exports-into-realm : ExportsIntoRealm granules image after
   unfolding exportLeft tokenIn tokenLeft signingIn signingLeft signingOn imageStep registerWords tokenAccepted tokenStepOf realmKeyOf keyed answerOf
   exports-into-realm =

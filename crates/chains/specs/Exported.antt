@@ -1,4 +1,4 @@
--- Every export of a runtime command, and of the signer's step: what it leaves, and which of the runtime's commands it is. Assumes nothing.
+-- Every export of a runtime command and of the signer's step: what it leaves, and which command of `runtime` it runs. Assumes nothing.
 use Prim.Native.Nat.{ℕ}
 use mathlib.Core.Path.{_≡_}
 use mathlib.Core.Bool.{cond}
@@ -20,7 +20,7 @@ use Rattle.images.specs.Image.{recordOf, registerWords, workWords}
 use Rattle.export_rules.specs.Exports.{moveIn, moveListIn, TokenLeft, tokenIn, SigningLeft, signingIn, SignLeft, signIn, CallLeft, callLent, callIn}
 use Rattle.chains.specs.Chain.{Lent, movesLeft, lentOn}
 
--- a call of an export, with what is lent to it alone: the boot record's image, numbers and bytes
+-- a call of an export, with its own arguments: the boot record's image, numbers and bytes
 pub data Exported : Type 0 where
   pbeam-delegate : (state : List ℕ) (address : ℕ) → Exported
   pbeam-undelegate : (state : List ℕ) (address : ℕ) → Exported
@@ -35,7 +35,7 @@ pub data Exported : Type 0 where
   pbeam-call : (state x : List ℕ) (busy : ℕ) (key token public : List ℕ) (width : ℕ) → Exported
   pbeam-sign : (signature : List ℕ) → Exported
 
--- ---- what it leaves: what is not lent to it is as it was, and counts as zeros where it is an answer
+-- ---- what it leaves: what it is not lent is unchanged; registers and work that it does not write count as zeros
 abbrev tokensLeft : TokenLeft → Lent → CallLeft
 tokensLeft l m = record { out = l .out; work = 0 ∷ 0 ∷ []; page = l .page; table = m .table; words = m .words; session = l .session; queue = m .queue }
 
@@ -45,11 +45,11 @@ signingsLeft l m = record { out = l .out; work = 0 ∷ 0 ∷ []; page = l .page;
 abbrev signsLeft : SignLeft → Lent → CallLeft
 signsLeft l m = record { out = l .out; work = 0 ∷ 0 ∷ []; page = m .page; table = m .table; words = m .words; session = m .session; queue = l .queue }
 
--- registers, work and the page
+-- an export that leaves registers, work and the page
 abbrev answersLeft : List ℕ → List ℕ → List ℕ → Lent → CallLeft
 answersLeft out work page m = record { out = out; work = work; page = page; table = m .table; words = m .words; session = m .session; queue = m .queue }
 
--- pbeam_forward has no registers: the number that it answers is to be forwarded, which the dispatcher says by 2 in the work
+-- what each export leaves. pbeam_forward has no registers: the dispatcher reports its result as work 2.
 unfoldable pub exportLeft : List ℕ → Lent → Exported → CallLeft
 exportLeft granules m (pbeam-delegate state address) = movesLeft (moveIn Direction.Delegate state granules (m .table) (m .words) address) m
 exportLeft granules m (pbeam-undelegate state address) = movesLeft (moveIn Direction.Undelegate state granules (m .table) (m .words) address) m
@@ -66,10 +66,11 @@ exportLeft granules m (pbeam-forward state x1) = answersLeft (0 ∷ 0 ∷ 0 ∷ 
 exportLeft granules m (pbeam-call state x busy key token public width) = callIn granules (m .session) (m .queue) (m .page) (m .table) (m .words) (callLent state x busy key token public width)
 exportLeft granules m (pbeam-sign signature) = signsLeft (signIn (m .queue) signature) m
 
--- ---- the command that it is: a call with the id and the registers, nothing else being lent; the signer's own step; or a list of granules
+-- ---- the command that an export runs: a call with id and registers, with only its own arguments lent; the signer's step; or a list of granules
 abbrev callFor : List ℕ → List ℕ → ℕ → List ℕ → List ℕ → List ℕ → ℕ → Command
 callFor state x busy key token public width = call (callLent state x busy key token public width)
 
+-- the command of each export
 unfoldable pub commandOf : Exported → Command
 commandOf (pbeam-delegate state address) = callFor state (0xC40001B0 ∷ address ∷ []) 0 [] [] [] 0
 commandOf (pbeam-undelegate state address) = callFor state (0xC40001B1 ∷ address ∷ []) 0 [] [] [] 0
@@ -84,7 +85,7 @@ commandOf (pbeam-forward state x1) = callFor state (0xC400018F ∷ x1 ∷ []) 0 
 commandOf (pbeam-call state x busy key token public width) = callFor state x busy key token public width
 commandOf (pbeam-sign signature) = sign signature
 
--- ---- the export of a call's id, with the registers that its command uses and what it uses of the rest; an id that is not listed has none
+-- ---- the export for the kind of a call's id, with the arguments that its command uses; for an id that is not listed, pbeam_call itself
 unfoldable pub exportFor : Kind → List ℕ → List ℕ → ℕ → List ℕ → List ℕ → List ℕ → ℕ → Exported
 exportFor ForwardError state x busy key token public width = pbeam-forward state (getD x 1 0)
 exportFor Delegate state x busy key token public width = pbeam-delegate state (getD x 1 0)
@@ -96,12 +97,12 @@ exportFor TokenSigning state x busy key token public width = pbeam-token-signing
 exportFor KeyUpdate state x busy key token public width = pbeam-key-update state width (getD x 1 0)
 exportFor Unlisted state x busy key token public width = pbeam-call state x busy key token public width
 
--- ---- all of a sequence
+-- ---- what a sequence of exports leaves
 unfoldable pub allExported : List ℕ → Lent → List Exported → Lent
 allExported granules m [] = m
 allExported granules m (e ∷ es) = allExported granules (lentOn (exportLeft granules m e)) es
 
--- ---- 02, E8: "with the same boot .. records": an export that is lent this image of it; the signer's step takes none
+-- ---- 02, E8: "with the same boot .. records": the same export with this image of the boot record; the signer's step takes no record
 unfoldable pub exportUnder : List ℕ → Exported → Exported
 exportUnder image (pbeam-delegate state address) = pbeam-delegate image address
 exportUnder image (pbeam-undelegate state address) = pbeam-undelegate image address
@@ -116,33 +117,34 @@ exportUnder image (pbeam-forward state x1) = pbeam-forward image x1
 exportUnder image (pbeam-call state x busy key token public width) = pbeam-call image x busy key token public width
 exportUnder image (pbeam-sign signature) = pbeam-sign signature
 
--- an address is Realm in a lent table, with the image of the granule record
+-- the granule at addr is Realm in the lent table, by the image of the granule record
 abbrev pub RealmIn : List ℕ → ℕ → Lent → Type 0
 RealmIn granules addr m = RealmAt granules addr (tableOf (m .table) (m .words))
 
--- the base that the image of a boot record keeps
+-- B of a boot record's image
 abbrev pub baseIn : List ℕ → ℕ
 baseIn image = upOf (recordOf image) .base
 
--- a buffer that is written to lies in the shared page, whose granule is then Realm
+-- the buffer [pa, pa + size) is in the shared page, and the page's granule is Realm
 pub record LentIntoRealm (granules image : List ℕ) (m : Lent) (pa size : ℕ) : Type 0 where
   pub buffer : BufferIn (upOf (recordOf image)) (m .page) pa size
   pub realm : RealmIn granules (baseIn image) m
 
--- x0 is 0
+-- the export is accepted: x0 is 0
 abbrev pub Oks : List ℕ → Lent → Exported → Type 0
 Oks granules m e = getD (exportLeft granules m e .out) 0 0 ≡ 0
 
--- each export that writes to the page, where x0 is 0; a call of the dispatcher is one of them (`dispatcher-exports`)
+-- each accepted export that writes to the page writes to Realm memory; pbeam_call runs one of these exports (`dispatcher-exports`)
 pub record ExportsIntoRealm (granules image : List ℕ) (m : Lent) : Type 0 where
   pub key : (key : List ℕ) (pa size curve : ℕ) → Oks granules m (pbeam-realm-key image key pa size curve) → LentIntoRealm granules image m pa size
   pub hunk : (token : List ℕ) (busy pa size csize : ℕ) → Oks granules m (pbeam-platform-token image token busy pa size csize) → LentIntoRealm granules image m pa size
   pub response : (key : List ℕ) (opcode pa size curve : ℕ) → Oks granules m (pbeam-token-signing image key opcode pa size curve) → LentIntoRealm granules image m pa size
 
--- ---- 02, E14: the accepted calls on granules, as the words of out tell of them: x0 is 0, or of a list the first x1 addresses
+-- ---- 02, E14: the accepted calls on granules, read from `out`: the address if x0 is 0, or the first x1 addresses of a list
 abbrev whenZero : ℕ → List Change → List Change
 whenZero x0 l = cond (eqb x0 0) l []
 
+-- the changes that `out` of an export reports
 unfoldable pub changesTold : List ℕ → Exported → List Change
 changesTold out (pbeam-delegate state address) = whenZero (getD out 0 0) (change Direction.Delegate address ∷ [])
 changesTold out (pbeam-undelegate state address) = whenZero (getD out 0 0) (change Direction.Undelegate address ∷ [])
@@ -157,18 +159,17 @@ changesTold out (pbeam-forward state x1) = []
 changesTold out (pbeam-call state x busy key token public width) = whenZero (getD out 0 0) (ofMove (kindOf (getD x 0 0)) (getD x 1 0))
 changesTold out (pbeam-sign signature) = []
 
--- those of a sequence, in order
+-- the changes of a sequence of exports, in order
 unfoldable pub allTold : List ℕ → Lent → List Exported → List Change
 allTold granules m [] = []
 allTold granules m (e ∷ es) = changesTold (exportLeft granules m e .out) e ++ allTold granules (lentOn (exportLeft granules m e)) es
 
--- none of them is of this address
+-- no change in the list is at this address
 pub data NoneAt (addr : ℕ) : List Change → Type 0 where
   nowhere : NoneAt addr []
   elsewhere : (c : Change) (cs : List Change) → (c .address ≡ addr → ⊥) → NoneAt addr cs → NoneAt addr (c ∷ cs)
 
--- "Each granule's byte is the one the last accepted call naming it left, or the starting byte if none did.", by the address that it is
--- called with: of granule i
+-- "Each granule's byte is the one the last accepted call naming it left, or the starting byte if none did.": for granule i, at address addr
 pub record ByAddress (granules : List ℕ) (m : Lent) (es : List Exported) (addr i : ℕ) : Type 0 where
   pub last : (before : List Change) (d : Direction) (behind : List Change) → allTold granules m es ≡ before ++ change d addr ∷ behind → NoneAt addr behind → getD (allExported granules m es .table) i 0 ≡ toByte d
   pub none : NoneAt addr (allTold granules m es) → getD (allExported granules m es .table) i 0 ≡ getD (m .table) i 0

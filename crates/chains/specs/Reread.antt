@@ -12,11 +12,11 @@ use Rattle.runtime.specs.Run.{nextOf}
 use Rattle.runtime.specs.Kept.{HasRecord}
 use Rattle.images.specs.Image.{answerWords}
 
--- the first n bytes of a page hold all that a reader of edition r looks at: the bytes that demand 3 speaks of
+-- the first n bytes of a page include every byte that decides the answer of a reader of edition r: the named bytes (demand 3, RD13)
 abbrev pub Covers : ℕ → ℕ → ℕ → List ℕ → Type 0
 Covers n r base page = (i : ℕ) → Yes (named r base page i) → i < n
 
--- the reader of edition r gets the answer again that it got of the page, and the view with it
+-- the reader of edition r gets the same answer and the same view for `after` as for `page`
 pub record ReadAgain (r base : ℕ) (page after : List ℕ) : Type 0 where
   pub answer : readOf r base after ≡ readOf r base page
   pub view : answerWords base after (readOf r base after) ≡ answerWords base page (readOf r base page)
@@ -26,13 +26,13 @@ pub data Event : Type 0 where
   boot : Boot → Event
   command : Command → Event
 
--- each command comes with the record as it then is, or with one that is not up
+-- each command has the boot record at its time, or one that is not up
 unfoldable pub InTurn : Record → List Event → Type 0
 InTurn s [] = Unit {0}
 InTurn s (boot b ∷ es) = InTurn (booted s b) es
 InTurn s (command c ∷ es) = HasRecord s c × InTurn s es
 
--- at each boot, and after the last event, the page is read as it was
+-- at each boot, and after the last event, the reader gets the same answer as for `page`
 unfoldable pub ReadAtBoots : Granules → ℕ → ℕ → List ℕ → World → List Event → Type 0
 ReadAtBoots g r base page w [] = ReadAgain r base page (w .page)
 ReadAtBoots g r base page w (boot b ∷ es) = ReadAgain r base page (w .page) × ReadAtBoots g r base page w es

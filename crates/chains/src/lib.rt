@@ -1,1 +1,1 @@
-// Theorems only: any sequence of exported calls is a sequence of the runtime's steps (proofs/Runs.antt).
+// Theorems only: any sequence of exported calls is a sequence of steps of `runtime` (proofs/Runs.antt).

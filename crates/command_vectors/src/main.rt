@@ -1,7 +1,7 @@
-// Runs the commands that the numbered cases of data/ describe, in turn, up to the first that is missing. A case is 8-byte words:
-// the boot record (0 fresh, 1 up, 2 closed, then what it keeps), the function id, x1 to x3, where the granule record stands (see
-// `cases::granules_at`) with the realm words behind it, MECIDWidthm1, the lengths of table, key and page; then these three, and table and
-// page expected at exit. Prints the answer, whether both are as expected, and the words.
+// Runs the commands of the numbered cases of data/, in turn, up to the first number without a case. A case is 8-byte words:
+// the boot record (0 fresh, 1 up, 2 closed, then its four values), the function id, x1 to x3, the offset of the granule record (see
+// `cases::granules_at`), which the realm words follow, MECIDWidthm1, the lengths of table, key and page; then these three, and table and
+// page expected at exit. Prints the answer, whether both are as expected, and the realm words.
 use boot::Record;
 use codes::Answer;
 use codes::Work;
@@ -27,7 +27,7 @@ fn print_work(work: Work) {
     io::write_all(STDOUT_FILENO, b"\n");
 }
 
-// A command that lends neither table nor page.
+// Prints the answer of a command that takes neither table nor page.
 fn print_other(state: Record, id: u64, x1: u64, width: u64) {
     if id == 0xC400_01B4 {
         print_answer(features::features(state, x1));
@@ -45,7 +45,7 @@ fn print_other(state: Record, id: u64, x1: u64, width: u64) {
     io::write_all(STDOUT_FILENO, b"\n");
 }
 
-// The command of a case, on the table, key and page that it lends.
+// Runs the command of a case on its table, key and page, and prints the answer.
 fn print_command(input: &[u8], table: &mut [u8], words: &mut [u64], key: &[u8], page: &mut [u8]) {
     let state = cases::record_at(input);
     let granules = cases::granules_at(input, 72);
@@ -68,7 +68,7 @@ fn print_command(input: &[u8], table: &mut [u8], words: &mut [u64], key: &[u8], 
     print_other(state, id, x1, words::word_at(input, 80));
 }
 
-// Whether table and page are as the case expects them from an offset on, and the words.
+// Prints whether table and page equal those expected, which start at offset `at` of the case, and prints the words.
 fn print_exit(input: &[u8], at: usize, table: &[u8], words: &[u64], page: &[u8])
     requires { ⌜ (at ≤ 20000) × (length (now table) ≤ 600) ⌝ }
 {
@@ -83,7 +83,7 @@ fn print_exit(input: &[u8], at: usize, table: &[u8], words: &[u64], page: &[u8])
     cases::print_words(words);
 }
 
-// Fills what is lent: the table stands from 112 on, and the page from an offset on.
+// Fills table, words and page from the case: the table starts at offset 112, the page at offset `at`.
 fn fill(input: &[u8], at: usize, table: &mut [u8], words: &mut [u64], page: &mut [u8])
     requires { ⌜ length (now words) ≤ 600 ⌝ }
 {
@@ -94,7 +94,7 @@ fn fill(input: &[u8], at: usize, table: &mut [u8], words: &mut [u64], page: &mut
     cases::fill_words(input, 72, words);
 }
 
-// A case with its lends: table, a key of k bytes and page stand from 112 on, then table and page expected.
+// Runs a case. At offset 112 are the table, a key of `k` bytes and the page, then the expected table and page.
 fn print_lent(input: &[u8], table: &mut [u8], words: &mut [u64], k: usize, page: &mut [u8])
     requires { ⌜ (length (now table) ≤ 600) × (length (now words) ≤ 600) × (k ≤ 4200) × (length (now page) ≤ 4200) ⌝ }
 {

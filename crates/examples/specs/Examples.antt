@@ -1,4 +1,4 @@
--- 01, Numbered examples: those marked * are proved of the rules, in one table under a single claim. Assumes nothing.
+-- The numbered examples of 01 that are marked *, each proved from the definitions, in one record. Assumes nothing.
 use Prim.Native.Nat.{ℕ, _+_, _-_, _%_, _^_, _≤_, _<_}
 use mathlib.Core.Bool.{Bool, true, false}
 use mathlib.Core.Path.{_≡_, refl}
@@ -33,50 +33,52 @@ use Rattle.writer_rules.specs.Write.{Made, no-page, a-page, writerGate, writeOf
 abbrev bank : List ℕ
 bank = 0x90000000 ∷ 0x10000000 ∷ []
 
--- so many banks, so many consoles
+-- n equal banks, n equal consoles
 abbrev banks : ℕ → List ℕ
 banks n = joined n (λ i. bank)
 
 abbrev consoles : ℕ → List ℕ
 consoles n = joined n (λ i. 0x90000000 ∷ 1 ∷ 0 ∷ 0 ∷ 0 ∷ 0 ∷ [])
 
--- what the writer of edition v makes of these banks and consoles
+-- the writer's answer for edition v with banks a and consoles b
 abbrev making : ℕ → List ℕ → List ℕ → Made
 making v a b = writeOf 0x80000000 4096 v (descriptionOf a b [] [] [])
 
+-- whether the writer made a page
 unfoldable pub isPage : Made → Bool
 isPage (no-page n) = false
 isPage (a-page p) = true
 
--- the minor and the edition that an accepted page is read with
+-- minor and edition of an accepted page, [] for a refused one
 unfoldable pub readWith : ReaderAnswer → List ℕ
 readWith (refused c) = []
 readWith (shows w e q s) = w ∷ e ∷ []
 
+-- the examples; each quotation is from 01
 pub record Examples : Type 0 where
   -- "1* Version 0x0000000A is later than 0x00000009."
   pub e1 : later 0xA 0x9 ≡ true
-  -- As a number it is above the editions too: a page of that version is read as edition 4, and 5 is agreed on where it is offered.
+  -- It is also above every known minor: a page of that version is read as edition 4, and the agreed minor is 5.
   pub e1-read : readWith (readOf 4 0x80000000 (leBytes 4 0xA ++ replicate 4092 0)) ≡ 10 ∷ 4 ∷ []
   pub e1-agreed : agreed 0xA ≡ 5
   -- "2* 0x80000005 refused."
   pub e2 : versionOk 0x80000005 ≡ false
   -- "3* 0x00010000 refused."
   pub e3 : versionOk 0x00010000 ≡ false
-  -- "4* Count 1, pointer 0x80000028, bank 0x90000000 of 0x10000000 bytes: checksum 0xFFFFFFFEDFFFFFD7." No other word holds.
+  -- "4* Count 1, pointer 0x80000028, bank 0x90000000 of 0x10000000 bytes: checksum 0xFFFFFFFEDFFFFFD7." No other checksum is accepted.
   pub e4 : (s : ℕ) → s < 2 ^ 64 → checkOk 1 0x80000028 bank s ≡ true → s ≡ 0xFFFFFFFEDFFFFFD7
   pub e4-holds : checkOk 1 0x80000028 bank 0xFFFFFFFEDFFFFFD7 ≡ true
-  -- "5* Edition 4: 249 banks fit, 250 do not." What does not fit is refused by W5, the room.
+  -- "5* Edition 4: 249 banks fit, 250 do not." 250 banks are refused with W5.
   pub e5 : (isPage (making 4 (banks 249) []) ≡ true) × (making 4 (banks 250) [] ≡ no-page 5)
   -- "6* Edition 4: 83 consoles fit, 84 do not; edition 3 holds 84."
   pub e6 : (isPage (making 4 [] (consoles 83)) ≡ true) × (making 4 [] (consoles 84) ≡ no-page 5) × (isPage (making 3 [] (consoles 84)) ≡ true)
-  -- "7* pa = B + 4,095, size 1 is inside; size 2 too long." With 02, E5, where not every byte is kept.
+  -- "7* pa = B + 4,095, size 1 is inside; size 2 too long." Since 02, E5: if K is at most 4,095.
   pub e7 : (u : Params) → u .kept ≤ 4095 → (outside u (u .base + 4095) ≡ false) × (tooLong u (u .base + 4095) 1 ≡ false) × (tooLong u (u .base + 4095) 2 ≡ true)
-  -- "8* pa = B + 4,096, size 0 is outside." Whatever K is.
+  -- "8* pa = B + 4,096, size 0 is outside." For any K.
   pub e8 : (u : Params) → outside u (u .base + 4096) ≡ true
   -- "9* Code -2 in x0 is 0xFFFFFFFFFFFFFFFE."
   pub e9 : x0Of BadAddr ≡ 0xFFFFFFFFFFFFFFFE
-  -- "10* Delegating a Realm granule: BAD_PAS." (02, E6: with as many words as the record's granules ask for)
+  -- "10* Delegating a Realm granule: BAD_PAS." (02, E6: with ceil(granules / 64) realm words)
   pub e10 : (u : Params) (g : Granules) (t : GranuleTable) (addr i : ℕ) → fitting g t ≡ true → granuleAt g (length (t .bytes)) addr ≡ At i → getD (t .bytes) i 0 ≡ 1 →
       delegateOf (Up u) g t addr ≡ record { answer = answerOf BadPas 0 0; table = t }
   -- "11* m = 7: mecid 255 passes, 256 does not."
@@ -91,6 +93,7 @@ granted : (u : Params) (g : Granules) (t : GranuleTable) (addr i : ℕ) → fitt
 unfolding moveOf movedBy moveCode granuleCode isSharedPage fromByte whenFit whenUp isUp unless fails
 granted u g t addr i w f b = rw (w, f, b)
 
+-- the proof of all examples
 pub examples : Examples
 unfolding later agreed readWith readOf judge readerGate allShown rules platClear platExtent taken foundAt clearBefore apart extent secOk nothing platOk platAt mkPlat secAt mkSec size numAt part leBytes leOf versionOk aboveOf majorOf minorOf checkOk sum both either every joined isPage writeOf writerGate placeOk editionOk descriptionOk tellable isBare fieldsTold scanOf judged scanAll scan fieldsOk lengthsOk count listsOk listOk noneLate used platBytes withMark descriptionOf four core sectionCount wordsPerEntry entriesOk entryOk entryRule bankOk consoleOk flagsOk outside tooLong x0Of extended updateCode fails unless
 examples = record {

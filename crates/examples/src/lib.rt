@@ -1,1 +1,1 @@
-// 01's examples marked *, proved of the definitions: specs/Examples.antt.
+// The examples of 01 that are marked *, proved from the definitions: specs/Examples.antt.

@@ -1,4 +1,4 @@
--- What C reads in x0 is the number of the code. Assumes nothing.
+-- x0 of each export is the number of the command's code. Assumes nothing.
 use Prim.Native.Nat.{ℕ}
 use mathlib.Core.Path.{_≡_, refl}
 use mathlib.Core.List.{List}

@@ -1,4 +1,4 @@
--- What a call leaves, from what its parts promise. Assumes nothing.
+-- What an export leaves, from the promises of the functions that it calls. Assumes nothing.
 use Prim.Native.Nat.{ℕ}
 use mathlib.Core.Path.{_≡_, sym, ap, _∙_}
 use mathlib.Core.Bool.{Bool}
@@ -35,7 +35,7 @@ pub token-left : (a : Answer) (s : Session) (image out page se : List ℕ) (t : 
 unfolding tokenLeft sessionAfter
 token-left a s image out page se t h i e = rw (h, i) (ap (λ (x : TokenStep). tokenLeft x image) e)
 
--- the step and the boot, by the record, session and flag as they were told
+-- step and boot, with the record, session and flag that the conversions return
 pub told-token : (r k : Record) (page : List ℕ) (s l : Session) (b u : Bool) (token : List ℕ) (pa size c : ℕ) → k ≡ r → l ≡ s → u ≡ b → (x : TokenStep) → x ≡ tokenOf k page l u token pa size c → x ≡ tokenOf r page s b token pa size c
 told-token r k page s l b u token pa size c e f g x h = h ∙ rw (e, f, g)
 
@@ -54,7 +54,7 @@ pub sign-left : (a : Answer) (out image : List ℕ) (s : SignImage) → out ≡ 
 unfolding signLeft
 sign-left a out image s h e = rw h (ap signLeft e)
 
--- ---- any command, by its kind as it was told and what its own export left
+-- ---- any command, from the kind that `kind_of` returns and what the command's export leaves
 module _ (granules session queue page table words state x : List ℕ) (busy : ℕ) (key token public : List ℕ) (width : ℕ) (kind : Kind) (e : kind ≡ kindOf (getD x 0 0)) where
   abbrev Left : List ℕ → List ℕ → List ℕ → List ℕ → List ℕ → List ℕ → List ℕ → Type 0
   Left o k p b w s q = _≡_ {A = CallLeft} (record { out = o; work = k; page = p; table = b; words = w; session = s; queue = q }) (callIn granules session queue page table words (callLent state x busy key token public width))

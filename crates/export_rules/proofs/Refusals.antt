@@ -110,7 +110,7 @@ realm-key state page key pa size curve h =
     let e : k ≡ record { answer = answerOf (k .answer .code) 0 0; page = page } = key-refused (recordOf state) page key pa size curve (refuses (k .answer) refl h) in
     (ap (λ (x : Keyed). registerWords (x .answer)) e, ap (λ (x : Keyed). x .page) e)
 
--- ---- a refusal leaves an image as it was
+-- ---- a refusal leaves an image unchanged
 left-old : {A : Type 0} (k : Code) (new old : A) → isOk k ≡ false → ifOk k new old ≡ old
 left-old k new old f = rw f
 
@@ -118,7 +118,7 @@ session-stays : (k : Code) (s : Session) (image : List ℕ) → isOk k ≡ false
 unfolding sessionAfter
 session-stays k s image f = left-old k (sessionWords s) image f
 
--- a step that is refused, with an image beside it
+-- a refused step, with its image
 token-kept : (t : TokenStep) (image page : List ℕ) (s : Session) → Tells (t .answer) → Refuses (registerWords (t .answer)) →
     (isOk (t .answer .code) ≡ false → t ≡ record { answer = answerOf (t .answer .code) 0 0; page = page; session = s }) →
     tokenLeft t image ≡ record { out = x0Alone (registerWords (t .answer)); page = page; session = image }
@@ -217,7 +217,7 @@ dispatched granules session queue page table words c h =
     let q = step-kept (kindOf (c .id)) st w session (signingDone (c .state) page queue (c .x1) (c .x2) (c .x3)) queue f (refused g w (call c) f) in
     q ∙ ap (kept session queue page table words) (sym (ap (λ (l : CallLeft). getD (l .out) 0 0) q))
 
--- a list, whatever its code
+-- a list, for any code
 lists : (d : Direction) (state granules table words addresses : List ℕ) →
     let l = moveListIn d state granules table words addresses in
     let f = moveOf (recordOf state) granules d in

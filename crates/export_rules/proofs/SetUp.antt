@@ -19,7 +19,7 @@ use Rattle.banks.specs.Banks as banks
 use Rattle.banks.proofs.Making.{banks-same, banks-made}
 use Rattle.export_rules.specs.ShownBanks.{shownBanks}
 
--- ---- of a section with entries
+-- ---- for a section with entries
 word-is : (bs : List ℕ) (c i j off : ℕ) → off ≡ 8 * (2 * i + j) → 2 * i + j < 2 * c → wordAt off bs ≡ getD (wordsOf (2 * c) bs) (2 * i + j) 0
 word-is bs c i j off e l = rw e (sym (wordsOf-at (2 * c) bs (2 * i + j) l))
 
@@ -32,7 +32,7 @@ full-banks bs c h =
     banks-same (bankIn bs) (entry-bank bs c) 0 (length bs / 16)
     (λ i l. rw (word-is bs c i 0 (16 * i) (omega arith) (omega arith), word-is bs c i 1 (16 * i + 8) (omega arith) (omega arith)))
 
--- ---- of a section, and of a reader's answer
+-- ---- for any section, and for a reader's answer
 abbrev Alike : Shown → Type 0
 Alike s = banksIn (length (bytesIn s) / 16) (bytesIn s) ≡ banksBy (λ i. record { base = entryWord 0 i 0 s; size = entryWord 0 i 1 s }) 0 (entryCount 0 s)
 
@@ -67,7 +67,7 @@ gate-alike true true false a h = refl
 gate-alike true false o a h = refl
 gate-alike false v o a h = refl
 
--- the banks in the bytes that the array lookup gives of a page are those that the reader shows: of a refused page none
+-- the banks in the bytes that the array lookup finds are those that the reader shows; for a refused page there are no banks
 pub banks-shown : (r base : ℕ) (page : List ℕ) → banksIn (banks.shownCount (lookOf r base page 0)) (lookOf r base page 0) ≡ shownBanks (readOf r base page)
 unfolding lookOf readOf judge allShown lookIn wordIn countIn
 banks-shown r base page = gate-alike _ _ _ _ (section-alike _ _ (secAt base page 0) (section-short base page))

@@ -1,4 +1,4 @@
--- The view of an accepted page, put word by word from the page's core. Assumes nothing.
+-- The view of an accepted page, written word by word from the page's core. Assumes nothing.
 use Prim.Native.Nat.{ℕ, _+_, _-_, _*_, _≤_, _<_, min}
 use mathlib.Core.Path.{_≡_, refl, sym, ap, _∙_}
 use mathlib.Core.Bool.{true}
@@ -33,7 +33,7 @@ pub core-section : (e base k : ℕ) (page : List ℕ) → k ≤ 3 → sectionAt 
 unfolding sectionAt
 core-section e base k page h = rw (core-word (16 + 24 * k) page (omega arith), core-word (24 + 24 * k) page (omega arith))
 
--- an array of a page whose rules hold begins at or above the base
+-- in an accepted page every array starts at or above the base
 pub core-base : (w e base k : ℕ) (page : List ℕ) → rulesAt w e base page ≡ true → k ≤ 3 → k < sectionCount e → (countAt k (part 0 112 page) ≡ 0 → ⊥) → base ≤ pointerAt k (part 0 112 page)
 core-base w e base k page o m h z =
     let c : countAt k (part 0 112 page) ≡ countAt k page = core-word (16 + 24 * k) page (omega arith) in
@@ -42,7 +42,7 @@ core-base w e base k page o m h z =
     let l = range-low e base k (countAt k page) (pointerAt k page) g in
     omega arith
 
--- ---- by what was told: a section that has entries, the page's answer, a word of the view
+-- ---- from the values that the code reads: a section with entries, the page's answer, a word of the view
 pub told-entries : (e base k : ℕ) (core view : List ℕ) → k < sectionCount e → (n p : ℕ) → n ≡ countAt k core → p ≡ pointerAt k core → (n ≡ 0 → ⊥) → (after : List ℕ) → after ≡ splice (3 + 3 * k) (2 ∷ (p - base) ∷ n ∷ []) view →
     after ≡ splice (3 + 3 * k) (sectionWords (sectionAt e base core k)) view
 unfolding sectionWords tagWord placeWord countWord
@@ -54,7 +54,7 @@ told-read r base w m page e f after h =
     let g = shown-answer r base page w (min r w) f in
     (g .0, h ∙ rw e (g .1))
 
--- ---- three words by three
+-- ---- three words at a time
 laid-next : (xs ys l m : List ℕ) (n : ℕ) → m ≡ splice 0 xs l → n ≡ length xs → splice n ys m ≡ splice 0 (xs ++ ys) l
 laid-next xs ys l m n e f = rw (e, f) (rw zero-add at (splice-splice 0 xs l (omega arith) ys))
 

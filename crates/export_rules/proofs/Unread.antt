@@ -1,4 +1,4 @@
--- The exports read no byte of the page but for a push. Assumes nothing.
+-- Only a push reads bytes of the page. Assumes nothing.
 use Prim.Native.Nat.{ℕ}
 use mathlib.Core.Path.{_≡_, refl, ap}
 use mathlib.Core.List.{List}
@@ -16,7 +16,7 @@ use Rattle.images.specs.Image.{recordOf, isSet, sessionOf, registerWords, reply
 use Rattle.export_rules.specs.Exports.{tokenLeft, tokenIn, signingLeft, signingIn, queueLeft, callLeft, worldIn, callIn}
 use Rattle.export_rules.specs.Unread.{SameTokenLeft, SameSigningLeft, SameCallLeft, ExportsUnread}
 
--- only token signing leaves what the image's next words are
+-- only token signing uses the next words of the queue's image
 queue-same : (k : Kind) (j : Code) (a b image : List ℕ) → (k ≡ TokenSigning → a ≡ b) → queueLeft k j a image ≡ queueLeft k j b image
 unfolding queueLeft
 queue-same ForwardError j a b image h = refl

@@ -1,7 +1,7 @@
--- What C reads in x0 is the number of the code of which the command's own table speaks: `set-up-passes` and `set-up-refused` of `banks`,
--- `move-codes` and `list-codes` of `granule_rules`, `key-codes` of `attest`, `token-codes` of `token_rules`, `features-codes` and
--- `update-codes` of `features`, `signing-codes` of `signing`, `sign-codes` of `response_rules`. The numbers are those of `x0-numbers` of
--- `codes`. Assumes nothing.
+-- x0 of each export is the number of the command's code. When a command gives which code is proved in `set-up-passes` and `set-up-refused` of
+-- `banks`, `move-codes` and `list-codes` of `granule_rules`, `key-codes` of `attest`, `token-codes` of `token_rules`, `features-codes` and
+-- `update-codes` of `features`, `signing-codes` of `signing`, and `sign-codes` of `response_rules`. `x0-numbers` of `codes` has the numbers.
+-- Assumes nothing.
 use Prim.Native.Nat.{ℕ}
 use mathlib.Core.Path.{_≡_}
 use mathlib.Core.List.{List}
@@ -21,9 +21,11 @@ use Rattle.images.specs.Image.{recordOf, isSet, sessionOf, registerWords}
 use Rattle.queue_image.specs.Image.{listsIn}
 use Rattle.export_rules.specs.Exports.{setUpIn, moveIn, moveListIn, tokenIn, signingIn, signIn, worldIn, callIn}
 
+-- x0 of the result registers
 abbrev pub x0In : List ℕ → ℕ
 x0In out = getD out 0 0
 
+-- for each export, x0 is that of the command's code
 pub record ExportsTell : Type 0 where
   -- pbeam_set_up_granules
   pub setUp : (granules banks : List ℕ) (n : ℕ) → setUpIn granules banks n .x0 ≡ x0Of (setUpOf banks n granules .code)
@@ -50,6 +52,6 @@ pub record ExportsTell : Type 0 where
       x0In (registerWords (updateOf (recordOf state) width mecid .answer)) ≡ x0Of (updateOf (recordOf state) width mecid .answer .code)
   -- pbeam_sign
   pub sign : (queue signature : List ℕ) → x0In (signIn queue signature .out) ≡ x0Of (signOf (listsIn queue) signature .answer .code)
-  -- pbeam_call: of the command that the id names (`call-acts` of `runtime`)
+  -- pbeam_call: the code of the command with that id (`call-acts` of `runtime`)
   pub call : (granules session queue page table words : List ℕ) (c : Call) →
       x0In (callIn granules session queue page table words c .out) ≡ x0Of (replyCode (callOf granules (worldIn session queue page table words) c .reply))

@@ -1,6 +1,6 @@
 -- Demand 1 at the C edge. 01: "a refused call returns zero in the other result registers and changes no page, table, session or queue";
 -- 02, E6: "no refusal changes a word":
--- what a call of the exports leaves where x0 is not 0, whatever words were lent as an image. Assumes nothing.
+-- what an export leaves if x0 is not 0, for any lent words, including forged images. Assumes nothing.
 use Prim.Native.Nat.{ℕ}
 use mathlib.Core.Path.{_≡_}
 use mathlib.Core.List.{List, [], _∷_}
@@ -18,7 +18,7 @@ use Rattle.images.specs.Image.{recordOf, registerWords, workWords}
 use Rattle.images.specs.Realm.{numberX0, numberWords, hitX0, hitWords}
 use Rattle.export_rules.specs.Exports.{setUpIn, moveIn, moveListIn, buildIn, tokenIn, signingIn, signIn, callIn}
 
--- the registers show a refusal
+-- x0 is not 0: the call is refused
 abbrev pub Refuses : List ℕ → Type 0
 Refuses out = getD out 0 0 ≡ 0 → ⊥
 
@@ -26,6 +26,7 @@ Refuses out = getD out 0 0 ≡ 0 → ⊥
 abbrev pub x0Alone : List ℕ → List ℕ
 x0Alone out = getD out 0 0 ∷ 0 ∷ 0 ∷ []
 
+-- for each export, what a refusal leaves
 pub record ExportsRefuse : Type 0 where
   -- pbeam_set_up_granules. 02, E2: "the set-up answers INVAL, with no record made"
   pub setUp : (granules banks : List ℕ) (n : ℕ) →
@@ -35,8 +36,8 @@ pub record ExportsRefuse : Type 0 where
   pub delegation : (d : Direction) (state granules table words : List ℕ) (address : ℕ) →
       let l = moveIn d state granules table words address in
       Refuses (l .out) → l ≡ record { out = x0Alone (l .out); table = table; words = words }
-  -- pbeam_delegate_list, pbeam_undelegate_list. 02, E1: each granule counts as a call of its own, so x1 is the number done, and table and
-  -- words are those after the single calls of these; of an accepted list too
+  -- pbeam_delegate_list, pbeam_undelegate_list. 02, E1: each granule counts as a single call, so x1 is the number done, and table and
+  -- words are those after these single calls; also for an accepted list
   pub lists : (d : Direction) (state granules table words addresses : List ℕ) →
       let l = moveListIn d state granules table words addresses in
       let f = moveOf (recordOf state) granules d in
@@ -73,7 +74,7 @@ pub record ExportsRefuse : Type 0 where
   pub call : (granules session queue page table words : List ℕ) (c : Call) →
       let l = callIn granules session queue page table words c in
       Refuses (l .out) → l ≡ record { out = x0Alone (l .out); work = 0 ∷ 0 ∷ []; page = page; table = table; words = words; session = session; queue = queue }
-  -- pbeam_realm_count, pbeam_realm_next: nothing is told. 02, E6: "no refusal changes a word": pbeam_realm_build
+  -- pbeam_realm_count and pbeam_realm_next write 0. 02, E6: "no refusal changes a word": pbeam_realm_build
   pub realmCount : (words : List ℕ) (n : ℕ) →
       let a = realmCountOf words n in
       (numberX0 a ≡ 0 → ⊥) → numberWords a ≡ 0 ∷ []

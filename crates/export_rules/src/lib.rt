@@ -1,2 +1,2 @@
-// What the exports for C and Rust leave, and what a refusal leaves as it was: the definitions in specs/, and the laws and theorems on them in
+// What the exports for C and Rust leave, and what a refusal leaves unchanged: definitions in specs/, laws and theorems about them in
 // proofs/. The code is in `potterbeam`.

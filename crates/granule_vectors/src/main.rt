@@ -1,10 +1,10 @@
-// Runs the lists of granules, the questions to realm words and the set-ups that the numbered cases of data/ describe, in turn, up to the
-// first that is missing. A case is 8-byte words: the boot record (0 fresh, 1 up, 2 closed, then what it keeps); 0 to delegate, 1 to
-// undelegate, 2 to set up or 3 to ask; where the granule record stands (see `cases::granules_at`), with the realm words behind it; the
-// table's length; how many addresses the list has, how many bytes the banks, or the index to ask from. Then the table, and of a list the
-// addresses and the table expected at exit: prints the answer, whether the table is as expected, and the words. Of questions to the
-// words: prints how many, the next one, whether words and table agree, whether they were built, and the words. Of a set-up, the banks:
-// prints the code and the record at exit.
+// Runs the numbered cases of data/, in turn, up to the first number without a case: lists of granules, queries of the realm words, and
+// set-ups of the granule record. A case is 8-byte words: the boot record (0 fresh, 1 up, 2 closed, then its four values); 0 to delegate, 1 to
+// undelegate, 2 to set up or 3 to query; the offset of the granule record (see `cases::granules_at`), which the realm words follow; the
+// table's length; the number of addresses, the number of bytes of the banks, or the index for the query.
+// List: then table, addresses and the expected table. Prints the answer, whether the table is as expected, and the words.
+// Query: then the table. Prints count, next granule, whether words and table agree, whether the words were built, and the words.
+// Set-up: then the banks. Prints the code and the record at exit.
 use boot::Record;
 use codes::Answer;
 use libc::STDOUT_FILENO;
@@ -42,7 +42,7 @@ fn print_moves(
     print_answer(granules::undelegate_list(state, granules, table, words, list));
 }
 
-// A list with its lends: the table stands from 72 on, then the addresses, then the table expected.
+// Runs a list. The table starts at offset 72; the addresses and the expected table follow.
 fn print_list(input: &[u8], table: &mut [u8], words: &mut [u64], list: &mut [u64])
     requires { ⌜ (length (now table) ≤ 4200) × (length (now list) ≤ 600) ⌝ }
 {
@@ -114,7 +114,7 @@ fn print_built(done: bool) {
     print(b"build INVAL\n");
 }
 
-// Asks all four of the words: how many, which is next at or after the index that the case has, whether they agree; then builds them.
+// Prints the count, the next Realm granule at or after the case's index, and whether words and table agree; then builds the words.
 fn print_realm(input: &[u8], table: &[u8], words: &mut [u64]) {
     let granules = cases::granules_at(input, 48);
     let n = banks::granule_count(&granules) as usize;
@@ -137,7 +137,7 @@ fn print_record(granules: &[u64; 33]) {
     print(b"\n");
 }
 
-// A set-up: the banks stand from 72 on.
+// Runs a set-up. The banks start at offset 72.
 fn print_set_up(input: &[u8]) {
     let mut granules = cases::granules_at(input, 48);
     let n = cases::length_at(input, 64, 4096);
@@ -149,7 +149,7 @@ fn print_set_up(input: &[u8]) {
     print_record(&granules);
 }
 
-// A list, or all questions to the words, with room for them.
+// Runs a list or a query on the lent table, words and list.
 fn print_lent(input: &[u8], table: &mut [u8], words: &mut [u64], list: &mut [u64])
     requires { ⌜ (length (now table) ≤ 4200) × (length (now words) ≤ 600) × (length (now list) ≤ 600) ⌝ }
 {

@@ -1,4 +1,4 @@
--- What an enum of the code stands for, and its image. Assumes nothing.
+-- The image of an enum in the code is the image of the answer in the definitions. Assumes nothing.
 use Prim.Native.Nat.{ℕ}
 use mathlib.Core.Path.{_≡_, refl, ap, _∙_}
 use mathlib.Core.List.{List}
@@ -16,7 +16,7 @@ use Rattle.writer_rules.specs.declared.Wrote.{Wrote}
 use Rattle.writer_rules.specs.declared.Wrote.the-variants.{Page, Place, Edition, Lists, Late, Room}
 use Rattle.images.specs.Image.{viewWords, answerWords, madeNumber, wroteNumber}
 
--- ---- the reader's answer, by the enum that it gives
+-- ---- the reader's answer
 module _ (e base : ℕ) (page : List ℕ) where
   answer : (r : Reading) → r ≡ readingOf e base page → readingAnswer page r ≡ readOf e base page
   answer r h = ap (readingAnswer page) h ∙ reading-answer e base page

@@ -1,4 +1,4 @@
--- The image of a state, and the state of an image, are inverse to each other. Assumes nothing.
+-- State to image and image to state are inverse to each other. Assumes nothing.
 use Prim.Native.Nat.{ℕ}
 use mathlib.Core.Path.{_≡_, refl, ap}
 use mathlib.Core.List.{List}
@@ -11,7 +11,7 @@ use Rattle.token_rules.specs.declared.Session.{Session}
 use Rattle.token_rules.specs.declared.Session.the-variants.{Idle, Sending}
 use Rattle.images.specs.Image.{recordOf, recordWords, sessionOf, sessionWords, sectionBy, tagWord, placeWord, countWord, sectionIn, viewOf, viewWords}
 
--- a state comes back from its image
+-- the state of a state's image is that state
 pub record-back : (r : Record) → recordOf (recordWords r) ≡ r
 unfolding recordOf recordWords
 record-back Fresh = refl
@@ -33,7 +33,7 @@ pub view-back : (v : View) → viewOf (viewWords v) ≡ v
 unfolding viewOf viewWords sectionIn
 view-back v = rw (section-back (v .dram), section-back (v .console), section-back (v .ncoh), section-back (v .coh))
 
--- and an image that a state has comes back from its state
+-- the image of an image's state is that image, if some state has it
 pub record-again : (w : List ℕ) (r : Record) → w ≡ recordWords r → recordWords (recordOf w) ≡ w
 record-again w r e = rw (e, record-back r)
 

@@ -1,5 +1,5 @@
--- What a caller reads off the numbers and words of the calls on realm words is what was answered; and any flag but 0 is set. The numbers
--- are written out: 0 for OK, 1 for the named answer, and 2^64 - 5 for INVAL. Assumes nothing.
+-- The number and the word that a function on realm words returns determine its answer: 0 for OK, 1 for the named answer, 2^64 - 5 for
+-- INVAL. Any flag except 0 is set. Assumes nothing.
 use Prim.Native.Nat.{ℕ, _+_, _/_, _^_, _<_}
 use mathlib.Core.Path.{_≡_, refl, _∙_}
 use mathlib.Core.Bool.{Bool, true, false, cond}
@@ -28,7 +28,7 @@ use Rattle.images.specs.Realm.{numberX0, numberWords, hitX0, hitWords, a
 abbrev inval : ℕ
 inval = 0xFFFF_FFFF_FFFF_FFFB
 
--- ---- the answer that a number and a word tell
+-- ---- the answer for a number and a word
 abbrev pub numberRead : ℕ → List ℕ → Number
 numberRead x0 w = cond (eqb x0 0) (Number.Count (getD w 0 0)) Number.Inval
 
@@ -79,7 +79,7 @@ through-both f true true x y = refl
 through-both f true false x y = refl
 through-both f false b x y = refl
 
--- an equation that is tested, and what fails it
+-- an equality test, and when it fails
 unequal : (a b c next : ℕ) (below : ℕ → Type 0) → (a ≡ b → below next) → Gives (a ≡ b → ⊥) c below (cond (eqb a b) next c)
 unequal a b c next below h = line (eqb a b) _ c next below (λ n. ne-eqb a b n) (test-holds _ _ (λ e. eq-eqb a b e)) (λ y. h (eqb-true a b y))
 
@@ -132,7 +132,7 @@ next-codes ws n i = go (realmNextOf ws n i) refl
               record { where-it-holds = λ y. refl; elsewhere = λ y. absurd (next-inval ws n i e (sure _ _ x, below _ _ y)) };
         }
 
--- of 64-bit words
+-- for 64-bit words
 pub agree-codes : (t ws : List ℕ) (n : ℕ) → ((k : ℕ) → getD ws k 0 < 2 ^ 64) →
     Gives (Fitting ws n → ⊥) inval
     (Gives (length t ≡ n → ⊥) inval
@@ -160,7 +160,7 @@ build-codes t ws n =
     (unequal (length ws) ((n + 63) / 64) inval _ _ (λ l.
     unequal (length t) n inval 0 _ (λ m. refl)))
 
--- ---- so, of words that agree with their table, a caller reads the number of its Realm bytes, and the index of the first at or after i
+-- ---- if words and table agree, the caller gets the number of Realm bytes in the table, and the index of the first at or after i
 pub count-read : (t : List ℕ) → (numberX0 (realmCountOf (realmWords t) (length t)) ≡ 0) × (getD (numberWords (realmCountOf (realmWords t) (length t))) 0 0 ≡ realms t)
 unfolding numberX0 numberWords x0Of extended
 count-read t = rw (count-agrees t) (refl, refl)
@@ -173,7 +173,7 @@ next-read t i j l f =
     record { from = f .from; below = f .below; marks = rw (bit-agrees t j (f .below)) (f .marks); before = λ m a b c. f .before m a b (rw (bit-agrees t m (omega (arith, f .below))) at c) } in
     rw (next-is (realmWords t) (length t) i j (words-length (wordsFor (length t)) t, l) g) (refl, refl)
 
--- and 1 where there is none
+-- and 1 if the table has no Realm byte at or after i
 pub none-read : (t : List ℕ) (i : ℕ) → i < length t → NoneFrom (realmAt t) (length t) i → hitX0 (realmNextOf (realmWords t) (length t) i) ≡ 1
 unfolding hitX0 wordsFor
 none-read t i l f = rw (next-nothing (realmWords t) (length t) i (words-length (wordsFor (length t)) t, l) (λ m a b c. f m a b (rw (bit-agrees t m b) at c)))

@@ -1,4 +1,4 @@
--- What a caller reads off the words of an answer is what the answer holds. Assumes nothing.
+-- The words of an answer hold the values of the answer. Assumes nothing.
 use Prim.Native.Nat.{ℕ, zero, suc, _+_, _*_, _/_, _≤_, _<_}
 use mathlib.Core.Bool.{Bool, true, false, cond}
 use mathlib.Core.Path.{_≡_, refl, sym}
@@ -39,7 +39,7 @@ pub span-back : (p : Span) → (getD (spanWords p) 0 0 ≡ p .at) × (getD (span
 unfolding spanWords
 span-back p = (refl, refl)
 
--- what the platform has to do: nothing, the mecid to reprogram, or the error code to forward
+-- what the platform must do: nothing, the mecid to reprogram, or the error code to forward
 pub nothing-back : getD (workWords Nothing) 0 0 ≡ 0
 unfolding workWords
 nothing-back = refl
@@ -57,7 +57,7 @@ pub reply-back : (a : Answer) (mecid : ℕ) → (getD (replyRegisters (Back a (R
 unfolding replyRegisters registerWords replyWords workWords
 reply-back a mecid = (refl, refl)
 
--- a field: 1, its tag, and the offset and the length of its value; 2 and tag 3 for one that is withdrawn; 0 for none
+-- a field: 1, its tag, and the offset and the length of its value; 2 and tag 3 if it is withdrawn; 0 if there is no field
 pub raw-back : (t at n : ℕ) → (getD (fieldWords (place.Raw t at n)) 0 0 ≡ 1) × (getD (fieldWords (place.Raw t at n)) 1 0 ≡ t) × (getD (fieldWords (place.Raw t at n)) 2 0 ≡ at) × (getD (fieldWords (place.Raw t at n)) 3 0 ≡ n)
 unfolding fieldWords
 raw-back t at n = (refl, refl, refl, refl)
@@ -70,7 +70,7 @@ pub none-back : getD (fieldWords place.Nothing) 0 0 ≡ 0
 unfolding fieldWords
 none-back = refl
 
--- so the words tell which field it is
+-- so the words determine the field
 abbrev pub fieldOf : List ℕ → FieldPlace
 fieldOf w = cond (eqb (getD w 0 0) 0) place.Nothing (cond (eqb (getD w 0 0) 1) (place.Raw (getD w 1 0) (getD w 2 0) (getD w 3 0)) place.Withdrawn)
 
@@ -80,7 +80,7 @@ field-told (place.Raw t at n) = refl
 field-told place.Withdrawn = refl
 field-told place.Nothing = refl
 
--- ---- a console's number is told apart from that of none: there are fewer of them than a page has bytes
+-- ---- no console has the index 2^64 - 1, which stands for no console: there are fewer consoles than bytes in a page
 part-most : (b : Bool) (at n : ℕ) (s : List ℕ) → leb (at + n) (length s) ≡ b → length (cond b (part at n s) []) ≤ length s
 unfolding part
 part-most true at n s h =
@@ -95,7 +95,7 @@ count-most page v =
     let m = part-most (leb (p .at + p .len) (length page)) (p .at) (p .len) page refl in
     rw (← count-view page v 1) (omega arith)
 
--- of any page that a caller can lend, of 4,096 bytes or not
+-- for any page that a caller can lend, of any length
 pub console-told : (page name : List ℕ) (v : View) (i : ℕ) → length page < 0x1_0000_0000_0000_0000 → consoleNamed (readingAnswer page (Accepted v)) name ≡ found.At i →
     (consoleNumber (found.At i) ≡ i) × (consoleNumber (found.At i) ≡ consoleNumber found.Nothing → ⊥)
 unfolding consoleNumber
@@ -104,7 +104,7 @@ console-told page name v i h f =
     let m = count-most page v in
     (refl, λ e. omega arith)
 
--- ---- section k of the view that an image holds, by its three words
+-- ---- section k of an image's view, from its three words
 pub section-there : (k : ℕ) (image : List ℕ) → k ≤ 3 → sectionIn (3 + 3 * k) image ≡ sectionOf (viewOf image) k
 unfolding sectionOf viewOf
 section-there zero image h = refl

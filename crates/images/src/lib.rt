@@ -1,5 +1,5 @@
-// States and answers as lent words, for C: an image is read as a state, and a state written as its image. An image that no state
-// has is an input like any other.
+// Converts states and answers to and from images, the arrays of 64-bit words that a C caller lends. Every image is accepted, including one
+// that no function here returns.
 use boot::Params;
 use boot::Record;
 use codes::Answer;
@@ -24,6 +24,7 @@ ghost use Rattle.reader.specs.Reading.{sectionOf};
 ghost use Rattle.images.specs.Image.{recordOf, recordWords, isSet, sessionOf, sessionWords, registerWords, workWords, sectionIn, viewOf, spanWords, fieldWords, consoleNumber, wroteNumber};
 ghost use Rattle.images.specs.Realm.{numberX0, numberWords, hitX0, hitWords, agreementX0, builtX0};
 
+// The boot record of an image: word 0 is 0 for fresh, 1 for up, any other number for closed.
 pub fn record_of(image: &[u64; 5]) -> Record
     ensures { λ r. ⌜ r ≡ recordOf (now (image .entry)) ⌝ }
 {
@@ -41,6 +42,7 @@ pub fn record_of(image: &[u64; 5]) -> Record
     Record::Closed
 }
 
+// The image of a boot record.
 pub fn record_words(state: Record) -> [u64; 5]
     ensures { λ r. ⌜ r ≡ recordWords state ⌝ }
 {
@@ -51,6 +53,7 @@ pub fn record_words(state: Record) -> [u64; 5]
     }
 }
 
+// The token session of an image: word 0 is 0 for idle, any other number for sending.
 pub fn session_of(image: &[u64; 3]) -> Session
     ensures { λ r. ⌜ r ≡ sessionOf (now (image .entry)) ⌝ }
 {
@@ -63,6 +66,7 @@ pub fn session_of(image: &[u64; 3]) -> Session
     }
 }
 
+// The image of a token session.
 pub fn session_words(session: Session) -> [u64; 3]
     ensures { λ r. ⌜ r ≡ sessionWords session ⌝ }
 {
@@ -72,7 +76,7 @@ pub fn session_words(session: Session) -> [u64; 3]
     }
 }
 
-// The session after a call: written where the call was accepted, else the image stays as it was, also one that no session has.
+// Writes `session` to the image if `code` is OK. Otherwise the image is unchanged, even if `session_words` never returns it.
 pub fn put_session(image: &mut [u64; 3], session: Session, code: Code)
     ensures { λ _. ⌜ now (image .exit) ≡ ifOk code (sessionWords session) (now (image .entry)) ⌝ }
 {
@@ -81,7 +85,7 @@ pub fn put_session(image: &mut [u64; 3], session: Session, code: Code)
     }
 }
 
-// A flag as a number: any but 0 is set.
+// Whether a flag is set: any number except 0 is.
 pub fn is_set(flag: u64) -> bool
     ensures { λ r. ⌜ r ≡ isSet flag ⌝ }
 {
@@ -91,12 +95,14 @@ pub fn is_set(flag: u64) -> bool
     true
 }
 
+// x0, x1 and x2 of an answer.
 pub fn registers(answer: Answer) -> [u64; 3]
     ensures { λ r. ⌜ r ≡ registerWords answer ⌝ }
 {
     [answer.x0, answer.x1, answer.x2]
 }
 
+// What the platform must do: [0, 0] for nothing, or 1 and the mecid to reprogram.
 pub fn work_words(work: Work) -> [u64; 2]
     ensures { λ r. ⌜ r ≡ workWords work ⌝ }
 {
@@ -106,7 +112,7 @@ pub fn work_words(work: Work) -> [u64; 2]
     }
 }
 
-// The section whose three words begin at a place of an image.
+// The section whose three words start at word `at` of a view's image.
 fn section_in(image: &[u64; 15], at: usize) -> Section
     requires { ⌜ at ≤ 12 ⌝ }
     ensures { λ r. ⌜ r ≡ sectionIn at (now (image .entry)) ⌝ }
@@ -123,6 +129,7 @@ fn section_in(image: &[u64; 15], at: usize) -> Section
     }
 }
 
+// The view of an image: minor, edition, plat_data, then three words for each section.
 pub fn view_of(image: &[u64; 15]) -> View
     ensures { λ r. ⌜ r ≡ viewOf (now (image .entry)) ⌝ }
 {
@@ -137,7 +144,7 @@ pub fn view_of(image: &[u64; 15]) -> View
     }
 }
 
-// Section k of the view that an image holds: of its words those three alone are read. A number above 3 is none.
+// Section `k` of a view's image, `Absent` if `k` is above 3. Reads only the three words of that section.
 pub fn section_of(image: &[u64; 15], k: usize) -> Section
     ensures { λ r. ⌜ r ≡ sectionOf (viewOf (now (image .entry))) k ⌝ }
 {
@@ -147,8 +154,7 @@ pub fn section_of(image: &[u64; 15], k: usize) -> Section
     section_in(image, 3 + 3 * k)
 }
 
-// `kept::kept_for` of the view that an image holds. Each section is judged as its words are read: to make the whole view first takes a third
-// more time.
+// `kept::kept_for` for the view of an image. Takes the sections one at a time: building the whole view first takes a third longer.
 pub fn kept_for(page: &[u8], image: &[u64; 15]) -> u64
     ensures { λ r. ⌜ (r ≡ keptFor (viewOf (now (image .entry))) (now (page .entry))) × (r ≤ 4096) ⌝ }
 {
@@ -160,7 +166,7 @@ pub fn kept_for(page: &[u8], image: &[u64; 15]) -> u64
     8 * ((end + 7) / 8)
 }
 
-// The number of the writer's answer: 0, or 1 to 5 for W1 to W5.
+// The writer's answer as a number: 0 for a page, or 1 to 5 for W1 to W5.
 pub fn wrote_number(wrote: Wrote) -> u32
     ensures { λ r. ⌜ r ≡ wroteNumber wrote ⌝ }
 {
@@ -174,13 +180,14 @@ pub fn wrote_number(wrote: Wrote) -> u32
     }
 }
 
+// Offset and length of a part of the page.
 pub fn span_words(span: Span) -> [u64; 2]
     ensures { λ r. ⌜ r ≡ spanWords span ⌝ }
 {
     [span.at as u64, span.len as u64]
 }
 
-// A field that is asked for.
+// The result of a field lookup: 1, tag, offset and length of the value; 2 and tag 3 for the withdrawn field; zeros for no field.
 pub fn field_words(field: FieldPlace) -> [u64; 4]
     ensures { λ r. ⌜ r ≡ fieldWords field ⌝ }
 {
@@ -194,7 +201,7 @@ pub fn field_words(field: FieldPlace) -> [u64; 4]
     }
 }
 
-// The number of a console that is asked for by its name; the largest number where there is none.
+// The index of the console that a lookup by name found, or 2^64 - 1 if there is no such console.
 pub fn console_number(found: ConsoleFound) -> usize
     ensures { λ r. ⌜ r ≡ consoleNumber found ⌝ }
 {
@@ -204,7 +211,7 @@ pub fn console_number(found: ConsoleFound) -> usize
     }
 }
 
-// How many Realm granules there are: x0 of the code, and the number, 0 if refused.
+// x0 of a count of Realm granules: OK or INVAL.
 pub fn number_x0(number: Number) -> u64
     ensures { λ r. ⌜ r ≡ numberX0 number ⌝ }
 {
@@ -214,6 +221,7 @@ pub fn number_x0(number: Number) -> u64
     }
 }
 
+// The count of Realm granules, 0 if refused.
 pub fn number_words(number: Number) -> [u64; 1]
     ensures { λ r. ⌜ r ≡ numberWords number ⌝ }
 {
@@ -223,7 +231,7 @@ pub fn number_words(number: Number) -> [u64; 1]
     }
 }
 
-// The next Realm granule: x0 of the code, or 1 if there is none, and its index, 0 without one.
+// x0 of a search for the next Realm granule: OK, INVAL, or 1 for no such granule.
 pub fn hit_x0(hit: Hit) -> u64
     ensures { λ r. ⌜ r ≡ hitX0 hit ⌝ }
 {
@@ -234,6 +242,7 @@ pub fn hit_x0(hit: Hit) -> u64
     }
 }
 
+// The index of the granule found, 0 if no granule was found.
 pub fn hit_words(hit: Hit) -> [u64; 1]
     ensures { λ r. ⌜ r ≡ hitWords hit ⌝ }
 {
@@ -244,7 +253,7 @@ pub fn hit_words(hit: Hit) -> [u64; 1]
     }
 }
 
-// Whether words and table agree: x0 of the code, or 1 if they do not.
+// x0 of a comparison of realm words and table: OK if they agree, 1 if they differ, or INVAL.
 pub fn agreement_x0(agreement: Agreement) -> u64
     ensures { λ r. ⌜ r ≡ agreementX0 agreement ⌝ }
 {
@@ -255,7 +264,7 @@ pub fn agreement_x0(agreement: Agreement) -> u64
     }
 }
 
-// Whether words were built, as x0 of the code.
+// x0 of building the realm words: OK if `done`, otherwise INVAL.
 pub fn built_x0(done: bool) -> u64
     ensures { λ r. ⌜ r ≡ builtX0 done ⌝ }
 {

@@ -1,6 +1,6 @@
-// Reads the numbered cases of data/ in turn, up to the first that is missing. A case is four words, 0 to pack or 1 to mend, B, the
-// target's length and the byte that the target is full of; then a page of any length. Prints the answer of each and the mark of the page
-// that it leaves, of a packed page also the mark once it is packed again, and the listing of a page that was packed or mended.
+// Packs or mends the pages of the numbered cases of data/, in turn, up to the first number without a case. A case is four words: 0 to pack or
+// 1 to mend, B, the target's length and the byte that fills the target; then a page of any length. Prints the answer, the mark
+// (`cases::mark`) of the page afterwards, for a packed page also the mark after it is packed again, and the listing of the result.
 use libc::STDOUT_FILENO;
 use mend::Mended;
 use pack::Packing;
@@ -32,7 +32,7 @@ fn print_listing(page: &[u8], base: u64) {
     io::write_all(STDOUT_FILENO, &out[..n]);
 }
 
-// Whether each of the six parts was changed.
+// Prints for each of the six parts whether it was changed.
 fn print_report(changed: [u64; 6]) {
     io::write_all(STDOUT_FILENO, b"mended");
     for i in 0..6usize {
@@ -57,7 +57,7 @@ fn print_mended(page: &mut [u8], base: u64) {
     }
 }
 
-// A packed page, packed again.
+// Packs a packed page again and prints its mark.
 fn print_again(page: &[u8], base: u64) {
     let mut again = [0xFFu8; 4096];
     pack::pack(page, base, &mut again);
@@ -101,7 +101,7 @@ fn print_case(input: &mut [u8]) {
     print_packed(&input[32..], base, &mut room[..n]);
 }
 
-// Whether there is a case n.
+// Runs case `n`. Returns false if there is no such case.
 fn print_numbered(n: u64) -> bool {
     let mut input = [0u8; 8225];
     let length = cases::load(n, &mut input);

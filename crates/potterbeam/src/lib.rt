@@ -1,4 +1,5 @@
-// The kit for C and Rust: every entry but packer and mender (`potterbeam_pages`) under one prefix. A state is a lent image of words, a result a number or lent words.
+// The kit for C and Rust: exports every entry except packer and mender (`potterbeam_pages`) with the prefix `pbeam_`. The caller lends each
+// state as an image of words; a result is a number or is written to lent words.
 use boot::Record;
 use codes::Code;
 use reader::Verdict;
@@ -45,7 +46,7 @@ ghost use Rattle.export_rules.specs.Exports.{TokenLeft, tokenIn, SigningLeft, s
 
 // ---- Manifest ----
 
-// Three words of a view, put at a place.
+// Writes x, y and z to view[at], view[at + 1] and view[at + 2].
 fn put_three(view: &mut [u64], at: usize, x: u64, y: u64, z: u64)
     requires { ⌜ at + 3 ≤ length (now view) ⌝ }
     ensures { λ _. ⌜ now (view .exit) ≡ splice at (x ∷ y ∷ z ∷ []) (now (view .entry)) ⌝ }
@@ -55,7 +56,7 @@ fn put_three(view: &mut [u64], at: usize, x: u64, y: u64, z: u64)
     view[at + 2] = z;
 }
 
-// Section k of an accepted page, put into its view by the page's core.
+// Writes section `k` of an accepted page to `view`. `core` is the page's core, `e` the edition it is read as.
 fn show_section(core: &[u8], base: u64, e: Edition, k: u8, view: &mut [u64])
     requires { ⌜ (k ≤ 3) × (length (now view) ≡ 15) × (k < sectionCount (e .minor) → (countAt k (now core) ≡ 0 → ⊥) → base ≤ pointerAt k (now core)) ⌝ }
     ensures { λ _. ⌜ now (view .exit) ≡ splice (3 + 3 * k) (sectionWords (sectionAt (e .minor) base (now (core .entry)) k)) (now (view .entry)) ⌝ }
@@ -74,7 +75,7 @@ fn show_section(core: &[u8], base: u64, e: Edition, k: u8, view: &mut [u64])
     put_three(view, at, 2, from, count);
 }
 
-// The view of an accepted page, put straight from the page. Its core is a part of constant length, so that no bound is tested.
+// Writes the view of an accepted page directly to `view`. The slice `core` has a constant length, so the compiler drops the bounds checks.
 fn show(page: &[u8], base: u64, minor: u64, e: Edition, view: &mut [u64])
     requires { ⌜ (length (now page) ≡ 4096) × (length (now view) ≡ 15) × (rulesAt minor (e .minor) base (now page) ≡ true) ⌝ }
     ensures { λ _. ⌜ now (view .exit) ≡ viewWords (viewAt minor (e .minor) base (now (page .entry))) ⌝ }
@@ -88,7 +89,7 @@ fn show(page: &[u8], base: u64, minor: u64, e: Edition, view: &mut [u64])
     show_section(core, base, e, 3, view);
 }
 
-// Reads a page at a base as a reader of an edition. Answers 0 and what the page shows, or the code and a view of zeros.
+// Reads the page at `base` as a reader of `edition`. Returns 0 and fills `view`, or returns the code and zeroes `view`.
 #[no_mangle]
 pub extern "C" fn pbeam_read(page: &[u8], base: u64, edition: u64, view: &mut [u64; 15]) -> i32
     ensures { λ r. ⌜ r ≡ codeIn (readOf edition base (now (page .entry))) ⌝ }
@@ -106,7 +107,7 @@ pub extern "C" fn pbeam_read(page: &[u8], base: u64, edition: u64, view: &mut [u
     }
 }
 
-// The array lookup: where a section's array lies in a page at a base, as a reader of an edition finds it.
+// Reads the page at `base` as a reader of `edition`. Writes offset and length of the array of `section` to `place`, (0, 0) if there is no array.
 #[no_mangle]
 pub extern "C" fn pbeam_array(
     page: &[u8],
@@ -120,7 +121,7 @@ pub extern "C" fn pbeam_array(
     *place = images::span_words(lookup::place(page, base, edition, section));
 }
 
-// Where the array of a view's section lies in the page.
+// Writes offset and length of the array of a view's section to `place`, (0, 0) if there is no array in the page.
 #[no_mangle]
 pub extern "C" fn pbeam_array_of(
     page: &[u8],
@@ -134,7 +135,7 @@ pub extern "C" fn pbeam_array_of(
     *place = images::span_words(lookup::place_in(page.len(), wanted, section));
 }
 
-// How many entries a view's section has.
+// The number of entries in a view's section.
 #[no_mangle]
 pub extern "C" fn pbeam_count(page: &[u8], view: &[u64; 15], section: usize) -> usize
     ensures { λ r. ⌜ r ≡ countIn (readingAnswer (now (page .entry)) (Accepted (viewOf (now (view .entry))))) section ⌝ }
@@ -142,7 +143,7 @@ pub extern "C" fn pbeam_count(page: &[u8], view: &[u64; 15], section: usize) -> 
     lookup::count_in(page, images::section_of(view, section), section)
 }
 
-// A word of an entry of a view's section.
+// Word `word` of entry `entry` of a view's section, 0 if there is no such word.
 #[no_mangle]
 pub extern "C" fn pbeam_word(
     page: &[u8],
@@ -157,7 +158,7 @@ pub extern "C" fn pbeam_word(
     lookup::word_in(page, view[0], wanted, section, entry, word)
 }
 
-// The number of a view's first console whose name's 8 bytes are those given; the largest number where there is none.
+// The index of the view's first console with these 8 bytes of name, or 2^64 - 1 if no console has them.
 #[no_mangle]
 pub extern "C" fn pbeam_console_named(page: &[u8], view: &[u64; 15], name: &[u8; 8]) -> usize
     ensures { λ r. ⌜ r ≡ consoleNumber (consoleNamed (readingAnswer (now (page .entry)) (Accepted (viewOf (now (view .entry))))) (now (name .entry))) ⌝ }
@@ -165,7 +166,7 @@ pub extern "C" fn pbeam_console_named(page: &[u8], view: &[u64; 15], name: &[u8;
     images::console_number(lookup::find_console(page, images::view_of(view), name))
 }
 
-// How many fields a view shows.
+// The number of fields that a view shows.
 #[no_mangle]
 pub extern "C" fn pbeam_field_count(page: &[u8], view: &[u64; 15]) -> usize
     ensures { λ r. ⌜ r ≡ length (fieldsShown (readingAnswer (now (page .entry)) (Accepted (viewOf (now (view .entry)))))) ⌝ }
@@ -173,7 +174,7 @@ pub extern "C" fn pbeam_field_count(page: &[u8], view: &[u64; 15]) -> usize
     field_lookup::field_count(page, images::view_of(view))
 }
 
-// A view's field by its number, in page order.
+// Writes field `index` of a view, in page order, to `field`; zeros if there is no such field.
 #[no_mangle]
 pub extern "C" fn pbeam_field(page: &[u8], view: &[u64; 15], index: usize, field: &mut [u64; 4])
     ensures { λ _. ⌜ now (field .exit) ≡ fieldWords (nthPlace index (viewOf (now (view .entry))) (now (page .entry))) ⌝ }
@@ -183,7 +184,7 @@ pub extern "C" fn pbeam_field(page: &[u8], view: &[u64; 15], index: usize, field
     *field = images::field_words(field_lookup::field_of(page, images::view_of(view), index));
 }
 
-// A view's first field with a tag.
+// Writes the view's first field with tag `tag` to `field`; zeros if there is no such field.
 #[no_mangle]
 pub extern "C" fn pbeam_field_of_tag(page: &[u8], view: &[u64; 15], tag: u8, field: &mut [u64; 4])
     ensures { λ _. ⌜ now (field .exit) ≡ fieldWords (tagPlace tag (viewOf (now (view .entry))) (now (page .entry))) ⌝ }
@@ -193,7 +194,7 @@ pub extern "C" fn pbeam_field_of_tag(page: &[u8], view: &[u64; 15], tag: u8, fie
     *field = images::field_words(field_lookup::field_of_tag(page, images::view_of(view), tag));
 }
 
-// The cursor at a view's first field.
+// The cursor of a view's first field, for `pbeam_field_next`.
 #[no_mangle]
 pub extern "C" fn pbeam_field_start(page: &[u8], view: &[u64; 15]) -> usize
     ensures { λ r. ⌜ r ≡ startAt ((viewOf (now (view .entry))) .plat) (now (page .entry)) ⌝ }
@@ -202,7 +203,7 @@ pub extern "C" fn pbeam_field_start(page: &[u8], view: &[u64; 15]) -> usize
     field_lookup::fields_start(page, images::view_of(view))
 }
 
-// The field at a cursor. Answers the cursor behind it.
+// Writes the field at `cursor` to `field` and returns the cursor of the next one.
 #[no_mangle]
 pub extern "C" fn pbeam_field_next(page: &[u8], cursor: usize, field: &mut [u64; 4]) -> usize
     ensures { λ r. ⌜ r ≡ stepAt cursor (now (page .entry)) .next ⌝ }
@@ -216,8 +217,8 @@ pub extern "C" fn pbeam_field_next(page: &[u8], cursor: usize, field: &mut [u64;
     step.next
 }
 
-// How many bytes the manifest of a view takes from the page's start, its fields too: with so many kept bytes at cold boot it is read the same,
-// as the edition of the view, after any runtime commands. At most 4,096.
+// The number of bytes from the page's start that the manifest of a view takes, including its fields; at most 4,096. With this number of
+// kept bytes at cold boot, a reader of the view's edition gets the same answer after any runtime commands.
 #[no_mangle]
 pub extern "C" fn pbeam_kept_for(page: &[u8], view: &[u64; 15]) -> u64
     ensures { λ r. ⌜ (r ≡ keptFor (viewOf (now (view .entry))) (now (page .entry))) × (r ≤ 4096) ⌝ }
@@ -225,7 +226,7 @@ pub extern "C" fn pbeam_kept_for(page: &[u8], view: &[u64; 15]) -> u64
     images::kept_for(page, view)
 }
 
-// The listing of a page at a base, as a reader of an edition reads it, as far as it fits. Answers the length of the whole text.
+// Writes the listing of the page at `base`, read as `edition`, to `text`, cut to the length of `text`. Returns the length of the whole listing.
 #[no_mangle]
 pub extern "C" fn pbeam_listing(page: &[u8], base: u64, edition: u64, text: &mut [u8]) -> usize
     ensures { λ r. ⌜ r ≡ length (listingOf (readOf edition base (now (page .entry)))) ⌝ }
@@ -234,7 +235,7 @@ pub extern "C" fn pbeam_listing(page: &[u8], base: u64, edition: u64, text: &mut
     text::list(page, base, edition, text)
 }
 
-// Writes a manifest of an edition for a base into the page. Answers 0, or 1 to 5 for W1 to W5.
+// Writes a manifest of `edition` for a page at `base`. Returns 0, or 1 to 5 for W1 to W5.
 #[no_mangle]
 pub extern "C" fn pbeam_write(
     base: u64,
@@ -256,7 +257,7 @@ pub extern "C" fn pbeam_write(
 
 // ---- Versions ----
 
-// Whether a version is accepted, for boot interface and manifest alike.
+// Whether a version is accepted, for the boot interface and for the manifest (VN3).
 #[no_mangle]
 pub extern "C" fn pbeam_version_accepted(version: u64) -> bool
     ensures { λ r. ⌜ r ≡ versionOk version ⌝ }
@@ -264,7 +265,7 @@ pub extern "C" fn pbeam_version_accepted(version: u64) -> bool
     versions::is_accepted(version)
 }
 
-// The agreed interface minor, by the version offered.
+// The agreed interface minor for the offered version: min(5, minor) (VN4).
 #[no_mangle]
 pub extern "C" fn pbeam_agreed_minor(version: u64) -> u64
     ensures { λ r. ⌜ r ≡ agreed version ⌝ }
@@ -282,8 +283,8 @@ pub extern "C" fn pbeam_is_later(a: u64, b: u64) -> bool
 
 // ---- Boot ----
 
-// Cold boot with x0 to x3 on a monitor of at most so many CPUs, with so many kept bytes at the start of the page, and the manifest's page at
-// x3. Answers 0 or the code.
+// Cold boot with x0 to x3, on a monitor of at most `most` CPUs, with `kept` kept bytes at the start of the page, which is at physical
+// address x3. Returns 0 or the code.
 #[no_mangle]
 pub extern "C" fn pbeam_cold_boot(
     image: &mut [u64; 5],
@@ -305,7 +306,7 @@ pub extern "C" fn pbeam_cold_boot(
     boot::number(code)
 }
 
-// Warm boot with x0 to x3, of which only x0 counts. Answers 0 or the code.
+// Warm boot with x0 to x3; only x0 is used. Returns 0 or the code.
 #[no_mangle]
 pub extern "C" fn pbeam_warm_boot(image: &mut [u64; 5], x0: u64, x1: u64, x2: u64, x3: u64) -> i32
     ensures { λ r. ⌜ r ≡ warmCode (recordOf (now (image .entry))) x0 ⌝ }
@@ -318,7 +319,7 @@ pub extern "C" fn pbeam_warm_boot(image: &mut [u64; 5], x0: u64, x1: u64, x2: u6
     boot::number(code)
 }
 
-// Closes the record for good, whatever it was: for EL3, when the monitor reports that its boot failed.
+// Closes the record permanently, from any state. EL3 calls it when the monitor reports that its boot failed.
 #[no_mangle]
 pub extern "C" fn pbeam_close(image: &mut [u64; 5])
     ensures { λ _. ⌜ now (image .exit) ≡ recordWords Closed ⌝ }
@@ -328,8 +329,8 @@ pub extern "C" fn pbeam_close(image: &mut [u64; 5])
 
 // ---- Granule record ----
 
-// Sets up the granule record from the banks in a page, in the bytes that the array lookup gives, for a table of so many granules. Answers
-// 0, or the number of INVAL as x0 holds it, and leaves the record as it was.
+// Sets up the granule record from `banks`, the bytes that the array lookup finds in a page, for a table of `len` granules. Returns x0 of OK
+// or INVAL; after INVAL the record is unchanged.
 #[no_mangle]
 pub extern "C" fn pbeam_set_up_granules(granules: &mut [u64; 33], banks: &[u8], len: u64) -> u64
     ensures { λ r. ⌜ _≡_ {A = SetUpLeft} (record { x0 = r; granules = now (granules .exit) })
@@ -340,7 +341,7 @@ pub extern "C" fn pbeam_set_up_granules(granules: &mut [u64; 33], banks: &[u8], 
 
 // ---- Runtime commands ----
 
-// 0xC40001B0: the granule at an address becomes Realm.
+// 0xC40001B0: changes the granule at `address` to Realm.
 #[no_mangle]
 pub extern "C" fn pbeam_delegate(
     state: &[u64; 5],
@@ -362,7 +363,7 @@ pub extern "C" fn pbeam_delegate(
     ));
 }
 
-// 0xC40001B1: the granule at an address becomes Non-secure.
+// 0xC40001B1: changes the granule at `address` to Non-secure.
 #[no_mangle]
 pub extern "C" fn pbeam_undelegate(
     state: &[u64; 5],
@@ -384,7 +385,7 @@ pub extern "C" fn pbeam_undelegate(
     ));
 }
 
-// The granules at a list of addresses become Realm, one by one up to the first that is refused; x1 is how many did.
+// Changes the granules at `addresses` to Realm, one after another, up to the first that is refused; x1 is the number changed.
 #[no_mangle]
 pub extern "C" fn pbeam_delegate_list(
     state: &[u64; 5],
@@ -406,7 +407,7 @@ pub extern "C" fn pbeam_delegate_list(
     ));
 }
 
-// The granules at a list of addresses become Non-secure, one by one up to the first that is refused; x1 is how many did.
+// Changes the granules at `addresses` to Non-secure, one after another, up to the first that is refused; x1 is the number changed.
 #[no_mangle]
 pub extern "C" fn pbeam_undelegate_list(
     state: &[u64; 5],
@@ -428,7 +429,7 @@ pub extern "C" fn pbeam_undelegate_list(
     ));
 }
 
-// 0xC40001B2: the realm key at pa.
+// 0xC40001B2: writes the realm key to the page at `pa`.
 #[no_mangle]
 pub extern "C" fn pbeam_realm_key(
     state: &[u64; 5],
@@ -452,7 +453,7 @@ pub extern "C" fn pbeam_realm_key(
     ));
 }
 
-// 0xC40001B3: the next hunk of the token at pa. The session's image is written where the call is accepted.
+// 0xC40001B3: writes the next hunk of the token to the page at `pa`. The session's image changes only if the call is accepted.
 #[no_mangle]
 pub extern "C" fn pbeam_platform_token(
     state: &[u64; 5],
@@ -468,7 +469,7 @@ pub extern "C" fn pbeam_platform_token(
     ensures { λ _. ⌜ _≡_ {A = TokenLeft} (record { out = now (out .exit); page = now (page .exit); session = now (session .exit) })
         (tokenIn (now (state .entry)) (now (session .entry)) (now (page .entry)) (now (token .entry)) busy pa size csize) ⌝ }
 {
-    // `&token[..]`, not `token`: the compiler then passes pointer and length of the token to this function in registers. Saves about 2 ns.
+    // With `&token[..]` in place of `token` the compiler passes pointer and length of the token in registers. Saves about 2 ns.
     let done = token::platform_token(
         images::record_of(state),
         page,
@@ -486,7 +487,7 @@ pub extern "C" fn pbeam_platform_token(
     *out = images::registers(answer);
 }
 
-// Where the challenge of a start lies in the page. Answers x0 of the first check that the call fails, or OK.
+// Writes offset and length of the challenge in the page to `place`. Returns x0 of OK, or of the first check that fails.
 #[no_mangle]
 pub extern "C" fn pbeam_challenge(
     state: &[u64; 5],
@@ -504,7 +505,7 @@ pub extern "C" fn pbeam_challenge(
     codes::x0(token::challenge_code(record, page, pa, size, csize))
 }
 
-// 0xC40001B4: the features at an index.
+// 0xC40001B4: the feature register at `index`.
 #[no_mangle]
 pub extern "C" fn pbeam_features(state: &[u64; 5], index: u64, out: &mut [u64; 3])
     ensures { λ _. ⌜ now (out .exit) ≡ registerWords (featuresOf (recordOf (now (state .entry))) index) ⌝ }
@@ -512,8 +513,8 @@ pub extern "C" fn pbeam_features(state: &[u64; 5], index: u64, out: &mut [u64; 3
     *out = images::registers(features::features(images::record_of(state), index));
 }
 
-// 0xC40001B5: push, pull or key, by opcode. An accepted push changes the requests' side of the queue's image, an accepted pull the
-// responses'; no other word of it changes.
+// 0xC40001B5: push, pull or key, by `opcode`. An accepted push changes only the requests in the queue's image, an accepted pull only the
+// responses.
 #[no_mangle]
 pub extern "C" fn pbeam_token_signing(
     state: &[u64; 5],
@@ -535,7 +536,7 @@ pub extern "C" fn pbeam_token_signing(
     *out = images::registers(answer);
 }
 
-// 0xC40001B6: what the platform has to do goes into work.
+// 0xC40001B6: writes what the platform must do to `work`.
 #[no_mangle]
 pub extern "C" fn pbeam_key_update(
     state: &[u64; 5],
@@ -554,7 +555,7 @@ pub extern "C" fn pbeam_key_update(
     *out = images::registers(answer);
 }
 
-// 0xC400018F: the error code that goes to the Non-secure world.
+// 0xC400018F: returns the error code for the Non-secure world.
 #[no_mangle]
 pub extern "C" fn pbeam_forward(state: &[u64; 5], x1: u64) -> u64
     ensures { λ r. ⌜ r ≡ forwardOf (recordOf (now (state .entry))) x1 ⌝ }
@@ -564,8 +565,8 @@ pub extern "C" fn pbeam_forward(state: &[u64; 5], x1: u64) -> u64
 
 // ---- The signer ----
 
-// The signer's own step: the oldest request becomes the newest response, with the signature that the signer lends. Where the
-// step is accepted, both sides of the queue's image change.
+// The signer's step: turns the oldest request into the newest response, with the lent signature. If the step is accepted, requests and
+// responses in the queue's image both change.
 #[no_mangle]
 pub extern "C" fn pbeam_sign(queue: &mut [u64; 210], signature: &[u8], out: &mut [u64; 3])
     ensures { λ _. ⌜ _≡_ {A = SignLeft} (record { out = now (out .exit); queue = now (queue .exit) }) (signIn (now (queue .entry)) (now (signature .entry))) ⌝ }
@@ -573,7 +574,7 @@ pub extern "C" fn pbeam_sign(queue: &mut [u64; 210], signature: &[u8], out: &mut
     *out = images::registers(responses::sign_on(queue, signature));
 }
 
-// The oldest request. Answers how many wait; where none does, the request is zeros.
+// Writes the oldest request to `request`, or zeros if no request waits. Returns the number of waiting requests.
 #[no_mangle]
 pub extern "C" fn pbeam_oldest(queue: &[u64; 210], request: &mut [u64; 10]) -> usize
     ensures { λ r. ⌜ r ≡ length (listsIn (now (queue .entry)) .requests) ⌝ }
@@ -583,7 +584,7 @@ pub extern "C" fn pbeam_oldest(queue: &[u64; 210], request: &mut [u64; 10]) -> u
     queue_image::requests_waiting(queue)
 }
 
-// How many responses wait to be pulled.
+// The number of responses that wait for a pull.
 #[no_mangle]
 pub extern "C" fn pbeam_responses(queue: &[u64; 210]) -> usize
     ensures { λ r. ⌜ r ≡ length (listsIn (now (queue .entry)) .responses) ⌝ }
@@ -593,7 +594,7 @@ pub extern "C" fn pbeam_responses(queue: &[u64; 210]) -> usize
 
 // ---- The realm words ----
 
-// How many Realm granules there are, by the words alone. Answers x0 of OK or INVAL.
+// Counts the Realm granules, using only the realm words. Returns x0 of OK or INVAL.
 #[no_mangle]
 pub extern "C" fn pbeam_realm_count(
     granules: &[u64; 33],
@@ -609,7 +610,7 @@ pub extern "C" fn pbeam_realm_count(
     images::number_x0(counted)
 }
 
-// The first Realm granule at or after an index, by the words alone. Answers x0 of OK or INVAL, or 1 if there is none.
+// Finds the first Realm granule at or after `index`, using only the realm words. Returns x0 of OK or INVAL, or 1 for no such granule.
 #[no_mangle]
 pub extern "C" fn pbeam_realm_next(
     granules: &[u64; 33],
@@ -626,7 +627,7 @@ pub extern "C" fn pbeam_realm_next(
     images::hit_x0(hit)
 }
 
-// Whether words and table agree, spare bits too. Answers x0 of OK or INVAL, or 1 if they do not.
+// Whether realm words and table agree, including the spare bits. Returns x0 of OK or INVAL, or 1 if they differ.
 #[no_mangle]
 pub extern "C" fn pbeam_realm_agrees(granules: &[u64; 33], table: &[u8], words: &[u64]) -> u64
     ensures { λ r. ⌜ r ≡ agreementX0 (realmAgreeOf (now (table .entry)) (now (words .entry)) (granuleCount (now (granules .entry)))) ⌝ }
@@ -635,7 +636,7 @@ pub extern "C" fn pbeam_realm_agrees(granules: &[u64; 33], table: &[u8], words: 
     images::agreement_x0(realm_words::agrees(table, words, n as usize))
 }
 
-// Makes the words agree with the table. Answers x0 of OK or INVAL.
+// Builds the realm words from the table. Returns x0 of OK or INVAL.
 #[no_mangle]
 pub extern "C" fn pbeam_realm_build(granules: &[u64; 33], table: &[u8], words: &mut [u64]) -> u64
     ensures { λ r. ⌜ _≡_ {A = BuildLeft} (record { x0 = r; words = now (words .exit) })
@@ -647,11 +648,11 @@ pub extern "C" fn pbeam_realm_build(granules: &[u64; 33], table: &[u8], words: &
 
 // ---- Every command ----
 
-// The first word of `work` for 0xC400018F: the second, err_code, goes to the Non-secure world.
+// work[0] after 0xC400018F; work[1] is err_code for the Non-secure world.
 const WORK_FORWARD: u64 = 2;
 
-// A call of the interface, x0 being the function id. Only the platform token reads and writes the session's image, and only token
-// signing the queue's; each changes where the call is accepted.
+// Runs any runtime command: call[0] is the function id, call[1] to call[4] are x1 to x4. Only the platform token uses the session's image and
+// only token signing the queue's image; an image changes only if the call is accepted.
 #[no_mangle]
 pub extern "C" fn pbeam_call(
     state: &[u64; 5],
@@ -682,7 +683,7 @@ pub extern "C" fn pbeam_call(
         (callIn (now (granules .entry)) (now (session .entry)) (now (queue .entry)) (now (page .entry)) (now (table .entry)) (now (words .entry))
         (callLent (now (state .entry)) (now (call .entry)) busy (now (key .entry)) (now (token .entry)) (now (public .entry)) width)) ⌝ }
 {
-    // Reads the arguments before the id. Read in the arms, the compiler loads them two at a time, and such a load waits for the caller's two
+    // Reads the arguments before the match. In the arms the compiler would load them in pairs, and a paired load waits for the caller's two
     // stores. Saves about 3 ns.
     let x1 = call[1];
     let x2 = call[2];

@@ -1,6 +1,6 @@
-// Reads the numbered cases of data/ in turn, up to the first that is missing. A case is 8 bytes of reader edition, 8 bytes of
-// B and a page of any length. Prints the listing of each, what the array lookup gives for sections 0 to 4 and, if the page is accepted,
-// what the field lookups give and which consoles have some names.
+// Reads the pages of the numbered cases of data/, in turn, up to the first number without a case. A case is 8 bytes of reader edition, 8 bytes
+// of B and a page of any length. Prints the listing, the result of the array lookup for sections 0 to 4 and, if the page is accepted,
+// the results of the field lookups and of console lookups for some names.
 use fields::FieldPlace;
 use libc::STDOUT_FILENO;
 use lookup::ConsoleFound;
@@ -23,7 +23,7 @@ fn print_number(name: &[u8], n: u64) {
     io::print_decimal(STDOUT_FILENO, n);
 }
 
-// The tag, the length and the mark of a field that was asked for; or that it is withdrawn, or that there is none.
+// Prints tag, length and mark of the field that a lookup found, or that it is withdrawn, or that no field was found.
 fn print_field(page: &[u8], field: FieldPlace) {
     match field {
         FieldPlace::Raw { tag, at: _, len } => {
@@ -51,7 +51,7 @@ fn print_index(page: &[u8], view: View, i: usize) {
     print_field(page, field_lookup::field_of(page, view, i));
 }
 
-// How many fields there are, the first of some tags, and some by number.
+// Prints the number of fields, the first field of some tags, and some fields by index.
 fn print_fields(page: &[u8], view: View) {
     let n = field_lookup::field_count(page, view);
     print_number(b"fields", n as u64);
@@ -65,7 +65,7 @@ fn print_fields(page: &[u8], view: View) {
     print_index(page, view, n);
 }
 
-// The first console with a name, by its number.
+// Prints the index of the first console with a name.
 fn print_console(page: &[u8], view: View, text: &[u8], name: &[u8; 8]) {
     io::write_all(STDOUT_FILENO, text);
     match lookup::find_console(page, view, name) {

@@ -1,4 +1,4 @@
--- Each command is reached by its id, with its registers. Assumes nothing.
+-- Each function id runs its command, with its registers. Assumes nothing.
 use Prim.Native.Nat.{ℕ}
 use mathlib.Core.Path.{_≡_, refl, ap, _∙_}
 use borrow.Author.Tests.{ne-eqb}

@@ -1,5 +1,5 @@
--- 02, E6: any sequence of commands, lists and signer's steps keeps words and table in agreement, so that the answers from the words stay
--- those of the full walk. Assumes nothing.
+-- 02, E6: if words and table agree, they agree after any sequence of commands, lists and signer's steps, so the answers from the words equal
+-- those of a full scan of the table. Assumes nothing.
 use Prim.Native.Nat.{ℕ, _<_}
 use mathlib.Core.Path.{_≡_, refl, sym, _∙_}
 use mathlib.Core.List.{List, [], _∷_}
@@ -17,7 +17,7 @@ use Rattle.runtime.specs.declared.Kind.the-variants.{ForwardError, Deleg
 use Rattle.runtime.specs.Step.{World, Call, Command, call, sign, list, kindOf, afterMove, afterKey, afterToken, afterSigning, afterUpdate, afterSign, callBy, callOf, stepOf}
 use Rattle.runtime.specs.Run.{nextOf, worldAfter}
 
--- ---- what each delegation keeps of the table, every sequence keeps: no other command changes it
+-- ---- a property of the table that each delegation preserves is preserved by every sequence: no other command changes the table
 module _ (g : Granules) (P : GranuleTable → Type 0) (keeps : (s : Record) (d : Direction) (t : GranuleTable) (addr : ℕ) → P t → P (moveOf s g d t addr .table)) where
   by-keeps : (k : Kind) (w : World) (c : Call) → P (w .table) → P (callBy k g w c .next .table)
   unfolding callBy afterMove afterKey afterToken afterSigning afterUpdate
@@ -50,7 +50,7 @@ module _ (g : Granules) (w : World) (cs : List Command) where
     pub agreement-kept : Agrees (worldAfter g w cs .table)
     agreement-kept = table-keeps g Agrees (λ s d t addr p. move-keeps s g d t addr p) w cs a
 
-    -- the answers after the sequence, for the record of the table
+    -- the answers after the sequence, if the table has one byte for each granule of the record
     module _ (n : granuleCount g ≡ length (w .table .bytes)) where
       pub count-after : realmCountOf (worldAfter g w cs .table .words) (granuleCount g) ≡ Number.Count (realms (worldAfter g w cs .table .bytes))
       count-after = count-walks g (worldAfter g w cs .table) (n ∙ sym length-stays) agreement-kept

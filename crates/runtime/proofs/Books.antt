@@ -1,4 +1,4 @@
--- 02, E14: the books on granules over any sequence of commands. Assumes nothing.
+-- 02, E14: the balance of Realm granules over any sequence of commands. Assumes nothing.
 use mathlib.Core.Path.{_≡_, sym}
 use mathlib.Core.List.{List}
 use lib.ListN.{length}
@@ -21,12 +21,12 @@ use Rattle.runtime.proofs.Agreement.{count-after}
 pub command-account : (g : Granules) (w : World) (c : Command) → Account g (w .table) (changesOf g w c) (nextOf g w c .table)
 command-account g w c = command-by (Account g) (account-none g) (account-join g) g Fresh w c (λ d t a h. call-account _ g d t a h)
 
--- "over any sequence of delegate, undelegate and list calls with one granule record, from any starting table", any other commands in between,
--- whatever boot record each comes with: the books balance, and each granule's byte is the one that the last accepted call naming it left
+-- "over any sequence of delegate, undelegate and list calls with one granule record, from any starting table", with any other commands in
+-- between and any boot record for each: the books balance, and each granule's byte is the one that the last accepted call naming it left
 pub granule-books : (g : Granules) (w : World) (cs : List Command) → Books g (w .table) (gathered g (changesOf g) w cs) (worldAfter g w cs .table)
 granule-books g w cs = account-books g (w .table) _ _ (run-by (Account g) (account-none g) (account-join g) g (λ s d t a h. call-account s g d t a h) w cs)
 
--- The same of the number that the words answer, where they agree with the table at the start: agreement is asked for, and answered yes.
+-- The same for the count of the realm words, if the comparison of words and table answers yes at the start.
 pub count-books : (g : Granules) (w : World) (cs : List Command) → realmAgreeOf (w .table .bytes) (w .table .words) (granuleCount g) ≡ Agreement.Yes → CountBooks g (w .table) (gathered g (changesOf g) w cs) (worldAfter g w cs .table)
 count-books g w cs y =
     let a : Agrees (w .table) = agree-told (w .table .bytes) (w .table .words) (granuleCount g) y in

@@ -1,4 +1,4 @@
--- What holds of each accepted call on a granule holds of any command, and of any sequence. Assumes nothing.
+-- A property of each accepted call on a granule holds for any command, and for any sequence. Assumes nothing.
 use Prim.Native.Nat.{ℕ}
 use mathlib.Core.Path.{_≡_, ap}
 use mathlib.Core.Bool.{Bool, true, false, cond}
@@ -19,10 +19,10 @@ use Rattle.runtime.specs.Step.{World, Call, Command, call, sign, list, k
 use Rattle.runtime.specs.Run.{nextOf, worldAfter, gathered}
 use Rattle.runtime.specs.Changes.{ofMove, changesOf, under}
 
--- A relation between a table, the changes to it and the table then, which holds of no change and goes on from table to table
+-- A relation between a table, a list of changes and the table after them, which holds for no change and is transitive
 module _ (R : GranuleTable → List Change → GranuleTable → Type 0) (none : (t : GranuleTable) → R t [] t)
     (join : (t u v : GranuleTable) (xs ys : List Change) → R t xs u → R u ys v → R t (xs ++ ys) v) (g : Granules) where
-  -- it holds of each accepted call with this boot record
+  -- it holds for each accepted call with this boot record
   abbrev One : Record → Type 0
   One s = (d : Direction) (t : GranuleTable) (a : ℕ) → moveOf s g d t a .answer .code ≡ Ok → R t (change d a ∷ []) (moveOf s g d t a .table)
 
@@ -42,7 +42,7 @@ module _ (R : GranuleTable → List Change → GranuleTable → Type 0) (none : 
   kind-by KeyUpdate w c one = nothing (isOk (replyCode (callBy KeyUpdate g w c .reply))) (w .table)
   kind-by Unlisted w c one = nothing (isOk (replyCode (callBy Unlisted g w c .reply))) (w .table)
 
-  -- the record that a command comes with, s where it comes with none
+  -- the boot record of a command, s if it has none
   pub recordIn : Record → Command → Record
   recordIn s (call c) = c .state
   recordIn s (sign x) = s
@@ -54,7 +54,7 @@ module _ (R : GranuleTable → List Change → GranuleTable → Type 0) (none : 
   command-by s w (sign x) one = none (w .table)
   command-by s w (list r d l) one = list-by R none join r g d (one d) (w .table) l
 
-  -- any sequence, whatever boot record each command comes with
+  -- any sequence, with any boot record for each command
   pub run-by : ((s : Record) → One s) → (w : World) (cs : List Command) → R (w .table) (gathered g (changesOf g) w cs) (worldAfter g w cs .table)
   unfolding gathered worldAfter
   run-by one w [] = none (w .table)
@@ -72,7 +72,7 @@ module _ (R : GranuleTable → List Change → GranuleTable → Type 0) (none : 
   under-by s one w [] = none (w .table)
   under-by s one w (c ∷ cs) = join _ _ _ _ _ (command-by s w (under s c) (under-one s c one)) (under-by s one (nextOf g w (under s c)) cs)
 
--- ---- of all the world it is the table alone that the next table comes of
+-- ---- the next table depends on the table, not on the rest of the world
 module _ (g : Granules) (v w : World) (e : v .table ≡ w .table) where
   kind-table : (k : Kind) (c : Call) → callBy k g v c .next .table ≡ callBy k g w c .next .table
   unfolding callBy afterMove afterKey afterToken afterSigning afterUpdate

@@ -44,7 +44,7 @@ same n page = record { bytes = refl; whole = refl }
 later : (n : ℕ) (page next last : List ℕ) → KeptTo n page next → KeptTo n next last → KeptTo n page last
 later n page next last a b = record { bytes = b .bytes ∙ a .bytes; whole = b .whole ∙ a .whole }
 
--- bytes written into a buffer that passed the range check
+-- bytes written to a buffer that passed the range check
 kept-write : (n : ℕ) (u : Params) (page vs : List ℕ) (pa size : ℕ) → n ≤ u .kept → BufferIn u page pa size → length vs ≤ size → KeptTo n page (splice (placeOf u pa) vs page)
 unfolding placeOf
 kept-write n u page vs pa size h i l =
@@ -56,7 +56,7 @@ kept-write n u page vs pa size h i l =
       whole = length-splice at vs page m;
     }
 
--- ---- one command, by a record that keeps n bytes or more if it is up
+-- ---- one command, with a record that keeps n bytes or more if it is up
 module _ (n : ℕ) (r : Record) (h : isUp r ≡ true → n ≤ upOf r .kept) where
   key-kept : (page key : List ℕ) (pa size curve : ℕ) → KeptTo n page (realmKeyOf r page key pa size curve .page)
   unfolding realmKeyOf keyed answerOf
@@ -113,8 +113,8 @@ step-kept g u w (sign s) h = same (u .kept) (w .page)
 step-kept g u w (list r d l) h = same (u .kept) (w .page)
 
 -- ---- any sequence
--- "Prove that no sequence of runtime commands with that record then changes a kept byte.": calls, lists and the signer's own steps, in any
--- world, whatever the number of kept bytes in the record
+-- "Prove that no sequence of runtime commands with that record then changes a kept byte.": calls, lists and the signer's steps, in any
+-- world, for any number of kept bytes in the record
 pub kept : (g : Granules) (u : Params) (w : World) (cs : List Command) → AllHave (Up u) cs → KeptTo (u .kept) (w .page) (worldAfter g w cs .page)
 unfolding AllHave worldAfter
 kept g u w [] h = same (u .kept) (w .page)

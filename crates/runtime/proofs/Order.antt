@@ -1,4 +1,4 @@
--- The signing queue over any sequence of commands: what goes in comes out, whole and in order. Assumes nothing.
+-- The signing queue over any sequence of commands: everything that goes in comes out unchanged and in order. Assumes nothing.
 use Prim.Native.Nat.{ℕ}
 use mathlib.Core.Path.{_≡_, refl, sym, ap, ap₂, _∙_}
 use mathlib.Core.Bool.{Bool, true, false, cond, true≢false}
@@ -132,7 +132,7 @@ module _ (g : Granules) (w : World) where
   step-responses (list r d l) = append-nil (w .queue .responses)
 
 -- ---- any sequence
--- what waits at first and what came in, in order, is what went out and what waits at last
+-- waiting at the start ++ added = taken ++ waiting at the end
 books : {A : Type 0} (g : Granules) (held : World → List A) (came went : World → Command → List A) → ((w : World) (c : Command) → held w ++ came w c ≡ went w c ++ held (nextOf g w c)) →
     (w : World) (cs : List Command) → held w ++ gathered g came w cs ≡ gathered g went w cs ++ held (worldAfter g w cs)
 unfolding gathered worldAfter
@@ -145,15 +145,15 @@ books g held came went one w (c ∷ cs) =
     ∙ sym (append-assoc (went w c) (gathered g went (nextOf g w c) cs) (held (worldAfter g (nextOf g w c) cs)))
 
 module _ (g : Granules) (w : World) (cs : List Command) where
-  -- the requests that waited, then those pushed, are those signed, then those that wait
+  -- requests: waiting before ++ pushed = signed ++ waiting after
   pub requests-in-order : w .queue .requests ++ gathered g (pushes g) w cs ≡ gathered g (signs g) w cs ++ worldAfter g w cs .queue .requests
   requests-in-order = books g (λ v. v .queue .requests) (pushes g) (signs g) (step-requests g) w cs
 
-  -- the responses that waited, then those made, are those pulled, then those that wait
+  -- responses: waiting before ++ made = pulled ++ waiting after
   pub responses-in-order : w .queue .responses ++ gathered g (makes g) w cs ≡ gathered g (pulls g) w cs ++ worldAfter g w cs .queue .responses
   responses-in-order = books g (λ v. v .queue .responses) (makes g) (pulls g) (step-responses g) w cs
 
--- ---- end to end
+-- ---- from push to pull
 made-names : (s : List ℕ) (b : Bool) (l : List Request) → map gives (cond b (map (λ (x : Request). signedBy x s) (take 1 l)) []) ≡ map asks (cond b (take 1 l) [])
 unfolding signedBy
 made-names s true [] = refl
@@ -174,7 +174,7 @@ all-names g w (c ∷ cs) =
     ∙ ap₂ (λ x y. x ++ y) (step-names g w c) (all-names g (nextOf g w c) cs)
     ∙ sym (map-append asks (signs g w c) (gathered g (signs g) (nextOf g w c) cs))
 
--- two queues in a row are one
+-- two queues, one after another, act as one
 end-to-end : {A B C : Type 0} (f : A → C) (h : B → C) (d made out d' : List A) (a came taken a' : List B) → a ++ came ≡ taken ++ a' → d ++ made ≡ out ++ d' → map f made ≡ map h taken →
     (map f d ++ map h a) ++ map h came ≡ map f out ++ (map f d' ++ map h a')
 end-to-end f h d made out d' a came taken a' p q m =
@@ -184,7 +184,7 @@ end-to-end f h d made out d' a came taken a' p q m =
     ∙ ap (λ l. l ++ map h a') (sym (map-append f d made) ∙ ap (map f) q ∙ map-append f out d')
     ∙ append-assoc (map f out) (map f d') (map h a')
 
--- rec_granule and req_ticket come out in the order in which they went in, and are never altered
+-- rec_granule and req_ticket come out unchanged, in the order in which they went in
 pub names-in-order : (g : Granules) (w : World) (cs : List Command) →
     names (w .queue) ++ map asks (gathered g (pushes g) w cs) ≡ map gives (gathered g (pulls g) w cs) ++ names (worldAfter g w cs .queue)
 names-in-order g w cs =

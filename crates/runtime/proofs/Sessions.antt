@@ -10,7 +10,7 @@ use Rattle.runtime.specs.declared.Kind.the-variants.{ForwardError, Deleg
 use Rattle.runtime.specs.Step.{World, Call, Command, call, sign, list, kindOf, afterMove, afterKey, afterToken, afterSigning, afterUpdate, afterSign, callBy, callOf, stepOf}
 use Rattle.runtime.specs.Run.{nextOf, worldAfter, gathered, ofToken, tokenCall, tokenCalls}
 
--- one call: only 0xC40001B3 moves the session
+-- one call: only 0xC40001B3 changes the session
 one-session : (k : Kind) (g : Granules) (w : World) (c : Call) (ts : List TokenCall) → tokenRun (callBy k g w c .next .session) ts ≡ tokenRun (w .session) (ofToken k (tokenCall w c ∷ []) ++ ts)
 unfolding callBy afterMove afterKey afterToken afterSigning afterUpdate tokenCall tokenRun tokenStep
 one-session ForwardError g w c ts = refl
@@ -23,7 +23,7 @@ one-session TokenSigning g w c ts = refl
 one-session KeyUpdate g w c ts = refl
 one-session Unlisted g w c ts = refl
 
--- the session after any commands is that after the token calls among them, each with the page as it then was
+-- the session after any commands is the session after their token calls, each with the page at that time
 pub session-run : (g : Granules) (w : World) (cs : List Command) → worldAfter g w cs .session ≡ tokenRun (w .session) (gathered g tokenCalls w cs)
 unfolding worldAfter gathered tokenCalls stepOf callOf afterMove afterSign tokenRun
 session-run g w [] = refl

@@ -1,4 +1,4 @@
--- 02, E8: the shared page stays Realm over any sequence of commands, and what is written to it goes into Realm memory. Assumes nothing.
+-- 02, E8: the shared page stays Realm over any sequence of commands, so every write to it goes to Realm memory. Assumes nothing.
 use Prim.Native.Nat.{ℕ}
 use mathlib.Core.Path.{_≡_, sym, _∙_}
 use mathlib.Core.Bool.{true, false≢true}
@@ -26,7 +26,7 @@ use Rattle.runtime.specs.Changes.{callUnder, under, WritesIntoRealm}
 use Rattle.runtime.proofs.Changes.{under-by}
 
 -- "If it was Realm at boot it is Realm after any later calls on that table with the same boot and granule records. E1's lists obey this
--- too.": any commands, the signer's own steps among them
+-- too.": any commands, including the signer's steps
 pub shared-stays : (s : Record) (g : Granules) (w : World) (cs : List Command) → RealmAt g (upOf s .base) (w .table) → RealmAt g (upOf s .base) (worldAfter g w (map (under s) cs) .table)
 shared-stays s g w cs =
     under-by (λ (t : GranuleTable) (xs : List Change) (u : GranuleTable). RealmAt g (upOf s .base) t → RealmAt g (upOf s .base) u)
@@ -44,8 +44,8 @@ signing-buffer r page q key op pa size curve =
       public = λ p e h. passed-in r page Ok pa size p;
     })
 
--- "A test script undelegated the shared page's granule and the next key went into Non-secure memory.": whatever commands came before,
--- whenever a realm key, a hunk or a response is written, the page's granule is then Realm, if it was so at the start
+-- "A test script undelegated the shared page's granule and the next key went into Non-secure memory.": after any commands, when a realm key,
+-- a hunk or a response is written, the page's granule is Realm, if it was Realm at the start
 pub writes-into-realm : (s : Record) (g : Granules) (w : World) (cs : List Command) (c : Call) → RealmAt g (upOf s .base) (w .table) → WritesIntoRealm s g (worldAfter g w (map (under s) cs)) c
 unfolding stepOf callOf callBy kindOf afterKey afterToken afterSigning replyCode tokenCall tokenAccepted tokenStep
 writes-into-realm s g w cs c r =

@@ -1,5 +1,5 @@
--- Of all calls a push alone reads bytes of the page: any other call answers the same, and leaves the same table, session and queue, on two
--- pages of one length. Assumes nothing.
+-- Only a push reads bytes of the page: on two pages of equal length any other call gives the same answer, and leaves the same table,
+-- session and queue. Assumes nothing.
 use Prim.Native.Nat.{ℕ}
 use mathlib.Core.Path.{_≡_, refl, sym, ap, _∙_}
 use mathlib.Core.Bool.{Bool, true, false, cond, true≢false, false≢true}
@@ -18,14 +18,14 @@ use Rattle.runtime.specs.declared.Kind.the-variants.{ForwardError, Deleg
 use Rattle.runtime.specs.declared.Reply.the-variants.{Back}
 use Rattle.runtime.specs.Step.{World, withPage, Call, Step, kindOf, afterMove, afterKey, afterToken, afterSigning, afterUpdate, callBy, callOf}
 
--- the same but for the page
+-- equal except for the page
 pub record SameStep (x y : Step) : Type 0 where
   pub reply : x .reply ≡ y .reply
   pub table : x .next .table ≡ y .next .table
   pub session : x .next .session ≡ y .next .session
   pub queue : x .next .queue ≡ y .next .queue
 
--- ---- 0xC40001B5 alone is token signing
+-- ---- only 0xC40001B5 is token signing
 abbrev isSigning : Kind → Bool
 isSigning ForwardError = false
 isSigning Delegate = false

@@ -1,5 +1,5 @@
--- Calls by value: the queue that comes back stands for what then waits, so that a sequence of calls, each on the queue that the one
--- before it left, is a sequence of steps. Assumes nothing.
+-- The queue that `runtime::call` returns holds exactly what waits after the step, so a sequence of calls, each on the queue of the call
+-- before it, is a sequence of steps. Assumes nothing.
 use Prim.Native.Nat.{ℕ}
 use mathlib.Core.Path.{_≡_, refl, sym, ap, _∙_}
 use mathlib.Core.Bool.{false}
@@ -23,7 +23,7 @@ use Rattle.runtime.specs.Step.{World, worldOf, Call, kindOf, callBy, cal
 stands-for : (k : Code) (new : Lists) (old : Queue) → (isOk k ≡ false → new ≡ listsOf old) → listsOf (queueNext k new old) ≡ new
 stands-for k new old h = next-lists k new old ∙ if-ok-by (λ (l : Lists). l ≡ new) k new (listsOf old) (λ e. refl) (λ e. sym (h e))
 
--- the signer's own step
+-- the signer's step
 pub sign-lists : (q : Queue) (s : List ℕ) → listsOf (signExit q (signOf (listsOf q) s) .queue) ≡ signOf (listsOf q) s .queue
 unfolding signExit
 sign-lists q s = stands-for _ (signOf (listsOf q) s .queue) q (λ h. ap (λ (t : SignStep). t .queue) (sign-refused (listsOf q) s h))

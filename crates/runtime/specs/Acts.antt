@@ -1,4 +1,4 @@
--- What a call does, by its function id. Assumes nothing.
+-- What a call does, for each function id. Assumes nothing.
 use mathlib.Core.Path.{_≡_}
 use Rattle.codes.specs.Codes.{answerOf}
 use Rattle.codes.specs.declared.Code.the-variants.{Unk}
@@ -14,8 +14,8 @@ use Rattle.signing.specs.Signing.{signingOf}
 use Rattle.runtime.specs.Step.{World, withPage, withTable, withSession, withQueue, Call, callOf}
 use Rattle.runtime.specs.declared.Reply.the-variants.{Forward, Back}
 
--- Each command of 01 under its id: the answer of its own entry, with the registers in 01's order, and the part of the world that the entry
--- changes, and no other.
+-- For each function id of 01, a call returns the answer of that command, with the registers in 01's order, and changes only the part of the
+-- world that the command changes.
 pub record CallActed (g : Granules) (w : World) (c : Call) : Type 0 where
   pub forwards : c .id ≡ 0xC400018F → callOf g w c ≡ record { reply = Forward (c .x1); next = w }
   pub delegates : c .id ≡ 0xC40001B0 → (m : Moved) → m ≡ delegateOf (c .state) g (w .table) (c .x1) →

@@ -1,4 +1,4 @@
--- What the theorems on the granule table speak of. Assumes nothing.
+-- The changes that commands make to the granule table, for the theorems about it. Assumes nothing.
 use Prim.Native.Nat.{ℕ}
 use mathlib.Core.Path.{_≡_}
 use mathlib.Core.Bool.{true, cond}
@@ -16,7 +16,7 @@ use Rattle.runtime.specs.declared.Kind.the-variants.{ForwardError, Deleg
 use Rattle.runtime.specs.Step.{World, Call, callWith, Command, call, sign, list, kindOf}
 use Rattle.runtime.specs.Run.{accepted}
 
--- ---- the changes that a command makes to the table
+-- ---- the changes that a command of this kind makes to the table, with a = x1, the granule's address
 abbrev pub ofMove : Kind → ℕ → List Change
 ofMove ForwardError a = []
 ofMove Delegate a = change Direction.Delegate a ∷ []
@@ -28,27 +28,28 @@ ofMove TokenSigning a = []
 ofMove KeyUpdate a = []
 ofMove Unlisted a = []
 
--- accepted delegations and undelegations in order; of a list those of the granules done, each as a call of its own
+-- the accepted delegations and undelegations of a command, in order; a list gives one change for each granule done
 unfoldable pub changesOf : Granules → World → Command → List Change
 changesOf g w (call c) = cond (accepted g w (call c)) (ofMove (kindOf (c .id)) (c .x1)) []
 changesOf g w (sign s) = []
 changesOf g w (list r d l) = map (change d) (take (doneOf r g d (w .table) l) l)
 
--- ---- 02, E8: "with the same boot .. records": a command that comes with this one
+-- ---- 02, E8: "with the same boot .. records": the same call with boot record s
 abbrev pub callUnder : Record → Call → Call
 callUnder s c = callWith s (c .id) (c .x1) (c .x2) (c .x3) (c .x4) (c .busy) (c .realmKey) (c .token) (c .publicKey) (c .width)
 
+-- the same command with boot record s
 unfoldable pub under : Record → Command → Command
 under s (call c) = call (callUnder s c)
 under s (sign x) = sign x
 under s (list r d l) = list s d l
 
--- a buffer that is written to lies in the shared page, whose granule is then Realm
+-- the buffer [pa, pa + size) is in the shared page, and the page's granule is Realm
 pub record IntoRealm (s : Record) (g : Granules) (w : World) (pa size : ℕ) : Type 0 where
   pub buffer : BufferIn (upOf s) (w .page) pa size
   pub realm : RealmAt g (upOf s .base) (w .table)
 
--- each command that writes to the page, where it is accepted: realm key, hunk of the platform token, response or public key
+-- each accepted command that writes to the page writes to Realm memory: realm key, hunk of the platform token, response or public key
 pub record WritesIntoRealm (s : Record) (g : Granules) (w : World) (c : Call) : Type 0 where
   pub key : c .id ≡ 0xC40001B2 → accepted g w (call (callUnder s c)) ≡ true → IntoRealm s g w (c .x1) (c .x2)
   pub hunk : c .id ≡ 0xC40001B3 → accepted g w (call (callUnder s c)) ≡ true → IntoRealm s g w (c .x1) (c .x2)

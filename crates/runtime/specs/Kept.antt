@@ -9,17 +9,18 @@ use Rattle.boot.specs.declared.Record.{Record}
 use Rattle.codes.specs.Codes.{isUp}
 use Rattle.runtime.specs.Step.{Call, Command, call, sign, list}
 
--- the first n bytes of the page are as they were, and so is its length
+-- the first n bytes of the page and its length are unchanged
 pub record KeptTo (n : ℕ) (page after : List ℕ) : Type 0 where
   pub bytes : take n after ≡ take n page
   pub whole : length after ≡ length page
 
--- a command "with that record": a call that has it, or one that is not up; a list of granules and the signer's own step write no page
+-- a command "with that record": a call with boot record r, or with one that is not up. Lists and the signer's step do not write the page.
 unfoldable pub HasRecord : Record → Command → Type 0
 HasRecord r (call c) = (c .state ≡ r) ⊎ (isUp (c .state) ≡ false)
 HasRecord r (sign s) = Unit {0}
 HasRecord r (list b d l) = Unit {0}
 
+-- every command of a sequence does
 unfoldable pub AllHave : Record → List Command → Type 0
 AllHave r [] = Unit {0}
 AllHave r (c ∷ cs) = HasRecord r c × AllHave r cs

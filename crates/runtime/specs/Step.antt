@@ -29,32 +29,35 @@ use Rattle.runtime.specs.declared.Reply.{Reply}
 use Rattle.runtime.specs.declared.Reply.the-variants.{Forward, Back}
 use Rattle.runtime.specs.declared.Stepped.{Stepped}
 
--- all that a command may change. The boot record and the granule record are not among it.
+-- everything that a command may change. No command changes the boot record or the granule record.
 pub record World : Type 0 where
   pub page : List ℕ
   pub table : GranuleTable
   pub session : Session
   pub queue : Lists
 
--- the world with one part of it changed
+-- the world w with page p
 abbrev pub withPage : List ℕ → World → World
 withPage p w = record { page = p; table = w .table; session = w .session; queue = w .queue }
 
+-- the world w with table t
 abbrev pub withTable : GranuleTable → World → World
 withTable t w = record { page = w .page; table = t; session = w .session; queue = w .queue }
 
+-- the world w with session s
 abbrev pub withSession : Session → World → World
 withSession s w = record { page = w .page; table = w .table; session = s; queue = w .queue }
 
+-- the world w with queue q
 abbrev pub withQueue : Lists → World → World
 withQueue q w = record { page = w .page; table = w .table; session = w .session; queue = q }
 
--- the world of a lent page, a table with its words, a session and a queue
+-- the world of a lent page, a granule table with its realm words, a session and a queue
 abbrev pub worldOf : List ℕ → List ℕ → List ℕ → Session → Lists → World
 worldOf page table words s q = record { page = page; table = tableOf table words; session = s; queue = q }
 
--- a call of the interface: the boot record as it then is, the function id, the argument registers, and what the platform lends or
--- says with it
+-- a call of the interface: the boot record at the time of the call, the function id, the argument registers, and what the platform lends or
+-- passes with it
 pub record Call : Type 0 where
   pub state : Record
   pub id : ℕ
@@ -68,18 +71,19 @@ pub record Call : Type 0 where
   pub publicKey : List ℕ
   pub width : ℕ
 
+-- the call with these values
 abbrev pub callWith : Record → ℕ → ℕ → ℕ → ℕ → ℕ → Bool → List ℕ → List ℕ → List ℕ → ℕ → Call
 callWith r id x1 x2 x3 x4 busy key token public width =
     record { state = r; id = id; x1 = x1; x2 = x2; x3 = x3; x4 = x4; busy = busy; realmKey = key; token = token; publicKey = public; width = width }
 
--- a command: a call of the interface, the signer's own step with a signature, or delegation of a list of granules (02, E1), which has
+-- a command: a call of the interface, the signer's step with a signature, or delegation of a list of granules (02, E1), which has
 -- no function id
 pub data Command : Type 0 where
   call : Call → Command
   sign : List ℕ → Command
   list : Record → Direction → List ℕ → Command
 
--- the answer, and the next state
+-- the reply to a command, and the next world
 pub record Step : Type 0 where
   pub reply : Reply
   pub next : World
@@ -97,29 +101,36 @@ kindOf id =
     (cond (eqb id 0xC40001B6) KeyUpdate
     Unlisted)))))))
 
--- ---- a command's own answer, and the part of the world that it may change
+-- ---- the step of each command: its answer, with the part of the world that it may change replaced
+-- a command that changes nothing
 abbrev pub back : Answer → World → Step
 back a w = record { reply = Back a Nothing; next = w }
 
+-- delegation changes the table
 unfoldable pub afterMove : Moved → World → Step
 afterMove m w = back (m .answer) (withTable (m .table) w)
 
+-- the realm key changes the page
 unfoldable pub afterKey : Keyed → World → Step
 afterKey k w = back (k .answer) (withPage (k .page) w)
 
+-- the platform token changes page and session
 unfoldable pub afterToken : TokenStep → World → Step
 afterToken t w = back (t .answer) (withSession (t .session) (withPage (t .page) w))
 
+-- token signing changes page and queue
 unfoldable pub afterSigning : SigningStep → World → Step
 afterSigning s w = back (s .answer) (withQueue (s .queue) (withPage (s .page) w))
 
+-- a key update changes nothing here, and gives the platform work
 unfoldable pub afterUpdate : Updated → World → Step
 afterUpdate u w = record { reply = Back (u .answer) (u .work); next = w }
 
+-- the signer's step changes the queue
 unfoldable pub afterSign : SignStep → World → Step
 afterSign s w = back (s .answer) (withQueue (s .queue) w)
 
--- ---- the step
+-- ---- the step of a call of this kind
 unfoldable pub callBy : Kind → Granules → World → Call → Step
 callBy ForwardError g w c = record { reply = Forward (forwardOf (c .state) (c .x1)); next = w }
 callBy Delegate g w c = afterMove (delegateOf (c .state) g (w .table) (c .x1)) w
@@ -131,25 +142,27 @@ callBy TokenSigning g w c = afterSigning (signingOf (c .state) (w .page) (w .que
 callBy KeyUpdate g w c = afterUpdate (updateOf (c .state) (c .width) (c .x1)) w
 callBy Unlisted g w c = back (answerOf Unk 0 0) w
 
+-- the step of a call
 unfoldable pub callOf : Granules → World → Call → Step
 callOf g w c = callBy (kindOf (c .id)) g w c
 
+-- the step of any command
 unfoldable pub stepOf : Granules → World → Command → Step
 stepOf g w (call c) = callOf g w c
 stepOf g w (sign s) = afterSign (signOf (w .queue) s) w
 stepOf g w (list r d l) = afterMove (moveListOf r g d (w .table) l) w
 
--- the code that a reply shows; 0xC400018F has no result, and is never refused
+-- the code of a reply; 0xC400018F has no result and is never refused, so it counts as OK
 unfoldable pub replyCode : Reply → Code
 replyCode (Forward n) = Ok
 replyCode (Back a work) = a .code
 
--- demand 1's refusal: the code, zeros in the other registers, nothing for the platform to do, and the world as it was. Of a list x1 is
--- the number done.
+-- a refusal (demand 1, GE4): the code, zeros in the other registers, no work for the platform, and the world unchanged. For a list x1 is
+-- the number of granules done.
 abbrev pub refusal : ℕ → Step → World → Step
 refusal x1 s w = record { reply = Back (answerOf (replyCode (s .reply)) x1 0) Nothing; next = w }
 
--- ---- a call by value: the answer, page, table and words at exit, and the states handed back
+-- ---- `runtime::call`: the reply, page, table and words at exit, and the session and queue that it returns
 pub record CallExit : Type 0 where
   pub reply : Reply
   pub page : List ℕ
@@ -158,10 +171,11 @@ pub record CallExit : Type 0 where
   pub session : Session
   pub queue : Queue
 
+-- from the returned value and the lent bytes and words at exit
 abbrev pub callExit : Stepped → List ℕ → List ℕ → List ℕ → CallExit
 callExit r page table words = record { reply = r .reply; page = page; table = table; words = words; session = r .session; queue = r .queue }
 
--- only the token uses the session, and only token signing the queue
+-- only the platform token uses the session
 abbrev pub usesSession : Kind → Bool
 usesSession ForwardError = false
 usesSession Delegate = false
@@ -173,6 +187,7 @@ usesSession TokenSigning = false
 usesSession KeyUpdate = false
 usesSession Unlisted = false
 
+-- only token signing uses the queue
 abbrev pub usesQueue : Kind → Bool
 usesQueue ForwardError = false
 usesQueue Delegate = false
@@ -184,10 +199,11 @@ usesQueue TokenSigning = true
 usesQueue KeyUpdate = false
 usesQueue Unlisted = false
 
--- a command that does not use the queue hands it back as it was
+-- the queue after a command: unchanged if the command does not use it
 unfoldable pub queueBy : Kind → Code → Lists → Queue → Queue
 queueBy kind k new old = cond (usesQueue kind) (queueNext k new old) old
 
+-- what `runtime::call` must leave, from the step s and the queue before it
 unfoldable pub exitBy : Kind → Queue → Step → CallExit
 exitBy kind old s =
     record {

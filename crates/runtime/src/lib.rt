@@ -12,7 +12,7 @@ ghost use mathlib.Core.Path.{_≡_};
 ghost use Rattle.queue.specs.Queue.{listsOf};
 ghost use Rattle.runtime.specs.Step.{worldOf, callWith, kindOf, callOf, callExit, exitBy};
 
-// A command, by its function id.
+// A runtime command. `Unlisted` is any other function id.
 pub enum Kind {
     ForwardError,
     Delegate,
@@ -25,20 +25,20 @@ pub enum Kind {
     Unlisted,
 }
 
-// The answer: err_code goes to the Non-secure world, or the result registers come back, with what the platform has to do.
+// The reply to a call: either err_code for the Non-secure world, or the result registers and what the platform must do next.
 pub enum Reply {
     Forward(u64),
     Back { answer: Answer, work: Work },
 }
 
-// The answer, and the next states.
+// The reply of a call with the next token session and signing queue.
 pub struct Stepped {
     pub reply: Reply,
     pub session: Session,
     pub queue: Queue,
 }
 
-// The id is compared as 64 bits.
+// The command of a function id. Compares all 64 bits of `id`.
 pub fn kind_of(id: u64) -> Kind
     ensures { λ r. ⌜ r ≡ kindOf id ⌝ }
 {
@@ -55,7 +55,7 @@ pub fn kind_of(id: u64) -> Kind
     }
 }
 
-// A reply with nothing for the platform to do.
+// Returns a reply with no work for the platform.
 fn back(answer: Answer) -> Reply
     ensures { λ r. ⌜ r ≡ Reply.Back answer Work.Nothing ⌝ }
 {
@@ -65,6 +65,7 @@ fn back(answer: Answer) -> Reply
     }
 }
 
+// The reply to a key update: its answer and its work.
 fn updated(done: Updated) -> Reply
     ensures { λ r. ⌜ r ≡ Reply.Back (done .answer) (done .work) ⌝ }
 {
@@ -73,7 +74,7 @@ fn updated(done: Updated) -> Reply
     Reply::Back { answer, work }
 }
 
-// What the token leaves, and what token signing leaves.
+// The result of a platform token call; `queue` is unchanged.
 fn after_token(done: Tokened, queue: Queue) -> Stepped
     ensures { λ r. ⌜ r ≡ record { reply = Reply.Back (done .answer) Work.Nothing; session = done .session; queue = queue } ⌝ }
 {
@@ -86,6 +87,7 @@ fn after_token(done: Tokened, queue: Queue) -> Stepped
     }
 }
 
+// The result of a token signing call; `session` is unchanged.
 fn after_signing(done: Queued, session: Session) -> Stepped
     ensures { λ r. ⌜ r ≡ record { reply = Reply.Back (done .answer) Work.Nothing; session = session; queue = done .queue } ⌝ }
 {
@@ -98,9 +100,8 @@ fn after_signing(done: Queued, session: Session) -> Stepped
     }
 }
 
-// A call of the interface: function id and argument registers, the boot record and the granule record, and what the platform
-// lends: page, granule table with its words, realm key, platform token with its busy flag and session, signing queue with the public key,
-// MECIDWidthm1.
+// Runs the command of function id `id` and returns its reply, the next session and the next queue. `x1` to `x4` are the argument registers;
+// `words` are the realm words of `table`, `key` is the realm key, `public` the public key of token signing, and `width` MECIDWidthm1.
 pub fn call(
     state: Record,
     granules: &[u64; 33],

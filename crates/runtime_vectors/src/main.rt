@@ -1,9 +1,10 @@
-// Runs the runtime's operations that the numbered cases of data/ describe, in turn, up to the first case that is missing. A case
-// is 8-byte words: the boot record (0 fresh, 1 up, 2 closed, then what it keeps), where the granule record stands (see
-// `cases::granules_at`) with the realm words behind it, MECIDWidthm1, the session (0 idle, 1 sending, then whole and sent), the places of page, table, realm key, public key and queue, the number of operations; then the operations.
-// A place is an offset in the file and a length. An operation: its kind (0 call, 1 signer's step, 2 challenge lookup, 3 oldest
-// request), function id, x1 to x4, busy, the places of token and signature, and what is to change in page and table: each an offset
-// there, and the place of the new bytes. Prints each answer and the state after it, and at the end of a case the whole queue and the words.
+// Runs the operations of the numbered cases of data/, in turn, up to the first number without a case. A case is 8-byte words: the boot
+// record (0 fresh, 1 up, 2 closed, then its four values), the offset of the granule record (see `cases::granules_at`), which the realm
+// words follow, MECIDWidthm1, the session (0 idle, 1 sending, then whole and sent), the places of page, table, realm key, public key and
+// queue, and the number of operations; then the operations. A place is an offset in the file and a length. An operation is its kind (0 call,
+// 1 signer's step, 2 challenge lookup, 3 oldest request), function id, x1 to x4, busy, the places of token and signature, and the expected
+// change of page and of table: each an offset there, and the place of the new bytes. Prints each answer and the state after it, and at the
+// end of a case the whole queue and the words.
 use codes::Answer;
 use codes::Work;
 use libc::STDOUT_FILENO;
@@ -19,7 +20,7 @@ use words::Span;
 ghost use Prim.Native.Nat.{_≤_};
 ghost use lib.ListN.{length};
 
-// What goes from one operation to the next.
+// The session and the queue, which each operation passes to the next.
 struct State {
     session: Session,
     queue: Queue,
@@ -27,7 +28,7 @@ struct State {
 
 // ---- Reading a case ----
 
-// What stands at the place that two words of the case give.
+// The bytes at the place (offset and length) in the two words at offset `at`.
 fn lent(input: &[u8], at: usize) -> &[u8]
     requires { ⌜ at ≤ 50000 ⌝ }
 {
@@ -42,7 +43,7 @@ fn lent(input: &[u8], at: usize) -> &[u8]
     )
 }
 
-// The queue whose image of words a case has; where it has none, the empty one.
+// The queue of an image in the case, or the empty queue if the case has no image.
 fn queue_at(bytes: &[u8]) -> Queue {
     if bytes.len() == 0 {
         return Queue::empty();
@@ -83,7 +84,7 @@ fn print_byte(x: u8) {
     io::print_hex(STDOUT_FILENO, x as u64, 2);
 }
 
-// Bytes in hex, to the line's end.
+// Prints bytes in hex and ends the line.
 fn print_bytes(s: &[u8]) {
     print(b" ");
     for i in 0..s.len() {
@@ -146,7 +147,7 @@ fn print_oldest(queue: Queue) {
     }
 }
 
-// A response. A length above the room for a signature stands for all of it.
+// Prints a response with its stored length, and min(length, 104) bytes of its signature.
 fn print_response(response: Response) {
     print(b"response");
     print_word(response.granule);
@@ -157,7 +158,7 @@ fn print_response(response: Response) {
     print_bytes(words::part_of(&signature, Span { at: 0, len }));
 }
 
-// Those that wait. A count above eight stands for eight.
+// Prints the waiting requests. A count above 8 counts as 8.
 fn print_requests(side: Requests) {
     let items = side.items;
     let waiting = queue::request_count(side);
@@ -193,7 +194,7 @@ fn print_same(what: &[u8], held: &[u8], expected: &[u8]) {
     }
 }
 
-// The session, and the counts of the queue as they are stored.
+// Prints the session and the stored counts of the queue.
 fn print_state(state: State) {
     let session = state.session;
     let queue = state.queue;
@@ -273,7 +274,7 @@ fn sign(input: &[u8], at: usize, state: State) -> State
     }
 }
 
-// An operation whose words stand at an offset of the case.
+// Runs the operation at offset `at` of the case.
 fn operate(
     input: &[u8],
     at: usize,
@@ -304,7 +305,7 @@ fn operate(
     state
 }
 
-// Lays over what is expected the change that an operation names: an offset, and the place of the new bytes.
+// Applies an operation's expected change, an offset and the place of the new bytes, to `expected`.
 fn lay(input: &[u8], at: usize, expected: &mut [u8])
     requires { ⌜ at ≤ 40000 ⌝ }
 {
@@ -323,7 +324,7 @@ fn state_at(input: &[u8]) -> State {
     }
 }
 
-// Holds page or table to what is expected after an operation, whose change of it stands at an offset of the case.
+// Prints whether page or table is as expected after an operation. Its expected change is at offset `at` of the case.
 fn print_change(input: &[u8], at: usize, what: &[u8], held: &[u8], expected: &mut [u8])
     requires { ⌜ at ≤ 40000 ⌝ }
 {
@@ -352,13 +353,13 @@ fn print_operations(
     state.queue
 }
 
-// Before the first operation the same bytes are held and expected.
+// Copies the case's bytes to the lent buffer and to the expected one, before the first operation.
 fn fill(held: &mut [u8], expected: &mut [u8], bytes: &[u8]) {
     words::copy(held, bytes);
     words::copy(expected, bytes);
 }
 
-// The operations of a case, on what is lent.
+// Runs the operations of a case on the lent page, table and words, and prints the queue.
 fn print_whole(
     input: &[u8],
     page: &mut [u8],
@@ -373,7 +374,7 @@ fn print_whole(
     print_queue(queue);
 }
 
-// A case, with room for page, table and words, and for what is expected of the first two.
+// Runs a case. `expected` and `wanted` hold the expected page and table.
 fn print_lent(
     input: &[u8],
     page: &mut [u8],

@@ -1,7 +1,7 @@
-// Makes the calls that the numbered cases of data/ describe, up to the first case that is missing. A case is a list of calls, 256 bytes
-// each, on one collector and one buffer of 96 bytes: seven 8-byte words (the call, four numbers, how many bytes of the buffer are lent,
-// the message's length), the message at 64, and from 160 on the buffer expected after the call. Prints the answer, the collector, whether
-// it is complete, the parts last read, the length last written, and whether the buffer is as expected.
+// Makes the calls of the numbered cases of data/, in turn, up to the first number without a case. A case is a list of calls, 256 bytes
+// each, on one collector and one buffer of 96 bytes: seven 8-byte words (the call, four numbers, the number of bytes of the buffer to lend,
+// the message's length), the message at offset 64, and at offset 160 the buffer expected after the call. Prints the answer, the collector,
+// whether it is complete, the parts last read, the length last written, and whether the buffer is as expected.
 use libc::STDOUT_FILENO;
 ghost use Prim.Native.Nat.{_≤_};
 ghost use lib.ListN.{length};
@@ -23,7 +23,7 @@ fn print_numbers(what: &[u8], numbers: &[u32]) {
     }
 }
 
-// What a call leaves in the lent words.
+// Prints what a call leaves in the lent words.
 fn print_left(answer: u32, image: &[u32; 3], parts: &[u32; 4], len: usize) {
     print_numbers(b"answer", &[answer]);
     print_numbers(b" collector", image);
@@ -71,7 +71,7 @@ fn make(
     write(call, message, lent, len)
 }
 
-// Call 0 sets the collector's three words and the buffer. Any other is made, and what it leaves printed.
+// Call 0 sets the collector's three words and the buffer. For any other call, makes it and prints what it leaves.
 fn print_call(
     call: &[u8],
     buffer: &mut [u8],

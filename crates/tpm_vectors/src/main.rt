@@ -1,14 +1,14 @@
-// Runs the calls of H_TPM_COMM that the numbered cases of data/ describe, in turn, up to the first that is missing. A case is 8-byte
-// words: the memory's length, its seed, the session (0 none, else open); then for each call the five arguments, the response's length
-// and seed, and whether the platform forbids access and reports a fault. The memory lasts over the calls of a case. Prints for each call
-// where the request was and its digest, r3, r4, the session and the memory's digest.
+// Runs the calls of H_TPM_COMM of the numbered cases of data/, in turn, up to the first number without a case. A case is 8-byte
+// words: the memory's length, its seed, the session (0 none, any other number open); then for each call the five arguments, the response's
+// length and seed, and whether the platform forbids access and reports a fault. All calls of a case share the memory. Prints for each call
+// the place of the request and its digest, r3, r4, the session and the memory's digest.
 use libc::STDOUT_FILENO;
 use tpm::Arguments;
 use tpm::Returned;
 use tpm::TpmSession;
 ghost use Prim.Native.Nat.{_≤_, _<_};
 
-// The bytes of a seed: x is 171 times the x before and 11,213, modulo 65,521; a byte is its low eight bits.
+// Fills `s` with the bytes of a seed: x becomes (171 * x + 11213) mod 65521, and a byte is the low eight bits of x.
 fn fill(s: &mut [u8], seed: u64) {
     let mut x = seed % 65521;
     for i in 0..s.len() {
@@ -17,7 +17,7 @@ fn fill(s: &mut [u8], seed: u64) {
     }
 }
 
-// x times 2^40 + 435, modulo 2^64: in parts, as a product may not wrap.
+// x * (2^40 + 435) mod 2^64, in parts, because a product must not overflow.
 fn times_prime(x: u64) -> u64 {
     let low = x % 0x1_0000_0000 * 435;
     let high = x / 0x1_0000_0000 * 435 % 0x1_0000_0000 * 0x1_0000_0000;
@@ -29,7 +29,7 @@ fn wide(x: u8) -> u64 {
     x as u64
 }
 
-// FNV-1a of 64 bits.
+// The 64-bit FNV-1a hash.
 fn digest(s: &[u8]) -> u64 {
     let mut x: u64 = 0xCBF2_9CE4_8422_2325;
     for i in 0..s.len() {
@@ -43,7 +43,7 @@ fn print_word(what: &[u8], x: u64) {
     io::print_hex(STDOUT_FILENO, x, 1);
 }
 
-// A number of r3 without its sign.
+// The absolute value of r3.
 fn magnitude(r3: i64) -> u64 {
     match r3 {
         -2 => 2,
@@ -92,7 +92,7 @@ fn arguments_at(input: &[u8], at: usize) -> Arguments
     }
 }
 
-// The call whose words begin at an offset of the case. Answers the session after it.
+// Runs the call at offset `at` of the case. Returns the session after it.
 fn print_call(
     session: TpmSession,
     input: &[u8],

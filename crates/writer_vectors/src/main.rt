@@ -1,6 +1,7 @@
-// Writes what the numbered cases of data/ describe, in turn, up to the first that is missing. A case is 8-byte words: B, edition,
-// the byte that the page is full of, the page's length, the lengths of the four lists in words, the lists; then the page
-// expected at exit, and in the bytes that are left the fields. Prints the answer, whether the page is the one expected, and what the four editions show of a page made.
+// Writes the manifests of the numbered cases of data/, in turn, up to the first number without a case. A case is 8-byte words: B, edition,
+// the byte that fills the page, the page's length, the number of words of each of the four lists, the lists; then the page
+// expected at exit, and in the remaining bytes the fields. Prints the answer, whether the page is as expected, and what readers of the four
+// editions show of a written page.
 use libc::STDOUT_FILENO;
 use words::Span;
 use writer::Wrote;
@@ -20,7 +21,7 @@ fn filled(byte: u8) -> [u8; 8192] {
     [byte; 8192]
 }
 
-// The number of a refusal; 0 for a page that was made.
+// The number of a refusal, 0 if the page was written.
 fn number(answer: Wrote) -> u64 {
     match answer {
         Wrote::Page => 0,
@@ -32,7 +33,7 @@ fn number(answer: Wrote) -> u64 {
     }
 }
 
-// What an edition shows of a page.
+// Prints what a reader of `edition` shows of a page.
 fn print_reading(page: &[u8], base: u64, edition: u64) {
     let mut out = [0u8; 16384];
     let n = text::list(page, base, edition, &mut out);
@@ -42,7 +43,7 @@ fn print_reading(page: &[u8], base: u64, edition: u64) {
     io::write_all(STDOUT_FILENO, &out[..n]);
 }
 
-// The answer, whether the page is as expected, and what the four editions show of it if it was made.
+// Prints the answer, whether the page is as expected, and, if it was written, what the four editions show of it.
 fn print_page(refusal: u64, base: u64, page: &[u8], expected: &[u8]) {
     if refusal != 0 {
         io::write_all(STDOUT_FILENO, b"refused W");
@@ -58,7 +59,7 @@ fn print_page(refusal: u64, base: u64, page: &[u8], expected: &[u8]) {
     }
 }
 
-// The bytes from an offset on, none past the end.
+// The bytes from offset `at` to the end, empty if `at` is past the end.
 fn behind(input: &[u8], at: usize) -> &[u8] {
     if input.len() < at {
         return &input[0..0];
@@ -66,7 +67,7 @@ fn behind(input: &[u8], at: usize) -> &[u8] {
     &input[at..]
 }
 
-// Writes the lists, which follow one another among the words of a case, into a page that is full of the case's byte.
+// Writes the lists of a case, one after another in `list`, to a page filled with the case's byte, and prints the result.
 fn print_written(input: &[u8], list: &[u64], page: &mut [u8])
     requires { ⌜ 4096 ≤ length (now list) ⌝ }
 {
