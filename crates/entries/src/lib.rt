@@ -191,20 +191,13 @@ fn find_consoles(page: &[u8], minor: u64, at: usize, count: usize) -> Found
     Found { sum, ok }
 }
 
-// Sums and checks `count` entries of section `k` at `at`. Most boards have one bank or console; a constant count of 1 lets the compiler
-// drop the loop.
+// Sums and checks `count` entries of section `k` at `at`.
 fn find(page: &[u8], minor: u64, k: usize, at: usize, count: usize) -> Found
     requires { ⌜ at + size k count ≤ length (now page) ⌝ }
     ensures { λ r. ⌜ (r .sum ≡ sumAt at (wordsPerEntry k * count) (now (page .entry)) % 2 ^ 64) × (r .ok ≡ entriesAt minor k at count (now (page .entry))) ⌝ }
 {
     if k == 1 {
-        if count == 1 {
-            return find_consoles(page, minor, at, 1);
-        }
         return find_consoles(page, minor, at, count);
-    }
-    if count == 1 {
-        return find_banks(page, minor, k, at, 1);
     }
     find_banks(page, minor, k, at, count)
 }
