@@ -1,4 +1,4 @@
-//! The reference's states as images of words, and back. An image that no state has is read as the state that it stands for.
+//! The reference's states as images of words, and back. An image that no state has is read as the state that the header gives for it.
 
 use crate::exports::{QueueImage, RecordImage, Registers, RequestImage, SessionImage, ViewImage};
 use crate::reference::boot::{Kept, Record};
@@ -81,7 +81,7 @@ pub fn view_words(view: &View) -> ViewImage {
     image
 }
 
-/// The bytes that a section's array takes of a page of this length; none where it does not lie in the page.
+/// The bytes of a section's array in a page of `length` bytes; `None` if the array is not in the page.
 pub fn part_of(length: usize, view: &ViewImage, section: usize) -> Option<Range<usize>> {
     if section >= SECTIONS {
         return None;
@@ -96,7 +96,7 @@ pub fn part_of(length: usize, view: &ViewImage, section: usize) -> Option<Range<
 }
 
 pub fn queue_of(image: &QueueImage) -> Queue {
-    // Counts stand for eight at most, so that a wide one is not cut off.
+    // A count above eight means eight: take the minimum before the cast, so that no bits are lost.
     let count = |i: usize| image[i].min(PLACES as u64) as usize;
     Queue {
         requests: Ring::new(from_fn(|i| request_of(image, i)), count(0)),
@@ -121,8 +121,8 @@ pub fn queue_words(queue: &Queue) -> QueueImage {
     image
 }
 
-/// What an accepted step leaves of an image. A side with one more has its newest in a row behind those that waited; one with one less is
-/// moved up, its freed place zeroed; of a side with as many as before no word changes. `before` has both counts.
+/// The image after an accepted step. A side with one more has its newest in the row after those that waited; a side with one less is
+/// moved up and its freed place zeroed; a side with the same count has no changed word. `before` has both counts.
 pub fn put_moves(image: &mut QueueImage, before: [usize; 2], after: &Queue) {
     let counts = [after.requests.len(), after.responses.len()];
     for (word, (was, is)) in image.iter_mut().zip(before.into_iter().zip(counts)) {

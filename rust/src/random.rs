@@ -1,5 +1,5 @@
-//! Inputs by chance, the same for the same seed. The generators know the rules only as far as it takes to come near their edges;
-//! whether an input is accepted is for the two sides to say.
+//! Random inputs, the same for the same seed. The generators know the rules only well enough to come near their limits;
+//! the two sides decide whether an input is accepted.
 
 pub mod banks;
 pub mod boots;
@@ -65,7 +65,7 @@ impl Random {
         bytes
     }
 
-    /// A word at or near a place where some rule changes its mind, or of any width.
+    /// A word at or near the limit of some rule, or of any width.
     pub fn edge(&mut self) -> u64 {
         if self.one_in(3) {
             return self.word() >> self.below(64);

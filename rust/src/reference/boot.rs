@@ -3,7 +3,7 @@
 use super::layout::{accepted_minor, Edition, PAGE};
 use super::reader::{read, Refusal};
 
-/// The newest minor of the boot interface that is spoken here.
+/// The newest minor of the boot interface that is supported here.
 const INTERFACE_MINOR: u16 = 5;
 
 /// What the record keeps while it is up.

@@ -24,7 +24,7 @@ pub fn features(record: Record, index: u64) -> Outcome {
 #[inline]
 pub fn key_update(record: Record, width: u64, mecid: u64) -> Result<u64, Error> {
     let kept = need_up(record)?;
-    // Above 65,535 is above 2^(15+1) - 1, so one bound does.
+    // 65,535 is 2^(15+1) - 1, so one bound is enough.
     if mecid >> (width.min(WIDEST) + 1) != 0 {
         return Err(Error::Inval);
     }
@@ -34,7 +34,7 @@ pub fn key_update(record: Record, width: u64, mecid: u64) -> Result<u64, Error> 
     Ok(mecid)
 }
 
-/// What goes to the Non-secure world, whatever the record.
+/// The error code for the Non-secure world, for any record.
 #[inline]
 pub fn forward(err_code: u64) -> u64 {
     err_code

@@ -1,4 +1,4 @@
-//! Versions, editions, and where things stand in a page.
+//! Versions, editions, and the layout of a page.
 
 /// Bytes of the shared buffer.
 pub const PAGE: usize = 4096;
@@ -65,7 +65,7 @@ pub fn accepted_minor(version: u32) -> Option<u16> {
     u16::try_from(version).ok().filter(|&minor| minor != 0)
 }
 
-/// Whether a page may lie at this base.
+/// Whether a page may be at this base.
 #[inline]
 fn base_allowed(base: u64) -> bool {
     base != 0 && base % GRANULE == 0 && base <= LAST_BASE

@@ -7,7 +7,7 @@ pub const PLACES: usize = 8;
 /// Bytes of the longest signature.
 pub const SIGNATURE: usize = 104;
 
-/// A signing request. The ids are wide enough for whatever a forged queue holds.
+/// A signing request. The ids are wide enough for any forged queue.
 #[derive(Clone, Copy, Debug, PartialEq, Eq)]
 pub struct Request {
     pub algorithm: u64,
@@ -31,7 +31,7 @@ impl Request {
 pub struct Response {
     pub granule: u64,
     pub ticket: u64,
-    /// How much of the signature counts; above 104 it stands for 104.
+    /// The length of the signature; above 104 it means 104.
     pub len: usize,
     pub signature: [u8; SIGNATURE],
 }
@@ -59,7 +59,7 @@ pub struct Ring<T> {
 }
 
 impl<T: Copy> Ring<T> {
-    /// The first `count` items wait, the oldest first. A count above eight stands for eight.
+    /// The first `count` items wait, the oldest first. A count above eight means eight.
     pub const fn new(items: [T; PLACES], count: usize) -> Ring<T> {
         Ring {
             items,
@@ -100,7 +100,7 @@ impl<T: Copy> Ring<T> {
         (0..self.len()).map(move |i| &self.items[(self.first + i) % PLACES])
     }
 
-    /// The place after the newest, taken; none if all are.
+    /// Takes the place after the newest; `None` if all are taken.
     #[inline]
     fn join(&mut self) -> Option<&mut T> {
         if self.is_full() {

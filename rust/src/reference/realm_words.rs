@@ -3,7 +3,7 @@
 use super::banks::{granules, BankWords};
 use super::codes::Error;
 
-/// The number of words is that of the record's granules over 64, rounded up.
+/// The number of words must be ceil(granules / 64) of the record.
 #[inline]
 pub fn need_fit(banks: &BankWords, words: &[u64]) -> Result<u64, Error> {
     let granules = granules(banks);
@@ -41,7 +41,7 @@ pub fn next(banks: &BankWords, words: &[u64], index: u64) -> Result<Option<u64>,
     }
 }
 
-/// The words that a table asks for.
+/// The words of a table.
 fn made(banks: &BankWords, table: &[u8], words: &[u64]) -> Result<Vec<u64>, Error> {
     let granules = need_fit(banks, words)?;
     if granules != table.len() as u64 {

@@ -19,7 +19,7 @@ pub const FEATURES: u64 = 0xC400_01B4;
 pub const TOKEN_SIGN: u64 = 0xC400_01B5;
 pub const KEY_UPDATE: u64 = 0xC400_01B6;
 
-/// What goes from one call to the next.
+/// The state that is passed from one call to the next.
 #[derive(Clone, Copy, Debug)]
 pub struct State {
     pub record: Record,
@@ -31,9 +31,9 @@ pub struct State {
 #[derive(Debug)]
 pub struct Lent<'a> {
     pub page: &'a mut [u8],
-    /// One byte a granule of these banks.
+    /// One byte for each granule of these banks.
     pub table: &'a mut [u8],
-    /// One bit a granule.
+    /// One bit for each granule.
     pub words: &'a mut [u64],
     pub banks: &'a BankWords,
     pub realm_key: &'a [u8],

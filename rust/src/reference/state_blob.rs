@@ -1,5 +1,5 @@
 //! GET_STATEBLOB of a software TPM: the request for a piece of a state blob, the response that carries one, and a collector that joins
-//! the pieces. Every number is of four bytes, big-endian.
+//! the pieces. Every number has four bytes, big-endian.
 
 use std::convert::TryFrom;
 
@@ -61,7 +61,7 @@ impl Request {
         })
     }
 
-    /// Says how long the message is.
+    /// Returns the length of the message.
     pub fn write(self, buffer: &mut [u8]) -> Result<usize, Refusal> {
         let buffer = buffer.get_mut(..HEAD).ok_or(Refusal::NoRoom)?;
         put_head(buffer, [self.code, self.flags, self.kind, self.offset]);
@@ -97,7 +97,7 @@ impl<'a> Piece<'a> {
     }
 }
 
-/// Writes a response with this data; `numbers` are tpm_result, state_flags and totlength. Says how long the message is.
+/// Writes a response with this data; `numbers` are tpm_result, state_flags and totlength. Returns the length of the message.
 pub fn write_response(
     buffer: &mut [u8],
     largest: u32,

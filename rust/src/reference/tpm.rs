@@ -43,7 +43,7 @@ pub struct Transfer {
     pub out_size: u64,
 }
 
-/// What the platform says.
+/// The platform's flags.
 #[derive(Clone, Copy, Debug)]
 pub struct Platform<'a> {
     pub forbidden: bool,
@@ -86,7 +86,7 @@ impl Transfer {
         }
     }
 
-    /// The call. `open` says whether the guest has a session; the answer is r4.
+    /// The call. `open` is whether the guest has a session; returns r4.
     #[inline]
     pub fn comm(
         &self,
