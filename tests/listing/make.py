@@ -51,7 +51,7 @@ def four_full():
 
 
 def long_fields(minor):
-    """A page whose fields take all behind the core: the longest text of a byte is that of a long
+    """A page whose fields take all bytes after the core: the longest text of a byte is that of a long
     value, or of a field's first three bytes if its tag has three digits."""
     room = PAGE - CORE[minor] - 3
     first = field(255, JUNK[:1500])
@@ -59,7 +59,7 @@ def long_fields(minor):
 
 
 def short_fields(size):
-    """A page full of fields with values of so many bytes."""
+    """A page full of fields with values of a given length."""
     n = (PAGE - CORE[4] - 3) // (3 + size)
     return Page(4).facts(CORE[4], *[field(4 + i % 252, JUNK[i:i + size]) for i in range(n)])
 
