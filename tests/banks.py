@@ -1,4 +1,4 @@
-"""The granule record of several banks and the realm words beside a table, as docs/RULES.md (BN1 to
+"""The granule record of several banks and the realm words of a table, as docs/RULES.md (BN1 to
 BN8, RW1 to RW9; requests E2, E6) has them. A record is given by its first words: how many banks,
 then base and size of each; the words after those given are 0. All arithmetic is on plain numbers.
 """
@@ -95,7 +95,7 @@ def fit(record, lent):
 
 
 def realm_words(table):
-    """02, E6: the words of a table. Granule i is bit i mod 64 of word i / 64, set where its byte is
+    """02, E6: the words of a table. Granule i is bit i mod 64 of word i / 64, set if its byte is
     1; the spare bits are 0."""
     lent = [0] * needed(len(table))
     for i, byte in enumerate(table):

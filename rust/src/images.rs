@@ -17,6 +17,7 @@ const RESPONSE: usize = 16;
 const REQUESTS: usize = 2;
 const RESPONSES: usize = REQUESTS + PLACES * REQUEST;
 
+/// The boot record of an image.
 #[inline]
 pub fn record_of(image: &RecordImage) -> Record {
     let [tag, cpus, base, minor, kept] = *image;
@@ -32,6 +33,7 @@ pub fn record_of(image: &RecordImage) -> Record {
     }
 }
 
+/// The image of a boot record.
 #[inline]
 pub fn record_words(record: Record) -> RecordImage {
     match record {
@@ -46,6 +48,7 @@ pub fn record_words(record: Record) -> RecordImage {
     }
 }
 
+/// The token session of an image.
 #[inline]
 pub fn session_of(image: &SessionImage) -> Session {
     let [tag, whole, sent] = *image;
@@ -55,6 +58,7 @@ pub fn session_of(image: &SessionImage) -> Session {
     }
 }
 
+/// The image of a token session.
 #[inline]
 pub fn session_words(session: Session) -> SessionImage {
     match session {
@@ -63,11 +67,13 @@ pub fn session_words(session: Session) -> SessionImage {
     }
 }
 
+/// x0 to x2 of an answer.
 #[inline]
 pub fn registers(answer: Answer) -> Registers {
     [answer.x0, answer.x1, answer.x2]
 }
 
+/// The image of a view.
 pub fn view_words(view: &View) -> ViewImage {
     let mut image = [0; 15];
     image[..3].copy_from_slice(&[u64::from(view.minor), view.edition.number(), view.plat_data]);
@@ -95,6 +101,7 @@ pub fn part_of(length: usize, view: &ViewImage, section: usize) -> Option<Range<
     (size != 0 && end <= length as u64).then_some(words[1] as usize..end as usize)
 }
 
+/// The queue of an image.
 pub fn queue_of(image: &QueueImage) -> Queue {
     // A count above eight means eight: take the minimum before the cast, so that no bits are lost.
     let count = |i: usize| image[i].min(PLACES as u64) as usize;
@@ -152,6 +159,7 @@ fn move_rows<const N: usize>(
     }
 }
 
+/// The image of a request.
 pub fn request_words(request: &Request) -> RequestImage {
     let mut image = [0; REQUEST];
     image[..4].copy_from_slice(&[

@@ -268,6 +268,7 @@ fn sent_before(session: &SessionImage, token: &[u8], size: u64, c_size: u64) -> 
 const NON_SECURE: u8 = 0;
 const REALM: u8 = 1;
 
+/// `pbeam_delegate`.
 #[inline(never)]
 pub fn delegate(
     state: &RecordImage,
@@ -280,6 +281,7 @@ pub fn delegate(
     move_one::<NON_SECURE>(state, granules, table, words, at, out);
 }
 
+/// `pbeam_undelegate`.
 #[inline(never)]
 pub fn undelegate(
     state: &RecordImage,
@@ -292,6 +294,7 @@ pub fn undelegate(
     move_one::<REALM>(state, granules, table, words, at, out);
 }
 
+/// `pbeam_delegate_list`.
 #[inline(never)]
 pub fn delegate_list(
     state: &RecordImage,
@@ -304,6 +307,7 @@ pub fn delegate_list(
     move_list::<NON_SECURE>(state, granules, table, words, list, out);
 }
 
+/// `pbeam_undelegate_list`.
 #[inline(never)]
 pub fn undelegate_list(
     state: &RecordImage,

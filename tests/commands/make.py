@@ -74,7 +74,7 @@ def failing(case):
 
 
 def run(case):
-    """The answer: code, x0 to x2, what is told beside them, table, page and words at exit."""
+    """The answer: code, x0 to x2, what else is returned, table, page and words at exit."""
     table, page, x1, told = bytearray(case.table), bytearray(case.page), 0, None
     lent = case.lent
     if case.id == FORWARD:

@@ -1,5 +1,5 @@
 #!/usr/bin/env python3
-"""Inputs of the listing program and what it has to print for them, made from the rules alone
+"""Inputs of the listing program and what it must print for them, made from the rules alone
 (docs/RULES.md: LS1 to LS7) by the reader and the listing of tests/reader/make.py.
 
 Run from the repository's root:  python3 tests/listing/make.py
@@ -95,7 +95,7 @@ def cases():
 
 
 def printed(data):
-    """What the program has to print for its whole input."""
+    """What the program must print for its whole input."""
     if len(data) != INPUT:
         return "refused -5\n"
     return listing(read(4, number(data[:8]), data[8:])[0])

@@ -122,13 +122,13 @@ def add(text, page, b, mends, length=PAGE, fill=0xFF):
 
 
 def packs(text, page, b=None, fill=0xFF):
-    """A page that has to be packed."""
+    """A page that must be packed."""
     case = add(text, page, b, False, fill=fill)
     assert answer(case)[0][0] == "packed", text
 
 
 def unpacked(code, text, page, b=None, length=PAGE):
-    """A page or target that has to be refused with this."""
+    """A page or target that must be refused with this."""
     case = add(text, page, b, False, length)
     assert answer(case)[0][0] == f"refused {code}", (text, answer(case))
 

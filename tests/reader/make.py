@@ -272,7 +272,7 @@ MARK = bytes(3)                     # what ends the fields
 
 
 def field(tag, value=b"", length=None):
-    """A field of the platform data; its length may be told otherwise than it is."""
+    """A field of the platform data; the stored length may be wrong on purpose."""
     length = len(value) if length is None else length
     return bytes([tag]) + length.to_bytes(2, "little") + value
 
@@ -355,13 +355,13 @@ def add(text, page, r, b):
 
 
 def good(text, page, r=4, b=None):
-    """A case that has to be accepted."""
+    """A case that must be accepted."""
     faults = add(text, page, r, b)
     assert not faults, (text, faults)
 
 
 def bad(rule, text, page, r=4, b=None):
-    """A case that has to break this one rule and no other."""
+    """A case that must break this one rule and no other."""
     faults = add(text, page, r, b)
     assert [name for _, name in faults] == [rule], (text, faults)
 

@@ -73,7 +73,7 @@ def number(data):
 
 
 def request_at(w, pa):
-    """The request at pa; None where it does not lie within the page."""
+    """The request at pa; None if it is not within the page."""
     at = pa - w.base
     if not 0 <= at <= len(w.page) - 80:
         return None
@@ -89,7 +89,7 @@ def range_checks(w, pa, size, outside):
 
 
 def challenge_checks(w, op):
-    """The BAD_ADDR and INVAL checks of the platform token that the challenge lookup makes too."""
+    """The BAD_ADDR and INVAL checks of the platform token that the challenge lookup also makes."""
     return range_checks(w, op.x1, op.x2, "BAD_ADDR") + [
         Check("c_size", "INVAL", op.x3 not in (0, 32, 48, 64)),
         Check("above", "INVAL", op.x3 > op.x2)]

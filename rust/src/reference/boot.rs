@@ -18,6 +18,7 @@ pub struct Kept {
     pub kept: u64,
 }
 
+/// The boot record.
 #[derive(Clone, Copy, Debug, PartialEq, Eq)]
 pub enum Record {
     Fresh,

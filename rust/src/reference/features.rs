@@ -8,6 +8,7 @@ const TOKEN_SIGN: u64 = 1;
 /// MECIDs have at most 16 bits.
 const WIDEST: u64 = 15;
 
+/// x1 is the feature register with this index; only index 0 exists.
 #[inline]
 pub fn features(record: Record, index: u64) -> Outcome {
     let kept = need_up(record)?;

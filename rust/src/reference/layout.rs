@@ -83,11 +83,13 @@ pub fn placed_mut(page: &mut [u8], base: u64) -> Option<&mut [u8; PAGE]> {
     page.try_into().ok().filter(|_| base_allowed(base))
 }
 
+/// The little-endian 4-byte number at an offset.
 #[inline]
 pub fn half_at(bytes: &[u8], at: usize) -> u32 {
     u32::from_le_bytes(bytes[at..at + 4].try_into().expect("4 bytes"))
 }
 
+/// The little-endian 8-byte number at an offset.
 #[inline]
 pub fn word_at(bytes: &[u8], at: usize) -> u64 {
     u64::from_le_bytes(bytes[at..at + 8].try_into().expect("8 bytes"))

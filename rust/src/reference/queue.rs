@@ -27,6 +27,7 @@ impl Request {
     };
 }
 
+/// A signed response.
 #[derive(Clone, Copy, Debug, PartialEq, Eq)]
 pub struct Response {
     pub granule: u64,
@@ -119,6 +120,7 @@ impl<T: Copy> Ring<T> {
     }
 }
 
+/// Both sides of the signing queue.
 #[derive(Clone, Copy, Debug)]
 pub struct Queue {
     pub requests: Ring<Request>,

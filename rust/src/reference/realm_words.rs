@@ -17,6 +17,7 @@ fn get(words: &[u64], granule: u64) -> bool {
     words[(granule / 64) as usize] >> (granule % 64) & 1 == 1
 }
 
+/// Writes a granule's bit.
 #[inline]
 pub fn put(words: &mut [u64], granule: usize, realm: bool) {
     let (word, bit) = (&mut words[granule / 64], 1 << (granule % 64));
@@ -54,10 +55,12 @@ fn made(banks: &BankWords, table: &[u8], words: &[u64]) -> Result<Vec<u64>, Erro
     Ok(made)
 }
 
+/// Whether the words are those of the table, with spare bits 0.
 pub fn agrees(banks: &BankWords, table: &[u8], words: &[u64]) -> Result<bool, Error> {
     Ok(made(banks, table, words)? == words)
 }
 
+/// Makes the words those of the table.
 pub fn build(banks: &BankWords, table: &[u8], words: &mut [u64]) -> Result<(), Error> {
     let made = made(banks, table, words)?;
     words.copy_from_slice(&made);

@@ -36,6 +36,7 @@ fn put_head(buffer: &mut [u8], numbers: [u32; 4]) {
     }
 }
 
+/// The four numbers of a request.
 #[derive(Clone, Copy, Debug, PartialEq, Eq)]
 pub struct Request {
     pub code: u32,
@@ -114,6 +115,7 @@ pub fn write_response(
     Ok(end)
 }
 
+/// Joins the pieces of one blob.
 #[derive(Clone, Copy, Debug, Default, PartialEq, Eq)]
 pub struct Collector {
     /// totlength of the first accepted response.

@@ -4,9 +4,12 @@ use std::ops::Range;
 
 /// The largest request and the smallest room for a response.
 pub const TRANSFER: u64 = 4096;
+/// Operation 1: execute.
 pub const EXECUTE: u64 = 1;
+/// Operation 2: close.
 pub const CLOSE: u64 = 2;
 
+/// Why a call is refused.
 #[derive(Clone, Copy, Debug, PartialEq, Eq)]
 pub enum Refusal {
     Function,
