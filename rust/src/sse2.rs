@@ -20,6 +20,7 @@ pub fn copy(to: &mut [u8], from: &[u8]) -> usize {
     done
 }
 
+/// Copies nothing on other machines.
 #[cfg(not(target_arch = "x86_64"))]
 #[inline]
 pub fn copy(_to: &mut [u8], _from: &[u8]) -> usize {

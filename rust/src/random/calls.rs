@@ -115,6 +115,7 @@ impl Scene {
 }
 
 impl Random {
+    /// A scene to start with.
     pub fn scene(&mut self) -> Scene {
         let token = self.token();
         let (granules, in_table) = self.granule_record();
@@ -377,6 +378,7 @@ impl Random {
         }
     }
 
+    /// A platform token, sometimes empty.
     pub fn token(&mut self) -> Vec<u8> {
         let length = match self.below(8) {
             0 => self.pick(&[0, 1]),
@@ -386,11 +388,13 @@ impl Random {
         self.bytes(length)
     }
 
+    /// A key, sometimes empty or longer than a page.
     pub fn key(&mut self) -> Vec<u8> {
         let length = self.pick(&[0, 1, 18, 48, 80, 97, 97, 200, 4096, 4097]);
         self.bytes(length)
     }
 
+    /// A signature, mostly of an accepted length.
     pub fn signature(&mut self) -> Vec<u8> {
         let length = match self.below(4) {
             0 => self.pick(&[0, 1, 104, 105, 200]),

@@ -7,6 +7,7 @@ use crate::images::{queue_words, record_words, session_words};
 use crate::reference::layout::PAGE;
 
 impl Random {
+    /// An image of a boot record.
     pub fn record_image(&mut self) -> RecordImage {
         let mut image = record_words(self.record());
         if image[0] != 1 && self.one_in(2) {

@@ -16,6 +16,7 @@ pub struct Writing {
 }
 
 impl Writing {
+    /// The four lists as slices.
     pub fn lists(&self) -> [&[u64]; SECTIONS] {
         std::array::from_fn(|k| &self.lists[k][..])
     }

@@ -37,6 +37,7 @@ pub enum BootError {
 }
 
 impl BootError {
+    /// The number of the code.
     #[inline]
     pub fn code(self) -> i32 {
         match self {

@@ -22,6 +22,7 @@ pub enum Shown<'a> {
 }
 
 impl<'a> Field<'a> {
+    /// The field as it is shown.
     pub fn shown(self) -> Shown<'a> {
         match self.tag {
             WITHDRAWN => Shown::Withdrawn,
@@ -31,6 +32,7 @@ impl<'a> Field<'a> {
 }
 
 impl Shown<'_> {
+    /// The tag of a shown field.
     pub fn tag(&self) -> u8 {
         match self {
             Shown::Raw(field) => field.tag,

@@ -25,8 +25,10 @@ pub const fn header_offset(section: usize) -> usize {
 pub struct Edition(u8);
 
 impl Edition {
+    /// Edition 4.
     pub const NEWEST: Edition = Edition(4);
 
+    /// The edition with this number, if it is 1 to 4.
     #[inline]
     pub fn new(number: u64) -> Option<Edition> {
         (1..=4).contains(&number).then_some(Edition(number as u8))
@@ -38,6 +40,7 @@ impl Edition {
         Edition(u16::from(self.0).min(minor) as u8)
     }
 
+    /// Its number.
     #[inline]
     pub fn number(self) -> u64 {
         u64::from(self.0)

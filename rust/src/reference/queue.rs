@@ -18,6 +18,7 @@ pub struct Request {
 }
 
 impl Request {
+    /// A request of zeros.
     pub const BLANK: Request = Request {
         algorithm: 0,
         granule: 0,
@@ -38,6 +39,7 @@ pub struct Response {
 }
 
 impl Response {
+    /// A response of zeros.
     pub const BLANK: Response = Response {
         granule: 0,
         ticket: 0,
@@ -45,6 +47,7 @@ impl Response {
         signature: [0; SIGNATURE],
     };
 
+    /// The bytes of the signature.
     #[inline]
     pub fn signature(&self) -> &[u8] {
         &self.signature[..self.len.min(SIGNATURE)]
@@ -75,21 +78,25 @@ impl<T: Copy> Ring<T> {
         self.count
     }
 
+    /// How many wait.
     #[inline]
     pub fn len(&self) -> usize {
         self.count.min(PLACES)
     }
 
+    /// Whether none waits.
     #[inline]
     pub fn is_empty(&self) -> bool {
         self.count == 0
     }
 
+    /// Whether all places are taken.
     #[inline]
     pub fn is_full(&self) -> bool {
         self.count >= PLACES
     }
 
+    /// The oldest one.
     #[inline]
     pub fn oldest(&self) -> Option<&T> {
         self.iter().next()
@@ -128,11 +135,13 @@ pub struct Queue {
 }
 
 impl Queue {
+    /// A queue without requests and responses.
     pub const EMPTY: Queue = Queue {
         requests: Ring::new([Request::BLANK; PLACES], 0),
         responses: Ring::new([Response::BLANK; PLACES], 0),
     };
 
+    /// The oldest request.
     #[inline]
     pub fn oldest_request(&self) -> Option<&Request> {
         self.requests.oldest()

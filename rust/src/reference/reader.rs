@@ -16,6 +16,7 @@ pub enum Refusal {
 }
 
 impl Refusal {
+    /// The number of the code.
     #[inline]
     pub fn code(self) -> i32 {
         match self {

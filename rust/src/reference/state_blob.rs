@@ -46,6 +46,7 @@ pub struct Request {
 }
 
 impl Request {
+    /// Reads a request with the wanted code.
     pub fn read(message: &[u8], wanted: u32) -> Result<Request, Refusal> {
         let [code, flags, kind, offset] = head_of(message).ok_or(Refusal::CutShort)?;
         if message.len() > HEAD {
@@ -79,6 +80,7 @@ pub struct Piece<'a> {
 }
 
 impl<'a> Piece<'a> {
+    /// Reads a response with at most `largest` bytes of data.
     pub fn read(message: &'a [u8], largest: u32) -> Result<Piece<'a>, Refusal> {
         let [result, flags, total, length] = head_of(message).ok_or(Refusal::CutShort)?;
         let data = &message[HEAD..];
@@ -124,10 +126,12 @@ pub struct Collector {
 }
 
 impl Collector {
+    /// Whether a response was accepted and totlength bytes are held.
     pub fn is_complete(self) -> bool {
         self.total == Some(self.held)
     }
 
+    /// Appends the data of a response to the bytes held.
     pub fn collect(
         &mut self,
         message: &[u8],
