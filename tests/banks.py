@@ -1,6 +1,6 @@
-"""The granule record of several banks and the realm words beside a table, as docs/RULES.md (BN1 to
+"""The granule record of several banks and the realm words of a table, as docs/RULES.md (BN1 to
 BN8, RW1 to RW9; requests E2, E6) has them. A record is given by its first words: how many banks,
-then base and size of each; the words behind those given are 0. All arithmetic is on plain numbers.
+then base and size of each; the words after those given are 0. All arithmetic is on plain numbers.
 """
 
 WORDS = 33
@@ -8,7 +8,7 @@ MOST = 16
 START = 0x880000000
 # Two banks with a hole of one granule between them.
 TWO = [(START, 5 * 4096), (START + 6 * 4096, 3 * 4096)]
-# 16 banks of 1, 2, 3, .. granules; behind each second one a hole of one granule.
+# 16 banks of 1, 2, 3, .. granules; after each second one a hole of one granule.
 MANY = [(START + 4096 * (i * (i + 1) // 2 + (i + 1) // 2), 4096 * (i + 1)) for i in range(16)]
 
 
@@ -37,7 +37,7 @@ def words(*numbers):
 
 
 def stored(record, lent=None):
-    """A record as a case's file has it, the number of words given, then these; and behind it, if
+    """A record as a case's file has it, the number of words given, then these; and after it, if
     they are lent, the realm words in the same way."""
     assert len(record) <= WORDS
     behind = b"" if lent is None else words(len(lent), *lent)
@@ -85,7 +85,7 @@ def granules_of(record):
 
 
 def needed(n):
-    """02, E6: how many realm words so many granules have, 64 a word."""
+    """02, E6: the number of realm words for n granules: ceil(n / 64)."""
     return n // 64 + (n % 64 > 0)
 
 
@@ -95,7 +95,7 @@ def fit(record, lent):
 
 
 def realm_words(table):
-    """02, E6: the words of a table. Granule i is bit i mod 64 of word i / 64, set where its byte is
+    """02, E6: the words of a table. Granule i is bit i mod 64 of word i / 64, set if its byte is
     1; the spare bits are 0."""
     lent = [0] * needed(len(table))
     for i, byte in enumerate(table):

@@ -2,10 +2,10 @@
 #
 # An export's bytes are its own frame (-fstack-usage), the deepest chain of calls below it, by the branches in the text that the object
 # is assembled from, and the words that its caller passes on the stack: a parameter after the eighth is one. What memcpy, memmove and memset
-# take is left out; they are the platform's.
+# take is left out; the platform provides them.
 #
-# Prints the bytes of each export and the figure of the header. Fails where the header has none, less, or more than 32 bytes more, where an
-# export takes more than 1 KiB, and where no bound can be told: a frame of variable size, a call through a register, recursion, a function
+# Prints the bytes of each export and the figure of the header. Fails if the header has none, less, or more than 32 bytes more, if an
+# export takes more than 1 KiB, and if there is no known bound: a frame of variable size, a call through a register, recursion, a function
 # without a frame. With `out` the header is not compared; FILE gets a line "NAME FIGURE" an export, rounded up to a multiple of 32.
 
 function wrong(text) {

@@ -1,6 +1,6 @@
 # The table of instructions: awk -f count.awk ROWS TRACE
 #
-# ROWS has the name of each row, a line each. TRACE has a line an instruction, its function's name last, and four calls of mark() a row: around
+# ROWS has one name per line. TRACE has one line per instruction, its function's name last, and four calls of mark() per row: around
 # the library's call, and around that of the hand-written C. The row's own instructions do not count.
 
 function thousands(number) {

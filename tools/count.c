@@ -1,8 +1,8 @@
 /*
  * Calls of the AArch64 archives whose instructions tools/aarch64 counts, and the same work in hand-written C. Between two calls of mark() all
- * instructions but those of the rows themselves count. No libc: the copies below are the platform's, 16 bytes a turn.
+ * instructions but those of the rows themselves count. No libc: the copies below take its place, 16 bytes per iteration.
  *
- * Prints a line for each row, in the order of the marks: its name. Ends with status 1 where library and C differ.
+ * Prints a line for each row, in the order of the marks: its name. Ends with status 1 if library and C differ.
  */
 #include "potterbeam.h"
 #include "potterbeam_tpm.h"
@@ -90,7 +90,7 @@ static void say(const char *name)
     call(64, 1, "\n", 1);
 }
 
-/* ---- Hand-written. A page has to be aligned to 8 bytes here, which the library does not ask for. ---- */
+/* ---- Hand-written. A page must be aligned to 8 bytes here, which the library does not require. ---- */
 
 #define HAND_WRITTEN __attribute__((noinline))
 #define MEMORY_END (1ull << 52)
@@ -173,7 +173,7 @@ refused:
     return -7;
 }
 
-/* pbeam_write, of banks alone. */
+/* pbeam_write, only of banks. */
 HAND_WRITTEN uint32_t hand_write(word base, word edition, const word *dram, size_t dram_len, uint8_t *to, size_t length)
 {
     static const unsigned cores[5] = {0, 16, 40, 64, 112};

@@ -1,6 +1,6 @@
 # Puts the AArch64 figures into a header, or into the tables of docs/STACK.md: awk -f figures.awk FIGURES FILE
 #
-# FIGURES has a line "NAME FIGURE" an export. In a header the comment of a function begins with its name; in a table a row does.
+# FIGURES has one line "NAME FIGURE" per export. In a header the comment of a function begins with its name; in a table a row does.
 
 FNR == 1 { file++ }
 

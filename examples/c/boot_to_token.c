@@ -3,23 +3,23 @@
  *
  *   1  EL3 writes a manifest with two banks, two consoles, and the board's name and serial, and sets up its granule record from what the
  *      manifest shows: the table has a byte for each granule of the two. From the table it builds the Realm words, a bit for each granule.
- *   2  EL3 enters the monitor: cold boot on CPU 0, with so many kept bytes that no command overwrites the manifest. The monitor lists what
+ *   2  EL3 enters the monitor: cold boot on CPU 0, with enough kept bytes that no command overwrites the manifest. The monitor lists what
  *      the manifest shows, picks its console by name, and reports with RMM_BOOT_COMPLETE.
  *   3  Warm boot on CPU 1: the monitor reads the manifest again.
  *   4  The monitor delegates a granule, and tries the same one again: a refusal. It delegates one of the second bank; an address in the hole
- *      between the banks is refused. EL3 hands over 200 granules of guest memory in one call; a second list runs into the granule that is
- *      Realm already, and says how many it did before. Before and after, the words tell EL3 how many granules are Realm and which is the
- *      first, without a walk over the table.
+ *      between the banks is refused. EL3 delegates 200 granules of guest memory in one call; a second list runs into the granule that is
+ *      Realm already, and reports how many it did before. Before and after, EL3 reads from the words how many granules are
+ *      Realm and which is the first, without a walk over the table.
  *   5  It draws the platform token, 100 bytes through a buffer of 64. The platform takes its time: AGAIN, and the monitor asks again. In
- *      mid-session the monitor starts anew, is told AGAIN, and goes on: it still gets the rest of the first token. Then it gets the new one.
+ *      mid-session the monitor starts again, gets AGAIN, and goes on: it still gets the rest of the first token. Then it gets the new one.
  *      A buffer in the kept bytes is refused, and the manifest is still there.
  *   6  It completes an RMI call of the Non-secure world.
  *   7  It has a token signed: push, the signer's step, pull.
- *   8  A second warm boot of CPU 1 finds the manifest as it was. Then a warm boot that the monitor reports as failed: EL3 closes its record
+ *   8  A second warm boot of CPU 1 finds the manifest unchanged. Then a warm boot that the monitor reports as failed: EL3 closes its record
  *      and serves nothing more.
  *
- * On a board the two sides are two programs. Here the entry to the monitor and its SMCs are plain C calls, and what would be cryptography
- * is a fill of bytes. el3_smc is the handler to take over; el3_choose_token is its part for a platform that can be busy.
+ * On a board the two sides are two programs. Here the entry to the monitor and its SMCs are plain C calls, and a fill of bytes
+ * takes the place of cryptography. el3_smc is the handler to copy; el3_choose_token is its part for a platform that can be busy.
  */
 #include <inttypes.h>
 #include <stdio.h>
@@ -46,7 +46,7 @@ static pbeam_page_t page; /* the shared page; on a board both sides map it */
 
 struct token {
     uint8_t bytes[TOKEN_BYTES];
-    size_t length; /* 0: there is none */
+    size_t length; /* 0: no token */
 };
 
 static struct {
@@ -62,14 +62,14 @@ static struct {
 static void el3_lock(void) {}
 static void el3_unlock(void) {}
 
-/* ---- EL3: the part that makes tokens, as slow as a security processor. It answers at the second asking. ---- */
+/* ---- EL3: the part that makes tokens, as slow as a security processor. It answers the second request. ---- */
 
 static struct {
     uint8_t challenge[PBEAM_CHALLENGE_SHA512];
     size_t length; /* 0: it has nothing to do */
 } maker;
 
-/* Whether the token for this challenge is made, into `into`. It is asked again until it is. */
+/* Returns whether the token for this challenge is made, into `into`. The caller asks again until it is. */
 static bool maker_has(const uint8_t *challenge, size_t length, struct token *into)
 {
     if (maker.length != length || memcmp(maker.challenge, challenge, length) != 0) {
@@ -87,8 +87,8 @@ static bool maker_has(const uint8_t *challenge, size_t length, struct token *int
 
 /* ---- EL3: SMCs of the monitor ---- */
 
-/* Which token the call is lent, and whether the platform is busy; the answer is whether it is a new token. The token of a session that is
- * under way is never written: a start that is told AGAIN leaves that session as it was, and it may go on. */
+/* Chooses the token that the call is lent, and whether the platform is busy; returns whether it is a new token. The token of a session that
+ * is under way is never written: a start that gets AGAIN leaves that session unchanged, and it may go on. */
 static bool el3_choose_token(const pbeam_call_t *call)
 {
     pbeam_place_t place;
@@ -96,7 +96,7 @@ static bool el3_choose_token(const pbeam_call_t *call)
     struct token *next = &el3.tokens[1 - el3.lent];
     el3.context.busy = false;
     el3.context.token = pbeam_bytes(lent->bytes, lent->length);
-    /* The challenge stands where the first hunk will be written, so it is looked at before the call. */
+    /* The challenge is where the first hunk will be written, so read it before the call. */
     (void)pbeam_context_challenge(&el3.context, call, &place);
     if (pbeam_place_length(&place) == 0)
         return false; /* the call goes on, or will be refused */
@@ -108,7 +108,7 @@ static bool el3_choose_token(const pbeam_call_t *call)
     return true;
 }
 
-/* What the hardware has to do after a command. */
+/* What the hardware must do after a command. */
 static void el3_act(const pbeam_call_t *call, const pbeam_registers_t *out, const pbeam_work_t *work)
 {
     const uint64_t id = call->words[PBEAM_CALL_ID];
@@ -206,7 +206,7 @@ static bool el3_write_manifest(void)
     return refusal == PBEAM_WRITE_PAGE; /* on a board: clean the cache, the monitor may read it with its MMU off */
 }
 
-/* The granule record, of the banks that the manifest shows. Now: it is what the commands take. */
+/* Sets up the granule record from the banks that the manifest shows, before the first command: the commands take the record. */
 static bool el3_set_up_granules(void)
 {
     pbeam_view_t view;
@@ -218,7 +218,7 @@ static bool el3_set_up_granules(void)
     return x0 == PBEAM_X0_OK;
 }
 
-/* The Realm words of the table, as it is now: a bit for each granule. From here on every command keeps them so. */
+/* Builds the Realm words of the present table: a bit for each granule. From here on every command keeps them in agreement. */
 static bool el3_build_words(void)
 {
     const uint64_t x0 = pbeam_context_build_words(&el3.context);
@@ -226,7 +226,8 @@ static bool el3_build_words(void)
     return x0 == PBEAM_X0_OK;
 }
 
-/* How many granules are Realm, and the first of them from granule 3 on: both from the words alone. Answers whether there are so many. */
+/* Prints how many granules are Realm, and the first of them from granule 3 on, both from the words alone. Returns whether the number is
+ * `want`. */
 static bool el3_count_realm(uint64_t want)
 {
     uint64_t number, next, x0;
@@ -242,8 +243,8 @@ static bool el3_count_realm(uint64_t want)
     return number == want;
 }
 
-/* Guest memory goes to Realm, so many granules from one on, in one call. It has no function id of its own: a board gives it one of the
- * platform's. What was done before a refusal stays done, so x1 says where to go on; the change in hardware is for these granules. */
+/* Delegates guest memory, a range of granules in one call. The call has no function id in the interface: a board chooses one.
+ * What was done before a refusal stays done, so go on at x1; the change in hardware is for the first x1 granules. */
 static bool el3_hand_over(size_t first, uint64_t *done)
 {
     uint64_t addresses[GUEST_GRANULES];
@@ -263,7 +264,7 @@ static void monitor_cold_boot(const pbeam_cold_t *x);
 static void monitor_warm_boot(uint64_t cpu);
 
 /* EL3's record goes up before the monitor is entered, since the monitor may call EL3 while it boots. Both sides check the same
- * registers and the same page, so both records hold the same. A closed record says: do not enter. */
+ * registers and the same page, so both records hold the same. If the record is closed, do not enter. */
 static bool el3_boot_first_cpu(void)
 {
     const pbeam_cold_t x = {.cpu = 0, .version = PBEAM_INTERFACE_MINOR, .cpus = CPUS, .base = BASE}; /* version 0.5 */
@@ -293,7 +294,7 @@ static bool el3_boot_next_cpu(uint64_t cpu)
 static struct {
     pbeam_record_t record; /* the monitor's own */
     pbeam_view_t view;     /* of the manifest, as the first boot read it */
-    bool out_of_memory;    /* an error that the library knows nothing of */
+    bool out_of_memory;    /* an error unknown to the library */
 } monitor;
 
 /* An SMC: the registers of a call, and its result registers. */
@@ -313,7 +314,7 @@ static void monitor_boot_complete(int32_t code)
     monitor_smc(pbeam_call_of(RMM_BOOT_COMPLETE, (uint64_t)(int64_t)code, 0, 0, 0), 0);
 }
 
-/* The monitor's console is the one of its name, whatever its place among the others. */
+/* The monitor's console is found by its name, at any place among the others. */
 static void monitor_pick_console(const pbeam_view_t *view)
 {
     pbeam_console_t console;
@@ -329,7 +330,7 @@ static void monitor_list(const pbeam_view_t *view)
 {
     const pbeam_bytes_t name = pbeam_view_board_name(&page, view), serial = pbeam_view_serial(&page, view);
     printf("monitor: manifest 0.%" PRIu64 " read as edition %" PRIu64 "\n", pbeam_view_minor(view), pbeam_view_edition(view));
-    /* The name is any bytes, with no '\0' behind them: a board that does not trust them prints them in hex, as the serial. */
+    /* The name is any bytes, with no '\0' after them: a board that does not trust them prints them in hex, as the serial. */
     printf("monitor: board %.*s, serial ", (int)name.length, (const char *)name.at);
     for (size_t i = 0; i < serial.length; i++)
         printf("%02x", serial.at[i]);
@@ -341,7 +342,7 @@ static void monitor_list(const pbeam_view_t *view)
     monitor_pick_console(view);
 }
 
-/* The manifest, read anew: whether it shows what the first boot found. */
+/* Reads the manifest again; returns whether it shows what the first boot found. */
 static bool monitor_manifest_is_whole(void)
 {
     pbeam_view_t view;
@@ -351,7 +352,7 @@ static bool monitor_manifest_is_whole(void)
     return same;
 }
 
-/* Where the monitor's buffers begin: behind what is kept. */
+/* Where the monitor's buffers begin: after the kept bytes. */
 static uint64_t monitor_buffer(void)
 {
     return BASE + pbeam_record_kept(&monitor.record);
@@ -362,7 +363,7 @@ static uint8_t *monitor_bytes(void)
     return page.bytes + pbeam_record_kept(&monitor.record);
 }
 
-/* No register says how many bytes EL3 keeps: the page does, to both sides. */
+/* No register carries the number of kept bytes: both sides compute it from the page. */
 static void monitor_cold_boot(const pbeam_cold_t *x)
 {
     int32_t code;
@@ -394,7 +395,7 @@ static int32_t monitor_delegate(uint64_t address)
     return pbeam_registers_code(&out);
 }
 
-/* One call for the token. A start has its challenge in the buffer, here so many bytes of `fill`. */
+/* One call for the token. A start has its challenge in the buffer, here bytes of `fill`. */
 static pbeam_registers_t monitor_token(uint64_t c_size, int fill)
 {
     pbeam_registers_t out;
@@ -407,7 +408,7 @@ static pbeam_registers_t monitor_token(uint64_t c_size, int fill)
     return out;
 }
 
-/* Draws a whole token for a challenge of bytes `fill`; in between it tries to start for `other`, if that is not 0. Answers whether each byte
+/* Draws a whole token for a challenge of bytes `fill`; in between it tries to start for `other`, if that is not 0. Returns whether each byte
  * is of the one token. */
 static bool monitor_draw_token(int fill, int other)
 {
@@ -490,7 +491,7 @@ int main(void)
         return 1;
     if (monitor_delegate(granule) != E_RMM_OK || monitor_delegate(granule) != E_RMM_BAD_PAS) /* it is Realm already */
         return 1;
-    if (monitor_delegate(HIGH) != E_RMM_OK || monitor_delegate(MEMORY + MEMORY_BYTES) != E_RMM_BAD_ADDR) /* the hole behind the first bank */
+    if (monitor_delegate(HIGH) != E_RMM_OK || monitor_delegate(MEMORY + MEMORY_BYTES) != E_RMM_BAD_ADDR) /* the hole after the first bank */
         return 1;
     if (!el3_count_realm(2))
         return 1;

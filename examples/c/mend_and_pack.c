@@ -1,5 +1,5 @@
 /*
- * A tool on a host for a damaged page: mends it, says what was taken out, and packs what is left into a new page.
+ * A tool on a host for a damaged page: mends it, prints what was removed, and packs what is left into a new page.
  *
  *   mend_and_pack INPUT [OUTPUT]
  *
@@ -13,7 +13,7 @@
 
 #define BASE_BYTES 8
 
-/* The bytes of B and the page from a file of exactly so many bytes. */
+/* Reads B and the page from a file of exactly that length. */
 static bool load(const char *name, uint8_t base[BASE_BYTES], pbeam_page_t *page)
 {
     FILE *file = fopen(name, "rb");
@@ -60,7 +60,7 @@ int main(int argc, char **argv)
     base = pbeam_get64(bytes);
     printf("page at 0x%" PRIx64 "\n", base);
 
-    /* Mended where it lies. A page of which place or version is wrong cannot be mended. */
+    /* Mended in place. A page whose place or version is wrong cannot be mended. */
     code = pbeam_manifest_mend(&page, base, &changes);
     printf("mend: %s\n", pbeam_mend_text(code));
     if (code != PBEAM_MEND_DONE)
@@ -72,7 +72,7 @@ int main(int argc, char **argv)
     print_part("ncoh", changes.ncoh);
     print_part("coh", changes.coh);
 
-    /* What was taken out still lies in the page, where nothing points at it: the packed page has it no longer. A page of minor 5 or above
+    /* What was removed is still in the page, but nothing points at it: the packed page does not have it. A page of minor 5 or above
      * is mended and not packed. */
     packing = pbeam_manifest_pack(&page, base, &packed);
     printf("pack: %s\n", pbeam_pack_text(packing));

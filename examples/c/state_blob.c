@@ -21,7 +21,7 @@ static uint8_t wire[PBEAM_SWTPM_HEAD_BYTES + LARGEST]; /* one message on its way
 
 static uint8_t state[BLOB_BYTES];
 
-/* Answers the request in wire with a response in wire; says how long it is, 0 where there is no answer. */
+/* Answers the request in wire with a response in wire; returns its length, 0 if there is no answer. */
 static size_t serve(size_t request_len, uint32_t tpm_result)
 {
     uint32_t asked[PBEAM_SWTPM_PARTS_WORDS], offset;

@@ -1,13 +1,13 @@
 /*
  * A hypervisor's handler of H_TPM_COMM: a guest sends a request to its TPM and closes the session again.
  *
- *   1  Execute, with one address for both buffers: the response stands where the request was.
+ *   1  Execute, with one address for both buffers: the response overwrites the request.
  *   2  Execute with an output that is too small: refused, nothing changes.
  *   3  Execute while the TPM does not answer: refused, the session stays.
  *   4  Close, and close again.
  *
- * On a board the guest's registers come from the processor, and the TPM is a device. Here they are a struct and a function that turns
- * the request's bytes around.
+ * On a board the guest's registers come from the processor, and the TPM is a device. Here they are a struct and a function that reverses
+ * the request's bytes.
  */
 #include <inttypes.h>
 #include <stdio.h>
@@ -23,7 +23,7 @@
 
 static int tpm_is_broken;
 
-/* Sends a request to the TPM. Answers the response's length, and through fault whether there was none. */
+/* Sends a request to the TPM. Returns the response's length, and in `fault` whether there was no response. */
 static size_t tpm_send(const uint8_t *request, size_t length, uint8_t response[RESPONSE_BYTES], uint64_t *fault)
 {
     *fault = tpm_is_broken || length == 0 || length > RESPONSE_BYTES;
@@ -56,7 +56,7 @@ static void h_tpm_comm(struct guest *g)
     size_t length = 0;
     uint64_t fault = 0, r4, place[PBEAM_TPM_PLACE_WORDS];
 
-    /* The request is looked at first: the response may be written over it. */
+    /* Read the request first: the response may overwrite it. */
     pbeam_tpm_request(r[4], r[5], r[6], r[7], r[8], g->memory, sizeof g->memory, forbidden, place);
     if (r[4] == PBEAM_TPM_EXECUTE)
         length = tpm_send(g->memory + place[PBEAM_TPM_PLACE_OFFSET], place[PBEAM_TPM_PLACE_LENGTH], response, &fault);

@@ -1,5 +1,5 @@
-/* Numbers that C and assembly of all three programs share, and the script that runs them: the memory map of QEMU's machine "virt", what
- * stands where in it, and what the platform gives. */
+/* Numbers that C and assembly of all three programs share, and the script that runs them: the memory map of QEMU's machine "virt", the
+ * board's addresses in it, and what the platform gives. */
 #ifndef BOARD_H
 #define BOARD_H
 
@@ -15,14 +15,14 @@
 #define SET_OLDER 8           /* EL3 offers an older interface, which has no token signing and no key update */
 #define MEMORY 0x44000000     /* the first bank of the manifest, and the first granule of the granule table */
 #define MEMORY_BYTES 0x04000000
-#define HIGH 0x4A000000       /* the second bank; what lies between them is on no granule */
+#define HIGH 0x4A000000       /* the second bank; addresses between the banks are not granules */
 #define HIGH_BYTES 0x06000000
 #define GRANULES ((MEMORY_BYTES + HIGH_BYTES) / 4096) /* of both banks, a byte each in the table */
 #define CPUS 2
 
 #define SYSTEM_OFF 0x84000008 /* PSCI; here x1 is the number of wrong results */
 
-/* An OEM call, for the test alone: what the platform gives from now on. x1 and x2 are the lengths of realm key and token, x3 is
+/* An OEM call, only for the test: what the platform gives from now on. x1 and x2 are the lengths of realm key and token, x3 is
  * MECIDWidthm1. OK, or INVAL for more bytes than there are. */
 #define PLATFORM_GIVES 0xC3000001
 
@@ -32,7 +32,7 @@
 #define PUBLIC_KEY_BYTES 97
 #define SIGNATURE_BYTES 96
 
-/* Stacks. An area is painted whole, so that a stack that outgrows its part of it is seen, not suffered. */
+/* Stacks. The whole area is filled with a pattern, so that a stack that outgrows its part is noticed and does no harm. */
 #define AREA 0x4000
 #define EL3_STACK 2048
 

@@ -77,7 +77,7 @@ uint64_t level(void)
     return current >> 2;
 }
 
-/* Upwards, so that the two may overlap where `to` is the lower one. */
+/* Upwards, so that the two may overlap if `to` is the lower one. */
 static void *copy_upwards(uint8_t *to, const uint8_t *from, size_t n)
 {
     for (size_t i = 0; i < n; i++)

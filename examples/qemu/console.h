@@ -1,4 +1,4 @@
-/* What each of the three programs has for itself: the PL011, and the three functions that the library wants. */
+/* What each of the three programs has for itself: the PL011, and the three functions that the library needs. */
 #ifndef CONSOLE_H
 #define CONSOLE_H
 

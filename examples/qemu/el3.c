@@ -1,7 +1,7 @@
 /*
  * The EL3 firmware of the board: it boots the monitor, serves its SMCs with the library, and passes calls between host and monitor.
  *
- * Without RME the monitor is at Non-secure EL2, with it at Realm EL2. The host, which stands for the Non-secure world, is at Non-secure
+ * Without RME the monitor is at Non-secure EL2, with it at Realm EL2. The host, in the role of the Non-secure world, is at Non-secure
  * EL1. The second CPU boots while the first waits for it, so one CPU at a time is in the library and no lock is needed. Firmware whose CPUs
  * call at the same time holds one around pbeam_context_call and what belongs to it.
  */
@@ -37,7 +37,7 @@ static volatile uint64_t second_done; /* it has booted */
 static struct {
     pbeam_context_t kit; /* EL3's own boot record is in it */
     uint8_t table[GRANULES];
-    uint64_t words[(GRANULES + 63) / 64]; /* a bit a granule of the table */
+    uint64_t words[(GRANULES + 63) / 64]; /* one bit for each granule of the table */
     struct context worlds[CPUS][WORLDS];
     uint64_t most_stack, overflows;
 } el3;
@@ -71,7 +71,7 @@ _Noreturn void el3_fault(uint64_t esr, uint64_t elr, uint64_t far)
 
 /* ---- Stack ---- */
 
-/* How much of this CPU's area is no longer paint. Above EL3_STACK it is an overflow. */
+/* How many bytes of this CPU's area no longer have the pattern. Above EL3_STACK it is an overflow. */
 static uint64_t stack_used(uint64_t cpu)
 {
     const uint64_t *words = (const uint64_t *)stacks[cpu];
@@ -143,7 +143,7 @@ static struct context *enter(uint64_t cpu, enum world world, uint64_t x0)
     return to;
 }
 
-/* EL3's own record goes up before the monitor is entered, over the registers and the page that it hands over. It keeps the bytes that the
+/* EL3's own record goes up before the monitor is entered, over the registers and the page that it passes. It keeps the bytes that the
  * manifest takes: no command writes there. */
 static struct context *cold_boot(void)
 {
@@ -214,7 +214,7 @@ static void start_second_cpu(void)
         ;
 }
 
-/* RMM_BOOT_COMPLETE. After an error no CPU enters the monitor again; this one may still stop itself, and is told UNK until then. */
+/* RMM_BOOT_COMPLETE. After an error no CPU enters the monitor again; this one may still stop itself, and gets UNK until then. */
 static struct context *boot_complete(uint64_t cpu, struct context *from)
 {
     const int32_t code = (int32_t)(uint32_t)from->x[1];
@@ -268,7 +268,7 @@ static struct context *forward(uint64_t cpu, const struct context *from, const p
     return host;
 }
 
-/* A command: x0 to x2 are its answer, all other registers stay the monitor's. */
+/* A command: x0 to x2 are its answer, all other registers keep the monitor's values. */
 static struct context *command(uint64_t cpu, struct context *from)
 {
     const pbeam_call_t call = pbeam_call_of(from->x[0], from->x[1], from->x[2], from->x[3], from->x[4]);

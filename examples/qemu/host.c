@@ -8,7 +8,7 @@
 
 const char program[] = "host";
 
-/* A call of the monitor; its error and its result have to be these. */
+/* A call of the monitor; its error and its result must be these. */
 static void call(const char *what, uint64_t id, uint64_t x1, uint64_t error, uint64_t result)
 {
     uint64_t x[8] = {id, x1};

@@ -1,8 +1,8 @@
 /*
  * A stand-in for the monitor (RMM), at EL2. It boots from x0 to x3, draws a token while it boots, as 002 lets it, and then serves the
- * host's calls. Every answer of EL3 is compared with what the interface wants; what differs is printed and counted.
+ * host's calls. Every answer of EL3 is compared with what the interface requires; differences are printed and counted.
  *
- * The buffers lie at odd addresses, so that no word in them is aligned, and behind the kept bytes, where the manifest is: it is read again
+ * The buffers are at odd addresses, so that no word in them is aligned, and after the kept bytes, which hold the manifest: it is read again
  * after the token, at the warm boot and at the end.
  */
 #include "potterbeam_types.h"
@@ -31,7 +31,7 @@ static pbeam_record_t record; /* the monitor's own */
 struct step {
     const char *what;
     uint64_t x[5];   /* the call */
-    uint64_t out[3]; /* the answer it has to get */
+    uint64_t out[3]; /* the answer it must get */
 };
 
 static void take(const struct step *step)
@@ -72,7 +72,7 @@ static void list_manifest(void)
     const pbeam_bytes_t board = pbeam_view_board_name(page, &view), serial = pbeam_view_serial(page, &view);
     char of_board[PBEAM_NAME_MOST + 1];
     uint64_t number = 0;
-    pbeam_console_t console; /* picked by name, whatever its place */
+    pbeam_console_t console; /* picked by name, at any place */
     const bool picked = pbeam_view_console_named(page, &view, "pl011", &console);
     for (size_t i = 0; i < board.length; i++)
         of_board[i] = (char)board.at[i];
@@ -143,7 +143,7 @@ static const struct step after_error[] = {
     {"key update after the error", {RMM_MECID_KEY_UPDATE, 9}, {PBEAM_X0_UNK}},
 };
 
-/* The answer of RMM_BOOT_COMPLETE is the host's first call. After an error there is none: EL3 serves nothing more. */
+/* The answer of RMM_BOOT_COMPLETE is the host's first call. After an error no call comes: EL3 serves nothing more. */
 _Noreturn static void boot_complete(int32_t code)
 {
     uint64_t x[8] = {RMM_BOOT_COMPLETE, (uint64_t)(int64_t)code};

@@ -22,7 +22,7 @@ void platform_start(pbeam_context_t *kit)
     (void)platform_gives(kit, REALM_KEY_BYTES, TOKEN_BYTES, PBEAM_WIDTH_MOST);
 }
 
-/* The part that makes tokens is slow: it answers at the second asking. */
+/* The part that makes tokens is slow: it answers the second request. */
 static struct {
     uint8_t challenge[PBEAM_CHALLENGE_SHA512];
     size_t length; /* 0: it has nothing to do */
@@ -40,7 +40,7 @@ static bool same(const uint8_t *a, const uint8_t *b, size_t n)
     return true;
 }
 
-/* Whether the token for this challenge is made, into `into`. */
+/* Returns whether the token for this challenge is made, into `into`. */
 static bool maker_has(const uint8_t *challenge, size_t length, uint8_t into[TOKEN_BYTES])
 {
     if (maker.length != length || !same(maker.challenge, challenge, length)) {
@@ -55,13 +55,13 @@ static bool maker_has(const uint8_t *challenge, size_t length, uint8_t into[TOKE
     return true;
 }
 
-/* The token of a session that is under way is never written: a start that is told AGAIN leaves that session as it was. */
+/* The token of a session that is under way is never written: a start that gets AGAIN leaves that session unchanged. */
 bool platform_choose_token(pbeam_context_t *kit, const pbeam_call_t *call)
 {
     pbeam_place_t place;
     kit->busy = false;
     kit->token = pbeam_bytes(tokens[lent], token_length);
-    /* The challenge stands where the first hunk will be written, so it is looked at before the call. */
+    /* The challenge is where the first hunk will be written, so read it before the call. */
     (void)pbeam_context_challenge(kit, call, &place);
     if (pbeam_place_length(&place) == 0)
         return false; /* the call goes on, or will be refused */

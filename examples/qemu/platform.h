@@ -1,4 +1,4 @@
-/* The platform's own part of the commands: keys, tokens and signatures. Where a board has cryptography, here bytes are filled in. */
+/* The platform's own part of the commands: keys, tokens and signatures. A fill of bytes takes the place of cryptography. */
 #ifndef PLATFORM_H
 #define PLATFORM_H
 
@@ -7,16 +7,16 @@
 /* At the start: makes the realm key, and gives all that there is. */
 void platform_start(pbeam_context_t *kit);
 
-/* What the platform gives from now on: so many bytes of the realm key and of a token, and this MECIDWidthm1. Answers whether it can. */
+/* What the platform gives from now on: the lengths of the realm key and of a token, and MECIDWidthm1. Returns whether it can. */
 bool platform_gives(pbeam_context_t *kit, uint64_t key_bytes, uint64_t token_bytes, uint64_t width);
 
-/* Before a call for the token: which token it is lent, and whether the platform is busy. Answers whether it is a new one. */
+/* Before a call for the token: which token it is lent, and whether the platform is busy. Returns whether it is a new one. */
 bool platform_choose_token(pbeam_context_t *kit, const pbeam_call_t *call);
 
-/* After the call that was lent a new token, where it is OK. */
+/* After the call that was lent a new token, if it is OK. */
 void platform_token_is_lent(void);
 
-/* When EL3 has time: the signer's step for every request that waits. The public key is there from the first time on. */
+/* When EL3 has time: the signer's step for every request that waits. The public key exists from the first time on. */
 void platform_sign(pbeam_context_t *kit);
 
 #endif

@@ -1,4 +1,4 @@
-/* Granule protection: what the hardware has to do after an OK of delegate and undelegate. Without RME each of these does nothing. */
+/* Granule protection: what the hardware must do after an OK of delegate and undelegate. Without RME each of these does nothing. */
 #ifndef PROTECTION_H
 #define PROTECTION_H
 

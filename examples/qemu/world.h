@@ -16,10 +16,10 @@ extern uint64_t wrong;
 /* An SMC: eight registers, in and out. */
 void smc(uint64_t x[8]);
 
-/* A result that has to be this one. */
+/* A result that must be this one. */
 void expect(const char *what, uint64_t got, uint64_t wanted);
 
-/* Reads a word, which has to end with this fault status: 0 where the read works. */
+/* Reads a word, which must end with this fault status: 0 if the read works. */
 void expect_read(const char *what, uint64_t address, uint64_t status);
 
 /* Turns the board off. */

@@ -1,13 +1,13 @@
-//! The proved library against hand-written Rust, nanoseconds a call: `cargo run --offline --release --example bench`
+//! The proved library against hand-written Rust, in nanoseconds per call: `cargo run --offline --release --example bench`
 //!
 //! All sides are timed in turn, on pages of the same content and alignment, and the best of many short runs counts.
 //!
 //! - "hand-written": the fastest code that we could write, with the library's parameters, rules and images (`src/fast.rs`, `src/inplace.rs`);
-//!   `tests/fast.rs` and `tests/inplace.rs` hold it to the reference.
-//! - "hand-written, SSE2": the same, where the copy is of 16 bytes at a time and not the C library's.
+//!   `tests/fast.rs` and `tests/inplace.rs` compare it with the reference.
+//! - "hand-written, SSE2": the same, with copies of 16 bytes at a time, not the C library's.
 //! - "native": the reference, whose states are Rust values.
 //!
-//! With `--write` the table of docs/BENCHMARK.md is written anew. With `manifest`, `granules` or `commands` only these are timed.
+//! With `--write` it writes the table of docs/BENCHMARK.md. With `manifest`, `granules` or `commands` it times only these.
 
 use potterbeam_tests::exports::{
     Exports, FieldImage, GranulesImage, QueueImage, RecordImage, Registers, SessionImage, Work,
@@ -62,7 +62,7 @@ fn hidden<const N: usize>(words: [u64; N]) -> [u64; N] {
     })
 }
 
-/// A page where hardware would have it.
+/// A page at an aligned address, as hardware has it.
 #[repr(align(4096))]
 struct Page([u8; PAGE]);
 
@@ -125,7 +125,7 @@ fn shown(ns: f64) -> String {
     }
 }
 
-/// Prints nanoseconds a call of the library, and of each other side with the ratio. A body makes `calls` calls.
+/// Prints nanoseconds per call of the library, and of each other side with the ratio. A body makes `calls` calls.
 fn compare(name: &str, calls: u32, kit: Side, others: Vec<(&str, Side)>) {
     let (names, others): (Vec<_>, Vec<_>) = others.into_iter().unzip();
     let mut sides: Vec<_> = std::iter::once(kit).chain(others).collect();
@@ -288,7 +288,7 @@ fn compare_lookups() {
     assert_eq!(fast::word(page, &view, section, entry, word), CONSOLE[4]);
 }
 
-/// What the manifest of a view takes of the page, without and with fields.
+/// The number of bytes that the manifest of a view takes, without and with fields.
 fn compare_kept_for() {
     for (name, fields) in [
         ("kept bytes of a view", vec![]),
@@ -464,7 +464,7 @@ fn all_fields(start: usize, next: impl Fn(usize, &mut FieldImage) -> usize) -> u
 }
 
 /// The fields of a page that was read: how many, the last by its number, the first of a tag, which is there or not, and all by a
-/// cursor. A lookup judges the fields, since any view may come; the hand-written code finds its field in that same pass.
+/// cursor. A lookup checks the fields, since the view may be forged; the hand-written code finds its field in that same pass.
 fn compare_fields(name: &str, edition: u64, lists: Lists, fields: &[u8]) {
     let (mut page, mut view) = (Page([0; PAGE]), [0; 15]);
     write(BASE, edition, lists, fields, &mut page.0).expect("written");
@@ -611,7 +611,7 @@ fn compare_all_packing() {
     compare_packing("3,000 bytes of fields", spread(bank, &many, 64));
 }
 
-/// The core as it came is put back before each call.
+/// The original core is restored before each call.
 fn compare_mending(name: &str, page: &Page, broken: &[usize]) {
     let mut core = [0; 112];
     core.copy_from_slice(&page.0[..112]);
@@ -699,7 +699,7 @@ impl Memory {
         see(self.out[0]);
     }
 
-    /// As a C caller has it, without the wrapper's look at empty slices. Every pointer is of a live borrow of the length with it.
+    /// As a C caller has it, without the wrapper's test for empty slices. Every pointer is of a live borrow of the length with it.
     fn kit(&mut self, to_realm: bool, at: u64) {
         let by = match to_realm {
             true => ffi::pbeam_delegate,
@@ -895,7 +895,7 @@ fn compare_realm_words(name: &str, granules: u64) {
     assert_eq!((ours, ours[0]), (theirs, granules - 1));
 }
 
-/// What the words spare a board: how many bytes of the table are 1.
+/// What the words save a board: counting the bytes of the table that are 1.
 #[inline(never)]
 fn walked(table: &[u8]) -> u64 {
     table.iter().filter(|&&byte| byte == 1).count() as u64
@@ -1073,7 +1073,7 @@ fn hand_written_signing(
 fn compare_queue(waiting: usize) {
     let way = Way::new();
     let mut pages = [(); 3].map(|()| Page([0; PAGE]));
-    // The hash id that is asked for.
+    // The hash id that push requires.
     pages.iter_mut().for_each(|page| page.0[24] = 1);
     let [ours, theirs, placed] = &mut pages;
     let (ours, theirs, placed) = (ours.lent(), theirs.lent(), placed.lent());
@@ -1168,7 +1168,7 @@ impl Desk {
         }
     }
 
-    /// As a C caller has it, without the wrapper's look at empty slices. Every pointer is of a live borrow of the length with it.
+    /// As a C caller has it, without the wrapper's test for empty slices. Every pointer is of a live borrow of the length with it.
     fn kit(&mut self, x: &[u64; 5]) {
         unsafe {
             ffi::pbeam_call(
@@ -1233,7 +1233,7 @@ impl Desk {
     }
 }
 
-/// A call by id with this answer. What `set` does to a desk goes before each call, on both sides.
+/// A call by id with this answer. `set` prepares the desk before each call, on both sides.
 fn compare_call(name: &str, x0: i64, x: [u64; 5], set: impl Fn(&mut Desk)) {
     let x = hidden(x);
     let [mut ours, mut theirs] = [(); 2].map(|()| Desk::new());

@@ -1,7 +1,7 @@
 //! The other side of the benchmark for reader, lookups, listing, writer, packer and mender: hand-written for speed, with the parameters of
-//! the C functions. The view's words are written while the sections are judged, one entry is judged without a loop, a list is added while
-//! it is judged, and the page is made in the order of addresses. A lookup decodes its one section, and finds a field while it judges them.
-//! `tests/fast.rs` holds it to the reference.
+//! the C functions. It writes the view's words while it checks the sections, checks one entry without a loop, adds a list while it checks
+//! it, and makes the page in the order of addresses. A lookup decodes its one section, and finds a field while it checks them.
+//! `tests/fast.rs` compares it with the reference.
 
 use crate::exports::{FieldImage, Place, ViewImage};
 use crate::pages::ReportImage;
@@ -16,7 +16,7 @@ use crate::sse2;
 const PLACE: i32 = -5;
 const VERSION: i32 = -6;
 const RULES: i32 = -7;
-/// Up to this many banks are judged one by one: a loop over two at a time is not worth its start.
+/// Up to this many banks are checked one by one: a loop over two at a time costs more to start than it saves.
 const FEW: usize = 4;
 
 /// `pbeam_read`.
@@ -57,10 +57,10 @@ pub fn kept_for(page: &[u8], view: &ViewImage) -> u64 {
     (end + 7) & !7
 }
 
-/// The code of a page. Writes what it shows as far as it is judged, if VIEW.
+/// The code of a page. If VIEW, writes the view of what was checked.
 #[inline(always)]
 fn judge<const VIEW: bool>(page: &[u8], base: u64, edition: u64, view: &mut ViewImage) -> i32 {
-    // Rotated right by 12 an unaligned base becomes huge, and 0 too once it is one less.
+    // Rotated right by 12 an unaligned base becomes huge; so does 0, after 1 is subtracted.
     let page_index = base.rotate_right(12).wrapping_sub(1);
     let page: &[u8; PAGE] = match page.try_into() {
         Ok(page) if page_index < (1 << 40) - 1 => page,
@@ -166,7 +166,7 @@ pub fn field_count(page: &[u8], view: &ViewImage) -> usize {
     end.map_or(0, |_| count)
 }
 
-/// `pbeam_field`: found while the fields are judged, in one pass.
+/// `pbeam_field`: found while the fields are checked, in one pass.
 #[inline(never)]
 pub fn field(page: &[u8], view: &ViewImage, index: usize, field: &mut FieldImage) {
     let (mut left, mut found) = (index, 0);
@@ -212,7 +212,7 @@ pub fn field_next(page: &[u8], cursor: usize, field: &mut FieldImage) -> usize {
     page.len()
 }
 
-/// Whether a field of tag 1 to 3 may follow those seen, of which it becomes one.
+/// Whether a field of tag 1 to 3 may follow those seen; it is then marked as seen.
 #[inline]
 fn may_follow(seen: &mut u8, tag: u8, length: usize) -> bool {
     let fine = match tag {
@@ -245,7 +245,7 @@ fn bare(fields: &[u8]) -> bool {
 
 // ---- Lookups by a view ----
 
-/// Offset and bytes of a section's array in a page of this length; none where it is not in the page.
+/// Offset and size of a section's array in a page of `length` bytes; `None` if it is not in the page.
 #[inline(always)]
 fn part(length: usize, view: &ViewImage, section: usize) -> Option<(usize, usize)> {
     if section >= SECTIONS {
@@ -318,7 +318,7 @@ pub fn console_named(page: &[u8], view: &ViewImage, name: &[u8; 8]) -> usize {
 
 // ---- Listing ----
 
-/// Lent bytes and the length of the text so far, of which as much as fits is written.
+/// Lent bytes and the length of the text so far; as much as fits is written.
 struct Text<'a> {
     room: &'a mut [u8],
     length: usize,
@@ -496,7 +496,7 @@ fn list_fields(text: &mut Text, page: &[u8], from: usize) {
     }
 }
 
-/// A blank and two digits a byte.
+/// A space and two digits for each byte.
 #[inline]
 fn list_value(text: &mut Text, value: &[u8]) {
     const DIGITS: &[u8; 16] = b"0123456789abcdef";
@@ -566,7 +566,7 @@ fn apart(a: Bounds, b: Bounds) -> bool {
     a.1 <= b.0 || b.1 <= a.0
 }
 
-/// Judges a section of the edition, and writes its three words of the view if VIEW.
+/// Checks a section of the edition, and writes its three words of the view if VIEW.
 #[inline(always)]
 fn show<const K: usize, const VIEW: bool>(
     page: &[u8; PAGE],
@@ -701,8 +701,8 @@ pub fn write(base: u64, edition: u64, lists: Lists, fields: &[u8], page: &mut [u
     write_by::<false>(base, edition, lists, fields, page)
 }
 
-/// The same, where the copy of the arrays is code of SSE2 as well: with the C library's memcpy it is of the widest vectors that the
-/// machine has, which no firmware gets.
+/// The same, with the arrays copied by SSE2 code: the C library's memcpy uses the widest vectors that the
+/// machine has, which firmware cannot use.
 pub fn write_sse2(base: u64, edition: u64, lists: Lists, fields: &[u8], page: &mut [u8]) -> u32 {
     write_by::<true>(base, edition, lists, fields, page)
 }
@@ -782,7 +782,7 @@ fn console_list(list: &[u64]) -> Option<u64> {
     let consoles = list.chunks_exact(6);
     let odd = consoles.remainder();
     let consoles = consoles.map(|words| words.try_into().expect("a console"));
-    // Flags have to be 0 at every edition that can be written.
+    // Flags must be 0 at every edition that can be written.
     let sum = console_sum(4, consoles);
     sum.filter(|_| odd.is_empty())
 }
@@ -820,7 +820,7 @@ fn fill<const SSE2: bool>(
     page[at..].fill(0);
 }
 
-/// `pbeam_pack`. What is judged is moved as it lies: an array at another address has its sum less the way.
+/// `pbeam_pack`. Copies checked arrays unchanged: the checksum of a moved array drops by the distance.
 #[inline(never)]
 pub fn pack(page: &[u8], base: u64, target: &mut [u8]) -> i32 {
     let mut view = [0; 15];
@@ -865,7 +865,7 @@ fn lay(page: &[u8], base: u64, view: &ViewImage, target: &mut [u8; PAGE]) {
     target[end..].fill(0);
 }
 
-/// Moves good fields in runs, less the withdrawn one, and answers where they end.
+/// Moves good fields in runs, without the withdrawn one. Returns where they end.
 #[inline]
 fn lay_fields(page: &[u8], from: usize, at: usize, target: &mut [u8; PAGE]) -> usize {
     let (mut run, mut cursor, mut to) = (from, from, at);

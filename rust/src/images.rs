@@ -1,4 +1,4 @@
-//! The reference's states as images of words, and back. An image that no state has is read as the state that it stands for.
+//! The reference's states as images of words, and back. An image that no state has is read as the state that the header gives for it.
 
 use crate::exports::{QueueImage, RecordImage, Registers, RequestImage, SessionImage, ViewImage};
 use crate::reference::boot::{Kept, Record};
@@ -17,6 +17,7 @@ const RESPONSE: usize = 16;
 const REQUESTS: usize = 2;
 const RESPONSES: usize = REQUESTS + PLACES * REQUEST;
 
+/// The boot record of an image.
 #[inline]
 pub fn record_of(image: &RecordImage) -> Record {
     let [tag, cpus, base, minor, kept] = *image;
@@ -32,6 +33,7 @@ pub fn record_of(image: &RecordImage) -> Record {
     }
 }
 
+/// The image of a boot record.
 #[inline]
 pub fn record_words(record: Record) -> RecordImage {
     match record {
@@ -46,6 +48,7 @@ pub fn record_words(record: Record) -> RecordImage {
     }
 }
 
+/// The token session of an image.
 #[inline]
 pub fn session_of(image: &SessionImage) -> Session {
     let [tag, whole, sent] = *image;
@@ -55,6 +58,7 @@ pub fn session_of(image: &SessionImage) -> Session {
     }
 }
 
+/// The image of a token session.
 #[inline]
 pub fn session_words(session: Session) -> SessionImage {
     match session {
@@ -63,11 +67,13 @@ pub fn session_words(session: Session) -> SessionImage {
     }
 }
 
+/// x0 to x2 of an answer.
 #[inline]
 pub fn registers(answer: Answer) -> Registers {
     [answer.x0, answer.x1, answer.x2]
 }
 
+/// The image of a view.
 pub fn view_words(view: &View) -> ViewImage {
     let mut image = [0; 15];
     image[..3].copy_from_slice(&[u64::from(view.minor), view.edition.number(), view.plat_data]);
@@ -81,7 +87,7 @@ pub fn view_words(view: &View) -> ViewImage {
     image
 }
 
-/// The bytes that a section's array takes of a page of this length; none where it does not lie in the page.
+/// The bytes of a section's array in a page of `length` bytes; `None` if the array is not in the page.
 pub fn part_of(length: usize, view: &ViewImage, section: usize) -> Option<Range<usize>> {
     if section >= SECTIONS {
         return None;
@@ -95,8 +101,9 @@ pub fn part_of(length: usize, view: &ViewImage, section: usize) -> Option<Range<
     (size != 0 && end <= length as u64).then_some(words[1] as usize..end as usize)
 }
 
+/// The queue of an image.
 pub fn queue_of(image: &QueueImage) -> Queue {
-    // Counts stand for eight at most, so that a wide one is not cut off.
+    // A count above eight means eight: take the minimum before the cast, so that no bits are lost.
     let count = |i: usize| image[i].min(PLACES as u64) as usize;
     Queue {
         requests: Ring::new(from_fn(|i| request_of(image, i)), count(0)),
@@ -121,8 +128,8 @@ pub fn queue_words(queue: &Queue) -> QueueImage {
     image
 }
 
-/// What an accepted step leaves of an image. A side with one more has its newest in a row behind those that waited; one with one less is
-/// moved up, its freed place zeroed; of a side with as many as before no word changes. `before` has both counts.
+/// The image after an accepted step. A side with one more has its newest in the row after those that waited; a side with one less is
+/// moved up and its freed place zeroed; a side with the same count has no changed word. `before` has both counts.
 pub fn put_moves(image: &mut QueueImage, before: [usize; 2], after: &Queue) {
     let counts = [after.requests.len(), after.responses.len()];
     for (word, (was, is)) in image.iter_mut().zip(before.into_iter().zip(counts)) {
@@ -152,6 +159,7 @@ fn move_rows<const N: usize>(
     }
 }
 
+/// The image of a request.
 pub fn request_words(request: &Request) -> RequestImage {
     let mut image = [0; REQUEST];
     image[..4].copy_from_slice(&[

@@ -1,12 +1,12 @@
 //! The other side of the benchmark for cold boot, granules, Realm words and commands: hand-written for speed, with the parameters of the
-//! C functions, on the library's images where they are. The rules are the library's: a refused call leaves its images as they are, an
+//! C functions, on the library's images in place. The rules are the library's: a refused call leaves its images unchanged, an
 //! accepted one changes the side of the queue that it needs and zeros a place that it frees, for any image.
 //!
-//! What makes it fast: a move in one bank, the usual one, ends without a call; a list keeps the bank of the address before and the Realm
+//! What makes it fast: a move in one bank, the usual one, ends without a call; a list keeps the bank of the previous address and the Realm
 //! word that it writes; the bank of any other address is found by a binary search; the table's bytes become bits 16 at a time; no answer
 //! passes through memory.
 //!
-//! `tests/inplace.rs` holds it to the reference. No function here is inlined, as no call of the library is.
+//! `tests/inplace.rs` compares it with the reference. No function here is inlined, as no call of the library is.
 
 use crate::exports::{
     GranulesImage, QueueImage, RecordImage, Registers, RequestImage, SessionImage, Work,
@@ -42,7 +42,7 @@ const BAD_PAS: u64 = -3i64 as u64;
 const INVAL: u64 = -5i64 as u64;
 const AGAIN: u64 = -6i64 as u64;
 
-/// `pbeam_cold_boot`: judges the page with the fast reader and makes no view.
+/// `pbeam_cold_boot`: checks the page with the fast reader and makes no view.
 #[inline(never)]
 #[allow(clippy::too_many_arguments)]
 pub fn cold_boot(
@@ -80,7 +80,7 @@ pub fn cold_boot(
     0
 }
 
-/// `pbeam_call`. The commands that need little end here; each of the others is a call.
+/// `pbeam_call`. Short commands are inline here; each of the others is a call.
 #[inline(never)]
 #[allow(clippy::too_many_arguments)]
 pub fn call(
@@ -148,7 +148,7 @@ fn key_update(state: &RecordImage, width: u64, mecid: u64) -> u64 {
     }
 }
 
-/// Where a buffer starts in the page, or why there is none. Differences only, since sums could wrap.
+/// The offset of a buffer in the page, or the code that refuses it. Differences only, since sums could wrap.
 #[inline]
 fn buffer(state: &RecordImage, pa: u64, size: u64) -> Result<usize, u64> {
     let offset = pa.wrapping_sub(state[2]);
@@ -161,7 +161,7 @@ fn buffer(state: &RecordImage, pa: u64, size: u64) -> Result<usize, u64> {
     }
 }
 
-/// Copies with registers of 16 bytes, as firmware would; a short one as the compiler likes.
+/// Copies with registers of 16 bytes, as firmware would; a short copy is left to the compiler.
 #[inline]
 fn copy(to: &mut [u8], from: &[u8]) {
     let done = sse2::copy(to, from);
@@ -268,6 +268,7 @@ fn sent_before(session: &SessionImage, token: &[u8], size: u64, c_size: u64) -> 
 const NON_SECURE: u8 = 0;
 const REALM: u8 = 1;
 
+/// `pbeam_delegate`.
 #[inline(never)]
 pub fn delegate(
     state: &RecordImage,
@@ -280,6 +281,7 @@ pub fn delegate(
     move_one::<NON_SECURE>(state, granules, table, words, at, out);
 }
 
+/// `pbeam_undelegate`.
 #[inline(never)]
 pub fn undelegate(
     state: &RecordImage,
@@ -292,6 +294,7 @@ pub fn undelegate(
     move_one::<REALM>(state, granules, table, words, at, out);
 }
 
+/// `pbeam_delegate_list`.
 #[inline(never)]
 pub fn delegate_list(
     state: &RecordImage,
@@ -304,6 +307,7 @@ pub fn delegate_list(
     move_list::<NON_SECURE>(state, granules, table, words, list, out);
 }
 
+/// `pbeam_undelegate_list`.
 #[inline(never)]
 pub fn undelegate_list(
     state: &RecordImage,
@@ -316,7 +320,7 @@ pub fn undelegate_list(
     move_list::<REALM>(state, granules, table, words, list, out);
 }
 
-/// One bank, the usual case, ends here; all else is a call.
+/// One bank, the usual case, is handled here; anything else is a call.
 #[inline(always)]
 fn move_one<const FROM: u8>(
     state: &RecordImage,
@@ -354,7 +358,7 @@ fn index(base: u64, at: u64) -> u64 {
     at.wrapping_sub(base).rotate_right(12)
 }
 
-/// The boot record is up, and there is one good bank with as many granules as the table has bytes, and the words fit.
+/// Whether the boot record is up, there is one good bank with `table.len()` granules, and the words fit.
 #[inline(always)]
 fn is_ready(state: &RecordImage, granules: &GranulesImage, in_table: usize, words: usize) -> bool {
     let (base, size) = (granules[1], granules[2]);
@@ -382,7 +386,7 @@ fn with_bit<const FROM: u8>(word: u64, place: usize) -> u64 {
     }
 }
 
-/// A move by any record.
+/// A move with any record.
 #[cold]
 #[inline(never)]
 fn move_any<const FROM: u8>(
@@ -458,7 +462,7 @@ struct Banks {
 }
 
 impl Banks {
-    /// Empty banks at the end for those that the record has not.
+    /// Empty banks fill the places after the record's banks.
     #[inline]
     fn of(granules: &GranulesImage) -> Banks {
         let mut banks = Banks {
@@ -476,7 +480,7 @@ impl Banks {
         banks
     }
 
-    /// The last bank that starts at or before an address; the first one if there is none.
+    /// The last bank that starts at or before an address; the first bank if no bank does.
     #[inline]
     fn holding(&self, at: u64) -> usize {
         let mut i = 0;
@@ -488,7 +492,7 @@ impl Banks {
     }
 }
 
-/// A list: all but the addresses is judged once.
+/// A list: all but the addresses is checked once.
 #[inline(always)]
 fn move_list<const FROM: u8>(
     state: &RecordImage,
@@ -546,7 +550,7 @@ fn move_in_bank<const FROM: u8>(
     *out = [OK, list.len() as u64, 0];
 }
 
-/// The same in several banks: the bank of the address before is tried first.
+/// The same in several banks: the bank of the previous address is tried first.
 #[inline(always)]
 fn move_in_banks<const FROM: u8>(
     state: &RecordImage,
@@ -587,7 +591,7 @@ fn move_in_banks<const FROM: u8>(
     *out = [OK, list.len() as u64, 0];
 }
 
-/// `pbeam_set_up_granules`: judges the bytes, then writes the record once.
+/// `pbeam_set_up_granules`: checks the bytes, then writes the record once.
 #[inline(never)]
 pub fn set_up(granules: &mut GranulesImage, shown: &[u8], in_table: u64) -> u64 {
     if shown.is_empty() || shown.len() % 16 != 0 || shown.len() > 16 * BANKS {
@@ -633,7 +637,7 @@ pub fn realm_count(granules: &GranulesImage, words: &[u64], number: &mut [u64; 1
     OK
 }
 
-/// `pbeam_realm_next`: passes over zero words eight at a time; 1 if there is none.
+/// `pbeam_realm_next`: skips zero words eight at a time; 1 if no bit is set from the index on.
 #[inline(never)]
 pub fn realm_next(
     granules: &GranulesImage,
@@ -714,7 +718,7 @@ pub fn realm_agrees(granules: &GranulesImage, table: &[u8], words: &[u64]) -> u6
 
 // ---- Queue ----
 
-/// A count stands for eight at most.
+/// min(count, 8): a count above eight means eight.
 #[inline]
 fn count(word: u64) -> usize {
     word.min(PLACES as u64) as usize

@@ -1,5 +1,5 @@
-//! The proved library: its C functions, and a safe call to each. They ask nothing of any value; all that can go wrong is a pointer
-//! or a length, and those come from slices and arrays here.
+//! The proved library: its C functions, and a safe call to each. They take any value; only a pointer or a length
+//! can be wrong, and here those come from slices and arrays.
 
 use crate::exports::{
     Exports, FieldImage, GranulesImage, Lent, Place, QueueImage, RecordImage, Registers,
@@ -286,12 +286,12 @@ pub mod ffi {
     }
 }
 
-/// The proved library. Packer and mender, which have one of their own, are in `pages`.
+/// The proved library. Packer and mender, which have a library of their own, are in `pages`.
 #[derive(Clone, Copy, Debug)]
 pub struct Kit;
 
-/// Pointer and length of a slice. An empty one goes as NULL, as C callers have it; Rust's own pointer would be neither that nor
-/// memory.
+/// Pointer and length of a slice. An empty slice is passed as NULL, as C callers do; Rust's own pointer would be neither NULL nor
+/// valid memory.
 #[inline]
 pub(crate) fn lend<T>(slice: &[T]) -> (*const T, usize) {
     match slice.len() {

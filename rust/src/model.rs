@@ -1,5 +1,5 @@
 //! The reference on the library's images: each export reads the image, does the step, and writes back what the step changed. A
-//! refused command leaves its images as they are, whatever they hold; a boot always writes the record.
+//! refused command leaves its images unchanged, for any contents; a boot always writes the record.
 
 use crate::exports::{
     Exports, FieldImage, GranulesImage, Lent, Place, QueueImage, RecordImage, Registers,
@@ -26,7 +26,7 @@ use crate::reference::signing::{token_sign, SignCall};
 use crate::reference::token::{challenge, challenge_checks, TokenCall};
 use crate::reference::writer::write;
 
-/// The reference in the library's place.
+/// The reference, with the library's signature.
 #[derive(Clone, Copy, Debug)]
 pub struct Model;
 
@@ -83,7 +83,7 @@ impl Exports for Model {
         *field = field_words(page, shown.iter().find(|field| field.tag() == tag));
     }
 
-    /// A cursor is an offset; the page's length is the one behind the last field.
+    /// A cursor is an offset; the cursor after the last field is the page's length.
     fn field_start(page: &[u8], view: &ViewImage) -> usize {
         let fields = pointed(page, view[2]);
         match fields_end(fields) {
@@ -415,7 +415,7 @@ fn native<'a>(lent: &'a mut Lent) -> runtime::Lent<'a> {
     }
 }
 
-/// Where the fields end in a page, behind their mark; the page's end if they are broken, 0 without a pointer.
+/// The end of the fields in a page, after their mark; the page's end if they are broken, 0 without a pointer.
 fn fields_reach(page: &[u8], plat_data: u64) -> usize {
     let start = (plat_data % PAGE as u64) as usize;
     match (plat_data, fields_end(pointed(page, plat_data))) {
@@ -425,7 +425,7 @@ fn fields_reach(page: &[u8], plat_data: u64) -> usize {
     }
 }
 
-/// A field of the page. An empty value has a place too, behind its length; a withdrawn one has none.
+/// A field of the page. An empty value also has a place, after its length; a withdrawn one has none.
 fn field_words(page: &[u8], shown: Option<&Shown>) -> FieldImage {
     match shown {
         Some(Shown::Raw(field)) => {
@@ -437,7 +437,7 @@ fn field_words(page: &[u8], shown: Option<&Shown>) -> FieldImage {
     }
 }
 
-/// Where a part of the page stands in it.
+/// Offset and length of a part of the page.
 fn place_in(page: &[u8], part: &[u8]) -> Place {
     if part.is_empty() {
         return [0; 2];

@@ -5,14 +5,14 @@ use crate::model::Model;
 use crate::reference::mend::mend;
 use crate::reference::pack::pack;
 
-/// Which of the six parts of a page the mender changed: 1, or 0 where it did not.
+/// For each of the six parts of a page: 1 if the mender changed it, else 0.
 pub type ReportImage = [u64; 6];
 
 /// Both exports; one signature for the library and for the reference.
 pub trait PageExports {
-    /// Writes what the page shows into the target, without holes. Answers 0, the reader's codes, or 1 for the target's length.
+    /// Writes what the page shows into the target, without holes. Returns 0, the reader's codes, or 1 for the target's length.
     fn pack(page: &[u8], base: u64, target: &mut [u8]) -> i32;
-    /// Mends the page where it lies. Answers 0, or -5 or -6 with the page as it was and a report of zeros.
+    /// Mends the page in place. Returns 0, or -5 or -6 with the page unchanged and a report of zeros.
     fn mend(page: &mut [u8], base: u64, changed: &mut ReportImage) -> i32;
 }
 

@@ -1,5 +1,5 @@
-//! Inputs by chance, the same for the same seed. The generators know the rules only as far as it takes to come near their edges;
-//! whether an input is accepted is for the two sides to say.
+//! Random inputs, the same for the same seed. The generators know the rules only well enough to come near their limits;
+//! the two sides decide whether an input is accepted.
 
 pub mod banks;
 pub mod boots;
@@ -14,10 +14,12 @@ pub mod transfers;
 pub struct Random(u64);
 
 impl Random {
+    /// A generator with this seed.
     pub fn new(seed: u64) -> Random {
         Random(seed)
     }
 
+    /// A random word.
     pub fn word(&mut self) -> u64 {
         self.0 = self.0.wrapping_add(0x9E37_79B9_7F4A_7C15);
         let z = (self.0 ^ (self.0 >> 30)).wrapping_mul(0xBF58_476D_1CE4_E5B9);
@@ -35,37 +37,43 @@ impl Random {
         first + self.below(last - first + 1)
     }
 
+    /// An index into `length` items.
     pub fn index(&mut self, length: usize) -> usize {
         self.below(length as u64) as usize
     }
 
+    /// True once in `n` calls on average.
     pub fn one_in(&mut self, n: u64) -> bool {
         self.below(n) == 0
     }
 
+    /// One of the items.
     pub fn pick<T: Copy>(&mut self, from: &[T]) -> T {
         from[self.index(from.len())]
     }
 
+    /// Puts the items into a random order.
     pub fn shuffle<T>(&mut self, items: &mut [T]) {
         for i in (1..items.len()).rev() {
             items.swap(i, self.index(i + 1));
         }
     }
 
+    /// Fills the slice with random bytes.
     pub fn fill(&mut self, bytes: &mut [u8]) {
         for chunk in bytes.chunks_mut(8) {
             chunk.copy_from_slice(&self.word().to_le_bytes()[..chunk.len()]);
         }
     }
 
+    /// `length` random bytes.
     pub fn bytes(&mut self, length: usize) -> Vec<u8> {
         let mut bytes = vec![0; length];
         self.fill(&mut bytes);
         bytes
     }
 
-    /// A word at or near a place where some rule changes its mind, or of any width.
+    /// A word at or near the limit of some rule, or of any width.
     pub fn edge(&mut self) -> u64 {
         if self.one_in(3) {
             return self.word() >> self.below(64);

@@ -1,5 +1,5 @@
-//! Registers of 16 bytes, for the benchmark's hand-written code: copies, because the C library's memcpy takes the widest vectors that the
-//! machine has, which no firmware gets, and the bits of a granule table's bytes.
+//! Registers of 16 bytes, for the benchmark's hand-written code: copies, because the C library's memcpy uses the widest vectors that the
+//! machine has, which firmware cannot use, and the bits of a granule table's bytes.
 
 /// Copies 64 bytes at a time, in four registers, while both sides have 64 left. Returns the number of bytes copied.
 #[cfg(target_arch = "x86_64")]
@@ -20,6 +20,7 @@ pub fn copy(to: &mut [u8], from: &[u8]) -> usize {
     done
 }
 
+/// Copies nothing on other machines.
 #[cfg(not(target_arch = "x86_64"))]
 #[inline]
 pub fn copy(_to: &mut [u8], _from: &[u8]) -> usize {
@@ -29,12 +30,12 @@ pub fn copy(_to: &mut [u8], _from: &[u8]) -> usize {
 /// The same of words. Returns the number of words copied.
 #[inline]
 pub fn copy_words(to: &mut [u8], words: &[u64]) -> usize {
-    // As many bytes as the words have; where `copy` copies, the machine is little-endian.
+    // The same bytes as the words; a machine with `copy` is little-endian.
     let raw = unsafe { core::slice::from_raw_parts(words.as_ptr().cast(), 8 * words.len()) };
     copy(to, raw) / 8
 }
 
-/// Bit i is set where byte i is 1.
+/// Bit i is set if byte i is 1.
 #[cfg(target_arch = "x86_64")]
 #[inline]
 pub fn ones(bytes: &[u8; 64]) -> u64 {

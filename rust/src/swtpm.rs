@@ -82,7 +82,7 @@ pub trait StateBlobs {
     fn held(collector: &CollectorImage) -> u32;
 }
 
-/// An empty slice goes as NULL, which the header allows.
+/// An empty slice is passed as NULL, which the header allows.
 #[inline]
 fn pointer(bytes: &[u8]) -> *const u8 {
     if bytes.is_empty() {

@@ -4,7 +4,7 @@ use crate::exports::Place;
 use crate::reference::tpm::{Platform, Transfer};
 use std::ptr::{null, null_mut};
 
-/// What the platform says and lends to a call; a flag is any number but 0.
+/// What the platform passes to a call; a flag is set if it is not 0.
 #[derive(Clone, Copy, Debug)]
 pub struct Said<'a> {
     pub forbidden: u64,
@@ -14,7 +14,7 @@ pub struct Said<'a> {
 
 /// Both exports.
 pub trait TpmExports {
-    /// Answers r3.
+    /// Returns r3.
     fn comm(
         session: &mut u64,
         asked: &Transfer,
@@ -62,7 +62,7 @@ pub mod ffi {
 /// The proved library.
 pub struct Tpm;
 
-/// An empty slice goes as NULL, as C may pass it.
+/// An empty slice is passed as NULL, as C may do.
 fn start(bytes: &[u8]) -> *const u8 {
     if bytes.is_empty() {
         null()

@@ -1,5 +1,5 @@
 //! 02, E14: the books on granules. A long random sequence of delegations, undelegations, lists and other calls, with forged records and
-//! refusals among them. The books are kept beside the library, from its answers alone, and compared with the table after every call.
+//! refusals among them. The test keeps the books from the library's answers alone, and compares them with the table after every call.
 
 use potterbeam_tests::exports::{Exports, GranulesImage, Lent, RecordImage, Registers};
 use potterbeam_tests::images::{record_of, record_words};
@@ -21,7 +21,7 @@ struct Books {
     delegated: u64,
     undelegated: u64,
     bytes: Vec<u8>,
-    /// Words and table agreed at the start, so the words' number balances too.
+    /// Words and table agreed at the start, so the count of the words also balances.
     agreed: bool,
 }
 
@@ -81,7 +81,7 @@ impl Books {
     }
 }
 
-/// Which addresses the answer says are done: all of a single call that is OK, the first x1 of a list.
+/// Which addresses are done by the answer: the one of a single call that is OK, the first x1 of a list.
 fn done<'a>(out: &Registers, addresses: &'a [u64], is_list: bool) -> &'a [u64] {
     match (is_list, out[0]) {
         (true, _) => &addresses[..out[1] as usize],
@@ -150,7 +150,7 @@ fn call(random: &mut Random, scene: &mut Scene, record: &RecordImage, x: &[u64; 
     out
 }
 
-/// One call, entered in the books by its answer; says which, and the code.
+/// One call, entered in the books by its answer. Returns which call, and the code.
 fn step(random: &mut Random, scene: &mut Scene, books: &mut Books) -> (&'static str, i64) {
     let record = match random.below(8) {
         0 => random.record_image(),

@@ -1,5 +1,5 @@
 //! The reader, writer, packer and mender that are written for speed, against the reference: the code and every word or byte, of random
-//! pages and lists and of the pages that real firmware wrote; the listing's text; and by a view, also a forged one, the kept bytes and
+//! pages and lists and of the pages that real firmware wrote; the listing's text; and with a view, also a forged one, the kept bytes and
 //! every lookup.
 
 use potterbeam_tests::exports::Exports;
@@ -12,7 +12,7 @@ use std::collections::{BTreeMap, BTreeSet};
 
 const CALLS: usize = 200_000;
 
-/// Reads on both sides; answers the code.
+/// Reads on both sides; returns the code.
 fn read(page: &[u8], base: u64, edition: u64) -> i32 {
     // Stale, so that a word that is not written shows.
     let [mut ours, mut theirs] = [[7; 15]; 2];
@@ -122,7 +122,7 @@ fn lookups(random: &mut Random, page: &[u8], view: &[u64; 15]) {
     }
 }
 
-/// Packs and mends on both sides; answers both codes.
+/// Packs and mends on both sides; returns both codes.
 fn pack_and_mend(page: &[u8], base: u64, room: usize) -> [i32; 2] {
     let [mut ours, mut theirs] = [(); 2].map(|()| vec![0xA5; room]);
     let packed = fast::pack(page, base, &mut ours);

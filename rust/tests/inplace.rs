@@ -120,7 +120,7 @@ fn in_place_call(m: &mut Memory, scene: &Scene, busy: u64, x: &[u64; 5]) {
     );
 }
 
-/// One call on each side; answers which.
+/// One call on each side; returns which.
 fn step(random: &mut Random, scene: &mut Scene, model: &mut Memory, ours: &mut Memory) -> u64 {
     match random.below(9) {
         0 => {
@@ -238,7 +238,7 @@ fn realm_words_are_the_same() {
     assert_eq!(met, BTreeSet::from([0, 1, -5]));
 }
 
-/// All four on both sides; returns what they said.
+/// All four on both sides; returns their answers.
 fn on_realm_words(granules: &GranulesImage, table: &[u8], words: &[u64], index: u64) -> [i64; 4] {
     let [mut theirs, mut ours] = [[7]; 2];
     let counted = Model::realm_count(granules, words, &mut theirs);

@@ -1,4 +1,4 @@
-//! The generators come where they are meant to: each answer is met, and what is meant to be valid is.
+//! The generators reach what they should: each answer occurs, and inputs that should be valid are.
 
 use potterbeam_tests::random::calls::{Outcome, Step};
 use potterbeam_tests::random::Random;

@@ -1,6 +1,6 @@
-//! 02, E6: single calls on tables of each size that counts, 4,096 granules too, which the run vectors of single calls do not hold: by the
-//! exports and by `pbeam_call`, with as many words as there must be, one too few and one too many, up or not. What is expected is said
-//! here; the model must agree.
+//! 02, E6: single calls on tables of each size that matters, including 4,096 granules, which the run vectors of single calls do not have:
+//! by the exports and by `pbeam_call`, with the right number of words, one too few and one too many, with a record that is up and one that
+//! is not. The expected answers are here; the model must agree.
 
 use potterbeam_tests::exports::{Exports, GranulesImage, Lent, RecordImage, Registers};
 use potterbeam_tests::kit::Kit;

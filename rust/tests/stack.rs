@@ -1,12 +1,12 @@
-//! How much stack a call takes. It runs on a painted stack of its own; what is no longer paint afterwards was written. Bytes that
-//! are reserved and never written do not show.
+//! How much stack a call takes. It runs on a stack of its own, filled with a pattern (the paint); bytes that differ afterwards were written.
+//! Bytes that are reserved and never written do not show.
 //!
 //! Each header of include/ has a line "Stack    N bytes; AArch64 M" with each function, and docs/STACK.md a row with the same two figures.
 //! The first is measured here, the second is static and comes from tools/aarch64.
 //!
 //! POTTERBEAM_WRITE_STACK=1 writes the first figure into the headers and both into the tables: the most that was seen, rounded up to a
-//! multiple of 32. Otherwise the tests fail where a function has no figure or is not measured, where header and table differ, where a call
-//! takes more than the figure or the figure is more than 32 bytes above all of its calls, and where a figure is above 1 KiB.
+//! multiple of 32. Otherwise the tests fail if a function has no figure or is not measured, if header and table differ, if a call
+//! takes more than the figure or the figure is more than 32 bytes above all of its calls, and if a figure is above 1 KiB.
 
 #![cfg(target_arch = "x86_64")]
 
@@ -58,7 +58,7 @@ fn stack_pointer() -> usize {
     pointer
 }
 
-/// Runs a body, which must not panic, at the top of a stack painted with this byte, and says the lowest address that is painted over.
+/// Runs a body, which must not panic, at the top of a stack painted with this byte, and returns the lowest address that was written.
 fn painted_over<F: FnMut()>(room: &mut Room, paint: u8, body: &mut F) -> usize {
     room.0.fill(paint);
     let top = room.0.as_mut_ptr_range().end;
@@ -352,7 +352,7 @@ impl Header {
         8 * (prototype.matches(',').count() + 1).saturating_sub(6)
     }
 
-    /// A call, which has to give this answer and must not take more than the header says.
+    /// A call, which must give this answer and must not take more than the header's figure.
     fn within<L: Clone, A: PartialEq + std::fmt::Debug>(
         &mut self,
         (name, what): (&'static str, &str),
@@ -485,7 +485,7 @@ fn spoilt(mut page: Vec<u8>, at: usize) -> Vec<u8> {
     page
 }
 
-/// Pages with what a reader of edition 4 says of each.
+/// Pages with the code of a reader of edition 4 for each.
 fn pages() -> Vec<(&'static str, Vec<u8>, i32)> {
     let four = || page_of([&BANK, &CONSOLE, &BANK, &BANK]);
     vec![
@@ -568,7 +568,7 @@ fn cold_booting(header: &mut Header, what: &str, page: &[u8], code: i32) {
     }
 }
 
-/// By a view of the page, and by views that no reading made.
+/// With a view of the page, and with forged views.
 fn looking_up(header: &mut Header) {
     let (page, mut view) = (consoles(83), [0; 15]);
     assert_eq!(Kit::read(&page, BASE, 4, &mut view), 0);
@@ -711,7 +711,7 @@ fn refused_boots(header: &mut Header) {
 
 // ---- A boot stack (02, E4) ----
 
-/// Stack of a call, which has to be accepted and to fit a boot stack.
+/// Stack of a call, which must be accepted and fit a boot stack.
 fn boot_stack<L: Clone>(what: &str, lent: &L, call: impl Fn(&mut L) -> i32) -> usize {
     let (bytes, code) = stack_of(lent, call);
     assert_eq!(code, 0, "{what}");
@@ -1373,7 +1373,7 @@ const SENT: Transfer = Transfer {
     out_size: 8192,
 };
 
-/// No call takes more than the header says, for any answer and any length of the response.
+/// No call takes more than the header's figure, for any answer and any length of the response.
 #[test]
 #[cfg_attr(debug_assertions, ignore = "measured in release builds")]
 fn tpm_keeps_the_figures_of_the_header() {

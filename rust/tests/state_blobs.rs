@@ -49,7 +49,7 @@ impl Memory {
     }
 }
 
-/// What a call is told.
+/// A call with its arguments.
 #[derive(Clone, Debug)]
 enum Call {
     ReadRequest {
@@ -393,7 +393,7 @@ fn word(call: &[u8], i: usize) -> u64 {
     u64::from_le_bytes(call[8 * i..8 * i + 8].try_into().expect("8 bytes"))
 }
 
-/// Makes a case's call; None where it only sets the collector and the buffer.
+/// Makes a case's call; `None` if it only sets the collector and the buffer.
 fn case_call(call: &[u8]) -> Option<Call> {
     let [a, b, c, d] = [1, 2, 3, 4].map(|i| word(call, i) as u32);
     let room = word(call, 5) as usize;

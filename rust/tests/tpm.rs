@@ -15,7 +15,7 @@ use std::path::Path;
 /// Calls in the short run.
 const CALLS: u64 = 100_000;
 const GUARD: usize = 64;
-/// What stands in a word that a call has to write.
+/// The initial value of a word that a call must write.
 const STALE: u64 = 0x57A1_E57A_1E57_A1E5;
 
 fn calls() -> u64 {
@@ -84,7 +84,7 @@ fn report(ours: &Lent, theirs: &Lent) -> String {
     text
 }
 
-/// One call on each side, compared; answers r3.
+/// One call on each side, compared; returns r3.
 fn compare<S: TpmExports, T: TpmExports>(
     ours: &mut Lent,
     theirs: &mut Lent,

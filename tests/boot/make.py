@@ -156,7 +156,7 @@ def bases_and_lengths():
 
 
 def manifests():
-    """The manifest, read as edition 4 whatever the minor in x1"""
+    """The manifest, read as edition 4 for any minor in x1"""
     for version in (0, 0x00010004, 0x80000004, 0x40000004):
         add([-6], f"manifest version 0x{version:08x}", cold(full().version(version)))
     for rule, text, page in (
@@ -209,7 +209,7 @@ def fields():
     assert not broken(3, B, page.data)
     add([-7], "x1 = 3: fields in coh, edition 3 would accept", cold(page, x1=3))
     for text, page in (
-            ("fields behind the arrays", full().facts(0x703, NAME, SERIAL)),
+            ("fields after the arrays", full().facts(0x703, NAME, SERIAL)),
             ("fields between the arrays", full().facts(0x281, NAME, SERIAL)),
             ("0.1, fields alone", Page(1).facts(16, NAME, SERIAL)),
             ("fields to the page's last byte", full().facts(4093 - len(NAME), NAME))):
@@ -239,7 +239,7 @@ def spoiled(i, *codes):
 
 
 def several_at_once():
-    """Several checks broken at once: the first in 01's order answers"""
+    """Several checks broken together: the first in 01's order answers"""
     assert all(code_of(FRESH, spoiled(i, code)[0]) == code for code in WAYS for i in range(3))
     for n, (one, two) in enumerate(combinations(WAYS, 2)):
         for i in (n, n + 1):

@@ -4,7 +4,7 @@
  *
  * Usage: agree PAGE, where PAGE is tests/reader/field/fvp-2.12.1.in: 8 bytes of B and a page that real firmware wrote.
  *
- * What a check needs beside the constant that it is about is written as a plain number, and rooms are larger than any image: so a wrong
+ * A check writes every number but the constant under test as a plain number, and buffers are larger than any image: so a wrong
  * constant fails at its own check. The first check that fails ends the program with its line.
  */
 #include <inttypes.h>
@@ -226,7 +226,7 @@ static void check_lookups(void)
     SAME(pbeam_word(page, LEN, view, PBEAM_CONSOLE, 0, PBEAM_CONSOLE_FLAGS - 1), 115200);
 }
 
-/* The first of a name, by all of its bytes; none of another name, and none where the reader reads no consoles. */
+/* The first of a name, by all of its bytes; none of another name, and none if the reader reads no consoles. */
 static void check_console_names(void)
 {
     static const uint64_t names[] = {0x3131306C70, 0x6261312D74726175, 0x3131306C70};
@@ -252,7 +252,7 @@ static void check_console_names(void)
 
 static uint8_t facts[LEN];
 
-/* A field behind the others of a description; its value is of one byte, repeated. */
+/* Appends a field to a description; its value is one byte, repeated. */
 static size_t add(size_t used, uint8_t tag, size_t length, int byte)
 {
     facts[used + PBEAM_FIELD_TAG] = tag;
@@ -266,14 +266,14 @@ static uint32_t write_facts(size_t length)
     return pbeam_write(BASE, 1, NULL, 0, NULL, 0, NULL, 0, NULL, 0, facts, length, page, LEN);
 }
 
-/* Whether a field of the tag may have so long a value. */
+/* Whether a field of the tag may have a value of this length. */
 static uint32_t write_fact(uint8_t tag, size_t length)
 {
     return write_facts(add(0, tag, length, 0x77));
 }
 
-/* The bytes of a page with fields, and how the lookups show each. The withdrawn one is not to be written: its tag is put behind the writer's
- * back. */
+/* The bytes of a page with fields, and how the lookups show each. The writer refuses the withdrawn one, so the test puts its tag into
+ * the page afterwards. */
 static void check_fields(void)
 {
     uint64_t view[ROOM], field[ROOM];
@@ -319,7 +319,7 @@ static void check_fields(void)
     SAME(field[PBEAM_FIELD_WORD_FOUND], 0);
 }
 
-/* What the reader says of a withdrawn field with so long a value. */
+/* The reader's code for a withdrawn field with a value of this length. */
 static int32_t read_withdrawn(size_t length)
 {
     uint64_t view[PBEAM_VIEW_WORDS];
@@ -355,7 +355,7 @@ static void check_field_limits(void)
     SAME(get(facts + PBEAM_FIELD_LENGTH, 2), 0);
 }
 
-/* The longest listing fills its room; a shorter room cuts it, and the answer says so. */
+/* The longest listing fills its buffer; a shorter buffer cuts it, and the returned length shows it. */
 static void check_listing(void)
 {
     static uint8_t text[PBEAM_LISTING_ROOM + 1], cut[PBEAM_LISTING_ROOM + 1];
@@ -375,7 +375,7 @@ static void check_listing(void)
     SAME(memcmp(text, refused, sizeof refused - 1), 0);
 }
 
-/* Name, clock and baud rate are alike to the library: a page that real firmware wrote tells which is which. */
+/* Name, clock and baud rate are alike to the library: a page that real firmware wrote shows which is which. */
 static void check_real_page(const char *path)
 {
     uint8_t input[8 + LEN];
@@ -597,7 +597,7 @@ static uint64_t delegate(const uint64_t state[ROOM], uint8_t *table, size_t i, i
     return out[0];
 }
 
-/* The set-up's answer for so many banks of one granule, with holes of one, for a table of so many. */
+/* The set-up's answer for a number of banks of one granule, with holes of one, for a table of a given length. */
 static uint64_t set_up(uint64_t record[ROOM], size_t count, uint64_t table_len)
 {
     uint8_t banks[17 * 16];
@@ -631,7 +631,7 @@ static void check_set_up(void)
     SAME(written(record), 0);
 }
 
-/* Granules are those of the banks; a record by hand is judged. */
+/* Granules are those of the banks; a forged record is checked. */
 static void check_granule_record(const uint64_t state[ROOM])
 {
     uint64_t record[ROOM], out[ROOM];
@@ -649,7 +649,7 @@ static void check_granule_record(const uint64_t state[ROOM])
     SAME(out[0], PBEAM_X0_INVAL);
     pbeam_delegate(state, record, table, 2, NULL, 0, MEMORY, out);
     SAME(out[0], PBEAM_X0_BAD_ADDR);
-    record[PBEAM_GRANULES_COUNT] = 1; /* the second counts for nothing */
+    record[PBEAM_GRANULES_COUNT] = 1; /* the second is ignored */
     pbeam_delegate(state, record, table, 1, words, 1, MEMORY, out);
     SAME(out[0], PBEAM_X0_OK);
 }
@@ -675,7 +675,7 @@ static void check_granule_lists(const uint64_t state[ROOM])
     SAME(out[PBEAM_OUT_X1], 0);
 }
 
-/* The shared page stays Realm: the granule at B is not undelegated, alone or in a list; the one behind it is. */
+/* The shared page stays Realm: the granule at B is not undelegated, alone or in a list; the one after it is. */
 static void check_shared_page(const uint64_t state[ROOM])
 {
     const uint64_t record[ROOM] = {1, BASE, 2 * PBEAM_GRANULE_BYTES}, list[2] = {BASE + PBEAM_GRANULE_BYTES, BASE};
@@ -692,7 +692,7 @@ static void check_shared_page(const uint64_t state[ROOM])
     SAME(table[1], PBEAM_GRANULE_NON_SECURE);
 }
 
-/* The words have a bit for each granule; their number is checked before all else, and spare bits count for nothing. */
+/* The words have a bit for each granule; their number is checked before all else, and spare bits are ignored. */
 static void check_realm_words(const uint64_t state[ROOM])
 {
     const uint64_t record[ROOM] = {1, MEMORY, 66 * PBEAM_GRANULE_BYTES};
@@ -796,7 +796,7 @@ static void check_versions_and_close(void)
 
 /* ---- Kept bytes ---- */
 
-/* The core's end, that of the last array, or that of the fields with their mark. A view that no reading made is no error, and is never
+/* The core's end, that of the last array, or that of the fields with their mark. A forged view is no error, and never gives
  * more than a page. */
 static void check_kept_for(void)
 {
@@ -987,7 +987,7 @@ static void check_key_update(void)
 
 /* ---- Token signing ---- */
 
-#define HERE 256 /* where the buffer lies in the page */
+#define HERE 256 /* the buffer's offset in the page */
 
 /* A request whose bytes all differ, as 002 lays it: algorithm id 0 at 0, hash id 1 at 24. */
 static void lay_request(uint8_t from)
@@ -1019,7 +1019,7 @@ static uint64_t sign(uint64_t queue[ROOM], uint8_t from, size_t len)
     return out[0];
 }
 
-/* How many bytes of the page from `at` on stand in the words, one after the other. */
+/* How many bytes of the page from `at` on are in the words, one after the other. */
 static size_t run_of(const uint64_t *words, const uint8_t *at)
 {
     size_t n = 0;
@@ -1073,7 +1073,7 @@ static uint64_t push_with(size_t at, uint8_t byte)
     return signing(state, queue, 1, 80);
 }
 
-/* The last byte of an id counts, the byte behind it is a hole. */
+/* The last byte of an id counts, the byte after it is a hole. */
 static void check_request_ids(void)
 {
     uint64_t algorithms = 0, hashes = 0;
@@ -1150,7 +1150,7 @@ static void check_signing_sizes(void)
     SAME(signing(state, queue, PBEAM_OPCODE_KEY + 1, 5), PBEAM_X0_INVAL);
 }
 
-/* Push until the requests are full, sign until the responses are: then every word of the queue is written, and none behind it. */
+/* Push until the requests are full, sign until the responses are: then every word of the queue is written, and none after it. */
 static void check_queue_limits(void)
 {
     uint64_t state[ROOM], queue[ROOM];
@@ -1176,7 +1176,7 @@ static void check_queue_limits(void)
     SAME(PBEAM_QUEUE_WORDS, PBEAM_QUEUE_FIRST_RESPONSE + PBEAM_RESPONSES_MOST * PBEAM_RESPONSE_WORDS);
 }
 
-/* A refused call writes no word of an image, whatever it holds; an all-zero queue is empty. */
+/* A refused call writes no word of an image, for any contents; an all-zero queue is empty. */
 static void check_refused_images(void)
 {
     uint64_t state[ROOM], queue[ROOM], session[ROOM] = {0}, request[ROOM], out[ROOM];
@@ -1199,7 +1199,7 @@ static void check_refused_images(void)
     SAME(out[PBEAM_OUT_X0], PBEAM_X0_INVAL);
 }
 
-/* Words of a guarded queue that an accepted call has to leave: all but its number and those from one place to another. */
+/* Words of a guarded queue that an accepted call must leave: all but its number and those from one place to another. */
 static void check_left(const uint64_t queue[ROOM], size_t number, size_t from, size_t to)
 {
     for (size_t i = 0; i < ROOM; i++)
@@ -1247,7 +1247,7 @@ static void check_accepted_images(void)
     SAME(responses + PBEAM_RESPONSE_WORDS, written(queue));
 }
 
-/* What the header says of hand-made images, and of a token that is exchanged in mid-session. */
+/* What the header states about forged images, and about a token that is exchanged during a session. */
 static void check_hand_made_images(void)
 {
     uint64_t state[ROOM] = {PBEAM_STATE_UP, 0, 1, 99}, session[ROOM] = {PBEAM_SESSION_SENDING, 100, 200}, queue[ROOM] = {1, 0};

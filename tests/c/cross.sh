@@ -1,4 +1,4 @@
-# Sourced by the scripts beside it, for the libraries of another machine:
+# Sourced by the scripts in this folder, for the libraries of another machine:
 #
 # POTTERBEAM_CROSS  the prefix of its gcc, g++ and nm, as aarch64-linux-gnu-; none unless given
 # POTTERBEAM_RUN    what runs its programs, as qemu-aarch64; nothing unless given

@@ -8,7 +8,7 @@
 extern const struct signatures every_function;
 const struct signatures every_function = SIGNATURES;
 
-/* Sizes that follow from others, where the compiler can tell. */
+/* Sizes that follow from others, checked at compile time. */
 _Static_assert(PBEAM_CORE_BYTES_1 == PBEAM_CORE_DRAM, "edition 1 has no section");
 _Static_assert(PBEAM_CORE_BYTES_2 == PBEAM_CORE_DRAM + PBEAM_SECTION_BYTES, "edition 2 ends behind dram");
 _Static_assert(PBEAM_CORE_BYTES_3 == PBEAM_CORE_CONSOLE + PBEAM_SECTION_BYTES, "edition 3 ends behind console");
@@ -21,7 +21,7 @@ _Static_assert(PBEAM_QUEUE_FIRST_RESPONSE == PBEAM_QUEUE_FIRST_REQUEST + PBEAM_R
 _Static_assert(PBEAM_QUEUE_WORDS == PBEAM_QUEUE_FIRST_RESPONSE + PBEAM_RESPONSES_MOST * PBEAM_RESPONSE_WORDS, "responses in the queue");
 _Static_assert(PBEAM_VIEW_WORDS == PBEAM_VIEW_SECTIONS + PBEAM_SECTIONS * PBEAM_VIEW_SECTION_WORDS, "sections in a view");
 
-/* Every id and code is a number for the preprocessor too. */
+/* Every id and code is also a number for the preprocessor. */
 #if PBEAM_ID_FORWARD != 0xC400018F || PBEAM_X0_AGAIN != 0xFFFFFFFFFFFFFFFA || PBEAM_MANIFEST_RULES != -7
 #error "a constant is no number for the preprocessor"
 #endif

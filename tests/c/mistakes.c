@@ -1,5 +1,5 @@
-/* Mistakes that include/potterbeam_types.h rules out. tests/c/run compiles this file once without one, and once with each: gcc has to refuse it
- * with the words in the comment beside it. */
+/* Mistakes that include/potterbeam_types.h rules out. tests/c/run compiles this file once without one, and once with each: gcc must refuse it
+ * with the words in the comment on the same line. */
 #include "potterbeam_types.h"
 
 #ifndef MISTAKE

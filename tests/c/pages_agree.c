@@ -1,9 +1,9 @@
 /*
  * Does include/potterbeam_pages.h agree with its library, and does each inline function of it do what it says? Every constant is compared
  * with what the library does, every inline function with the words underneath. tests/c/run_pages refuses a constant or a function of the
- * header that is not named here. Pages are written and read by libpotterbeam.a: both libraries stand in one program.
+ * header that is not named here. Pages are written and read by libpotterbeam.a: both libraries are linked into one program.
  *
- * What a check needs beside the constant that it is about is written as a plain number, and the report's room is larger than the report:
+ * A check writes every number but the constant under test as a plain number, and the report's buffer is larger than the report:
  * so a wrong constant fails at its own check. The first check that fails ends the program with its line.
  */
 #include <inttypes.h>
@@ -80,7 +80,7 @@ static const uint64_t coh[] = {0x11000, 0x1000, 0x13000, 0x1000, 0x15000, 0x1000
 
 static uint8_t page[2 * LEN];
 
-/* A page with its arrays far apart, the last section first, and behind them a withdrawn field between two others. */
+/* A page with its arrays far apart, the last section first, and after them a withdrawn field between two others. */
 static void make_holes(void)
 {
     static const uint8_t told[] = {1, 2, 0, 'D', 'K', 9, 1, 0, 7, 9, 0, 0};

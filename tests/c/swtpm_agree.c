@@ -1,6 +1,6 @@
 /*
  * Does include/potterbeam_swtpm.h agree with its library? Every constant that the library knows is compared with what the library does.
- * tests/c/run refuses a constant that is not named here. What a check needs beside the constant that it is about is written as a plain
+ * tests/c/run refuses a constant that is not named here. A check writes every number but the constant under test as a plain
  * number. The first check that fails ends the program with its line.
  */
 #include <inttypes.h>
@@ -102,7 +102,7 @@ static void check_response(void)
 
 /* ---- Collector ---- */
 
-/* Collects a response with n bytes of data of that total into so much room. */
+/* Collects a response with n bytes of data of that total into a buffer of that length. */
 static uint32_t collect(uint32_t collector[ROOM], uint32_t total, size_t n, size_t room)
 {
     static uint8_t buffer[ROOM];

@@ -2,7 +2,7 @@
  * Does include/potterbeam_tpm.h agree with libpotterbeam_tpm.a? Every constant of the header is compared with what the library answers
  * or writes, or with a limit found by trying. tests/c/run_tpm refuses a constant that is not named here.
  *
- * What a check needs beside the constant that it is about is written as a plain number. The first check that fails ends the program
+ * A check writes every number but the constant under test as a plain number. The first check that fails ends the program
  * with its line.
  */
 #include <inttypes.h>
@@ -29,7 +29,7 @@ static void same(int line, const char *what, int64_t is, const char *beside, int
 
 #define SAME(a, b) same(__LINE__, #a, (int64_t)(a), #b, (int64_t)(b))
 
-/* A call of which everything is right, but for what a test changes in it. */
+/* A valid call, before a test changes it. */
 struct asked {
     uint64_t operation, in_buffer, in_size, out_buffer, out_size;
     size_t length;

@@ -7,7 +7,7 @@
 extern const struct tpm_signatures both_functions;
 const struct tpm_signatures both_functions = TPM_SIGNATURES;
 
-/* Every code is a number for the preprocessor too. */
+/* Every code is also a number for the preprocessor. */
 #if PBEAM_TPM_H_P5 != -58 || PBEAM_TPM_EXECUTE != 1
 #error "a constant is no number for the preprocessor"
 #endif

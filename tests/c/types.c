@@ -1,6 +1,6 @@
 /*
- * Does each function of include/potterbeam_types.h do what it says? It is compared with the words underneath, with another function of
- * the header, or with the library's answer. tests/c/run refuses a function or a name of the header that is not named here.
+ * Does each function of include/potterbeam_types.h do what its comment states? It is compared with the words underneath, with another
+ * function of the header, or with the library's answer. tests/c/run refuses a function or a name of the header that is not named here.
  *
  * The first check that fails ends the program with its line.
  */
@@ -170,7 +170,7 @@ static void check_writer(void)
     SAME(memcmp(&page, &other, sizeof page), 0);
 }
 
-/* A withdrawn field: found, with its tag, and without a byte. No writer makes one, so its tag is put behind the writer's back. */
+/* A withdrawn field: found, with its tag, and without a byte. No writer makes one, so the test changes the tag in the page. */
 static void check_withdrawn(void)
 {
     static const uint8_t value[] = {5};
@@ -250,7 +250,7 @@ static void check_fields(void)
     SAME(pbeam_view_board_name(&page, &view).length, 0);
 }
 
-/* A string that ends within its room, cut or not. */
+/* A string that ends within its buffer, cut or not. */
 static void check_listing(void)
 {
     static const char first[] = "manifest 0.4 read as 4\n";
@@ -269,7 +269,7 @@ static void check_listing(void)
     SAME(strcmp(text, "refused -5\n"), 0);
 }
 
-/* In words each of these counts is 0 or 2: a list that would be taken. */
+/* Each of these counts, as a number of words modulo 2^64, is 0 or 2: a list that would be accepted. */
 static void check_counts_that_wrap(void)
 {
     pbeam_lists_t long_dram = lists, long_console = lists, long_ncoh = lists, long_coh = lists;
@@ -347,7 +347,7 @@ static void check_view(void)
     pbeam_view_array(&page, &view, PBEAM_CONSOLE, &place);
     SAME(pbeam_place_offset(&place), 112 + 32);
     SAME(pbeam_place_length(&place), 48);
-    pbeam_put64(page.bytes + 112 + 32 + 8 * PBEAM_CONSOLE_FLAGS, 0xF1); /* behind the reader's back */
+    pbeam_put64(page.bytes + 112 + 32 + 8 * PBEAM_CONSOLE_FLAGS, 0xF1); /* after the reading */
     SAME(pbeam_view_console(&page, &view, 0).flags, 0xF1);
     view.words[PBEAM_VIEW_SECTIONS] = 77; /* read as entries */
     SAME(pbeam_view_section(&view, PBEAM_DRAM), PBEAM_VIEW_ENTRIES);
@@ -364,7 +364,7 @@ static void check_view(void)
 
 /* ---- Boot ---- */
 
-/* A reset writes its image, and no word behind it. */
+/* A reset writes its image, and no word after it. */
 static void check_resets(void)
 {
     struct {
@@ -490,7 +490,7 @@ static int32_t called(pbeam_call_t call)
 /* The page of a board with two banks, of 2 granules and of 1. */
 static const pbeam_bank_t two_banks[] = {{MEMORY, 2 * 4096}, {UINT64_C(0x880000000), 4096}};
 
-/* Each thing that is lent differs, so that one in another's place shows. */
+/* Each argument differs, so that a swapped one shows. */
 static void set_up(void)
 {
     static uint8_t table[3];
@@ -568,7 +568,7 @@ static void check_words(void)
     SAME(pbeam_context_realm_next(&context, 2, &found), PBEAM_X0_OK);
     SAME(found, 2);
     SAME(pbeam_context_realm_next(&context, 3, &found), PBEAM_X0_INVAL);
-    realm[0] = 10; /* at odds with the table, and a spare bit */
+    realm[0] = 10; /* disagrees with the table, and a spare bit */
     SAME(pbeam_context_words_agree(&context), PBEAM_REALM_DIFFER);
     SAME(pbeam_context_realm_count(&context, &number), PBEAM_X0_OK);
     SAME(number, 1);
@@ -624,7 +624,7 @@ static void check_commands(void)
     set_up();
     SAME(called(pbeam_call_delegate(MEMORY + 4096)), E_RMM_OK);
     SAME(pbeam_get16(context.table), 0x0100);
-    SAME(called(pbeam_call_delegate(MEMORY + 2 * 4096)), E_RMM_BAD_ADDR); /* behind the first bank */
+    SAME(called(pbeam_call_delegate(MEMORY + 2 * 4096)), E_RMM_BAD_ADDR); /* after the first bank */
     SAME(called(pbeam_call_delegate(two_banks[1].base)), E_RMM_OK);
     SAME(context.table[2], PBEAM_GRANULE_REALM);
     check_words();

@@ -5,7 +5,7 @@ to CM4, CM6, CM8; requests E2, E5, E6, E8).
 Run from the repository's root:  python3 tests/commands/make.py
 It rewrites crates/command_vectors/data/c000, c001, .. (8-byte words: the record's state, cpus,
 base, minor and kept bytes, of which the last four count only when it is up; function id, x1, x2,
-x3, where the granule record stands in the file, m, the lengths of table, key and page; then the
+x3, the granule record's offset in the file, m, the lengths of table, key and page; then the
 bytes of these three, those of table and page at exit, the granule record: how many of its words are
 given, and these; and the realm words in the same way), crates/command_vectors/stdout (what the
 program has to print for them in order) and tests/commands/CASES.md (what each case is for). The
@@ -74,7 +74,7 @@ def failing(case):
 
 
 def run(case):
-    """The answer: code, x0 to x2, what is told beside them, table, page and words at exit."""
+    """The answer: code, x0 to x2, what else is returned, table, page and words at exit."""
     table, page, x1, told = bytearray(case.table), bytearray(case.page), 0, None
     lent = case.lent
     if case.id == FORWARD:
@@ -171,7 +171,7 @@ def examples():
 
 
 def forwarding():
-    """Forwarding, whatever the record says"""
+    """Forwarding, for any record"""
     for state in STATES:
         for err in (0, 1, ONES):
             add("OK", FORWARD, f"record {state}, err_code {show(err)}", state=state, x1=err)
@@ -278,7 +278,7 @@ def granule_banks():
 
 
 def granule_records():
-    """Records made by hand: one that the set-up would refuse has no granules"""
+    """Forged records: one that the set-up would refuse has no granules"""
     for command, (outcome, text, record) in product(GRANULE, (
             ("banks, table, off", "a count of 0", (0, G, 8 * 4096)),
             ("banks, table, off", "a count of 17", (17, G, 8 * 4096)),
@@ -291,9 +291,9 @@ def granule_records():
             ("banks", "overlap", (2, G, 4 * 4096, G + 4096, 4 * 4096)),
             ("banks", "a bank twice", (2, G, 4 * 4096, G, 4 * 4096)),
             ("banks", "descending", (2, G + 0x10000, 4 * 4096, G, 4 * 4096)),
-            ("OK", "one bank, behind it a broken one", (*one(G, 8), 1, 1)),
-            ("OK", "one bank, behind it one over it", (*one(G, 8), G, 4096)),
-            ("OK", "one bank, behind it all ones", (*one(G, 8), *[ONES] * 30)))):
+            ("OK", "one bank, after it a broken one", (*one(G, 8), 1, 1)),
+            ("OK", "one bank, after it one over it", (*one(G, 8), G, 4096)),
+            ("OK", "one bank, after it all ones", (*one(G, 8), *[ONES] * 30)))):
         add(outcome, command, text, record=record)
 
 
@@ -472,7 +472,7 @@ def kept_bytes():
 
 
 def shared_page():
-    """02, E8: the granule at B is not undelegated, whatever its byte"""
+    """02, E8: the granule at B is not undelegated, for any byte"""
     for where, i in (("first", 0), ("middle", 3), ("last", 7)):
         for byte in (0, 1, 2, 3) if where == "middle" else (0, 1):
             table = bytearray(b"\1" * 8)
@@ -484,7 +484,7 @@ def shared_page():
         for state in ("fresh", "closed"):
             add("not up, shared", UNDELEGATE, f"B the {where} granule, record {state}", state=state,
                 base=G + 4096 * i, x1=G + 4096 * i)
-    for text, base in (("the granule before B", G + 3 * 4096), ("behind B", G + 4096),
+    for text, base in (("the granule before B", G + 3 * 4096), ("after B", G + 4096),
                        ("B one byte below it", G + 2 * 4096 - 1), ("B = 0", 0)):
         add("OK", UNDELEGATE, text, base=base)
     add("off, shared", UNDELEGATE, "B one past the table", base=G + 8 * 4096, x1=G + 8 * 4096)
@@ -494,7 +494,7 @@ def shared_page():
         granules_fail(UNDELEGATE, (other, "shared"))
     hole = record_of([(G, 4 * 4096), (G + 5 * 4096, 4 * 4096)])
     add("off, shared", UNDELEGATE, "B in a hole", base=G + 4 * 4096, x1=G + 4 * 4096, record=hole)
-    add("shared", UNDELEGATE, "B behind the hole", base=G + 5 * 4096, x1=G + 5 * 4096, record=hole)
+    add("shared", UNDELEGATE, "B after the hole", base=G + 5 * 4096, x1=G + 5 * 4096, record=hole)
 
 
 def word_numbers():

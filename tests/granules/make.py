@@ -6,7 +6,7 @@ SH1, SH2; requests E1, E2, E6, E8).
 Run from the repository's root:  python3 tests/granules/make.py
 It rewrites crates/granule_vectors/data/c000, c001, .. (8-byte words: the boot record's state, cpus,
 base, minor and kept bytes, of which the last four count only when it is up; 0 to delegate, 1 to
-undelegate, 2 to set up or 3 to ask the words; where the granule record stands in the file, the
+undelegate, 2 to set up or 3 to ask the words; the granule record's offset in the file, the
 length of the table, and of the list, or of the banks in bytes, or the index to ask from; then, of a
 list, the table, the addresses, and the table at exit, of a question the table, else the banks'
 bytes; at last the granule record: how many of its words are given, and these; and, but for a
@@ -197,7 +197,7 @@ def set_up_counts():
 
 
 def set_up_order():
-    """Set-up: banks beside, on and behind each other"""
+    """Set-up: banks next to, on and after each other"""
     a, b, size = G, G + 0x100000, 0x100000
     for text, code, banks in (
             ("touching", "OK", [(a, size), (b, size)]),
@@ -273,7 +273,7 @@ def set_up_sums():
 
 
 def set_up_lent():
-    """Set-up: whatever was lent for the record before"""
+    """Set-up: over any previous record"""
     for text, record in (("nothing", ()), ("a good record", record_of(MANY)),
                          ("all ones", (ONES,) * 33), ("a count of 17", (17, *record_of(MANY)[1:]))):
         make("OK", f"two banks, {text} lent before", TWO, record=record)
@@ -285,7 +285,7 @@ def set_up_lent():
 
 
 def set_up_pages():
-    """Set-up: the banks of pages that the reader accepts, whatever their order and number"""
+    """Set-up: the banks of pages that the reader accepts, in any order and number"""
     usual = [(G + 8192 * i, 4096) for i in range(249)]
     for text, banks in (("249 banks", usual), ("17 banks", usual[:17]),
                         ("two banks, the higher first", TWO[::-1]),
@@ -302,14 +302,14 @@ def set_up_pages():
 
 
 def dram_of(raw):
-    """The array of dram on a page that firmware wrote, behind 8 bytes of B."""
+    """The array of dram on a page that firmware wrote, after 8 bytes of B."""
     base, page = (int.from_bytes(raw[:8], "little"), raw[8:])
     count, pointer = (int.from_bytes(page[at:at + 8], "little") for at in (16, 24))
     return page[pointer - base:][:16 * count]
 
 
 def empty():
-    """Empty lists, whatever the records and the table"""
+    """Empty lists, for any records and table"""
     for way in (DELEGATE, UNDELEGATE):
         for state in STATES:
             add("OK", 0, way, f"empty, record {state}", [], state=state)
@@ -383,20 +383,20 @@ FORGED = (                              # text, record, granules of a table besi
 
 
 def forged():
-    """Records made by hand that the set-up would refuse have no granules"""
+    """Forged records that the set-up would refuse have no granules"""
     for way in (DELEGATE, UNDELEGATE):
         for text, record, n in FORGED:
             add("BAD_ADDR", 0, way, text, at(0, 1), record=record, table=bytes([way]) * n)
         for state in ("fresh", "closed"):
             add("UNK", 0, way, f"a count of 17, record {state}", at(0), state=state,
                 record=(17, G, 8 * 4096))
-        # What stands behind the count counts for nothing.
+        # Words after the counted banks are ignored.
         for text, rest in (("all ones", (ONES,) * 30), ("a bank over the first", (G, 4096)),
                            ("a bank below", (0, 4096)), ("a broken bank", (1, 1))):
-            add("OK", 8, way, f"one bank, behind it {text}", at(*range(8)),
+            add("OK", 8, way, f"one bank, after it {text}", at(*range(8)),
                 record=(*one(G, 8), *rest))
         for base in (0, G + 0x100000):
-            add("BAD_ADDR", 1, way, f"one bank, behind it one at 0x{base:x}, which is named",
+            add("BAD_ADDR", 1, way, f"one bank, after it one at 0x{base:x}, which is named",
                 [G, base], record=(*one(G, 8), base, 4096))
 
 
@@ -455,7 +455,7 @@ def shared_tables():
 
 
 def shared():
-    """02, E8: the shared page alone. It is not undelegated, whatever its byte"""
+    """02, E8: the shared page alone. It is not undelegated, for any byte"""
     for text, held, i in shared_tables():
         record, n = record_of(held), len(addresses_of(held))
         for byte in range(4):
@@ -478,7 +478,7 @@ def shared():
             record=hole)
         add("BAD_ADDR", 0, way, "B one past the table", [BASE], record=one(BASE - 8 * 4096, 8))
         add("BAD_ADDR", 0, way, "B, an empty table", [BASE], record=one(BASE, 8), table=b"")
-        add("OK", 2, way, "the granules before and behind B", [BASE - 4096, BASE + 4096],
+        add("OK", 2, way, "the granules before and after B", [BASE - 4096, BASE + 4096],
             record=one(BASE - 4096, 8))
 
 
@@ -496,14 +496,14 @@ def shared_lists():
             add("BAD_ADDR", at_index, UNDELEGATE, f"{text}, {where}, then one not aligned",
                 others[:at_index] + [BASE, addresses[0] + 1, addresses[1] + 1], table=[1] * n,
                 **given)
-        add("BAD_PAS", 1, UNDELEGATE, f"{text}, behind a repeat", [*others[:1] * 2, BASE],
+        add("BAD_PAS", 1, UNDELEGATE, f"{text}, after a repeat", [*others[:1] * 2, BASE],
             table=[1] * n, **given)
         add("BAD_ADDR", 1, UNDELEGATE, f"{text}, before a repeat", [*others[:1], BASE, *others[:1]],
             table=[1] * n, **given)
         add("BAD_PAS", 1, DELEGATE, f"{text}, twice", [BASE, BASE], table=[0] * n, **given)
         table = [1] * n
         table[i] = 0
-        add("BAD_ADDR", 2, UNDELEGATE, f"{text}, its byte 0, behind two", [*others[:2], BASE],
+        add("BAD_ADDR", 2, UNDELEGATE, f"{text}, its byte 0, after two", [*others[:2], BASE],
             table=table, **given)
 
 
@@ -521,7 +521,7 @@ def sized(n):
 
 
 def word_lists():
-    """02, E6: lists with words of each length, one word too few and one too many, up or not"""
+    """02, E6: lists with words of each length, one word too few and one too many, for records that are up and not up"""
     for n in SIZES:
         record = of_length(n)
         every = [address for bank in (record[1:3], record[3:5]) if bank
@@ -586,8 +586,8 @@ def questions():
         table, held = sized(n), realm_words(sized(n))
         hits = [i for i, byte in enumerate(table) if byte == 1]
         last = hits[-1] if hits else 0
-        for text, index in (("0", 0), ("at a hit", last), ("behind a hit", (hits or [0])[0] + 1),
-                            ("behind the last hit", last + 1), ("the last granule", n - 1),
+        for text, index in (("0", 0), ("at a hit", last), ("after a hit", (hits or [0])[0] + 1),
+                            ("after the last hit", last + 1), ("the last granule", n - 1),
                             ("the number of granules", n),
                             ("the last spare bit", 64 * len(held) - 1), ("2^64 - 1", ONES)):
             if 0 <= index and (index < ONES or n in (0, 64, 65)):
@@ -677,7 +677,7 @@ def random_banks():
         dice.shuffle(good)
         others = [dice.choice(every), dice.choice(every) + 4096, low, held[0][0] - 4096]
         picks = good[:dice.randrange(40)] + [dice.choice(others)] * dice.randrange(2)
-        if i % 8 == 7:                  # a bank changed by hand
+        if i % 8 == 7:                  # a forged bank
             k, far = dice.randrange(len(held)), dice.choice((-8192, -4096, 1, 4096))
             held[k] = (max(held[k][0] + far, 0), held[k][1])
         add(None, None, way, f"random banks {i}", picks, record=record_of(held), table=table)

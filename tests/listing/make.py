@@ -1,5 +1,5 @@
 #!/usr/bin/env python3
-"""Inputs of the listing program and what it has to print for them, made from the rules alone
+"""Inputs of the listing program and what it must print for them, made from the rules alone
 (docs/RULES.md: LS1 to LS7) by the reader and the listing of tests/reader/make.py.
 
 Run from the repository's root:  python3 tests/listing/make.py
@@ -51,7 +51,7 @@ def four_full():
 
 
 def long_fields(minor):
-    """A page whose fields take all behind the core: the longest text of a byte is that of a long
+    """A page whose fields take all bytes after the core: the longest text of a byte is that of a long
     value, or of a field's first three bytes if its tag has three digits."""
     room = PAGE - CORE[minor] - 3
     first = field(255, JUNK[:1500])
@@ -59,7 +59,7 @@ def long_fields(minor):
 
 
 def short_fields(size):
-    """A page full of fields with values of so many bytes."""
+    """A page full of fields with values of a given length."""
     n = (PAGE - CORE[4] - 3) // (3 + size)
     return Page(4).facts(CORE[4], *[field(4 + i % 252, JUNK[i:i + size]) for i in range(n)])
 
@@ -95,7 +95,7 @@ def cases():
 
 
 def printed(data):
-    """What the program has to print for its whole input."""
+    """What the program must print for its whole input."""
     if len(data) != INPUT:
         return "refused -5\n"
     return listing(read(4, number(data[:8]), data[8:])[0])

@@ -122,13 +122,13 @@ def add(text, page, b, mends, length=PAGE, fill=0xFF):
 
 
 def packs(text, page, b=None, fill=0xFF):
-    """A page that has to be packed."""
+    """A page that must be packed."""
     case = add(text, page, b, False, fill=fill)
     assert answer(case)[0][0] == "packed", text
 
 
 def unpacked(code, text, page, b=None, length=PAGE):
-    """A page or target that has to be refused with this."""
+    """A page or target that must be refused with this."""
     case = add(text, page, b, False, length)
     assert answer(case)[0][0] == f"refused {code}", (text, answer(case))
 
@@ -269,7 +269,7 @@ def rules():
     """Mending: each rule of a part"""
     for i in range(4, 8):
         mends([0], f"byte {i} of the padding", whole().put(i, b"\x80"))
-    for at, text in ((8, "into the core"), (111, "at the core's last byte"), (PAGE, "behind the page"),
+    for at, text in ((8, "into the core"), (111, "at the core's last byte"), (PAGE, "after the page"),
                      (PAGE - 2, "two bytes before the end")):
         mends([1], f"plat_data {text}", whole(fill=bytes(PAGE)).words(8, B + at))
     mends([1], "plat_data 1", whole().words(8, 1))
@@ -302,7 +302,7 @@ def overlaps():
         mends([k + 2], f"{NAMES[k]} overlaps {NAMES[j]}", run().claim(j, 8, 0x400).claim(k, 8, 0x440))
         mends([j + 2], f"{NAMES[k]} overlaps {NAMES[j]}, which is dropped",
               run().claim(j, 8, 0x400).claim(k, 8, 0x440).checksum(j, 1))
-        mends([k + 2], f"{NAMES[k]} on the very bytes of {NAMES[j]}",
+        mends([k + 2], f"{NAMES[k]} on the same bytes as {NAMES[j]}",
               run().claim(j, 8, 0x400).claim(k, 8, 0x400))
         mends([], f"{NAMES[k]} touches {NAMES[j]}", run().claim(j, 8, 0x480).claim(k, 8, 0x400))
     mends([4], "ncoh overlaps dram, and coh overlaps ncoh alone",
@@ -397,7 +397,7 @@ def by_hand():
 
 
 def damaged():
-    """Two sections that were edited by hand: a console's word without a new checksum, and coh
+    """Two manually edited sections: a console's word without a new checksum, and coh
     pointed into dram."""
     page = full(fill=JUNK).facts(0x700, NAME, SERIAL)
     page.words(PLACE[1] + 24, 48000000)

@@ -272,7 +272,7 @@ MARK = bytes(3)                     # what ends the fields
 
 
 def field(tag, value=b"", length=None):
-    """A field of the platform data; its length may be told otherwise than it is."""
+    """A field of the platform data; the stored length may be wrong on purpose."""
     length = len(value) if length is None else length
     return bytes([tag]) + length.to_bytes(2, "little") + value
 
@@ -355,13 +355,13 @@ def add(text, page, r, b):
 
 
 def good(text, page, r=4, b=None):
-    """A case that has to be accepted."""
+    """A case that must be accepted."""
     faults = add(text, page, r, b)
     assert not faults, (text, faults)
 
 
 def bad(rule, text, page, r=4, b=None):
-    """A case that has to break this one rule and no other."""
+    """A case that must break this one rule and no other."""
     faults = add(text, page, r, b)
     assert [name for _, name in faults] == [rule], (text, faults)
 
@@ -454,7 +454,7 @@ def padding_and_platform():
             ("fields in array", B + 0x315, "inside an array"),
             ("fields", B + 0x703, "at junk, not aligned")):
         bad(rule, f"plat_data {text}", full(fill=JUNK).words(8, value))
-    for r in range(1, 5):           # a console's count stands there: tag 3 with a length of 0
+    for r in range(1, 5):           # a console's count is there: tag 3 with a length of 0
         bad("fields" if r < 3 else "plat_data", f"plat_data at B + 40 of a 0.4 page, edition {r}",
             full().words(8, B + 40), r)
     bad("plat_data", "plat_data at B + 111 of a 0.9 page", full(9).words(8, B + 111))
@@ -749,7 +749,7 @@ def console_names():
     for text, names in (
             ("the one asked for is the last", (b"uart-1ac", b"pl012", b"pl011")),
             ("two of one name", (b"pl010", b"pl011", b"pl011")),
-            ("a longer name", (b"pl011-b",)), ("a name with a byte behind its zeros", (b"pl011\0\0x",)),
+            ("a longer name", (b"pl011-b",)), ("a name with a byte after its zeros", (b"pl011\0\0x",)),
             ("names of 8 bytes", (b"uart-1aa", b"uart-1ab")), ("no name", (b"pl011", b"")),
             ("capital letters", (b"PL011", b"UART-1AB")), ("a blank for a name", (b" ", b" pl011"))):
         good(text, full(fill=JUNK, console=named(*names)))
@@ -788,7 +788,7 @@ def field_ends():
             full(fill=JUNK).facts(4096 - left - len(NAME), NAME))
     for what, end in (("junk", JUNK[5:900]), ("a broken field", field(0, b"x")),
                       ("a field", field(9, b"later") + MARK), ("0xff", b"\xff" * 900)):
-        good(f"behind the end mark: {what}", full().facts(0x700, NAME, end=MARK + end))
+        good(f"after the end mark: {what}", full().facts(0x700, NAME, end=MARK + end))
     bad("fields", "no end mark but 0xff up to the page's end",
         full().facts(0x700, NAME, end=b"\xff" * 4096))
 
@@ -796,7 +796,7 @@ def field_ends():
 def fields_and_arrays():
     """02, E7: fields and the arrays that the reader reads"""
     def around(k, before, after):
-        """A full page and a field from so many bytes before the array on, to as many after."""
+        """A full page and a field from `before` bytes before the array to `after` bytes after it."""
         size = before - 3 + len(SAMPLE[k]) * ENTRY[k] + after
         page = full().facts(PLACE[k] - before, field(9, b"", size), end=b"")
         return page.put(PLACE[k] + len(SAMPLE[k]) * ENTRY[k] + after, MARK)
@@ -924,7 +924,7 @@ def later_sections():
 
 
 def two_at_once():
-    """Several rules broken at once: the first in 01's order answers"""
+    """Several rules broken together: the first in 01's order answers"""
     faults = (                      # code, what is changed on a full 0.4 page
         (-5, "length 4,095", {"length": 4095}), (-5, "B zero", {"b": 0}),
         (-5, "B + 8", {"b": B + 8}), (-5, "length 8,192", {"length": 8192}),

@@ -6,7 +6,7 @@ sequences on one state.
 
 Run from the repository's root:  python3 tests/runtime/make.py
 It rewrites crates/runtime_vectors/data/c000, c001, .. (8-byte words: the record's state, cpus,
-base, minor and kept bytes; where the granule record stands in the file, m; the session: 0 or 1,
+base, minor and kept bytes; the granule record's offset in the file, m; the session: 0 or 1,
 whole, sent; the places of page, table, realm key, public key and queue, a place being an offset in
 the file and a length; the number of operations; then the operations, the bytes that the places
 name, the granule record: how many of its words are given, and these; and the realm words in the
@@ -44,7 +44,7 @@ CODES = {"OK": 0, "UNK": -1, "BAD_ADDR": -2, "BAD_PAS": -3, "INVAL": -5, "AGAIN"
 
 Request = namedtuple("Request", "algorithm granule ticket hashid hash")
 Response = namedtuple("Response", "granule ticket length signature")
-# One side of the queue as it is stored: its places, of which the first `count` wait.
+# One side of the queue as it is stored: its places; the first `count` wait.
 Line = namedtuple("Line", "places count")
 # Where no realm words are said, `lent` None, the case is given those that fit, or none if it moves
 # no granule: no other command looks at them.
@@ -59,12 +59,12 @@ Case = namedtuple("Case", "text start ops answers")
 # ---- The operations, from 01's and 02's text. All arithmetic is on plain numbers. ----
 
 def waiting(line):
-    """What waits, oldest first. There are eight places, so that a higher count stands for eight."""
+    """What waits, oldest first. There are eight places, so a higher count means eight."""
     return line.places[:min(line.count, 8)]
 
 
 def signature_of(response):
-    """A stored signature. There is room for 104 bytes, so that a higher length stands for 104."""
+    """A stored signature. There is room for 104 bytes, so a higher length means 104."""
     return response.signature[:min(response.length, 104)]
 
 
@@ -73,7 +73,7 @@ def number(data):
 
 
 def request_at(w, pa):
-    """The request at pa; None where it does not lie within the page."""
+    """The request at pa; None if it is not within the page."""
     at = pa - w.base
     if not 0 <= at <= len(w.page) - 80:
         return None
@@ -89,7 +89,7 @@ def range_checks(w, pa, size, outside):
 
 
 def challenge_checks(w, op):
-    """The BAD_ADDR and INVAL checks of the platform token that the challenge lookup makes too."""
+    """The BAD_ADDR and INVAL checks of the platform token that the challenge lookup also makes."""
     return range_checks(w, op.x1, op.x2, "BAD_ADDR") + [
         Check("c_size", "INVAL", op.x3 not in (0, 32, 48, 64)),
         Check("above", "INVAL", op.x3 > op.x2)]
@@ -246,7 +246,7 @@ def accepted(w, op):
 
 def step(w, op):
     """The answer of an operation and the state after it. `fails` has every check that fails: the
-    first gives the code. `told` is what stands beside or instead of registers."""
+    first gives the code. `told` comes in addition to the registers, or instead of them."""
     fails = [check for check in checks(w, op) if check.fails]
     names = ", ".join(check.name for check in fails)
     if op.kind == CHALLENGE:
@@ -371,7 +371,7 @@ def request(n, **changes):
 
 
 def request_bytes(r, hole=0x5A):
-    """A request as it stands in the page, with its holes filled."""
+    """A request as stored in the page, with its holes filled."""
     return (r.algorithm.to_bytes(4, "little") + bytes([hole] * 4) + words(r.granule, r.ticket)
             + r.hashid.to_bytes(4, "little") + bytes([hole ^ 0xFF] * 4) + r.hash)
 
@@ -605,7 +605,7 @@ def sessions():
     first, again = send_token("", 48, registers=(64, 36)), send_token("", 32, registers=(64, 36))
     add("a start in mid-session begins again", ALL, first,
         send_token("", 0, 16, registers=(16, 20)), again, send_token("", 0, registers=(36, 0)))
-    add("a start at once after a start", ALL, first, again, first, send_token("", 0))
+    add("a start directly after a start", ALL, first, again, first, send_token("", 0))
     add("a start with a token of another length", ALL, first,
         send_token("", 64, token=OTHER[:77], registers=(64, 13)), send_token("token", 0),
         send_token("", 0, token=OTHER[:77], registers=(13, 0)))
@@ -670,7 +670,7 @@ def signing_edges():
     curves = (0, 1, 2**32, 2**63, ONES)
     for text, op, least, small in (("push", push, 80, "short.."), ("pull", pull, NEED, "no room"),
                                    ("key", public, 97, "long key")):
-        # What each opcode reads or writes stands at the page's very edges too.
+        # What each opcode reads or writes, also at the page's edges.
         edge = page_of(0, request_bytes(request(1)), PAGE - least, request_bytes(request(2)))
         world = start(**{**full, "page": edge})
         add(f"{text}: pa one below B, at B; the last that fits, one more; at the page's end", world,
@@ -912,7 +912,7 @@ def identities():
     each("busy, which only 0xC40001B3 minds", world, (TOKEN,), "busy", busy=True)
     each("no token lent, which only 0xC40001B3 minds", world, (TOKEN,), "token", token=b"")
     each("no realm key, which only 0xC40001B2 minds", world._replace(key=b""), (KEY,), "key")
-    each("no public key, which none of these minds", world._replace(public=b""), (), "")
+    each("no public key, which no call here needs", world._replace(public=b""), (), "")
     each("a table one long, which only 0xC40001B0 and B1 mind", world._replace(record=one(G, 4)),
          (DELEGATE, UNDELEGATE), "table")
     for text, record in (("a count of 17", (17, *one(G, 5)[1:])), ("no bank", ()),
@@ -969,7 +969,7 @@ def banks():
                 *(call(None, DELEGATE, at) for at in ends + holes))
         add(f"{text}: the last one broken", world._replace(record=(*record_of(held)[:-1], 0)),
             *(call(None, DELEGATE, at) for at in ends + holes))
-        add(f"{text}: a broken bank behind the count", world._replace(
+        add(f"{text}: a broken bank after the counted ones", world._replace(
             record=(1, *record_of(held)[1:3], 1, 1), table=bytes(held[0][1] // 4096)),
             call("", DELEGATE, held[0][0]), call("off", DELEGATE, held[1][0]))
     add("two banks that overlap", start(record=(2, G, 8192, G + 4096, 3 * 4096), table=bytes(5)),
@@ -1201,7 +1201,7 @@ def kept_bytes():
 
 
 def kept_and_room():
-    """Kept bytes: buffers with room behind them, and forged records"""
+    """Kept bytes: buffers after them, and forged records"""
     sizes = {"token": 64, "challenge": 64, "push": 80, "pull": NEED, "key": 97, "realm key": 96}
     ops = {"token": lambda o, pa, n: send_token(o, 48, n, pa),
            "challenge": lambda o, pa, n: challenge(o, 48, n, pa),
@@ -1297,7 +1297,7 @@ def kept_manifests():
 def kept_fields():
     """02, E7: fields in the kept bytes are read the same after all commands"""
     for text, page in (
-            ("a full page, fields behind its arrays", full().facts(0x703, NAME, SERIAL, CHOICE)),
+            ("a full page, fields after its arrays", full().facts(0x703, NAME, SERIAL, CHOICE)),
             ("a full page, 0.9, fields between its arrays", full(9).facts(0x281, NAME, field(9))),
             ("a 0.1 page of fields", Page(1).facts(16, SERIAL, *[field(4, b"ab")] * 9, NAME))):
         kept_manifest(text, B, page.data)

@@ -22,7 +22,7 @@ CRATE = ROOT / "crates" / "state_blobs_vectors"
 MOST = 2**32 - 1
 ROOM = 96                               # the buffer, and the longest message of a case
 SET, READ_REQUEST, READ_RESPONSE, COLLECT, WRITE_REQUEST, WRITE_RESPONSE = range(6)
-# The refusals; 0 is none. 02 gives their order, the header their numbers.
+# The refusals; 0 is "accepted". 02 gives their order, the header their numbers.
 REFUSALS = ("", "cut short", "too long", "wrong code", "above largest", "failed", "no room",
             "total differs", "past total", "past buffer", "no data")
 

@@ -1,6 +1,6 @@
 /*
  * Fetches the permanent state of a running swtpm over its control channel, with requests that the library writes and the library's
- * collector, and tells what the answers were. Then it asks for what swtpm refuses.
+ * collector, and prints the answers. Then it asks for what swtpm refuses.
  *
  *   fetch SOCKET FILE     SOCKET: the control channel, a Unix socket; FILE: where the blob is written
  */
@@ -45,7 +45,7 @@ static int channel(const char *path)
     return fd;
 }
 
-/* Reads so many bytes, or fewer where no more come. */
+/* Reads that many bytes, or fewer if no more come. */
 static size_t receive(int fd, uint8_t *to, size_t wanted)
 {
     size_t there = 0;
@@ -58,7 +58,7 @@ static size_t receive(int fd, uint8_t *to, size_t wanted)
     return there;
 }
 
-/* Asks for a blob from an offset on. The answer is in message: its four numbers, then as many bytes as the last of them says. */
+/* Asks for a blob from an offset on. The answer is in message: its four numbers, then `length` bytes, the last of the four. */
 static size_t ask(int fd, uint32_t type, uint32_t offset)
 {
     uint8_t request[PBEAM_SWTPM_REQUEST_BYTES];
@@ -92,7 +92,7 @@ static void start(int fd)
         fail("the TPM does not start");
 }
 
-/* One answer, and what the library makes of it. */
+/* Prints one answer, and how the library reads it. */
 static void look(const char *path, uint32_t type, uint32_t offset, uint32_t expected)
 {
     uint32_t parts[PBEAM_SWTPM_PARTS_WORDS];
@@ -104,7 +104,7 @@ static void look(const char *path, uint32_t type, uint32_t offset, uint32_t expe
         fail("another answer was expected");
 }
 
-/* Collects a blob from its start; says how long it is. */
+/* Collects a blob from its start; returns its length. */
 static uint32_t collect(const char *path, uint32_t type)
 {
     uint32_t collector[PBEAM_SWTPM_COLLECTOR_WORDS] = {0};

@@ -171,11 +171,11 @@ def operations():
 
 
 def together():
-    """Each refusal alone, and each two at once: the first in order is the answer."""
+    """Each refusal alone, and each pair together: the first in order is the answer."""
     breaks = {"H_FUNCTION": {"forbidden": 1}, "H_PARAMETER": {"operation": 2**32 + 1},
               "H_P2": {"at": 65536, "size": 0}, "H_P3": {"size": 4097}, "H_P4": {"out": 65536},
               "H_P5": {"room": 4095}, "H_RESOURCE": {"fault": 1}}
-    add = case("Refusals, alone and two at once", 65536)
+    add = case("Refusals, alone and in pairs", 65536)
     for names in [(), *((name,) for name in breaks), *combinations(breaks, 2)]:
         how = {}
         for name in names:
@@ -219,7 +219,7 @@ def words(*numbers):
 def check(seen):
     """Every answer occurs; each refusal's condition holds alone and with each other one, as far as
     it can: those after H_PARAMETER are for execute only, and an output that begins at the memory's
-    end or behind it also ends behind it or is too small."""
+    end or after it also ends after it or is too small."""
     tally = Counter(result.name for _, result, _ in seen)
     assert set(tally) == set(NUMBERS), tally
     sets = {frozenset(fails) for _, _, fails in seen}

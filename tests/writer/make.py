@@ -169,7 +169,7 @@ def many(k, n):
 
 
 def amounts(*counts):
-    """Four lists with so many entries."""
+    """Four lists with these numbers of entries."""
     return [many(k, n) for k, n in enumerate(counts)]
 
 
@@ -401,7 +401,7 @@ def field_rules():
 
 
 def field_places():
-    """02, E7: fields behind core and arrays, at each edition"""
+    """02, E7: fields after core and arrays, at each edition"""
     for edition in range(1, 5):
         for count in (0, 1, 3) if edition > 1 else (0,):
             for fill in (0xFF, 0):

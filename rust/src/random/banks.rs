@@ -12,7 +12,7 @@ use crate::reference::writer::write;
 const END: u64 = 1 << 52;
 
 impl Random {
-    /// A granule record, and how many granules the table beside it has. Two in three are as the set-up makes them.
+    /// A granule record, and how many granules its table has. Two in three are as the set-up makes them.
     pub fn granule_record(&mut self) -> (GranulesImage, usize) {
         let banks = self.few_banks();
         let granules = granules_in(&banks);
@@ -21,14 +21,14 @@ impl Random {
         match self.below(12) {
             0 => in_table = self.pick(&[in_table + 1, in_table - 1, 0, 512]),
             1 | 2 => self.forge_record(&mut record),
-            // What stands behind the count counts for nothing.
+            // Words after the counted banks are ignored.
             3 => record[1 + 2 * banks.len()..].fill_with(|| self.edge()),
             _ => {}
         }
         (record, in_table)
     }
 
-    /// Words for a record and a table: mostly those of the table, some at odds with it, with spare bits set, or too many or too few.
+    /// Words for a record and a table: mostly those of the table; some disagree with it, have spare bits set, or are too many or too few.
     pub fn words(&mut self, record: &GranulesImage, table: &[u8]) -> Vec<u64> {
         let number = ((granules(record) + 63) / 64).min(512) as usize;
         let mut words = vec![0; number];
@@ -56,7 +56,7 @@ impl Random {
         let mut banks = Vec::with_capacity(count);
         let mut low = match self.below(8) {
             0 | 1 => 0,
-            2 => (1 << 51) - 4096 * self.below(64), // a bank from there on takes the longer way
+            2 => (1 << 51) - 4096 * self.below(64), // a bank from there on takes the slow path
             _ => 4096 * self.below(1 << 39),
         };
         for _ in 0..count {
@@ -92,7 +92,7 @@ impl Random {
         }
     }
 
-    /// Bytes for the set-up, and the table's length: of good banks, of such with a change, or any.
+    /// Bytes for the set-up, and the table's length: of good banks, of good banks with one change, or any.
     pub fn shown_banks(&mut self) -> (Vec<u8>, u64) {
         let mut banks = self.few_banks();
         match self.below(10) {

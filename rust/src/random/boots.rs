@@ -92,7 +92,7 @@ impl Random {
         }
     }
 
-    /// K as a cold boot takes it, mostly with room behind it.
+    /// K as a cold boot takes it, mostly with free bytes after it.
     fn kept_at_boot(&mut self) -> u64 {
         match self.below(8) {
             0 => self.pick(&[1, 8, 111, 112, 113]),

@@ -68,7 +68,7 @@ pub enum Step {
     OldestRequest,
 }
 
-/// What comes of it.
+/// The result of a step.
 #[derive(Clone, Debug, PartialEq, Eq)]
 pub enum Outcome {
     Reply(Reply),
@@ -115,6 +115,7 @@ impl Scene {
 }
 
 impl Random {
+    /// A scene to start with.
     pub fn scene(&mut self) -> Scene {
         let token = self.token();
         let (granules, in_table) = self.granule_record();
@@ -146,7 +147,7 @@ impl Random {
         scene
     }
 
-    /// Moves the banks so that the shared page is among the granules, or right behind a bank.
+    /// Moves the banks so that the shared page is among the granules, or directly after a bank.
     fn share(&mut self, scene: &mut Scene) {
         let [base, size] = self.bank_of(&scene.granules);
         let at = base.wrapping_add(4096 * self.below(size / 4096 + 1));
@@ -186,7 +187,7 @@ impl Random {
         scene.busy &= !self.one_in(3);
     }
 
-    /// A call of any command, or of an id that is none.
+    /// A call of any command, or of an unlisted id.
     pub fn call(&mut self, scene: &mut Scene) -> Call {
         let id = self.pick(&IDS);
         let x = self.registers(id, scene);
@@ -233,7 +234,7 @@ impl Random {
         }
     }
 
-    /// Mostly the value that is asked for; else others, among them the same in the low 32 bits alone.
+    /// Mostly the given value; else others, among them values that equal it only in the low 32 bits.
     fn selector(&mut self, wanted: u64) -> u64 {
         match self.below(16) {
             0 => wanted + (1 << 32),
@@ -243,7 +244,7 @@ impl Random {
         }
     }
 
-    /// An address on a granule of a bank, beside one, in a hole, or any.
+    /// An address on a granule of a bank, next to one, in a hole, or any.
     fn granule(&mut self, scene: &Scene) -> u64 {
         let [base, size] = self.bank_of(&scene.granules);
         let in_bank = base.wrapping_add(4096 * self.below(size / 4096 + 1));
@@ -252,7 +253,7 @@ impl Random {
             1 => base.wrapping_add(size),
             2 => base.wrapping_add(self.below(size.saturating_add(1))),
             3 => self.edge(),
-            // On a multiple of 4,096, even where the bank is on none.
+            // A multiple of 4,096, even if the bank's base is not.
             4 => in_bank & !4095,
             5 => base,
             6 => base.wrapping_add(size).wrapping_sub(4096),
@@ -286,7 +287,7 @@ impl Random {
         list
     }
 
-    /// An address and a size, mostly in the page and behind the kept bytes.
+    /// An address and a size, mostly in the page and after the kept bytes.
     fn buffer(&mut self, scene: &Scene) -> (u64, u64) {
         let (base, kept) = (scene.base(), scene.kept());
         let free = 4096 - kept.min(4095);
@@ -346,7 +347,7 @@ impl Random {
         [opcode, pa, size, curve]
     }
 
-    /// Writes a request at an address, if it fits there behind the kept bytes: mostly with the ids that are allowed, and with anything in
+    /// Writes a request at an address, if it fits there after the kept bytes: mostly with the ids that are allowed, and with anything in
     /// the holes.
     fn put_request(&mut self, scene: &mut Scene, pa: u64) {
         let offset = pa.wrapping_sub(scene.base());
@@ -377,6 +378,7 @@ impl Random {
         }
     }
 
+    /// A platform token, sometimes empty.
     pub fn token(&mut self) -> Vec<u8> {
         let length = match self.below(8) {
             0 => self.pick(&[0, 1]),
@@ -386,11 +388,13 @@ impl Random {
         self.bytes(length)
     }
 
+    /// A key, sometimes empty or longer than a page.
     pub fn key(&mut self) -> Vec<u8> {
         let length = self.pick(&[0, 1, 18, 48, 80, 97, 97, 200, 4096, 4097]);
         self.bytes(length)
     }
 
+    /// A signature, mostly of an accepted length.
     pub fn signature(&mut self) -> Vec<u8> {
         let length = match self.below(4) {
             0 => self.pick(&[0, 1, 104, 105, 200]),

@@ -7,6 +7,7 @@ use crate::images::{queue_words, record_words, session_words};
 use crate::reference::layout::PAGE;
 
 impl Random {
+    /// An image of a boot record.
     pub fn record_image(&mut self) -> RecordImage {
         let mut image = record_words(self.record());
         if image[0] != 1 && self.one_in(2) {
@@ -63,7 +64,7 @@ impl Random {
         }
     }
 
-    /// A name to ask a view's consoles for: that of one of them, maybe with a bit changed, or any.
+    /// A name to look up among a view's consoles: that of one of them, maybe with a bit changed, or any.
     pub fn asked_name(&mut self, page: &[u8], view: &ViewImage) -> [u8; 8] {
         let entry = self.below(view[8].clamp(1, 85));
         let at = view[7].saturating_add(48 * entry + 16).min(PAGE as u64) as usize;
@@ -88,7 +89,7 @@ impl Random {
         }
     }
 
-    /// A tag that stands for this one, which is the last.
+    /// Another number with the meaning of this tag, which is the last.
     fn tag(&mut self, last: u64) -> u64 {
         self.pick(&[last, last, last + 1, 1 << 32, (1 << 32) + 1, u64::MAX])
     }

@@ -4,7 +4,7 @@ use super::pages::push_field;
 use super::Random;
 use crate::reference::layout::{Edition, ENTRY_WORDS, PAGE, SECTIONS};
 
-/// What the writer is told, and the page that it is lent.
+/// The writer's arguments, and the page that it is lent.
 #[derive(Clone, Debug)]
 pub struct Writing {
     pub base: u64,
@@ -16,13 +16,14 @@ pub struct Writing {
 }
 
 impl Writing {
+    /// The four lists as slices.
     pub fn lists(&self) -> [&[u64]; SECTIONS] {
         std::array::from_fn(|k| &self.lists[k][..])
     }
 }
 
 impl Random {
-    /// Valid, or with one or two things wrong, so that the order of the refusals counts.
+    /// Valid, or with one or two things wrong, so that the order of the refusals matters.
     pub fn any_writing(&mut self) -> Writing {
         let mut writing = self.valid_writing();
         for _ in 0..self.pick(&[0, 1, 1, 2]) {
@@ -85,7 +86,7 @@ impl Random {
             14 => drop(writing.fields.pop()),
             15 => writing.fields.extend_from_within(..),
             16 | 17 => self.spoil_fields(&mut writing.fields),
-            // The withdrawn field, behind the others or before them.
+            // The withdrawn field, after the others or before them.
             18 => {
                 let mut fields = Vec::new();
                 let value = self.bytes(1);

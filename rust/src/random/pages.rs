@@ -89,7 +89,7 @@ impl Random {
     }
 
     /// A valid page with one to three bytes or words changed. In half of them the checksums are made good again, so that other
-    /// rules have to find the damage.
+    /// rules must find the damage.
     pub fn damaged_page(&mut self) -> Reading {
         let mut reading = self.valid_page();
         for _ in 0..self.between(1, 3) {
@@ -195,7 +195,7 @@ impl Random {
         }
     }
 
-    /// Fields in one of the holes, at any address, and the pointer at them; none where no hole holds an end mark.
+    /// Fields in one of the holes, at any address, and the pointer at them; none if no hole has room for an end mark.
     fn put_fields(&mut self, page: &mut [u8], base: u64, holes: Vec<Range<usize>>) {
         if holes.is_empty() {
             return;
@@ -215,7 +215,7 @@ impl Random {
         page[from + fields.len()..][..3].fill(0);
     }
 
-    /// Good fields that fit with their end mark into so many bytes; often none. Some tags appear at most once.
+    /// Good fields that fit with their end mark into `room` bytes; often none. Each tag of `once` appears at most once.
     pub(super) fn fields<const N: usize>(&mut self, room: usize, mut once: [u8; N]) -> Vec<u8> {
         let mut fields = Vec::new();
         self.shuffle(&mut once);
@@ -227,7 +227,7 @@ impl Random {
                 false => None,
             };
             let tag = tag.unwrap_or_else(|| self.between(4, 255) as u8);
-            // What is left beside this field's first bytes and the end mark.
+            // What is left after this field's first bytes and the end mark.
             let left = match room.checked_sub(fields.len() + 6) {
                 Some(left) => left,
                 None => break,
@@ -276,7 +276,7 @@ impl Random {
         };
     }
 
-    /// How many entries each section of the edition gets: together they fit behind the core.
+    /// How many entries each section of the edition gets: together they fit after the core.
     pub(super) fn counts(&mut self, edition: Edition) -> [usize; SECTIONS] {
         let mut counts = [0; SECTIONS];
         let mut free = (PAGE - edition.core()) / 8;
@@ -371,7 +371,7 @@ impl Random {
         }
     }
 
-    /// A console's name: one of a few, so that some are met twice, or anything.
+    /// A console's name: one of a few, so that some occur twice, or anything.
     fn name(&mut self) -> u64 {
         match self.one_in(2) {
             true => u64::from_le_bytes(self.pick(&NAMES)),
@@ -379,7 +379,7 @@ impl Random {
         }
     }
 
-    /// A word that no rule looks at.
+    /// A word that no rule checks.
     fn free_word(&mut self) -> u64 {
         self.word() >> self.pick(&[0, 0, 32, 63])
     }
@@ -424,7 +424,7 @@ impl Random {
         }
     }
 
-    /// Changes a byte of the fields, or where they are said to be.
+    /// Changes a byte of the fields, or the pointer at them.
     fn damage_fields(&mut self, reading: &mut Reading) {
         let at = match word_at(&reading.page, 8) {
             0 => self.index(PAGE),
@@ -464,14 +464,14 @@ impl Random {
         match self.below(5) {
             0 | 1 => put(page, at + 8, self.near_page(base)),
             2 | 3 => {
-                // One array on, into, or just beside another.
+                // One array on, into, or directly next to another.
                 let pointer = word_at(page, header_offset(self.index(sections)) + 8);
                 put(page, at + 8, pointer.wrapping_add(self.shift()));
             }
             _ => {
                 let count = match self.below(2) {
                     0 => word_at(page, at).wrapping_add(self.shift()),
-                    // Times the size of an entry, these wrap to little.
+                    // Times the size of an entry, these wrap to small numbers.
                     _ => self.pick(&[1 << 60, (1 << 60) + 1, u64::MAX / 48 + 1, u64::MAX / 16 + 2]),
                 };
                 put(page, at, count);
@@ -522,7 +522,7 @@ impl Random {
         }
     }
 
-    /// An address in or just beside the page.
+    /// An address in or directly next to the page.
     fn near_page(&mut self, base: u64) -> u64 {
         let offset = match self.below(3) {
             0 => self.pick(&[0, 8, 16, 40, 64, 104, 108, 112, 4048, 4072, 4080, 4088]),
@@ -549,7 +549,7 @@ pub(super) fn push_field(fields: &mut Vec<u8>, tag: u8, value: &[u8]) {
     fields.extend_from_slice(value);
 }
 
-/// What the arrays leave free behind the core, where an end mark fits.
+/// The holes that the arrays leave after the core, if an end mark fits.
 fn holes(edition: Edition, plan: &Plan) -> Vec<Range<usize>> {
     let mut arrays: Vec<Range<usize>> = (0..edition.sections())
         .map(|k| plan.offsets[k]..plan.offsets[k] + 8 * ENTRY_WORDS[k] * plan.counts[k])
@@ -567,7 +567,7 @@ fn holes(edition: Edition, plan: &Plan) -> Vec<Range<usize>> {
     holes
 }
 
-/// Offset and count of an array that lies in the page, if the section's header places one there.
+/// Offset and count of the array of section k, if it is in the page.
 fn array_at(reading: &Reading, k: usize) -> Option<(usize, usize)> {
     let header = header_offset(k);
     let count = word_at(&reading.page, header);
@@ -576,7 +576,7 @@ fn array_at(reading: &Reading, k: usize) -> Option<(usize, usize)> {
     (count != 0 && end <= PAGE as u64).then_some((offset as usize, count as usize))
 }
 
-/// Moves a section's array with its entries, so that nothing but its place is wrong then. Where to is told by its offset.
+/// Moves a section's array with its entries, so that only its place is wrong. `to` gives the new offset for the old one.
 fn move_array(reading: &mut Reading, k: usize, to: impl FnOnce(&mut [u8], usize) -> usize) {
     let (offset, count) = match array_at(reading, k) {
         Some(array) => array,

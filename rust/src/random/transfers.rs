@@ -20,7 +20,7 @@ pub fn session(random: &mut Random) -> u64 {
     }
 }
 
-/// What the platform says, as a number.
+/// A flag of the platform, as a number.
 pub fn flag(random: &mut Random, one_in: u64) -> u64 {
     if random.one_in(one_in) {
         random.edge().max(1)
@@ -38,7 +38,7 @@ fn operation(random: &mut Random) -> u64 {
     }
 }
 
-/// Start and size of a buffer that lies in the memory where there is room, then perhaps moved off by a little or by much.
+/// Start and size of a buffer, inside the memory if it fits, then perhaps moved by a little or by much.
 fn buffer(random: &mut Random, end: u64, least: u64, most: u64) -> (u64, u64) {
     let size = random.between(least.min(most), most);
     let start = match random.below(4) {
@@ -56,7 +56,7 @@ fn buffer(random: &mut Random, end: u64, least: u64, most: u64) -> (u64, u64) {
     }
 }
 
-/// A call in a memory of so many bytes.
+/// A call in a memory of `end` bytes.
 pub fn transfer(random: &mut Random, end: usize) -> Transfer {
     let end = end as u64;
     let (in_buffer, in_size) = buffer(random, end, 0, TRANSFER.min(end));

@@ -5,7 +5,7 @@ use super::layout::{word_at, GRANULE};
 
 /// The most banks that a record has.
 pub const BANKS: usize = 16;
-/// A record's words. They may come by hand, so any count and any banks are possible.
+/// A record's words. The record may be forged, so any count and any banks are possible.
 pub type BankWords = [u64; 1 + 2 * BANKS];
 
 /// Memory ends at 2^52.
@@ -14,7 +14,7 @@ const MEMORY_END: u64 = 1 << 52;
 /// Base and size.
 type Bank = (u64, u64);
 
-/// The banks that a record counts; none where it counts more than there is room for.
+/// The banks that a record counts; `None` if it counts more than `BANKS`.
 fn banks(record: &BankWords) -> impl Iterator<Item = Bank> + '_ {
     let count = usize::try_from(record[0]).unwrap_or(usize::MAX);
     let counted = if count <= BANKS { count } else { 0 };
@@ -39,7 +39,7 @@ fn taken(record: &BankWords) -> bool {
         && neighbours.all(|((base, size), (next, _))| base + size <= next)
 }
 
-/// How many granules a record has: none if the set-up would refuse its banks.
+/// How many granules a record has: 0 if the set-up would refuse its banks.
 pub fn granules(record: &BankWords) -> u64 {
     if !taken(record) {
         return 0;
@@ -47,7 +47,7 @@ pub fn granules(record: &BankWords) -> u64 {
     banks(record).map(|(_, size)| size / GRANULE).sum()
 }
 
-/// The granule at an address, in a table of so many: the banks' granules, joined in bank order.
+/// The granule at an address, in a table of `in_table` granules: those of the banks, joined in bank order.
 pub fn index(record: &BankWords, in_table: usize, address: u64) -> Option<usize> {
     if !taken(record) || granules(record) != in_table as u64 || address % GRANULE != 0 {
         return None;
@@ -62,7 +62,7 @@ pub fn index(record: &BankWords, in_table: usize, address: u64) -> Option<usize>
     None
 }
 
-/// The record of the banks that these bytes show, 16 a bank, for a table of so many granules.
+/// The record of the banks in `shown`, 16 bytes each, for a table of `in_table` granules.
 pub fn set_up(shown: &[u8], in_table: u64) -> Result<BankWords, Error> {
     if shown.len() % 16 != 0 || shown.len() > 16 * BANKS {
         return Err(Error::Inval);

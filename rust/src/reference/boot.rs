@@ -3,7 +3,7 @@
 use super::layout::{accepted_minor, Edition, PAGE};
 use super::reader::{read, Refusal};
 
-/// The newest minor of the boot interface that is spoken here.
+/// The newest minor of the boot interface that is supported here.
 const INTERFACE_MINOR: u16 = 5;
 
 /// What the record keeps while it is up.
@@ -18,6 +18,7 @@ pub struct Kept {
     pub kept: u64,
 }
 
+/// The boot record.
 #[derive(Clone, Copy, Debug, PartialEq, Eq)]
 pub enum Record {
     Fresh,
@@ -36,6 +37,7 @@ pub enum BootError {
 }
 
 impl BootError {
+    /// The number of the code.
     #[inline]
     pub fn code(self) -> i32 {
         match self {

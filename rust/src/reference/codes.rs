@@ -16,7 +16,7 @@ pub enum Error {
     Again = -6,
 }
 
-/// Registers x1 and x2 of a command that went well, or its code.
+/// Registers x1 and x2 of an accepted command, or its code.
 pub type Outcome = Result<[u64; 2], Error>;
 
 /// The registers of an answer.
@@ -43,7 +43,7 @@ impl From<Outcome> for Answer {
 }
 
 impl From<Listed> for Answer {
-    /// x1 holds the number done, on refusal too.
+    /// x1 holds the number done, also on refusal.
     fn from((done, ended): Listed) -> Answer {
         Answer {
             x1: done,

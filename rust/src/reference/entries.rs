@@ -1,7 +1,7 @@
 //! The rules of banks, regions and consoles. Reader and writer share them, whether the words come from a page or from a list.
 //!
-//! What breaks a rule is gathered with `or` and looked at once, after the last entry: a loop without exits is vectorised, and in
-//! a sound page every entry has to be looked at anyway.
+//! The loop collects rule violations with `or` and tests them a single time, after the last entry: a loop without exits is vectorised, and in
+//! a sound page every entry must be checked anyway.
 
 /// Memory ends at 2^52.
 const MEMORY_BITS: u32 = 52;

@@ -1,4 +1,4 @@
-//! The paper's numbered examples.
+//! The numbered examples of 01.
 
 use super::banks::set_up;
 use super::boot::{boot_code, Kept, Record};
@@ -21,7 +21,7 @@ const UP: Kept = Kept {
     kept: 0,
 };
 
-/// What the writer says to so many banks and consoles.
+/// What the writer returns for `banks` banks and `consoles` consoles.
 fn written(edition: u64, banks: usize, consoles: usize) -> Result<(), Unwritten> {
     let lists: [&[u64]; 4] = [&BANK.repeat(banks), &CONSOLE.repeat(consoles), &[], &[]];
     write(BASE, edition, lists, &[], &mut [0; PAGE])

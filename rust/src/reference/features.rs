@@ -8,6 +8,7 @@ const TOKEN_SIGN: u64 = 1;
 /// MECIDs have at most 16 bits.
 const WIDEST: u64 = 15;
 
+/// x1 is the feature register with this index; only index 0 exists.
 #[inline]
 pub fn features(record: Record, index: u64) -> Outcome {
     let kept = need_up(record)?;
@@ -24,7 +25,7 @@ pub fn features(record: Record, index: u64) -> Outcome {
 #[inline]
 pub fn key_update(record: Record, width: u64, mecid: u64) -> Result<u64, Error> {
     let kept = need_up(record)?;
-    // Above 65,535 is above 2^(15+1) - 1, so one bound does.
+    // 65,535 is 2^(15+1) - 1, so one bound is enough.
     if mecid >> (width.min(WIDEST) + 1) != 0 {
         return Err(Error::Inval);
     }
@@ -34,7 +35,7 @@ pub fn key_update(record: Record, width: u64, mecid: u64) -> Result<u64, Error> 
     Ok(mecid)
 }
 
-/// What goes to the Non-secure world, whatever the record.
+/// The error code for the Non-secure world, for any record.
 #[inline]
 pub fn forward(err_code: u64) -> u64 {
     err_code

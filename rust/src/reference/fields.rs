@@ -4,7 +4,7 @@
 /// Bytes of a field before its value, and of the end mark.
 pub const HEAD: usize = 3;
 
-/// A field and the part of the lent bytes that its value is.
+/// A field; its value is a part of the lent bytes.
 #[derive(Clone, Copy, Debug, PartialEq, Eq)]
 pub struct Field<'a> {
     pub tag: u8,
@@ -22,6 +22,7 @@ pub enum Shown<'a> {
 }
 
 impl<'a> Field<'a> {
+    /// The field as it is shown.
     pub fn shown(self) -> Shown<'a> {
         match self.tag {
             WITHDRAWN => Shown::Withdrawn,
@@ -31,6 +32,7 @@ impl<'a> Field<'a> {
 }
 
 impl Shown<'_> {
+    /// The tag of a shown field.
     pub fn tag(&self) -> u8 {
         match self {
             Shown::Raw(field) => field.tag,
@@ -39,7 +41,7 @@ impl Shown<'_> {
     }
 }
 
-/// The field that the bytes begin with, and what follows it; none where it is not whole.
+/// The first field of the bytes, and what follows it; `None` if the field is cut short.
 #[inline]
 pub fn split_field(bytes: &[u8]) -> Option<(Field<'_>, &[u8])> {
     let head = bytes.get(..HEAD)?;
@@ -84,7 +86,7 @@ pub fn fields_end(bytes: &[u8]) -> Option<usize> {
     }
 }
 
-/// The fields in their order, as they are shown; none where they are broken.
+/// The fields in their order, as they are shown; none if they are broken.
 pub fn fields_of(bytes: &[u8]) -> Vec<Shown<'_>> {
     let mut fields = Vec::new();
     let mut rest = &bytes[..fields_end(bytes).unwrap_or(0)];

@@ -1,4 +1,4 @@
-//! Delegate and undelegate, of one granule and over lists, with a table of one byte a granule and words of one bit.
+//! Delegate and undelegate, of one granule and over lists, with a table of one byte per granule and words of one bit per granule.
 
 use super::banks::{index, BankWords};
 use super::boot::Record;

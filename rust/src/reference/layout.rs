@@ -1,4 +1,4 @@
-//! Versions, editions, and where things stand in a page.
+//! Versions, editions, and the layout of a page.
 
 /// Bytes of the shared buffer.
 pub const PAGE: usize = 4096;
@@ -25,8 +25,10 @@ pub const fn header_offset(section: usize) -> usize {
 pub struct Edition(u8);
 
 impl Edition {
+    /// Edition 4.
     pub const NEWEST: Edition = Edition(4);
 
+    /// The edition with this number, if it is 1 to 4.
     #[inline]
     pub fn new(number: u64) -> Option<Edition> {
         (1..=4).contains(&number).then_some(Edition(number as u8))
@@ -38,6 +40,7 @@ impl Edition {
         Edition(u16::from(self.0).min(minor) as u8)
     }
 
+    /// Its number.
     #[inline]
     pub fn number(self) -> u64 {
         u64::from(self.0)
@@ -65,7 +68,7 @@ pub fn accepted_minor(version: u32) -> Option<u16> {
     u16::try_from(version).ok().filter(|&minor| minor != 0)
 }
 
-/// Whether a page may lie at this base.
+/// Whether a page may be at this base.
 #[inline]
 fn base_allowed(base: u64) -> bool {
     base != 0 && base % GRANULE == 0 && base <= LAST_BASE
@@ -83,11 +86,13 @@ pub fn placed_mut(page: &mut [u8], base: u64) -> Option<&mut [u8; PAGE]> {
     page.try_into().ok().filter(|_| base_allowed(base))
 }
 
+/// The little-endian 4-byte number at an offset.
 #[inline]
 pub fn half_at(bytes: &[u8], at: usize) -> u32 {
     u32::from_le_bytes(bytes[at..at + 4].try_into().expect("4 bytes"))
 }
 
+/// The little-endian 8-byte number at an offset.
 #[inline]
 pub fn word_at(bytes: &[u8], at: usize) -> u64 {
     u64::from_le_bytes(bytes[at..at + 8].try_into().expect("8 bytes"))

@@ -10,13 +10,13 @@ use std::ops::Range;
 /// Padding, the platform pointer with its fields, and the four sections.
 pub const PARTS: usize = 6;
 
-/// Mends a page where it lies, and says for each part whether it was changed. A refused page stays as it was.
+/// Mends a page in place. Returns for each part whether it was changed. A refused page is unchanged.
 pub fn mend(page: &mut [u8], base: u64) -> Result<[bool; PARTS], Refusal> {
     let page = placed_mut(page, base).ok_or(Refusal::Place)?;
     let minor = accepted_minor(half_at(page, 0)).ok_or(Refusal::Version)?;
     let edition = Edition::NEWEST.on_minor(minor);
     let mut changed = [false; PARTS];
-    // Where the parts lie that are kept.
+    // The places of the parts that are kept.
     let mut kept = Vec::new();
     if half_at(page, 4) != 0 {
         page[4..8].fill(0);
@@ -43,7 +43,7 @@ pub fn mend(page: &mut [u8], base: u64) -> Result<[bool; PARTS], Refusal> {
     Ok(changed)
 }
 
-/// Where the fields lie, their end mark too, if pointer and fields break no rule; nowhere without a pointer.
+/// The bytes of the fields with their end mark, if pointer and fields break no rule; no bytes without a pointer.
 fn fields_place(page: &[u8; PAGE], base: u64, edition: Edition) -> Option<Range<usize>> {
     let plat_data = word_at(page, 8);
     if !plat_data_allowed(plat_data, base, edition) {

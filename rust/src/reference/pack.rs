@@ -22,7 +22,7 @@ impl Unpacked {
     }
 }
 
-/// Writes what is shown of a page into the target, less its withdrawn fields; on a refusal the target stays as it was.
+/// Writes what is shown of a page into the target, without its withdrawn fields; on a refusal the target is unchanged.
 pub fn pack(page: &[u8], base: u64, target: &mut [u8]) -> Result<(), Unpacked> {
     let view = read(page, base, 4).map_err(Unpacked::Page)?;
     let minor = u64::from(view.minor);
@@ -48,7 +48,7 @@ fn shown_lists(page: &[u8], base: u64, minor: u64) -> [Vec<u64>; SECTIONS] {
     })
 }
 
-/// The fields in page order as they are told to the writer.
+/// The fields in page order, as the writer takes them.
 fn kept_fields(page: &[u8], plat_data: u64) -> Vec<u8> {
     let mut kept = Vec::new();
     for shown in fields(page, plat_data) {

@@ -7,7 +7,7 @@ pub const PLACES: usize = 8;
 /// Bytes of the longest signature.
 pub const SIGNATURE: usize = 104;
 
-/// A signing request. The ids are wide enough for whatever a forged queue holds.
+/// A signing request. The ids are wide enough for any forged queue.
 #[derive(Clone, Copy, Debug, PartialEq, Eq)]
 pub struct Request {
     pub algorithm: u64,
@@ -18,6 +18,7 @@ pub struct Request {
 }
 
 impl Request {
+    /// A request of zeros.
     pub const BLANK: Request = Request {
         algorithm: 0,
         granule: 0,
@@ -27,16 +28,18 @@ impl Request {
     };
 }
 
+/// A signed response.
 #[derive(Clone, Copy, Debug, PartialEq, Eq)]
 pub struct Response {
     pub granule: u64,
     pub ticket: u64,
-    /// How much of the signature counts; above 104 it stands for 104.
+    /// The length of the signature; above 104 it means 104.
     pub len: usize,
     pub signature: [u8; SIGNATURE],
 }
 
 impl Response {
+    /// A response of zeros.
     pub const BLANK: Response = Response {
         granule: 0,
         ticket: 0,
@@ -44,6 +47,7 @@ impl Response {
         signature: [0; SIGNATURE],
     };
 
+    /// The bytes of the signature.
     #[inline]
     pub fn signature(&self) -> &[u8] {
         &self.signature[..self.len.min(SIGNATURE)]
@@ -59,7 +63,7 @@ pub struct Ring<T> {
 }
 
 impl<T: Copy> Ring<T> {
-    /// The first `count` items wait, the oldest first. A count above eight stands for eight.
+    /// The first `count` items wait, the oldest first. A count above eight means eight.
     pub const fn new(items: [T; PLACES], count: usize) -> Ring<T> {
         Ring {
             items,
@@ -74,21 +78,25 @@ impl<T: Copy> Ring<T> {
         self.count
     }
 
+    /// How many wait.
     #[inline]
     pub fn len(&self) -> usize {
         self.count.min(PLACES)
     }
 
+    /// Whether none waits.
     #[inline]
     pub fn is_empty(&self) -> bool {
         self.count == 0
     }
 
+    /// Whether all places are taken.
     #[inline]
     pub fn is_full(&self) -> bool {
         self.count >= PLACES
     }
 
+    /// The oldest one.
     #[inline]
     pub fn oldest(&self) -> Option<&T> {
         self.iter().next()
@@ -100,7 +108,7 @@ impl<T: Copy> Ring<T> {
         (0..self.len()).map(move |i| &self.items[(self.first + i) % PLACES])
     }
 
-    /// The place after the newest, taken; none if all are.
+    /// Takes the place after the newest; `None` if all are taken.
     #[inline]
     fn join(&mut self) -> Option<&mut T> {
         if self.is_full() {
@@ -119,6 +127,7 @@ impl<T: Copy> Ring<T> {
     }
 }
 
+/// Both sides of the signing queue.
 #[derive(Clone, Copy, Debug)]
 pub struct Queue {
     pub requests: Ring<Request>,
@@ -126,11 +135,13 @@ pub struct Queue {
 }
 
 impl Queue {
+    /// A queue without requests and responses.
     pub const EMPTY: Queue = Queue {
         requests: Ring::new([Request::BLANK; PLACES], 0),
         responses: Ring::new([Response::BLANK; PLACES], 0),
     };
 
+    /// The oldest request.
     #[inline]
     pub fn oldest_request(&self) -> Option<&Request> {
         self.requests.oldest()

@@ -16,6 +16,7 @@ pub enum Refusal {
 }
 
 impl Refusal {
+    /// The number of the code.
     #[inline]
     pub fn code(self) -> i32 {
         match self {
@@ -26,7 +27,7 @@ impl Refusal {
     }
 }
 
-/// A section as it is shown: not in the edition, empty, or so many entries from an offset of the page.
+/// A section as it is shown: not in the edition, empty, or a number of entries from an offset of the page.
 #[derive(Clone, Copy, Debug, PartialEq, Eq)]
 pub enum Section {
     Absent,
@@ -50,7 +51,7 @@ impl Section {
 pub struct View {
     /// w, the page's minor.
     pub minor: u16,
-    /// e, the smaller of w and the reader's edition.
+    /// e = min(w, the reader's edition).
     pub edition: Edition,
     pub plat_data: u64,
     pub sections: [Section; SECTIONS],
@@ -64,7 +65,7 @@ pub fn read(page: &[u8], base: u64, edition: u64) -> Result<View, Refusal> {
     view(page, base, minor, reader.on_minor(minor)).ok_or(Refusal::Manifest)
 }
 
-/// The part of the page that holds a section's array; empty if there is none to show.
+/// The part of the page that holds a section's array; empty if the section shows no entries.
 pub fn array(page: &[u8], base: u64, edition: u64, section: usize) -> &[u8] {
     match read(page, base, edition) {
         Ok(view) if section < SECTIONS => &page[view.sections[section].bytes(section)],
@@ -87,7 +88,7 @@ pub fn console_named(consoles: &[u8], name: &[u8; 8]) -> Option<usize> {
     entries.position(|entry| entry[16..24] == name[..])
 }
 
-/// What a platform pointer points at, up to the page's end; nothing without one.
+/// The bytes from a platform pointer up to the page's end; empty without a pointer.
 pub fn pointed(page: &[u8], plat_data: u64) -> &[u8] {
     // The base is a multiple of a page's length.
     let offset = (plat_data % PAGE as u64) as usize;
@@ -130,7 +131,7 @@ fn view(page: &[u8; PAGE], base: u64, minor: u16, edition: Edition) -> Option<Vi
     })
 }
 
-/// Whether a platform pointer keeps its rule; there may be none.
+/// Whether a platform pointer keeps its rule; 0 does.
 #[inline]
 pub(super) fn plat_data_allowed(plat_data: u64, base: u64, edition: Edition) -> bool {
     // A pointer below the base wraps to far above the page.
@@ -138,7 +139,7 @@ pub(super) fn plat_data_allowed(plat_data: u64, base: u64, edition: Edition) -> 
     plat_data == 0 || (edition.core() as u64..PAGE as u64).contains(&offset)
 }
 
-/// Whether the fields that are pointed at are whole and share no byte with an array, their end mark too.
+/// Whether the fields at the pointer are whole and, with their end mark, share no byte with an array.
 fn fields_sound(page: &[u8; PAGE], plat_data: u64, sections: &[Section; SECTIONS]) -> bool {
     if plat_data == 0 {
         return true;
@@ -155,7 +156,7 @@ fn fields_sound(page: &[u8; PAGE], plat_data: u64, sections: &[Section; SECTIONS
     })
 }
 
-/// A section of the edition, by its own rules alone.
+/// A section of the edition, by its own rules only.
 pub(super) fn section_alone(
     page: &[u8; PAGE],
     base: u64,
@@ -199,7 +200,7 @@ fn read_section<const K: usize>(
     (total == 0).then_some(section)
 }
 
-/// The array's place, if it lies between the core and the page's end, on a multiple of 8. The base is one, so the offset tells.
+/// The array's place, if it is between the core and the page's end, at a multiple of 8. The base is one, so the offset decides.
 #[inline]
 fn locate(count: u64, offset: u64, edition: Edition, k: usize) -> Option<Section> {
     let size = 8 * ENTRY_WORDS[k] as u64;

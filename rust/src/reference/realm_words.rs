@@ -3,7 +3,7 @@
 use super::banks::{granules, BankWords};
 use super::codes::Error;
 
-/// The number of words is that of the record's granules over 64, rounded up.
+/// The number of words must be ceil(granules / 64) of the record.
 #[inline]
 pub fn need_fit(banks: &BankWords, words: &[u64]) -> Result<u64, Error> {
     let granules = granules(banks);
@@ -17,6 +17,7 @@ fn get(words: &[u64], granule: u64) -> bool {
     words[(granule / 64) as usize] >> (granule % 64) & 1 == 1
 }
 
+/// Writes a granule's bit.
 #[inline]
 pub fn put(words: &mut [u64], granule: usize, realm: bool) {
     let (word, bit) = (&mut words[granule / 64], 1 << (granule % 64));
@@ -41,7 +42,7 @@ pub fn next(banks: &BankWords, words: &[u64], index: u64) -> Result<Option<u64>,
     }
 }
 
-/// The words that a table asks for.
+/// The words of a table.
 fn made(banks: &BankWords, table: &[u8], words: &[u64]) -> Result<Vec<u64>, Error> {
     let granules = need_fit(banks, words)?;
     if granules != table.len() as u64 {
@@ -54,10 +55,12 @@ fn made(banks: &BankWords, table: &[u8], words: &[u64]) -> Result<Vec<u64>, Erro
     Ok(made)
 }
 
+/// Whether the words are those of the table, with spare bits 0.
 pub fn agrees(banks: &BankWords, table: &[u8], words: &[u64]) -> Result<bool, Error> {
     Ok(made(banks, table, words)? == words)
 }
 
+/// Makes the words those of the table.
 pub fn build(banks: &BankWords, table: &[u8], words: &mut [u64]) -> Result<(), Error> {
     let made = made(banks, table, words)?;
     words.copy_from_slice(&made);

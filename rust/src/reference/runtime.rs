@@ -10,16 +10,24 @@ use super::queue::Queue;
 use super::signing::{token_sign, SignCall};
 use super::token::{Session, TokenCall};
 
+/// RMM_RMI_REQ_COMPLETE, which forwards an error code.
 pub const REQ_COMPLETE: u64 = 0xC400_018F;
+/// RMM_GTSI_DELEGATE.
 pub const DELEGATE: u64 = 0xC400_01B0;
+/// RMM_GTSI_UNDELEGATE.
 pub const UNDELEGATE: u64 = 0xC400_01B1;
+/// RMM_ATTEST_GET_REALM_KEY.
 pub const REALM_KEY: u64 = 0xC400_01B2;
+/// RMM_ATTEST_GET_PLAT_TOKEN.
 pub const PLAT_TOKEN: u64 = 0xC400_01B3;
+/// RMM_EL3_FEATURES.
 pub const FEATURES: u64 = 0xC400_01B4;
+/// RMM_EL3_TOKEN_SIGN.
 pub const TOKEN_SIGN: u64 = 0xC400_01B5;
+/// RMM_MECID_KEY_UPDATE.
 pub const KEY_UPDATE: u64 = 0xC400_01B6;
 
-/// What goes from one call to the next.
+/// The state that is passed from one call to the next.
 #[derive(Clone, Copy, Debug)]
 pub struct State {
     pub record: Record,
@@ -31,9 +39,9 @@ pub struct State {
 #[derive(Debug)]
 pub struct Lent<'a> {
     pub page: &'a mut [u8],
-    /// One byte a granule of these banks.
+    /// One byte for each granule of these banks.
     pub table: &'a mut [u8],
-    /// One bit a granule.
+    /// One bit for each granule.
     pub words: &'a mut [u64],
     pub banks: &'a BankWords,
     pub realm_key: &'a [u8],
@@ -51,6 +59,7 @@ pub struct Call {
     pub x: [u64; 4],
 }
 
+/// The answer to a call.
 #[derive(Clone, Copy, Debug, PartialEq, Eq)]
 pub enum Reply {
     /// The error code goes to the Non-secure world; nothing comes back.

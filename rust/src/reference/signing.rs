@@ -27,7 +27,7 @@ pub struct SignCall {
     pub curve: u64,
 }
 
-/// Token signing by opcode. The public key is lent apart from the realm key.
+/// Token signing by opcode. The public key is not the realm key.
 #[inline]
 pub fn token_sign(
     record: Record,

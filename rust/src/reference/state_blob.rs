@@ -1,5 +1,5 @@
 //! GET_STATEBLOB of a software TPM: the request for a piece of a state blob, the response that carries one, and a collector that joins
-//! the pieces. Every number is of four bytes, big-endian.
+//! the pieces. Every number has four bytes, big-endian.
 
 use std::convert::TryFrom;
 
@@ -36,6 +36,7 @@ fn put_head(buffer: &mut [u8], numbers: [u32; 4]) {
     }
 }
 
+/// The four numbers of a request.
 #[derive(Clone, Copy, Debug, PartialEq, Eq)]
 pub struct Request {
     pub code: u32,
@@ -45,6 +46,7 @@ pub struct Request {
 }
 
 impl Request {
+    /// Reads a request with the wanted code.
     pub fn read(message: &[u8], wanted: u32) -> Result<Request, Refusal> {
         let [code, flags, kind, offset] = head_of(message).ok_or(Refusal::CutShort)?;
         if message.len() > HEAD {
@@ -61,7 +63,7 @@ impl Request {
         })
     }
 
-    /// Says how long the message is.
+    /// Returns the length of the message.
     pub fn write(self, buffer: &mut [u8]) -> Result<usize, Refusal> {
         let buffer = buffer.get_mut(..HEAD).ok_or(Refusal::NoRoom)?;
         put_head(buffer, [self.code, self.flags, self.kind, self.offset]);
@@ -78,6 +80,7 @@ pub struct Piece<'a> {
 }
 
 impl<'a> Piece<'a> {
+    /// Reads a response with at most `largest` bytes of data.
     pub fn read(message: &'a [u8], largest: u32) -> Result<Piece<'a>, Refusal> {
         let [result, flags, total, length] = head_of(message).ok_or(Refusal::CutShort)?;
         let data = &message[HEAD..];
@@ -97,7 +100,7 @@ impl<'a> Piece<'a> {
     }
 }
 
-/// Writes a response with this data; `numbers` are tpm_result, state_flags and totlength. Says how long the message is.
+/// Writes a response with this data; `numbers` are tpm_result, state_flags and totlength. Returns the length of the message.
 pub fn write_response(
     buffer: &mut [u8],
     largest: u32,
@@ -114,6 +117,7 @@ pub fn write_response(
     Ok(end)
 }
 
+/// Joins the pieces of one blob.
 #[derive(Clone, Copy, Debug, Default, PartialEq, Eq)]
 pub struct Collector {
     /// totlength of the first accepted response.
@@ -122,10 +126,12 @@ pub struct Collector {
 }
 
 impl Collector {
+    /// Whether a response was accepted and totlength bytes are held.
     pub fn is_complete(self) -> bool {
         self.total == Some(self.held)
     }
 
+    /// Appends the data of a response to the bytes held.
     pub fn collect(
         &mut self,
         message: &[u8],

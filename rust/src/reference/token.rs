@@ -21,7 +21,7 @@ pub struct TokenCall {
 }
 
 impl TokenCall {
-    /// The buffer, if all checks of the arguments alone hold.
+    /// The buffer, if all checks of the arguments pass.
     #[inline]
     fn buffer(self, kept: Kept) -> Result<Range<usize>, Error> {
         let room = buffer(kept, self.pa, self.size)?;
@@ -33,7 +33,7 @@ impl TokenCall {
 }
 
 impl Session {
-    /// Writes the next hunk of the lent token. A refusal leaves session and page as they were.
+    /// Writes the next hunk of the lent token. A refusal leaves session and page unchanged.
     #[inline]
     pub fn send(
         &mut self,
@@ -50,7 +50,7 @@ impl Session {
         }
         let room = call.buffer(kept)?;
         let sent = self.sent_before(token, call.c_size)?;
-        // Of a session that has sent too much nothing is left.
+        // A session that has sent too much has nothing left.
         let rest = usize::try_from(sent).map_or(&[][..], |sent| token.get(sent..).unwrap_or(&[]));
         let (hunk, rest) = rest.split_at(rest.len().min(room.len()));
         page[room][..hunk.len()].copy_from_slice(hunk);
@@ -80,7 +80,7 @@ impl Session {
     }
 }
 
-/// The first check of record, page and buffer that a call fails, for who looks for its challenge.
+/// The first check of record, page and buffer that a call fails, for the challenge lookup.
 #[inline]
 pub fn challenge_checks(record: Record, page: &[u8], call: TokenCall) -> Outcome {
     let kept = need_up(record)?;
@@ -90,7 +90,7 @@ pub fn challenge_checks(record: Record, page: &[u8], call: TokenCall) -> Outcome
     call.buffer(kept).map(|_| [0; 2])
 }
 
-/// The challenge of a start, as the part of the page that holds it; empty where the call's arguments would be refused.
+/// The challenge of a start, as the part of the page that holds it; empty if the call's arguments would be refused.
 #[inline]
 pub fn challenge(record: Record, page: &[u8], call: TokenCall) -> &[u8] {
     let room = need_up(record).and_then(|kept| call.buffer(kept));

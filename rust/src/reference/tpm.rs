@@ -4,9 +4,12 @@ use std::ops::Range;
 
 /// The largest request and the smallest room for a response.
 pub const TRANSFER: u64 = 4096;
+/// Operation 1: execute.
 pub const EXECUTE: u64 = 1;
+/// Operation 2: close.
 pub const CLOSE: u64 = 2;
 
+/// Why a call is refused.
 #[derive(Clone, Copy, Debug, PartialEq, Eq)]
 pub enum Refusal {
     Function,
@@ -43,7 +46,7 @@ pub struct Transfer {
     pub out_size: u64,
 }
 
-/// What the platform says.
+/// The platform's flags.
 #[derive(Clone, Copy, Debug)]
 pub struct Platform<'a> {
     pub forbidden: bool,
@@ -86,7 +89,7 @@ impl Transfer {
         }
     }
 
-    /// The call. `open` says whether the guest has a session; the answer is r4.
+    /// The call. `open` is whether the guest has a session; returns r4.
     #[inline]
     pub fn comm(
         &self,

@@ -17,7 +17,7 @@ pub enum Unwritten {
 /// The words of each section's entries.
 pub type Lists<'a> = [&'a [u64]; SECTIONS];
 
-/// Writes the manifest into the page; on a refusal the page stays as it was.
+/// Writes the manifest into the page; on a refusal the page is unchanged.
 pub fn write(
     base: u64,
     edition: u64,
@@ -60,7 +60,7 @@ fn list_sum(list: &[u64], k: usize) -> Option<u64> {
     if k == CONSOLE {
         let consoles = list.chunks_exact(6);
         let odd = consoles.remainder();
-        // Flags have to be 0 at every edition that can be written, 1 to 4: so 4 does for all.
+        // Flags must be 0 at every edition that can be written, 1 to 4, so the rule of 4 serves for all.
         console_sum(4, consoles.map(entry::<6>)).filter(|_| odd.is_empty())
     } else {
         let banks = list.chunks_exact(2);
@@ -76,7 +76,7 @@ fn entry<const WORDS: usize>(words: &[u64]) -> [u64; WORDS] {
 
 #[inline]
 fn fits(edition: Edition, lists: Lists, fields: &[u8]) -> bool {
-    // One list may be lent four times over, so even lengths of real lists could wrap.
+    // One list may be passed four times, so even lengths of real lists could wrap.
     let words = lists.iter().fold(edition.core() / 8, |sum, list| {
         sum.saturating_add(list.len())
     });
@@ -87,7 +87,7 @@ fn fits(edition: Edition, lists: Lists, fields: &[u8]) -> bool {
     words <= PAGE / 8 && marked <= PAGE - 8 * words
 }
 
-/// Fields at an offset with zeros behind them, the end mark among these; the pointer at them, or none.
+/// Writes the pointer, the fields at offset `at`, and zeros after them, which include the end mark; without fields no pointer.
 #[inline]
 fn fill_fields(page: &mut [u8; PAGE], base: u64, at: usize, fields: &[u8]) {
     if !fields.is_empty() {
@@ -98,7 +98,7 @@ fn fill_fields(page: &mut [u8; PAGE], base: u64, at: usize, fields: &[u8]) {
     page[end..].fill(0);
 }
 
-/// Core and arrays of lists that were all checked. Answers where they end.
+/// Writes core and arrays of lists that were all checked. Returns where they end.
 #[inline]
 fn fill(
     page: &mut [u8; PAGE],

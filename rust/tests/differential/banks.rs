@@ -9,7 +9,7 @@ use potterbeam_tests::reference::layout::word_at;
 
 const NAME: &str = "pbeam_set_up_granules";
 
-/// One set-up on each side, on whatever record was lent before.
+/// One set-up on each side, over any previous record.
 fn set_up(pair: &mut Pair, shown: &[u8], in_table: u64, case: u64) {
     pair.load(|random, m| (m.images.granules.words, _) = random.granule_record());
     check!(pair, NAME, (shown, in_table), |S, m| {

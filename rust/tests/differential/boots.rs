@@ -63,7 +63,7 @@ fn one(pair: &mut Pair, boot: &Boot) {
     pair.meet(name, 0, pair.model.returned);
 }
 
-/// Closes the record, whatever it is.
+/// Closes the record, for any record.
 fn close(pair: &mut Pair) {
     let [kind, ..] = pair.model.images.record.words;
     check!(pair, "pbeam_close", (kind), |S, m| {
@@ -72,7 +72,7 @@ fn close(pair: &mut Pair) {
     pair.meet("pbeam_close", 0, kind.min(2) as i64);
 }
 
-/// A version as it was offered, and one beside it.
+/// A version as it was offered, and one next to it.
 fn versions(pair: &mut Pair, version: u64) {
     let other = match pair.random.below(4) {
         0 => version,

@@ -162,7 +162,7 @@ fn undelegate_list(pair: &mut Pair, scene: &mut Scene) {
     note_list(pair, "pbeam_undelegate_list");
 }
 
-/// Notes what an export on the words answered.
+/// Notes the answer of an export on the words.
 fn note_words(pair: &mut Pair, name: &'static str) {
     let answer = pair.model.returned;
     pair.meet(name, 0, answer);
@@ -208,7 +208,7 @@ fn realm_build(pair: &mut Pair, _: &mut Scene) {
     note_words(pair, "pbeam_realm_build");
 }
 
-/// What the words tell before and after moves.
+/// The answers from the words before and after moves.
 #[test]
 fn realm_words() {
     let mut pair = Pair::new(30);

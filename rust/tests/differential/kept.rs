@@ -18,7 +18,7 @@ const BASE: u64 = 0x8000_0000;
 const BANK: [u64; 2] = [0x9000_0000, 0x1000_0000];
 const CONSOLE: [u64; 6] = [0x1c0c_0000, 1, 0x7061_7274, 24_000_000, 115_200, 0];
 
-/// What readers of editions 1 to 4 say of a page: code, view, and the listing, which has the fields too.
+/// What readers of editions 1 to 4 return for a page: code, view, and the listing, which also has the fields.
 fn shown(page: &[u8], base: u64) -> [(i32, ViewImage, Vec<u8>); 4] {
     [1, 2, 3, 4].map(|edition| {
         let (mut view, mut text) = ([0; 15], vec![0; 12336]);
@@ -43,7 +43,7 @@ fn accepted_page(pair: &mut Pair) -> (u64, Vec<u8>) {
     }
 }
 
-/// A cold boot with so many kept bytes, then two warm boots.
+/// A cold boot with `kept` kept bytes, then two warm boots.
 fn boot(pair: &mut Pair, base: u64, kept: u64) {
     pair.load(|_, m| {
         m.images.record.words = [0; 5];
@@ -116,7 +116,7 @@ fn manifest_is_read_the_same_after_commands() {
     );
 }
 
-/// Numbers counted by hand: the core's end, the end of the last array, or that of the fields with their mark.
+/// Expected numbers as constants: the core's end, the end of the last array, or that of the fields with their mark.
 #[test]
 fn what_a_manifest_takes() {
     let (banks, consoles) = (BANK.repeat(249), CONSOLE.repeat(83));

@@ -78,7 +78,7 @@ fn array(pair: &mut Pair, reading: &Reading) {
     meet_place(pair, "pbeam_array");
 }
 
-/// Into a room that holds it, just holds it, or cuts it anywhere.
+/// Into a buffer that is larger, exactly as long, or cuts it anywhere.
 fn listing(pair: &mut Pair, reading: &Reading) {
     let &Reading { base, edition, .. } = reading;
     let whole = Model::listing(&reading.page, base, edition, &mut []);
@@ -184,7 +184,7 @@ fn look_fields(pair: &mut Pair) {
     pair.meet("pbeam_field_start", 0, i64::from(found));
     for _ in 0..3 {
         if pair.random.one_in(8) {
-            // No cursor that a walk gives.
+            // A cursor that no walk gives.
             cursor = match pair.random.one_in(4) {
                 true => pair.random.edge() as usize,
                 false => pair.random.index(4100),
@@ -203,7 +203,7 @@ fn meet_field(pair: &mut Pair, name: &'static str) {
     pair.meet(name, 0, pair.model.images.field.words[0] as i64);
 }
 
-/// Where the value of tag 3 stands in a page whose fields begin at an offset.
+/// The offset of the value of tag 3 in a page whose fields begin at an offset.
 fn withdrawn_value(page: &[u8], from: usize) -> Option<usize> {
     let mut rest = &page[from..];
     while let Some((field, behind)) = split_field(rest) {
@@ -216,7 +216,7 @@ fn withdrawn_value(page: &[u8], from: usize) -> Option<usize> {
     None
 }
 
-/// All that the library tells of a page but the bytes that a place of it holds: code, view, listing, fields by number, by tag and by the
+/// All that the library returns for a page but the bytes at its places: code, view, listing, fields by number, by tag and by the
 /// walk, with its cursors, and what the manifest takes.
 fn told(page: &[u8], base: u64, edition: u64) -> (i32, ViewImage, Vec<u8>, Vec<u64>) {
     let (mut view, mut text) = ([0; 15], vec![0; 12336]);
@@ -239,8 +239,8 @@ fn told(page: &[u8], base: u64, edition: u64) -> (i32, ViewImage, Vec<u8>, Vec<u
     (code, view, text, words)
 }
 
-/// 02, E10: pages that differ in the withdrawn value alone get the same answers, whichever reader asks; and no word of them is the place of
-/// the value.
+/// 02, E10: pages that differ only in the withdrawn value get the same answers, for a reader of any edition; and no word of them is
+/// the place of the value.
 #[test]
 fn withdrawn_value_is_in_no_answer() {
     let mut random = Random::new(23);

@@ -5,7 +5,7 @@ use potterbeam_tests::reference::layout::PAGE;
 /// Bytes of a guard, and words of one.
 const GUARD: usize = 64;
 const WORDS: usize = 2;
-/// What stands in places that a call has to write.
+/// The initial contents of places that a call must write.
 const STALE: u64 = 0x57A1_E57A_1E57_A1E5;
 
 /// Bytes that are lent. They begin at any address, not only at multiples of 8.
@@ -17,7 +17,7 @@ pub struct Bytes {
 }
 
 impl Bytes {
-    /// Lends these bytes, so far from an aligned address.
+    /// Lends these bytes, `skew` bytes after an aligned address.
     pub fn load(&mut self, bytes: &[u8], skew: usize) {
         self.start = GUARD + skew;
         self.length = bytes.len();
@@ -41,7 +41,7 @@ impl Bytes {
         self.length = other.length;
     }
 
-    /// Every cell, those of the guards too.
+    /// Every cell, including those of the guards.
     pub fn cells_mut(&mut self) -> &mut [u8] {
         &mut self.cells
     }
@@ -71,7 +71,7 @@ impl Words {
         &mut self.cells[WORDS..end]
     }
 
-    /// Every cell, those of the guards too.
+    /// Every cell, including those of the guards.
     pub fn cells_mut(&mut self) -> &mut [u64] {
         &mut self.cells
     }
@@ -128,7 +128,7 @@ pub struct Memory {
     pub table: Bytes,
     pub words: Words,
     pub images: Images,
-    /// What the call returned, sign-extended; 0 where it returns nothing.
+    /// What the call returned, sign-extended; 0 if it returns nothing.
     pub returned: i64,
 }
 

@@ -1,4 +1,4 @@
-//! Packer and mender, and what 02 says of them.
+//! Packer and mender, and 02's claims about them.
 
 use crate::calls;
 use crate::pair::Pair;
@@ -64,7 +64,7 @@ fn mender() {
     ]);
 }
 
-/// What a reader shows, but plat_data, withdrawn fields and where arrays lie: code, w and e, each array's kind and bytes, the fields.
+/// What a reader shows, except plat_data, withdrawn fields and the places of arrays: code, w and e, each array's kind and bytes, the fields.
 type Kept = (i32, [u64; 2], Vec<(u64, Vec<u8>)>, Vec<(u64, Vec<u8>)>);
 
 fn shown(page: &[u8], base: u64, edition: u64) -> Kept {

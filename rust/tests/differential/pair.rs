@@ -20,7 +20,7 @@ pub struct Pair {
     calls: BTreeMap<&'static str, u64>,
 }
 
-/// Makes one call on each side and compares. `$S` is the side, `$m` its memory; the inputs are what a report shows beside it.
+/// Makes one call on each side and compares. `$S` is the side, `$m` its memory; a report also shows the inputs.
 macro_rules! check {
     ($pair:expr, $name:expr, ($($input:ident),*), |$S:ident, $m:ident| $call:expr) => {{
         $pair.begin();

@@ -1,4 +1,4 @@
-//! The comparison can fail: wrong answers are put on the library's side, and each has to be reported.
+//! The comparison can fail: wrong answers are put on the library's side, and each must be reported.
 
 use crate::memory::{blank, Image, Memory};
 use crate::pair::{differences, Pair};

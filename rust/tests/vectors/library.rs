@@ -68,7 +68,7 @@ fn print_reading(out: &mut String, input: &[u8]) {
     }
 }
 
-/// The walk by a cursor passes the same fields as the lookup by number, and ends behind the last.
+/// The walk by a cursor passes the same fields as the lookup by number, and ends after the last.
 fn print_walk(page: &[u8], view: &ViewImage) {
     let mut cursor = Kit::field_start(page, view);
     for i in 0..=Kit::field_count(page, view) {
@@ -241,7 +241,7 @@ fn print_command(out: &mut String, input: &[u8]) {
     let mut table = take(&mut rest, in_table).to_vec();
     let key = take(&mut rest, in_key);
     let mut page = take(&mut rest, in_page).to_vec();
-    // What stands in the registers before a call is no matter.
+    // The registers' contents before a call do not matter.
     let (mut registers, mut work) = ([u64::MAX; 3], [0; 2]);
     let mut realm = realm_words_at(input, 72);
     match id {
@@ -279,7 +279,7 @@ struct Images {
 }
 
 impl Images {
-    /// The state that the images stand for, with counts and lengths as the words have them.
+    /// The state of the images, with counts and lengths as the words have them.
     fn state(&self) -> State {
         let bytes: Vec<u8> = self.queue.iter().flat_map(|w| w.to_le_bytes()).collect();
         State {
@@ -290,7 +290,7 @@ impl Images {
     }
 
     /// The expected text is of a queue by value, in which an accepted call settles both sides; on the image it touches only what it needs.
-    /// Both stand for the same queue.
+    /// Both mean the same queue.
     fn settle(&mut self) {
         self.queue = queue_words(&queue_of(&self.queue));
     }

@@ -83,7 +83,7 @@ fn record_at(input: &[u8]) -> Record {
     }
 }
 
-/// The granule record that stands where a word of the case says: how many of its words are given, then these. The rest are 0.
+/// The granule record at the offset in a word of the case: how many of its words are given, then these. The rest are 0.
 fn granules_at(input: &[u8], at: usize) -> GranulesImage {
     let stored = &input[size_at(input, at)..];
     let mut record = [0; 33];
@@ -96,7 +96,7 @@ fn granules_at(input: &[u8], at: usize) -> GranulesImage {
     record
 }
 
-/// The realm words, behind the granule record: how many, then these.
+/// The realm words, after the granule record: how many, then these.
 fn realm_words_at(input: &[u8], at: usize) -> Vec<u64> {
     let stored = &input[size_at(input, at)..];
     let behind = &stored[8 + 8 * size_at(stored, 0)..];
@@ -111,7 +111,7 @@ fn print_realm_words(out: &mut String, realm: &[u64]) {
     out.push('\n');
 }
 
-/// Takes so many bytes off the front.
+/// Takes `length` bytes off the front.
 fn take<'a>(input: &mut &'a [u8], length: usize) -> &'a [u8] {
     assert!(length <= input.len(), "case cut short");
     let (taken, rest) = input.split_at(length);
@@ -208,7 +208,7 @@ fn compare_listing(lister: Lister, input: &Path, expected: &Path) {
     assert_eq!(out, expected, "{}", input.display());
 }
 
-/// Each input in a folder; says how many there are.
+/// Each input in a folder; returns how many there are.
 fn compare_listings(lister: Lister, folder: &Path) -> usize {
     let mut count = 0;
     for file in std::fs::read_dir(folder).expect("inputs") {
@@ -402,11 +402,11 @@ fn print_set_up(out: &mut String, input: &[u8], set_up: SetUp) {
     out.push('\n');
 }
 
-/// A set-up of a record from the bytes of banks, for a table of so many granules.
+/// A set-up of a record from the bytes of banks, for a table of a given number of granules.
 type SetUp = fn(&mut GranulesImage, &[u8], u64) -> u64;
 
-/// What the questions to realm words answer: how many, the next one, agreement, and whether they were built. INVAL is None; the next
-/// one is a granule, or none.
+/// The answers of the calls on realm words: how many, the next one, agreement, and whether they were built. INVAL gives `None`; the next
+/// one is a granule, or no hit.
 type Told = (Option<u64>, Option<Option<u64>>, Option<bool>, bool);
 
 fn print_told(out: &mut String, (count, next, agrees, built): Told) {
@@ -423,7 +423,7 @@ fn print_told(out: &mut String, (count, next, agrees, built): Told) {
     .unwrap();
 }
 
-/// A side's answers to the questions; it builds the words at last.
+/// A side's answers; it builds the words last.
 type Asked = fn(&GranulesImage, &[u8], &mut [u64], u64) -> Told;
 
 fn print_questions(out: &mut String, input: &[u8], asked: Asked) {
@@ -517,7 +517,7 @@ fn command_vectors() {
 
 // ---- The runtime ----
 
-/// What stands at the place that two words of the case give.
+/// The bytes at the place that two words of the case give.
 fn lent(input: &[u8], at: usize) -> &[u8] {
     let (from, length) = (size_at(input, at), size_at(input, at + 8));
     &input[from..from + length]
@@ -691,13 +691,13 @@ fn operate(out: &mut String, input: &[u8], step: &[u8], state: &mut State, memor
     }
 }
 
-/// What stands at the place that two words of an operation give.
+/// The bytes at the place that two words of an operation give.
 fn lent_by<'a>(input: &'a [u8], step: &[u8], at: usize) -> &'a [u8] {
     let (from, length) = (size_at(step, at), size_at(step, at + 8));
     &input[from..from + length]
 }
 
-/// Lays over what is expected the change that an operation names.
+/// Applies the change that an operation names to what is expected.
 fn lay(input: &[u8], step: &[u8], at: usize, expected: &mut [u8]) {
     let bytes = lent_by(input, step, at + 8);
     expected[size_at(step, at)..][..bytes.len()].copy_from_slice(bytes);
@@ -714,7 +714,7 @@ fn same_or_differs(same: bool) -> &'static str {
 /// An operation of a case, on a state of a kind.
 type Operation<T> = fn(&mut String, &[u8], &[u8], &mut T, &mut Memory);
 
-/// The operations of a case, each with the state after it, and what waits at last.
+/// The operations of a case, each with the state after it, and what waits at the end.
 fn print_steps<T>(
     out: &mut String,
     input: &[u8],
