@@ -1,6 +1,6 @@
 -- Calls of 0xC40001B3, one after the other. 01: "With a fixed buffer of b bytes, b at least the start's c_size, one start and the
 -- same token lent throughout, a token of L bytes takes exactly L / b calls, rounded up, refusals not counted". Assumes nothing.
-use Prim.Native.Nat.{ℕ, _+_, _-_, _*_, _/_, _≤_, _<_}
+use Prim.Native.Nat.{ℕ, _+_, _-_, _*_, _/_, min, _≤_, _<_}
 use mathlib.Core.Path.{_≡_}
 use mathlib.Core.Bool.{Bool, true, cond}
 use mathlib.Core.List.{List, [], _∷_, _++_}
@@ -83,6 +83,6 @@ pub record Calls (token : List ℕ) (b n : ℕ) (bytes : List ℕ) (left : ℕ) 
 -- moves nothing.": of a call that begins behind `sent` bytes of the token, what it left, and the bytes that then stand at pa
 pub record NextHunk (token : List ℕ) (size sent : ℕ) (t : TokenStep) (bytes : List ℕ) : Type 0 where
   pub hunk : bytes ≡ take size (drop sent token)
-  pub rest : t .answer .x2 ≡ length token - (sent + size)
+  pub told : t .answer ≡ record { code = Ok; x0 = 0; x1 = min size (length token - sent); x2 = length token - (sent + size) }
   pub ended : length token ≤ sent + size → t .session ≡ Idle
   pub goes-on : sent + size < length token → t .session ≡ Sending (length token) (sent + size)
