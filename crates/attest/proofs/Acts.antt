@@ -14,7 +14,7 @@ use Rattle.range.specs.Buffers.{BufferIn}
 use Rattle.range.specs.declared.OutsideAs.the-variants.{BadAddress}
 use Rattle.range.proofs.Ranges.{passed}
 use Rattle.range.proofs.Buffers.{in-passes, passed-in, splice-written}
-use Rattle.codes.specs.Codes.{isUp, upOf, answerOf}
+use Rattle.codes.specs.Codes.{isUp, upOf, extended, x0Of, answerOf}
 use Rattle.codes.specs.declared.Code.the-variants.{Ok}
 use Rattle.codes.proofs.Gates.{unless-ok, either-ok, first-ok, then-ok, then-go}
 use Rattle.attest.specs.Acts.{KeyActed}
@@ -23,8 +23,8 @@ use Rattle.attest.proofs.Keys.{rest-ok}
 
 -- "Writes the key at pa; x1 is its length."
 pub key-acts : (r : Record) (page key : List ℕ) (pa size curve : ℕ) → realmKeyOf r page key pa size curve .answer .code ≡ Ok →
-    KeyActed (placeOf (upOf r) pa) key page (realmKeyOf r page key pa size curve .page) (realmKeyOf r page key pa size curve .answer .x1)
-unfolding realmKeyOf keyed keyCode answerOf
+    KeyActed (placeOf (upOf r) pa) key page (realmKeyOf r page key pa size curve .page) (realmKeyOf r page key pa size curve .answer)
+unfolding realmKeyOf keyed keyCode answerOf x0Of extended
 key-acts r page key pa size curve h =
     let p = passed _ _ _ _ _ _ (first-ok _ _ h) in
     let at : ℕ = placeOf (upOf r) pa in

@@ -3,7 +3,7 @@ use Prim.Native.Nat.{ℕ, _/_, _<_}
 use mathlib.Core.Path.{_≡_, refl, sym, ap, _∙_}
 use mathlib.Core.Bool.{true, false, false≢true}
 use native.Mathlib.Omega.{arith}
-use lib.ListN.{length, getD, length-set}
+use lib.ListN.{length, getD, set, length-set}
 use lib.Seq.{getD-set-same, getD-set-other}
 use borrow.Author.Tests.{eqb-true, eqb-false, eq-eqb, ne-eqb}
 use Rattle.words.specs.Tests.{Yes}
@@ -13,7 +13,7 @@ use Rattle.boot.specs.declared.Record.{Record}
 use Rattle.codes.specs.Codes.{isUp, upOf, isOk, whenUp, answerOf}
 use Rattle.codes.specs.declared.Code.the-variants.{Ok, BadAddr}
 use Rattle.codes.proofs.Gates.{fails-ok, unless-ok}
-use Rattle.realm_words.specs.Bits.{wordsFor}
+use Rattle.realm_words.specs.Bits.{wordsFor, bitAt, realmBit, putBit}
 use Rattle.realm_words.proofs.Laws.{realm-lt, put-same, put-other, put-length}
 use Rattle.banks.proofs.Laws.{falls, index-below, index-named, one-address}
 use Rattle.granule_rules.specs.Granules.{GranuleTable, fromByte, toByte, isSharedPage, granuleCode, moveCode, granuleSet, moved, Moved, movedBy, moveAt, whenFit, fitting, moveOf, movedTo}
@@ -64,19 +64,24 @@ word-of g t addr i f e =
     omega arith
 
 acted : (u : Params) (g : Granules) (d : Direction) (t : GranuleTable) (addr : ℕ) (k : Granule) → length (t .words) ≡ wordsFor (granuleCount g) → granuleAt g (length (t .bytes)) addr ≡ k → granuleCode u d t addr k ≡ Ok → MoveActed g d t (granuleSet d t k) addr
-unfolding granuleCode granuleSet
+unfolding granuleCode granuleSet fromByte toByte realmBit
 acted u g d t addr Nothing f e h = absurd (false≢true (ap isOk h))
 acted u g d t addr (At i) f e h =
+    let was : getD (t .bytes) i 0 ≡ fromByte d = eqb-true _ _ (unless-ok _ _ _ refl (fails-ok _ _ _ refl h .1) .0) in
+    let becomes : getD (set (t .bytes) i (toByte d)) i 0 ≡ toByte d = getD-set-same (t .bytes) i (toByte d) 0 (index-below g (length (t .bytes)) addr i e) in
+    let bit : bitAt (putBit (t .words) i (realmBit (toByte d))) i ≡ realmBit (toByte d) = put-same (t .words) i _ (word-of g t addr i f e) (realm-lt (toByte d)) in
     record {
       granule = i;
       own = e;
-      was = eqb-true _ _ (unless-ok _ _ _ refl (fails-ok _ _ _ refl h .1) .0);
-      becomes = getD-set-same (t .bytes) i (toByte d) 0 (index-below g (length (t .bytes)) addr i e);
+      was = was;
+      becomes = becomes;
       others = λ j n. getD-set-other (t .bytes) i j _ 0 n;
       whole = length-set (t .bytes) i _;
-      bit = put-same (t .words) i _ (word-of g t addr i f e) (realm-lt (toByte d));
+      bit = bit;
       otherBits = λ j n. put-other (t .words) i j _ (realm-lt (toByte d)) n;
       wholeWords = put-length (t .words) i _;
+      delegated = λ q. (was ∙ ap fromByte q, becomes ∙ ap toByte q, bit ∙ ap (λ (x : Direction). realmBit (toByte x)) q);
+      undelegated = λ q. (was ∙ ap fromByte q, becomes ∙ ap toByte q, bit ∙ ap (λ (x : Direction). realmBit (toByte x)) q);
     }
 
 -- what follows from OK for the checks that read no byte

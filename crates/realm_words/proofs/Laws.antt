@@ -1,6 +1,6 @@
 -- 02, E6: "If words and table agree the answers equal those of the full walk"; writing a granule's byte and bit together keeps agreement;
 -- "a build call sets it up". Words and table agree if the words are `realmWords` of the table. Assumes nothing.
-use Prim.Native.Nat.{ℕ, zero, suc, _+_, _-_, _*_, _/_, _%_, _≤_, _<_}
+use Prim.Native.Nat.{ℕ, zero, suc, _+_, _-_, _*_, _/_, _%_, _^_, _≤_, _<_}
 use mathlib.Core.Path.{_≡_, refl, sym, ap, _∙_}
 use mathlib.Core.Bool.{Bool, true, false, cond}
 use mathlib.Core.List.{List, [], _∷_}
@@ -146,3 +146,10 @@ build-agrees t ws e = rw (fit-both t ws e)
 -- and changes nothing if they agree before
 pub build-stays : (t : List ℕ) → realmBuildOf t (realmWords t) (length t) ≡ record { done = true; words = realmWords t }
 build-stays t = build-agrees t (realmWords t) (words-length (wordsFor (length t)) t)
+
+-- "Set spare bits are not counted or hit.": words that have the same bits for the granules get the same answers for any spare bits
+module _ (ws vs : List ℕ) (n : ℕ) (l : length ws ≡ length vs)
+    (same : (i : ℕ) → i < n → getD ws (i / 64) 0 / 2 ^ (i % 64) % 2 ≡ getD vs (i / 64) 0 / 2 ^ (i % 64) % 2) where
+  pub count-spare : realmCountOf ws n ≡ realmCountOf vs n
+  unfolding realmCountOf bitOf
+  count-spare = rw (l, marked-same (bitAt ws) (bitAt vs) n same)

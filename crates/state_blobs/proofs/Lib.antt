@@ -3,3 +3,4 @@ pub mod E13
 pub mod Pieces
 pub mod Samples
 pub mod Joined
+pub mod Reasons

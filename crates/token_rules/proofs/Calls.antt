@@ -16,14 +16,14 @@ use Rattle.words.proofs.Store.{part-splice}
 use Rattle.range.specs.Range.{placeOf}
 use Rattle.range.specs.Buffers.{WrittenAt}
 use Rattle.range.proofs.Buffers.{splice-written}
-use Rattle.codes.specs.Codes.{upOf, isOk, answerOf}
+use Rattle.codes.specs.Codes.{upOf, isOk, extended, x0Of, answerOf}
 use Rattle.codes.specs.declared.Code.{Code}
 use Rattle.codes.specs.declared.Code.the-variants.{Ok}
 use Rattle.codes.proofs.Gates.{first-ok, then-ok, if-ok-by}
 use Rattle.token_rules.specs.declared.Session.{Session}
 use Rattle.token_rules.specs.declared.Session.the-variants.{Idle, Sending}
 use Rattle.token_rules.specs.Token.{startCode, tokenCode, beginOf, hunkOf, restOf, nextSession, TokenStep, sendOf, keeps, settled, tokenOf}
-use Rattle.token_rules.specs.Calls.{TokenCall, tokenStepOf, tokenAccepted, shownOf, Ready, runOf, oksOf, hunksOf, leftOf, GoesOn, ceil, Calls}
+use Rattle.token_rules.specs.Calls.{TokenCall, tokenStepOf, tokenAccepted, shownOf, Ready, runOf, oksOf, hunksOf, leftOf, GoesOn, ceil, Calls, NextHunk}
 use Rattle.token_rules.proofs.Tokens.{Room, buffer-room, start-empty, start-again, begin-again, next-idle, next-ok, begin-next, sends, token-start, token-refused}
 
 -- ---- the session after k bytes of the token are requested
@@ -112,6 +112,11 @@ module _ (s : Session) (x : TokenCall) (h : tokenAccepted s x ≡ true) where
   left-is : tokenStepOf s x .answer .x2 ≡ length (x .token) - (beginOf s (x .csize) + x .size)
   unfolding sendOf answerOf
   left-is = ap (λ (t : TokenStep). t .answer .x2) step-is ∙ rest-next (x .token) (beginOf s (x .csize)) (x .size)
+
+  answer-is : (k : ℕ) → beginOf s (x .csize) ≡ k →
+      tokenStepOf s x .answer ≡ record { code = Ok; x0 = 0; x1 = min (x .size) (length (x .token) - k); x2 = length (x .token) - (k + x .size) }
+  unfolding sendOf answerOf x0Of extended hunkOf
+  answer-is k b = ap (λ (t : TokenStep). t .answer) step-is ∙ rw (b, rest-next (x .token) k (x .size))
 
   shown-is : shownOf s x ≡ take (x .size) (drop (beginOf s (x .csize)) (x .token))
   unfolding shownOf sendOf answerOf
@@ -269,3 +274,24 @@ module _ (s : Session) (x : TokenCall) (xs : List TokenCall) (n : x .csize ≡ 0
 -- "A nonzero c_size always starts again, also in mid-session": it is OK in any session, if those checks pass and the token is not empty
 pub token-starts : (s : Session) (x : TokenCall) → Ready x → (x .csize ≡ 0 → ⊥) → (length (x .token) ≡ 0 → ⊥) → tokenAccepted s x ≡ true
 token-starts s x a n e = ready-ok s x a (start-again s (x .csize) (length (x .token)) n e)
+
+-- ---- one call, with a buffer of any size: of a session, and of a start
+pub token-next : (s : Session) (x : TokenCall) (sent : ℕ) → s ≡ Sending (length (x .token)) sent → sent < length (x .token) → x .csize ≡ 0 → tokenAccepted s x ≡ true →
+    NextHunk (x .token) (x .size) sent (tokenStepOf s x) (shownOf s x)
+token-next s x sent e l c h =
+    let t : List ℕ = x .token in
+    let p = step-on t (x .size) s x sent h c refl refl (e ∙ sym (at-open t sent l)) in
+    record { hunk = p .shown; told = answer-is s x h sent (sym (begin-next s (x .csize) (length t) c (length t) sent e)); ended = λ a. p .after ∙ at-end t (sent + x .size) a; goes-on = λ a. p .after ∙ at-open t (sent + x .size) a }
+
+pub token-first : (s : Session) (x : TokenCall) → 0 < length (x .token) → (x .csize ≡ 0 → ⊥) → tokenAccepted s x ≡ true → NextHunk (x .token) (x .size) 0 (tokenStepOf s x) (shownOf s x)
+token-first s x l n h =
+    let t : List ℕ = x .token in
+    let b : beginOf s (x .csize) ≡ 0 = sym (begin-again s (x .csize) (length t) n) in
+    let a : tokenStepOf s x .session ≡ sessionAt t (beginOf s (x .csize) + x .size) = session-is s x h (rw b l) in
+    let after : tokenStepOf s x .session ≡ sessionAt t (0 + x .size) = rw b at a in
+    record {
+      hunk = rw b at (shown-is s x h);
+      told = answer-is s x h 0 b;
+      ended = λ k. after ∙ at-end t (0 + x .size) k;
+      goes-on = λ k. after ∙ at-open t (0 + x .size) k;
+    }

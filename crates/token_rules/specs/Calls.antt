@@ -1,17 +1,17 @@
 -- Calls of 0xC40001B3, one after another. 01: "With a fixed buffer of b bytes, b at least the start's c_size, one start and the same token
 -- lent throughout, a token of L bytes takes exactly L / b calls, rounded up, refusals not counted". Assumes nothing.
-use Prim.Native.Nat.{ℕ, _+_, _-_, _*_, _/_, _<_}
+use Prim.Native.Nat.{ℕ, _+_, _-_, _*_, _/_, min, _≤_, _<_}
 use mathlib.Core.Path.{_≡_}
 use mathlib.Core.Bool.{Bool, true, cond}
 use mathlib.Core.List.{List, [], _∷_, _++_}
-use lib.ListN.{length, take}
+use lib.ListN.{length, take, drop}
 use Rattle.words.specs.Word.{part}
 use Rattle.boot.specs.declared.Record.{Record}
 use Rattle.range.specs.Range.{placeOf}
 use Rattle.codes.specs.Codes.{upOf, isOk}
 use Rattle.codes.specs.declared.Code.the-variants.{Ok}
 use Rattle.token_rules.specs.declared.Session.{Session}
-use Rattle.token_rules.specs.declared.Session.the-variants.{Idle}
+use Rattle.token_rules.specs.declared.Session.the-variants.{Idle, Sending}
 use Rattle.token_rules.specs.Token.{bufferCode, TokenStep, tokenOf}
 
 -- ---- one call
@@ -78,3 +78,12 @@ ceil l b = (l + (b - 1)) / b
 pub record Calls (token : List ℕ) (b n : ℕ) (bytes : List ℕ) (left : ℕ) (s : Session) : Type 0 where
   pub ended : s ≡ Idle → (n ≡ ceil (length token) b) × (bytes ≡ token) × (left ≡ 0)
   pub before : (s ≡ Idle → ⊥) → (n < ceil (length token) b) × (bytes ≡ take (n * b) token) × (left ≡ length token - n * b)
+
+-- ---- what one call makes, with a buffer of any size
+-- "Each OK writes the next hunk, the smaller of buffer and rest, at pa; x1 is the hunk, x2 the rest. At rest 0 the session ends. Size 0 with c_size 0
+-- moves nothing.": of a call that begins behind `sent` bytes of the token, what it left, and the bytes that then stand at pa
+pub record NextHunk (token : List ℕ) (size sent : ℕ) (t : TokenStep) (bytes : List ℕ) : Type 0 where
+  pub hunk : bytes ≡ take size (drop sent token)
+  pub told : t .answer ≡ record { code = Ok; x0 = 0; x1 = min size (length token - sent); x2 = length token - (sent + size) }
+  pub ended : length token ≤ sent + size → t .session ≡ Idle
+  pub goes-on : sent + size < length token → t .session ≡ Sending (length token) (sent + size)
