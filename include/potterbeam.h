@@ -413,7 +413,7 @@ extern "C" {
  *                                  (no end mark in the page, tag 0 with a length, a length that tags 1 to 3 may not have, one of
  *                                  these twice) or share a byte with an array
  * Leaves   the page unchanged. view: what the page shows; refused: all zero.
- * Stack    256 bytes; AArch64 288
+ * Stack    256 bytes; AArch64 256
  * A later minor is never refused. Sections after e and bytes after the end mark are not read. Fields belong to every edition.
  */
 PBEAM_NONNULL(5)
@@ -425,7 +425,7 @@ int32_t pbeam_read(const uint8_t *page, size_t page_len, uint64_t base, uint64_t
  * Writes   place: the part of the page that holds the array; (0, 0) if the page is refused, the section is absent or empty,
  *          or its number is above 3. pbeam_read returns why a page is refused.
  * Leaves   the page unchanged.
- * Stack    256 bytes; AArch64 320
+ * Stack    256 bytes; AArch64 288
  */
 PBEAM_NONNULL(6)
 void pbeam_array(const uint8_t *page, size_t page_len, uint64_t base, uint64_t edition, size_t section,
@@ -574,7 +574,7 @@ uint64_t pbeam_kept_for(const uint8_t *page, size_t page_len, const uint64_t vie
  * Leaves   the page unchanged. text: ASCII from its first byte, each line ended by '\n', no '\0' at the end; as much as fits. Bytes
  *          after the text are unchanged. For a refused page the text is one line, "refused -5", "refused -6" or
  *          "refused -7", with the code of pbeam_read.
- * Stack    576 bytes; AArch64 896
+ * Stack    576 bytes; AArch64 864
  * A field is its tag and the length of its value in decimal, and each byte of the value as two lower-case hex digits, separated by blanks;
  * the withdrawn one is "3 withdrawn".
  * A word is 0x and 16 lower-case hex digits, a console's name 16 such digits without 0x for its 8 bytes in order; the flags of a
@@ -599,7 +599,7 @@ size_t pbeam_listing(const uint8_t *page, size_t page_len, uint64_t base, uint64
  * Leaves   the whole page written: version, the sections, the arrays directly after the core in section order, then the fields with their
  *          end mark and plat_data pointing at them, or plat_data 0 without fields; zero everywhere else. An empty list becomes a section
  *          of 24 zero bytes. Refused, the page is unchanged. Lists and fields are unchanged.
- * Stack    448 bytes; AArch64 608
+ * Stack    448 bytes; AArch64 640
  */
 uint32_t pbeam_write(uint64_t base, uint64_t edition, const uint64_t *dram, size_t dram_len, const uint64_t *console,
                      size_t console_len, const uint64_t *ncoh, size_t ncoh_len, const uint64_t *coh, size_t coh_len,
@@ -620,7 +620,7 @@ uint32_t pbeam_write(uint64_t base, uint64_t edition, const uint64_t *dram, size
  *          PBEAM_MANIFEST_PLACE    K above 4,096
  *          PBEAM_MANIFEST_PLACE, PBEAM_MANIFEST_VERSION, PBEAM_MANIFEST_RULES  as pbeam_read
  * Leaves   the page unchanged. state: up, with x2, B, the agreed minor and K; refused: closed, permanently.
- * Stack    288 bytes; AArch64 288
+ * Stack    288 bytes; AArch64 256
  * The boot keeps no view. With K = 0 call pbeam_read before a command writes into the page. K need not cover the manifest; with K =
  * 4,096 every buffer is outside.
  */
@@ -702,7 +702,7 @@ uint64_t pbeam_set_up_granules(uint64_t granules[PBEAM_GRANULES_WORDS], const ui
  *          PBEAM_X0_BAD_PAS   the granule's byte is not PBEAM_GRANULE_NON_SECURE
  * Leaves   on OK that byte PBEAM_GRANULE_REALM and its bit in the words set; every other byte and bit is unchanged. Refused, table and
  *          words are unchanged.
- * Stack    256 bytes; AArch64 192
+ * Stack    192 bytes; AArch64 96
  * The library updates table and words. Changing the hardware after an OK is up to the platform.
  */
 PBEAM_NONNULL(1, 2, 8)
@@ -713,7 +713,7 @@ void pbeam_delegate(const uint64_t state[PBEAM_STATE_WORDS], const uint64_t gran
  * pbeam_undelegate (0xC40001B1): changes a granule from Realm to Non-secure.
  * As pbeam_delegate, with PBEAM_X0_BAD_PAS if the byte is not PBEAM_GRANULE_REALM; on OK it becomes PBEAM_GRANULE_NON_SECURE, and its
  * bit is cleared. Before that check address B, the shared page, is PBEAM_X0_BAD_ADDR for any byte: it must stay Realm.
- * Stack    288 bytes; AArch64 192
+ * Stack    192 bytes; AArch64 96
  */
 PBEAM_NONNULL(1, 2, 8)
 void pbeam_undelegate(const uint64_t state[PBEAM_STATE_WORDS], const uint64_t granules[PBEAM_GRANULES_WORDS], uint8_t *table,
@@ -801,7 +801,7 @@ uint64_t pbeam_realm_build(const uint64_t granules[PBEAM_GRANULES_WORDS], const 
  *          PBEAM_X0_INVAL     too long; curve not PBEAM_CURVE_SECP384R1
  *          PBEAM_X0_UNK       key empty, or longer than size
  * Leaves   on OK the key's bytes at pa; every other byte of the page is unchanged. Refused, the page is unchanged.
- * Stack    64 bytes; AArch64 96
+ * Stack    96 bytes; AArch64 32
  */
 PBEAM_NONNULL(1, 9)
 void pbeam_realm_key(const uint64_t state[PBEAM_STATE_WORDS], uint8_t *page, size_t page_len, const uint8_t *key, size_t key_len,
@@ -821,7 +821,7 @@ void pbeam_realm_key(const uint64_t state[PBEAM_STATE_WORDS], uint8_t *page, siz
  *          PBEAM_X0_UNK       token empty; c_size 0 and token_len differs from that at the start
  * Leaves   on OK the hunk, the token's next bytes, at pa; every other byte of the page is unchanged. session: idle after rest 0,
  *          otherwise sending. Refused, page and session are unchanged.
- * Stack    192 bytes; AArch64 192
+ * Stack    128 bytes; AArch64 32
  * The hunk overwrites the challenge: call pbeam_challenge first. Size 0 with c_size 0 in a session is OK and delivers nothing.
  */
 PBEAM_NONNULL(1, 2, 11)
@@ -874,7 +874,7 @@ void pbeam_features(const uint64_t state[PBEAM_STATE_WORDS], uint64_t index, uin
  * Leaves   on OK: push: the request after the other waiting ones, the page unchanged; pull: the oldest response at pa, and removed
  *          from the queue; key: the key at pa, the queue unchanged. Every other byte of the page is unchanged. Refused, page and queue are
  *          unchanged.
- * Stack    288 bytes; AArch64 448
+ * Stack    224 bytes; AArch64 384
  */
 PBEAM_NONNULL(1, 2, 11)
 void pbeam_token_signing(const uint64_t state[PBEAM_STATE_WORDS], uint64_t queue[PBEAM_QUEUE_WORDS], uint8_t *page, size_t page_len,
@@ -954,7 +954,7 @@ size_t pbeam_responses(const uint64_t queue[PBEAM_QUEUE_WORDS]);
  *          PBEAM_ID_DELEGATE and PBEAM_ID_UNDELEGATE use the words, and check words_len before the record.
  * Leaves   what the command leaves; everything else is unchanged. Only PBEAM_ID_PLATFORM_TOKEN reads or writes the session, only
  *          PBEAM_ID_TOKEN_SIGNING the queue.
- * Stack    512 bytes with PBEAM_ID_TOKEN_SIGNING, 512 bytes with any other id; AArch64 576
+ * Stack    416 bytes with PBEAM_ID_TOKEN_SIGNING, 384 bytes with any other id; AArch64 544
  */
 PBEAM_NONNULL(1, 2, 3, 6, 19, 20, 21)
 void pbeam_call(const uint64_t state[PBEAM_STATE_WORDS], uint64_t session[PBEAM_SESSION_WORDS], uint64_t queue[PBEAM_QUEUE_WORDS],
