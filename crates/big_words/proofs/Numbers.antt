@@ -10,7 +10,8 @@ use lib.Seq.{take-suc, take-at, drop-at, getD-drop}
 use Rattle.words.specs.Word.{leOf, leBytes, part, splice, laid}
 use Rattle.words.proofs.Read.{leBytes-length, leOf-leBytes}
 use Rattle.words.proofs.Store.{bytes-in}
-use Rattle.big_words.specs.Big.{beOf, beBytes, bigAt, wholeBig}
+use Rattle.big_words.specs.Big.{beOf, beBytes, bigAt}
+use Rattle.big_words.specs.Fast.{wholeBig}
 
 pub be-length : (n x : ℕ) → length (beBytes n x) ≡ n
 unfolding beBytes

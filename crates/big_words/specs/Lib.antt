@@ -1,1 +1,2 @@
 pub mod Big
+pub mod Fast

@@ -3,7 +3,8 @@ ghost use mathlib.Core.Path.{_≡_};
 ghost use Prim.Native.Nat.{_+_, _<_, _≤_};
 ghost use lib.ListN.{length};
 ghost use Rattle.words.specs.Word.{leBytes, laid};
-ghost use Rattle.big_words.specs.Big.{beBytes, bigAt, wholeBig};
+ghost use Rattle.big_words.specs.Big.{beBytes, bigAt};
+ghost use Rattle.big_words.specs.Fast.{wholeBig};
 
 // The byte as a 32-bit number.
 fn wide(x: u8) -> u32

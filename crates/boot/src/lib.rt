@@ -1,7 +1,7 @@
 // Cold and warm boot: each checks the boot registers, cold boot also checks the manifest, and both return the next boot record.
 use reader::Verdict;
 ghost use mathlib.Core.Path.{_≡_};
-ghost use Rattle.reader.specs.Reading.{numberIn};
+ghost use Rattle.reader.specs.Fast.{numberIn};
 ghost use Rattle.boot.specs.Boot.{bootNumber, isFresh, coldCode, coldNext, after, cpuCode, warmCode, warmNext};
 
 // What a boot record keeps of its cold boot: x2 (`cpus`), the base B, the agreed interface minor, and K (`kept`). No runtime command writes

@@ -1,5 +1,5 @@
--- For the loops over the fields. `head-scan` (proofs/Scans.antt) proves a step by `headAt` equal to one of `scanAll`; `ok-start`
--- (proofs/Rules.antt) `allowed`, field by field, equal to `fieldsOk`; `from-told` (proofs/Walks.antt) `fieldsFrom` equal to `fieldsIn` of
+-- For the loops over the fields. `head-scan` (proofs/Scans.antt) proves a step by `headAt` equal to one of `scanAll`; `ok-start`,
+-- `ok-more` and `ok-not` (proofs/Rules.antt) `allowed`, field by field, equal to `fieldsOk`; `from-told` (proofs/Walks.antt) `fieldsFrom` equal to `fieldsIn` of
 -- `scanOf` (all of these: Fields.antt). `stopOf` and `endTold` define what the enums `Stop` and `FieldsEnd` mean. Assumes nothing.
 use Prim.Native.Nat.{ℕ, zero, suc, _+_}
 use mathlib.Core.Bool.{Bool, true, false, cond, not}

@@ -1,5 +1,5 @@
 -- For speed: the code sums a list while it checks it. `sums-sound` (proofs/Lists.antt) proves that `sumsOf` has totals exactly if `listsOk` holds;
--- `totalsOf` defines them as the sums of the words. Assumes nothing.
+-- `totalsOf` defines them as the sums of the words; `sums-told` proves that `sumsNumber` is 3 exactly if `listsOk` fails. Assumes nothing.
 use Prim.Native.Nat.{ℕ, _%_, _^_}
 use mathlib.Core.Bool.{cond}
 use mathlib.Core.List.{List}

@@ -19,7 +19,8 @@ use Rattle.entries.specs.Array.{wordsAt, entryPlace}
 use Rattle.entries.proofs.Entries.{word-in}
 use Rattle.entries.proofs.Flags.{shown-plain, shown-word}
 use Rattle.reader.specs.Answer.{empty, full, ReaderAnswer, refused, shows, bytesIn, lookIn, lookOf, countIn, entryCount, entryWord, wordIn, readOf}
-use Rattle.reader.specs.Reading.{sectionOf, shownAs, readingAnswer, viewAt, readingOf, sectionRead}
+use Rattle.reader.specs.Reading.{sectionOf, shownAs, readingAnswer, viewAt, readingOf}
+use Rattle.reader.specs.Fast.{sectionRead}
 use Rattle.reader.specs.declared.Section.{Section}
 use Rattle.reader.specs.declared.Section.the-variants.{Absent, Empty, Entries}
 use Rattle.reader.specs.declared.View.{View}

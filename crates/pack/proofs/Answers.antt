@@ -26,7 +26,8 @@ use Rattle.sections.specs.Steps.{okAt, platEnd}
 use Rattle.sections.proofs.Sections.{placed, range-low, range-high, array-in, ok-in-range, rules-at, rules-pointer, plat-in}
 use Rattle.sections.proofs.Room.{array-lies}
 use Rattle.reader.specs.Answer.{Shown, PlatShown, shows, minus, readOf}
-use Rattle.reader.specs.Reading.{refusalNumber, readingAnswer, viewAt, readingOf, verdictOf}
+use Rattle.reader.specs.Reading.{refusalNumber, readingAnswer, viewAt, readingOf}
+use Rattle.reader.specs.Fast.{verdictOf}
 use Rattle.reader.specs.declared.Refusal.{Refusal}
 use Rattle.reader.specs.declared.Reading.the-variants.{Refused}
 use Rattle.reader.specs.declared.Verdict.the-variants as verdict

@@ -22,7 +22,8 @@ use Rattle.sections.specs.Section.{platOk, wordsIn, inRange, rulesAt}
 use Rattle.sections.specs.Steps.{okAt, okTo}
 use Rattle.sections.proofs.Sections.{placed, range-low, range-high, array-in, ok-in-range, ok-each, rules-sections, rules-pointer}
 use Rattle.reader.specs.Answer.{Shown, ReaderAnswer, shows, codeIn, shownIn, shown, shownSec, platShown, allShown, readerGate, judge, readOf}
-use Rattle.reader.specs.Reading.{sectionOf, shownAs, fieldsOf, readingAnswer, sectionAt, viewAt, readingGate, readingOf, verdictOf, numberIn, sectionRead}
+use Rattle.reader.specs.Reading.{sectionOf, shownAs, fieldsOf, readingAnswer, sectionAt, viewAt, readingGate, readingOf}
+use Rattle.reader.specs.Fast.{verdictOf, numberIn, sectionRead}
 use Rattle.reader.specs.declared.Section.{Section}
 use Rattle.reader.specs.declared.Section.the-variants.{Absent, Empty, Entries}
 use Rattle.reader.specs.declared.View.{View}

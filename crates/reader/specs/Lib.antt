@@ -1,5 +1,6 @@
 pub mod Answer
 pub mod Reading
+pub mod Fast
 pub mod Views
 pub mod Gaps
 pub mod Withdrawn

@@ -4,7 +4,7 @@ use mathlib.Core.Bool.{Bool, true, false, cond}
 use mathlib.Core.List.{List, []}
 use lib.ListN.{length, drop}
 use lib.Dec.{leb, ltb, eqb}
-use lib.IntN.{ℤ, pos}
+use lib.IntN.{ℤ}
 use Rattle.words.specs.Tests.{both}
 use Rattle.words.specs.Word.{part, wordAt}
 use Rattle.versions.specs.Version.{minorOf, versionOk}
@@ -22,8 +22,6 @@ use Rattle.reader.specs.declared.Refusal.{Refusal}
 use Rattle.reader.specs.declared.Refusal.the-variants.{Place, Version, Rules}
 use Rattle.reader.specs.declared.Reading.{Reading}
 use Rattle.reader.specs.declared.Reading.the-variants.{Accepted, Refused}
-use Rattle.reader.specs.declared.Verdict.{Verdict}
-use Rattle.reader.specs.declared.Verdict.the-variants.{Fine, Refused as Wrong}
 
 -- 01's code of a refusal
 abbrev pub refusalNumber : Refusal → ℤ
@@ -90,18 +88,3 @@ readingOf r base page =
     readingGate (placeOk base (length page)) (both (editionOk r) (versionOk (versionAt page)))
     (rulesAt (minorOf (versionAt page)) (min r (minorOf (versionAt page))) base page)
     (viewAt (minorOf (versionAt page)) (min r (minorOf (versionAt page))) base page)
-
--- the verdict of a reading: the minor of an accepted page, or the refusal
-unfoldable pub verdictOf : Reading → Verdict
-verdictOf (Accepted v) = Fine (v .minor)
-verdictOf (Refused c) = Wrong c
-
--- the number of a verdict: 0, or 01's code
-unfoldable pub numberIn : Verdict → ℤ
-numberIn (Fine w) = pos 0
-numberIn (Wrong c) = refusalNumber c
-
--- section k of a reading; absent if the page is refused
-unfoldable pub sectionRead : Reading → ℕ → Section
-sectionRead (Accepted v) k = sectionOf v k
-sectionRead (Refused c) k = Absent

@@ -9,7 +9,8 @@ ghost use Rattle.versions.specs.Edition.{sectionCount};
 ghost use Rattle.sections.specs.Page.{versionAt};
 ghost use Rattle.sections.specs.Steps.{okAt, okTo};
 ghost use Rattle.reader.specs.Answer.{codeIn, shownIn, readOf};
-ghost use Rattle.reader.specs.Reading.{shownAs, readingAnswer, refusalNumber, sectionOf, sectionAt, viewAt, readingOf, verdictOf, numberIn, sectionRead};
+ghost use Rattle.reader.specs.Reading.{shownAs, readingAnswer, refusalNumber, sectionOf, sectionAt, viewAt, readingOf};
+ghost use Rattle.reader.specs.Fast.{verdictOf, numberIn, sectionRead};
 
 // What is shown of a section (RD10): absent (not in the edition), empty (24 zero bytes), or `count` entries at offset `at` of the page.
 pub enum Section {

@@ -1,6 +1,7 @@
 -- For the loops. `rules-steps` (proofs/Sections.antt) proves `okTo`, `apartTo` and `clearFrom` of all sections of an edition together
 -- equal to `rulesAt` (Section.antt), with padding and platform data; `plat-broken` and `plat-ended` (also there) `platEnd` equal to
--- `platOk`. `staysAt` is what the mender needs of one section. Assumes nothing.
+-- `platOk`. `stays-to` (mend/proofs/Pages.antt) proves `staysAt`, on the
+-- page as mended so far, equal to the mender's `keepsAt`. Assumes nothing.
 use Prim.Native.Nat.{ℕ, _+_}
 use mathlib.Core.Bool.{Bool, cond}
 use mathlib.Core.List.{List}

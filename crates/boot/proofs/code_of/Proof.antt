@@ -1,5 +1,5 @@
 use mathlib.Core.Path.{sym, ap}
-use Rattle.reader.specs.Reading.{numberIn}
+use Rattle.reader.specs.Fast.{numberIn}
 use borrow.Author.Needs.{needs}
 use Rattle.boot.proofs.code_of.Statement.{statement}
 use Rattle.boot.proofs.code_of.Tie as tie

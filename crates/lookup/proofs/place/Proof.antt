@@ -1,7 +1,8 @@
 use mathlib.Core.Path.{_≡_, ap, _∙_}
 use lib.ListN.{length}
 use Rattle.words.specs.Word.{spanned}
-use Rattle.reader.specs.Reading.{readingOf, sectionRead}
+use Rattle.reader.specs.Reading.{readingOf}
+use Rattle.reader.specs.Fast.{sectionRead}
 use Rattle.lookup.specs.Lookup.{spanOf}
 use Rattle.lookup.proofs.Lookups.{place-read}
 use borrow.Author.Needs.{needs}

@@ -1,6 +1,6 @@
 use mathlib.Core.Path.{sym, ap, _∙_}
 use borrow.Author.Tests.{not-true, not-false}
-use Rattle.reader.specs.Reading.{verdictOf}
+use Rattle.reader.specs.Fast.{verdictOf}
 use Rattle.reader.proofs.Whole.{read-place, read-edition, read-version, told-rules, told-fine, verdict-told}
 use borrow.Author.Needs.{needs}
 use Rattle.reader.proofs.judge_page.Statement.{statement}

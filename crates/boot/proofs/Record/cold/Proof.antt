@@ -1,4 +1,4 @@
-use Rattle.reader.specs.Reading.{numberIn}
+use Rattle.reader.specs.Fast.{numberIn}
 use Rattle.reader.proofs.Whole.{fine-reads, refused-reads}
 use mathlib.Core.Path.{sym, ap, _∙_}
 use borrow.Author.Tests.{not-true, not-false}
