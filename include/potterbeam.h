@@ -609,13 +609,13 @@ uint32_t pbeam_write(uint64_t base, uint64_t edition, const uint64_t *dram, size
 
 /*
  * pbeam_cold_boot: the first boot after a reset.
- * Takes    the boot record; x0 the CPU, x1 the version offered, x2 the number of CPUs, x3 = B; most, the monitor's maximum of CPUs; K = kept,
+ * Takes    the boot record; x0 the CPU, x1 the version offered, x2 the number of CPUs, x3 = B; max_cpus, the monitor's maximum of CPUs; K = kept,
  *          the number of bytes at the page's start that no command may write (0, or the result of pbeam_kept_for); the page at B,
  *          which is read as PBEAM_EDITION_LAST.
  * Returns  PBEAM_BOOT_DONE, or by the first check that fails:
  *          PBEAM_BOOT_STATE        record not fresh
  *          PBEAM_BOOT_VERSION      x1 above 32 bits; bit 31 set, major not 0, or minor 0
- *          PBEAM_BOOT_CPUS         x2 above most
+ *          PBEAM_BOOT_CPUS         x2 above max_cpus
  *          PBEAM_BOOT_CPU          x0 not below x2; so always if x2 is 0
  *          PBEAM_MANIFEST_PLACE    K above 4,096
  *          PBEAM_MANIFEST_PLACE, PBEAM_MANIFEST_VERSION, PBEAM_MANIFEST_RULES  as pbeam_read
@@ -625,7 +625,7 @@ uint32_t pbeam_write(uint64_t base, uint64_t edition, const uint64_t *dram, size
  * 4,096 every buffer is outside.
  */
 PBEAM_NONNULL(1)
-int32_t pbeam_cold_boot(uint64_t state[PBEAM_STATE_WORDS], uint64_t x0, uint64_t x1, uint64_t x2, uint64_t x3, uint64_t most, uint64_t kept,
+int32_t pbeam_cold_boot(uint64_t state[PBEAM_STATE_WORDS], uint64_t x0, uint64_t x1, uint64_t x2, uint64_t x3, uint64_t max_cpus, uint64_t kept,
                         const uint8_t *page, size_t page_len);
 
 /*

@@ -9,12 +9,12 @@ use borrow.Author.Tests.{ltb-false, eqb-true, eqb-false}
 use Rattle.boot.specs.declared.Params.{Params}
 use Rattle.boot.specs.declared.Record.{Record}
 use Rattle.boot.specs.declared.Record.the-variants.{Up}
-use Rattle.range.specs.Range.{placeOf}
-use Rattle.range.specs.Buffers.{BufferIn}
-use Rattle.range.specs.declared.OutsideAs.the-variants.{BadAddress}
-use Rattle.range.proofs.Ranges.{passed}
-use Rattle.range.proofs.Buffers.{in-passes, passed-in, splice-written}
-use Rattle.codes.specs.Codes.{isUp, upOf, extended, x0Of, answerOf}
+use Rattle.buffer_check.specs.Range.{placeOf}
+use Rattle.buffer_check.specs.Buffers.{BufferIn}
+use Rattle.buffer_check.specs.declared.OutsideAs.the-variants.{BadAddress}
+use Rattle.buffer_check.proofs.Ranges.{passed}
+use Rattle.buffer_check.proofs.Buffers.{in-passes, passed-in, splice-written}
+use Rattle.codes.specs.Codes.{isUp, bootParams, extended, x0Of, answerOf}
 use Rattle.codes.specs.declared.Code.the-variants.{Ok}
 use Rattle.codes.proofs.Gates.{unless-ok, either-ok, first-ok, then-ok, then-go}
 use Rattle.attest.specs.Acts.{KeyActed}
@@ -23,24 +23,25 @@ use Rattle.attest.proofs.Keys.{rest-ok}
 
 -- "Writes the key at pa; x1 is its length."
 pub key-acts : (r : Record) (page key : List ℕ) (pa size curve : ℕ) → realmKeyOf r page key pa size curve .answer .code ≡ Ok →
-    KeyActed (placeOf (upOf r) pa) key page (realmKeyOf r page key pa size curve .page) (realmKeyOf r page key pa size curve .answer)
+    KeyActed (placeOf (bootParams r) pa) key page (realmKeyOf r page key pa size curve .page) (realmKeyOf r page key pa size curve .answer)
 unfolding realmKeyOf keyed keyCode answerOf x0Of extended
 key-acts r page key pa size curve h =
     let p = passed _ _ _ _ _ _ (first-ok _ _ h) in
-    let at : ℕ = placeOf (upOf r) pa in
+    let at : ℕ = placeOf (bootParams r) pa in
     let l : at ≤ length page = omega (arith, p .whole, p .room) in
     rw h (record { told = refl; written = splice-written at key page l })
 
 -- A call is refused only if 01 refuses it: with the record up, a page of 4,096 bytes, a buffer within it, curve 0 and a key that is neither
 -- empty nor longer than the buffer, the answer is OK.
-pub key-passes : (u : Params) (page key : List ℕ) (pa size curve : ℕ) → BufferIn u page pa size → curve ≡ 0 → (length key ≡ 0 → ⊥) → length key ≤ size →
+pub key-passes : (u : Params) (page key : List ℕ) (pa size curve : ℕ) → BufferIn u page pa size → curve ≡ 0 → (length key ≡ 0 → ⊥) →
+    length key ≤ size →
     realmKeyOf (Up u) page key pa size curve .answer .code ≡ Ok
 unfolding realmKeyOf keyed keyCode answerOf
 key-passes u page key pa size curve i z k l = then-go _ _ (in-passes u page pa size i Ok BadAddress refl) ∙ rest-ok size curve key z k l
 
 -- and only then
 pub key-only : (r : Record) (page key : List ℕ) (pa size curve : ℕ) → realmKeyOf r page key pa size curve .answer .code ≡ Ok →
-    (isUp r ≡ true) × BufferIn (upOf r) page pa size × (curve ≡ 0) × (1 ≤ length key) × (length key ≤ size)
+    (isUp r ≡ true) × BufferIn (bootParams r) page pa size × (curve ≡ 0) × (1 ≤ length key) × (length key ≤ size)
 unfolding realmKeyOf keyed keyCode keyRest answerOf
 key-only r page key pa size curve h =
     let p = passed _ _ _ _ _ _ (first-ok _ _ h) in

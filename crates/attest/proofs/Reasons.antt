@@ -12,13 +12,14 @@ use Rattle.codes.specs.Reasons.{Gives, Passes}
 use Rattle.codes.specs.declared.Code.{Code}
 use Rattle.codes.specs.declared.Code.the-variants.{Ok, Unk, BadAddr, Inval}
 use Rattle.codes.proofs.Reasons.{tells-lt, tells-eq, tells-not, tells-either, gives, then-none}
-use Rattle.range.specs.Range.{outsideCode}
-use Rattle.range.specs.Reasons.{PageGives}
-use Rattle.range.specs.declared.OutsideAs.the-variants.{BadAddress}
-use Rattle.range.proofs.Reasons.{page-gives}
+use Rattle.buffer_check.specs.Range.{outsideCode}
+use Rattle.buffer_check.specs.Reasons.{PageGives}
+use Rattle.buffer_check.specs.declared.OutsideAs.the-variants.{BadAddress}
+use Rattle.buffer_check.proofs.Reasons.{page-gives}
 use Rattle.attest.specs.Key.{keyRest, keyCode, keyed, realmKeyOf}
 
-rest-gives : (size curve : ℕ) (key : List ℕ) → Gives (curve ≡ 0 → ⊥) Inval (Gives ((length key ≡ 0) ⊎ (size < length key)) Unk Passes) (keyRest size curve key)
+rest-gives : (size curve : ℕ) (key : List ℕ) → Gives (curve ≡ 0 → ⊥) Inval (Gives ((length key ≡ 0) ⊎ (size < length key)) Unk Passes)
+    (keyRest size curve key)
 unfolding keyRest
 rest-gives size curve key =
     gives _ _ Inval _ _ (tells-not _ _ (tells-eq curve 0)) (λ c.

@@ -6,6 +6,7 @@ use lib.ListN.{length}
 use Rattle.boot.specs.declared.Record.{Record}
 use Rattle.attest.specs.Key.{keyCode, keyed, realmKeyOf}
 
-pub key-unread : (r : Record) (p q key : List ℕ) (pa size curve : ℕ) → length p ≡ length q → realmKeyOf r p key pa size curve .answer ≡ realmKeyOf r q key pa size curve .answer
+pub key-unread : (r : Record) (p q key : List ℕ) (pa size curve : ℕ) → length p ≡ length q →
+    realmKeyOf r p key pa size curve .answer ≡ realmKeyOf r q key pa size curve .answer
 unfolding realmKeyOf keyed keyCode
 key-unread r p q key pa size curve e = rw e

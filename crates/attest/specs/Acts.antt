@@ -3,7 +3,7 @@ use Prim.Native.Nat.{ℕ}
 use mathlib.Core.Path.{_≡_}
 use mathlib.Core.List.{List}
 use lib.ListN.{length}
-use Rattle.range.specs.Buffers.{WrittenAt}
+use Rattle.buffer_check.specs.Buffers.{WrittenAt}
 use Rattle.codes.specs.declared.Answer.{Answer}
 use Rattle.codes.specs.declared.Code.the-variants.{Ok}
 

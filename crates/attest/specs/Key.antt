@@ -6,19 +6,19 @@ use lib.Dec.{ltb, eqb}
 use Rattle.words.specs.Tests.{either}
 use Rattle.words.specs.Word.{splice}
 use Rattle.boot.specs.declared.Record.{Record}
-use Rattle.range.specs.Range.{placeOf, pageCode}
-use Rattle.range.specs.declared.OutsideAs.the-variants.{BadAddress}
-use Rattle.codes.specs.Codes.{unless, fails, upOf, ifOk, andThen, answerOf}
+use Rattle.buffer_check.specs.Range.{placeOf, pageCode}
+use Rattle.buffer_check.specs.declared.OutsideAs.the-variants.{BadAddress}
+use Rattle.codes.specs.Codes.{isFalse, fails, bootParams, ifOk, andThen, answerOf}
 use Rattle.codes.specs.declared.Code.{Code}
 use Rattle.codes.specs.declared.Code.the-variants.{Ok, Unk, Inval}
 use Rattle.codes.specs.declared.Answer.{Answer}
 
 -- ".. curve not 0 INVAL; platform key empty or longer than the buffer UNK (house rule)."
 unfoldable pub keyRest : ℕ → ℕ → List ℕ → Code
-keyRest size curve key = fails (unless (eqb curve 0)) Inval (fails (either (eqb (length key) 0) (ltb size (length key))) Unk Ok)
+keyRest size curve key = fails (isFalse (eqb curve 0)) Inval (fails (either (eqb (length key) 0) (ltb size (length key))) Unk Ok)
 
 -- "outside BAD_ADDR; too long INVAL;", then the checks of `keyRest`
-unfoldable pub keyCode : Record → List ℕ → ℕ → ℕ → ℕ → List ℕ → Code
+unfoldable pub keyCode : (state : Record) (page : List ℕ) (pa size curve : ℕ) (key : List ℕ) → Code
 keyCode r page pa size curve key = andThen (pageCode r (length page) Ok BadAddress pa size) (keyRest size curve key)
 
 -- the answer, and the page at exit
@@ -35,5 +35,5 @@ keyed k at page key =
     }
 
 -- the realm key command
-unfoldable pub realmKeyOf : Record → List ℕ → List ℕ → ℕ → ℕ → ℕ → Keyed
-realmKeyOf r page key pa size curve = keyed (keyCode r page pa size curve key) (placeOf (upOf r) pa) page key
+unfoldable pub realmKeyOf : (state : Record) (page key : List ℕ) (pa size curve : ℕ) → Keyed
+realmKeyOf r page key pa size curve = keyed (keyCode r page pa size curve key) (placeOf (bootParams r) pa) page key

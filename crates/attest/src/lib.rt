@@ -1,9 +1,9 @@
 // Attestation: the realm key command.
 use boot::Record;
+use buffer_check::OutsideAs;
 use codes::Answer;
 use codes::Code;
 use codes::Gate;
-use range::OutsideAs;
 ghost use mathlib.Core.Path.{_≡_};
 ghost use Prim.Native.Nat.{_+_, _≤_};
 ghost use lib.ListN.{length};
@@ -15,16 +15,16 @@ fn put_key(page: &mut [u8], key: &[u8], at: usize, size: u64, curve: u64) -> Ans
     ensures { λ r. ⌜ _≡_ {A = Keyed} (record { answer = r; page = now (page .exit) }) (keyed (keyRest size curve (now (key .entry))) at (now (page .entry)) (now (key .entry))) ⌝ }
 {
     if curve != 0 {
-        return codes::answered(Code::Inval, 0, 0);
+        return codes::answer_with(Code::Inval, 0, 0);
     }
     if key.len() == 0 {
-        return codes::answered(Code::Unk, 0, 0);
+        return codes::answer_with(Code::Unk, 0, 0);
     }
     if size < (key.len() as u64) {
-        return codes::answered(Code::Unk, 0, 0);
+        return codes::answer_with(Code::Unk, 0, 0);
     }
     words::copy(&mut page[at..], key);
-    codes::answered(Code::Ok, key.len() as u64, 0)
+    codes::answer_with(Code::Ok, key.len() as u64, 0)
 }
 
 // 0xC40001B2: writes the realm key that the platform lends into the buffer of `size` bytes at `pa`; x1 is the key's length.
@@ -38,9 +38,16 @@ pub fn realm_key(
 ) -> Answer
     ensures { λ r. ⌜ _≡_ {A = Keyed} (record { answer = r; page = now (page .exit) }) (realmKeyOf state (now (page .entry)) (now (key .entry)) pa size curve) ⌝ }
 {
-    let gate = range::page_gate(state, page.len(), Code::Ok, OutsideAs::BadAddress, pa, size);
+    let gate = buffer_check::page_gate(
+        state,
+        page.len(),
+        Code::Ok,
+        OutsideAs::BadAddress,
+        pa,
+        size,
+    );
     match gate {
-        Gate::Stop(code) => codes::answered(code, 0, 0),
+        Gate::Stop(code) => codes::answer_with(code, 0, 0),
         Gate::Go(at) => put_key(page, key, at, size, curve),
     }
 }

@@ -13,10 +13,11 @@ use Rattle.words.specs.Tests.{Yes}
 use Rattle.words.specs.Word.{wordAt}
 use Rattle.words.proofs.Tests.{both-l, both-r, both-of}
 use Rattle.entries.specs.Entry.{bankOk}
-use Rattle.codes.specs.Codes.{unless, fails}
+use Rattle.codes.specs.Codes.{isFalse, fails}
 use Rattle.codes.specs.declared.Code.the-variants.{Ok, Inval}
 use Rattle.codes.proofs.Gates.{unless-ok}
-use Rattle.banks.specs.Banks.{Granules, Bank, banksBy, bankAt, bankCount, banksOf, follows, ascend, banksOk, recordOk, total, granuleCount, bankIn, shownCount, takes, setUpCode, setUpOf, recordFrom}
+use Rattle.banks.specs.Banks.{Granules, Bank, banksBy, bankAt, bankCount, banksOf, follows, ascend, banksOk, recordOk, total}
+use Rattle.banks.specs.Banks.{granuleCount, bankIn, shownCount, takes, setUpCode, setUpOf, recordFrom}
 use Rattle.banks.specs.Fit.{granulesTo, BanksFit}
 use Rattle.banks.proofs.Passing.{Follows, follows-is}
 use Rattle.banks.proofs.Making.{word-in, count-made}
@@ -59,7 +60,9 @@ module _ (f : ℕ → Bank) where
   -- the converse
   follow : (low b s : ℕ) → low ≤ b → b % 4096 ≡ 0 → s % 4096 ≡ 0 → 0 < s → b + s ≤ 2 ^ 52 → Yes (follows low b s)
   unfolding follows bankOk
-  follow low b s l p q z e = both-of _ _ (le-leb low b l) (both-of _ _ (eq-eqb (b % 4096) 0 p) (both-of _ _ (eq-eqb (s % 4096) 0 q) (both-of _ _ (lt-ltb 0 s z) (le-leb (b + s) (2 ^ 52) e))))
+  follow low b s l p q z e =
+      both-of _ _ (le-leb low b l) (both-of _ _ (eq-eqb (b % 4096) 0 p)
+      (both-of _ _ (eq-eqb (s % 4096) 0 q) (both-of _ _ (lt-ltb 0 s z) (le-leb (b + s) (2 ^ 52) e))))
 
   ascend-of : (low i k c n : ℕ) → BanksFit base size c n → (0 < k → low ≤ base i) → i + k ≡ c → Yes (ascend low (banksBy f i k))
   unfolding ascend banksBy
@@ -84,8 +87,10 @@ module _ (f : ℕ → Bank) where
   -- both directions
   pub fit-taken : (c n : ℕ) → BanksFit base size c n → Yes (banksOk c (banksBy f 0 c)) × (total (banksBy f 0 c) ≡ n)
   unfolding banksOk
-  fit-taken c n v =
-      (both-of _ _ (lt-ltb 0 c (v .some)) (both-of _ _ (le-leb c 16 (v .few)) (ascend-of 0 0 c c n v (λ z. omega arith) (omega arith))), total-to c ∙ v .sum)
+  fit-taken c n v = (
+    both-of _ _ (lt-ltb 0 c (v .some)) (both-of _ _ (le-leb c 16 (v .few)) (ascend-of 0 0 c c n v (λ z. omega arith) (omega arith))),
+    total-to c ∙ v .sum,
+  )
 
   pub taken-fit : (c n : ℕ) → Yes (banksOk c (banksBy f 0 c)) → total (banksBy f 0 c) ≡ n → BanksFit base size c n
   unfolding banksOk
@@ -118,28 +123,36 @@ module _ (shown : List ℕ) (n : ℕ) (g : Granules) where
   made-holds =
       record {
         count = count-made (shownCount shown) shown;
-        bases = λ i l. let e : 8 * (2 * i) ≡ 16 * i = omega arith in let s : 1 + 2 * i ≡ suc (2 * i) = omega arith in rw s (word-in (shownCount shown) (2 * i) shown (omega arith) ∙ rw e);
-        sizes = λ i l. let e : 8 * (2 * i + 1) ≡ 16 * i + 8 = omega arith in let s : 2 + 2 * i ≡ suc (2 * i + 1) = omega arith in rw s (word-in (shownCount shown) (2 * i + 1) shown (omega arith) ∙ rw e);
+        bases =
+            λ i l. let e : 8 * (2 * i) ≡ 16 * i = omega arith in let s : 1 + 2 * i ≡ suc (2 * i) = omega arith in rw s
+            (word-in (shownCount shown) (2 * i) shown (omega arith) ∙ rw e);
+        sizes =
+            λ i l. let e : 8 * (2 * i + 1) ≡ 16 * i + 8 = omega arith in let s : 2 + 2 * i ≡ suc (2 * i + 1) = omega arith in rw s
+            (word-in (shownCount shown) (2 * i + 1) shown (omega arith) ∙ rw e);
       }
 
   -- banks that fit: OK, and a record of these banks
   pub set-up-passes : Shown shown n → (setUpOf shown n g .code ≡ Ok) × Holds (setUpOf shown n g .granules) shown
-  unfolding setUpOf setUpCode takes fails unless
+  unfolding setUpOf setUpCode takes fails isFalse
   set-up-passes s =
       let t = fit-taken (bankIn shown) (shownCount shown) n (s .1) in
-      let y = both-of _ _ (eq-eqb (length shown % 16) 0 (s .0)) (both-of _ _ (t .0) (eq-eqb (total (banksBy (bankIn shown) 0 (shownCount shown))) n (t .1))) in
+      let y = both-of _ _ (eq-eqb (length shown % 16) 0 (s .0))
+      (both-of _ _ (t .0) (eq-eqb (total (banksBy (bankIn shown) 0 (shownCount shown))) n (t .1))) in
       rw y (refl, made-holds)
 
   -- and only such banks
   pub set-up-only : setUpOf shown n g .code ≡ Ok → Shown shown n
   unfolding setUpOf setUpCode takes
   set-up-only h =
-      let y = unless-ok (takes shown n) Inval Ok refl h .0 in
-      (eqb-true _ _ (both-l _ _ y), taken-fit (bankIn shown) (shownCount shown) n (both-l _ _ (both-r _ _ y)) (eqb-true _ _ (both-r _ _ (both-r _ _ y))))
+      let y = unless-ok (takes shown n) Inval Ok refl h .0 in (
+        eqb-true _ _ (both-l _ _ y),
+        taken-fit (bankIn shown) (shownCount shown) n (both-l _ _ (both-r _ _ y))
+            (eqb-true _ _ (both-r _ _ (both-r _ _ y))),
+      )
 
   -- any others: "INVAL, with no record made"
   pub set-up-refused : (Shown shown n → ⊥) → setUpOf shown n g ≡ record { code = Inval; granules = g }
-  unfolding setUpOf setUpCode fails unless
+  unfolding setUpOf setUpCode fails isFalse
   set-up-refused r = go (takes shown n) refl
     where
       go : (b : Bool) → takes shown n ≡ b → setUpOf shown n g ≡ record { code = Inval; granules = g }

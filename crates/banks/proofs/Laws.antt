@@ -17,7 +17,9 @@ use Rattle.entries.specs.Entry.{bankOk}
 use Rattle.codes.specs.declared.Code.the-variants.{Ok}
 use Rattle.banks.specs.declared.Granule.{Granule}
 use Rattle.banks.specs.declared.Granule.the-variants.{Nothing, At}
-use Rattle.banks.specs.Banks.{Granules, Bank, banksBy, bankAt, bankCount, banksOf, ascend, banksOk, recordOk, follows, total, granuleCount, holds, indexIn, placeIn, orElse, placeAmong, bankPlace, granuleAt, addressIn, addressOf, singleRange, setUpCode, setUpOf}
+use Rattle.banks.specs.Banks.{Granules, Bank, banksBy, bankAt, bankCount, banksOf, ascend, banksOk, recordOk, follows, total}
+use Rattle.banks.specs.Banks.{granuleCount, holds, indexIn, placeIn, orElse, placeAmong, bankPlace, granuleAt, addressIn, addressOf}
+use Rattle.banks.specs.Banks.{singleRange, setUpCode, setUpOf}
 use Rattle.banks.proofs.Making.{banks-some, made-one, made-good}
 use Rattle.banks.proofs.Passing.{Follows, follows-is, or-nothing}
 
@@ -25,7 +27,8 @@ use Rattle.banks.proofs.Passing.{Follows, follows-is, or-nothing}
 pub nowhere : (i : ℕ) → Nothing ≡ At i → ⊥
 nowhere i h = let z : _≡_ {A = ℕ} 0 1 = cc in omega arith
 
-pub or-cases : (b : Bool) (p i : ℕ) (r : Granule) {P : Type 0} → (Yes b → p ≡ i → P) → (r ≡ At i → P) → orElse (cond b (At p) Nothing) r ≡ At i → P
+pub or-cases : (b : Bool) (p i : ℕ) (r : Granule) {P : Type 0} → (Yes b → p ≡ i → P) → (r ≡ At i → P) →
+    orElse (cond b (At p) Nothing) r ≡ At i → P
 unfolding orElse
 or-cases true p i r f g h = f refl (cc)
 or-cases false p i r f g h = g h
@@ -65,22 +68,24 @@ falls g n addr i h =
     }
 
 -- ---- a bank
-pub record Held (base size addr : ℕ) : Type 0 where
+pub record HoldsFacts (base size addr : ℕ) : Type 0 where
   pub from : base ≤ addr
   pub below : addr < base + size
 
-pub held : (base size addr : ℕ) → Yes (holds base size addr) → Held base size addr
+pub holds-facts : (base size addr : ℕ) → Yes (holds base size addr) → HoldsFacts base size addr
 unfolding holds
-held base size addr h = record { from = leb-true _ _ (both-l _ _ h); below = ltb-true _ _ (both-r _ _ h) }
+holds-facts base size addr h = record { from = leb-true _ _ (both-l _ _ h); below = ltb-true _ _ (both-r _ _ h) }
 
-same-place : (base before x y : ℕ) → base % 4096 ≡ 0 → x % 4096 ≡ 0 → y % 4096 ≡ 0 → base ≤ x → base ≤ y → indexIn before base x ≡ indexIn before base y → x ≡ y
+same-place : (base before x y : ℕ) → base % 4096 ≡ 0 → x % 4096 ≡ 0 → y % 4096 ≡ 0 → base ≤ x → base ≤ y →
+    indexIn before base x ≡ indexIn before base y → x ≡ y
 same-place base before x y b m n p q e = omega arith
 
 -- ---- banks
 abbrev Within : ℕ → ℕ → ℕ → Type 0
 Within before n i = (before ≤ i) × (i < before + n)
 
-among-within : (low before : ℕ) (bs : List Bank) (addr i : ℕ) → Yes (ascend low bs) → addr % 4096 ≡ 0 → placeAmong before bs addr ≡ At i → Within before (total bs) i
+among-within : (low before : ℕ) (bs : List Bank) (addr i : ℕ) → Yes (ascend low bs) → addr % 4096 ≡ 0 → placeAmong before bs addr ≡ At i →
+    Within before (total bs) i
 unfolding ascend placeAmong placeIn total
 among-within low before [] addr i a m h = absurd (nowhere i h)
 among-within low before (b ∷ bs) addr i a m h =
@@ -90,12 +95,13 @@ among-within low before (b ∷ bs) addr i a m h =
     f = follows-is _ _ _ (both-l _ _ a)
 
     here : Yes (holds (b .base) (b .size) addr) → indexIn before (b .base) addr ≡ i → Within before (b .size / 4096 + total bs) i
-    here k e = let u = held (b .base) (b .size) addr k in let v = f in (omega arith, omega arith)
+    here k e = let u = holds-facts (b .base) (b .size) addr k in let v = f in (omega arith, omega arith)
 
     later : Within (before + b .size / 4096) (total bs) i → Within before (b .size / 4096 + total bs) i
     later w = (omega arith, omega arith)
 
-among-one : (low before : ℕ) (bs : List Bank) (x y i : ℕ) → Yes (ascend low bs) → x % 4096 ≡ 0 → y % 4096 ≡ 0 → placeAmong before bs x ≡ At i → placeAmong before bs y ≡ At i → x ≡ y
+among-one : (low before : ℕ) (bs : List Bank) (x y i : ℕ) → Yes (ascend low bs) → x % 4096 ≡ 0 → y % 4096 ≡ 0 →
+    placeAmong before bs x ≡ At i → placeAmong before bs y ≡ At i → x ≡ y
 unfolding ascend placeAmong placeIn
 among-one low before [] x y i a m n h k = absurd (nowhere i h)
 among-one low before (b ∷ bs) x y i a m n h k =
@@ -110,11 +116,14 @@ among-one low before (b ∷ bs) x y i a m n h k =
     within : (z : ℕ) → z % 4096 ≡ 0 → placeAmong (before + b .size / 4096) bs z ≡ At i → Within (before + b .size / 4096) (total bs) i
     within z w r = among-within (b .base + b .size) (before + b .size / 4096) bs z i (both-r _ _ a) w r
 
-    same : Yes (holds (b .base) (b .size) x) → indexIn before (b .base) x ≡ i → Yes (holds (b .base) (b .size) y) → indexIn before (b .base) y ≡ i → x ≡ y
-    same p d q e = same-place (b .base) before x y (f .base-whole) m n (held (b .base) (b .size) x p .from) (held (b .base) (b .size) y q .from) (d ∙ sym e)
+    same : Yes (holds (b .base) (b .size) x) → indexIn before (b .base) x ≡ i → Yes (holds (b .base) (b .size) y) →
+        indexIn before (b .base) y ≡ i → x ≡ y
+    same p d q e =
+        same-place (b .base) before x y (f .base-whole) m n (holds-facts (b .base) (b .size) x p .from)
+        (holds-facts (b .base) (b .size) y q .from) (d ∙ sym e)
 
     apart : (z : ℕ) → Yes (holds (b .base) (b .size) z) → indexIn before (b .base) z ≡ i → Within (before + b .size / 4096) (total bs) i → ⊥
-    apart z p d w = let u = held (b .base) (b .size) z p in let v = f in omega arith
+    apart z p d w = let u = holds-facts (b .base) (b .size) z p in let v = f in omega arith
 
 -- ---- the laws for other crates
 pub index-below : (g : Granules) (n addr i : ℕ) → granuleAt g n addr ≡ At i → i < n
@@ -135,7 +144,8 @@ record Named (low before : ℕ) (bs : List Bank) (i : ℕ) : Type 0 where
   from : low ≤ addressIn bs i
   place : placeAmong before bs (addressIn bs i) ≡ At (before + i)
 
-pub in-bank : (before base size addr : ℕ) (r : Granule) → base ≤ addr → addr < base + size → orElse (placeIn before base size addr) r ≡ At (indexIn before base addr)
+pub in-bank : (before base size addr : ℕ) (r : Granule) → base ≤ addr → addr < base + size →
+    orElse (placeIn before base size addr) r ≡ At (indexIn before base addr)
 unfolding orElse placeIn holds both
 in-bank before base size addr r p q = simp (le-leb base addr p, lt-ltb addr (base + size) q)
 
@@ -146,19 +156,23 @@ past-bank before base size addr r p = simp (le-leb base addr (omega arith), le-l
 among-named : (low before : ℕ) (bs : List Bank) (i : ℕ) → Yes (ascend low bs) → i < total bs → Named low before bs i
 unfolding ascend total placeAmong addressIn
 among-named low before [] i a h = absurd (let z : _≡_ {A = ℕ} 0 1 = omega arith in omega arith)
-among-named low before (b ∷ bs) i a h = go (decLt i (b .size / 4096)) (among-named (b .base + b .size) (before + b .size / 4096) bs (i - b .size / 4096) (both-r _ _ a))
+among-named low before (b ∷ bs) i a h =
+    go (decLt i (b .size / 4096)) (among-named (b .base + b .size) (before + b .size / 4096) bs (i - b .size / 4096) (both-r _ _ a))
   where
     f : Follows low (b .base) (b .size)
     f = follows-is _ _ _ (both-l _ _ a)
 
-    go : Dec (i < b .size / 4096) → (i - b .size / 4096 < total bs → Named (b .base + b .size) (before + b .size / 4096) bs (i - b .size / 4096)) → Named low before (b ∷ bs) i
+    go : Dec (i < b .size / 4096) → (i - b .size / 4096 < total bs →
+        Named (b .base + b .size) (before + b .size / 4096) bs (i - b .size / 4096)) → Named low before (b ∷ bs) i
     go (yes y) ih =
         let v = f in
         let e : indexIn before (b .base) (b .base + 4096 * i) ≡ before + i = omega arith in
         record {
           whole = rw (lt-ltb i (b .size / 4096) y) (omega arith);
           from = rw (lt-ltb i (b .size / 4096) y) (omega arith);
-          place = rw (lt-ltb i (b .size / 4096) y) (in-bank before (b .base) (b .size) (b .base + 4096 * i) _ (omega arith) (omega arith) ∙ ap At e);
+          place =
+              rw (lt-ltb i (b .size / 4096) y) (in-bank before (b .base) (b .size) (b .base + 4096 * i) _ (omega arith) (omega arith) ∙
+              ap At e);
         }
     go (no y) ih =
         let n = ih (omega arith) in
@@ -203,14 +217,17 @@ unfolding granuleCount recordOk
 some-granules g k = rw k (banks-some (bankCount g) (bankAt g) k)
 
 -- ---- one bank: "01's single range is the case of one bank that the set-up takes"
-holds-same : (base size addr : ℕ) → Follows 0 base size → addr % 4096 ≡ 0 → holds base size addr ≡ both (leb base addr) (ltb ((addr - base) / 4096) (size / 4096))
+holds-same : (base size addr : ℕ) → Follows 0 base size → addr % 4096 ≡ 0 →
+    holds base size addr ≡ both (leb base addr) (ltb ((addr - base) / 4096) (size / 4096))
 unfolding holds
 holds-same base size addr f m =
     let w = f .size-whole in
     let v = f .base-whole in
     same-test _ _
-    (λ h. let u : base ≤ addr = leb-true _ _ (both-l _ _ h) in let k : addr < base + size = ltb-true _ _ (both-r _ _ h) in both-of _ _ (le-leb base addr u) (lt-ltb ((addr - base) / 4096) (size / 4096) (omega arith)))
-    (λ h. let u : base ≤ addr = leb-true _ _ (both-l _ _ h) in let k : (addr - base) / 4096 < size / 4096 = ltb-true _ _ (both-r _ _ h) in both-of _ _ (le-leb base addr u) (lt-ltb addr (base + size) (omega arith)))
+    (λ h. let u : base ≤ addr = leb-true _ _ (both-l _ _ h) in let k : addr < base + size = ltb-true _ _ (both-r _ _ h) in both-of _ _
+    (le-leb base addr u) (lt-ltb ((addr - base) / 4096) (size / 4096) (omega arith)))
+    (λ h. let u : base ≤ addr = leb-true _ _ (both-l _ _ h) in let k : (addr - base) / 4096 < size / 4096 = ltb-true _ _
+    (both-r _ _ h) in both-of _ _ (le-leb base addr u) (lt-ltb addr (base + size) (omega arith)))
 
 only-bank : (g : Granules) → bankCount g ≡ 1 → banksOf g ≡ bankAt g 0 ∷ []
 unfolding banksBy
@@ -219,7 +236,9 @@ only-bank g one = rw one
 module _ (g : Granules) (one : bankCount g ≡ 1) (ok : Yes (recordOk g)) where
   pub only-follows : Follows 0 (getD g 1 0) (getD g 2 0)
   unfolding ascend
-  only-follows = let a : Yes (ascend 0 (bankAt g 0 ∷ [])) = rw (only-bank g one) at (ok-ascends g ok) in follows-is 0 (getD g 1 0) (getD g 2 0) (both-l _ _ a)
+  only-follows =
+      let a : Yes (ascend 0 (bankAt g 0 ∷ [])) = rw (only-bank g one) at (ok-ascends g ok) in
+      follows-is 0 (getD g 1 0) (getD g 2 0) (both-l _ _ a)
 
   pub only-granules : granuleCount g ≡ getD g 2 0 / 4096
   unfolding granuleCount total
@@ -231,11 +250,18 @@ module _ (g : Granules) (one : bankCount g ≡ 1) (ok : Yes (recordOk g)) where
 
   pub one-bank : (addr : ℕ) → granuleAt g (granuleCount g) addr ≡ singleRange (getD g 1 0) (granuleCount g) addr
   unfolding granuleAt placeIn both
-  one-bank addr = simp (eq-eqb (getD g 2 0 / 4096) (getD g 2 0 / 4096) refl, eq-eqb (getD g 1 0 % 4096) 0 (only-follows .base-whole), only-place addr, only-granules) (go (eqb (addr % 4096) 0) refl)
+  one-bank addr =
+      simp (
+        eq-eqb (getD g 2 0 / 4096) (getD g 2 0 / 4096) refl,
+        eq-eqb (getD g 1 0 % 4096) 0 (only-follows .base-whole),
+        only-place addr,
+        only-granules,
+      ) (go (eqb (addr % 4096) 0) refl)
     where
       go : (k : Bool) → eqb (addr % 4096) 0 ≡ k
           → cond (both k true) (cond (holds (getD g 1 0) (getD g 2 0) addr) (At (0 + (addr - getD g 1 0) / 4096)) Nothing) Nothing
-          ≡ cond (both k (both (leb (getD g 1 0) addr) (ltb ((addr - getD g 1 0) / 4096) (getD g 2 0 / 4096)))) (At ((addr - getD g 1 0) / 4096)) Nothing
+          ≡ cond (both k (both (leb (getD g 1 0) addr) (ltb ((addr - getD g 1 0) / 4096) (getD g 2 0 / 4096))))
+          (At ((addr - getD g 1 0) / 4096)) Nothing
       go true e = rw (holds-same (getD g 1 0) (getD g 2 0) addr only-follows (eqb-true _ _ e), zero-add)
       go false e = refl
 
@@ -250,7 +276,8 @@ module _ (g : Granules) (one : bankCount g ≡ 1) where
   only-ok = rw (only-bank g one, one, le-leb 0 (getD g 1 0) (omega arith)) (both-true (bankOk (getD g 1 0) (getD g 2 0)))
 
 -- for a record that the set-up made of one bank, in a table of the length that it was made for
-pub one-bank-made : (shown : List ℕ) (n : ℕ) (g : Granules) → length shown ≡ 16 → setUpCode shown n ≡ Ok → (addr : ℕ) → granuleAt (setUpOf shown n g .granules) n addr ≡ singleRange (wordAt 0 shown) n addr
+pub one-bank-made : (shown : List ℕ) (n : ℕ) (g : Granules) → length shown ≡ 16 → setUpCode shown n ≡ Ok → (addr : ℕ) →
+    granuleAt (setUpOf shown n g .granules) n addr ≡ singleRange (wordAt 0 shown) n addr
 one-bank-made shown n g l h addr =
     let m = made-good shown n g h in
     let o = made-one shown n g l h in

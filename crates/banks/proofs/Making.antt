@@ -15,7 +15,8 @@ use Rattle.words.proofs.Tests.{both-l, both-r}
 use Rattle.codes.specs.declared.Code.the-variants.{Ok, Inval}
 use Rattle.codes.proofs.Gates.{unless-ok}
 use Rattle.words.proofs.Read.{wordsOf-at, wordsOf-length, wordsOf-suc}
-use Rattle.banks.specs.Banks.{Granules, Bank, banksBy, bankAt, bankCount, banksOf, ascend, banksOk, recordOk, total, granuleCount, bankIn, banksIn, shownCount, takes, setUpCode, recordFrom, setUpOf}
+use Rattle.banks.specs.Banks.{Granules, Bank, banksBy, bankAt, bankCount, banksOf, ascend, banksOk, recordOk, total, granuleCount}
+use Rattle.banks.specs.Banks.{bankIn, banksIn, shownCount, takes, setUpCode, recordFrom, setUpOf}
 use Rattle.banks.specs.Steps.{recordPart}
 use Rattle.banks.proofs.Passing.{Follows, follows-is}
 
@@ -29,7 +30,8 @@ unfolding recordPart
 fill-more n i shown h =
     let e : 32 - i ≡ suc (31 - i) = omega arith in
     let f : 32 - suc i ≡ 31 - i = omega arith in
-    rw (add-one, e, f, wordsOf-suc, append-assoc) (ap (λ l. n ∷ l) (set-at (wordsOf i shown) 0 (replicate (31 - i) 0) (wordAt (8 * i) shown) i (wordsOf-length i shown)))
+    rw (add-one, e, f, wordsOf-suc, append-assoc) (ap (λ l. n ∷ l)
+    (set-at (wordsOf i shown) 0 (replicate (31 - i) 0) (wordAt (8 * i) shown) i (wordsOf-length i shown)))
 
 pub record-whole : (n : ℕ) (shown : List ℕ) → recordPart n (2 * n) shown ≡ recordFrom n shown
 unfolding recordPart
@@ -37,7 +39,9 @@ record-whole n shown = refl
 
 -- ---- the banks of the record made
 pub word-in : (n i : ℕ) (shown : List ℕ) → i < 2 * n → getD (recordFrom n shown) (suc i) 0 ≡ wordAt (8 * i) shown
-word-in n i shown h = List·getD-append (wordsOf (2 * n) shown) (replicate (32 - 2 * n) 0) 0 i (rw (wordsOf-length (2 * n) shown) h) ∙ wordsOf-at (2 * n) shown i h
+word-in n i shown h =
+    List·getD-append (wordsOf (2 * n) shown) (replicate (32 - 2 * n) 0) 0 i (rw (wordsOf-length (2 * n) shown) h) ∙
+    wordsOf-at (2 * n) shown i h
 
 pub banks-same : (f g : ℕ → Bank) (i n : ℕ) → ((j : ℕ) → j < i + n → f j ≡ g j) → banksBy f i n ≡ banksBy g i n
 unfolding banksBy
@@ -56,9 +60,11 @@ pub count-made : (n : ℕ) (shown : List ℕ) → bankCount (recordFrom n shown)
 count-made n shown = refl
 
 pub banks-made : (n : ℕ) (shown : List ℕ) → banksOf (recordFrom n shown) ≡ banksIn n shown
-banks-made n shown = rw (count-made n shown) (banks-same (bankAt (recordFrom n shown)) (bankIn shown) 0 n (λ j l. bank-made n shown j (omega arith)))
+banks-made n shown =
+    rw (count-made n shown) (banks-same (bankAt (recordFrom n shown)) (bankIn shown) 0 n (λ j l. bank-made n shown j (omega arith)))
 
-pub granules-made : (n : ℕ) (shown : List ℕ) → granuleCount (recordFrom n shown) ≡ cond (banksOk n (banksIn n shown)) (total (banksIn n shown)) 0
+pub granules-made : (n : ℕ) (shown : List ℕ) → granuleCount (recordFrom n shown) ≡ cond (banksOk n (banksIn n shown))
+    (total (banksIn n shown)) 0
 unfolding granuleCount recordOk
 granules-made n shown = rw (banks-made n shown, count-made n shown)
 
@@ -95,15 +101,18 @@ sum shown = total (banksIn (shownCount shown) shown)
 module _ (shown : List ℕ) (n : ℕ) (whole : length shown % 16 ≡ 0) where
   pub not-taken : (granuleCount (recordFrom (shownCount shown) shown) ≡ n → ⊥) → takes shown n ≡ false
   unfolding takes both
-  not-taken h = simp (eq-eqb (length shown % 16) 0 whole) (both-no (fine shown) (sum shown) n (λ e. h (granules-made (shownCount shown) shown ∙ e)))
+  not-taken h =
+      simp (eq-eqb (length shown % 16) 0 whole) (both-no (fine shown) (sum shown) n (λ e. h (granules-made (shownCount shown) shown ∙ e)))
 
   pub taken : granuleCount (recordFrom (shownCount shown) shown) ≡ n → (n ≡ 0 → ⊥) → takes shown n ≡ true
   unfolding takes both
-  taken h z = simp (eq-eqb (length shown % 16) 0 whole) (both-yes (fine shown) (sum shown) n (sym (granules-made (shownCount shown) shown) ∙ h) z)
+  taken h z =
+      simp (eq-eqb (length shown % 16) 0 whole) (both-yes (fine shown) (sum shown) n (sym (granules-made (shownCount shown) shown) ∙ h) z)
 
   pub none-taken : n ≡ 0 → takes shown n ≡ false
   unfolding takes both
-  none-taken z = simp (z, eq-eqb (length shown % 16) 0 whole) (both-zero (fine shown) (sum shown) (banks-some (shownCount shown) (bankIn shown)))
+  none-taken z =
+      simp (z, eq-eqb (length shown % 16) 0 whole) (both-zero (fine shown) (sum shown) (banks-some (shownCount shown) (bankIn shown)))
 
   pub many-not : 16 < shownCount shown → takes shown n ≡ false
   unfolding takes banksOk both
@@ -134,7 +143,11 @@ module _ (shown : List ℕ) (n : ℕ) (g : Granules) (h : setUpCode shown n ≡ 
   -- a record that the set-up makes is accepted, and has as many granules as the table
   pub made-good : Yes (recordOk (setUpOf shown n g .granules)) × (granuleCount (setUpOf shown n g .granules) ≡ n)
   unfolding recordOk
-  made-good = rw made-is (rw (banks-made (shownCount shown) shown, count-made (shownCount shown) shown) took-banks, granules-made (shownCount shown) shown ∙ rw took-banks took-sum)
+  made-good =
+      rw made-is (
+        rw (banks-made (shownCount shown) shown, count-made (shownCount shown) shown) took-banks,
+        granules-made (shownCount shown) shown ∙ rw took-banks took-sum,
+      )
 
 module _ (shown : List ℕ) (n : ℕ) (g : Granules) (l : length shown ≡ 16) (h : setUpCode shown n ≡ Ok) where
   -- for 16 bytes: one bank, whose base is their first word

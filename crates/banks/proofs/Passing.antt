@@ -11,7 +11,8 @@ use Rattle.words.proofs.Tests.{both-l, both-r}
 use Rattle.entries.specs.Entry.{bankOk}
 use Rattle.banks.specs.declared.Granule.{Granule}
 use Rattle.banks.specs.declared.Granule.the-variants.{Nothing, At}
-use Rattle.banks.specs.Banks.{Granules, Bank, banksBy, bankAt, bankCount, banksOf, follows, ascend, banksOk, recordOk, total, granuleCount, orElse}
+use Rattle.banks.specs.Banks.{Granules, Bank, banksBy, bankAt, bankCount, banksOf, follows, ascend, banksOk, recordOk, total}
+use Rattle.banks.specs.Banks.{granuleCount, orElse}
 
 -- ---- a bank that follows
 pub record Follows (low base size : ℕ) : Type 0 where
@@ -50,24 +51,24 @@ or-nothing (At i) = refl
 or-nothing Nothing = refl
 
 -- ---- the loop before bank i: the result depends on what is left
-abbrev pub left : List ℕ → ℕ → List Bank
-left g i = banksBy (bankAt g) i (bankCount g - i)
+abbrev pub banksFrom : List ℕ → ℕ → List Bank
+banksFrom g i = banksBy (bankAt g) i (bankCount g - i)
 
-pub left-more : (g : Granules) (i : ℕ) → i < bankCount g → left g i ≡ bankAt g i ∷ left g (i + 1)
+pub left-more : (g : Granules) (i : ℕ) → i < bankCount g → banksFrom g i ≡ bankAt g i ∷ banksFrom g (i + 1)
 left-more g i h = banks-more (bankAt g) (bankCount g) i h
 
-pub left-none : (g : Granules) (i : ℕ) → bankCount g ≤ i → left g i ≡ []
+pub left-none : (g : Granules) (i : ℕ) → bankCount g ≤ i → banksFrom g i ≡ []
 unfolding banksBy
 left-none g i h = let z : bankCount g - i ≡ 0 = omega arith in rw z
 
-pub left-all : (g : Granules) → left g 0 ≡ banksOf g
+pub left-all : (g : Granules) → banksFrom g 0 ≡ banksOf g
 left-all g = let z : bankCount g - 0 ≡ bankCount g = omega arith in rw z
 
 pub record Stage (g : Granules) (i low sum : ℕ) : Type 0 where
   pub end-fits : low ≤ 2 ^ 52
   pub count-fits : 4096 * sum ≤ low
-  pub judged : ascend 0 (banksOf g) ≡ ascend low (left g i)
-  pub counted : total (banksOf g) ≡ sum + total (left g i)
+  pub judged : ascend 0 (banksOf g) ≡ ascend low (banksFrom g i)
+  pub counted : total (banksOf g) ≡ sum + total (banksFrom g i)
 
 pub stage-first : (g : Granules) → Stage g 0 0 0
 stage-first g =
@@ -113,7 +114,7 @@ module _ (g : Granules) where
 module _ (g : Granules) (i low sum : ℕ) (s : Stage g i low sum) where
   -- no bank is left
   module _ (h : bankCount g ≤ i) where
-    none-left : left g i ≡ []
+    none-left : banksFrom g i ≡ []
     none-left = left-none g i h
 
     pub stage-judged : Yes (ascend 0 (banksOf g))
@@ -126,7 +127,7 @@ module _ (g : Granules) (i low sum : ℕ) (s : Stage g i low sum) where
 
   -- one more bank, with its two words as the code reads them
   module _ (base size : ℕ) (h : i < bankCount g) (b : base ≡ getD g (1 + 2 * i) 0) (z : size ≡ getD g (2 + 2 * i) 0) where
-    one-left : left g i ≡ record { base = base; size = size } ∷ left g (i + 1)
+    one-left : banksFrom g i ≡ record { base = base; size = size } ∷ banksFrom g (i + 1)
     one-left = left-more g i h ∙ rw (b, z)
 
     pub stage-more : Yes (follows low base size) → Stage g (i + 1) (base + size) (sum + size / 4096)
@@ -134,7 +135,12 @@ module _ (g : Granules) (i low sum : ℕ) (s : Stage g i low sum) where
     stage-more y =
         let f : Follows low base size = follows-is low base size y in
         let e = s .count-fits in
-        record { end-fits = f .ends; count-fits = omega arith; judged = s .judged ∙ rw (one-left, y); counted = s .counted ∙ rw one-left (omega arith) }
+        record {
+          end-fits = f .ends;
+          count-fits = omega arith;
+          judged = s .judged ∙ rw (one-left, y);
+          counted = s .counted ∙ rw one-left (omega arith);
+        }
 
     pub stage-stops : follows low base size ≡ false → ascend 0 (banksOf g) ≡ false
     unfolding ascend both

@@ -8,7 +8,7 @@ use lib.Dec.{leb, ltb, eqb}
 use Rattle.words.specs.Tests.{both}
 use Rattle.words.specs.Word.{wordAt, wordsOf}
 use Rattle.entries.specs.Entry.{bankOk}
-use Rattle.codes.specs.Codes.{unless, fails, ifOk}
+use Rattle.codes.specs.Codes.{isFalse, fails, ifOk}
 use Rattle.codes.specs.declared.Code.{Code}
 use Rattle.codes.specs.declared.Code.the-variants.{Ok, Inval}
 use Rattle.banks.specs.declared.Granule.{Granule}
@@ -112,7 +112,9 @@ addressOf g i = addressIn (banksOf g) i
 -- 01's granule of an address, in a table of n granules that starts at address G: "BAD_ADDR unless G and the address are multiples of 4,096
 -- and the address falls on a granule of the table."
 abbrev pub singleRange : (start n addr : ℕ) → Granule
-singleRange start n addr = cond (both (eqb (start % 4096) 0) (both (eqb (addr % 4096) 0) (both (leb start addr) (ltb ((addr - start) / 4096) n)))) (At ((addr - start) / 4096)) Nothing
+singleRange start n addr =
+    cond (both (eqb (start % 4096) 0) (both (eqb (addr % 4096) 0) (both (leb start addr) (ltb ((addr - start) / 4096) n))))
+    (At ((addr - start) / 4096)) Nothing
 
 -- ---- the set-up
 -- bank i of the banks that the reader shows, from the bytes of the array lookup: 16 bytes a bank, base and size
@@ -136,7 +138,7 @@ takes shown n =
 
 -- the code of the set-up
 unfoldable pub setUpCode : List ℕ → ℕ → Code
-setUpCode shown n = fails (unless (takes shown n)) Inval Ok
+setUpCode shown n = fails (isFalse (takes shown n)) Inval Ok
 
 -- the record of n banks: the count, base and size of each, and zeros after them
 abbrev pub recordFrom : ℕ → List ℕ → Granules

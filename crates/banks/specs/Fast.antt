@@ -19,13 +19,15 @@ noBank = record { base = 0; size = 0; before = 0 }
 
 -- the granule of an address in one bank, after those of the banks before it; the sum is modulo 2^64, because any bank may be passed
 unfoldable pub granuleIn : BankSpan → (addr : ℕ) → Granule
-granuleIn b addr = cond (both (eqb (addr % 4096) 0) (holds (b .base) (b .size) addr)) (At (indexIn (b .before) (b .base) addr % 2 ^ 64)) Nothing
+granuleIn b addr =
+    cond (both (eqb (addr % 4096) 0) (holds (b .base) (b .size) addr)) (At (indexIn (b .before) (b .base) addr % 2 ^ 64)) Nothing
 
 -- the first bank that holds the address; the banks are not checked
 unfoldable pub bankAmong : (before : ℕ) → List Bank → (addr : ℕ) → BankSpan
 bankAmong before [] addr = noBank
 bankAmong before (b ∷ bs) addr =
-    cond (holds (b .base) (b .size) addr) (record { base = b .base; size = b .size; before = before }) (bankAmong (before + b .size / 4096) bs addr)
+    cond (holds (b .base) (b .size) addr) (record { base = b .base; size = b .size; before = before })
+    (bankAmong (before + b .size / 4096) bs addr)
 
 -- the same for a record of at most 16 banks
 unfoldable pub bankOf : Granules → (addr : ℕ) → BankSpan

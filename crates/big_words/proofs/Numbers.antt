@@ -55,7 +55,8 @@ le-step n b x h =
     let q : (b + 256 * x) / 256 ≡ x = omega arith in
     rw (p, q)
 
-le-four : (a b c d r : ℕ) → a < 256 → b < 256 → c < 256 → d < 256 → r ≡ a + b * 0x100 + c * 0x10000 + d * 0x1000000 → leBytes 4 r ≡ a ∷ b ∷ c ∷ d ∷ []
+le-four : (a b c d r : ℕ) → a < 256 → b < 256 → c < 256 → d < 256 → r ≡ a + b * 0x100 + c * 0x10000 + d * 0x1000000 →
+    leBytes 4 r ≡ a ∷ b ∷ c ∷ d ∷ []
 unfolding leBytes
 le-four a b c d r ha hb hc hd e =
     let q : r ≡ a + 256 * (b + 256 * (c + 256 * (d + 256 * 0))) = omega arith in
@@ -65,10 +66,12 @@ le-four a b c d r ha hb hc hd e =
     ∙ ap (λ (l : List ℕ). b ∷ l) (le-step 1 c (d + 256 * 0) hc
     ∙ ap (λ (l : List ℕ). c ∷ l) (le-step 0 d 0 hd)))
 
-pub swap-bytes : (w r : ℕ) → r ≡ w / 256 / 256 / 256 % 256 + w / 256 / 256 % 256 * 0x100 + w / 256 % 256 * 0x10000 + w % 256 * 0x1000000 → leBytes 4 r ≡ beBytes 4 w
+pub swap-bytes : (w r : ℕ) → r ≡ w / 256 / 256 / 256 % 256 + w / 256 / 256 % 256 * 0x100 + w / 256 % 256 * 0x10000 + w % 256 * 0x1000000 →
+    leBytes 4 r ≡ beBytes 4 w
 unfolding beBytes leBytes
 swap-bytes w r e =
-    le-four (w / 256 / 256 / 256 % 256) (w / 256 / 256 % 256) (w / 256 % 256) (w % 256) r (omega arith) (omega arith) (omega arith) (omega arith) e
+    le-four (w / 256 / 256 / 256 % 256) (w / 256 / 256 % 256) (w / 256 % 256) (w % 256) r (omega arith) (omega arith) (omega arith)
+    (omega arith) e
 
 -- the usual sum: the first of n bytes counts 256 ^ (n - 1), and the other bytes follow
 le-snoc : (bs : List ℕ) (b : ℕ) → leOf (bs ++ (b ∷ [])) ≡ leOf bs + b * 256 ^ length bs

@@ -14,7 +14,7 @@ fn wide(x: u8) -> u32
 }
 
 // The 2-byte number at offset `at`, which must be within the slice.
-fn pair_at(s: &[u8], at: usize) -> u32
+fn u16_at(s: &[u8], at: usize) -> u32
     requires { ⌜ at + 2 ≤ length (now s) ⌝ }
     ensures { λ r. ⌜ (r ≡ bigAt 2 at (now (s .entry))) × (r < 0x1_0000) ⌝ }
 {
@@ -24,12 +24,12 @@ fn pair_at(s: &[u8], at: usize) -> u32
 }
 
 // The 4-byte number at offset `at`, which must be within the slice.
-fn quad_at(s: &[u8], at: usize) -> u32
+fn u32_in(s: &[u8], at: usize) -> u32
     requires { ⌜ at + 4 ≤ length (now s) ⌝ }
     ensures { λ r. ⌜ r ≡ bigAt 4 at (now (s .entry)) ⌝ }
 {
-    let high = pair_at(s, at);
-    let low = pair_at(s, at + 2);
+    let high = u16_at(s, at);
+    let low = u16_at(s, at + 2);
     high * 0x1_0000 + low
 }
 
@@ -43,10 +43,10 @@ pub fn big_at(s: &[u8], at: usize) -> u32
     if s.len() - 4 < at {
         return 0;
     }
-    quad_at(s, at)
+    u32_in(s, at)
 }
 
-// `w` with its four bytes reversed. The compiler turns this form into one instruction, and `put_half` into one store.
+// `w` with its four bytes reversed. The compiler turns this form into one instruction, and `put_u32` into one store.
 fn swapped(w: u32) -> u32
     ensures { λ r. ⌜ leBytes 4 r ≡ beBytes 4 w ⌝ }
 {
@@ -63,5 +63,5 @@ fn swapped(w: u32) -> u32
 pub fn put_big(s: &mut [u8], at: usize, w: u32)
     ensures { λ _. ⌜ now (s .exit) ≡ laid at (beBytes 4 w) (now (s .entry)) ⌝ }
 {
-    words::put_half(s, at, swapped(w) as u64);
+    words::put_u32(s, at, swapped(w) as u64);
 }

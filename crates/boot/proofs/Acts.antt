@@ -25,16 +25,20 @@ cold-passes f v m n k c a b d e g = rw (a, b, d, e, g, coldGate)
 -- Cold boot succeeds with code 0 if the record is fresh, the version is from 1 to 65,535 (minor 1 or more, all else 0), x2 is at most the
 -- monitor's maximum, x0 is below x2, K is at most 4,096 and a reader of edition 4 accepts the page at x3. Then "it keeps x2, B and the
 -- agreed minor when up", the minor being "the smaller of 5 and the offered minor", and K.
-pub cold-acts : (x0 x1 x2 x3 most kept : ℕ) (page : List ℕ) (w e : ℕ) (q : PlatShown) (s : ℕ → Shown) → 1 ≤ x1 → x1 < 2 ^ 16 → x2 ≤ most → x0 < x2 → kept ≤ 4096 → readOf 4 x3 page ≡ shows w e q s →
-    (coldCode Fresh x0 x1 x2 x3 most kept page ≡ pos 0) × (coldNext Fresh x0 x1 x2 x3 most kept page ≡ Up (record { cpus = x2; base = x3; minor = min 5 x1; kept = kept }))
+pub cold-acts : (x0 x1 x2 x3 most kept : ℕ) (page : List ℕ) (w e : ℕ) (q : PlatShown) (s : ℕ → Shown) → 1 ≤ x1 → x1 < 2 ^ 16 → x2 ≤ most →
+    x0 < x2 → kept ≤ 4096 → readOf 4 x3 page ≡ shows w e q s →
+    (coldCode Fresh x0 x1 x2 x3 most kept page ≡ pos 0) × (coldNext Fresh x0 x1 x2 x3 most kept page ≡ Up
+    (record { cpus = x2; base = x3; minor = min 5 x1; kept = kept }))
 unfolding coldNext coldCode isFresh codeIn after paramsOf agreed
 cold-acts x0 x1 x2 x3 most kept page w e q s a b m n k r =
     let v = version-of x1 a b in
-    let z : coldCode Fresh x0 x1 x2 x3 most kept page ≡ pos 0 = cold-passes _ _ _ _ _ _ refl v (le-leb x2 most m) (lt-ltb x0 x2 n) (le-leb kept 4096 k) ∙ ap codeIn r in
+    let z : coldCode Fresh x0 x1 x2 x3 most kept page ≡ pos 0 = cold-passes _ _ _ _ _ _ refl v (le-leb x2 most m) (lt-ltb x0 x2 n)
+    (le-leb kept 4096 k) ∙ ap codeIn r in
     (z, ap (λ (c : ℤ). after c (Up (paramsOf x1 x2 x3 kept))) z ∙ rw (version-minor x1 v .0))
 
 -- and only then
-cold-passed : (f v m n k : Bool) (c : ℤ) → coldGate f v m n k c ≡ pos 0 → (f ≡ true) × (v ≡ true) × (m ≡ true) × (n ≡ true) × (k ≡ true) × (c ≡ pos 0)
+cold-passed : (f v m n k : Bool) (c : ℤ) → coldGate f v m n k c ≡ pos 0 →
+    (f ≡ true) × (v ≡ true) × (m ≡ true) × (n ≡ true) × (k ≡ true) × (c ≡ pos 0)
 unfolding coldGate
 cold-passed true true true true true c h = (refl, refl, refl, refl, refl, h)
 cold-passed true true true true false c h = let z : _≡_ {A = ℕ} 0 1 = cc in absurd (omega arith)

@@ -30,7 +30,8 @@ module _ (s : Record) (x0 x1 x2 x3 most kept : ℕ) (page : List ℕ) where
   cold-state h = rw h (refl, refl)
 
   module _ (h : isFresh s ≡ true) where
-    pub cold-version : versionOk x1 ≡ false → (minus 2 ≡ coldCode s x0 x1 x2 x3 most kept page) × (Closed ≡ coldNext s x0 x1 x2 x3 most kept page)
+    pub cold-version : versionOk x1 ≡ false → (minus 2 ≡ coldCode s x0 x1 x2 x3 most kept page) ×
+        (Closed ≡ coldNext s x0 x1 x2 x3 most kept page)
     unfolding coldNext coldCode coldGate after
     cold-version v = rw (h, v) (refl, refl)
 
@@ -53,7 +54,9 @@ module _ (s : Record) (x0 x1 x2 x3 most kept : ℕ) (page : List ℕ) where
             pub cold-refused : (c : Refusal) → Refused c ≡ readingOf 4 x3 page →
                 (refusalNumber c ≡ coldCode s x0 x1 x2 x3 most kept page) × (Closed ≡ coldNext s x0 x1 x2 x3 most kept page)
             unfolding coldNext coldCode coldGate codeIn readingAnswer
-            cold-refused c e = rw (h, v, le-leb x2 most m, lt-ltb x0 x2 n, le-leb kept 4096 k, ← reading-answer 4 x3 page, ← e) (refl, closes c (Up (paramsOf x1 x2 x3 kept)))
+            cold-refused c e =
+                rw (h, v, le-leb x2 most m, lt-ltb x0 x2 n, le-leb kept 4096 k, ← reading-answer 4 x3 page, ← e)
+                (refl, closes c (Up (paramsOf x1 x2 x3 kept)))
 
             pub cold-up : (w : View) → Accepted w ≡ readingOf 4 x3 page →
                 (pos 0 ≡ coldCode s x0 x1 x2 x3 most kept page) × (Up (paramsOf x1 x2 x3 kept) ≡ coldNext s x0 x1 x2 x3 most kept page)

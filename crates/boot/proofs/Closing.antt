@@ -25,7 +25,8 @@ closed-stays [] = refl
 closed-stays (b ∷ bs) = rw (closed-step b) (closed-stays bs)
 
 -- a boot with a negative code closes the record, for any record
-pub cold-closes : (s : Record) (x0 x1 x2 x3 most kept : ℕ) (page : List ℕ) (n : ℕ) → coldCode s x0 x1 x2 x3 most kept page ≡ negsuc n → coldNext s x0 x1 x2 x3 most kept page ≡ Closed
+pub cold-closes : (s : Record) (x0 x1 x2 x3 most kept : ℕ) (page : List ℕ) (n : ℕ) → coldCode s x0 x1 x2 x3 most kept page ≡ negsuc n →
+    coldNext s x0 x1 x2 x3 most kept page ≡ Closed
 unfolding coldNext after
 cold-closes s x0 x1 x2 x3 most kept page n h = rw h
 

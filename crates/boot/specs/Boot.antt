@@ -42,7 +42,7 @@ coldGate true false m n k c = minus 2
 coldGate false v m n k c = minus 1
 
 -- the code of a cold boot: x0 is the CPU, x1 the version offered, x2 the number of CPUs, x3 the base B, most the monitor's maximum, kept K
-unfoldable pub coldCode : Record → ℕ → ℕ → ℕ → ℕ → ℕ → ℕ → List ℕ → ℤ
+unfoldable pub coldCode : (state : Record) (x0 x1 x2 x3 maxcpus kept : ℕ) (page : List ℕ) → ℤ
 coldCode s x0 x1 x2 x3 most kept page =
     coldGate (isFresh s) (versionOk x1) (leb x2 most) (ltb x0 x2) (leb kept 4096) (codeIn (readOf 4 x3 page))
 
@@ -52,11 +52,11 @@ after (pos n) s = s
 after (negsuc n) s = Closed
 
 -- "it keeps x2, B and the agreed minor when up"; 02, E5: K, "and the boot record keeps it"
-unfoldable pub paramsOf : ℕ → ℕ → ℕ → ℕ → Params
+unfoldable pub paramsOf : (x1 x2 x3 kept : ℕ) → Params
 paramsOf x1 x2 x3 kept = record { cpus = x2; base = x3; minor = agreed x1; kept = kept }
 
 -- the record after a cold boot
-unfoldable pub coldNext : Record → ℕ → ℕ → ℕ → ℕ → ℕ → ℕ → List ℕ → Record
+unfoldable pub coldNext : (state : Record) (x0 x1 x2 x3 maxcpus kept : ℕ) (page : List ℕ) → Record
 coldNext s x0 x1 x2 x3 most kept page = after (coldCode s x0 x1 x2 x3 most kept page) (Up (paramsOf x1 x2 x3 kept))
 
 -- the CPU check of a warm boot: -4 "x0 not below the cold boot's x2"

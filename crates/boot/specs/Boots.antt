@@ -6,8 +6,8 @@ use Rattle.boot.specs.declared.Record.{Record}
 
 -- a boot: cold with its registers, the monitor's maximum, K and the page; warm with its registers
 pub data Boot : Type 0 where
-  cold : ℕ → ℕ → ℕ → ℕ → ℕ → ℕ → List ℕ → Boot
-  warm : ℕ → ℕ → ℕ → ℕ → Boot
+  cold : (x0 x1 x2 x3 maxcpus kept : ℕ) (page : List ℕ) → Boot
+  warm : (x0 x1 x2 x3 : ℕ) → Boot
 
 -- the record after one boot
 unfoldable pub booted : Record → Boot → Record

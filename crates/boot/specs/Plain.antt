@@ -18,5 +18,5 @@ plainGate true false m n c = minus 2
 plainGate false v m n c = minus 1
 
 -- the code of 01's cold boot
-unfoldable pub plainCode : Record → ℕ → ℕ → ℕ → ℕ → ℕ → List ℕ → ℤ
+unfoldable pub plainCode : (state : Record) (x0 x1 x2 x3 maxcpus : ℕ) (page : List ℕ) → ℤ
 plainCode s x0 x1 x2 x3 most page = plainGate (isFresh s) (versionOk x1) (leb x2 most) (ltb x0 x2) (codeIn (readOf 4 x3 page))

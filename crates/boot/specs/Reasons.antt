@@ -6,7 +6,7 @@ use mathlib.Core.Logic.{_⊎_}
 use mathlib.Core.List.{List}
 use lib.ListN.{length}
 use lib.IntN.{ℤ, pos}
-use Rattle.words.specs.Word.{halfAt}
+use Rattle.words.specs.Word.{u32At}
 use Rattle.sections.specs.Facts.{PlaceFacts}
 use Rattle.reader.specs.Answer.{minus}
 use Rattle.reader.specs.Acts.{VersionFacts, Accepts}
@@ -23,14 +23,14 @@ pub record Gives {A : Type 0} (Condition : Type 0) (c : A) (below : A → Type 0
 -- or more make a number from 1 to 65,535; -3 "x2 above the monitor's maximum"; -4 "x0 not below x2"; -5 "page length not 4,096; B zero, not
 -- a multiple of 4,096, or above 2^52 - 4,096", and with 02, E5 "K above 4,096"; -6 "manifest version not accepted"; -7 "any other manifest
 -- rule broken"
-abbrev pub ColdGives : Record → ℕ → ℕ → ℕ → ℕ → ℕ → ℕ → List ℕ → ℤ → Type 0
+abbrev pub ColdGives : (state : Record) (x0 x1 x2 x3 maxcpus kept : ℕ) (page : List ℕ) (code : ℤ) → Type 0
 ColdGives s x0 x1 x2 x3 most kept page =
     Gives (s ≡ Fresh → ⊥) (minus 1)
     (Gives ((1 ≤ x1) × (x1 < 2 ^ 16) → ⊥) (minus 2)
     (Gives (most < x2) (minus 3)
     (Gives (x2 ≤ x0) (minus 4)
     (Gives ((4096 < kept) ⊎ (PlaceFacts x3 (length page) → ⊥)) (minus 5)
-    (Gives (VersionFacts 4 (halfAt 0 page) → ⊥) (minus 6)
+    (Gives (VersionFacts 4 (u32At 0 page) → ⊥) (minus 6)
     (Gives ((w e : ℕ) → Accepts 4 x3 page w e → ⊥) (minus 7)
     (λ k. k ≡ pos 0)))))))
 

@@ -4,7 +4,7 @@ ghost use mathlib.Core.Path.{_≡_};
 ghost use Rattle.reader.specs.Fast.{numberIn};
 ghost use Rattle.boot.specs.Boot.{bootNumber, isFresh, coldCode, coldNext, after, cpuCode, warmCode, warmNext};
 
-// What a boot record keeps of its cold boot: x2 (`cpus`), the base B, the agreed interface minor, and K (`kept`). No runtime command writes
+// What a boot record keeps of its cold boot: x2 (`cpus`), the base B, the agreed interface minor, and K (`manifest_extent`). No runtime command writes
 // the first K bytes of the page.
 pub struct Params {
     pub cpus: u64,
@@ -31,7 +31,7 @@ pub enum BootCode {
 }
 
 // The result of a boot: the next record and the code.
-pub struct Booted {
+pub struct BootResult {
     pub next: Record,
     pub code: BootCode,
 }
@@ -61,23 +61,23 @@ fn is_fresh(state: Record) -> bool
 }
 
 // Refuses a boot: the record is closed for good.
-fn failed(code: BootCode) -> Booted
+fn failed(code: BootCode) -> BootResult
     ensures { λ r. ⌜ (r .next ≡ Record.Closed) × (r .code ≡ code) ⌝ }
 {
-    Booted {
+    BootResult {
         next: Record::Closed,
         code,
     }
 }
 
 // Warm boot of CPU `x0` on a record that is up with `cpus` CPUs.
-fn warm_up(state: Record, cpus: u64, x0: u64) -> Booted
+fn warm_up(state: Record, cpus: u64, x0: u64) -> BootResult
     ensures { λ r. ⌜ (bootNumber (r .code) ≡ cpuCode cpus x0) × (r .next ≡ after (cpuCode cpus x0) state) ⌝ }
 {
     if cpus <= x0 {
         return failed(BootCode::Cpu);
     }
-    Booted {
+    BootResult {
         next: state,
         code: BootCode::Done,
     }
@@ -88,7 +88,7 @@ fn code_of(verdict: Verdict) -> BootCode
     ensures { λ r. ⌜ bootNumber r ≡ numberIn verdict ⌝ }
 {
     match verdict {
-        Verdict::Fine(_) => BootCode::Done,
+        Verdict::Passed(_) => BootCode::Done,
         Verdict::Refused(code) => BootCode::Manifest(code),
     }
 }
@@ -101,7 +101,7 @@ impl Record {
         Record::Fresh
     }
 
-    // Cold boot with x0 to x3. The monitor supports at most `most` CPUs, `kept` bytes at the start of the page are kept, and `page` is the
+    // Cold boot with x0 to x3. The monitor supports at most `maxcpus` CPUs, `manifest_extent` bytes at the start of the page are kept, and `page` is the
     // page at x3, read as edition 4.
     pub fn cold(
         self,
@@ -109,11 +109,11 @@ impl Record {
         x1: u64,
         x2: u64,
         x3: u64,
-        most: u64,
+        maxcpus: u64,
         kept: u64,
         page: &[u8],
-    ) -> Booted
-        ensures { λ r. ⌜ (bootNumber (r .code) ≡ coldCode self x0 x1 x2 x3 most kept (now (page .entry))) × (r .next ≡ coldNext self x0 x1 x2 x3 most kept (now (page .entry))) ⌝ }
+    ) -> BootResult
+        ensures { λ r. ⌜ (bootNumber (r .code) ≡ coldCode self x0 x1 x2 x3 maxcpus kept (now (page .entry))) × (r .next ≡ coldNext self x0 x1 x2 x3 maxcpus kept (now (page .entry))) ⌝ }
     {
         if !is_fresh(self) {
             return failed(BootCode::State);
@@ -121,7 +121,7 @@ impl Record {
         if !versions::is_accepted(x1) {
             return failed(BootCode::Version);
         }
-        if most < x2 {
+        if maxcpus < x2 {
             return failed(BootCode::Cpus);
         }
         if x2 <= x0 {
@@ -131,7 +131,7 @@ impl Record {
             return failed(BootCode::Manifest(reader::Refusal::Place));
         }
         let verdict = reader::judge_page(page, x3, 4);
-        let Verdict::Fine(_) = verdict else {
+        let Verdict::Passed(_) = verdict else {
             return failed(code_of(verdict));
         };
         let params = Params {
@@ -140,14 +140,14 @@ impl Record {
             minor: versions::agreed_minor(x1),
             kept,
         };
-        Booted {
+        BootResult {
             next: Record::Up(params),
             code: BootCode::Done,
         }
     }
 
     // Warm boot with x0 to x3; only x0 counts.
-    pub fn warm(self, x0: u64, x1: u64, x2: u64, x3: u64) -> Booted
+    pub fn warm(self, x0: u64, x1: u64, x2: u64, x3: u64) -> BootResult
         ensures { λ r. ⌜ (bootNumber (r .code) ≡ warmCode self x0) × (r .next ≡ warmNext self x0) ⌝ }
     {
         match self {

@@ -4,7 +4,7 @@ use mathlib.Core.Path.{_≡_, refl, sym, ap, _∙_}
 use mathlib.Core.Bool.{Bool, true, false, false≢true}
 use native.Mathlib.Omega.{arith}
 use Rattle.words.specs.Tests.{either}
-use Rattle.codes.specs.Codes.{unless, fails, isOk, ifOk, andThen, gated}
+use Rattle.codes.specs.Codes.{isFalse, fails, isOk, ifOk, andThen, gated}
 use Rattle.codes.specs.declared.Code.{Code}
 use Rattle.codes.specs.declared.Code.the-variants.{Ok, Unk, BadAddr, BadPas, Inval, Again}
 use Rattle.codes.specs.declared.Gate.the-variants.{Stop, Go}
@@ -16,8 +16,8 @@ fails-ok true c next n h = absurd (false≢true (sym n ∙ ap isOk h))
 fails-ok false c next n h = (refl, h)
 
 -- if the row is OK, the negated test holds and the next checks are OK
-pub unless-ok : (b : Bool) (c next : Code) → isOk c ≡ false → fails (unless b) c next ≡ Ok → (b ≡ true) × (next ≡ Ok)
-unfolding unless
+pub unless-ok : (b : Bool) (c next : Code) → isOk c ≡ false → fails (isFalse b) c next ≡ Ok → (b ≡ true) × (next ≡ Ok)
+unfolding isFalse
 unless-ok true c next n h = (refl, fails-ok false c next n h .1)
 unless-ok false c next n h = absurd (false≢true (sym (fails-ok true c next n h .0)))
 

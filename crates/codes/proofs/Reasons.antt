@@ -10,7 +10,7 @@ use Rattle.words.specs.Tests.{both, either}
 use Rattle.boot.specs.declared.Params.{Params}
 use Rattle.boot.specs.declared.Record.{Record}
 use Rattle.boot.specs.declared.Record.the-variants.{Fresh, Up, Closed}
-use Rattle.codes.specs.Codes.{extended, x0Of, answerOf, unless, fails, isUp, upOf, isOk, andThen}
+use Rattle.codes.specs.Codes.{extended, x0Of, answerOf, isFalse, fails, isUp, bootParams, isOk, andThen}
 use Rattle.codes.specs.Reasons.{Gives, WhileUp}
 use Rattle.codes.specs.declared.Code.{Code}
 use Rattle.codes.specs.declared.Code.the-variants.{Ok, Unk, BadAddr, BadPas, Inval, Again}
@@ -33,8 +33,8 @@ pub tells-yes : (b : Bool) → Tells b (b ≡ true)
 tells-yes true = record { yes-if = λ h. h; no-if = λ h. absurd (h refl) }
 tells-yes false = record { yes-if = λ h. h; no-if = λ h. refl }
 
-pub tells-not : (b : Bool) (P : Type 0) → Tells b P → Tells (unless b) (P → ⊥)
-unfolding unless
+pub tells-not : (b : Bool) (P : Type 0) → Tells b P → Tells (isFalse b) (P → ⊥)
+unfolding isFalse
 tells-not true P t = record { yes-if = λ h. absurd (true≢false (t .no-if h)); no-if = λ h. refl }
 tells-not false P t = record { yes-if = λ h. refl; no-if = λ h. absurd (h (λ p. false≢true (t .yes-if p))) }
 
@@ -56,19 +56,21 @@ tells-both true b P Q s t = record { yes-if = λ h. t .yes-if (h .1); no-if = λ
     go true e h = absurd (true≢false (s .no-if (λ p. true≢false (sym e ∙ t .no-if (λ q. h (p, q))))))
 tells-both false b P Q s t = record { yes-if = λ h. absurd (false≢true (s .yes-if (h .0))); no-if = λ h. refl }
 
-pub unless-not : (b : Bool) → unless b ≡ false → b ≡ true
-unfolding unless
+pub unless-not : (b : Bool) → isFalse b ≡ false → b ≡ true
+unfolding isFalse
 unless-not true h = refl
 unless-not false h = absurd (true≢false h)
 
 -- ---- a check is one line of the table
-pub gives : (b : Bool) (P : Type 0) (c next : Code) (below : Code → Type 0) → Tells b P → (b ≡ false → below next) → Gives P c below (fails b c next)
+pub gives : (b : Bool) (P : Type 0) (c next : Code) (below : Code → Type 0) → Tells b P → (b ≡ false → below next) →
+    Gives P c below (fails b c next)
 unfolding fails
 gives true P c next below t x = record { where-it-holds = λ p. refl; elsewhere = λ n. absurd (true≢false (t .no-if n)) }
 gives false P c next below t x = record { where-it-holds = λ p. absurd (false≢true (t .yes-if p)); elsewhere = λ n. x refl }
 
-pub while-up : (r : Record) (next : Params → Code) (below : Params → Code → Type 0) → ((u : Params) → r ≡ Up u → below u (next u)) → WhileUp r below (fails (unless (isUp r)) Unk (next (upOf r)))
-unfolding isUp upOf unless fails WhileUp
+pub while-up : (r : Record) (next : Params → Code) (below : Params → Code → Type 0) → ((u : Params) → r ≡ Up u → below u (next u)) →
+    WhileUp r below (fails (isFalse (isUp r)) Unk (next (bootParams r)))
+unfolding isUp bootParams isFalse fails WhileUp
 while-up Fresh next below h = refl
 while-up (Up u) next below h = h u refl
 while-up Closed next below h = refl

@@ -45,9 +45,9 @@ isOk Inval = false
 isOk Again = false
 
 -- not
-unfoldable pub unless : Bool → Bool
-unless true = false
-unless false = true
+unfoldable pub isFalse : Bool → Bool
+isFalse true = false
+isFalse false = true
 
 -- one check: the code c if the test holds, otherwise the code of the next checks. A command's checks read downwards in 01's order.
 unfoldable pub fails : Bool → Code → Code → Code
@@ -61,14 +61,14 @@ isUp (Up u) = true
 isUp Closed = false
 
 -- "B and the agreed minor come from the boot record", and with 02, E5 the number of kept bytes
-unfoldable pub upOf : Record → Params
-upOf Fresh = record { cpus = 0; base = 0; minor = 0; kept = 0 }
-upOf (Up u) = u
-upOf Closed = record { cpus = 0; base = 0; minor = 0; kept = 0 }
+unfoldable pub bootParams : Record → Params
+bootParams Fresh = record { cpus = 0; base = 0; minor = 0; kept = 0 }
+bootParams (Up u) = u
+bootParams Closed = record { cpus = 0; base = 0; minor = 0; kept = 0 }
 
 -- "while it is not up, every command but 0xC400018F answers UNK before its own checks"
 unfoldable pub whenUp : Record → Code → Code
-whenUp s k = fails (unless (isUp s)) Unk k
+whenUp s k = fails (isFalse (isUp s)) Unk k
 
 -- the new value if the code is OK, otherwise the old value: what a refused call leaves
 abbrev pub ifOk : {A : Type 0} → Code → A → A → A

@@ -2,7 +2,7 @@
 use boot::Params;
 use boot::Record;
 ghost use mathlib.Core.Path.{_≡_};
-ghost use Rattle.codes.specs.Codes.{x0Of, answerOf, isOk, fails, isUp, upOf};
+ghost use Rattle.codes.specs.Codes.{x0Of, answerOf, isOk, fails, isUp, bootParams};
 
 // The code of a runtime command.
 pub enum Code {
@@ -49,7 +49,7 @@ pub fn x0(code: Code) -> u64
 }
 
 // Returns the answer with this code, x1 and x2.
-pub fn answered(code: Code, x1: u64, x2: u64) -> Answer
+pub fn answer_with(code: Code, x1: u64, x2: u64) -> Answer
     ensures { λ r. ⌜ r ≡ answerOf code x1 x2 ⌝ }
 {
     Answer {
@@ -96,8 +96,8 @@ pub fn is_up(state: Record) -> bool
 }
 
 // Returns what a boot record keeps; zeros if it is not up.
-pub fn up_of(state: Record) -> Params
-    ensures { λ r. ⌜ r ≡ upOf state ⌝ }
+pub fn boot_params(state: Record) -> Params
+    ensures { λ r. ⌜ r ≡ bootParams state ⌝ }
 {
     let none = Params {
         cpus: 0,

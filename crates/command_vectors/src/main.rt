@@ -1,6 +1,6 @@
 // Runs the commands of the numbered cases of data/, in turn, up to the first number without a case. A case is 8-byte words:
 // the boot record (0 fresh, 1 up, 2 closed, then its four values), the function id, x1 to x3, the offset of the granule record (see
-// `cases::granules_at`), which the realm words follow, MECIDWidthm1, the lengths of table, key and page; then these three, and table and
+// `vector_io::granules_at`), which the realm words follow, MECIDWidthm1, the lengths of table, key and page; then these three, and table and
 // page expected at exit. Prints the answer, whether both are as expected, and the realm words.
 use boot::Record;
 use codes::Answer;
@@ -12,9 +12,9 @@ ghost use lib.ListN.{length};
 
 fn print_answer(answer: Answer) {
     io::write_all(STDOUT_FILENO, b"registers");
-    cases::print_word(answer.x0);
-    cases::print_word(answer.x1);
-    cases::print_word(answer.x2);
+    vector_io::print_word(answer.x0);
+    vector_io::print_word(answer.x1);
+    vector_io::print_word(answer.x2);
     io::write_all(STDOUT_FILENO, b"\n");
 }
 
@@ -23,7 +23,7 @@ fn print_work(work: Work) {
         return;
     };
     io::write_all(STDOUT_FILENO, b"reprogram");
-    cases::print_word(mecid);
+    vector_io::print_word(mecid);
     io::write_all(STDOUT_FILENO, b"\n");
 }
 
@@ -41,14 +41,14 @@ fn print_other(state: Record, id: u64, x1: u64, width: u64) {
         return;
     }
     io::write_all(STDOUT_FILENO, b"forward");
-    cases::print_word(features::forward(state, x1));
+    vector_io::print_word(features::forward(state, x1));
     io::write_all(STDOUT_FILENO, b"\n");
 }
 
 // Runs the command of a case on its table, key and page, and prints the answer.
 fn print_command(input: &[u8], table: &mut [u8], words: &mut [u64], key: &[u8], page: &mut [u8]) {
-    let state = cases::record_at(input);
-    let granules = cases::granules_at(input, 72);
+    let state = vector_io::record_at(input);
+    let granules = vector_io::granules_at(input, 72);
     let id = words::word_at(input, 40);
     let x1 = words::word_at(input, 48);
     if id == 0xC400_01B0 {
@@ -74,13 +74,13 @@ fn print_exit(input: &[u8], at: usize, table: &[u8], words: &[u64], page: &[u8])
 {
     let t = table.len();
     let n = page.len();
-    cases::print_same(b"table", table, words::part_of(input, Span { at, len: t }));
-    cases::print_same(
+    vector_io::print_same(b"table", table, words::part_of(input, Span { at, len: t }));
+    vector_io::print_same(
         b"page",
         page,
         words::part_of(input, Span { at: at + t, len: n }),
     );
-    cases::print_words(words);
+    vector_io::print_words(words);
 }
 
 // Fills table, words and page from the case: the table starts at offset 112, the page at offset `at`.
@@ -91,7 +91,7 @@ fn fill(input: &[u8], at: usize, table: &mut [u8], words: &mut [u64], page: &mut
     let n = page.len();
     words::copy(table, words::part_of(input, Span { at: 112, len: t }));
     words::copy(page, words::part_of(input, Span { at, len: n }));
-    cases::fill_words(input, 72, words);
+    vector_io::fill_words(input, 72, words);
 }
 
 // Runs a case. At offset 112 are the table, a key of `k` bytes and the page, then the expected table and page.
@@ -117,17 +117,17 @@ fn print_case(input: &[u8]) {
     let mut table = [0u8; 600];
     let mut words = [0u64; 80];
     let mut page = [0u8; 4200];
-    let t = cases::length_at(input, 88, 600);
-    let w = cases::length_at(input, cases::words_at(input, 72), 80);
-    let k = cases::length_at(input, 96, 4200);
-    let n = cases::length_at(input, 104, 4200);
+    let t = vector_io::length_at(input, 88, 600);
+    let w = vector_io::length_at(input, vector_io::words_at(input, 72), 80);
+    let k = vector_io::length_at(input, 96, 4200);
+    let n = vector_io::length_at(input, 104, 4200);
     print_lent(input, &mut table[..t], &mut words[..w], k, &mut page[..n]);
 }
 
 fn main() {
     let mut input = [0u8; 32768];
     for n in 0..1000u64 {
-        let length = cases::load(n, &mut input);
+        let length = vector_io::load(n, &mut input);
         if length == 0 {
             return;
         }

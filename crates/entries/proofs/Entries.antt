@@ -58,10 +58,12 @@ entries-none w k at page = every-none (λ i. entryAt w k (entryPlace k at i) pag
 
 -- ---- a word of the array is a word of the page
 module _ (k at i count : ℕ) (page : List ℕ) (h : i < count) where
-  pub word-in : (j : ℕ) → j < wordsPerEntry k → getD (wordsAt k count at page) (wordsPerEntry k * i + j) 0 ≡ wordAt (entryPlace k at i + 8 * j) page
+  pub word-in : (j : ℕ) → j < wordsPerEntry k → getD (wordsAt k count at page) (wordsPerEntry k * i + j) 0 ≡ wordAt
+      (entryPlace k at i + 8 * j) page
   unfolding wordsAt size entryPlace
   word-in j l =
-      let m : wordsPerEntry k * i + j < wordsPerEntry k * count = omega (arith, mul-suc (wordsPerEntry k) i, mul-le-mul-left (wordsPerEntry k) h) in
+      let m : wordsPerEntry k * i + j < wordsPerEntry k * count = omega
+      (arith, mul-suc (wordsPerEntry k) i, mul-le-mul-left (wordsPerEntry k) h) in
       wordsOf-at (wordsPerEntry k * count) (part at (8 * (wordsPerEntry k * count)) page) (wordsPerEntry k * i + j) m
       ∙ num-part 8 at (8 * (wordsPerEntry k * count)) (8 * (wordsPerEntry k * i + j)) page (omega arith)
       ∙ ap (λ x. wordAt x page) (let e : at + 8 * (wordsPerEntry k * i + j) ≡ at + 8 * (wordsPerEntry k * i) + 8 * j = omega arith in e)
@@ -90,18 +92,23 @@ sum-snoc [] y = omega arith
 sum-snoc (x ∷ xs) y = rw (sum-snoc xs y) (omega arith)
 
 -- one more word
-pub sum-step : (page : List ℕ) (at off i m acc w r : ℕ) → 8 * (i + 1) ≤ m → off ≡ at + 8 * i → acc ≡ sum (wordsOf i (part at m page)) % 2 ^ 64 → w ≡ wordAt off page →
+pub sum-step : (page : List ℕ) (at off i m acc w r : ℕ) → 8 * (i + 1) ≤ m → off ≡ at + 8 * i →
+    acc ≡ sum (wordsOf i (part at m page)) % 2 ^ 64 → w ≡ wordAt off page →
     r ≡ (acc + w) % 2 ^ 64 → r ≡ sum (wordsOf (i + 1) (part at m page)) % 2 ^ 64
 sum-step page at off i m acc w r h o e f g =
     let k : w ≡ wordAt (at + 8 * i) page = rw o at f in
     rw (add-one, wordsOf-suc, sum-snoc, num-part 8 at m (8 * i) page (omega arith), ← k) (omega arith)
 
 -- one more bank
-pub sum-bank : (page : List ℕ) (at off i m acc x y t r : ℕ) → 16 * (i + 1) ≤ m → off ≡ at + 16 * i → acc ≡ sum (wordsOf (2 * i) (part at m page)) % 2 ^ 64 →
-    x ≡ wordAt off page → y ≡ wordAt (off + 8) page → t ≡ (acc + x) % 2 ^ 64 → r ≡ (t + y) % 2 ^ 64 → r ≡ sum (wordsOf (2 * (i + 1)) (part at m page)) % 2 ^ 64
+pub sum-bank : (page : List ℕ) (at off i m acc x y t r : ℕ) → 16 * (i + 1) ≤ m → off ≡ at + 16 * i →
+    acc ≡ sum (wordsOf (2 * i) (part at m page)) % 2 ^ 64 →
+    x ≡ wordAt off page → y ≡ wordAt (off + 8) page → t ≡ (acc + x) % 2 ^ 64 → r ≡ (t + y) % 2 ^ 64 →
+    r ≡ sum (wordsOf (2 * (i + 1)) (part at m page)) % 2 ^ 64
 sum-bank page at off i m acc x y t r h o e f g u v =
-    let one : t ≡ sum (wordsOf (2 * i + 1) (part at m page)) % 2 ^ 64 = sum-step page at off (2 * i) m acc x t (omega arith) (omega arith) e f u in
-    let two : r ≡ sum (wordsOf (2 * i + 1 + 1) (part at m page)) % 2 ^ 64 = sum-step page at (off + 8) (2 * i + 1) m t y r (omega arith) (omega arith) one g v in
+    let one : t ≡ sum (wordsOf (2 * i + 1) (part at m page)) % 2 ^ 64 = sum-step page at off (2 * i) m acc x t (omega arith)
+    (omega arith) e f u in
+    let two : r ≡ sum (wordsOf (2 * i + 1 + 1) (part at m page)) % 2 ^ 64 = sum-step page at (off + 8) (2 * i + 1) m t y r (omega arith)
+    (omega arith) one g v in
     two ∙ ap (λ n. sum (wordsOf n (part at m page)) % 2 ^ 64) (let z : 2 * i + 1 + 1 ≡ 2 * (i + 1) = omega arith in z)
 
 -- what holds for n entries holds for the section's count, if n is that count
@@ -124,9 +131,18 @@ pub mod-right : (a b : ℕ) → (a + b % 2 ^ 64) % 2 ^ 64 ≡ (a + b) % 2 ^ 64
 mod-right a b = omega arith
 
 -- the total of a section, added in three steps
-total-law : (c p s k x h m t : ℕ) → x ≡ s % 2 ^ 64 → h ≡ (c + p) % 2 ^ 64 → m ≡ (x + k) % 2 ^ 64 → t ≡ (h + m) % 2 ^ 64 → t ≡ (c + p + s + k) % 2 ^ 64
+total-law : (c p s k x h m t : ℕ) → x ≡ s % 2 ^ 64 → h ≡ (c + p) % 2 ^ 64 → m ≡ (x + k) % 2 ^ 64 → t ≡ (h + m) % 2 ^ 64 →
+    t ≡ (c + p + s + k) % 2 ^ 64
 total-law c p s k x h m t a b d e =
-    e ∙ rw (b, d, a, mod-left s k, mod-left (c + p) ((s + k) % 2 ^ 64), mod-right (c + p) (s + k), let f : c + p + s + k ≡ c + p + (s + k) = omega arith in f)
+    e ∙ rw (
+      b,
+      d,
+      a,
+      mod-left s k,
+      mod-left (c + p) ((s + k) % 2 ^ 64),
+      mod-right (c + p) (s + k),
+      let f : c + p + s + k ≡ c + p + (s + k) = omega arith in f,
+    )
 
 pub not-zero : (n : ℕ) → (n ≡ 0 → ⊥) → 0 < n
 not-zero n h = omega arith

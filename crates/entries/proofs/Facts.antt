@@ -18,7 +18,9 @@ use Rattle.entries.proofs.Entries.{entries-same, sum-snoc}
 -- ---- one entry
 pub bank-acts : (b s : ℕ) → BankFacts b s → Yes (bankOk b s)
 unfolding bankOk
-bank-acts b s h = both-of _ _ (eq-eqb (b % 4096) 0 (h .0)) (both-of _ _ (eq-eqb (s % 4096) 0 (h .1)) (both-of _ _ (lt-ltb 0 s (h .2)) (le-leb (b + s) (2 ^ 52) (h .3))))
+bank-acts b s h =
+    both-of _ _ (eq-eqb (b % 4096) 0 (h .0)) (both-of _ _ (eq-eqb (s % 4096) 0 (h .1))
+    (both-of _ _ (lt-ltb 0 s (h .2)) (le-leb (b + s) (2 ^ 52) (h .3))))
 
 pub bank-only : (b s : ℕ) → Yes (bankOk b s) → BankFacts b s
 unfolding bankOk
@@ -41,7 +43,9 @@ flags-only w f h l = either-cases _ _ (λ z. eqb-true f 0 z) (λ z. let m : 4 < 
 
 pub console-acts : (w b n f : ℕ) → ConsoleFacts w b n f → Yes (consoleOk w b n f)
 unfolding consoleOk
-console-acts w b n f h = both-of _ _ (eq-eqb (b % 4096) 0 (h .0)) (both-of _ _ (lt-ltb 0 n (h .1)) (both-of _ _ (le-leb (b + 4096 * n) (2 ^ 52) (h .2)) (flags-acts w f (h .3))))
+console-acts w b n f h =
+    both-of _ _ (eq-eqb (b % 4096) 0 (h .0)) (both-of _ _ (lt-ltb 0 n (h .1))
+    (both-of _ _ (le-leb (b + 4096 * n) (2 ^ 52) (h .2)) (flags-acts w f (h .3))))
 
 pub console-only : (w b n f : ℕ) → Yes (consoleOk w b n f) → ConsoleFacts w b n f
 unfolding consoleOk
@@ -61,15 +65,18 @@ entry-acts : (w c at : ℕ) (page : List ℕ) (k i : ℕ) → i < c → EntriesF
 unfolding entryAt entryRule entryPlace wordsPerEntry
 entry-acts w c at page zero i l t = rw (bank-place at i) (bank-acts _ _ (t .banks (λ z. omega arith) i l))
 entry-acts w c at page (suc zero) i l t = rw (console-place at i) (console-acts w _ _ _ (t .consoles refl i l))
-entry-acts w c at page (suc (suc k)) i l t = rw (ne-eqb (suc (suc k)) 1 (λ z. omega arith), bank-place at i) (bank-acts _ _ (t .banks (λ z. omega arith) i l))
+entry-acts w c at page (suc (suc k)) i l t =
+    rw (ne-eqb (suc (suc k)) 1 (λ z. omega arith), bank-place at i) (bank-acts _ _ (t .banks (λ z. omega arith) i l))
 
-bank-at : (w at : ℕ) (page : List ℕ) (k i : ℕ) → (k ≡ 1 → ⊥) → Yes (entryAt w k (entryPlace k at i) page) → BankFacts (wordAt (at + 16 * i) page) (wordAt (at + 16 * i + 8) page)
+bank-at : (w at : ℕ) (page : List ℕ) (k i : ℕ) → (k ≡ 1 → ⊥) → Yes (entryAt w k (entryPlace k at i) page) →
+    BankFacts (wordAt (at + 16 * i) page) (wordAt (at + 16 * i + 8) page)
 unfolding entryAt entryRule entryPlace wordsPerEntry
 bank-at w at page zero i n h = rw (← bank-place at i) (bank-only _ _ h)
 bank-at w at page (suc zero) i n h = absurd (n refl)
 bank-at w at page (suc (suc k)) i n h = rw (← bank-place at i) (bank-only _ _ (rw (ne-eqb (suc (suc k)) 1 (λ z. omega arith)) at h))
 
-console-at : (w at : ℕ) (page : List ℕ) (k i : ℕ) → k ≡ 1 → Yes (entryAt w k (entryPlace k at i) page) → ConsoleFacts w (wordAt (at + 48 * i) page) (wordAt (at + 48 * i + 8) page) (wordAt (at + 48 * i + 40) page)
+console-at : (w at : ℕ) (page : List ℕ) (k i : ℕ) → k ≡ 1 → Yes (entryAt w k (entryPlace k at i) page) →
+    ConsoleFacts w (wordAt (at + 48 * i) page) (wordAt (at + 48 * i + 8) page) (wordAt (at + 48 * i + 40) page)
 unfolding entryAt entryRule entryPlace wordsPerEntry
 console-at w at page zero i n h = absurd (let y : ⊥ = omega arith in y)
 console-at w at page (suc zero) i n h = rw (← console-place at i) (console-only w _ _ _ h)
@@ -91,13 +98,15 @@ unfolding wordsAt size
 array-sum k c at page = sum-of page at (8 * (wordsPerEntry k * c)) (wordsPerEntry k * c) (omega arith)
 
 module _ (w k c p s at : ℕ) (page : List ℕ) where
-  pub sound-acts : 1 ≤ c → p % 8 ≡ 0 → (c + p + wordsSum at (wordsPerEntry k * c) page + s) % 2 ^ 64 ≡ 0 → EntriesFacts w k c at page → Yes (soundOf w k c p s (wordsAt k c at page))
+  pub sound-acts : 1 ≤ c → p % 8 ≡ 0 → (c + p + wordsSum at (wordsPerEntry k * c) page + s) % 2 ^ 64 ≡ 0 → EntriesFacts w k c at page →
+      Yes (soundOf w k c p s (wordsAt k c at page))
   unfolding soundOf checkOk entriesAt
   sound-acts a b d t =
       both-of _ _ (lt-ltb 0 c (omega arith)) (both-of _ _ (eq-eqb (p % 8) 0 b) (both-of _ _ (eq-eqb ((c + p + sum (wordsAt k c at page) + s) % 2 ^ 64) 0 (rw (array-sum k c at page) d))
       (entries-same w k at c page ∙ every-of c _ (λ i l. entry-acts w c at page k i l t))))
 
-  pub sound-only : Yes (soundOf w k c p s (wordsAt k c at page)) → (1 ≤ c) × (p % 8 ≡ 0) × ((c + p + wordsSum at (wordsPerEntry k * c) page + s) % 2 ^ 64 ≡ 0) × EntriesFacts w k c at page
+  pub sound-only : Yes (soundOf w k c p s (wordsAt k c at page)) →
+      (1 ≤ c) × (p % 8 ≡ 0) × ((c + p + wordsSum at (wordsPerEntry k * c) page + s) % 2 ^ 64 ≡ 0) × EntriesFacts w k c at page
   unfolding soundOf checkOk entriesAt
   sound-only h =
       let t = both-r _ _ h in

@@ -64,11 +64,13 @@ mix true true true true true z = refl
 abbrev more : Bits → Bits → Bits
 more b d = record { low = bitOr (b .low) (d .low); high = bitOr (b .high) (d .high); flags = bitOr (b .flags) (d .flags) }
 
-bank-more : (b d : Bits) (f : ℕ) → bankClear (record { low = bitOr (b .low) (d .low); high = bitOr (b .high) (d .high); flags = f }) ≡ both (bankClear b) (bankClear d)
+bank-more : (b d : Bits) (f : ℕ) → bankClear (record { low = bitOr (b .low) (d .low); high = bitOr (b .high) (d .high); flags = f }) ≡
+    both (bankClear b) (bankClear d)
 unfolding bankClear
 bank-more b d f =
     rw (or-low (b .low) (d .low), or-below 53 (b .low) (d .low), or-below 52 (b .high) (d .high))
-    (mix (eqb (b .low % 4096) 0) (eqb (d .low % 4096) 0) (ltb (b .low) (2 ^ 53)) (ltb (d .low) (2 ^ 53)) (ltb (b .high) (2 ^ 52)) (ltb (d .high) (2 ^ 52)))
+    (mix (eqb (b .low % 4096) 0) (eqb (d .low % 4096) 0) (ltb (b .low) (2 ^ 53)) (ltb (d .low) (2 ^ 53)) (ltb (b .high) (2 ^ 52))
+    (ltb (d .high) (2 ^ 52)))
 
 -- the flags of several consoles and of one more
 pass-more : (x y z : Bool) → either (both x y) z ≡ both (either x z) (either y z)
@@ -89,7 +91,8 @@ console-more w b d =
     (mix (eqb (b .low % 4096) 0) (eqb (d .low % 4096) 0) (ltb (b .high) (2 ^ 40)) (ltb (d .high) (2 ^ 40)) (flagsOk w (b .flags)) (flagsOk w (d .flags)))
 
 -- ---- one entry
-bank-one : (base size span last f : ℕ) → base < 2 ^ 64 → size < 2 ^ 64 → span < 2 ^ 64 → (span + 1) % 2 ^ 64 ≡ size → last ≡ (base + span) % 2 ^ 64 →
+bank-one : (base size span last f : ℕ) → base < 2 ^ 64 → size < 2 ^ 64 → span < 2 ^ 64 → (span + 1) % 2 ^ 64 ≡ size →
+    last ≡ (base + span) % 2 ^ 64 →
     bankClear (record { low = bitOr base size; high = bitOr span last; flags = f }) ≡ bankOk base size
 unfolding bankClear bankOk
 bank-one base size span last f p q r s t =
@@ -102,7 +105,8 @@ bank-one base size span last f p q r s t =
     let b1 : base < 2 ^ 53 = ltb-true _ _ (both-l _ _ b) in
     let c1 : span < 2 ^ 52 = ltb-true _ _ (both-l _ _ c) in
     let c2 : last < 2 ^ 52 = ltb-true _ _ (both-r _ _ c) in
-    both-of _ _ (both-l _ _ a) (both-of _ _ (both-r _ _ a) (both-of _ _ (lt-ltb 0 size (omega arith)) (le-leb (base + size) (2 ^ 52) (omega arith)))))
+    both-of _ _ (both-l _ _ a) (both-of _ _ (both-r _ _ a)
+    (both-of _ _ (lt-ltb 0 size (omega arith)) (le-leb (base + size) (2 ^ 52) (omega arith)))))
     (λ h.
     let b = both-r _ _ h in
     let z : 0 < size = ltb-true _ _ (both-l _ _ (both-r _ _ b)) in
@@ -111,7 +115,8 @@ bank-one base size span last f p q r s t =
     (both-of _ _ (both-of _ _ (lt-ltb base (2 ^ 53) (omega arith)) (lt-ltb size (2 ^ 53) (omega arith)))
     (both-of _ _ (lt-ltb span (2 ^ 52) (omega arith)) (lt-ltb last (2 ^ 52) (omega arith))))))
 
-console-one : (w base pages span last f : ℕ) → base < 2 ^ 64 → pages < 2 ^ 64 → span < 2 ^ 64 → (span + 1) % 2 ^ 64 ≡ pages → last ≡ (base / 4096 + span) % 2 ^ 64 →
+console-one : (w base pages span last f : ℕ) → base < 2 ^ 64 → pages < 2 ^ 64 → span < 2 ^ 64 → (span + 1) % 2 ^ 64 ≡ pages →
+    last ≡ (base / 4096 + span) % 2 ^ 64 →
     consoleClear w (record { low = base; high = bitOr span last; flags = f }) ≡ consoleOk w base pages f
 unfolding consoleClear consoleOk
 console-one w base pages span last f p q r s t =
@@ -131,18 +136,25 @@ console-one w base pages span last f p q r s t =
     both-of _ _ (both-l _ _ h)
     (both-of _ _ (both-of _ _ (lt-ltb span (2 ^ 40) (omega arith)) (lt-ltb last (2 ^ 40) (omega arith))) (both-r _ _ (both-r _ _ b)))))
 
-pub with-bank : (b : Bits) (base size span last : ℕ) → base < 2 ^ 64 → size < 2 ^ 64 → span < 2 ^ 64 → (span + 1) % 2 ^ 64 ≡ size → last ≡ (base + span) % 2 ^ 64 →
-    bankClear (record { low = bitOr (b .low) (bitOr base size); high = bitOr (b .high) (bitOr span last); flags = b .flags }) ≡ both (bankClear b) (bankOk base size)
+pub with-bank : (b : Bits) (base size span last : ℕ) → base < 2 ^ 64 → size < 2 ^ 64 → span < 2 ^ 64 → (span + 1) % 2 ^ 64 ≡ size →
+    last ≡ (base + span) % 2 ^ 64 →
+    bankClear (record { low = bitOr (b .low) (bitOr base size); high = bitOr (b .high) (bitOr span last); flags = b .flags }) ≡ both
+    (bankClear b) (bankOk base size)
 with-bank b base size span last p q r s t =
-    bank-more b (record { low = bitOr base size; high = bitOr span last; flags = 0 }) (b .flags) ∙ ap (both (bankClear b)) (bank-one base size span last 0 p q r s t)
+    bank-more b (record { low = bitOr base size; high = bitOr span last; flags = 0 }) (b .flags) ∙
+    ap (both (bankClear b)) (bank-one base size span last 0 p q r s t)
 
-pub with-console : (w : ℕ) (b : Bits) (base pages span last f : ℕ) → base < 2 ^ 64 → pages < 2 ^ 64 → span < 2 ^ 64 → (span + 1) % 2 ^ 64 ≡ pages → last ≡ (base / 4096 + span) % 2 ^ 64 →
-    consoleClear w (record { low = bitOr (b .low) base; high = bitOr (b .high) (bitOr span last); flags = bitOr (b .flags) f }) ≡ both (consoleClear w b) (consoleOk w base pages f)
+pub with-console : (w : ℕ) (b : Bits) (base pages span last f : ℕ) → base < 2 ^ 64 → pages < 2 ^ 64 → span < 2 ^ 64 →
+    (span + 1) % 2 ^ 64 ≡ pages → last ≡ (base / 4096 + span) % 2 ^ 64 →
+    consoleClear w (record { low = bitOr (b .low) base; high = bitOr (b .high) (bitOr span last); flags = bitOr (b .flags) f }) ≡ both
+    (consoleClear w b) (consoleOk w base pages f)
 with-console w b base pages span last f p q r s t =
-    console-more w b (record { low = base; high = bitOr span last; flags = f }) ∙ ap (both (consoleClear w b)) (console-one w base pages span last f p q r s t)
+    console-more w b (record { low = base; high = bitOr span last; flags = f }) ∙
+    ap (both (consoleClear w b)) (console-one w base pages span last f p q r s t)
 
 -- ---- for the loops: one more entry of the array at an offset
-entries-step : (w k at i : ℕ) (page : List ℕ) → both (entriesAt w k at i page) (entryAt w k (entryPlace k at i) page) ≡ entriesAt w k at (i + 1) page
+entries-step : (w k at i : ℕ) (page : List ℕ) → both (entriesAt w k at i page) (entryAt w k (entryPlace k at i) page) ≡ entriesAt w k at
+    (i + 1) page
 unfolding entriesAt every
 entries-step w k at i page = rw add-one
 
@@ -155,7 +167,8 @@ module _ (w at i : ℕ) (page : List ℕ) (r : Bool) where
       let f : entryAt w k (entryPlace k at i) page ≡ bankOk base size = rw (o, ne-eqb k 1 n, ← p, ← q) in
       e ∙ ap (both (entriesAt w k at i page)) (sym f) ∙ entries-step w k at i page
 
-  pub console-step : (base pages f : ℕ) → base ≡ wordAt (at + 48 * i) page → pages ≡ wordAt (at + 48 * i + 8) page → f ≡ wordAt (at + 48 * i + 40) page →
+  pub console-step : (base pages f : ℕ) → base ≡ wordAt (at + 48 * i) page → pages ≡ wordAt (at + 48 * i + 8) page →
+      f ≡ wordAt (at + 48 * i + 40) page →
       (b : Bool) → b ≡ entriesAt w 1 at i page → r ≡ both b (consoleOk w base pages f) → r ≡ entriesAt w 1 at (i + 1) page
   unfolding entryAt entryPlace entryRule wordsPerEntry
   console-step base pages f p q z b d e =

@@ -27,12 +27,12 @@ unfoldable pub flagsOk : ℕ → ℕ → Bool
 flagsOk w f = either (eqb f 0) (ltb 4 w)
 
 -- "console: base a multiple of 4,096, map_pages not 0, base + 4,096 x map_pages at most 2^52, flags 0"
-unfoldable pub consoleOk : ℕ → ℕ → ℕ → ℕ → Bool
+unfoldable pub consoleOk : (minor base pages flags : ℕ) → Bool
 consoleOk w b n f = both (eqb (b % 4096) 0) (both (ltb 0 n) (both (leb (b + 4096 * n) (2 ^ 52)) (flagsOk w f)))
 
 -- the rule of an entry of section k, given its first, second and last word, on a page of minor w; the second word of a bank is also its
 -- last
-unfoldable pub entryRule : ℕ → ℕ → ℕ → ℕ → ℕ → Bool
+unfoldable pub entryRule : (minor k first second last : ℕ) → Bool
 entryRule w k a b z = cond (eqb k 1) (consoleOk w a b z) (bankOk a b)
 
 -- the rule of the entry whose words start at index j of ws
@@ -44,16 +44,16 @@ unfoldable pub entriesOk : ℕ → ℕ → ℕ → List ℕ → Bool
 entriesOk w k c ws = every c (λ i. entryOk w k ws (wordsPerEntry k * i))
 
 -- the words ws with 0 at index n and at every sixth index after it
-unfoldable pub sixthCleared : ℕ → List ℕ → List ℕ
-sixthCleared n [] = []
-sixthCleared zero (w ∷ ws) = 0 ∷ sixthCleared 5 ws
-sixthCleared (suc n) (w ∷ ws) = w ∷ sixthCleared n ws
+unfoldable pub flagsCleared : ℕ → List ℕ → List ℕ
+flagsCleared n [] = []
+flagsCleared zero (w ∷ ws) = 0 ∷ flagsCleared 5 ws
+flagsCleared (suc n) (w ∷ ws) = w ∷ flagsCleared n ws
 
 -- the entries of section k as a page of minor w shows them. 02, E3: "For minor 5 and above .. any value passes, and the console is shown
 -- and listed with flags 0, while the array lookup gives the page's bytes."
 unfoldable pub shownWords : ℕ → ℕ → List ℕ → List ℕ
 shownWords w zero ws = ws
-shownWords w (suc zero) ws = cond (ltb 4 w) (sixthCleared 5 ws) ws
+shownWords w (suc zero) ws = cond (ltb 4 w) (flagsCleared 5 ws) ws
 shownWords w (suc (suc k)) ws = ws
 
 -- the sum of the words

@@ -13,7 +13,7 @@ unfoldable pub entryAt : ℕ → ℕ → ℕ → List ℕ → Bool
 entryAt w k at page = entryRule w k (wordAt at page) (wordAt (at + 8) page) (wordAt (at + 8 * (wordsPerEntry k - 1)) page)
 
 -- each of the c entries from `at` on keeps its rule
-unfoldable pub entriesAt : ℕ → ℕ → ℕ → ℕ → List ℕ → Bool
+unfoldable pub entriesAt : (minor k at count : ℕ) (page : List ℕ) → Bool
 entriesAt w k at c page = every c (λ i. entryAt w k (entryPlace k at i) page)
 
 -- the sum of the n words from `at` on

@@ -120,7 +120,7 @@ pub fn consoles_clear(bits: Bits, minor: u64) -> bool
 }
 
 // The result for several entries: the sum of their words modulo 2^64, and whether every entry keeps its rule.
-struct Found {
+struct SumCheck {
     sum: u64,
     ok: bool,
 }
@@ -142,7 +142,7 @@ fn sum_words(page: &[u8], at: usize, n: usize) -> u64
 }
 
 // Sums and checks `count` banks or regions of section `k` at `at`, in one loop.
-fn find_banks(page: &[u8], minor: u64, k: usize, at: usize, count: usize) -> Found
+fn sum_and_check_banks(page: &[u8], minor: u64, k: usize, at: usize, count: usize) -> SumCheck
     requires { ⌜ (k ≡ 1 → ⊥) × (at + 16 * count ≤ length (now page)) ⌝ }
     ensures { λ r. ⌜ (r .sum ≡ sumAt at (2 * count) (now (page .entry)) % 2 ^ 64) × (r .ok ≡ entriesAt minor k at count (now (page .entry))) ⌝ }
 {
@@ -160,7 +160,7 @@ fn find_banks(page: &[u8], minor: u64, k: usize, at: usize, count: usize) -> Fou
         from = end;
     }
     let ok = banks_clear(bits);
-    Found { sum, ok }
+    SumCheck { sum, ok }
 }
 
 // Whether each of the `count` consoles at `at` keeps its rule.
@@ -182,28 +182,28 @@ fn consoles_ok(page: &[u8], minor: u64, at: usize, count: usize) -> bool
 }
 
 // Sums and checks `count` consoles at `at`. Two loops, because one loop over all six words of a console is slower.
-fn find_consoles(page: &[u8], minor: u64, at: usize, count: usize) -> Found
+fn sum_and_check_consoles(page: &[u8], minor: u64, at: usize, count: usize) -> SumCheck
     requires { ⌜ at + 48 * count ≤ length (now page) ⌝ }
     ensures { λ r. ⌜ (r .sum ≡ sumAt at (6 * count) (now (page .entry)) % 2 ^ 64) × (r .ok ≡ entriesAt minor 1 at count (now (page .entry))) ⌝ }
 {
     let sum = sum_words(page, at, 6 * count);
     let ok = consoles_ok(page, minor, at, count);
-    Found { sum, ok }
+    SumCheck { sum, ok }
 }
 
 // Sums and checks `count` entries of section `k` at `at`.
-fn find(page: &[u8], minor: u64, k: usize, at: usize, count: usize) -> Found
+fn sum_and_check(page: &[u8], minor: u64, k: usize, at: usize, count: usize) -> SumCheck
     requires { ⌜ at + size k count ≤ length (now page) ⌝ }
     ensures { λ r. ⌜ (r .sum ≡ sumAt at (wordsPerEntry k * count) (now (page .entry)) % 2 ^ 64) × (r .ok ≡ entriesAt minor k at count (now (page .entry))) ⌝ }
 {
     if k == 1 {
-        return find_consoles(page, minor, at, count);
+        return sum_and_check_consoles(page, minor, at, count);
     }
-    find_banks(page, minor, k, at, count)
+    sum_and_check_banks(page, minor, k, at, count)
 }
 
 // The part of a section's rule that is the same in every edition: count, alignment of the pointer, entries and checksum.
-fn is_sound(
+fn array_rules_ok(
     page: &[u8],
     minor: u64,
     k: usize,
@@ -221,7 +221,7 @@ fn is_sound(
     if pointer % 8 != 0 {
         return false;
     }
-    let found = find(page, minor, k, at, count as usize);
+    let found = sum_and_check(page, minor, k, at, count as usize);
     let head = std::num::wrapping_add_u64(count, pointer);
     let tail = std::num::wrapping_add_u64(found.sum, check);
     if std::num::wrapping_add_u64(head, tail) != 0 {
@@ -231,7 +231,7 @@ fn is_sound(
 }
 
 // The same for any offset and count. Returns false if the array is not within the page.
-pub fn sound_at(
+pub fn array_ok(
     page: &[u8],
     minor: u64,
     k: usize,
@@ -248,5 +248,5 @@ pub fn sound_at(
     if !fits(k, count, (page.len() - at) as u64) {
         return false;
     }
-    is_sound(page, minor, k, at, count, pointer, check)
+    array_rules_ok(page, minor, k, at, count, pointer, check)
 }

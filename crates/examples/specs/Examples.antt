@@ -13,17 +13,19 @@ use Rattle.versions.specs.Version.{minorOf, majorOf, aboveOf, versionOk, later,
 use Rattle.words.specs.Word.{leOf, leBytes, part, numAt, joined}
 use Rattle.versions.specs.Edition.{sectionCount, core, editionOk}
 use Rattle.entries.specs.Entry.{wordsPerEntry, size, bankOk, flagsOk, consoleOk, entryRule, entryOk, entriesOk, sum, checkOk}
-use Rattle.sections.specs.Page.{placeOk, mkSec, secAt, mkPlat, foundAt, platAt}
-use Rattle.sections.specs.Section.{platOk, nothing, secOk, extent, apart, clearBefore, platExtent, platClear, rules}
+use Rattle.sections.specs.Page.{placeOk, pageSection, pageSectionAt, pagePlatform, foundAt, platformAt}
+use Rattle.sections.specs.Section.{platformOk, nothing, sectionOk, extent, apart, clearBefore, platExtent, platClear, rules}
 use Rattle.reader.specs.Answer.{ReaderAnswer, refused, shows, allShown, readerGate, judge, readOf}
-use Rattle.fields.specs.Fields.{scan, scanAll, scanOf, judged, fieldsOk, lengthsOk, count, taken, isBare, fieldsTold, tellable}
-use Rattle.lists.specs.Description.{four, descriptionOf, listOk, listsOk, descriptionOk, noneLate, withMark, platBytes, used}
+use Rattle.fields.specs.Fields.{scan, scanAll, scanOf, judged, fieldsOk, lengthsOk, count, taken, isBare, fieldsDescribed, describable}
+use Rattle.writer_checks.specs.Description.{fourLists, descriptionOf, listOk, listsOk, descriptionOk, laterSectionsEmpty, withMark}
+use Rattle.writer_checks.specs.Description.{platBytes, used}
 use Rattle.boot.specs.declared.Params.{Params}
 use Rattle.boot.specs.declared.Record.the-variants.{Up}
-use Rattle.codes.specs.Codes.{extended, x0Of, answerOf, unless, fails, isUp, whenUp}
+use Rattle.codes.specs.Codes.{extended, x0Of, answerOf, isFalse, fails, isUp, whenUp}
 use Rattle.codes.specs.declared.Code.the-variants.{Ok, BadAddr, BadPas, Inval}
-use Rattle.range.specs.Range.{outside, tooLong}
-use Rattle.granule_rules.specs.Granules.{GranuleTable, fromByte, isSharedPage, granuleCode, moveCode, movedBy, fitting, whenFit, moveOf, delegateOf}
+use Rattle.buffer_check.specs.Range.{outside, tooLong}
+use Rattle.granule_rules.specs.Granules.{GranuleTable, fromByte, isSharedPage, granuleCode, moveCode, movedBy, fitting, whenFit, moveOf}
+use Rattle.granule_rules.specs.Granules.{delegateOf}
 use Rattle.banks.specs.Banks.{Granules, granuleAt}
 use Rattle.banks.specs.declared.Granule.the-variants.{At}
 use Rattle.features.specs.Features.{updateCode}
@@ -71,15 +73,18 @@ pub record Examples : Type 0 where
   -- "5* Edition 4: 249 banks fit, 250 do not." 250 banks are refused with W5.
   pub e5 : (isPage (making 4 (banks 249) []) ≡ true) × (making 4 (banks 250) [] ≡ no-page 5)
   -- "6* Edition 4: 83 consoles fit, 84 do not; edition 3 holds 84."
-  pub e6 : (isPage (making 4 [] (consoles 83)) ≡ true) × (making 4 [] (consoles 84) ≡ no-page 5) × (isPage (making 3 [] (consoles 84)) ≡ true)
+  pub e6 : (isPage (making 4 [] (consoles 83)) ≡ true) × (making 4 [] (consoles 84) ≡ no-page 5) ×
+      (isPage (making 3 [] (consoles 84)) ≡ true)
   -- "7* pa = B + 4,095, size 1 is inside; size 2 too long." Since 02, E5: if K is at most 4,095.
-  pub e7 : (u : Params) → u .kept ≤ 4095 → (outside u (u .base + 4095) ≡ false) × (tooLong u (u .base + 4095) 1 ≡ false) × (tooLong u (u .base + 4095) 2 ≡ true)
+  pub e7 : (u : Params) → u .kept ≤ 4095 → (outside u (u .base + 4095) ≡ false) × (tooLong u (u .base + 4095) 1 ≡ false) ×
+      (tooLong u (u .base + 4095) 2 ≡ true)
   -- "8* pa = B + 4,096, size 0 is outside." For any K.
   pub e8 : (u : Params) → outside u (u .base + 4096) ≡ true
   -- "9* Code -2 in x0 is 0xFFFFFFFFFFFFFFFE."
   pub e9 : x0Of BadAddr ≡ 0xFFFFFFFFFFFFFFFE
   -- "10* Delegating a Realm granule: BAD_PAS." (02, E6: with ceil(granules / 64) realm words)
-  pub e10 : (u : Params) (g : Granules) (t : GranuleTable) (addr i : ℕ) → fitting g t ≡ true → granuleAt g (length (t .bytes)) addr ≡ At i → getD (t .bytes) i 0 ≡ 1 →
+  pub e10 : (u : Params) (g : Granules) (t : GranuleTable) (addr i : ℕ) → fitting g t ≡ true →
+      granuleAt g (length (t .bytes)) addr ≡ At i → getD (t .bytes) i 0 ≡ 1 →
       delegateOf (Up u) g t addr ≡ record { answer = answerOf BadPas 0 0; table = t }
   -- "11* m = 7: mecid 255 passes, 256 does not."
   pub e11 : (u : Params) → (5 ≤ u .minor → updateCode u 7 255 ≡ Ok) × (updateCode u 7 256 ≡ Inval)
@@ -88,14 +93,19 @@ check-one : (s : ℕ) → s < 2 ^ 64 → checkOk 1 0x80000028 bank s ≡ true �
 unfolding checkOk sum
 check-one s h t = let e : (1 + 0x80000028 + (0x90000000 + (0x10000000 + 0)) + s) % 2 ^ 64 ≡ 0 = eqb-true _ _ t in omega arith
 
-granted : (u : Params) (g : Granules) (t : GranuleTable) (addr i : ℕ) → fitting g t ≡ true → granuleAt g (length (t .bytes)) addr ≡ At i → getD (t .bytes) i 0 ≡ 1 →
+granted : (u : Params) (g : Granules) (t : GranuleTable) (addr i : ℕ) → fitting g t ≡ true → granuleAt g (length (t .bytes)) addr ≡ At i →
+    getD (t .bytes) i 0 ≡ 1 →
     delegateOf (Up u) g t addr ≡ record { answer = answerOf BadPas 0 0; table = t }
-unfolding moveOf movedBy moveCode granuleCode isSharedPage fromByte whenFit whenUp isUp unless fails
+unfolding moveOf movedBy moveCode granuleCode isSharedPage fromByte whenFit whenUp isUp isFalse fails
 granted u g t addr i w f b = rw (w, f, b)
 
 -- the proof of all examples
 pub examples : Examples
-unfolding later agreed readWith readOf judge readerGate allShown rules platClear platExtent taken foundAt clearBefore apart extent secOk nothing platOk platAt mkPlat secAt mkSec size numAt part leBytes leOf versionOk aboveOf majorOf minorOf checkOk sum both either every joined isPage writeOf writerGate placeOk editionOk descriptionOk tellable isBare fieldsTold scanOf judged scanAll scan fieldsOk lengthsOk count listsOk listOk noneLate used platBytes withMark descriptionOf four core sectionCount wordsPerEntry entriesOk entryOk entryRule bankOk consoleOk flagsOk outside tooLong x0Of extended updateCode fails unless
+unfolding later agreed readWith readOf judge readerGate allShown rules platClear platExtent taken foundAt clearBefore apart extent sectionOk
+    nothing platformOk platformAt pagePlatform pageSectionAt pageSection size numAt part leBytes leOf versionOk aboveOf majorOf minorOf
+    checkOk sum both either every joined isPage writeOf writerGate placeOk editionOk descriptionOk describable isBare fieldsDescribed scanOf
+    judged scanAll scan fieldsOk lengthsOk count listsOk listOk laterSectionsEmpty used platBytes withMark descriptionOf fourLists core
+    sectionCount wordsPerEntry entriesOk entryOk entryRule bankOk consoleOk flagsOk outside tooLong x0Of extended updateCode fails isFalse
 examples = record {
   e1 = refl;
   e1-read = refl;
@@ -111,7 +121,9 @@ examples = record {
     le-ltb (u .base + 4096 - (u .base + 4095)) 1 (omega arith),
     lt-ltb (u .base + 4096 - (u .base + 4095)) 2 (omega arith),
   );
-  e8 = λ u. either-r (ltb (u .base + 4096) (u .base + u .kept)) (leb (u .base + 4096) (u .base + 4096)) (le-leb (u .base + 4096) (u .base + 4096) (omega arith));
+  e8 =
+      λ u. either-r (ltb (u .base + 4096) (u .base + u .kept)) (leb (u .base + 4096) (u .base + 4096))
+      (le-leb (u .base + 4096) (u .base + 4096) (omega arith));
   e9 = refl;
   e10 = granted;
   e11 = λ u. (λ h. rw (le-ltb (u .minor) 5 h), refl);

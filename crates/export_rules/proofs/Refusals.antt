@@ -4,7 +4,7 @@ use mathlib.Core.Path.{_≡_, refl, sym, ap, _∙_}
 use mathlib.Core.Bool.{Bool, true, false, cond}
 use mathlib.Core.List.{List, [], _∷_}
 use lib.ListN.{take, getD}
-use Rattle.codes.specs.Codes.{isOk, unless, fails, ifOk, x0Of, extended, answerOf}
+use Rattle.codes.specs.Codes.{isOk, isFalse, fails, ifOk, x0Of, extended, answerOf}
 use Rattle.codes.specs.declared.Answer.{Answer}
 use Rattle.codes.specs.declared.Code.{Code}
 use Rattle.codes.specs.declared.Code.the-variants.{Ok, Unk, BadAddr, BadPas, Inval, Again}
@@ -27,7 +27,7 @@ use Rattle.token_rules.specs.Token.{TokenStep, settled, sendOf, keeps, tokenOf}
 use Rattle.token_rules.specs.declared.Session.{Session}
 use Rattle.token_rules.proofs.Tokens.{token-refused}
 use Rattle.features.specs.Features.{featuresBy, featuresOf, updateBy, updateOf}
-use Rattle.features.specs.declared.Updated.{Updated}
+use Rattle.features.specs.declared.UpdateResult.{UpdateResult}
 use Rattle.features.proofs.Feature.{features-refused, update-refused}
 use Rattle.queue.specs.Queue.{Lists, SigningStep}
 use Rattle.response_rules.specs.Sign.{SignStep, signOf}
@@ -37,16 +37,20 @@ use Rattle.signing.specs.OnImage.{signingDone, signingOn}
 use Rattle.signing.specs.declared.Opcode.{Opcode}
 use Rattle.signing.proofs.Signings.{signing-by, signing-refused}
 use Rattle.runtime.specs.declared.Kind.{Kind}
-use Rattle.runtime.specs.declared.Kind.the-variants.{ForwardError, Delegate, Undelegate, RealmKey, PlatformToken, Features, TokenSigning, KeyUpdate, Unlisted}
-use Rattle.runtime.specs.Step.{World, Call, call, Step, kindOf, afterMove, afterKey, afterToken, afterSigning, afterUpdate, callBy, callOf, stepOf, replyCode, refusal, usesSession, usesQueue}
+use Rattle.runtime.specs.declared.Kind.the-variants.{ForwardError, Delegate, Undelegate, RealmKey, PlatformToken, Features, TokenSigning}
+use Rattle.runtime.specs.declared.Kind.the-variants.{KeyUpdate, Unlisted}
+use Rattle.runtime.specs.Step.{World, Call, call, Step, kindOf, afterMove, afterKey, afterToken, afterSigning, afterUpdate, callBy, callOf}
+use Rattle.runtime.specs.Step.{stepOf, replyCode, refusal, usesSession, usesQueue}
 use Rattle.runtime.specs.Run.{worldAfter, doneCalls}
 use Rattle.runtime.proofs.Refused.{refused}
 use Rattle.images.specs.Image.{recordOf, isSet, sessionOf, sessionWords, registerWords, workWords, replyRegisters, replyWords}
 use Rattle.images.specs.Realm.{numberX0, numberWords, hitX0, hitWords, builtX0}
 use Rattle.queue_image.specs.Image.{listsIn}
 use Rattle.queue_image.specs.OnImage.{imageStep}
-use Rattle.export_rules.specs.Exports.{sessionAfter, SetUpLeft, setUpLeft, setUpIn, moveLeft, moveIn, moveListIn, buildLeft, buildIn, tokenLeft, tokenIn, signingLeft, signingIn, signLeft, signIn, sessionLeft, queueLeft, CallLeft, callLeft, worldIn, callIn}
-use Rattle.export_rules.specs.Refusals.{Refuses, x0Alone, ExportsRefuse}
+use Rattle.export_rules.specs.Exports.{sessionAfter, SetUpLeft, setUpLeft, setUpIn, moveLeft, moveIn, moveListIn, buildLeft, buildIn}
+use Rattle.export_rules.specs.Exports.{tokenLeft, tokenIn, signingLeft, signingIn, signLeft, signIn, sessionLeft, queueLeft, CallLeft}
+use Rattle.export_rules.specs.Exports.{callLeft, worldIn, callIn}
+use Rattle.export_rules.specs.Refusals.{RefusedCall, x0Alone, ExportsRefuse}
 
 -- ---- x0 is not 0: the code is not OK
 -- an answer's x0 is that of its code
@@ -62,7 +66,7 @@ code-of BadPas h = refl
 code-of Inval h = refl
 code-of Again h = refl
 
-refuses : (a : Answer) → Tells a → Refuses (registerWords a) → isOk (a .code) ≡ false
+refuses : (a : Answer) → Tells a → RefusedCall (registerWords a) → isOk (a .code) ≡ false
 unfolding registerWords
 refuses a t h = code-of (a .code) (λ e. h (t ∙ e))
 
@@ -74,40 +78,53 @@ send-tells : (at : ℕ) (token : List ℕ) (i size : ℕ) (page : List ℕ) → 
 unfolding sendOf answerOf
 send-tells at token i size page = refl
 
-pub token-tells : (r : Record) (page : List ℕ) (s : Session) (busy : Bool) (token : List ℕ) (pa size c : ℕ) → Tells (tokenOf r page s busy token pa size c .answer)
+pub token-tells : (r : Record) (page : List ℕ) (s : Session) (busy : Bool) (token : List ℕ) (pa size c : ℕ) →
+    Tells (tokenOf r page s busy token pa size c .answer)
 unfolding tokenOf
 token-tells r page s busy token pa size c = settled-tells _ _ page s (send-tells _ token _ size page)
 
-pub signing-tells : (r : Record) (page : List ℕ) (q : Lists) (key : List ℕ) (op pa size curve : ℕ) → Tells (signingOf r page q key op pa size curve .answer)
+pub signing-tells : (r : Record) (page : List ℕ) (q : Lists) (key : List ℕ) (op pa size curve : ℕ) →
+    Tells (signingOf r page q key op pa size curve .answer)
 unfolding answerOf
 signing-tells r page q key op pa size curve =
     signing-by (λ (o : Opcode) (s : SigningStep). Tells (s .answer)) r page q key op pa size curve
     (record { refusal = λ o k e. refl; push = λ p e. refl; pull = λ p e. refl; public = λ p e. refl })
 
 -- ---- the exports
-set-up : (granules banks : List ℕ) (n : ℕ) → (setUpIn granules banks n .x0 ≡ 0 → ⊥) → setUpIn granules banks n ≡ record { x0 = x0Of Inval; granules = granules }
-unfolding setUpIn setUpLeft setUpOf setUpCode fails unless x0Of extended
+set-up : (granules banks : List ℕ) (n : ℕ) → (setUpIn granules banks n .x0 ≡ 0 → ⊥) →
+    setUpIn granules banks n ≡ record { x0 = x0Of Inval; granules = granules }
+unfolding setUpIn setUpLeft setUpOf setUpCode fails isFalse x0Of extended
 set-up granules banks n h = go (takes banks n) h
   where
-    go : (b : Bool) → (x0Of (fails (unless b) Inval Ok) ≡ 0 → ⊥) →
-        _≡_ {A = SetUpLeft} (record { x0 = x0Of (fails (unless b) Inval Ok); granules = ifOk (fails (unless b) Inval Ok) (recordFrom (shownCount banks) banks) granules }) (record { x0 = x0Of Inval; granules = granules })
+    go : (b : Bool) → (x0Of (fails (isFalse b) Inval Ok) ≡ 0 → ⊥) →
+        _≡_ {A = SetUpLeft} (record {
+          x0 = x0Of (fails (isFalse b) Inval Ok);
+          granules =
+              ifOk (fails (isFalse b) Inval Ok) (recordFrom (shownCount banks) banks) granules;
+        })
+        (record { x0 = x0Of Inval; granules = granules })
     go true h = absurd (h refl)
     go false h = refl
 
 delegation : (d : Direction) (state granules table words : List ℕ) (address : ℕ) →
-    Refuses (moveIn d state granules table words address .out) → moveIn d state granules table words address ≡ record { out = x0Alone (moveIn d state granules table words address .out); table = table; words = words }
+    RefusedCall (moveIn d state granules table words address .out) →
+    moveIn d state granules table words address ≡ record
+    { out = x0Alone (moveIn d state granules table words address .out); table = table; words = words }
 unfolding moveIn moveLeft registerWords moveOf movedBy answerOf
 delegation d state granules table words address h =
     let m : Moved = moveOf (recordOf state) granules d (tableOf table words) address in
     ap moveLeft (move-refused (recordOf state) granules d (tableOf table words) address (refuses (m .answer) refl h))
 
-realm-key : (state page key : List ℕ) (pa size curve : ℕ) → Refuses (registerWords (realmKeyOf (recordOf state) page key pa size curve .answer)) →
-    (registerWords (realmKeyOf (recordOf state) page key pa size curve .answer) ≡ x0Alone (registerWords (realmKeyOf (recordOf state) page key pa size curve .answer)))
+realm-key : (state page key : List ℕ) (pa size curve : ℕ) →
+    RefusedCall (registerWords (realmKeyOf (recordOf state) page key pa size curve .answer)) →
+    (registerWords (realmKeyOf (recordOf state) page key pa size curve .answer) ≡ x0Alone
+    (registerWords (realmKeyOf (recordOf state) page key pa size curve .answer)))
     × (realmKeyOf (recordOf state) page key pa size curve .page ≡ page)
 unfolding registerWords realmKeyOf keyed answerOf
 realm-key state page key pa size curve h =
     let k : Keyed = realmKeyOf (recordOf state) page key pa size curve in
-    let e : k ≡ record { answer = answerOf (k .answer .code) 0 0; page = page } = key-refused (recordOf state) page key pa size curve (refuses (k .answer) refl h) in
+    let e : k ≡ record { answer = answerOf (k .answer .code) 0 0; page = page } = key-refused (recordOf state) page key pa size curve
+    (refuses (k .answer) refl h) in
     (ap (λ (x : Keyed). registerWords (x .answer)) e, ap (λ (x : Keyed). x .page) e)
 
 -- ---- a refusal leaves an image unchanged
@@ -119,7 +136,7 @@ unfolding sessionAfter
 session-stays k s image f = left-old k (sessionWords s) image f
 
 -- a refused step, with its image
-token-kept : (t : TokenStep) (image page : List ℕ) (s : Session) → Tells (t .answer) → Refuses (registerWords (t .answer)) →
+token-kept : (t : TokenStep) (image page : List ℕ) (s : Session) → Tells (t .answer) → RefusedCall (registerWords (t .answer)) →
     (isOk (t .answer .code) ≡ false → t ≡ record { answer = answerOf (t .answer .code) 0 0; page = page; session = s }) →
     tokenLeft t image ≡ record { out = x0Alone (registerWords (t .answer)); page = page; session = image }
 unfolding tokenLeft registerWords answerOf
@@ -127,14 +144,16 @@ token-kept t image page s told h kept =
     let f : isOk (t .answer .code) ≡ false = refuses (t .answer) told h in
     ap (λ (x : TokenStep). tokenLeft x image) (kept f) ∙ rw (← told, session-stays (t .answer .code) s image f)
 
-platform-token : (state session page token : List ℕ) (busy pa size csize : ℕ) → Refuses (tokenIn state session page token busy pa size csize .out) →
-    tokenIn state session page token busy pa size csize ≡ record { out = x0Alone (tokenIn state session page token busy pa size csize .out); page = page; session = session }
+platform-token : (state session page token : List ℕ) (busy pa size csize : ℕ) →
+    RefusedCall (tokenIn state session page token busy pa size csize .out) →
+    tokenIn state session page token busy pa size csize ≡ record
+    { out = x0Alone (tokenIn state session page token busy pa size csize .out); page = page; session = session }
 unfolding tokenIn tokenLeft
 platform-token state session page token busy pa size csize h =
     token-kept _ session page (sessionOf session) (token-tells (recordOf state) page (sessionOf session) (isSet busy) token pa size csize) h
     (token-refused (recordOf state) page (sessionOf session) (isSet busy) token pa size csize)
 
-signing-kept : (t : SigningStep) (new image page : List ℕ) (q : Lists) → Tells (t .answer) → Refuses (registerWords (t .answer)) →
+signing-kept : (t : SigningStep) (new image page : List ℕ) (q : Lists) → Tells (t .answer) → RefusedCall (registerWords (t .answer)) →
     (isOk (t .answer .code) ≡ false → t ≡ record { answer = answerOf (t .answer .code) 0 0; page = page; queue = q }) →
     signingLeft (imageStep t new image) ≡ record { out = x0Alone (registerWords (t .answer)); page = page; queue = image }
 unfolding signingLeft imageStep registerWords answerOf
@@ -142,44 +161,53 @@ signing-kept t new image page q told h kept =
     let f : isOk (t .answer .code) ≡ false = refuses (t .answer) told h in
     ap (λ (x : SigningStep). signingLeft (imageStep x new image)) (kept f) ∙ rw (← told, left-old (t .answer .code) new image f)
 
-token-signing : (state queue page key : List ℕ) (opcode pa size curve : ℕ) → Refuses (signingIn state queue page key opcode pa size curve .out) →
-    signingIn state queue page key opcode pa size curve ≡ record { out = x0Alone (signingIn state queue page key opcode pa size curve .out); page = page; queue = queue }
+token-signing : (state queue page key : List ℕ) (opcode pa size curve : ℕ) →
+    RefusedCall (signingIn state queue page key opcode pa size curve .out) →
+    signingIn state queue page key opcode pa size curve ≡ record
+    { out = x0Alone (signingIn state queue page key opcode pa size curve .out); page = page; queue = queue }
 unfolding signingIn signingOn signingLeft imageStep
 token-signing state queue page key opcode pa size curve h =
     signing-kept _ _ queue page (listsIn queue) (signing-tells (recordOf state) page (listsIn queue) key opcode pa size curve) h
     (signing-refused (recordOf state) page (listsIn queue) key opcode pa size curve)
 
-signer : (queue signature : List ℕ) → Refuses (signIn queue signature .out) → signIn queue signature ≡ record { out = x0Alone (signIn queue signature .out); queue = queue }
+signer : (queue signature : List ℕ) → RefusedCall (signIn queue signature .out) →
+    signIn queue signature ≡ record { out = x0Alone (signIn queue signature .out); queue = queue }
 unfolding signIn signLeft signOn signOf registerWords answerOf
 signer queue signature h =
     let t : SignStep = signOf (listsIn queue) signature in
     let f : isOk (t .answer .code) ≡ false = refuses (t .answer) refl h in
     rw (left-old (t .answer .code) (signDone queue signature) queue f)
 
-feature-registers : (state : List ℕ) (index : ℕ) → Refuses (registerWords (featuresOf (recordOf state) index)) →
+feature-registers : (state : List ℕ) (index : ℕ) → RefusedCall (registerWords (featuresOf (recordOf state) index)) →
     registerWords (featuresOf (recordOf state) index) ≡ x0Alone (registerWords (featuresOf (recordOf state) index))
 unfolding registerWords featuresOf featuresBy answerOf
-feature-registers state index h = ap registerWords (features-refused (recordOf state) index (refuses (featuresOf (recordOf state) index) refl h))
+feature-registers state index h =
+    ap registerWords (features-refused (recordOf state) index (refuses (featuresOf (recordOf state) index) refl h))
 
-key-update : (state : List ℕ) (width mecid : ℕ) → Refuses (registerWords (updateOf (recordOf state) width mecid .answer)) →
-    (registerWords (updateOf (recordOf state) width mecid .answer) ≡ x0Alone (registerWords (updateOf (recordOf state) width mecid .answer)))
+key-update : (state : List ℕ) (width mecid : ℕ) → RefusedCall (registerWords (updateOf (recordOf state) width mecid .answer)) →
+    (registerWords (updateOf (recordOf state) width mecid .answer) ≡ x0Alone
+    (registerWords (updateOf (recordOf state) width mecid .answer)))
     × (workWords (updateOf (recordOf state) width mecid .work) ≡ 0 ∷ 0 ∷ [])
 unfolding registerWords workWords updateOf updateBy answerOf
 key-update state width mecid h =
-    let u : Updated = updateOf (recordOf state) width mecid in
-    let e : u ≡ record { answer = answerOf (u .answer .code) 0 0; work = Nothing } = update-refused (recordOf state) width mecid (refuses (u .answer) refl h) in
-    (ap (λ (x : Updated). registerWords (x .answer)) e, ap (λ (x : Updated). workWords (x .work)) e)
+    let u : UpdateResult = updateOf (recordOf state) width mecid in
+    let e : u ≡ record { answer = answerOf (u .answer .code) 0 0; work = Nothing } = update-refused (recordOf state) width mecid
+    (refuses (u .answer) refl h) in
+    (ap (λ (x : UpdateResult). registerWords (x .answer)) e, ap (λ (x : UpdateResult). workWords (x .work)) e)
 
 -- ---- the dispatcher
-reply-tells : (k : Kind) (g : Granules) (w : World) (c : Call) → Refuses (replyRegisters (callBy k g w c .reply)) → isOk (replyCode (callBy k g w c .reply)) ≡ false
-unfolding callBy afterMove afterKey afterToken afterSigning afterUpdate replyRegisters replyCode moveOf movedBy realmKeyOf keyed featuresOf featuresBy updateOf updateBy answerOf
+reply-tells : (k : Kind) (g : Granules) (w : World) (c : Call) → RefusedCall (replyRegisters (callBy k g w c .reply)) →
+    isOk (replyCode (callBy k g w c .reply)) ≡ false
+unfolding callBy afterMove afterKey afterToken afterSigning afterUpdate replyRegisters replyCode moveOf movedBy realmKeyOf keyed featuresOf
+    featuresBy updateOf updateBy answerOf
 reply-tells ForwardError g w c h = absurd (h refl)
 reply-tells Delegate g w c h = refuses (moveOf (c .state) g Direction.Delegate (w .table) (c .x1) .answer) refl h
 reply-tells Undelegate g w c h = refuses (moveOf (c .state) g Direction.Undelegate (w .table) (c .x1) .answer) refl h
 reply-tells RealmKey g w c h = refuses (realmKeyOf (c .state) (w .page) (c .realmKey) (c .x1) (c .x2) (c .x3) .answer) refl h
 reply-tells PlatformToken g w c h = refuses _ (token-tells (c .state) (w .page) (w .session) (c .busy) (c .token) (c .x1) (c .x2) (c .x3)) h
 reply-tells Features g w c h = refuses (featuresOf (c .state) (c .x1)) refl h
-reply-tells TokenSigning g w c h = refuses _ (signing-tells (c .state) (w .page) (w .queue) (c .publicKey) (c .x1) (c .x2) (c .x3) (c .x4)) h
+reply-tells TokenSigning g w c h =
+    refuses _ (signing-tells (c .state) (w .page) (w .queue) (c .publicKey) (c .x1) (c .x2) (c .x3) (c .x4)) h
 reply-tells KeyUpdate g w c h = refuses (updateOf (c .state) (c .width) (c .x1) .answer) refl h
 reply-tells Unlisted g w c h = refl
 
@@ -197,7 +225,8 @@ queue-kept kind k new image f = either-kept (usesQueue kind) _ image (left-old k
 
 -- what a refusal leaves: x0, and zeros in what is written
 abbrev kept : List ℕ → List ℕ → List ℕ → List ℕ → List ℕ → ℕ → CallLeft
-kept session queue page table words x0 = record { out = x0 ∷ 0 ∷ 0 ∷ []; work = 0 ∷ 0 ∷ []; page = page; table = table; words = words; session = session; queue = queue }
+kept session queue page table words x0 =
+    record { out = x0 ∷ 0 ∷ 0 ∷ []; work = 0 ∷ 0 ∷ []; page = page; table = table; words = words; session = session; queue = queue }
 
 step-kept : (n : Kind) (st : Step) (w : World) (session new queue : List ℕ) → isOk (replyCode (st .reply)) ≡ false → st ≡ refusal 0 st w →
     callLeft n st session new queue ≡ kept session queue (w .page) (w .table .bytes) (w .table .words) (x0Of (replyCode (st .reply)))
@@ -206,15 +235,18 @@ step-kept n st w session new queue f e =
     let k : Code = replyCode (st .reply) in
     ap (λ (x : Step). callLeft n x session new queue) e ∙ rw (session-kept n k (w .session) session f, queue-kept n k new queue f)
 
-dispatched : (granules session queue page table words : List ℕ) (c : Call) → Refuses (callIn granules session queue page table words c .out) →
-    callIn granules session queue page table words c ≡ kept session queue page table words (getD (callIn granules session queue page table words c .out) 0 0)
+dispatched : (granules session queue page table words : List ℕ) (c : Call) →
+    RefusedCall (callIn granules session queue page table words c .out) →
+    callIn granules session queue page table words c ≡ kept session queue page table words
+    (getD (callIn granules session queue page table words c .out) 0 0)
 unfolding callIn callLeft callOf stepOf doneCalls worldAfter
 dispatched granules session queue page table words c h =
     let g : Granules = granules in
     let w : World = worldIn session queue page table words in
     let st : Step = callOf g w c in
     let f : isOk (replyCode (st .reply)) ≡ false = reply-tells (kindOf (c .id)) g w c h in
-    let q = step-kept (kindOf (c .id)) st w session (signingDone (c .state) page queue (c .x1) (c .x2) (c .x3)) queue f (refused g w (call c) f) in
+    let q = step-kept (kindOf (c .id)) st w session (signingDone (c .state) page queue (c .x1) (c .x2) (c .x3)) queue f
+    (refused g w (call c) f) in
     q ∙ ap (kept session queue page table words) (sym (ap (λ (l : CallLeft). getD (l .out) 0 0) q))
 
 -- a list, for any code
@@ -239,12 +271,15 @@ next-told Hit.Inval h = refl
 next-told Hit.Nothing h = refl
 next-told (Hit.At i) h = absurd (h refl)
 
-build-told : (granules table words : List ℕ) → (buildIn granules table words .x0 ≡ 0 → ⊥) → buildIn granules table words ≡ record { x0 = x0Of Inval; words = words }
+build-told : (granules table words : List ℕ) → (buildIn granules table words .x0 ≡ 0 → ⊥) →
+    buildIn granules table words ≡ record { x0 = x0Of Inval; words = words }
 unfolding buildIn buildLeft realmBuildOf builtX0 x0Of extended
 build-told granules table words h = go (bothFit table words (granuleCount granules)) h
   where
-    go : (b : Bool) → (buildLeft (cond b (record { done = true; words = realmWords table }) (record { done = false; words = words })) .x0 ≡ 0 → ⊥) →
-        buildLeft (cond b (record { done = true; words = realmWords table }) (record { done = false; words = words })) ≡ record { x0 = x0Of Inval; words = words }
+    go : (b : Bool) → (buildLeft (cond b (record { done = true; words = realmWords table })
+        (record { done = false; words = words })) .x0 ≡ 0 → ⊥) →
+        buildLeft (cond b (record { done = true; words = realmWords table }) (record { done = false; words = words })) ≡
+        record { x0 = x0Of Inval; words = words }
     go true h = absurd (h refl)
     go false h = refl
 

@@ -9,10 +9,11 @@ use lib.Dec.{ltb, eqb}
 use Rattle.words.specs.Word.{part, wordAt, wordsOf}
 use Rattle.words.proofs.Read.{wordsOf-at}
 use Rattle.entries.specs.Entry.{wordsPerEntry, size, shownWords}
-use Rattle.sections.specs.Page.{inPage, arrayAt, countAt, pointerAt, Sec, mkSec, secAt}
+use Rattle.sections.specs.Page.{inPage, arrayAt, countAt, pointerAt, PageSection, pageSection, pageSectionAt}
 use Rattle.sections.specs.Section.{wordsIn}
 use Rattle.versions.specs.Edition.{sectionCount}
-use Rattle.reader.specs.Answer.{Shown, absent, empty, full, ReaderAnswer, shownSec, shown, allShown, readerGate, judge, readOf, bytesIn, lookIn, lookOf, entryWord, wordIn, entryCount, countIn}
+use Rattle.reader.specs.Answer.{Shown, absent, empty, full, ReaderAnswer, shownSec, shown, allShown, readerGate, judge, readOf, bytesIn}
+use Rattle.reader.specs.Answer.{lookIn, lookOf, entryWord, wordIn, entryCount, countIn}
 use Rattle.codes.specs.declared.Code.the-variants.{Ok}
 use Rattle.banks.specs.Banks.{Granules, Bank, banksBy, banksOf, bankIn, banksIn, setUpCode, setUpOf}
 use Rattle.banks.specs.Banks as banks
@@ -20,7 +21,8 @@ use Rattle.banks.proofs.Making.{banks-same, banks-made}
 use Rattle.export_rules.specs.ShownBanks.{shownBanks}
 
 -- ---- for a section with entries
-word-is : (bs : List ℕ) (c i j off : ℕ) → off ≡ 8 * (2 * i + j) → 2 * i + j < 2 * c → wordAt off bs ≡ getD (wordsOf (2 * c) bs) (2 * i + j) 0
+word-is : (bs : List ℕ) (c i j off : ℕ) → off ≡ 8 * (2 * i + j) → 2 * i + j < 2 * c →
+    wordAt off bs ≡ getD (wordsOf (2 * c) bs) (2 * i + j) 0
 word-is bs c i j off e l = rw e (sym (wordsOf-at (2 * c) bs (2 * i + j) l))
 
 entry-bank : List ℕ → ℕ → ℕ → Bank
@@ -34,9 +36,11 @@ full-banks bs c h =
 
 -- ---- for any section, and for a reader's answer
 abbrev Alike : Shown → Type 0
-Alike s = banksIn (length (bytesIn s) / 16) (bytesIn s) ≡ banksBy (λ i. record { base = entryWord 0 i 0 s; size = entryWord 0 i 1 s }) 0 (entryCount 0 s)
+Alike s =
+    banksIn (length (bytesIn s) / 16) (bytesIn s) ≡ banksBy (λ i. record { base = entryWord 0 i 0 s; size = entryWord 0 i 1 s }) 0
+    (entryCount 0 s)
 
-section-alike : (w e : ℕ) (s : Sec) → length (s .bytes) ≤ 16 * s .count → Alike (shown w e 0 s)
+section-alike : (w e : ℕ) (s : PageSection) → length (s .bytes) ≤ 16 * s .count → Alike (shown w e 0 s)
 unfolding shown shownSec shownWords wordsIn bytesIn entryWord entryCount wordsPerEntry banksBy entry-bank
 section-alike w e s h = go (ltb 0 (sectionCount e)) (eqb (s .count) 0)
   where
@@ -53,9 +57,12 @@ array-short base page p n = go (inPage base p n)
     go true = omega (arith, length-take n (drop (p - base) page))
     go false = omega arith
 
-section-short : (base : ℕ) (page : List ℕ) → length (secAt base page 0 .bytes) ≤ 16 * secAt base page 0 .count
-unfolding secAt mkSec size wordsPerEntry
-section-short base page = let h : length (secAt base page 0 .bytes) ≤ 8 * (2 * countAt 0 page) = array-short base page (pointerAt 0 page) (8 * (2 * countAt 0 page)) in omega arith
+section-short : (base : ℕ) (page : List ℕ) → length (pageSectionAt base page 0 .bytes) ≤ 16 * pageSectionAt base page 0 .count
+unfolding pageSectionAt pageSection size wordsPerEntry
+section-short base page =
+    let h : length (pageSectionAt base page 0 .bytes) ≤ 8 * (2 * countAt 0 page) = array-short base page (pointerAt 0 page)
+    (8 * (2 * countAt 0 page)) in
+    omega arith
 
 abbrev AlikeOf : ReaderAnswer → Type 0
 AlikeOf a = banksIn (banks.shownCount (lookIn a 0)) (lookIn a 0) ≡ shownBanks a
@@ -68,11 +75,14 @@ gate-alike true false o a h = refl
 gate-alike false v o a h = refl
 
 -- the banks in the bytes that the array lookup finds are those that the reader shows; for a refused page there are no banks
-pub banks-shown : (r base : ℕ) (page : List ℕ) → banksIn (banks.shownCount (lookOf r base page 0)) (lookOf r base page 0) ≡ shownBanks (readOf r base page)
+pub banks-shown : (r base : ℕ) (page : List ℕ) → banksIn (banks.shownCount (lookOf r base page 0)) (lookOf r base page 0) ≡ shownBanks
+    (readOf r base page)
 unfolding lookOf readOf judge allShown lookIn wordIn countIn
-banks-shown r base page = gate-alike _ _ _ _ (section-alike _ _ (secAt base page 0) (section-short base page))
+banks-shown r base page = gate-alike _ _ _ _ (section-alike _ _ (pageSectionAt base page 0) (section-short base page))
 
 -- so a record set up from them has these banks
-pub set-up-banks : (r base : ℕ) (page : List ℕ) (n : ℕ) (g : Granules) → setUpCode (lookOf r base page 0) n ≡ Ok → banksOf (setUpOf (lookOf r base page 0) n g .granules) ≡ shownBanks (readOf r base page)
+pub set-up-banks : (r base : ℕ) (page : List ℕ) (n : ℕ) (g : Granules) → setUpCode (lookOf r base page 0) n ≡ Ok →
+    banksOf (setUpOf (lookOf r base page 0) n g .granules) ≡ shownBanks (readOf r base page)
 unfolding setUpOf
-set-up-banks r base page n g h = rw h (banks-made (banks.shownCount (lookOf r base page 0)) (lookOf r base page 0) ∙ banks-shown r base page)
+set-up-banks r base page n g h =
+    rw h (banks-made (banks.shownCount (lookOf r base page 0)) (lookOf r base page 0) ∙ banks-shown r base page)

@@ -34,7 +34,8 @@ unfolding sectionAt
 core-section e base k page h = rw (core-word (16 + 24 * k) page (omega arith), core-word (24 + 24 * k) page (omega arith))
 
 -- in an accepted page every array starts at or above the base
-pub core-base : (w e base k : ℕ) (page : List ℕ) → rulesAt w e base page ≡ true → k ≤ 3 → k < sectionCount e → (countAt k (part 0 112 page) ≡ 0 → ⊥) → base ≤ pointerAt k (part 0 112 page)
+pub core-base : (w e base k : ℕ) (page : List ℕ) → rulesAt w e base page ≡ true → k ≤ 3 → k < sectionCount e →
+    (countAt k (part 0 112 page) ≡ 0 → ⊥) → base ≤ pointerAt k (part 0 112 page)
 core-base w e base k page o m h z =
     let c : countAt k (part 0 112 page) ≡ countAt k page = core-word (16 + 24 * k) page (omega arith) in
     let p : pointerAt k (part 0 112 page) ≡ pointerAt k page = core-word (24 + 24 * k) page (omega arith) in
@@ -43,12 +44,15 @@ core-base w e base k page o m h z =
     omega arith
 
 -- ---- from the values that the code reads: a section with entries, the page's answer, a word of the view
-pub told-entries : (e base k : ℕ) (core view : List ℕ) → k < sectionCount e → (n p : ℕ) → n ≡ countAt k core → p ≡ pointerAt k core → (n ≡ 0 → ⊥) → (after : List ℕ) → after ≡ splice (3 + 3 * k) (2 ∷ (p - base) ∷ n ∷ []) view →
+pub told-entries : (e base k : ℕ) (core view : List ℕ) → k < sectionCount e → (n p : ℕ) → n ≡ countAt k core → p ≡ pointerAt k core →
+    (n ≡ 0 → ⊥) → (after : List ℕ) → after ≡ splice (3 + 3 * k) (2 ∷ (p - base) ∷ n ∷ []) view →
     after ≡ splice (3 + 3 * k) (sectionWords (sectionAt e base core k)) view
 unfolding sectionWords tagWord placeWord countWord
-told-entries e base k core view h n p cn cp z after m = m ∙ rw (cp, cn) (ap (λ s. splice (3 + 3 * k) (sectionWords s) view) (section-entries e base k core h (λ y. z (cn ∙ y))))
+told-entries e base k core view h n p cn cp z after m =
+    m ∙ rw (cp, cn) (ap (λ s. splice (3 + 3 * k) (sectionWords s) view) (section-entries e base k core h (λ y. z (cn ∙ y))))
 
-pub told-read : (r base w m : ℕ) (page : List ℕ) → m ≡ min r w → Accepted (viewAt w (min r w) base page) ≡ readingOf r base page → (after : List ℕ) → after ≡ viewWords (viewAt w m base page) →
+pub told-read : (r base w m : ℕ) (page : List ℕ) → m ≡ min r w → Accepted (viewAt w (min r w) base page) ≡ readingOf r base page →
+    (after : List ℕ) → after ≡ viewWords (viewAt w m base page) →
     (pos 0 ≡ codeIn (readOf r base page)) × (after ≡ answerWords base page (readOf r base page))
 told-read r base w m page e f after h =
     let g = shown-answer r base page w (min r w) f in
@@ -59,7 +63,8 @@ laid-next : (xs ys l m : List ℕ) (n : ℕ) → m ≡ splice 0 xs l → n ≡ l
 laid-next xs ys l m n e f = rw (e, f) (rw zero-add at (splice-splice 0 xs l (omega arith) ys))
 
 pub view-laid : (v : View) (l : List ℕ) → length l ≡ 15 → (a b c d e : List ℕ) → a ≡ splice 0 (v .minor ∷ v .edition ∷ v .plat ∷ []) l →
-    b ≡ splice 3 (sectionWords (v .dram)) a → c ≡ splice 6 (sectionWords (v .console)) b → d ≡ splice 9 (sectionWords (v .ncoh)) c → e ≡ splice 12 (sectionWords (v .coh)) d → e ≡ viewWords v
+    b ≡ splice 3 (sectionWords (v .dram)) a → c ≡ splice 6 (sectionWords (v .console)) b → d ≡ splice 9 (sectionWords (v .ncoh)) c →
+    e ≡ splice 12 (sectionWords (v .coh)) d → e ≡ viewWords v
 unfolding sectionWords viewWords
 view-laid v l n a b c d e f g h i j =
     let w = v .minor ∷ v .edition ∷ v .plat ∷ [] in

@@ -9,7 +9,8 @@ use Rattle.attest.proofs.Unread.{key-unread}
 use Rattle.token_rules.proofs.Unread.{token-unread}
 use Rattle.signing.proofs.Unread.{signing-image-unread, signing-done-unread}
 use Rattle.runtime.specs.declared.Kind.{Kind}
-use Rattle.runtime.specs.declared.Kind.the-variants.{ForwardError, Delegate, Undelegate, RealmKey, PlatformToken, Features, TokenSigning, KeyUpdate, Unlisted}
+use Rattle.runtime.specs.declared.Kind.the-variants.{ForwardError, Delegate, Undelegate, RealmKey, PlatformToken, Features, TokenSigning}
+use Rattle.runtime.specs.declared.Kind.the-variants.{KeyUpdate, Unlisted}
 use Rattle.runtime.specs.Step.{Call, Step, kindOf, replyCode}
 use Rattle.runtime.proofs.Unread.{SameStep, signing-id, call-unread}
 use Rattle.images.specs.Image.{recordOf, isSet, sessionOf, registerWords, replyRegisters, replyWords}
@@ -29,7 +30,8 @@ queue-same TokenSigning j a b image h = rw (h refl)
 queue-same KeyUpdate j a b image h = refl
 queue-same Unlisted j a b image h = refl
 
-left-same : (k : Kind) (x y : Step) (session a b queue : List ℕ) → SameStep x y → (k ≡ TokenSigning → a ≡ b) → SameCallLeft (callLeft k x session a queue) (callLeft k y session b queue)
+left-same : (k : Kind) (x y : Step) (session a b queue : List ℕ) → SameStep x y → (k ≡ TokenSigning → a ≡ b) →
+    SameCallLeft (callLeft k x session a queue) (callLeft k y session b queue)
 unfolding callLeft
 left-same k x y session a b queue s h =
     record {
@@ -42,19 +44,22 @@ left-same k x y session a b queue s h =
     }
 
 module _ (p q : List ℕ) (e : length p ≡ length q) where
-  token-same : (state session token : List ℕ) (busy pa size csize : ℕ) → SameTokenLeft (tokenIn state session p token busy pa size csize) (tokenIn state session q token busy pa size csize)
+  token-same : (state session token : List ℕ) (busy pa size csize : ℕ) →
+      SameTokenLeft (tokenIn state session p token busy pa size csize) (tokenIn state session q token busy pa size csize)
   unfolding tokenIn tokenLeft
   token-same state session token busy pa size csize =
       let t = token-unread (recordOf state) p q (sessionOf session) (isSet busy) token pa size csize e in
       rw (t .0, t .1) (refl, refl)
 
-  signing-same : (state queue key : List ℕ) (opcode pa size curve : ℕ) → (opcode ≡ 1 → ⊥) → SameSigningLeft (signingIn state queue p key opcode pa size curve) (signingIn state queue q key opcode pa size curve)
+  signing-same : (state queue key : List ℕ) (opcode pa size curve : ℕ) → (opcode ≡ 1 → ⊥) →
+      SameSigningLeft (signingIn state queue p key opcode pa size curve) (signingIn state queue q key opcode pa size curve)
   unfolding signingIn signingLeft
   signing-same state queue key opcode pa size curve n =
       let s = signing-image-unread (recordOf state) p q queue opcode pa size n key curve e in
       (ap registerWords (s .0), s .1)
 
-  call-same : (granules session queue table words : List ℕ) (c : Call) → (c .id ≡ 0xC40001B5 → c .x1 ≡ 1 → ⊥) → SameCallLeft (callIn granules session queue p table words c) (callIn granules session queue q table words c)
+  call-same : (granules session queue table words : List ℕ) (c : Call) → (c .id ≡ 0xC40001B5 → c .x1 ≡ 1 → ⊥) →
+      SameCallLeft (callIn granules session queue p table words c) (callIn granules session queue q table words c)
   unfolding callIn
   call-same granules session queue table words c n =
       left-same (kindOf (c .id)) _ _ session _ _ queue

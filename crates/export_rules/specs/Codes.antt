@@ -31,22 +31,27 @@ pub record ExportsTell : Type 0 where
   pub setUp : (granules banks : List ℕ) (n : ℕ) → setUpIn granules banks n .x0 ≡ x0Of (setUpOf banks n granules .code)
   -- pbeam_delegate, pbeam_undelegate
   pub delegation : (d : Direction) (state granules table words : List ℕ) (address : ℕ) →
-      x0In (moveIn d state granules table words address .out) ≡ x0Of (moveOf (recordOf state) granules d (tableOf table words) address .answer .code)
+      x0In (moveIn d state granules table words address .out) ≡ x0Of
+      (moveOf (recordOf state) granules d (tableOf table words) address .answer .code)
   -- pbeam_delegate_list, pbeam_undelegate_list
   pub lists : (d : Direction) (state granules table words addresses : List ℕ) →
-      x0In (moveListIn d state granules table words addresses .out) ≡ x0Of (moveListOf (recordOf state) granules d (tableOf table words) addresses .answer .code)
+      x0In (moveListIn d state granules table words addresses .out) ≡ x0Of
+      (moveListOf (recordOf state) granules d (tableOf table words) addresses .answer .code)
   -- pbeam_realm_key
   pub realmKey : (state page key : List ℕ) (pa size curve : ℕ) →
-      x0In (registerWords (realmKeyOf (recordOf state) page key pa size curve .answer)) ≡ x0Of (realmKeyOf (recordOf state) page key pa size curve .answer .code)
+      x0In (registerWords (realmKeyOf (recordOf state) page key pa size curve .answer)) ≡ x0Of
+      (realmKeyOf (recordOf state) page key pa size curve .answer .code)
   -- pbeam_platform_token
   pub token : (state session page token : List ℕ) (busy pa size csize : ℕ) →
       x0In (tokenIn state session page token busy pa size csize .out)
       ≡ x0Of (tokenOf (recordOf state) page (sessionOf session) (isSet busy) token pa size csize .answer .code)
   -- pbeam_features
-  pub features : (state : List ℕ) (index : ℕ) → x0In (registerWords (featuresOf (recordOf state) index)) ≡ x0Of (featuresOf (recordOf state) index .code)
+  pub features : (state : List ℕ) (index : ℕ) → x0In (registerWords (featuresOf (recordOf state) index)) ≡ x0Of
+      (featuresOf (recordOf state) index .code)
   -- pbeam_token_signing
   pub signing : (state queue page key : List ℕ) (opcode pa size curve : ℕ) →
-      x0In (signingIn state queue page key opcode pa size curve .out) ≡ x0Of (signingOf (recordOf state) page (listsIn queue) key opcode pa size curve .answer .code)
+      x0In (signingIn state queue page key opcode pa size curve .out) ≡ x0Of
+      (signingOf (recordOf state) page (listsIn queue) key opcode pa size curve .answer .code)
   -- pbeam_key_update
   pub update : (state : List ℕ) (width mecid : ℕ) →
       x0In (registerWords (updateOf (recordOf state) width mecid .answer)) ≡ x0Of (updateOf (recordOf state) width mecid .answer .code)
@@ -54,4 +59,5 @@ pub record ExportsTell : Type 0 where
   pub sign : (queue signature : List ℕ) → x0In (signIn queue signature .out) ≡ x0Of (signOf (listsIn queue) signature .answer .code)
   -- pbeam_call: the code of the command with that id (`call-acts` of `runtime`)
   pub call : (granules session queue page table words : List ℕ) (c : Call) →
-      x0In (callIn granules session queue page table words c .out) ≡ x0Of (replyCode (callOf granules (worldIn session queue page table words) c .reply))
+      x0In (callIn granules session queue page table words c .out) ≡ x0Of
+      (replyCode (callOf granules (worldIn session queue page table words) c .reply))

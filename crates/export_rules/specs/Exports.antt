@@ -6,7 +6,7 @@ use mathlib.Core.List.{List}
 use lib.ListN.{getD}
 use Rattle.codes.specs.Codes.{x0Of, ifOk}
 use Rattle.codes.specs.declared.Code.{Code}
-use Rattle.lists.specs.Description.{descriptionOf}
+use Rattle.writer_checks.specs.Description.{descriptionOf}
 use Rattle.writer_rules.specs.Write.{Made, writeOf}
 use Rattle.banks.specs.Banks.{SetUp, setUpOf, granuleCount}
 use Rattle.realm_words.specs.Answers.{Built, realmBuildOf}
@@ -87,8 +87,9 @@ unfoldable pub tokenLeft : TokenStep → List ℕ → TokenLeft
 tokenLeft t image = record { out = registerWords (t .answer); page = t .page; session = sessionAfter (t .answer .code) (t .session) image }
 
 -- what pbeam_platform_token leaves
-unfoldable pub tokenIn : List ℕ → List ℕ → List ℕ → List ℕ → ℕ → ℕ → ℕ → ℕ → TokenLeft
-tokenIn state image page token busy pa size c = tokenLeft (tokenOf (recordOf state) page (sessionOf image) (isSet busy) token pa size c) image
+unfoldable pub tokenIn : (state session page token : List ℕ) (busy pa size csize : ℕ) → TokenLeft
+tokenIn state image page token busy pa size c =
+    tokenLeft (tokenOf (recordOf state) page (sessionOf image) (isSet busy) token pa size c) image
 
 -- ---- token signing: the result registers, the page and the queue's image
 pub record SigningLeft : Type 0 where
@@ -101,7 +102,7 @@ unfoldable pub signingLeft : ImageStep → SigningLeft
 signingLeft s = record { out = registerWords (s .answer); page = s .page; queue = s .image }
 
 -- what pbeam_token_signing leaves
-unfoldable pub signingIn : List ℕ → List ℕ → List ℕ → List ℕ → ℕ → ℕ → ℕ → ℕ → SigningLeft
+unfoldable pub signingIn : (state queue page key : List ℕ) (opcode pa size curve : ℕ) → SigningLeft
 signingIn state image page key opcode pa size curve = signingLeft (signingOn (recordOf state) page image key opcode pa size curve)
 
 -- ---- the signer's step: the result registers and the queue's image
@@ -160,4 +161,5 @@ worldIn session queue page table words = worldOf page table words (sessionOf ses
 -- what pbeam_call leaves
 unfoldable pub callIn : List ℕ → List ℕ → List ℕ → List ℕ → List ℕ → List ℕ → Call → CallLeft
 callIn granules session queue page table words c =
-    callLeft (kindOf (c .id)) (callOf granules (worldIn session queue page table words) c) session (signingDone (c .state) page queue (c .x1) (c .x2) (c .x3)) queue
+    callLeft (kindOf (c .id)) (callOf granules (worldIn session queue page table words) c) session
+    (signingDone (c .state) page queue (c .x1) (c .x2) (c .x3)) queue

@@ -19,8 +19,8 @@ use Rattle.images.specs.Realm.{numberX0, numberWords, hitX0, hitWords}
 use Rattle.export_rules.specs.Exports.{setUpIn, moveIn, moveListIn, buildIn, tokenIn, signingIn, signIn, callIn}
 
 -- x0 is not 0: the call is refused
-abbrev pub Refuses : List ℕ → Type 0
-Refuses out = getD out 0 0 ≡ 0 → ⊥
+abbrev pub RefusedCall : List ℕ → Type 0
+RefusedCall out = getD out 0 0 ≡ 0 → ⊥
 
 -- x0, and zeros in the other registers
 abbrev pub x0Alone : List ℕ → List ℕ
@@ -35,7 +35,7 @@ pub record ExportsRefuse : Type 0 where
   -- pbeam_delegate, pbeam_undelegate
   pub delegation : (d : Direction) (state granules table words : List ℕ) (address : ℕ) →
       let l = moveIn d state granules table words address in
-      Refuses (l .out) → l ≡ record { out = x0Alone (l .out); table = table; words = words }
+      RefusedCall (l .out) → l ≡ record { out = x0Alone (l .out); table = table; words = words }
   -- pbeam_delegate_list, pbeam_undelegate_list. 02, E1: each granule counts as a single call, so x1 is the number done, and table and
   -- words are those after these single calls; also for an accepted list
   pub lists : (d : Direction) (state granules table words addresses : List ℕ) →
@@ -48,32 +48,40 @@ pub record ExportsRefuse : Type 0 where
   pub realmKey : (state page key : List ℕ) (pa size curve : ℕ) →
       let k = realmKeyOf (recordOf state) page key pa size curve in
       let out = registerWords (k .answer) in
-      Refuses out → (out ≡ x0Alone out) × (k .page ≡ page)
+      RefusedCall out → (out ≡ x0Alone out) × (k .page ≡ page)
   -- pbeam_platform_token
   pub token : (state session page token : List ℕ) (busy pa size csize : ℕ) →
       let l = tokenIn state session page token busy pa size csize in
-      Refuses (l .out) → l ≡ record { out = x0Alone (l .out); page = page; session = session }
+      RefusedCall (l .out) → l ≡ record { out = x0Alone (l .out); page = page; session = session }
   -- pbeam_features
   pub features : (state : List ℕ) (index : ℕ) →
       let out = registerWords (featuresOf (recordOf state) index) in
-      Refuses out → out ≡ x0Alone out
+      RefusedCall out → out ≡ x0Alone out
   -- pbeam_token_signing
   pub signing : (state queue page key : List ℕ) (opcode pa size curve : ℕ) →
       let l = signingIn state queue page key opcode pa size curve in
-      Refuses (l .out) → l ≡ record { out = x0Alone (l .out); page = page; queue = queue }
+      RefusedCall (l .out) → l ≡ record { out = x0Alone (l .out); page = page; queue = queue }
   -- pbeam_key_update
   pub update : (state : List ℕ) (width mecid : ℕ) →
       let u = updateOf (recordOf state) width mecid in
       let out = registerWords (u .answer) in
-      Refuses out → (out ≡ x0Alone out) × (workWords (u .work) ≡ 0 ∷ 0 ∷ [])
+      RefusedCall out → (out ≡ x0Alone out) × (workWords (u .work) ≡ 0 ∷ 0 ∷ [])
   -- pbeam_sign
   pub sign : (queue signature : List ℕ) →
       let l = signIn queue signature in
-      Refuses (l .out) → l ≡ record { out = x0Alone (l .out); queue = queue }
+      RefusedCall (l .out) → l ≡ record { out = x0Alone (l .out); queue = queue }
   -- pbeam_call
   pub call : (granules session queue page table words : List ℕ) (c : Call) →
       let l = callIn granules session queue page table words c in
-      Refuses (l .out) → l ≡ record { out = x0Alone (l .out); work = 0 ∷ 0 ∷ []; page = page; table = table; words = words; session = session; queue = queue }
+      RefusedCall (l .out) → l ≡ record {
+        out = x0Alone (l .out);
+        work = 0 ∷ 0 ∷ [];
+        page = page;
+        table = table;
+        words = words;
+        session = session;
+        queue = queue;
+      }
   -- pbeam_realm_count and pbeam_realm_next write 0. 02, E6: "no refusal changes a word": pbeam_realm_build
   pub realmCount : (words : List ℕ) (n : ℕ) →
       let a = realmCountOf words n in

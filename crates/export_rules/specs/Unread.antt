@@ -28,10 +28,15 @@ pub record SameCallLeft (x y : CallLeft) : Type 0 where
 -- for each export that writes the page, equal results on pages p and q
 pub record ExportsUnread (p q : List ℕ) : Type 0 where
   -- pbeam_realm_key
-  pub realmKey : (state key : List ℕ) (pa size curve : ℕ) → registerWords (realmKeyOf (recordOf state) p key pa size curve .answer) ≡ registerWords (realmKeyOf (recordOf state) q key pa size curve .answer)
+  pub realmKey : (state key : List ℕ) (pa size curve : ℕ) →
+      registerWords (realmKeyOf (recordOf state) p key pa size curve .answer) ≡ registerWords
+      (realmKeyOf (recordOf state) q key pa size curve .answer)
   -- pbeam_platform_token
-  pub token : (state session token : List ℕ) (busy pa size csize : ℕ) → SameTokenLeft (tokenIn state session p token busy pa size csize) (tokenIn state session q token busy pa size csize)
+  pub token : (state session token : List ℕ) (busy pa size csize : ℕ) →
+      SameTokenLeft (tokenIn state session p token busy pa size csize) (tokenIn state session q token busy pa size csize)
   -- pbeam_token_signing with any opcode except push
-  pub signing : (state queue key : List ℕ) (opcode pa size curve : ℕ) → (opcode ≡ 1 → ⊥) → SameSigningLeft (signingIn state queue p key opcode pa size curve) (signingIn state queue q key opcode pa size curve)
+  pub signing : (state queue key : List ℕ) (opcode pa size curve : ℕ) → (opcode ≡ 1 → ⊥) →
+      SameSigningLeft (signingIn state queue p key opcode pa size curve) (signingIn state queue q key opcode pa size curve)
   -- pbeam_call with any command except a push
-  pub call : (granules session queue table words : List ℕ) (c : Call) → (c .id ≡ 0xC40001B5 → c .x1 ≡ 1 → ⊥) → SameCallLeft (callIn granules session queue p table words c) (callIn granules session queue q table words c)
+  pub call : (granules session queue table words : List ℕ) (c : Call) → (c .id ≡ 0xC40001B5 → c .x1 ≡ 1 → ⊥) →
+      SameCallLeft (callIn granules session queue p table words c) (callIn granules session queue q table words c)

@@ -20,12 +20,14 @@ use Rattle.entries.proofs.Entries.{entries-same}
 use Rattle.fields.specs.Fields.{lengthOk, taken}
 use Rattle.fields.specs.Steps.{isSeen, seenWith, noneSeen}
 use Rattle.fields.specs.declared.Seen.{Seen}
-use Rattle.sections.specs.Page.{countAt, pointerAt, checkAt, mkSec, secAt, foundAt}
-use Rattle.sections.specs.Section.{wordsIn, nothing, inRange, secOk}
+use Rattle.sections.specs.Page.{countAt, pointerAt, checkAt, pageSection, pageSectionAt, foundAt}
+use Rattle.sections.specs.Section.{wordsIn, nothing, inRange, sectionOk}
 use Rattle.sections.proofs.Sections.{array-in, range-low}
 use Rattle.sections.specs.Steps.{okTo, apartTo, clearAt}
 use Rattle.reader.specs.declared.Refusal.the-variants as refusal
-use Rattle.faults.specs.Faults.{mkFault, firstOf, bankFault, consoleFault, entryFault, entryOf, wantedSum, checkFault, arrayFault, sectionTests, sectionFault, clash, overlap, fieldFault, fieldTests, walkFault, fieldsFault, platFault, rulesFault, refusalOf}
+use Rattle.faults.specs.Faults.{mkFault, firstOf, bankFault, consoleFault, entryFault, entryOf, wantedSum, checkFault, arrayFault}
+use Rattle.faults.specs.Faults.{sectionTests, sectionFault, clash, overlap, fieldFault, fieldTests, walkFault, fieldsFault, platFault}
+use Rattle.faults.specs.Faults.{rulesFault, refusalOf}
 use Rattle.faults.specs.Promise.{fieldPlace, unit, arrayWords, BrokenAs}
 use Rattle.faults.specs.declared.Rule.the-variants as rule
 use Rattle.faults.specs.declared.Fault.{Fault}
@@ -72,10 +74,12 @@ Marks from page s i = (u : ℕ) → isSeen s u ≡ true → Before from page i u
 marks-none : (from : ℕ) (page : List ℕ) → Marks from page noneSeen 0
 unfolding isSeen noneSeen
 marks-none from page u h =
-    either-cases _ _ (λ x. absurd (false≢true (both-r _ _ x))) (λ y. either-cases _ _ (λ x. absurd (false≢true (both-r _ _ x))) (λ x. absurd (false≢true (both-r _ _ x))) y) h
+    either-cases _ _ (λ x. absurd (false≢true (both-r _ _ x)))
+    (λ y. either-cases _ _ (λ x. absurd (false≢true (both-r _ _ x))) (λ x. absurd (false≢true (both-r _ _ x))) y) h
 
 -- one tag: this field has it, or it was seen before
-one-mark : (u t k : ℕ) (b : Bool) {P : Type 0} → 1 ≤ k → k ≤ 3 → (u ≡ t → 1 ≤ u → u ≤ 3 → P) → (both (eqb u k) b ≡ true → P) → both (eqb u k) (either (eqb t k) b) ≡ true → P
+one-mark : (u t k : ℕ) (b : Bool) {P : Type 0} → 1 ≤ k → k ≤ 3 → (u ≡ t → 1 ≤ u → u ≤ 3 → P) → (both (eqb u k) b ≡ true → P) →
+    both (eqb u k) (either (eqb t k) b) ≡ true → P
 one-mark u t k b l m f g h =
     let e : u ≡ k = eqb-true _ _ (both-l _ _ h) in
     either-cases _ _
@@ -95,7 +99,8 @@ either-right false b h = h
 later : (from : ℕ) (page : List ℕ) (i u : ℕ) → Before from page i u → Before from page (i + 1) u
 later from page i u ((j, l, e), a, b) = ((j, omega arith, e), a, b)
 
-marks-more : (from : ℕ) (page : List ℕ) (s : Seen) (i t : ℕ) → Marks from page s i → getD page (fieldPlace from page i) 0 ≡ t → Marks from page (seenWith s t) (i + 1)
+marks-more : (from : ℕ) (page : List ℕ) (s : Seen) (i t : ℕ) → Marks from page s i → getD page (fieldPlace from page i) 0 ≡ t →
+    Marks from page (seenWith s t) (i + 1)
 unfolding isSeen seenWith
 marks-more from page s i t o c u h =
     let now : (u ≡ t → 1 ≤ u → u ≤ 3 → Before from page (i + 1) u) = λ e l m. ((i, omega arith, c ∙ sym e), l, m) in
@@ -129,7 +134,13 @@ module _ (r w e base : ℕ) (page : List ℕ) where
         hold-unless Good _ _ _ (λ h. (refl, (eqb-false _ _ h, (lk, ls, l, le, (zero-off at, ap (λ x. wordAt x page) (zero-off at)))))) (λ g.
         hold-unless Good _ _ _ (λ h. (refl, (eqb-false _ _ h, (lk, ls, l, le, (refl, refl))))) (λ g.
         hold-unless Good _ _ _ (λ h. (refl, (omega (arith, ltb-false 0 s h), (lk, ls, l, le, (refl, refl))))) (λ g.
-        hold-unless Good _ _ _ (λ h. (refl, (end-law s (rw z (omega (arith, leb-false (b + s) (2 ^ 52) h))), (lk, ls, l, le, (refl, refl))))) (λ g. tt))))
+        hold-unless Good _ _ _ (λ h. (
+          refl,
+          (
+            end-law s (rw z (omega (arith, leb-false (b + s) (2 ^ 52) h))),
+            (lk, ls, l, le, (refl, refl)),
+          ),
+        )) (λ g. tt))))
 
     console-broken : eqb k 1 ≡ true → Holds Good (consoleFault w k i at (wordAt at page) (wordAt (at + 8) page) (wordAt (at + 40) page))
     unfolding consoleFault flagsOk mkFault refusalOf unit
@@ -138,8 +149,21 @@ module _ (r w e base : ℕ) (page : List ℕ) where
         let n = wordAt (at + 8) page in
         hold-unless Good _ _ _ (λ h. (refl, (eqb-false _ _ h, (lk, ls, l, le, (zero-off at, ap (λ x. wordAt x page) (zero-off at)))))) (λ g.
         hold-unless Good _ _ _ (λ h. (refl, (omega (arith, ltb-false 0 n h), (lk, ls, l, le, (refl, refl))))) (λ g.
-        hold-unless Good _ _ _ (λ h. (refl, (end-law n (rw z (omega (arith, leb-false (b + 4096 * n) (2 ^ 52) h))), (lk, ls, l, le, (refl, refl))))) (λ g.
-        hold-unless Good _ _ _ (λ h. (refl, (eqb-false _ _ (either-none _ _ h .0), omega (arith, ltb-false 4 w (either-none _ _ h .1)), (lk, ls, l, le, (refl, refl))))) (λ g. tt))))
+        hold-unless Good _ _ _ (λ h. (
+          refl,
+          (
+            end-law n (rw z (omega (arith, leb-false (b + 4096 * n) (2 ^ 52) h))),
+            (lk, ls, l, le, (refl, refl)),
+          ),
+        )) (λ g.
+        hold-unless Good _ _ _ (λ h. (
+          refl,
+          (
+            eqb-false _ _ (either-none _ _ h .0),
+            omega (arith, ltb-false 4 w (either-none _ _ h .1)),
+            (lk, ls, l, le, (refl, refl)),
+          ),
+        )) (λ g. tt))))
 
     entry-broken : Holds Good (entryFault w k i at page)
     unfolding entryFault
@@ -151,20 +175,35 @@ module _ (r w e base : ℕ) (page : List ℕ) where
   entry-at k lk ls i l c = entry-broken k i lk ls l (sym (entries-clear w k (pointerAt k page - base) i page) ∙ is-clear _ c)
 
   -- ---- a section
-  module _ (k : ℕ) (lk : k < sectionCount e) (ls : okTo w e base k page ≡ true) (hc : ltb 0 (countAt k page) ≡ true) (ha : eqb (pointerAt k page % 8) 0 ≡ true)
-      (hr : inRange e base k (countAt k page) (pointerAt k page) ≡ true) (hn : firstOf (countAt k page) (entryOf w k (pointerAt k page - base) page) ≡ Clear) where
+  module _ (k : ℕ) (lk : k < sectionCount e) (ls : okTo w e base k page ≡ true) (hc : ltb 0 (countAt k page) ≡ true)
+      (ha : eqb (pointerAt k page % 8) 0 ≡ true)
+      (hr : inRange e base k (countAt k page) (pointerAt k page) ≡ true)
+      (hn : firstOf (countAt k page) (entryOf w k (pointerAt k page - base) page) ≡ Clear) where
     -- with the wanted checksum the section keeps its rule
-    wanted-ok : secOk w e base k (mkSec (countAt k page) (pointerAt k page) (wantedSum (countAt k page) (pointerAt k page) (arrayWords base k page)) (secAt base page k .bytes)) ≡ true
-    unfolding secOk mkSec secAt wordsIn wordsAt soundOf checkOk wantedSum
+    wanted-ok : sectionOk w e base k (pageSection (countAt k page) (pointerAt k page)
+        (wantedSum (countAt k page) (pointerAt k page) (arrayWords base k page)) (pageSectionAt base page k .bytes)) ≡ true
+    unfolding sectionOk pageSection pageSectionAt wordsIn wordsAt soundOf checkOk wantedSum
     wanted-ok =
         let c = countAt k page in
         let p = pointerAt k page in
-        let n : entriesOk w k c (wordsAt k c (p - base) page) ≡ true = entries-same w k (p - base) c page ∙ sym (entries-clear w k (p - base) c page) ∙ is-clear _ hn in
-        either-right _ _ (both-of _ _ hr (rw (array-in e base k c p hr page) (both-of _ _ hc (both-of _ _ ha (both-of _ _ (eq-eqb _ 0 (wanted-zero (c + p + sum (arrayWords base k page)))) n)))))
+        let n : entriesOk w k c (wordsAt k c (p - base) page) ≡ true = entries-same w k (p - base) c page ∙
+        sym (entries-clear w k (p - base) c page) ∙ is-clear _ hn in
+        either-right _ _ (both-of _ _ hr (rw (array-in e base k c p hr page)
+        (both-of _ _ hc (both-of _ _ ha (both-of _ _ (eq-eqb _ 0 (wanted-zero (c + p + sum (arrayWords base k page)))) n)))))
 
     check-broken : Holds Good (checkFault k (countAt k page) (pointerAt k page) (checkAt k page) (arrayWords base k page))
     unfolding checkFault checkOk mkFault refusalOf
-    check-broken = hold-unless Good _ _ _ (λ h. (refl, (eqb-false _ _ h, wanted-lt _ _ _, range-low e base k (countAt k page) (pointerAt k page) hr, wanted-ok, (lk, ls, (refl, refl))))) (λ g. tt)
+    check-broken =
+        hold-unless Good _ _ _ (λ h. (
+          refl,
+          (
+            eqb-false _ _ h,
+            wanted-lt _ _ _,
+            range-low e base k (countAt k page) (pointerAt k page) hr,
+            wanted-ok,
+            (lk, ls, (refl, refl)),
+          ),
+        )) (λ g. tt)
 
   section-broken : (k : ℕ) → k < sectionCount e → firstOf k (sectionFault w e base page) ≡ Clear → Holds Good (sectionFault w e base page k)
   unfolding sectionFault sectionTests arrayFault mkFault refusalOf
@@ -173,31 +212,38 @@ module _ (r w e base : ℕ) (page : List ℕ) where
       let c = countAt k page in
       let q = pointerAt k page in
       hold-cond Good (nothing c q (checkAt k page)) _ _ (λ z. tt) (λ z.
-      hold-unless Good _ _ _ (λ h. let y : c ≡ 0 = omega (arith, ltb-false 0 c h) in (refl, (y, (λ x. false≢true (sym z ∙ nothing-of c q _ y (x .0) (x .1))), (lk, ls, (refl, refl))))) (λ hc.
+      hold-unless Good _ _ _ (λ h. let y : c ≡ 0 = omega (arith, ltb-false 0 c h) in
+      (refl, (y, (λ x. false≢true (sym z ∙ nothing-of c q _ y (x .0) (x .1))), (lk, ls, (refl, refl))))) (λ hc.
       hold-unless Good _ _ _ (λ h. (refl, (eqb-false _ _ h, (lk, ls, (refl, refl))))) (λ ha.
       hold-unless Good _ _ _ (λ h. (refl, ((λ x. false≢true (sym h ∙ range-of e base k c q (x .0) (x .1))), (lk, ls, (refl, refl))))) (λ hr.
       hold-or Good _ _ (hold-first Good c (entryOf w k (q - base) page) (entry-at k lk ls)) (λ hn. check-broken k lk ls hc ha hr hn)))))
 
   -- ---- overlaps
-  overlap-broken : okTo w e base (sectionCount e) page ≡ true → (i : ℕ) → i < sectionCount e → firstOf i (overlap page) ≡ Clear → Holds Good (overlap page i)
+  overlap-broken : okTo w e base (sectionCount e) page ≡ true → (i : ℕ) → i < sectionCount e → firstOf i (overlap page) ≡ Clear →
+      Holds Good (overlap page i)
   unfolding overlap clash clearAt mkFault refusalOf
   overlap-broken all i li ic =
       hold-first Good i _ (λ j l c.
-      hold-unless Good _ _ _ (λ h. let x = either-none _ _ h in (refl, (leb-false _ _ (x .1), leb-false _ _ (x .0), l, li, all, sym (overlaps-clear i page) ∙ is-clear _ ic, (refl, refl)))) (λ g. tt))
+      hold-unless Good _ _ _ (λ h. let x = either-none _ _ h in
+      (refl, (leb-false _ _ (x .1), leb-false _ _ (x .0), l, li, all, sym (overlaps-clear i page) ∙ is-clear _ ic, (refl, refl))))
+      (λ g. tt))
 
   fields-overlap : okTo w e base (sectionCount e) page ≡ true → apartTo (sectionCount e) page ≡ true →
-      Holds Good (firstOf (sectionCount e) (clash rule.FieldsOverlap 0 8 (wordAt 8 page) (wordAt 8 page + taken (foundAt base page (wordAt 8 page))) page))
+      Holds Good (firstOf (sectionCount e) (clash rule.FieldsOverlap 0 8 (wordAt 8 page)
+      (wordAt 8 page + taken (foundAt base page (wordAt 8 page))) page))
   unfolding clash clearAt mkFault refusalOf
   fields-overlap all apart =
       hold-first Good (sectionCount e) _ (λ j l c.
-      hold-unless Good _ _ _ (λ h. let x = either-none _ _ h in (refl, (leb-false _ _ (x .1), leb-false _ _ (x .0), l, all, apart, (refl, refl)))) (λ g. tt))
+      hold-unless Good _ _ _ (λ h. let x = either-none _ _ h in
+      (refl, (leb-false _ _ (x .1), leb-false _ _ (x .0), l, all, apart, (refl, refl)))) (λ g. tt))
 
   -- ---- the fields, which start at the offset of the pointer
   abbrev start : ℕ
   start = wordAt 8 page - base
 
   -- t and m are the tag and the length of field i
-  module _ (s : Seen) (i at t m : ℕ) (ct : t ≡ getD page (start + at) 0) (cm : m ≡ numAt 2 (start + at + 1) page) (p : start + at ≡ fieldPlace start page i) where
+  module _ (s : Seen) (i at t m : ℕ) (ct : t ≡ getD page (start + at) 0) (cm : m ≡ numAt 2 (start + at + 1) page)
+      (p : start + at ≡ fieldPlace start page i) where
     found-law : t + 256 * m ≡ getD page (start + at) 0 + 256 * numAt 2 (start + at + 1) page
     found-law = rw (ct, cm)
 
@@ -220,7 +266,11 @@ module _ (r w e base : ℕ) (page : List ℕ) where
     pub field-broken : Marks start page s i → Holds Good (fieldTests s start i at t m (length (drop start page)))
     unfolding fieldTests
     field-broken o =
-        hold-unless Good _ _ _ (λ h. cut-broken (omega (arith, leb-false (at + 3 + m) (length (drop start page)) h, length-drop start page))) (λ g.
+        hold-unless Good _ _ _ (λ h. cut-broken (omega (
+          arith,
+          leb-false (at + 3 + m) (length (drop start page)) h,
+          length-drop start page,
+        ))) (λ g.
         hold-cond Good (eqb t 0) _ _ (λ z. hold-unless Good _ _ _ (λ h. tag-broken (eqb-true _ _ z) (eqb-false _ _ h)) (λ g. tt)) (λ z.
         hold-unless Good _ _ _ (λ h. length-broken h) (λ g.
         hold-unless Good _ _ _ (λ h. twice-broken (o t (not-false _ h))) (λ g. tt))))
@@ -231,15 +281,18 @@ module _ (r w e base : ℕ) (page : List ℕ) where
   len-law : (at : ℕ) → numAt 2 (at + 1) (drop start page) ≡ numAt 2 (start + at + 1) page
   len-law at = num-drop 2 start (at + 1) page ∙ ap (λ x. numAt 2 x page) (let z : start + (at + 1) ≡ start + at + 1 = omega arith in z)
 
-  next-law : (i at m : ℕ) → start + at ≡ fieldPlace start page i → m ≡ numAt 2 (start + at + 1) page → start + (at + 3 + m) ≡ fieldPlace start page (i + 1)
+  next-law : (i at m : ℕ) → start + at ≡ fieldPlace start page i → m ≡ numAt 2 (start + at + 1) page →
+      start + (at + 3 + m) ≡ fieldPlace start page (i + 1)
   unfolding fieldPlace
   next-law i at m p c = rw (add-one, ← p, ← c) (omega arith)
 
-  walk-broken : (n : ℕ) (s : Seen) (i at : ℕ) → length (drop start page) ≤ at + n → start + at ≡ fieldPlace start page i → Marks start page s i →
+  walk-broken : (n : ℕ) (s : Seen) (i at : ℕ) → length (drop start page) ≤ at + n → start + at ≡ fieldPlace start page i →
+      Marks start page s i →
       Holds Good (walkFault n s start i at (drop start page))
   unfolding walkFault
   walk-broken zero s i at l p o =
-      cut-broken s i at (getD (drop start page) at 0) (numAt 2 (at + 1) (drop start page)) (tag-law at) (len-law at) p (omega (arith, length-drop start page))
+      cut-broken s i at (getD (drop start page) at 0) (numAt 2 (at + 1) (drop start page)) (tag-law at) (len-law at) p
+      (omega (arith, length-drop start page))
   walk-broken (suc n) s i at l p o =
       hold-or Good _ _
       (field-broken s i at (getD (drop start page) at 0) (numAt 2 (at + 1) (drop start page)) (tag-law at) (len-law at) p o)
@@ -257,7 +310,14 @@ module _ (r w e base : ℕ) (page : List ℕ) where
   unfolding platFault mkFault refusalOf
   plat-broken =
       hold-cond Good (eqb (wordAt 8 page) 0) _ _ (λ z. tt) (λ z.
-      hold-unless Good _ _ _ (λ h. (refl, (eqb-false _ _ z, (λ x. false≢true (sym h ∙ both-of _ _ (le-leb _ _ (x .0)) (lt-ltb _ _ (x .1)))), (refl, refl)))) (λ g. fields-broken))
+      hold-unless Good _ _ _ (λ h. (
+        refl,
+        (
+          eqb-false _ _ z,
+          (λ x. false≢true (sym h ∙ both-of _ _ (le-leb _ _ (x .0)) (lt-ltb _ _ (x .1)))),
+          (refl, refl),
+        ),
+      )) (λ g. fields-broken))
 
   pub rules-broken : Holds Good (rulesFault w e base page)
   unfolding rulesFault mkFault refusalOf

@@ -24,7 +24,8 @@ use Rattle.sections.specs.Steps.{clearAt}
 use Rattle.sections.proofs.Sections.{end-steps}
 use Rattle.fields.specs.Steps.{seenWith, noneSeen}
 use Rattle.fields.specs.declared.Seen.{Seen}
-use Rattle.faults.specs.Faults.{mkFault, unless, orElse, firstOf, wantedSum, checkFault, sectionTests, sectionFault, clash, overlap, fieldFault, fieldTests, walkFault, fieldsFault}
+use Rattle.faults.specs.Faults.{mkFault, unless, firstFault, firstOf, wantedSum, checkFault, sectionTests, sectionFault, clash}
+use Rattle.faults.specs.Faults.{overlap, fieldFault, fieldTests, walkFault, fieldsFault}
 use Rattle.faults.specs.declared.Rule.{Rule}
 use Rattle.faults.specs.declared.Rule.the-variants as rule
 use Rattle.faults.specs.declared.Fault.{Fault}
@@ -45,7 +46,8 @@ pub place-next : (k at i from step : ℕ) → from ≡ entryPlace k at i → ste
 unfolding entryPlace
 place-next k at i from step h g = rw (add-one, h, g, mul-suc) (omega arith)
 
-pub place-room : (k at i c from step n : ℕ) → from ≡ entryPlace k at i → step ≡ 8 * wordsPerEntry k → i < c → at + size k c ≤ n → (from < n) × (from + step ≤ n)
+pub place-room : (k at i c from step n : ℕ) → from ≡ entryPlace k at i → step ≡ 8 * wordsPerEntry k → i < c → at + size k c ≤ n →
+    (from < n) × (from + step ≤ n)
 unfolding entryPlace size
 place-room k at i c from step n h g l r =
     let p = per-range k .0 in
@@ -80,21 +82,23 @@ unless-clear false f d h = absurd (let z : _≡_ {A = ℕ} 1 0 = cc in omega ari
 
 module _ (s : Seen) (from i at : ℕ) (bs : List ℕ) (l : i < length bs) (t m : ℕ) (ct : t ≡ getD bs at 0) (cm : m ≡ numAt 2 (at + 1) bs)
     (d : Diagnosis) (cd : d ≡ fieldTests s from i at t m (length bs)) where
-  walk-turn : walkFault (length bs - i) s from i at bs ≡ orElse d (cond (eqb t 0) Clear (walkFault (length bs - (i + 1)) (seenWith s t) from (i + 1) (at + 3 + m) bs))
+  walk-turn : walkFault (length bs - i) s from i at bs ≡ firstFault d
+      (cond (eqb t 0) Clear (walkFault (length bs - (i + 1)) (seenWith s t) from (i + 1) (at + 3 + m) bs))
   unfolding walkFault
   walk-turn = rw (let e : length bs - i ≡ suc (length bs - (i + 1)) = omega arith in e, cd, ct, cm)
 
   pub walk-at : (x : Fault) → d ≡ At x → d ≡ walkFault (length bs - i) s from i at bs
-  unfolding orElse
+  unfolding firstFault
   walk-at x h = rw (walk-turn, h)
 
   module _ (h : d ≡ Clear) where
     pub walk-end : t ≡ 0 → Clear ≡ walkFault (length bs - i) s from i at bs
-    unfolding orElse
+    unfolding firstFault
     walk-end z = rw (walk-turn, h, eq-eqb t 0 z)
 
-    pub walk-more : (t ≡ 0 → ⊥) → walkFault (length bs - (i + 1)) (seenWith s t) from (i + 1) (at + 3 + m) bs ≡ walkFault (length bs - i) s from i at bs
-    unfolding orElse
+    pub walk-more : (t ≡ 0 → ⊥) → walkFault (length bs - (i + 1)) (seenWith s t) from (i + 1) (at + 3 + m) bs ≡ walkFault
+        (length bs - i) s from i at bs
+    unfolding firstFault
     walk-more z = rw (walk-turn, h, ne-eqb t 0 z)
 
     pub walk-room : at + 3 + m ≤ length bs
@@ -124,10 +128,19 @@ zero-law y t u e h = omega arith
 same-law : (y t u s : ℕ) → t ≡ y % 2 ^ 64 → (u + t) % 2 ^ 64 ≡ 0 → u < 2 ^ 64 → s < 2 ^ 64 → (y + s) % 2 ^ 64 ≡ 0 → s ≡ u
 same-law y t u s e h l m g = omega arith
 
-module _ (k at c p s : ℕ) (page : List ℕ) (n x h t u : ℕ) (cn : n ≡ wordsPerEntry k) (cx : x ≡ sumAt at (n * c) page % 2 ^ 64) (ch : h ≡ (c + p) % 2 ^ 64)
+module _ (k at c p s : ℕ) (page : List ℕ) (n x h t u : ℕ) (cn : n ≡ wordsPerEntry k) (cx : x ≡ sumAt at (n * c) page % 2 ^ 64)
+    (ch : h ≡ (c + p) % 2 ^ 64)
     (ct : t ≡ (h + x) % 2 ^ 64) (cu : (u + t) % 2 ^ 64 ≡ 0) (lu : u < 2 ^ 64) where
   told-total : t ≡ (c + p + sum (wordsAt k c at page)) % 2 ^ 64
-  told-total = ct ∙ rw (ch, cx, cn, sum-words k at c page, mod-left (c + p) (sum (wordsAt k c at page) % 2 ^ 64), mod-right (c + p) (sum (wordsAt k c at page)))
+  told-total =
+      ct ∙ rw (
+        ch,
+        cx,
+        cn,
+        sum-words k at c page,
+        mod-left (c + p) (sum (wordsAt k c at page) % 2 ^ 64),
+        mod-right (c + p) (sum (wordsAt k c at page)),
+      )
 
   told-wanted : u ≡ wantedSum c p (wordsAt k c at page)
   unfolding wantedSum
@@ -135,12 +148,17 @@ module _ (k at c p s : ℕ) (page : List ℕ) (n x h t u : ℕ) (cn : n ≡ word
 
   pub check-good : s ≡ u → Clear ≡ checkFault k c p s (wordsAt k c at page)
   unfolding checkFault checkOk unless
-  check-good e = rw (e, eq-eqb ((c + p + sum (wordsAt k c at page) + u) % 2 ^ 64) 0 (zero-law (c + p + sum (wordsAt k c at page)) t u told-total cu))
+  check-good e =
+      rw (e, eq-eqb ((c + p + sum (wordsAt k c at page) + u) % 2 ^ 64) 0 (zero-law (c + p + sum (wordsAt k c at page)) t u told-total cu))
 
   pub check-bad : s < 2 ^ 64 → (s ≡ u → ⊥) → At (mkFault rule.Checksum k 0 (32 + 24 * k) s u) ≡ checkFault k c p s (wordsAt k c at page)
   unfolding checkFault checkOk unless
   check-bad l e =
-      rw (ne-eqb ((c + p + sum (wordsAt k c at page) + s) % 2 ^ 64) 0 (λ z. e (same-law (c + p + sum (wordsAt k c at page)) t u s told-total cu lu l z)), told-wanted)
+      rw (
+        ne-eqb ((c + p + sum (wordsAt k c at page) + s) % 2 ^ 64) 0
+            (λ z. e (same-law (c + p + sum (wordsAt k c at page)) t u s told-total cu lu l z)),
+        told-wanted,
+      )
 
 -- ---- a section, given the three words that the code read
 pub told-section : (w e base k : ℕ) (page : List ℕ) (c p s : ℕ) → c ≡ countAt k page → p ≡ pointerAt k page → s ≡ checkAt k page →

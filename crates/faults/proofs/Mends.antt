@@ -12,8 +12,8 @@ use Rattle.words.proofs.Read.{num-part, leBytes-length}
 use Rattle.words.proofs.Store.{drop-splice, front-splice, put-in, put-read}
 use Rattle.versions.specs.Edition.{sectionCount, core}
 use Rattle.entries.specs.Entry.{size}
-use Rattle.sections.specs.Page.{countAt, pointerAt, arrayAt, mkSec, secAt}
-use Rattle.sections.specs.Section.{secOk}
+use Rattle.sections.specs.Page.{countAt, pointerAt, arrayAt, pageSection, pageSectionAt}
+use Rattle.sections.specs.Section.{sectionOk}
 use Rattle.sections.specs.Steps.{okAt}
 
 -- the word u written at offset off
@@ -31,7 +31,8 @@ module _ (off u : ℕ) (page : List ℕ) (l : off + 8 ≤ length page) where
   pub num-before : (n at : ℕ) → at + n ≤ off → numAt n at put ≡ numAt n at page
   unfolding part
   num-before n at h =
-      ap (λ x. numAt n x put) (sym (zero-add at)) ∙ sym (num-part n 0 off at put h) ∙ ap (numAt n at) front-same ∙ num-part n 0 off at page h ∙ ap (λ x. numAt n x page) (zero-add at)
+      ap (λ x. numAt n x put) (sym (zero-add at)) ∙ sym (num-part n 0 off at put h) ∙ ap (numAt n at) front-same ∙
+      num-part n 0 off at page h ∙ ap (λ x. numAt n x page) (zero-add at)
 
   -- the bytes after it
   back-same : drop (off + 8) put ≡ drop (off + 8) page
@@ -41,9 +42,11 @@ module _ (off u : ℕ) (page : List ℕ) (l : off + 8 ≤ length page) where
   unfolding part
   part-behind at n h =
       let z : at ≡ off + 8 + (at - (off + 8)) = omega arith in
-      ap (take n) (ap (λ x. drop x put) z ∙ sym (drop-drop (at - (off + 8)) (off + 8) put) ∙ ap (drop (at - (off + 8))) back-same ∙ drop-drop (at - (off + 8)) (off + 8) page ∙ ap (λ x. drop x page) (sym z))
+      ap (take n) (ap (λ x. drop x put) z ∙ sym (drop-drop (at - (off + 8)) (off + 8) put) ∙ ap (drop (at - (off + 8))) back-same ∙
+      drop-drop (at - (off + 8)) (off + 8) page ∙ ap (λ x. drop x page) (sym z))
 
-module _ (w e base k u : ℕ) (page : List ℕ) (n : length page ≡ 4096) (lk : k < sectionCount e) (lk4 : k < 4) (lu : u < 2 ^ 64) (lp : base + core e ≤ pointerAt k page) where
+module _ (w e base k u : ℕ) (page : List ℕ) (n : length page ≡ 4096) (lk : k < sectionCount e) (lk4 : k < 4) (lu : u < 2 ^ 64)
+    (lp : base + core e ≤ pointerAt k page) where
   abbrev mended : List ℕ
   mended = laid (32 + 24 * k) (leBytes 8 u) page
 
@@ -51,8 +54,8 @@ module _ (w e base k u : ℕ) (page : List ℕ) (n : length page ≡ 4096) (lk :
   unfolding arrayAt core
   array-same m = rw (part-behind (32 + 24 * k) u page (omega arith) (pointerAt k page - base) m (omega arith))
 
-  sec-same : secAt base mended k ≡ mkSec (countAt k page) (pointerAt k page) u (secAt base page k .bytes)
-  unfolding secAt mkSec
+  sec-same : pageSectionAt base mended k ≡ pageSection (countAt k page) (pointerAt k page) u (pageSectionAt base page k .bytes)
+  unfolding pageSectionAt pageSection
   sec-same =
       rw (
         num-before (32 + 24 * k) u page (omega arith) 8 (16 + 24 * k) (omega arith),
@@ -61,6 +64,7 @@ module _ (w e base k u : ℕ) (page : List ℕ) (n : length page ≡ 4096) (lk :
         array-same (size k (countAt k page)),
       )
 
-  pub ok-mended : secOk w e base k (mkSec (countAt k page) (pointerAt k page) u (secAt base page k .bytes)) ≡ true → okAt w e base k mended ≡ true
+  pub ok-mended : sectionOk w e base k (pageSection (countAt k page) (pointerAt k page) u (pageSectionAt base page k .bytes)) ≡ true →
+      okAt w e base k mended ≡ true
   unfolding okAt
   ok-mended h = rw sec-same h

@@ -7,19 +7,19 @@ use native.Mathlib.Numerals.{add-one}
 use native.Mathlib.Nat.{not-suc-le-zero}
 use native.Mathlib.Decide.{decLt}
 use Rattle.words.specs.Tests.{both, every}
-use Rattle.faults.specs.Faults.{unless, orElse, firstOf}
+use Rattle.faults.specs.Faults.{unless, firstFault, firstOf}
 use Rattle.faults.specs.declared.Fault.{Fault}
 use Rattle.faults.specs.declared.Diagnosis.{Diagnosis}
 use Rattle.faults.specs.declared.Diagnosis.the-variants.{Clear, At}
 
 -- ---- the first of two
 module _ (a b d : Diagnosis) (e : d ≡ a) where
-  pub or-at : (x : Fault) → d ≡ At x → d ≡ orElse a b
-  unfolding orElse
+  pub or-at : (x : Fault) → d ≡ At x → d ≡ firstFault a b
+  unfolding firstFault
   or-at x h = rw (← e, h)
 
-  pub or-next : d ≡ Clear → (r : Diagnosis) → r ≡ b → r ≡ orElse a b
-  unfolding orElse
+  pub or-next : d ≡ Clear → (r : Diagnosis) → r ≡ b → r ≡ firstFault a b
+  unfolding firstFault
   or-next h r q = rw (← e, h) q
 
 -- ---- the first of many, for a loop that counts up
@@ -28,18 +28,18 @@ unfolding firstOf
 first-none f = refl
 
 first-at : (n : ℕ) (f : ℕ → Diagnosis) (i : ℕ) (x : Fault) → i < n → firstOf i f ≡ Clear → f i ≡ At x → firstOf n f ≡ f i
-unfolding firstOf orElse
+unfolding firstOf firstFault
 first-at zero f i x l p q = absurd (not-suc-le-zero l)
 first-at (suc n) f i x l p q = go (decLt i n) (λ m. first-at n f i x m p q)
   where
-    go : Dec (i < n) → (i < n → firstOf n f ≡ f i) → orElse (firstOf n f) (f n) ≡ f i
+    go : Dec (i < n) → (i < n → firstOf n f ≡ f i) → firstFault (firstOf n f) (f n) ≡ f i
     go (yes m) r = rw (r m, q)
     go (no m) r = let e : n ≡ i = omega arith in rw (e, p)
 
 -- d is the code's result for f i
 module _ (f : ℕ → Diagnosis) (i : ℕ) (d : Diagnosis) (h : firstOf i f ≡ Clear) (e : d ≡ f i) where
   pub told-more : d ≡ Clear → firstOf (i + 1) f ≡ Clear
-  unfolding firstOf orElse
+  unfolding firstOf firstFault
   told-more c = rw (add-one, h, ← e, c)
 
   pub told-at : (n : ℕ) (x : Fault) → i < n → d ≡ At x → d ≡ firstOf n f
@@ -72,8 +72,8 @@ unfolding isClear unless
 clear-last true f = refl
 clear-last false f = refl
 
-pub clear-or : (a b : Diagnosis) → isClear (orElse a b) ≡ both (isClear a) (isClear b)
-unfolding isClear orElse both
+pub clear-or : (a b : Diagnosis) → isClear (firstFault a b) ≡ both (isClear a) (isClear b)
+unfolding isClear firstFault both
 clear-or Clear b = refl
 clear-or (At f) b = refl
 

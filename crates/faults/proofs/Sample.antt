@@ -14,7 +14,9 @@ use Rattle.fields.specs.Fields.{lengthOk}
 use Rattle.fields.specs.Steps.{noneSeen, seenWith, isSeen}
 use Rattle.sections.specs.Page.{placeOk}
 use Rattle.sections.specs.Section.{nothing, inRange}
-use Rattle.faults.specs.Faults.{mkFault, unless, orElse, firstOf, bankFault, entryFault, entryOf, wantedSum, checkFault, arrayFault, sectionTests, sectionFault, fieldFault, fieldTests, walkFault, fieldsFault, platFault, rulesFault, faultOf}
+use Rattle.faults.specs.Faults.{mkFault, unless, firstFault, firstOf, bankFault, entryFault, entryOf, wantedSum, checkFault}
+use Rattle.faults.specs.Faults.{arrayFault, sectionTests, sectionFault, fieldFault, fieldTests, walkFault, fieldsFault, platFault}
+use Rattle.faults.specs.Faults.{rulesFault, faultOf}
 use Rattle.faults.specs.declared.Rule.the-variants as rule
 use Rattle.faults.specs.declared.Diagnosis.the-variants.{At}
 
@@ -27,7 +29,9 @@ oneBank s check =
 
 pub sample : (faultOf 4 0x80000000 (oneBank 0x10000000 0x120000029) ≡ At (mkFault rule.Checksum 0 0 32 0x120000029 0xFFFFFFFEDFFFFFD7))
     × (faultOf 4 0x80000000 (oneBank 0x10000800 0x120000029) ≡ At (mkFault rule.EntrySize 0 0 48 0x10000800 0))
-unfolding oneBank faultOf rulesFault platFault sectionFault sectionTests arrayFault checkFault wantedSum entryOf entryFault bankFault firstOf orElse unless mkFault nothing inRange placeOk wordsAt entryPlace checkOk sum size wordsPerEntry editionOk core sectionCount versionOk aboveOf majorOf minorOf wordsOf numAt part leBytes leOf every either both
+unfolding oneBank faultOf rulesFault platFault sectionFault sectionTests arrayFault checkFault wantedSum entryOf entryFault bankFault
+    firstOf firstFault unless mkFault nothing inRange placeOk wordsAt entryPlace checkOk sum size wordsPerEntry editionOk core sectionCount
+    versionOk aboveOf majorOf minorOf wordsOf numAt part leBytes leOf every either both
 sample = (refl, refl)
 
 -- a page of edition 1 with two board names: the second, field 1, follows the first at offset 20
@@ -39,5 +43,6 @@ twoNames =
     ++ replicate 4072 0
 
 pub sample-fields : faultOf 4 0x80000000 twoNames ≡ At (mkFault rule.FieldTwice 0 1 20 0x101 0)
-unfolding twoNames faultOf rulesFault platFault fieldsFault walkFault fieldTests fieldFault noneSeen seenWith isSeen lengthOk orElse unless mkFault placeOk editionOk core sectionCount versionOk aboveOf majorOf minorOf numAt part leBytes leOf either both
+unfolding twoNames faultOf rulesFault platFault fieldsFault walkFault fieldTests fieldFault noneSeen seenWith isSeen lengthOk firstFault
+    unless mkFault placeOk editionOk core sectionCount versionOk aboveOf majorOf minorOf numAt part leBytes leOf either both
 sample-fields = refl

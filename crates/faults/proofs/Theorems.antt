@@ -13,7 +13,7 @@ use Rattle.words.proofs.Tests.{both-l, both-r, both-of}
 use Rattle.versions.specs.Version.{minorOf, versionOk}
 use Rattle.versions.specs.Edition.{editionOk}
 use Rattle.versions.proofs.Editions.{section-count-most}
-use Rattle.sections.specs.Page.{placeOk, versionAt, secAt, platAt}
+use Rattle.sections.specs.Page.{placeOk, versionAt, pageSectionAt, platformAt}
 use Rattle.sections.specs.Section.{rulesAt}
 use Rattle.sections.specs.Steps.{okAt}
 use Rattle.reader.specs.Answer.{Shown, PlatShown, ReaderAnswer, refused, shows, allShown, readerGate, judge, readOf, codeIn, minus}
@@ -36,7 +36,8 @@ place-not : (v o : Bool) (a : ReaderAnswer) → readerGate false v o a ≡ refus
 unfolding readerGate
 place-not v o a = refl
 
-gate-shows : (p v o : Bool) (a : ReaderAnswer) (w e : ℕ) (q : PlatShown) (s : ℕ → Shown) → readerGate p v o a ≡ shows w e q s → both p (both v o) ≡ true
+gate-shows : (p v o : Bool) (a : ReaderAnswer) (w e : ℕ) (q : PlatShown) (s : ℕ → Shown) → readerGate p v o a ≡ shows w e q s →
+    both p (both v o) ≡ true
 unfolding readerGate both
 gate-shows true true true a w e q s h = refl
 gate-shows true true false a w e q s h = absurd (let z : _≡_ {A = ℕ} 0 1 = cc in omega arith)
@@ -56,7 +57,8 @@ ruleOf (At f) = f .rule
 not-checksum : rule.Length ≡ rule.Checksum → ⊥
 not-checksum h = let z : _≡_ {A = ℕ} 0 1 = cc in omega arith
 
-as-checksum : (r w e base : ℕ) (page : List ℕ) (f : Fault) (x : Rule) → x ≡ rule.Checksum → BrokenAs x r w e base page f → BrokenAs rule.Checksum r w e base page f
+as-checksum : (r w e base : ℕ) (page : List ℕ) (f : Fault) (x : Rule) → x ≡ rule.Checksum → BrokenAs x r w e base page f →
+    BrokenAs rule.Checksum r w e base page f
 as-checksum r w e base page f x q h = rw q at h
 
 module _ (r base : ℕ) (page : List ℕ) where
@@ -66,11 +68,12 @@ module _ (r base : ℕ) (page : List ℕ) where
   abbrev e : ℕ
   e = min r w
 
-  gate : readOf r base page ≡ readerGate (placeOk base (length page)) (both (editionOk r) (versionOk (versionAt page))) (rulesAt w e base page) (allShown w e (platAt base page) (secAt base page))
+  gate : readOf r base page ≡ readerGate (placeOk base (length page)) (both (editionOk r) (versionOk (versionAt page)))
+      (rulesAt w e base page) (allShown w e (platformAt base page) (pageSectionAt base page))
   unfolding readOf judge rulesAt
   gate = refl
 
-  accepts : faultOf r base page ≡ Clear → readOf r base page ≡ allShown w e (platAt base page) (secAt base page)
+  accepts : faultOf r base page ≡ Clear → readOf r base page ≡ allShown w e (platformAt base page) (pageSectionAt base page)
   unfolding readerGate
   accepts h =
       let t = sym (fault-clear r base page) ∙ is-clear _ h in
@@ -80,7 +83,8 @@ module _ (r base : ℕ) (page : List ℕ) where
 
   accepted : (x y : ℕ) (q : PlatShown) (s : ℕ → Shown) → readOf r base page ≡ shows x y q s → faultOf r base page ≡ Clear
   accepted x y q s h =
-      clear-is _ (fault-clear r base page ∙ rw (← both-assoc (editionOk r) (versionOk (versionAt page)) (rulesAt w e base page)) (gate-shows _ _ _ _ x y q s (sym gate ∙ h)))
+      clear-is _ (fault-clear r base page ∙ rw (← both-assoc (editionOk r) (versionOk (versionAt page)) (rulesAt w e base page))
+      (gate-shows _ _ _ _ x y q s (sym gate ∙ h)))
 
   -- ---- the fault: its rule is broken, and its code is the reader's code
   abbrev Told : Fault → Type 0
@@ -95,7 +99,8 @@ module _ (r base : ℕ) (page : List ℕ) where
     unfolding readerGate
     at-version v = gate ∙ rw (p, v)
 
-    at-rules : both (editionOk r) (versionOk (versionAt page)) ≡ true → rulesAt w e base page ≡ false → readOf r base page ≡ refused (minus 7)
+    at-rules : both (editionOk r) (versionOk (versionAt page)) ≡ true → rulesAt w e base page ≡ false →
+        readOf r base page ≡ refused (minus 7)
     unfolding readerGate
     at-rules v o = gate ∙ rw (p, v, o)
 
@@ -105,7 +110,9 @@ module _ (r base : ℕ) (page : List ℕ) where
 
   base-not : length page ≡ 4096 → placeOk base (length page) ≡ false → (0 < base) × (base % 4096 ≡ 0) × (base ≤ 2 ^ 52 - 4096) → ⊥
   unfolding placeOk
-  base-not l h x = false≢true (sym h ∙ both-of _ _ (eq-eqb _ _ l) (both-of _ _ (lt-ltb _ _ (x .0)) (both-of _ _ (eq-eqb _ _ (x .1)) (le-leb _ _ (x .2)))))
+  base-not l h x =
+      false≢true (sym h ∙ both-of _ _ (eq-eqb _ _ l) (both-of _ _ (lt-ltb _ _ (x .0))
+      (both-of _ _ (eq-eqb _ _ (x .1)) (le-leb _ _ (x .2)))))
 
   edition-not : editionOk r ≡ false → (1 ≤ r) × (r ≤ 4) → ⊥
   unfolding editionOk
@@ -143,7 +150,8 @@ module _ (r base : ℕ) (page : List ℕ) where
       go true g = eqb-true _ _ g
       go false g = absurd (not-checksum (ap ruleOf (rw g at h) ∙ q))
 
-  mends : (f : Fault) → faultOf r base page ≡ At f → f .rule ≡ rule.Checksum → okAt w e base (f .section) (laid (f .offset) (leBytes 8 (f .wanted)) page) ≡ true
+  mends : (f : Fault) → faultOf r base page ≡ At f → f .rule ≡ rule.Checksum →
+      okAt w e base (f .section) (laid (f .offset) (leBytes 8 (f .wanted)) page) ≡ true
   mends f h q =
       let n = length-is f h q in
       let b = as-checksum r w e base page f (f .rule) q (hold-at Told (faultOf r base page) f told h .1) in
@@ -168,5 +176,6 @@ unfolding diagnosisNumber codeIn allShown
 diagnosis-number r base page Clear h = rw (diagnoses r base page .accepts h)
 diagnosis-number r base page (At f) h = rw (diagnoses r base page .code f h)
 
-pub numbered : (r base : ℕ) (page : List ℕ) (d : Diagnosis) → d ≡ faultOf r base page → (d ≡ faultOf r base page) × (diagnosisNumber d ≡ codeIn (readOf r base page))
+pub numbered : (r base : ℕ) (page : List ℕ) (d : Diagnosis) → d ≡ faultOf r base page →
+    (d ≡ faultOf r base page) × (diagnosisNumber d ≡ codeIn (readOf r base page))
 numbered r base page d h = (h, diagnosis-number r base page d (sym h))

@@ -29,7 +29,7 @@ use Rattle.faults.specs.declared.Diagnosis.{Diagnosis}
 use Rattle.faults.specs.declared.Diagnosis.the-variants.{Clear, At}
 
 -- a fault: rule, section, index, offset, word found, word wanted
-unfoldable pub mkFault : Rule → ℕ → ℕ → ℕ → ℕ → ℕ → Fault
+unfoldable pub mkFault : (rule : Rule) (section index offset found wanted : ℕ) → Fault
 mkFault r k i off x y = record { rule = r; section = k; index = i; offset = off; found = x; wanted = y }
 
 -- ---- how tests are put in order
@@ -39,18 +39,18 @@ unless true f d = d
 unless false f d = At f
 
 -- the first fault of two diagnoses
-unfoldable pub orElse : Diagnosis → Diagnosis → Diagnosis
-orElse Clear d = d
-orElse (At f) d = At f
+unfoldable pub firstFault : Diagnosis → Diagnosis → Diagnosis
+firstFault Clear d = d
+firstFault (At f) d = At f
 
 -- the first fault of f 0, f 1, .. f (n - 1)
 unfoldable pub firstOf : ℕ → (ℕ → Diagnosis) → Diagnosis
 firstOf zero f = Clear
-firstOf (suc n) f = orElse (firstOf n f) (f n)
+firstOf (suc n) f = firstFault (firstOf n f) (f n)
 
 -- ---- an entry: the tests of `entryRule`, one by one. It is entry i of section k, at offset `at` of the page.
 -- "bank and region: base and size multiples of 4,096, size not 0, base + size at most 2^52" (E1 to E4)
-unfoldable pub bankFault : ℕ → ℕ → ℕ → ℕ → ℕ → Diagnosis
+unfoldable pub bankFault : (k i at base size : ℕ) → Diagnosis
 bankFault k i at b s =
     unless (eqb (b % 4096) 0) (mkFault rule.EntryBase k i at b 0)
     (unless (eqb (s % 4096) 0) (mkFault rule.EntrySize k i (at + 8) s 0)
@@ -58,7 +58,7 @@ bankFault k i at b s =
     (unless (leb (b + s) (2 ^ 52)) (mkFault rule.EntryEnd k i (at + 8) s 0) Clear)))
 
 -- "console: base a multiple of 4,096, map_pages not 0, base + 4,096 x map_pages at most 2^52, flags 0" on a page of minor w (E1, E3 to E5)
-unfoldable pub consoleFault : ℕ → ℕ → ℕ → ℕ → ℕ → ℕ → ℕ → Diagnosis
+unfoldable pub consoleFault : (minor k i at base pages flags : ℕ) → Diagnosis
 consoleFault w k i at b n f =
     unless (eqb (b % 4096) 0) (mkFault rule.EntryBase k i at b 0)
     (unless (ltb 0 n) (mkFault rule.EntryEmpty k i (at + 8) n 0)
@@ -66,7 +66,7 @@ consoleFault w k i at b n f =
     (unless (flagsOk w f) (mkFault rule.EntryFlags k i (at + 40) f 0) Clear)))
 
 -- entry i of section k at offset `at` of a page of minor w
-unfoldable pub entryFault : ℕ → ℕ → ℕ → ℕ → List ℕ → Diagnosis
+unfoldable pub entryFault : (minor k i at : ℕ) (page : List ℕ) → Diagnosis
 entryFault w k i at page =
     cond (eqb k 1) (consoleFault w k i at (wordAt at page) (wordAt (at + 8) page) (wordAt (at + 40) page))
     (bankFault k i at (wordAt at page) (wordAt (at + 8) page))
@@ -81,15 +81,15 @@ unfoldable pub wantedSum : ℕ → ℕ → List ℕ → ℕ
 wantedSum c p ws = (2 ^ 64 - (c + p + sum ws) % 2 ^ 64) % 2 ^ 64
 
 -- the checksum (S4)
-unfoldable pub checkFault : ℕ → ℕ → ℕ → ℕ → List ℕ → Diagnosis
+unfoldable pub checkFault : (k count pointer check : ℕ) (words : List ℕ) → Diagnosis
 checkFault k c p s ws = unless (checkOk c p ws s) (mkFault rule.Checksum k 0 (32 + 24 * k) s (wantedSum c p ws)) Clear
 
 -- the entries in order, then the checksum
-unfoldable pub arrayFault : ℕ → ℕ → ℕ → ℕ → ℕ → ℕ → List ℕ → Diagnosis
-arrayFault w k c p s at page = orElse (firstOf c (entryOf w k at page)) (checkFault k c p s (wordsAt k c at page))
+unfoldable pub arrayFault : (minor k count pointer check at : ℕ) (page : List ℕ) → Diagnosis
+arrayFault w k c p s at page = firstFault (firstOf c (entryOf w k at page)) (checkFault k c p s (wordsAt k c at page))
 
--- the tests of `secOk` (S1 to S4): 24 zero bytes, or count, pointer, place and array
-unfoldable pub sectionTests : ℕ → ℕ → ℕ → ℕ → ℕ → ℕ → ℕ → List ℕ → Diagnosis
+-- the tests of `sectionOk` (S1 to S4): 24 zero bytes, or count, pointer, place and array
+unfoldable pub sectionTests : (minor edition base k count pointer check : ℕ) (page : List ℕ) → Diagnosis
 sectionTests w e base k c p s page =
     cond (nothing c p s) Clear
     (unless (ltb 0 c) (mkFault rule.EmptySection k 0 (16 + 24 * k) c 0)
@@ -101,7 +101,7 @@ unfoldable pub sectionFault : ℕ → ℕ → ℕ → List ℕ → ℕ → Diagn
 sectionFault w e base page k = sectionTests w e base k (countAt k page) (pointerAt k page) (checkAt k page) page
 
 -- ---- overlaps: [from, to), whose pointer is at offset off of the page, with the array of section j
-unfoldable pub clash : Rule → ℕ → ℕ → ℕ → ℕ → List ℕ → ℕ → Diagnosis
+unfoldable pub clash : (rule : Rule) (k offset from to : ℕ) (page : List ℕ) (j : ℕ) → Diagnosis
 clash r k off from to page j = unless (clearAt from to j page) (mkFault r k j off from 0) Clear
 
 -- the array of section i with each array before it, in order (S5)
@@ -110,11 +110,11 @@ overlap page i = firstOf i (clash rule.ArrayOverlap i (24 + 24 * i) (pointerAt i
 
 -- ---- the fields, which start at an offset of the page: bs is the page from there on
 -- a fault of field i, with tag + 256 * length as the word found
-unfoldable pub fieldFault : Rule → ℕ → ℕ → ℕ → ℕ → Fault
+unfoldable pub fieldFault : (rule : Rule) (i offset tag len : ℕ) → Fault
 fieldFault r i off t m = mkFault r 0 i off (t + 256 * m) 0
 
 -- field i at offset `at` of bs, with tag t and length m; s has the tags of the fields before it, n is the length of bs
-unfoldable pub fieldTests : Seen → ℕ → ℕ → ℕ → ℕ → ℕ → ℕ → Diagnosis
+unfoldable pub fieldTests : (seen : Seen) (from i at tag len n : ℕ) → Diagnosis
 fieldTests s from i at t m n =
     unless (leb (at + 3 + m) n) (fieldFault rule.NoEndMark i (from + at) t m)
     (cond (eqb t 0) (unless (eqb m 0) (fieldFault rule.FieldTag i (from + at) t m) Clear)
@@ -127,7 +127,7 @@ walkFault zero s from i at bs = At (fieldFault rule.NoEndMark i (from + at) (get
 walkFault (suc n) s from i at bs =
     let t = getD bs at 0 in
     let m = numAt 2 (at + 1) bs in
-    orElse (fieldTests s from i at t m (length bs)) (cond (eqb t 0) Clear (walkFault n (seenWith s t) from (i + 1) (at + 3 + m) bs))
+    firstFault (fieldTests s from i at t m (length bs)) (cond (eqb t 0) Clear (walkFault n (seenWith s t) from (i + 1) (at + 3 + m) bs))
 
 -- all fields of bs, which starts at offset `from` of the page (F1 to F4)
 unfoldable pub fieldsFault : ℕ → List ℕ → Diagnosis
@@ -137,7 +137,8 @@ fieldsFault from bs = walkFault (length bs) noneSeen from 0 0 bs
 unfoldable pub platFault : ℕ → ℕ → ℕ → List ℕ → Diagnosis
 platFault e base q page =
     cond (eqb q 0) Clear
-    (unless (both (leb (base + core e) q) (ltb q (base + 4096))) (mkFault rule.PlatPointer 0 0 8 q 0) (fieldsFault (q - base) (drop (q - base) page)))
+    (unless (both (leb (base + core e) q) (ltb q (base + 4096))) (mkFault rule.PlatPointer 0 0 8 q 0)
+    (fieldsFault (q - base) (drop (q - base) page)))
 
 -- ---- the page
 -- the rules with code -7, for a page of minor w read as edition e
@@ -145,9 +146,9 @@ unfoldable pub rulesFault : ℕ → ℕ → ℕ → List ℕ → Diagnosis
 rulesFault w e base page =
     let q = wordAt 8 page in
     unless (eqb (paddingAt page) 0) (mkFault rule.Padding 0 0 4 (paddingAt page) 0)
-    (orElse (platFault e base q page)
-    (orElse (firstOf (sectionCount e) (sectionFault w e base page))
-    (orElse (firstOf (sectionCount e) (overlap page))
+    (firstFault (platFault e base q page)
+    (firstFault (firstOf (sectionCount e) (sectionFault w e base page))
+    (firstFault (firstOf (sectionCount e) (overlap page))
     (firstOf (sectionCount e) (clash rule.FieldsOverlap 0 8 q (q + taken (foundAt base page q)) page)))))
 
 -- the first fault that a reader of edition r finds in a page at base B

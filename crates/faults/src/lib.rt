@@ -15,7 +15,7 @@ ghost use Rattle.sections.specs.Page.{placeOk};
 ghost use Rattle.sections.specs.Section.{inRange};
 ghost use Rattle.sections.specs.Steps.{endOf};
 ghost use Rattle.reader.specs.Answer.{codeIn, readOf};
-ghost use Rattle.faults.specs.Faults.{mkFault, orElse, firstOf, bankFault, consoleFault, entryFault, entryOf, checkFault, arrayFault, sectionFault, clash, overlap, fieldFault, fieldTests, fieldsFault, platFault, rulesFault, faultOf, diagnosisNumber};
+ghost use Rattle.faults.specs.Faults.{mkFault, firstFault, firstOf, bankFault, consoleFault, entryFault, entryOf, checkFault, arrayFault, sectionFault, clash, overlap, fieldFault, fieldTests, fieldsFault, platFault, rulesFault, faultOf, diagnosisNumber};
 ghost use Rattle.faults.specs.declared.Diagnosis.the-variants.{At};
 ghost use Rattle.faults.specs.declared.Rule.the-variants.{FieldsOverlap};
 
@@ -350,7 +350,7 @@ fn byte_at(s: &[u8], at: usize) -> u8
 }
 
 // The two-byte number at `at`. Bytes past the end count as 0.
-fn pair_at(s: &[u8], at: usize) -> usize
+fn u16_at(s: &[u8], at: usize) -> usize
     requires { ⌜ at ≤ 0x1001 ⌝ }
     ensures { λ r. ⌜ (r ≡ numAt 2 at (now (s .entry))) × (r < 0x1_0000) ⌝ }
 {
@@ -407,7 +407,7 @@ fn fields_fault(part: &[u8], from: usize) -> Diagnosis
     let mut at = 0;
     for i in 0..part.len() {
         let tag = byte_at(part, at);
-        let len = pair_at(part, at + 1);
+        let len = u16_at(part, at + 1);
         let told = field_fault(seen, from, i, at, tag, len, part.len());
         let Diagnosis::Clear = told else {
             return told;
@@ -423,7 +423,7 @@ fn fields_fault(part: &[u8], from: usize) -> Diagnosis
         part.len(),
         from + at,
         byte_at(part, at),
-        pair_at(part, at + 1),
+        u16_at(part, at + 1),
     )
 }
 
@@ -449,7 +449,7 @@ fn plat_fault(page: &[u8], base: u64, e: Edition, plat: u64) -> Diagnosis
 // and an array.
 fn overlaps(page: &[u8], plat: u64, end: u64, n: u8) -> Diagnosis
     requires { ⌜ (n ≤ 4) × ((k : ℕ) → k < n → endOf k (now page) < 0x1_0000_0000_0000_0000) ⌝ }
-    ensures { λ r. ⌜ r ≡ orElse (firstOf n (overlap (now (page .entry)))) (firstOf n (clash FieldsOverlap 0 8 plat end (now (page .entry)))) ⌝ }
+    ensures { λ r. ⌜ r ≡ firstFault (firstOf n (overlap (now (page .entry)))) (firstOf n (clash FieldsOverlap 0 8 plat end (now (page .entry)))) ⌝ }
 {
     let told = overlaps_fault(page, n);
     let Diagnosis::Clear = told else {

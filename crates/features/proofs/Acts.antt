@@ -10,7 +10,7 @@ use borrow.Author.Tests.{le-ltb, ltb-false, eqb-true}
 use Rattle.boot.specs.declared.Params.{Params}
 use Rattle.boot.specs.declared.Record.{Record}
 use Rattle.boot.specs.declared.Record.the-variants.{Up}
-use Rattle.codes.specs.Codes.{isUp, upOf, whenUp, extended, x0Of, answerOf}
+use Rattle.codes.specs.Codes.{isUp, bootParams, whenUp, extended, x0Of, answerOf}
 use Rattle.codes.specs.declared.Code.the-variants.{Ok}
 use Rattle.codes.proofs.Gates.{fails-ok, unless-ok, either-ok}
 use Rattle.codes.specs.declared.Work.the-variants.{Reprogram}
@@ -19,11 +19,11 @@ use Rattle.features.proofs.Feature.{features-ok, update-ok}
 
 -- "features": record up with minor 4 or more, index 0. "x1 is 1 (token signing present)."
 pub features-acts : (u : Params) → 4 ≤ u .minor → featuresOf (Up u) 0 ≡ record { code = Ok; x0 = 0; x1 = 1; x2 = 0 }
-unfolding isUp upOf answerOf x0Of extended
+unfolding isUp bootParams answerOf x0Of extended
 features-acts u m = sym (features-ok (Up u) 0 refl refl m)
 
 -- and only then
-pub features-only : (s : Record) (index : ℕ) → featuresOf s index .code ≡ Ok → (isUp s ≡ true) × (4 ≤ upOf s .minor) × (index ≡ 0)
+pub features-only : (s : Record) (index : ℕ) → featuresOf s index .code ≡ Ok → (isUp s ≡ true) × (4 ≤ bootParams s .minor) × (index ≡ 0)
 unfolding featuresOf featuresBy featuresCode whenUp answerOf
 features-only s index h =
     let p = unless-ok _ _ _ refl h in
@@ -34,7 +34,7 @@ features-only s index h =
 -- "key update": record up with minor 5 or more, m at most 15, mecid at most 2^(m+1) - 1: "the mecid to reprogram"
 pub update-acts : (u : Params) (m mecid : ℕ) → 5 ≤ u .minor → m ≤ 15 → mecid ≤ 2 ^ (m + 1) - 1 →
     updateOf (Up u) m mecid ≡ record { answer = record { code = Ok; x0 = 0; x1 = 0; x2 = 0 }; work = Reprogram mecid }
-unfolding isUp upOf answerOf x0Of extended
+unfolding isUp bootParams answerOf x0Of extended
 update-acts u m mecid n w l =
     let k : m + 1 ≤ 16 = omega arith in
     let p : 2 ^ (m + 1) ≤ 2 ^ 16 = pow-le-pow-right (lit≤ tt) k in
@@ -42,7 +42,8 @@ update-acts u m mecid n w l =
     sym (update-ok (Up u) m mecid refl (omega arith) (rw e (le-ltb (2 ^ (m + 1) - 1) mecid l)) w n)
 
 -- and only then
-pub update-only : (s : Record) (m mecid : ℕ) → updateOf s m mecid .answer .code ≡ Ok → (isUp s ≡ true) × (5 ≤ upOf s .minor) × (m ≤ 15) × (mecid ≤ 2 ^ (m + 1) - 1)
+pub update-only : (s : Record) (m mecid : ℕ) → updateOf s m mecid .answer .code ≡ Ok →
+    (isUp s ≡ true) × (5 ≤ bootParams s .minor) × (m ≤ 15) × (mecid ≤ 2 ^ (m + 1) - 1)
 unfolding updateOf updateBy updateCode whenUp answerOf
 update-only s m mecid h =
     let p = unless-ok _ _ _ refl h in

@@ -10,7 +10,7 @@ ghost use Rattle.features.specs.Features.{featuresOf, updateOf, forwardO
 ghost use Rattle.codes.specs.Codes.{answerOf};
 
 // The result of a key update: the answer, and what the platform must do.
-pub struct Updated {
+pub struct UpdateResult {
     pub answer: Answer,
     pub work: Work,
 }
@@ -20,16 +20,16 @@ pub fn features(state: Record, index: u64) -> Answer
     ensures { λ r. ⌜ r ≡ featuresOf state index ⌝ }
 {
     if !codes::is_up(state) {
-        return codes::answered(Code::Unk, 0, 0);
+        return codes::answer_with(Code::Unk, 0, 0);
     }
     if index != 0 {
-        return codes::answered(Code::Inval, 0, 0);
+        return codes::answer_with(Code::Inval, 0, 0);
     }
-    let params = codes::up_of(state);
+    let params = codes::boot_params(state);
     if params.minor < 4 {
-        return codes::answered(Code::Unk, 0, 0);
+        return codes::answer_with(Code::Unk, 0, 0);
     }
-    codes::answered(Code::Ok, 1, 0)
+    codes::answer_with(Code::Ok, 1, 0)
 }
 
 // Whether `mecid` does not fit `bits` bits.
@@ -44,17 +44,17 @@ fn is_above(mecid: u64, bits: u64) -> bool
 }
 
 // Refuses an update with `code`.
-fn refused(code: Code) -> Updated
+fn refused(code: Code) -> UpdateResult
     ensures { λ r. ⌜ (r .answer ≡ answerOf code 0 0) × (r .work ≡ Work.Nothing) ⌝ }
 {
-    Updated {
-        answer: codes::answered(code, 0, 0),
+    UpdateResult {
+        answer: codes::answer_with(code, 0, 0),
         work: Work::Nothing,
     }
 }
 
 // 0xC40001B6: returns the mecid to reprogram; `width` is MECIDWidthm1.
-pub fn key_update(state: Record, width: u64, mecid: u64) -> Updated
+pub fn key_update(state: Record, width: u64, mecid: u64) -> UpdateResult
     ensures { λ r. ⌜ r ≡ updateOf state width mecid ⌝ }
 {
     if !codes::is_up(state) {
@@ -69,12 +69,12 @@ pub fn key_update(state: Record, width: u64, mecid: u64) -> Updated
     if 15 < width {
         return refused(Code::Unk);
     }
-    let params = codes::up_of(state);
+    let params = codes::boot_params(state);
     if params.minor < 5 {
         return refused(Code::Unk);
     }
-    Updated {
-        answer: codes::answered(Code::Ok, 0, 0),
+    UpdateResult {
+        answer: codes::answer_with(Code::Ok, 0, 0),
         work: Work::Reprogram(mecid),
     }
 }

@@ -27,15 +27,18 @@ use Rattle.reader.specs.Answer.{fieldsShown}
 use Rattle.reader.specs.Reading.{fieldsOf, readingAnswer}
 use Rattle.reader.specs.declared.View.{View}
 use Rattle.reader.specs.declared.Reading.the-variants.{Accepted}
-use Rattle.field_lookup.specs.Fields.{Asked, noField, field, firstIn, restIn, nthIn, shownTag, shownValue, ofTag, valueIn, fieldAs, isNothing, placeSpan}
+use Rattle.field_lookup.specs.Fields.{Asked, noField, field, firstIn, restIn, nthIn, shownTag, shownValue, ofTag, valueIn, fieldAs}
+use Rattle.field_lookup.specs.Fields.{isNothing, placeSpan}
 use Rattle.field_lookup.specs.Steps.{shownFrom, startAt, placeNth, searchEnds, placeTagged, nthPlace, tagPlace}
 
 -- ---- the fields of a view
-pub view-fields : (page : List ℕ) (v : View) → fieldsShown (readingAnswer page (Accepted v)) ≡ shownFields (fieldsIn (fieldsOf (v .plat) page))
+pub view-fields : (page : List ℕ) (v : View) → fieldsShown (readingAnswer page (Accepted v)) ≡ shownFields
+    (fieldsIn (fieldsOf (v .plat) page))
 unfolding fieldsShown readingAnswer
 view-fields page v = refl
 
-no-fields : (page : List ℕ) (v : View) (fs : List Field) → fieldsIn (fieldsOf (v .plat) page) ≡ fs → shownFields fs ≡ fieldsShown (readingAnswer page (Accepted v))
+no-fields : (page : List ℕ) (v : View) (fs : List Field) → fieldsIn (fieldsOf (v .plat) page) ≡ fs →
+    shownFields fs ≡ fieldsShown (readingAnswer page (Accepted v))
 no-fields page v fs h = sym (view-fields page v ∙ ap shownFields h)
 
 fields-none : (q : ℕ) (page : List ℕ) → q ≡ 0 → fieldsIn (fieldsOf q page) ≡ []
@@ -64,23 +67,28 @@ module _ (page : List ℕ) (v : View) where
   unfolding startAt
   start-none z = rw (eq-eqb (v .plat) 0 z)
 
-  pub start-broken : (v .plat ≡ 0 → ⊥) → endTold (scanOf (drop (v .plat % 4096) page)) ≡ fieldsEnd.Broken → length page ≡ startAt (v .plat) page
+  pub start-broken : (v .plat ≡ 0 → ⊥) → endTold (scanOf (drop (v .plat % 4096) page)) ≡ fieldsEnd.Broken →
+      length page ≡ startAt (v .plat) page
   unfolding startAt
   start-broken z h = rw (ne-eqb (v .plat) 0 z, told-not (scanOf (drop (v .plat % 4096) page)) h)
 
-  pub start-there : (v .plat ≡ 0 → ⊥) → (n : ℕ) → endTold (scanOf (drop (v .plat % 4096) page)) ≡ fieldsEnd.Ended n → v .plat % 4096 ≡ startAt (v .plat) page
+  pub start-there : (v .plat ≡ 0 → ⊥) → (n : ℕ) → endTold (scanOf (drop (v .plat % 4096) page)) ≡ fieldsEnd.Ended n →
+      v .plat % 4096 ≡ startAt (v .plat) page
   unfolding startAt
   start-there z n h = rw (ne-eqb (v .plat) 0 z, told-yes (scanOf (drop (v .plat % 4096) page)) n h)
 
-  by-told : (v .plat ≡ 0 → ⊥) → (d : FieldsEnd) → endTold (scanOf (drop (v .plat % 4096) page)) ≡ d → shownFrom (startAt (v .plat) page) page ≡ fieldsShown (readingAnswer page (Accepted v))
+  by-told : (v .plat ≡ 0 → ⊥) → (d : FieldsEnd) → endTold (scanOf (drop (v .plat % 4096) page)) ≡ d →
+      shownFrom (startAt (v .plat) page) page ≡ fieldsShown (readingAnswer page (Accepted v))
   unfolding shownFrom
   by-told z fieldsEnd.Broken h =
       rw (← start-broken z h)
       (no-fields page v (fieldsFrom (length page) page)
-      (ap fieldsIn (fields-some (v .plat) page z) ∙ none-told (scanOf (drop (v .plat % 4096) page)) h ∙ sym (from-out (length page) page (omega arith))))
+      (ap fieldsIn (fields-some (v .plat) page z) ∙ none-told (scanOf (drop (v .plat % 4096) page)) h ∙
+      sym (from-out (length page) page (omega arith))))
   by-told z (fieldsEnd.Ended n) h =
       rw (← start-there z n h)
-      (no-fields page v (fieldsFrom (v .plat % 4096) page) (ap fieldsIn (fields-some (v .plat) page z) ∙ sym (from-told (v .plat % 4096) page n h)))
+      (no-fields page v (fieldsFrom (v .plat % 4096) page) (ap fieldsIn (fields-some (v .plat) page z) ∙
+      sym (from-told (v .plat % 4096) page n h)))
 
   -- the walk passes the fields that are shown
   pub started : shownFrom (startAt (v .plat) page) page ≡ fieldsShown (readingAnswer page (Accepted v))
@@ -91,7 +99,8 @@ module _ (page : List ℕ) (v : View) where
       go (yes n) = by-told (λ z. omega arith) (endTold (scanOf (drop (v .plat % 4096) page))) refl
       go (no n) =
           let z : v .plat ≡ 0 = omega arith in
-          rw (← start-none z) (no-fields page v (fieldsFrom (length page) page) (fields-none (v .plat) page z ∙ sym (from-out (length page) page (omega arith))))
+          rw (← start-none z) (no-fields page v (fieldsFrom (length page) page)
+          (fields-none (v .plat) page z ∙ sym (from-out (length page) page (omega arith))))
 
   -- ---- the number of fields
   shown-length : (fs : List Field) → length (shownFields fs) ≡ length fs
@@ -105,7 +114,8 @@ module _ (page : List ℕ) (v : View) where
   pub count-none : v .plat ≡ 0 → 0 ≡ length (fieldsShown (readingAnswer page (Accepted v)))
   count-none z = sym (ap length (fields-none (v .plat) page z)) ∙ by-count (fieldsOf (v .plat) page) refl
 
-  pub count-there : (v .plat ≡ 0 → ⊥) → length (fieldsIn (scanOf (drop (v .plat % 4096) page))) ≡ length (fieldsShown (readingAnswer page (Accepted v)))
+  pub count-there : (v .plat ≡ 0 → ⊥) → length (fieldsIn (scanOf (drop (v .plat % 4096) page))) ≡ length
+      (fieldsShown (readingAnswer page (Accepted v)))
   count-there z = by-count (scanOf (drop (v .plat % 4096) page)) (fields-some (v .plat) page z)
 
   pub count-out : (v .plat ≡ 0 → ⊥) → length page < v .plat % 4096 → 0 ≡ length (fieldsShown (readingAnswer page (Accepted v)))
@@ -117,19 +127,27 @@ lent-on at page = take-all (length page - at) (drop at page) (rw length-drop (om
 
 -- ---- a step
 pub step-shown : (at : ℕ) (page : List ℕ) →
-    (fieldAs (stepAt at page .field) page ≡ firstIn (shownFrom at page)) × (shownFrom (stepAt at page .next) page ≡ restIn (shownFrom at page))
+    (fieldAs (stepAt at page .field) page ≡ firstIn (shownFrom at page)) ×
+    (shownFrom (stepAt at page .next) page ≡ restIn (shownFrom at page))
 unfolding fieldAs firstIn restIn shownFrom shownFields
 step-shown at page =
-    step-cases at page (λ s. (fieldAs (s .field) page ≡ firstIn (shownFrom at page)) × (shownFrom (s .next) page ≡ restIn (shownFrom at page)))
+    step-cases at page (λ s. (fieldAs (s .field) page ≡ firstIn (shownFrom at page)) ×
+    (shownFrom (s .next) page ≡ restIn (shownFrom at page)))
     (λ h. rw (h, from-out (length page) page (omega arith)) (refl, refl))
     (λ x l r h. rw h (refl, refl))
     (λ t v m x r. rw (r .shown, le-leb (v + m) (length page) (omega (arith, r .next, r .within))) (refl, refl))
 
 -- what the code's step promises, from its equation
 pub stepped : (at : ℕ) (page : List ℕ) (s : FieldStep) → s ≡ stepAt at page →
-    (s ≡ stepAt at page) × ((fieldAs (s .field) page ≡ firstIn (shownFrom at page)) × (shownFrom (s .next) page ≡ restIn (shownFrom at page)))
-stepped at page s h =
-    (h, (ap (λ (x : FieldStep). fieldAs (x .field) page) h ∙ step-shown at page .0, ap (λ (x : FieldStep). shownFrom (x .next) page) h ∙ step-shown at page .1))
+    (s ≡ stepAt at page) × ((fieldAs (s .field) page ≡ firstIn (shownFrom at page)) ×
+    (shownFrom (s .next) page ≡ restIn (shownFrom at page)))
+stepped at page s h = (
+  h,
+  (
+    ap (λ (x : FieldStep). fieldAs (x .field) page) h ∙ step-shown at page .0,
+    ap (λ (x : FieldStep). shownFrom (x .next) page) h ∙ step-shown at page .1,
+  ),
+)
 
 -- the field that is shown at a place
 unfoldable pub placeShown : FieldPlace → List ℕ → FieldShown
@@ -143,7 +161,9 @@ some-by : (at : ℕ) (page : List ℕ) → isNothing (stepAt at page .field) ≡
     × (shownFrom at page ≡ placeShown (stepAt at page .field) page ∷ shownFrom (stepAt at page .next) page)
 unfolding isNothing fieldAs placeShown shownFrom
 some-by at page =
-    step-cases at page (λ s. isNothing (s .field) ≡ false → (fieldAs (s .field) page ≡ field (placeShown (s .field) page)) × (shownFrom at page ≡ placeShown (s .field) page ∷ shownFrom (s .next) page))
+    step-cases at page (λ s. isNothing (s .field) ≡ false →
+    (fieldAs (s .field) page ≡ field (placeShown (s .field) page)) ×
+    (shownFrom at page ≡ placeShown (s .field) page ∷ shownFrom (s .next) page))
     (λ h n. absurd (false≢true (sym n)))
     (λ x l r h n. (refl, h))
     (λ t v m x r n. (rw (le-leb (v + m) (length page) (omega (arith, r .next, r .within))), r .shown))
@@ -179,7 +199,8 @@ step-none at page h = first-none (shownFrom at page) (sym (ap (λ f. fieldAs f p
 none-step : (at : ℕ) (page : List ℕ) → shownFrom at page ≡ [] → stepAt at page .field ≡ Nothing
 unfolding shownFrom
 none-step at page =
-    step-cases at page (λ s. shownFrom at page ≡ [] → s .field ≡ Nothing) (λ h n. refl) (λ x l r h n. never (let z = rw h at n in cc)) (λ t v m x r n. never (let z = rw (r .shown) at n in cc))
+    step-cases at page (λ s. shownFrom at page ≡ [] → s .field ≡ Nothing) (λ h n. refl) (λ x l r h n. never (let z = rw h at n in cc))
+    (λ t v m x r n. never (let z = rw (r .shown) at n in cc))
 
 none-next : (at : ℕ) (page : List ℕ) → stepAt at page .field ≡ Nothing → stepAt (stepAt at page .next) page .field ≡ Nothing
 unfolding restIn isNothing
@@ -207,7 +228,8 @@ unfolding placeNth nthIn
 nth-shown zero at page = step-shown at page .0
 nth-shown (suc i) at page = nth-shown i (stepAt at page .next) page ∙ ap (nthIn i) (step-shown at page .1)
 
-pub nth-place : (i : ℕ) (v : View) (page : List ℕ) → fieldAs (nthPlace i v page) page ≡ nthIn i (fieldsShown (readingAnswer page (Accepted v)))
+pub nth-place : (i : ℕ) (v : View) (page : List ℕ) → fieldAs (nthPlace i v page) page ≡ nthIn i
+    (fieldsShown (readingAnswer page (Accepted v)))
 unfolding nthPlace
 nth-place i v page = nth-shown i (startAt (v .plat) page) page ∙ ap (nthIn i) (started page v)
 
@@ -229,7 +251,8 @@ pub goes-on : (t : ℕ) (f : FieldPlace) → searchEnds t f ≡ false → isNoth
 goes-on t f h = no-test (isNothing f) (λ y. false≢true (sym h ∙ ends-none t f y))
 
 module _ (t at : ℕ) (page : List ℕ) where
-  ends-by : (b : Bool) → isNothing (stepAt at page .field) ≡ b → searchEnds t (stepAt at page .field) ≡ true → stepAt at page .field ≡ placeTagged t (length (shownFrom at page)) at page
+  ends-by : (b : Bool) → isNothing (stepAt at page .field) ≡ b → searchEnds t (stepAt at page .field) ≡ true →
+      stepAt at page .field ≡ placeTagged t (length (shownFrom at page)) at page
   unfolding placeTagged
   ends-by true n h = rw (step-none at page n) (nothing-is _ n)
   ends-by false n h = rw (step-some at page n, h)
@@ -238,28 +261,38 @@ module _ (t at : ℕ) (page : List ℕ) where
   tag-here h = ends-by (isNothing (stepAt at page .field)) refl h
 
   pub tag-later : searchEnds t (stepAt at page .field) ≡ false →
-      placeTagged t (length (shownFrom (stepAt at page .next) page)) (stepAt at page .next) page ≡ placeTagged t (length (shownFrom at page)) at page
+      placeTagged t (length (shownFrom (stepAt at page .next) page)) (stepAt at page .next) page ≡ placeTagged t
+      (length (shownFrom at page)) at page
   unfolding placeTagged
   tag-later h = rw (step-some at page (goes-on t (stepAt at page .field) h), h)
 
-tag-one : (t at : ℕ) (page : List ℕ) → ((x : ℕ) → suc (length (shownFrom x page)) ≡ length (shownFrom at page) → fieldAs (placeTagged t (length (shownFrom x page)) x page) page ≡ ofTag t (shownFrom x page)) →
-    (b : Bool) → isNothing (stepAt at page .field) ≡ b → fieldAs (placeTagged t (length (shownFrom at page)) at page) page ≡ ofTag t (shownFrom at page)
+tag-one : (t at : ℕ) (page : List ℕ) → ((x : ℕ) → suc (length (shownFrom x page)) ≡ length (shownFrom at page) →
+    fieldAs (placeTagged t (length (shownFrom x page)) x page) page ≡ ofTag t (shownFrom x page)) →
+    (b : Bool) → isNothing (stepAt at page .field) ≡ b → fieldAs (placeTagged t (length (shownFrom at page)) at page) page ≡ ofTag t
+    (shownFrom at page)
 unfolding fieldAs ofTag
 tag-one t at page ih true n = rw (← tag-here t at page (ends-none t _ n), nothing-is _ n, step-none at page n)
 tag-one t at page ih false n = go (searchEnds t (stepAt at page .field)) refl
   where
-    go : (b : Bool) → searchEnds t (stepAt at page .field) ≡ b → fieldAs (placeTagged t (length (shownFrom at page)) at page) page ≡ ofTag t (shownFrom at page)
-    go true e = ap (λ g. fieldAs g page) (sym (tag-here t at page e)) ∙ step-first at page n ∙ rw (step-some at page n, sym (ends-tag t _ page n) ∙ e)
+    go : (b : Bool) → searchEnds t (stepAt at page .field) ≡ b →
+        fieldAs (placeTagged t (length (shownFrom at page)) at page) page ≡ ofTag t (shownFrom at page)
+    go true e =
+        ap (λ g. fieldAs g page) (sym (tag-here t at page e)) ∙ step-first at page n ∙
+        rw (step-some at page n, sym (ends-tag t _ page n) ∙ e)
     go false e =
-        ap (λ g. fieldAs g page) (sym (tag-later t at page e)) ∙ ih (stepAt at page .next) (rw (step-some at page n)) ∙ rw (step-some at page n, sym (ends-tag t _ page n) ∙ e)
+        ap (λ g. fieldAs g page) (sym (tag-later t at page e)) ∙ ih (stepAt at page .next) (rw (step-some at page n)) ∙
+        rw (step-some at page n, sym (ends-tag t _ page n) ∙ e)
 
-tag-shown : (n t at : ℕ) (page : List ℕ) → n ≡ length (shownFrom at page) → fieldAs (placeTagged t (length (shownFrom at page)) at page) page ≡ ofTag t (shownFrom at page)
+tag-shown : (n t at : ℕ) (page : List ℕ) → n ≡ length (shownFrom at page) →
+    fieldAs (placeTagged t (length (shownFrom at page)) at page) page ≡ ofTag t (shownFrom at page)
 tag-shown zero t at page h = tag-one t at page (λ x e. absurd (let z : ⊥ = omega arith in z)) (isNothing (stepAt at page .field)) refl
 tag-shown (suc n) t at page h = tag-one t at page (λ x e. tag-shown n t x page (omega arith)) (isNothing (stepAt at page .field)) refl
 
-pub tag-place : (t : ℕ) (v : View) (page : List ℕ) → fieldAs (tagPlace t v page) page ≡ ofTag t (fieldsShown (readingAnswer page (Accepted v)))
+pub tag-place : (t : ℕ) (v : View) (page : List ℕ) → fieldAs (tagPlace t v page) page ≡ ofTag t
+    (fieldsShown (readingAnswer page (Accepted v)))
 unfolding tagPlace
-tag-place t v page = tag-shown (length (shownFrom (startAt (v .plat) page) page)) t (startAt (v .plat) page) page refl ∙ ap (ofTag t) (started page v)
+tag-place t v page =
+    tag-shown (length (shownFrom (startAt (v .plat) page) page)) t (startAt (v .plat) page) page refl ∙ ap (ofTag t) (started page v)
 
 -- ---- the value
 cond-value : (b : Bool) (t : ℕ) (v : List ℕ) → cond b v [] ≡ valueIn (cond b (field (raw t v)) noField)

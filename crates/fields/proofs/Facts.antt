@@ -14,8 +14,9 @@ use Rattle.words.specs.Tests.{Yes, both}
 use Rattle.words.specs.Word.{leOf, leBytes, part, numAt}
 use Rattle.words.proofs.Tests.{both-l, both-r, both-of}
 use Rattle.words.proofs.Bytes.{Bytes, bytes-drop}
-use Rattle.fields.specs.Fields.{Field, mkField, Scanned, broken, ended, bare, push, step, scan, scanAll, scanOf, judged, lengthOk, lengthsOk, count, fieldsOk, isBare, fieldsTold, tellable}
-use Rattle.fields.specs.Facts.{fieldBytes, runOf, FieldFacts, fieldNo, FieldsKeep, FieldsStand}
+use Rattle.fields.specs.Fields.{Field, mkField, Scanned, broken, ended, bare, push, step, scan, scanAll, scanOf, judged, lengthOk}
+use Rattle.fields.specs.Fields.{lengthsOk, count, fieldsOk, isBare, fieldsDescribed, describable}
+use Rattle.fields.specs.Facts.{fieldBytes, fieldsBytes, FieldFacts, fieldNo, FieldsKeep, FieldsStand}
 use Rattle.fields.proofs.Scans.{never, scan-step, step-bare, part-length}
 use Rattle.fields.proofs.Rules.{listed, judged-passed}
 
@@ -25,7 +26,13 @@ lengthTest n a b c d = cond a false (cond b (both (leb 1 n) (leb n 32)) (cond c 
 
 length-only : (t n : ℕ) → Yes (lengthOk t n) → FieldFacts t n
 unfolding lengthOk
-length-only t n h = (λ z. false≢true (rw (eq-eqb t 0 z) at h), λ z. name z h, λ z. serial z h, λ z. console z h, go (eqb t 0) (eqb t 1) (eqb t 2) (eqb t 3) h)
+length-only t n h = (
+  λ z. false≢true (rw (eq-eqb t 0 z) at h),
+  λ z. name z h,
+  λ z. serial z h,
+  λ z. console z h,
+  go (eqb t 0) (eqb t 1) (eqb t 2) (eqb t 3) h,
+)
   where
     go : (a b c d : Bool) → Yes (lengthTest n a b c d) → n < 2 ^ 16
     go true b c d h = absurd (false≢true h)
@@ -41,7 +48,8 @@ length-only t n h = (λ z. false≢true (rw (eq-eqb t 0 z) at h), λ z. name z h
     serial z h = eqb-true n 8 (rw (ne-eqb t 0 (λ y. omega arith), ne-eqb t 1 (λ y. omega arith), eq-eqb t 2 z) at h)
 
     console : t ≡ 3 → Yes (lengthTest n (eqb t 0) (eqb t 1) (eqb t 2) (eqb t 3)) → n ≡ 1
-    console z h = eqb-true n 1 (rw (ne-eqb t 0 (λ y. omega arith), ne-eqb t 1 (λ y. omega arith), ne-eqb t 2 (λ y. omega arith), eq-eqb t 3 z) at h)
+    console z h =
+        eqb-true n 1 (rw (ne-eqb t 0 (λ y. omega arith), ne-eqb t 1 (λ y. omega arith), ne-eqb t 2 (λ y. omega arith), eq-eqb t 3 z) at h)
 
 length-acts : (t n : ℕ) → FieldFacts t n → Yes (lengthOk t n)
 unfolding lengthOk
@@ -55,16 +63,19 @@ length-acts t n h = go (eqb t 0) (eqb t 1) (eqb t 2) (eqb t 3) refl refl refl re
     go false false false false p q r s = lt-ltb n (2 ^ 16) (h .4)
 
 -- ---- a list of fields
-lengths-only : (fs : List Field) → Yes (lengthsOk fs) → (i : ℕ) → i < length fs → FieldFacts (fieldNo i fs .tag) (length (fieldNo i fs .value))
+lengths-only : (fs : List Field) → Yes (lengthsOk fs) → (i : ℕ) → i < length fs →
+    FieldFacts (fieldNo i fs .tag) (length (fieldNo i fs .value))
 unfolding lengthsOk
 lengths-only [] h i l = absurd (not-suc-le-zero l)
 lengths-only (f ∷ fs) h zero l = length-only (f .tag) (length (f .value)) (both-l _ _ h)
 lengths-only (f ∷ fs) h (suc i) l = lengths-only fs (both-r _ _ h) i (omega arith)
 
-lengths-acts : (fs : List Field) → ((i : ℕ) → i < length fs → FieldFacts (fieldNo i fs .tag) (length (fieldNo i fs .value))) → Yes (lengthsOk fs)
+lengths-acts : (fs : List Field) → ((i : ℕ) → i < length fs → FieldFacts (fieldNo i fs .tag) (length (fieldNo i fs .value))) →
+    Yes (lengthsOk fs)
 unfolding lengthsOk
 lengths-acts [] h = refl
-lengths-acts (f ∷ fs) h = both-of _ _ (length-acts (f .tag) (length (f .value)) (h 0 (omega arith))) (lengths-acts fs (λ i l. h (suc i) (omega arith)))
+lengths-acts (f ∷ fs) h =
+    both-of _ _ (length-acts (f .tag) (length (f .value)) (h 0 (omega arith))) (lengths-acts fs (λ i l. h (suc i) (omega arith)))
 
 -- how often a tag appears: never if no field has it, at most once if no two fields have it
 counts : (t u : ℕ) (n : ℕ) {P : Type 0} → (u ≡ t → cond (eqb u t) 1 0 + n ≡ suc n → P) → ((u ≡ t → ⊥) → cond (eqb u t) 1 0 + n ≡ n → P) → P
@@ -77,15 +88,19 @@ counts t u n {P = P} y z = go (eqb u t) refl
 pub count-none : (t : ℕ) (fs : List Field) → ((i : ℕ) → i < length fs → fieldNo i fs .tag ≡ t → ⊥) → count t fs ≡ 0
 unfolding count
 count-none t [] h = refl
-count-none t (f ∷ fs) h = let n = count-none t fs (λ i l. h (suc i) (omega arith)) in counts t (f .tag) (count t fs) (λ e c. absurd (h 0 (omega arith) e)) (λ d c. c ∙ n)
+count-none t (f ∷ fs) h =
+    let n = count-none t fs (λ i l. h (suc i) (omega arith)) in
+    counts t (f .tag) (count t fs) (λ e c. absurd (h 0 (omega arith) e)) (λ d c. c ∙ n)
 
 pub count-some : (t : ℕ) (fs : List Field) (i : ℕ) → i < length fs → fieldNo i fs .tag ≡ t → 1 ≤ count t fs
 unfolding count
 count-some t [] i l h = absurd (not-suc-le-zero l)
 count-some t (f ∷ fs) zero l h = counts t (f .tag) (count t fs) (λ e c. omega arith) (λ d c. absurd (d h))
-count-some t (f ∷ fs) (suc i) l h = let n = count-some t fs i (omega arith) h in counts t (f .tag) (count t fs) (λ e c. omega arith) (λ d c. omega arith)
+count-some t (f ∷ fs) (suc i) l h =
+    let n = count-some t fs i (omega arith) h in counts t (f .tag) (count t fs) (λ e c. omega arith) (λ d c. omega arith)
 
-once-acts : (t : ℕ) (fs : List Field) → ((i j : ℕ) → i < j → j < length fs → fieldNo i fs .tag ≡ t → fieldNo j fs .tag ≡ t → ⊥) → count t fs ≤ 1
+once-acts : (t : ℕ) (fs : List Field) → ((i j : ℕ) → i < j → j < length fs → fieldNo i fs .tag ≡ t → fieldNo j fs .tag ≡ t → ⊥) →
+    count t fs ≤ 1
 unfolding count
 once-acts t [] h = omega arith
 once-acts t (f ∷ fs) h =
@@ -94,18 +109,21 @@ once-acts t (f ∷ fs) h =
     (λ e c. let z = count-none t fs (λ i l. h 0 (suc i) (omega arith) (omega arith) e) in omega arith)
     (λ d c. omega arith)
 
-once-only : (t : ℕ) (fs : List Field) → count t fs ≤ 1 → (i j : ℕ) → i < j → j < length fs → fieldNo i fs .tag ≡ t → fieldNo j fs .tag ≡ t → ⊥
+once-only : (t : ℕ) (fs : List Field) → count t fs ≤ 1 → (i j : ℕ) → i < j → j < length fs → fieldNo i fs .tag ≡ t →
+    fieldNo j fs .tag ≡ t → ⊥
 unfolding count
 once-only t [] c i j l m p q = not-suc-le-zero m
 once-only t (f ∷ fs) c i zero l m p q = not-suc-le-zero l
 once-only t (f ∷ fs) c zero (suc j) l m p q =
     let n = count-some t fs j (omega arith) q in counts t (f .tag) (count t fs) (λ e k. let z : ⊥ = omega arith in z) (λ d k. d p)
 once-only t (f ∷ fs) c (suc i) (suc j) l m p q =
-    counts t (f .tag) (count t fs) (λ e k. once-only t fs (omega arith) i j (omega arith) (omega arith) p q) (λ d k. once-only t fs (omega arith) i j (omega arith) (omega arith) p q)
+    counts t (f .tag) (count t fs) (λ e k. once-only t fs (omega arith) i j (omega arith) (omega arith) p q)
+    (λ d k. once-only t fs (omega arith) i j (omega arith) (omega arith) p q)
 
 pub keep-acts : (fs : List Field) → FieldsKeep fs → Yes (fieldsOk fs)
 unfolding fieldsOk
-keep-acts fs t = both-of _ _ (lengths-acts fs (t .each)) (both-of _ _ (once 1 (omega arith)) (both-of _ _ (once 2 (omega arith)) (once 3 (omega arith))))
+keep-acts fs t =
+    both-of _ _ (lengths-acts fs (t .each)) (both-of _ _ (once 1 (omega arith)) (both-of _ _ (once 2 (omega arith)) (once 3 (omega arith))))
   where
     once : (k : ℕ) → k ≤ 3 → Yes (leb (count k fs) 1)
     once k b = le-leb (count k fs) 1 (once-acts k fs (λ i j l m p q. let z = t .once i j l m (p ∙ sym q) in let y : ⊥ = omega arith in y))
@@ -119,7 +137,8 @@ keep-only fs h =
     record {
       each = each;
       once = λ i j l m e.
-          go (fieldNo i fs .tag) (each i (omega arith) .0) (leb-true _ _ (both-l _ _ a)) (leb-true _ _ (both-l _ _ b)) (leb-true _ _ (both-r _ _ b))
+          go (fieldNo i fs .tag) (each i (omega arith) .0) (leb-true _ _ (both-l _ _ a)) (leb-true _ _ (both-l _ _ b))
+          (leb-true _ _ (both-r _ _ b))
           (λ c. once-only (fieldNo i fs .tag) fs c i j l m refl (sym e));
     }
   where
@@ -134,7 +153,13 @@ keep-only fs h =
 stand-scan : (fs : List Field) (bs : List ℕ) (n : ℕ) → Yes (lengthsOk fs) → FieldsStand bs fs n → scanAll bs ≡ ended fs n
 unfolding lengthsOk step push mkField
 stand-scan [] bs n h t =
-    scan-step bs ∙ rw (t .2, ne-eqb (length bs) 0 (λ z. let l = t .0 in omega arith), le-ltb (length bs) 3 (t .0), eq-eqb (getD bs 0 0) 0 (t .1), t .3)
+    scan-step bs ∙ rw (
+      t .2,
+      ne-eqb (length bs) 0 (λ z. let l = t .0 in omega arith),
+      le-ltb (length bs) 3 (t .0),
+      eq-eqb (getD bs 0 0) 0 (t .1),
+      t .3,
+    )
 stand-scan (f ∷ fs) bs n h t =
     let c = length-only (f .tag) (length (f .value)) (both-l _ _ h) in
     let l : 3 + length (f .value) ≤ length bs = t .0 in
@@ -154,7 +179,8 @@ stand-scan (f ∷ fs) bs n h t =
 
 -- a step that reached an end mark
 step-stands : (x c z e : Bool) (f : Field) (s : Scanned) (fs : List Field) (m : ℕ) {P : Type 0} → step x c z e f s ≡ ended fs m →
-    (c ≡ false → z ≡ true → e ≡ true → fs ≡ [] → m ≡ 3 → P) → (c ≡ false → (gs : List Field) (k : ℕ) → fs ≡ f ∷ gs → s ≡ ended gs k → m ≡ 3 + length (f .value) + k → P) → P
+    (c ≡ false → z ≡ true → e ≡ true → fs ≡ [] → m ≡ 3 → P) →
+    (c ≡ false → (gs : List Field) (k : ℕ) → fs ≡ f ∷ gs → s ≡ ended gs k → m ≡ 3 + length (f .value) + k → P) → P
 unfolding step push
 step-stands true c z e f s fs m h j k = never (cc)
 step-stands false true z e f s fs m h j k = never (cc)
@@ -198,7 +224,8 @@ read-length : (t n : ℕ) (rest : List ℕ) → n < 2 ^ 16 → numAt 2 1 (t ∷ 
 unfolding numAt part leBytes leOf
 read-length t n rest h = omega arith
 
-field-read : (t : ℕ) (v rest : List ℕ) → (t ≡ 0 → ⊥) → length v < 2 ^ 16 → scanAll (fieldBytes t v ++ rest) ≡ push (mkField t v) (scanAll rest)
+field-read : (t : ℕ) (v rest : List ℕ) → (t ≡ 0 → ⊥) → length v < 2 ^ 16 →
+    scanAll (fieldBytes t v ++ rest) ≡ push (mkField t v) (scanAll rest)
 unfolding fieldBytes leBytes part step
 field-read t v rest z h =
     let bs = t ∷ (length v % 256 ∷ (length v / 256 % 256 ∷ (v ++ rest))) in
@@ -210,27 +237,29 @@ field-read t v rest z h =
       le-ltb (length bs) (3 + length v) (omega arith),
       ne-eqb t 0 z,
       take-at v rest (length v) refl,
-      (let e : drop (3 + length v) bs ≡ rest = drop-at (t ∷ (length v % 256 ∷ (length v / 256 % 256 ∷ v))) rest (3 + length v) (omega arith) in e),
+      (let e : drop (3 + length v) bs ≡ rest = drop-at (t ∷ (length v % 256 ∷ (length v / 256 % 256 ∷ v))) rest (3 + length v)
+          (omega arith) in e),
     )
 
-run-scan : (fs : List Field) → Yes (lengthsOk fs) → scanAll (runOf fs) ≡ bare fs
-unfolding runOf lengthsOk scanAll scan push mkField
+run-scan : (fs : List Field) → Yes (lengthsOk fs) → scanAll (fieldsBytes fs) ≡ bare fs
+unfolding fieldsBytes lengthsOk scanAll scan push mkField
 run-scan [] h = refl
 run-scan (f ∷ fs) h =
     let c = length-only (f .tag) (length (f .value)) (both-l _ _ h) in
-    field-read (f .tag) (f .value) (runOf fs) (c .0) (c .4) ∙ rw (run-scan fs (both-r _ _ h))
+    field-read (f .tag) (f .value) (fieldsBytes fs) (c .0) (c .4) ∙ rw (run-scan fs (both-r _ _ h))
 
-pub run-told : (fs : List Field) → Yes (fieldsOk fs) → scanOf (runOf fs) ≡ bare fs
+pub run-told : (fs : List Field) → Yes (fieldsOk fs) → scanOf (fieldsBytes fs) ≡ bare fs
 unfolding scanOf judged fieldsOk
 run-told fs h = rw (run-scan fs (both-l _ _ h), h)
 
 -- the writer takes them, if none has tag 3
-pub tell-acts : (fs : List Field) → FieldsKeep fs → count 3 fs ≡ 0 → Yes (tellable (scanOf (runOf fs)))
-unfolding tellable isBare fieldsTold both
+pub tell-acts : (fs : List Field) → FieldsKeep fs → count 3 fs ≡ 0 → Yes (describable (scanOf (fieldsBytes fs)))
+unfolding describable isBare fieldsDescribed both
 tell-acts fs k z = rw (run-told fs (keep-acts fs k)) (eq-eqb (count 3 fs) 0 z)
 
 -- bytes that the writer takes are such fields
-head-bytes : (bs : List ℕ) → 3 + numAt 2 1 bs ≤ length bs → Bytes bs → bs ≡ fieldBytes (getD bs 0 0) (part 3 (numAt 2 1 bs) bs) ++ drop (3 + numAt 2 1 bs) bs
+head-bytes : (bs : List ℕ) → 3 + numAt 2 1 bs ≤ length bs → Bytes bs →
+    bs ≡ fieldBytes (getD bs 0 0) (part 3 (numAt 2 1 bs) bs) ++ drop (3 + numAt 2 1 bs) bs
 unfolding fieldBytes leBytes numAt part leOf
 head-bytes [] h b = absurd (not-suc-le-zero h)
 head-bytes (t ∷ []) h b = absurd (let z : ⊥ = omega arith in z)
@@ -256,8 +285,8 @@ unfolding step
 step-told true c z e f s fs h j k = j refl (cc)
 step-told false c z e f s fs h j k = step-bare c z e f s fs h (λ a b gs p q. k a gs p q)
 
-scan-bare : (n : ℕ) (bs : List ℕ) (fs : List Field) → length bs ≤ n → Bytes bs → scan n bs ≡ bare fs → bs ≡ runOf fs
-unfolding scan mkField runOf
+scan-bare : (n : ℕ) (bs : List ℕ) (fs : List Field) → length bs ≤ n → Bytes bs → scan n bs ≡ bare fs → bs ≡ fieldsBytes fs
+unfolding scan mkField fieldsBytes
 scan-bare zero bs fs l b h = let e : [] ≡ fs = cc in rw (← e) (none-left bs l)
 scan-bare (suc n) bs fs l b h =
     let w = numAt 2 1 bs in
@@ -268,16 +297,17 @@ scan-bare (suc n) bs fs l b h =
     let r = scan-bare n (drop (3 + w) bs) gs (rw length-drop (omega arith)) (bytes-drop (3 + w) bs b) s in
     head-bytes bs m b ∙ rw (e, r))
 
-bare-told : (s : Scanned) → Yes (tellable s) → (s ≡ bare (fieldsTold s)) × (count 3 (fieldsTold s) ≡ 0)
-unfolding tellable isBare fieldsTold both
+bare-told : (s : Scanned) → Yes (describable s) → (s ≡ bare (fieldsDescribed s)) × (count 3 (fieldsDescribed s) ≡ 0)
+unfolding describable isBare fieldsDescribed both
 bare-told broken h = absurd (false≢true h)
 bare-told (ended fs n) h = absurd (false≢true h)
 bare-told (bare fs) h = (refl, eqb-true _ _ h)
 
-pub tell-only : (bs : List ℕ) → Bytes bs → Yes (tellable (scanOf bs)) →
-    FieldsKeep (fieldsTold (scanOf bs)) × (count 3 (fieldsTold (scanOf bs)) ≡ 0) × (bs ≡ runOf (fieldsTold (scanOf bs)))
+pub tell-only : (bs : List ℕ) → Bytes bs → Yes (describable (scanOf bs)) →
+    FieldsKeep (fieldsDescribed (scanOf bs)) × (count 3 (fieldsDescribed (scanOf bs)) ≡ 0) ×
+    (bs ≡ fieldsBytes (fieldsDescribed (scanOf bs)))
 unfolding scanOf scanAll listed
 tell-only bs b h =
     let t = bare-told (scanOf bs) h in
-    let j = judged-passed fieldsOk (scanAll bs) (bare (fieldsTold (scanOf bs))) (λ e. never (cc)) (t .0) in
+    let j = judged-passed fieldsOk (scanAll bs) (bare (fieldsDescribed (scanOf bs))) (λ e. never (cc)) (t .0) in
     (keep-only _ (j .1), t .1, scan-bare (length bs) bs _ (omega arith) b (j .0))

@@ -9,13 +9,15 @@ use lib.Seq.{getD-drop, ext-getD}
 use borrow.Author.Tests.{ltb-false}
 use Rattle.words.specs.Word.{leOf, part, numAt}
 use Rattle.words.proofs.Read.{part-same}
-use Rattle.fields.specs.Fields.{Field, mkField, Scanned, broken, ended, bare, push, step, scan, scanAll, scanOf, judged, fieldsOk, taken, reach}
+use Rattle.fields.specs.Fields.{Field, mkField, Scanned, broken, ended, bare, push, step, scan, scanAll, scanOf, judged, fieldsOk}
+use Rattle.fields.specs.Fields.{taken, reach}
 use Rattle.fields.proofs.Scans.{never, part-length, step-3, step-ended}
 use Rattle.fields.proofs.Rules.{listed, judged-passed}
 
 -- a step that ends gives the same result for another field and another tail that agree as far as it read
 step-same : (x c z e : Bool) (f g : Field) (s t : Scanned) (fs : List Field) (m : ℕ) → step x c z e f s ≡ ended fs m →
-    (c ≡ false → 3 + length (f .value) ≤ m → f ≡ g) → ((gs : List Field) (k : ℕ) → c ≡ false → s ≡ ended gs k → m ≡ 3 + length (f .value) + k → t ≡ ended gs k) →
+    (c ≡ false → 3 + length (f .value) ≤ m → f ≡ g) → ((gs : List Field) (k : ℕ) → c ≡ false → s ≡ ended gs k →
+    m ≡ 3 + length (f .value) + k → t ≡ ended gs k) →
     step x c z e g t ≡ ended fs m
 unfolding step push
 step-same true c z e f g s t fs m h p q = never (cc)
@@ -23,7 +25,8 @@ step-same false true z e f g s t fs m h p q = h
 step-same false false true true f g s t fs m h p q = h
 step-same false false true false f g s t fs m h p q = h
 step-same false false false e f g s t fs m h p q =
-    step-ended false false e f s fs m h (λ a b c. absurd (false≢true b)) (λ a b gs k i j n. rw (← p refl (omega arith), q gs k refl j n, i, n))
+    step-ended false false e f s fs m h (λ a b c. absurd (false≢true b))
+    (λ a b gs k i j n. rw (← p refl (omega arith), q gs k refl j n, i, n))
 
 -- p and q have the same bytes below m
 abbrev Agree : List ℕ → List ℕ → ℕ → Type 0
@@ -33,7 +36,8 @@ num-same : (n off : ℕ) (p q : List ℕ) → length p ≡ length q → Agree p 
 unfolding numAt
 num-same n off p q l a = ap leOf (part-same off n p q l (λ i b c. a i c))
 
-scan-same : (n : ℕ) (p q : List ℕ) → length p ≡ length q → (fs : List Field) (m : ℕ) → scan n p ≡ ended fs m → Agree p q m → scan n q ≡ ended fs m
+scan-same : (n : ℕ) (p q : List ℕ) → length p ≡ length q → (fs : List Field) (m : ℕ) → scan n p ≡ ended fs m → Agree p q m →
+    scan n q ≡ ended fs m
 unfolding scan mkField
 scan-same zero p q l fs m h a = never (cc)
 scan-same (suc n) p q l fs m h a =
@@ -46,10 +50,12 @@ scan-same (suc n) p q l fs m h a =
     ap (mkField (getD p 0 0)) (part-same 3 w p q l (λ i x y. a i (omega arith))))
     (λ gs k c s b.
     let long : length (part 3 w p) ≡ w = part-length 3 w p (ltb-false (length p) (3 + w) c) in
-    scan-same n (drop (3 + w) p) (drop (3 + w) q) (rw (length-drop, length-drop, l)) gs k s (λ i z. rw (getD-drop, getD-drop) (a (3 + w + i) (omega arith)))))
+    scan-same n (drop (3 + w) p) (drop (3 + w) q) (rw (length-drop, length-drop, l)) gs k s
+    (λ i z. rw (getD-drop, getD-drop) (a (3 + w + i) (omega arith)))))
 
 -- two slices of equal length with the same bytes through the end mark hold the same fields
-pub ended-same : (p q : List ℕ) (fs : List Field) (m : ℕ) → length p ≡ length q → scanOf p ≡ ended fs m → Agree p q m → scanOf q ≡ ended fs m
+pub ended-same : (p q : List ℕ) (fs : List Field) (m : ℕ) → length p ≡ length q → scanOf p ≡ ended fs m → Agree p q m →
+    scanOf q ≡ ended fs m
 unfolding scanOf scanAll judged listed
 ended-same p q fs m l h a =
     let j = judged-passed fieldsOk (scanAll p) (ended fs m) (λ e. never (cc)) h in

@@ -22,7 +22,8 @@ use Rattle.fields.proofs.Scans.{head-room, head-told}
 use Rattle.fields.proofs.Walks.{from-stop, from-field}
 
 -- ---- by the head at the offset
-pub step-stop : (at : ℕ) (bs : List ℕ) (d : Head) → headAt at bs ≡ d → OneOf (0 ∷ 1 ∷ []) (tagOf the-type d) → record { field = Nothing; next = length bs } ≡ stepAt at bs
+pub step-stop : (at : ℕ) (bs : List ℕ) (d : Head) → headAt at bs ≡ d → OneOf (0 ∷ 1 ∷ []) (tagOf the-type d) →
+    record { field = Nothing; next = length bs } ≡ stepAt at bs
 unfolding stepAt fieldStepOf
 step-stop at bs head.Broken e k = rw e
 step-stop at bs head.End e k = rw e
@@ -51,7 +52,8 @@ pub record RawAt (at : ℕ) (bs : List ℕ) (t v m x : ℕ) : Type 0 where
 -- a step finds no field, the withdrawn field, or a field shown with its value
 module _ (at : ℕ) (bs : List ℕ) (P : FieldStep → Type 0)
     (none : shownFields (fieldsFrom at bs) ≡ [] → P (record { field = Nothing; next = length bs }))
-    (gone : (x : ℕ) → at < x → x ≤ length bs → shownFields (fieldsFrom at bs) ≡ withdrawn ∷ shownFields (fieldsFrom x bs) → P (record { field = Withdrawn; next = x }))
+    (gone : (x : ℕ) → at < x → x ≤ length bs → shownFields (fieldsFrom at bs) ≡ withdrawn ∷ shownFields (fieldsFrom x bs) →
+    P (record { field = Withdrawn; next = x }))
     (there : (t v m x : ℕ) → RawAt at bs t v m x → P (record { field = Raw t v m; next = x })) where
   by-head : (d : Head) → headAt at bs ≡ d → P (fieldStepOf d (length bs))
   unfolding fieldStepOf fieldPlaceOf shownFields shownField mkField
@@ -64,7 +66,14 @@ module _ (at : ℕ) (bs : List ℕ) (P : FieldStep → Type 0)
       go false h =
           let r = head-room at bs e in
           let w = head-told at bs e in
-          there t v m x (record { tag = w .0; len = w .1; value = r .0; next = omega arith; within = omega arith; shown = rw (from-field at bs e, h) })
+          there t v m x (record {
+            tag = w .0;
+            len = w .1;
+            value = r .0;
+            next = omega arith;
+            within = omega arith;
+            shown = rw (from-field at bs e, h);
+          })
 
   pub step-cases : P (stepAt at bs)
   unfolding stepAt

@@ -11,7 +11,8 @@ use lib.Dec.{eqb}
 use borrow.Author.Tests.{ne-eqb}
 use Rattle.words.specs.Tests.{both, either}
 use Rattle.words.specs.Word.{part}
-use Rattle.fields.specs.Fields.{Field, mkField, Scanned, broken, ended, bare, push, scan, scanAll, scanOf, judged, fieldsOk, lengthsOk, count, fieldsIn, isBare, fieldsTold, tellable}
+use Rattle.fields.specs.Fields.{Field, mkField, Scanned, broken, ended, bare, push, scan, scanAll, scanOf, judged, fieldsOk}
+use Rattle.fields.specs.Fields.{lengthsOk, count, fieldsIn, isBare, fieldsDescribed, describable}
 use Rattle.fields.specs.Steps.{headAt, allowed, seenWith, noneSeen, stopOf, endTold}
 use Rattle.fields.specs.declared.Head.the-variants as head
 use Rattle.fields.specs.declared.Seen.{Seen}
@@ -64,8 +65,8 @@ passed-told broken = refl
 passed-told (ended fs n) = refl
 passed-told (bare fs) = refl
 
-pub told-tellable : (s : Scanned) → isTold (stopOf s) ≡ tellable s
-unfolding isTold stopOf tellable isBare fieldsTold both
+pub told-tellable : (s : Scanned) → isTold (stopOf s) ≡ describable s
+unfolding isTold stopOf describable isBare fieldsDescribed both
 told-tellable broken = refl
 told-tellable (ended fs n) = refl
 told-tellable (bare fs) = not-not (eqb (count 3 fs) 0)
@@ -99,17 +100,20 @@ met-more true false n = rw (ne-eqb (1 + n) 0 (λ z. omega arith))
 met-more false b n = rw zero-add
 
 push-more : (ok ok' : List Field → Bool) (f : Field) (r : Scanned) (at c : ℕ) (seen : Bool) → ((fs : List Field) → ok (f ∷ fs) ≡ ok' fs) →
-    later at c seen (stopOf (judged ok (push f r))) ≡ later (at + 3 + length (f .value)) (c + 1) (either (eqb (f .tag) 3) seen) (stopOf (judged ok' r))
+    later at c seen (stopOf (judged ok (push f r))) ≡ later (at + 3 + length (f .value)) (c + 1) (either (eqb (f .tag) 3) seen)
+    (stopOf (judged ok' r))
 unfolding judged push later stopOf count
 push-more ok ok' f broken at c seen h = refl
 push-more ok ok' f (bare fs) at c seen h = rw (h fs) (go (ok' fs))
   where
-    go : (b : Bool) → later at c seen (stopOf (cond b (bare (f ∷ fs)) broken)) ≡ later (at + 3 + length (f .value)) (c + 1) (either (eqb (f .tag) 3) seen) (stopOf (cond b (bare fs) broken))
+    go : (b : Bool) → later at c seen (stopOf (cond b (bare (f ∷ fs)) broken)) ≡ later (at + 3 + length (f .value)) (c + 1)
+        (either (eqb (f .tag) 3) seen) (stopOf (cond b (bare fs) broken))
     go true = ap stop.Edge (met-more (eqb (f .tag) 3) seen (count 3 fs))
     go false = refl
 push-more ok ok' f (ended fs n) at c seen h = rw (h fs) (go (ok' fs))
   where
-    go : (b : Bool) → later at c seen (stopOf (cond b (ended (f ∷ fs) (3 + length (f .value) + n)) broken)) ≡ later (at + 3 + length (f .value)) (c + 1) (either (eqb (f .tag) 3) seen) (stopOf (cond b (ended fs n) broken))
+    go : (b : Bool) → later at c seen (stopOf (cond b (ended (f ∷ fs) (3 + length (f .value) + n)) broken)) ≡ later
+        (at + 3 + length (f .value)) (c + 1) (either (eqb (f .tag) 3) seen) (stopOf (cond b (ended fs n) broken))
     go true =
         let p : at + (3 + length (f .value) + n) ≡ at + 3 + length (f .value) + n = omega arith in
         let q : c + suc (length fs) ≡ c + 1 + length fs = omega arith in
@@ -146,7 +150,13 @@ module _ (at c : ℕ) (s : Seen) (bs : List ℕ) (h : at < length bs) where
 
     pub stop-not : allowed s t n ≡ false → stopAt at c s bs ≡ stop.Broken
     unfolding stopAt follow judged stopOf later mkField
-    stop-not a = rw (head-scan at bs h, e, push-not (okFrom s) (mkField t (part v n bs)) (scanAll (drop x bs)) (λ fs. ok-not s (mkField t (part v n bs)) fs (rw value-length a)))
+    stop-not a =
+        rw (
+          head-scan at bs h,
+          e,
+          push-not (okFrom s) (mkField t (part v n bs)) (scanAll (drop x bs))
+              (λ fs. ok-not s (mkField t (part v n bs)) fs (rw value-length a)),
+        )
 
     pub stop-more : allowed s t n ≡ true → stopAt at c s bs ≡ stopAt x (c + 1) (seenWith s t) bs
     unfolding stopAt follow mkField seenWith
@@ -154,4 +164,5 @@ module _ (at c : ℕ) (s : Seen) (bs : List ℕ) (h : at < length bs) where
         let r = head-room at bs e in
         let q : at + 3 + length (part v n bs) ≡ x = omega (arith, value-length) in
         rw (head-scan at bs h, e)
-        (push-more (okFrom s) (okFrom (seenWith s t)) (mkField t (part v n bs)) (scanAll (drop x bs)) at c (s .console) (λ fs. ok-more s (mkField t (part v n bs)) fs (rw value-length a)) ∙ rw q)
+        (push-more (okFrom s) (okFrom (seenWith s t)) (mkField t (part v n bs)) (scanAll (drop x bs)) at c (s .console)
+        (λ fs. ok-more s (mkField t (part v n bs)) fs (rw value-length a)) ∙ rw q)

@@ -11,7 +11,8 @@ use denote.Enum.Declared.{tagOf}
 use borrow.Author.Tests.{lt-ltb}
 use lib.ListN.{length, drop, drop-of-length-le}
 use Rattle.words.specs.Word.{part, numAt}
-use Rattle.fields.specs.Fields.{Field, mkField, Scanned, broken, ended, bare, push, scan, scanAll, scanOf, judged, fieldsOk, fieldsIn, isEnded}
+use Rattle.fields.specs.Fields.{Field, mkField, Scanned, broken, ended, bare, push, scan, scanAll, scanOf, judged, fieldsOk, fieldsIn}
+use Rattle.fields.specs.Fields.{isEnded}
 use Rattle.fields.specs.Steps.{headOf, headAt, endTold, walkedOn, walked, fieldsFrom}
 use Rattle.fields.specs.declared.Head.{Head}
 use Rattle.fields.specs.declared.Head.the-variants as head
@@ -21,8 +22,8 @@ use Rattle.fields.proofs.Rules.{judged-passed}
 use Rattle.fields.proofs.Scans.{never, follow, head-scan, head-room}
 
 -- the fields from `at` on
-unfoldable pub left : ℕ → List ℕ → List Field
-left at bs = fieldsIn (scanAll (drop at bs))
+unfoldable pub fieldsAfter : ℕ → List ℕ → List Field
+fieldsAfter at bs = fieldsIn (scanAll (drop at bs))
 
 -- whether an end mark follows
 unfoldable pub ends : ℕ → List ℕ → Bool
@@ -48,8 +49,9 @@ told-ended broken n h k = never (cc)
 told-ended (ended fs m) n h k = k fs (cc)
 told-ended (bare fs) n h k = never (cc)
 
-pub left-start : (bs : List ℕ) (n : ℕ) → endTold (scanOf bs) ≡ fieldsEnd.Ended n → (left 0 bs ≡ fieldsIn (scanOf bs)) × (ends 0 bs ≡ true)
-unfolding left ends isEnded scanOf
+pub left-start : (bs : List ℕ) (n : ℕ) → endTold (scanOf bs) ≡ fieldsEnd.Ended n →
+    (fieldsAfter 0 bs ≡ fieldsIn (scanOf bs)) × (ends 0 bs ≡ true)
+unfolding fieldsAfter ends isEnded scanOf
 left-start bs n h =
     told-ended (scanOf bs) n h (λ fs e.
     let j = judged-passed fieldsOk (scanAll bs) (ended fs n) (λ z. never (cc)) e in
@@ -61,19 +63,20 @@ none-told broken h = refl
 none-told (ended fs n) h = never (cc)
 none-told (bare fs) h = refl
 
-pub left-edge : (at : ℕ) (bs : List ℕ) → length bs ≤ at → left at bs ≡ []
-unfolding left scanAll scan fieldsIn
+pub left-edge : (at : ℕ) (bs : List ℕ) → length bs ≤ at → fieldsAfter at bs ≡ []
+unfolding fieldsAfter scanAll scan fieldsIn
 left-edge at bs h = rw (drop-of-length-le bs h)
 
 -- an offset without a field: no field is left, at an end mark and at bytes that are cut short
-left-not : (at : ℕ) (bs : List ℕ) (d : Head) → headAt at bs ≡ d → OneOf (0 ∷ 1 ∷ []) (tagOf the-type d) → Dec (at < length bs) → left at bs ≡ []
-unfolding left follow fieldsIn
+left-not : (at : ℕ) (bs : List ℕ) (d : Head) → headAt at bs ≡ d → OneOf (0 ∷ 1 ∷ []) (tagOf the-type d) → Dec (at < length bs) →
+    fieldsAfter at bs ≡ []
+unfolding fieldsAfter follow fieldsIn
 left-not at bs d e k (no l) = left-edge at bs (omega arith)
 left-not at bs head.Broken e k (yes l) = rw (head-scan at bs l, e)
 left-not at bs head.End e k (yes l) = rw (head-scan at bs l, e)
 left-not at bs (head.Field t v n x) e k (yes l) = absurd (⊎-elim (λ z. omega arith) (λ z. omega arith) k)
 
-pub left-stop : (at : ℕ) (bs : List ℕ) (d : Head) → headAt at bs ≡ d → OneOf (0 ∷ 1 ∷ []) (tagOf the-type d) → left at bs ≡ []
+pub left-stop : (at : ℕ) (bs : List ℕ) (d : Head) → headAt at bs ≡ d → OneOf (0 ∷ 1 ∷ []) (tagOf the-type d) → fieldsAfter at bs ≡ []
 left-stop at bs d e k = left-not at bs d e k (decLt at (length bs))
 
 module _ (at : ℕ) (bs : List ℕ) {t v n x : ℕ} (e : headAt at bs ≡ head.Field t v n x) where
@@ -84,13 +87,14 @@ module _ (at : ℕ) (bs : List ℕ) {t v n x : ℕ} (e : headAt at bs ≡ head.F
   unfolding ends follow
   left-ends = rw (head-scan at bs there, e) (push-ends (mkField t (part v n bs)) (scanAll (drop x bs)))
 
-  pub left-field : ends at bs ≡ true → left at bs ≡ mkField t (part v n bs) ∷ left x bs
-  unfolding left ends follow
+  pub left-field : ends at bs ≡ true → fieldsAfter at bs ≡ mkField t (part v n bs) ∷ fieldsAfter x bs
+  unfolding fieldsAfter ends follow
   left-field g = rw (head-scan at bs there, e) (push-fields (mkField t (part v n bs)) (scanAll (drop x bs)) (sym left-ends ∙ g))
 
 -- ---- a walk from an offset passes the fields that are left, in order
 walked-on : (n at : ℕ) (bs : List ℕ) → length bs ≤ at + suc n → ends at bs ≡ true →
-    ((x : ℕ) → length bs ≤ x + n → ends x bs ≡ true → walked n x bs ≡ left x bs) → (d : Head) → headAt at bs ≡ d → walkedOn d bs (λ x. walked n x bs) ≡ left at bs
+    ((x : ℕ) → length bs ≤ x + n → ends x bs ≡ true → walked n x bs ≡ fieldsAfter x bs) → (d : Head) → headAt at bs ≡ d →
+    walkedOn d bs (λ x. walked n x bs) ≡ fieldsAfter at bs
 unfolding walkedOn
 walked-on n at bs h g ih head.Broken e = sym (left-stop at bs head.Broken e (inl refl))
 walked-on n at bs h g ih head.End e = sym (left-stop at bs head.End e (inr refl))
@@ -98,7 +102,7 @@ walked-on n at bs h g ih (head.Field t v m x) e =
     let r = head-room at bs e in
     rw (left-field at bs e g, ih x (omega arith) (sym (left-ends at bs e) ∙ g))
 
-pub walked-left : (n at : ℕ) (bs : List ℕ) → length bs ≤ at + n → ends at bs ≡ true → walked n at bs ≡ left at bs
+pub walked-left : (n at : ℕ) (bs : List ℕ) → length bs ≤ at + n → ends at bs ≡ true → walked n at bs ≡ fieldsAfter at bs
 unfolding walked
 walked-left zero at bs h g = sym (left-edge at bs (omega arith))
 walked-left (suc n) at bs h g = walked-on n at bs h g (λ x. walked-left n x bs) (headAt at bs) refl
@@ -127,7 +131,8 @@ onward-same at n m bs h head.Broken e = refl
 onward-same at n m bs h head.End e = refl
 onward-same at n m bs h (head.Field t v k x) e = let r = head-room at bs e in rw (h x (omega arith))
 
-walked-step : (n m at : ℕ) (bs : List ℕ) → walkedOn (headAt at bs) bs (λ x. walked n x bs) ≡ walkedOn (headAt at bs) bs (λ x. walked m x bs) →
+walked-step : (n m at : ℕ) (bs : List ℕ) → walkedOn (headAt at bs) bs (λ x. walked n x bs) ≡ walkedOn (headAt at bs) bs
+    (λ x. walked m x bs) →
     walked (suc n) at bs ≡ walked (suc m) at bs
 unfolding walked
 walked-step n m at bs p = p
@@ -136,9 +141,11 @@ walked-step n m at bs p = p
 walked-fuel : (n m at : ℕ) (bs : List ℕ) → length bs ≤ at + n → length bs ≤ at + m → walked n at bs ≡ walked m at bs
 walked-fuel zero m at bs h g = sym (walked-out m at bs (omega arith) ∙ sym (walked-out zero at bs (omega arith)))
 walked-fuel (suc n) zero at bs h g = walked-out (suc n) at bs (omega arith) ∙ sym (walked-out zero at bs (omega arith))
-walked-fuel (suc n) (suc m) at bs h g = walked-step n m at bs (onward-same at n m bs (λ x l. walked-fuel n m x bs (omega arith) (omega arith)) (headAt at bs) refl)
+walked-fuel (suc n) (suc m) at bs h g =
+    walked-step n m at bs (onward-same at n m bs (λ x l. walked-fuel n m x bs (omega arith) (omega arith)) (headAt at bs) refl)
 
-by-step : (n at : ℕ) (bs : List ℕ) {t v m x : ℕ} → headAt at bs ≡ head.Field t v m x → walked (suc n) at bs ≡ mkField t (part v m bs) ∷ walked n x bs
+by-step : (n at : ℕ) (bs : List ℕ) {t v m x : ℕ} → headAt at bs ≡ head.Field t v m x →
+    walked (suc n) at bs ≡ mkField t (part v m bs) ∷ walked n x bs
 unfolding walked walkedOn
 by-step n at bs e = rw e
 
@@ -157,15 +164,17 @@ pub from-out : (at : ℕ) (bs : List ℕ) → length bs ≤ at → fieldsFrom at
 unfolding fieldsFrom
 from-out at bs h = walked-out (length bs) at bs h
 
-pub from-field : (at : ℕ) (bs : List ℕ) {t v m x : ℕ} → headAt at bs ≡ head.Field t v m x → fieldsFrom at bs ≡ mkField t (part v m bs) ∷ fieldsFrom x bs
+pub from-field : (at : ℕ) (bs : List ℕ) {t v m x : ℕ} → headAt at bs ≡ head.Field t v m x →
+    fieldsFrom at bs ≡ mkField t (part v m bs) ∷ fieldsFrom x bs
 unfolding fieldsFrom
 from-field at bs {t} {v} {m} {x} e =
     let r = head-room at bs e in
     walked-fuel (length bs) (suc (length bs)) at bs (omega arith) (omega arith) ∙ by-step (length bs) at bs e
 
 -- from the start of good fields it passes them all, in order
-pub from-told : (at : ℕ) (bs : List ℕ) (n : ℕ) → endTold (scanOf (drop at bs)) ≡ fieldsEnd.Ended n → fieldsFrom at bs ≡ fieldsIn (scanOf (drop at bs))
-unfolding fieldsFrom left ends isEnded scanOf
+pub from-told : (at : ℕ) (bs : List ℕ) (n : ℕ) → endTold (scanOf (drop at bs)) ≡ fieldsEnd.Ended n →
+    fieldsFrom at bs ≡ fieldsIn (scanOf (drop at bs))
+unfolding fieldsFrom fieldsAfter ends isEnded scanOf
 from-told at bs n h =
     told-ended (scanOf (drop at bs)) n h (λ fs e.
     let j = judged-passed fieldsOk (scanAll (drop at bs)) (ended fs n) (λ z. never (cc)) e in

@@ -11,9 +11,9 @@ unfoldable pub fieldBytes : ℕ → List ℕ → List ℕ
 fieldBytes t v = t ∷ (leBytes 2 (length v) ++ v)
 
 -- fields one after another, without an end mark
-unfoldable pub runOf : List Field → List ℕ
-runOf [] = []
-runOf (f ∷ fs) = fieldBytes (f .tag) (f .value) ++ runOf fs
+unfoldable pub fieldsBytes : List Field → List ℕ
+fieldsBytes [] = []
+fieldsBytes (f ∷ fs) = fieldBytes (f .tag) (f .value) ++ fieldsBytes fs
 
 -- "Tag 1 is the board name, 1 to 32 bytes; tag 2 the serial, 8 bytes; tag 3 the preferred console, 1 byte, any value.": the rules of a
 -- field with tag t and a value of n bytes. Tag 0 is not a field; a length has two bytes.
@@ -35,5 +35,6 @@ pub record FieldsKeep (fs : List Field) : Type 0 where
 abbrev pub FieldsStand : List ℕ → List Field → ℕ → Type 0
 FieldsStand bs [] n = (3 ≤ length bs) × (getD bs 0 0 ≡ 0) × (numAt 2 1 bs ≡ 0) × (n ≡ 3)
 FieldsStand bs (f ∷ fs) n =
-    (3 + length (f .value) ≤ length bs) × (getD bs 0 0 ≡ f .tag) × (numAt 2 1 bs ≡ length (f .value)) × (part 3 (length (f .value)) bs ≡ f .value)
+    (3 + length (f .value) ≤ length bs) × (getD bs 0 0 ≡ f .tag) × (numAt 2 1 bs ≡ length (f .value)) ×
+    (part 3 (length (f .value)) bs ≡ f .value)
     × (3 + length (f .value) ≤ n) × FieldsStand (drop (3 + length (f .value)) bs) fs (n - (3 + length (f .value)))

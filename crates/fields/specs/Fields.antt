@@ -43,7 +43,8 @@ unfoldable pub scan : ℕ → List ℕ → Scanned
 scan zero bs = bare []
 scan (suc n) bs =
     let m = numAt 2 1 bs in
-    step (eqb (length bs) 0) (ltb (length bs) (3 + m)) (eqb (getD bs 0 0) 0) (eqb m 0) (mkField (getD bs 0 0) (part 3 m bs)) (scan n (drop (3 + m) bs))
+    step (eqb (length bs) 0) (ltb (length bs) (3 + m)) (eqb (getD bs 0 0) 0) (eqb m 0) (mkField (getD bs 0 0) (part 3 m bs))
+    (scan n (drop (3 + m) bs))
 
 -- a scan of all bytes
 unfoldable pub scanAll : List ℕ → Scanned
@@ -125,15 +126,15 @@ isBare (ended fs n) = false
 isBare (bare fs) = true
 
 -- the fields of a description
-unfoldable pub fieldsTold : Scanned → List Field
-fieldsTold broken = []
-fieldsTold (ended fs n) = []
-fieldsTold (bare fs) = fs
+unfoldable pub fieldsDescribed : Scanned → List Field
+fieldsDescribed broken = []
+fieldsDescribed (ended fs n) = []
+fieldsDescribed (bare fs) = fs
 
 -- E7: "broken fields are -7 in the reader and W3 in the writer, there also any tag 0": the writer takes fields that keep the reader's
 -- rules and use every byte, so none is cut short and no tag is 0. E10: "W3 for a description with tag 3"
-unfoldable pub tellable : Scanned → Bool
-tellable s = both (isBare s) (eqb (count 3 (fieldsTold s)) 0)
+unfoldable pub describable : Scanned → Bool
+describable s = both (isBare s) (eqb (count 3 (fieldsDescribed s)) 0)
 
 -- the three bytes of the end mark
 unfoldable pub endMark : List ℕ

@@ -4,7 +4,7 @@ ghost use mathlib.Core.Path.{_≡_};
 ghost use Prim.Native.Nat.{_+_, _<_, _≤_};
 ghost use lib.ListN.{length, drop};
 ghost use Rattle.words.specs.Word.{numAt};
-ghost use Rattle.fields.specs.Fields.{lengthOk, scanOf, tellable, fieldsIn};
+ghost use Rattle.fields.specs.Fields.{lengthOk, scanOf, describable, fieldsIn};
 ghost use Rattle.fields.specs.Steps.{headAt, isSeen, seenWith, noneSeen, allowed, stopOf, endTold, stepAt};
 
 // What is at an offset: broken bytes (cut short, or tag 0 with a length); the end mark; or a field, with the offset and length of its
@@ -62,7 +62,7 @@ fn wide(x: u8) -> usize
 }
 
 // The two-byte number at `at`.
-fn pair(s: &[u8], at: usize) -> usize
+fn u16_at(s: &[u8], at: usize) -> usize
     requires { ⌜ at + 2 ≤ length (now s) ⌝ }
     ensures { λ r. ⌜ (r ≡ numAt 2 at (now (s .entry))) × (r < 0x1_0000) ⌝ }
 {
@@ -80,7 +80,7 @@ fn field_at(part: &[u8], at: usize) -> Head
         return Head::Broken;
     }
     let tag = part[at];
-    let len = pair(part, at + 1);
+    let len = u16_at(part, at + 1);
     let value = at + 3;
     if part.len() - value < len {
         return Head::Broken;
@@ -279,7 +279,7 @@ pub fn scan_at(page: &[u8], at: usize) -> FieldsEnd
 
 // Whether the writer takes a description: its fields keep the rules up to its last byte, and none has tag 0 or tag 3.
 pub fn description_ok(description: &[u8]) -> bool
-    ensures { λ r. ⌜ r ≡ tellable (scanOf (now (description .entry))) ⌝ }
+    ensures { λ r. ⌜ r ≡ describable (scanOf (now (description .entry))) ⌝ }
 {
     let stop = walk(description);
     match stop {

@@ -14,7 +14,7 @@ use Rattle.realm_words.specs.Answers.{realmCountOf, realmNextOf, realms, nextRe
 use Rattle.realm_words.specs.declared.Number.{Number}
 use Rattle.realm_words.proofs.Laws.{count-agrees, next-agrees, words-put}
 use Rattle.boot.specs.declared.Record.{Record}
-use Rattle.codes.specs.Codes.{upOf, whenUp}
+use Rattle.codes.specs.Codes.{bootParams, whenUp}
 use Rattle.codes.proofs.Gates.{if-ok-by}
 use Rattle.granule_rules.specs.Granules.{GranuleTable, Agrees, moveCode, granuleSet, moved, Moved, movedBy, whenFit, moveOf}
 use Rattle.granule_rules.specs.Lists.{moveListOf, doneBy, tableBy}
@@ -30,7 +30,8 @@ module _ (g : Granules) (t : GranuleTable) (n : granuleCount g ≡ length (t .by
   next-walks i h = rw (n, a) (next-agrees (t .bytes) i (omega arith))
 
 -- ---- what keeps agreement
-set-keeps : (g : Granules) (d : Direction) (t : GranuleTable) (addr : ℕ) (k : Granule) → granuleAt g (length (t .bytes)) addr ≡ k → Agrees t → Agrees (granuleSet d t k)
+set-keeps : (g : Granules) (d : Direction) (t : GranuleTable) (addr : ℕ) (k : Granule) → granuleAt g (length (t .bytes)) addr ≡ k →
+    Agrees t → Agrees (granuleSet d t k)
 unfolding granuleSet
 set-keeps g d t addr Nothing e a = a
 set-keeps g d t addr (At i) e a = rw a (sym (words-put (t .bytes) i _ (index-below g (length (t .bytes)) addr i e)))
@@ -39,11 +40,13 @@ module _ (s : Record) (g : Granules) (d : Direction) where
   pub move-keeps : (t : GranuleTable) (addr : ℕ) → Agrees t → Agrees (moveOf s g d t addr .table)
   unfolding moveOf movedBy moved
   move-keeps t addr a =
-      if-ok-by Agrees (whenFit g t (whenUp s (moveCode (upOf s) g d t addr))) (granuleSet d t (granuleAt g (length (t .bytes)) addr)) t
+      if-ok-by Agrees (whenFit g t (whenUp s (moveCode (bootParams s) g d t addr)))
+      (granuleSet d t (granuleAt g (length (t .bytes)) addr)) t
       (λ e. set-keeps g d t addr (granuleAt g (length (t .bytes)) addr) refl a) (λ e. a)
 
 -- ---- a property that each single call keeps is kept by a list
-module _ (s : Record) (g : Granules) (d : Direction) (P : GranuleTable → Type 0) (keeps : (t : GranuleTable) (addr : ℕ) → P t → P (moveOf s g d t addr .table)) where
+module _ (s : Record) (g : Granules) (d : Direction) (P : GranuleTable → Type 0)
+    (keeps : (t : GranuleTable) (addr : ℕ) → P t → P (moveOf s g d t addr .table)) where
   tables-hold : (t : GranuleTable) (l : List ℕ) → P t → P (tableBy (moveOf s g d) t l)
   unfolding tableBy
   tables-hold t [] p = p
@@ -52,5 +55,6 @@ module _ (s : Record) (g : Granules) (d : Direction) (P : GranuleTable → Type 
   pub list-holds : (t : GranuleTable) (l : List ℕ) → P t → P (moveListOf s g d t l .table)
   list-holds t l p = subst (λ (m : Moved). P (m .table)) (sym (list-is s g d t l)) (tables-hold t (take (doneBy (moveOf s g d) t l) l) p)
 
-pub list-keeps : (s : Record) (g : Granules) (d : Direction) (t : GranuleTable) (l : List ℕ) → Agrees t → Agrees (moveListOf s g d t l .table)
+pub list-keeps : (s : Record) (g : Granules) (d : Direction) (t : GranuleTable) (l : List ℕ) → Agrees t →
+    Agrees (moveListOf s g d t l .table)
 list-keeps s g d t l a = list-holds s g d Agrees (λ x addr p. move-keeps s g d x addr p) t l a

@@ -73,9 +73,11 @@ module _ (g : Granules) (n i : ℕ) where
   left-none [] x nil = refl
   left-none (c ∷ cs) x (cons _ _ m r) = rw (not-at i (granuleAt g n (c .address)) m) (left-none cs x r)
 
-  left-last : (before : List Change) (c : Change) (behind : List Change) (x : ℕ) → Names g n i c → NoneNames g n i behind → leftBy (before ++ c ∷ behind) x ≡ toByte (c .way)
+  left-last : (before : List Change) (c : Change) (behind : List Change) (x : ℕ) → Names g n i c → NoneNames g n i behind →
+      leftBy (before ++ c ∷ behind) x ≡ toByte (c .way)
   unfolding leftBy
-  left-last before c behind x m r = left-append before (c ∷ behind) x ∙ rw (is-at i (granuleAt g n (c .address)) m) (left-none behind (toByte (c .way)) r)
+  left-last before c behind x m r =
+      left-append before (c ∷ behind) x ∙ rw (is-at i (granuleAt g n (c .address)) m) (left-none behind (toByte (c .way)) r)
 
   none-named : (cs : List Change) → ((a : ℕ) → granuleAt g n a ≡ At i → ⊥) → NoneNames g n i cs
   none-named [] h = nil
@@ -101,7 +103,8 @@ pub account-none : (g : Granules) (t : GranuleTable) → Account g t [] t
 unfolding delegations undelegations leftBy
 account-none g t = record { balance = omega arith; whole = refl; left = λ i. refl }
 
-pub account-join : (g : Granules) (t u v : GranuleTable) (xs ys : List Change) → Account g t xs u → Account g u ys v → Account g t (xs ++ ys) v
+pub account-join : (g : Granules) (t u v : GranuleTable) (xs ys : List Change) → Account g t xs u → Account g u ys v →
+    Account g t (xs ++ ys) v
 account-join g t u v xs ys p q =
     record {
       balance = rw (delegations-append xs ys, undelegations-append xs ys) (omega (arith, p .balance, q .balance));
@@ -118,7 +121,9 @@ account-books g t u cs p =
     record {
       balance = p .balance;
       whole = p .whole;
-      last = λ i before c behind e m r. p .left i ∙ ap (λ l. leftBy g (length (t .bytes)) i l (getD (t .bytes) i 0)) e ∙ left-last g (length (t .bytes)) i before c behind (getD (t .bytes) i 0) m r;
+      last =
+          λ i before c behind e m r. p .left i ∙ ap (λ l. leftBy g (length (t .bytes)) i l (getD (t .bytes) i 0)) e ∙
+          left-last g (length (t .bytes)) i before c behind (getD (t .bytes) i 0) m r;
       none = λ i r. p .left i ∙ left-none g (length (t .bytes)) i cs (getD (t .bytes) i 0) r;
       unnamed = λ i h. p .left i ∙ left-none g (length (t .bytes)) i cs (getD (t .bytes) i 0) (none-named g (length (t .bytes)) i cs h);
     }
@@ -133,23 +138,33 @@ byte-left g d t after a m i = rw (m .own) (go (eqb i (m .granule)) refl)
     go true k = rw (k, eqb-true i (m .granule) k) (m .becomes)
     go false k = rw k (m .others i (eqb-false i (m .granule) k))
 
-moved-realms : (g : Granules) (d : Direction) (t after : GranuleTable) (a : ℕ) → MoveActed g d t after a → realms (after .bytes) + realmBit (fromByte d) ≡ realms (t .bytes) + realmBit (toByte d)
+moved-realms : (g : Granules) (d : Direction) (t after : GranuleTable) (a : ℕ) → MoveActed g d t after a →
+    realms (after .bytes) + realmBit (fromByte d) ≡ realms (t .bytes) + realmBit (toByte d)
 moved-realms g d t after a m =
-    let e = realms-one (t .bytes) (after .bytes) (m .granule) (index-below g (length (t .bytes)) a (m .granule) (m .own)) (sym (m .whole)) (λ j n. sym (m .others j n)) in
+    let e = realms-one (t .bytes) (after .bytes) (m .granule) (index-below g (length (t .bytes)) a (m .granule) (m .own)) (sym (m .whole))
+    (λ j n. sym (m .others j n)) in
     rw (m .was, m .becomes) at e
 
-account-one : (g : Granules) (d : Direction) (t after : GranuleTable) (a : ℕ) → MoveActed g d t after a → Account g t (change d a ∷ []) after
+account-one : (g : Granules) (d : Direction) (t after : GranuleTable) (a : ℕ) → MoveActed g d t after a →
+    Account g t (change d a ∷ []) after
 unfolding delegations undelegations leftBy fromByte toByte realmBit
-account-one g Delegate t after a m = record { balance = omega (arith, moved-realms g Delegate t after a m); whole = m .whole; left = byte-left g Delegate t after a m }
-account-one g Undelegate t after a m = record { balance = omega (arith, moved-realms g Undelegate t after a m); whole = m .whole; left = byte-left g Undelegate t after a m }
+account-one g Delegate t after a m =
+    record { balance = omega (arith, moved-realms g Delegate t after a m); whole = m .whole; left = byte-left g Delegate t after a m }
+account-one g Undelegate t after a m =
+    record { balance = omega (arith, moved-realms g Undelegate t after a m); whole = m .whole; left = byte-left g Undelegate t after a m }
 
-pub call-account : (s : Record) (g : Granules) (d : Direction) (t : GranuleTable) (a : ℕ) → moveOf s g d t a .answer .code ≡ Ok → Account g t (change d a ∷ []) (moveOf s g d t a .table)
+pub call-account : (s : Record) (g : Granules) (d : Direction) (t : GranuleTable) (a : ℕ) → moveOf s g d t a .answer .code ≡ Ok →
+    Account g t (change d a ∷ []) (moveOf s g d t a .table)
 call-account s g d t a h = account-one g d t _ a (move-acts s g d t a h)
 
 -- "each granule of a list counted as a call": x1 is the number of them to enter
-pub list-number : (s : Record) (g : Granules) (d : Direction) (t : GranuleTable) (l : List ℕ) → moveListOf s g d t l .answer .x1 ≡ doneOf s g d t l
+pub list-number : (s : Record) (g : Granules) (d : Direction) (t : GranuleTable) (l : List ℕ) →
+    moveListOf s g d t l .answer .x1 ≡ doneOf s g d t l
 unfolding answerOf
 list-number s g d t l = ap (λ (m : Moved). m .answer .x1) (list-is s g d t l)
 
-pub list-books : (s : Record) (g : Granules) (d : Direction) (t : GranuleTable) (l : List ℕ) → Books g t (map (change d) (take (moveListOf s g d t l .answer .x1) l)) (moveListOf s g d t l .table)
-list-books s g d t l = rw (list-number s g d t l) (account-books g t _ _ (list-by (Account g) (account-none g) (account-join g) s g d (call-account s g d) t l))
+pub list-books : (s : Record) (g : Granules) (d : Direction) (t : GranuleTable) (l : List ℕ) →
+    Books g t (map (change d) (take (moveListOf s g d t l .answer .x1) l)) (moveListOf s g d t l .table)
+list-books s g d t l =
+    rw (list-number s g d t l) (account-books g t _ _ (list-by (Account g) (account-none g) (account-join g) s g d
+    (call-account s g d) t l))

@@ -20,20 +20,23 @@ module _ (R : GranuleTable → List Change → GranuleTable → Type 0) (none : 
     (s : Record) (g : Granules) (d : Direction)
     (one : (t : GranuleTable) (a : ℕ) → moveOf s g d t a .answer .code ≡ Ok → R t (change d a ∷ []) (moveOf s g d t a .table)) where
   -- a call is one change, or no change if it is refused
-  pub call-by : (t : GranuleTable) (a : ℕ) → R t (cond (isOk (moveOf s g d t a .answer .code)) (change d a ∷ []) []) (moveOf s g d t a .table)
+  pub call-by : (t : GranuleTable) (a : ℕ) → R t (cond (isOk (moveOf s g d t a .answer .code)) (change d a ∷ []) [])
+      (moveOf s g d t a .table)
   call-by t a = go (isOk (moveOf s g d t a .answer .code)) refl
     where
       go : (b : Bool) → isOk (moveOf s g d t a .answer .code) ≡ b → R t (cond b (change d a ∷ []) []) (moveOf s g d t a .table)
       go true e = one t a (ok-code _ e)
       go false e = rw (stays s g d t a e) (none t)
 
-  tables-by : (l : List ℕ) (t : GranuleTable) → R t (map (change d) (take (doneOf s g d t l) l)) (tableBy (moveOf s g d) t (take (doneOf s g d t l) l))
+  tables-by : (l : List ℕ) (t : GranuleTable) → R t (map (change d) (take (doneOf s g d t l) l))
+      (tableBy (moveOf s g d) t (take (doneOf s g d t l) l))
   unfolding doneBy tableBy
   tables-by [] t = none t
   tables-by (a ∷ l) t = go (isOk (moveOf s g d t a .answer .code)) refl (tables-by l (moveOf s g d t a .table))
     where
       go : (b : Bool) → isOk (moveOf s g d t a .answer .code) ≡ b →
-          R (moveOf s g d t a .table) (map (change d) (take (doneOf s g d (moveOf s g d t a .table) l) l)) (tableBy (moveOf s g d) (moveOf s g d t a .table) (take (doneOf s g d (moveOf s g d t a .table) l) l)) →
+          R (moveOf s g d t a .table) (map (change d) (take (doneOf s g d (moveOf s g d t a .table) l) l))
+          (tableBy (moveOf s g d) (moveOf s g d t a .table) (take (doneOf s g d (moveOf s g d t a .table) l) l)) →
           R t (map (change d) (take (doneOf s g d t (a ∷ l)) (a ∷ l))) (tableBy (moveOf s g d) t (take (doneOf s g d t (a ∷ l)) (a ∷ l)))
       go true e r = rw e (join t _ _ (change d a ∷ []) _ (one t a (ok-code _ e)) r)
       go false e r = rw e (none t)

@@ -9,7 +9,7 @@ use lib.ListN.{length, getD, drop}
 use lib.Seq.{drop-cons, drop-length}
 use Rattle.boot.specs.declared.Params.{Params}
 use Rattle.boot.specs.declared.Record.{Record}
-use Rattle.codes.specs.Codes.{isUp, upOf, isOk, answerOf}
+use Rattle.codes.specs.Codes.{isUp, bootParams, isOk, answerOf}
 use Rattle.codes.specs.declared.Answer.{Answer}
 use Rattle.codes.specs.declared.Code.{Code}
 use Rattle.codes.specs.declared.Code.the-variants.{Ok, Unk, BadAddr, Inval}
@@ -25,7 +25,8 @@ onward-ok : (m : Moved) (k : ℕ) (rest : Moved) → isOk (m .answer .code) ≡ 
 unfolding onward
 onward-ok m k rest h = ap (λ b. cond b rest (record { answer = answerOf (m .answer .code) k 0; table = m .table })) h
 
-onward-stop : (m : Moved) (k : ℕ) (rest : Moved) → isOk (m .answer .code) ≡ false → onward m k rest ≡ record { answer = answerOf (m .answer .code) k 0; table = m .table }
+onward-stop : (m : Moved) (k : ℕ) (rest : Moved) → isOk (m .answer .code) ≡ false →
+    onward m k rest ≡ record { answer = answerOf (m .answer .code) k 0; table = m .table }
 unfolding onward
 onward-stop m k rest h = ap (λ b. cond b rest (record { answer = answerOf (m .answer .code) k 0; table = m .table })) h
 
@@ -46,7 +47,8 @@ module _ (f : GranuleTable → ℕ → Moved) (l : List ℕ) (i : ℕ) (t : Gran
     list-more : isOk (m .answer .code) ≡ true → listBy f i t (drop i l) ≡ listBy f (i + 1) (m .table) (drop (i + 1) l)
     list-more k = here ∙ onward-ok m i _ k
 
-    list-stop : isOk (m .answer .code) ≡ false → record { answer = answerOf (m .answer .code) i 0; table = m .table } ≡ listBy f i t (drop i l)
+    list-stop : isOk (m .answer .code) ≡ false → record { answer = answerOf (m .answer .code) i 0; table = m .table } ≡ listBy f i t
+        (drop i l)
     list-stop k = sym (here ∙ onward-stop m i _ k)
 
 -- the same from the code of the call and the table that it leaves; `whole` is the list as its loop has it so far
@@ -54,7 +56,8 @@ module _ (f : GranuleTable → ℕ → Moved) (l : List ℕ) (i : ℕ) (t : Gran
   pub told-last : i ≡ length l → (r : Answer) → r ≡ answerOf Ok (length l) 0 → _≡_ {A = Moved} (record { answer = r; table = t }) whole
   told-last e r q = rw q (list-last f l i t e ∙ sym w)
 
-  module _ (h : i < length l) (k : Code) (bytes words : List ℕ) (e : movedTo (answerOf k 0 0) bytes words ≡ f t (getD l i 0)) (z : Bool) (o : z ≡ isOk k) where
+  module _ (h : i < length l) (k : Code) (bytes words : List ℕ) (e : movedTo (answerOf k 0 0) bytes words ≡ f t (getD l i 0)) (z : Bool)
+      (o : z ≡ isOk k) where
     pub told-more : z ≡ true → whole ≡ listBy f (i + 1) (tableOf bytes words) (drop (i + 1) l)
     unfolding movedTo answerOf
     told-more y = w ∙ list-more f l i t h (movedTo (answerOf k 0 0) bytes words) e (sym o ∙ y)
@@ -65,11 +68,14 @@ module _ (f : GranuleTable → ℕ → Moved) (l : List ℕ) (i : ℕ) (t : Gran
 
 -- ---- the record is checked once
 -- two single calls that are equal on tables with property P, which the second call keeps
-module _ (P : GranuleTable → Type 0) (f h : GranuleTable → ℕ → Moved) (e : (t : GranuleTable) (a : ℕ) → P t → f t a ≡ h t a) (kept : (t : GranuleTable) (a : ℕ) → P t → P (h t a .table)) where
+module _ (P : GranuleTable → Type 0) (f h : GranuleTable → ℕ → Moved) (e : (t : GranuleTable) (a : ℕ) → P t → f t a ≡ h t a)
+    (kept : (t : GranuleTable) (a : ℕ) → P t → P (h t a .table)) where
   same-list : (k : ℕ) (t : GranuleTable) (l : List ℕ) → P t → listBy f k t l ≡ listBy h k t l
   unfolding listBy
   same-list k t [] p = refl
-  same-list k t (a ∷ l) p = ap (λ (m : Moved). onward m k (listBy f (suc k) (m .table) l)) (e t a p) ∙ ap (onward (h t a) k) (same-list (suc k) (h t a .table) l (kept t a p))
+  same-list k t (a ∷ l) p =
+      ap (λ (m : Moved). onward m k (listBy f (suc k) (m .table) l)) (e t a p) ∙
+      ap (onward (h t a) k) (same-list (suc k) (h t a .table) l (kept t a p))
 
 module _ (s : Record) (g : Granules) (d : Direction) (t : GranuleTable) where
   pub list-unfit : fitting g t ≡ false → (l : List ℕ) → movedBy Inval t t ≡ moveListOf s g d t l
@@ -81,12 +87,14 @@ module _ (s : Record) (g : Granules) (d : Direction) (t : GranuleTable) where
     unfolding moveListOf
     list-fit l = rw f
 
-    list-up : isUp s ≡ true → (l : List ℕ) → listBy (moveAt (upOf s) g d) 0 t l ≡ moveListOf s g d t l
+    list-up : isUp s ≡ true → (l : List ℕ) → listBy (moveAt (bootParams s) g d) 0 t l ≡ moveListOf s g d t l
     list-up h l =
-        same-list (λ x. fitting g x ≡ true) (moveAt (upOf s) g d) (moveOf s g d) (λ x a p. move-up s g d x a p h) (λ x a p. fit-kept s g d x a p) 0 t l f
+        same-list (λ x. fitting g x ≡ true) (moveAt (bootParams s) g d) (moveOf s g d) (λ x a p. move-up s g d x a p h)
+        (λ x a p. fit-kept s g d x a p) 0 t l f
         ∙ list-fit l
 
-    pub told-list : isUp s ≡ true → (u : Params) → u ≡ upOf s → (l : List ℕ) (m : Moved) → m ≡ listBy (moveAt u g d) 0 t l → m ≡ moveListOf s g d t l
+    pub told-list : isUp s ≡ true → (u : Params) → u ≡ bootParams s → (l : List ℕ) (m : Moved) → m ≡ listBy (moveAt u g d) 0 t l →
+        m ≡ moveListOf s g d t l
     told-list h u v l m e = e ∙ rw v (list-up h l)
 
     pub list-none : (l : List ℕ) → length l ≡ 0 → _≡_ {A = Moved} (record { answer = answerOf Ok 0 0; table = t }) (moveListOf s g d t l)
@@ -97,19 +105,23 @@ module _ (s : Record) (g : Granules) (d : Direction) (t : GranuleTable) where
         go [] h = refl
         go (a ∷ l) h = absurd (omega arith)
 
-    first-down : isUp s ≡ false → (a : ℕ) (l : List ℕ) → _≡_ {A = Moved} (record { answer = answerOf Unk 0 0; table = t }) (listBy (moveOf s g d) 0 t (a ∷ l))
+    first-down : isUp s ≡ false → (a : ℕ) (l : List ℕ) → _≡_ {A = Moved} (record { answer = answerOf Unk 0 0; table = t })
+        (listBy (moveOf s g d) 0 t (a ∷ l))
     unfolding listBy onward movedBy answerOf
     first-down h a l = rw (← move-down s g d t a f h)
 
-    pub list-down : isUp s ≡ false → (l : List ℕ) → (length l ≡ 0 → ⊥) → _≡_ {A = Moved} (record { answer = answerOf Unk 0 0; table = t }) (moveListOf s g d t l)
+    pub list-down : isUp s ≡ false → (l : List ℕ) → (length l ≡ 0 → ⊥) →
+        _≡_ {A = Moved} (record { answer = answerOf Unk 0 0; table = t }) (moveListOf s g d t l)
     list-down h [] n = absurd (n refl)
     list-down h (a ∷ l) n = first-down h a l ∙ list-fit (a ∷ l)
 
     -- if no address is on a granule of the table, the first call is refused
-    first-nowhere : isUp s ≡ true → (a : ℕ) (l : List ℕ) → granuleAt g (length (t .bytes)) a ≡ Nothing → _≡_ {A = Moved} (record { answer = answerOf BadAddr 0 0; table = t }) (listBy (moveOf s g d) 0 t (a ∷ l))
+    first-nowhere : isUp s ≡ true → (a : ℕ) (l : List ℕ) → granuleAt g (length (t .bytes)) a ≡ Nothing →
+        _≡_ {A = Moved} (record { answer = answerOf BadAddr 0 0; table = t }) (listBy (moveOf s g d) 0 t (a ∷ l))
     unfolding listBy onward movedTo answerOf
     first-nowhere h a l e = rw (← move-nowhere s g d t a f h e)
 
-    pub list-nowhere : isUp s ≡ true → (l : List ℕ) → (length l ≡ 0 → ⊥) → ((a : ℕ) → granuleAt g (length (t .bytes)) a ≡ Nothing) → _≡_ {A = Moved} (record { answer = answerOf BadAddr 0 0; table = t }) (moveListOf s g d t l)
+    pub list-nowhere : isUp s ≡ true → (l : List ℕ) → (length l ≡ 0 → ⊥) → ((a : ℕ) → granuleAt g (length (t .bytes)) a ≡ Nothing) →
+        _≡_ {A = Moved} (record { answer = answerOf BadAddr 0 0; table = t }) (moveListOf s g d t l)
     list-nowhere h [] n e = absurd (n refl)
     list-nowhere h (a ∷ l) n e = first-nowhere h a l (e a) ∙ list-fit (a ∷ l)

@@ -13,12 +13,13 @@ use Rattle.realm_words.specs.Answers.{wordsFit}
 use Rattle.banks.specs.Banks.{Granules, granuleCount, granuleAt}
 use Rattle.boot.specs.declared.Params.{Params}
 use Rattle.boot.specs.declared.Record.{Record}
-use Rattle.codes.specs.Codes.{isUp, unless, fails, upOf, whenUp, isOk, answerOf}
+use Rattle.codes.specs.Codes.{isUp, isFalse, fails, bootParams, whenUp, isOk, answerOf}
 use Rattle.codes.specs.declared.Code.{Code}
 use Rattle.codes.specs.declared.Code.the-variants.{Ok, Unk, BadAddr, BadPas, Inval}
 use Rattle.codes.proofs.Gates.{if-ok-by}
 use Rattle.banks.proofs.Laws.{falls, index-below}
-use Rattle.granule_rules.specs.Granules.{GranuleTable, tableOf, fromByte, toByte, isSharedPage, granuleCode, moveCode, granuleSet, moved, Moved, movedBy, moveAt, fitting, whenFit, moveOf, movedTo}
+use Rattle.granule_rules.specs.Granules.{GranuleTable, tableOf, fromByte, toByte, isSharedPage, granuleCode, moveCode, granuleSet}
+use Rattle.granule_rules.specs.Granules.{moved, Moved, movedBy, moveAt, fitting, whenFit, moveOf, movedTo}
 use Rattle.granule_rules.specs.Steps.{Inside}
 use Rattle.banks.specs.declared.Granule.{Granule}
 use Rattle.banks.specs.declared.Granule.the-variants.{Nothing, At}
@@ -26,10 +27,12 @@ use Rattle.granule_rules.specs.declared.Direction.{Direction}
 
 -- ---- the granule of an address is within the table
 -- whether the words fit, from the m granules of the record
-pub fit-told : (g : Granules) (bytes words : List ℕ) (m : ℕ) (r b : Bool) → m ≡ granuleCount g → r ≡ wordsFit words m → r ≡ b → fitting g (tableOf bytes words) ≡ b
+pub fit-told : (g : Granules) (bytes words : List ℕ) (m : ℕ) (r b : Bool) → m ≡ granuleCount g → r ≡ wordsFit words m → r ≡ b →
+    fitting g (tableOf bytes words) ≡ b
 fit-told g bytes words m r b c e h = ap (wordsFit words) (sym c) ∙ sym e ∙ h
 
-pub granule-inside : (g : Granules) (t ws : List ℕ) (addr : ℕ) (k : Granule) → Yes (wordsFit ws (granuleCount g)) → k ≡ granuleAt g (length t) addr → Inside k t ws
+pub granule-inside : (g : Granules) (t ws : List ℕ) (addr : ℕ) (k : Granule) → Yes (wordsFit ws (granuleCount g)) →
+    k ≡ granuleAt g (length t) addr → Inside k t ws
 unfolding wordsFor
 granule-inside g t ws addr k f e i h =
     let n : granuleCount g ≡ length t = falls g (length t) addr i (sym e ∙ h) .count in
@@ -54,11 +57,11 @@ module _ (u : Params) (g : Granules) (d : Direction) (t ws : List ℕ) (addr : �
 
     module _ (k : isSharedPage u d addr ≡ false) where
       pub move-pas : (getD t i 0 ≡ fromByte d → ⊥) → movedTo (answerOf BadPas 0 0) t ws ≡ moveAt u g d (tableOf t ws) addr
-      unfolding movedTo moveAt movedBy moveCode granuleCode moved granuleSet unless fails
+      unfolding movedTo moveAt movedBy moveCode granuleCode moved granuleSet isFalse fails
       move-pas n = rw (e, k, ne-eqb (getD t i 0) (fromByte d) n)
 
       pub move-ok : getD t i 0 ≡ fromByte d → (v : ℕ) → v ≡ toByte d → movedTo (answerOf Ok 0 0) (set t i v) (putBit ws i (realmBit v)) ≡ moveAt u g d (tableOf t ws) addr
-      unfolding movedTo moveAt movedBy moveCode granuleCode moved granuleSet unless fails
+      unfolding movedTo moveAt movedBy moveCode granuleCode moved granuleSet isFalse fails
       move-ok b v y = rw (e, k, eq-eqb (getD t i 0) (fromByte d) b, y)
 
 -- no call changes the number of bytes or words
@@ -79,7 +82,8 @@ unfolding moveAt
 move-lengths u g d t addr = by-lengths (moveCode u g d t addr) g d t addr
 
 -- the same for a move m that equals `moveAt`
-pub told-lengths : (u : Params) (g : Granules) (d : Direction) (t : GranuleTable) (addr : ℕ) (m : Moved) → m ≡ moveAt u g d t addr → AsLong t (m .table)
+pub told-lengths : (u : Params) (g : Granules) (d : Direction) (t : GranuleTable) (addr : ℕ) (m : Moved) → m ≡ moveAt u g d t addr →
+    AsLong t (m .table)
 told-lengths u g d t addr m e = rw e (move-lengths u g d t addr)
 
 -- ---- any record
@@ -89,31 +93,33 @@ module _ (s : Record) (g : Granules) (d : Direction) (t : GranuleTable) (addr : 
   lengths-kept = by-lengths _ g d t addr
 
   pub move-unfit : fitting g t ≡ false → movedBy Inval t t ≡ moveOf s g d t addr
-  unfolding moveOf movedBy whenFit unless fails
+  unfolding moveOf movedBy whenFit isFalse fails
   move-unfit h = rw h
 
   module _ (f : fitting g t ≡ true) where
     pub move-down : isUp s ≡ false → movedBy Unk t t ≡ moveOf s g d t addr
-    unfolding moveOf movedBy whenFit whenUp unless fails
+    unfolding moveOf movedBy whenFit whenUp isFalse fails
     move-down h = rw (f, h)
 
-    pub move-up : isUp s ≡ true → moveAt (upOf s) g d t addr ≡ moveOf s g d t addr
-    unfolding moveOf moveAt whenFit whenUp unless fails
+    pub move-up : isUp s ≡ true → moveAt (bootParams s) g d t addr ≡ moveOf s g d t addr
+    unfolding moveOf moveAt whenFit whenUp isFalse fails
     move-up h = rw (f, h)
 
-    pub told-up : isUp s ≡ true → (u : Params) → u ≡ upOf s → (m : Moved) → m ≡ moveAt u g d t addr → m ≡ moveOf s g d t addr
+    pub told-up : isUp s ≡ true → (u : Params) → u ≡ bootParams s → (m : Moved) → m ≡ moveAt u g d t addr → m ≡ moveOf s g d t addr
     told-up h u v m e = e ∙ rw v (move-up h)
 
     -- the address is on no granule of the table
-    pub move-nowhere : isUp s ≡ true → granuleAt g (length (t .bytes)) addr ≡ Nothing → movedTo (answerOf BadAddr 0 0) (t .bytes) (t .words) ≡ moveOf s g d t addr
-    move-nowhere h e = move-addr (upOf s) g d (t .bytes) (t .words) addr e ∙ move-up h
+    pub move-nowhere : isUp s ≡ true → granuleAt g (length (t .bytes)) addr ≡ Nothing →
+        movedTo (answerOf BadAddr 0 0) (t .bytes) (t .words) ≡ moveOf s g d t addr
+    move-nowhere h e = move-addr (bootParams s) g d (t .bytes) (t .words) addr e ∙ move-up h
 
     -- the right number of words stays right
     pub fit-kept : fitting g (moveOf s g d t addr .table) ≡ true
     fit-kept = fit-long (moveOf s g d t addr .table .words) (t .words) (granuleCount g) (lengths-kept .1) f
 
 -- a refused move leaves the table unchanged, with zeros in x1 and x2
-pub move-refused : (s : Record) (g : Granules) (d : Direction) (t : GranuleTable) (addr : ℕ) → isOk (moveOf s g d t addr .answer .code) ≡ false →
+pub move-refused : (s : Record) (g : Granules) (d : Direction) (t : GranuleTable) (addr : ℕ) →
+    isOk (moveOf s g d t addr .answer .code) ≡ false →
     moveOf s g d t addr ≡ record { answer = answerOf (moveOf s g d t addr .answer .code) 0 0; table = t }
 unfolding moveOf movedBy answerOf
 move-refused s g d t addr h = rw h

@@ -16,12 +16,13 @@ use Rattle.banks.proofs.Lies.{granule-lies, lies-granule}
 use Rattle.boot.specs.declared.Params.{Params}
 use Rattle.boot.specs.declared.Record.{Record}
 use Rattle.realm_words.specs.Bits.{wordsFor}
-use Rattle.codes.specs.Codes.{unless, whenUp, answerOf}
+use Rattle.codes.specs.Codes.{isFalse, whenUp, answerOf}
 use Rattle.codes.specs.Reasons.{Gives, Passes, WhileUp}
 use Rattle.codes.specs.declared.Code.{Code}
 use Rattle.codes.specs.declared.Code.the-variants.{BadAddr, BadPas, Inval}
 use Rattle.codes.proofs.Reasons.{Tells, tells-eq, tells-not, gives, while-up}
-use Rattle.granule_rules.specs.Granules.{GranuleTable, fromByte, isSharedPage, granuleCode, moveCode, movedBy, whenFit, fitting, moveOf}
+use Rattle.granule_rules.specs.Granules.{GranuleTable, fromByte, isSharedPage, granuleCode, moveCode, movedBy, whenFit, fitting}
+use Rattle.granule_rules.specs.Granules.{moveOf}
 use Rattle.granule_rules.specs.Lists.{moveListOf, codeBy}
 use Rattle.granule_rules.proofs.Done.{list-is}
 use Rattle.granule_rules.specs.declared.Direction.{Direction}
@@ -32,15 +33,17 @@ abbrev pub Takes : Direction → ℕ → Type 0
 Takes Delegate b = b ≡ 0
 Takes Undelegate b = b ≡ 1
 
-tells-takes : (d : Direction) (b : ℕ) → Tells (unless (eqb b (fromByte d))) (Takes d b → ⊥)
+tells-takes : (d : Direction) (b : ℕ) → Tells (isFalse (eqb b (fromByte d))) (Takes d b → ⊥)
 unfolding fromByte
 tells-takes Delegate b = tells-not _ _ (tells-eq b 0)
 tells-takes Undelegate b = tells-not _ _ (tells-eq b 1)
 
 tells-shared : (u : Params) (d : Direction) (addr : ℕ) → Tells (isSharedPage u d addr) ((d ≡ Undelegate) × (addr ≡ u .base))
 unfolding isSharedPage
-tells-shared u Delegate addr = record { yes-if = λ h. absurd (let e = h .0 in let z : _≡_ {A = ℕ} 0 1 = cc in omega arith); no-if = λ h. refl }
-tells-shared u Undelegate addr = record { yes-if = λ h. tells-eq addr (u .base) .yes-if (h .1); no-if = λ h. tells-eq addr (u .base) .no-if (λ e. h (refl, e)) }
+tells-shared u Delegate addr =
+    record { yes-if = λ h. absurd (let e = h .0 in let z : _≡_ {A = ℕ} 0 1 = cc in omega arith); no-if = λ h. refl }
+tells-shared u Undelegate addr =
+    record { yes-if = λ h. tells-eq addr (u .base) .yes-if (h .1); no-if = λ h. tells-eq addr (u .base) .no-if (λ e. h (refl, e)) }
 
 -- by the granule of the address, if it has one
 abbrev pub GranuleGives : Params → Granules → Direction → GranuleTable → ℕ → Code → Type 0
@@ -50,9 +53,15 @@ GranuleGives u g d t addr =
     (Gives ((i : ℕ) → LiesAt g (length (t .bytes)) addr i → Takes d (getD (t .bytes) i 0) → ⊥) BadPas
     Passes))
 
-granule-gives : (u : Params) (g : Granules) (d : Direction) (t : GranuleTable) (addr : ℕ) (k : Granule) → granuleAt g (length (t .bytes)) addr ≡ k → GranuleGives u g d t addr (granuleCode u d t addr k)
+granule-gives : (u : Params) (g : Granules) (d : Direction) (t : GranuleTable) (addr : ℕ) (k : Granule) →
+    granuleAt g (length (t .bytes)) addr ≡ k → GranuleGives u g d t addr (granuleCode u d t addr k)
 unfolding granuleCode
-granule-gives u g d t addr Nothing e = record { where-it-holds = λ p. refl; elsewhere = λ n. absurd (n (λ i v. nowhere i (sym e ∙ lies-granule g (length (t .bytes)) addr i v))) }
+granule-gives u g d t addr Nothing e =
+    record {
+      where-it-holds = λ p. refl;
+      elsewhere = λ n. absurd
+          (n (λ i v. nowhere i (sym e ∙ lies-granule g (length (t .bytes)) addr i v)));
+    }
 granule-gives u g d t addr (At i) e =
     record {
       where-it-holds = λ p. absurd (p i (granule-lies g (length (t .bytes)) addr i e));
@@ -62,7 +71,8 @@ granule-gives u g d t addr (At i) e =
     same : (j : ℕ) → LiesAt g (length (t .bytes)) addr j → j ≡ i
     same j v = let h : At j ≡ At i = sym (lies-granule g (length (t .bytes)) addr j v) ∙ e in cc
 
-    byte : Tells (unless (eqb (getD (t .bytes) i 0) (fromByte d))) ((j : ℕ) → LiesAt g (length (t .bytes)) addr j → Takes d (getD (t .bytes) j 0) → ⊥)
+    byte : Tells (isFalse (eqb (getD (t .bytes) i 0) (fromByte d)))
+        ((j : ℕ) → LiesAt g (length (t .bytes)) addr j → Takes d (getD (t .bytes) j 0) → ⊥)
     byte =
         let s = tells-takes d (getD (t .bytes) i 0) in
         record {

@@ -23,4 +23,5 @@ pub record MoveActed (g : Granules) (d : Direction) (t after : GranuleTable) (ad
   pub wholeWords : length (after .words) ≡ length (t .words)
   -- "BAD_PAS unless that byte is 0 (delegate) or 1 (undelegate). Then it becomes 1 or 0.": the byte before, the byte after, and the bit after
   pub delegated : d ≡ Delegate → (getD (t .bytes) granule 0 ≡ 0) × (getD (after .bytes) granule 0 ≡ 1) × (bitAt (after .words) granule ≡ 1)
-  pub undelegated : d ≡ Undelegate → (getD (t .bytes) granule 0 ≡ 1) × (getD (after .bytes) granule 0 ≡ 0) × (bitAt (after .words) granule ≡ 0)
+  pub undelegated : d ≡ Undelegate → (getD (t .bytes) granule 0 ≡ 1) × (getD (after .bytes) granule 0 ≡ 0) ×
+      (bitAt (after .words) granule ≡ 0)

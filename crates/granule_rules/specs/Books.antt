@@ -50,7 +50,8 @@ pub record Books (g : Granules) (t : GranuleTable) (cs : List Change) (after : G
   -- the number of granules does not change
   pub whole : length (after .bytes) ≡ length (t .bytes)
   -- "Each granule's byte is the one the last accepted call naming it left,"
-  pub last : (i : ℕ) (before : List Change) (c : Change) (behind : List Change) → cs ≡ before ++ c ∷ behind → Names g (length (t .bytes)) i c → NoneNames g (length (t .bytes)) i behind → getD (after .bytes) i 0 ≡ toByte (c .way)
+  pub last : (i : ℕ) (before : List Change) (c : Change) (behind : List Change) → cs ≡ before ++ c ∷ behind →
+      Names g (length (t .bytes)) i c → NoneNames g (length (t .bytes)) i behind → getD (after .bytes) i 0 ≡ toByte (c .way)
   -- "or the starting byte if none did."
   pub none : (i : ℕ) → NoneNames g (length (t .bytes)) i cs → getD (after .bytes) i 0 ≡ getD (t .bytes) i 0
   -- a byte of the table that no address names is unchanged

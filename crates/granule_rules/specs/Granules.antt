@@ -14,7 +14,7 @@ use Rattle.realm_words.specs.Bits.{realmBit, putBit, realmWords}
 use Rattle.realm_words.specs.Answers.{wordsFit}
 use Rattle.boot.specs.declared.Params.{Params}
 use Rattle.boot.specs.declared.Record.{Record}
-use Rattle.codes.specs.Codes.{unless, fails, upOf, whenUp, ifOk, answerOf}
+use Rattle.codes.specs.Codes.{isFalse, fails, bootParams, whenUp, ifOk, answerOf}
 use Rattle.codes.specs.declared.Code.{Code}
 use Rattle.codes.specs.declared.Code.the-variants.{Ok, BadAddr, BadPas, Inval}
 use Rattle.codes.specs.declared.Answer.{Answer}
@@ -53,7 +53,7 @@ unfoldable pub granuleCode : Params → Direction → GranuleTable → ℕ → G
 granuleCode u d t addr Nothing = BadAddr
 granuleCode u d t addr (At i) =
     fails (isSharedPage u d addr) BadAddr
-    (fails (unless (eqb (getD (t .bytes) i 0) (fromByte d))) BadPas
+    (fails (isFalse (eqb (getD (t .bytes) i 0) (fromByte d))) BadPas
     Ok)
 
 -- the code of a call after the checks of words and boot record
@@ -88,11 +88,11 @@ fitting g t = wordsFit (t .words) (granuleCount g)
 
 -- INVAL if the number of words is wrong, otherwise k
 unfoldable pub whenFit : Granules → GranuleTable → Code → Code
-whenFit g t k = fails (unless (fitting g t)) Inval k
+whenFit g t k = fails (isFalse (fitting g t)) Inval k
 
 -- delegation in either direction
 unfoldable pub moveOf : Record → Granules → Direction → GranuleTable → ℕ → Moved
-moveOf s g d t addr = movedBy (whenFit g t (whenUp s (moveCode (upOf s) g d t addr))) (moved g d t addr) t
+moveOf s g d t addr = movedBy (whenFit g t (whenUp s (moveCode (bootParams s) g d t addr))) (moved g d t addr) t
 
 -- the delegate command
 abbrev pub delegateOf : Record → Granules → GranuleTable → ℕ → Moved

@@ -1,6 +1,6 @@
 // Runs the numbered cases of data/, in turn, up to the first number without a case: lists of granules, queries of the realm words, and
 // set-ups of the granule record. A case is 8-byte words: the boot record (0 fresh, 1 up, 2 closed, then its four values); 0 to delegate, 1 to
-// undelegate, 2 to set up or 3 to query; the offset of the granule record (see `cases::granules_at`), which the realm words follow; the
+// undelegate, 2 to set up or 3 to query; the offset of the granule record (see `vector_io::granules_at`), which the realm words follow; the
 // table's length; the number of addresses, the number of bytes of the banks, or the index for the query.
 // List: then table, addresses and the expected table. Prints the answer, whether the table is as expected, and the words.
 // Query: then the table. Prints count, next granule, whether words and table agree, whether the words were built, and the words.
@@ -21,9 +21,9 @@ fn print(text: &[u8]) {
 
 fn print_answer(answer: Answer) {
     print(b"registers");
-    cases::print_word(answer.x0);
-    cases::print_word(answer.x1);
-    cases::print_word(answer.x2);
+    vector_io::print_word(answer.x0);
+    vector_io::print_word(answer.x1);
+    vector_io::print_word(answer.x2);
     print(b"\n");
 }
 
@@ -48,18 +48,18 @@ fn print_list(input: &[u8], table: &mut [u8], words: &mut [u64], list: &mut [u64
 {
     let t = table.len();
     let k = 8 * list.len();
-    cases::read_words(words::part_of(input, Span { at: 72 + t, len: k }), list);
-    let granules = cases::granules_at(input, 48);
+    vector_io::read_words(words::part_of(input, Span { at: 72 + t, len: k }), list);
+    let granules = vector_io::granules_at(input, 48);
     let direction = words::word_at(input, 40);
     print_moves(
-        cases::record_at(input),
+        vector_io::record_at(input),
         &granules,
         direction,
         table,
         words,
         list,
     );
-    cases::print_same(
+    vector_io::print_same(
         b"table",
         table,
         words::part_of(
@@ -70,7 +70,7 @@ fn print_list(input: &[u8], table: &mut [u8], words: &mut [u64], list: &mut [u64
             },
         ),
     );
-    cases::print_words(words);
+    vector_io::print_words(words);
 }
 
 // ---- The realm words ----
@@ -116,14 +116,14 @@ fn print_built(done: bool) {
 
 // Prints the count, the next Realm granule at or after the case's index, and whether words and table agree; then builds the words.
 fn print_realm(input: &[u8], table: &[u8], words: &mut [u64]) {
-    let granules = cases::granules_at(input, 48);
+    let granules = vector_io::granules_at(input, 48);
     let n = banks::granule_count(&granules) as usize;
     let index = words::word_at(input, 64) as usize;
     print_number(realm_words::count(words, n));
     print_hit(realm_next::next(words, n, index));
     print_agreement(realm_words::agrees(table, words, n));
     print_built(realm_words::build(table, words, n));
-    cases::print_words(words);
+    vector_io::print_words(words);
 }
 
 // ---- The set-up ----
@@ -139,12 +139,12 @@ fn print_record(granules: &[u64; 33]) {
 
 // Runs a set-up. The banks start at offset 72.
 fn print_set_up(input: &[u8]) {
-    let mut granules = cases::granules_at(input, 48);
-    let n = cases::length_at(input, 64, 4096);
+    let mut granules = vector_io::granules_at(input, 48);
+    let n = vector_io::length_at(input, 64, 4096);
     let shown = words::part_of(input, Span { at: 72, len: n });
     let code = banks::set_up(shown, words::word_at(input, 56), &mut granules);
     print(b"set_up");
-    cases::print_word(codes::x0(code));
+    vector_io::print_word(codes::x0(code));
     print(b"\n");
     print_record(&granules);
 }
@@ -155,7 +155,7 @@ fn print_lent(input: &[u8], table: &mut [u8], words: &mut [u64], list: &mut [u64
 {
     let t = table.len();
     words::copy(table, words::part_of(input, Span { at: 72, len: t }));
-    cases::fill_words(input, 48, words);
+    vector_io::fill_words(input, 48, words);
     if words::word_at(input, 40) == 3 {
         print_realm(input, table, words);
         return;
@@ -171,16 +171,16 @@ fn print_case(input: &[u8]) {
     let mut table = [0u8; 4200];
     let mut words = [0u64; 80];
     let mut list = [0u64; 600];
-    let t = cases::length_at(input, 56, 4200);
-    let w = cases::length_at(input, cases::words_at(input, 48), 80);
-    let n = cases::length_at(input, 64, 600);
+    let t = vector_io::length_at(input, 56, 4200);
+    let w = vector_io::length_at(input, vector_io::words_at(input, 48), 80);
+    let n = vector_io::length_at(input, 64, 600);
     print_lent(input, &mut table[..t], &mut words[..w], &mut list[..n]);
 }
 
 fn main() {
     let mut input = [0u8; 12288];
     for n in 0..1000u64 {
-        let length = cases::load(n, &mut input);
+        let length = vector_io::load(n, &mut input);
         if length == 0 {
             return;
         }

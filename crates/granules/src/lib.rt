@@ -126,7 +126,7 @@ fn move_one(
     if !table_fits(count, table.len()) {
         return Code::BadAddr;
     }
-    let params = codes::up_of(state);
+    let params = codes::boot_params(state);
     let found = banks::find_from(granules, banks::no_bank(), address);
     let granule = found.granule;
     move_at(params, granule, direction, table, words, address)
@@ -159,7 +159,7 @@ fn move_shortcut(
     requires { ⌜ (isUp state ≡ true) × Yes (hasOneBank (now granules) (length (now table))) × Yes (wordsFit (now words) (length (now table))) ⌝ }
     ensures { λ r. ⌜ movedTo (answerOf r 0 0) (now (table .exit)) (now (words .exit)) ≡ moveOf state (now (granules .entry)) direction (tableOf (now (table .entry)) (now (words .entry))) address ⌝ }
 {
-    let params = codes::up_of(state);
+    let params = codes::boot_params(state);
     let granule = banks::find_first(granules, address);
     move_at(params, granule, direction, table, words, address)
 }
@@ -187,11 +187,11 @@ fn move_each(
         let granule = found.granule;
         let code = move_at(params, granule, direction, table, words, address);
         if !codes::is_ok(code) {
-            return codes::answered(code, i as u64, 0);
+            return codes::answer_with(code, i as u64, 0);
         }
         bank = found.bank;
     }
-    codes::answered(Code::Ok, n as u64, 0)
+    codes::answer_with(Code::Ok, n as u64, 0)
 }
 
 // Makes the checks that do not depend on the address once. An empty list is OK if the number of words is right, even if the boot record is
@@ -208,19 +208,19 @@ fn move_list(
 {
     let count = banks::granule_count(granules);
     if !realm_words::words_fit(words, count as usize) {
-        return codes::answered(Code::Inval, 0, 0);
+        return codes::answer_with(Code::Inval, 0, 0);
     }
     if addresses.len() == 0 {
-        return codes::answered(Code::Ok, 0, 0);
+        return codes::answer_with(Code::Ok, 0, 0);
     }
     let up = codes::is_up(state);
     if !up {
-        return codes::answered(Code::Unk, 0, 0);
+        return codes::answer_with(Code::Unk, 0, 0);
     }
     if !table_fits(count, table.len()) {
-        return codes::answered(Code::BadAddr, 0, 0);
+        return codes::answer_with(Code::BadAddr, 0, 0);
     }
-    let params = codes::up_of(state);
+    let params = codes::boot_params(state);
     move_each(params, granules, direction, table, words, addresses)
 }
 
@@ -238,10 +238,10 @@ pub fn delegate(
 {
     if takes_shortcut(state, granules, table.len(), words) {
         let code = move_shortcut(state, granules, Direction::Delegate, table, words, address);
-        return codes::answered(code, 0, 0);
+        return codes::answer_with(code, 0, 0);
     }
     let code = move_one(state, granules, Direction::Delegate, table, words, address);
-    codes::answered(code, 0, 0)
+    codes::answer_with(code, 0, 0)
 }
 
 // 0xC40001B1: makes the granule at `address` Non-secure, if it is Realm.
@@ -263,7 +263,7 @@ pub fn undelegate(
             words,
             address,
         );
-        return codes::answered(code, 0, 0);
+        return codes::answer_with(code, 0, 0);
     }
     let code = move_one(
         state,
@@ -273,7 +273,7 @@ pub fn undelegate(
         words,
         address,
     );
-    codes::answered(code, 0, 0)
+    codes::answer_with(code, 0, 0)
 }
 
 // Delegates the granules at `addresses` in order, up to the first refusal; x1 is the number delegated.

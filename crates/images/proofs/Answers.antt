@@ -13,7 +13,7 @@ use Rattle.reader.proofs.Whole.{reading-answer}
 use Rattle.writer_rules.specs.Write.{Made}
 use Rattle.writer_rules.specs.Wrote.{madeBy as madeOf}
 use Rattle.writer_rules.specs.declared.Wrote.{Wrote}
-use Rattle.writer_rules.specs.declared.Wrote.the-variants.{Page, Place, Edition, Lists, Late, Room}
+use Rattle.writer_rules.specs.declared.Wrote.the-variants.{Page, Place, Edition, BadEntry, SectionAfterEdition, TooLong}
 use Rattle.images.specs.Image.{viewWords, answerWords, madeNumber, wroteNumber}
 
 -- ---- the reader's answer
@@ -37,9 +37,9 @@ unfolding wroteNumber madeNumber madeOf
 made-number page Page = refl
 made-number page Place = refl
 made-number page Edition = refl
-made-number page Lists = refl
-made-number page Late = refl
-made-number page Room = refl
+made-number page BadEntry = refl
+made-number page SectionAfterEdition = refl
+made-number page TooLong = refl
 
 pub wrote-code : (page : List ℕ) (x : Wrote) (m : Made) → madeOf page x ≡ m → wroteNumber x ≡ madeNumber m
 wrote-code page x m h = made-number page x ∙ ap madeNumber h

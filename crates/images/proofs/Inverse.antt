@@ -9,7 +9,8 @@ use Rattle.reader.specs.declared.Section.the-variants.{Absent, Empty, Entries}
 use Rattle.reader.specs.declared.View.{View}
 use Rattle.token_rules.specs.declared.Session.{Session}
 use Rattle.token_rules.specs.declared.Session.the-variants.{Idle, Sending}
-use Rattle.images.specs.Image.{recordOf, recordWords, sessionOf, sessionWords, sectionBy, tagWord, placeWord, countWord, sectionIn, viewOf, viewWords}
+use Rattle.images.specs.Image.{recordOf, recordWords, sessionOf, sessionWords, sectionBy, tagWord, placeWord, countWord, sectionIn}
+use Rattle.images.specs.Image.{viewOf, viewWords}
 
 -- the state of a state's image is that state
 pub record-back : (r : Record) → recordOf (recordWords r) ≡ r

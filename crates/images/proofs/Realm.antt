@@ -10,13 +10,14 @@ use lib.Dec.{eqb}
 use borrow.Author.Tests.{eq-eqb, ne-eqb, eqb-true, lt-ltb, ltb-true}
 use Rattle.words.specs.Tests.{both}
 use Rattle.boot.proofs.Reasons.{test-holds, test-fails, line}
-use Rattle.codes.specs.Codes.{extended, x0Of, unless}
+use Rattle.codes.specs.Codes.{extended, x0Of, isFalse}
 use Rattle.codes.specs.Reasons.{Gives}
 use Rattle.realm_words.specs.declared.Number.{Number}
 use Rattle.realm_words.specs.declared.Hit.{Hit}
 use Rattle.realm_words.specs.declared.Agreement.{Agreement}
 use Rattle.realm_words.specs.Bits.{bitAt, wordsFor, realmWords}
-use Rattle.realm_words.specs.Answers.{wordsFit, marked, realmCountOf, realmNextOf, sameWords, realmAgreeOf, Built, realmBuildOf, realmAt, realms, FirstAt, NoneFrom, WordsAgree}
+use Rattle.realm_words.specs.Answers.{wordsFit, marked, realmCountOf, realmNextOf, sameWords, realmAgreeOf, Built, realmBuildOf, realmAt}
+use Rattle.realm_words.specs.Answers.{realms, FirstAt, NoneFrom, WordsAgree}
 use Rattle.realm_words.proofs.Agreeing.{same-is, is-same}
 use Rattle.realm_words.proofs.Facts.{words-agree, agree-words}
 use Rattle.realm_words.proofs.Laws.{count-agrees}
@@ -81,11 +82,14 @@ through-both f false b x y = refl
 
 -- an equality test, and when it fails
 unequal : (a b c next : ℕ) (below : ℕ → Type 0) → (a ≡ b → below next) → Gives (a ≡ b → ⊥) c below (cond (eqb a b) next c)
-unequal a b c next below h = line (eqb a b) _ c next below (λ n. ne-eqb a b n) (test-holds _ _ (λ e. eq-eqb a b e)) (λ y. h (eqb-true a b y))
+unequal a b c next below h =
+    line (eqb a b) _ c next below (λ n. ne-eqb a b n) (test-holds _ _ (λ e. eq-eqb a b e)) (λ y. h (eqb-true a b y))
 
 pub count-codes : (ws : List ℕ) (n : ℕ) → Gives (Fitting ws n → ⊥) inval (λ k. k ≡ 0) (numberX0 (realmCountOf ws n))
 unfolding realmCountOf wordsFor numberX0 x0Of extended
-count-codes ws n = rw (through numberX0 (wordsFit ws n) (Number.Count (marked (bitAt ws) n)) Number.Inval) (unequal (length ws) ((n + 63) / 64) inval 0 _ (λ e. refl))
+count-codes ws n =
+    rw (through numberX0 (wordsFit ws n) (Number.Count (marked (bitAt ws) n)) Number.Inval)
+    (unequal (length ws) ((n + 63) / 64) inval 0 _ (λ e. refl))
 
 pub next-codes : (ws : List ℕ) (n i : ℕ) →
     Gives (Fitting ws n → ⊥) inval
@@ -102,7 +106,8 @@ next-codes ws n i = go (realmNextOf ws n i) refl
     below : (a b : ℕ) → ((a < b → ⊥) → ⊥) → a < b
     below a b h = ltb-true a b (test-holds _ _ (λ l. lt-ltb a b l) h)
 
-    go : (h : Hit) → realmNextOf ws n i ≡ h → Gives (Fitting ws n → ⊥) inval (Gives (i < n → ⊥) inval (Gives (NoneFrom (bitAt ws) n i) 1 (λ k. k ≡ 0))) (hitX0 h)
+    go : (h : Hit) → realmNextOf ws n i ≡ h → Gives (Fitting ws n → ⊥) inval
+        (Gives (i < n → ⊥) inval (Gives (NoneFrom (bitAt ws) n i) 1 (λ k. k ≡ 0))) (hitX0 h)
     go (Hit.At j) e =
         let f = next-first ws n i j e in
         record {
@@ -141,7 +146,8 @@ pub agree-codes : (t ws : List ℕ) (n : ℕ) → ((k : ℕ) → getD ws k 0 < 2
     (agreementX0 (realmAgreeOf t ws n))
 unfolding realmAgreeOf wordsFor agreementX0 x0Of extended
 agree-codes t ws n small =
-    rw (through-both agreementX0 (wordsFit ws n) (eqb (length t) n) (cond (sameWords ws (realmWords t)) Agreement.Yes Agreement.No) Agreement.Inval)
+    rw (through-both agreementX0 (wordsFit ws n) (eqb (length t) n)
+    (cond (sameWords ws (realmWords t)) Agreement.Yes Agreement.No) Agreement.Inval)
     (unequal (length ws) ((n + 63) / 64) inval _ _ (λ l.
     unequal (length t) n inval _ _ (λ m.
     rw (through agreementX0 (sameWords ws (realmWords t)) Agreement.Yes Agreement.No)
@@ -156,12 +162,14 @@ pub build-codes : (t ws : List ℕ) (n : ℕ) →
     (builtX0 (realmBuildOf t ws n .done))
 unfolding realmBuildOf wordsFor builtX0 x0Of extended
 build-codes t ws n =
-    rw (through-both (λ (b : Built). builtX0 (b .done)) (wordsFit ws n) (eqb (length t) n) (record { done = true; words = realmWords t }) (record { done = false; words = ws }))
+    rw (through-both (λ (b : Built). builtX0 (b .done)) (wordsFit ws n) (eqb (length t) n) (record { done = true; words = realmWords t })
+    (record { done = false; words = ws }))
     (unequal (length ws) ((n + 63) / 64) inval _ _ (λ l.
     unequal (length t) n inval 0 _ (λ m. refl)))
 
 -- ---- if words and table agree, the caller gets the number of Realm bytes in the table, and the index of the first at or after i
-pub count-read : (t : List ℕ) → (numberX0 (realmCountOf (realmWords t) (length t)) ≡ 0) × (getD (numberWords (realmCountOf (realmWords t) (length t))) 0 0 ≡ realms t)
+pub count-read : (t : List ℕ) → (numberX0 (realmCountOf (realmWords t) (length t)) ≡ 0) ×
+    (getD (numberWords (realmCountOf (realmWords t) (length t))) 0 0 ≡ realms t)
 unfolding numberX0 numberWords x0Of extended
 count-read t = rw (count-agrees t) (refl, refl)
 
@@ -170,19 +178,27 @@ pub next-read : (t : List ℕ) (i j : ℕ) → i < length t → FirstAt (realmAt
 unfolding hitX0 hitWords x0Of extended wordsFor
 next-read t i j l f =
     let g : FirstAt (bitAt (realmWords t)) (length t) i j =
-    record { from = f .from; below = f .below; marks = rw (bit-agrees t j (f .below)) (f .marks); before = λ m a b c. f .before m a b (rw (bit-agrees t m (omega (arith, f .below))) at c) } in
+    record {
+      from = f .from;
+      below = f .below;
+      marks = rw (bit-agrees t j (f .below)) (f .marks);
+      before = λ m a b c. f .before m a b (rw (bit-agrees t m (omega (arith, f .below))) at c);
+    } in
     rw (next-is (realmWords t) (length t) i j (words-length (wordsFor (length t)) t, l) g) (refl, refl)
 
 -- and 1 if the table has no Realm byte at or after i
-pub none-read : (t : List ℕ) (i : ℕ) → i < length t → NoneFrom (realmAt t) (length t) i → hitX0 (realmNextOf (realmWords t) (length t) i) ≡ 1
+pub none-read : (t : List ℕ) (i : ℕ) → i < length t → NoneFrom (realmAt t) (length t) i →
+    hitX0 (realmNextOf (realmWords t) (length t) i) ≡ 1
 unfolding hitX0 wordsFor
-none-read t i l f = rw (next-nothing (realmWords t) (length t) i (words-length (wordsFor (length t)) t, l) (λ m a b c. f m a b (rw (bit-agrees t m b) at c)))
+none-read t i l f =
+    rw (next-nothing (realmWords t) (length t) i (words-length (wordsFor (length t)) t, l)
+    (λ m a b c. f m a b (rw (bit-agrees t m b) at c)))
 
 -- ---- a flag
 pub flag-set : (n : ℕ) → (n ≡ 0 → ⊥) → isSet n ≡ true
-unfolding isSet unless
+unfolding isSet isFalse
 flag-set n h = rw (ne-eqb n 0 h)
 
 pub flag-clear : isSet 0 ≡ false
-unfolding isSet unless
+unfolding isSet isFalse
 flag-clear = refl

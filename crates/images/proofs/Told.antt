@@ -27,10 +27,12 @@ use Rattle.reader.specs.declared.Reading.the-variants.{Accepted}
 use Rattle.reader.specs.declared.Section.the-variants.{Absent}
 use Rattle.reader.specs.declared.View.{View}
 use Rattle.runtime.specs.declared.Reply.the-variants.{Forward, Back}
-use Rattle.images.specs.Image.{registerWords, workWords, sectionIn, viewOf, spanWords, fieldWords, consoleNumber, replyRegisters, replyWords}
+use Rattle.images.specs.Image.{registerWords, workWords, sectionIn, viewOf, spanWords, fieldWords, consoleNumber, replyRegisters}
+use Rattle.images.specs.Image.{replyWords}
 
 -- x0 to x2
-pub registers-back : (a : Answer) → (getD (registerWords a) 0 0 ≡ a .x0) × (getD (registerWords a) 1 0 ≡ a .x1) × (getD (registerWords a) 2 0 ≡ a .x2)
+pub registers-back : (a : Answer) → (getD (registerWords a) 0 0 ≡ a .x0) × (getD (registerWords a) 1 0 ≡ a .x1) ×
+    (getD (registerWords a) 2 0 ≡ a .x2)
 unfolding registerWords
 registers-back a = (refl, refl, refl)
 
@@ -53,12 +55,14 @@ unfolding replyWords
 forward-back n = (refl, refl)
 
 -- the dispatcher's reply has the words of its answer and of its work
-pub reply-back : (a : Answer) (mecid : ℕ) → (getD (replyRegisters (Back a (Reprogram mecid))) 1 0 ≡ a .x1) × (getD (replyWords (Back a (Reprogram mecid))) 1 0 ≡ mecid)
+pub reply-back : (a : Answer) (mecid : ℕ) → (getD (replyRegisters (Back a (Reprogram mecid))) 1 0 ≡ a .x1) ×
+    (getD (replyWords (Back a (Reprogram mecid))) 1 0 ≡ mecid)
 unfolding replyRegisters registerWords replyWords workWords
 reply-back a mecid = (refl, refl)
 
 -- a field: 1, its tag, and the offset and the length of its value; 2 and tag 3 if it is withdrawn; 0 if there is no field
-pub raw-back : (t at n : ℕ) → (getD (fieldWords (place.Raw t at n)) 0 0 ≡ 1) × (getD (fieldWords (place.Raw t at n)) 1 0 ≡ t) × (getD (fieldWords (place.Raw t at n)) 2 0 ≡ at) × (getD (fieldWords (place.Raw t at n)) 3 0 ≡ n)
+pub raw-back : (t at n : ℕ) → (getD (fieldWords (place.Raw t at n)) 0 0 ≡ 1) × (getD (fieldWords (place.Raw t at n)) 1 0 ≡ t) ×
+    (getD (fieldWords (place.Raw t at n)) 2 0 ≡ at) × (getD (fieldWords (place.Raw t at n)) 3 0 ≡ n)
 unfolding fieldWords
 raw-back t at n = (refl, refl, refl, refl)
 
@@ -72,7 +76,8 @@ none-back = refl
 
 -- so the words determine the field
 abbrev pub fieldOf : List ℕ → FieldPlace
-fieldOf w = cond (eqb (getD w 0 0) 0) place.Nothing (cond (eqb (getD w 0 0) 1) (place.Raw (getD w 1 0) (getD w 2 0) (getD w 3 0)) place.Withdrawn)
+fieldOf w =
+    cond (eqb (getD w 0 0) 0) place.Nothing (cond (eqb (getD w 0 0) 1) (place.Raw (getD w 1 0) (getD w 2 0) (getD w 3 0)) place.Withdrawn)
 
 pub field-told : (p : FieldPlace) → fieldOf (fieldWords p) ≡ p
 unfolding fieldWords
@@ -96,7 +101,8 @@ count-most page v =
     rw (← count-view page v 1) (omega arith)
 
 -- for any page that a caller can lend, of any length
-pub console-told : (page name : List ℕ) (v : View) (i : ℕ) → length page < 0x1_0000_0000_0000_0000 → consoleNamed (readingAnswer page (Accepted v)) name ≡ found.At i →
+pub console-told : (page name : List ℕ) (v : View) (i : ℕ) → length page < 0x1_0000_0000_0000_0000 →
+    consoleNamed (readingAnswer page (Accepted v)) name ≡ found.At i →
     (consoleNumber (found.At i) ≡ i) × (consoleNumber (found.At i) ≡ consoleNumber found.Nothing → ⊥)
 unfolding consoleNumber
 console-told page name v i h f =

@@ -7,7 +7,7 @@ use lib.Dec.{eqb}
 use Rattle.words.specs.declared.Span.{Span}
 use Rattle.boot.specs.declared.Record.{Record}
 use Rattle.boot.specs.declared.Record.the-variants.{Fresh, Up, Closed}
-use Rattle.codes.specs.Codes.{unless}
+use Rattle.codes.specs.Codes.{isFalse}
 use Rattle.codes.specs.declared.Answer.{Answer}
 use Rattle.codes.specs.declared.Work.{Work}
 use Rattle.codes.specs.declared.Work.the-variants.{Nothing, Reprogram}
@@ -26,7 +26,7 @@ use Rattle.token_rules.specs.declared.Session.{Session}
 use Rattle.token_rules.specs.declared.Session.the-variants.{Idle, Sending}
 use Rattle.writer_rules.specs.Write.{Made, no-page, a-page}
 use Rattle.writer_rules.specs.declared.Wrote.{Wrote}
-use Rattle.writer_rules.specs.declared.Wrote.the-variants.{Page, Place, Edition, Lists, Late, Room}
+use Rattle.writer_rules.specs.declared.Wrote.the-variants.{Page, Place, Edition, BadEntry, SectionAfterEdition, TooLong}
 
 -- ---- the boot record: 0 fresh, 1 up, any other number closed; then cpus, base, minor and kept bytes
 unfoldable pub recordOf : List ℕ → Record
@@ -43,7 +43,7 @@ recordWords Closed = 2 ∷ 0 ∷ 0 ∷ 0 ∷ 0 ∷ []
 
 -- ---- a flag: any number except 0 is set
 unfoldable pub isSet : ℕ → Bool
-isSet n = unless (eqb n 0)
+isSet n = isFalse (eqb n 0)
 
 -- ---- the token session: 0 idle, any other number sending; then the token's length at its start, and the number of bytes sent
 unfoldable pub sessionOf : List ℕ → Session
@@ -131,9 +131,9 @@ unfoldable pub wroteNumber : Wrote → ℕ
 wroteNumber Page = 0
 wroteNumber Place = 1
 wroteNumber Edition = 2
-wroteNumber Lists = 3
-wroteNumber Late = 4
-wroteNumber Room = 5
+wroteNumber BadEntry = 3
+wroteNumber SectionAfterEdition = 4
+wroteNumber TooLong = 5
 
 -- ---- a part of the page: its offset and its length
 unfoldable pub spanWords : Span → List ℕ

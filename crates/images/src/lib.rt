@@ -19,7 +19,7 @@ ghost use mathlib.Core.Path.{_≡_};
 ghost use Prim.Native.Nat.{_+_, _≤_};
 ghost use lib.ListN.{length};
 ghost use Rattle.codes.specs.Codes.{ifOk};
-ghost use Rattle.kept.specs.Kept.{keptFor};
+ghost use Rattle.manifest_extent.specs.Kept.{keptFor};
 ghost use Rattle.reader.specs.Reading.{sectionOf};
 ghost use Rattle.images.specs.Image.{recordOf, recordWords, isSet, sessionOf, sessionWords, registerWords, workWords, sectionIn, viewOf, spanWords, fieldWords, consoleNumber, wroteNumber};
 ghost use Rattle.images.specs.Realm.{numberX0, numberWords, hitX0, hitWords, agreementX0, builtX0};
@@ -154,15 +154,15 @@ pub fn section_of(image: &[u64; 15], k: usize) -> Section
     section_in(image, 3 + 3 * k)
 }
 
-// `kept::kept_for` for the view of an image. Takes the sections one at a time: building the whole view first takes a third longer.
+// `manifest_extent::kept_for` for the view of an image. Takes the sections one at a time: building the whole view first takes a third longer.
 pub fn kept_for(page: &[u8], image: &[u64; 15]) -> u64
     ensures { λ r. ⌜ (r ≡ keptFor (viewOf (now (image .entry))) (now (page .entry))) × (r ≤ 4096) ⌝ }
 {
-    let mut end = kept::core_end(page, image[1], image[2]);
-    end = kept::higher_end(end, section_in(image, 3), 0);
-    end = kept::higher_end(end, section_in(image, 6), 1);
-    end = kept::higher_end(end, section_in(image, 9), 2);
-    end = kept::higher_end(end, section_in(image, 12), 3);
+    let mut end = manifest_extent::core_end(page, image[1], image[2]);
+    end = manifest_extent::higher_end(end, section_in(image, 3), 0);
+    end = manifest_extent::higher_end(end, section_in(image, 6), 1);
+    end = manifest_extent::higher_end(end, section_in(image, 9), 2);
+    end = manifest_extent::higher_end(end, section_in(image, 12), 3);
     8 * ((end + 7) / 8)
 }
 
@@ -174,9 +174,9 @@ pub fn wrote_number(wrote: Wrote) -> u32
         Wrote::Page => 0,
         Wrote::Place => 1,
         Wrote::Edition => 2,
-        Wrote::Lists => 3,
-        Wrote::Late => 4,
-        Wrote::Room => 5,
+        Wrote::BadEntry => 3,
+        Wrote::SectionAfterEdition => 4,
+        Wrote::TooLong => 5,
     }
 }
 

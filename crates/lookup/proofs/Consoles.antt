@@ -59,7 +59,8 @@ module _ (bs name : List ℕ) (i : ℕ) {x w : ℕ} (p : x ≡ wordAt (48 * i + 
   name-not n = ne-eqb _ _ (λ z. n (p ∙ z ∙ sym q))
 
 -- ---- the names in the bytes of the array are those shown
-name-there : (w at count i : ℕ) (page : List ℕ) → at + size 1 count ≤ length page → i < count → wordAt (48 * i + 16) (part at (size 1 count) page) ≡ wordOf w 1 i 2 (Entries at count) page
+name-there : (w at count i : ℕ) (page : List ℕ) → at + size 1 count ≤ length page → i < count →
+    wordAt (48 * i + 16) (part at (size 1 count) page) ≡ wordOf w 1 i 2 (Entries at count) page
 unfolding size wordsPerEntry isHidden both
 name-there w at count i page h l =
     num-part 8 at (8 * (6 * count)) (48 * i + 16) page (omega arith)
@@ -67,14 +68,17 @@ name-there w at count i page h l =
     ∙ word-there 1 at count i 2 page h l (lit≤ tt)
     ∙ word-unhidden w 1 i 2 (Entries at count) page refl
 
-name-shown : (w i : ℕ) (s : Section) (page : List ℕ) → i < entryCount 1 (shownAs w 1 s page) → wordAt (48 * i + 16) (bytesIn (shownAs w 1 s page)) ≡ wordOf w 1 i 2 s page
+name-shown : (w i : ℕ) (s : Section) (page : List ℕ) → i < entryCount 1 (shownAs w 1 s page) →
+    wordAt (48 * i + 16) (bytesIn (shownAs w 1 s page)) ≡ wordOf w 1 i 2 s page
 unfolding shownAs entryCount bytesIn wordsPerEntry size
 name-shown w i Absent page h = absurd (let z : ⊥ = omega arith in z)
 name-shown w i Empty page h = absurd (let z : ⊥ = omega arith in z)
 name-shown w i (Entries at count) page h = go (leb (at + size 1 count) (length page)) refl h
   where
-    go : (b : Bool) → leb (at + size 1 count) (length page) ≡ b → i < entryCount 1 (cond b (full (shownWords w 1 (wordsAt 1 count at page)) (part at (size 1 count) page)) empty) →
-        wordAt (48 * i + 16) (bytesIn (cond b (full (shownWords w 1 (wordsAt 1 count at page)) (part at (size 1 count) page)) empty)) ≡ wordOf w 1 i 2 (Entries at count) page
+    go : (b : Bool) → leb (at + size 1 count) (length page) ≡ b →
+        i < entryCount 1 (cond b (full (shownWords w 1 (wordsAt 1 count at page)) (part at (size 1 count) page)) empty) →
+        wordAt (48 * i + 16) (bytesIn (cond b (full (shownWords w 1 (wordsAt 1 count at page)) (part at (size 1 count) page)) empty)) ≡
+        wordOf w 1 i 2 (Entries at count) page
     go true e l =
         let m : at + size 1 count ≤ length page = leb-true _ _ e in
         name-there w at count i page m (omega (arith, part-length at (size 1 count) page m))
@@ -86,7 +90,8 @@ first-same zero i f g h = refl
 first-same (suc n) i f g h = rw (h i (omega arith) (omega arith), first-same n (i + 1) f g (λ k a b. h k (omega arith) (omega arith)))
 
 module _ (page : List ℕ) (v : View) where
-  console-word : (i : ℕ) → i < countIn (readingAnswer page (Accepted v)) 1 → wordAt (48 * i + 16) (lookIn (readingAnswer page (Accepted v)) 1) ≡ wordIn (readingAnswer page (Accepted v)) 1 i 2
+  console-word : (i : ℕ) → i < countIn (readingAnswer page (Accepted v)) 1 →
+      wordAt (48 * i + 16) (lookIn (readingAnswer page (Accepted v)) 1) ≡ wordIn (readingAnswer page (Accepted v)) 1 i 2
   unfolding lookIn countIn wordIn readingAnswer wordOf
   console-word i h = name-shown (v .minor) i (sectionOf v 1) page h
 
@@ -95,11 +100,13 @@ module _ (page : List ℕ) (v : View) where
   consoles-count = refl
 
   -- the first console of the array with a name is the first one of the view
-  pub array-named : (bs name : List ℕ) → bs ≡ lookIn (readingAnswer page (Accepted v)) 1 → firstFrom (length bs / 48) 0 (namedAt bs name) ≡ consoleNamed (readingAnswer page (Accepted v)) name
+  pub array-named : (bs name : List ℕ) → bs ≡ lookIn (readingAnswer page (Accepted v)) 1 →
+      firstFrom (length bs / 48) 0 (namedAt bs name) ≡ consoleNamed (readingAnswer page (Accepted v)) name
   unfolding consoleNamed hasName
   array-named bs name e =
       rw (e, consoles-count)
-      (first-same (countIn (readingAnswer page (Accepted v)) 1) 0 (namedAt (lookIn (readingAnswer page (Accepted v)) 1) name) (λ i. eqb (wordIn (readingAnswer page (Accepted v)) 1 i 2) (wordAt 0 name))
+      (first-same (countIn (readingAnswer page (Accepted v)) 1) 0 (namedAt (lookIn (readingAnswer page (Accepted v)) 1) name)
+      (λ i. eqb (wordIn (readingAnswer page (Accepted v)) 1 i 2) (wordAt 0 name))
       (λ k a b. ap (λ x. eqb x (wordAt 0 name)) (console-word k (omega arith))))
 
 -- ---- a search that finds a console, and one that does not
@@ -110,12 +117,15 @@ none-more f i j e r k a b = go (decLt i k)
     go (yes l) = r k (omega arith) b
     go (no l) = let q : k ≡ i = omega arith in ap f q ∙ e
 
-first-at : (f : ℕ → Bool) (n i j : ℕ) → firstFrom n i f ≡ At j → (i ≤ j) × ((j < i + n) × ((f j ≡ true) × ((k : ℕ) → i ≤ k → k < j → f k ≡ false)))
+first-at : (f : ℕ → Bool) (n i j : ℕ) → firstFrom n i f ≡ At j →
+    (i ≤ j) × ((j < i + n) × ((f j ≡ true) × ((k : ℕ) → i ≤ k → k < j → f k ≡ false)))
 unfolding firstFrom
 first-at f zero i j h = never (cc)
 first-at f (suc n) i j h = go (f i) refl h (first-at f n (i + 1) j)
   where
-    go : (b : Bool) → f i ≡ b → cond b (At i) (firstFrom n (i + 1) f) ≡ At j → (firstFrom n (i + 1) f ≡ At j → (i + 1 ≤ j) × ((j < i + 1 + n) × ((f j ≡ true) × ((k : ℕ) → i + 1 ≤ k → k < j → f k ≡ false)))) → (i ≤ j) × ((j < i + suc n) × ((f j ≡ true) × ((k : ℕ) → i ≤ k → k < j → f k ≡ false)))
+    go : (b : Bool) → f i ≡ b → cond b (At i) (firstFrom n (i + 1) f) ≡ At j →
+        (firstFrom n (i + 1) f ≡ At j → (i + 1 ≤ j) × ((j < i + 1 + n) × ((f j ≡ true) × ((k : ℕ) → i + 1 ≤ k → k < j → f k ≡ false)))) →
+        (i ≤ j) × ((j < i + suc n) × ((f j ≡ true) × ((k : ℕ) → i ≤ k → k < j → f k ≡ false)))
     go true e g ih = let q : i ≡ j = cc in (omega arith, (omega arith, (ap f (sym q) ∙ e, λ k a b. absurd (let z : ⊥ = omega arith in z))))
     go false e g ih =
         let r = ih g in
@@ -128,7 +138,8 @@ unfolding firstFrom
 first-none f zero i h k a b = absurd (let z : ⊥ = omega arith in z)
 first-none f (suc n) i h k a b = go (f i) refl h (first-none f n (i + 1))
   where
-    go : (b : Bool) → f i ≡ b → cond b (At i) (firstFrom n (i + 1) f) ≡ Nothing → (firstFrom n (i + 1) f ≡ Nothing → (x : ℕ) → i + 1 ≤ x → x < i + 1 + n → f x ≡ false) → f k ≡ false
+    go : (b : Bool) → f i ≡ b → cond b (At i) (firstFrom n (i + 1) f) ≡ Nothing →
+        (firstFrom n (i + 1) f ≡ Nothing → (x : ℕ) → i + 1 ≤ x → x < i + 1 + n → f x ≡ false) → f k ≡ false
     go true e g ih = never (cc)
     go false e g ih = none-more f i (i + suc n) e (λ x y z. ih g x y (omega arith)) k a b
 
@@ -152,10 +163,13 @@ unfolding numAt part
 name-word name l = ap leOf (take-all 8 name (omega arith))
 
 -- a console has a name of 8 bytes exactly if the bytes of its name are these, in order
-pub name-bytes : (a : ReaderAnswer) (name : List ℕ) (i : ℕ) → length name ≡ 8 → ((j : ℕ) → getD name j 0 < 256) → hasName a name i ≡ true → leBytes 8 (wordIn a 1 i 2) ≡ name
+pub name-bytes : (a : ReaderAnswer) (name : List ℕ) (i : ℕ) → length name ≡ 8 → ((j : ℕ) → getD name j 0 < 256) →
+    hasName a name i ≡ true → leBytes 8 (wordIn a 1 i 2) ≡ name
 unfolding hasName
-name-bytes a name i l b h = ap (leBytes 8) (eqb-true _ _ h ∙ name-word name l) ∙ (rw (take-all 8 name (omega arith)) at (number-back 8 name b (omega arith)))
+name-bytes a name i l b h =
+    ap (leBytes 8) (eqb-true _ _ h ∙ name-word name l) ∙ (rw (take-all 8 name (omega arith)) at (number-back 8 name b (omega arith)))
 
-pub bytes-name : (a : ReaderAnswer) (name : List ℕ) (i : ℕ) → length name ≡ 8 → wordIn a 1 i 2 < 2 ^ 64 → leBytes 8 (wordIn a 1 i 2) ≡ name → hasName a name i ≡ true
+pub bytes-name : (a : ReaderAnswer) (name : List ℕ) (i : ℕ) → length name ≡ 8 → wordIn a 1 i 2 < 2 ^ 64 →
+    leBytes 8 (wordIn a 1 i 2) ≡ name → hasName a name i ≡ true
 unfolding hasName
 bytes-name a name i l w h = eq-eqb _ _ (sym (leOf-leBytes 8 (wordIn a 1 i 2) w) ∙ ap leOf h ∙ sym (name-word name l))

@@ -18,7 +18,8 @@ use Rattle.entries.specs.Fast.{isHidden}
 use Rattle.entries.specs.Array.{wordsAt, entryPlace}
 use Rattle.entries.proofs.Entries.{word-in}
 use Rattle.entries.proofs.Flags.{shown-plain, shown-word}
-use Rattle.reader.specs.Answer.{empty, full, ReaderAnswer, refused, shows, bytesIn, lookIn, lookOf, countIn, entryCount, entryWord, wordIn, readOf}
+use Rattle.reader.specs.Answer.{empty, full, ReaderAnswer, refused, shows, bytesIn, lookIn, lookOf, countIn, entryCount, entryWord, wordIn}
+use Rattle.reader.specs.Answer.{readOf}
 use Rattle.reader.specs.Reading.{sectionOf, shownAs, readingAnswer, viewAt, readingOf}
 use Rattle.reader.specs.Fast.{sectionRead}
 use Rattle.reader.specs.declared.Section.{Section}
@@ -51,9 +52,11 @@ span-shown : (w k : ℕ) (s : Section) (page : List ℕ) → spanned (spanOf k s
 unfolding spanOf shownAs bytesIn
 span-shown w k Absent page = span-none page
 span-shown w k Empty page = span-none page
-span-shown w k (Entries at count) page = some-there (leb (at + size k count) (length page)) at (size k count) (shownWords w k (wordsAt k count at page)) page refl
+span-shown w k (Entries at count) page =
+    some-there (leb (at + size k count) (length page)) at (size k count) (shownWords w k (wordsAt k count at page)) page refl
 
-pub place-view : (page : List ℕ) (v : View) (k : ℕ) → spanned (spanOf k (sectionOf v k) (length page)) page ≡ lookIn (readingAnswer page (Accepted v)) k
+pub place-view : (page : List ℕ) (v : View) (k : ℕ) → spanned (spanOf k (sectionOf v k) (length page)) page ≡ lookIn
+    (readingAnswer page (Accepted v)) k
 unfolding lookIn readingAnswer
 place-view page v k = span-shown (v .minor) k (sectionOf v k) page
 
@@ -66,7 +69,8 @@ unfolding countIn readingAnswer
 count-view page v k = count-shown (v .minor) k (sectionOf v k) page
 
 -- ---- where the part starts
-some-starts : (b : Bool) (at n : ℕ) (page : List ℕ) → leb (at + n) (length page) ≡ b → spanStart (cond b (spanAt at n) noSpan) page ≡ cond b (spanAt at n) noSpan .at
+some-starts : (b : Bool) (at n : ℕ) (page : List ℕ) → leb (at + n) (length page) ≡ b →
+    spanStart (cond b (spanAt at n) noSpan) page ≡ cond b (spanAt at n) noSpan .at
 some-starts true at n page h = start-in at n page (leb-true (at + n) (length page) h)
 some-starts false at n page h = start-none page
 
@@ -82,11 +86,13 @@ answer-starts base page (refused c) k = start-none page
 answer-starts base page (shows w e q s) k = section-starts k (sectionOf (viewAt w e base page) k) page
 
 -- the same for addresses, given the span that the code computed
-pub told-starts : (base : ℕ) (page : List ℕ) (n : ReaderAnswer) (k : ℕ) (x : Span) → x ≡ spanIn base page n k → (a b : ℕ × ℕ) → b ≡ onFrom a (spanStart x page) → b ≡ onFrom a (spanIn base page n k .at)
+pub told-starts : (base : ℕ) (page : List ℕ) (n : ReaderAnswer) (k : ℕ) (x : Span) → x ≡ spanIn base page n k → (a b : ℕ × ℕ) →
+    b ≡ onFrom a (spanStart x page) → b ≡ onFrom a (spanIn base page n k .at)
 told-starts base page n k x e a b h = h ∙ rw (e, answer-starts base page n k)
 
 -- ---- a word of an entry
-word-cond : (k i j : ℕ) (b : Bool) (ws bs : List ℕ) → entryWord k i j (cond b (full ws bs) empty) ≡ cond b (cond (ltb j (wordsPerEntry k)) (getD ws (wordsPerEntry k * i + j) 0) 0) 0
+word-cond : (k i j : ℕ) (b : Bool) (ws bs : List ℕ) → entryWord k i j (cond b (full ws bs) empty) ≡ cond b
+    (cond (ltb j (wordsPerEntry k)) (getD ws (wordsPerEntry k * i + j) 0) 0) 0
 unfolding entryWord
 word-cond k i j true ws bs = refl
 word-cond k i j false ws bs = refl
@@ -105,19 +111,26 @@ none true c = cond-none c
 none false c = refl
 
 module _ (k at count i j : ℕ) (page : List ℕ) where
-  by-shown : (w : ℕ) → wordOf w k i j (Entries at count) page ≡ cond (leb (at + size k count) (length page)) (cond (ltb j (wordsPerEntry k)) (getD (shownWords w k (wordsAt k count at page)) (wordsPerEntry k * i + j) 0) 0) 0
+  by-shown : (w : ℕ) → wordOf w k i j (Entries at count) page ≡ cond (leb (at + size k count) (length page))
+      (cond (ltb j (wordsPerEntry k)) (getD (shownWords w k (wordsAt k count at page)) (wordsPerEntry k * i + j) 0) 0) 0
   unfolding wordOf shownAs
-  by-shown w = word-cond k i j (leb (at + size k count) (length page)) (shownWords w k (wordsAt k count at page)) (part at (size k count) page)
+  by-shown w =
+      word-cond k i j (leb (at + size k count) (length page)) (shownWords w k (wordsAt k count at page)) (part at (size k count) page)
 
-  by-tests : wordOf 0 k i j (Entries at count) page ≡ cond (leb (at + size k count) (length page)) (cond (ltb j (wordsPerEntry k)) (getD (wordsAt k count at page) (wordsPerEntry k * i + j) 0) 0) 0
+  by-tests : wordOf 0 k i j (Entries at count) page ≡ cond (leb (at + size k count) (length page))
+      (cond (ltb j (wordsPerEntry k)) (getD (wordsAt k count at page) (wordsPerEntry k * i + j) 0) 0) 0
   by-tests = by-shown 0 ∙ rw (shown-plain 0 k (lit≤ tt) (wordsAt k count at page))
 
   -- a word that is shown as 0, and one that is shown unchanged
-  hidden-tests : (b : Bool) (w : ℕ) → isHidden w k j ≡ b → wordOf w k i j (Entries at count) page ≡ cond b 0 (wordOf 0 k i j (Entries at count) page)
+  hidden-tests : (b : Bool) (w : ℕ) → isHidden w k j ≡ b →
+      wordOf w k i j (Entries at count) page ≡ cond b 0 (wordOf 0 k i j (Entries at count) page)
   hidden-tests b w h = go (ltb j (wordsPerEntry k)) refl
     where
-      go : (c : Bool) → ltb j (wordsPerEntry k) ≡ c → wordOf w k i j (Entries at count) page ≡ cond b 0 (wordOf 0 k i j (Entries at count) page)
-      go true e = by-shown w ∙ rw (e, shown-word w k i j (wordsAt k count at page) (ltb-true j (wordsPerEntry k) e), h, by-tests, e) (swap b (leb (at + size k count) (length page)) _)
+      go : (c : Bool) → ltb j (wordsPerEntry k) ≡ c → wordOf w k i j (Entries at count) page ≡ cond b 0
+          (wordOf 0 k i j (Entries at count) page)
+      go true e =
+          by-shown w ∙ rw (e, shown-word w k i j (wordsAt k count at page) (ltb-true j (wordsPerEntry k) e), h, by-tests, e)
+          (swap b (leb (at + size k count) (length page)) _)
       go false e = by-shown w ∙ rw (e, by-tests, e) (none b (leb (at + size k count) (length page)))
 
   pub word-narrow : wordsPerEntry k ≤ j → 0 ≡ wordOf 0 k i j (Entries at count) page
@@ -135,7 +148,8 @@ module _ (k at count i j : ℕ) (page : List ℕ) where
   pub word-out : length page < at + size k count → 0 ≡ wordOf 0 k i j (Entries at count) page
   word-out h = sym (by-tests ∙ rw (lt-leb (at + size k count) (length page) h))
 
-  pub word-there : at + size k count ≤ length page → i < count → j < wordsPerEntry k → wordAt (at + 8 * (wordsPerEntry k * i + j)) page ≡ wordOf 0 k i j (Entries at count) page
+  pub word-there : at + size k count ≤ length page → i < count → j < wordsPerEntry k →
+      wordAt (at + 8 * (wordsPerEntry k * i + j)) page ≡ wordOf 0 k i j (Entries at count) page
   unfolding entryPlace
   word-there h l m =
       sym (by-tests ∙ rw (le-leb (at + size k count) (length page) h, lt-ltb j (wordsPerEntry k) m, word-in k at i count page l j m)
@@ -155,18 +169,21 @@ word-hidden w k i j Empty page h = refl
 word-hidden w k i j (Entries at count) page h = sym (hidden-tests k at count i j page true w h)
 
 -- the same, given the test and the section that the code computed
-pub told-word : (w k i j : ℕ) (s t : Section) (page : List ℕ) (h : Bool) → h ≡ isHidden w k j → h ≡ false → s ≡ t → (r : ℕ) → r ≡ wordOf 0 k i j t page → r ≡ wordOf w k i j s page
+pub told-word : (w k i j : ℕ) (s t : Section) (page : List ℕ) (h : Bool) → h ≡ isHidden w k j → h ≡ false → s ≡ t → (r : ℕ) →
+    r ≡ wordOf 0 k i j t page → r ≡ wordOf w k i j s page
 told-word w k i j s t page h ch n e r m = m ∙ rw (← e) (word-unhidden w k i j s page (sym ch ∙ n))
 
 -- word j of entry i is within the array's words if i is below count
 pub word-place : (i count j w : ℕ) → i < count → j < w → w * i + j < w * count
 word-place i count j w h l = omega (arith, mul-suc w i, mul-le-mul-left w h)
 
-pub word-view : (page : List ℕ) (v : View) (k i j : ℕ) → wordOf (v .minor) k i j (sectionOf v k) page ≡ wordIn (readingAnswer page (Accepted v)) k i j
+pub word-view : (page : List ℕ) (v : View) (k i j : ℕ) →
+    wordOf (v .minor) k i j (sectionOf v k) page ≡ wordIn (readingAnswer page (Accepted v)) k i j
 unfolding wordOf wordIn readingAnswer
 word-view page v k i j = refl
 
-pub told-view : (page : List ℕ) (v : View) (k i j : ℕ) (s : Section) → s ≡ sectionOf v k → (r : ℕ) → r ≡ wordOf (v .minor) k i j s page → r ≡ wordIn (readingAnswer page (Accepted v)) k i j
+pub told-view : (page : List ℕ) (v : View) (k i j : ℕ) (s : Section) → s ≡ sectionOf v k → (r : ℕ) → r ≡ wordOf (v .minor) k i j s page →
+    r ≡ wordIn (readingAnswer page (Accepted v)) k i j
 told-view page v k i j s e r h = h ∙ rw e (word-view page v k i j)
 
 -- ---- the lookup of a page
@@ -176,11 +193,13 @@ module _ (r base k : ℕ) (page : List ℕ) where
 
   -- the section that is read alone, by the reading
   place-by : (x : Reading) → x ≡ readingOf r base page →
-      (spanOf k (sectionRead x k) (length page) ≡ spanIn base page (readOf r base page) k) × (spanned (spanOf k (sectionRead x k) (length page)) page ≡ lookOf r base page k)
+      (spanOf k (sectionRead x k) (length page) ≡ spanIn base page (readOf r base page) k) ×
+      (spanned (spanOf k (sectionRead x k) (length page)) page ≡ lookOf r base page k)
   unfolding lookOf lookIn spanOf spanIn readingAnswer sectionRead
   place-by (Accepted v) h =
       let g = answer-of (Accepted v) h in
-      let p : spanOf k (sectionOf v k) (length page) ≡ spanIn base page (readOf r base page) k = ap (λ x. spanOf k (sectionOf x k) (length page)) (reading-placed r base page v h) ∙ ap (λ x. spanIn base page x k) g in
+      let p : spanOf k (sectionOf v k) (length page) ≡ spanIn base page (readOf r base page) k = ap
+      (λ x. spanOf k (sectionOf x k) (length page)) (reading-placed r base page v h) ∙ ap (λ x. spanIn base page x k) g in
       (p, place-view page v k ∙ ap (λ x. lookIn x k) g)
   place-by (Refused c) h = rw (← answer-of (Refused c) h) (refl, span-none page)
 

@@ -15,5 +15,5 @@ unfoldable pub countOf : ℕ → Section → List ℕ → ℕ
 countOf k s page = length (spanned (spanOf k s (length page)) page) / (8 * wordsPerEntry k)
 
 -- word j of entry i of a section k, on a page of minor w
-unfoldable pub wordOf : ℕ → ℕ → ℕ → ℕ → Section → List ℕ → ℕ
+unfoldable pub wordOf : (minor k i j : ℕ) (section : Section) (page : List ℕ) → ℕ
 wordOf w k i j s page = entryWord k i j (shownAs w k s page)

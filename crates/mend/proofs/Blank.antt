@@ -116,9 +116,12 @@ module _ (at : ℕ) (vs s : List ℕ) (h : at + length vs ≤ length s) (z : (i 
 
   splice-blank : splice at vs s ≡ blank (λ i. both (leb at i) (ltb i (at + length vs))) s
   unfolding both
-  splice-blank = ext-getD 0 (splice at vs s) _ (length-splice at vs s h ∙ sym (blank-length _ s)) (λ i l. rw (blank-at (λ i. both (leb at i) (ltb i (at + length vs))) s i) (go i (decLt i at) (decLt i (at + length vs))))
+  splice-blank =
+      ext-getD 0 (splice at vs s) _ (length-splice at vs s h ∙ sym (blank-length _ s))
+      (λ i l. rw (blank-at (λ i. both (leb at i) (ltb i (at + length vs))) s i) (go i (decLt i at) (decLt i (at + length vs))))
     where
-      go : (i : ℕ) → Dec (i < at) → Dec (i < at + length vs) → getD (splice at vs s) i 0 ≡ cond (both (leb at i) (ltb i (at + length vs))) 0 (getD s i 0)
+      go : (i : ℕ) → Dec (i < at) → Dec (i < at + length vs) →
+          getD (splice at vs s) i 0 ≡ cond (both (leb at i) (ltb i (at + length vs))) 0 (getD s i 0)
       go i (yes l) d = rw (lt-leb at i l) (splice-low i l)
       go i (no l) (yes m) = rw (le-leb at i (omega arith), lt-ltb i (at + length vs) m) (splice-mid i (omega arith) m)
       go i (no l) (no m) = rw (le-leb at i (omega arith), le-ltb i (at + length vs) (omega arith)) (splice-high i (omega arith))
@@ -130,10 +133,13 @@ cond-twice true false n = refl
 cond-twice false b n = refl
 
 -- a part zeroed next to others
-pub zeroed-blank : (b : Bool) (j : ℕ) (vs : List ℕ) (f : ℕ → Bool) (page : List ℕ) → length vs ≡ partAt (suc j) - partAt j → partAt (suc j) ≤ length page → ((i : ℕ) → getD vs i 0 ≡ 0) →
+pub zeroed-blank : (b : Bool) (j : ℕ) (vs : List ℕ) (f : ℕ → Bool) (page : List ℕ) → length vs ≡ partAt (suc j) - partAt j →
+    partAt (suc j) ≤ length page → ((i : ℕ) → getD vs i 0 ≡ 0) →
     zeroed b (partAt j) vs (blank f page) ≡ blank (λ i. either (f i) (both b (ofPart j i))) page
 unfolding zeroed both ofPart
-zeroed-blank false j vs f page l h z = ext-getD 0 _ _ (blank-length f page ∙ sym (blank-length _ page)) (λ i m. rw (blank-at f page i, blank-at (λ i. either (f i) false) page i, either-false (f i)))
+zeroed-blank false j vs f page l h z =
+    ext-getD 0 _ _ (blank-length f page ∙ sym (blank-length _ page))
+    (λ i m. rw (blank-at f page i, blank-at (λ i. either (f i) false) page i, either-false (f i)))
 zeroed-blank true j vs f page l h z =
     bytes-in (partAt j) vs (blank f page) (rw blank-length (omega (arith, part-grows j)))
     ∙ splice-blank (partAt j) vs (blank f page) (rw blank-length (omega (arith, part-grows j))) z
@@ -142,7 +148,13 @@ zeroed-blank true j vs f page l h z =
     e : partAt j + length vs ≡ partAt (suc j)
     e = omega (arith, part-grows j)
 
-    same : (i : ℕ) → getD (blank (λ i. both (leb (partAt j) i) (ltb i (partAt j + length vs))) (blank f page)) i 0 ≡ getD (blank (λ i. either (f i) (ofPart j i)) page) i 0
+    same : (i : ℕ) → getD (blank (λ i. both (leb (partAt j) i) (ltb i (partAt j + length vs))) (blank f page)) i 0 ≡ getD
+        (blank (λ i. either (f i) (ofPart j i)) page) i 0
     same i =
-        rw (e, blank-at (λ i. both (leb (partAt j) i) (ltb i (partAt (suc j)))) (blank f page) i, blank-at f page i, blank-at (λ i. either (f i) (both (leb (partAt j) i) (ltb i (partAt (suc j))))) page i)
+        rw (
+          e,
+          blank-at (λ i. both (leb (partAt j) i) (ltb i (partAt (suc j)))) (blank f page) i,
+          blank-at f page i,
+          blank-at (λ i. either (f i) (both (leb (partAt j) i) (ltb i (partAt (suc j))))) page i,
+        )
         (cond-twice (f i) (both (leb (partAt j) i) (ltb i (partAt (suc j)))) (getD page i 0))

@@ -12,9 +12,10 @@ use Rattle.versions.specs.Edition.{sectionCount, core}
 use Rattle.entries.specs.Entry.{wordsPerEntry, size, bankOk, entryRule, entryOk, entriesOk, sum, checkOk}
 use Rattle.entries.specs.Array.{soundOf}
 use Rattle.fields.specs.Fields.{taken}
-use Rattle.sections.specs.Page.{placeOk, inPage, arrayAt, mkSec, secAt, mkPlat, foundAt, platAt}
-use Rattle.sections.specs.Section.{platOk, wordsIn, nothing, inRange, secOk, extent, apart, clearBefore, platExtent, platClear}
-use Rattle.mend.specs.Mend.{noSec, platLeft, stays, left, keepsSection, platLeftAt, keepsAt, changed, mendChanges, mendGate, mendedOf}
+use Rattle.sections.specs.Page.{placeOk, inPage, arrayAt, pageSection, pageSectionAt, pagePlatform, foundAt, platformAt}
+use Rattle.sections.specs.Section.{platformOk, wordsIn, nothing, inRange, sectionOk, extent, apart, clearBefore, platExtent, platClear}
+use Rattle.mend.specs.Mend.{noSection, platLeft, stays, afterMending, keepsSection, platLeftAt, keepsAt, changed, mendChanges}
+use Rattle.mend.specs.Mend.{mendGate, mendedOf}
 use Rattle.mend.specs.declared.Mended.the-variants.{Done}
 
 -- a section of one entry after the core, by its checksum
@@ -28,6 +29,10 @@ threeOnOne =
     ++ oneThere 0 ++ replicate 24 0 ++ oneThere 0xFFFFFFFEDFFFFF8F ++ oneThere 0xFFFFFFFEDFFFFF8F
     ++ leBytes 8 0x90000000 ++ leBytes 8 0x10000000 ++ replicate 3968 0
 
-pub second-kept : mendedOf 0x80000000 threeOnOne ≡ Done (record { padding = false; plat = false; dram = true; console = false; ncoh = false; coh = true })
-unfolding oneThere threeOnOne mendedOf mendGate mendChanges changed keepsAt keepsSection stays left platLeftAt platLeft noSec platClear platExtent taken foundAt clearBefore apart extent secOk inRange nothing wordsIn platOk platAt mkPlat secAt mkSec arrayAt inPage placeOk soundOf checkOk sum entriesOk entryOk entryRule bankOk size wordsPerEntry core sectionCount versionOk aboveOf majorOf minorOf wordsOf numAt part leBytes leOf every either both
+pub second-kept : mendedOf 0x80000000 threeOnOne ≡ Done (record
+    { padding = false; plat = false; dram = true; console = false; ncoh = false; coh = true })
+unfolding oneThere threeOnOne mendedOf mendGate mendChanges changed keepsAt keepsSection stays afterMending platLeftAt platLeft noSection
+    platClear platExtent taken foundAt clearBefore apart extent sectionOk inRange nothing wordsIn platformOk platformAt pagePlatform
+    pageSectionAt pageSection arrayAt inPage placeOk soundOf checkOk sum entriesOk entryOk entryRule bankOk size wordsPerEntry core
+    sectionCount versionOk aboveOf majorOf minorOf wordsOf numAt part leBytes leOf every either both
 second-kept = refl

@@ -14,8 +14,10 @@ use Rattle.mend.specs.declared.Mended.the-variants.{Done, Refused}
 
 -- "padding, platform pointer with its fields, DRAM, consoles, non-coherent, coherent, in this order": 1 if it was changed, else 0
 pub report-told : (c : Changes) →
-    (getD (reportWords (Done c)) 0 0 ≡ cond (c .padding) 1 0) × (getD (reportWords (Done c)) 1 0 ≡ cond (c .plat) 1 0) × (getD (reportWords (Done c)) 2 0 ≡ cond (c .dram) 1 0)
-    × (getD (reportWords (Done c)) 3 0 ≡ cond (c .console) 1 0) × (getD (reportWords (Done c)) 4 0 ≡ cond (c .ncoh) 1 0) × (getD (reportWords (Done c)) 5 0 ≡ cond (c .coh) 1 0)
+    (getD (reportWords (Done c)) 0 0 ≡ cond (c .padding) 1 0) × (getD (reportWords (Done c)) 1 0 ≡ cond (c .plat) 1 0) ×
+    (getD (reportWords (Done c)) 2 0 ≡ cond (c .dram) 1 0)
+    × (getD (reportWords (Done c)) 3 0 ≡ cond (c .console) 1 0) × (getD (reportWords (Done c)) 4 0 ≡ cond (c .ncoh) 1 0) ×
+    (getD (reportWords (Done c)) 5 0 ≡ cond (c .coh) 1 0)
 unfolding reportWords changeWords flagWord
 report-told c = (refl, refl, refl, refl, refl, refl)
 

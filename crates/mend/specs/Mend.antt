@@ -10,8 +10,9 @@ use Rattle.words.specs.Tests.{both, some}
 use Rattle.versions.specs.Version.{minorOf, versionOk}
 use Rattle.versions.specs.Edition.{sectionCount}
 use Rattle.fields.specs.Fields.{ended}
-use Rattle.sections.specs.Page.{placeOk, versionAt, paddingAt, Sec, mkSec, secAt, Plat, mkPlat, platAt}
-use Rattle.sections.specs.Section.{platOk, secOk, clearBefore, platClear}
+use Rattle.sections.specs.Page.{placeOk, versionAt, paddingAt, PageSection, pageSection, pageSectionAt, PagePlatform, pagePlatform}
+use Rattle.sections.specs.Page.{platformAt}
+use Rattle.sections.specs.Section.{platformOk, sectionOk, clearBefore, platClear}
 use Rattle.reader.specs.Answer.{minus}
 use Rattle.reader.specs.Reading.{refusalNumber}
 use Rattle.reader.specs.declared.Refusal.the-variants.{Place, Version}
@@ -20,30 +21,31 @@ use Rattle.mend.specs.declared.Mended.{Mended}
 use Rattle.mend.specs.declared.Mended.the-variants.{Done, Refused}
 
 -- what zero bytes in the core mean: no platform pointer
-unfoldable pub noPlat : Plat
-noPlat = mkPlat 0 (ended [] 0)
+unfoldable pub noPlatform : PagePlatform
+noPlatform = pagePlatform 0 (ended [] 0)
 
 -- what zero bytes in the core mean: an empty section
-unfoldable pub noSec : Sec
-noSec = mkSec 0 0 0 []
+unfoldable pub noSection : PageSection
+noSection = pageSection 0 0 0 []
 
 -- "a platform pointer .. that breaks a rule by itself .. is set to zero bytes in the core": e is the page's edition
-unfoldable pub platLeft : ℕ → ℕ → Plat → Plat
-platLeft e base q = cond (platOk e base q) q noPlat
+unfoldable pub platLeft : ℕ → ℕ → PagePlatform → PagePlatform
+platLeft e base q = cond (platformOk e base q) q noPlatform
 
 -- whether section `k` stays: it neither "breaks a rule by itself, or overlaps one kept before it". `q` and `g` are the parts left before it, `w` is
 -- the page's minor.
-unfoldable pub stays : ℕ → ℕ → ℕ → Plat → (ℕ → Sec) → ℕ → Bool
-stays w e base q g k = both (secOk w e base k (g k)) (both (clearBefore g k) (platClear q g k))
+unfoldable pub stays : (minor edition base : ℕ) (plat : PagePlatform) (sections : ℕ → PageSection) (k : ℕ) → Bool
+stays w e base q g k = both (sectionOk w e base k (g k)) (both (clearBefore g k) (platClear q g k))
 
 -- the sections after mending the first `n`; the others are unchanged
-unfoldable pub left : ℕ → ℕ → ℕ → Plat → (ℕ → Sec) → ℕ → ℕ → Sec
-left w e base q f zero k = f k
-left w e base q f (suc n) k = cond (eqb k n) (cond (stays w e base q (left w e base q f n) n) (f n) noSec) (left w e base q f n k)
+unfoldable pub afterMending : (minor edition base : ℕ) (plat : PagePlatform) (sections : ℕ → PageSection) (n k : ℕ) → PageSection
+afterMending w e base q f zero k = f k
+afterMending w e base q f (suc n) k =
+    cond (eqb k n) (cond (stays w e base q (afterMending w e base q f n) n) (f n) noSection) (afterMending w e base q f n k)
 
 -- whether section `k` is kept
-unfoldable pub keepsSection : ℕ → ℕ → ℕ → Plat → (ℕ → Sec) → ℕ → Bool
-keepsSection w e base q f k = stays w e base q (left w e base q f k) k
+unfoldable pub keepsSection : (minor edition base : ℕ) (plat : PagePlatform) (sections : ℕ → PageSection) (k : ℕ) → Bool
+keepsSection w e base q f k = stays w e base q (afterMending w e base q f k) k
 
 -- ---- of a page
 -- "the page's edition": the smaller of 4 and its minor
@@ -55,18 +57,18 @@ abbrev pub editionAt : List ℕ → ℕ
 editionAt page = min 4 (minorAt page)
 
 -- the platform data that is left on the page
-unfoldable pub platLeftAt : ℕ → List ℕ → Plat
-platLeftAt base page = platLeft (editionAt page) base (platAt base page)
+unfoldable pub platLeftAt : ℕ → List ℕ → PagePlatform
+platLeftAt base page = platLeft (editionAt page) base (platformAt base page)
 
 -- whether section `k` of the page is kept
 unfoldable pub keepsAt : ℕ → List ℕ → ℕ → Bool
-keepsAt base page k = keepsSection (minorAt page) (editionAt page) base (platLeftAt base page) (secAt base page) k
+keepsAt base page k = keepsSection (minorAt page) (editionAt page) base (platLeftAt base page) (pageSectionAt base page) k
 
 -- "It reports for each of the six whether it was changed; a section that the page's edition lacks is not touched and reports no." The six
 -- parts are numbered in their order: padding, pointer, and section k as part k + 2.
 unfoldable pub changed : ℕ → List ℕ → ℕ → Bool
 changed base page zero = not (eqb (paddingAt page) 0)
-changed base page (suc zero) = not (platOk (editionAt page) base (platAt base page))
+changed base page (suc zero) = not (platformOk (editionAt page) base (platformAt base page))
 changed base page (suc (suc k)) = both (ltb k (sectionCount (editionAt page))) (not (keepsAt base page k))
 
 -- the offset of part `j` in the core; it ends where the next part starts

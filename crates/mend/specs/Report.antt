@@ -20,7 +20,8 @@ flagWord b = cond b 1 0
 
 -- the words of the six parts, in order
 unfoldable pub changeWords : Changes → List ℕ
-changeWords c = flagWord (c .padding) ∷ flagWord (c .plat) ∷ flagWord (c .dram) ∷ flagWord (c .console) ∷ flagWord (c .ncoh) ∷ flagWord (c .coh) ∷ []
+changeWords c =
+    flagWord (c .padding) ∷ flagWord (c .plat) ∷ flagWord (c .dram) ∷ flagWord (c .console) ∷ flagWord (c .ncoh) ∷ flagWord (c .coh) ∷ []
 
 -- the words of the six parts; all zero if the page is refused
 unfoldable pub reportWords : Mended → List ℕ

@@ -7,8 +7,8 @@ use lib.Dec.{ltb}
 use Rattle.words.specs.Tests.{both, some}
 use Rattle.words.specs.Word.{laid}
 use Rattle.versions.specs.Edition.{sectionCount}
-use Rattle.sections.specs.Page.{Plat}
-use Rattle.sections.specs.Section.{platOk, platExtent}
+use Rattle.sections.specs.Page.{PagePlatform}
+use Rattle.sections.specs.Section.{platformOk, platExtent}
 use Rattle.sections.specs.Steps.{staysAt}
 use Rattle.mend.specs.Mend.{platLeft, changed, ofPart, blank}
 use Rattle.mend.specs.declared.PlatKept.{PlatKept}
@@ -22,10 +22,10 @@ unfoldable pub zeroed : Bool → ℕ → List ℕ → List ℕ → List ℕ
 zeroed b at zeros page = cond b (laid at zeros page) page
 
 -- whether the platform data is changed, and the addresses [from, to) of the kept fields
-unfoldable pub platKept : ℕ → ℕ → Plat → PlatKept
+unfoldable pub platKept : ℕ → ℕ → PagePlatform → PlatKept
 platKept e base q =
     record {
-      changed = not (platOk e base q);
+      changed = not (platformOk e base q);
       from = platExtent (platLeft e base q) .from;
       to = platExtent (platLeft e base q) .to;
     }

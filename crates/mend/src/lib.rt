@@ -10,7 +10,7 @@ ghost use Prim.Native.Nat.{_+_, _*_, min};
 ghost use lib.Dec.{eqb};
 ghost use lib.ListN.{length};
 ghost use Rattle.words.specs.Word.{leBytes, bytesOf};
-ghost use Rattle.sections.specs.Page.{placeOk, paddingAt, platAt};
+ghost use Rattle.sections.specs.Page.{placeOk, paddingAt, platformAt};
 ghost use Rattle.mend.specs.Mend.{minorAt, mendChanges, mendedOf, mendAnswer, mendOf, mendedPage};
 ghost use Rattle.mend.specs.Steps.{pageTo, zeroed, platKept, sectionGoes};
 ghost use Rattle.mend.specs.Report.{mendedNumber, flagWord, reportWords};
@@ -45,14 +45,14 @@ fn mend_padding(page: &mut [u8]) -> bool
     if sections::padding_at(page) == 0 {
         return false;
     }
-    words::put_half(page, 4, 0);
+    words::put_u32(page, 4, 0);
     true
 }
 
 // Zeroes the platform pointer if it breaks its rule or points at fields that break theirs.
 fn mend_plat(page: &mut [u8], base: u64, e: Edition) -> PlatKept
     requires { ⌜ placeOk base (length (now page)) ≡ true ⌝ }
-    ensures { λ r. ⌜ (r ≡ platKept (e .minor) base (platAt base (now (page .entry)))) × (now (page .exit) ≡ zeroed (r .changed) 8 (leBytes 8 0) (now (page .entry))) ⌝ }
+    ensures { λ r. ⌜ (r ≡ platKept (e .minor) base (platformAt base (now (page .entry)))) × (now (page .exit) ≡ zeroed (r .changed) 8 (leBytes 8 0) (now (page .entry))) ⌝ }
 {
     let told = sections::plat_rule(page, base, e);
     let FieldsEnd::Ended(taken) = told else {
@@ -82,7 +82,7 @@ fn mend_section(page: &mut [u8], base: u64, minor: u64, e: Edition, fields: Plat
     }
     let from = fields.from;
     let to = fields.to;
-    if sections::section_stays(page, base, minor, e, k, from, to) {
+    if sections::keeps_section(page, base, minor, e, k, from, to) {
         return false;
     }
     words::put_words(page, 16 + 24 * (k as usize), &[0, 0, 0]);

@@ -78,4 +78,5 @@ inputLeft input = cond (eqb (length input) 4104) (mendedPage (wordAt 0 input) (p
 -- every such input, `r` is the mender's answer, and if the input has the right length, the room then holds its mended page.
 abbrev pub MendsInput : List ℕ → ℕ → Mended → List ℕ → Type 0
 MendsInput room n r after =
-    (input : List ℕ) → take n room ≡ take (length room) input → (r ≡ mendedInput input) × (length input ≡ 4104 → part 8 4096 after ≡ inputLeft input)
+    (input : List ℕ) → take n room ≡ take (length room) input →
+    (r ≡ mendedInput input) × (length input ≡ 4104 → part 8 4096 after ≡ inputLeft input)

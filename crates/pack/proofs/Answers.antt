@@ -20,8 +20,8 @@ use Rattle.fields.specs.Fields.{fieldsIn, shownFields, taken}
 use Rattle.fields.specs.Steps.{fieldsFrom}
 use Rattle.fields.specs.declared.FieldsEnd.the-variants as fieldsEnd
 use Rattle.fields.proofs.Walks.{from-out, from-told}
-use Rattle.sections.specs.Page.{countAt, pointerAt, checkAt, inPage, mkSec, secAt, mkPlat, foundAt, platAt}
-use Rattle.sections.specs.Section.{nothing, secOk, wordsIn, platOk, rulesAt}
+use Rattle.sections.specs.Page.{countAt, pointerAt, checkAt, inPage, pageSection, pageSectionAt, pagePlatform, foundAt, platformAt}
+use Rattle.sections.specs.Section.{nothing, sectionOk, wordsIn, platformOk, rulesAt}
 use Rattle.sections.specs.Steps.{okAt, platEnd}
 use Rattle.sections.proofs.Sections.{placed, range-low, range-high, array-in, ok-in-range, rules-at, rules-pointer, plat-in}
 use Rattle.sections.proofs.Room.{array-lies}
@@ -32,11 +32,12 @@ use Rattle.reader.specs.declared.Refusal.{Refusal}
 use Rattle.reader.specs.declared.Reading.the-variants.{Refused}
 use Rattle.reader.specs.declared.Verdict.the-variants as verdict
 use Rattle.reader.proofs.Whole.{reading-answer, refused-reads, fine-reads}
-use Rattle.lists.specs.Description.{Description, used}
+use Rattle.writer_checks.specs.Description.{Description, used}
 use Rattle.writer_rules.specs.Write.{no-page, a-page, pageOf}
 use Rattle.writer_rules.specs.Wrote.{pageAfter}
-use Rattle.pack.specs.Pack.{fieldsKept, retold, Packed, stopped, written, packOf, packedBy, targetAfter, packedNumber, packingNumber}
-use Rattle.pack.specs.Steps.{arrayWords, Movable, fieldsPlace, keptFrom, retoldAt}
+use Rattle.pack.specs.Pack.{fieldsKept, shownDescription, Packed, stopped, written, packOf, packedBy, targetAfter, packedNumber}
+use Rattle.pack.specs.Pack.{packingNumber}
+use Rattle.pack.specs.Steps.{arrayWordsIn, Movable, fieldsPlace, keptFrom, shownDescriptionAt}
 use Rattle.pack.specs.declared.Packing.{Packing}
 use Rattle.pack.specs.declared.Packing.the-variants as packing
 use Rattle.pack.proofs.Made.{toldBy, told-late, told-none, told-some, told-fields, told-room, opened, pack-page}
@@ -60,15 +61,18 @@ module _ (w e base : ℕ) (page : List ℕ) (n : length page ≡ 4096) (m : base
       let s = size-some k (countAt k page) z in
       omega arith
 
-  array-words : (countAt k page ≡ 0 → ⊥) → wordsIn k (secAt base page k) ≡ arrayWords page k
-  unfolding wordsIn secAt mkSec arrayWords wordsAt
+  array-words : (countAt k page ≡ 0 → ⊥) → wordsIn k (pageSectionAt base page k) ≡ arrayWordsIn page k
+  unfolding wordsIn pageSectionAt pageSection arrayWordsIn wordsAt
   array-words z = rw (array-in e base k (countAt k page) (pointerAt k page) (ok-in-range w e base k page o z) page, array-place z)
 
-  moved-sums : (countAt k page ≡ 0 → ⊥) → Yes (checkOk (countAt k page) (pointerAt k page) (wordsIn k (secAt base page k)) (checkAt k page))
-  unfolding okAt secOk secAt mkSec nothing soundOf
-  moved-sums z = either-cases _ _ (λ b. absurd (z (eqb-true _ _ (both-l _ _ b)))) (λ b. both-l _ _ (both-r _ _ (both-r _ _ (both-r _ _ b)))) o
+  moved-sums : (countAt k page ≡ 0 → ⊥) → Yes (checkOk (countAt k page) (pointerAt k page) (wordsIn k (pageSectionAt base page k))
+      (checkAt k page))
+  unfolding okAt sectionOk pageSectionAt pageSection nothing soundOf
+  moved-sums z =
+      either-cases _ _ (λ b. absurd (z (eqb-true _ _ (both-l _ _ b)))) (λ b. both-l _ _ (both-r _ _ (both-r _ _ (both-r _ _ b)))) o
 
-  moved-inside : (size k (countAt k page) ≡ 0) ⊎ ((base + core e ≤ pointerAt k page) × (pointerAt k page + size k (countAt k page) ≤ base + 4096)) →
+  moved-inside : (size k (countAt k page) ≡ 0) ⊎ ((base + core e ≤ pointerAt k page) ×
+      (pointerAt k page + size k (countAt k page) ≤ base + 4096)) →
       pointerAt k page % 4096 + size k (countAt k page) ≤ length page
   moved-inside (inl z) = omega arith
   moved-inside (inr z) = omega (arith, z .0, z .1)
@@ -81,25 +85,34 @@ place-by : (base q : ℕ) (page : List ℕ) → q ≡ 0 → fieldsIn (foundAt ba
 unfolding foundAt fieldsIn
 place-by base q page z = rw (eq-eqb q 0 z)
 
-plat-range : (e base q : ℕ) (page : List ℕ) → (q ≡ 0 → ⊥) → platOk e base (mkPlat q (foundAt base page q)) ≡ true → (base + core e ≤ q) × (q < base + 4096)
-unfolding platOk mkPlat
-plat-range e base q page z h = either-cases _ _ (λ b. absurd (z (eqb-true _ _ b))) (λ b. (leb-true _ _ (both-l _ _ b), ltb-true _ _ (both-l _ _ (both-r _ _ b)))) h
+plat-range : (e base q : ℕ) (page : List ℕ) → (q ≡ 0 → ⊥) → platformOk e base (pagePlatform q (foundAt base page q)) ≡ true →
+    (base + core e ≤ q) × (q < base + 4096)
+unfolding platformOk pagePlatform
+plat-range e base q page z h =
+    either-cases _ _ (λ b. absurd (z (eqb-true _ _ b))) (λ b. (leb-true _ _ (both-l _ _ b), ltb-true _ _ (both-l _ _ (both-r _ _ b)))) h
 
-plat-told : (e base q : ℕ) (page : List ℕ) → platOk e base (mkPlat q (foundAt base page q)) ≡ true → platEnd e base (mkPlat q (foundAt base page q)) ≡ fieldsEnd.Ended (taken (foundAt base page q))
-unfolding platEnd mkPlat
+plat-told : (e base q : ℕ) (page : List ℕ) → platformOk e base (pagePlatform q (foundAt base page q)) ≡ true →
+    platEnd e base (pagePlatform q (foundAt base page q)) ≡ fieldsEnd.Ended (taken (foundAt base page q))
+unfolding platEnd pagePlatform
 plat-told e base q page h = rw h
 
-found-in : (e base q : ℕ) (page : List ℕ) → (q ≡ 0 → ⊥) → base % 4096 ≡ 0 → platOk e base (mkPlat q (foundAt base page q)) ≡ true → fieldsFrom (q % 4096) page ≡ fieldsIn (foundAt base page q)
+found-in : (e base q : ℕ) (page : List ℕ) → (q ≡ 0 → ⊥) → base % 4096 ≡ 0 →
+    platformOk e base (pagePlatform q (foundAt base page q)) ≡ true → fieldsFrom (q % 4096) page ≡ fieldsIn (foundAt base page q)
 unfolding foundAt inPage
 found-in e base q page z m h =
     let r = plat-range e base q page z h in
     let x : q % 4096 ≡ q - base = omega arith in
-    rw (x, ne-eqb q 0 z, both-of (leb base q) (leb (q + 1) (base + 4096)) (le-leb base q (omega arith)) (le-leb (q + 1) (base + 4096) (omega arith)))
+    rw (
+      x,
+      ne-eqb q 0 z,
+      both-of (leb base q) (leb (q + 1) (base + 4096)) (le-leb base q (omega arith))
+          (le-leb (q + 1) (base + 4096) (omega arith)),
+    )
     (from-told (q - base) page _ (sym (plat-in e base q page z (r .0) (r .1)) ∙ plat-told e base q page h))
 
 module _ (w e base : ℕ) (page : List ℕ) (n : length page ≡ 4096) (m : base % 4096 ≡ 0) (t : rulesAt w e base page ≡ true) where
   fields-kept : Dec (0 < wordAt 8 page) → fieldsFrom (fieldsPlace page) page ≡ fieldsIn (foundAt base page (wordAt 8 page))
-  unfolding fieldsPlace platAt
+  unfolding fieldsPlace platformAt
   fields-kept (no z) =
       let y : wordAt 8 page ≡ 0 = omega arith in
       rw (eq-eqb (wordAt 8 page) 0 y) (from-out (length page) page (omega arith) ∙ sym (place-by base (wordAt 8 page) page y))
@@ -108,36 +121,44 @@ module _ (w e base : ℕ) (page : List ℕ) (n : length page ≡ 4096) (m : base
       rw (ne-eqb (wordAt 8 page) 0 y) (found-in e base (wordAt 8 page) page y m (rules-pointer w e base page t))
 
 -- ---- what is shown is what the code passes to the writer
-array-none : (page : List ℕ) (k : ℕ) → countAt k page ≡ 0 → arrayWords page k ≡ []
-unfolding arrayWords wordsAt wordsOf
+array-none : (page : List ℕ) (k : ℕ) → countAt k page ≡ 0 → arrayWordsIn page k ≡ []
+unfolding arrayWordsIn wordsAt wordsOf
 array-none page k z = rw (z, (let e : wordsPerEntry k * 0 ≡ 0 = omega arith in e))
 
-module _ (base : ℕ) (page : List ℕ) (w : ℕ) (early : w ≤ 4) (n : length page ≡ 4096) (m : base % 4096 ≡ 0) (t : rulesAt w w base page ≡ true) where
-  told-list : (k : ℕ) → toldBy base page w .lists k ≡ retoldAt w page .lists k
+module _ (base : ℕ) (page : List ℕ) (w : ℕ) (early : w ≤ 4) (n : length page ≡ 4096) (m : base % 4096 ≡ 0)
+    (t : rulesAt w w base page ≡ true) where
+  told-list : (k : ℕ) → toldBy base page w .lists k ≡ shownDescriptionAt w page .lists k
   told-list k = go (decLt k (sectionCount w)) (decLt 0 (countAt k page))
     where
-      go : Dec (k < sectionCount w) → Dec (0 < countAt k page) → toldBy base page w .lists k ≡ retoldAt w page .lists k
+      go : Dec (k < sectionCount w) → Dec (0 < countAt k page) → toldBy base page w .lists k ≡ shownDescriptionAt w page .lists k
       go (no l) z = told-late base page w early t k (omega arith) ∙ sym (list-out w page k (omega arith))
       go (yes l) (no z) = told-none base page w early t k l (omega arith) ∙ sym (list-in w page k l ∙ array-none page k (omega arith))
-      go (yes l) (yes z) = told-some base page w early t k l z ∙ array-words w w base page n m k (rules-at w w base page t k l) (λ x. omega arith) ∙ sym (list-in w page k l)
+      go (yes l) (yes z) =
+          told-some base page w early t k l z ∙ array-words w w base page n m k (rules-at w w base page t k l) (λ x. omega arith) ∙
+          sym (list-in w page k l)
 
-  told-kept : toldBy base page w .fields ≡ retoldAt w page .fields
-  unfolding retoldAt keptFrom
-  told-kept = told-fields base page w early t ∙ ap (λ fs. fieldsKept (shownFields fs)) (sym (fields-kept w w base page n m t (decLt 0 (wordAt 8 page))))
+  told-kept : toldBy base page w .fields ≡ shownDescriptionAt w page .fields
+  unfolding shownDescriptionAt keptFrom
+  told-kept =
+      told-fields base page w early t ∙ ap (λ fs. fieldsKept (shownFields fs))
+      (sym (fields-kept w w base page n m t (decLt 0 (wordAt 8 page))))
 
-  told-same : toldBy base page w ≡ retoldAt w page
-  unfolding toldBy retold retoldAt
+  told-same : toldBy base page w ≡ shownDescriptionAt w page
+  unfolding toldBy shownDescription shownDescriptionAt
   told-same =
       ap {B = Description} (λ (l : ℕ → List ℕ). record { lists = l; fields = toldBy base page w .fields }) (fun-ext told-list)
-      ∙ ap {B = Description} (λ (fs : List ℕ). record { lists = retoldAt w page .lists; fields = fs }) told-kept
+      ∙ ap {B = Description} (λ (fs : List ℕ). record { lists = shownDescriptionAt w page .lists; fields = fs }) told-kept
 
 -- ---- by the verdict on the page
 module _ (base : ℕ) (page : List ℕ) where
-  pub refused-packs : (n : ℕ) (c : Refusal) → verdict.Refused c ≡ verdictOf (readingOf 4 base page) → packOf base n page ≡ stopped (refusalNumber c)
+  pub refused-packs : (n : ℕ) (c : Refusal) → verdict.Refused c ≡ verdictOf (readingOf 4 base page) →
+      packOf base n page ≡ stopped (refusalNumber c)
   unfolding readingAnswer
-  refused-packs n c h = pack-stops base n page (refusalNumber c) (sym (reading-answer 4 base page) ∙ ap (readingAnswer page) (sym (refused-reads 4 base page c h)))
+  refused-packs n c h =
+      pack-stops base n page (refusalNumber c) (sym (reading-answer 4 base page) ∙
+      ap (readingAnswer page) (sym (refused-reads 4 base page c h)))
 
-  module _ (w : ℕ) (h : verdict.Fine w ≡ verdictOf (readingOf 4 base page)) where
+  module _ (w : ℕ) (h : verdict.Passed w ≡ verdictOf (readingOf 4 base page)) where
     fine-shown : {P : Type 0} → ((e : ℕ) (q : PlatShown) (s : ℕ → Shown) → readOf 4 base page ≡ shows w e q s → P) → P
     unfolding readingAnswer viewAt
     fine-shown k = k _ _ _ (sym (reading-answer 4 base page) ∙ ap (readingAnswer page) (sym (fine-reads 4 base page w h .2)))
@@ -149,27 +170,35 @@ module _ (base : ℕ) (page : List ℕ) where
     target-packs n l z = fine-shown (λ e q s r. pack-target base n page w e q s r l z)
 
     -- what the code makes is the page that the writer makes
-    pub page-packs : (n : ℕ) → w ≤ 4 → n ≡ 4096 → packOf base n page ≡ written (a-page (pageOf base w (retoldAt w page)))
+    pub page-packs : (n : ℕ) → w ≤ 4 → n ≡ 4096 → packOf base n page ≡ written (a-page (pageOf base w (shownDescriptionAt w page)))
     page-packs n l z =
         fine-shown (λ e q s r.
         let o = opened base page w e q s r l in
         let p = placed base (length page) (o .0) in
-        rw z (pack-page base page w e q s r l) ∙ ap (λ (d : Description). written (a-page (pageOf base w d))) (o .3 ∙ told-same base page w l (p .0) (p .2) (o .2)))
+        rw z (pack-page base page w e q s r l) ∙ ap (λ (d : Description). written (a-page (pageOf base w d)))
+        (o .3 ∙ told-same base page w l (p .0) (p .2) (o .2)))
 
     -- and the page has all that the code needs
-    pub page-ready : w ≤ 4 → (length page ≡ 4096) × (base ≤ 0x10_0000_0000_0000) × ((k : ℕ) → k < sectionCount w → Movable page k) × (used w (retoldAt w page) ≤ 4096)
+    pub page-ready : w ≤ 4 → (length page ≡ 4096) × (base ≤ 0x10_0000_0000_0000) × ((k : ℕ) → k < sectionCount w → Movable page k) ×
+        (used w (shownDescriptionAt w page) ≤ 4096)
     page-ready l =
         fine-shown (λ e q s r.
         let o = opened base page w e q s r l in
-        let p = placed base (length page) (o .0) in
-        (p .0, omega arith, (λ k m. movable w w base page (p .0) (p .2) k (rules-at w w base page (o .2) k m)), rw (← told-same base page w l (p .0) (p .2) (o .2)) (told-room base page w l (o .2) (p .0))))
+        let p = placed base (length page) (o .0) in (
+          p .0,
+          omega arith,
+          (λ k m. movable w w base page (p .0) (p .2) k (rules-at w w base page (o .2) k m)),
+          rw (← told-same base page w l (p .0) (p .2) (o .2)) (told-room base page w l (o .2) (p .0)),
+        ))
 
 -- ---- after a refusal the target is unchanged, otherwise it is the page made
-pub packs-not : {F : Type 0} (r : Packing) (target : List ℕ) (m x : Packed) → packedBy target r ≡ x → target ≡ targetAfter target x → m ≡ x → F →
+pub packs-not : {F : Type 0} (r : Packing) (target : List ℕ) (m x : Packed) → packedBy target r ≡ x → target ≡ targetAfter target x →
+    m ≡ x → F →
     (packedBy target r ≡ m) × ((target ≡ targetAfter target m) × F)
 packs-not r target m x h g e f = rw e (h, (g, f))
 
-pub packs-page : {F : Type 0} (before after p : List ℕ) (m : Packed) → m ≡ written (a-page p) → after ≡ p → F → (packedBy after packing.Page ≡ m) × ((after ≡ targetAfter before m) × F)
+pub packs-page : {F : Type 0} (before after p : List ℕ) (m : Packed) → m ≡ written (a-page p) → after ≡ p → F →
+    (packedBy after packing.Page ≡ m) × ((after ≡ targetAfter before m) × F)
 unfolding packedBy targetAfter pageAfter
 packs-page before after p m e g f = rw e (ap (λ (x : List ℕ). written (a-page x)) g, (g, f))
 

@@ -48,7 +48,17 @@ field-part {at} {t} {v} {n} {x} page b r =
     let l : length (part v n page) ≡ n = part-length v n page (omega arith) in
     let z : x - at ≡ 1 + (2 + n) = omega arith in
     let y : at + 1 + 2 ≡ v = omega arith in
-    rw (l, z, part-add at 1 (2 + n) page, part-one at page (omega arith), part-add (at + 1) 2 n page, part-two (at + 1) page (omega arith) b, r .tag, r .len, y)
+    rw (
+      l,
+      z,
+      part-add at 1 (2 + n) page,
+      part-one at page (omega arith),
+      part-add (at + 1) 2 n page,
+      part-two (at + 1) page (omega arith) b,
+      r .tag,
+      r .len,
+      y,
+    )
 
 -- ---- a step: no field is left, a withdrawn field is left out, or a field is kept
 module _ (at : ℕ) (page : List ℕ) (s : FieldStep) (e : s ≡ stepAt at page) where
@@ -56,28 +66,33 @@ module _ (at : ℕ) (page : List ℕ) (s : FieldStep) (e : s ≡ stepAt at page)
   unfolding keptFrom fieldsKept
   kept-stop =
       rw e
-      (step-cases at page (λ s. s .field ≡ Nothing → keptFrom at page ≡ []) (λ h n. rw h) (λ x l r h n. never (cc)) (λ t v m x r n. never (cc)))
+      (step-cases at page (λ s. s .field ≡ Nothing → keptFrom at page ≡ []) (λ h n. rw h) (λ x l r h n. never (cc))
+      (λ t v m x r n. never (cc)))
 
   pub kept-over : s .field ≡ Withdrawn → (at < s .next) × (s .next ≤ length page) × (keptFrom at page ≡ keptFrom (s .next) page)
   unfolding keptFrom fieldsKept
   kept-over =
       rw e
-      (step-cases at page (λ s. s .field ≡ Withdrawn → (at < s .next) × (s .next ≤ length page) × (keptFrom at page ≡ keptFrom (s .next) page))
+      (step-cases at page (λ s. s .field ≡ Withdrawn → (at < s .next) × (s .next ≤ length page) ×
+      (keptFrom at page ≡ keptFrom (s .next) page))
       (λ h n. never (cc))
       (λ x l r h n. (l, r, rw h))
       (λ t v m x r n. never (cc)))
 
-  pub kept-field : {t v m : ℕ} → Bytes page → s .field ≡ Raw t v m → (at < s .next) × (s .next ≤ length page) × (keptFrom at page ≡ part at (s .next - at) page ++ keptFrom (s .next) page)
+  pub kept-field : {t v m : ℕ} → Bytes page → s .field ≡ Raw t v m →
+      (at < s .next) × (s .next ≤ length page) × (keptFrom at page ≡ part at (s .next - at) page ++ keptFrom (s .next) page)
   unfolding keptFrom fieldsKept
   kept-field {t} {v} {m} b =
       rw e
-      (step-cases at page (λ s. s .field ≡ Raw t v m → (at < s .next) × (s .next ≤ length page) × (keptFrom at page ≡ part at (s .next - at) page ++ keptFrom (s .next) page))
+      (step-cases at page (λ s. s .field ≡ Raw t v m → (at < s .next) × (s .next ≤ length page) ×
+      (keptFrom at page ≡ part at (s .next - at) page ++ keptFrom (s .next) page))
       (λ h n. never (cc))
       (λ x l r h n. never (cc))
       (λ t v m x r n. (omega (arith, r .value, r .next), r .within, rw (r .shown, field-part page b r))))
 
 -- a run of kept fields grows
-module _ (at x : ℕ) (page : List ℕ) (l : at < x) (m : x ≤ length page) (k : keptFrom at page ≡ part at (x - at) page ++ keptFrom x page) where
+module _ (at x : ℕ) (page : List ℕ) (l : at < x) (m : x ≤ length page)
+    (k : keptFrom at page ≡ part at (x - at) page ++ keptFrom x page) where
   pub run-more : (run : ℕ) → run ≤ at → part run (at - run) page ++ keptFrom at page ≡ part run (x - run) page ++ keptFrom x page
   run-more run g = rw (k, part-join run at x page g (omega arith), append-assoc)
 
@@ -85,7 +100,8 @@ module _ (at x : ℕ) (page : List ℕ) (l : at < x) (m : x ≤ length page) (k 
   length-more = ap length k ∙ length-append (part at (x - at) page) (keptFrom x page) ∙ rw (part-length at (x - at) page (omega arith))
 
 -- a run ends before a withdrawn field, and the next starts after it
-pub run-over : (at x run to next : ℕ) (page vs p s : List ℕ) → keptFrom at page ≡ keptFrom x page → to ≤ length p → vs ≡ part run (at - run) page → next ≡ to + length vs → s ≡ splice to vs p →
+pub run-over : (at x run to next : ℕ) (page vs p s : List ℕ) → keptFrom at page ≡ keptFrom x page → to ≤ length p →
+    vs ≡ part run (at - run) page → next ≡ to + length vs → s ≡ splice to vs p →
     splice next (part x (x - x) page ++ keptFrom x page) s ≡ splice to (part run (at - run) page ++ keptFrom at page) p
 run-over at x run to next page vs p s k l g m i = rw (i, m, part-none x page, k, ← g) (splice-splice to vs p l (keptFrom x page))
 

@@ -21,9 +21,9 @@ use Rattle.entries.specs.Entry.{wordsPerEntry, size, entriesOk}
 use Rattle.entries.specs.Array.{soundOf}
 use Rattle.entries.proofs.Entries.{per-range}
 use Rattle.entries.proofs.Flags.{shown-plain}
-use Rattle.fields.specs.Fields.{bare, scanOf, fieldsIn, fieldsTold, shownFields, isBare, tellable, taken}
-use Rattle.sections.specs.Page.{placeOk, versionAt, countAt, secAt, mkSec, foundAt, mkPlat, platAt}
-use Rattle.sections.specs.Section.{nothing, wordsIn, secOk, rulesAt}
+use Rattle.fields.specs.Fields.{bare, scanOf, fieldsIn, fieldsDescribed, shownFields, isBare, describable, taken}
+use Rattle.sections.specs.Page.{placeOk, versionAt, countAt, pageSectionAt, pageSection, foundAt, pagePlatform, platformAt}
+use Rattle.sections.specs.Section.{nothing, wordsIn, sectionOk, rulesAt}
 use Rattle.sections.specs.Steps.{okAt}
 use Rattle.sections.proofs.Sections.{placed, rules-at}
 use Rattle.sections.proofs.Spans.{addedUp}
@@ -31,11 +31,11 @@ use Rattle.sections.proofs.Room.{spanLength, arrays-fit}
 use Rattle.reader.specs.Answer.{Shown, empty, PlatShown, shows, shown, shownSec, platShown, allShown, judge, readOf}
 use Rattle.reader.proofs.Newer.{gate-shows}
 use Rattle.reader.proofs.Views.{shows-each}
-use Rattle.lists.specs.Description.{Description, listOk, listsOk, noneLate, platBytes, used}
-use Rattle.lists.proofs.Lists.{described-none}
+use Rattle.writer_checks.specs.Description.{Description, listOk, listsOk, laterSectionsEmpty, platBytes, used}
+use Rattle.writer_checks.proofs.Lists.{described-none}
 use Rattle.writer_rules.specs.Write.{a-page, writeOf, pageOf}
 use Rattle.writer_rules.proofs.Checks.{w-made}
-use Rattle.pack.specs.Pack.{entriesIn, fieldsKept, retold, written, packedFrom, packOf}
+use Rattle.pack.specs.Pack.{entriesIn, fieldsKept, shownDescription, written, packedFrom, packOf}
 use Rattle.pack.proofs.Fields.{keptOf, kept-told, kept-three, found-fits}
 
 -- ---- a list of whole entries that keep their rule
@@ -63,35 +63,41 @@ unfolding joined
 joined-late zero m l h e = rw (let z : m ≡ 0 = omega arith in z) refl
 joined-late (suc n) m l h e = go (decLe m n) (joined-late n m l)
   where
-    go : Dec (m ≤ n) → (m ≤ n → ((k : ℕ) → m ≤ k → length (l k) ≡ 0) → length (joined n l) ≡ length (joined m l)) → length (joined n l ++ l n) ≡ length (joined m l)
+    go : Dec (m ≤ n) → (m ≤ n → ((k : ℕ) → m ≤ k → length (l k) ≡ 0) → length (joined n l) ≡ length (joined m l)) →
+        length (joined n l ++ l n) ≡ length (joined m l)
     go (yes a) r = rw length-append (omega (arith, r a e, e n a))
     go (no a) r = rw (let z : m ≡ suc n = omega arith in z) refl
 
 -- ---- the description that the writer gets for a page of minor w
 unfoldable pub toldBy : ℕ → List ℕ → ℕ → Description
-toldBy base page w = retold (platShown (platAt base page)) (λ k. shown w w k (secAt base page k))
+toldBy base page w = shownDescription (platShown (platformAt base page)) (λ k. shown w w k (pageSectionAt base page k))
 
 -- section k of it: no words, or those of an array that was read
 abbrev pub Each : ℕ → List ℕ → ℕ → ℕ → Type 0
 Each base page w k =
     (toldBy base page w .lists k ≡ [])
-    ⊎ ((k < sectionCount w) × (0 < countAt k page) × (toldBy base page w .lists k ≡ wordsIn k (secAt base page k)))
+    ⊎ ((k < sectionCount w) × (0 < countAt k page) × (toldBy base page w .lists k ≡ wordsIn k (pageSectionAt base page k)))
 
 module _ (base : ℕ) (page : List ℕ) (w : ℕ) (early : w ≤ 4) (t : rulesAt w w base page ≡ true) where
   -- outside the edition nothing
   pub told-late : (k : ℕ) → sectionCount w ≤ k → toldBy base page w .lists k ≡ []
-  unfolding toldBy retold shown entriesIn
+  unfolding toldBy shownDescription shown entriesIn
   told-late k l = rw (le-ltb k (sectionCount w) l)
 
   -- within it nothing, or the words of an array that was read
   module _ (k : ℕ) (l : k < sectionCount w) where
     pub told-none : countAt k page ≡ 0 → toldBy base page w .lists k ≡ []
-    unfolding toldBy retold shown shownSec entriesIn secAt mkSec
+    unfolding toldBy shownDescription shown shownSec entriesIn pageSectionAt pageSection
     told-none c = rw (lt-ltb k (sectionCount w) l, eq-eqb (countAt k page) 0 c)
 
-    pub told-some : 0 < countAt k page → toldBy base page w .lists k ≡ wordsIn k (secAt base page k)
-    unfolding toldBy retold shown shownSec entriesIn secAt mkSec
-    told-some c = rw (lt-ltb k (sectionCount w) l, ne-eqb (countAt k page) 0 (λ z. omega arith), shown-plain w k early (wordsIn k (secAt base page k)))
+    pub told-some : 0 < countAt k page → toldBy base page w .lists k ≡ wordsIn k (pageSectionAt base page k)
+    unfolding toldBy shownDescription shown shownSec entriesIn pageSectionAt pageSection
+    told-some c =
+        rw (
+          lt-ltb k (sectionCount w) l,
+          ne-eqb (countAt k page) 0 (λ z. omega arith),
+          shown-plain w k early (wordsIn k (pageSectionAt base page k)),
+        )
 
   pub told-each : (k : ℕ) → Each base page w k
   told-each k = go (decLt k (sectionCount w)) (decLt 0 (countAt k page))
@@ -101,12 +107,12 @@ module _ (base : ℕ) (page : List ℕ) (w : ℕ) (early : w ≤ 4) (t : rulesAt
       go (yes l) (no c) = inl (told-none k l (omega arith))
       go (yes l) (yes c) = inr (l, c, told-some k l c)
 
-  pub words-length : (k : ℕ) → length (wordsIn k (secAt base page k)) ≡ wordsPerEntry k * countAt k page
-  unfolding wordsIn secAt mkSec
+  pub words-length : (k : ℕ) → length (wordsIn k (pageSectionAt base page k)) ≡ wordsPerEntry k * countAt k page
+  unfolding wordsIn pageSectionAt pageSection
   words-length k = wordsOf-length _ _
 
-  read-ok : (k : ℕ) → k < sectionCount w → 0 < countAt k page → Yes (entriesOk w k (countAt k page) (wordsIn k (secAt base page k)))
-  unfolding okAt secOk secAt mkSec nothing soundOf
+  read-ok : (k : ℕ) → k < sectionCount w → 0 < countAt k page → Yes (entriesOk w k (countAt k page) (wordsIn k (pageSectionAt base page k)))
+  unfolding okAt sectionOk pageSectionAt pageSection nothing soundOf
   read-ok k l c =
       either-cases _ _
       (λ n. absurd (let z : countAt k page ≡ 0 = eqb-true _ _ (both-l _ _ n) in let y : ⊥ = omega arith in y))
@@ -115,14 +121,15 @@ module _ (base : ℕ) (page : List ℕ) (w : ℕ) (early : w ≤ 4) (t : rulesAt
 
   told-list : (k : ℕ) → Each base page w k → Yes (listOk w k (toldBy base page w .lists k))
   told-list k (inl e) = rw e (none-ok w k)
-  told-list k (inr e) = rw (e .2) (list-of w k (countAt k page) (wordsIn k (secAt base page k)) (words-length k) (read-ok k (e .0) (e .1)))
+  told-list k (inr e) =
+      rw (e .2) (list-of w k (countAt k page) (wordsIn k (pageSectionAt base page k)) (words-length k) (read-ok k (e .0) (e .1)))
 
   told-lists : Yes (listsOk w (toldBy base page w .lists))
   unfolding listsOk
   told-lists = every-of 4 _ (λ k l. told-list k (told-each k))
 
-  none-late : Yes (noneLate w (toldBy base page w .lists))
-  unfolding noneLate
+  none-late : Yes (laterSectionsEmpty w (toldBy base page w .lists))
+  unfolding laterSectionsEmpty
   none-late = every-of 4 _ (λ k l. go k (told-each k))
     where
       go : (k : ℕ) → Each base page w k → Yes (either (ltb k (sectionCount w)) (eqb (length (toldBy base page w .lists k)) 0))
@@ -143,7 +150,7 @@ module _ (base : ℕ) (page : List ℕ) (w : ℕ) (early : w ≤ 4) (t : rulesAt
   fields-span = rw (le-ltb (sectionCount w) (sectionCount w) (omega arith))
 
   pub told-fields : (toldBy base page w .fields) ≡ fieldsKept (shownFields (fieldsIn (foundAt base page (wordAt 8 page))))
-  unfolding toldBy retold platShown platAt mkPlat
+  unfolding toldBy shownDescription platShown platformAt pagePlatform
   told-fields = refl
 
   pub told-room : length page ≡ 4096 → used w (toldBy base page w) ≤ 4096
@@ -160,19 +167,21 @@ module _ (base : ℕ) (page : List ℕ) (w : ℕ) (early : w ≤ 4) (t : rulesAt
   pub told-scanned : scanOf (toldBy base page w .fields) ≡ bare (keptOf (fieldsIn (foundAt base page (wordAt 8 page))))
   told-scanned = rw told-fields (kept-told _ (found-fits base page (wordAt 8 page) .0))
 
-  pub told-tellable : Yes (tellable (scanOf (toldBy base page w .fields)))
-  unfolding tellable isBare fieldsTold both
+  pub told-tellable : Yes (describable (scanOf (toldBy base page w .fields)))
+  unfolding describable isBare fieldsDescribed both
   told-tellable = simp (told-scanned, kept-three)
 
-  pub told-made : Yes (placeOk base (length page)) → 1 ≤ w → writeOf base 4096 w (toldBy base page w) ≡ a-page (pageOf base w (toldBy base page w))
+  pub told-made : Yes (placeOk base (length page)) → 1 ≤ w →
+      writeOf base 4096 w (toldBy base page w) ≡ a-page (pageOf base w (toldBy base page w))
   told-made p lo =
       let n = placed base (length page) p in
-      w-made base 4096 w (toldBy base page w) (rw (n .0) at p) (edition-of w lo early) told-lists told-tellable none-late (le-leb _ _ (told-room (n .0)))
+      w-made base 4096 w (toldBy base page w) (rw (n .0) at p) (edition-of w lo early) told-lists told-tellable none-late
+      (le-leb _ _ (told-room (n .0)))
 
 -- ---- for a page that a reader of edition 4 accepts
 module _ (base : ℕ) (page : List ℕ) (w e : ℕ) (q : PlatShown) (s : ℕ → Shown) (h : readOf 4 base page ≡ shows w e q s) (early : w ≤ 4) where
-  pub opened : Yes (placeOk base (length page)) × (1 ≤ w) × (rulesAt w w base page ≡ true) × (retold q s ≡ toldBy base page w)
-      × (platShown (platAt base page) ≡ q) × ((λ k. shown w w k (secAt base page k)) ≡ s)
+  pub opened : Yes (placeOk base (length page)) × (1 ≤ w) × (rulesAt w w base page ≡ true) × (shownDescription q s ≡ toldBy base page w)
+      × (platShown (platformAt base page) ≡ q) × ((λ k. shown w w k (pageSectionAt base page k)) ≡ s)
   unfolding readOf judge allShown rulesAt toldBy
   opened =
       let g = gate-shows _ _ _ _ _ _ _ _ h in
@@ -183,10 +192,10 @@ module _ (base : ℕ) (page : List ℕ) (w e : ℕ) (q : PlatShown) (s : ℕ →
       (g .0 .0, rw n at (v .1), rw (i .0, m) at (g .0 .2), rw (← i .2, ← i .3, i .0, m), i .2, rw (i .0, m) at (i .3))
 
   -- the writer makes a page from what is shown: no refusal of W2 to W5
-  pub pack-made : writeOf base 4096 w (retold q s) ≡ a-page (pageOf base w (retold q s))
+  pub pack-made : writeOf base 4096 w (shownDescription q s) ≡ a-page (pageOf base w (shownDescription q s))
   pack-made = rw (opened .3) (told-made base page w early (opened .2) (opened .0) (opened .1))
 
   -- so the only refusal left is the target's
-  pub pack-page : packOf base 4096 page ≡ written (a-page (pageOf base w (retold q s)))
+  pub pack-page : packOf base 4096 page ≡ written (a-page (pageOf base w (shownDescription q s)))
   unfolding packOf packedFrom
   pack-page = rw (h, le-leb w 4 early) (ap written pack-made)

@@ -34,7 +34,8 @@ packed-lent base n page after h b = (pack-same base n page after b (sym h), pack
 -- The same for a call of `pbeam_pack` that returns 0, by its promises.
 pub packed-called : (base : ℕ) (page before after : List ℕ) → packedNumber (packOf base (length before) page) ≡ pos 0 →
     after ≡ targetAfter before (packOf base (length before) page) → ((i : ℕ) → getD page i 0 < 256) →
-    ((r : ℕ) → readOf r base after ≡ repacked (wordAt 8 after) (readOf r base page)) × (packOf base (length before) after ≡ written (a-page after))
+    ((r : ℕ) → readOf r base after ≡ repacked (wordAt 8 after) (readOf r base page)) ×
+    (packOf base (length before) after ≡ written (a-page after))
 packed-called base page before after h e b =
     let p = packed-zero before base (length before) page h in
     rw e (pack-same base (length before) page _ b p, pack-again base (length before) page _ b p)

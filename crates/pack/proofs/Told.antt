@@ -10,10 +10,10 @@ use Rattle.reader.specs.Answer.{Shown, PlatShown, shows, minus, allShown, reade
 use Rattle.reader.specs.Reading.{refusalNumber}
 use Rattle.reader.specs.declared.Refusal.{Refusal}
 use Rattle.reader.specs.declared.Refusal.the-variants as refusal
-use Rattle.lists.specs.Description.{Description}
+use Rattle.writer_checks.specs.Description.{Description}
 use Rattle.writer_rules.specs.Write.{a-page, writerGate, writeOf}
 use Rattle.writer_rules.specs.Wrote.{pageAfter}
-use Rattle.pack.specs.Pack.{retold, Packed, stopped, written, packedFrom, packOf, packedBy, targetAfter, packedNumber}
+use Rattle.pack.specs.Pack.{shownDescription, Packed, stopped, written, packedFrom, packOf, packedBy, targetAfter, packedNumber}
 use Rattle.pack.specs.declared.Packing.{Packing}
 use Rattle.pack.specs.declared.Packing.the-variants.{Page, Refused, Target}
 
@@ -39,7 +39,8 @@ tells target Target = refl
 tells target (Refused c) = (refl, negative c)
 
 -- for every call: `packedBy target r ≡ packOf ..` is the promise of `pack` about its answer r
-pub packed-told : (base n : ℕ) (page target : List ℕ) (r : Packing) → packedBy target r ≡ packOf base n page → Tells r (packedNumber (packOf base n page))
+pub packed-told : (base n : ℕ) (page target : List ℕ) (r : Packing) → packedBy target r ≡ packOf base n page →
+    Tells r (packedNumber (packOf base n page))
 packed-told base n page target r h = rw (← h) (tells target r)
 
 -- ---- only 0 means that a page was made, and then the target holds it
@@ -72,13 +73,15 @@ module _ (lent : List ℕ) where
   early-zero true m k h = k h
   early-zero false m k h = absurd (no-zero 5 refl h)
 
-  read-zero : (base n : ℕ) (p v o : Bool) (w e : ℕ) (q : PlatShown) (s : ℕ → Shown) → MadeAtZero (packedFrom base n (readerGate p v o (shows w e q s)))
+  read-zero : (base n : ℕ) (p v o : Bool) (w e : ℕ) (q : PlatShown) (s : ℕ → Shown) →
+      MadeAtZero (packedFrom base n (readerGate p v o (shows w e q s)))
   unfolding readerGate packedFrom packedNumber
-  read-zero base n true true true w e q s h = early-zero (leb w 4) _ (write-zero base n w (retold q s)) h
+  read-zero base n true true true w e q s h = early-zero (leb w 4) _ (write-zero base n w (shownDescription q s)) h
   read-zero base n true true false w e q s h = absurd (no-zero 6 refl h)
   read-zero base n true false o w e q s h = absurd (no-zero 5 refl h)
   read-zero base n false v o w e q s h = absurd (no-zero 4 refl h)
 
-  pub packed-zero : (base n : ℕ) (page : List ℕ) → packedNumber (packOf base n page) ≡ pos 0 → packOf base n page ≡ written (a-page (targetAfter lent (packOf base n page)))
+  pub packed-zero : (base n : ℕ) (page : List ℕ) → packedNumber (packOf base n page) ≡ pos 0 →
+      packOf base n page ≡ written (a-page (targetAfter lent (packOf base n page)))
   unfolding packOf readOf judge allShown
   packed-zero base n page = read-zero base n _ _ _ _ _ _ _

@@ -9,7 +9,7 @@ use Rattle.fields.specs.Fields.{FieldShown, raw, withdrawn}
 use Rattle.fields.specs.Facts.{fieldBytes}
 use Rattle.reader.specs.Answer.{Shown, absent, empty, full, PlatShown, ReaderAnswer, refused, shows, minus, readOf}
 use Rattle.reader.specs.Reading.{refusalNumber}
-use Rattle.lists.specs.Description.{Description}
+use Rattle.writer_checks.specs.Description.{Description}
 use Rattle.writer_rules.specs.Write.{Made, no-page, a-page, writeOf}
 use Rattle.writer_rules.specs.Wrote.{pageAfter}
 use Rattle.pack.specs.declared.Packing.{Packing}
@@ -28,8 +28,8 @@ fieldsKept (raw t v ∷ fs) = fieldBytes t v ++ fieldsKept fs
 fieldsKept (withdrawn ∷ fs) = fieldsKept fs
 
 -- what a reader shows, as a description for the writer
-unfoldable pub retold : PlatShown → (ℕ → Shown) → Description
-retold q s = record { lists = λ k. entriesIn (s k); fields = fieldsKept (q .fields) }
+unfoldable pub shownDescription : PlatShown → (ℕ → Shown) → Description
+shownDescription q s = record { lists = λ k. entriesIn (s k); fields = fieldsKept (q .fields) }
 
 -- the result of packing: a code, or what the writer makes. PK2: "Refusals: the reader's codes; then -6 for minor 5 and above; then W1 for the target."
 pub data Packed : Type 0 where
@@ -39,7 +39,7 @@ pub data Packed : Type 0 where
 -- the result of packing, from the answer of reader edition 4
 unfoldable pub packedFrom : ℕ → ℕ → ReaderAnswer → Packed
 packedFrom base n (refused c) = stopped c
-packedFrom base n (shows w e q s) = cond (leb w 4) (written (writeOf base n w (retold q s))) (stopped (minus 6))
+packedFrom base n (shows w e q s) = cond (leb w 4) (written (writeOf base n w (shownDescription q s))) (stopped (minus 6))
 
 -- the result of packing a page at base B into a target of `n` bytes at the same base
 unfoldable pub packOf : ℕ → ℕ → List ℕ → Packed

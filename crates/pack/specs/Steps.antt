@@ -1,4 +1,4 @@
--- For the steps and loops of `pack`. `told-same` (proofs/Answers.antt) proves `retoldAt` equal to `retold` of what reader edition 4 shows;
+-- For the steps and loops of `pack`. `told-same` (proofs/Answers.antt) proves `shownDescriptionAt` equal to `shownDescription` of what reader edition 4 shows;
 -- `sections-all` (proofs/Whole.antt) proves `sectionMoved` equal to the writer's `descriptorAt`; `movable` (proofs/Answers.antt) proves `Movable` of
 -- each section that is read. B is a multiple of 4,096, so pointer % 4096 is the offset in the page. Assumes nothing.
 use Prim.Native.Nat.{ℕ, _+_, _*_, _%_, _≤_}
@@ -15,23 +15,23 @@ use Rattle.entries.specs.Array.{wordsAt}
 use Rattle.fields.specs.Fields.{shownFields}
 use Rattle.fields.specs.Steps.{fieldsFrom}
 use Rattle.sections.specs.Page.{countAt, pointerAt, checkAt}
-use Rattle.lists.specs.Description.{Description}
+use Rattle.writer_checks.specs.Description.{Description}
 use Rattle.writer_rules.specs.Write.{descriptor}
 use Rattle.pack.specs.Pack.{fieldsKept}
 
 -- the words of the array of section k
-unfoldable pub arrayWords : List ℕ → ℕ → List ℕ
-arrayWords page k = wordsAt k (countAt k page) (pointerAt k page % 4096) page
+unfoldable pub arrayWordsIn : List ℕ → ℕ → List ℕ
+arrayWordsIn page k = wordsAt k (countAt k page) (pointerAt k page % 4096) page
 
 -- The array of section `k` is within the page and its checksum holds, as the rules require of a section that is read. A section of 24 zero bytes has
 -- no checksum.
 pub record Movable (page : List ℕ) (k : ℕ) : Type 0 where
   pub inside : pointerAt k page % 4096 + size k (countAt k page) ≤ length page
-  pub sums : (countAt k page ≡ 0 → ⊥) → Yes (checkOk (countAt k page) (pointerAt k page) (arrayWords page k) (checkAt k page))
+  pub sums : (countAt k page ≡ 0 → ⊥) → Yes (checkOk (countAt k page) (pointerAt k page) (arrayWordsIn page k) (checkAt k page))
 
 -- the three words of section `k`, with the arrays one after another from address `first`
 unfoldable pub sectionMoved : ℕ → List ℕ → ℕ → List ℕ
-sectionMoved first page k = descriptor k (first + 8 * length (joined k (arrayWords page))) (arrayWords page k)
+sectionMoved first page k = descriptor k (first + 8 * length (joined k (arrayWordsIn page))) (arrayWordsIn page k)
 
 -- the offset of the fields; the length of the page if it has no platform pointer
 unfoldable pub fieldsPlace : List ℕ → ℕ
@@ -42,5 +42,6 @@ unfoldable pub keptFrom : ℕ → List ℕ → List ℕ
 keptFrom at page = fieldsKept (shownFields (fieldsFrom at page))
 
 -- the description that the code passes to the writer, for a page of minor `v`
-unfoldable pub retoldAt : ℕ → List ℕ → Description
-retoldAt v page = record { lists = λ k. cond (ltb k (sectionCount v)) (arrayWords page k) []; fields = keptFrom (fieldsPlace page) page }
+unfoldable pub shownDescriptionAt : ℕ → List ℕ → Description
+shownDescriptionAt v page =
+    record { lists = λ k. cond (ltb k (sectionCount v)) (arrayWordsIn page k) []; fields = keptFrom (fieldsPlace page) page }

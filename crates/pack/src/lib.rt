@@ -13,10 +13,10 @@ ghost use Rattle.words.specs.Word.{bytesOf, joined, splice};
 ghost use Rattle.versions.specs.Edition.{sectionCount};
 ghost use Rattle.entries.specs.Entry.{size};
 ghost use Rattle.sections.specs.Page.{countAt};
-ghost use Rattle.lists.specs.Description.{used};
+ghost use Rattle.writer_checks.specs.Description.{used};
 ghost use Rattle.writer_rules.specs.Write.{descriptor, pageOf};
 ghost use Rattle.pack.specs.Pack.{packOf, packedBy, targetAfter, packingNumber};
-ghost use Rattle.pack.specs.Steps.{arrayWords, Movable, sectionMoved, fieldsPlace, keptFrom, retoldAt};
+ghost use Rattle.pack.specs.Steps.{arrayWordsIn, Movable, sectionMoved, fieldsPlace, keptFrom, shownDescriptionAt};
 
 // `Page` if a page was made, otherwise why not: the reader's refusal of the page, or `Target` if the target is not 4,096 bytes long (W1).
 pub enum Packing {
@@ -57,7 +57,7 @@ fn array_size(page: &[u8], k: u8) -> usize
 // The array of section `k`, as a slice of the page.
 fn array_of(page: &[u8], k: u8) -> &[u8]
     requires { ⌜ (Movable (now page) k) × (length (now page) ≡ 4096) ⌝ }
-    ensures { λ r. ⌜ now r ≡ bytesOf (arrayWords (now (page .entry)) k) ⌝ }
+    ensures { λ r. ⌜ now r ≡ bytesOf (arrayWordsIn (now (page .entry)) k) ⌝ }
 {
     let at = (sections::pointer_at(page, k) % 4096) as usize;
     let end = at + array_size(page, k);
@@ -68,7 +68,7 @@ fn array_of(page: &[u8], k: u8) -> &[u8]
 // checksum changes only by the difference of the pointers.
 fn section_words(page: &[u8], k: u8, pointer: u64) -> [u64; 3]
     requires { ⌜ Movable (now page) k ⌝ }
-    ensures { λ r. ⌜ r ≡ descriptor k pointer (arrayWords (now (page .entry)) k) ⌝ }
+    ensures { λ r. ⌜ r ≡ descriptor k pointer (arrayWordsIn (now (page .entry)) k) ⌝ }
 {
     let count = sections::count_at(page, k);
     if count == 0 {
@@ -82,7 +82,7 @@ fn section_words(page: &[u8], k: u8, pointer: u64) -> [u64; 3]
 // Writes the words of the first `n` sections; their arrays follow one another from address `first`.
 fn put_sections(page: &[u8], first: u64, n: u8, target: &mut [u8])
     requires { ⌜ (length (now page) ≡ 4096) × (length (now target) ≡ 4096) × (n ≤ 4) × ((k : ℕ) → k < n → Movable (now page) k)
-        × (first + 8 * length (joined n (arrayWords (now page))) < 0x1_0000_0000_0000_0000) ⌝ }
+        × (first + 8 * length (joined n (arrayWordsIn (now page))) < 0x1_0000_0000_0000_0000) ⌝ }
     ensures { λ _. ⌜ now (target .exit) ≡ splice 16 (bytesOf (joined n (sectionMoved first (now (page .entry))))) (now (target .entry)) ⌝ }
 {
     let mut pointer = first;
@@ -96,9 +96,9 @@ fn put_sections(page: &[u8], first: u64, n: u8, target: &mut [u8])
 // Copies the arrays of the first `n` sections, one after another from offset `from`. Returns the offset after them.
 fn put_arrays(page: &[u8], from: usize, n: u8, target: &mut [u8]) -> usize
     requires { ⌜ (length (now page) ≡ 4096) × (length (now target) ≡ 4096) × ((k : ℕ) → k < n → Movable (now page) k)
-        × (from + 8 * length (joined n (arrayWords (now page))) ≤ 4096) ⌝ }
-    ensures { λ r. ⌜ (r ≡ from + 8 * length (joined n (arrayWords (now (page .entry)))))
-        × (now (target .exit) ≡ splice from (bytesOf (joined n (arrayWords (now (page .entry))))) (now (target .entry))) ⌝ }
+        × (from + 8 * length (joined n (arrayWordsIn (now page))) ≤ 4096) ⌝ }
+    ensures { λ r. ⌜ (r ≡ from + 8 * length (joined n (arrayWordsIn (now (page .entry)))))
+        × (now (target .exit) ≡ splice from (bytesOf (joined n (arrayWordsIn (now (page .entry))))) (now (target .entry))) ⌝ }
 {
     let mut at = from;
     for k in 0..n {
@@ -161,8 +161,8 @@ fn plat_pointer(base: u64, at: usize, end: usize) -> u64
 // Makes the whole page from one of minor `e`: sections, arrays, fields, version, platform pointer, then zeros.
 fn put_page(page: &[u8], base: u64, e: Edition, target: &mut [u8])
     requires { ⌜ (length (now page) ≡ 4096) × (length (now target) ≡ 4096) × (base ≤ 0x10_0000_0000_0000)
-        × ((k : ℕ) → k < sectionCount (e .minor) → Movable (now page) k) × (used (e .minor) (retoldAt (e .minor) (now page)) ≤ 4096) ⌝ }
-    ensures { λ _. ⌜ now (target .exit) ≡ pageOf base (e .minor) (retoldAt (e .minor) (now (page .entry))) ⌝ }
+        × ((k : ℕ) → k < sectionCount (e .minor) → Movable (now page) k) × (used (e .minor) (shownDescriptionAt (e .minor) (now page)) ≤ 4096) ⌝ }
+    ensures { λ _. ⌜ now (target .exit) ≡ pageOf base (e .minor) (shownDescriptionAt (e .minor) (now (page .entry))) ⌝ }
 {
     let size = e.core_size();
     let n = e.sections();
@@ -183,7 +183,7 @@ pub fn pack(page: &[u8], base: u64, target: &mut [u8]) -> Packing
 {
     match reader::judge_page(page, base, 4) {
         Verdict::Refused(code) => Packing::Refused(code),
-        Verdict::Fine(minor) => {
+        Verdict::Passed(minor) => {
             if 4 < minor {
                 return Packing::Refused(Refusal::Version);
             }

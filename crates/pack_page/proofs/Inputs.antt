@@ -18,11 +18,13 @@ unfolding packPrinted outputOf
 input-short input h = rw (ne-eqb (length input) 4104 h)
 
 -- the page, as the code lends it
-pub input-packed : (input : List ℕ) (base n : ℕ) (x : Packed) → length input ≡ 4104 → base ≡ wordAt 0 input → n ≡ 4096 → x ≡ packOf base n (take (length input - 8) (drop 8 input)) →
+pub input-packed : (input : List ℕ) (base n : ℕ) (x : Packed) → length input ≡ 4104 → base ≡ wordAt 0 input → n ≡ 4096 →
+    x ≡ packOf base n (take (length input - 8) (drop 8 input)) →
     outputOf x ≡ packPrinted input
 unfolding packPrinted
 input-packed input base n x l b m e =
-    let t : take (length input - 8) (drop 8 input) ≡ drop 8 input = take-all (length input - 8) (drop 8 input) (omega (arith, length-drop 8 input)) in
+    let t : take (length input - 8) (drop 8 input) ≡ drop 8 input = take-all (length input - 8) (drop 8 input)
+    (omega (arith, length-drop 8 input)) in
     rw (eq-eqb (length input) 4104 l) (ap outputOf (e ∙ rw (t, b, m)))
 
 -- The start of an input decides its output if it is longer than a valid input: a longer one is refused for any continuation.

@@ -1,6 +1,6 @@
 // Packs or mends the pages of the numbered cases of data/, in turn, up to the first number without a case. A case is four words: 0 to pack or
 // 1 to mend, B, the target's length and the byte that fills the target; then a page of any length. Prints the answer, the mark
-// (`cases::mark`) of the page afterwards, for a packed page also the mark after it is packed again, and the listing of the result.
+// (`vector_io::mark`) of the page afterwards, for a packed page also the mark after it is packed again, and the listing of the result.
 use libc::STDOUT_FILENO;
 use mend::Mended;
 use pack::Packing;
@@ -22,7 +22,7 @@ fn print_refused(code: Refusal) {
 
 fn print_mark(name: &[u8], page: &[u8]) {
     io::write_all(STDOUT_FILENO, name);
-    cases::print_word(cases::mark(page));
+    vector_io::print_word(vector_io::mark(page));
     io::write_all(STDOUT_FILENO, b"\n");
 }
 
@@ -97,14 +97,14 @@ fn print_case(input: &mut [u8]) {
         return;
     }
     let mut room = filled((words::word_at(input, 24) % 256) as u8);
-    let n = cases::length_at(input, 16, 8192);
+    let n = vector_io::length_at(input, 16, 8192);
     print_packed(&input[32..], base, &mut room[..n]);
 }
 
 // Runs case `n`. Returns false if there is no such case.
 fn print_numbered(n: u64) -> bool {
     let mut input = [0u8; 8225];
-    let length = cases::load(n, &mut input);
+    let length = vector_io::load(n, &mut input);
     if length == 0 {
         return false;
     }

@@ -22,9 +22,9 @@ ghost use Rattle.lookup.specs.Lookup.{spanOf, spanIn};
 ghost use Rattle.field_lookup.specs.Fields.{firstIn, restIn, nthIn, ofTag, fieldAs};
 ghost use Rattle.field_lookup.specs.Steps.{shownFrom, startAt, nthPlace, tagPlace};
 ghost use Rattle.lookup.specs.Consoles.{consoleNamed};
-ghost use Rattle.kept.specs.Kept.{keptFor};
-ghost use Rattle.text_lines.specs.Text.{lay, listingOf};
-ghost use Rattle.lists.specs.Description.{descriptionOf};
+ghost use Rattle.manifest_extent.specs.Kept.{keptFor};
+ghost use Rattle.text_lines.specs.Text.{layClipped, listingOf};
+ghost use Rattle.writer_checks.specs.Description.{descriptionOf};
 ghost use Rattle.writer_rules.specs.Write.{descriptionFits};
 ghost use Rattle.writer_rules.specs.Wrote.{pageAfter};
 ghost use Rattle.versions.specs.Version.{versionOk, later, agreed};
@@ -96,7 +96,7 @@ pub extern "C" fn pbeam_read(page: &[u8], base: u64, edition: u64, view: &mut [u
     ensures { λ r. ⌜ now (view .exit) ≡ answerWords base (now (page .entry)) (readOf edition base (now (page .entry))) ⌝ }
 {
     match reader::judge_page(page, base, edition) {
-        Verdict::Fine(w) => {
+        Verdict::Passed(w) => {
             show(page, base, w, reader::edition_read(edition, w), view);
             0
         }
@@ -230,7 +230,7 @@ pub extern "C" fn pbeam_kept_for(page: &[u8], view: &[u64; 15]) -> u64
 #[no_mangle]
 pub extern "C" fn pbeam_listing(page: &[u8], base: u64, edition: u64, text: &mut [u8]) -> usize
     ensures { λ r. ⌜ r ≡ length (listingOf (readOf edition base (now (page .entry)))) ⌝ }
-    ensures { λ _. ⌜ now (text .exit) ≡ lay 0 (listingOf (readOf edition base (now (page .entry)))) (now (text .entry)) ⌝ }
+    ensures { λ _. ⌜ now (text .exit) ≡ layClipped 0 (listingOf (readOf edition base (now (page .entry)))) (now (text .entry)) ⌝ }
 {
     text::list(page, base, edition, text)
 }
@@ -283,7 +283,7 @@ pub extern "C" fn pbeam_is_later(a: u64, b: u64) -> bool
 
 // ---- Boot ----
 
-// Cold boot with x0 to x3, on a monitor of at most `most` CPUs, with `kept` kept bytes at the start of the page, which is at physical
+// Cold boot with x0 to x3, on a monitor of at most `maxcpus` CPUs, with `manifest_extent` kept bytes at the start of the page, which is at physical
 // address x3. Returns 0 or the code.
 #[no_mangle]
 pub extern "C" fn pbeam_cold_boot(
@@ -292,14 +292,14 @@ pub extern "C" fn pbeam_cold_boot(
     x1: u64,
     x2: u64,
     x3: u64,
-    most: u64,
+    maxcpus: u64,
     kept: u64,
     page: &[u8],
 ) -> i32
-    ensures { λ r. ⌜ r ≡ coldCode (recordOf (now (image .entry))) x0 x1 x2 x3 most kept (now (page .entry)) ⌝ }
-    ensures { λ r. ⌜ now (image .exit) ≡ recordWords (coldNext (recordOf (now (image .entry))) x0 x1 x2 x3 most kept (now (page .entry))) ⌝ }
+    ensures { λ r. ⌜ r ≡ coldCode (recordOf (now (image .entry))) x0 x1 x2 x3 maxcpus kept (now (page .entry)) ⌝ }
+    ensures { λ r. ⌜ now (image .exit) ≡ recordWords (coldNext (recordOf (now (image .entry))) x0 x1 x2 x3 maxcpus kept (now (page .entry))) ⌝ }
 {
-    let booted = images::record_of(image).cold(x0, x1, x2, x3, most, kept, page);
+    let booted = images::record_of(image).cold(x0, x1, x2, x3, maxcpus, kept, page);
     let next = booted.next;
     *image = images::record_words(next);
     let code = booted.code;
@@ -532,7 +532,16 @@ pub extern "C" fn pbeam_token_signing(
 {
     // `&key[..]` for the same reason as in pbeam_platform_token.
     let record = images::record_of(state);
-    let answer = signing::token_signing_on(record, page, queue, &key[..], opcode, pa, size, curve);
+    let answer = signing::token_signing_image(
+        record,
+        page,
+        queue,
+        &key[..],
+        opcode,
+        pa,
+        size,
+        curve,
+    );
     *out = images::registers(answer);
 }
 
@@ -571,7 +580,7 @@ pub extern "C" fn pbeam_forward(state: &[u64; 5], x1: u64) -> u64
 pub extern "C" fn pbeam_sign(queue: &mut [u64; 210], signature: &[u8], out: &mut [u64; 3])
     ensures { λ _. ⌜ _≡_ {A = SignLeft} (record { out = now (out .exit); queue = now (queue .exit) }) (signIn (now (queue .entry)) (now (signature .entry))) ⌝ }
 {
-    *out = images::registers(responses::sign_on(queue, signature));
+    *out = images::registers(responses::sign_image(queue, signature));
 }
 
 // Writes the oldest request to `request`, or zeros if no request waits. Returns the number of waiting requests.
@@ -708,7 +717,7 @@ pub extern "C" fn pbeam_call(
         }
         Kind::KeyUpdate => pbeam_key_update(state, width, x1, out, work),
         Kind::Unlisted => {
-            *out = images::registers(codes::answered(Code::Unk, 0, 0));
+            *out = images::registers(codes::answer_with(Code::Unk, 0, 0));
         }
     }
 }

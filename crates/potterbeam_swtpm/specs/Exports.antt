@@ -15,8 +15,8 @@ use Rattle.state_messages.specs.declared.MessageWritten.{MessageWritten}
 use Rattle.state_messages.specs.declared.MessageWritten.the-variants as wrote
 use Rattle.state_blobs.specs.Collect.{Outcome, collect}
 use Rattle.state_blobs.specs.Blobs.{Offer, Held}
-use Rattle.state_blobs.specs.declared.Verdict.{Verdict}
-use Rattle.state_blobs.specs.declared.Verdict.the-variants as verdict
+use Rattle.state_blobs.specs.declared.CollectVerdict.{CollectVerdict}
+use Rattle.state_blobs.specs.declared.CollectVerdict.the-variants as verdict
 use Rattle.state_blobs.specs.declared.Collector.{Collector}
 
 -- the number of a refusal; 0 is the answer of an accepted call
@@ -73,7 +73,7 @@ pub record CollectLeft : Type 0 where
   pub buffer : List ℕ
 
 -- after a call of the collector: its words are set only if the response was accepted
-unfoldable pub verdictLeft : Verdict → Collector → List ℕ → List ℕ → CollectLeft
+unfoldable pub verdictLeft : CollectVerdict → Collector → List ℕ → List ℕ → CollectLeft
 verdictLeft verdict.Accepted c image b = record { answer = 0; image = 1 ∷ c .total ∷ c .held ∷ []; buffer = b }
 verdictLeft (verdict.Refused why) c image b = record { answer = stateRefusalNumber why; image = image; buffer = b }
 

@@ -1,7 +1,7 @@
 // State blobs for C and Rust; every function has the prefix pbeam_swtpm. A collector is a lent image of three 32-bit words. A call that can be refused
 // returns 0 or the number of the refusal, and a refused call leaves every lent word and byte unchanged.
+use state_blobs::CollectVerdict;
 use state_blobs::Collector;
-use state_blobs::Verdict;
 use state_messages::MessageWritten;
 use state_messages::RequestRead;
 use state_messages::ResponseHeader;
@@ -9,7 +9,7 @@ use state_messages::ResponseRead;
 use state_messages::StateRefusal;
 use state_messages::StateRequest;
 ghost use mathlib.Core.Path.{_≡_};
-ghost use Rattle.state_messages.specs.Messages.{readRequest, readResponse, toldOf, writeRequest, writeResponse};
+ghost use Rattle.state_messages.specs.Messages.{readRequest, readResponse, responseRead, writeRequest, writeResponse};
 ghost use Rattle.state_blobs.specs.Collect.{isComplete, collect};
 ghost use Rattle.potterbeam_swtpm.specs.Exports.{stateRefusalNumber, PartsLeft, requestLeft, responseLeft, WriteLeft, writeLeft, CollectLeft, collectLeft, collectorOf};
 
@@ -86,7 +86,7 @@ pub extern "C" fn pbeam_swtpm_read_response(
     parts: &mut [u32; 4],
 ) -> u32
     ensures { λ r. ⌜ _≡_ {A = PartsLeft} (record { answer = r; parts = now (parts .exit) })
-        (responseLeft (toldOf (readResponse largest (now (message .entry)))) (now (parts .entry))) ⌝ }
+        (responseLeft (responseRead (readResponse largest (now (message .entry)))) (now (parts .entry))) ⌝ }
 {
     let read = state_messages::read_response(message, largest);
     match read {
@@ -153,11 +153,11 @@ pub extern "C" fn pbeam_swtpm_collect(
     let verdict = collected.verdict;
     let next = collected.collector;
     match verdict {
-        Verdict::Accepted => {
+        CollectVerdict::Accepted => {
             *image = [1, next.total, next.held];
             0
         }
-        Verdict::Refused(why) => refusal_number(why),
+        CollectVerdict::Refused(why) => refusal_number(why),
     }
 }
 

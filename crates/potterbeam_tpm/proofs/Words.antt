@@ -25,7 +25,8 @@ session-back Open = refl
 
 -- the word after a call reads as the session after it, even if no session has that word
 pub word-after : (word : ℕ) (a : Arguments) (memory response : List ℕ) (forbidden fault : ℕ) →
-    tpmSessionOf (commIn word a memory response forbidden fault .session) ≡ commOf (tpmSessionOf word) a memory response (says forbidden) (says fault) .session
+    tpmSessionOf (commIn word a memory response forbidden fault .session) ≡ commOf (tpmSessionOf word) a memory response (says forbidden)
+    (says fault) .session
 unfolding commIn commLeft
 word-after word a memory response forbidden fault =
     let t : CommStep = commOf (tpmSessionOf word) a memory response (says forbidden) (says fault) in go (isSuccess (t .code)) refl
@@ -60,6 +61,10 @@ open-by l A B f (inr p) = inr (p .0, f (p .1))
 pub word-open-exactly : (w : ℕ) (xs : List ExportedCall) → WordOpenExactly w xs
 word-open-exactly w xs =
     record {
-      opens = λ p. open-word (wordOver w xs) (words-over w xs ∙ open-exactly (tpmSessionOf w) (commCalls xs) .opens (open-by _ _ _ (word-open w) p));
-      only = λ n. open-by _ _ _ (open-word w) (open-exactly (tpmSessionOf w) (commCalls xs) .only (sym (words-over w xs) ∙ word-open (wordOver w xs) n));
+      opens =
+          λ p. open-word (wordOver w xs) (words-over w xs ∙ open-exactly (tpmSessionOf w) (commCalls xs) .opens
+          (open-by _ _ _ (word-open w) p));
+      only =
+          λ n. open-by _ _ _ (open-word w) (open-exactly (tpmSessionOf w) (commCalls xs) .only
+          (sym (words-over w xs) ∙ word-open (wordOver w xs) n));
     }

@@ -12,8 +12,9 @@ use Rattle.tpm.specs.ReturnCodes.{hcallNumber, isSuccess}
 use Rattle.tpm.specs.Comm.{CommStep, commOf}
 
 -- ---- the arguments, in 003's order
-abbrev pub argumentsOf : ℕ → ℕ → ℕ → ℕ → ℕ → Arguments
-argumentsOf operation inbuffer insize outbuffer outsize = record { operation = operation; inbuffer = inbuffer; insize = insize; outbuffer = outbuffer; outsize = outsize }
+abbrev pub argumentsOf : (operation inbuffer insize outbuffer outsize : ℕ) → Arguments
+argumentsOf operation inbuffer insize outbuffer outsize =
+    record { operation = operation; inbuffer = inbuffer; insize = insize; outbuffer = outbuffer; outsize = outsize }
 
 -- ---- the session as a word: 0 none, any other number open
 unfoldable pub tpmSessionOf : ℕ → TpmSession
@@ -33,7 +34,13 @@ pub record CommLeft : Type 0 where
 
 -- what a call leaves, from its step and the session's word at entry
 unfoldable pub commLeft : CommStep → ℕ → CommLeft
-commLeft t word = record { r3 = hcallNumber (t .code); r4 = t .r4; session = cond (isSuccess (t .code)) (tpmSessionWord (t .session)) word; memory = t .memory }
+commLeft t word =
+    record {
+      r3 = hcallNumber (t .code);
+      r4 = t .r4;
+      session = cond (isSuccess (t .code)) (tpmSessionWord (t .session)) word;
+      memory = t .memory;
+    }
 
 -- what the function leaves: its return value, then each lent word and the memory at exit
 abbrev pub leftBy : ℤ → ℕ → ℕ → List ℕ → CommLeft

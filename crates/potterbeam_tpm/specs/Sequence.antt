@@ -22,7 +22,9 @@ wordOver w (x ∷ xs) = wordOver (commIn w (x .asked) (x .memory) (x .response) 
 -- the same calls as `tpm::comm` sees them
 unfoldable pub commCalls : List ExportedCall → List CommCall
 commCalls [] = []
-commCalls (x ∷ xs) = record { asked = x .asked; memory = x .memory; response = x .response; forbidden = says (x .forbidden); fault = says (x .fault) } ∷ commCalls xs
+commCalls (x ∷ xs) =
+    record { asked = x .asked; memory = x .memory; response = x .response; forbidden = says (x .forbidden); fault = says (x .fault) } ∷
+    commCalls xs
 
 -- TP9: the word is not 0 exactly if the last accepted operation is execute, or no call was accepted and it was not 0 at the start
 pub record WordOpenExactly (w : ℕ) (xs : List ExportedCall) : Type 0 where

@@ -15,7 +15,8 @@ use Rattle.queue.specs.declared.Queue.{Queue}
 use Rattle.queue.specs.declared.Waiting.the-variants.{None, Some}
 use Rattle.queue.specs.Queue.{Lists, SigningStep, queued, waiting, listsOf, noRequest, oldestRequest, waitingOf, oldestOf}
 
-first-of : (n : ℕ) (r : Request) (rest : List Request) → 1 ≤ n → (waitingOf (take n (r ∷ rest)) ≡ Some) × (oldestRequest (take n (r ∷ rest)) ≡ r)
+first-of : (n : ℕ) (r : Request) (rest : List Request) → 1 ≤ n →
+    (waitingOf (take n (r ∷ rest)) ≡ Some) × (oldestRequest (take n (r ∷ rest)) ≡ r)
 unfolding waitingOf oldestRequest
 first-of zero r rest h = absurd (omega arith)
 first-of (suc n) r rest h = (ap (λ (b : Bool). cond b None Some) (ne-eqb (length (take (suc n) (r ∷ rest))) 0 (λ e. omega arith)), refl)
@@ -23,7 +24,9 @@ first-of (suc n) r rest h = (ap (λ (b : Bool). cond b None Some) (ne-eqb (lengt
 -- an answer of OK comes from a code of OK
 pub queued-ok : (k : Code) (new : SigningStep) (page : List ℕ) (q : Lists) → queued k new page q .answer .code ≡ Ok → k ≡ Ok
 unfolding queued answerOf
-queued-ok k new page q = if-ok-by (λ (s : SigningStep). s .answer .code ≡ Ok → k ≡ Ok) k new (record { answer = answerOf k 0 0; page = page; queue = q }) (λ e h. e) (λ e h. h)
+queued-ok k new page q =
+    if-ok-by (λ (s : SigningStep). s .answer .code ≡ Ok → k ≡ Ok) k new (record { answer = answerOf k 0 0; page = page; queue = q })
+    (λ e h. e) (λ e h. h)
 
 module _ (q : Queue) where
   -- "The oldest request, all its fields, can be asked for": with a count of 1 or more it is the first of the array
@@ -33,6 +36,7 @@ module _ (q : Queue) where
   oldest-acts r rest e h = let f = first-of (q .requests .count) r rest h in rw (e, f .0, f .1)
 
   -- "none is a named answer": with a count of 0
-  pub oldest-none : q .requests .count ≡ 0 → oldestOf (listsOf q .requests) ≡ record { waiting = None; request = record { algorithm = 0; granule = 0; ticket = 0; hashid = 0; hash = replicate 48 0 } }
+  pub oldest-none : q .requests .count ≡ 0 → oldestOf (listsOf q .requests) ≡
+      record { waiting = None; request = record { algorithm = 0; granule = 0; ticket = 0; hashid = 0; hash = replicate 48 0 } }
   unfolding listsOf waiting waitingOf oldestOf oldestRequest noRequest
   oldest-none h = rw h

@@ -5,7 +5,8 @@ use mathlib.Core.List.{List, [], _∷_, _++_, map, map-append}
 use native.Mathlib.Nat.{zero-add, zero-sub, sub-zero, suc-sub-suc}
 use native.Mathlib.Numerals.{add-one}
 use native.Mathlib.Omega.{arith}
-use lib.ListN.{length, take, drop, getD, set, replicate, length-append, length-take, length-drop, length-replicate, length-map, List·getD-map}
+use lib.ListN.{length, take, drop, getD, set, replicate, length-append, length-take, length-drop, length-replicate, length-map}
+use lib.ListN.{List·getD-map}
 use lib.Seq.{take-at, take-length, length-take-le, take-suc, set-append-seam, append-snoc, getD-take, getD-drop}
 use Rattle.words.specs.Word.{splice, laid}
 use Rattle.words.proofs.Store.{bytes-in}
@@ -13,7 +14,8 @@ use Rattle.queue.specs.declared.Request.{Request}
 use Rattle.queue.specs.declared.Response.{Response}
 use Rattle.queue.specs.declared.Requests.{Requests}
 use Rattle.queue.specs.declared.Responses.{Responses}
-use Rattle.queue.specs.Queue.{Signed, Lists, waiting, held, ready, signedIn, listsOf, appended, noRequest, noResponse, padTo, requestsHolding, responseHolding, responsesHolding, queueHolding}
+use Rattle.queue.specs.Queue.{Signed, Lists, waiting, waitingItems, waitingSigned, signedIn, listsOf, appended, noRequest, noResponse}
+use Rattle.queue.specs.Queue.{padTo, requestsHolding, responseHolding, responsesHolding, queueHolding}
 use Rattle.queue.proofs.Sides.{taken-all, joined-room, joined-full}
 
 module _ {A : Type 0} where
@@ -23,7 +25,8 @@ module _ {A : Type 0} where
   pad-set n z x l h =
       let k : ℕ = n - length (l ++ (x ∷ [])) in
       let e : n - length l ≡ suc k = omega (arith, length-append l (x ∷ [])) in
-      ap (λ (m : ℕ). set (l ++ replicate m z) (length l) x) e ∙ set-append-seam l z (replicate k z) x ∙ sym (append-snoc l x (replicate k z))
+      ap (λ (m : ℕ). set (l ++ replicate m z) (length l) x) e ∙ set-append-seam l z (replicate k z) x ∙
+      sym (append-snoc l x (replicate k z))
 
   drop-replicate : (k n : ℕ) (z : A) → drop k (replicate n z) ≡ replicate (n - k) z
   drop-replicate zero n z = ap (λ (m : ℕ). replicate m z) (sym (sub-zero n))
@@ -36,7 +39,8 @@ module _ {A : Type 0} where
   fill-none z x items e h = e ∙ rw h
 
   module _ (z : A) (l : List A) where
-    pub fill-more : length l ≤ 8 → (i : ℕ) (items : List A) (x d : A) → items ≡ padTo 8 z (take i l) → i < length l → x ≡ getD l i d → set items i x ≡ padTo 8 z (take (i + 1) l)
+    pub fill-more : length l ≤ 8 → (i : ℕ) (items : List A) (x d : A) → items ≡ padTo 8 z (take i l) → i < length l → x ≡ getD l i d →
+        set items i x ≡ padTo 8 z (take (i + 1) l)
     fill-more room i items x d e h g =
         let m : length (take i l) ≡ i = length-take-le i l (omega arith) in
         rw (e, g, add-one, take-suc l i d h)
@@ -50,13 +54,15 @@ pad-laid : (n : ℕ) (l : List ℕ) → length l ≤ n → laid 0 l (replicate n
 unfolding padTo splice
 pad-laid n l h = bytes-in 0 l (replicate n 0) (omega (arith, length-replicate {A = ℕ} n 0)) ∙ rw (zero-add, drop-replicate)
 
-pub signed-laid : (r : Response) (n : ℕ) (t : List ℕ) → length (r .signature) ≡ 104 → n ≡ length (signedIn r .signature) → t ≡ laid 0 (take n (r .signature)) (replicate 104 0) →
+pub signed-laid : (r : Response) (n : ℕ) (t : List ℕ) → length (r .signature) ≡ 104 → n ≡ length (signedIn r .signature) →
+    t ≡ laid 0 (take n (r .signature)) (replicate 104 0) →
     record { granule = r .granule; ticket = r .ticket; len = n; signature = t } ≡ responseHolding (signedIn r)
 unfolding signedIn responseHolding
 signed-laid r n t h e p =
     let d : List ℕ = take (r .len) (r .signature) in
     let k : take n (r .signature) ≡ d = ap (λ (i : ℕ). take i (r .signature)) e ∙ taken-all (r .len) (r .signature) in
-    let z : t ≡ padTo 104 0 d = p ∙ ap (λ (l : List ℕ). laid 0 l (replicate 104 0)) k ∙ pad-laid 104 d (omega (arith, length-take (r .len) (r .signature))) in
+    let z : t ≡ padTo 104 0 d = p ∙ ap (λ (l : List ℕ). laid 0 l (replicate 104 0)) k ∙
+    pad-laid 104 d (omega (arith, length-take (r .len) (r .signature))) in
     rw (z, e)
 
 -- ---- the requests: n wait, and those after the first g are moved to the front, one by one
@@ -77,46 +83,56 @@ module _ (s : Requests) (eight : length (s .items) ≡ 8) (n g : ℕ) (counted :
       fill-more noRequest moved (omega (arith, moved-length)) i items _ d e (omega (arith, moved-length))
       (sym (getD-drop g (take n (s .items)) i d ∙ getD-take n (s .items) (g + i) d (omega arith)))
 
-  pub requests-all : (i : ℕ) (items : List Request) → items ≡ padTo 8 noRequest (take i moved) → i ≡ n - g → record { items = items; count = n - g } ≡ requestsHolding (drop g (waiting s))
+  pub requests-all : (i : ℕ) (items : List Request) → items ≡ padTo 8 noRequest (take i moved) → i ≡ n - g →
+      record { items = items; count = n - g } ≡ requestsHolding (drop g (waiting s))
   unfolding requestsHolding
   requests-all i items e h = rw (fill-all noRequest moved i items e (h ∙ sym moved-length), ← moved-length, moved-waiting)
 
-  pub requests-none : (items : List Request) → items ≡ padTo 8 noRequest [] → n ≤ g → record { items = items; count = 0 } ≡ requestsHolding (drop g (waiting s))
+  pub requests-none : (items : List Request) → items ≡ padTo 8 noRequest [] → n ≤ g →
+      record { items = items; count = 0 } ≡ requestsHolding (drop g (waiting s))
   requests-none items e h =
       let k : 0 ≡ n - g = omega arith in
       ap (λ (j : ℕ). record { items = items; count = j }) k ∙ requests-all 0 items e k
 
 -- ---- the responses, each with zeros after its signature
-module _ (s : Responses) (eight : length (s .items) ≡ 8) (n g : ℕ) (counted : n ≡ length (held s)) (within : n ≤ 8) where
+module _ (s : Responses) (eight : length (s .items) ≡ 8) (n g : ℕ) (counted : n ≡ length (waitingItems s)) (within : n ≤ 8) where
   abbrev behind : List Signed
   behind = drop g (map signedIn (take n (s .items)))
 
   behind-length : length behind ≡ n - g
-  behind-length = length-drop g (map signedIn (take n (s .items))) ∙ ap (λ (k : ℕ). k - g) (length-map (take n (s .items)) signedIn ∙ length-take-le n (s .items) (omega arith))
+  behind-length =
+      length-drop g (map signedIn (take n (s .items))) ∙ ap (λ (k : ℕ). k - g)
+      (length-map (take n (s .items)) signedIn ∙ length-take-le n (s .items) (omega arith))
 
   held-length : length (map responseHolding behind) ≡ n - g
   held-length = length-map behind responseHolding ∙ behind-length
 
-  behind-ready : behind ≡ drop g (ready s)
-  unfolding ready held
-  behind-ready = ap (λ (l : List Response). drop g (map signedIn l)) (ap (λ (k : ℕ). take k (s .items)) counted ∙ taken-all (s .count) (s .items))
+  behind-ready : behind ≡ drop g (waitingSigned s)
+  unfolding waitingSigned waitingItems
+  behind-ready =
+      ap (λ (l : List Response). drop g (map signedIn l)) (ap (λ (k : ℕ). take k (s .items)) counted ∙ taken-all (s .count) (s .items))
 
   pub responses-more : (i : ℕ) (items : List Response) (x d : Response) → x ≡ responseHolding (signedIn (getD (s .items) (g + i) d)) →
-      items ≡ padTo 8 noResponse (take i (map responseHolding behind)) → i < n - g → set items i x ≡ padTo 8 noResponse (take (i + 1) (map responseHolding behind))
+      items ≡ padTo 8 noResponse (take i (map responseHolding behind)) → i < n - g →
+      set items i x ≡ padTo 8 noResponse (take (i + 1) (map responseHolding behind))
   responses-more i items x d y e h =
-      fill-more noResponse (map responseHolding behind) (omega (arith, held-length)) i items x (responseHolding (signedIn d)) e (omega (arith, held-length))
+      fill-more noResponse (map responseHolding behind) (omega (arith, held-length)) i items x (responseHolding (signedIn d)) e
+      (omega (arith, held-length))
       (y
       ∙ sym
       (List·getD-map responseHolding behind i (signedIn d)
       ∙ ap responseHolding
-      (getD-drop g (map signedIn (take n (s .items))) i (signedIn d) ∙ List·getD-map signedIn (take n (s .items)) (g + i) d ∙ ap signedIn (getD-take n (s .items) (g + i) d (omega arith)))))
+      (getD-drop g (map signedIn (take n (s .items))) i (signedIn d) ∙ List·getD-map signedIn (take n (s .items)) (g + i) d ∙
+      ap signedIn (getD-take n (s .items) (g + i) d (omega arith)))))
 
   pub responses-all : (i : ℕ) (items : List Response) → items ≡ padTo 8 noResponse (take i (map responseHolding behind)) → i ≡ n - g →
-      record { items = items; count = n - g } ≡ responsesHolding (drop g (ready s))
+      record { items = items; count = n - g } ≡ responsesHolding (drop g (waitingSigned s))
   unfolding responsesHolding
-  responses-all i items e h = rw (fill-all noResponse (map responseHolding behind) i items e (h ∙ sym held-length), ← behind-length, behind-ready)
+  responses-all i items e h =
+      rw (fill-all noResponse (map responseHolding behind) i items e (h ∙ sym held-length), ← behind-length, behind-ready)
 
-  pub responses-none : (items : List Response) → items ≡ padTo 8 noResponse [] → n ≤ g → record { items = items; count = 0 } ≡ responsesHolding (drop g (ready s))
+  pub responses-none : (items : List Response) → items ≡ padTo 8 noResponse [] → n ≤ g →
+      record { items = items; count = 0 } ≡ responsesHolding (drop g (waitingSigned s))
   responses-none items e h =
       let k : 0 ≡ n - g = omega arith in
       ap (λ (j : ℕ). record { items = items; count = j }) k ∙ responses-all 0 items e k
@@ -144,14 +160,17 @@ module _ (k : Responses) (l : List Signed) (x : Signed) (e : k ≡ responsesHold
   pub responses-full : 8 ≤ k .count → k ≡ responsesHolding (appended l x)
   responses-full h = e ∙ ap responsesHolding (sym (joined-full l x (omega (arith, counted-responses))))
 
-  pub responses-join : k .count < 8 → record { items = set (k .items) (k .count) (responseHolding x); count = k .count + 1 } ≡ responsesHolding (appended l x)
+  pub responses-join : k .count < 8 → record { items = set (k .items) (k .count) (responseHolding x); count = k .count + 1 } ≡
+      responsesHolding (appended l x)
   unfolding responsesHolding
   responses-join h =
       let m : length l < 8 = omega (arith, counted-responses) in
       let n : length (map responseHolding l) ≡ length l = length-map l responseHolding in
-      let s : set (padTo 8 noResponse (map responseHolding l)) (length l) (responseHolding x) ≡ padTo 8 noResponse (map responseHolding (l ++ (x ∷ []))) =
+      let s : set (padTo 8 noResponse (map responseHolding l)) (length l) (responseHolding x) ≡ padTo 8 noResponse
+      (map responseHolding (l ++ (x ∷ []))) =
       ap (λ (i : ℕ). set (padTo 8 noResponse (map responseHolding l)) i (responseHolding x)) (sym n)
-      ∙ pad-set 8 noResponse (responseHolding x) (map responseHolding l) (omega arith) ∙ ap (padTo 8 noResponse) (sym (map-append responseHolding l (x ∷ [])))
+      ∙ pad-set 8 noResponse (responseHolding x) (map responseHolding l) (omega arith) ∙
+      ap (padTo 8 noResponse) (sym (map-append responseHolding l (x ∷ [])))
       in
       rw (e, joined-room l x m, s, length-append)
 
@@ -166,7 +185,7 @@ signed-back [] = refl
 signed-back (s ∷ l) = rw (pad-back 104 (length (s .signature)) 0 (s .signature) refl, signed-back l)
 
 pub lists-back : (q : Lists) → listsOf (queueHolding q) ≡ q
-unfolding listsOf waiting ready held queueHolding requestsHolding responsesHolding
+unfolding listsOf waiting waitingSigned waitingItems queueHolding requestsHolding responsesHolding
 lists-back q =
     rw (
       pad-back 8 (length (q .requests)) noRequest (q .requests) refl,

@@ -8,7 +8,7 @@ use Rattle.codes.specs.declared.Code.{Code}
 use Rattle.codes.specs.declared.Code.the-variants.{Ok}
 use Rattle.codes.proofs.Gates.{if-ok-by}
 use Rattle.queue.specs.declared.Queue.{Queue}
-use Rattle.queue.specs.declared.Queued.{Queued}
+use Rattle.queue.specs.declared.QueueResult.{QueueResult}
 use Rattle.queue.specs.Queue.{Lists, SigningStep, SigningExit, listsOf, queueHolding, queued, queueNext, signingExit, exitOf}
 use Rattle.queue.proofs.Holding.{lists-back}
 
@@ -20,7 +20,8 @@ module _ (k : Code) (page : List ℕ) (lists : Lists) where
 
 module _ (k : Code) (page : List ℕ) (lists : Lists) (old : Queue) where
   -- a refusal
-  pub refuses : (new : SigningStep) (c : Code) (r : Queued) → r ≡ record { answer = answerOf c 0 0; queue = old } → k ≡ c → isOk c ≡ false → signingExit r page ≡ exitOf old (queued k new page lists)
+  pub refuses : (new : SigningStep) (c : Code) (r : QueueResult) → r ≡ record { answer = answerOf c 0 0; queue = old } → k ≡ c →
+      isOk c ≡ false → signingExit r page ≡ exitOf old (queued k new page lists)
   unfolding queued exitOf queueNext answerOf
   refuses new c r p e h = rw (p, e, h) (rw h)
 
@@ -34,4 +35,5 @@ module _ (k : Code) (page : List ℕ) (lists : Lists) (old : Queue) where
 -- the lists of the next queue
 pub next-lists : (k : Code) (new : Lists) (old : Queue) → listsOf (queueNext k new old) ≡ ifOk k new (listsOf old)
 unfolding queueNext
-next-lists k new old = if-ok-by (λ (q : Queue). listsOf q ≡ ifOk k new (listsOf old)) k (queueHolding new) old (λ h. rw h (lists-back new)) (λ h. rw h)
+next-lists k new old =
+    if-ok-by (λ (q : Queue). listsOf q ≡ ifOk k new (listsOf old)) k (queueHolding new) old (λ h. rw h (lists-back new)) (λ h. rw h)

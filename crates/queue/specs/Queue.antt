@@ -13,7 +13,7 @@ use Rattle.queue.specs.declared.Response.{Response}
 use Rattle.queue.specs.declared.Requests.{Requests}
 use Rattle.queue.specs.declared.Responses.{Responses}
 use Rattle.queue.specs.declared.Queue.{Queue}
-use Rattle.queue.specs.declared.Queued.{Queued}
+use Rattle.queue.specs.declared.QueueResult.{QueueResult}
 use Rattle.queue.specs.declared.Oldest.{Oldest}
 use Rattle.queue.specs.declared.Waiting.{Waiting}
 use Rattle.queue.specs.declared.Waiting.the-variants.{None, Some}
@@ -35,20 +35,20 @@ unfoldable pub waiting : Requests → List Request
 waiting side = take (side .count) (side .items)
 
 -- the responses that wait, with their arrays
-unfoldable pub held : Responses → List Response
-held side = take (side .count) (side .items)
+unfoldable pub waitingItems : Responses → List Response
+waitingItems side = take (side .count) (side .items)
 
 -- a response with its signature as a list
 unfoldable pub signedIn : Response → Signed
 signedIn r = record { granule = r .granule; ticket = r .ticket; signature = take (r .len) (r .signature) }
 
 -- the responses that wait
-unfoldable pub ready : Responses → List Signed
-ready side = map signedIn (held side)
+unfoldable pub waitingSigned : Responses → List Signed
+waitingSigned side = map signedIn (waitingItems side)
 
 -- both sides of a queue as lists
 unfoldable pub listsOf : Queue → Lists
-listsOf q = record { requests = waiting (q .requests); responses = ready (q .responses) }
+listsOf q = record { requests = waiting (q .requests); responses = waitingSigned (q .responses) }
 
 -- the list with x at its end if it has fewer than eight entries, otherwise unchanged
 unfoldable pub appended : {A : Type 0} → List A → A → List A
@@ -118,7 +118,7 @@ pub record SigningExit : Type 0 where
   pub queue : Queue
 
 -- the same from the returned value and the page at exit
-abbrev pub signingExit : Queued → List ℕ → SigningExit
+abbrev pub signingExit : QueueResult → List ℕ → SigningExit
 signingExit r page = record { answer = r .answer; page = page; queue = r .queue }
 
 -- after an OK the queue holds what then waits and nothing else; after a refusal it is unchanged

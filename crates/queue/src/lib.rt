@@ -7,7 +7,7 @@ ghost use mathlib.Core.List.{[]};
 ghost use Prim.Native.Nat.{_≤_};
 ghost use lib.ListN.{length, drop, getD};
 ghost use Rattle.codes.specs.Codes.{answerOf};
-ghost use Rattle.queue.specs.Queue.{waiting, held, ready, signedIn, listsOf, appended, noRequest, noResponse, oldestRequest, oldestOf};
+ghost use Rattle.queue.specs.Queue.{waiting, waitingItems, waitingSigned, signedIn, listsOf, appended, noRequest, noResponse, oldestRequest, oldestOf};
 ghost use Rattle.queue.specs.Queue.{requestsHolding, responseHolding, responsesHolding, queueHolding};
 
 // A request to sign a realm's token. `algorithm` and `hashid` are 4-byte numbers.
@@ -46,7 +46,7 @@ pub struct Queue {
 }
 
 // The result of a call on the queue: the answer and the next queue.
-pub struct Queued {
+pub struct QueueResult {
     pub answer: Answer,
     pub queue: Queue,
 }
@@ -106,11 +106,11 @@ fn no_response() -> Response
 }
 
 // Refuses a call on the queue: zeros in x1 and x2, the queue unchanged.
-pub fn refused(code: Code, queue: Queue) -> Queued
+pub fn refused(code: Code, queue: Queue) -> QueueResult
     ensures { λ r. ⌜ r ≡ record { answer = answerOf code 0 0; queue = queue } ⌝ }
 {
-    Queued {
-        answer: codes::answered(code, 0, 0),
+    QueueResult {
+        answer: codes::answer_with(code, 0, 0),
         queue,
     }
 }
@@ -128,7 +128,7 @@ pub fn request_count(side: Requests) -> usize
 
 // Returns the number of responses that wait.
 pub fn response_count(side: Responses) -> usize
-    ensures { λ r. ⌜ (r ≡ length (held side)) × (r ≤ 8) ⌝ }
+    ensures { λ r. ⌜ (r ≡ length (waitingItems side)) × (r ≤ 8) ⌝ }
 {
     let n = side.count;
     if 8 < n {
@@ -149,7 +149,7 @@ pub fn signature_len(response: Response) -> usize
 }
 
 // Returns the response with zeros after its signature.
-fn only_signed(response: Response) -> Response
+fn clear_after_signature(response: Response) -> Response
     ensures { λ r. ⌜ r ≡ responseHolding (signedIn response) ⌝ }
 {
     let n = signature_len(response);
@@ -185,7 +185,7 @@ pub fn requests_from(side: Requests, gone: usize) -> Requests
 
 // Drops the oldest `gone` responses, moves the rest up and zeroes the freed places.
 pub fn responses_from(side: Responses, gone: usize) -> Responses
-    ensures { λ r. ⌜ r ≡ responsesHolding (drop gone (ready side)) ⌝ }
+    ensures { λ r. ⌜ r ≡ responsesHolding (drop gone (waitingSigned side)) ⌝ }
 {
     let n = response_count(side);
     let from = side.items;
@@ -197,13 +197,13 @@ pub fn responses_from(side: Responses, gone: usize) -> Responses
     let count = n - gone;
     for i in 0..count {
         let next = from[gone + i];
-        items[i] = only_signed(next);
+        items[i] = clear_after_signature(next);
     }
     Responses { items, count }
 }
 
 // Returns the queue with zeros in every place where nothing waits.
-pub fn only_waiting(queue: Queue) -> Queue
+pub fn clear_free(queue: Queue) -> Queue
     ensures { λ r. ⌜ r ≡ queueHolding (listsOf queue) ⌝ }
 {
     let requests = queue.requests;
@@ -233,7 +233,7 @@ pub fn join_request(side: Requests, request: Request) -> Requests
 
 // Adds a response at the end if fewer than eight wait; zeroes every place after those that wait.
 pub fn join_response(side: Responses, response: Response) -> Responses
-    ensures { λ r. ⌜ r ≡ responsesHolding (appended (ready side) (signedIn response)) ⌝ }
+    ensures { λ r. ⌜ r ≡ responsesHolding (appended (waitingSigned side) (signedIn response)) ⌝ }
 {
     let kept = responses_from(side, 0);
     let n = kept.count;
@@ -241,7 +241,7 @@ pub fn join_response(side: Responses, response: Response) -> Responses
         return kept;
     }
     let mut items = kept.items;
-    items[n] = only_signed(response);
+    items[n] = clear_after_signature(response);
     Responses {
         items,
         count: n + 1,
@@ -261,7 +261,7 @@ pub fn first_request(side: Requests) -> Request
 
 // Returns the oldest response; zeros if no response waits.
 pub fn first_response(side: Responses) -> Response
-    ensures { λ r. ⌜ r ≡ getD (held side) 0 noResponse ⌝ }
+    ensures { λ r. ⌜ r ≡ getD (waitingItems side) 0 noResponse ⌝ }
 {
     if response_count(side) == 0 {
         return no_response();

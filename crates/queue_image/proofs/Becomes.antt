@@ -29,7 +29,8 @@ module _ (w : List ℕ) (l : length w ≡ 210) (h : Yes (areWords w)) where
   as-it-was = record { lists = refl; whole = l; words = h; exact = λ e. e }
 
   pub joins-requests : (r : Request) → Yes (requestFits r) → length (listsIn w .requests) < 8 →
-      Becomes w (rowJoined requestSide (requestWords r) w) (record { requests = listsIn w .requests ++ (r ∷ []); responses = listsIn w .responses })
+      Becomes w (rowJoined requestSide (requestWords r) w) (record
+      { requests = listsIn w .requests ++ (r ∷ []); responses = listsIn w .responses })
   joins-requests r y n =
       record {
         lists = request-joined w l r y n;
@@ -39,7 +40,8 @@ module _ (w : List ℕ) (l : length w ≡ 210) (h : Yes (areWords w)) where
       }
 
   pub joins-responses : (r : Signed) → Yes (responseFits r) → length (listsIn w .responses) < 8 →
-      Becomes w (rowJoined responseSide (responseWords r) w) (record { requests = listsIn w .requests; responses = listsIn w .responses ++ (r ∷ []) })
+      Becomes w (rowJoined responseSide (responseWords r) w)
+      (record { requests = listsIn w .requests; responses = listsIn w .responses ++ (r ∷ []) })
   joins-responses r y n =
       record {
         lists = response-joined w l r y n;
@@ -48,12 +50,27 @@ module _ (w : List ℕ) (l : length w ≡ 210) (h : Yes (areWords w)) where
         exact = λ e. response-joined-exact w l e r y n;
       }
 
-  pub drops-request : Becomes w (rowDropped requestSide w) (record { requests = drop 1 (listsIn w .requests); responses = listsIn w .responses })
-  drops-request = record { lists = request-dropped w l; whole = dropped-210 ofRequests w l; words = dropped-words requestSide w h; exact = λ e. request-dropped-exact w l e }
+  pub drops-request : Becomes w (rowDropped requestSide w)
+      (record { requests = drop 1 (listsIn w .requests); responses = listsIn w .responses })
+  drops-request =
+      record {
+        lists = request-dropped w l;
+        whole = dropped-210 ofRequests w l;
+        words = dropped-words requestSide w h;
+        exact = λ e. request-dropped-exact w l e;
+      }
 
-  pub drops-response : Becomes w (rowDropped responseSide w) (record { requests = listsIn w .requests; responses = drop 1 (listsIn w .responses) })
-  drops-response = record { lists = response-dropped w l; whole = dropped-210 ofResponses w l; words = dropped-words responseSide w h; exact = λ e. response-dropped-exact w l e }
+  pub drops-response : Becomes w (rowDropped responseSide w)
+      (record { requests = listsIn w .requests; responses = drop 1 (listsIn w .responses) })
+  drops-response =
+      record {
+        lists = response-dropped w l;
+        whole = dropped-210 ofResponses w l;
+        words = dropped-words responseSide w h;
+        exact = λ e. response-dropped-exact w l e;
+      }
 
 -- one move after another
 pub and-then : (w v u : List ℕ) (q : Lists) (f : Lists → Lists) → Becomes w v q → Becomes v u (f (listsIn v)) → Becomes w u (f q)
-and-then w v u q f a b = record { lists = b .lists ∙ ap f (a .lists); whole = b .whole; words = b .words; exact = λ e. b .exact (a .exact e) }
+and-then w v u q f a b =
+    record { lists = b .lists ∙ ap f (a .lists); whole = b .whole; words = b .words; exact = λ e. b .exact (a .exact e) }

@@ -16,7 +16,8 @@ use Rattle.words.proofs.Lists.{bytesOf-length, words-cons, words-append}
 use Rattle.words.proofs.Bytes.{bytes-drop, number-below, words-read}
 use Rattle.queue.specs.declared.Request.{Request}
 use Rattle.queue.specs.Queue.{Signed, signedIn}
-use Rattle.queue_image.specs.Image.{rows, requestIn, heldIn, responseIn, listsIn, requestWords, responseWords, each, areBytes, requestFits, responseFits, eightFit, queueFits}
+use Rattle.queue_image.specs.Image.{rows, requestIn, heldIn, responseIn, listsIn, requestWords, responseWords, each, areBytes}
+use Rattle.queue_image.specs.Image.{requestFits, responseFits, eightFit, queueFits}
 use Rattle.queue_image.specs.Sides.{Side, rowsWaiting, rowsIn, rowJoined, rowDropped}
 use Rattle.queue_image.proofs.Rows.{rows-length, mul-more}
 use Rattle.queue_image.proofs.Inverse.{each-take, each-drop, byte-below}
@@ -72,10 +73,12 @@ response-fits row l h =
     let n : length s ≡ 104 = bytesOf-length (drop 3 row) ∙ omega (arith, length-drop 3 row) in
     both-of _ _
     (two-words row 0 1 h)
-    (both-of _ _ (le-leb (length (take (getD row 2 0) s)) 104 (omega (arith, length-take (getD row 2 0) s))) (each-take _ (getD row 2 0) s (bytes-of (drop 3 row))))
+    (both-of _ _ (le-leb (length (take (getD row 2 0) s)) 104 (omega (arith, length-take (getD row 2 0) s)))
+    (each-take _ (getD row 2 0) s (bytes-of (drop 3 row))))
 
 -- ---- so do the rows of each side
-module _ {A : Type 0} (f : List ℕ → A) (ok : A → Bool) (width : ℕ) (one : (row : List ℕ) → length row ≡ width → Yes (each isWord row) → Yes (ok (f row))) where
+module _ {A : Type 0} (f : List ℕ → A) (ok : A → Bool) (width : ℕ)
+    (one : (row : List ℕ) → length row ≡ width → Yes (each isWord row) → Yes (ok (f row))) where
   rows-fit : (n : ℕ) (v : List ℕ) → width * n ≤ length v → Yes (each isWord v) → Yes (each ok (map f (rows width n v)))
   unfolding rows each
   rows-fit zero v l h = refl
@@ -89,7 +92,8 @@ module _ {A : Type 0} (f : List ℕ → A) (ok : A → Bool) (width : ℕ) (one 
   unfolding eightFit
   side-fits n v l h =
       let m : length (map f (rows width 8 v)) ≡ 8 = length-map (rows width 8 v) f ∙ rows-length width 8 v in
-      both-of _ _ (le-leb (length (take n (map f (rows width 8 v)))) 8 (omega (arith, length-take n (map f (rows width 8 v))))) (each-take ok n (map f (rows width 8 v)) (rows-fit 8 v l h))
+      both-of _ _ (le-leb (length (take n (map f (rows width 8 v)))) 8 (omega (arith, length-take n (map f (rows width 8 v)))))
+      (each-take ok n (map f (rows width 8 v)) (rows-fit 8 v l h))
 
 pub image-fits : (w : List ℕ) → length w ≡ 210 → Yes (areWords w) → Yes (queueFits (listsIn w))
 unfolding queueFits listsIn
@@ -97,7 +101,8 @@ image-fits w l h =
     let e = words-each w h in
     both-of _ _
     (side-fits requestIn requestFits 10 request-fits (getD w 0 0) (drop 2 w) (omega (arith, length-drop 2 w)) (each-drop isWord 2 w e))
-    (side-fits responseIn responseFits 16 response-fits (getD w 1 0) (drop 82 w) (omega (arith, length-drop 82 w)) (each-drop isWord 82 w e))
+    (side-fits responseIn responseFits 16 response-fits (getD w 1 0) (drop 82 w) (omega (arith, length-drop 82 w))
+    (each-drop isWord 82 w e))
 
 -- ---- reading and writing bytes: a part of bytes is bytes, bytes written over bytes are bytes, and a number of n bytes is below 256 ^ n
 pub part-bytes : (off n : ℕ) (s : List ℕ) → Yes (areBytes s) → Yes (areBytes (part off n s))
@@ -106,7 +111,9 @@ part-bytes off n s h = each-take _ n (drop off s) (each-drop _ off s h)
 
 splice-each : (f : ℕ → Bool) (off : ℕ) (vs s : List ℕ) → Yes (each f vs) → Yes (each f s) → Yes (each f (splice off vs s))
 unfolding splice
-splice-each f off vs s a b = each-append f (take off s ++ vs) (drop (off + length vs) s) (each-append f (take off s) vs (each-take f off s b) a) (each-drop f (off + length vs) s b)
+splice-each f off vs s a b =
+    each-append f (take off s ++ vs) (drop (off + length vs) s) (each-append f (take off s) vs (each-take f off s b) a)
+    (each-drop f (off + length vs) s b)
 
 pub splice-bytes : (off : ℕ) (vs s : List ℕ) → Yes (areBytes vs) → Yes (areBytes s) → Yes (areBytes (splice off vs s))
 unfolding areBytes
@@ -133,7 +140,8 @@ unfolding responseWords responseFits
 response-words r h =
     let n : length (r .signature) ≤ 104 = leb-true _ _ (both-l _ _ (both-r _ _ h)) in
     words-append (r .granule ∷ r .ticket ∷ []) (length (r .signature) ∷ wordsOf 13 (r .signature)) (both-l _ _ h)
-    (words-cons (length (r .signature)) (wordsOf 13 (r .signature)) (omega arith) (words-read 13 (r .signature) (byte-below (r .signature) (both-r _ _ (both-r _ _ h)))))
+    (words-cons (length (r .signature)) (wordsOf 13 (r .signature)) (omega arith)
+    (words-read 13 (r .signature) (byte-below (r .signature) (both-r _ _ (both-r _ _ h)))))
 
 -- ---- an image of words stays one under the moves of its sides
 each-words : (ws : List ℕ) → Yes (each isWord ws) → Yes (areWords ws)
@@ -147,7 +155,9 @@ splice-words off vs s a b = each-words (splice off vs s) (splice-each isWord off
 module _ (s : Side) (w : List ℕ) (h : Yes (areWords w)) where
   pub joined-words : (row : List ℕ) → Yes (areWords row) → Yes (areWords (rowJoined s row w))
   unfolding rowJoined rowsWaiting areWords
-  joined-words row a = splice-words (s .number) _ _ (words-cons (suc (rowsWaiting s w)) [] (omega arith) refl) (splice-words (s .start + s .width * rowsWaiting s w) row w a h)
+  joined-words row a =
+      splice-words (s .number) _ _ (words-cons (suc (rowsWaiting s w)) [] (omega arith) refl)
+      (splice-words (s .start + s .width * rowsWaiting s w) row w a h)
 
   pub dropped-words : Yes (areWords (rowDropped s w))
   unfolding rowDropped rowsWaiting rowsIn part areWords
@@ -156,4 +166,5 @@ module _ (s : Side) (w : List ℕ) (h : Yes (areWords w)) where
       let r : Yes (each isWord (drop (s .width) t)) = each-drop isWord (s .width) t
       (each-take isWord (s .width * rowsWaiting s w) (drop (s .start) w) (each-drop isWord (s .start) w (words-each w h))) in
       splice-words (s .number) _ _ (words-cons (rowsWaiting s w - 1) [] (omega arith) refl)
-      (splice-words (s .start) (drop (s .width) t ++ replicate (s .width) 0) w (words-append (drop (s .width) t) (replicate (s .width) 0) (each-words _ r) (zeros-words (s .width))) h)
+      (splice-words (s .start) (drop (s .width) t ++ replicate (s .width) 0) w
+      (words-append (drop (s .width) t) (replicate (s .width) 0) (each-words _ r) (zeros-words (s .width))) h)

@@ -39,7 +39,8 @@ module _ (start width : ℕ) (s : List ℕ) where
       ∙ ap (λ (t : List ℕ). getD t width 0) (drop-splice start vs s (omega arith)) ∙ getD-drop (start + length vs) s width 0
       ∙ ap (λ (j : ℕ). getD s j 0) (sym e) ∙ sym (getD-drop (start + width) s i 0) in
       rw (x, add-one, take-suc (drop (start + width) s) i 0 k)
-      (ap (λ (j : ℕ). set (splice start vs s) (start + j) (getD (drop (start + width) s) i 0)) (sym l) ∙ put-next start vs s (getD (drop (start + width) s) i 0) (omega arith))
+      (ap (λ (j : ℕ). set (splice start vs s) (start + j) (getD (drop (start + width) s) i 0)) (sym l) ∙
+      put-next start vs s (getD (drop (start + width) s) i 0) (omega arith))
 
 -- ---- zeros written, one by one
 module _ (at : ℕ) (s : List ℕ) where
@@ -78,17 +79,22 @@ pub row-room : (width n : ℕ) → n ≤ 7 → width + width * n ≤ width * 8
 row-room width n h = rw (← mul-more width n) (times-le width (suc n) 8 (omega arith))
 
 -- the stores of a drop: the rows after the oldest moved up, zeros after them, and the number
-pub row-dropped : (s : Side) (w : List ℕ) (n : ℕ) → n ≡ min 8 (getD w (s .number) 0) - 1 → s .start + s .width * 8 ≤ length w → s .number < s .start → (u t : List ℕ) →
-    u ≡ upTo (s .start) (s .width) w (s .width * n) → t ≡ splice (s .start + s .width * n) (replicate (s .width) 0) u → length t ≡ length w → set t (s .number) n ≡ rowDropped s w
+pub row-dropped : (s : Side) (w : List ℕ) (n : ℕ) → n ≡ min 8 (getD w (s .number) 0) - 1 → s .start + s .width * 8 ≤ length w →
+    s .number < s .start → (u t : List ℕ) →
+    u ≡ upTo (s .start) (s .width) w (s .width * n) → t ≡ splice (s .start + s .width * n) (replicate (s .width) 0) u →
+    length t ≡ length w → set t (s .number) n ≡ rowDropped s w
 unfolding rowDropped rowsIn rowsWaiting upTo part
 row-dropped s w n e h k u t q p l =
     let m : ℕ = min 8 (getD w (s .number) 0) in
     let vs : List ℕ = part (s .start + s .width) (s .width * n) w in
     let r : s .width + s .width * n ≤ s .width * 8 = row-room (s .width) n (omega arith) in
-    let j : length vs ≡ s .width * n = length-take-le (s .width * n) (drop (s .start + s .width) w) (omega (arith, length-drop (s .start + s .width) w)) in
-    let b : drop (s .width) (part (s .start) (s .width * m) w) ≡ vs = behind (s .width) (s .start) w m ∙ ap (λ (i : ℕ). part (s .start + s .width) (s .width * i) w) (sym e) in
+    let j : length vs ≡ s .width * n = length-take-le (s .width * n) (drop (s .start + s .width) w)
+    (omega (arith, length-drop (s .start + s .width) w)) in
+    let b : drop (s .width) (part (s .start) (s .width * m) w) ≡ vs = behind (s .width) (s .start) w m ∙
+    ap (λ (i : ℕ). part (s .start + s .width) (s .width * i) w) (sym e) in
     put-first (s .number) t n (omega arith)
-    ∙ rw (p, q, b, ← e) (ap (λ (i : ℕ). splice (s .number) (n ∷ []) (splice (s .start + i) (replicate (s .width) 0) (splice (s .start) vs w))) (sym j)
+    ∙ rw (p, q, b, ← e) (ap (λ (i : ℕ). splice (s .number) (n ∷ [])
+    (splice (s .start + i) (replicate (s .width) 0) (splice (s .start) vs w))) (sym j)
     ∙ ap (splice (s .number) (n ∷ [])) (splice-splice (s .start) vs w (omega arith) (replicate (s .width) 0)))
 
 -- ---- a row added
@@ -126,7 +132,8 @@ row-signature at w h =
 
 -- ---- the entry in the first place is the oldest, if one waits
 module _ (w : List ℕ) where
-  first : {A : Type 0} (f : List ℕ → A) (width at n : ℕ) (d : A) → (n ≡ 0 → ⊥) → getD (take n (map f (rows width 8 (drop at w)))) 0 d ≡ f (part at width w)
+  first : {A : Type 0} (f : List ℕ → A) (width at n : ℕ) (d : A) → (n ≡ 0 → ⊥) →
+      getD (take n (map f (rows width 8 (drop at w)))) 0 d ≡ f (part at width w)
   unfolding rows part
   first f width at zero d h = absurd (h refl)
   first f width at (suc n) d h = refl

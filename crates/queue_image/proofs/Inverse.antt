@@ -83,7 +83,8 @@ unfolding oldestWords
 oldest-told r l h = request-back r h
 
 pub oldest-read : (r : Request) (l : List Request) →
-    (getD (oldestWords (r ∷ l)) 0 0 ≡ r .algorithm) × (getD (oldestWords (r ∷ l)) 1 0 ≡ r .granule) × (getD (oldestWords (r ∷ l)) 2 0 ≡ r .ticket) × (getD (oldestWords (r ∷ l)) 3 0 ≡ r .hashid)
+    (getD (oldestWords (r ∷ l)) 0 0 ≡ r .algorithm) × (getD (oldestWords (r ∷ l)) 1 0 ≡ r .granule) ×
+    (getD (oldestWords (r ∷ l)) 2 0 ≡ r .ticket) × (getD (oldestWords (r ∷ l)) 3 0 ≡ r .hashid)
 unfolding oldestWords requestWords
 oldest-read r l = (refl, refl, refl, refl)
 
@@ -96,8 +97,10 @@ unfolding oldestWords
 oldest-none = refl
 
 -- ---- a side is read back from its rows, for any words after them
-module _ {A : Type 0} (f : List ℕ → A) (g : A → List ℕ) (ok : A → Bool) (width : ℕ) (wide : (x : A) → length (g x) ≡ width) (back : (x : A) → Yes (ok x) → f (g x) ≡ x) where
-  rows-back : (n : ℕ) (l : List A) (rest : List ℕ) → Yes (each ok l) → length l ≤ n → take (length l) (map f (rows width n (flat g l ++ rest))) ≡ l
+module _ {A : Type 0} (f : List ℕ → A) (g : A → List ℕ) (ok : A → Bool) (width : ℕ) (wide : (x : A) → length (g x) ≡ width)
+    (back : (x : A) → Yes (ok x) → f (g x) ≡ x) where
+  rows-back : (n : ℕ) (l : List A) (rest : List ℕ) → Yes (each ok l) → length l ≤ n →
+      take (length l) (map f (rows width n (flat g l ++ rest))) ≡ l
   unfolding rows flat each
   rows-back n [] rest h k = refl
   rows-back zero (x ∷ l) rest h k = absurd (omega arith)
@@ -110,7 +113,8 @@ module _ {A : Type 0} (f : List ℕ → A) (g : A → List ℕ) (ok : A → Bool
         rows-back n l rest (both-r _ _ h) (omega arith),
       )
 
-  side-back : (n : ℕ) (l : List A) (rest : List ℕ) → Yes (eightFit ok l) → take (length l) (map f (rows width 8 (padded n (flat g l) ++ rest))) ≡ l
+  side-back : (n : ℕ) (l : List A) (rest : List ℕ) → Yes (eightFit ok l) →
+      take (length l) (map f (rows width 8 (padded n (flat g l) ++ rest))) ≡ l
   unfolding eightFit padded
   side-back n l rest h = rw append-assoc (rows-back 8 l _ (both-r _ _ h) (leb-true _ _ (both-l _ _ h)))
 
@@ -122,7 +126,8 @@ queue-back q h =
     let b : List Signed = q .responses in
     let p : List ℕ = padded 128 (flat responseWords b) in
     let eight : length a ≤ 8 = leb-true (length a) 8 (both-l _ _ (both-l _ _ h)) in
-    let front : length (padded 80 (flat requestWords a)) ≡ 80 = padded-length 80 (flat requestWords a) (omega (arith, flat-length requestWords 10 request-wide a)) in
+    let front : length (padded 80 (flat requestWords a)) ≡ 80 = padded-length 80 (flat requestWords a)
+    (omega (arith, flat-length requestWords 10 request-wide a)) in
     rw (
       side-back requestIn requestWords requestFits 10 request-wide request-back 80 a p (both-l _ _ h),
       drop-at (padded 80 (flat requestWords a)) p 80 front,

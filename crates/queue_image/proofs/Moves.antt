@@ -12,7 +12,8 @@ use Rattle.queue_image.specs.Image.{rows}
 use Rattle.queue_image.specs.Sides.{Side, rowsWaiting, rowsIn, rowJoined, rowDropped}
 use Rattle.queue_image.specs.Waits.{Beside, ofRequests, ofResponses, waitingRows, sideIn, Stays}
 use Rattle.queue_image.proofs.Rows.{mul-more}
-use Rattle.queue_image.proofs.Blocks.{rows-same, rows-taken, rows-within, blockJoined, blockDropped, joined-rows, dropped-rows, joined-length, dropped-fits, dropped-length}
+use Rattle.queue_image.proofs.Blocks.{rows-same, rows-taken, rows-within, blockJoined, blockDropped, joined-rows, dropped-rows}
+use Rattle.queue_image.proofs.Blocks.{joined-length, dropped-fits, dropped-length}
 
 -- ---- an image of a side's number n and places p, and the other side's m and q
 unfoldable pub sidesLaid : {s o : Side} → Beside s o → ℕ → List ℕ → ℕ → List ℕ → List ℕ
@@ -33,11 +34,19 @@ behind : {s o : Side} → Beside s o → List ℕ → List ℕ
 behind ofRequests q = q
 behind ofResponses q = []
 
-splice-at : (at i : ℕ) (vs a p c : List ℕ) → length a ≡ at → i + length vs ≤ length p → splice (at + i) vs (a ++ (p ++ c)) ≡ a ++ (splice i vs p ++ c)
+splice-at : (at i : ℕ) (vs a p c : List ℕ) → length a ≡ at → i + length vs ≤ length p →
+    splice (at + i) vs (a ++ (p ++ c)) ≡ a ++ (splice i vs p ++ c)
 unfolding splice
 splice-at at i vs a p c e h =
     let k : i ≤ length p = omega arith in
-    rw (← e, take-append-add a (p ++ c) i, take-append-le i p c k, add-assoc, drop-append-add a (p ++ c) (i + length vs), drop-append-le (i + length vs) p c h) (simp append-assoc)
+    rw (
+      ← e,
+      take-append-add a (p ++ c) i,
+      take-append-le i p c k,
+      add-assoc,
+      drop-append-add a (p ++ c) (i + length vs),
+      drop-append-le (i + length vs) p c h,
+    ) (simp append-assoc)
 
 module _ (n : ℕ) (p : List ℕ) (m : ℕ) (q : List ℕ) where
   number-in : {s o : Side} (b : Beside s o) → getD (sidesLaid b n p m q) (s .number) 0 ≡ n
@@ -61,7 +70,8 @@ module _ (n : ℕ) (p : List ℕ) (m : ℕ) (q : List ℕ) where
       ∙ ap (splice 1 (x ∷ [])) (splice-at 82 i vs (m ∷ n ∷ q) p [] e h)
       ∙ ap (λ (l : List ℕ). m ∷ x ∷ (q ++ l)) (append-nil (splice i vs p))
 
-module _ {s o : Side} (b : Beside s o) (n : ℕ) (p : List ℕ) (m : ℕ) (q : List ℕ) (k : length p ≡ s .width * 8) (j : length q ≡ o .width * 8) where
+module _ {s o : Side} (b : Beside s o) (n : ℕ) (p : List ℕ) (m : ℕ) (q : List ℕ) (k : length p ≡ s .width * 8)
+    (j : length q ≡ o .width * 8) where
   waiting-in : rowsWaiting s (sidesLaid b n p m q) ≡ min 8 n
   unfolding rowsWaiting
   waiting-in = ap (min 8) (number-in n p m q b)
@@ -75,38 +85,48 @@ module _ {s o : Side} (b : Beside s o) (n : ℕ) (p : List ℕ) (m : ℕ) (q : L
 
   rows-in : waitingRows s (sidesLaid b n p m q) ≡ rows (s .width) (min 8 n) p
   unfolding waitingRows
-  rows-in = rw (number-in n p m q b, places-in n p m q b j) (rows-taken (s .width) n 8 (p ++ behind b q) ∙ rows-same (s .width) (min 8 n) (p ++ behind b q) p (first-in (min 8 n) (omega arith)))
+  rows-in =
+      rw (number-in n p m q b, places-in n p m q b j) (rows-taken (s .width) n 8 (p ++ behind b q) ∙
+      rows-same (s .width) (min 8 n) (p ++ behind b q) p (first-in (min 8 n) (omega arith)))
 
   -- the moves
-  pub joined-in : (row : List ℕ) → length row ≡ s .width → min 8 n < 8 → rowJoined s row (sidesLaid b n p m q) ≡ sidesLaid b (suc (min 8 n)) (blockJoined (s .width) (min 8 n) row p) m q
+  pub joined-in : (row : List ℕ) → length row ≡ s .width → min 8 n < 8 →
+      rowJoined s row (sidesLaid b n p m q) ≡ sidesLaid b (suc (min 8 n)) (blockJoined (s .width) (min 8 n) row p) m q
   unfolding rowJoined blockJoined
   joined-in row e h =
-      rw waiting-in (over-in n p m q b j (suc (min 8 n)) (s .width * min 8 n) row (omega (arith, rows-within (s .width) (suc (min 8 n)) h, mul-more (s .width) (min 8 n))))
+      rw waiting-in (over-in n p m q b j (suc (min 8 n)) (s .width * min 8 n) row
+      (omega (arith, rows-within (s .width) (suc (min 8 n)) h, mul-more (s .width) (min 8 n))))
 
   pub dropped-in : rowDropped s (sidesLaid b n p m q) ≡ sidesLaid b (min 8 n - 1) (blockDropped (s .width) (min 8 n) p) m q
   unfolding rowDropped blockDropped rowsIn part
   dropped-in =
       let t : List ℕ = take (s .width * min 8 n) p in
       let z : List ℕ = replicate (s .width) 0 in
-      let e : take (s .width * min 8 n) (drop (s .start) (sidesLaid b n p m q)) ≡ t = rw (places-in n p m q b j) (first-in (min 8 n) (omega arith)) in
+      let e : take (s .width * min 8 n) (drop (s .start) (sidesLaid b n p m q)) ≡ t = rw (places-in n p m q b j)
+      (first-in (min 8 n) (omega arith)) in
       let h : 0 + length (drop (s .width) t ++ z) ≤ length p = rw zero-add (dropped-fits (s .width) p k (min 8 n) (omega arith)) in
       rw (waiting-in, e)
-      (ap (λ (at : ℕ). splice (s .number) ((min 8 n - 1) ∷ []) (splice at (drop (s .width) t ++ z) (sidesLaid b n p m q))) (sym (add-zero (s .start)))
+      (ap (λ (at : ℕ). splice (s .number) ((min 8 n - 1) ∷ []) (splice at (drop (s .width) t ++ z) (sidesLaid b n p m q)))
+      (sym (add-zero (s .start)))
       ∙ over-in n p m q b j (min 8 n - 1) 0 (drop (s .width) t ++ z) h)
 
 -- ---- any image of 210 words is one
 by-image : {s o : Side} (b : Beside s o) (P : List ℕ → Type 0) →
-    ((n : ℕ) (p : List ℕ) (m : ℕ) (q : List ℕ) → length p ≡ s .width * 8 → length q ≡ o .width * 8 → P (sidesLaid b n p m q)) → (w : List ℕ) → length w ≡ 210 → P w
+    ((n : ℕ) (p : List ℕ) (m : ℕ) (q : List ℕ) → length p ≡ s .width * 8 → length q ≡ o .width * 8 → P (sidesLaid b n p m q)) →
+    (w : List ℕ) → length w ≡ 210 → P w
 unfolding sidesLaid
 by-image b P h [] l = absurd (omega arith)
 by-image b P h (x ∷ []) l = absurd (omega arith)
 by-image ofRequests P h (x ∷ y ∷ v) l =
-    subst (λ (u : List ℕ). P (x ∷ y ∷ u)) (take-append-drop 80 v) (h x (take 80 v) y (drop 80 v) (length-take-le 80 v (omega arith)) (omega (arith, length-drop 80 v)))
+    subst (λ (u : List ℕ). P (x ∷ y ∷ u)) (take-append-drop 80 v)
+    (h x (take 80 v) y (drop 80 v) (length-take-le 80 v (omega arith)) (omega (arith, length-drop 80 v)))
 by-image ofResponses P h (x ∷ y ∷ v) l =
-    subst (λ (u : List ℕ). P (x ∷ y ∷ u)) (take-append-drop 80 v) (h y (drop 80 v) x (take 80 v) (omega (arith, length-drop 80 v)) (length-take-le 80 v (omega arith)))
+    subst (λ (u : List ℕ). P (x ∷ y ∷ u)) (take-append-drop 80 v)
+    (h y (drop 80 v) x (take 80 v) (omega (arith, length-drop 80 v)) (length-take-le 80 v (omega arith)))
 
 -- ---- an image stays one of 210 words
-image-length : {s o : Side} (b : Beside s o) (n : ℕ) (p : List ℕ) (m : ℕ) (q : List ℕ) → length p ≡ s .width * 8 → length q ≡ o .width * 8 → length (sidesLaid b n p m q) ≡ 210
+image-length : {s o : Side} (b : Beside s o) (n : ℕ) (p : List ℕ) (m : ℕ) (q : List ℕ) → length p ≡ s .width * 8 →
+    length q ≡ o .width * 8 → length (sidesLaid b n p m q) ≡ 210
 unfolding sidesLaid
 image-length ofRequests n p m q k j = omega (arith, length-append p q)
 image-length ofResponses n p m q k j = omega (arith, length-append q p)
@@ -123,13 +143,15 @@ module _ {s o : Side} (b : Beside s o) (w : List ℕ) (l : length w ≡ 210) whe
   pub dropped-210 : length (rowDropped s w) ≡ 210
   dropped-210 =
       by-image b (λ (v : List ℕ). length (rowDropped s v) ≡ 210)
-      (λ n p m q k j. rw (dropped-in b n p m q k j) (image-length b (min 8 n - 1) _ m q (dropped-length (s .width) p k (min 8 n) (omega arith)) j))
+      (λ n p m q k j. rw (dropped-in b n p m q k j) (image-length b (min 8 n - 1) _ m q
+      (dropped-length (s .width) p k (min 8 n) (omega arith)) j))
       w l
 
 -- ---- what waits after a move
 module _ {s o : Side} (b : Beside s o) (w : List ℕ) (l : length w ≡ 210) where
   -- the row is the last of those that wait
-  pub joined-waits : (row : List ℕ) → length row ≡ s .width → rowsWaiting s w < 8 → waitingRows s (rowJoined s row w) ≡ waitingRows s w ++ (row ∷ [])
+  pub joined-waits : (row : List ℕ) → length row ≡ s .width → rowsWaiting s w < 8 →
+      waitingRows s (rowJoined s row w) ≡ waitingRows s w ++ (row ∷ [])
   joined-waits row e =
       by-image b (λ (v : List ℕ). rowsWaiting s v < 8 → waitingRows s (rowJoined s row v) ≡ waitingRows s v ++ (row ∷ []))
       (λ n p m q k j r.
@@ -162,7 +184,8 @@ module _ {s o : Side} (b : Beside s o) (w : List ℕ) (l : length w ≡ 210) whe
 
 -- ---- the other side is unchanged
 -- for any number and places written on a side
-module _ {s o : Side} (b : Beside s o) (n : ℕ) (p : List ℕ) (m : ℕ) (q : List ℕ) (k : length p ≡ s .width * 8) (j : length q ≡ o .width * 8) where
+module _ {s o : Side} (b : Beside s o) (n : ℕ) (p : List ℕ) (m : ℕ) (q : List ℕ) (k : length p ≡ s .width * 8)
+    (j : length q ≡ o .width * 8) where
   side-beside : sideIn o (sidesLaid b n p m q) ≡ m ∷ q
   side-beside = rw (image-turned b n p m q) (side-in (turned b) m q n p j k)
 
@@ -189,5 +212,6 @@ module _ {s o : Side} (b : Beside s o) (w : List ℕ) (l : length w ≡ 210) whe
   pub dropped-beside : Stays o w (rowDropped s w)
   dropped-beside =
       by-image b (λ (v : List ℕ). Stays o v (rowDropped s v))
-      (λ n p m q k j. rw (dropped-in b n p m q k j) (stays-beside b n p m q k j (min 8 n - 1) _ (dropped-length (s .width) p k (min 8 n) (omega arith))))
+      (λ n p m q k j. rw (dropped-in b n p m q k j) (stays-beside b n p m q k j (min 8 n - 1) _
+      (dropped-length (s .width) p k (min 8 n) (omega arith))))
       w l

@@ -5,7 +5,8 @@ use mathlib.Core.List.{List, [], _∷_, _++_, append-assoc, append-nil, map, map
 use native.Mathlib.Nat.{mul-zero, mul-suc, add-comm, add-zero, zero-add, suc-add}
 use native.Mathlib.Numerals.{add-one}
 use native.Mathlib.Omega.{arith}
-use lib.ListN.{length, take, drop, getD, set, replicate, length-append, length-map, length-drop, length-replicate, replicate-append-replicate, drop-of-length-le}
+use lib.ListN.{length, take, drop, getD, set, replicate, length-append, length-map, length-drop, length-replicate}
+use lib.ListN.{replicate-append-replicate, drop-of-length-le}
 use lib.Seq.{length-take-le, take-at, drop-at, drop-drop, drop-cons, set-at, append-snoc, paste-zero, take-nil, getD-take, getD-drop}
 use Rattle.words.specs.Word.{part, wordAt, wordsOf, bytesOf, splice, laid}
 use Rattle.words.proofs.Read.{wordsOf-length, wordsOf-suc}
@@ -38,10 +39,12 @@ module _ {A : Type 0} (f : List ℕ → A) (width start : ℕ) (w : List ℕ) (i
   read-none = refl
 
   -- one row more, and all of them
-  pub read-more : (i : ℕ) (now : List A) (d x : A) → now ≡ readTo i → i < length items → x ≡ f (part (start + width * i) width w) → set now i x ≡ readTo (i + 1)
+  pub read-more : (i : ℕ) (now : List A) (d x : A) → now ≡ readTo i → i < length items → x ≡ f (part (start + width * i) width w) →
+      set now i x ≡ readTo (i + 1)
   unfolding readTo part
   read-more i now d x e h g =
-      let l : length (map f (rows width i (drop start w))) ≡ i = length-map (rows width i (drop start w)) f ∙ rows-length width i (drop start w) in
+      let l : length (map f (rows width i (drop start w))) ≡ i = length-map (rows width i (drop start w)) f ∙
+      rows-length width i (drop start w) in
       rw (e, g, drop-cons items i d h, set-at _ _ _ _ _ l, add-one, rows-suc, map-append, drop-drop, append-snoc)
 
   pub read-all : (i : ℕ) (now : List A) → now ≡ readTo i → length items ≡ 8 → i ≡ 8 → now ≡ map f (rows width 8 (drop start w))
@@ -63,7 +66,8 @@ drop-take (suc k) m [] = simp take-nil
 drop-take (suc k) m (x ∷ l) = rw suc-add (drop-take k m l)
 
 -- the bytes of its last m words, written over an array of the same length
-pub row-bytes : (k m at : ℕ) (w z : List ℕ) (n : ℕ) → n ≡ m → at + (k + m) ≤ length w → length z ≡ 8 * m → laid 0 (bytesOf (take n (drop (at + k) w))) z ≡ bytesOf (drop k (part at (k + m) w))
+pub row-bytes : (k m at : ℕ) (w z : List ℕ) (n : ℕ) → n ≡ m → at + (k + m) ≤ length w → length z ≡ 8 * m →
+    laid 0 (bytesOf (take n (drop (at + k) w))) z ≡ bytesOf (drop k (part at (k + m) w))
 unfolding part
 row-bytes k m at w z n e h l =
     let t : drop k (take (k + m) (drop at w)) ≡ take m (drop (at + k) w) = drop-take k m (drop at w) ∙ ap (take m) (drop-drop k at w) in
@@ -76,25 +80,30 @@ unfolding splice
 splice-none at s = paste-zero s at []
 
 -- one more word
-pub put-next : (at : ℕ) (vs s : List ℕ) (x : ℕ) → at + length vs < length s → set (splice at vs s) (at + length vs) x ≡ splice at (vs ++ (x ∷ [])) s
+pub put-next : (at : ℕ) (vs s : List ℕ) (x : ℕ) → at + length vs < length s →
+    set (splice at vs s) (at + length vs) x ≡ splice at (vs ++ (x ∷ [])) s
 unfolding splice
 put-next at vs s x h =
-    let l : length (take at s ++ vs) ≡ at + length vs = length-append (take at s) vs ∙ ap (λ (n : ℕ). n + length vs) (length-take-le at s (omega arith)) in
+    let l : length (take at s ++ vs) ≡ at + length vs = length-append (take at s) vs ∙
+    ap (λ (n : ℕ). n + length vs) (length-take-le at s (omega arith)) in
     let e : at + length (vs ++ (x ∷ [])) ≡ suc (at + length vs) = omega (arith, length-append vs (x ∷ [])) in
     rw (drop-cons s (at + length vs) 0 h, set-at _ _ _ x _ l, e) (simp append-assoc)
 
 pub put-first : (at : ℕ) (s : List ℕ) (x : ℕ) → at < length s → set s at x ≡ splice at (x ∷ []) s
-put-first at s x h = ap (λ (k : ℕ). set s k x) (sym (add-zero at)) ∙ ap (λ l. set l (at + 0) x) (splice-none at s) ∙ put-next at [] s x (omega arith)
+put-first at s x h =
+    ap (λ (k : ℕ). set s k x) (sym (add-zero at)) ∙ ap (λ l. set l (at + 0) x) (splice-none at s) ∙ put-next at [] s x (omega arith)
 
 -- bytes as words
 pub bytes-none : (at : ℕ) (bs s : List ℕ) → s ≡ splice at (wordsOf 0 bs) s
 unfolding wordsOf
 bytes-none at bs s = splice-none at s
 
-pub bytes-more : (at i : ℕ) (bs s : List ℕ) → at + i < length s → set (splice at (wordsOf i bs) s) (at + i) (wordAt (8 * i) bs) ≡ splice at (wordsOf (i + 1) bs) s
+pub bytes-more : (at i : ℕ) (bs s : List ℕ) → at + i < length s →
+    set (splice at (wordsOf i bs) s) (at + i) (wordAt (8 * i) bs) ≡ splice at (wordsOf (i + 1) bs) s
 bytes-more at i bs s h =
     let l : length (wordsOf i bs) ≡ i = wordsOf-length i bs in
-    rw (add-one, wordsOf-suc) (ap (λ (k : ℕ). set (splice at (wordsOf i bs) s) (at + k) (wordAt (8 * i) bs)) (sym l) ∙ put-next at (wordsOf i bs) s (wordAt (8 * i) bs) (omega arith))
+    rw (add-one, wordsOf-suc) (ap (λ (k : ℕ). set (splice at (wordsOf i bs) s) (at + k) (wordAt (8 * i) bs)) (sym l) ∙
+    put-next at (wordsOf i bs) s (wordAt (8 * i) bs) (omega arith))
 
 module _ (s : List ℕ) (at a b c : ℕ) where
   -- the first words of a row, stored one by one
@@ -104,7 +113,8 @@ module _ (s : List ℕ) (at a b c : ℕ) where
       ∙ ap (λ l. set l (at + 2) c) (put-next at (a ∷ []) s b (omega arith))
       ∙ put-next at (a ∷ b ∷ []) s c (omega arith)
 
-  pub put-four : (d : ℕ) → at + 4 ≤ length s → set (set (set (set s at a) (at + 1) b) (at + 2) c) (at + 3) d ≡ splice at (a ∷ b ∷ c ∷ d ∷ []) s
+  pub put-four : (d : ℕ) → at + 4 ≤ length s → set (set (set (set s at a) (at + 1) b) (at + 2) c) (at + 3) d ≡ splice at
+      (a ∷ b ∷ c ∷ d ∷ []) s
   put-four d h = ap (λ l. set l (at + 3) d) (put-three (omega arith)) ∙ put-next at (a ∷ b ∷ c ∷ []) s d (omega arith)
 
 module _ {A : Type 0} (f : A → List ℕ) where
@@ -127,12 +137,14 @@ pub padded-length : (n : ℕ) (l : List ℕ) → length l ≤ n → length (padd
 unfolding padded
 padded-length n l h = length-append l (replicate (n - length l) 0) ∙ rw (length-replicate {A = ℕ} (n - length l) 0) (omega arith)
 
-pub padded-in : (i n : ℕ) (a vs b : List ℕ) → length a ≡ i → length vs ≤ n → splice i vs ((a ++ replicate n 0) ++ b) ≡ (a ++ padded n vs) ++ b
+pub padded-in : (i n : ℕ) (a vs b : List ℕ) → length a ≡ i → length vs ≤ n →
+    splice i vs ((a ++ replicate n 0) ++ b) ≡ (a ++ padded n vs) ++ b
 unfolding splice padded
 padded-in i n a vs b e h =
     let z : List ℕ = replicate (length vs) 0 in
     let y : List ℕ = replicate (n - length vs) 0 in
-    let s : replicate n 0 ≡ z ++ y = sym (replicate-append-replicate (length vs) (n - length vs) 0 ∙ ap (λ (k : ℕ). replicate k 0) (let j : length vs + (n - length vs) ≡ n = omega arith in j)) in
+    let s : replicate n 0 ≡ z ++ y = sym (replicate-append-replicate (length vs) (n - length vs) 0 ∙
+    ap (λ (k : ℕ). replicate k 0) (let j : length vs + (n - length vs) ≡ n = omega arith in j)) in
     let g : (a ++ replicate n 0) ++ b ≡ (a ++ z) ++ (y ++ b) = rw s (simp append-assoc) in
     let l : length (a ++ z) ≡ i + length vs = length-append a z ∙ rw (length-replicate {A = ℕ} (length vs) 0, e) in
     let t : take i ((a ++ replicate n 0) ++ b) ≡ a = rw append-assoc (take-at a _ i e) in

@@ -8,7 +8,7 @@ use Rattle.words.specs.Word.{part, splice}
 use Rattle.words.proofs.Read.{wordsOf-length}
 use Rattle.words.proofs.Store.{bytes-in, laid-all}
 use Rattle.queue.specs.declared.Request.{Request}
-use Rattle.queue.specs.Queue.{Signed, waiting, held, ready, signedIn, listsOf, oldestRequest}
+use Rattle.queue.specs.Queue.{Signed, waiting, waitingItems, waitingSigned, signedIn, listsOf, oldestRequest}
 use Rattle.queue_image.specs.Image.{rows, requestIn, heldIn, responseIn, listsIn, queueIn, requestWords, responseWords, oldestWords}
 use Rattle.queue_image.proofs.Rows.{rows-length}
 
@@ -29,11 +29,12 @@ held-taken (suc n) (x ∷ l) = ap (λ t. signedIn (heldIn x) ∷ t) (held-taken 
 
 -- the queue of an image, by value and as lists
 pub lists-in : (w : List ℕ) → listsOf (queueIn w) ≡ listsIn w
-unfolding listsOf waiting ready held queueIn listsIn
+unfolding listsOf waiting waitingSigned waitingItems queueIn listsIn
 lists-in w = rw held-taken
 
 -- ---- the oldest request
-pub oldest-first : (l : List Request) (r : Request) → 0 < length l → r ≡ oldestRequest l → splice 0 (requestWords r) (replicate 10 0) ≡ oldestWords l
+pub oldest-first : (l : List Request) (r : Request) → 0 < length l → r ≡ oldestRequest l →
+    splice 0 (requestWords r) (replicate 10 0) ≡ oldestWords l
 unfolding oldestWords oldestRequest
 oldest-first [] r h e = absurd (omega arith)
 oldest-first (x ∷ l) r h e =
@@ -54,11 +55,13 @@ module _ (w : List ℕ) where
   unfolding listsIn oldestWords
   no-request h = rw h
 
-  first-row : (n : ℕ) → (n ≡ 0 → ⊥) → splice 0 (requestWords (requestIn (part 2 10 w))) (replicate 10 0) ≡ oldestWords (take n (map requestIn (rows 10 8 (drop 2 w))))
+  first-row : (n : ℕ) → (n ≡ 0 → ⊥) → splice 0 (requestWords (requestIn (part 2 10 w))) (replicate 10 0) ≡ oldestWords
+      (take n (map requestIn (rows 10 8 (drop 2 w))))
   unfolding rows part oldestRequest
   first-row zero h = absurd (h refl)
   first-row (suc n) h = oldest-first (take (suc n) (map requestIn (rows 10 8 (drop 2 w)))) (requestIn (part 2 10 w)) (omega arith) refl
 
-  pub a-request : (getD w 0 0 ≡ 0 → ⊥) → splice 0 (requestWords (requestIn (part 2 10 w))) (replicate 10 0) ≡ oldestWords (listsIn w .requests)
+  pub a-request : (getD w 0 0 ≡ 0 → ⊥) → splice 0 (requestWords (requestIn (part 2 10 w))) (replicate 10 0) ≡ oldestWords
+      (listsIn w .requests)
   unfolding listsIn
   a-request h = first-row (getD w 0 0) h

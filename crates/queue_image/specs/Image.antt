@@ -95,7 +95,8 @@ areBytes bs = each (λ (b : ℕ). ltb b 256) bs
 
 -- whether a request fits its row
 unfoldable pub requestFits : Request → Bool
-requestFits r = both (areWords (r .algorithm ∷ r .granule ∷ r .ticket ∷ r .hashid ∷ [])) (both (eqb (length (r .hash)) 48) (areBytes (r .hash)))
+requestFits r =
+    both (areWords (r .algorithm ∷ r .granule ∷ r .ticket ∷ r .hashid ∷ [])) (both (eqb (length (r .hash)) 48) (areBytes (r .hash)))
 
 -- whether a response fits its row
 unfoldable pub responseFits : Signed → Bool

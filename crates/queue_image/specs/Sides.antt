@@ -39,4 +39,5 @@ rowAppended s row w = cond (ltb (rowsWaiting s w) 8) (rowJoined s row w) w
 
 -- drops the oldest row: the rows after it move up, and the freed place is zeroed
 unfoldable pub rowDropped : Side → List ℕ → List ℕ
-rowDropped s w = splice (s .number) ((rowsWaiting s w - 1) ∷ []) (splice (s .start) (drop (s .width) (rowsIn s w) ++ replicate (s .width) 0) w)
+rowDropped s w =
+    splice (s .number) ((rowsWaiting s w - 1) ∷ []) (splice (s .start) (drop (s .width) (rowsIn s w) ++ replicate (s .width) 0) w)

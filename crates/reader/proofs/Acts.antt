@@ -15,12 +15,14 @@ use Rattle.versions.specs.Edition.{sectionCount, editionOk}
 use Rattle.versions.proofs.Versions.{version-minor, version-of}
 use Rattle.versions.proofs.Editions.{edition-of, edition-range}
 use Rattle.fields.specs.Fields.{fieldsIn, taken}
-use Rattle.sections.specs.Page.{versionAt, paddingAt, secAt, mkPlat, foundAt, platAt}
+use Rattle.sections.specs.Page.{versionAt, paddingAt, pageSectionAt, pagePlatform, foundAt, platformAt}
 use Rattle.sections.specs.Section.{rulesAt}
 use Rattle.sections.specs.Steps.{okAt, okTo, apartAt, clearTo, apartTo, clearAt, clearFrom}
 use Rattle.sections.proofs.Sections.{placed, rules-steps}
-use Rattle.sections.proofs.Facts.{place-acts, section-acts, section-only, apart-acts, apart-only, clear-acts, clear-only, plat-found, plat-acts, plat-only}
-use Rattle.reader.specs.Answer.{Shown, PlatShown, ReaderAnswer, refused, shows, minus, shown, platShown, allShown, readerGate, judge, readOf}
+use Rattle.sections.proofs.Facts.{place-acts, section-acts, section-only, apart-acts, apart-only, clear-acts, clear-only, plat-found}
+use Rattle.sections.proofs.Facts.{plat-acts, plat-only}
+use Rattle.reader.specs.Answer.{Shown, PlatShown, ReaderAnswer, refused, shows, minus, shown, platShown, allShown, readerGate, judge}
+use Rattle.reader.specs.Answer.{readOf}
 use Rattle.reader.specs.Acts.{VersionFacts, Accepts, platWith, ReadsPage, AcceptedPage, Refuses}
 use Rattle.reader.proofs.Newer.{gate-shows, gate-true}
 use Rattle.reader.proofs.Views.{shows-each, shows-page}
@@ -48,14 +50,16 @@ module _ (r base : ℕ) (page : List ℕ) (w e : ℕ) (t : Accepts r base page w
       (both-of _ _ (eq-eqb (paddingAt page) 0 (t .padding))
       (both-of _ _ (plat-acts e base page (t .fields) (t .taken) (t .plat))
       (both-of _ _ (every-of (sectionCount e) (λ k. okAt w e base k page) (λ k l. section-acts w e base k page (t .sections k l)))
-      (both-of _ _ (every-of (sectionCount e) (λ i. clearTo i i page) (λ i l. every-of i (λ j. apartAt i j page) (λ j m. apart-acts i j page (swapped (t .apart j i m l)))))
-      (every-of (sectionCount e) (λ k. clearAt (wordAt 8 page) (wordAt 8 page + t .taken) k page) (λ k l. clear-acts (wordAt 8 page) (wordAt 8 page + t .taken) k page (t .clear k l)))))))
+      (both-of _ _ (every-of (sectionCount e) (λ i. clearTo i i page)
+      (λ i l. every-of i (λ j. apartAt i j page) (λ j m. apart-acts i j page (swapped (t .apart j i m l)))))
+      (every-of (sectionCount e) (λ k. clearAt (wordAt 8 page) (wordAt 8 page + t .taken) k page)
+      (λ k l. clear-acts (wordAt 8 page) (wordAt 8 page + t .taken) k page (t .clear k l)))))))
 
   minor-is : minorOf (versionAt page) ≡ w
   minor-is = version-minor (versionAt page) (version-of (versionAt page) (t .version .2) (t .version .3)) .0 ∙ sym (t .minor)
 
-  accepts : readOf r base page ≡ shows w e (platWith page (t .fields)) (λ k. shown w e k (secAt base page k))
-  unfolding readOf judge allShown platShown platAt mkPlat rulesAt fieldsIn
+  accepts : readOf r base page ≡ shows w e (platWith page (t .fields)) (λ k. shown w e k (pageSectionAt base page k))
+  unfolding readOf judge allShown platShown platformAt pagePlatform rulesAt fieldsIn
   accepts =
       rw (minor-is, ← t .edition)
       (gate-true _ _ _ _ (place-acts base (length page) (t .place)) (version-acts r (versionAt page) (t .version)) rules-are
@@ -65,11 +69,12 @@ module _ (r base : ℕ) (page : List ℕ) (w e : ℕ) (t : Accepts r base page w
 pub reads-acts : (r base : ℕ) (page : List ℕ) (w e : ℕ) (t : Accepts r base page w e) → ReadsPage r base page w e (t .fields)
 reads-acts r base page w e t =
     let a = accepts r base page w e t in
-    record { shown = λ k. shown w e k (secAt base page k); answer = a; view = shows-page r base page w e _ _ a }
+    record { shown = λ k. shown w e k (pageSectionAt base page k); answer = a; view = shows-page r base page w e _ _ a }
 
 -- Only such a page is accepted.
-pub reads-only : (r base : ℕ) (page : List ℕ) (w e : ℕ) (q : PlatShown) (s : ℕ → Shown) → readOf r base page ≡ shows w e q s → AcceptedPage r base page w e q
-unfolding readOf judge allShown platShown platAt mkPlat okTo apartTo clearTo clearFrom rulesAt
+pub reads-only : (r base : ℕ) (page : List ℕ) (w e : ℕ) (q : PlatShown) (s : ℕ → Shown) → readOf r base page ≡ shows w e q s →
+    AcceptedPage r base page w e q
+unfolding readOf judge allShown platShown platformAt pagePlatform okTo apartTo clearTo clearFrom rulesAt
 reads-only r base page w e q s h =
     let g = gate-shows _ _ _ _ _ _ _ _ h in
     let i = shows-each _ w _ e _ q _ s (g .1) in
@@ -89,8 +94,12 @@ reads-only r base page w e q s h =
         taken = taken (foundAt base page (wordAt 8 page));
         plat = plat-only e base page (both-l _ _ a);
         sections = λ k l. section-only w e base k page (every-at (sectionCount e) (λ k. okAt w e base k page) (both-l _ _ b) k l);
-        apart = λ j k l m. swapped (apart-only k j page (every-at k (λ j. apartAt k j page) (every-at (sectionCount e) (λ i. clearTo i i page) (both-l _ _ c) k m) j l));
-        clear = λ k l. clear-only (wordAt 8 page) (wordAt 8 page + taken (foundAt base page (wordAt 8 page))) k page (every-at (sectionCount e) _ (both-r _ _ c) k l);
+        apart =
+            λ j k l m. swapped (apart-only k j page (every-at k (λ j. apartAt k j page)
+            (every-at (sectionCount e) (λ i. clearTo i i page) (both-l _ _ c) k m) j l));
+        clear =
+            λ k l. clear-only (wordAt 8 page) (wordAt 8 page + taken (foundAt base page (wordAt 8 page))) k page
+            (every-at (sectionCount e) _ (both-r _ _ c) k l);
       };
       plat = sym (i .2);
     }

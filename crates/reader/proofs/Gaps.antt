@@ -28,7 +28,8 @@ some-not (suc n) f h y = either-cases _ _ (some-not n f (λ k l. h k (omega arit
 beside-not : (base : ℕ) (page : List ℕ) (i k : ℕ) → BesideArray base page i k → Yes (inArray base page i k) → ⊥
 unfolding inArray
 beside-not base page i k (inl h) y = let a : pointerAt k page ≤ base + i = leb-true _ _ (both-l _ _ (both-r _ _ y)) in omega arith
-beside-not base page i k (inr (inl h)) y = let a : base + i < pointerAt k page + size k (countAt k page) = ltb-true _ _ (both-r _ _ (both-r _ _ y)) in omega arith
+beside-not base page i k (inr (inl h)) y =
+    let a : base + i < pointerAt k page + size k (countAt k page) = ltb-true _ _ (both-r _ _ (both-r _ _ y)) in omega arith
 beside-not base page i k (inr (inr h)) y = false≢true (sym h ∙ both-l _ _ y)
 
 -- fields with an end mark reach through the mark and no further
@@ -52,14 +53,17 @@ core-least : (e : ℕ) → 16 ≤ core e
 unfolding core
 core-least e = omega arith
 
-by-edition-not : (e base : ℕ) (page : List ℕ) (i : ℕ) → core e ≤ i → ((k : ℕ) → k < sectionCount e → BesideArray base page i k) → BesideFields base page i → Yes (namedBy e base page i) → ⊥
+by-edition-not : (e base : ℕ) (page : List ℕ) (i : ℕ) → core e ≤ i → ((k : ℕ) → k < sectionCount e → BesideArray base page i k) →
+    BesideFields base page i → Yes (namedBy e base page i) → ⊥
 unfolding namedBy
 by-edition-not e base page i h g f y =
     either-cases _ _ (λ a. let l = ltb-true i (core e) a in omega arith)
-    (either-cases _ _ (some-not (sectionCount e) (inArray base page i) (λ k l. beside-not base page i k (g k l))) (fields-not base page i f)) y
+    (either-cases _ _ (some-not (sectionCount e) (inArray base page i) (λ k l. beside-not base page i k (g k l)))
+    (fields-not base page i f)) y
 
 module _ (r base : ℕ) (page : List ℕ) (i : ℕ) where
-  named-not : 16 ≤ i → (Yes (versionOk (versionAt page)) → Yes (namedBy (min r (minorOf (versionAt page))) base page i) → ⊥) → named r base page i ≡ false
+  named-not : 16 ≤ i → (Yes (versionOk (versionAt page)) → Yes (namedBy (min r (minorOf (versionAt page))) base page i) → ⊥) →
+      named r base page i ≡ false
   unfolding named
   named-not h f = no-test _ (λ y.
       either-cases _ _ (λ a. let l = ltb-true i 16 a in omega arith) (λ b. f (both-l _ _ b) (both-r _ _ b)) (both-r _ _ y))
@@ -70,7 +74,9 @@ module _ (r base : ℕ) (page : List ℕ) (i : ℕ) where
 
 pub others-unnamed : (r base : ℕ) (page : List ℕ) → OthersUnnamed r base page
 others-unnamed r base page = record {
-  gap = λ i h g f. named-not r base page i (omega (arith, core-least (min r (minorOf (versionAt page))))) (λ v. by-edition-not _ base page i h g f);
+  gap =
+      λ i h g f. named-not r base page i (omega (arith, core-least (min r (minorOf (versionAt page)))))
+      (λ v. by-edition-not _ base page i h g f);
   unknown = λ i h v. named-not r base page i h (λ y. absurd (false≢true (sym v ∙ y)));
   cut = λ i h. cut-not r base page i h;
 }

@@ -16,12 +16,14 @@ use Rattle.versions.specs.Edition.{sectionCount, core, editionOk}
 use Rattle.versions.proofs.Editions.{section-count-most}
 use Rattle.entries.specs.Entry.{size}
 use Rattle.entries.specs.Array.{wordsAt}
-use Rattle.sections.specs.Page.{placeOk, versionAt, countAt, pointerAt, inPage, mkSec, secAt, mkPlat, foundAt, platAt}
+use Rattle.sections.specs.Page.{placeOk, versionAt, countAt, pointerAt, inPage, pageSection, pageSectionAt, pagePlatform, foundAt}
+use Rattle.sections.specs.Page.{platformAt}
 use Rattle.fields.specs.Fields.{ended, fieldsIn, shownFields}
-use Rattle.sections.specs.Section.{platOk, wordsIn, inRange, rulesAt}
+use Rattle.sections.specs.Section.{platformOk, wordsIn, inRange, rulesAt}
 use Rattle.sections.specs.Steps.{okAt, okTo}
 use Rattle.sections.proofs.Sections.{placed, range-low, range-high, array-in, ok-in-range, ok-each, rules-sections, rules-pointer}
-use Rattle.reader.specs.Answer.{Shown, ReaderAnswer, shows, codeIn, shownIn, shown, shownSec, platShown, allShown, readerGate, judge, readOf}
+use Rattle.reader.specs.Answer.{Shown, ReaderAnswer, shows, codeIn, shownIn, shown, shownSec, platShown, allShown, readerGate, judge}
+use Rattle.reader.specs.Answer.{readOf}
 use Rattle.reader.specs.Reading.{sectionOf, shownAs, fieldsOf, readingAnswer, sectionAt, viewAt, readingGate, readingOf}
 use Rattle.reader.specs.Fast.{verdictOf, numberIn, sectionRead}
 use Rattle.reader.specs.declared.Section.{Section}
@@ -32,21 +34,21 @@ use Rattle.reader.specs.declared.Refusal.the-variants.{Place, Version, R
 use Rattle.reader.specs.declared.Reading.{Reading}
 use Rattle.reader.specs.declared.Reading.the-variants.{Accepted, Refused}
 use Rattle.reader.specs.declared.Verdict.{Verdict}
-use Rattle.reader.specs.declared.Verdict.the-variants.{Fine, Refused as Wrong}
+use Rattle.reader.specs.declared.Verdict.the-variants.{Passed, Refused as Wrong}
 
 -- ---- what is shown of one section
 module _ (w e base k : ℕ) (page : List ℕ) where
-  pub shown-absent : sectionCount e ≤ k → shownAs w k Absent page ≡ shown w e k (secAt base page k)
+  pub shown-absent : sectionCount e ≤ k → shownAs w k Absent page ≡ shown w e k (pageSectionAt base page k)
   unfolding shownAs shown
   shown-absent h = rw (le-ltb k (sectionCount e) h)
 
-  pub shown-empty : k < sectionCount e → countAt k page ≡ 0 → shownAs w k Empty page ≡ shown w e k (secAt base page k)
-  unfolding shownAs shown shownSec secAt mkSec
+  pub shown-empty : k < sectionCount e → countAt k page ≡ 0 → shownAs w k Empty page ≡ shown w e k (pageSectionAt base page k)
+  unfolding shownAs shown shownSec pageSectionAt pageSection
   shown-empty h z = rw (lt-ltb k (sectionCount e) h, eq-eqb (countAt k page) 0 z)
 
   pub shown-entries : length page ≡ 4096 → k < sectionCount e → okAt w e base k page ≡ true → (countAt k page ≡ 0 → ⊥) →
-      shownAs w k (Entries (pointerAt k page - base) (countAt k page)) page ≡ shown w e k (secAt base page k)
-  unfolding shownAs shown shownSec secAt mkSec wordsIn wordsAt
+      shownAs w k (Entries (pointerAt k page - base) (countAt k page)) page ≡ shown w e k (pageSectionAt base page k)
+  unfolding shownAs shown shownSec pageSectionAt pageSection wordsIn wordsAt
   shown-entries n h o z =
       let g : inRange e base k (countAt k page) (pointerAt k page) ≡ true = ok-in-range w e base k page o z in
       let l : base + core e ≤ pointerAt k page = range-low e base k (countAt k page) (pointerAt k page) g in
@@ -73,13 +75,14 @@ module _ (e base k : ℕ) (page : List ℕ) where
   section-entries h z = rw (lt-ltb k (sectionCount e) h, ne-eqb (countAt k page) 0 z)
 
 shown-at : (w e base k : ℕ) (page : List ℕ) → length page ≡ 4096 → (k < sectionCount e → okAt w e base k page ≡ true) →
-    shownAs w k (sectionAt e base page k) page ≡ shown w e k (secAt base page k)
+    shownAs w k (sectionAt e base page k) page ≡ shown w e k (pageSectionAt base page k)
 shown-at w e base k page n o = go (decLt k (sectionCount e)) (decLt 0 (countAt k page))
   where
     seenAs : Section → Shown
     seenAs s = shownAs w k s page
 
-    go : Dec (k < sectionCount e) → Dec (0 < countAt k page) → shownAs w k (sectionAt e base page k) page ≡ shown w e k (secAt base page k)
+    go : Dec (k < sectionCount e) → Dec (0 < countAt k page) →
+        shownAs w k (sectionAt e base page k) page ≡ shown w e k (pageSectionAt base page k)
     go (no l) d = ap seenAs (sym (section-absent e base k page (omega arith))) ∙ shown-absent w e base k page (omega arith)
     go (yes l) (no z) = ap seenAs (sym (section-empty e base k page l (omega arith))) ∙ shown-empty w e base k page l (omega arith)
     go (yes l) (yes z) =
@@ -93,15 +96,17 @@ section-view w e base page zero = refl
 section-view w e base page (suc zero) = refl
 section-view w e base page (suc (suc zero)) = refl
 section-view w e base page (suc (suc (suc zero))) = refl
-section-view w e base page (suc (suc (suc (suc k)))) = section-absent e base (suc (suc (suc (suc k)))) page (omega (arith, section-count-most e))
+section-view w e base page (suc (suc (suc (suc k)))) =
+    section-absent e base (suc (suc (suc (suc k)))) page (omega (arith, section-count-most e))
 
 -- the fields at the view's pointer are the fields at the page's pointer
 cond-else : {A : Type 0} (b : Bool) (x y z : A) → y ≡ z → cond b x y ≡ cond b x z
 cond-else true x y z h = refl
 cond-else false x y z h = h
 
-fields-view : (e base q : ℕ) (page : List ℕ) → base % 4096 ≡ 0 → platOk e base (mkPlat q (foundAt base page q)) ≡ true → fieldsOf q page ≡ foundAt base page q
-unfolding platOk mkPlat fieldsOf foundAt inPage
+fields-view : (e base q : ℕ) (page : List ℕ) → base % 4096 ≡ 0 → platformOk e base (pagePlatform q (foundAt base page q)) ≡ true →
+    fieldsOf q page ≡ foundAt base page q
+unfolding platformOk pagePlatform fieldsOf foundAt inPage
 fields-view e base q page m h =
     either-cases _ _
     (λ z. rw z)
@@ -109,18 +114,27 @@ fields-view e base q page m h =
     let l : base + core e ≤ q = leb-true _ _ (both-l _ _ b) in
     let u : q < base + 4096 = ltb-true _ _ (both-l _ _ (both-r _ _ b)) in
     let x : q % 4096 ≡ q - base = omega arith in
-    cond-else (eqb q 0) (ended [] 0) _ _ (rw (x, both-of (leb base q) (leb (q + 1) (base + 4096)) (le-leb base q (omega arith)) (le-leb (q + 1) (base + 4096) (omega arith)))))
+    cond-else (eqb q 0) (ended [] 0) _ _ (rw (
+      x,
+      both-of (leb base q) (leb (q + 1) (base + 4096)) (le-leb base q (omega arith))
+          (le-leb (q + 1) (base + 4096) (omega arith)),
+    )))
     h
 
 view-shows : (w e base : ℕ) (page : List ℕ) → Yes (placeOk base (length page)) → rulesAt w e base page ≡ true →
-    readingAnswer page (Accepted (viewAt w e base page)) ≡ allShown w e (platAt base page) (secAt base page)
-unfolding readingAnswer allShown platShown platAt mkPlat viewAt
+    readingAnswer page (Accepted (viewAt w e base page)) ≡ allShown w e (platformAt base page) (pageSectionAt base page)
+unfolding readingAnswer allShown platShown platformAt pagePlatform viewAt
 view-shows w e base page p t =
     let n = placed base (length page) p in
     let o = rules-sections w e base page t in
-    ap {B = ReaderAnswer} (λ f. shows w e (record { pointer = wordAt 8 page; fields = shownFields (fieldsIn (fieldsOf (wordAt 8 page) page)) }) f) (fun-ext (λ k.
-    ap (λ s. shownAs w k s page) (section-view w e base page k) ∙ shown-at w e base k page (n .0) (ok-each w e base page (sectionCount e) k o)))
-    ∙ ap {B = ReaderAnswer} (λ s. shows w e (record { pointer = wordAt 8 page; fields = shownFields (fieldsIn s) }) (λ k. shown w e k (secAt base page k)))
+    ap {B = ReaderAnswer} (λ f. shows w e (record {
+      pointer = wordAt 8 page;
+      fields = shownFields (fieldsIn (fieldsOf (wordAt 8 page) page));
+    }) f) (fun-ext (λ k.
+    ap (λ s. shownAs w k s page) (section-view w e base page k) ∙
+    shown-at w e base k page (n .0) (ok-each w e base page (sectionCount e) k o)))
+    ∙ ap {B = ReaderAnswer} (λ s. shows w e (record { pointer = wordAt 8 page; fields = shownFields (fieldsIn s) })
+    (λ k. shown w e k (pageSectionAt base page k)))
     (fields-view e base (wordAt 8 page) page (n .2) (rules-pointer w e base page t))
 
 -- ---- what the enum means
@@ -144,36 +158,37 @@ gate-view true false o u v h = ap (λ x. viewIn x u) h
 gate-view false q o u v h = ap (λ x. viewIn x u) h
 
 -- ---- what the verdict implies for the reading
-abbrev isFine : Verdict → Bool
-isFine (Fine w) = true
-isFine (Wrong c) = false
+abbrev isPassed : Verdict → Bool
+isPassed (Passed w) = true
+isPassed (Wrong c) = false
 
 abbrev minorIn : Verdict → ℕ
-minorIn (Fine w) = w
+minorIn (Passed w) = w
 minorIn (Wrong c) = 0
 
 abbrev codeOr : Verdict → Refusal
-codeOr (Fine w) = Rules
+codeOr (Passed w) = Rules
 codeOr (Wrong c) = c
 
 verdict-refused : (c : Refusal) (x : Reading) → Wrong c ≡ verdictOf x → Refused c ≡ x
 unfolding verdictOf
 verdict-refused c (Refused d) h = ap (λ v. Refused (codeOr v)) h
-verdict-refused c (Accepted v) h = absurd (true≢false (sym (ap isFine h)))
+verdict-refused c (Accepted v) h = absurd (true≢false (sym (ap isPassed h)))
 
-gate-fine : (p q o : Bool) (u : View) (w : ℕ) → Fine w ≡ verdictOf (readingGate p q o u) → (Yes p) × (Yes o) × (w ≡ u .minor) × (Accepted u ≡ readingGate p q o u)
+gate-fine : (p q o : Bool) (u : View) (w : ℕ) → Passed w ≡ verdictOf (readingGate p q o u) →
+    (Yes p) × (Yes o) × (w ≡ u .minor) × (Accepted u ≡ readingGate p q o u)
 unfolding readingGate verdictOf
 gate-fine true true true u w h = (refl, refl, ap minorIn h, refl)
-gate-fine true true false u w h = absurd (true≢false (ap isFine h))
-gate-fine true false o u w h = absurd (true≢false (ap isFine h))
-gate-fine false q o u w h = absurd (true≢false (ap isFine h))
+gate-fine true true false u w h = absurd (true≢false (ap isPassed h))
+gate-fine true false o u w h = absurd (true≢false (ap isPassed h))
+gate-fine false q o u w h = absurd (true≢false (ap isPassed h))
 
 module _ (r base : ℕ) (page : List ℕ) where
   pub refused-reads : (c : Refusal) → Wrong c ≡ verdictOf (readingOf r base page) → Refused c ≡ readingOf r base page
   refused-reads c h = verdict-refused c (readingOf r base page) h
 
   -- a page with verdict `Fine` has 4,096 bytes, keeps its rules and is shown
-  pub fine-reads : (w : ℕ) → Fine w ≡ verdictOf (readingOf r base page) →
+  pub fine-reads : (w : ℕ) → Passed w ≡ verdictOf (readingOf r base page) →
       (length page ≡ 4096) × (rulesAt w (min r w) base page ≡ true) × (Accepted (viewAt w (min r w) base page) ≡ readingOf r base page)
   unfolding readingOf viewAt
   fine-reads w h =
@@ -181,11 +196,13 @@ module _ (r base : ℕ) (page : List ℕ) where
       rw (g .2) (placed base (length page) (g .0) .0, g .1, g .3)
 
   -- its sections are those of the page
-  pub fine-section : (w k : ℕ) → Fine w ≡ verdictOf (readingOf r base page) → sectionAt (min r w) base page k ≡ sectionRead (readingOf r base page) k
+  pub fine-section : (w k : ℕ) → Passed w ≡ verdictOf (readingOf r base page) →
+      sectionAt (min r w) base page k ≡ sectionRead (readingOf r base page) k
   unfolding sectionRead
   fine-section w k h = sym (section-view w (min r w) base page k) ∙ ap (λ x. sectionRead x k) (fine-reads w h .2)
 
-  pub told-section : (w k e : ℕ) → e ≡ min r w → (v : Verdict) → v ≡ verdictOf (readingOf r base page) → v ≡ Fine w → (s : Section) → s ≡ sectionAt e base page k → s ≡ sectionRead (readingOf r base page) k
+  pub told-section : (w k e : ℕ) → e ≡ min r w → (v : Verdict) → v ≡ verdictOf (readingOf r base page) → v ≡ Passed w → (s : Section) →
+      s ≡ sectionAt e base page k → s ≡ sectionRead (readingOf r base page) k
   told-section w k e ce v cv h s q = q ∙ rw ce (fine-section w k (sym h ∙ cv))
 
   pub refused-section : (c : Refusal) (k : ℕ) → Wrong c ≡ verdictOf (readingOf r base page) → Absent ≡ sectionRead (readingOf r base page) k
@@ -205,7 +222,8 @@ module _ (r base : ℕ) (page : List ℕ) where
       e ∙ sym (ap (λ u. viewAt (u .minor) (u .edition) base page) e)
 
 -- ---- a section of a reading means the section of the answer
-gate-section : (p q o : Bool) (u : View) (k : ℕ) (page : List ℕ) → shownAs (u .minor) k (sectionRead (readingGate p q o u) k) page ≡ shownIn (readingAnswer page (readingGate p q o u)) k
+gate-section : (p q o : Bool) (u : View) (k : ℕ) (page : List ℕ) →
+    shownAs (u .minor) k (sectionRead (readingGate p q o u) k) page ≡ shownIn (readingAnswer page (readingGate p q o u)) k
 unfolding readingGate sectionRead readingAnswer shownIn shownAs
 gate-section true true true u k page = refl
 gate-section true true false u k page = refl
@@ -215,8 +233,11 @@ gate-section false q o u k page = refl
 pub section-told : (r base : ℕ) (page : List ℕ) (k : ℕ) (s : Section) → s ≡ sectionRead (readingOf r base page) k →
     (s ≡ sectionRead (readingOf r base page) k) × (shownAs (minorOf (versionAt page)) k s page ≡ shownIn (readOf r base page) k)
 unfolding readingOf viewAt
-section-told r base page k s h =
-    (h, ap (λ (x : Section). shownAs (minorOf (versionAt page)) k x page) h ∙ gate-section _ _ _ _ k page ∙ ap (λ a. shownIn a k) (reading-answer r base page))
+section-told r base page k s h = (
+  h,
+  ap (λ (x : Section). shownAs (minorOf (versionAt page)) k x page) h ∙ gate-section _ _ _ _ k page ∙
+      ap (λ a. shownIn a k) (reading-answer r base page),
+)
 
 -- ---- the number of a verdict is the code of the answer
 number-read : (page : List ℕ) (x : Reading) → numberIn (verdictOf x) ≡ codeIn (readingAnswer page x)
@@ -224,7 +245,8 @@ unfolding numberIn verdictOf codeIn readingAnswer
 number-read page (Accepted v) = refl
 number-read page (Refused c) = refl
 
-pub verdict-told : (r base : ℕ) (page : List ℕ) (v : Verdict) → v ≡ verdictOf (readingOf r base page) → (v ≡ verdictOf (readingOf r base page)) × (numberIn v ≡ codeIn (readOf r base page))
+pub verdict-told : (r base : ℕ) (page : List ℕ) (v : Verdict) → v ≡ verdictOf (readingOf r base page) →
+    (v ≡ verdictOf (readingOf r base page)) × (numberIn v ≡ codeIn (readOf r base page))
 verdict-told r base page v h = (h, ap numberIn h ∙ number-read page (readingOf r base page) ∙ ap codeIn (reading-answer r base page))
 
 -- ---- the reader's enum, return by return
@@ -244,7 +266,8 @@ module _ (r base : ℕ) (page : List ℕ) where
       read-version v = rw (h, g, v)
 
       module _ (v : versionOk (versionAt page) ≡ true) where
-        pub read-rules : rulesAt (minorOf (versionAt page)) (min r (minorOf (versionAt page))) base page ≡ false → Refused Rules ≡ readingOf r base page
+        pub read-rules : rulesAt (minorOf (versionAt page)) (min r (minorOf (versionAt page))) base page ≡ false →
+            Refused Rules ≡ readingOf r base page
         unfolding readingOf readingGate both
         read-rules o = rw (h, g, v, o)
 
@@ -254,7 +277,8 @@ module _ (r base : ℕ) (page : List ℕ) where
         read-shows o = rw (h, g, v, o)
 
         -- the verdict, given the minor, the edition and the result of the rules that the code computed
-        module _ (w e : ℕ) (cw : w ≡ minorOf (versionAt page)) (ce : e ≡ min r w) (z : Bool) (cz : z ≡ both (placeOk base (length page)) (rulesAt w e base page)) where
+        module _ (w e : ℕ) (cw : w ≡ minorOf (versionAt page)) (ce : e ≡ min r w) (z : Bool)
+            (cz : z ≡ both (placeOk base (length page)) (rulesAt w e base page)) where
           was-rules : (b : Bool) → z ≡ b → rulesAt (minorOf (versionAt page)) (min r (minorOf (versionAt page))) base page ≡ b
           unfolding both
           was-rules b q = rw (← cw, ← ce) (sym (rw h at cz) ∙ q)
@@ -263,9 +287,9 @@ module _ (r base : ℕ) (page : List ℕ) where
           unfolding verdictOf
           told-rules q = ap verdictOf (read-rules (was-rules false q))
 
-          pub told-fine : z ≡ true → Fine w ≡ verdictOf (readingOf r base page)
+          pub told-fine : z ≡ true → Passed w ≡ verdictOf (readingOf r base page)
           unfolding verdictOf viewAt
-          told-fine q = ap Fine cw ∙ ap verdictOf (read-shows (was-rules true q))
+          told-fine q = ap Passed cw ∙ ap verdictOf (read-shows (was-rules true q))
 
 pub section-none : (v : View) (k : ℕ) → 3 < k → sectionOf v k ≡ Absent
 unfolding sectionOf

@@ -4,7 +4,7 @@ use mathlib.Core.Path.{_≡_}
 use mathlib.Core.Logic.{_⊎_}
 use mathlib.Core.List.{List}
 use lib.ListN.{length}
-use Rattle.words.specs.Word.{wordAt, halfAt}
+use Rattle.words.specs.Word.{wordAt, u32At}
 use Rattle.versions.specs.Edition.{sectionCount}
 use Rattle.entries.specs.Entry.{size}
 use Rattle.fields.specs.Fields.{Field, shownFields}
@@ -22,11 +22,11 @@ pub record Accepts (r base : ℕ) (page : List ℕ) (w e : ℕ) : Type 0 where
   -- no -5: P1 and P2 hold
   pub place : PlaceFacts base (length page)
   -- no -6: V1 and V2 hold; the version of such a page equals its minor
-  pub version : VersionFacts r (halfAt 0 page)
-  pub minor : w ≡ halfAt 0 page
+  pub version : VersionFacts r (u32At 0 page)
+  pub minor : w ≡ u32At 0 page
   pub edition : e ≡ min r w
   -- "padding is zero" (R1)
-  pub padding : halfAt 4 page ≡ 0
+  pub padding : u32At 4 page ≡ 0
   -- plat_data, and the fields that it points at, which take `taken` bytes through their end mark
   pub fields : List Field
   pub taken : ℕ
@@ -58,6 +58,7 @@ pub record AcceptedPage (r base : ℕ) (page : List ℕ) (w e : ℕ) (q : PlatSh
 -- "in this order of checks": the code of a page that does not meet the conditions
 pub record Refuses (r base : ℕ) (page : List ℕ) : Type 0 where
   pub place : (PlaceFacts base (length page) → ⊥) → readOf r base page ≡ refused (minus 5)
-  pub version : PlaceFacts base (length page) → (VersionFacts r (halfAt 0 page) → ⊥) → readOf r base page ≡ refused (minus 6)
+  pub version : PlaceFacts base (length page) → (VersionFacts r (u32At 0 page) → ⊥) → readOf r base page ≡ refused (minus 6)
   -- "-7: any other manifest rule broken"
-  pub rules : PlaceFacts base (length page) → VersionFacts r (halfAt 0 page) → ((w e : ℕ) → Accepts r base page w e → ⊥) → readOf r base page ≡ refused (minus 7)
+  pub rules : PlaceFacts base (length page) → VersionFacts r (u32At 0 page) → ((w e : ℕ) → Accepts r base page w e → ⊥) →
+      readOf r base page ≡ refused (minus 7)

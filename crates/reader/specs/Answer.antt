@@ -11,7 +11,8 @@ use Rattle.versions.specs.Version.{minorOf, versionOk}
 use Rattle.versions.specs.Edition.{sectionCount, core, editionOk}
 use Rattle.entries.specs.Entry.{wordsPerEntry, size, shownWords}
 use Rattle.fields.specs.Fields.{FieldShown, shownFields, fieldsIn, reach}
-use Rattle.sections.specs.Page.{placeOk, versionAt, paddingAt, countAt, pointerAt, inPage, Sec, secAt, Plat, foundAt, platAt}
+use Rattle.sections.specs.Page.{placeOk, versionAt, paddingAt, countAt, pointerAt, inPage, PageSection, pageSectionAt, PagePlatform}
+use Rattle.sections.specs.Page.{foundAt, platformAt}
 use Rattle.sections.specs.Section.{wordsIn, rules}
 
 -- "for each of the four sections absent (not in e), empty, or the entries in order": the words of the entries as they are shown, and the
@@ -35,19 +36,19 @@ abbrev pub minus : ℕ → ℤ
 minus n = negℤ (pos n)
 
 -- a section of the edition, as a page of minor w shows it; count 0 means 24 zero bytes if the rule holds
-unfoldable pub shownSec : ℕ → ℕ → Sec → Shown
+unfoldable pub shownSec : ℕ → ℕ → PageSection → Shown
 shownSec w k s = cond (eqb (s .count) 0) empty (full (shownWords w k (wordsIn k s)) (s .bytes))
 
 -- section k as it is shown; absent if it is not in edition e or k is above 3
-unfoldable pub shown : ℕ → ℕ → ℕ → Sec → Shown
+unfoldable pub shown : ℕ → ℕ → ℕ → PageSection → Shown
 shown w e k s = cond (ltb k (sectionCount e)) (shownSec w k s) absent
 
 -- the platform data as it is shown
-unfoldable pub platShown : Plat → PlatShown
+unfoldable pub platShown : PagePlatform → PlatShown
 platShown q = record { pointer = q .at; fields = shownFields (fieldsIn (q .found)) }
 
 -- "It shows w, e, plat_data, and for each of the four sections ..", of a page of minor w read as edition e
-unfoldable pub allShown : ℕ → ℕ → Plat → (ℕ → Sec) → ReaderAnswer
+unfoldable pub allShown : ℕ → ℕ → PagePlatform → (ℕ → PageSection) → ReaderAnswer
 allShown w e q f = shows w e (platShown q) (λ k. shown w e k (f k))
 
 -- The checks in 01's order: length and base (-5), edition and version (-6), the other rules (-7). "A lone reader starts at -5."
@@ -58,14 +59,14 @@ readerGate true false o a = refused (minus 6)
 readerGate false v o a = refused (minus 5)
 
 -- the answer, given the page's length n, version v with minor w, padding, platform data and sections
-unfoldable pub judge : ℕ → ℕ → ℕ → ℕ → ℕ → ℕ → Plat → (ℕ → Sec) → ReaderAnswer
+unfoldable pub judge : (reader base n version minor padding : ℕ) (plat : PagePlatform) (sections : ℕ → PageSection) → ReaderAnswer
 judge r base n v w pad q f =
     readerGate (placeOk base n) (both (editionOk r) (versionOk v)) (rules w (min r w) base pad q f) (allShown w (min r w) q f)
 
 -- the answer of a reader of edition r at base B
 unfoldable pub readOf : ℕ → ℕ → List ℕ → ReaderAnswer
 readOf r base page =
-    judge r base (length page) (versionAt page) (minorOf (versionAt page)) (paddingAt page) (platAt base page) (secAt base page)
+    judge r base (length page) (versionAt page) (minorOf (versionAt page)) (paddingAt page) (platformAt base page) (pageSectionAt base page)
 
 -- ---- lookups in an answer
 -- its code; 0 if the page is accepted
@@ -121,8 +122,8 @@ fieldsShown (shows w e q s) = q .fields
 
 -- the sections of an answer, "less those that came after its edition": "The older reader shows each section that came after its edition as
 -- absent."
-unfoldable pub less : ℕ → (ℕ → Shown) → ℕ → Shown
-less r s k = cond (ltb k (sectionCount r)) (s k) absent
+unfoldable pub upToEdition : ℕ → (ℕ → Shown) → ℕ → Shown
+upToEdition r s k = cond (ltb k (sectionCount r)) (s k) absent
 
 -- ---- the bytes that an edition names (RD13, RD14)
 -- byte i is in the array of section k, if that array is within the page

@@ -8,16 +8,16 @@ use Rattle.reader.specs.declared.Section.the-variants.{Absent}
 use Rattle.reader.specs.declared.Reading.{Reading}
 use Rattle.reader.specs.declared.Reading.the-variants.{Accepted, Refused}
 use Rattle.reader.specs.declared.Verdict.{Verdict}
-use Rattle.reader.specs.declared.Verdict.the-variants.{Fine, Refused as Wrong}
+use Rattle.reader.specs.declared.Verdict.the-variants.{Passed, Refused as Wrong}
 
 -- the verdict of a reading: the minor of an accepted page, or the refusal
 unfoldable pub verdictOf : Reading → Verdict
-verdictOf (Accepted v) = Fine (v .minor)
+verdictOf (Accepted v) = Passed (v .minor)
 verdictOf (Refused c) = Wrong c
 
 -- the number of a verdict: 0, or 01's code
 unfoldable pub numberIn : Verdict → ℤ
-numberIn (Fine w) = pos 0
+numberIn (Passed w) = pos 0
 numberIn (Wrong c) = refusalNumber c
 
 -- section k of a reading; absent if the page is refused

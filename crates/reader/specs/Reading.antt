@@ -53,7 +53,8 @@ fieldsOf q page = cond (eqb q 0) (ended [] 0) (scanOf (drop (q % 4096) page))
 unfoldable pub readingAnswer : List ℕ → Reading → ReaderAnswer
 readingAnswer page (Refused c) = refused (refusalNumber c)
 readingAnswer page (Accepted v) =
-    shows (v .minor) (v .edition) (record { pointer = v .plat; fields = shownFields (fieldsIn (fieldsOf (v .plat) page)) }) (λ k. shownAs (v .minor) k (sectionOf v k) page)
+    shows (v .minor) (v .edition) (record { pointer = v .plat; fields = shownFields (fieldsIn (fieldsOf (v .plat) page)) })
+    (λ k. shownAs (v .minor) k (sectionOf v k) page)
 
 -- ---- where the arrays are: an array is "the part of the lent page that holds it", at its pointer
 -- section k of an accepted page read as edition e

@@ -14,7 +14,8 @@ use Rattle.reader.specs.Answer.{Shown, PlatShown, shows, readOf, inPlat}
 
 -- byte i of the page is in the value of a withdrawn field
 unfoldable pub withdrawnByte : ℕ → List ℕ → ℕ → Bool
-withdrawnByte base page i = both (inPlat base page i) (inWithdrawn (fieldsIn (foundAt base page (wordAt 8 page))) (base + i - wordAt 8 page))
+withdrawnByte base page i =
+    both (inPlat base page i) (inWithdrawn (fieldsIn (foundAt base page (wordAt 8 page))) (base + i - wordAt 8 page))
 
 -- If two pages of equal length differ only in the withdrawn value of the first, and a reader accepts the first, it gives both the same
 -- answer.

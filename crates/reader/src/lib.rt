@@ -45,7 +45,7 @@ pub enum Reading {
 
 // The verdict alone: the minor of an accepted page, or why the page is refused.
 pub enum Verdict {
-    Fine(u64),
+    Passed(u64),
     Refused(Refusal),
 }
 
@@ -124,7 +124,7 @@ pub fn judge_page(page: &[u8], base: u64, edition: u64) -> Verdict
     if !sections::page_ok(page, base, minor, e) {
         return Verdict::Refused(Refusal::Rules);
     }
-    Verdict::Fine(minor)
+    Verdict::Passed(minor)
 }
 
 // Reads a lent page at `base` as a reader of `edition`. Returns everything that the page shows, or the first refusal in the order of the
@@ -134,7 +134,7 @@ pub fn read(page: &[u8], base: u64, edition: u64) -> Reading
     ensures { λ r. ⌜ readingAnswer (now (page .entry)) r ≡ readOf edition base (now (page .entry)) ⌝ }
 {
     match judge_page(page, base, edition) {
-        Verdict::Fine(w) => {
+        Verdict::Passed(w) => {
             let e = edition_read(edition, w);
             let view = view_at(page, base, w, e);
             Reading::Accepted(view)
@@ -150,7 +150,7 @@ pub fn section_read(page: &[u8], base: u64, edition: u64, k: usize) -> Section
     ensures { λ r. ⌜ shownAs (minorOf (versionAt (now (page .entry)))) k r (now (page .entry)) ≡ shownIn (readOf edition base (now (page .entry))) k ⌝ }
 {
     let verdict = judge_page(page, base, edition);
-    let Verdict::Fine(w) = verdict else {
+    let Verdict::Passed(w) = verdict else {
         return Section::Absent;
     };
     if 3 < k {

@@ -13,7 +13,7 @@ fn print_array(page: &[u8], base: u64, edition: u64, k: usize) {
     io::print_decimal(STDOUT_FILENO, k as u64);
     io::write_all(STDOUT_FILENO, b" ");
     io::print_decimal(STDOUT_FILENO, part.len() as u64);
-    cases::print_word(cases::mark(part));
+    vector_io::print_word(vector_io::mark(part));
     io::write_all(STDOUT_FILENO, b"\n");
 }
 
@@ -29,7 +29,7 @@ fn print_field(page: &[u8], field: FieldPlace) {
         FieldPlace::Raw { tag, at: _, len } => {
             print_number(b"", tag as u64);
             print_number(b"", len as u64);
-            cases::print_word(cases::mark(field_lookup::value_of(page, field)));
+            vector_io::print_word(vector_io::mark(field_lookup::value_of(page, field)));
             io::write_all(STDOUT_FILENO, b"\n");
         }
         FieldPlace::Withdrawn => {
@@ -114,7 +114,7 @@ fn print_input(input: &[u8]) {
 fn main() {
     let mut input = [0u8; 8209];
     for n in 0..1000u64 {
-        let length = cases::load(n, &mut input);
+        let length = vector_io::load(n, &mut input);
         if length == 0 {
             return;
         }

@@ -41,7 +41,8 @@ first-is f n i at p l h e = go (decLt at n)
     go (yes y) =
         let s : n - i ≡ (at - i) + suc (n - at - 1) = omega arith in
         let t : i + (at - i) ≡ at = omega arith in
-        rw (lt-ltb at n y) (ap (λ x. firstMarked f x i) s ∙ first-skip f (at - i) (suc (n - at - 1)) i (λ j a b. h j a (omega arith)) ∙ rw (t, e))
+        rw (lt-ltb at n y) (ap (λ x. firstMarked f x i) s ∙ first-skip f (at - i) (suc (n - at - 1)) i (λ j a b. h j a (omega arith)) ∙
+        rw (t, e))
     go (no y) = rw (le-ltb at n (omega arith)) (first-none f n i (omega arith) (λ j a b. h j a (omega arith)))
 
 -- ---- the bits below k masked out
@@ -79,7 +80,8 @@ bit-in ws at j l =
     let m : (at * 64 + j) % 64 ≡ j = omega arith in
     rw (d, m)
 
-pub look-first : (ws : List ℕ) (n i bits : ℕ) → i < n → bits ≡ getD ws (i / 64) 0 - getD ws (i / 64) 0 % 2 ^ (i % 64) → Look ws n i (i / 64) bits
+pub look-first : (ws : List ℕ) (n i bits : ℕ) → i < n → bits ≡ getD ws (i / 64) 0 - getD ws (i / 64) 0 % 2 ^ (i % 64) →
+    Look ws n i (i / 64) bits
 look-first ws n i bits h e =
     record {
       below = omega arith;
@@ -133,5 +135,6 @@ module _ (ws : List ℕ) (n i at bits : ℕ) (k : Look ws n i at bits) where
 
     pub look-hit : i < n → firstMarked (bitAt ws) (n - i) i ≡ hitBelow n (at * 64 + trailingZeros 64 bits)
     look-hit p =
-        first-is (bitAt ws) n i (at * 64 + trailingZeros 64 bits) p hit-after (clear-to (trailingZeros 64 bits) (omega arith) (tz-below 64 bits))
+        first-is (bitAt ws) n i (at * 64 + trailingZeros 64 bits) p hit-after
+        (clear-to (trailingZeros 64 bits) (omega arith) (tz-below 64 bits))
         (sym (k .held (trailingZeros 64 bits) h hit-after) ∙ tz-at 64 bits h)

@@ -19,7 +19,8 @@ pub build-none : (t ws : List ℕ) → ws ≡ packedTo 0 t ++ drop 0 ws
 unfolding packedTo
 build-none t ws = refl
 
-pub build-more : (t ws : List ℕ) (i w : ℕ) → i < length ws → w ≡ wordFrom t i → set (packedTo i t ++ drop i ws) i w ≡ packedTo (i + 1) t ++ drop (i + 1) ws
+pub build-more : (t ws : List ℕ) (i w : ℕ) → i < length ws → w ≡ wordFrom t i →
+    set (packedTo i t ++ drop i ws) i w ≡ packedTo (i + 1) t ++ drop (i + 1) ws
 build-more t ws i w h e =
     rw (add-one, words-last i t, append-assoc, drop-cons ws i 0 h, e)
     (set-at (packedTo i t) (getD ws i 0) (drop (suc i) ws) (wordFrom t i) i (words-length i t))

@@ -39,7 +39,8 @@ module _ (ws : List ℕ) where
   marked-none = refl
 
   -- one more whole word
-  pub marked-more : (q s w : ℕ) → getD ws q 0 < 2 ^ 64 → s ≡ marked (bitAt ws) (64 * q) → w ≡ ones (getD ws q 0) → s + w ≡ marked (bitAt ws) (64 * (q + 1))
+  pub marked-more : (q s w : ℕ) → getD ws q 0 < 2 ^ 64 → s ≡ marked (bitAt ws) (64 * q) → w ≡ ones (getD ws q 0) →
+      s + w ≡ marked (bitAt ws) (64 * (q + 1))
   marked-more q s w h a b =
       let e : 64 * (q + 1) ≡ 64 * q + 64 = omega arith in
       let f : getD ws q 0 % 2 ^ 64 ≡ getD ws q 0 = mod-eq-of-lt h in

@@ -20,7 +20,8 @@ word-same : (n w v : ℕ) → w < 2 ^ n → v < 2 ^ n → ((k : ℕ) → k < n �
 word-same zero w v a b h = omega arith
 word-same (suc n) w v a b h =
     let p = pow-suc 2 n in
-    let i : w / 2 ≡ v / 2 = word-same n (w / 2) (v / 2) (omega arith) (omega arith) (λ k l. sym (bit-suc w k) ∙ h (suc k) (omega arith) ∙ bit-suc v k) in
+    let i : w / 2 ≡ v / 2 = word-same n (w / 2) (v / 2) (omega arith) (omega arith)
+    (λ k l. sym (bit-suc w k) ∙ h (suc k) (omega arith) ∙ bit-suc v k) in
     let z : w % 2 ≡ v % 2 = sym (bit-zero w) ∙ h 0 (omega arith) ∙ bit-zero v in
     omega arith
 
@@ -49,7 +50,8 @@ agree-words t ws l small a =
     (λ k h. word-same 64 (getD ws k 0) (getD (realmWords t) k 0) (small k) (below k (omega arith)) (bits k h))
   where
     below : (k : ℕ) → k < wordsFor (length t) → getD (realmWords t) k 0 < 2 ^ 64
-    below k h = rw (words-at (wordsFor (length t)) t k h) (omega (arith, packed-lt (take 64 (drop (k * 64) t)), pow-mono (few (drop (k * 64) t))))
+    below k h =
+        rw (words-at (wordsFor (length t)) t k h) (omega (arith, packed-lt (take 64 (drop (k * 64) t)), pow-mono (few (drop (k * 64) t))))
       where
         few : (s : List ℕ) → length (take 64 s) ≤ 64
         few s = rw length-take (omega arith)

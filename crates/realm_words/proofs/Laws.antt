@@ -15,7 +15,8 @@ use Rattle.words.proofs.Tests.{both-of}
 use Rattle.realm_words.specs.declared.Number.{Number}
 use Rattle.realm_words.specs.declared.Agreement.{Agreement}
 use Rattle.realm_words.specs.Bits.{bitOf, bitAt, withBit, putBit, realmBit, packed, packedTo, wordsFor, realmWords}
-use Rattle.realm_words.specs.Answers.{bothFit, sameWords, marked, firstMarked, realmCountOf, realmNextOf, realmAgreeOf, realmBuildOf, realmAt, realms, nextRealm}
+use Rattle.realm_words.specs.Answers.{bothFit, sameWords, marked, firstMarked, realmCountOf, realmNextOf, realmAgreeOf, realmBuildOf}
+use Rattle.realm_words.specs.Answers.{realmAt, realms, nextRealm}
 use Rattle.realm_words.proofs.Bits.{bit-same, bit-other, with-zero, with-suc}
 use Rattle.realm_words.proofs.Packing.{realm-le, bit-agrees, words-length}
 use Rattle.realm_words.proofs.Agreeing.{fits, same-is, is-same}
@@ -64,13 +65,15 @@ put-length ws i v = length-set ws (i / 64) _
 
 pub put-same : (ws : List ℕ) (i v : ℕ) → i / 64 < length ws → v < 2 → bitAt (putBit ws i v) i ≡ v
 unfolding putBit
-put-same ws i v h l = rw (getD-set-same ws (i / 64) (withBit (getD ws (i / 64) 0) (i % 64) v) 0 h) (bit-same (getD ws (i / 64) 0) (i % 64) v l)
+put-same ws i v h l =
+    rw (getD-set-same ws (i / 64) (withBit (getD ws (i / 64) 0) (i % 64) v) 0 h) (bit-same (getD ws (i / 64) 0) (i % 64) v l)
 
 pub put-other : (ws : List ℕ) (i j v : ℕ) → v < 2 → (j ≡ i → ⊥) → bitAt (putBit ws i v) j ≡ bitAt ws j
 unfolding putBit
 put-other ws i j v l n = go (ℕ-discrete (j / 64) (i / 64)) (decLt (i / 64) (length ws))
   where
-    go : Dec (j / 64 ≡ i / 64) → Dec (i / 64 < length ws) → bitOf (getD (set ws (i / 64) (withBit (getD ws (i / 64) 0) (i % 64) v)) (j / 64) 0) (j % 64) ≡ bitOf (getD ws (j / 64) 0) (j % 64)
+    go : Dec (j / 64 ≡ i / 64) → Dec (i / 64 < length ws) →
+        bitOf (getD (set ws (i / 64) (withBit (getD ws (i / 64) 0) (i % 64) v)) (j / 64) 0) (j % 64) ≡ bitOf (getD ws (j / 64) 0) (j % 64)
     go (no d) b = rw (getD-set-other ws (i / 64) (j / 64) (withBit (getD ws (i / 64) 0) (i % 64) v) 0 d)
     go (yes e) (no b) = rw (set-out ws (i / 64) (withBit (getD ws (i / 64) 0) (i % 64) v) (omega arith))
     go (yes e) (yes b) =
@@ -92,19 +95,23 @@ unfolding packedTo putBit
 to-put zero t i v h l = absurd (not-suc-le-zero l)
 to-put (suc n) t i v h l = go (decLt i 64) (to-put n (drop 64 t) (i - 64) v)
   where
-    go : Dec (i < 64) → (i - 64 < length (drop 64 t) → i - 64 < 64 * n → packedTo n (set (drop 64 t) (i - 64) v) ≡ putBit (packedTo n (drop 64 t)) (i - 64) (realmBit v))
-        → packed (take 64 (set t i v)) ∷ packedTo n (drop 64 (set t i v)) ≡ putBit (packed (take 64 t) ∷ packedTo n (drop 64 t)) i (realmBit v)
+    go : Dec (i < 64) → (i - 64 < length (drop 64 t) → i - 64 < 64 * n →
+        packedTo n (set (drop 64 t) (i - 64) v) ≡ putBit (packedTo n (drop 64 t)) (i - 64) (realmBit v))
+        → packed (take 64 (set t i v)) ∷ packedTo n (drop 64 (set t i v)) ≡ putBit (packed (take 64 t) ∷ packedTo n (drop 64 t)) i
+        (realmBit v)
     go (yes a) ih =
         let q : i / 64 ≡ 0 = omega arith in
         let m : i % 64 ≡ i = omega arith in
         let r : i < length (take 64 t) = rw length-take (omega arith) in
-        rw (take-set-lt 64 t i v a, drop-set-lt 64 t i v a, q, m) (ap (λ x. x ∷ packedTo n (drop 64 t)) (sym (packed-put (take 64 t) i v r)))
+        rw (take-set-lt 64 t i v a, drop-set-lt 64 t i v a, q, m)
+        (ap (λ x. x ∷ packedTo n (drop 64 t)) (sym (packed-put (take 64 t) i v r)))
     go (no a) ih =
         let e : i ≡ 64 + (i - 64) = omega arith in
         let q : i / 64 ≡ suc ((i - 64) / 64) = omega arith in
         let m : i % 64 ≡ (i - 64) % 64 = omega arith in
         let s : drop 64 (set t i v) ≡ set (drop 64 t) (i - 64) v = ap (λ j. drop 64 (set t j v)) e ∙ drop-set-add 64 t (i - 64) v in
-        rw (take-set-le 64 t i v (omega arith), s, q, m) (ap (λ x. packed (take 64 t) ∷ x) (ih (rw length-drop (omega arith)) (omega arith)))
+        rw (take-set-le 64 t i v (omega arith), s, q, m) (ap (λ x. packed (take 64 t) ∷ x)
+        (ih (rw length-drop (omega arith)) (omega arith)))
 
 pub words-put : (t : List ℕ) (i v : ℕ) → i < length t → realmWords (set t i v) ≡ putBit (realmWords t) i (realmBit v)
 unfolding wordsFor
@@ -124,7 +131,8 @@ pub agree-told : (t ws : List ℕ) (n : ℕ) → realmAgreeOf t ws n ≡ Agreeme
 unfolding realmAgreeOf
 agree-told t ws n = go (bothFit t ws n) (sameWords ws (realmWords t)) refl
   where
-    go : (b s : Bool) → sameWords ws (realmWords t) ≡ s → cond b (cond s Agreement.Yes Agreement.No) Agreement.Inval ≡ Agreement.Yes → ws ≡ realmWords t
+    go : (b s : Bool) → sameWords ws (realmWords t) ≡ s → cond b (cond s Agreement.Yes Agreement.No) Agreement.Inval ≡ Agreement.Yes →
+        ws ≡ realmWords t
     go true true e h = same-is ws (realmWords t) e
     go true false e h = let z : _≡_ {A = ℕ} 0 1 = cc in absurd (omega arith)
     go false s e h = let z : _≡_ {A = ℕ} 0 1 = cc in absurd (omega arith)
@@ -134,12 +142,14 @@ pub agree-sized : (t ws : List ℕ) (n : ℕ) → realmAgreeOf t ws n ≡ Agreem
 unfolding realmAgreeOf
 agree-sized t ws n = go (bothFit t ws n) refl
   where
-    go : (b : Bool) → bothFit t ws n ≡ b → cond b (cond (sameWords ws (realmWords t)) Agreement.Yes Agreement.No) Agreement.Inval ≡ Agreement.Yes → length t ≡ n
+    go : (b : Bool) → bothFit t ws n ≡ b → cond b (cond (sameWords ws (realmWords t)) Agreement.Yes Agreement.No) Agreement.Inval ≡
+        Agreement.Yes → length t ≡ n
     go true e h = fits t ws n e .table-fit
     go false e h = let z : _≡_ {A = ℕ} 0 1 = cc in absurd (omega arith)
 
 -- a build makes words and table agree, for any words before
-pub build-agrees : (t ws : List ℕ) → length ws ≡ wordsFor (length t) → realmBuildOf t ws (length t) ≡ record { done = true; words = realmWords t }
+pub build-agrees : (t ws : List ℕ) → length ws ≡ wordsFor (length t) →
+    realmBuildOf t ws (length t) ≡ record { done = true; words = realmWords t }
 unfolding realmBuildOf
 build-agrees t ws e = rw (fit-both t ws e)
 

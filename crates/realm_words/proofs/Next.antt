@@ -38,10 +38,20 @@ first-at f (suc k) i j h = go (eqb (f i) 1) refl h (first-at f k (suc i) j)
     go : (b : Bool) → eqb (f i) 1 ≡ b → cond b (Hit.At i) (firstMarked f k (suc i)) ≡ Hit.At j → (firstMarked f k (suc i) ≡ Hit.At j → FirstAt f (suc i + k) (suc i) j) → FirstAt f (i + suc k) i j
     go true e q ih =
         let s : i ≡ j = cc in
-        record { from = omega arith; below = omega arith; marks = ap f (sym s) ∙ eqb-true (f i) 1 e; before = λ m a b. absurd (omega arith) }
+        record {
+          from = omega arith;
+          below = omega arith;
+          marks = ap f (sym s) ∙ eqb-true (f i) 1 e;
+          before = λ m a b. absurd (omega arith);
+        }
     go false e q ih =
         let r = ih q in
-        record { from = omega (arith, r .from); below = omega (arith, r .below); marks = r .marks; before = λ m a b c. later m e r a b c (decLt i m) }
+        record {
+          from = omega (arith, r .from);
+          below = omega (arith, r .below);
+          marks = r .marks;
+          before = λ m a b c. later m e r a b c (decLt i m);
+        }
 
 first-none : (f : ℕ → ℕ) (k i : ℕ) → firstMarked f k i ≡ Hit.Nothing → NoneFrom f (i + k) i
 unfolding firstMarked
@@ -83,7 +93,8 @@ module _ (ws : List ℕ) (n i : ℕ) where
   unfolding realmNextOf
   told h e z = go (both (wordsFit ws n) (ltb i n)) refl e
     where
-      go : (b : Bool) → both (wordsFit ws n) (ltb i n) ≡ b → cond b (firstMarked (bitAt ws) (n - i) i) Hit.Inval ≡ h → Asked × (firstMarked (bitAt ws) (n - i) i ≡ h)
+      go : (b : Bool) → both (wordsFit ws n) (ltb i n) ≡ b → cond b (firstMarked (bitAt ws) (n - i) i) Hit.Inval ≡ h →
+          Asked × (firstMarked (bitAt ws) (n - i) i ≡ h)
       go true y q = (asked y, q)
       go false y q = absurd (z (sym q))
 

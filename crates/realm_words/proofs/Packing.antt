@@ -36,7 +36,8 @@ pub packed-none : (t : List ℕ) → 0 ≡ packed (drop (length t) t)
 unfolding packed
 packed-none t = rw drop-length
 
-pub packed-more : (t : List ℕ) (i b bits : ℕ) → 0 < i → i ≤ length t → b ≡ realmBit (getD t (i - 1) 0) → bits ≡ packed (drop i t) → b + 2 * bits ≡ packed (drop (i - 1) t)
+pub packed-more : (t : List ℕ) (i b bits : ℕ) → 0 < i → i ≤ length t → b ≡ realmBit (getD t (i - 1) 0) → bits ≡ packed (drop i t) →
+    b + 2 * bits ≡ packed (drop (i - 1) t)
 unfolding packed
 packed-more t i b bits p h e f =
     let s : suc (i - 1) ≡ i = omega arith in
@@ -48,10 +49,12 @@ packed-append : (xs ys : List ℕ) → packed (xs ++ ys) ≡ packed xs + 2 ^ len
 unfolding packed
 packed-append [] ys = omega arith
 packed-append (x ∷ xs) ys =
-    let e : 2 ^ suc (length xs) * packed ys ≡ 2 * (2 ^ length xs * packed ys) = rw (pow-suc 2 (length xs), mul-comm (2 ^ length xs) 2) (mul-assoc 2 (2 ^ length xs) (packed ys)) in
+    let e : 2 ^ suc (length xs) * packed ys ≡ 2 * (2 ^ length xs * packed ys) = rw (pow-suc 2 (length xs), mul-comm (2 ^ length xs) 2)
+    (mul-assoc 2 (2 ^ length xs) (packed ys)) in
     rw (packed-append xs ys, e) (omega arith)
 
-octet-more : (n i j : ℕ) (t : List ℕ) → j ≡ i + 8 → i + 8 ≤ length t → packed (take (8 + n) (drop i t)) ≡ packed (take 8 (drop i t)) + 0x100 * packed (take n (drop j t))
+octet-more : (n i j : ℕ) (t : List ℕ) → j ≡ i + 8 → i + 8 ≤ length t →
+    packed (take (8 + n) (drop i t)) ≡ packed (take 8 (drop i t)) + 0x100 * packed (take n (drop j t))
 octet-more n i j t e h =
     let l : length (take 8 (drop i t)) ≡ 8 = length-take-le 8 (drop i t) (rw length-drop (omega arith)) in
     ap packed (take-add 8 n (drop i t)) ∙ packed-append (take 8 (drop i t)) (take n (drop 8 (drop i t))) ∙ rw (l, drop-drop, e)
@@ -62,8 +65,10 @@ octet-lt i t h =
     rw l at (packed-lt (take 8 (drop i t)))
 
 pub eight-octets : (i : ℕ) (t : List ℕ) → i + 64 ≤ length t → packed (take 64 (drop i t))
-    ≡ packed (take 8 (drop i t)) + packed (take 8 (drop (i + 8) t)) * 0x100 + packed (take 8 (drop (i + 16) t)) * 0x1_0000 + packed (take 8 (drop (i + 24) t)) * 0x100_0000
-    + packed (take 8 (drop (i + 32) t)) * 0x1_0000_0000 + packed (take 8 (drop (i + 40) t)) * 0x100_0000_0000 + packed (take 8 (drop (i + 48) t)) * 0x1_0000_0000_0000
+    ≡ packed (take 8 (drop i t)) + packed (take 8 (drop (i + 8) t)) * 0x100 + packed (take 8 (drop (i + 16) t)) * 0x1_0000 + packed
+    (take 8 (drop (i + 24) t)) * 0x100_0000
+    + packed (take 8 (drop (i + 32) t)) * 0x1_0000_0000 + packed (take 8 (drop (i + 40) t)) * 0x100_0000_0000 + packed
+    (take 8 (drop (i + 48) t)) * 0x1_0000_0000_0000
     + packed (take 8 (drop (i + 56) t)) * 0x100_0000_0000_0000
 eight-octets i t h =
     let a = octet-more 56 i (i + 8) t (omega arith) (omega arith) in
@@ -114,7 +119,8 @@ unfolding packedTo
 words-last zero t = refl
 words-last (suc n) t = ap (λ l. packed (take 64 t) ∷ l) (words-last n (drop 64 t) ∙ rw (next-block t n))
 
-pub words-first : (n i : ℕ) (t : List ℕ) → i < n → packedTo (n - i) (drop (i * 64) t) ≡ wordFrom t i ∷ packedTo (n - (i + 1)) (drop ((i + 1) * 64) t)
+pub words-first : (n i : ℕ) (t : List ℕ) → i < n → packedTo (n - i) (drop (i * 64) t) ≡ wordFrom t i ∷ packedTo (n - (i + 1))
+    (drop ((i + 1) * 64) t)
 unfolding packedTo
 words-first n i t h =
     let e : n - i ≡ suc (n - (i + 1)) = omega arith in
@@ -128,7 +134,8 @@ bit-any t i h =
     let q : i / 64 * 64 + i % 64 ≡ i = omega arith in
     rw (words-at (wordsFor (length t)) t (i / 64) h)
     (packed-bit (take 64 (drop (i / 64 * 64) t)) (i % 64)
-    ∙ ap realmBit (getD-take 64 (drop (i / 64 * 64) t) (i % 64) 0 (omega arith) ∙ getD-drop (i / 64 * 64) t (i % 64) 0 ∙ ap (λ x. getD t x 0) q))
+    ∙ ap realmBit (getD-take 64 (drop (i / 64 * 64) t) (i % 64) 0 (omega arith) ∙ getD-drop (i / 64 * 64) t (i % 64) 0 ∙
+    ap (λ x. getD t x 0) q))
 
 pub bit-agrees : (t : List ℕ) (i : ℕ) → i < length t → bitAt (realmWords t) i ≡ realmBit (getD t i 0)
 unfolding wordsFor

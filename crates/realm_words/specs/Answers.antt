@@ -6,7 +6,7 @@ use mathlib.Core.List.{List, [], _∷_}
 use lib.ListN.{length, getD}
 use lib.Dec.{ltb, eqb}
 use Rattle.words.specs.Tests.{both}
-use Rattle.codes.specs.Codes.{unless, fails}
+use Rattle.codes.specs.Codes.{isFalse, fails}
 use Rattle.codes.specs.declared.Code.{Code}
 use Rattle.codes.specs.declared.Code.the-variants.{Ok, Inval}
 use Rattle.realm_words.specs.Bits.{bitAt, realmBit, wordsFor, realmWords}
@@ -49,15 +49,15 @@ bothFit t ws n = both (wordsFit ws n) (eqb (length t) n)
 -- ---- the refusals as checks in 02's order
 -- of a count
 unfoldable pub wordsCode : List ℕ → ℕ → Code
-wordsCode ws n = fails (unless (wordsFit ws n)) Inval Ok
+wordsCode ws n = fails (isFalse (wordsFit ws n)) Inval Ok
 
 -- of a search
 unfoldable pub indexCode : List ℕ → (n i : ℕ) → Code
-indexCode ws n i = fails (unless (wordsFit ws n)) Inval (fails (unless (ltb i n)) Inval Ok)
+indexCode ws n i = fails (isFalse (wordsFit ws n)) Inval (fails (isFalse (ltb i n)) Inval Ok)
 
 -- of an agreement or a build
 unfoldable pub tableCode : (t ws : List ℕ) → ℕ → Code
-tableCode t ws n = fails (unless (wordsFit ws n)) Inval (fails (unless (eqb (length t) n)) Inval Ok)
+tableCode t ws n = fails (isFalse (wordsFit ws n)) Inval (fails (isFalse (eqb (length t) n)) Inval Ok)
 
 -- ---- "The number of Realm granules, and the first one at or after an index, are answered from the words alone"
 -- the number of i in [0, n) with f i = 1; f is 1 or 0

@@ -34,7 +34,8 @@ module _ (b w : List ℕ) (k : Code) (e : k ≡ pushCode b (listsIn w)) where
   unfolding pushOn pushOf
   push-image-refused h = rw e (image-refuses (pushCode b (listsIn w)) _ b (listsIn w) (pushDone b w) w (rw e at h))
 
-  pub push-image-done : k ≡ Ok → _≡_ {A = ImageStep} (record { answer = answerOf Ok 0 0; page = b; image = rowAppended requestSide (requestWords (requestOf b)) w }) (pushOn b w)
+  pub push-image-done : k ≡ Ok → _≡_ {A = ImageStep} (record
+      { answer = answerOf Ok 0 0; page = b; image = rowAppended requestSide (requestWords (requestOf b)) w }) (pushOn b w)
   unfolding pushOn pushOf pushDone answerOf
   push-image-done h =
       let p = push-passed b (listsIn w) (rw e at h) in

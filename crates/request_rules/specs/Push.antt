@@ -3,8 +3,8 @@ use Prim.Native.Nat.{ℕ}
 use mathlib.Core.List.{List, [], _∷_, _++_}
 use lib.ListN.{length}
 use lib.Dec.{leb, ltb, eqb}
-use Rattle.words.specs.Word.{part, wordAt, halfAt}
-use Rattle.codes.specs.Codes.{unless, fails, answerOf}
+use Rattle.words.specs.Word.{part, wordAt, u32At}
+use Rattle.codes.specs.Codes.{isFalse, fails, answerOf}
 use Rattle.codes.specs.declared.Code.{Code}
 use Rattle.codes.specs.declared.Code.the-variants.{Ok, Inval, Again}
 use Rattle.queue.specs.declared.Request.{Request}
@@ -14,10 +14,10 @@ use Rattle.queue.specs.Queue.{Lists, SigningStep, queued}
 unfoldable pub requestOf : List ℕ → Request
 requestOf b =
     record {
-      algorithm = halfAt 0 b;
+      algorithm = u32At 0 b;
       granule = wordAt 8 b;
       ticket = wordAt 16 b;
-      hashid = halfAt 24 b;
+      hashid = u32At 24 b;
       hash = part 32 48 b;
     }
 
@@ -25,8 +25,8 @@ requestOf b =
 unfoldable pub pushCode : List ℕ → Lists → Code
 pushCode b q =
     fails (ltb (length b) 80) Inval
-    (fails (unless (eqb (requestOf b .algorithm) 0)) Inval
-    (fails (unless (eqb (requestOf b .hashid) 1)) Inval
+    (fails (isFalse (eqb (requestOf b .algorithm) 0)) Inval
+    (fails (isFalse (eqb (requestOf b .hashid) 1)) Inval
     (fails (leb 8 (length (q .requests))) Again
     Ok)))
 

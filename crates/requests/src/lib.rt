@@ -2,7 +2,7 @@
 use codes::Answer;
 use codes::Code;
 use queue::Queue;
-use queue::Queued;
+use queue::QueueResult;
 use queue::Request;
 ghost use mathlib.Core.Path.{_≡_};
 ghost use mathlib.Core.List.{List};
@@ -21,10 +21,10 @@ fn request_of(buffer: &[u8]) -> Request
     let mut hash = [0u8; 48];
     words::copy(&mut hash, &buffer[32..80]);
     Request {
-        algorithm: words::half_at(buffer, 0),
+        algorithm: words::u32_at(buffer, 0),
         granule: words::word_at(buffer, 8),
         ticket: words::word_at(buffer, 16),
-        hashid: words::half_at(buffer, 24),
+        hashid: words::u32_at(buffer, 24),
         hash,
     }
 }
@@ -47,7 +47,7 @@ fn push_code(algorithm: u64, hashid: u64, waiting: usize) -> Code
 
 // Push: the request in the buffer joins the end of those that wait. Reads the request once and checks that copy, so a page that changes
 // during the call cannot change what joins.
-pub fn push(buffer: &[u8], queue: Queue) -> Queued
+pub fn push(buffer: &[u8], queue: Queue) -> QueueResult
     ensures { λ r. ⌜ signingExit r (now (buffer .entry)) ≡ exitOf queue (pushOf (now (buffer .entry)) (listsOf queue)) ⌝ }
 {
     let requests = queue.requests;
@@ -66,8 +66,8 @@ pub fn push(buffer: &[u8], queue: Queue) -> Queued
     }
     let more = queue::join_request(requests, request);
     let same = queue::responses_from(responses, 0);
-    Queued {
-        answer: codes::answered(Code::Ok, 0, 0),
+    QueueResult {
+        answer: codes::answer_with(Code::Ok, 0, 0),
         queue: Queue {
             requests: more,
             responses: same,
@@ -77,11 +77,11 @@ pub fn push(buffer: &[u8], queue: Queue) -> Queued
 
 // Push on the queue's image: all checks run before the first word is written, and only the requests' side changes. Also reads the
 // request only once.
-pub fn push_on(buffer: &[u8], image: &mut [u64; 210]) -> Answer
+pub fn push_image(buffer: &[u8], image: &mut [u64; 210]) -> Answer
     ensures { λ r. ⌜ _≡_ {A = ImageStep} (record { answer = r; page = now (buffer .entry); image = now (image .exit) }) (pushOn (now (buffer .entry)) (now (image .entry))) ⌝ }
 {
     if buffer.len() < 80 {
-        return codes::answered(Code::Inval, 0, 0);
+        return codes::answer_with(Code::Inval, 0, 0);
     }
     let request = request_of(buffer);
     let code = push_code(
@@ -90,8 +90,8 @@ pub fn push_on(buffer: &[u8], image: &mut [u64; 210]) -> Answer
         queue_image::requests_waiting(image),
     );
     if !codes::is_ok(code) {
-        return codes::answered(code, 0, 0);
+        return codes::answer_with(code, 0, 0);
     }
     queue_image::add_request(image, request);
-    codes::answered(Code::Ok, 0, 0)
+    codes::answer_with(Code::Ok, 0, 0)
 }

@@ -24,7 +24,8 @@ use Rattle.response_rules.specs.OnImage.{pullOn, signDone, SignImage, si
 
 -- ---- pull
 -- what follows from OK
-pub pull-passed : (size : ℕ) (q : Lists) → pullCode size q ≡ Ok → (length (q .responses) ≡ 0 → ⊥) × (18 + length (oldestResponse (q .responses) .signature) ≤ size)
+pub pull-passed : (size : ℕ) (q : Lists) → pullCode size q ≡ Ok →
+    (length (q .responses) ≡ 0 → ⊥) × (18 + length (oldestResponse (q .responses) .signature) ≤ size)
 unfolding pullCode
 pull-passed size q h =
     let waits = fails-ok _ _ _ refl h in
@@ -42,15 +43,21 @@ module _ (b w : List ℕ) (k : Code) (e : k ≡ pullCode (length b) (listsIn w))
         let p = pull-passed (length b) (listsIn w) (rw e at o) in
         rw (front-response-is w (p .0)) at (p .1)
 
-    pub pull-image-done : _≡_ {A = ImageStep} (record { answer = answerOf Ok 0 0; page = splice 0 (responseBytes (responseIn (part 82 16 w))) b; image = rowDropped responseSide w }) (pullOn b w)
+    pub pull-image-done : _≡_ {A = ImageStep} (record {
+      answer = answerOf Ok 0 0;
+      page = splice 0 (responseBytes (responseIn (part 82 16 w))) b;
+      image = rowDropped responseSide w;
+    }) (pullOn b w)
     unfolding pullOn pullOf answerOf
     pull-image-done =
         let p = pull-passed (length b) (listsIn w) (rw e at o) in
-        rw (← front-response-is w (p .0)) (image-accepts (pullCode (length b) (listsIn w)) _ b (listsIn w) (rowDropped responseSide w) w (rw e at o) refl)
+        rw (← front-response-is w (p .0)) (image-accepts (pullCode (length b) (listsIn w)) _ b (listsIn w) (rowDropped responseSide w) w
+        (rw e at o) refl)
 
 -- ---- the signer's step
 -- what follows from OK
-pub sign-passed : (q : Lists) (s : List ℕ) → signCode q s ≡ Ok → (length s ≤ 104) × (length (q .requests) ≡ 0 → ⊥) × (length (q .responses) < 8)
+pub sign-passed : (q : Lists) (s : List ℕ) → signCode q s ≡ Ok →
+    (length s ≤ 104) × (length (q .requests) ≡ 0 → ⊥) × (length (q .responses) < 8)
 unfolding signCode
 sign-passed q s h =
     let some = fails-ok _ _ _ refl h in
@@ -65,7 +72,10 @@ module _ (w s : List ℕ) (k : Code) (e : k ≡ signCode (listsIn w) s) where
   sign-image-refused h = rw (← e, h)
 
   pub sign-image-done : k ≡ Ok → (r : Request) → r ≡ requestIn (part 2 10 w) →
-      _≡_ {A = SignImage} (record { answer = answerOf Ok 0 0; image = rowDropped requestSide (rowAppended responseSide (responseWords (signedBy r s)) w) }) (signOn w s)
+      _≡_ {A = SignImage} (record {
+        answer = answerOf Ok 0 0;
+        image = rowDropped requestSide (rowAppended responseSide (responseWords (signedBy r s)) w);
+      }) (signOn w s)
   unfolding signOn signOf signDone answerOf
   sign-image-done o r f =
       let p = sign-passed (listsIn w) s (rw e at o) in

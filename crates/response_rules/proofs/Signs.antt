@@ -9,16 +9,18 @@ use Rattle.codes.specs.Codes.{fails, isOk, answerOf}
 use Rattle.codes.specs.declared.Code.{Code}
 use Rattle.codes.specs.declared.Code.the-variants.{Ok, Inval, Again}
 use Rattle.queue.specs.declared.Queue.{Queue}
-use Rattle.queue.specs.declared.Queued.{Queued}
+use Rattle.queue.specs.declared.QueueResult.{QueueResult}
 use Rattle.queue.specs.Queue.{Lists, queueHolding, queueNext}
 use Rattle.response_rules.specs.Sign.{signCode, signed, signOf, signExit}
 
 module _ (q : Lists) (s : List ℕ) (old : Queue) where
-  pub sign-refuses : (c : Code) (r : Queued) → r ≡ record { answer = answerOf c 0 0; queue = old } → signCode q s ≡ c → isOk c ≡ false → r ≡ signExit old (signOf q s)
+  pub sign-refuses : (c : Code) (r : QueueResult) → r ≡ record { answer = answerOf c 0 0; queue = old } → signCode q s ≡ c →
+      isOk c ≡ false → r ≡ signExit old (signOf q s)
   unfolding signOf signExit queueNext answerOf
   sign-refuses c r p e h = rw (p, e, h)
 
-  pub sign-accepts : signCode q s ≡ Ok → _≡_ {A = Queued} (record { answer = answerOf Ok 0 0; queue = queueHolding (signed q s) }) (signExit old (signOf q s))
+  pub sign-accepts : signCode q s ≡ Ok → _≡_ {A = QueueResult} (record { answer = answerOf Ok 0 0; queue = queueHolding (signed q s) })
+      (signExit old (signOf q s))
   unfolding signOf signExit queueNext answerOf
   sign-accepts e = rw e
 
@@ -47,6 +49,7 @@ module _ (q : Lists) (s : List ℕ) where
         sign-ok h = rw (ne-eqb (length s) 0 n, le-ltb 104 (length s) l, ne-eqb (length (q .requests)) 0 r, lt-leb 8 (length (q .responses)) h)
 
 -- a refused step leaves both sides unchanged, with zeros in x1 and x2
-pub sign-refused : (q : Lists) (s : List ℕ) → isOk (signOf q s .answer .code) ≡ false → signOf q s ≡ record { answer = answerOf (signOf q s .answer .code) 0 0; queue = q }
+pub sign-refused : (q : Lists) (s : List ℕ) → isOk (signOf q s .answer .code) ≡ false →
+    signOf q s ≡ record { answer = answerOf (signOf q s .answer .code) 0 0; queue = q }
 unfolding signOf answerOf
 sign-refused q s h = rw h

@@ -9,7 +9,7 @@ use Rattle.codes.specs.declared.Code.the-variants.{Ok, Inval, Again}
 use Rattle.codes.specs.declared.Answer.{Answer}
 use Rattle.queue.specs.declared.Request.{Request}
 use Rattle.queue.specs.declared.Queue.{Queue}
-use Rattle.queue.specs.declared.Queued.{Queued}
+use Rattle.queue.specs.declared.QueueResult.{QueueResult}
 use Rattle.queue.specs.Queue.{Signed, Lists, oldestRequest, queueNext}
 
 -- "signature length not 1 to 104 INVAL; no request AGAIN; eight responses waiting AGAIN;"
@@ -39,5 +39,5 @@ unfoldable pub signOf : Lists → List ℕ → SignStep
 signOf q s = record { answer = answerOf (signCode q s) 0 0; queue = ifOk (signCode q s) (signed q s) q }
 
 -- the step by value: the answer, and the queue after it
-unfoldable pub signExit : Queue → SignStep → Queued
+unfoldable pub signExit : Queue → SignStep → QueueResult
 signExit old s = record { answer = s .answer; queue = queueNext (s .answer .code) (s .queue) old }

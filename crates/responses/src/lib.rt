@@ -2,7 +2,7 @@
 use codes::Answer;
 use codes::Code;
 use queue::Queue;
-use queue::Queued;
+use queue::QueueResult;
 use queue::Response;
 ghost use mathlib.Core.Path.{_≡_};
 ghost use Prim.Native.Nat.{_+_, _≤_};
@@ -23,7 +23,7 @@ fn put_response(buffer: &mut [u8], response: Response)
     let signature = response.signature;
     words::put_word(buffer, 0, response.granule);
     words::put_word(buffer, 8, response.ticket);
-    words::put_quarter(buffer, 16, n as u64);
+    words::put_u16(buffer, 16, n as u64);
     words::copy(&mut buffer[18..], &signature[..n]);
 }
 
@@ -42,7 +42,7 @@ fn pull_code(size: usize, waiting: usize, len: usize) -> Code
 }
 
 // Pull: writes the oldest response into the buffer and drops it; keeps a response that does not fit.
-pub fn pull(buffer: &mut [u8], queue: Queue) -> Queued
+pub fn pull(buffer: &mut [u8], queue: Queue) -> QueueResult
     ensures { λ r. ⌜ signingExit r (now (buffer .exit)) ≡ exitOf queue (pullOf (now (buffer .entry)) (listsOf queue)) ⌝ }
 {
     let requests = queue.requests;
@@ -56,8 +56,8 @@ pub fn pull(buffer: &mut [u8], queue: Queue) -> Queued
     put_response(buffer, response);
     let same = queue::requests_from(requests, 0);
     let rest = queue::responses_from(responses, 1);
-    Queued {
-        answer: codes::answered(Code::Ok, 0, 0),
+    QueueResult {
+        answer: codes::answer_with(Code::Ok, 0, 0),
         queue: Queue {
             requests: same,
             responses: rest,
@@ -100,7 +100,7 @@ fn sign_code(signature: &[u8], requests: usize, responses: usize) -> Code
 }
 
 // The signer's own step: the oldest request becomes the newest response, with the signature that the signer lends.
-pub fn sign(queue: Queue, signature: &[u8]) -> Queued
+pub fn sign(queue: Queue, signature: &[u8]) -> QueueResult
     ensures { λ r. ⌜ r ≡ signExit queue (signOf (listsOf queue) (now (signature .entry))) ⌝ }
 {
     let requests = queue.requests;
@@ -116,8 +116,8 @@ pub fn sign(queue: Queue, signature: &[u8]) -> Queued
         responses,
         response_of(first.granule, first.ticket, signature),
     );
-    Queued {
-        answer: codes::answered(Code::Ok, 0, 0),
+    QueueResult {
+        answer: codes::answer_with(Code::Ok, 0, 0),
         queue: Queue {
             requests: rest,
             responses: more,
@@ -126,32 +126,32 @@ pub fn sign(queue: Queue, signature: &[u8]) -> Queued
 }
 
 // Pull on the queue's image: all checks run before the first word is copied, and only the responses' side changes.
-pub fn pull_on(buffer: &mut [u8], image: &mut [u64; 210]) -> Answer
+pub fn pull_image(buffer: &mut [u8], image: &mut [u64; 210]) -> Answer
     ensures { λ r. ⌜ _≡_ {A = ImageStep} (record { answer = r; page = now (buffer .exit); image = now (image .exit) }) (pullOn (now (buffer .entry)) (now (image .entry))) ⌝ }
 {
     let waiting = queue_image::responses_waiting(image);
     let len = queue_image::front_len(image);
     let code = pull_code(buffer.len(), waiting, len);
     if !codes::is_ok(code) {
-        return codes::answered(code, 0, 0);
+        return codes::answer_with(code, 0, 0);
     }
     put_response(buffer, queue_image::front_response(image));
     queue_image::remove_response(image);
-    codes::answered(Code::Ok, 0, 0)
+    codes::answer_with(Code::Ok, 0, 0)
 }
 
 // The signer's own step on the queue's image.
-pub fn sign_on(image: &mut [u64; 210], signature: &[u8]) -> Answer
+pub fn sign_image(image: &mut [u64; 210], signature: &[u8]) -> Answer
     ensures { λ r. ⌜ _≡_ {A = SignImage} (record { answer = r; image = now (image .exit) }) (signOn (now (image .entry)) (now (signature .entry))) ⌝ }
 {
     let requests = queue_image::requests_waiting(image);
     let responses = queue_image::responses_waiting(image);
     let code = sign_code(signature, requests, responses);
     if !codes::is_ok(code) {
-        return codes::answered(code, 0, 0);
+        return codes::answer_with(code, 0, 0);
     }
     let oldest = queue_image::front_request(image);
     queue_image::add_response(image, response_of(oldest.granule, oldest.ticket, signature));
     queue_image::remove_request(image);
-    codes::answered(Code::Ok, 0, 0)
+    codes::answer_with(Code::Ok, 0, 0)
 }

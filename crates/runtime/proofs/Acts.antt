@@ -24,5 +24,15 @@ module _ (g : Granules) (w : World) (c : Call) where
         tells = λ e. reached 0xC40001B4 e;
         queues = λ e s d. rw d (reached 0xC40001B5 e);
         updates = λ e u d. rw d (reached 0xC40001B6 e);
-        others = λ a b d e f h i j. reached (c .id) refl ∙ rw (ne-eqb (c .id) 0xC400018F a, ne-eqb (c .id) 0xC40001B0 b, ne-eqb (c .id) 0xC40001B1 d, ne-eqb (c .id) 0xC40001B2 e, ne-eqb (c .id) 0xC40001B3 f, ne-eqb (c .id) 0xC40001B4 h, ne-eqb (c .id) 0xC40001B5 i, ne-eqb (c .id) 0xC40001B6 j);
+        others =
+            λ a b d e f h i j. reached (c .id) refl ∙ rw (
+              ne-eqb (c .id) 0xC400018F a,
+              ne-eqb (c .id) 0xC40001B0 b,
+              ne-eqb (c .id) 0xC40001B1 d,
+              ne-eqb (c .id) 0xC40001B2 e,
+              ne-eqb (c .id) 0xC40001B3 f,
+              ne-eqb (c .id) 0xC40001B4 h,
+              ne-eqb (c .id) 0xC40001B5 i,
+              ne-eqb (c .id) 0xC40001B6 j,
+            );
       }

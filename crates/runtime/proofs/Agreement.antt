@@ -13,12 +13,15 @@ use Rattle.granule_rules.specs.declared.Direction.{Direction}
 use Rattle.granule_rules.proofs.Moving.{lengths-kept}
 use Rattle.granule_rules.proofs.Agreement.{count-walks, next-walks, move-keeps, list-holds}
 use Rattle.runtime.specs.declared.Kind.{Kind}
-use Rattle.runtime.specs.declared.Kind.the-variants.{ForwardError, Delegate, Undelegate, RealmKey, PlatformToken, Features, TokenSigning, KeyUpdate, Unlisted}
-use Rattle.runtime.specs.Step.{World, Call, Command, call, sign, list, kindOf, afterMove, afterKey, afterToken, afterSigning, afterUpdate, afterSign, callBy, callOf, stepOf}
+use Rattle.runtime.specs.declared.Kind.the-variants.{ForwardError, Delegate, Undelegate, RealmKey, PlatformToken, Features}
+use Rattle.runtime.specs.declared.Kind.the-variants.{TokenSigning, KeyUpdate, Unlisted}
+use Rattle.runtime.specs.Step.{World, Call, Command, call, sign, list, kindOf, afterMove, afterKey, afterToken, afterSigning}
+use Rattle.runtime.specs.Step.{afterUpdate, afterSign, callBy, callOf, stepOf}
 use Rattle.runtime.specs.Run.{nextOf, worldAfter}
 
 -- ---- a property of the table that each delegation preserves is preserved by every sequence: no other command changes the table
-module _ (g : Granules) (P : GranuleTable → Type 0) (keeps : (s : Record) (d : Direction) (t : GranuleTable) (addr : ℕ) → P t → P (moveOf s g d t addr .table)) where
+module _ (g : Granules) (P : GranuleTable → Type 0) (keeps : (s : Record) (d : Direction) (t : GranuleTable) (addr : ℕ) → P t →
+    P (moveOf s g d t addr .table)) where
   by-keeps : (k : Kind) (w : World) (c : Call) → P (w .table) → P (callBy k g w c .next .table)
   unfolding callBy afterMove afterKey afterToken afterSigning afterUpdate
   by-keeps ForwardError w c p = p
@@ -44,7 +47,8 @@ module _ (g : Granules) (P : GranuleTable → Type 0) (keeps : (s : Record) (d :
 
 module _ (g : Granules) (w : World) (cs : List Command) where
   pub length-stays : length (worldAfter g w cs .table .bytes) ≡ length (w .table .bytes)
-  length-stays = table-keeps g (λ t. length (t .bytes) ≡ length (w .table .bytes)) (λ s d t addr p. lengths-kept s g d t addr .0 ∙ p) w cs refl
+  length-stays =
+      table-keeps g (λ t. length (t .bytes) ≡ length (w .table .bytes)) (λ s d t addr p. lengths-kept s g d t addr .0 ∙ p) w cs refl
 
   module _ (a : Agrees (w .table)) where
     pub agreement-kept : Agrees (worldAfter g w cs .table)
@@ -52,8 +56,10 @@ module _ (g : Granules) (w : World) (cs : List Command) where
 
     -- the answers after the sequence, if the table has one byte for each granule of the record
     module _ (n : granuleCount g ≡ length (w .table .bytes)) where
-      pub count-after : realmCountOf (worldAfter g w cs .table .words) (granuleCount g) ≡ Number.Count (realms (worldAfter g w cs .table .bytes))
+      pub count-after : realmCountOf (worldAfter g w cs .table .words) (granuleCount g) ≡ Number.Count
+          (realms (worldAfter g w cs .table .bytes))
       count-after = count-walks g (worldAfter g w cs .table) (n ∙ sym length-stays) agreement-kept
 
-      pub next-after : (i : ℕ) → i < granuleCount g → realmNextOf (worldAfter g w cs .table .words) (granuleCount g) i ≡ nextRealm (worldAfter g w cs .table .bytes) i
+      pub next-after : (i : ℕ) → i < granuleCount g → realmNextOf (worldAfter g w cs .table .words) (granuleCount g) i ≡ nextRealm
+          (worldAfter g w cs .table .bytes) i
       next-after i h = next-walks g (worldAfter g w cs .table) (n ∙ sym length-stays) agreement-kept i h

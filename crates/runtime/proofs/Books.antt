@@ -23,11 +23,15 @@ command-account g w c = command-by (Account g) (account-none g) (account-join g)
 
 -- "over any sequence of delegate, undelegate and list calls with one granule record, from any starting table", with any other commands in
 -- between and any boot record for each: the books balance, and each granule's byte is the one that the last accepted call naming it left
-pub granule-books : (g : Granules) (w : World) (cs : List Command) → Books g (w .table) (gathered g (changesOf g) w cs) (worldAfter g w cs .table)
-granule-books g w cs = account-books g (w .table) _ _ (run-by (Account g) (account-none g) (account-join g) g (λ s d t a h. call-account s g d t a h) w cs)
+pub granule-books : (g : Granules) (w : World) (cs : List Command) →
+    Books g (w .table) (gathered g (changesOf g) w cs) (worldAfter g w cs .table)
+granule-books g w cs =
+    account-books g (w .table) _ _ (run-by (Account g) (account-none g) (account-join g) g (λ s d t a h. call-account s g d t a h) w cs)
 
 -- The same for the count of the realm words, if the comparison of words and table answers yes at the start.
-pub count-books : (g : Granules) (w : World) (cs : List Command) → realmAgreeOf (w .table .bytes) (w .table .words) (granuleCount g) ≡ Agreement.Yes → CountBooks g (w .table) (gathered g (changesOf g) w cs) (worldAfter g w cs .table)
+pub count-books : (g : Granules) (w : World) (cs : List Command) →
+    realmAgreeOf (w .table .bytes) (w .table .words) (granuleCount g) ≡ Agreement.Yes →
+    CountBooks g (w .table) (gathered g (changesOf g) w cs) (worldAfter g w cs .table)
 count-books g w cs y =
     let a : Agrees (w .table) = agree-told (w .table .bytes) (w .table .words) (granuleCount g) y in
     let n : granuleCount g ≡ length (w .table .bytes) = sym (agree-sized (w .table .bytes) (w .table .words) (granuleCount g) y) in

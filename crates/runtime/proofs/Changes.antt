@@ -14,8 +14,10 @@ use Rattle.banks.specs.Banks.{Granules}
 use Rattle.granule_rules.specs.declared.Direction.{Direction}
 use Rattle.granule_rules.proofs.Changes.{call-by, list-by}
 use Rattle.runtime.specs.declared.Kind.{Kind}
-use Rattle.runtime.specs.declared.Kind.the-variants.{ForwardError, Delegate, Undelegate, RealmKey, PlatformToken, Features, TokenSigning, KeyUpdate, Unlisted}
-use Rattle.runtime.specs.Step.{World, Call, Command, call, sign, list, kindOf, afterMove, afterKey, afterToken, afterSigning, afterUpdate, afterSign, callBy, callOf, stepOf, replyCode}
+use Rattle.runtime.specs.declared.Kind.the-variants.{ForwardError, Delegate, Undelegate, RealmKey, PlatformToken, Features}
+use Rattle.runtime.specs.declared.Kind.the-variants.{TokenSigning, KeyUpdate, Unlisted}
+use Rattle.runtime.specs.Step.{World, Call, Command, call, sign, list, kindOf, afterMove, afterKey, afterToken, afterSigning}
+use Rattle.runtime.specs.Step.{afterUpdate, afterSign, callBy, callOf, stepOf, replyCode}
 use Rattle.runtime.specs.Run.{nextOf, worldAfter, gathered}
 use Rattle.runtime.specs.Changes.{ofMove, changesOf, under}
 
@@ -30,7 +32,8 @@ module _ (R : GranuleTable → List Change → GranuleTable → Type 0) (none : 
   nothing true t = none t
   nothing false t = none t
 
-  kind-by : (k : Kind) (w : World) (c : Call) → One (c .state) → R (w .table) (cond (isOk (replyCode (callBy k g w c .reply))) (ofMove k (c .x1)) []) (callBy k g w c .next .table)
+  kind-by : (k : Kind) (w : World) (c : Call) → One (c .state) →
+      R (w .table) (cond (isOk (replyCode (callBy k g w c .reply))) (ofMove k (c .x1)) []) (callBy k g w c .next .table)
   unfolding callBy afterMove afterKey afterToken afterSigning afterUpdate replyCode
   kind-by ForwardError w c one = none (w .table)
   kind-by Delegate w c one = call-by R none join (c .state) g Direction.Delegate (one Direction.Delegate) (w .table) (c .x1)
@@ -55,7 +58,8 @@ module _ (R : GranuleTable → List Change → GranuleTable → Type 0) (none : 
   command-by s w (list r d l) one = list-by R none join r g d (one d) (w .table) l
 
   -- any sequence, with any boot record for each command
-  pub run-by : ((s : Record) → One s) → (w : World) (cs : List Command) → R (w .table) (gathered g (changesOf g) w cs) (worldAfter g w cs .table)
+  pub run-by : ((s : Record) → One s) → (w : World) (cs : List Command) →
+      R (w .table) (gathered g (changesOf g) w cs) (worldAfter g w cs .table)
   unfolding gathered worldAfter
   run-by one w [] = none (w .table)
   run-by one w (c ∷ cs) = join _ _ _ _ _ (command-by Fresh w c (one (recordIn Fresh c))) (run-by one (nextOf g w c) cs)
@@ -67,7 +71,8 @@ module _ (R : GranuleTable → List Change → GranuleTable → Type 0) (none : 
   under-one s (sign x) one = one
   under-one s (list r d l) one = one
 
-  pub under-by : (s : Record) → One s → (w : World) (cs : List Command) → R (w .table) (gathered g (changesOf g) w (map (under s) cs)) (worldAfter g w (map (under s) cs) .table)
+  pub under-by : (s : Record) → One s → (w : World) (cs : List Command) →
+      R (w .table) (gathered g (changesOf g) w (map (under s) cs)) (worldAfter g w (map (under s) cs) .table)
   unfolding gathered worldAfter
   under-by s one w [] = none (w .table)
   under-by s one w (c ∷ cs) = join _ _ _ _ _ (command-by s w (under s c) (under-one s c one)) (under-by s one (nextOf g w (under s c)) cs)

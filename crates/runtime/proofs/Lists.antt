@@ -21,22 +21,30 @@ module _ (g : Granules) (r : Record) where
   single-next Direction.Delegate w a = refl
   single-next Direction.Undelegate w a = refl
 
-  singles-after : (d : Direction) (w : World) (l : List ℕ) → worldAfter g w (map (singleCall r d) l) ≡ withTable (tableBy (moveOf r g d) (w .table) l) w
+  singles-after : (d : Direction) (w : World) (l : List ℕ) →
+      worldAfter g w (map (singleCall r d) l) ≡ withTable (tableBy (moveOf r g d) (w .table) l) w
   unfolding worldAfter tableBy
   singles-after d w [] = refl
-  singles-after d w (a ∷ l) = ap (λ v. worldAfter g v (map (singleCall r d) l)) (single-next d w a) ∙ singles-after d (withTable (moveOf r g d (w .table) a .table) w) l
+  singles-after d w (a ∷ l) =
+      ap (λ v. worldAfter g v (map (singleCall r d) l)) (single-next d w a) ∙
+      singles-after d (withTable (moveOf r g d (w .table) a .table) w) l
 
   -- the number of granules done is the number of single calls
   done-length : (d : Direction) (w : World) (l : List ℕ) → length (doneCalls g w (list r d l)) ≡ doneOf r g d (w .table) l
   unfolding doneCalls
-  done-length d w l = length-map (take (doneOf r g d (w .table) l) l) (singleCall r d) ∙ length-take-le (doneOf r g d (w .table) l) l (longest (moveOf r g d) (w .table) l .within)
+  done-length d w l =
+      length-map (take (doneOf r g d (w .table) l) l) (singleCall r d) ∙
+      length-take-le (doneOf r g d (w .table) l) l (longest (moveOf r g d) (w .table) l .within)
 
   -- the granules done, one after another
-  done-after : (d : Direction) (w : World) (l : List ℕ) → worldAfter g w (doneCalls g w (list r d l)) ≡ withTable (tableBy (moveOf r g d) (w .table) (take (doneOf r g d (w .table) l) l)) w
+  done-after : (d : Direction) (w : World) (l : List ℕ) →
+      worldAfter g w (doneCalls g w (list r d l)) ≡ withTable (tableBy (moveOf r g d) (w .table) (take (doneOf r g d (w .table) l) l)) w
   unfolding doneCalls
   done-after d w l = singles-after d w (take (doneOf r g d (w .table) l) l)
 
   -- the world after a list is the world after the single calls that were done; x1 is their number
-  pub list-run : (d : Direction) (w : World) (l : List ℕ) → stepOf g w (list r d l) ≡ refusal (length (doneCalls g w (list r d l))) (stepOf g w (list r d l)) (worldAfter g w (doneCalls g w (list r d l)))
+  pub list-run : (d : Direction) (w : World) (l : List ℕ) →
+      stepOf g w (list r d l) ≡ refusal (length (doneCalls g w (list r d l))) (stepOf g w (list r d l))
+      (worldAfter g w (doneCalls g w (list r d l)))
   unfolding stepOf afterMove replyCode answerOf
   list-run d w l = rw (done-length d w l, done-after d w l, list-is r g d (w .table) l)

@@ -7,8 +7,8 @@ use lib.ListN.{length, take, drop, take-append-drop}
 use lib.Dec.{eqb}
 use Rattle.words.specs.Word.{part}
 use Rattle.boot.specs.declared.Record.{Record}
-use Rattle.range.specs.Range.{placeOf}
-use Rattle.codes.specs.Codes.{isOk, upOf, answerOf}
+use Rattle.buffer_check.specs.Range.{placeOf}
+use Rattle.codes.specs.Codes.{isOk, bootParams, answerOf}
 use Rattle.codes.proofs.Gates.{fails-ok}
 use Rattle.codes.specs.declared.Code.{Code}
 use Rattle.codes.specs.declared.Code.the-variants.{Ok, Unk, BadAddr, BadPas, Inval, Again}
@@ -22,9 +22,12 @@ use Rattle.signing.specs.Signing.{opcodeOf, signingOf}
 use Rattle.signing.specs.declared.Opcode.{Opcode}
 use Rattle.signing.proofs.Signings.{signing-by}
 use Rattle.runtime.specs.declared.Kind.{Kind}
-use Rattle.runtime.specs.declared.Kind.the-variants.{ForwardError, Delegate, Undelegate, RealmKey, PlatformToken, Features, TokenSigning, KeyUpdate, Unlisted}
-use Rattle.runtime.specs.Step.{World, Call, Command, call, sign, list, kindOf, afterMove, afterKey, afterToken, afterSigning, afterUpdate, afterSign, callBy, callOf, stepOf, replyCode}
-use Rattle.runtime.specs.Run.{nextOf, accepted, worldAfter, gathered, ofSigning, ofPush, ofPull, pushes, pulls, signs, makes, asks, gives, names}
+use Rattle.runtime.specs.declared.Kind.the-variants.{ForwardError, Delegate, Undelegate, RealmKey, PlatformToken, Features}
+use Rattle.runtime.specs.declared.Kind.the-variants.{TokenSigning, KeyUpdate, Unlisted}
+use Rattle.runtime.specs.Step.{World, Call, Command, call, sign, list, kindOf, afterMove, afterKey, afterToken, afterSigning}
+use Rattle.runtime.specs.Step.{afterUpdate, afterSign, callBy, callOf, stepOf, replyCode}
+use Rattle.runtime.specs.Run.{nextOf, accepted, worldAfter, gathered, ofSigning, ofPush, ofPull, pushes, pulls, signs, makes, asks}
+use Rattle.runtime.specs.Run.{gives, names}
 
 none : {A : Type 0} (b : Bool) (l : List A) → l ++ cond b [] [] ≡ l
 none true l = append-nil l
@@ -36,10 +39,14 @@ nothing false l = refl
 
 -- ---- one signing call
 module _ (r : Record) (page : List ℕ) (q : Lists) (key : List ℕ) (op pa size curve : ℕ) where
-  signing-requests : q .requests ++ cond (isOk (signingOf r page q key op pa size curve .answer .code)) (ofPush (opcodeOf op) (requestOf (part (placeOf (upOf r) pa) size page) ∷ [])) [] ≡ signingOf r page q key op pa size curve .queue .requests
+  signing-requests : q .requests ++ cond (isOk (signingOf r page q key op pa size curve .answer .code))
+      (ofPush (opcodeOf op) (requestOf (part (placeOf (bootParams r) pa) size page) ∷ [])) [] ≡
+      signingOf r page q key op pa size curve .queue .requests
   unfolding answerOf pushed pulled
   signing-requests =
-      signing-by (λ (o : Opcode) (s : SigningStep). q .requests ++ cond (isOk (s .answer .code)) (ofPush o (requestOf (part (placeOf (upOf r) pa) size page) ∷ [])) [] ≡ s .queue .requests) r page q key op pa size curve
+      signing-by (λ (o : Opcode) (s : SigningStep). q .requests ++
+      cond (isOk (s .answer .code)) (ofPush o (requestOf (part (placeOf (bootParams r) pa) size page) ∷ [])) [] ≡ s .queue .requests)
+      r page q key op pa size curve
       (record {
         refusal = λ o k e. rw e (append-nil (q .requests));
         push = λ p e. refl;
@@ -47,10 +54,12 @@ module _ (r : Record) (page : List ℕ) (q : Lists) (key : List ℕ) (op pa size
         public = λ p e. append-nil (q .requests);
       })
 
-  signing-responses : q .responses ≡ cond (isOk (signingOf r page q key op pa size curve .answer .code)) (ofPull (opcodeOf op) (take 1 (q .responses))) [] ++ signingOf r page q key op pa size curve .queue .responses
+  signing-responses : q .responses ≡ cond (isOk (signingOf r page q key op pa size curve .answer .code))
+      (ofPull (opcodeOf op) (take 1 (q .responses))) [] ++ signingOf r page q key op pa size curve .queue .responses
   unfolding answerOf pushed pulled
   signing-responses =
-      signing-by (λ (o : Opcode) (s : SigningStep). q .responses ≡ cond (isOk (s .answer .code)) (ofPull o (take 1 (q .responses))) [] ++ s .queue .responses) r page q key op pa size curve
+      signing-by (λ (o : Opcode) (s : SigningStep). q .responses ≡ cond (isOk (s .answer .code)) (ofPull o (take 1 (q .responses))) [] ++
+      s .queue .responses) r page q key op pa size curve
       (record {
         refusal = λ o k e. rw e;
         push = λ p e. refl;
@@ -61,7 +70,9 @@ module _ (r : Record) (page : List ℕ) (q : Lists) (key : List ℕ) (op pa size
 -- ---- one call
 module _ (g : Granules) (w : World) (c : Call) where
   call-requests : (k : Kind) →
-      w .queue .requests ++ cond (isOk (replyCode (callBy k g w c .reply))) (ofSigning k (ofPush (opcodeOf (c .x1)) (requestOf (part (placeOf (upOf (c .state)) (c .x2)) (c .x3) (w .page)) ∷ []))) [] ≡ callBy k g w c .next .queue .requests
+      w .queue .requests ++ cond (isOk (replyCode (callBy k g w c .reply)))
+      (ofSigning k (ofPush (opcodeOf (c .x1)) (requestOf (part (placeOf (bootParams (c .state)) (c .x2)) (c .x3) (w .page)) ∷ [])))
+      [] ≡ callBy k g w c .next .queue .requests
   unfolding callBy afterMove afterKey afterToken afterSigning afterUpdate replyCode
   call-requests ForwardError = append-nil (w .queue .requests)
   call-requests Delegate = none (isOk (replyCode (callBy Delegate g w c .reply))) (w .queue .requests)
@@ -74,7 +85,8 @@ module _ (g : Granules) (w : World) (c : Call) where
   call-requests Unlisted = none (isOk (replyCode (callBy Unlisted g w c .reply))) (w .queue .requests)
 
   call-responses : (k : Kind) →
-      w .queue .responses ≡ cond (isOk (replyCode (callBy k g w c .reply))) (ofSigning k (ofPull (opcodeOf (c .x1)) (take 1 (w .queue .responses)))) [] ++ callBy k g w c .next .queue .responses
+      w .queue .responses ≡ cond (isOk (replyCode (callBy k g w c .reply)))
+      (ofSigning k (ofPull (opcodeOf (c .x1)) (take 1 (w .queue .responses)))) [] ++ callBy k g w c .next .queue .responses
   unfolding callBy afterMove afterKey afterToken afterSigning afterUpdate replyCode
   call-responses ForwardError = refl
   call-responses Delegate = nothing (isOk (replyCode (callBy Delegate g w c .reply))) (w .queue .responses)
@@ -87,12 +99,14 @@ module _ (g : Granules) (w : World) (c : Call) where
   call-responses Unlisted = nothing (isOk (replyCode (callBy Unlisted g w c .reply))) (w .queue .responses)
 
 -- ---- one step of the signer
-first : (s : List ℕ) (l : List Request) → eqb (length l) 0 ≡ false → map (λ (x : Request). signedBy x s) (take 1 l) ≡ signedBy (oldestRequest l) s ∷ []
+first : (s : List ℕ) (l : List Request) → eqb (length l) 0 ≡ false →
+    map (λ (x : Request). signedBy x s) (take 1 l) ≡ signedBy (oldestRequest l) s ∷ []
 unfolding oldestRequest
 first s [] h = absurd (true≢false h)
 first s (x ∷ l) h = refl
 
-sign-some : (q : Lists) (s : List ℕ) → signCode q s ≡ Ok → map (λ (x : Request). signedBy x s) (take 1 (q .requests)) ≡ signedBy (oldestRequest (q .requests)) s ∷ []
+sign-some : (q : Lists) (s : List ℕ) → signCode q s ≡ Ok →
+    map (λ (x : Request). signedBy x s) (take 1 (q .requests)) ≡ signedBy (oldestRequest (q .requests)) s ∷ []
 unfolding signCode
 sign-some q s h =
     let a = fails-ok _ _ _ refl h in
@@ -100,7 +114,8 @@ sign-some q s h =
     let d = fails-ok _ _ _ refl (b .1) in
     first s (q .requests) (d .0)
 
-sign-requests : (q : Lists) (s : List ℕ) (k : Code) (n : Lists) → n .requests ≡ drop 1 (q .requests) → q .requests ++ [] ≡ cond (isOk k) (take 1 (q .requests)) [] ++ (cond (isOk k) n q) .requests
+sign-requests : (q : Lists) (s : List ℕ) (k : Code) (n : Lists) → n .requests ≡ drop 1 (q .requests) →
+    q .requests ++ [] ≡ cond (isOk k) (take 1 (q .requests)) [] ++ (cond (isOk k) n q) .requests
 sign-requests q s Ok n e = append-nil (q .requests) ∙ sym (take-append-drop 1 (q .requests)) ∙ ap (λ l. take 1 (q .requests) ++ l) (sym e)
 sign-requests q s Unk n e = append-nil (q .requests)
 sign-requests q s BadAddr n e = append-nil (q .requests)
@@ -108,7 +123,8 @@ sign-requests q s BadPas n e = append-nil (q .requests)
 sign-requests q s Inval n e = append-nil (q .requests)
 sign-requests q s Again n e = append-nil (q .requests)
 
-sign-responses : (q : Lists) (k : Code) (came : List Signed) (n : Lists) → (k ≡ Ok → n .responses ≡ q .responses ++ came) → q .responses ++ cond (isOk k) came [] ≡ (cond (isOk k) n q) .responses
+sign-responses : (q : Lists) (k : Code) (came : List Signed) (n : Lists) → (k ≡ Ok → n .responses ≡ q .responses ++ came) →
+    q .responses ++ cond (isOk k) came [] ≡ (cond (isOk k) n q) .responses
 sign-responses q Ok came n e = sym (e refl)
 sign-responses q Unk came n e = append-nil (q .responses)
 sign-responses q BadAddr came n e = append-nil (q .responses)
@@ -128,12 +144,14 @@ module _ (g : Granules) (w : World) where
   unfolding makes pulls stepOf callOf afterMove afterSign signOf signed answerOf replyCode
   step-responses (call c) = append-nil (w .queue .responses) ∙ call-responses g w c (kindOf (c .id))
   step-responses (sign s) =
-      sign-responses (w .queue) (signCode (w .queue) s) (map (λ (x : Request). signedBy x s) (take 1 (w .queue .requests))) (signed (w .queue) s) (λ e. ap (λ l. w .queue .responses ++ l) (sym (sign-some (w .queue) s e)))
+      sign-responses (w .queue) (signCode (w .queue) s) (map (λ (x : Request). signedBy x s) (take 1 (w .queue .requests)))
+      (signed (w .queue) s) (λ e. ap (λ l. w .queue .responses ++ l) (sym (sign-some (w .queue) s e)))
   step-responses (list r d l) = append-nil (w .queue .responses)
 
 -- ---- any sequence
 -- waiting at the start ++ added = taken ++ waiting at the end
-books : {A : Type 0} (g : Granules) (held : World → List A) (came went : World → Command → List A) → ((w : World) (c : Command) → held w ++ came w c ≡ went w c ++ held (nextOf g w c)) →
+books : {A : Type 0} (g : Granules) (held : World → List A) (came went : World → Command → List A) →
+    ((w : World) (c : Command) → held w ++ came w c ≡ went w c ++ held (nextOf g w c)) →
     (w : World) (cs : List Command) → held w ++ gathered g came w cs ≡ gathered g went w cs ++ held (worldAfter g w cs)
 unfolding gathered worldAfter
 books g held came went one w [] = append-nil (held w)
@@ -150,11 +168,13 @@ module _ (g : Granules) (w : World) (cs : List Command) where
   requests-in-order = books g (λ v. v .queue .requests) (pushes g) (signs g) (step-requests g) w cs
 
   -- responses: waiting before ++ made = pulled ++ waiting after
-  pub responses-in-order : w .queue .responses ++ gathered g (makes g) w cs ≡ gathered g (pulls g) w cs ++ worldAfter g w cs .queue .responses
+  pub responses-in-order : w .queue .responses ++ gathered g (makes g) w cs ≡ gathered g (pulls g) w cs ++
+      worldAfter g w cs .queue .responses
   responses-in-order = books g (λ v. v .queue .responses) (makes g) (pulls g) (step-responses g) w cs
 
 -- ---- from push to pull
-made-names : (s : List ℕ) (b : Bool) (l : List Request) → map gives (cond b (map (λ (x : Request). signedBy x s) (take 1 l)) []) ≡ map asks (cond b (take 1 l) [])
+made-names : (s : List ℕ) (b : Bool) (l : List Request) →
+    map gives (cond b (map (λ (x : Request). signedBy x s) (take 1 l)) []) ≡ map asks (cond b (take 1 l) [])
 unfolding signedBy
 made-names s true [] = refl
 made-names s true (x ∷ l) = refl
@@ -175,7 +195,8 @@ all-names g w (c ∷ cs) =
     ∙ sym (map-append asks (signs g w c) (gathered g (signs g) (nextOf g w c) cs))
 
 -- two queues, one after another, act as one
-end-to-end : {A B C : Type 0} (f : A → C) (h : B → C) (d made out d' : List A) (a came taken a' : List B) → a ++ came ≡ taken ++ a' → d ++ made ≡ out ++ d' → map f made ≡ map h taken →
+end-to-end : {A B C : Type 0} (f : A → C) (h : B → C) (d made out d' : List A) (a came taken a' : List B) → a ++ came ≡ taken ++ a' →
+    d ++ made ≡ out ++ d' → map f made ≡ map h taken →
     (map f d ++ map h a) ++ map h came ≡ map f out ++ (map f d' ++ map h a')
 end-to-end f h d made out d' a came taken a' p q m =
     append-assoc (map f d) (map h a) (map h came)
@@ -188,6 +209,7 @@ end-to-end f h d made out d' a came taken a' p q m =
 pub names-in-order : (g : Granules) (w : World) (cs : List Command) →
     names (w .queue) ++ map asks (gathered g (pushes g) w cs) ≡ map gives (gathered g (pulls g) w cs) ++ names (worldAfter g w cs .queue)
 names-in-order g w cs =
-    end-to-end gives asks (w .queue .responses) (gathered g (makes g) w cs) (gathered g (pulls g) w cs) (worldAfter g w cs .queue .responses)
+    end-to-end gives asks (w .queue .responses) (gathered g (makes g) w cs) (gathered g (pulls g) w cs)
+    (worldAfter g w cs .queue .responses)
     (w .queue .requests) (gathered g (pushes g) w cs) (gathered g (signs g) w cs) (worldAfter g w cs .queue .requests)
     (requests-in-order g w cs) (responses-in-order g w cs) (all-names g w cs)

@@ -14,9 +14,11 @@ use Rattle.attest.proofs.Unread.{key-unread}
 use Rattle.token_rules.proofs.Unread.{token-unread}
 use Rattle.signing.proofs.Unread.{signing-unread}
 use Rattle.runtime.specs.declared.Kind.{Kind}
-use Rattle.runtime.specs.declared.Kind.the-variants.{ForwardError, Delegate, Undelegate, RealmKey, PlatformToken, Features, TokenSigning, KeyUpdate, Unlisted}
+use Rattle.runtime.specs.declared.Kind.the-variants.{ForwardError, Delegate, Undelegate, RealmKey, PlatformToken, Features}
+use Rattle.runtime.specs.declared.Kind.the-variants.{TokenSigning, KeyUpdate, Unlisted}
 use Rattle.runtime.specs.declared.Reply.the-variants.{Back}
-use Rattle.runtime.specs.Step.{World, withPage, Call, Step, kindOf, afterMove, afterKey, afterToken, afterSigning, afterUpdate, callBy, callOf}
+use Rattle.runtime.specs.Step.{World, withPage, Call, Step, kindOf, afterMove, afterKey, afterToken, afterSigning, afterUpdate}
+use Rattle.runtime.specs.Step.{callBy, callOf}
 
 -- equal except for the page
 pub record SameStep (x y : Step) : Type 0 where
@@ -63,7 +65,12 @@ module _ (g : Granules) (w : World) (c : Call) (p q : List ℕ) (e : length p �
   by-unread Delegate n = record { reply = refl; table = refl; session = refl; queue = refl }
   by-unread Undelegate n = record { reply = refl; table = refl; session = refl; queue = refl }
   by-unread RealmKey n =
-      record { reply = ap (λ (a : Answer). Back a Nothing) (key-unread (c .state) p q (c .realmKey) (c .x1) (c .x2) (c .x3) e); table = refl; session = refl; queue = refl }
+      record {
+        reply = ap (λ (a : Answer). Back a Nothing) (key-unread (c .state) p q (c .realmKey) (c .x1) (c .x2) (c .x3) e);
+        table = refl;
+        session = refl;
+        queue = refl;
+      }
   by-unread PlatformToken n =
       let t = token-unread (c .state) p q (w .session) (c .busy) (c .token) (c .x1) (c .x2) (c .x3) e in
       record { reply = ap (λ (a : Answer). Back a Nothing) (t .0); table = refl; session = t .1; queue = refl }

@@ -17,8 +17,10 @@ use Rattle.response_rules.proofs.Signs.{sign-refused}
 use Rattle.signing.specs.Signing.{signingOf}
 use Rattle.signing.proofs.Signings.{signing-refused}
 use Rattle.runtime.specs.declared.Kind.{Kind}
-use Rattle.runtime.specs.declared.Kind.the-variants.{ForwardError, Delegate, Undelegate, RealmKey, PlatformToken, Features, TokenSigning, KeyUpdate, Unlisted}
-use Rattle.runtime.specs.Step.{World, worldOf, Call, kindOf, callBy, callOf, replyCode, afterMove, afterKey, afterToken, afterSigning, afterUpdate, queueBy, exitBy}
+use Rattle.runtime.specs.declared.Kind.the-variants.{ForwardError, Delegate, Undelegate, RealmKey, PlatformToken, Features}
+use Rattle.runtime.specs.declared.Kind.the-variants.{TokenSigning, KeyUpdate, Unlisted}
+use Rattle.runtime.specs.Step.{World, worldOf, Call, kindOf, callBy, callOf, replyCode, afterMove, afterKey, afterToken, afterSigning}
+use Rattle.runtime.specs.Step.{afterUpdate, queueBy, exitBy}
 
 stands-for : (k : Code) (new : Lists) (old : Queue) → (isOk k ≡ false → new ≡ listsOf old) → listsOf (queueNext k new old) ≡ new
 stands-for k new old h = next-lists k new old ∙ if-ok-by (λ (l : Lists). l ≡ new) k new (listsOf old) (λ e. refl) (λ e. sym (h e))
@@ -43,7 +45,8 @@ module _ (g : Granules) (page table words : List ℕ) (session : Session) (q : Q
   by-kind Features = refl
   by-kind TokenSigning =
       stands-for _ (signingOf (c .state) page (listsOf q) (c .publicKey) (c .x1) (c .x2) (c .x3) (c .x4) .queue) q
-      (λ h. ap (λ (t : SigningStep). t .queue) (signing-refused (c .state) page (listsOf q) (c .publicKey) (c .x1) (c .x2) (c .x3) (c .x4) h))
+      (λ h. ap (λ (t : SigningStep). t .queue) (signing-refused (c .state) page (listsOf q) (c .publicKey) (c .x1) (c .x2) (c .x3)
+      (c .x4) h))
   by-kind KeyUpdate = refl
   by-kind Unlisted = refl
 

@@ -5,14 +5,15 @@ use mathlib.Core.Bool.{true, cond}
 use mathlib.Core.List.{List, [], _∷_, map}
 use lib.ListN.{take}
 use Rattle.boot.specs.declared.Record.{Record}
-use Rattle.codes.specs.Codes.{upOf}
-use Rattle.range.specs.Buffers.{BufferIn}
+use Rattle.codes.specs.Codes.{bootParams}
+use Rattle.buffer_check.specs.Buffers.{BufferIn}
 use Rattle.granule_rules.specs.Lists.{doneOf}
 use Rattle.granule_rules.specs.Changes.{Change, change, RealmAt}
 use Rattle.banks.specs.Banks.{Granules}
 use Rattle.granule_rules.specs.declared.Direction.{Direction}
 use Rattle.runtime.specs.declared.Kind.{Kind}
-use Rattle.runtime.specs.declared.Kind.the-variants.{ForwardError, Delegate, Undelegate, RealmKey, PlatformToken, Features, TokenSigning, KeyUpdate, Unlisted}
+use Rattle.runtime.specs.declared.Kind.the-variants.{ForwardError, Delegate, Undelegate, RealmKey, PlatformToken, Features}
+use Rattle.runtime.specs.declared.Kind.the-variants.{TokenSigning, KeyUpdate, Unlisted}
 use Rattle.runtime.specs.Step.{World, Call, callWith, Command, call, sign, list, kindOf}
 use Rattle.runtime.specs.Run.{accepted}
 
@@ -46,8 +47,8 @@ under s (list r d l) = list s d l
 
 -- the buffer [pa, pa + size) is in the shared page, and the page's granule is Realm
 pub record IntoRealm (s : Record) (g : Granules) (w : World) (pa size : ℕ) : Type 0 where
-  pub buffer : BufferIn (upOf s) (w .page) pa size
-  pub realm : RealmAt g (upOf s .base) (w .table)
+  pub buffer : BufferIn (bootParams s) (w .page) pa size
+  pub realm : RealmAt g (bootParams s .base) (w .table)
 
 -- each accepted command that writes to the page writes to Realm memory: realm key, hunk of the platform token, response or public key
 pub record WritesIntoRealm (s : Record) (g : Granules) (w : World) (c : Call) : Type 0 where

@@ -4,8 +4,8 @@ use mathlib.Core.Bool.{Bool, true, false, cond}
 use mathlib.Core.List.{List, [], _∷_, _++_, map}
 use lib.ListN.{take}
 use Rattle.words.specs.Word.{part}
-use Rattle.range.specs.Range.{placeOf}
-use Rattle.codes.specs.Codes.{isOk, upOf}
+use Rattle.buffer_check.specs.Range.{placeOf}
+use Rattle.codes.specs.Codes.{isOk, bootParams}
 use Rattle.boot.specs.declared.Record.{Record}
 use Rattle.granule_rules.specs.Lists.{doneOf}
 use Rattle.banks.specs.Banks.{Granules}
@@ -19,7 +19,8 @@ use Rattle.signing.specs.Signing.{opcodeOf}
 use Rattle.signing.specs.declared.Opcode.{Opcode}
 use Rattle.signing.specs.declared.Opcode.the-variants.{Push, Pull, Key, Other}
 use Rattle.runtime.specs.declared.Kind.{Kind}
-use Rattle.runtime.specs.declared.Kind.the-variants.{ForwardError, Delegate, Undelegate, RealmKey, PlatformToken, Features, TokenSigning, KeyUpdate, Unlisted}
+use Rattle.runtime.specs.declared.Kind.the-variants.{ForwardError, Delegate, Undelegate, RealmKey, PlatformToken, Features}
+use Rattle.runtime.specs.declared.Kind.the-variants.{TokenSigning, KeyUpdate, Unlisted}
 use Rattle.runtime.specs.Step.{World, Call, callWith, Command, call, sign, list, Step, kindOf, stepOf, replyCode}
 
 -- the world after a command
@@ -106,7 +107,8 @@ ofPull Other l = []
 -- the request in the buffer of an accepted push
 unfoldable pub pushes : Granules → World → Command → List Request
 pushes g w (call c) =
-    cond (accepted g w (call c)) (ofSigning (kindOf (c .id)) (ofPush (opcodeOf (c .x1)) (requestOf (part (placeOf (upOf (c .state)) (c .x2)) (c .x3) (w .page)) ∷ []))) []
+    cond (accepted g w (call c)) (ofSigning (kindOf (c .id))
+    (ofPush (opcodeOf (c .x1)) (requestOf (part (placeOf (bootParams (c .state)) (c .x2)) (c .x3) (w .page)) ∷ []))) []
 pushes g w (sign s) = []
 pushes g w (list r d l) = []
 

@@ -18,16 +18,17 @@ use Rattle.attest.specs.Key.{Keyed, realmKeyOf}
 use Rattle.token_rules.specs.Token.{TokenStep, tokenOf}
 use Rattle.token_rules.specs.declared.Session.{Session}
 use Rattle.features.specs.Features.{featuresOf, updateOf, forwardOf}
-use Rattle.features.specs.declared.Updated.{Updated}
+use Rattle.features.specs.declared.UpdateResult.{UpdateResult}
 use Rattle.queue.specs.declared.Queue.{Queue}
 use Rattle.queue.specs.Queue.{Lists, SigningStep, queueNext}
 use Rattle.response_rules.specs.Sign.{SignStep, signOf}
 use Rattle.signing.specs.Signing.{signingOf}
 use Rattle.runtime.specs.declared.Kind.{Kind}
-use Rattle.runtime.specs.declared.Kind.the-variants.{ForwardError, Delegate, Undelegate, RealmKey, PlatformToken, Features, TokenSigning, KeyUpdate, Unlisted}
+use Rattle.runtime.specs.declared.Kind.the-variants.{ForwardError, Delegate, Undelegate, RealmKey, PlatformToken, Features}
+use Rattle.runtime.specs.declared.Kind.the-variants.{TokenSigning, KeyUpdate, Unlisted}
 use Rattle.runtime.specs.declared.Reply.{Reply}
 use Rattle.runtime.specs.declared.Reply.the-variants.{Forward, Back}
-use Rattle.runtime.specs.declared.Stepped.{Stepped}
+use Rattle.runtime.specs.declared.StepResult.{StepResult}
 
 -- everything that a command may change. No command changes the boot record or the granule record.
 pub record World : Type 0 where
@@ -72,9 +73,21 @@ pub record Call : Type 0 where
   pub width : ℕ
 
 -- the call with these values
-abbrev pub callWith : Record → ℕ → ℕ → ℕ → ℕ → ℕ → Bool → List ℕ → List ℕ → List ℕ → ℕ → Call
+abbrev pub callWith : (state : Record) (id x1 x2 x3 x4 : ℕ) (busy : Bool) (key token public : List ℕ) (width : ℕ) → Call
 callWith r id x1 x2 x3 x4 busy key token public width =
-    record { state = r; id = id; x1 = x1; x2 = x2; x3 = x3; x4 = x4; busy = busy; realmKey = key; token = token; publicKey = public; width = width }
+    record {
+      state = r;
+      id = id;
+      x1 = x1;
+      x2 = x2;
+      x3 = x3;
+      x4 = x4;
+      busy = busy;
+      realmKey = key;
+      token = token;
+      publicKey = public;
+      width = width;
+    }
 
 -- a command: a call of the interface, the signer's step with a signature, or delegation of a list of granules (02, E1), which has
 -- no function id
@@ -123,7 +136,7 @@ unfoldable pub afterSigning : SigningStep → World → Step
 afterSigning s w = back (s .answer) (withQueue (s .queue) (withPage (s .page) w))
 
 -- a key update changes nothing here, and gives the platform work
-unfoldable pub afterUpdate : Updated → World → Step
+unfoldable pub afterUpdate : UpdateResult → World → Step
 afterUpdate u w = record { reply = Back (u .answer) (u .work); next = w }
 
 -- the signer's step changes the queue
@@ -172,7 +185,7 @@ pub record CallExit : Type 0 where
   pub queue : Queue
 
 -- from the returned value and the lent bytes and words at exit
-abbrev pub callExit : Stepped → List ℕ → List ℕ → List ℕ → CallExit
+abbrev pub callExit : StepResult → List ℕ → List ℕ → List ℕ → CallExit
 callExit r page table words = record { reply = r .reply; page = page; table = table; words = words; session = r .session; queue = r .queue }
 
 -- only the platform token uses the session

@@ -3,11 +3,11 @@ use boot::Record;
 use codes::Answer;
 use codes::Code;
 use codes::Work;
-use features::Updated;
+use features::UpdateResult;
 use queue::Queue;
-use queue::Queued;
+use queue::QueueResult;
 use token::Session;
-use token::Tokened;
+use token::TokenResult;
 ghost use mathlib.Core.Path.{_≡_};
 ghost use Rattle.queue.specs.Queue.{listsOf};
 ghost use Rattle.runtime.specs.Step.{worldOf, callWith, kindOf, callOf, callExit, exitBy};
@@ -32,7 +32,7 @@ pub enum Reply {
 }
 
 // The reply of a call with the next token session and signing queue.
-pub struct Stepped {
+pub struct StepResult {
     pub reply: Reply,
     pub session: Session,
     pub queue: Queue,
@@ -66,7 +66,7 @@ fn back(answer: Answer) -> Reply
 }
 
 // The reply to a key update: its answer and its work.
-fn updated(done: Updated) -> Reply
+fn updated(done: UpdateResult) -> Reply
     ensures { λ r. ⌜ r ≡ Reply.Back (done .answer) (done .work) ⌝ }
 {
     let answer = done.answer;
@@ -75,12 +75,12 @@ fn updated(done: Updated) -> Reply
 }
 
 // The result of a platform token call; `queue` is unchanged.
-fn after_token(done: Tokened, queue: Queue) -> Stepped
+fn after_token(done: TokenResult, queue: Queue) -> StepResult
     ensures { λ r. ⌜ r ≡ record { reply = Reply.Back (done .answer) Work.Nothing; session = done .session; queue = queue } ⌝ }
 {
     let answer = done.answer;
     let session = done.session;
-    Stepped {
+    StepResult {
         reply: back(answer),
         session,
         queue,
@@ -88,12 +88,12 @@ fn after_token(done: Tokened, queue: Queue) -> Stepped
 }
 
 // The result of a token signing call; `session` is unchanged.
-fn after_signing(done: Queued, session: Session) -> Stepped
+fn after_signing(done: QueueResult, session: Session) -> StepResult
     ensures { λ r. ⌜ r ≡ record { reply = Reply.Back (done .answer) Work.Nothing; session = session; queue = done .queue } ⌝ }
 {
     let answer = done.answer;
     let queue = done.queue;
-    Stepped {
+    StepResult {
         reply: back(answer),
         session,
         queue,
@@ -120,7 +120,7 @@ pub fn call(
     queue: Queue,
     public: &[u8],
     width: u64,
-) -> Stepped
+) -> StepResult
     ensures { λ r. ⌜ callExit r (now (page .exit)) (now (table .exit)) (now (words .exit)) ≡ exitBy (kindOf id) queue
         (callOf (now (granules .entry)) (worldOf (now (page .entry)) (now (table .entry)) (now (words .entry)) session (listsOf queue))
         (callWith state id x1 x2 x3 x4 busy (now (key .entry)) (now (token .entry)) (now (public .entry)) width)) ⌝ }
@@ -129,7 +129,7 @@ pub fn call(
     match kind {
         Kind::ForwardError => {
             let error = features::forward(state, x1);
-            Stepped {
+            StepResult {
                 reply: Reply::Forward(error),
                 session,
                 queue,
@@ -137,7 +137,7 @@ pub fn call(
         }
         Kind::Delegate => {
             let answer = granules::delegate(state, granules, table, words, x1);
-            Stepped {
+            StepResult {
                 reply: back(answer),
                 session,
                 queue,
@@ -145,7 +145,7 @@ pub fn call(
         }
         Kind::Undelegate => {
             let answer = granules::undelegate(state, granules, table, words, x1);
-            Stepped {
+            StepResult {
                 reply: back(answer),
                 session,
                 queue,
@@ -153,7 +153,7 @@ pub fn call(
         }
         Kind::RealmKey => {
             let answer = attest::realm_key(state, page, key, x1, x2, x3);
-            Stepped {
+            StepResult {
                 reply: back(answer),
                 session,
                 queue,
@@ -165,7 +165,7 @@ pub fn call(
         }
         Kind::Features => {
             let answer = features::features(state, x1);
-            Stepped {
+            StepResult {
                 reply: back(answer),
                 session,
                 queue,
@@ -177,15 +177,15 @@ pub fn call(
         }
         Kind::KeyUpdate => {
             let done = features::key_update(state, width, x1);
-            Stepped {
+            StepResult {
                 reply: updated(done),
                 session,
                 queue,
             }
         }
         Kind::Unlisted => {
-            let answer = codes::answered(Code::Unk, 0, 0);
-            Stepped {
+            let answer = codes::answer_with(Code::Unk, 0, 0);
+            StepResult {
                 reply: back(answer),
                 session,
                 queue,

@@ -1,5 +1,5 @@
 // Runs the operations of the numbered cases of data/, in turn, up to the first number without a case. A case is 8-byte words: the boot
-// record (0 fresh, 1 up, 2 closed, then its four values), the offset of the granule record (see `cases::granules_at`), which the realm
+// record (0 fresh, 1 up, 2 closed, then its four values), the offset of the granule record (see `vector_io::granules_at`), which the realm
 // words follow, MECIDWidthm1, the session (0 idle, 1 sending, then whole and sent), the places of page, table, realm key, public key and
 // queue, and the number of operations; then the operations. A place is an offset in the file and a length. An operation is its kind (0 call,
 // 1 signer's step, 2 challenge lookup, 3 oldest request), function id, x1 to x4, busy, the places of token and signature, and the expected
@@ -32,8 +32,8 @@ struct State {
 fn lent(input: &[u8], at: usize) -> &[u8]
     requires { ⌜ at ≤ 50000 ⌝ }
 {
-    let from = cases::length_at(input, at, 40000);
-    let length = cases::length_at(input, at + 8, 40000);
+    let from = vector_io::length_at(input, at, 40000);
+    let length = vector_io::length_at(input, at + 8, 40000);
     words::part_of(
         input,
         Span {
@@ -187,7 +187,7 @@ fn print_queue(queue: Queue) {
 
 fn print_same(what: &[u8], held: &[u8], expected: &[u8]) {
     print(what);
-    if cases::same(held, expected) {
+    if vector_io::same(held, expected) {
         print(b" same");
     } else {
         print(b" differs");
@@ -227,11 +227,11 @@ fn call(
 ) -> State
     requires { ⌜ at ≤ 40000 ⌝ }
 {
-    let granules = cases::granules_at(input, 40);
+    let granules = vector_io::granules_at(input, 40);
     let session = state.session;
     let queue = state.queue;
     let stepped = runtime::call(
-        cases::record_at(input),
+        vector_io::record_at(input),
         &granules,
         words::word_at(input, at + 8),
         words::word_at(input, at + 16),
@@ -296,7 +296,7 @@ fn operate(
         let pa = words::word_at(input, at + 16);
         let size = words::word_at(input, at + 24);
         let csize = words::word_at(input, at + 32);
-        let challenge = token::challenge(cases::record_at(input), page, pa, size, csize);
+        let challenge = token::challenge(vector_io::record_at(input), page, pa, size, csize);
         print_challenge(challenge);
         return state;
     }
@@ -309,7 +309,7 @@ fn operate(
 fn lay(input: &[u8], at: usize, expected: &mut [u8])
     requires { ⌜ at ≤ 40000 ⌝ }
 {
-    let to = cases::length_at(input, at, 40000);
+    let to = vector_io::length_at(input, at, 40000);
     if expected.len() < to {
         return;
     }
@@ -341,7 +341,7 @@ fn print_operations(
     words: &mut [u64],
 ) -> Queue {
     let mut state = state_at(input);
-    let count = cases::length_at(input, 160, 250);
+    let count = vector_io::length_at(input, 160, 250);
     for i in 0..count {
         let at = 168 + 136 * i;
         state = operate(input, at, page, table, words, state);
@@ -385,9 +385,9 @@ fn print_lent(
 )
     requires { ⌜ length (now words) ≤ 600 ⌝ }
 {
-    cases::fill_words(input, 40, words);
+    vector_io::fill_words(input, 40, words);
     print_whole(input, page, expected, table, wanted, words);
-    cases::print_words(words);
+    vector_io::print_words(words);
 }
 
 fn print_case(input: &[u8]) {
@@ -396,9 +396,9 @@ fn print_case(input: &[u8]) {
     let mut table = [0u8; 600];
     let mut wanted = [0u8; 600];
     let mut words = [0u64; 80];
-    let n = cases::length_at(input, 88, 4200);
-    let t = cases::length_at(input, 104, 600);
-    let w = cases::length_at(input, cases::words_at(input, 40), 80);
+    let n = vector_io::length_at(input, 88, 4200);
+    let t = vector_io::length_at(input, 104, 600);
+    let w = vector_io::length_at(input, vector_io::words_at(input, 40), 80);
     print_lent(
         input,
         &mut page[..n],
@@ -412,7 +412,7 @@ fn print_case(input: &[u8]) {
 fn main() {
     let mut input = [0u8; 32768];
     for n in 0..1000u64 {
-        let length = cases::load(n, &mut input);
+        let length = vector_io::load(n, &mut input);
         if length == 0 {
             return;
         }

@@ -17,8 +17,9 @@ use Rattle.entries.specs.Array.{wordsAt, soundOf}
 use Rattle.entries.proofs.Facts.{sound-acts, sound-only}
 use Rattle.fields.specs.Fields.{Field, Scanned, broken, ended, bare, fieldsIn, isEnded, taken, scanOf}
 use Rattle.fields.proofs.Facts.{ended-acts, ended-only}
-use Rattle.sections.specs.Page.{placeOk, countAt, pointerAt, checkAt, inPage, arrayAt, mkSec, secAt, mkPlat, foundAt, platAt}
-use Rattle.sections.specs.Section.{platOk, wordsIn, nothing, inRange, secOk}
+use Rattle.sections.specs.Page.{placeOk, countAt, pointerAt, checkAt, inPage, arrayAt, pageSection, pageSectionAt, pagePlatform}
+use Rattle.sections.specs.Page.{foundAt, platformAt}
+use Rattle.sections.specs.Section.{platformOk, wordsIn, nothing, inRange, sectionOk}
 use Rattle.sections.specs.Steps.{okAt, endOf, apartAt, clearAt}
 use Rattle.sections.specs.Facts.{PlaceFacts, ArrayFacts, SectionFacts, ApartFacts, PlatFacts}
 use Rattle.sections.proofs.Sections.{range-low, range-high, array-in}
@@ -30,34 +31,46 @@ place-acts base n t = both-of _ _ (eq-eqb n 4096 (t .0)) (both-of _ _ (lt-ltb 0 
 -- ---- one section by itself
 module _ (w e base k : ℕ) (page : List ℕ) where
   array-acts : ArrayFacts w e base page k (countAt k page) (pointerAt k page) (checkAt k page) → okAt w e base k page ≡ true
-  unfolding okAt secOk secAt mkSec wordsIn wordsAt inRange
+  unfolding okAt sectionOk pageSectionAt pageSection wordsIn wordsAt inRange
   array-acts t =
-      let g : inRange e base k (countAt k page) (pointerAt k page) ≡ true = both-of _ _ (le-leb (base + core e) (pointerAt k page) (t .behind)) (le-leb (pointerAt k page + size k (countAt k page)) (base + 4096) (t .before)) in
+      let g : inRange e base k (countAt k page) (pointerAt k page) ≡ true = both-of _ _
+      (le-leb (base + core e) (pointerAt k page) (t .behind))
+      (le-leb (pointerAt k page + size k (countAt k page)) (base + 4096) (t .before)) in
       either-r _ _ (both-of _ _ g (rw (array-in e base k (countAt k page) (pointerAt k page) g page)
-      (sound-acts w k (countAt k page) (pointerAt k page) (checkAt k page) (pointerAt k page - base) page (t .counted) (t .align) (t .checksum) (t .entries))))
+      (sound-acts w k (countAt k page) (pointerAt k page) (checkAt k page) (pointerAt k page - base) page (t .counted) (t .align)
+      (t .checksum) (t .entries))))
 
   array-only : inRange e base k (countAt k page) (pointerAt k page) ≡ true →
       Yes (soundOf w k (countAt k page) (pointerAt k page) (checkAt k page) (wordsAt k (countAt k page) (pointerAt k page - base) page)) →
       ArrayFacts w e base page k (countAt k page) (pointerAt k page) (checkAt k page)
   array-only g h =
       let s = sound-only w k (countAt k page) (pointerAt k page) (checkAt k page) (pointerAt k page - base) page h in
-      record { counted = s .0; align = s .1; behind = range-low e base k (countAt k page) (pointerAt k page) g; before = range-high e base k (countAt k page) (pointerAt k page) g; checksum = s .2; entries = s .3 }
+      record {
+        counted = s .0;
+        align = s .1;
+        behind = range-low e base k (countAt k page) (pointerAt k page) g;
+        before = range-high e base k (countAt k page) (pointerAt k page) g;
+        checksum = s .2;
+        entries = s .3;
+      }
 
   pub section-acts : SectionFacts w e base page k → okAt w e base k page ≡ true
-  unfolding okAt secOk secAt mkSec nothing
+  unfolding okAt sectionOk pageSectionAt pageSection nothing
   section-acts t =
       ⊎-elim
-      (λ z. either-l _ _ (both-of _ _ (eq-eqb (countAt k page) 0 (z .0)) (both-of _ _ (eq-eqb (pointerAt k page) 0 (z .1)) (eq-eqb (checkAt k page) 0 (z .2)))))
+      (λ z. either-l _ _ (both-of _ _ (eq-eqb (countAt k page) 0 (z .0))
+      (both-of _ _ (eq-eqb (pointerAt k page) 0 (z .1)) (eq-eqb (checkAt k page) 0 (z .2)))))
       array-acts t
 
   pub section-only : okAt w e base k page ≡ true → SectionFacts w e base page k
-  unfolding okAt secOk secAt mkSec nothing wordsIn wordsAt
+  unfolding okAt sectionOk pageSectionAt pageSection nothing wordsIn wordsAt
   section-only h =
       either-cases _ _
       (λ z. inl (eqb-true _ _ (both-l _ _ z), eqb-true _ _ (both-l _ _ (both-r _ _ z)), eqb-true _ _ (both-r _ _ (both-r _ _ z))))
       (λ z.
       let g = both-l _ _ z in
-      let y : Yes (soundOf w k (countAt k page) (pointerAt k page) (checkAt k page) (wordsOf (wordsPerEntry k * countAt k page) (arrayAt base page (pointerAt k page) (size k (countAt k page))))) = both-r _ _ z in
+      let y : Yes (soundOf w k (countAt k page) (pointerAt k page) (checkAt k page)
+      (wordsOf (wordsPerEntry k * countAt k page) (arrayAt base page (pointerAt k page) (size k (countAt k page))))) = both-r _ _ z in
       inr (array-only g (rw (array-in e base k (countAt k page) (pointerAt k page) g page) at y)))
       h
 
@@ -100,7 +113,12 @@ found-none base q page z = rw (eq-eqb q 0 z)
 module _ (e base q : ℕ) (page : List ℕ) (l : base + core e ≤ q) (u : q ≤ base + 4095) where
   found-in : foundAt base page q ≡ scanOf (drop (q - base) page)
   unfolding foundAt inPage core
-  found-in = rw (ne-eqb q 0 (λ z. omega arith), both-of (leb base q) (leb (q + 1) (base + 4096)) (le-leb base q (omega arith)) (le-leb (q + 1) (base + 4096) (omega arith)))
+  found-in =
+      rw (
+        ne-eqb q 0 (λ z. omega arith),
+        both-of (leb base q) (leb (q + 1) (base + 4096)) (le-leb base q (omega arith))
+            (le-leb (q + 1) (base + 4096) (omega arith)),
+      )
 
 module _ (e base : ℕ) (page : List ℕ) (fs : List Field) (n : ℕ) where
   pub plat-found : PlatFacts e base page fs n → foundAt base page (wordAt 8 page) ≡ ended fs n
@@ -110,16 +128,17 @@ module _ (e base : ℕ) (page : List ℕ) (fs : List Field) (n : ℕ) where
       (λ z. found-none base (wordAt 8 page) page (z .0) ∙ rw (z .1, z .2))
       (λ z. found-in e base (wordAt 8 page) page (z .0) (z .1) ∙ ended-acts (drop (wordAt 8 page - base) page) fs n (z .2) (z .3)) t
 
-  pub plat-acts : PlatFacts e base page fs n → platOk e base (platAt base page) ≡ true
-  unfolding platOk platAt mkPlat isEnded
+  pub plat-acts : PlatFacts e base page fs n → platformOk e base (platformAt base page) ≡ true
+  unfolding platformOk platformAt pagePlatform isEnded
   plat-acts t =
       ⊎-elim
       (λ z. either-l _ _ (eq-eqb (wordAt 8 page) 0 (z .0)))
-      (λ z. either-r _ _ (both-of _ _ (le-leb (base + core e) (wordAt 8 page) (z .0)) (both-of _ _ (lt-ltb (wordAt 8 page) (base + 4096) (let u = z .1 in omega arith)) (rw (plat-found t) refl)))) t
+      (λ z. either-r _ _ (both-of _ _ (le-leb (base + core e) (wordAt 8 page) (z .0))
+      (both-of _ _ (lt-ltb (wordAt 8 page) (base + 4096) (let u = z .1 in omega arith)) (rw (plat-found t) refl)))) t
 
-pub plat-only : (e base : ℕ) (page : List ℕ) → platOk e base (platAt base page) ≡ true →
+pub plat-only : (e base : ℕ) (page : List ℕ) → platformOk e base (platformAt base page) ≡ true →
     PlatFacts e base page (fieldsIn (foundAt base page (wordAt 8 page))) (taken (foundAt base page (wordAt 8 page)))
-unfolding platOk platAt mkPlat fieldsIn taken
+unfolding platformOk platformAt pagePlatform fieldsIn taken
 plat-only e base page h =
     let q = wordAt 8 page in
     either-cases _ _

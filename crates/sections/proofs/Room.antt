@@ -14,8 +14,8 @@ use Rattle.words.proofs.Tests.{both-l, both-r, either-cases, every-at}
 use Rattle.versions.specs.Edition.{sectionCount, core}
 use Rattle.entries.specs.Entry.{size}
 use Rattle.fields.specs.Fields.{taken}
-use Rattle.sections.specs.Page.{countAt, pointerAt, mkSec, secAt, mkPlat, foundAt, platAt}
-use Rattle.sections.specs.Section.{nothing, secOk, platOk, rulesAt}
+use Rattle.sections.specs.Page.{countAt, pointerAt, pageSection, pageSectionAt, pagePlatform, foundAt, platformAt}
+use Rattle.sections.specs.Section.{nothing, sectionOk, platformOk, rulesAt}
 use Rattle.sections.specs.Steps.{okAt, endOf, apartAt, clearTo, apartTo, clearAt, clearFrom}
 use Rattle.sections.proofs.Sections.{range-low, range-high, found-within, rules-steps, rules-at, rules-pointer}
 use Rattle.sections.proofs.Spans.{addedUp, NoneShared, AllWithin, spans-fit}
@@ -26,9 +26,10 @@ unfolding foundAt taken
 taken-none base q page z = rw (eq-eqb q 0 z)
 
 -- the fields of a page whose rules hold have no bytes, or are between the core and the page's end
-pub fields-lie : (e base : ℕ) (page : List ℕ) → length page ≡ 4096 → platOk e base (platAt base page) ≡ true →
-    (taken (foundAt base page (wordAt 8 page)) ≡ 0) ⊎ ((base + core e ≤ wordAt 8 page) × (wordAt 8 page + taken (foundAt base page (wordAt 8 page)) ≤ base + 4096))
-unfolding platOk platAt mkPlat
+pub fields-lie : (e base : ℕ) (page : List ℕ) → length page ≡ 4096 → platformOk e base (platformAt base page) ≡ true →
+    (taken (foundAt base page (wordAt 8 page)) ≡ 0) ⊎ ((base + core e ≤ wordAt 8 page) ×
+    (wordAt 8 page + taken (foundAt base page (wordAt 8 page)) ≤ base + 4096))
+unfolding platformOk platformAt pagePlatform
 fields-lie e base page n h =
     either-cases _ _
     (λ z. inl (taken-none base (wordAt 8 page) page (eqb-true _ _ z)))
@@ -47,15 +48,20 @@ size-none k c e = rw e (omega arith)
 module _ (w e base : ℕ) (page : List ℕ) where
   pub array-lies : (k : ℕ) → okAt w e base k page ≡ true →
       (size k (countAt k page) ≡ 0) ⊎ ((base + core e ≤ pointerAt k page) × (pointerAt k page + size k (countAt k page) ≤ base + 4096))
-  unfolding okAt secOk secAt mkSec nothing
+  unfolding okAt sectionOk pageSectionAt pageSection nothing
   array-lies k h =
       either-cases _ _
       (λ n. inl (size-none k (countAt k page) (eqb-true _ _ (both-l _ _ n))))
-      (λ n. inr (range-low e base k (countAt k page) (pointerAt k page) (both-l _ _ n), range-high e base k (countAt k page) (pointerAt k page) (both-l _ _ n)))
+      (λ n. inr (
+        range-low e base k (countAt k page) (pointerAt k page) (both-l _ _ n),
+        range-high e base k (countAt k page) (pointerAt k page) (both-l _ _ n),
+      ))
       h
 
-  fields-apart : (n : ℕ) → clearFrom (wordAt 8 page) (wordAt 8 page + taken (foundAt base page (wordAt 8 page))) n page ≡ true → (j : ℕ) → j < n →
-      (wordAt 8 page + taken (foundAt base page (wordAt 8 page)) ≤ pointerAt j page) ⊎ (pointerAt j page + size j (countAt j page) ≤ wordAt 8 page)
+  fields-apart : (n : ℕ) → clearFrom (wordAt 8 page) (wordAt 8 page + taken (foundAt base page (wordAt 8 page))) n page ≡ true → (j : ℕ) →
+      j < n →
+      (wordAt 8 page + taken (foundAt base page (wordAt 8 page)) ≤ pointerAt j page) ⊎
+      (pointerAt j page + size j (countAt j page) ≤ wordAt 8 page)
   unfolding clearFrom clearAt endOf
   fields-apart n h j l =
       either-cases _ _

@@ -14,8 +14,10 @@ use Rattle.words.proofs.Tests.{both-l, both-r, both-of, either-cases, every-at,
 use Rattle.versions.specs.Edition.{sectionCount, core}
 use Rattle.entries.specs.Entry.{wordsPerEntry, size}
 use Rattle.entries.specs.Array.{wordsAt, soundOf}
-use Rattle.sections.specs.Page.{placeOk, Plat, paddingAt, countAt, pointerAt, checkAt, inPage, arrayAt, mkSec, secAt, mkPlat, foundAt, platAt}
-use Rattle.sections.specs.Section.{platOk, wordsIn, nothing, inRange, secOk, extent, apart, clearBefore, platExtent, platClear, rules, rulesAt}
+use Rattle.sections.specs.Page.{placeOk, PagePlatform, paddingAt, countAt, pointerAt, checkAt, inPage, arrayAt, pageSection}
+use Rattle.sections.specs.Page.{pageSectionAt, pagePlatform, foundAt, platformAt}
+use Rattle.sections.specs.Section.{platformOk, wordsIn, nothing, inRange, sectionOk, extent, apart, clearBefore, platExtent}
+use Rattle.sections.specs.Section.{platClear, rules, rulesAt}
 use Rattle.sections.specs.Steps.{platEnd, okAt, okTo, endOf, apartAt, clearTo, apartTo, clearAt, clearFrom, staysAt}
 use Rattle.fields.specs.Fields.{Scanned, broken, ended, bare, isEnded, taken, scanOf}
 use Rattle.fields.specs.Steps.{endTold}
@@ -55,43 +57,52 @@ module _ (e base k c p : ℕ) (h : inRange e base k c p ≡ true) where
 
 module _ (w e base k : ℕ) (page : List ℕ) where
   pub ok-nothing : nothing (countAt k page) (pointerAt k page) (checkAt k page) ≡ true → okAt w e base k page ≡ true
-  unfolding okAt secOk secAt mkSec either
+  unfolding okAt sectionOk pageSectionAt pageSection either
   ok-nothing h = rw h
 
   ok-range : nothing (countAt k page) (pointerAt k page) (checkAt k page) ≡ false →
       inRange e base k (countAt k page) (pointerAt k page) ≡ false → okAt w e base k page ≡ false
-  unfolding okAt secOk secAt mkSec either both
+  unfolding okAt sectionOk pageSectionAt pageSection either both
   ok-range h g = rw (h, g)
 
   pub ok-sound : nothing (countAt k page) (pointerAt k page) (checkAt k page) ≡ false →
       inRange e base k (countAt k page) (pointerAt k page) ≡ true →
-      okAt w e base k page ≡ soundOf w k (countAt k page) (pointerAt k page) (checkAt k page) (wordsAt k (countAt k page) (pointerAt k page - base) page)
-  unfolding okAt secOk secAt mkSec either both wordsIn wordsAt
+      okAt w e base k page ≡ soundOf w k (countAt k page) (pointerAt k page) (checkAt k page)
+      (wordsAt k (countAt k page) (pointerAt k page - base) page)
+  unfolding okAt sectionOk pageSectionAt pageSection either both wordsIn wordsAt
   ok-sound h g = rw (h, g, array-in e base k (countAt k page) (pointerAt k page) g page)
 
   -- an array that starts after the core is in range exactly if it ends within the page
-  pub ok-placed : nothing (countAt k page) (pointerAt k page) (checkAt k page) ≡ false → base + core e ≤ pointerAt k page → length page ≡ 4096 →
+  pub ok-placed : nothing (countAt k page) (pointerAt k page) (checkAt k page) ≡ false → base + core e ≤ pointerAt k page →
+      length page ≡ 4096 →
       okAt w e base k page ≡ both (leb (pointerAt k page - base + size k (countAt k page)) (length page))
       (soundOf w k (countAt k page) (pointerAt k page) (checkAt k page) (wordsAt k (countAt k page) (pointerAt k page - base) page))
   unfolding inRange both
   ok-placed h g n = go (decLe (pointerAt k page - base + size k (countAt k page)) (length page))
     where
-      go : Dec (pointerAt k page - base + size k (countAt k page) ≤ length page) → okAt w e base k page ≡ both (leb (pointerAt k page - base + size k (countAt k page)) (length page))
+      go : Dec (pointerAt k page - base + size k (countAt k page) ≤ length page) →
+          okAt w e base k page ≡ both (leb (pointerAt k page - base + size k (countAt k page)) (length page))
           (soundOf w k (countAt k page) (pointerAt k page) (checkAt k page) (wordsAt k (countAt k page) (pointerAt k page - base) page))
       go (yes m) =
           rw (le-leb (pointerAt k page - base + size k (countAt k page)) (length page) m)
-          (ok-sound h (both-of _ _ (le-leb (base + core e) (pointerAt k page) g) (le-leb (pointerAt k page + size k (countAt k page)) (base + 4096) (omega arith))))
+          (ok-sound h (both-of _ _ (le-leb (base + core e) (pointerAt k page) g)
+          (le-leb (pointerAt k page + size k (countAt k page)) (base + 4096) (omega arith))))
       go (no m) =
           rw (lt-leb (pointerAt k page - base + size k (countAt k page)) (length page) (omega arith))
-          (ok-range h (rw (le-leb (base + core e) (pointerAt k page) g, lt-leb (pointerAt k page + size k (countAt k page)) (base + 4096) (omega arith))))
+          (ok-range h (rw (
+            le-leb (base + core e) (pointerAt k page) g,
+            lt-leb (pointerAt k page + size k (countAt k page)) (base + 4096) (omega arith),
+          )))
 
   -- an array that starts before the core's end breaks the rule
-  pub ok-low : nothing (countAt k page) (pointerAt k page) (checkAt k page) ≡ false → pointerAt k page < base + core e → okAt w e base k page ≡ false
+  pub ok-low : nothing (countAt k page) (pointerAt k page) (checkAt k page) ≡ false → pointerAt k page < base + core e →
+      okAt w e base k page ≡ false
   unfolding inRange both
   ok-low h g = ok-range h (rw (lt-leb (base + core e) (pointerAt k page) g))
 
   -- the same, given the three words that the code read
-  module _ (n p x : ℕ) (cn : n ≡ countAt k page) (cp : p ≡ pointerAt k page) (cx : x ≡ checkAt k page) (z : Bool) (cz : z ≡ nothing n p x) where
+  module _ (n p x : ℕ) (cn : n ≡ countAt k page) (cp : p ≡ pointerAt k page) (cx : x ≡ checkAt k page) (z : Bool)
+      (cz : z ≡ nothing n p x) where
     was-nothing : nothing (countAt k page) (pointerAt k page) (checkAt k page) ≡ z
     was-nothing = rw (← cn, ← cp, ← cx) (sym cz)
 
@@ -108,12 +119,12 @@ module _ (w e base k : ℕ) (page : List ℕ) where
 
   -- a good section that is not empty has its array in range
   pub ok-in-range : okAt w e base k page ≡ true → (countAt k page ≡ 0 → ⊥) → inRange e base k (countAt k page) (pointerAt k page) ≡ true
-  unfolding okAt secOk secAt mkSec nothing
+  unfolding okAt sectionOk pageSectionAt pageSection nothing
   ok-in-range h z = either-cases _ _ (λ n. absurd (z (eqb-true _ _ (both-l _ _ n)))) (λ n. both-l _ _ n) h
 
   -- the array of a good section ends within the page
   pub ok-end : okAt w e base k page ≡ true → endOf k page ≤ base + 4096
-  unfolding okAt secOk secAt mkSec nothing endOf
+  unfolding okAt sectionOk pageSectionAt pageSection nothing endOf
   ok-end h =
       either-cases _ _
       (λ n.
@@ -206,9 +217,18 @@ module _ (from to k : ℕ) (page : List ℕ) where
     unfolding clearAt endOf either
     clear-above g = rw (lt-leb to (pointerAt k page) h) (go (decLe (size k (countAt k page)) (from - pointerAt k page)))
       where
-        go : Dec (size k (countAt k page) ≤ from - pointerAt k page) → leb (pointerAt k page + size k (countAt k page)) from ≡ leb (size k (countAt k page)) (from - pointerAt k page)
-        go (yes l) = rw (le-leb (size k (countAt k page)) (from - pointerAt k page) l, le-leb (pointerAt k page + size k (countAt k page)) from (omega arith))
-        go (no l) = rw (lt-leb (size k (countAt k page)) (from - pointerAt k page) (omega arith), lt-leb (pointerAt k page + size k (countAt k page)) from (omega arith))
+        go : Dec (size k (countAt k page) ≤ from - pointerAt k page) →
+            leb (pointerAt k page + size k (countAt k page)) from ≡ leb (size k (countAt k page)) (from - pointerAt k page)
+        go (yes l) =
+            rw (
+              le-leb (size k (countAt k page)) (from - pointerAt k page) l,
+              le-leb (pointerAt k page + size k (countAt k page)) from (omega arith),
+            )
+        go (no l) =
+            rw (
+              lt-leb (size k (countAt k page)) (from - pointerAt k page) (omega arith),
+              lt-leb (pointerAt k page + size k (countAt k page)) from (omega arith),
+            )
 
   -- the same, given the words that the code read
   module _ (p : ℕ) (cp : p ≡ pointerAt k page) where
@@ -231,24 +251,30 @@ end-told (bare fs) = refl
 
 -- the platform data, by where the pointer is
 module _ (e base q : ℕ) (page : List ℕ) where
-  pub plat-none : q ≡ 0 → platEnd e base (mkPlat q (foundAt base page q)) ≡ fieldsEnd.Ended 0
-  unfolding platEnd platOk mkPlat foundAt either taken
+  pub plat-none : q ≡ 0 → platEnd e base (pagePlatform q (foundAt base page q)) ≡ fieldsEnd.Ended 0
+  unfolding platEnd platformOk pagePlatform foundAt either taken
   plat-none z = rw (eq-eqb q 0 z)
 
   module _ (n : q ≡ 0 → ⊥) where
-    pub plat-low : q < base + core e → platEnd e base (mkPlat q (foundAt base page q)) ≡ fieldsEnd.Broken
-    unfolding platEnd platOk mkPlat either both
+    pub plat-low : q < base + core e → platEnd e base (pagePlatform q (foundAt base page q)) ≡ fieldsEnd.Broken
+    unfolding platEnd platformOk pagePlatform either both
     plat-low l = rw (ne-eqb q 0 n, lt-leb (base + core e) q l)
 
     module _ (h : base + core e ≤ q) where
-      pub plat-high : base + 4096 ≤ q → platEnd e base (mkPlat q (foundAt base page q)) ≡ fieldsEnd.Broken
-      unfolding platEnd platOk mkPlat either both
+      pub plat-high : base + 4096 ≤ q → platEnd e base (pagePlatform q (foundAt base page q)) ≡ fieldsEnd.Broken
+      unfolding platEnd platformOk pagePlatform either both
       plat-high l = rw (ne-eqb q 0 n, le-leb (base + core e) q h, le-ltb q (base + 4096) l)
 
-      pub plat-in : q < base + 4096 → platEnd e base (mkPlat q (foundAt base page q)) ≡ endTold (scanOf (drop (q - base) page))
-      unfolding platEnd platOk mkPlat foundAt inPage either both
+      pub plat-in : q < base + 4096 → platEnd e base (pagePlatform q (foundAt base page q)) ≡ endTold (scanOf (drop (q - base) page))
+      unfolding platEnd platformOk pagePlatform foundAt inPage either both
       plat-in l =
-          rw (ne-eqb q 0 n, le-leb (base + core e) q h, lt-ltb q (base + 4096) l, le-leb base q (omega arith), le-leb (q + 1) (base + 4096) (omega arith))
+          rw (
+            ne-eqb q 0 n,
+            le-leb (base + core e) q h,
+            lt-ltb q (base + 4096) l,
+            le-leb base q (omega arith),
+            le-leb (q + 1) (base + 4096) (omega arith),
+          )
           (end-told (scanOf (drop (q - base) page)))
 
 -- what the result of the pass over the fields implies for the rule
@@ -260,14 +286,14 @@ by-ended : (b : Bool) (n m : ℕ) → fieldsEnd.Ended m ≡ cond b (fieldsEnd.En
 by-ended true n m h = (refl, cc)
 by-ended false n m h = absurd (let z : _≡_ {A = ℕ} 0 1 = cc in omega arith)
 
-module _ (e base : ℕ) (q : Plat) where
-  pub plat-broken : fieldsEnd.Broken ≡ platEnd e base q → platOk e base q ≡ false
+module _ (e base : ℕ) (q : PagePlatform) where
+  pub plat-broken : fieldsEnd.Broken ≡ platEnd e base q → platformOk e base q ≡ false
   unfolding platEnd
-  plat-broken h = by-broken (platOk e base q) (taken (q .found)) h
+  plat-broken h = by-broken (platformOk e base q) (taken (q .found)) h
 
-  pub plat-ended : (m : ℕ) → fieldsEnd.Ended m ≡ platEnd e base q → (platOk e base q ≡ true) × (m ≡ taken (q .found))
+  pub plat-ended : (m : ℕ) → fieldsEnd.Ended m ≡ platEnd e base q → (platformOk e base q ≡ true) × (m ≡ taken (q .found))
   unfolding platEnd
-  plat-ended m h = by-ended (platOk e base q) (taken (q .found)) m h
+  plat-ended m h = by-ended (platformOk e base q) (taken (q .found)) m h
 
 -- the fields have at most as many bytes as there are from the pointer to the page's end
 taken-case : (b : Bool) (s t : Scanned) (n : ℕ) → taken s ≤ n → taken t ≤ n → taken (cond b s t) ≤ n
@@ -285,9 +311,9 @@ pub found-room : (base q : ℕ) (page : List ℕ) → length page ≡ 4096 → t
 found-room base q page l = omega (arith, found-within base q page l)
 
 -- so the address after them does not wrap
-pub plat-top : (e base : ℕ) (page : List ℕ) → length page ≡ 4096 → platOk e base (platAt base page) ≡ true →
+pub plat-top : (e base : ℕ) (page : List ℕ) → length page ≡ 4096 → platformOk e base (platformAt base page) ≡ true →
     wordAt 8 page + taken (foundAt base page (wordAt 8 page)) ≤ base + 8192
-unfolding platOk platAt mkPlat
+unfolding platformOk platformAt pagePlatform
 plat-top e base page l h =
     let r = found-room base (wordAt 8 page) page l in
     either-cases _ _
@@ -298,10 +324,12 @@ plat-top e base page l h =
 -- ---- the rules of a page, check by check
 pub rules-steps : (w e base : ℕ) (page : List ℕ) →
     rulesAt w e base page ≡ both (eqb (paddingAt page) 0)
-    (both (platOk e base (platAt base page))
+    (both (platformOk e base (platformAt base page))
     (both (okTo w e base (sectionCount e) page)
-    (both (apartTo (sectionCount e) page) (clearFrom (wordAt 8 page) (wordAt 8 page + taken (foundAt base page (wordAt 8 page))) (sectionCount e) page))))
-unfolding rulesAt rules okTo okAt apartTo clearTo apartAt clearBefore apart extent endOf secAt mkSec platClear platExtent platAt mkPlat clearFrom clearAt
+    (both (apartTo (sectionCount e) page) (clearFrom (wordAt 8 page) (wordAt 8 page + taken (foundAt base page (wordAt 8 page)))
+    (sectionCount e) page))))
+unfolding rulesAt rules okTo okAt apartTo clearTo apartAt clearBefore apart extent endOf pageSectionAt pageSection platClear platExtent
+    platformAt pagePlatform clearFrom clearAt
 rules-steps w e base page = refl
 
 module _ (w e base : ℕ) (page : List ℕ) where
@@ -310,11 +338,11 @@ module _ (w e base : ℕ) (page : List ℕ) where
   rules-padding p = rw (rules-steps w e base page, ne-eqb (paddingAt page) 0 p)
 
   module _ (p : paddingAt page ≡ 0) where
-    rules-plat : platOk e base (platAt base page) ≡ false → rulesAt w e base page ≡ false
+    rules-plat : platformOk e base (platformAt base page) ≡ false → rulesAt w e base page ≡ false
     unfolding both
     rules-plat q = rw (rules-steps w e base page, eq-eqb (paddingAt page) 0 p, q)
 
-    module _ (q : platOk e base (platAt base page) ≡ true) where
+    module _ (q : platformOk e base (platformAt base page) ≡ true) where
       rules-each : okTo w e base (sectionCount e) page ≡ false → rulesAt w e base page ≡ false
       unfolding both
       rules-each o = rw (rules-steps w e base page, eq-eqb (paddingAt page) 0 p, q, o)
@@ -325,7 +353,8 @@ module _ (w e base : ℕ) (page : List ℕ) where
         rules-apart a = rw (rules-steps w e base page, eq-eqb (paddingAt page) 0 p, q, o, a)
 
         rules-clear : apartTo (sectionCount e) page ≡ true →
-            rulesAt w e base page ≡ clearFrom (wordAt 8 page) (wordAt 8 page + taken (foundAt base page (wordAt 8 page))) (sectionCount e) page
+            rulesAt w e base page ≡ clearFrom (wordAt 8 page) (wordAt 8 page + taken (foundAt base page (wordAt 8 page)))
+            (sectionCount e) page
         unfolding both
         rules-clear a = rw (rules-steps w e base page, eq-eqb (paddingAt page) 0 p, q, o, a)
 
@@ -334,21 +363,22 @@ module _ (w e base : ℕ) (page : List ℕ) (d : ℕ) (cd : d ≡ paddingAt page
   pub told-padding : (d ≡ 0 → ⊥) → false ≡ rulesAt w e base page
   told-padding n = sym (rules-padding w e base page (λ z. n (cd ∙ z)))
 
-  module _ (z : d ≡ 0) (q : ℕ) (cq : q ≡ wordAt 8 page) (x : FieldsEnd) (cx : x ≡ platEnd e base (mkPlat q (foundAt base page q))) where
+  module _ (z : d ≡ 0) (q : ℕ) (cq : q ≡ wordAt 8 page) (x : FieldsEnd)
+      (cx : x ≡ platEnd e base (pagePlatform q (foundAt base page q))) where
     is-none : paddingAt page ≡ 0
     is-none = sym cd ∙ z
 
-    is-end : x ≡ platEnd e base (platAt base page)
-    unfolding platAt
+    is-end : x ≡ platEnd e base (platformAt base page)
+    unfolding platformAt
     is-end = cx ∙ rw cq
 
     pub told-broken : x ≡ fieldsEnd.Broken → false ≡ rulesAt w e base page
-    told-broken h = sym (rules-plat w e base page is-none (plat-broken e base (platAt base page) (sym h ∙ is-end)))
+    told-broken h = sym (rules-plat w e base page is-none (plat-broken e base (platformAt base page) (sym h ∙ is-end)))
 
     module _ (m : ℕ) (h : x ≡ fieldsEnd.Ended m) where
-      is-plat : (platOk e base (platAt base page) ≡ true) × (m ≡ taken (foundAt base page (wordAt 8 page)))
-      unfolding platAt mkPlat
-      is-plat = plat-ended e base (platAt base page) m (sym h ∙ is-end)
+      is-plat : (platformOk e base (platformAt base page) ≡ true) × (m ≡ taken (foundAt base page (wordAt 8 page)))
+      unfolding platformAt pagePlatform
+      is-plat = plat-ended e base (platformAt base page) m (sym h ∙ is-end)
 
       pub told-top : length page ≡ 4096 → q + m ≤ base + 8192
       told-top l = rw (is-plat .1, cq) (plat-top e base page l (is-plat .0))
@@ -362,9 +392,12 @@ module _ (w e base : ℕ) (page : List ℕ) (d : ℕ) (cd : d ≡ paddingAt page
           told-apart f = sym (rules-apart w e base page is-none (is-plat .0) (rw (← cn) (sym co ∙ t)) (rw (← cn) (sym ca ∙ f)))
 
           pub told-clear : a ≡ true → (r : Bool) → r ≡ clearFrom q (q + m) n page → r ≡ rulesAt w e base page
-          told-clear y r c = c ∙ rw (is-plat .1, cq, cn) (sym (rules-clear w e base page is-none (is-plat .0) (rw (← cn) (sym co ∙ t)) (rw (← cn) (sym ca ∙ y))))
+          told-clear y r c =
+              c ∙ rw (is-plat .1, cq, cn) (sym (rules-clear w e base page is-none (is-plat .0) (rw (← cn) (sym co ∙ t))
+              (rw (← cn) (sym ca ∙ y))))
 
-pub told-ends : (w e base n : ℕ) (page : List ℕ) (o : Bool) → o ≡ okTo w e base n page → o ≡ true → (k : ℕ) → k < n → endOf k page ≤ base + 4096
+pub told-ends : (w e base n : ℕ) (page : List ℕ) (o : Bool) → o ≡ okTo w e base n page → o ≡ true → (k : ℕ) → k < n →
+    endOf k page ≤ base + 4096
 told-ends w e base n page o c t k l = ok-end w e base k page (ok-each w e base page n k (sym c ∙ t) l)
 
 pub rules-sections : (w e base : ℕ) (page : List ℕ) → rulesAt w e base page ≡ true → okTo w e base (sectionCount e) page ≡ true
@@ -373,7 +406,7 @@ rules-sections w e base page h = both-l _ _ (both-r _ _ (both-r _ _ (rw (rules-s
 pub rules-at : (w e base : ℕ) (page : List ℕ) → rulesAt w e base page ≡ true → (k : ℕ) → k < sectionCount e → okAt w e base k page ≡ true
 rules-at w e base page h k l = ok-each w e base page (sectionCount e) k (rules-sections w e base page h) l
 
-pub rules-pointer : (w e base : ℕ) (page : List ℕ) → rulesAt w e base page ≡ true → platOk e base (platAt base page) ≡ true
+pub rules-pointer : (w e base : ℕ) (page : List ℕ) → rulesAt w e base page ≡ true → platformOk e base (platformAt base page) ≡ true
 rules-pointer w e base page h = both-l _ _ (both-r _ _ (rw (rules-steps w e base page) at h))
 
 -- ---- the rule of one section among others, check by check
@@ -401,11 +434,13 @@ module _ (w e base k : ℕ) (page : List ℕ) (z : Bool) (c : z ≡ okAt w e bas
     unfolding both
     told-own h = rw v (sym (stays-own w e base k from to page (sym c ∙ h)))
 
-    module _ (h : z ≡ true) (p : ℕ) (cp : p ≡ pointerAt k page) (q : ℕ) (cq : q ≡ endOf k page) (y : Bool) (cy : y ≡ clearFrom p q k page) where
+    module _ (h : z ≡ true) (p : ℕ) (cp : p ≡ pointerAt k page) (q : ℕ) (cq : q ≡ endOf k page) (y : Bool)
+        (cy : y ≡ clearFrom p q k page) where
       pub told-before : y ≡ false → false ≡ both (placeOk base (length page)) (staysAt w e base k from to page)
       unfolding both
       told-before g = rw v (sym (stays-before w e base k from to page (sym c ∙ h) (rw (← cp, ← cq) (sym cy ∙ g))))
 
-      pub told-stays : y ≡ true → (r : Bool) → r ≡ clearAt from to k page → r ≡ both (placeOk base (length page)) (staysAt w e base k from to page)
+      pub told-stays : y ≡ true → (r : Bool) → r ≡ clearAt from to k page →
+          r ≡ both (placeOk base (length page)) (staysAt w e base k from to page)
       unfolding both
       told-stays g r m = rw v (m ∙ sym (stays-clear w e base k from to page (sym c ∙ h) (rw (← cp, ← cq) (sym cy ∙ g))))

@@ -63,7 +63,8 @@ module _ (n : ℕ) (at s : ℕ → ℕ) (lo hi : ℕ) (w : AllWithin (suc n) at 
       go : Dec (at n < at k + s k) → (upper at s (at n) k ≡ 0) ⊎ ((at n + s n ≤ at k) × (at k + upper at s (at n) k ≤ hi))
       go (yes x) =
           rw (lt-leb (at k + s k) (at n) x)
-          (⊎-elim (λ z. inl z) (λ q. inr (⊎-elim (λ u. u) (λ u. absurd (let z : ⊥ = omega arith in z)) (a n k l (omega arith)), q .1)) (w k (omega arith)))
+          (⊎-elim (λ z. inl z) (λ q. inr (⊎-elim (λ u. u) (λ u. absurd (let z : ⊥ = omega arith in z)) (a n k l (omega arith)), q .1))
+          (w k (omega arith)))
       go (no x) = rw (le-leb (at k + s k) (at n) (omega arith)) (inl refl)
 
 pub spans-fit : (n : ℕ) (at s : ℕ → ℕ) (lo hi : ℕ) → lo ≤ hi → AllWithin n at s lo hi → NoneShared n at s → lo + addedUp n s ≤ hi
@@ -76,7 +77,9 @@ spans-fit (suc n) at s lo hi l w a =
     ⊎-elim
     (λ z. omega (arith, spans-fit n at s lo hi l (λ k h. w k (omega arith)) c))
     (λ p.
-    let x = spans-fit n at t lo (at n) (p .0) (below n at s lo hi w a) (shorter n at s t (λ k. omega (arith, both-parts at s (at n) k)) c) in
-    let y = spans-fit n at u (at n + s n) hi (p .1) (above n at s lo hi w a) (shorter n at s u (λ k. omega (arith, both-parts at s (at n) k)) c) in
+    let x = spans-fit n at t lo (at n) (p .0) (below n at s lo hi w a)
+    (shorter n at s t (λ k. omega (arith, both-parts at s (at n) k)) c) in
+    let y = spans-fit n at u (at n + s n) hi (p .1) (above n at s lo hi w a)
+    (shorter n at s u (λ k. omega (arith, both-parts at s (at n) k)) c) in
     omega (arith, all-parts at s (at n) n))
     (w n (omega arith))

@@ -36,7 +36,7 @@ SectionFacts w e base page k =
     ⊎ ArrayFacts w e base page k (wordAt (16 + 24 * k) page) (wordAt (24 + 24 * k) page) (wordAt (32 + 24 * k) page)
 
 -- of two arrays, given section, count and pointer of each, one ends at or before the start of the other
-abbrev pub ApartFacts : ℕ → ℕ → ℕ → ℕ → ℕ → ℕ → Type 0
+abbrev pub ApartFacts : (k count pointer k' count' pointer' : ℕ) → Type 0
 ApartFacts k c p k' c' p' = (p + size k c ≤ p') ⊎ (p' + size k' c' ≤ p)
 
 -- "plat_data is 0 or lies from B + core size of e to B + 4,095"; 02, E7: "Fields through the end mark must lie in the page". The fields
@@ -44,4 +44,5 @@ ApartFacts k c p k' c' p' = (p + size k c ≤ p') ⊎ (p' + size k' c' ≤ p)
 abbrev pub PlatFacts : ℕ → ℕ → List ℕ → List Field → ℕ → Type 0
 PlatFacts e base page fs n =
     ((wordAt 8 page ≡ 0) × (fs ≡ []) × (n ≡ 0))
-    ⊎ ((base + core e ≤ wordAt 8 page) × (wordAt 8 page ≤ base + 4095) × FieldsKeep fs × FieldsStand (drop (wordAt 8 page - base) page) fs n)
+    ⊎ ((base + core e ≤ wordAt 8 page) × (wordAt 8 page ≤ base + 4095) × FieldsKeep fs ×
+    FieldsStand (drop (wordAt 8 page - base) page) fs n)

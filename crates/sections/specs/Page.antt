@@ -5,7 +5,7 @@ use mathlib.Core.List.{List, []}
 use lib.ListN.{drop}
 use lib.Dec.{leb, ltb, eqb}
 use Rattle.words.specs.Tests.{both}
-use Rattle.words.specs.Word.{part, wordAt, halfAt}
+use Rattle.words.specs.Word.{part, wordAt, u32At}
 use Rattle.fields.specs.Fields.{Scanned, broken, ended, scanOf}
 use Rattle.entries.specs.Entry.{size}
 
@@ -15,11 +15,11 @@ placeOk base n = both (eqb n 4096) (both (ltb 0 base) (both (eqb (base % 4096) 0
 
 -- Offset 0: version, 4 bytes.
 abbrev pub versionAt : List ℕ → ℕ
-versionAt page = halfAt 0 page
+versionAt page = u32At 0 page
 
 -- Offset 4: padding, 4 bytes, zero.
 abbrev pub paddingAt : List ℕ → ℕ
-paddingAt page = halfAt 4 page
+paddingAt page = u32At 4 page
 
 -- "A section is 24 bytes: count, pointer, checksum." The first, plat_dram, is at offset 16. The count of section k (ML3):
 abbrev pub countAt : ℕ → List ℕ → ℕ
@@ -42,36 +42,36 @@ unfoldable pub arrayAt : ℕ → List ℕ → ℕ → ℕ → List ℕ
 arrayAt base page p n = cond (inPage base p n) (part (p - base) n page) []
 
 -- Everything that the page holds of section k: its three words, and the bytes of its array. No rule uses more of the page than this.
-pub record Sec : Type 0 where
+pub record PageSection : Type 0 where
   pub count : ℕ
   pub ptr : ℕ
   pub chk : ℕ
   pub bytes : List ℕ
 
 -- a section with count c, pointer p, checksum s and array bytes b
-unfoldable pub mkSec : ℕ → ℕ → ℕ → List ℕ → Sec
-mkSec c p s b = record { count = c; ptr = p; chk = s; bytes = b }
+unfoldable pub pageSection : ℕ → ℕ → ℕ → List ℕ → PageSection
+pageSection c p s b = record { count = c; ptr = p; chk = s; bytes = b }
 
 -- section k of a page at `base`
-unfoldable pub secAt : ℕ → List ℕ → ℕ → Sec
-secAt base page k =
-    mkSec (countAt k page) (pointerAt k page) (checkAt k page)
+unfoldable pub pageSectionAt : ℕ → List ℕ → ℕ → PageSection
+pageSectionAt base page k =
+    pageSection (countAt k page) (pointerAt k page) (checkAt k page)
     (arrayAt base page (pointerAt k page) (size k (countAt k page)))
 
 -- Everything that the page holds of the platform data: the pointer, and the fields that it points at. 02, E7 amends 01's "what it points
 -- at is not read".
-pub record Plat : Type 0 where
+pub record PagePlatform : Type 0 where
   pub at : ℕ
   pub found : Scanned
 
 -- platform data with pointer q and scan result s
-unfoldable pub mkPlat : ℕ → Scanned → Plat
-mkPlat q s = record { at = q; found = s }
+unfoldable pub pagePlatform : ℕ → Scanned → PagePlatform
+pagePlatform q s = record { at = q; found = s }
 
 -- the fields from address q up to the page's end; E7: "no pointer, shows an empty list"
 unfoldable pub foundAt : ℕ → List ℕ → ℕ → Scanned
 foundAt base page q = cond (eqb q 0) (ended [] 0) (cond (inPage base q 1) (scanOf (drop (q - base) page)) broken)
 
 -- Offset 8: plat_data pointer, with its fields.
-unfoldable pub platAt : ℕ → List ℕ → Plat
-platAt base page = mkPlat (wordAt 8 page) (foundAt base page (wordAt 8 page))
+unfoldable pub platformAt : ℕ → List ℕ → PagePlatform
+platformAt base page = pagePlatform (wordAt 8 page) (foundAt base page (wordAt 8 page))

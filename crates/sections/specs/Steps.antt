@@ -1,6 +1,6 @@
 -- For the loops. `rules-steps` (proofs/Sections.antt) proves `okTo`, `apartTo` and `clearFrom` of all sections of an edition together
 -- equal to `rulesAt` (Section.antt), with padding and platform data; `plat-broken` and `plat-ended` (also there) `platEnd` equal to
--- `platOk`. `stays-to` (mend/proofs/Pages.antt) proves `staysAt`, on the
+-- `platformOk`. `stays-to` (mend/proofs/Pages.antt) proves `staysAt`, on the
 -- page as mended so far, equal to the mender's `keepsAt`. Assumes nothing.
 use Prim.Native.Nat.{ℕ, _+_}
 use mathlib.Core.Bool.{Bool, cond}
@@ -11,19 +11,19 @@ use Rattle.entries.specs.Entry.{size}
 use Rattle.fields.specs.Fields.{taken}
 use Rattle.fields.specs.declared.FieldsEnd.{FieldsEnd}
 use Rattle.fields.specs.declared.FieldsEnd.the-variants.{Broken, Ended}
-use Rattle.sections.specs.Page.{countAt, pointerAt, secAt, Plat}
-use Rattle.sections.specs.Section.{platOk, secOk}
+use Rattle.sections.specs.Page.{countAt, pointerAt, pageSectionAt, PagePlatform}
+use Rattle.sections.specs.Section.{platformOk, sectionOk}
 
 -- the platform data: the number of bytes of the fields through their end mark, or broken
-unfoldable pub platEnd : ℕ → ℕ → Plat → FieldsEnd
-platEnd e base q = cond (platOk e base q) (Ended (taken (q .found))) Broken
+unfoldable pub platEnd : ℕ → ℕ → PagePlatform → FieldsEnd
+platEnd e base q = cond (platformOk e base q) (Ended (taken (q .found))) Broken
 
 -- the rule of section k by itself
-unfoldable pub okAt : ℕ → ℕ → ℕ → ℕ → List ℕ → Bool
-okAt w e base k page = secOk w e base k (secAt base page k)
+unfoldable pub okAt : (minor edition base k : ℕ) (page : List ℕ) → Bool
+okAt w e base k page = sectionOk w e base k (pageSectionAt base page k)
 
 -- each of the first n sections keeps its rule by itself
-unfoldable pub okTo : ℕ → ℕ → ℕ → ℕ → List ℕ → Bool
+unfoldable pub okTo : (minor edition base n : ℕ) (page : List ℕ) → Bool
 okTo w e base n page = every n (λ k. okAt w e base k page)
 
 -- the address after the array of section k
@@ -51,6 +51,6 @@ unfoldable pub clearFrom : ℕ → ℕ → ℕ → List ℕ → Bool
 clearFrom from to n page = every n (λ k. clearAt from to k page)
 
 -- section k keeps its rule by itself, and its array misses those of the sections before it and [from, to)
-unfoldable pub staysAt : ℕ → ℕ → ℕ → ℕ → ℕ → ℕ → List ℕ → Bool
+unfoldable pub staysAt : (minor edition base k from to : ℕ) (page : List ℕ) → Bool
 staysAt w e base k from to page =
     both (okAt w e base k page) (both (clearFrom (pointerAt k page) (endOf k page) k page) (clearAt from to k page))

@@ -8,7 +8,7 @@ ghost use Prim.Native.Nat.{ℕ, _+_, _≤_, _<_};
 ghost use lib.ListN.{length};
 ghost use Rattle.words.specs.Tests.{both};
 ghost use Rattle.versions.specs.Edition.{core};
-ghost use Rattle.sections.specs.Page.{placeOk, versionAt, paddingAt, countAt, pointerAt, checkAt, foundAt, mkPlat, platAt};
+ghost use Rattle.sections.specs.Page.{placeOk, versionAt, paddingAt, countAt, pointerAt, checkAt, foundAt, pagePlatform, platformAt};
 ghost use Rattle.sections.specs.Section.{nothing, rulesAt};
 ghost use Rattle.sections.specs.Steps.{platEnd, okAt, okTo, endOf, apartTo, clearAt, clearFrom, staysAt};
 ghost use Rattle.fields.specs.declared.FieldsEnd.the-variants.{Broken};
@@ -36,14 +36,14 @@ pub fn place_ok(base: u64, n: usize) -> bool
 pub fn version_at(page: &[u8]) -> u64
     ensures { λ r. ⌜ r ≡ versionAt (now (page .entry)) ⌝ }
 {
-    words::half_at(page, 0)
+    words::u32_at(page, 0)
 }
 
 // The padding: 4 bytes at offset 4.
 pub fn padding_at(page: &[u8]) -> u64
     ensures { λ r. ⌜ r ≡ paddingAt (now (page .entry)) ⌝ }
 {
-    words::half_at(page, 4)
+    words::u32_at(page, 4)
 }
 
 // The count of section `k`.
@@ -71,7 +71,7 @@ pub fn check_at(page: &[u8], k: u8) -> u64
 // their end mark, 0 without a pointer, or broken. `size`, here and below, is the core size of `e`, which the caller computes once.
 fn plat_end(page: &[u8], base: u64, e: Edition, size: u64, plat: u64) -> FieldsEnd
     requires { ⌜ (length (now page) ≡ 4096) × (base ≤ 0x10_0000_0000_0000) × (size ≡ core (e .minor)) × (size ≤ 112) ⌝ }
-    ensures { λ r. ⌜ r ≡ platEnd (e .minor) base (mkPlat plat (foundAt base (now (page .entry)) plat)) ⌝ }
+    ensures { λ r. ⌜ r ≡ platEnd (e .minor) base (pagePlatform plat (foundAt base (now (page .entry)) plat)) ⌝ }
 {
     if plat == 0 {
         return FieldsEnd::Ended(0);
@@ -102,7 +102,7 @@ pub fn is_nothing(count: u64, pointer: u64, check: u64) -> bool
     true
 }
 
-// Whether section `k` by itself keeps its rule, on a page of minor `minor` read as edition `e`. `sound_at` checks that the array ends
+// Whether section `k` by itself keeps its rule, on a page of minor `minor` read as edition `e`. `array_ok` checks that the array ends
 // within the page.
 fn section_ok(page: &[u8], base: u64, minor: u64, e: Edition, size: u64, k: u8) -> bool
     requires { ⌜ (length (now page) ≡ 4096) × (base ≤ 0x10_0000_0000_0000) × (size ≡ core (e .minor)) × (size ≤ 112) ⌝ }
@@ -118,7 +118,7 @@ fn section_ok(page: &[u8], base: u64, minor: u64, e: Edition, size: u64, k: u8) 
         return false;
     }
     let at = (pointer - base) as usize;
-    entries::sound_at(page, minor, k as usize, at, count, pointer, check)
+    entries::array_ok(page, minor, k as usize, at, count, pointer, check)
 }
 
 // Whether each of the first `n` sections keeps its rule by itself.
@@ -230,7 +230,7 @@ pub fn page_ok(page: &[u8], base: u64, minor: u64, e: Edition) -> bool
 // The rule of the platform pointer and its fields alone: the number of bytes of the fields, or broken. Also broken if base or length is
 // bad.
 pub fn plat_rule(page: &[u8], base: u64, e: Edition) -> FieldsEnd
-    ensures { λ r. ⌜ r ≡ cond (placeOk base (length (now (page .entry)))) (platEnd (e .minor) base (platAt base (now (page .entry)))) Broken ⌝ }
+    ensures { λ r. ⌜ r ≡ cond (placeOk base (length (now (page .entry)))) (platEnd (e .minor) base (platformAt base (now (page .entry)))) Broken ⌝ }
 {
     if !place_ok(base, page.len()) {
         return FieldsEnd::Broken;
@@ -239,7 +239,7 @@ pub fn plat_rule(page: &[u8], base: u64, e: Edition) -> FieldsEnd
 }
 
 // Whether section `k` keeps its rule by itself, and its array misses the arrays of the sections before it and [from, to).
-pub fn section_stays(
+pub fn keeps_section(
     page: &[u8],
     base: u64,
     minor: u64,

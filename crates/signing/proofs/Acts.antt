@@ -8,16 +8,16 @@ use native.Mathlib.Omega.{arith}
 use lib.ListN.{length}
 use lib.Dec.{ltb}
 use borrow.Author.Tests.{ltb-false, eqb-true, eqb-false, ne-eqb}
-use Rattle.words.specs.Word.{part, halfAt}
+use Rattle.words.specs.Word.{part, u32At}
 use Rattle.boot.specs.declared.Params.{Params}
 use Rattle.boot.specs.declared.Record.{Record}
 use Rattle.boot.specs.declared.Record.the-variants.{Up}
-use Rattle.range.specs.Range.{placeOf}
-use Rattle.range.specs.Buffers.{BufferIn}
-use Rattle.range.specs.declared.OutsideAs.the-variants.{Invalid}
-use Rattle.range.proofs.Ranges.{Passed}
-use Rattle.range.proofs.Buffers.{in-passes, in-room, passed-in, splice-written}
-use Rattle.codes.specs.Codes.{unless, upOf, isOk, fails, extended, x0Of, answerOf}
+use Rattle.buffer_check.specs.Range.{placeOf}
+use Rattle.buffer_check.specs.Buffers.{BufferIn}
+use Rattle.buffer_check.specs.declared.OutsideAs.the-variants.{Invalid}
+use Rattle.buffer_check.proofs.Ranges.{Passed}
+use Rattle.buffer_check.proofs.Buffers.{in-passes, in-room, passed-in, splice-written}
+use Rattle.codes.specs.Codes.{isFalse, bootParams, isOk, fails, extended, x0Of, answerOf}
 use Rattle.codes.specs.declared.Code.the-variants.{Ok, Unk, Inval}
 use Rattle.codes.specs.declared.Answer.{Answer}
 use Rattle.codes.proofs.Gates.{fails-ok, unless-ok, then-ok}
@@ -45,21 +45,25 @@ module _ (u : Params) (page : List ℕ) (key : List ℕ) (pa size : ℕ) (i : Bu
   buffer-size = buffer-length (pa - u .base) size page (in-room u page pa size i)
 
   -- the checks that all opcodes share pass, and the answer is that of the opcode on its buffer
-  shared-passes : (o : Opcode) (curve : ℕ) → isOther o ≡ false → badCurve o curve ≡ false → sharedCode (Up u) (length page) o pa size curve ≡ Ok
-  unfolding upOf fails
-  shared-passes o curve n b = shared-ok (Up u) (length page) o pa size curve (in-passes u page pa size i (fails (isOther o) Inval Ok) Invalid (rw n)) b m
+  shared-passes : (o : Opcode) (curve : ℕ) → isOther o ≡ false → badCurve o curve ≡ false →
+      sharedCode (Up u) (length page) o pa size curve ≡ Ok
+  unfolding bootParams fails
+  shared-passes o curve n b =
+      shared-ok (Up u) (length page) o pa size curve (in-passes u page pa size i (fails (isOther o) Inval Ok) Invalid (rw n)) b m
 
   op-answer : (q : Lists) (op curve : ℕ) → isOther (opcodeOf op) ≡ false → badCurve (opcodeOf op) curve ≡ false →
       signingOf (Up u) page q key op pa size curve .answer ≡ opOf (opcodeOf op) buffer q key .answer
-  unfolding signingOf queued opAt putBack placeOf upOf buffer
+  unfolding signingOf queued opAt putBack placeOf bootParams buffer
   op-answer q op curve n b = rw (shared-passes (opcodeOf op) curve n b)
 
   -- push: a size of 80 or more, algorithm id 0, hash id 1, and fewer than eight requests waiting
-  pub push-passes : (q : Lists) (curve : ℕ) → 80 ≤ size → halfAt 0 (part (pa - u .base) size page) ≡ 0 → halfAt 24 (part (pa - u .base) size page) ≡ 1 → length (q .requests) < 8 →
+  pub push-passes : (q : Lists) (curve : ℕ) → 80 ≤ size → u32At 0 (part (pa - u .base) size page) ≡ 0 →
+      u32At 24 (part (pa - u .base) size page) ≡ 1 → length (q .requests) < 8 →
       signingOf (Up u) page q key 1 pa size curve .answer .code ≡ Ok
   unfolding opcodeOf isOther badCurve opOf buffer
   push-passes q curve l a h n =
-      ap (λ (a : Answer). a .code) (op-answer q 1 curve refl refl) ∙ ap (λ (s : SigningStep). s .answer .code) (buffer-push-acts buffer q (omega (arith, buffer-size)) a h n)
+      ap (λ (a : Answer). a .code) (op-answer q 1 curve refl refl) ∙
+      ap (λ (s : SigningStep). s .answer .code) (buffer-push-acts buffer q (omega (arith, buffer-size)) a h n)
 
   -- pull: a response waits, and 18 + its signature's length is at most the size
   pub pull-passes : (asked : List Request) (r : Signed) (rest : List Signed) (curve : ℕ) → 18 + length (r .signature) ≤ size →
@@ -71,13 +75,14 @@ module _ (u : Params) (page : List ℕ) (key : List ℕ) (pa size : ℕ) (i : Bu
 
   -- key: curve 0, and a public key that is neither empty nor longer than the size
   pub public-passes : (q : Lists) → (length key ≡ 0 → ⊥) → length key ≤ size → signingOf (Up u) page q key 3 pa size 0 .answer .code ≡ Ok
-  unfolding opcodeOf isOther badCurve opOf publicOf queued unless answerOf
-  public-passes q n l = ap (λ (a : Answer). a .code) (op-answer q 3 0 refl refl) ∙ rw (public-ok (length buffer) key n (omega (arith, buffer-size)))
+  unfolding opcodeOf isOther badCurve opOf publicOf queued isFalse answerOf
+  public-passes q n l =
+      ap (λ (a : Answer). a .code) (op-answer q 3 0 refl refl) ∙ rw (public-ok (length buffer) key n (omega (arith, buffer-size)))
 
 -- ---- what an OK does
 module _ (r : Record) (page : List ℕ) (q : Lists) (key : List ℕ) (pa size curve : ℕ) where
   at : ℕ
-  at = placeOf (upOf r) pa
+  at = placeOf (bootParams r) pa
 
   within : Passed r (length page) Ok pa size → at ≤ length page
   unfolding at
@@ -89,7 +94,8 @@ module _ (r : Record) (page : List ℕ) (q : Lists) (key : List ℕ) (pa size cu
   Acted Key s = PublicActed at page q key s
   Acted Other s = Unit {0}
 
-  acts : (op : ℕ) → signingOf r page q key op pa size curve .answer .code ≡ Ok → Acted (opcodeOf op) (signingOf r page q key op pa size curve)
+  acts : (op : ℕ) → signingOf r page q key op pa size curve .answer .code ≡ Ok →
+      Acted (opcodeOf op) (signingOf r page q key op pa size curve)
   unfolding at answerOf x0Of extended pushed requestOf pulled oldestResponse responseBytes
   acts op =
       signing-by (λ (o : Opcode) (s : SigningStep). s .answer .code ≡ Ok → Acted o s) r page q key op pa size curve
@@ -100,21 +106,24 @@ module _ (r : Record) (page : List ℕ) (q : Lists) (key : List ℕ) (pa size cu
         public = λ p e h. record { told = refl; left = refl; written = splice-written at key page (within p) };
       })
 
-  pub push-acts : signingOf r page q key 1 pa size curve .answer .code ≡ Ok → PushActed (part (placeOf (upOf r) pa) size page) page q (signingOf r page q key 1 pa size curve)
+  pub push-acts : signingOf r page q key 1 pa size curve .answer .code ≡ Ok →
+      PushActed (part (placeOf (bootParams r) pa) size page) page q (signingOf r page q key 1 pa size curve)
   unfolding at opcodeOf
   push-acts = acts 1
 
-  pub pull-acts : signingOf r page q key 2 pa size curve .answer .code ≡ Ok → PullActed (placeOf (upOf r) pa) page q (signingOf r page q key 2 pa size curve)
+  pub pull-acts : signingOf r page q key 2 pa size curve .answer .code ≡ Ok →
+      PullActed (placeOf (bootParams r) pa) page q (signingOf r page q key 2 pa size curve)
   unfolding at opcodeOf
   pull-acts = acts 2
 
-  pub public-acts : signingOf r page q key 3 pa size curve .answer .code ≡ Ok → PublicActed (placeOf (upOf r) pa) page q key (signingOf r page q key 3 pa size curve)
+  pub public-acts : signingOf r page q key 3 pa size curve .answer .code ≡ Ok →
+      PublicActed (placeOf (bootParams r) pa) page q key (signingOf r page q key 3 pa size curve)
   unfolding at opcodeOf
   public-acts = acts 3
 
   -- ---- and only then
   shared-told : (op : ℕ) → signingOf r page q key op pa size curve .answer .code ≡ Ok → SigningPassed r page pa size ×
-      (fails (badCurve (opcodeOf op) curve) Inval (fails (ltb (upOf r .minor) 4) Unk Ok) ≡ Ok)
+      (fails (badCurve (opcodeOf op) curve) Inval (fails (ltb (bootParams r .minor) 4) Unk Ok) ≡ Ok)
   unfolding signingOf sharedCode
   shared-told op h =
       let k = queued-ok (sharedCode r (length page) (opcodeOf op) pa size curve) _ page q h in
@@ -124,7 +133,7 @@ module _ (r : Record) (page : List ℕ) (q : Lists) (key : List ℕ) (pa size cu
       (record { up = p .up; minor = ltb-false _ _ (m .0); buffer = passed-in r page _ pa size p }, then-ok _ _ k)
 
   abbrev Told : Opcode → Type 0
-  Told Push = (80 ≤ size) × (halfAt 0 (part at size page) ≡ 0) × (halfAt 24 (part at size page) ≡ 1) × (length (q .requests) < 8)
+  Told Push = (80 ≤ size) × (u32At 0 (part at size page) ≡ 0) × (u32At 24 (part at size page) ≡ 1) × (length (q .requests) < 8)
   Told Pull = (1 ≤ length (q .responses)) × (18 + length (oldestResponse (q .responses) .signature) ≤ size)
   Told Key = (1 ≤ length key) × (length key ≤ size)
   Told Other = ⊥
@@ -150,7 +159,8 @@ module _ (r : Record) (page : List ℕ) (q : Lists) (key : List ℕ) (pa size cu
       })
 
   pub push-only : signingOf r page q key 1 pa size curve .answer .code ≡ Ok →
-      SigningPassed r page pa size × (80 ≤ size) × (halfAt 0 (part (placeOf (upOf r) pa) size page) ≡ 0) × (halfAt 24 (part (placeOf (upOf r) pa) size page) ≡ 1) × (length (q .requests) < 8)
+      SigningPassed r page pa size × (80 ≤ size) × (u32At 0 (part (placeOf (bootParams r) pa) size page) ≡ 0) ×
+      (u32At 24 (part (placeOf (bootParams r) pa) size page) ≡ 1) × (length (q .requests) < 8)
   unfolding at opcodeOf
   push-only h = let t = tells 1 h in (shared-told 1 h .0, t .0, t .1, t .2, t .3)
 
@@ -159,7 +169,8 @@ module _ (r : Record) (page : List ℕ) (q : Lists) (key : List ℕ) (pa size cu
   unfolding opcodeOf
   pull-only h = let t = tells 2 h in (shared-told 2 h .0, t .0, t .1)
 
-  pub public-only : signingOf r page q key 3 pa size curve .answer .code ≡ Ok → SigningPassed r page pa size × (curve ≡ 0) × (1 ≤ length key) × (length key ≤ size)
+  pub public-only : signingOf r page q key 3 pa size curve .answer .code ≡ Ok →
+      SigningPassed r page pa size × (curve ≡ 0) × (1 ≤ length key) × (length key ≤ size)
   unfolding opcodeOf badCurve
   public-only h =
       let s = shared-told 3 h in

@@ -11,7 +11,7 @@ use Rattle.words.proofs.Store.{length-splice, part-back, buffer-back}
 use Rattle.codes.proofs.Gates.{fails-ok}
 use Rattle.codes.specs.declared.Code.the-variants.{Ok}
 use Rattle.queue.specs.declared.Queue.{Queue}
-use Rattle.queue.specs.declared.Queued.{Queued}
+use Rattle.queue.specs.declared.QueueResult.{QueueResult}
 use Rattle.queue.specs.Queue.{Signed, Lists, SigningStep, SigningExit, oldestResponse, signingExit, exitOf}
 use Rattle.response_rules.specs.Pull.{responseBytes, pullCode}
 use Rattle.response_rules.proofs.Acts.{signed-length}
@@ -42,10 +42,13 @@ module _ (at n : ℕ) (s : List ℕ) where
         sym (back-at (splice 0 vs (part at n s)) l) ∙ buffer-back at n vs s room h
 
 -- a call on a lent buffer, which is c at exit; and a call that only reads it
-module _ (at n : ℕ) (page : List ℕ) (old : Queue) (r : Queued) (s : SigningStep) where
-  pub exit-back : (c : List ℕ) → length c ≡ n → signingExit r c ≡ exitOf old s → signingExit r (take at page ++ (c ++ drop n (drop at page))) ≡ exitOf old (putBack at page s)
+module _ (at n : ℕ) (page : List ℕ) (old : Queue) (r : QueueResult) (s : SigningStep) where
+  pub exit-back : (c : List ℕ) → length c ≡ n → signingExit r c ≡ exitOf old s →
+      signingExit r (take at page ++ (c ++ drop n (drop at page))) ≡ exitOf old (putBack at page s)
   unfolding putBack exitOf
-  exit-back c e h = rw (back-at at n page c e) (ap (λ (x : SigningExit). record { answer = x .answer; page = splice at (x .page) page; queue = x .queue }) h)
+  exit-back c e h =
+      rw (back-at at n page c e) (ap (λ (x : SigningExit). record
+      { answer = x .answer; page = splice at (x .page) page; queue = x .queue }) h)
 
   pub exit-same : at + n ≤ length page → signingExit r (part at n page) ≡ exitOf old s → signingExit r page ≡ exitOf old (putBack at page s)
   exit-same room h =

@@ -11,20 +11,20 @@ use native.Mathlib.Decide.{ℕ-discrete}
 use lib.ListN.{length}
 use lib.Dec.{ltb, eqb}
 use borrow.Author.Tests.{ne-eqb, eqb-true, ltb-false, leb-false}
-use Rattle.words.specs.Word.{part, halfAt}
+use Rattle.words.specs.Word.{part, u32At}
 use Rattle.boot.specs.declared.Params.{Params}
 use Rattle.boot.specs.declared.Record.{Record}
-use Rattle.codes.specs.Codes.{upOf, unless, fails, andThen, answerOf}
+use Rattle.codes.specs.Codes.{bootParams, isFalse, fails, andThen, answerOf}
 use Rattle.codes.specs.Reasons.{Gives, Passes}
 use Rattle.codes.specs.declared.Code.{Code}
 use Rattle.codes.specs.declared.Code.the-variants.{Ok, Unk, Inval, Again}
 use Rattle.codes.proofs.Gates.{if-ok-by}
 use Rattle.codes.proofs.Reasons.{Tells, tells-lt, tells-le, tells-eq, tells-not, gives, unless-not, then-fails, then-then, then-none}
-use Rattle.range.specs.Range.{outside, tooLong, placeOf, outsideCode, pageCode}
-use Rattle.range.specs.Reasons.{PageGives}
-use Rattle.range.specs.declared.OutsideAs.the-variants.{Invalid}
-use Rattle.range.proofs.Ranges.{neither}
-use Rattle.range.proofs.Reasons.{page-gives}
+use Rattle.buffer_check.specs.Range.{outside, tooLong, placeOf, outsideCode, pageCode}
+use Rattle.buffer_check.specs.Reasons.{PageGives}
+use Rattle.buffer_check.specs.declared.OutsideAs.the-variants.{Invalid}
+use Rattle.buffer_check.proofs.Ranges.{neither}
+use Rattle.buffer_check.proofs.Reasons.{page-gives}
 use Rattle.queue.specs.Queue.{Signed, Lists, SigningStep, queued, oldestResponse}
 use Rattle.request_rules.specs.Push.{requestOf, pushCode, pushOf}
 use Rattle.response_rules.specs.Pull.{pullCode, pullOf}
@@ -36,8 +36,8 @@ use Rattle.signing.proofs.Buffers.{buffer-length}
 abbrev pub PushGives : ℕ → List ℕ → Lists → Code → Type 0
 PushGives size b q =
     Gives (size < 80) Inval
-    (Gives (halfAt 0 b ≡ 0 → ⊥) Inval
-    (Gives (halfAt 24 b ≡ 1 → ⊥) Inval
+    (Gives (u32At 0 b ≡ 0 → ⊥) Inval
+    (Gives (u32At 24 b ≡ 1 → ⊥) Inval
     (Gives (8 ≤ length (q .requests)) Again
     Passes)))
 
@@ -62,7 +62,8 @@ queued-code : (k : Code) (new : SigningStep) (page : List ℕ) (q : Lists) → n
 unfolding queued answerOf
 queued-code k new page q h = if-ok-by (λ (s : SigningStep). s .answer .code ≡ k) k new _ (λ e. h ∙ sym e) (λ e. refl)
 
-queued-by : (T : Code → Type 0) (k : Code) (new : SigningStep) (page : List ℕ) (q : Lists) → new .answer .code ≡ Ok → T k → T (queued k new page q .answer .code)
+queued-by : (T : Code → Type 0) (k : Code) (new : SigningStep) (page : List ℕ) (q : Lists) → new .answer .code ≡ Ok → T k →
+    T (queued k new page q .answer .code)
 queued-by T k new page q h t = rw (queued-code k new page q h) t
 
 push-gives : (b : List ℕ) (q : Lists) (key : List ℕ) → PushGives (length b) b q (opOf Push b q key .answer .code)
@@ -70,8 +71,8 @@ unfolding opOf pushOf pushCode requestOf answerOf
 push-gives b q key =
     queued-by (PushGives (length b) b q) (pushCode b q) _ b q refl
     (gives _ _ Inval _ _ (tells-lt (length b) 80) (λ s.
-    gives _ _ Inval _ _ (tells-not _ _ (tells-eq (halfAt 0 b) 0)) (λ a.
-    gives _ _ Inval _ _ (tells-not _ _ (tells-eq (halfAt 24 b) 1)) (λ h.
+    gives _ _ Inval _ _ (tells-not _ _ (tells-eq (u32At 0 b) 0)) (λ a.
+    gives _ _ Inval _ _ (tells-not _ _ (tells-eq (u32At 24 b) 1)) (λ h.
     gives _ _ Again _ _ (tells-le 8 (length (q .requests))) (λ n. refl)))))
 
 -- the oldest response is the first
@@ -82,7 +83,8 @@ unfolding fails oldestResponse
 pull-lines size [] = record { where-it-holds = λ e. refl; elsewhere = λ n. absurd (n refl) }
 pull-lines size (y ∷ l) = gives _ _ Again _ _ (tells-eq (length (y ∷ l)) 0) (λ n. gives _ _ Inval _ _ first (λ k. refl))
   where
-    first : Tells (ltb size (18 + length (y .signature))) ((x : Signed) (rest : List Signed) → y ∷ l ≡ x ∷ rest → size < 18 + length (x .signature))
+    first : Tells (ltb size (18 + length (y .signature))) ((x : Signed) (rest : List Signed) → y ∷ l ≡ x ∷ rest →
+        size < 18 + length (x .signature))
     first =
         let t = tells-lt size (18 + length (y .signature)) in
         record { yes-if = λ h. t .yes-if (h y l refl); no-if = λ h. t .no-if (λ k. h (λ x rest e. let w : y ≡ x = cc in rw (← w) k)) }
@@ -120,40 +122,51 @@ tells-other op = go (ℕ-discrete op 1) (ℕ-discrete op 2) (ℕ-discrete op 3)
     go (yes a) y z = rw a (record { yes-if = λ h. absurd (h (inl refl)); no-if = λ h. refl })
     go (no a) (yes b) z = rw b (record { yes-if = λ h. absurd (h (inr (inl refl))); no-if = λ h. refl })
     go (no a) (no b) (yes d) = rw d (record { yes-if = λ h. absurd (h (inr (inr refl))); no-if = λ h. refl })
-    go (no a) (no b) (no d) = rw (ne-eqb op 1 a, ne-eqb op 2 b, ne-eqb op 3 d) (record { yes-if = λ h. refl; no-if = λ h. absurd (h (none a b d)) })
+    go (no a) (no b) (no d) =
+        rw (ne-eqb op 1 a, ne-eqb op 2 b, ne-eqb op 3 d) (record { yes-if = λ h. refl; no-if = λ h. absurd (h (none a b d)) })
 
 tells-curve : (op curve : ℕ) → Tells (badCurve (opcodeOf op) curve) ((op ≡ 3) × (curve ≡ 0 → ⊥))
 unfolding badCurve opcodeOf
 tells-curve op curve = go (ℕ-discrete op 1) (ℕ-discrete op 2) (ℕ-discrete op 3)
   where
-    t : Tells (unless (eqb curve 0)) (curve ≡ 0 → ⊥)
+    t : Tells (isFalse (eqb curve 0)) (curve ≡ 0 → ⊥)
     t = tells-not _ _ (tells-eq curve 0)
 
     go : Dec (op ≡ 1) → Dec (op ≡ 2) → Dec (op ≡ 3) → Tells (badCurve (opcodeOf op) curve) ((op ≡ 3) × (curve ≡ 0 → ⊥))
     go (yes a) y z = rw a (record { yes-if = λ h. absurd (let e : 1 ≡ 3 = h .0 in omega arith); no-if = λ h. refl })
     go (no a) (yes b) z = rw b (record { yes-if = λ h. absurd (let e : 2 ≡ 3 = h .0 in omega arith); no-if = λ h. refl })
     go (no a) (no b) (yes d) = rw d (record { yes-if = λ h. t .yes-if (h .1); no-if = λ h. t .no-if (λ n. h (refl, n)) })
-    go (no a) (no b) (no d) = rw (ne-eqb op 1 a, ne-eqb op 2 b, ne-eqb op 3 d) (record { yes-if = λ h. absurd (d (h .0)); no-if = λ h. refl })
+    go (no a) (no b) (no d) =
+        rw (ne-eqb op 1 a, ne-eqb op 2 b, ne-eqb op 3 d) (record { yes-if = λ h. absurd (d (h .0)); no-if = λ h. refl })
 
 -- ---- the command: the shared checks after those of the page, then the opcode's own
 behind : Params → List ℕ → Lists → List ℕ → ℕ → ℕ → ℕ → ℕ → Code
 behind u page q key op pa size curve =
-    fails (badCurve (opcodeOf op) curve) Inval (fails (ltb (u .minor) 4) Unk (opOf (opcodeOf op) (part (pa - u .base) size page) q key .answer .code))
+    fails (badCurve (opcodeOf op) curve) Inval (fails (ltb (u .minor) 4) Unk
+    (opOf (opcodeOf op) (part (pa - u .base) size page) q key .answer .code))
 
 step-code : (k : Code) (s : SigningStep) (page : List ℕ) (q : Lists) → queued k s page q .answer .code ≡ andThen k (s .answer .code)
 unfolding queued andThen answerOf
 step-code k s page q = if-ok-by (λ (t : SigningStep). t .answer .code ≡ andThen k (s .answer .code)) k s _ (λ e. rw e) (λ e. rw e)
 
 signing-code : (r : Record) (page : List ℕ) (q : Lists) (key : List ℕ) (op pa size curve : ℕ) →
-    signingOf r page q key op pa size curve .answer .code ≡ andThen (pageCode r (length page) (fails (isOther (opcodeOf op)) Inval Ok) Invalid pa size) (behind (upOf r) page q key op pa size curve)
+    signingOf r page q key op pa size curve .answer .code ≡ andThen
+    (pageCode r (length page) (fails (isOther (opcodeOf op)) Inval Ok) Invalid pa size)
+    (behind (bootParams r) page q key op pa size curve)
 unfolding signingOf sharedCode opAt putBack behind placeOf
 signing-code r page q key op pa size curve =
-    let own : Code = opOf (opcodeOf op) (part (pa - upOf r .base) size page) q key .answer .code in
+    let own : Code = opOf (opcodeOf op) (part (pa - bootParams r .base) size page) q key .answer .code in
     step-code _ _ page q
-    ∙ rw (then-then, then-fails (badCurve (opcodeOf op) curve) Inval _ own refl, then-fails (ltb (upOf r .minor) 4) Unk Ok own refl, then-none)
+    ∙ rw (
+      then-then,
+      then-fails (badCurve (opcodeOf op) curve) Inval _ own refl,
+      then-fails (ltb (bootParams r .minor) 4) Unk Ok own refl,
+      then-none,
+    )
 
 -- the opcode's own checks, if the shared checks of page and buffer pass: the buffer has its size
-sized : (u : Params) (page : List ℕ) (q : Lists) (key : List ℕ) (op pa size : ℕ) → unless (eqb (length page) 4096) ≡ false → outside u pa ≡ false → tooLong u pa size ≡ false →
+sized : (u : Params) (page : List ℕ) (q : Lists) (key : List ℕ) (op pa size : ℕ) → isFalse (eqb (length page) 4096) ≡ false →
+    outside u pa ≡ false → tooLong u pa size ≡ false →
     OpGives op size (part (pa - u .base) size page) q key (opOf (opcodeOf op) (part (pa - u .base) size page) q key .answer .code)
 unfolding outside tooLong
 sized u page q key op pa size w o l =
@@ -173,8 +186,10 @@ pub signing-codes : (r : Record) (page : List ℕ) (q : Lists) (key : List ℕ) 
 unfolding outsideCode behind
 signing-codes r page q key op pa size curve =
     rw (signing-code r page q key op pa size curve)
-    (page-gives r (length page) (fails (isOther (opcodeOf op)) Inval Ok) Invalid pa size (λ u. behind u page q key op pa size curve) (Gives (OneToThree op → ⊥) Inval) _
-    (λ after next h. rw (then-fails (isOther (opcodeOf op)) Inval Ok next refl, then-none) (gives _ _ Inval next after (tells-other op) (λ f. h)))
+    (page-gives r (length page) (fails (isOther (opcodeOf op)) Inval Ok) Invalid pa size (λ u. behind u page q key op pa size curve)
+    (Gives (OneToThree op → ⊥) Inval) _
+    (λ after next h. rw (then-fails (isOther (opcodeOf op)) Inval Ok next refl, then-none)
+    (gives _ _ Inval next after (tells-other op) (λ f. h)))
     (λ u e w o l.
     gives _ _ Inval _ _ (tells-curve op curve) (λ c.
     gives _ _ Unk _ _ (tells-lt (u .minor) 4) (λ m.

@@ -9,10 +9,10 @@ use borrow.Author.Tests.{eq-eqb, ne-eqb, lt-ltb, le-ltb}
 use Rattle.words.specs.Word.{part, splice}
 use Rattle.boot.specs.declared.Params.{Params}
 use Rattle.boot.specs.declared.Record.{Record}
-use Rattle.range.specs.Range.{placeOf, pageCode}
-use Rattle.range.specs.declared.OutsideAs.the-variants.{Invalid}
-use Rattle.range.proofs.Ranges.{Passed, passed}
-use Rattle.codes.specs.Codes.{upOf, fails, andThen, isOk, answerOf, gated}
+use Rattle.buffer_check.specs.Range.{placeOf, pageCode}
+use Rattle.buffer_check.specs.declared.OutsideAs.the-variants.{Invalid}
+use Rattle.buffer_check.proofs.Ranges.{Passed, passed}
+use Rattle.codes.specs.Codes.{bootParams, fails, andThen, isOk, answerOf, gated}
 use Rattle.codes.proofs.Gates.{first-ok, then-stop, went, stood, stops, goes, if-ok-by}
 use Rattle.codes.specs.declared.Code.{Code}
 use Rattle.codes.specs.declared.Code.the-variants.{Ok, Unk, Inval, Again}
@@ -33,7 +33,8 @@ use Rattle.signing.proofs.Buffers.{buffer-length, back-same, back-over,
 
 -- ---- the checks that all opcodes share
 module _ (r : Record) (len : ℕ) (o : Opcode) (pa size curve : ℕ) where
-  pub shared-stop : (j : Code) → pageCode r len (fails (isOther o) Inval Ok) Invalid pa size ≡ j → isOk j ≡ false → sharedCode r len o pa size curve ≡ j
+  pub shared-stop : (j : Code) → pageCode r len (fails (isOther o) Inval Ok) Invalid pa size ≡ j → isOk j ≡ false →
+      sharedCode r len o pa size curve ≡ j
   unfolding sharedCode
   shared-stop j e h = then-stop _ _ j e h
 
@@ -43,13 +44,13 @@ module _ (r : Record) (len : ℕ) (o : Opcode) (pa size curve : ℕ) where
     shared-curve b = rw (p, b)
 
     module _ (b : badCurve o curve ≡ false) where
-      pub shared-minor : upOf r .minor < 4 → sharedCode r len o pa size curve ≡ Unk
+      pub shared-minor : bootParams r .minor < 4 → sharedCode r len o pa size curve ≡ Unk
       unfolding sharedCode andThen fails
-      shared-minor m = rw (p, b, lt-ltb (upOf r .minor) 4 m)
+      shared-minor m = rw (p, b, lt-ltb (bootParams r .minor) 4 m)
 
-      pub shared-ok : 4 ≤ upOf r .minor → sharedCode r len o pa size curve ≡ Ok
+      pub shared-ok : 4 ≤ bootParams r .minor → sharedCode r len o pa size curve ≡ Ok
       unfolding sharedCode andThen fails
-      shared-ok m = rw (p, b, le-ltb (upOf r .minor) 4 m)
+      shared-ok m = rw (p, b, le-ltb (bootParams r .minor) 4 m)
 
   -- what follows from the common checks of a call that passes them
   pub shared-passed : sharedCode r len o pa size curve ≡ Ok → Passed r len (fails (isOther o) Inval Ok) pa size
@@ -58,37 +59,44 @@ module _ (r : Record) (len : ℕ) (o : Opcode) (pa size curve : ℕ) where
 
 -- the gate of those checks, return by return, from the results of the functions that it calls
 module _ (r : Record) (len : ℕ) (o : Opcode) (pa size curve : ℕ) (t : Bool) (ct : t ≡ isOther o) (k : Code) (ck : k ≡ fails t Inval Ok)
-    (g : Gate) (cg : g ≡ gated (pageCode r len k Invalid pa size) (placeOf (upOf r) pa)) where
-  page-gated : gated (pageCode r len (fails (isOther o) Inval Ok) Invalid pa size) (placeOf (upOf r) pa) ≡ g
+    (g : Gate) (cg : g ≡ gated (pageCode r len k Invalid pa size) (placeOf (bootParams r) pa)) where
+  page-gated : gated (pageCode r len (fails (isOther o) Inval Ok) Invalid pa size) (placeOf (bootParams r) pa) ≡ g
   page-gated = rw (← ct, ← ck) (sym cg)
 
-  pub gate-stop : (j : Code) → g ≡ Stop j → g ≡ gated (sharedCode r len o pa size curve) (placeOf (upOf r) pa)
+  pub gate-stop : (j : Code) → g ≡ Stop j → g ≡ gated (sharedCode r len o pa size curve) (placeOf (bootParams r) pa)
   gate-stop j h =
-      let p = stood (pageCode r len (fails (isOther o) Inval Ok) Invalid pa size) (placeOf (upOf r) pa) j (page-gated ∙ h) in
-      h ∙ stops (sharedCode r len o pa size curve) (placeOf (upOf r) pa) j (shared-stop r len o pa size curve j (p .0) (p .1)) (p .1)
+      let p = stood (pageCode r len (fails (isOther o) Inval Ok) Invalid pa size) (placeOf (bootParams r) pa) j (page-gated ∙ h) in
+      h ∙ stops (sharedCode r len o pa size curve) (placeOf (bootParams r) pa) j (shared-stop r len o pa size curve j (p .0) (p .1)) (p .1)
 
   module _ (at : ℕ) (h : g ≡ Go at) (b : Bool) (cb : b ≡ badCurve o curve) where
-    page-went : (pageCode r len (fails (isOther o) Inval Ok) Invalid pa size ≡ Ok) × (at ≡ placeOf (upOf r) pa)
-    page-went = went (pageCode r len (fails (isOther o) Inval Ok) Invalid pa size) (placeOf (upOf r) pa) at (page-gated ∙ h)
+    page-went : (pageCode r len (fails (isOther o) Inval Ok) Invalid pa size ≡ Ok) × (at ≡ placeOf (bootParams r) pa)
+    page-went = went (pageCode r len (fails (isOther o) Inval Ok) Invalid pa size) (placeOf (bootParams r) pa) at (page-gated ∙ h)
 
-    pub gate-curve : b ≡ true → Stop Inval ≡ gated (sharedCode r len o pa size curve) (placeOf (upOf r) pa)
-    gate-curve y = stops (sharedCode r len o pa size curve) (placeOf (upOf r) pa) Inval (shared-curve r len o pa size curve (page-went .0) (sym cb ∙ y)) refl
+    pub gate-curve : b ≡ true → Stop Inval ≡ gated (sharedCode r len o pa size curve) (placeOf (bootParams r) pa)
+    gate-curve y =
+        stops (sharedCode r len o pa size curve) (placeOf (bootParams r) pa) Inval
+        (shared-curve r len o pa size curve (page-went .0) (sym cb ∙ y)) refl
 
-    module _ (n : b ≡ false) (u : Params) (cu : u ≡ upOf r) where
-      pub gate-minor : u .minor < 4 → Stop Unk ≡ gated (sharedCode r len o pa size curve) (placeOf (upOf r) pa)
-      gate-minor m = stops (sharedCode r len o pa size curve) (placeOf (upOf r) pa) Unk (shared-minor r len o pa size curve (page-went .0) (sym cb ∙ n) (rw (← cu) m)) refl
+    module _ (n : b ≡ false) (u : Params) (cu : u ≡ bootParams r) where
+      pub gate-minor : u .minor < 4 → Stop Unk ≡ gated (sharedCode r len o pa size curve) (placeOf (bootParams r) pa)
+      gate-minor m =
+          stops (sharedCode r len o pa size curve) (placeOf (bootParams r) pa) Unk
+          (shared-minor r len o pa size curve (page-went .0) (sym cb ∙ n) (rw (← cu) m)) refl
 
-      pub gate-go : 4 ≤ u .minor → Go at ≡ gated (sharedCode r len o pa size curve) (placeOf (upOf r) pa)
-      gate-go m = goes (sharedCode r len o pa size curve) (placeOf (upOf r) pa) at (shared-ok r len o pa size curve (page-went .0) (sym cb ∙ n) (rw (← cu) m)) (page-went .1)
+      pub gate-go : 4 ≤ u .minor → Go at ≡ gated (sharedCode r len o pa size curve) (placeOf (bootParams r) pa)
+      gate-go m =
+          goes (sharedCode r len o pa size curve) (placeOf (bootParams r) pa) at
+          (shared-ok r len o pa size curve (page-went .0) (sym cb ∙ n) (rw (← cu) m)) (page-went .1)
 
 -- ---- a call, from its opcode and gate
-module _ (r : Record) (page : List ℕ) (op pa size curve : ℕ) (g : Gate) (cg : g ≡ gated (sharedCode r (length page) (opcodeOf op) pa size curve) (placeOf (upOf r) pa)) where
+module _ (r : Record) (page : List ℕ) (op pa size curve : ℕ) (g : Gate)
+    (cg : g ≡ gated (sharedCode r (length page) (opcodeOf op) pa size curve) (placeOf (bootParams r) pa)) where
   pub told-stop : (j : Code) → g ≡ Stop j → (sharedCode r (length page) (opcodeOf op) pa size curve ≡ j) × (isOk j ≡ false)
-  told-stop j h = stood (sharedCode r (length page) (opcodeOf op) pa size curve) (placeOf (upOf r) pa) j (sym cg ∙ h)
+  told-stop j h = stood (sharedCode r (length page) (opcodeOf op) pa size curve) (placeOf (bootParams r) pa) j (sym cg ∙ h)
 
   module _ (at : ℕ) (h : g ≡ Go at) where
-    shared-went : (sharedCode r (length page) (opcodeOf op) pa size curve ≡ Ok) × (at ≡ placeOf (upOf r) pa)
-    shared-went = went (sharedCode r (length page) (opcodeOf op) pa size curve) (placeOf (upOf r) pa) at (sym cg ∙ h)
+    shared-went : (sharedCode r (length page) (opcodeOf op) pa size curve ≡ Ok) × (at ≡ placeOf (bootParams r) pa)
+    shared-went = went (sharedCode r (length page) (opcodeOf op) pa size curve) (placeOf (bootParams r) pa) at (sym cg ∙ h)
 
     -- the buffer is within the page
     pub told-room : at + size ≤ length page
@@ -101,9 +109,11 @@ module _ (r : Record) (page : List ℕ) (op pa size curve : ℕ) (g : Gate) (cg 
       pub told-op : (q : Lists) (key : List ℕ) → opAt o at size page q key ≡ signingOf r page q key op pa size curve
       unfolding signingOf
       told-op q key =
-          rw (co, shared-went .1) (goes-on (sharedCode r (length page) (opcodeOf op) pa size curve) page q (opAt (opcodeOf op) (placeOf (upOf r) pa) size page q key) (shared-went .0))
+          rw (co, shared-went .1) (goes-on (sharedCode r (length page) (opcodeOf op) pa size curve) page q
+          (opAt (opcodeOf op) (placeOf (bootParams r) pa) size page q key) (shared-went .0))
 
-      pub told-served : (old : Queue) (key : List ℕ) (x : SigningExit) → x ≡ exitOf old (opAt o at size page (listsOf old) key) → x ≡ exitOf old (signingOf r page (listsOf old) key op pa size curve)
+      pub told-served : (old : Queue) (key : List ℕ) (x : SigningExit) → x ≡ exitOf old (opAt o at size page (listsOf old) key) →
+          x ≡ exitOf old (signingOf r page (listsOf old) key op pa size curve)
       told-served old key x e = e ∙ rw (told-op (listsOf old) key)
 
       pub told-served-on : (w key : List ℕ) (x : ImageStep) → x ≡ opOn o at size page w key → x ≡ signingOn r page w key op pa size curve
@@ -129,30 +139,33 @@ module _ (size : ℕ) (key : List ℕ) where
 -- A property of opcode and step that holds in each case: refused, or OK by one of the opcodes, with what follows from the common checks.
 pub record Cases (P : Opcode → SigningStep → Type 0) (r : Record) (page : List ℕ) (q : Lists) (key : List ℕ) (pa size : ℕ) : Type 0 where
   pub refusal : (o : Opcode) (k : Code) → isOk k ≡ false → P o (record { answer = answerOf k 0 0; page = page; queue = q })
-  pub push : Passed r (length page) Ok pa size → pushCode (part (placeOf (upOf r) pa) size page) q ≡ Ok → P Push
-      (record { answer = answerOf Ok 0 0; page = page; queue = pushed (part (placeOf (upOf r) pa) size page) q })
+  pub push : Passed r (length page) Ok pa size → pushCode (part (placeOf (bootParams r) pa) size page) q ≡ Ok → P Push
+      (record { answer = answerOf Ok 0 0; page = page; queue = pushed (part (placeOf (bootParams r) pa) size page) q })
   pub pull : Passed r (length page) Ok pa size → pullCode size q ≡ Ok → P Pull
       (record {
         answer = answerOf Ok 0 0;
-        page = splice (placeOf (upOf r) pa) (responseBytes (oldestResponse (q .responses))) page;
+        page = splice (placeOf (bootParams r) pa) (responseBytes (oldestResponse (q .responses))) page;
         queue =
             pulled q;
       })
-  pub public : Passed r (length page) Ok pa size → publicCode size key ≡ Ok → P Key (record { answer = answerOf Ok (length key) 0; page = splice (placeOf (upOf r) pa) key page; queue = q })
+  pub public : Passed r (length page) Ok pa size → publicCode size key ≡ Ok → P Key (record { answer = answerOf Ok (length key) 0; page = splice (placeOf (bootParams r) pa) key page; queue = q })
 
 -- ---- an opcode on its buffer, by the code of its own checks: the buffer at exit, as part of the page
 op-by : (at size : ℕ) (page : List ℕ) (q : Lists) → at + size ≤ length page → (P : SigningStep → Type 0) →
     ((k : Code) → isOk k ≡ false → P (record { answer = answerOf k 0 0; page = page; queue = q })) →
-    (k : Code) (new : SigningStep) (after : List ℕ) → (k ≡ Ok → splice at (new .page) page ≡ after) → (k ≡ Ok → P (record { answer = new .answer; page = after; queue = new .queue })) →
+    (k : Code) (new : SigningStep) (after : List ℕ) → (k ≡ Ok → splice at (new .page) page ≡ after) →
+    (k ≡ Ok → P (record { answer = new .answer; page = after; queue = new .queue })) →
     P (putBack at page (queued k new (part at size page) q))
 unfolding queued putBack
 op-by at size page q room P f k new after e g =
-    if-ok-by (λ (s : SigningStep). P (record { answer = s .answer; page = splice at (s .page) page; queue = s .queue })) k new (record { answer = answerOf k 0 0; page = part at size page; queue = q })
+    if-ok-by (λ (s : SigningStep). P (record { answer = s .answer; page = splice at (s .page) page; queue = s .queue })) k new
+    (record { answer = answerOf k 0 0; page = part at size page; queue = q })
     (λ h. rw (e h) (g h)) (λ h. rw (back-same at size page room) (f k h))
 
-module _ (P : Opcode → SigningStep → Type 0) (r : Record) (page : List ℕ) (q : Lists) (key : List ℕ) (op pa size curve : ℕ) (c : Cases P r page q key pa size) where
+module _ (P : Opcode → SigningStep → Type 0) (r : Record) (page : List ℕ) (q : Lists) (key : List ℕ) (op pa size curve : ℕ)
+    (c : Cases P r page q key pa size) where
   at : ℕ
-  at = placeOf (upOf r) pa
+  at = placeOf (bootParams r) pa
 
   room : Passed r (length page) Ok pa size → at + size ≤ length page
   unfolding at
@@ -160,9 +173,12 @@ module _ (P : Opcode → SigningStep → Type 0) (r : Record) (page : List ℕ) 
 
   op-cases : (o : Opcode) → Passed r (length page) (fails (isOther o) Inval Ok) pa size → P o (opAt o at size page q key)
   unfolding at opAt opOf isOther fails pushOf pullOf publicOf
-  op-cases Push p = op-by at size page q (room p) (P Push) (c .refusal Push) (pushCode (part at size page) q) _ page (λ e. back-same at size page (room p)) (λ e. c .push p e)
+  op-cases Push p =
+      op-by at size page q (room p) (P Push) (c .refusal Push) (pushCode (part at size page) q) _ page
+      (λ e. back-same at size page (room p)) (λ e. c .push p e)
   op-cases Pull p =
-      op-by at size page q (room p) (P Pull) (c .refusal Pull) (pullCode (length (part at size page)) q) _ (splice at (responseBytes (oldestResponse (q .responses))) page)
+      op-by at size page q (room p) (P Pull) (c .refusal Pull) (pullCode (length (part at size page)) q) _
+      (splice at (responseBytes (oldestResponse (q .responses))) page)
       (λ e. back-over at size page (room p) _ (pull-fits size q (rw (buffer-length at size page (room p)) at e)))
       (λ e. c .pull p (rw (buffer-length at size page (room p)) at e))
   op-cases Key p =
@@ -173,7 +189,9 @@ module _ (P : Opcode → SigningStep → Type 0) (r : Record) (page : List ℕ) 
 
   signing-cases : (o : Opcode) → P o (queued (sharedCode r (length page) o pa size curve) (opAt o at size page q key) page q)
   unfolding queued
-  signing-cases o = if-ok-by (P o) (sharedCode r (length page) o pa size curve) _ _ (λ h. op-cases o (shared-passed r (length page) o pa size curve h)) (λ h. c .refusal o _ h)
+  signing-cases o =
+      if-ok-by (P o) (sharedCode r (length page) o pa size curve) _ _ (λ h. op-cases o (shared-passed r (length page) o pa size curve h))
+      (λ h. c .refusal o _ h)
 
   -- the property holds of the call
   pub signing-by : P (opcodeOf op) (signingOf r page q key op pa size curve)
@@ -181,11 +199,17 @@ module _ (P : Opcode → SigningStep → Type 0) (r : Record) (page : List ℕ) 
   signing-by = signing-cases (opcodeOf op)
 
 -- a refused call leaves the page and both sides unchanged, with zeros in x1 and x2
-pub signing-refused : (r : Record) (page : List ℕ) (q : Lists) (key : List ℕ) (op pa size curve : ℕ) → isOk (signingOf r page q key op pa size curve .answer .code) ≡ false →
-    signingOf r page q key op pa size curve ≡ record { answer = answerOf (signingOf r page q key op pa size curve .answer .code) 0 0; page = page; queue = q }
+pub signing-refused : (r : Record) (page : List ℕ) (q : Lists) (key : List ℕ) (op pa size curve : ℕ) →
+    isOk (signingOf r page q key op pa size curve .answer .code) ≡ false →
+    signingOf r page q key op pa size curve ≡ record {
+      answer = answerOf (signingOf r page q key op pa size curve .answer .code) 0 0;
+      page = page;
+      queue = q;
+    }
 unfolding answerOf
 signing-refused r page q key op pa size curve =
-    signing-by (λ (o : Opcode) (s : SigningStep). isOk (s .answer .code) ≡ false → s ≡ record { answer = answerOf (s .answer .code) 0 0; page = page; queue = q }) r page q key op pa size curve
+    signing-by (λ (o : Opcode) (s : SigningStep). isOk (s .answer .code) ≡ false →
+    s ≡ record { answer = answerOf (s .answer .code) 0 0; page = page; queue = q }) r page q key op pa size curve
     (record {
       refusal = λ o k e h. refl;
       push = λ p e h. absurd (true≢false h);

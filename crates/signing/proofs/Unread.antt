@@ -10,8 +10,8 @@ use lib.Dec.{eqb}
 use borrow.Author.Tests.{eqb-true}
 use Rattle.words.specs.Word.{part}
 use Rattle.boot.specs.declared.Record.{Record}
-use Rattle.range.specs.Range.{placeOf}
-use Rattle.codes.specs.Codes.{upOf, isOk}
+use Rattle.buffer_check.specs.Range.{placeOf}
+use Rattle.codes.specs.Codes.{bootParams, isOk}
 use Rattle.queue.specs.Queue.{Lists, SigningStep, queued}
 use Rattle.queue_image.specs.Image.{listsIn}
 use Rattle.queue_image.specs.OnImage.{imageStep}
@@ -41,7 +41,8 @@ queued-same true x y u v h k = h
 queued-same false x y u v h k = k
 
 -- an opcode in two buffers of the same length
-op-unread : (o : Opcode) (a b : List ℕ) (q : Lists) (key : List ℕ) → (o ≡ Push → ⊥) → length a ≡ length b → SameSigning (opOf o a q key) (opOf o b q key)
+op-unread : (o : Opcode) (a b : List ℕ) (q : Lists) (key : List ℕ) → (o ≡ Push → ⊥) → length a ≡ length b →
+    SameSigning (opOf o a q key) (opOf o b q key)
 unfolding opOf pullOf publicOf queued
 op-unread Push a b q key n e = absurd (n refl)
 op-unread Pull a b q key n e = rw e (queued-same (isOk (pullCode (length b) q)) _ _ _ _ (refl, refl) (refl, refl))
@@ -56,7 +57,8 @@ pub signing-unread : (r : Record) (p q : List ℕ) (w : Lists) (key : List ℕ) 
     SameSigning (signingOf r p w key op pa size curve) (signingOf r q w key op pa size curve)
 unfolding signingOf queued opAt putBack
 signing-unread r p q w key op pa size curve n e =
-    let s = op-unread (opcodeOf op) (part (placeOf (upOf r) pa) size p) (part (placeOf (upOf r) pa) size q) w key (not-push op n) (part-same (placeOf (upOf r) pa) size p q e) in
+    let s = op-unread (opcodeOf op) (part (placeOf (bootParams r) pa) size p) (part (placeOf (bootParams r) pa) size q) w key
+    (not-push op n) (part-same (placeOf (bootParams r) pa) size p q e) in
     rw e (queued-same (isOk (sharedCode r (length q) (opcodeOf op) pa size curve)) _ _ _ _ (s .0, s .1) (refl, refl))
 
 -- ---- on the image
@@ -73,7 +75,8 @@ module _ (r : Record) (p q w : List ℕ) (op pa size : ℕ) (n : op ≡ 1 → �
   signing-done-unread = done-unread (opcodeOf op) _ _ w (not-push op n)
 
   pub signing-image-unread : (key : List ℕ) (curve : ℕ) → length p ≡ length q →
-      (signingOn r p w key op pa size curve .answer ≡ signingOn r q w key op pa size curve .answer) × (signingOn r p w key op pa size curve .image ≡ signingOn r q w key op pa size curve .image)
+      (signingOn r p w key op pa size curve .answer ≡ signingOn r q w key op pa size curve .answer) ×
+      (signingOn r p w key op pa size curve .image ≡ signingOn r q w key op pa size curve .image)
   unfolding signingOn imageStep
   signing-image-unread key curve e =
       let s = signing-unread r p q (listsIn w) key op pa size curve n e in

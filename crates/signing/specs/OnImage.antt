@@ -3,8 +3,8 @@ use Prim.Native.Nat.{ℕ}
 use mathlib.Core.List.{List}
 use Rattle.words.specs.Word.{part}
 use Rattle.boot.specs.declared.Record.{Record}
-use Rattle.codes.specs.Codes.{upOf}
-use Rattle.range.specs.Range.{placeOf}
+use Rattle.codes.specs.Codes.{bootParams}
+use Rattle.buffer_check.specs.Range.{placeOf}
 use Rattle.queue_image.specs.Image.{listsIn}
 use Rattle.queue_image.specs.Sides.{responseSide, rowDropped}
 use Rattle.queue_image.specs.OnImage.{ImageStep, imageStep}
@@ -25,9 +25,9 @@ unfoldable pub opOn : Opcode → ℕ → ℕ → List ℕ → List ℕ → List 
 opOn o at size page w key = imageStep (opAt o at size page (listsIn w) key) (imageDone o (part at size page) w) w
 
 -- what an accepted command leaves of the image w, for the buffer of `size` bytes at pa
-unfoldable pub signingDone : Record → List ℕ → List ℕ → ℕ → ℕ → ℕ → List ℕ
-signingDone r page w op pa size = imageDone (opcodeOf op) (part (placeOf (upOf r) pa) size page) w
+unfoldable pub signingDone : (state : Record) (page image : List ℕ) (opcode pa size : ℕ) → List ℕ
+signingDone r page w op pa size = imageDone (opcodeOf op) (part (placeOf (bootParams r) pa) size page) w
 
 -- the token signing command on an image
-unfoldable pub signingOn : Record → List ℕ → List ℕ → List ℕ → ℕ → ℕ → ℕ → ℕ → ImageStep
+unfoldable pub signingOn : (state : Record) (page image key : List ℕ) (opcode pa size curve : ℕ) → ImageStep
 signingOn r page w key op pa size curve = imageStep (signingOf r page (listsIn w) key op pa size curve) (signingDone r page w op pa size) w

@@ -6,9 +6,9 @@ use lib.ListN.{length}
 use lib.Dec.{ltb, eqb}
 use Rattle.words.specs.Word.{part, splice}
 use Rattle.boot.specs.declared.Record.{Record}
-use Rattle.range.specs.Range.{placeOf, pageCode}
-use Rattle.range.specs.declared.OutsideAs.the-variants.{Invalid}
-use Rattle.codes.specs.Codes.{unless, fails, andThen, upOf, answerOf}
+use Rattle.buffer_check.specs.Range.{placeOf, pageCode}
+use Rattle.buffer_check.specs.declared.OutsideAs.the-variants.{Invalid}
+use Rattle.codes.specs.Codes.{isFalse, fails, andThen, bootParams, answerOf}
 use Rattle.codes.specs.declared.Code.{Code}
 use Rattle.codes.specs.declared.Code.the-variants.{Ok, Unk, Inval, Again}
 use Rattle.queue.specs.Queue.{Lists, SigningStep, queued}
@@ -32,7 +32,7 @@ isOther Other = true
 unfoldable pub badCurve : Opcode → ℕ → Bool
 badCurve Push curve = false
 badCurve Pull curve = false
-badCurve Key curve = unless (eqb curve 0)
+badCurve Key curve = isFalse (eqb curve 0)
 badCurve Other curve = false
 
 -- "opcode not 1 to 3, outside, too long, or opcode 3 with curve not 0: INVAL; minor below 4: UNK.": the checks that all opcodes share
@@ -40,7 +40,7 @@ unfoldable pub sharedCode : Record → ℕ → Opcode → ℕ → ℕ → ℕ �
 sharedCode r len o pa size curve =
     andThen (pageCode r len (fails (isOther o) Inval Ok) Invalid pa size)
     (fails (badCurve o curve) Inval
-    (fails (ltb (upOf r .minor) 4) Unk
+    (fails (ltb (bootParams r .minor) 4) Unk
     Ok))
 
 -- "Key (3): empty AGAIN; longer than size INVAL; else written at pa, x1 its length."
@@ -67,6 +67,6 @@ unfoldable pub opAt : Opcode → ℕ → ℕ → List ℕ → Lists → List ℕ
 opAt o at size page q key = putBack at page (opOf o (part at size page) q key)
 
 -- ---- the command: the shared checks, then the opcode on its buffer
-unfoldable pub signingOf : Record → List ℕ → Lists → List ℕ → ℕ → ℕ → ℕ → ℕ → SigningStep
+unfoldable pub signingOf : (state : Record) (page : List ℕ) (queue : Lists) (key : List ℕ) (opcode pa size curve : ℕ) → SigningStep
 signingOf r page q key op pa size curve =
-    queued (sharedCode r (length page) (opcodeOf op) pa size curve) (opAt (opcodeOf op) (placeOf (upOf r) pa) size page q key) page q
+    queued (sharedCode r (length page) (opcodeOf op) pa size curve) (opAt (opcodeOf op) (placeOf (bootParams r) pa) size page q key) page q

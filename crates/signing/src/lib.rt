@@ -1,16 +1,16 @@
 // Token signing: push, pull and key by opcode, each on its buffer in the page.
 use boot::Record;
+use buffer_check::OutsideAs;
 use codes::Answer;
 use codes::Code;
 use codes::Gate;
 use queue::Queue;
-use queue::Queued;
-use range::OutsideAs;
+use queue::QueueResult;
 ghost use mathlib.Core.Path.{_≡_};
 ghost use Prim.Native.Nat.{_+_, _≤_};
 ghost use lib.ListN.{length};
-ghost use Rattle.range.specs.Range.{placeOf};
-ghost use Rattle.codes.specs.Codes.{upOf, gated};
+ghost use Rattle.buffer_check.specs.Range.{placeOf};
+ghost use Rattle.codes.specs.Codes.{bootParams, gated};
 ghost use Rattle.queue.specs.Queue.{Lists, SigningStep, listsOf, signingExit, exitOf};
 ghost use Rattle.queue_image.specs.OnImage.{ImageStep};
 ghost use Rattle.signing.specs.Signing.{opcodeOf, isOther, badCurve, sharedCode, publicOf, opAt, signingOf};
@@ -65,18 +65,18 @@ fn bad_curve(opcode: u64, curve: u64) -> bool
 }
 
 // Runs the checks that all opcodes share; returns the buffer's offset in the page.
-fn gate_of(state: Record, len: usize, opcode: u64, pa: u64, size: u64, curve: u64) -> Gate
-    ensures { λ r. ⌜ r ≡ gated (sharedCode state len (opcodeOf opcode) pa size curve) (placeOf (upOf state) pa) ⌝ }
+fn common_checks(state: Record, len: usize, opcode: u64, pa: u64, size: u64, curve: u64) -> Gate
+    ensures { λ r. ⌜ r ≡ gated (sharedCode state len (opcodeOf opcode) pa size curve) (placeOf (bootParams state) pa) ⌝ }
 {
     let first = codes::code_if(is_other(opcode), Code::Inval);
-    let gate = range::page_gate(state, len, first, OutsideAs::Invalid, pa, size);
+    let gate = buffer_check::page_gate(state, len, first, OutsideAs::Invalid, pa, size);
     let Gate::Go(at) = gate else {
         return gate;
     };
     if bad_curve(opcode, curve) {
         return Gate::Stop(Code::Inval);
     }
-    let params = codes::up_of(state);
+    let params = codes::boot_params(state);
     if params.minor < 4 {
         return Gate::Stop(Code::Unk);
     }
@@ -88,32 +88,39 @@ fn put_key(buffer: &mut [u8], key: &[u8]) -> Answer
     ensures { λ r. ⌜ ((q : Lists) → _≡_ {A = SigningStep} (record { answer = r; page = now (buffer .exit); queue = q }) (publicOf (now (buffer .entry)) q (now (key .entry)))) ⌝ }
 {
     if key.len() == 0 {
-        return codes::answered(Code::Again, 0, 0);
+        return codes::answer_with(Code::Again, 0, 0);
     }
     if buffer.len() < key.len() {
-        return codes::answered(Code::Inval, 0, 0);
+        return codes::answer_with(Code::Inval, 0, 0);
     }
     words::copy(buffer, key);
-    codes::answered(Code::Ok, key.len() as u64, 0)
+    codes::answer_with(Code::Ok, key.len() as u64, 0)
 }
 
 // Key, with the queue by value.
-fn public_key(buffer: &mut [u8], queue: Queue, key: &[u8]) -> Queued
+fn public_key(buffer: &mut [u8], queue: Queue, key: &[u8]) -> QueueResult
     ensures { λ r. ⌜ signingExit r (now (buffer .exit)) ≡ exitOf queue (publicOf (now (buffer .entry)) (listsOf queue) (now (key .entry))) ⌝ }
 {
     let answer = put_key(buffer, key);
     let code = answer.code;
     if !codes::is_ok(code) {
-        return Queued { answer, queue };
+        return QueueResult { answer, queue };
     }
-    Queued {
+    QueueResult {
         answer,
-        queue: queue::only_waiting(queue),
+        queue: queue::clear_free(queue),
     }
 }
 
 // Serves an opcode on the checked buffer of `size` bytes at offset `at` of the page.
-fn serve(page: &mut [u8], at: usize, size: u64, queue: Queue, key: &[u8], opcode: Opcode) -> Queued
+fn serve(
+    page: &mut [u8],
+    at: usize,
+    size: u64,
+    queue: Queue,
+    key: &[u8],
+    opcode: Opcode,
+) -> QueueResult
     requires { ⌜ at + size ≤ length (now page) ⌝ }
     ensures { λ r. ⌜ signingExit r (now (page .exit)) ≡ exitOf queue (opAt opcode at size (now (page .entry)) (listsOf queue) (now (key .entry))) ⌝ }
 {
@@ -136,11 +143,11 @@ pub fn token_signing(
     pa: u64,
     size: u64,
     curve: u64,
-) -> Queued
+) -> QueueResult
     ensures { λ r. ⌜ signingExit r (now (page .exit))
         ≡ exitOf queue (signingOf state (now (page .entry)) (listsOf queue) (now (key .entry)) opcode pa size curve) ⌝ }
 {
-    let gate = gate_of(state, page.len(), opcode, pa, size, curve);
+    let gate = common_checks(state, page.len(), opcode, pa, size, curve);
     match gate {
         Gate::Stop(code) => queue::refused(code, queue),
         Gate::Go(at) => serve(page, at, size, queue, key, opcode_of(opcode)),
@@ -148,7 +155,7 @@ pub fn token_signing(
 }
 
 // Serves an opcode on the queue's image, after the shared checks: push changes the requests, pull the responses, key nothing.
-fn serve_on(
+fn serve_image(
     page: &mut [u8],
     at: usize,
     size: u64,
@@ -162,15 +169,15 @@ fn serve_on(
 {
     let end = at + size as usize;
     match opcode {
-        Opcode::Push => requests::push_on(&page[at..end], image),
-        Opcode::Pull => responses::pull_on(&mut page[at..end], image),
+        Opcode::Push => requests::push_image(&page[at..end], image),
+        Opcode::Pull => responses::pull_image(&mut page[at..end], image),
         Opcode::Key => put_key(&mut page[at..end], key),
-        Opcode::Other => codes::answered(Code::Inval, 0, 0),
+        Opcode::Other => codes::answer_with(Code::Inval, 0, 0),
     }
 }
 
 // 0xC40001B5 on the queue's image. No word of the image is read before the shared checks pass.
-pub fn token_signing_on(
+pub fn token_signing_image(
     state: Record,
     page: &mut [u8],
     image: &mut [u64; 210],
@@ -183,9 +190,9 @@ pub fn token_signing_on(
     ensures { λ r. ⌜ _≡_ {A = ImageStep} (record { answer = r; page = now (page .exit); image = now (image .exit) })
         (signingOn state (now (page .entry)) (now (image .entry)) (now (key .entry)) opcode pa size curve) ⌝ }
 {
-    let gate = gate_of(state, page.len(), opcode, pa, size, curve);
+    let gate = common_checks(state, page.len(), opcode, pa, size, curve);
     match gate {
-        Gate::Stop(code) => codes::answered(code, 0, 0),
-        Gate::Go(at) => serve_on(page, at, size, image, key, opcode_of(opcode)),
+        Gate::Stop(code) => codes::answer_with(code, 0, 0),
+        Gate::Go(at) => serve_image(page, at, size, image, key, opcode_of(opcode)),
     }
 }

@@ -13,7 +13,7 @@ use Rattle.words.proofs.Tests.{both-l, both-r}
 use Rattle.state_blobs.specs.Collect.{newCollector, isComplete, Outcome, unchanged, pieceAppended, collect}
 use Rattle.state_blobs.specs.Blobs.{Offer, Held, started, afterOffer, afterOffers, CutHere, Cuts, HoldsFirst, HoldsWhole}
 use Rattle.state_messages.specs.declared.StateRefusal.{StateRefusal}
-use Rattle.state_blobs.specs.declared.Verdict.the-variants as verdict
+use Rattle.state_blobs.specs.declared.CollectVerdict.the-variants as verdict
 use Rattle.state_blobs.proofs.Collects.{decide-fits, collect-cases, refused-same}
 
 pub front-started : (blob b : List ℕ) → HoldsFirst blob (started b)
@@ -51,11 +51,13 @@ front-after-all blob (o ∷ os) h cuts f = front-after-all blob os (afterOffer o
 
 -- 02, E13: "From a new collector with one buffer throughout, if each response accepted was cut from one blob at the number of bytes then
 -- held, with that blob's length as totlength, the bytes held are that blob's first ones." Any messages; refused ones may be anything.
-pub held-are-first : (blob : List ℕ) (os : List Offer) (b : List ℕ) → Cuts blob os (started b) → HoldsFirst blob (afterOffers os (started b))
+pub held-are-first : (blob : List ℕ) (os : List Offer) (b : List ℕ) → Cuts blob os (started b) →
+    HoldsFirst blob (afterOffers os (started b))
 held-are-first blob os b cuts = front-after-all blob os (started b) cuts (front-started blob b)
 
 -- so a complete collector holds the blob. 02, E13: "complete exactly when a response was accepted and it holds totlength bytes"
-pub complete-holds-blob : (blob : List ℕ) (os : List Offer) (b : List ℕ) → Cuts blob os (started b) → isComplete (afterOffers os (started b) .collector) ≡ true →
+pub complete-holds-blob : (blob : List ℕ) (os : List Offer) (b : List ℕ) → Cuts blob os (started b) →
+    isComplete (afterOffers os (started b) .collector) ≡ true →
     HoldsWhole blob (afterOffers os (started b))
 unfolding isComplete
 complete-holds-blob blob os b cuts done =
@@ -70,13 +72,15 @@ unfolding isComplete newCollector both
 new-not-complete = refl
 
 -- ---- 02, E13: "On refusal collector and lent buffers stay unchanged.": a refused message, of any kind, from any state
-pub refused-changes-nothing : (o : Offer) (h : Held) {why : StateRefusal} → collect (o .largest) (o .message) (h .collector) (h .buffer) .verdict ≡ verdict.Refused why → afterOffer o h ≡ h
+pub refused-changes-nothing : (o : Offer) (h : Held) {why : StateRefusal} →
+    collect (o .largest) (o .message) (h .collector) (h .buffer) .verdict ≡ verdict.Refused why → afterOffer o h ≡ h
 unfolding afterOffer
 refused-changes-nothing o h r = let s = refused-same (o .largest) (o .message) (h .collector) (h .buffer) r in rw (s .0, s .1)
 
 -- so refused messages can be left out of any sequence
 pub refused-skipped : (xs ys : List Offer) (o : Offer) (h : Held) {why : StateRefusal} →
-    collect (o .largest) (o .message) (afterOffers xs h .collector) (afterOffers xs h .buffer) .verdict ≡ verdict.Refused why → afterOffers (xs ++ (o ∷ ys)) h ≡ afterOffers (xs ++ ys) h
+    collect (o .largest) (o .message) (afterOffers xs h .collector) (afterOffers xs h .buffer) .verdict ≡ verdict.Refused why →
+    afterOffers (xs ++ (o ∷ ys)) h ≡ afterOffers (xs ++ ys) h
 unfolding afterOffers
 refused-skipped [] ys o h r = ap (afterOffers ys) (refused-changes-nothing o h r)
 refused-skipped (x ∷ xs) ys o h r = refused-skipped xs ys o (afterOffer x h) r

@@ -12,7 +12,8 @@ use Rattle.words.specs.Word.{splice}
 use Rattle.words.specs.Tests.{both}
 use Rattle.state_messages.specs.Messages.{StateResponse, readResponse}
 use Rattle.state_blobs.specs.Collect.{newCollector, isComplete, otherTotal, unchanged, pieceAppended, collect}
-use Rattle.state_blobs.specs.Blobs.{Offer, Held, started, afterOffer, afterOffers, acceptedIf, acceptedOf, joinedData, collectorOver, completeOver, HoldsJoined}
+use Rattle.state_blobs.specs.Blobs.{Offer, Held, started, afterOffer, afterOffers, acceptedIf, acceptedOf, joinedData, collectorOver}
+use Rattle.state_blobs.specs.Blobs.{completeOver, HoldsJoined}
 use Rattle.state_blobs.specs.declared.Collector.{Collector}
 use Rattle.state_blobs.proofs.Collects.{decide-fits, collect-cases}
 
@@ -32,7 +33,8 @@ over-held [] = refl
 over-held (p ∷ ps) = refl
 
 over-more : (ps : List StateResponse) (p : StateResponse) → otherTotal (collectorOver ps) (p .total) ≡ false →
-    _≡_ {A = Collector} (record { accepted = true; total = p .total; held = length (joinedData (ps ++ (p ∷ []))) }) (collectorOver (ps ++ (p ∷ [])))
+    _≡_ {A = Collector} (record { accepted = true; total = p .total; held = length (joinedData (ps ++ (p ∷ []))) })
+    (collectorOver (ps ++ (p ∷ [])))
 unfolding collectorOver otherTotal both
 over-more [] p h = refl
 over-more (q ∷ ps) p h = rw (eqb-true (q .total) (p .total) (same _ h))
@@ -45,15 +47,20 @@ front-more held vs b l h e =
 
 accepted-more : (ps : List StateResponse) (p : StateResponse) (c : Collector) (b : List ℕ) → c ≡ collectorOver ps →
     take (c .held) b ≡ joinedData ps → otherTotal c (p .total) ≡ false → c .held ≤ length b →
-    HoldsJoined (ps ++ (p ∷ [])) (record { collector = pieceAppended c (p .total) (p .bytes) b .collector; buffer = pieceAppended c (p .total) (p .bytes) b .buffer })
+    HoldsJoined (ps ++ (p ∷ [])) (record {
+      collector = pieceAppended c (p .total) (p .bytes) b .collector;
+      buffer = pieceAppended c (p .total) (p .bytes) b .buffer;
+    })
 unfolding pieceAppended
 accepted-more ps p c b e f o h =
     let n : c .held ≡ length (joinedData ps) = ap (λ (k : Collector). k .held) e ∙ over-held ps in
-    let m : length (joinedData (ps ++ (p ∷ []))) ≡ c .held + length (p .bytes) = rw (joined-more ps p, length-append (joinedData ps) (p .bytes), n) in
+    let m : length (joinedData (ps ++ (p ∷ []))) ≡ c .held + length (p .bytes) = rw
+    (joined-more ps p, length-append (joinedData ps) (p .bytes), n) in
     (rw (← m) (over-more ps p (rw (← e) o)), rw (joined-more ps p) (front-more (c .held) (p .bytes) b (joinedData ps) h f))
 
 step-joins : (ps : List StateResponse) (o : Offer) (h : Held) → HoldsJoined ps h →
-    HoldsJoined (ps ++ acceptedIf (collect (o .largest) (o .message) (h .collector) (h .buffer) .verdict) (readResponse (o .largest) (o .message))) (afterOffer o h)
+    HoldsJoined (ps ++ acceptedIf (collect (o .largest) (o .message) (h .collector) (h .buffer) .verdict)
+    (readResponse (o .largest) (o .message))) (afterOffer o h)
 unfolding afterOffer unchanged pieceAppended acceptedIf
 step-joins ps o h j =
     let c = h .collector in
@@ -63,7 +70,8 @@ step-joins ps o h j =
     let fits = decide-fits c (p .total) (length (p .bytes)) (length (h .buffer)) a in
     rw (q, e) (accepted-more ps p c (h .buffer) (j .0) (j .1) (fits .0) (omega arith)))
 
-joins-all : (ps : List StateResponse) (os : List Offer) (h : Held) → HoldsJoined ps h → HoldsJoined (ps ++ acceptedOf os h) (afterOffers os h)
+joins-all : (ps : List StateResponse) (os : List Offer) (h : Held) → HoldsJoined ps h →
+    HoldsJoined (ps ++ acceptedOf os h) (afterOffers os h)
 unfolding afterOffers acceptedOf
 joins-all ps [] h j = rw (append-nil ps) j
 joins-all ps (o ∷ os) h j =
@@ -82,5 +90,6 @@ unfolding isComplete both collectorOver newCollector completeOver
 complete-over [] = refl
 complete-over (p ∷ ps) = refl
 
-pub complete-exactly : (os : List Offer) (b : List ℕ) → isComplete (afterOffers os (started b) .collector) ≡ completeOver (acceptedOf os (started b))
+pub complete-exactly : (os : List Offer) (b : List ℕ) → isComplete (afterOffers os (started b) .collector) ≡ completeOver
+    (acceptedOf os (started b))
 complete-exactly os b = ap isComplete (holds-accepted os b .0) ∙ complete-over (acceptedOf os (started b))

@@ -13,7 +13,7 @@ use Rattle.words.specs.Word.{part}
 use Rattle.state_messages.specs.Messages.{Fits32Response, responseMessage}
 use Rattle.state_blobs.specs.Collect.{otherTotal, decide, pieceAppended, settle, offerBytes, collectGot, collect}
 use Rattle.state_blobs.specs.Blobs.{Held, HoldsFirst, MayFollow, pieceOf}
-use Rattle.state_blobs.specs.declared.Verdict.the-variants as verdict
+use Rattle.state_blobs.specs.declared.CollectVerdict.the-variants as verdict
 use Rattle.state_messages.proofs.ReadBack.{response-read}
 
 pub piece-length : (held n : ℕ) (blob : List ℕ) → held + n ≤ length blob → length (part held n blob) ≡ n

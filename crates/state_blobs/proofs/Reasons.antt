@@ -36,6 +36,19 @@ collector-gives c total n room =
       differs = λ f. rw (other (c .accepted) (c .total) total f);
       past-total = λ s a. rw (same (c .accepted) (c .total) total s, lt-ltb total (c .held + n) a);
       past-buffer = λ s a b. rw (same (c .accepted) (c .total) total s, le-ltb total (c .held + n) a, lt-ltb room (c .held + n) b);
-      no-data = λ s a b z m. rw (same (c .accepted) (c .total) total s, le-ltb total (c .held + n) a, le-ltb room (c .held + n) b, eq-eqb n 0 z, lt-ltb (c .held) total m);
-      accepts = λ s a b m. rw (same (c .accepted) (c .total) total s, le-ltb total (c .held + n) a, le-ltb room (c .held + n) b, some n (c .held) total m);
+      no-data =
+          λ s a b z m. rw (
+            same (c .accepted) (c .total) total s,
+            le-ltb total (c .held + n) a,
+            le-ltb room (c .held + n) b,
+            eq-eqb n 0 z,
+            lt-ltb (c .held) total m,
+          );
+      accepts =
+          λ s a b m. rw (
+            same (c .accepted) (c .total) total s,
+            le-ltb total (c .held + n) a,
+            le-ltb room (c .held + n) b,
+            some n (c .held) total m,
+          );
     }

@@ -8,8 +8,8 @@ use lib.Dec.{eqb}
 use Rattle.words.specs.Word.{part}
 use Rattle.state_messages.specs.Messages.{StateResponse, Got, got, rejected, readResponse}
 use Rattle.state_blobs.specs.Collect.{newCollector, collect}
-use Rattle.state_blobs.specs.declared.Verdict.{Verdict}
-use Rattle.state_blobs.specs.declared.Verdict.the-variants as verdict
+use Rattle.state_blobs.specs.declared.CollectVerdict.{CollectVerdict}
+use Rattle.state_blobs.specs.declared.CollectVerdict.the-variants as verdict
 use Rattle.state_blobs.specs.declared.Collector.{Collector}
 
 -- a message for the collector, with the largest size of its data
@@ -38,7 +38,7 @@ afterOffers [] h = h
 afterOffers (o ∷ os) h = afterOffers os (afterOffer o h)
 
 -- the response if it is accepted, otherwise none
-unfoldable pub acceptedIf : Verdict → Got → List StateResponse
+unfoldable pub acceptedIf : CollectVerdict → Got → List StateResponse
 acceptedIf verdict.Accepted (got p) = p ∷ []
 acceptedIf verdict.Accepted (rejected why) = []
 acceptedIf (verdict.Refused why) g = []
@@ -100,5 +100,5 @@ MayFollow blob h n =
     (h .collector .held + n ≤ length blob) × (h .collector .held + n ≤ length (h .buffer)) × (n ≡ 0 → h .collector .held ≡ length blob)
 
 -- the response that carries `n` bytes of a blob, starting at the bytes held
-unfoldable pub pieceOf : List ℕ → ℕ → ℕ → ℕ → StateResponse
+unfoldable pub pieceOf : (blob : List ℕ) (flags held n : ℕ) → StateResponse
 pieceOf blob flags held n = record { result = 0; flags = flags; total = length blob; bytes = part held n blob }

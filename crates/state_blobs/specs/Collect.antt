@@ -9,10 +9,10 @@ use Rattle.words.specs.Word.{splice}
 use Rattle.state_messages.specs.Messages.{Got, got, rejected, readResponse}
 use Rattle.state_messages.specs.declared.StateRefusal.{StateRefusal}
 use Rattle.state_messages.specs.declared.StateRefusal.the-variants as refusal
-use Rattle.state_blobs.specs.declared.Verdict.{Verdict}
-use Rattle.state_blobs.specs.declared.Verdict.the-variants as verdict
+use Rattle.state_blobs.specs.declared.CollectVerdict.{CollectVerdict}
+use Rattle.state_blobs.specs.declared.CollectVerdict.the-variants as verdict
 use Rattle.state_blobs.specs.declared.Collector.{Collector}
-use Rattle.state_blobs.specs.declared.Collected.{Collected}
+use Rattle.state_blobs.specs.declared.CollectResult.{CollectResult}
 
 -- a collector that holds nothing
 unfoldable pub newCollector : Collector
@@ -28,7 +28,7 @@ otherTotal c total = both (c .accepted) (not (eqb (c .total) total))
 
 -- SB4. 02, E13: "in the collector then: totlength differs from the first; held and new bytes past totlength; past the buffer; no data while bytes are
 -- missing": for `n` new bytes of a blob, its total, and the size of the buffer
-unfoldable pub decide : Collector → ℕ → ℕ → ℕ → Verdict
+unfoldable pub decide : Collector → ℕ → ℕ → ℕ → CollectVerdict
 decide c total n room =
     cond (otherTotal c total) (verdict.Refused refusal.TotalDiffers)
     (cond (ltb total (c .held + n)) (verdict.Refused refusal.PastTotal)
@@ -38,12 +38,12 @@ decide c total n room =
 
 -- the answer of a call, and the collector and buffer after it
 pub record Outcome : Type 0 where
-  pub verdict : Verdict
+  pub verdict : CollectVerdict
   pub collector : Collector
   pub buffer : List ℕ
 
 -- the same, from what the code returns and the buffer at exit
-unfoldable pub outcome : Collected → List ℕ → Outcome
+unfoldable pub outcome : CollectResult → List ℕ → Outcome
 outcome r b = record { verdict = r .verdict; collector = r .collector; buffer = b }
 
 -- SB10. 02, E13: "On refusal collector and lent buffers stay unchanged."
@@ -60,7 +60,7 @@ pieceAppended c total vs b =
     }
 
 -- the outcome of a verdict: bytes appended, or everything unchanged
-unfoldable pub settle : Verdict → Collector → ℕ → List ℕ → List ℕ → Outcome
+unfoldable pub settle : CollectVerdict → Collector → ℕ → List ℕ → List ℕ → Outcome
 settle verdict.Accepted c total vs b = pieceAppended c total vs b
 settle (verdict.Refused why) c total vs b = unchanged why c b
 

@@ -4,15 +4,15 @@ use Prim.Native.Nat.{ℕ, _+_, _≤_, _<_}
 use mathlib.Core.Bool.{true}
 use mathlib.Core.Path.{_≡_}
 use Rattle.state_messages.specs.declared.StateRefusal.the-variants as refusal
-use Rattle.state_blobs.specs.declared.Verdict.{Verdict}
-use Rattle.state_blobs.specs.declared.Verdict.the-variants as verdict
+use Rattle.state_blobs.specs.declared.CollectVerdict.{CollectVerdict}
+use Rattle.state_blobs.specs.declared.CollectVerdict.the-variants as verdict
 use Rattle.state_blobs.specs.declared.Collector.{Collector}
 
 -- not "totlength differs from the first"
 abbrev pub SameTotal : Collector → ℕ → Type 0
 SameTotal c total = c .accepted ≡ true → c .total ≡ total
 
-pub record CollectorGives (c : Collector) (total n room : ℕ) (v : Verdict) : Type 0 where
+pub record CollectorGives (c : Collector) (total n room : ℕ) (v : CollectVerdict) : Type 0 where
   -- "totlength differs from the first; held and new bytes past totlength; past the buffer; no data while bytes are missing", of a new collector too
   pub differs : (SameTotal c total → ⊥) → v ≡ verdict.Refused refusal.TotalDiffers
   pub past-total : SameTotal c total → total < c .held + n → v ≡ verdict.Refused refusal.PastTotal

@@ -7,7 +7,7 @@ ghost use lib.ListN.{length};
 ghost use Rattle.state_blobs.specs.Collect.{newCollector, isComplete, otherTotal, decide, outcome, pieceAppended, offerBytes, collect};
 
 // Whether a response is accepted, or why not.
-pub enum Verdict {
+pub enum CollectVerdict {
     Accepted,
     Refused(StateRefusal),
 }
@@ -20,8 +20,8 @@ pub struct Collector {
 }
 
 // The answer of a call, and the collector after it.
-pub struct Collected {
-    pub verdict: Verdict,
+pub struct CollectResult {
+    pub verdict: CollectVerdict,
     pub collector: Collector,
 }
 
@@ -66,32 +66,32 @@ impl Collector {
 
     // Whether `len` new bytes of a blob of `total` bytes may follow those held, in a buffer of `room` bytes. The sum has 64 bits, so it cannot
     // overflow.
-    fn decide(self, total: u32, len: usize, room: usize) -> Verdict
+    fn decide(self, total: u32, len: usize, room: usize) -> CollectVerdict
         requires { ⌜ len < 0x1_0000_0000 ⌝ }
         ensures { λ r. ⌜ r ≡ decide self total len room ⌝ }
     {
         let held = self.bytes_held();
         let end = held + len;
         if self.other_total(total) {
-            return Verdict::Refused(StateRefusal::TotalDiffers);
+            return CollectVerdict::Refused(StateRefusal::TotalDiffers);
         }
         if (total as usize) < end {
-            return Verdict::Refused(StateRefusal::PastTotal);
+            return CollectVerdict::Refused(StateRefusal::PastTotal);
         }
         if room < end {
-            return Verdict::Refused(StateRefusal::PastBuffer);
+            return CollectVerdict::Refused(StateRefusal::PastBuffer);
         }
         if len != 0 {
-            return Verdict::Accepted;
+            return CollectVerdict::Accepted;
         }
         if held < total as usize {
-            return Verdict::Refused(StateRefusal::NoData);
+            return CollectVerdict::Refused(StateRefusal::NoData);
         }
-        Verdict::Accepted
+        CollectVerdict::Accepted
     }
 
     // Copies new bytes, which must fit, after those held.
-    fn append(self, total: u32, bytes: &[u8], buffer: &mut [u8]) -> Collected
+    fn append(self, total: u32, bytes: &[u8], buffer: &mut [u8]) -> CollectResult
         requires { ⌜ (self .held + length (now bytes) ≤ total) × (self .held + length (now bytes) ≤ length (now buffer)) ⌝ }
         ensures { λ r. ⌜ outcome r (now (buffer .exit)) ≡ pieceAppended self total (now (bytes .entry)) (now (buffer .entry)) ⌝ }
     {
@@ -99,8 +99,8 @@ impl Collector {
         let end = held + bytes.len();
         let held_after = end as u32;
         words::copy(&mut buffer[held..], bytes);
-        Collected {
-            verdict: Verdict::Accepted,
+        CollectResult {
+            verdict: CollectVerdict::Accepted,
             collector: Collector {
                 accepted: true,
                 total,
@@ -110,22 +110,22 @@ impl Collector {
     }
 
     // Copies new bytes after those held if `decide` accepts them.
-    fn offer(self, total: u32, bytes: &[u8], buffer: &mut [u8]) -> Collected
+    fn offer(self, total: u32, bytes: &[u8], buffer: &mut [u8]) -> CollectResult
         requires { ⌜ length (now bytes) < 0x1_0000_0000 ⌝ }
         ensures { λ r. ⌜ outcome r (now (buffer .exit)) ≡ offerBytes self total (now (bytes .entry)) (now (buffer .entry)) ⌝ }
     {
         let verdict = self.decide(total, bytes.len(), buffer.len());
         match verdict {
-            Verdict::Accepted => self.append(total, bytes, buffer),
-            Verdict::Refused(why) => Collected {
-                verdict: Verdict::Refused(why),
+            CollectVerdict::Accepted => self.append(total, bytes, buffer),
+            CollectVerdict::Refused(why) => CollectResult {
+                verdict: CollectVerdict::Refused(why),
                 collector: self,
             },
         }
     }
 
     // Adds the data of a response to the bytes held in the buffer. On a refusal, collector and buffer stay unchanged.
-    pub fn collect(self, message: &[u8], largest: u32, buffer: &mut [u8]) -> Collected
+    pub fn collect(self, message: &[u8], largest: u32, buffer: &mut [u8]) -> CollectResult
         ensures { λ r. ⌜ outcome r (now (buffer .exit)) ≡ collect largest (now (message .entry)) self (now (buffer .entry)) ⌝ }
     {
         let read = state_messages::read_response(message, largest);
@@ -135,8 +135,8 @@ impl Collector {
                 state_messages::data_of(message),
                 buffer,
             ),
-            ResponseRead::Refused(why) => Collected {
-                verdict: Verdict::Refused(why),
+            ResponseRead::Refused(why) => CollectResult {
+                verdict: CollectVerdict::Refused(why),
                 collector: self,
             },
         }

@@ -87,11 +87,11 @@ fn print_call(
         words::copy(buffer, expected);
         return;
     }
-    let room = cases::length_at(call, 40, 96);
-    let end = 64 + cases::length_at(call, 48, 96);
+    let room = vector_io::length_at(call, 40, 96);
+    let end = 64 + vector_io::length_at(call, 48, 96);
     let answer = make(call, &call[64..end], &mut buffer[..room], image, parts, len);
     print_left(answer, image, parts, *len);
-    if cases::same(buffer, expected) {
+    if vector_io::same(buffer, expected) {
         io::write_all(STDOUT_FILENO, b" buffer as expected\n");
     } else {
         io::write_all(STDOUT_FILENO, b" buffer not as expected\n");
@@ -119,7 +119,7 @@ fn print_case(input: &[u8]) {
 fn main() {
     let mut input = [0u8; 65536];
     for n in 0..1000u64 {
-        let length = cases::load(n, &mut input);
+        let length = vector_io::load(n, &mut input);
         if length == 0 {
             return;
         }

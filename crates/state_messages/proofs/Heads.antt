@@ -17,7 +17,9 @@ head-length a b c d = simp (length-append, be-length)
 
 -- one more number after those at the start
 next : (vs s : List ℕ) (off x : ℕ) → length vs ≡ off → splice off (beBytes 4 x) (splice 0 vs s) ≡ splice 0 (vs ++ beBytes 4 x) s
-next vs s off x e = ap (λ (k : ℕ). splice k (beBytes 4 x) (splice 0 vs s)) (let z : off ≡ 0 + length vs = omega arith in z) ∙ splice-splice 0 vs s (omega arith) (beBytes 4 x)
+next vs s off x e =
+    ap (λ (k : ℕ). splice k (beBytes 4 x) (splice 0 vs s)) (let z : off ≡ 0 + length vs = omega arith in z) ∙
+    splice-splice 0 vs s (omega arith) (beBytes 4 x)
 
 pub head-put : (a b c d : ℕ) (s : List ℕ) →
     splice 12 (beBytes 4 d) (splice 8 (beBytes 4 c) (splice 4 (beBytes 4 b) (splice 0 (beBytes 4 a) s))) ≡ splice 0 (headBytes a b c d) s
@@ -42,12 +44,14 @@ module _ (a b c d : ℕ) (rest : List ℕ) where
   pub head-third : c < 256 ^ 4 → bigAt 4 8 (headBytes a b c d ++ rest) ≡ c
   unfolding headBytes
   head-third h =
-      ap (bigAt 4 8) (simp append-assoc) ∙ big-behind 4 c 8 (beBytes 4 a ++ beBytes 4 b) (beBytes 4 d ++ rest) (simp (length-append, be-length)) h
+      ap (bigAt 4 8) (simp append-assoc) ∙ big-behind 4 c 8 (beBytes 4 a ++ beBytes 4 b) (beBytes 4 d ++ rest)
+      (simp (length-append, be-length)) h
 
   pub head-fourth : d < 256 ^ 4 → bigAt 4 12 (headBytes a b c d ++ rest) ≡ d
   unfolding headBytes
   head-fourth h =
-      ap (bigAt 4 12) (append-assoc (beBytes 4 a ++ beBytes 4 b ++ beBytes 4 c) (beBytes 4 d) rest) ∙ big-behind 4 d 12 (beBytes 4 a ++ beBytes 4 b ++ beBytes 4 c) rest (simp (length-append, be-length)) h
+      ap (bigAt 4 12) (append-assoc (beBytes 4 a ++ beBytes 4 b ++ beBytes 4 c) (beBytes 4 d) rest) ∙
+      big-behind 4 d 12 (beBytes 4 a ++ beBytes 4 b ++ beBytes 4 c) rest (simp (length-append, be-length)) h
 
   pub head-rest : drop 16 (headBytes a b c d ++ rest) ≡ rest
   head-rest = drop-at (headBytes a b c d) rest 16 (head-length a b c d)

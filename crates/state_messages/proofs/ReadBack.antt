@@ -10,7 +10,9 @@ use lib.Dec.{ltb, eqb}
 use borrow.Author.Tests.{eq-eqb, le-ltb, ltb-false}
 use Rattle.words.specs.Word.{splice}
 use Rattle.big_words.specs.Big.{bigAt}
-use Rattle.state_messages.specs.Messages.{StateResponse, Fits32Request, Fits32Response, got, rejected, headBytes, requestMessage, responseMessage, requestParts, readRequest, responseParts, readResponse, Message, notWritten, writeMessage, writeRequest, writeResponse}
+use Rattle.state_messages.specs.Messages.{StateResponse, Fits32Request, Fits32Response, got, rejected, headBytes, requestMessage}
+use Rattle.state_messages.specs.Messages.{responseMessage, requestParts, readRequest, responseParts, readResponse, Message}
+use Rattle.state_messages.specs.Messages.{notWritten, writeMessage, writeRequest, writeResponse}
 use Rattle.state_messages.specs.declared.StateRequest.{StateRequest}
 use Rattle.state_messages.specs.declared.StateRefusal.the-variants as refusal
 use Rattle.state_messages.specs.declared.RequestRead.the-variants as asked
@@ -69,14 +71,17 @@ response-read largest p s l =
       le-ltb largest (length (p .bytes)) l,
     )
 
-below-by : (f : Bool) (w v : Message) {n : ℕ} → v .answer ≡ wrote.Refused refusal.AboveLargest → cond f v w .answer ≡ wrote.Length n → f ≡ false
+below-by : (f : Bool) (w v : Message) {n : ℕ} → v .answer ≡ wrote.Refused refusal.AboveLargest → cond f v w .answer ≡ wrote.Length n →
+    f ≡ false
 below-by true w v e h = never (cc)
 below-by false w v e h = refl
 
 -- a response that was written, read with the same largest size; one whose tpm_result is not zero reads as failed
-pub response-read-back : (largest : ℕ) (p : StateResponse) (b : List ℕ) {n : ℕ} → Fits32Response p → writeResponse largest p b .answer ≡ wrote.Length n →
+pub response-read-back : (largest : ℕ) (p : StateResponse) (b : List ℕ) {n : ℕ} → Fits32Response p →
+    writeResponse largest p b .answer ≡ wrote.Length n →
     readResponse largest (take n (writeResponse largest p b .buffer)) ≡ cond (eqb (p .result) 0) (got p) (rejected refusal.Failed)
 unfolding writeResponse
 response-read-back largest p b s h =
-    let f : ltb largest (length (p .bytes)) ≡ false = below-by (ltb largest (length (p .bytes))) (writeMessage (responseMessage p) b) (notWritten refusal.AboveLargest b) refl h in
+    let f : ltb largest (length (p .bytes)) ≡ false = below-by (ltb largest (length (p .bytes))) (writeMessage (responseMessage p) b)
+    (notWritten refusal.AboveLargest b) refl h in
     rw (f, written-front (responseMessage p) b (rw f at h)) (response-read largest p s (ltb-false _ _ f))

@@ -31,7 +31,7 @@ abbrev pub responseOf : ResponseHeader → List ℕ → StateResponse
 responseOf h bytes = record { result = h .result; flags = h .flags; total = h .total; bytes = bytes }
 
 -- both messages start with four numbers
-unfoldable pub headBytes : ℕ → ℕ → ℕ → ℕ → List ℕ
+unfoldable pub headBytes : (a b c d : ℕ) → List ℕ
 headBytes a b c d = beBytes 4 a ++ beBytes 4 b ++ beBytes 4 c ++ beBytes 4 d
 
 -- the bytes of a request
@@ -90,9 +90,9 @@ readResponse largest m =
     (rejected refusal.Failed))))
 
 -- what the code returns for a response: its data by offset and length, after the four numbers
-unfoldable pub toldOf : Got → ResponseRead
-toldOf (got p) = told.Accepted (record { flags = p .flags; total = p .total; at = 16; len = length (p .bytes) })
-toldOf (rejected why) = told.Refused why
+unfoldable pub responseRead : Got → ResponseRead
+responseRead (got p) = told.Accepted (record { flags = p .flags; total = p .total; at = 16; len = length (p .bytes) })
+responseRead (rejected why) = told.Refused why
 
 -- ---- writing, at the start of a buffer (SB4, SB6). 02, E13: "Writing refuses a length above the largest, then no room." and "On refusal ..
 -- lent buffers stay unchanged." A request has no length to refuse.

@@ -5,7 +5,7 @@ ghost use Prim.Native.Nat.{_+_, _≤_};
 ghost use lib.ListN.{length, drop};
 ghost use Rattle.words.specs.Word.{splice, onFrom};
 ghost use Rattle.big_words.specs.Big.{beBytes, bigAt};
-ghost use Rattle.state_messages.specs.Messages.{headBytes, readRequest, readResponse, toldOf, Message, writeRequest, responseOf, writeResponse};
+ghost use Rattle.state_messages.specs.Messages.{headBytes, readRequest, readResponse, responseRead, Message, writeRequest, responseOf, writeResponse};
 
 // A request: the command code, state_flags, the type of blob, and the offset of the piece in the blob.
 pub struct StateRequest {
@@ -102,7 +102,7 @@ fn response_length(len: u32) -> usize
 
 // Reads a response, whose data must have at most `largest` bytes.
 pub fn read_response(message: &[u8], largest: u32) -> ResponseRead
-    ensures { λ r. ⌜ r ≡ toldOf (readResponse largest (now (message .entry))) ⌝ }
+    ensures { λ r. ⌜ r ≡ responseRead (readResponse largest (now (message .entry))) ⌝ }
 {
     if message.len() < 16 {
         return ResponseRead::Refused(StateRefusal::CutShort);

@@ -12,7 +12,8 @@ use Rattle.words.specs.Word.{part, numAt}
 use Rattle.words.proofs.Tests.{both-l, both-r}
 use Rattle.words.proofs.Lists.{joined-length}
 use Rattle.words.proofs.Bytes.{Bytes}
-use Rattle.fields.specs.Fields.{Field, mkField, Scanned, broken, ended, bare, step, scan, scanAll, scanOf, fieldsOk, fieldsIn, taken, raw, shownField, shownFields, lengthOk, lengthsOk, withdrawn}
+use Rattle.fields.specs.Fields.{Field, mkField, Scanned, broken, ended, bare, step, scan, scanAll, scanOf, fieldsOk, fieldsIn, taken, raw}
+use Rattle.fields.specs.Fields.{shownField, shownFields, lengthOk, lengthsOk, withdrawn}
 use Rattle.fields.proofs.Scans.{never, step-ended, part-length}
 use Rattle.fields.proofs.Rules.{listed, judged-passed}
 use Rattle.sections.specs.Page.{inPage, foundAt}
@@ -46,7 +47,8 @@ three-long : (t n : ℕ) → t ≡ 3 → Yes (lengthOk t n) → n ≡ 1
 unfolding lengthOk
 three-long t n z h = eqb-true n 1 (rw z at h)
 
-field-most : (t : ℕ) (v : List ℕ) → t < 256 → length v ≤ 4096 → Yes (lengthOk t (length v)) → length (fieldText (shownField (mkField t v))) ≤ 9 + 3 * length v
+field-most : (t : ℕ) (v : List ℕ) → t < 256 → length v ≤ 4096 → Yes (lengthOk t (length v)) →
+    length (fieldText (shownField (mkField t v))) ≤ 9 + 3 * length v
 unfolding shownField mkField
 field-most t v h g k = go (eqb t 3) refl
   where
@@ -55,16 +57,19 @@ field-most t v h g k = go (eqb t 3) refl
     go false e = raw-most t v h g
 
 -- ---- all fields up to an end mark
-step-text : (x c z e : Bool) (f : Field) (s : Scanned) (fs : List Field) (m : ℕ) {P : Type 0} → step x c z e f s ≡ ended fs m → (fs ≡ [] → m ≡ 3 → P) →
+step-text : (x c z e : Bool) (f : Field) (s : Scanned) (fs : List Field) (m : ℕ) {P : Type 0} → step x c z e f s ≡ ended fs m →
+    (fs ≡ [] → m ≡ 3 → P) →
     (c ≡ false → (gs : List Field) (k : ℕ) → fs ≡ f ∷ gs → s ≡ ended gs k → m ≡ 3 + length (f .value) + k → P) → P
 unfolding step
 step-text true c z e f s fs m h j k = never (cc)
 step-text false true z e f s fs m h j k = never (cc)
 step-text false false true true f s fs m h j k = j (cc) (cc)
 step-text false false true false f s fs m h j k = never (cc)
-step-text false false false e f s fs m h j k = step-ended false false e f s fs m h (λ a b q. absurd (false≢true b)) (λ a b gs n p r q. k refl gs n p r q)
+step-text false false false e f s fs m h j k =
+    step-ended false false e f s fs m h (λ a b q. absurd (false≢true b)) (λ a b gs n p r q. k refl gs n p r q)
 
-scan-text : (n : ℕ) (bs : List ℕ) (fs : List Field) (m : ℕ) → Bytes bs → length bs ≤ 4096 → scan n bs ≡ ended fs m → Yes (lengthsOk fs) → length (fieldsText (shownFields fs)) + 9 ≤ 3 * m
+scan-text : (n : ℕ) (bs : List ℕ) (fs : List Field) (m : ℕ) → Bytes bs → length bs ≤ 4096 → scan n bs ≡ ended fs m → Yes (lengthsOk fs) →
+    length (fieldsText (shownFields fs)) + 9 ≤ 3 * m
 unfolding scan mkField fieldsText shownFields lengthsOk
 scan-text zero bs fs m b l h o = never (cc)
 scan-text (suc n) bs fs m b l h o =
@@ -76,22 +81,27 @@ scan-text (suc n) bs fs m b l h o =
     let v : length (part 3 w bs) ≡ w = part-length 3 w bs u in
     let q' : m ≡ 3 + length (part 3 w bs) + k = q in
     let o' = rw p at o in
-    let r : length (fieldsText (shownFields gs)) + 9 ≤ 3 * k = scan-text n (drop (3 + w) bs) gs k (λ i. rw getD-drop (b (3 + w + i))) (rw length-drop (omega arith)) s (both-r _ _ o') in
+    let r : length (fieldsText (shownFields gs)) + 9 ≤ 3 * k = scan-text n (drop (3 + w) bs) gs k (λ i. rw getD-drop (b (3 + w + i)))
+    (rw length-drop (omega arith)) s (both-r _ _ o') in
     rw (p, length-append) (omega (arith, field-most (getD bs 0 0) (part 3 w bs) (b 0) (omega arith) (both-l _ _ o'))))
 
-text-by : (u : Scanned) → ((fs : List Field) (m : ℕ) → u ≡ ended fs m → length (fieldsText (shownFields fs)) + 9 ≤ 3 * m) → length (fieldsText (shownFields (fieldsIn u))) ≤ 3 * taken u - 9
+text-by : (u : Scanned) → ((fs : List Field) (m : ℕ) → u ≡ ended fs m → length (fieldsText (shownFields fs)) + 9 ≤ 3 * m) →
+    length (fieldsText (shownFields (fieldsIn u))) ≤ 3 * taken u - 9
 unfolding fieldsIn taken fieldsText shownFields
 text-by broken h = omega arith
 text-by (ended fs m) h = omega (arith, h fs m refl)
 text-by (bare fs) h = omega arith
 
-scanned-text : (bs : List ℕ) → Bytes bs → length bs ≤ 4096 → length (fieldsText (shownFields (fieldsIn (scanOf bs)))) ≤ 3 * taken (scanOf bs) - 9
+scanned-text : (bs : List ℕ) → Bytes bs → length bs ≤ 4096 →
+    length (fieldsText (shownFields (fieldsIn (scanOf bs)))) ≤ 3 * taken (scanOf bs) - 9
 unfolding scanOf scanAll listed fieldsOk
 scanned-text bs b l =
-    text-by (scanOf bs) (λ fs m h. let j = judged-passed fieldsOk (scanAll bs) (ended fs m) (λ e. never (cc)) h in scan-text (length bs) bs fs m b l (j .0) (both-l _ _ (j .1)))
+    text-by (scanOf bs) (λ fs m h. let j = judged-passed fieldsOk (scanAll bs) (ended fs m) (λ e. never (cc)) h in scan-text
+    (length bs) bs fs m b l (j .0) (both-l _ _ (j .1)))
 
 -- ---- the fields of a page
-text-case : (b : Bool) (s t : Scanned) → length (fieldsText (shownFields (fieldsIn s))) ≤ 3 * taken s - 9 → length (fieldsText (shownFields (fieldsIn t))) ≤ 3 * taken t - 9 →
+text-case : (b : Bool) (s t : Scanned) → length (fieldsText (shownFields (fieldsIn s))) ≤ 3 * taken s - 9 →
+    length (fieldsText (shownFields (fieldsIn t))) ≤ 3 * taken t - 9 →
     length (fieldsText (shownFields (fieldsIn (cond b s t)))) ≤ 3 * taken (cond b s t) - 9
 text-case true s t x y = x
 text-case false s t x y = y

@@ -17,14 +17,19 @@ use Rattle.words.proofs.Bytes.{Bytes}
 use Rattle.versions.specs.Version.{minorOf, versionOk}
 use Rattle.versions.specs.Edition.{sectionCount, core, editionOk}
 use Rattle.entries.specs.Entry.{wordsPerEntry, size, shownWords}
-use Rattle.sections.specs.Page.{placeOk, versionAt, countAt, pointerAt, inPage, arrayAt, mkSec, secAt, mkPlat, foundAt, platAt}
+use Rattle.sections.specs.Page.{placeOk, versionAt, countAt, pointerAt, inPage, arrayAt, pageSection, pageSectionAt, pagePlatform, foundAt}
+use Rattle.sections.specs.Page.{platformAt}
 use Rattle.sections.specs.Section.{nothing, wordsIn, rulesAt}
 use Rattle.sections.proofs.Sections.{placed, rules-at}
 use Rattle.sections.proofs.Spans.{addedUp}
 use Rattle.sections.proofs.Room.{array-lies, spanLength, arrays-fit}
 use Rattle.fields.specs.Fields.{fieldsIn, taken, shownFields}
-use Rattle.reader.specs.Answer.{Shown, empty, full, ReaderAnswer, refused, minus, shownSec, shown, platShown, allShown, readerGate, judge, readOf, bytesIn, entryWord, entryCount}
-use Rattle.text_lines.specs.Text.{lay, newline, space, dash, manifestText, readAsText, platformText, noneText, absentText, refusedText, titleText, placesIn, places, decimal, signedDecimal, hexText, nameText, wordText, gapText, partText, entryText, countText, stateText, sectionText, headText, pointerText, platText, fieldsText, listingOf, printed, listingRoom}
+use Rattle.reader.specs.Answer.{Shown, empty, full, ReaderAnswer, refused, minus, shownSec, shown, platShown, allShown, readerGate, judge}
+use Rattle.reader.specs.Answer.{readOf, bytesIn, entryWord, entryCount}
+use Rattle.text_lines.specs.Text.{layClipped, newline, space, dash, manifestText, readAsText, platformText, noneText, absentText}
+use Rattle.text_lines.specs.Text.{refusedText, titleText, placesIn, places, decimal, signedDecimal, hexText, nameText, wordText, gapText}
+use Rattle.text_lines.specs.Text.{partText, entryText, countText, stateText, sectionText, headText, pointerText, platText, fieldsText}
+use Rattle.text_lines.specs.Text.{listingOf, printed, listingRoom}
 use Rattle.text_lines.proofs.Lay.{lay-whole}
 use Rattle.text.proofs.Lengths.{decimal-most, hex-length, name-length}
 use Rattle.text.proofs.FieldRoom.{found-text}
@@ -84,19 +89,22 @@ array-most base page p n = go (inPage base p n)
 
 module _ (w e base : ℕ) (page : List ℕ) (k : ℕ) where
   -- a section of the edition: its count and its entries
-  state-in : k < sectionCount e → countAt k page < 1000 → length (stateText k (shown w e k (secAt base page k))) ≤ 4 + 19 * wordsPerEntry k * countAt k page
-  unfolding shown shownSec secAt mkSec stateText entryCount bytesIn
+  state-in : k < sectionCount e → countAt k page < 1000 →
+      length (stateText k (shown w e k (pageSectionAt base page k))) ≤ 4 + 19 * wordsPerEntry k * countAt k page
+  unfolding shown shownSec pageSectionAt pageSection stateText entryCount bytesIn
   state-in l h = rw (lt-ltb k (sectionCount e) l) (go (eqb (countAt k page) 0))
     where
       bs : List ℕ
       bs = arrayAt base page (pointerAt k page) (size k (countAt k page))
 
-      go : (b : Bool) → length (stateText k (cond b empty (full (shownWords w k (wordsIn k (secAt base page k))) bs))) ≤ 4 + 19 * wordsPerEntry k * countAt k page
+      go : (b : Bool) → length (stateText k (cond b empty (full (shownWords w k (wordsIn k (pageSectionAt base page k))) bs))) ≤ 4 +
+          19 * wordsPerEntry k * countAt k page
       go true = count-most k empty (countAt k page) (divided k 0 (countAt k page) (omega arith)) h
-      go false = count-most k (full _ bs) (countAt k page) (divided k (length bs) (countAt k page) (array-most base page (pointerAt k page) _)) h
+      go false =
+          count-most k (full _ bs) (countAt k page) (divided k (length bs) (countAt k page) (array-most base page (pointerAt k page) _)) h
 
   -- a section that the edition lacks
-  state-out : sectionCount e ≤ k → length (stateText k (shown w e k (secAt base page k))) ≤ 7
+  state-out : sectionCount e ≤ k → length (stateText k (shown w e k (pageSectionAt base page k))) ≤ 7
   unfolding shown stateText absentText newline
   state-out l = rw (le-ltb k (sectionCount e) l) (lit≤ tt)
 
@@ -108,10 +116,11 @@ few (suc zero) c h = omega arith
 few (suc (suc k)) c h = omega arith
 
 shown-most : (w e base : ℕ) (page : List ℕ) → rulesAt w e base page ≡ true → (k : ℕ) → k < sectionCount e →
-    length (stateText k (shown w e k (secAt base page k))) ≤ 4 + 19 * wordsPerEntry k * countAt k page
+    length (stateText k (shown w e k (pageSectionAt base page k))) ≤ 4 + 19 * wordsPerEntry k * countAt k page
 shown-most w e base page h k l =
     state-in w e base page k l
-    (⊎-elim (λ z. few k (countAt k page) (omega arith)) (λ p. few k (countAt k page) (omega arith)) (array-lies w e base page k (rules-at w e base page h k l)))
+    (⊎-elim (λ z. few k (countAt k page) (omega arith)) (λ p. few k (countAt k page) (omega arith))
+    (array-lies w e base page k (rules-at w e base page h k l)))
 
 -- the four sections of an edition
 section-length : (s : ℕ → Shown) (k : ℕ) → length (sectionText s k) ≡ length (titleText k) + 1 + length (stateText k (s k))
@@ -124,7 +133,7 @@ four-lengths f = rw (length-append, length-append, length-append)
 
 module _ (w base : ℕ) (page : List ℕ) (b : Bytes page) (n : length page ≡ 4096) where
   abbrev stateLength : ℕ → ℕ → ℕ
-  stateLength e k = length (stateText k (shown w e k (secAt base page k)))
+  stateLength e k = length (stateText k (shown w e k (pageSectionAt base page k)))
 
   abbrev fieldBytes : ℕ
   fieldBytes = taken (foundAt base page (wordAt 8 page))
@@ -132,7 +141,8 @@ module _ (w base : ℕ) (page : List ℕ) (b : Bytes page) (n : length page ≡ 
   abbrev fieldsLength : ℕ
   fieldsLength = length (fieldsText (shownFields (fieldsIn (foundAt base page (wordAt 8 page)))))
 
-  states-most : (e : ℕ) → rulesAt w e base page ≡ true → fieldsLength + (stateLength e 0 + stateLength e 1 + stateLength e 2 + stateLength e 3) ≤ 12259
+  states-most : (e : ℕ) → rulesAt w e base page ≡ true → fieldsLength +
+      (stateLength e 0 + stateLength e 1 + stateLength e 2 + stateLength e 3) ≤ 12259
   unfolding sectionCount core addedUp spanLength size wordsPerEntry
   states-most zero h =
       let out = state-out w 0 base page in
@@ -149,24 +159,28 @@ module _ (w base : ℕ) (page : List ℕ) (b : Bytes page) (n : length page ≡ 
       omega (arith, found-text base (wordAt 8 page) page b n, out 1 (lit≤ tt), out 2 (lit≤ tt), out 3 (lit≤ tt))
   states-most (suc (suc (suc zero))) h =
       let out = state-out w 3 base page in
-      let m : base + 64 + (0 + 8 * (2 * countAt 0 page) + 8 * (6 * countAt 1 page) + fieldBytes) ≤ base + 4096 = arrays-fit w 3 base page n h (lit≤ tt) in
+      let m : base + 64 + (0 + 8 * (2 * countAt 0 page) + 8 * (6 * countAt 1 page) + fieldBytes) ≤ base + 4096 =
+      arrays-fit w 3 base page n h (lit≤ tt) in
       let a : stateLength 3 0 ≤ 4 + 38 * countAt 0 page = shown-most w 3 base page h 0 (lit≤ tt) in
       let c : stateLength 3 1 ≤ 4 + 114 * countAt 1 page = shown-most w 3 base page h 1 (lit≤ tt) in
       omega (arith, found-text base (wordAt 8 page) page b n, out 2 (lit≤ tt), out 3 (lit≤ tt))
   states-most (suc (suc (suc (suc i)))) h =
       let e = suc (suc (suc (suc i))) in
-      let m : base + 112 + (0 + 8 * (2 * countAt 0 page) + 8 * (6 * countAt 1 page) + 8 * (2 * countAt 2 page) + 8 * (2 * countAt 3 page) + fieldBytes) ≤ base + 4096 = arrays-fit w e base page n h (lit≤ tt) in
+      let m : base + 112 + (0 + 8 * (2 * countAt 0 page) + 8 * (6 * countAt 1 page) + 8 * (2 * countAt 2 page) + 8 *
+      (2 * countAt 3 page) + fieldBytes) ≤ base + 4096 = arrays-fit w e base page n h (lit≤ tt) in
       let a : stateLength e 0 ≤ 4 + 38 * countAt 0 page = shown-most w e base page h 0 (lit≤ tt) in
       let c : stateLength e 1 ≤ 4 + 114 * countAt 1 page = shown-most w e base page h 1 (lit≤ tt) in
       let d : stateLength e 2 ≤ 4 + 38 * countAt 2 page = shown-most w e base page h 2 (lit≤ tt) in
       let f : stateLength e 3 ≤ 4 + 38 * countAt 3 page = shown-most w e base page h 3 (lit≤ tt) in
       omega (arith, found-text base (wordAt 8 page) page b n)
 
-  sections-most : (e : ℕ) → rulesAt w e base page ≡ true → fieldsLength + length (joined 4 (sectionText (λ k. shown w e k (secAt base page k)))) ≤ 12281
+  sections-most : (e : ℕ) → rulesAt w e base page ≡ true →
+      fieldsLength + length (joined 4 (sectionText (λ k. shown w e k (pageSectionAt base page k)))) ≤ 12281
   unfolding titleText
   sections-most e h =
-      let s : ℕ → Shown = λ k. shown w e k (secAt base page k) in
-      rw (four-lengths (sectionText s), section-length s 0, section-length s 1, section-length s 2, section-length s 3) (omega (arith, states-most e h))
+      let s : ℕ → Shown = λ k. shown w e k (pageSectionAt base page k) in
+      rw (four-lengths (sectionText s), section-length s 0, section-length s 1, section-length s 2, section-length s 3)
+      (omega (arith, states-most e h))
 
 -- ---- the two lines before them
 head-most : (w e : ℕ) → w < 65536 → e < 10 → length (headText w e) ≤ 27
@@ -185,7 +199,8 @@ plat-most p = rw (length-append, length-append) (go (eqb p 0))
     go false = omega (arith, hex-length p)
 
 -- ---- a listing
-gate-most : (p v o : Bool) (a : ReaderAnswer) → (Yes p → Yes v → Yes o → length (listingOf a) ≤ listingRoom) → length (listingOf (readerGate p v o a)) ≤ listingRoom
+gate-most : (p v o : Bool) (a : ReaderAnswer) → (Yes p → Yes v → Yes o → length (listingOf a) ≤ listingRoom) →
+    length (listingOf (readerGate p v o a)) ≤ listingRoom
 unfolding readerGate listingOf refusedText signedDecimal dash decimal places placesIn newline
 gate-most true true true a h = h refl refl refl
 gate-most true true false a h = lit≤ tt
@@ -193,22 +208,28 @@ gate-most true false o a h = lit≤ tt
 gate-most false v o a h = lit≤ tt
 
 pub listing-fits : (r base : ℕ) (page : List ℕ) → Bytes page → length (listingOf (readOf r base page)) ≤ listingRoom
-unfolding readOf judge rulesAt allShown platShown platAt mkPlat listingOf editionOk minorOf
+unfolding readOf judge rulesAt allShown platShown platformAt pagePlatform listingOf editionOk minorOf
 listing-fits r base page b = gate-most _ _ _ _ accepted
   where
     w : ℕ
     w = minorOf (versionAt page)
 
-    accepted : Yes (placeOk base (length page)) → Yes (both (editionOk r) (versionOk (versionAt page))) → Yes (rulesAt w (min r w) base page) →
-        length (listingOf (allShown w (min r w) (platAt base page) (secAt base page))) ≤ listingRoom
+    accepted : Yes (placeOk base (length page)) → Yes (both (editionOk r) (versionOk (versionAt page))) →
+        Yes (rulesAt w (min r w) base page) →
+        length (listingOf (allShown w (min r w) (platformAt base page) (pageSectionAt base page))) ≤ listingRoom
     accepted p v o =
         let m : r ≤ 4 = leb-true _ _ (both-r _ _ (both-l _ _ v)) in
         rw (length-append, length-append, length-append)
-        (omega (arith, head-most w (min r w) (omega arith) (omega arith), plat-most (wordAt 8 page), sections-most w base page b (placed base (length page) p .0) (min r w) o))
+        (omega (
+          arith,
+          head-most w (min r w) (omega arith) (omega arith),
+          plat-most (wordAt 8 page),
+          sections-most w base page b (placed base (length page) p .0) (min r w) o,
+        ))
 
 -- no listing is cut in a slice of that length
 pub listing-whole : (r base : ℕ) (page out : List ℕ) → Bytes page → listingRoom ≤ length out →
-    take (length (listingOf (readOf r base page))) (lay 0 (listingOf (readOf r base page)) out) ≡ listingOf (readOf r base page)
+    take (length (listingOf (readOf r base page))) (layClipped 0 (listingOf (readOf r base page)) out) ≡ listingOf (readOf r base page)
 listing-whole r base page out b h = lay-whole (listingOf (readOf r base page)) out (omega (arith, listing-fits r base page b))
 
 -- the line of a code

@@ -46,7 +46,8 @@ unfolding placesIn
 places-in zero n r h w = one-place n r (omega arith) w
 places-in (suc f) n r h w = go (decLt n 10) (λ l. places-in f (n / 10) (r - 1) (omega arith))
   where
-    go : Dec (n < 10) → (10 ≤ n → Fewest 10 1 (n / 10) (r - 1) → r - 1 ≡ placesIn f (n / 10)) → r ≡ cond (ltb n 10) 1 (suc (placesIn f (n / 10)))
+    go : Dec (n < 10) → (10 ≤ n → Fewest 10 1 (n / 10) (r - 1) → r - 1 ≡ placesIn f (n / 10)) →
+        r ≡ cond (ltb n 10) 1 (suc (placesIn f (n / 10)))
     go (yes k) g = rw (lt-ltb n 10 k) (one-place n r k w)
     go (no k) g =
         let l : 10 ≤ n = omega arith in

@@ -34,8 +34,9 @@ use Rattle.fields.specs.declared.FieldPlace.{FieldPlace}
 use Rattle.fields.specs.declared.FieldPlace.the-variants.{Raw, Withdrawn, Nothing}
 use Rattle.fields.specs.declared.FieldStep.{FieldStep}
 use Rattle.field_lookup.proofs.Fields.{placeShown, step-some, step-first}
-use Rattle.text_lines.specs.Text.{newline, space, noneText, absentText, titleText, hexText, nameText, wordText, gapText, countText, stateText, sectionText, headText, platText, pointerText, fieldText, fieldsText, listingOf, printed}
-use Rattle.text_lines.specs.Steps.{seen, placeText, refusalOf}
+use Rattle.text_lines.specs.Text.{newline, space, noneText, absentText, titleText, hexText, nameText, wordText, gapText, countText}
+use Rattle.text_lines.specs.Text.{stateText, sectionText, headText, platText, pointerText, fieldText, fieldsText, listingOf, printed}
+use Rattle.text_lines.specs.Steps.{seen, placeText, refusalLine}
 
 -- ---- the space before a word
 pub gap-none : (j : ℕ) → j ≡ 0 → [] ≡ gapText j
@@ -66,7 +67,8 @@ pub word-shown : (w k i j : ℕ) (s : Section) (page : List ℕ) (r : ℕ) → r
 unfolding wordOf
 word-shown w k i j s page r h = h
 
-pub section-seen : (v : View) (page : List ℕ) (k : ℕ) (s : Section) → s ≡ sectionOf v k → sectionText (λ i. shownAs (v .minor) i s page) k ≡ sectionText (seen v page) k
+pub section-seen : (v : View) (page : List ℕ) (k : ℕ) (s : Section) → s ≡ sectionOf v k →
+    sectionText (λ i. shownAs (v .minor) i s page) k ≡ sectionText (seen v page) k
 unfolding sectionText seen
 section-seen v page k s e = rw e
 
@@ -87,18 +89,21 @@ unfolding pointerText
 pointer-some p h = rw (ne-eqb p 0 h)
 
 -- ---- a field: its line, and the lines of the fields after it
-place-line : (f : FieldPlace) (page vs : List ℕ) → isNothing f ≡ false → vs ≡ shownValue (placeShown f page) → placeText f vs ≡ fieldText (placeShown f page)
+place-line : (f : FieldPlace) (page vs : List ℕ) → isNothing f ≡ false → vs ≡ shownValue (placeShown f page) →
+    placeText f vs ≡ fieldText (placeShown f page)
 unfolding isNothing shownValue placeShown placeText
 place-line (Raw t v m) page vs n w = rw w
 place-line Withdrawn page vs n w = refl
 place-line Nothing page vs n w = absurd (false≢true (sym n))
 
-pub fields-step : (at : ℕ) (page : List ℕ) (s : FieldStep) (vs : List ℕ) → s ≡ stepAt at page → isNothing (s .field) ≡ false → vs ≡ valueIn (fieldAs (s .field) page) →
+pub fields-step : (at : ℕ) (page : List ℕ) (s : FieldStep) (vs : List ℕ) → s ≡ stepAt at page → isNothing (s .field) ≡ false →
+    vs ≡ valueIn (fieldAs (s .field) page) →
     placeText (s .field) vs ++ fieldsText (shownFrom (s .next) page) ≡ fieldsText (shownFrom at page)
 unfolding fieldsText valueIn
 fields-step at page s vs h f w =
     let n : isNothing (stepAt at page .field) ≡ false = ap (λ (x : FieldStep). isNothing (x .field)) (sym h) ∙ f in
-    let q : vs ≡ shownValue (placeShown (stepAt at page .field) page) = w ∙ ap (λ (x : FieldStep). valueIn (fieldAs (x .field) page)) h ∙ ap valueIn (step-first at page n) in
+    let q : vs ≡ shownValue (placeShown (stepAt at page .field) page) = w ∙ ap (λ (x : FieldStep). valueIn (fieldAs (x .field) page)) h ∙
+    ap valueIn (step-first at page n) in
     rw (h, place-line (stepAt at page .field) page vs n q, step-some at page n)
 
 -- ---- a section that is absent, and one that is not
@@ -107,7 +112,8 @@ unfolding stateText
 count-shown k true ws bs = refl
 count-shown k false ws bs = refl
 
-pub count-other : (w k : ℕ) (s : Section) (page : List ℕ) → OneOf (1 ∷ 2 ∷ []) (tagOf the-type s) → countText k (shownAs w k s page) ≡ stateText k (shownAs w k s page)
+pub count-other : (w k : ℕ) (s : Section) (page : List ℕ) → OneOf (1 ∷ 2 ∷ []) (tagOf the-type s) →
+    countText k (shownAs w k s page) ≡ stateText k (shownAs w k s page)
 unfolding stateText shownAs
 count-other w k Absent page h = absurd (⊎-elim (λ e. omega arith) (λ e. omega arith) h)
 count-other w k Empty page h = refl
@@ -119,13 +125,15 @@ state-absent w k s page e = rw e
 
 -- ---- the answer of a reading
 pub seen-listed : (v : View) (page : List ℕ) →
-    headText (v .minor) (v .edition) ++ platText (v .plat) ++ fieldsText (fieldsShown (readingAnswer page (Accepted v))) ++ joined 4 (sectionText (seen v page))
+    headText (v .minor) (v .edition) ++ platText (v .plat) ++ fieldsText (fieldsShown (readingAnswer page (Accepted v))) ++
+    joined 4 (sectionText (seen v page))
     ≡ listingOf (readingAnswer page (Accepted v))
 unfolding readingAnswer fieldsShown listingOf seen
 seen-listed v page = refl
 
-pub list-refused : (e base : ℕ) (page : List ℕ) (r : Reading) (c : Refusal) → r ≡ Refused c → r ≡ readingOf e base page → refusalOf r ≡ listingOf (readOf e base page)
-unfolding refusalOf readingAnswer
+pub list-refused : (e base : ℕ) (page : List ℕ) (r : Reading) (c : Refusal) → r ≡ Refused c → r ≡ readingOf e base page →
+    refusalLine r ≡ listingOf (readOf e base page)
+unfolding refusalLine readingAnswer
 list-refused e base page r c h f = rw (← reading-answer e base page, ← f, h)
 
 pub list-accepted : (e base : ℕ) (page : List ℕ) (r : Reading) (v : View) → r ≡ Accepted v → r ≡ readingOf e base page →
@@ -137,7 +145,8 @@ pub input-refused : (input : List ℕ) → (length input ≡ 4104 → ⊥) → l
 unfolding printed
 input-refused input h = rw (ne-eqb (length input) 4104 h)
 
-pub input-read : (input page : List ℕ) (base : ℕ) → length input ≡ 4104 → base ≡ wordAt 0 input → page ≡ take (length input - 8) (drop 8 input) → listingOf (readOf 4 base page) ≡ printed input
+pub input-read : (input page : List ℕ) (base : ℕ) → length input ≡ 4104 → base ≡ wordAt 0 input →
+    page ≡ take (length input - 8) (drop 8 input) → listingOf (readOf 4 base page) ≡ printed input
 unfolding printed
 input-read input page base h e f =
     let g : page ≡ drop 8 input = f ∙ take-all (length input - 8) (drop 8 input) (omega (arith, length-drop 8 input)) in

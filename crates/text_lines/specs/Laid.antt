@@ -3,7 +3,7 @@ use Prim.Native.Nat.{ℕ, _+_, _≤_, min}
 use mathlib.Core.Path.{_≡_}
 use mathlib.Core.List.{List}
 use lib.ListN.{length}
-use Rattle.text_lines.specs.Text.{lay, listingRoom}
+use Rattle.text_lines.specs.Text.{layClipped, listingRoom}
 
 -- the largest offset; sums that overflow end there
 abbrev pub lastOffset : ℕ
@@ -13,7 +13,7 @@ lastOffset = 0xFFFF_FFFF_FFFF_FFFF
 pub record LaidOver (at : ℕ) (vs s : List ℕ) (r : ℕ) (t : List ℕ) : Type 0 where
   pub cursor : r ≡ min (at + length vs) lastOffset
   pub same : length t ≡ length s
-  pub bytes : t ≡ lay at vs s
+  pub bytes : t ≡ layClipped at vs s
 
 -- The text `vs` was written over `s` from its start, as far as it fits: the result is `t`. `r` is the length of the whole text, even if it does not
 -- fit, and is at most `listingRoom`.
@@ -21,4 +21,4 @@ pub record Listed (vs s : List ℕ) (r : ℕ) (t : List ℕ) : Type 0 where
   pub long : r ≡ length vs
   pub most : r ≤ listingRoom
   pub same : length t ≡ length s
-  pub bytes : t ≡ lay 0 vs s
+  pub bytes : t ≡ layClipped 0 vs s

@@ -1,5 +1,5 @@
 -- For the steps of `field_text` and `text`. Laws of proofs/Parts.antt: `seen-listed` proves the lines of what is `seen` equal to `listingOf` of a view's
--- answer, `fields-step` proves `placeText` and the lines after it equal to `fieldsText`, and `list-refused` proves `refusalOf` equal to `listingOf` of
+-- answer, `fields-step` proves `placeText` and the lines after it equal to `fieldsText`, and `list-refused` proves `refusalLine` equal to `listingOf` of
 -- the reader's refusal. Assumes nothing.
 use Prim.Native.Nat.{ℕ}
 use mathlib.Core.List.{List, []}
@@ -24,6 +24,6 @@ placeText Withdrawn v = fieldText withdrawn
 placeText Nothing v = []
 
 -- the line of a reading that refuses; empty otherwise
-unfoldable pub refusalOf : Reading → List ℕ
-refusalOf (Refused c) = listingOf (refused (refusalNumber c))
-refusalOf (Accepted v) = []
+unfoldable pub refusalLine : Reading → List ℕ
+refusalLine (Refused c) = listingOf (refused (refusalNumber c))
+refusalLine (Accepted v) = []

@@ -13,8 +13,8 @@ use Rattle.fields.specs.Fields.{FieldShown, raw, withdrawn}
 use Rattle.reader.specs.Answer.{Shown, absent, empty, full, ReaderAnswer, refused, shows, minus, readOf, entryWord, entryCount}
 
 -- `vs` over `s` from an offset on, as far as it fits; the rest of `s` is unchanged
-unfoldable pub lay : ℕ → List ℕ → List ℕ → List ℕ
-lay at vs s = take at s ++ take (length s - at) vs ++ drop (at + length vs) s
+unfoldable pub layClipped : ℕ → List ℕ → List ℕ → List ℕ
+layClipped at vs s = take at s ++ take (length s - at) vs ++ drop (at + length vs) s
 
 -- ---- the fixed parts
 unfoldable pub newline : List ℕ

@@ -7,7 +7,7 @@ ghost use Rattle.text_lines.specs.Text.{newline, decimal, hexText, byteT
 ghost use Rattle.text_lines.specs.Laid.{lastOffset, LaidOver};
 
 // `at + n`, or the largest number if that overflows. No text is that long, but a single step cannot know that.
-fn past(at: usize, n: usize) -> usize
+fn saturating_add(at: usize, n: usize) -> usize
     ensures { λ r. ⌜ r ≡ min (at + n) lastOffset ⌝ }
 {
     if 0xFFFF_FFFF_FFFF_FFFF - at < n {
@@ -25,7 +25,7 @@ pub fn put(out: &mut [u8], at: usize, text: &[u8]) -> usize
     for i in 0..n {
         out[at + i] = text[i];
     }
-    past(at, text.len())
+    saturating_add(at, text.len())
 }
 
 // Writes a number in decimal.

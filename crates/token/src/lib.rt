@@ -1,18 +1,18 @@
 // The platform token, sent in hunks, and the lookup of its challenge.
 use boot::Record;
+use buffer_check::OutsideAs;
 use codes::Code;
 use codes::Gate;
-use range::OutsideAs;
 pub use token_rules::Session;
-pub use token_rules::Tokened;
+pub use token_rules::TokenResult;
 use words::Span;
 ghost use mathlib.Core.Path.{_≡_};
 ghost use mathlib.Core.Bool.{false};
 ghost use Prim.Native.Nat.{_+_, _≤_};
 ghost use lib.ListN.{length};
 ghost use Rattle.words.specs.Word.{part, splice, spanned, onFrom};
-ghost use Rattle.range.specs.Range.{placeOf};
-ghost use Rattle.codes.specs.Codes.{upOf, answerOf, gated};
+ghost use Rattle.buffer_check.specs.Range.{placeOf};
+ghost use Rattle.codes.specs.Codes.{bootParams, answerOf, gated};
 ghost use Rattle.token_rules.specs.Token.{listed, bufferCode, startCode, beginOf, tokenExit, sendOf, tokenOf, challengeOf, challengeSpan};
 
 // Whether `csize` is 0, 32, 48 or 64.
@@ -30,10 +30,10 @@ fn is_listed(csize: u64) -> bool
 
 // Checks record, page, platform and buffer; returns the buffer's offset in the page.
 fn buffer_of(state: Record, len: usize, busy: bool, pa: u64, size: u64, csize: u64) -> Gate
-    ensures { λ r. ⌜ r ≡ gated (bufferCode state len busy pa size csize) (placeOf (upOf state) pa) ⌝ }
+    ensures { λ r. ⌜ r ≡ gated (bufferCode state len busy pa size csize) (placeOf (bootParams state) pa) ⌝ }
 {
     let first = codes::code_if(busy, Code::Again);
-    let gate = range::page_gate(state, len, first, OutsideAs::BadAddress, pa, size);
+    let gate = buffer_check::page_gate(state, len, first, OutsideAs::BadAddress, pa, size);
     let Gate::Go(at) = gate else {
         return gate;
     };
@@ -78,29 +78,29 @@ fn put_hunk(page: &mut [u8], at: usize, token: &[u8], from: usize, n: usize)
 }
 
 // Sends the next hunk, min(size, rest) bytes, to offset `at` of the page. Past the token's end the rest is 0.
-fn send(page: &mut [u8], at: usize, token: &[u8], from: usize, size: u64) -> Tokened
+fn send(page: &mut [u8], at: usize, token: &[u8], from: usize, size: u64) -> TokenResult
     requires { ⌜ at + size ≤ length (now page) ⌝ }
     ensures { λ r. ⌜ tokenExit r (now (page .exit)) ≡ sendOf at (now (token .entry)) from size (now (page .entry)) ⌝ }
 {
     let len = token.len();
     if len <= from {
-        return Tokened {
-            answer: codes::answered(Code::Ok, 0, 0),
+        return TokenResult {
+            answer: codes::answer_with(Code::Ok, 0, 0),
             session: Session::idle(),
         };
     }
     let left = len - from;
     if left as u64 <= size {
         put_hunk(page, at, token, from, left);
-        return Tokened {
-            answer: codes::answered(Code::Ok, left as u64, 0),
+        return TokenResult {
+            answer: codes::answer_with(Code::Ok, left as u64, 0),
             session: Session::idle(),
         };
     }
     let n = size as usize;
     put_hunk(page, at, token, from, n);
-    Tokened {
-        answer: codes::answered(Code::Ok, size, (left - n) as u64),
+    TokenResult {
+        answer: codes::answer_with(Code::Ok, size, (left - n) as u64),
         session: Session::Sending {
             whole: len as u64,
             sent: (from + n) as u64,
@@ -109,11 +109,11 @@ fn send(page: &mut [u8], at: usize, token: &[u8], from: usize, size: u64) -> Tok
 }
 
 // Refuses a call with `code`; the session is unchanged.
-fn refused(code: Code, session: Session) -> Tokened
+fn refused(code: Code, session: Session) -> TokenResult
     ensures { λ r. ⌜ (r .answer ≡ answerOf code 0 0) × (r .session ≡ session) ⌝ }
 {
-    Tokened {
-        answer: codes::answered(code, 0, 0),
+    TokenResult {
+        answer: codes::answer_with(code, 0, 0),
         session,
     }
 }
@@ -129,7 +129,7 @@ pub fn platform_token(
     pa: u64,
     size: u64,
     csize: u64,
-) -> Tokened
+) -> TokenResult
     ensures { λ r. ⌜ tokenExit r (now (page .exit)) ≡ tokenOf state (now (page .entry)) session busy (now (token .entry)) pa size csize ⌝ }
 {
     let gate = buffer_of(state, page.len(), busy, pa, size, csize);

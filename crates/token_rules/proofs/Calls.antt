@@ -13,18 +13,21 @@ use lib.Seq.{take-all, take-add, drop-drop}
 use borrow.Author.Tests.{le-leb, lt-leb, eq-eqb, ne-eqb}
 use Rattle.words.specs.Word.{part, splice}
 use Rattle.words.proofs.Store.{part-splice}
-use Rattle.range.specs.Range.{placeOf}
-use Rattle.range.specs.Buffers.{WrittenAt}
-use Rattle.range.proofs.Buffers.{splice-written}
-use Rattle.codes.specs.Codes.{upOf, isOk, extended, x0Of, answerOf}
+use Rattle.buffer_check.specs.Range.{placeOf}
+use Rattle.buffer_check.specs.Buffers.{WrittenAt}
+use Rattle.buffer_check.proofs.Buffers.{splice-written}
+use Rattle.codes.specs.Codes.{bootParams, isOk, extended, x0Of, answerOf}
 use Rattle.codes.specs.declared.Code.{Code}
 use Rattle.codes.specs.declared.Code.the-variants.{Ok}
 use Rattle.codes.proofs.Gates.{first-ok, then-ok, if-ok-by}
 use Rattle.token_rules.specs.declared.Session.{Session}
 use Rattle.token_rules.specs.declared.Session.the-variants.{Idle, Sending}
-use Rattle.token_rules.specs.Token.{startCode, tokenCode, beginOf, hunkOf, restOf, nextSession, TokenStep, sendOf, keeps, settled, tokenOf}
-use Rattle.token_rules.specs.Calls.{TokenCall, tokenStepOf, tokenAccepted, shownOf, Ready, runOf, oksOf, hunksOf, leftOf, GoesOn, ceil, Calls, NextHunk}
-use Rattle.token_rules.proofs.Tokens.{Room, buffer-room, start-empty, start-again, begin-again, next-idle, next-ok, begin-next, sends, token-start, token-refused}
+use Rattle.token_rules.specs.Token.{startCode, tokenCode, beginOf, hunkOf, restOf, nextSession, TokenStep, sendOf, keeps, settled}
+use Rattle.token_rules.specs.Token.{tokenOf}
+use Rattle.token_rules.specs.Calls.{TokenCall, tokenStepOf, tokenAccepted, shownOf, Ready, sessionAfter, oksOf, hunksOf, leftOf}
+use Rattle.token_rules.specs.Calls.{GoesOn, ceil, Calls, NextHunk}
+use Rattle.token_rules.proofs.Tokens.{Room, buffer-room, start-empty, start-again, begin-again, next-idle, next-ok, begin-next}
+use Rattle.token_rules.proofs.Tokens.{sends, token-start, token-refused}
 
 -- ---- the session after k bytes of the token are requested
 unfoldable sessionAt : List ℕ → ℕ → Session
@@ -61,7 +64,9 @@ module _ (t : List ℕ) (i size : ℕ) where
     where
       go : Dec (length t ≤ i + size) → nextSession t i size ≡ sessionAt t (i + size)
       go (yes a) = rw (eq-eqb (length t - i - min size (length t - i)) 0 (omega arith), le-leb (length t) (i + size) a)
-      go (no a) = rw (ne-eqb (length t - i - min size (length t - i)) 0 (omega arith), lt-leb (length t) (i + size) (omega arith)) (ap (Sending (length t)) (omega arith))
+      go (no a) =
+          rw (ne-eqb (length t - i - min size (length t - i)) 0 (omega arith), lt-leb (length t) (i + size) (omega arith))
+          (ap (Sending (length t)) (omega arith))
 
   rest-next : restOf t i size ≡ length t - (i + size)
   unfolding restOf hunkOf
@@ -77,7 +82,9 @@ module _ (t : List ℕ) (i size : ℕ) where
     where
       go : Dec (size ≤ length t - i) → take (min size (length t - i)) (drop i t) ≡ take size (drop i t)
       go (yes a) = rw (let e : min size (length t - i) ≡ size = omega arith in e)
-      go (no a) = take-all (min size (length t - i)) (drop i t) (omega (arith, length-drop i t)) ∙ sym (take-all size (drop i t) (omega (arith, length-drop i t)))
+      go (no a) =
+          take-all (min size (length t - i)) (drop i t) (omega (arith, length-drop i t)) ∙
+          sym (take-all size (drop i t) (omega (arith, length-drop i t)))
 
 -- bytes written at an offset of the page are read back there
 written : (at n : ℕ) (vs page : List ℕ) → length vs ≡ n → at ≤ length page → part at n (splice at vs page) ≡ vs
@@ -86,14 +93,17 @@ written at n vs page e h = ap (λ (m : ℕ). part at m (splice at vs page)) (sym
 -- ---- a call that is OK
 settled-ok : (k : Code) (new : TokenStep) (page : List ℕ) (s : Session) → isOk (settled k new page s .answer .code) ≡ true → k ≡ Ok
 unfolding settled keeps answerOf
-settled-ok k new page s = if-ok-by (λ (t : TokenStep). isOk (t .answer .code) ≡ true → k ≡ Ok) k new (keeps k page s) (λ e h. e) (λ e h. absurd (true≢false (sym h ∙ e)))
+settled-ok k new page s =
+    if-ok-by (λ (t : TokenStep). isOk (t .answer .code) ≡ true → k ≡ Ok) k new (keeps k page s) (λ e h. e)
+    (λ e h. absurd (true≢false (sym h ∙ e)))
 
 module _ (s : Session) (x : TokenCall) (h : tokenAccepted s x ≡ true) where
   pub code-ok : tokenCode (x .state) (x .page) s (x .busy) (x .token) (x .pa) (x .size) (x .csize) ≡ Ok
   unfolding tokenAccepted tokenStepOf tokenOf
-  code-ok = settled-ok _ (sendOf (placeOf (upOf (x .state)) (x .pa)) (x .token) (beginOf s (x .csize)) (x .size) (x .page)) (x .page) s h
+  code-ok =
+      settled-ok _ (sendOf (placeOf (bootParams (x .state)) (x .pa)) (x .token) (beginOf s (x .csize)) (x .size) (x .page)) (x .page) s h
 
-  step-is : tokenStepOf s x ≡ sendOf (placeOf (upOf (x .state)) (x .pa)) (x .token) (beginOf s (x .csize)) (x .size) (x .page)
+  step-is : tokenStepOf s x ≡ sendOf (placeOf (bootParams (x .state)) (x .pa)) (x .token) (beginOf s (x .csize)) (x .size) (x .page)
   unfolding tokenStepOf tokenOf
   step-is = sym (sends _ _ (x .page) s code-ok)
 
@@ -114,7 +124,12 @@ module _ (s : Session) (x : TokenCall) (h : tokenAccepted s x ≡ true) where
   left-is = ap (λ (t : TokenStep). t .answer .x2) step-is ∙ rest-next (x .token) (beginOf s (x .csize)) (x .size)
 
   answer-is : (k : ℕ) → beginOf s (x .csize) ≡ k →
-      tokenStepOf s x .answer ≡ record { code = Ok; x0 = 0; x1 = min (x .size) (length (x .token) - k); x2 = length (x .token) - (k + x .size) }
+      tokenStepOf s x .answer ≡ record {
+        code = Ok;
+        x0 = 0;
+        x1 = min (x .size) (length (x .token) - k);
+        x2 = length (x .token) - (k + x .size);
+      }
   unfolding sendOf answerOf x0Of extended hunkOf
   answer-is k b = ap (λ (t : TokenStep). t .answer) step-is ∙ rw (b, rest-next (x .token) k (x .size))
 
@@ -123,7 +138,7 @@ module _ (s : Session) (x : TokenCall) (h : tokenAccepted s x ≡ true) where
   shown-is =
       let i : ℕ = beginOf s (x .csize) in
       let n : ℕ = hunkOf (x .token) i (x .size) in
-      let at : ℕ = placeOf (upOf (x .state)) (x .pa) in
+      let at : ℕ = placeOf (bootParams (x .state)) (x .pa) in
       let l : at ≤ length (x .page) = omega (arith, buffer-is .room, buffer-is .whole) in
       rw h
       (ap (λ (t : TokenStep). part at (t .answer .x1) (t .page)) step-is
@@ -131,14 +146,15 @@ module _ (s : Session) (x : TokenCall) (h : tokenAccepted s x ≡ true) where
       ∙ hunk-bytes (x .token) i (x .size))
 
   -- those bytes are at pa, and no other byte of the page changes
-  pub token-writes : WrittenAt (placeOf (upOf (x .state)) (x .pa)) (shownOf s x) (x .page) (tokenStepOf s x .page)
+  pub token-writes : WrittenAt (placeOf (bootParams (x .state)) (x .pa)) (shownOf s x) (x .page) (tokenStepOf s x .page)
   unfolding sendOf
   token-writes =
       let i : ℕ = beginOf s (x .csize) in
-      let at : ℕ = placeOf (upOf (x .state)) (x .pa) in
+      let at : ℕ = placeOf (bootParams (x .state)) (x .pa) in
       let l : at ≤ length (x .page) = omega (arith, buffer-is .room, buffer-is .whole) in
       let e : shownOf s x ≡ part i (hunkOf (x .token) i (x .size)) (x .token) = shown-is ∙ sym (hunk-bytes (x .token) i (x .size)) in
-      let f : tokenStepOf s x .page ≡ splice at (part i (hunkOf (x .token) i (x .size)) (x .token)) (x .page) = ap (λ (t : TokenStep). t .page) step-is in
+      let f : tokenStepOf s x .page ≡ splice at (part i (hunkOf (x .token) i (x .size)) (x .token)) (x .page) = ap
+      (λ (t : TokenStep). t .page) step-is in
       rw (e, f) (splice-written at _ (x .page) l)
 
 -- a further call that is OK: the session is open, and the call sends the next bytes
@@ -148,7 +164,8 @@ record Next (t : List ℕ) (size k : ℕ) (s : Session) (x : TokenCall) : Type 0
   shown : shownOf s x ≡ take size (drop k t)
   left : tokenStepOf s x .answer .x2 ≡ length t - (k + size)
 
-step-on : (t : List ℕ) (size : ℕ) (s : Session) (x : TokenCall) (k : ℕ) → tokenAccepted s x ≡ true → x .csize ≡ 0 → x .size ≡ size → x .token ≡ t → s ≡ sessionAt t k → Next t size k s x
+step-on : (t : List ℕ) (size : ℕ) (s : Session) (x : TokenCall) (k : ℕ) → tokenAccepted s x ≡ true → x .csize ≡ 0 → x .size ≡ size →
+    x .token ≡ t → s ≡ sessionAt t k → Next t size k s x
 step-on t size s x k h c z e o =
     let q = start-is s x h in
     let l : k < length t = is-open t k (λ i. false≢true (ap isOk (sym (next-idle s (x .csize) (length (x .token)) c (o ∙ i)) ∙ q))) in
@@ -163,7 +180,8 @@ step-on t size s x k h c z e o =
 -- a refused call shows no bytes and leaves the session unchanged
 step-off : (s : Session) (x : TokenCall) → tokenAccepted s x ≡ false → (shownOf s x ≡ []) × (tokenStepOf s x .session ≡ s)
 unfolding shownOf tokenAccepted tokenStepOf
-step-off s x h = (rw h, ap (λ (t : TokenStep). t .session) (token-refused (x .state) (x .page) s (x .busy) (x .token) (x .pa) (x .size) (x .csize) h))
+step-off s x h =
+    (rw h, ap (λ (t : TokenStep). t .session) (token-refused (x .state) (x .page) s (x .busy) (x .token) (x .pa) (x .size) (x .csize) h))
 
 -- a call that passes the checks of session and token, and all others, is OK
 ready-ok : (s : Session) (x : TokenCall) → Ready x → startCode s (x .csize) (length (x .token)) ≡ Ok → tokenAccepted s x ≡ true
@@ -178,10 +196,13 @@ record Sent (t : List ℕ) (size k n : ℕ) (bytes : List ℕ) (left : ℕ) (s :
   ends : s ≡ sessionAt t (k + n * size)
   no-more : k + n * size < length t + size
 
-sent-none : (t : List ℕ) (size k left : ℕ) (s : Session) → left ≡ length t - k → s ≡ sessionAt t k → k < length t + size → Sent t size k 0 [] left s
-sent-none t size k left s r h l = record { joined = rw zero-mul; rest = rw (zero-mul, add-zero) r; ends = rw (zero-mul, add-zero) h; no-more = rw (zero-mul, add-zero) l }
+sent-none : (t : List ℕ) (size k left : ℕ) (s : Session) → left ≡ length t - k → s ≡ sessionAt t k → k < length t + size →
+    Sent t size k 0 [] left s
+sent-none t size k left s r h l =
+    record { joined = rw zero-mul; rest = rw (zero-mul, add-zero) r; ends = rw (zero-mul, add-zero) h; no-more = rw (zero-mul, add-zero) l }
 
-sent-more : (t : List ℕ) (size k n : ℕ) (bytes : List ℕ) (left : ℕ) (s : Session) → Sent t size (k + size) n bytes left s → Sent t size k (1 + n) (take size (drop k t) ++ bytes) left s
+sent-more : (t : List ℕ) (size k n : ℕ) (bytes : List ℕ) (left : ℕ) (s : Session) → Sent t size (k + size) n bytes left s →
+    Sent t size k (1 + n) (take size (drop k t) ++ bytes) left s
 sent-more t size k n bytes left s p =
     let e : (1 + n) * size ≡ size + n * size = rw one-add (rw suc-mul (omega arith)) in
     record {
@@ -191,27 +212,31 @@ sent-more t size k n bytes left s p =
       no-more = rw e (omega (arith, p .no-more));
     }
 
-sent-same : (t : List ℕ) (size k n : ℕ) (bytes : List ℕ) (left : ℕ) (s : Session) → Sent t size k n bytes left s → Sent t size k (0 + n) ([] ++ bytes) left s
+sent-same : (t : List ℕ) (size k n : ℕ) (bytes : List ℕ) (left : ℕ) (s : Session) → Sent t size k n bytes left s →
+    Sent t size k (0 + n) ([] ++ bytes) left s
 sent-same t size k n bytes left s p = rw zero-add p
 
 module _ (t : List ℕ) (size : ℕ) where
-  goes-on : (xs : List TokenCall) (s : Session) (k left : ℕ) → left ≡ length t - k → s ≡ sessionAt t k → k < length t + size → GoesOn t size s xs →
-      Sent t size k (oksOf s xs) (hunksOf s xs) (leftOf left s xs) (runOf s xs)
-  unfolding oksOf hunksOf leftOf runOf
+  goes-on : (xs : List TokenCall) (s : Session) (k left : ℕ) → left ≡ length t - k → s ≡ sessionAt t k → k < length t + size →
+      GoesOn t size s xs →
+      Sent t size k (oksOf s xs) (hunksOf s xs) (leftOf left s xs) (sessionAfter s xs)
+  unfolding oksOf hunksOf leftOf sessionAfter
   goes-on [] s k left r o l f = sent-none t size k left s r o l
   goes-on (x ∷ xs) s k left r o l f = go (tokenAccepted s x) refl (λ i m q p j. goes-on xs (tokenStepOf s x .session) i m q p j (f .1))
     where
       go : (b : Bool) → tokenAccepted s x ≡ b →
           ((i m : ℕ) → m ≡ length t - i → tokenStepOf s x .session ≡ sessionAt t i → i < length t + size →
-          Sent t size i (oksOf (tokenStepOf s x .session) xs) (hunksOf (tokenStepOf s x .session) xs) (leftOf m (tokenStepOf s x .session) xs) (runOf (tokenStepOf s x .session) xs)) →
+          Sent t size i (oksOf (tokenStepOf s x .session) xs) (hunksOf (tokenStepOf s x .session) xs)
+          (leftOf m (tokenStepOf s x .session) xs) (sessionAfter (tokenStepOf s x .session) xs)) →
           Sent t size k (cond (tokenAccepted s x) 1 0 + oksOf (tokenStepOf s x .session) xs)
           (shownOf s x ++ hunksOf (tokenStepOf s x .session) xs)
           (leftOf (cond (tokenAccepted s x) (tokenStepOf s x .answer .x2) left) (tokenStepOf s x .session) xs)
-          (runOf (tokenStepOf s x .session) xs)
+          (sessionAfter (tokenStepOf s x .session) xs)
       go true e ih =
           let y = f .0 e in
           let p = step-on t size s x k e (y .0) (y .1) (y .2) o in
-          rw (e, p .shown) (sent-more t size k _ _ _ _ (ih (k + size) (tokenStepOf s x .answer .x2) (p .left) (p .after) (omega (arith, p .below))))
+          rw (e, p .shown) (sent-more t size k _ _ _ _ (ih (k + size) (tokenStepOf s x .answer .x2) (p .left) (p .after)
+          (omega (arith, p .below))))
       go false e ih =
           let p = step-off s x e in
           rw (e, p .0) (sent-same t size k _ _ _ _ (ih k left r (p .1 ∙ o) l))
@@ -225,7 +250,8 @@ ceil-above : (l b n : ℕ) → 0 < b → n * b < l → n < ceil l b
 unfolding ceil
 ceil-above l b n p h = le-div-iff-mul-le p .1 (rw suc-mul (omega arith))
 
-module _ (s : Session) (x : TokenCall) (xs : List TokenCall) (n : x .csize ≡ 0 → ⊥) (h : tokenAccepted s x ≡ true) (f : GoesOn (x .token) (x .size) (tokenStepOf s x .session) xs) where
+module _ (s : Session) (x : TokenCall) (xs : List TokenCall) (n : x .csize ≡ 0 → ⊥) (h : tokenAccepted s x ≡ true)
+    (f : GoesOn (x .token) (x .size) (tokenStepOf s x .session) xs) where
   token-there : 0 < length (x .token)
   token-there = go (decLt 0 (length (x .token)))
     where
@@ -233,19 +259,20 @@ module _ (s : Session) (x : TokenCall) (xs : List TokenCall) (n : x .csize ≡ 0
       go (yes a) = a
       go (no a) = absurd (false≢true (ap isOk (sym (start-empty s (x .csize) (length (x .token)) n (omega arith)) ∙ start-is s x h)))
 
-  start-sent : Sent (x .token) (x .size) 0 (oksOf s (x ∷ xs)) (hunksOf s (x ∷ xs)) (leftOf 0 s (x ∷ xs)) (runOf s (x ∷ xs))
-  unfolding oksOf hunksOf leftOf runOf
+  start-sent : Sent (x .token) (x .size) 0 (oksOf s (x ∷ xs)) (hunksOf s (x ∷ xs)) (leftOf 0 s (x ∷ xs)) (sessionAfter s (x ∷ xs))
+  unfolding oksOf hunksOf leftOf sessionAfter
   start-sent =
       let l = token-there in
       let b : beginOf s (x .csize) ≡ 0 = sym (begin-again s (x .csize) (length (x .token)) n) in
       let a = session-is s x h (rw b l) in
       let d = left-is s x h in
       rw (h, shown-is s x h, b)
-      (sent-more (x .token) (x .size) 0 _ _ _ _ (goes-on (x .token) (x .size) xs _ (0 + x .size) _ (rw b at d) (rw b at a) (omega (arith, l)) f))
+      (sent-more (x .token) (x .size) 0 _ _ _ _ (goes-on (x .token) (x .size) xs _ (0 + x .size) _ (rw b at d) (rw b at a)
+      (omega (arith, l)) f))
 
   -- "a token of L bytes takes exactly L / b calls, rounded up, refusals not counted", and the hunks joined are the token: for a start that
   -- is OK, in any session, and any calls after it of which those that are OK continue with its token and buffer
-  pub token-calls : Calls (x .token) (x .size) (oksOf s (x ∷ xs)) (hunksOf s (x ∷ xs)) (leftOf 0 s (x ∷ xs)) (runOf s (x ∷ xs))
+  pub token-calls : Calls (x .token) (x .size) (oksOf s (x ∷ xs)) (hunksOf s (x ∷ xs)) (leftOf 0 s (x ∷ xs)) (sessionAfter s (x ∷ xs))
   token-calls =
       let t : List ℕ = x .token in
       let b : ℕ = x .size in
@@ -262,28 +289,37 @@ module _ (s : Session) (x : TokenCall) (xs : List TokenCall) (n : x .csize ≡ 0
       }
 
   -- and it ends: until then a call with c_size 0 and that token is OK, if the checks of record, page, platform and buffer pass
-  pub token-goes : (runOf s (x ∷ xs) ≡ Idle → ⊥) → (y : TokenCall) → Ready y → y .csize ≡ 0 → y .token ≡ x .token → tokenAccepted (runOf s (x ∷ xs)) y ≡ true
+  pub token-goes : (sessionAfter s (x ∷ xs) ≡ Idle → ⊥) → (y : TokenCall) → Ready y → y .csize ≡ 0 → y .token ≡ x .token →
+      tokenAccepted (sessionAfter s (x ∷ xs)) y ≡ true
   token-goes e y a c d =
       let t : List ℕ = x .token in
       let k : ℕ = 0 + oksOf s (x ∷ xs) * x .size in
       let p = start-sent in
       let l : k < length t = is-open t k (λ i. e (p .ends ∙ i)) in
       let w : length (y .token) ≡ length t = ap length d in
-      ready-ok (runOf s (x ∷ xs)) y a (next-ok _ (y .csize) (length (y .token)) c (length t) k (p .ends ∙ at-open t k l) (omega arith) w)
+      ready-ok (sessionAfter s (x ∷ xs)) y a (next-ok _ (y .csize) (length (y .token)) c (length t) k (p .ends ∙ at-open t k l)
+      (omega arith) w)
 
 -- "A nonzero c_size always starts again, also in mid-session": it is OK in any session, if those checks pass and the token is not empty
 pub token-starts : (s : Session) (x : TokenCall) → Ready x → (x .csize ≡ 0 → ⊥) → (length (x .token) ≡ 0 → ⊥) → tokenAccepted s x ≡ true
 token-starts s x a n e = ready-ok s x a (start-again s (x .csize) (length (x .token)) n e)
 
 -- ---- one call, with a buffer of any size: of a session, and of a start
-pub token-next : (s : Session) (x : TokenCall) (sent : ℕ) → s ≡ Sending (length (x .token)) sent → sent < length (x .token) → x .csize ≡ 0 → tokenAccepted s x ≡ true →
+pub token-next : (s : Session) (x : TokenCall) (sent : ℕ) → s ≡ Sending (length (x .token)) sent → sent < length (x .token) →
+    x .csize ≡ 0 → tokenAccepted s x ≡ true →
     NextHunk (x .token) (x .size) sent (tokenStepOf s x) (shownOf s x)
 token-next s x sent e l c h =
     let t : List ℕ = x .token in
     let p = step-on t (x .size) s x sent h c refl refl (e ∙ sym (at-open t sent l)) in
-    record { hunk = p .shown; told = answer-is s x h sent (sym (begin-next s (x .csize) (length t) c (length t) sent e)); ended = λ a. p .after ∙ at-end t (sent + x .size) a; goes-on = λ a. p .after ∙ at-open t (sent + x .size) a }
+    record {
+      hunk = p .shown;
+      told = answer-is s x h sent (sym (begin-next s (x .csize) (length t) c (length t) sent e));
+      ended = λ a. p .after ∙ at-end t (sent + x .size) a;
+      goes-on = λ a. p .after ∙ at-open t (sent + x .size) a;
+    }
 
-pub token-first : (s : Session) (x : TokenCall) → 0 < length (x .token) → (x .csize ≡ 0 → ⊥) → tokenAccepted s x ≡ true → NextHunk (x .token) (x .size) 0 (tokenStepOf s x) (shownOf s x)
+pub token-first : (s : Session) (x : TokenCall) → 0 < length (x .token) → (x .csize ≡ 0 → ⊥) → tokenAccepted s x ≡ true →
+    NextHunk (x .token) (x .size) 0 (tokenStepOf s x) (shownOf s x)
 token-first s x l n h =
     let t : List ℕ = x .token in
     let b : beginOf s (x .csize) ≡ 0 = sym (begin-again s (x .csize) (length t) n) in

@@ -13,9 +13,9 @@ use Rattle.words.specs.Word.{part, splice, laid, spanAt, spanned, spanStart, no
 use Rattle.words.specs.declared.Span.{Span}
 use Rattle.words.proofs.Store.{bytes-in, lent-back, span-none, span-in, start-none, start-in}
 use Rattle.boot.specs.declared.Record.{Record}
-use Rattle.range.specs.Range.{placeOf}
-use Rattle.range.proofs.Ranges.{passed}
-use Rattle.codes.specs.Codes.{upOf, unless, fails, isOk, answerOf}
+use Rattle.buffer_check.specs.Range.{placeOf}
+use Rattle.buffer_check.proofs.Ranges.{passed}
+use Rattle.codes.specs.Codes.{bootParams, isFalse, fails, isOk, answerOf}
 use Rattle.codes.proofs.Gates.{fails-ok, first-ok, then-ok, then-stop, then-go, if-ok-by}
 use Rattle.codes.specs.declared.Answer.{Answer}
 use Rattle.codes.specs.declared.Code.{Code}
@@ -47,22 +47,22 @@ use Rattle.token_rules.specs.Token.{
 -- ---- c_size
 module _ (size c : ℕ) where
   pub csize-unlisted : listed c ≡ false → csizeCode size c ≡ Inval
-  unfolding csizeCode fails unless
+  unfolding csizeCode fails isFalse
   csize-unlisted i = rw i
 
   module _ (i : listed c ≡ true) where
     pub csize-small : size < c → csizeCode size c ≡ Inval
-    unfolding csizeCode fails unless
+    unfolding csizeCode fails isFalse
     csize-small h = rw (i, lt-ltb size c h)
 
     pub csize-ok : c ≤ size → csizeCode size c ≡ Ok
-    unfolding csizeCode fails unless
+    unfolding csizeCode fails isFalse
     csize-ok h = rw (i, le-ltb size c h)
 
 -- a buffer that passes is in the page, and the challenge is in the buffer
 pub record Room (r : Record) (len pa size c : ℕ) : Type 0 where
   pub whole : len ≡ 4096
-  pub room : placeOf (upOf r) pa + size ≤ 4096
+  pub room : placeOf (bootParams r) pa + size ≤ 4096
   pub holds : c ≤ size
 
 pub buffer-room : (r : Record) (len : ℕ) (busy : Bool) (pa size c : ℕ) → bufferCode r len busy pa size c ≡ Ok → Room r len pa size c
@@ -99,11 +99,11 @@ module _ (s : Session) (c len : ℕ) where
       next-empty l = rw (eq-eqb c 0 z, e, eq-eqb len 0 l)
 
       pub next-other : (len ≡ 0 → ⊥) → (len ≡ whole → ⊥) → startCode s c len ≡ Unk
-      unfolding startCode fails both either unless isIdle wholeOf
+      unfolding startCode fails both either isFalse isIdle wholeOf
       next-other l w = rw (eq-eqb c 0 z, e, ne-eqb len 0 l, ne-eqb len whole w)
 
       pub next-ok : (len ≡ 0 → ⊥) → len ≡ whole → startCode s c len ≡ Ok
-      unfolding startCode fails both either unless isIdle wholeOf
+      unfolding startCode fails both either isFalse isIdle wholeOf
       next-ok l w = rw (eq-eqb c 0 z, e, ne-eqb len 0 l, eq-eqb len whole w)
 
       pub begin-next : sent ≡ beginOf s c
@@ -117,7 +117,8 @@ part-length i n s h = length-take-le n (drop i s) (omega (arith, length-drop i s
 
 -- copying n bytes of the token from offset i to offset `at` of the page
 pub hunk-back : (at i n : ℕ) (token page : List ℕ) → at + n ≤ length page → i + n ≤ length token →
-    take at page ++ (laid 0 (part i n token) (take (length page - at) (drop at page)) ++ drop (length page - at) (drop at page)) ≡ splice at (part i n token) page
+    take at page ++ (laid 0 (part i n token) (take (length page - at) (drop at page)) ++ drop (length page - at) (drop at page)) ≡
+    splice at (part i n token) page
 hunk-back at i n token page h k =
     let l : at + length (part i n token) ≤ length page = omega (arith, part-length i n token k) in
     lent-back at (part i n token) page l ∙ bytes-in at (part i n token) page l
@@ -157,7 +158,8 @@ sends k new page s e = rw e
 
 -- the code of a call, from its buffer's code and its start's code
 module _ (r : Record) (page : List ℕ) (s : Session) (busy : Bool) (token : List ℕ) (pa size c : ℕ) where
-  pub token-buffer : (j : Code) → bufferCode r (length page) busy pa size c ≡ j → isOk j ≡ false → tokenCode r page s busy token pa size c ≡ j
+  pub token-buffer : (j : Code) → bufferCode r (length page) busy pa size c ≡ j → isOk j ≡ false →
+      tokenCode r page s busy token pa size c ≡ j
   unfolding tokenCode
   token-buffer j e o = then-stop _ _ j e o
 
@@ -166,33 +168,41 @@ module _ (r : Record) (page : List ℕ) (s : Session) (busy : Bool) (token : Lis
   token-start e = then-go _ _ e
 
 -- a refused call leaves page and session unchanged, with zeros in x1 and x2
-pub token-refused : (r : Record) (page : List ℕ) (s : Session) (busy : Bool) (token : List ℕ) (pa size c : ℕ) → isOk (tokenOf r page s busy token pa size c .answer .code) ≡ false →
-    tokenOf r page s busy token pa size c ≡ record { answer = answerOf (tokenOf r page s busy token pa size c .answer .code) 0 0; page = page; session = s }
+pub token-refused : (r : Record) (page : List ℕ) (s : Session) (busy : Bool) (token : List ℕ) (pa size c : ℕ) →
+    isOk (tokenOf r page s busy token pa size c .answer .code) ≡ false →
+    tokenOf r page s busy token pa size c ≡ record {
+      answer = answerOf (tokenOf r page s busy token pa size c .answer .code) 0 0;
+      page = page;
+      session = s;
+    }
 unfolding tokenOf sendOf settled keeps answerOf
 token-refused r page s busy token pa size c =
-    if-ok-by (λ (t : TokenStep). isOk (t .answer .code) ≡ false → t ≡ record { answer = answerOf (t .answer .code) 0 0; page = page; session = s })
+    if-ok-by (λ (t : TokenStep). isOk (t .answer .code) ≡ false →
+    t ≡ record { answer = answerOf (t .answer .code) 0 0; page = page; session = s })
     (tokenCode r page s busy token pa size c) _ _ (λ e h. absurd (true≢false h)) (λ e h. refl)
 
 -- ---- the challenge and its place
 module _ (r : Record) (page : List ℕ) (pa size c : ℕ) where
   -- the challenge is empty if a check fails
-  pub challenge-none : (j : Code) → bufferCode r (length page) false pa size c ≡ j → isOk j ≡ false → (noSpan ≡ challengeSpan r page pa size c) × (spanned noSpan page ≡ challengeOf r page pa size c)
+  pub challenge-none : (j : Code) → bufferCode r (length page) false pa size c ≡ j → isOk j ≡ false →
+      (noSpan ≡ challengeSpan r page pa size c) × (spanned noSpan page ≡ challengeOf r page pa size c)
   unfolding challengeOf challengeSpan
   challenge-none j e o = rw (e, o) (refl, span-none page)
 
-  pub challenge-shown : bufferCode r (length page) false pa size c ≡ Ok → (at : ℕ) → at ≡ placeOf (upOf r) pa →
+  pub challenge-shown : bufferCode r (length page) false pa size c ≡ Ok → (at : ℕ) → at ≡ placeOf (bootParams r) pa →
       (spanAt at c ≡ challengeSpan r page pa size c) × (spanned (spanAt at c) page ≡ challengeOf r page pa size c)
   unfolding challengeOf challengeSpan
   challenge-shown e at i =
       let m = buffer-room r (length page) false pa size c e in
-      rw (i, e) (refl, span-in (placeOf (upOf r) pa) c page (omega (arith, m .whole, m .room, m .holds)))
+      rw (i, e) (refl, span-in (placeOf (bootParams r) pa) c page (omega (arith, m .whole, m .room, m .holds)))
 
   -- the part of the page starts at the challenge's offset
   pub challenge-starts : spanStart (challengeSpan r page pa size c) page ≡ challengeSpan r page pa size c .at
   unfolding challengeSpan
   challenge-starts =
-      if-ok-by (λ (p : Span). spanStart p page ≡ p .at) (bufferCode r (length page) false pa size c) (spanAt (placeOf (upOf r) pa) c) noSpan
+      if-ok-by (λ (p : Span). spanStart p page ≡ p .at) (bufferCode r (length page) false pa size c)
+      (spanAt (placeOf (bootParams r) pa) c) noSpan
       (λ e.
       let m = buffer-room r (length page) false pa size c e in
-      start-in (placeOf (upOf r) pa) c page (omega (arith, m .whole, m .room, m .holds)))
+      start-in (placeOf (bootParams r) pa) c page (omega (arith, m .whole, m .room, m .holds)))
       (λ e. start-none page)

@@ -5,8 +5,8 @@ use mathlib.Core.Bool.{Bool, true, false, cond}
 use mathlib.Core.List.{List}
 use lib.ListN.{length}
 use Rattle.boot.specs.declared.Record.{Record}
-use Rattle.range.specs.Range.{placeOf}
-use Rattle.codes.specs.Codes.{upOf, isOk}
+use Rattle.buffer_check.specs.Range.{placeOf}
+use Rattle.codes.specs.Codes.{bootParams, isOk}
 use Rattle.token_rules.specs.declared.Session.{Session}
 use Rattle.token_rules.specs.Token.{TokenStep, tokenCode, beginOf, sendOf, keeps, settled, tokenOf}
 
@@ -20,7 +20,7 @@ unfolding tokenOf tokenCode settled keeps sendOf
 token-unread r p q s busy token pa size c e = rw e (go (isOk (tokenCode r q s busy token pa size c)))
   where
     go : (b : Bool) → SameToken
-        (cond b (sendOf (placeOf (upOf r) pa) token (beginOf s c) size p) (keeps (tokenCode r q s busy token pa size c) p s))
-        (cond b (sendOf (placeOf (upOf r) pa) token (beginOf s c) size q) (keeps (tokenCode r q s busy token pa size c) q s))
+        (cond b (sendOf (placeOf (bootParams r) pa) token (beginOf s c) size p) (keeps (tokenCode r q s busy token pa size c) p s))
+        (cond b (sendOf (placeOf (bootParams r) pa) token (beginOf s c) size q) (keeps (tokenCode r q s busy token pa size c) q s))
     go true = (refl, refl)
     go false = (refl, refl)

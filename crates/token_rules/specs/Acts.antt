@@ -9,8 +9,8 @@ use Rattle.words.specs.Word.{part}
 use Rattle.words.specs.declared.Span.{Span}
 use Rattle.boot.specs.declared.Params.{Params}
 use Rattle.boot.specs.declared.Record.{Record}
-use Rattle.range.specs.Buffers.{BufferIn}
-use Rattle.codes.specs.Codes.{isUp, upOf}
+use Rattle.buffer_check.specs.Buffers.{BufferIn}
+use Rattle.codes.specs.Codes.{isUp, bootParams}
 use Rattle.codes.specs.declared.Code.{Code}
 use Rattle.codes.specs.declared.Code.the-variants.{Ok}
 use Rattle.token_rules.specs.declared.Session.{Session}
@@ -26,7 +26,7 @@ ChallengeSize c = (c ≡ 32) ⊎ ((c ≡ 48) ⊎ (c ≡ 64))
 pub record BufferPassed (r : Record) (page : List ℕ) (busy : Bool) (pa size c : ℕ) : Type 0 where
   pub up : isUp r ≡ true
   pub free : busy ≡ false
-  pub buffer : BufferIn (upOf r) page pa size
+  pub buffer : BufferIn (bootParams r) page pa size
   pub listed : (c ≡ 0) ⊎ ChallengeSize c
   pub holds : c ≤ size
 

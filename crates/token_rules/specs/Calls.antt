@@ -7,8 +7,8 @@ use mathlib.Core.List.{List, [], _∷_, _++_}
 use lib.ListN.{length, take, drop}
 use Rattle.words.specs.Word.{part}
 use Rattle.boot.specs.declared.Record.{Record}
-use Rattle.range.specs.Range.{placeOf}
-use Rattle.codes.specs.Codes.{upOf, isOk}
+use Rattle.buffer_check.specs.Range.{placeOf}
+use Rattle.codes.specs.Codes.{bootParams, isOk}
 use Rattle.codes.specs.declared.Code.the-variants.{Ok}
 use Rattle.token_rules.specs.declared.Session.{Session}
 use Rattle.token_rules.specs.declared.Session.the-variants.{Idle, Sending}
@@ -35,7 +35,8 @@ tokenAccepted s x = isOk (tokenStepOf s x .answer .code)
 
 -- the x1 bytes of the page at pa after an OK; no bytes after a refusal
 unfoldable pub shownOf : Session → TokenCall → List ℕ
-shownOf s x = cond (tokenAccepted s x) (part (placeOf (upOf (x .state)) (x .pa)) (tokenStepOf s x .answer .x1) (tokenStepOf s x .page)) []
+shownOf s x =
+    cond (tokenAccepted s x) (part (placeOf (bootParams (x .state)) (x .pa)) (tokenStepOf s x .answer .x1) (tokenStepOf s x .page)) []
 
 -- the checks that look at neither session nor token pass
 unfoldable pub Ready : TokenCall → Type 0
@@ -43,9 +44,9 @@ Ready x = bufferCode (x .state) (length (x .page)) (x .busy) (x .pa) (x .size) (
 
 -- ---- calls one after another
 -- the session after them
-unfoldable pub runOf : Session → List TokenCall → Session
-runOf s [] = s
-runOf s (x ∷ xs) = runOf (tokenStepOf s x .session) xs
+unfoldable pub sessionAfter : Session → List TokenCall → Session
+sessionAfter s [] = s
+sessionAfter s (x ∷ xs) = sessionAfter (tokenStepOf s x .session) xs
 
 -- "refusals not counted": the number of calls that are OK
 unfoldable pub oksOf : Session → List TokenCall → ℕ
@@ -66,14 +67,15 @@ leftOf r s (x ∷ xs) = leftOf (cond (tokenAccepted s x) (tokenStepOf s x .answe
 -- and this token. A refused call may be any call.
 abbrev pub GoesOn : List ℕ → ℕ → Session → List TokenCall → Type 0
 GoesOn token b s [] = Unit {0}
-GoesOn token b s (x ∷ xs) = (tokenAccepted s x ≡ true → (x .csize ≡ 0) × (x .size ≡ b) × (x .token ≡ token)) × GoesOn token b (tokenStepOf s x .session) xs
+GoesOn token b s (x ∷ xs) =
+    (tokenAccepted s x ≡ true → (x .csize ≡ 0) × (x .size ≡ b) × (x .token ≡ token)) × GoesOn token b (tokenStepOf s x .session) xs
 
 -- ---- what the calls deliver together
 -- "L / b calls, rounded up": ceil(l / b)
 unfoldable pub ceil : ℕ → ℕ → ℕ
 ceil l b = (l + (b - 1)) / b
 
--- n calls are OK, their hunks joined are `bytes`, x2 of the last OK is `left`, and the session after all is s. If it has ended, n is
+-- n calls are OK, their hunks joined are `bytes`, x2 of the last OK is `afterMending`, and the session after all is s. If it has ended, n is
 -- ceil(L / b) and the hunks are the token; otherwise n is less, and the hunks are the token's first n * b bytes.
 pub record Calls (token : List ℕ) (b n : ℕ) (bytes : List ℕ) (left : ℕ) (s : Session) : Type 0 where
   pub ended : s ≡ Idle → (n ≡ ceil (length token) b) × (bytes ≡ token) × (left ≡ 0)

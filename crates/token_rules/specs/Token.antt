@@ -8,13 +8,13 @@ use Rattle.words.specs.Tests.{both, either}
 use Rattle.words.specs.Word.{part, splice, noSpan, spanAt}
 use Rattle.words.specs.declared.Span.{Span}
 use Rattle.boot.specs.declared.Record.{Record}
-use Rattle.range.specs.Range.{placeOf, pageCode}
-use Rattle.range.specs.declared.OutsideAs.the-variants.{BadAddress}
-use Rattle.codes.specs.Codes.{unless, fails, upOf, ifOk, andThen, answerOf}
+use Rattle.buffer_check.specs.Range.{placeOf, pageCode}
+use Rattle.buffer_check.specs.declared.OutsideAs.the-variants.{BadAddress}
+use Rattle.codes.specs.Codes.{isFalse, fails, bootParams, ifOk, andThen, answerOf}
 use Rattle.codes.specs.declared.Code.{Code}
 use Rattle.codes.specs.declared.Code.the-variants.{Ok, Unk, Inval, Again}
 use Rattle.codes.specs.declared.Answer.{Answer}
-use Rattle.token_rules.specs.declared.Tokened.{Tokened}
+use Rattle.token_rules.specs.declared.TokenResult.{TokenResult}
 use Rattle.token_rules.specs.declared.Session.{Session}
 use Rattle.token_rules.specs.declared.Session.the-variants.{Idle, Sending}
 
@@ -41,21 +41,21 @@ listed c = either (eqb c 0) (either (eqb c 32) (either (eqb c 48) (eqb c 64)))
 
 -- "c_size not 0, 32, 48 or 64 INVAL; c_size above the buffer's size INVAL;"
 unfoldable pub csizeCode : ℕ → ℕ → Code
-csizeCode size c = fails (unless (listed c)) Inval (fails (ltb size c) Inval Ok)
+csizeCode size c = fails (isFalse (listed c)) Inval (fails (ltb size c) Inval Ok)
 
 -- "platform busy AGAIN; outside BAD_ADDR; too long INVAL;", then the checks of c_size: the checks that token and challenge share
-unfoldable pub bufferCode : Record → ℕ → Bool → ℕ → ℕ → ℕ → Code
+unfoldable pub bufferCode : (state : Record) (len : ℕ) (busy : Bool) (pa size csize : ℕ) → Code
 bufferCode r len busy pa size c = andThen (pageCode r len (fails busy Again Ok) BadAddress pa size) (csizeCode size c)
 
 -- "c_size 0 with no session INVAL; token empty, or with c_size 0 of another length than at the session's start, UNK."
 unfoldable pub startCode : Session → ℕ → ℕ → Code
 startCode s c len =
     fails (both (eqb c 0) (isIdle s)) Inval
-    (fails (either (eqb len 0) (both (eqb c 0) (unless (eqb len (wholeOf s))))) Unk
+    (fails (either (eqb len 0) (both (eqb c 0) (isFalse (eqb len (wholeOf s))))) Unk
     Ok)
 
 -- all checks of a token call, in this order
-unfoldable pub tokenCode : Record → List ℕ → Session → Bool → List ℕ → ℕ → ℕ → ℕ → Code
+unfoldable pub tokenCode : (state : Record) (page : List ℕ) (session : Session) (busy : Bool) (token : List ℕ) (pa size csize : ℕ) → Code
 tokenCode r page s busy token pa size c = andThen (bufferCode r (length page) busy pa size c) (startCode s c (length token))
 
 -- ---- a call that passes the checks
@@ -83,7 +83,7 @@ pub record TokenStep : Type 0 where
   pub session : Session
 
 -- the same from the returned value and the page at exit
-abbrev pub tokenExit : Tokened → List ℕ → TokenStep
+abbrev pub tokenExit : TokenResult → List ℕ → TokenStep
 tokenExit t page = record { answer = t .answer; page = page; session = t .session }
 
 -- "Each OK writes the next hunk, the smaller of buffer and rest, at pa; x1 is the hunk, x2 the rest."
@@ -104,17 +104,17 @@ unfoldable pub settled : Code → TokenStep → List ℕ → Session → TokenSt
 settled k new page s = ifOk k new (keeps k page s)
 
 -- the platform token command
-unfoldable pub tokenOf : Record → List ℕ → Session → Bool → List ℕ → ℕ → ℕ → ℕ → TokenStep
+unfoldable pub tokenOf : (state : Record) (page : List ℕ) (session : Session) (busy : Bool) (token : List ℕ) (pa size csize : ℕ) → TokenStep
 tokenOf r page s busy token pa size c =
-    settled (tokenCode r page s busy token pa size c) (sendOf (placeOf (upOf r) pa) token (beginOf s c) size page) page s
+    settled (tokenCode r page s busy token pa size c) (sendOf (placeOf (bootParams r) pa) token (beginOf s c) size page) page s
 
 -- ---- the challenge
 -- "A lookup before a start shows the challenge, c_size bytes at pa, as that part of the page; empty if the record is not up, the page is
 -- not 4,096 bytes long, or a BAD_ADDR or INVAL check above fails." A busy platform does not matter. The INVAL check of c_size 0 needs no
 -- case: the part is then empty.
-unfoldable pub challengeOf : Record → List ℕ → ℕ → ℕ → ℕ → List ℕ
-challengeOf r page pa size c = ifOk (bufferCode r (length page) false pa size c) (part (placeOf (upOf r) pa) c page) []
+unfoldable pub challengeOf : (state : Record) (page : List ℕ) (pa size csize : ℕ) → List ℕ
+challengeOf r page pa size c = ifOk (bufferCode r (length page) false pa size c) (part (placeOf (bootParams r) pa) c page) []
 
 -- the challenge's place in the page; offset 0 and length 0 if a check fails
-unfoldable pub challengeSpan : Record → List ℕ → ℕ → ℕ → ℕ → Span
-challengeSpan r page pa size c = ifOk (bufferCode r (length page) false pa size c) (spanAt (placeOf (upOf r) pa) c) noSpan
+unfoldable pub challengeSpan : (state : Record) (page : List ℕ) (pa size csize : ℕ) → Span
+challengeSpan r page pa size c = ifOk (bufferCode r (length page) false pa size c) (spanAt (placeOf (bootParams r) pa) c) noSpan

@@ -9,7 +9,7 @@ pub enum Session {
 }
 
 // The result of a token call: the answer and the next session.
-pub struct Tokened {
+pub struct TokenResult {
     pub answer: Answer,
     pub session: Session,
 }

@@ -45,7 +45,8 @@ then-then : (j k rest : ReturnCode) → onSuccess (onSuccess j k) rest ≡ onSuc
 unfolding onSuccess
 then-then j k rest = go (isSuccess j) refl
   where
-    go : (b : Bool) → isSuccess j ≡ b → cond (isSuccess (cond (isSuccess j) k j)) rest (cond (isSuccess j) k j) ≡ cond (isSuccess j) (cond (isSuccess k) rest k) j
+    go : (b : Bool) → isSuccess j ≡ b → cond (isSuccess (cond (isSuccess j) k j)) rest (cond (isSuccess j) k j) ≡ cond (isSuccess j)
+        (cond (isSuccess k) rest k) j
     go true e = simp e
     go false e = simp e
 

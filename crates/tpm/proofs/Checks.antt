@@ -13,14 +13,17 @@ use Rattle.tpm.specs.declared.ReturnCode.{ReturnCode}
 use Rattle.tpm.specs.declared.ReturnCode.the-variants.{Success, Function, Parameter, P2, P3, P4, P5}
 use Rattle.tpm.specs.declared.Arguments.{Arguments}
 use Rattle.tpm.specs.ReturnCodes.{isSuccess, returnsIf}
-use Rattle.tpm.specs.Comm.{isExecute, isClose, bufferChecks, inputChecks, outputChecks, buffersChecks, resourceCheck, callChecks, requestCode, commCode, hasRequest}
-use Rattle.tpm.specs.Claims.{Within, Placed, Executes, Accepts, Reached}
+use Rattle.tpm.specs.Comm.{isExecute, isClose, bufferChecks, inputChecks, outputChecks, buffersChecks, resourceCheck, callChecks}
+use Rattle.tpm.specs.Comm.{requestCode, commCode, hasRequest}
+use Rattle.tpm.specs.Claims.{Within, Placed, Executes, CommAccepts, Reached}
 use Rattle.tpm.proofs.Chains.{onSuccess, success-is, returns-ok, Continues, returns-on, both-on, on-stops, on-goes}
 
 -- ---- one buffer
-pub buffer-on : (o w : ReturnCode) → isSuccess o ≡ false → isSuccess w ≡ false → (t : Bool) (start size n : ℕ) → Continues (bufferChecks o w t start size n)
+pub buffer-on : (o w : ReturnCode) → isSuccess o ≡ false → isSuccess w ≡ false → (t : Bool) (start size n : ℕ) →
+    Continues (bufferChecks o w t start size n)
 unfolding bufferChecks
-buffer-on o w p q t start size n = both-on (returnsIf (leb n start) o) (returnsIf (either t (ltb n (start + size))) w) (returns-on _ o p) (returns-on _ w q)
+buffer-on o w p q t start size n =
+    both-on (returnsIf (leb n start) o) (returnsIf (either t (ltb n (start + size))) w) (returns-on _ o p) (returns-on _ w q)
 
 -- what a success implies about the buffer before it
 pub record Passed (t : Bool) (start size n : ℕ) (rest : ReturnCode) : Type 0 where
@@ -33,7 +36,8 @@ unfolding either
 either-no true b h = absurd (false≢true (sym h))
 either-no false b h = (refl, h)
 
-pub buffer-ok : (o w : ReturnCode) → isSuccess o ≡ false → isSuccess w ≡ false → (t : Bool) (start size n : ℕ) (rest : ReturnCode) → bufferChecks o w t start size n rest ≡ Success →
+pub buffer-ok : (o w : ReturnCode) → isSuccess o ≡ false → isSuccess w ≡ false → (t : Bool) (start size n : ℕ) (rest : ReturnCode) →
+    bufferChecks o w t start size n rest ≡ Success →
     Passed t start size n rest
 unfolding bufferChecks
 buffer-ok o w p q t start size n rest h =
@@ -42,7 +46,8 @@ buffer-ok o w p q t start size n rest h =
     let e = either-no _ _ (j .0) in
     record { fit = e .0; within = record { begins = leb-false _ _ (i .0); ends = ltb-false _ _ (e .1) }; after = j .1 }
 
-pub buffer-in : (o w : ReturnCode) (t : Bool) (start size n : ℕ) (rest : ReturnCode) → t ≡ false → Within start size n → bufferChecks o w t start size n rest ≡ rest
+pub buffer-in : (o w : ReturnCode) (t : Bool) (start size n : ℕ) (rest : ReturnCode) → t ≡ false → Within start size n →
+    bufferChecks o w t start size n rest ≡ rest
 unfolding bufferChecks returnsIf either
 buffer-in o w t start size n rest e i = rw (lt-leb n start (i .begins), e, le-ltb n (start + size) (i .ends))
 
@@ -60,11 +65,13 @@ unfolding buffersChecks
 buffers-on a n = both-on (inputChecks a n) (outputChecks a n) (input-on a n) (output-on a n)
 
 -- as in the code, one after the other
-pub input-stops : (a : Arguments) (n : ℕ) (k : ReturnCode) → k ≡ inputChecks a n Success → isSuccess k ≡ false → k ≡ buffersChecks a n Success
+pub input-stops : (a : Arguments) (n : ℕ) (k : ReturnCode) → k ≡ inputChecks a n Success → isSuccess k ≡ false →
+    k ≡ buffersChecks a n Success
 unfolding buffersChecks
 input-stops a n k e h = e ∙ sym (on-stops (inputChecks a n) (input-on a n) (ap isSuccess (sym e) ∙ h) (outputChecks a n Success))
 
-pub input-goes : (a : Arguments) (n : ℕ) (j k : ReturnCode) → j ≡ inputChecks a n Success → isSuccess j ≡ true → k ≡ outputChecks a n Success → k ≡ buffersChecks a n Success
+pub input-goes : (a : Arguments) (n : ℕ) (j k : ReturnCode) → j ≡ inputChecks a n Success → isSuccess j ≡ true →
+    k ≡ outputChecks a n Success → k ≡ buffersChecks a n Success
 unfolding buffersChecks
 input-goes a n j k e h o = o ∙ sym (on-goes (inputChecks a n) (input-on a n) (ap isSuccess (sym e) ∙ h) (outputChecks a n Success))
 
@@ -85,20 +92,24 @@ buffers-in a n rest p =
 -- ---- the whole chain
 -- all checks are those before H_RESOURCE, then for execute H_RESOURCE
 pub comm-then : (a : Arguments) (memory response : List ℕ) (forbidden fault : Bool) →
-    commCode a memory response forbidden fault ≡ onSuccess (requestCode a (length memory) forbidden) (cond (isExecute (a .operation)) (resourceCheck a response fault) Success)
+    commCode a memory response forbidden fault ≡ onSuccess (requestCode a (length memory) forbidden)
+    (cond (isExecute (a .operation)) (resourceCheck a response fault) Success)
 unfolding commCode requestCode callChecks returnsIf onSuccess isSuccess either
 comm-then a memory response forbidden fault = go forbidden (isExecute (a .operation)) (isClose (a .operation))
   where
     go : (f e k : Bool) →
-        returnsIf f Function (returnsIf (not (either e k)) Parameter (cond e (buffersChecks a (length memory) (resourceCheck a response fault)) Success))
-        ≡ onSuccess (returnsIf f Function (returnsIf (not (either e k)) Parameter (cond e (buffersChecks a (length memory) Success) Success))) (cond e (resourceCheck a response fault) Success)
+        returnsIf f Function (returnsIf (not (either e k)) Parameter
+        (cond e (buffersChecks a (length memory) (resourceCheck a response fault)) Success))
+        ≡ onSuccess (returnsIf f Function (returnsIf (not (either e k)) Parameter
+        (cond e (buffersChecks a (length memory) Success) Success))) (cond e (resourceCheck a response fault) Success)
     go true e k = refl
     go false true k = buffers-on a (length memory) (resourceCheck a response fault)
     go false false true = refl
     go false false false = refl
 
 -- if an execute passes the checks before H_RESOURCE, the buffers are inside the memory
-pub request-placed : (a : Arguments) (n : ℕ) (forbidden : Bool) → isSuccess (requestCode a n forbidden) ≡ true → a .operation ≡ 1 → Placed a n
+pub request-placed : (a : Arguments) (n : ℕ) (forbidden : Bool) → isSuccess (requestCode a n forbidden) ≡ true → a .operation ≡ 1 →
+    Placed a n
 unfolding requestCode callChecks isExecute isSuccess
 request-placed a n forbidden h e =
     let k = returns-ok _ _ _ refl (returns-ok _ _ _ refl (success-is _ h) .1) .1 in
@@ -111,15 +122,18 @@ has-placed a n forbidden h = request-placed a n forbidden (both-r _ _ h) (eqb-tr
 
 pub has-reached : (a : Arguments) (n : ℕ) (forbidden : Bool) → hasRequest a n forbidden ≡ true → Reached a forbidden
 unfolding hasRequest requestCode callChecks isExecute isSuccess
-has-reached a n forbidden h = record { allowed = returns-ok _ _ _ refl (success-is _ (both-r _ _ h)) .0; execute = eqb-true _ _ (both-l _ _ h) }
+has-reached a n forbidden h =
+    record { allowed = returns-ok _ _ _ refl (success-is _ (both-r _ _ h)) .0; execute = eqb-true _ _ (both-l _ _ h) }
 
 -- ---- when a call is accepted
-pub accepted-if : (a : Arguments) (memory response : List ℕ) (forbidden fault : Bool) → Accepts a memory response forbidden fault → commCode a memory response forbidden fault ≡ Success
+pub accepted-if : (a : Arguments) (memory response : List ℕ) (forbidden fault : Bool) → CommAccepts a memory response forbidden fault →
+    commCode a memory response forbidden fault ≡ Success
 unfolding commCode callChecks returnsIf isExecute isClose resourceCheck either
 accepted-if a memory response forbidden fault p = rw (p .allowed) (go (p .kind))
   where
     go : (a .operation ≡ 2) ⊎ Executes a memory response fault →
-        returnsIf (not (either (isExecute (a .operation)) (isClose (a .operation)))) Parameter (cond (isExecute (a .operation)) (buffersChecks a (length memory) (resourceCheck a response fault)) Success) ≡ Success
+        returnsIf (not (either (isExecute (a .operation)) (isClose (a .operation)))) Parameter
+        (cond (isExecute (a .operation)) (buffersChecks a (length memory) (resourceCheck a response fault)) Success) ≡ Success
     go (inl e) = rw e
     go (inr x) =
         rw (eq-eqb (a .operation) 1 (x .execute))

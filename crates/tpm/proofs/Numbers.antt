@@ -9,7 +9,9 @@ use Rattle.tpm.specs.ReturnCodes.{hcallNumber}
 
 abbrev pub codeNumbered : ℤ → ReturnCode
 codeNumbered (pos n) = Success
-codeNumbered (negsuc n) = cond (eqb n 1) Function (cond (eqb n 3) Parameter (cond (eqb n 15) Resource (cond (eqb n 54) P2 (cond (eqb n 55) P3 (cond (eqb n 56) P4 P5)))))
+codeNumbered (negsuc n) =
+    cond (eqb n 1) Function (cond (eqb n 3) Parameter (cond (eqb n 15) Resource
+    (cond (eqb n 54) P2 (cond (eqb n 55) P3 (cond (eqb n 56) P4 P5)))))
 
 pub numbered-named : (k : ReturnCode) → codeNumbered (hcallNumber k) ≡ k
 numbered-named Success = refl

@@ -13,7 +13,7 @@ use Rattle.tpm.specs.declared.ReturnCode.the-variants.{Success, Function
 use Rattle.tpm.specs.declared.Arguments.{Arguments}
 use Rattle.tpm.specs.ReturnCodes.{returnsIf}
 use Rattle.tpm.specs.Comm.{isExecute, isClose, bufferChecks, buffersChecks, resourceCheck, callChecks, commCode}
-use Rattle.tpm.specs.Claims.{Within, Placed, Accepts, Reached, BadSize, InputPlaced, Reason}
+use Rattle.tpm.specs.Claims.{Within, Placed, CommAccepts, Reached, BadSize, InputPlaced, Reason}
 use Rattle.tpm.proofs.Checks.{either-no}
 
 -- what holds for a code, by the checks that lead to it
@@ -54,7 +54,10 @@ module _ (a : Arguments) (memory response : List ℕ) (forbidden fault : Bool) w
       buffer-by Why P4 P5 (a .outsize) 4096 (a .outbuffer) (a .outsize) (length memory) _ (λ o. (r, i, o)) (λ b. (r, i, b)) (λ wide output.
       let p : Placed a (length memory) = record { input = input; output = output; short = short; wide = wide } in
       returns-by Why _ Resource Success (λ e. (r, p, one-of _ _ _ e))
-      (λ e. let n = either-no _ _ e in record { allowed = r .allowed; kind = inr (record { execute = r .execute; placed = p; works = n .0; room = ltb-false _ _ (n .1) }) })))
+      (λ e. let n = either-no _ _ e in record {
+        allowed = r .allowed;
+        kind = inr (record { execute = r .execute; placed = p; works = n .0; room = ltb-false _ _ (n .1) });
+      })))
 
   pub comm-why : Reason a memory response forbidden fault (commCode a memory response forbidden fault)
   unfolding commCode callChecks returnsIf either isExecute isClose
@@ -66,5 +69,5 @@ module _ (a : Arguments) (memory response : List ℕ) (forbidden fault : Bool) w
       go f false true x y = record { allowed = f; kind = inl (eqb-true _ _ y) }
       go f false false x y = (f, eqb-false _ _ x, eqb-false _ _ y)
 
-  pub accepts : commCode a memory response forbidden fault ≡ Success → Accepts a memory response forbidden fault
+  pub accepts : commCode a memory response forbidden fault ≡ Success → CommAccepts a memory response forbidden fault
   accepts h = subst Why h comm-why

@@ -24,23 +24,27 @@ opened no-operation start = start
 opened (operation n) start = isExecute n
 
 effect-session : (k : ReturnCode) (s : TpmSession) (a : Arguments) (memory response : List ℕ) →
-    isOpen (effectOf k s a memory response .session) ≡ cond (isSuccess (effectOf k s a memory response .code)) (isExecute (a .operation)) (isOpen s)
+    isOpen (effectOf k s a memory response .session) ≡ cond (isSuccess (effectOf k s a memory response .code)) (isExecute (a .operation))
+    (isOpen s)
 unfolding effectOf executedStep closedStep refusedStep isSuccess isOpen
 effect-session k s a memory response = go (isSuccess k) (isExecute (a .operation)) refl
   where
     go : (b e : Bool) → isSuccess k ≡ b →
         isOpen (cond b (cond e (executedStep a memory response) (closedStep memory)) (refusedStep k s memory) .session)
-        ≡ cond (isSuccess (cond b (cond e (executedStep a memory response) (closedStep memory)) (refusedStep k s memory) .code)) e (isOpen s)
+        ≡ cond (isSuccess (cond b (cond e (executedStep a memory response) (closedStep memory)) (refusedStep k s memory) .code)) e
+        (isOpen s)
     go true true h = refl
     go true false h = refl
     go false e h = rw h
 
 -- one call
-step-session : (s : TpmSession) (x : CommCall) → isOpen (commStep s x .session) ≡ cond (commAccepted s x) (isExecute (x .asked .operation)) (isOpen s)
+step-session : (s : TpmSession) (x : CommCall) → isOpen (commStep s x .session) ≡ cond (commAccepted s x)
+    (isExecute (x .asked .operation)) (isOpen s)
 unfolding commStep commAccepted commOf
 step-session s x = effect-session _ s (x .asked) (x .memory) (x .response)
 
-opened-latest : (l : Latest) (b : Bool) (n : ℕ) (start : Bool) → opened l (cond b (isExecute n) start) ≡ opened (latestOr l (cond b (operation n) no-operation)) start
+opened-latest : (l : Latest) (b : Bool) (n : ℕ) (start : Bool) →
+    opened l (cond b (isExecute n) start) ≡ opened (latestOr l (cond b (operation n) no-operation)) start
 unfolding opened latestOr
 opened-latest no-operation true n start = refl
 opened-latest no-operation false n start = refl

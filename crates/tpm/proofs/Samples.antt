@@ -9,7 +9,9 @@ use Rattle.tpm.specs.ReturnCodes.{returnsIf}
 use Rattle.tpm.specs.Comm.{isExecute, isClose, bufferChecks, buffersChecks, callChecks, requestCode}
 
 abbrev asking : ℕ → ℕ → ℕ → ℕ → ℕ → ReturnCode
-asking operation inbuffer insize outbuffer outsize = requestCode (record { operation = operation; inbuffer = inbuffer; insize = insize; outbuffer = outbuffer; outsize = outsize }) 8192 false
+asking operation inbuffer insize outbuffer outsize =
+    requestCode (record { operation = operation; inbuffer = inbuffer; insize = insize; outbuffer = outbuffer; outsize = outsize }) 8192
+    false
 
 -- both buffers at one address; a request of no bytes; close checks no buffer; an operation in the low half only; a request at the end; one past all
 -- 64-bit sums; too large; past the end; an output at the end; too small; past the end

@@ -34,7 +34,7 @@ pub record Executes (a : Arguments) (memory response : List ℕ) (fault : Bool) 
   pub room : length response ≤ a .outsize
 
 -- access is allowed, and the call is a close or an execute as above
-pub record Accepts (a : Arguments) (memory response : List ℕ) (forbidden fault : Bool) : Type 0 where
+pub record CommAccepts (a : Arguments) (memory response : List ℕ) (forbidden fault : Bool) : Type 0 where
   pub allowed : forbidden ≡ false
   pub kind : (a .operation ≡ 2) ⊎ Executes a memory response fault
 
@@ -56,14 +56,16 @@ pub record InputPlaced (a : Arguments) (n : ℕ) : Type 0 where
 
 -- the condition of each code
 abbrev pub Reason : Arguments → List ℕ → List ℕ → Bool → Bool → ReturnCode → Type 0
-Reason a memory response forbidden fault Success = Accepts a memory response forbidden fault
+Reason a memory response forbidden fault Success = CommAccepts a memory response forbidden fault
 Reason a memory response forbidden fault Function = forbidden ≡ true
 Reason a memory response forbidden fault Parameter = (forbidden ≡ false) × (a .operation ≡ 1 → ⊥) × (a .operation ≡ 2 → ⊥)
 Reason a memory response forbidden fault P2 = Reached a forbidden × (length memory ≤ a .inbuffer)
 Reason a memory response forbidden fault P3 = Reached a forbidden × BadSize (4096 < a .insize) (a .inbuffer) (a .insize) (length memory)
 Reason a memory response forbidden fault P4 = Reached a forbidden × InputPlaced a (length memory) × (length memory ≤ a .outbuffer)
-Reason a memory response forbidden fault P5 = Reached a forbidden × InputPlaced a (length memory) × BadSize (a .outsize < 4096) (a .outbuffer) (a .outsize) (length memory)
-Reason a memory response forbidden fault Resource = Reached a forbidden × Placed a (length memory) × ((fault ≡ true) ⊎ (a .outsize < length response))
+Reason a memory response forbidden fault P5 =
+    Reached a forbidden × InputPlaced a (length memory) × BadSize (a .outsize < 4096) (a .outbuffer) (a .outsize) (length memory)
+Reason a memory response forbidden fault Resource =
+    Reached a forbidden × Placed a (length memory) × ((fault ≡ true) ⊎ (a .outsize < length response))
 
 -- ---- what a call does
 -- r4 is 0, and the session `s` and every byte of the memory are unchanged

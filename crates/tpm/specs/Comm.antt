@@ -10,7 +10,7 @@ use Rattle.words.specs.declared.Span.{Span}
 use Rattle.tpm.specs.declared.ReturnCode.{ReturnCode}
 use Rattle.tpm.specs.declared.ReturnCode.the-variants.{Success, Function, Parameter, P2, P3, P4, P5, Resource}
 use Rattle.tpm.specs.declared.Arguments.{Arguments}
-use Rattle.tpm.specs.declared.Returned.{Returned}
+use Rattle.tpm.specs.declared.CommResult.{CommResult}
 use Rattle.tpm.specs.declared.TpmSession.{TpmSession}
 use Rattle.tpm.specs.declared.TpmSession.the-variants.{None, Open}
 use Rattle.tpm.specs.ReturnCodes.{isSuccess, returnsIf}
@@ -73,12 +73,13 @@ pub record CommStep : Type 0 where
   pub memory : List ℕ
 
 -- what the function returns, and the memory at exit
-abbrev pub stepLeft : Returned → List ℕ → CommStep
+abbrev pub stepLeft : CommResult → List ℕ → CommStep
 stepLeft r memory = record { code = r .code; r4 = r .r4; session = r .session; memory = memory }
 
 -- TP4: "The response .. is written at the output address; r4 is its length"; "execute opens one if none is open"
 unfoldable pub executedStep : Arguments → List ℕ → List ℕ → CommStep
-executedStep a memory response = record { code = Success; r4 = length response; session = Open; memory = splice (a .outbuffer) response memory }
+executedStep a memory response =
+    record { code = Success; r4 = length response; session = Open; memory = splice (a .outbuffer) response memory }
 
 -- TP5: r4 is "0 for close"; "A closed session closes again without complaint"
 unfoldable pub closedStep : List ℕ → CommStep
@@ -90,7 +91,8 @@ refusedStep k s memory = record { code = k; r4 = 0; session = s; memory = memory
 
 -- the effect of a call with return code `k`
 unfoldable pub effectOf : ReturnCode → TpmSession → Arguments → List ℕ → List ℕ → CommStep
-effectOf k s a memory response = cond (isSuccess k) (cond (isExecute (a .operation)) (executedStep a memory response) (closedStep memory)) (refusedStep k s memory)
+effectOf k s a memory response =
+    cond (isSuccess k) (cond (isExecute (a .operation)) (executedStep a memory response) (closedStep memory)) (refusedStep k s memory)
 
 -- a call: its code by all checks, then its effect
 unfoldable pub commOf : TpmSession → Arguments → List ℕ → List ℕ → Bool → Bool → CommStep

@@ -44,7 +44,8 @@ latestOr (operation n) before = operation n
 -- the last accepted operation of a sequence
 unfoldable pub latestOf : TpmSession → List CommCall → Latest
 latestOf s [] = no-operation
-latestOf s (x ∷ xs) = latestOr (latestOf (commStep s x .session) xs) (cond (commAccepted s x) (operation (x .asked .operation)) no-operation)
+latestOf s (x ∷ xs) =
+    latestOr (latestOf (commStep s x .session) xs) (cond (commAccepted s x) (operation (x .asked .operation)) no-operation)
 
 -- the last accepted operation is execute, or no call was accepted and `start` holds
 abbrev pub OpenBy : Latest → Type 0 → Type 0

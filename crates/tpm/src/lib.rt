@@ -36,7 +36,7 @@ impl TpmSession {
 }
 
 // What a call returns: r3 by name, r4, and the session after it.
-pub struct Returned {
+pub struct CommResult {
     pub code: ReturnCode,
     pub r4: u64,
     pub session: TpmSession,
@@ -142,10 +142,10 @@ fn request_check(asked: Arguments, len: u64, forbidden: bool) -> ReturnCode
 }
 
 // Bundles what a call returns.
-fn outcome(code: ReturnCode, r4: u64, session: TpmSession) -> Returned
+fn outcome(code: ReturnCode, r4: u64, session: TpmSession) -> CommResult
     ensures { λ r. ⌜ (r .code ≡ code) × (r .r4 ≡ r4) × (r .session ≡ session) ⌝ }
 {
-    Returned { code, r4, session }
+    CommResult { code, r4, session }
 }
 
 // H_TPM_COMM. Execute writes the platform's response at `outbuffer` and opens a session unless one is open; r4 is the length of the response. Close
@@ -157,7 +157,7 @@ pub fn comm(
     response: &[u8],
     forbidden: bool,
     fault: bool,
-) -> Returned
+) -> CommResult
     ensures { λ r. ⌜ stepLeft r (now (memory .exit)) ≡ commOf session asked (now (memory .entry)) (now (response .entry)) forbidden fault ⌝ }
 {
     let code = request_check(asked, memory.len() as u64, forbidden);

@@ -4,7 +4,7 @@
 // the place of the request and its digest, r3, r4, the session and the memory's digest.
 use libc::STDOUT_FILENO;
 use tpm::Arguments;
-use tpm::Returned;
+use tpm::CommResult;
 use tpm::TpmSession;
 ghost use Prim.Native.Nat.{_≤_, _<_};
 
@@ -64,7 +64,7 @@ fn session_number(session: TpmSession) -> u64 {
     }
 }
 
-fn print_returned(returned: Returned) {
+fn print_returned(returned: CommResult) {
     let code = returned.code;
     let session = returned.session;
     io::write_all(STDOUT_FILENO, b" r3 -");
@@ -103,7 +103,7 @@ fn print_call(
     requires { ⌜ at ≤ 65536 ⌝ }
 {
     let asked = arguments_at(input, at);
-    let n = cases::length_at(input, at + 40, response.len());
+    let n = vector_io::length_at(input, at + 40, response.len());
     let forbidden = words::word_at(input, at + 56) != 0;
     let fault = words::word_at(input, at + 64) != 0;
     fill(&mut response[..n], words::word_at(input, at + 48));
@@ -130,7 +130,7 @@ fn print_calls(input: &[u8], memory: &mut [u8], response: &mut [u8]) {
 }
 
 fn print_lent(input: &[u8], memory: &mut [u8], response: &mut [u8]) {
-    let n = cases::length_at(input, 0, memory.len());
+    let n = vector_io::length_at(input, 0, memory.len());
     fill(&mut memory[..n], words::word_at(input, 8));
     print_calls(input, &mut memory[..n], response);
 }
@@ -144,7 +144,7 @@ fn print_case(input: &[u8]) {
 fn main() {
     let mut input = [0u8; 32768];
     for n in 0..1000u64 {
-        let length = cases::load(n, &mut input);
+        let length = vector_io::load(n, &mut input);
         if length == 0 {
             return;
         }

@@ -47,14 +47,17 @@ section-count-step (suc (suc (suc zero))) = lit≤ tt
 section-count-step (suc (suc (suc (suc n)))) = lit≤ tt
 
 pub section-count-mono : (a b : ℕ) → a ≤ b → sectionCount a ≤ sectionCount b
-section-count-mono a b h = le-ind (λ m. sectionCount a ≤ sectionCount m) (le-refl (sectionCount a)) (λ m _ i. le-trans i (section-count-step m)) b h
+section-count-mono a b h =
+    le-ind (λ m. sectionCount a ≤ sectionCount m) (le-refl (sectionCount a)) (λ m _ i. le-trans i (section-count-step m)) b h
 
 pub section-count-min : (a b : ℕ) → sectionCount (min a b) ≡ min (sectionCount a) (sectionCount b)
 section-count-min a b = go (decLe a b)
   where
     go : Dec (a ≤ b) → sectionCount (min a b) ≡ min (sectionCount a) (sectionCount b)
     go (yes h) = rw (let e : min a b ≡ a = omega arith in e) (omega (arith, section-count-mono a b h))
-    go (no h) = rw (let e : min a b ≡ b = omega arith in e) (let l : sectionCount b ≤ sectionCount a = section-count-mono b a (omega arith) in omega arith)
+    go (no h) =
+        rw (let e : min a b ≡ b = omega arith in e) (let l : sectionCount b ≤ sectionCount a = section-count-mono b a
+        (omega arith) in omega arith)
 
 -- the editions are 1 to 4
 pub edition-of : (r : ℕ) → 1 ≤ r → r ≤ 4 → Yes (editionOk r)

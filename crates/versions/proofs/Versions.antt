@@ -37,9 +37,12 @@ module _ (a b : ℕ) (h : a < 2 ^ 31) (g : b < 2 ^ 31) where
   unfolding majorOf minorOf
   forth t = go (decLt (b / 2 ^ 16) (a / 2 ^ 16))
     where
-      go : Dec (b / 2 ^ 16 < a / 2 ^ 16) → Yes (either (ltb (b / 2 ^ 16 % 2 ^ 15) (a / 2 ^ 16 % 2 ^ 15)) (both (eqb (b / 2 ^ 16 % 2 ^ 15) (a / 2 ^ 16 % 2 ^ 15)) (ltb (b % 2 ^ 16) (a % 2 ^ 16))))
+      go : Dec (b / 2 ^ 16 < a / 2 ^ 16) → Yes (either (ltb (b / 2 ^ 16 % 2 ^ 15) (a / 2 ^ 16 % 2 ^ 15))
+          (both (eqb (b / 2 ^ 16 % 2 ^ 15) (a / 2 ^ 16 % 2 ^ 15)) (ltb (b % 2 ^ 16) (a % 2 ^ 16))))
       go (yes l) = either-l _ _ (lt-ltb (b / 2 ^ 16 % 2 ^ 15) (a / 2 ^ 16 % 2 ^ 15) (omega arith))
-      go (no l) = either-r _ _ (both-of _ _ (eq-eqb (b / 2 ^ 16 % 2 ^ 15) (a / 2 ^ 16 % 2 ^ 15) (omega arith)) (lt-ltb (b % 2 ^ 16) (a % 2 ^ 16) (omega arith)))
+      go (no l) =
+          either-r _ _ (both-of _ _ (eq-eqb (b / 2 ^ 16 % 2 ^ 15) (a / 2 ^ 16 % 2 ^ 15) (omega arith))
+          (lt-ltb (b % 2 ^ 16) (a % 2 ^ 16) (omega arith)))
 
   back : Yes byFields → b < a
   unfolding majorOf minorOf

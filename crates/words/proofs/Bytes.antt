@@ -38,7 +38,8 @@ number-below (suc n) (x ∷ bs) b = let l : x < 256 = b 0 in let i = number-belo
 pub words-read : (n : ℕ) (bs : List ℕ) → Bytes bs → Yes (areWords (wordsOf n bs))
 unfolding wordsOf areWords
 words-read zero bs b = refl
-words-read (suc n) bs b = both-of _ _ (lt-ltb (leOf (take 8 bs)) (2 ^ 64) (number-below 8 bs b)) (words-read n (drop 8 bs) (bytes-drop 8 bs b))
+words-read (suc n) bs b =
+    both-of _ _ (lt-ltb (leOf (take 8 bs)) (2 ^ 64) (number-below 8 bs b)) (words-read n (drop 8 bs) (bytes-drop 8 bs b))
 
 -- writing the number of m or fewer bytes as m bytes gives the bytes, padded with zeros
 pub zero-bytes : (m : ℕ) → leBytes m 0 ≡ replicate m 0
@@ -68,4 +69,5 @@ unfolding wordsOf bytesOf
 words-back zero [] b h = refl
 words-back zero (x ∷ bs) b h = absurd (let z : ⊥ = omega arith in z)
 words-back (suc n) bs b h =
-    rw (number-back 8 bs b (omega arith), words-back n (drop 8 bs) (bytes-drop 8 bs b) (rw length-drop (omega arith))) (take-append-drop 8 bs)
+    rw (number-back 8 bs b (omega arith), words-back n (drop 8 bs) (bytes-drop 8 bs b) (rw length-drop (omega arith)))
+    (take-append-drop 8 bs)

@@ -6,11 +6,12 @@ use native.Mathlib.Omega.{arith}
 use native.Mathlib.Decide.{decLt}
 use native.Mathlib.Nat.{not-suc-le-zero}
 use lib.ListN.{length, take, drop, getD, length-append, length-drop}
-use lib.Seq.{take-nil, drop-nil, drop-drop, take-add, take-at, drop-at, take-append-seam, drop-append-seam, take-append-le, drop-append-le, getD-take, getD-drop}
+use lib.Seq.{take-nil, drop-nil, drop-drop, take-add, take-at, drop-at, take-append-seam, drop-append-seam, take-append-le, drop-append-le}
+use lib.Seq.{getD-take, getD-drop}
 use lib.Dec.{lit≤}
 use borrow.Author.Tests.{ltb-true, lt-ltb}
 use Rattle.words.specs.Tests.{Yes}
-use Rattle.words.specs.Word.{leOf, part, numAt, wordAt, halfAt, wordsOf, bytesOf, areWords, joined}
+use Rattle.words.specs.Word.{leOf, part, numAt, wordAt, u32At, wordsOf, bytesOf, areWords, joined}
 use Rattle.words.proofs.Tests.{both-l, both-r, both-of}
 use Rattle.words.proofs.Read.{leBytes-length, leOf-leBytes, leBytes-split, mul-suc-8}
 
@@ -50,7 +51,8 @@ pub word-at : (i : ℕ) (ws rest : List ℕ) → Yes (areWords ws) → i < lengt
 unfolding numAt part bytesOf areWords leOf
 word-at i [] rest h l = absurd (not-suc-le-zero l)
 word-at zero (w ∷ ws) rest h l = simp (append-assoc, take-at, leBytes-length) (leOf-leBytes 8 w (ltb-true w (2 ^ 64) (both-l _ _ h)))
-word-at (suc i) (w ∷ ws) rest h l = rw (mul-suc-8, ← drop-drop) (simp (append-assoc, drop-at, leBytes-length) (word-at i ws rest (both-r _ _ h) (omega arith)))
+word-at (suc i) (w ∷ ws) rest h l =
+    rw (mul-suc-8, ← drop-drop) (simp (append-assoc, drop-at, leBytes-length) (word-at i ws rest (both-r _ _ h) (omega arith)))
 
 -- the n words from index i on, if all are there
 pub part-at : (i n : ℕ) (ws rest : List ℕ) → i + n ≤ length ws → part (8 * i) (8 * n) (bytesOf ws ++ rest) ≡ bytesOf (take n (drop i ws))
@@ -64,7 +66,7 @@ part-at i n ws rest h =
     )
 
 -- the halves of a first word that is below 2^32
-pub halves : (v : ℕ) (ws rest : List ℕ) → v < 2 ^ 32 → (halfAt 0 (bytesOf (v ∷ ws) ++ rest) ≡ v) × (halfAt 4 (bytesOf (v ∷ ws) ++ rest) ≡ 0)
+pub halves : (v : ℕ) (ws rest : List ℕ) → v < 2 ^ 32 → (u32At 0 (bytesOf (v ∷ ws) ++ rest) ≡ v) × (u32At 4 (bytesOf (v ∷ ws) ++ rest) ≡ 0)
 unfolding numAt part bytesOf
 halves v ws rest h =
     let z : v / 256 ^ 4 ≡ 0 = omega arith in (
@@ -74,17 +76,21 @@ halves v ws rest h =
 
 -- ---- lists one after another
 -- list k follows the first k lists
-pub joined-at : (n : ℕ) (f : ℕ → List ℕ) (rest : List ℕ) (k : ℕ) → k < n → take (length (f k)) (drop (length (joined k f)) (joined n f ++ rest)) ≡ f k
+pub joined-at : (n : ℕ) (f : ℕ → List ℕ) (rest : List ℕ) (k : ℕ) → k < n →
+    take (length (f k)) (drop (length (joined k f)) (joined n f ++ rest)) ≡ f k
 unfolding joined
 joined-at zero f rest k l = absurd (not-suc-le-zero l)
 joined-at (suc n) f rest k l = go (decLt k n) (joined-at n f (f n ++ rest) k)
   where
-    go : Dec (k < n) → (k < n → take (length (f k)) (drop (length (joined k f)) (joined n f ++ (f n ++ rest))) ≡ f k) → take (length (f k)) (drop (length (joined k f)) (joined (suc n) f ++ rest)) ≡ f k
+    go : Dec (k < n) → (k < n → take (length (f k)) (drop (length (joined k f)) (joined n f ++ (f n ++ rest))) ≡ f k) →
+        take (length (f k)) (drop (length (joined k f)) (joined (suc n) f ++ rest)) ≡ f k
     go (yes a) r = rw append-assoc (r a)
     go (no a) r = rw (append-assoc, (let e : k ≡ n = omega arith in e), drop-append-seam, take-append-seam)
 
-pub joined-get : (n : ℕ) (f : ℕ → List ℕ) (rest : List ℕ) (k j : ℕ) → k < n → j < length (f k) → getD (joined n f ++ rest) (length (joined k f) + j) 0 ≡ getD (f k) j 0
-joined-get n f rest k j h l = rw (← getD-drop, ← getD-take (length (f k)) (drop (length (joined k f)) (joined n f ++ rest)) j 0 l, joined-at n f rest k h)
+pub joined-get : (n : ℕ) (f : ℕ → List ℕ) (rest : List ℕ) (k j : ℕ) → k < n → j < length (f k) →
+    getD (joined n f ++ rest) (length (joined k f) + j) 0 ≡ getD (f k) j 0
+joined-get n f rest k j h l =
+    rw (← getD-drop, ← getD-take (length (f k)) (drop (length (joined k f)) (joined n f ++ rest)) j 0 l, joined-at n f rest k h)
 
 -- lists of equal length
 pub joined-length : (n m : ℕ) (f : ℕ → List ℕ) → ((k : ℕ) → length (f k) ≡ m) → length (joined n f) ≡ m * n
@@ -98,7 +104,8 @@ unfolding joined
 joined-mono zero f k h = absurd (not-suc-le-zero h)
 joined-mono (suc n) f k h = go (decLt k n) (joined-mono n f k)
   where
-    go : Dec (k < n) → (k < n → length (joined k f) + length (f k) ≤ length (joined n f)) → length (joined k f) + length (f k) ≤ length (joined n f ++ f n)
+    go : Dec (k < n) → (k < n → length (joined k f) + length (f k) ≤ length (joined n f)) →
+        length (joined k f) + length (f k) ≤ length (joined n f ++ f n)
     go (yes a) r = let m = r a in rw length-append (omega arith)
     go (no a) r = rw (length-append, (let e : k ≡ n = omega arith in e)) (omega arith)
 

@@ -2,7 +2,8 @@
 use Prim.Native.Nat.{ℕ, zero, suc, _+_, _-_, _*_, _/_, _^_, _≤_, _<_}
 use mathlib.Core.Path.{_≡_, refl, sym, ap, _∙_}
 use mathlib.Core.List.{List, [], _∷_, _++_}
-use native.Mathlib.Nat.{pow-le-pow-right, pow-suc, add-suc, suc-add, add-zero, zero-add, mul-assoc, mul-left-comm, div-one, div-div-eq-div-mul, mul-comm, not-suc-le-zero}
+use native.Mathlib.Nat.{pow-le-pow-right, pow-suc, add-suc, suc-add, add-zero, zero-add, mul-assoc, mul-left-comm, div-one}
+use native.Mathlib.Nat.{div-div-eq-div-mul, mul-comm, not-suc-le-zero}
 use native.Mathlib.Numerals.{add-one}
 use native.Mathlib.Omega.{arith}
 use lib.Dec.{lit≤}
@@ -31,7 +32,12 @@ pub num-add : (m n off : ℕ) (s : List ℕ) → numAt (m + n) off s ≡ numAt m
 num-add zero n off s = rw (zero-add, add-zero) (omega (arith, num-zero off s))
 num-add (suc m) n off s =
     rw (suc-add, num-suc, num-suc, pow-suc, add-suc, ← suc-add)
-    (omega (arith, num-add m n (suc off) s, mul-assoc (256 ^ m) 256 (numAt n (suc off + m) s), mul-left-comm (256 ^ m) 256 (numAt n (suc off + m) s)))
+    (omega (
+      arith,
+      num-add m n (suc off) s,
+      mul-assoc (256 ^ m) 256 (numAt n (suc off + m) s),
+      mul-left-comm (256 ^ m) 256 (numAt n (suc off + m) s),
+    ))
 
 -- a number past the end is 0
 pub num-out : (n off : ℕ) (s : List ℕ) → length s ≤ off → numAt n off s ≡ 0
@@ -91,13 +97,15 @@ rest-start n = rw (let e : n - n ≡ 0 = omega arith in e) (omega arith)
 pub num-part : (w off n j : ℕ) (s : List ℕ) → j + w ≤ n → numAt w j (part off n s) ≡ numAt w (off + j) s
 unfolding numAt part
 num-part w off n j s h =
-    ap leOf (ext-getD 0 (take w (drop j (take n (drop off s)))) (take w (drop (off + j) s)) (simp (length-take, length-drop) (omega arith)) (λ i l.
+    ap leOf (ext-getD 0 (take w (drop j (take n (drop off s)))) (take w (drop (off + j) s))
+    (simp (length-take, length-drop) (omega arith)) (λ i l.
     let k : i < w = omega (arith, simp length-take at l) in
     let m : j + i < n = omega arith in
     simp (getD-take, getD-drop) (ap (λ x. getD s x 0) (let e : off + (j + i) ≡ (off + j) + i = omega arith in e))))
 
 -- a whole word in the lent part of n bytes from an offset on
-pub word-lent : (from n j off : ℕ) (s : List ℕ) → from + n ≤ length s → j + 8 ≤ n → off ≡ from + j → wholeWord j (take (from + n - from) (drop from s)) ≡ wordAt off s
+pub word-lent : (from n j off : ℕ) (s : List ℕ) → from + n ≤ length s → j + 8 ≤ n → off ≡ from + j →
+    wholeWord j (take (from + n - from) (drop from s)) ≡ wordAt off s
 unfolding wholeWord part
 word-lent from n j off s l h e =
     let z : from + n - from ≡ n = omega arith in
@@ -125,7 +133,8 @@ wordsOf-suc zero bs = refl
 wordsOf-suc (suc n) bs = rw (mul-suc-8, ← drop-drop) (ap {B = List ℕ} (λ t. leOf (take 8 bs) ∷ t) (wordsOf-suc n (drop 8 bs)))
 
 -- the parts of two lists that have the same bytes there
-pub part-same : (off n : ℕ) (p q : List ℕ) → length p ≡ length q → ((i : ℕ) → off ≤ i → i < off + n → getD p i 0 ≡ getD q i 0) → part off n p ≡ part off n q
+pub part-same : (off n : ℕ) (p q : List ℕ) → length p ≡ length q → ((i : ℕ) → off ≤ i → i < off + n → getD p i 0 ≡ getD q i 0) →
+    part off n p ≡ part off n q
 unfolding part
 part-same off n p q l h =
     ext-getD 0 (take n (drop off p)) (take n (drop off q)) (simp (length-take, length-drop, l)) (λ i k.

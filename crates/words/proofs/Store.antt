@@ -7,7 +7,8 @@ use native.Mathlib.Numerals.{add-one}
 use native.Mathlib.Nat.{add-assoc, zero-add}
 use native.Mathlib.Omega.{arith}
 use lib.ListN.{length, take, drop, getD, set, length-append, length-drop, drop-of-length-le, take-append-drop}
-use lib.Seq.{length-take-le, take-at, drop-at, drop-drop, drop-append-le, set-split, append-snoc, paste-zero, take-suc, take-add, take-length, take-all}
+use lib.Seq.{length-take-le, take-at, drop-at, drop-drop, drop-append-le, set-split, append-snoc, paste-zero, take-suc, take-add}
+use lib.Seq.{take-length, take-all}
 use lib.Dec.{eqb}
 use borrow.Author.Tests.{le-leb, lt-leb, eqb-true}
 use Rattle.words.specs.Tests.{Yes}
@@ -43,7 +44,8 @@ module _ (i : ℕ) (vs s : List ℕ) where
 
 pub length-splice : (at : ℕ) (vs s : List ℕ) → at + length vs ≤ length s → length (splice at vs s) ≡ length s
 unfolding splice
-length-splice at vs s h = rw (length-append, length-append) (omega (arith, length-take-le at s (omega arith), length-drop (at + length vs) s))
+length-splice at vs s h =
+    rw (length-append, length-append) (omega (arith, length-take-le at s (omega arith), length-drop (at + length vs) s))
 
 set-splice : (s : List ℕ) (i b : ℕ) → i < length s → set s i b ≡ splice i (b ∷ []) s
 unfolding splice
@@ -55,7 +57,8 @@ unfolding leBytes
 put-one s i w h = set-splice s i (w % 256) h
 
 -- a number's low bytes, then its high ones
-pub put-add : (m n : ℕ) (s : List ℕ) (at w : ℕ) → at ≤ length s → splice (at + m) (leBytes n (w / 256 ^ m)) (splice at (leBytes m w) s) ≡ splice at (leBytes (m + n) w) s
+pub put-add : (m n : ℕ) (s : List ℕ) (at w : ℕ) → at ≤ length s →
+    splice (at + m) (leBytes n (w / 256 ^ m)) (splice at (leBytes m w) s) ≡ splice at (leBytes (m + n) w) s
 put-add m n s at w h =
     rw leBytes-split
     (ap (λ (k : ℕ). splice (at + k) (leBytes n (w / 256 ^ m)) (splice at (leBytes m w) s)) (sym (leBytes-length m w))
@@ -113,7 +116,8 @@ words-more at ws i s h k =
     let l : length (bytesOf (take i ws)) ≡ 8 * i = bytesOf-length (take i ws) ∙ ap (λ (n : ℕ). 8 * n) (length-take-le i ws (omega arith)) in
     rw (add-one, take-suc ws i 0 k, bytesOf-append, one-word, ← l) (splice-splice at (bytesOf (take i ws)) s h (leBytes 8 (getD ws i 0)))
 
-pub words-all : (at : ℕ) (ws s : List ℕ) (i : ℕ) → i ≡ length ws → at + 8 * length ws ≤ length s → wordsTo at ws i s ≡ laid at (bytesOf ws) s
+pub words-all : (at : ℕ) (ws s : List ℕ) (i : ℕ) → i ≡ length ws → at + 8 * length ws ≤ length s →
+    wordsTo at ws i s ≡ laid at (bytesOf ws) s
 unfolding wordsTo
 words-all at ws s i e h = rw (e, words-in at ws s h, take-length)
 
@@ -126,7 +130,8 @@ pub bytes-none : (vs s : List ℕ) → s ≡ bytesTo vs 0 s
 unfolding bytesTo splice
 bytes-none vs s = paste-zero s 0 []
 
-pub bytes-more : (vs : List ℕ) (i : ℕ) (s : List ℕ) → i < length vs → length vs ≤ length s → length (bytesTo vs i s) ≡ length s → set (bytesTo vs i s) i (getD vs i 0) ≡ bytesTo vs (i + 1) s
+pub bytes-more : (vs : List ℕ) (i : ℕ) (s : List ℕ) → i < length vs → length vs ≤ length s → length (bytesTo vs i s) ≡ length s →
+    set (bytesTo vs i s) i (getD vs i 0) ≡ bytesTo vs (i + 1) s
 unfolding bytesTo
 bytes-more vs i s h l n =
     let m : length (take i vs) ≡ i = length-take-le i vs (omega arith) in
@@ -145,17 +150,21 @@ pub word-more : (vs : List ℕ) (k : ℕ) (s : List ℕ) → Bytes vs → 8 * (k
 unfolding bytesTo numAt part
 word-more vs k s b h l =
     let m : length (take (8 * k) vs) ≡ 8 * k = length-take-le (8 * k) vs (omega arith) in
-    ap (λ (ws : List ℕ). splice (8 * k) ws (splice 0 (take (8 * k) vs) s)) (number-back 8 (drop (8 * k) vs) (bytes-drop (8 * k) vs b) (rw length-drop (omega arith)))
-    ∙ ap (λ (n : ℕ). splice n (take 8 (drop (8 * k) vs)) (splice 0 (take (8 * k) vs) s)) (let f : 8 * k ≡ 0 + length (take (8 * k) vs) = omega arith in f)
+    ap (λ (ws : List ℕ). splice (8 * k) ws (splice 0 (take (8 * k) vs) s))
+    (number-back 8 (drop (8 * k) vs) (bytes-drop (8 * k) vs b) (rw length-drop (omega arith)))
+    ∙ ap (λ (n : ℕ). splice n (take 8 (drop (8 * k) vs)) (splice 0 (take (8 * k) vs) s))
+    (let f : 8 * k ≡ 0 + length (take (8 * k) vs) = omega arith in f)
     ∙ splice-splice 0 (take (8 * k) vs) s (omega arith) (take 8 (drop (8 * k) vs))
-    ∙ ap (λ (ws : List ℕ). splice 0 ws s) (sym (take-add (8 * k) 8 vs) ∙ ap (λ (n : ℕ). take n vs) (let f : 8 * k + 8 ≡ 8 * (k + 1) = omega arith in f))
+    ∙ ap (λ (ws : List ℕ). splice 0 ws s) (sym (take-add (8 * k) 8 vs) ∙
+    ap (λ (n : ℕ). take n vs) (let f : 8 * k + 8 ≡ 8 * (k + 1) = omega arith in f))
 
 lent : (at : ℕ) (vs s : List ℕ) → take at s ++ splice 0 vs (drop at s) ≡ splice at vs s
 unfolding splice
 lent at vs s = rw (drop-drop (0 + length vs) at s) (simp (append-assoc, zero-add))
 
 -- writing to the start of the part lent from an offset on writes to the whole at that offset
-pub lent-back : (at : ℕ) (vs s : List ℕ) → at + length vs ≤ length s → take at s ++ (laid 0 vs (take (length s - at) (drop at s)) ++ drop (length s - at) (drop at s)) ≡ laid at vs s
+pub lent-back : (at : ℕ) (vs s : List ℕ) → at + length vs ≤ length s →
+    take at s ++ (laid 0 vs (take (length s - at) (drop at s)) ++ drop (length s - at) (drop at s)) ≡ laid at vs s
 lent-back at vs s h =
     let p : length (drop at s) ≤ length s - at = omega (arith, length-drop at s) in
     rw (
@@ -171,14 +180,16 @@ over : (n : ℕ) (vs t : List ℕ) → n ≤ length t → length vs ≤ n → sp
 unfolding splice
 over n vs t h k =
     let l : length (take n t) ≡ n = length-take-le n t h in
-    let e : drop (0 + length vs) (take n t) ++ drop n t ≡ drop (0 + length vs) t = sym (drop-append-le (0 + length vs) (take n t) (drop n t) (omega arith)) ∙ ap (drop (0 + length vs)) (take-append-drop n t) in
+    let e : drop (0 + length vs) (take n t) ++ drop n t ≡ drop (0 + length vs) t = sym
+    (drop-append-le (0 + length vs) (take n t) (drop n t) (omega arith)) ∙ ap (drop (0 + length vs)) (take-append-drop n t) in
     append-assoc vs (drop (0 + length vs) (take n t)) (drop n t) ∙ ap (λ (r : List ℕ). vs ++ r) e
 
 -- a part of n bytes lent from an offset on, unchanged or written from its start
 pub part-back : (at n : ℕ) (s : List ℕ) → take at s ++ (take n (drop at s) ++ drop n (drop at s)) ≡ s
 part-back at n s = ap (λ (l : List ℕ). take at s ++ l) (take-append-drop n (drop at s)) ∙ take-append-drop at s
 
-pub buffer-back : (at n : ℕ) (vs s : List ℕ) → at + n ≤ length s → length vs ≤ n → take at s ++ (splice 0 vs (take n (drop at s)) ++ drop n (drop at s)) ≡ splice at vs s
+pub buffer-back : (at n : ℕ) (vs s : List ℕ) → at + n ≤ length s → length vs ≤ n →
+    take at s ++ (splice 0 vs (take n (drop at s)) ++ drop n (drop at s)) ≡ splice at vs s
 buffer-back at n vs s h k = ap (λ (l : List ℕ). take at s ++ l) within ∙ lent at vs s
   where
     within : splice 0 vs (take n (drop at s)) ++ drop n (drop at s) ≡ splice 0 vs (drop at s)
@@ -200,7 +211,8 @@ pub span-none : (s : List ℕ) → spanned noSpan s ≡ []
 unfolding spanned noSpan part
 span-none s = rw (le-leb 0 (length s) (omega arith))
 
-span-by : (b : Bool) (at n : ℕ) (s : List ℕ) → (Yes b → n ≡ 0) → at + n ≤ length s → spanned (cond b noSpan (record { at = at; len = n })) s ≡ part at n s
+span-by : (b : Bool) (at n : ℕ) (s : List ℕ) → (Yes b → n ≡ 0) → at + n ≤ length s →
+    spanned (cond b noSpan (record { at = at; len = n })) s ≡ part at n s
 unfolding spanned part
 span-by true at n s z h = span-none s ∙ sym (ap (λ (m : ℕ). take m (drop at s)) (z refl))
 span-by false at n s z h = rw (le-leb (at + n) (length s) h)
@@ -214,7 +226,8 @@ pub start-none : (s : List ℕ) → spanStart noSpan s ≡ noSpan .at
 unfolding spanStart noSpan
 start-none s = rw (le-leb 0 (length s) (omega arith))
 
-start-by : (b : Bool) (at n : ℕ) (s : List ℕ) → at + n ≤ length s → spanStart (cond b noSpan (record { at = at; len = n })) s ≡ cond b noSpan (record { at = at; len = n }) .at
+start-by : (b : Bool) (at n : ℕ) (s : List ℕ) → at + n ≤ length s →
+    spanStart (cond b noSpan (record { at = at; len = n })) s ≡ cond b noSpan (record { at = at; len = n }) .at
 unfolding spanStart
 start-by true at n s h = start-none s
 start-by false at n s h = rw (le-leb (at + n) (length s) h)

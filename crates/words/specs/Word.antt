@@ -30,8 +30,8 @@ abbrev pub wordAt : ℕ → List ℕ → ℕ
 wordAt off s = numAt 8 off s
 
 -- the 4-byte half at off
-abbrev pub halfAt : ℕ → List ℕ → ℕ
-halfAt off s = numAt 4 off s
+abbrev pub u32At : ℕ → List ℕ → ℕ
+u32At off s = numAt 4 off s
 
 -- the first n words of a list of bytes
 unfoldable pub wordsOf : ℕ → List ℕ → List ℕ

@@ -3,7 +3,7 @@
 ghost use mathlib.Core.Path.{_≡_};
 ghost use Prim.Native.Nat.{min, _+_, _<_, _≤_};
 ghost use lib.ListN.{length, replicate};
-ghost use Rattle.words.specs.Word.{leBytes, numAt, wordAt, halfAt, bytesOf, splice, laid, spanAt, spanned, spanStart, onFrom};
+ghost use Rattle.words.specs.Word.{leBytes, numAt, wordAt, u32At, bytesOf, splice, laid, spanAt, spanned, spanStart, onFrom};
 ghost use Rattle.words.specs.Fast.{wholeWord};
 
 // A part of a slice: the `len` bytes [at, at + len).
@@ -13,47 +13,47 @@ pub struct Span {
 }
 
 // `x` as 64 bits.
-fn wide(x: u8) -> u64
+fn widen(x: u8) -> u64
     ensures { λ r. ⌜ (r ≡ x) × (r < 0x100) ⌝ }
 {
     x as u64
 }
 
-// The 1, 4 or 8 bytes at `at` as a number. `quad` and `eight` are one sum of bytes in place: the compiler turns it into one load and can
+// The 1, 4 or 8 bytes at `at` as a number. `read_u32` and `read_u64` are one sum of bytes in place: the compiler turns it into one load and can
 // vectorize a loop over words.
-fn byte(s: &[u8], at: usize) -> u64
+fn read_u8(s: &[u8], at: usize) -> u64
     requires { ⌜ at < length (now s) ⌝ }
     ensures { λ r. ⌜ (r ≡ numAt 1 at (now (s .entry))) × (r < 0x100) ⌝ }
 {
-    wide(s[at])
+    widen(s[at])
 }
 
-fn quad(s: &[u8], at: usize) -> u64
+fn read_u32(s: &[u8], at: usize) -> u64
     requires { ⌜ at + 4 ≤ length (now s) ⌝ }
     ensures { λ r. ⌜ (r ≡ numAt 4 at (now (s .entry))) × (r < 0x1_0000_0000) ⌝ }
 {
-    wide(s[at])
-        + wide(s[at + 1]) * 0x100
-        + wide(s[at + 2]) * 0x1_0000
-        + wide(s[at + 3]) * 0x100_0000
+    widen(s[at])
+        + widen(s[at + 1]) * 0x100
+        + widen(s[at + 2]) * 0x1_0000
+        + widen(s[at + 3]) * 0x100_0000
 }
 
-fn eight(s: &[u8], at: usize) -> u64
+fn read_u64(s: &[u8], at: usize) -> u64
     requires { ⌜ at + 8 ≤ length (now s) ⌝ }
     ensures { λ r. ⌜ r ≡ numAt 8 at (now (s .entry)) ⌝ }
 {
-    wide(s[at])
-        + wide(s[at + 1]) * 0x100
-        + wide(s[at + 2]) * 0x1_0000
-        + wide(s[at + 3]) * 0x100_0000
-        + wide(s[at + 4]) * 0x1_0000_0000
-        + wide(s[at + 5]) * 0x100_0000_0000
-        + wide(s[at + 6]) * 0x1_0000_0000_0000
-        + wide(s[at + 7]) * 0x100_0000_0000_0000
+    widen(s[at])
+        + widen(s[at + 1]) * 0x100
+        + widen(s[at + 2]) * 0x1_0000
+        + widen(s[at + 3]) * 0x100_0000
+        + widen(s[at + 4]) * 0x1_0000_0000
+        + widen(s[at + 5]) * 0x100_0000_0000
+        + widen(s[at + 6]) * 0x1_0000_0000_0000
+        + widen(s[at + 7]) * 0x100_0000_0000_0000
 }
 
 // The word at `at` if the slice has at most 7 bytes from there on. Bytes past the end count as 0.
-fn rest(s: &[u8], at: usize) -> u64
+fn read_tail(s: &[u8], at: usize) -> u64
     requires { ⌜ (at ≤ length (now s)) × (length (now s) < at + 8) ⌝ }
     ensures { λ r. ⌜ r ≡ wordAt at (now (s .entry)) ⌝ }
 {
@@ -61,7 +61,7 @@ fn rest(s: &[u8], at: usize) -> u64
     let mut i = s.len();
     while at < i {
         i -= 1;
-        sum = byte(s, i) + sum * 0x100;
+        sum = read_u8(s, i) + sum * 0x100;
     }
     sum
 }
@@ -74,9 +74,9 @@ pub fn word_at(s: &[u8], at: usize) -> u64
         return 0;
     }
     if s.len() - at < 8 {
-        return rest(s, at);
+        return read_tail(s, at);
     }
-    eight(s, at)
+    read_u64(s, at)
 }
 
 // The word at `at`, or 0 if its 8 bytes are not all in the slice. Loops over entries use it: with no case for a partial word, the compiler
@@ -90,52 +90,52 @@ pub fn whole_word(s: &[u8], at: usize) -> u64
     if s.len() - at < 8 {
         return 0;
     }
-    eight(s, at)
+    read_u64(s, at)
 }
 
 // The half (4 bytes) at `at`. Bytes past the end count as 0 (PG5).
-pub fn half_at(s: &[u8], at: usize) -> u64
-    ensures { λ r. ⌜ r ≡ halfAt at (now (s .entry)) ⌝ }
+pub fn u32_at(s: &[u8], at: usize) -> u64
+    ensures { λ r. ⌜ r ≡ u32At at (now (s .entry)) ⌝ }
 {
     if s.len() < at {
         return 0;
     }
     if s.len() - at < 4 {
-        return rest(s, at);
+        return read_tail(s, at);
     }
-    quad(s, at)
+    read_u32(s, at)
 }
 
 // Writes the low 1, 2, 4 or 8 bytes of `w` at `at`.
-fn put_byte(s: &mut [u8], at: usize, w: u64)
+fn write_u8(s: &mut [u8], at: usize, w: u64)
     requires { ⌜ at + 1 ≤ length (now s) ⌝ }
     ensures { λ _. ⌜ now (s .exit) ≡ splice at (leBytes 1 w) (now (s .entry)) ⌝ }
 {
     s[at] = (w % 0x100) as u8;
 }
 
-fn put_pair(s: &mut [u8], at: usize, w: u64)
+fn write_u16(s: &mut [u8], at: usize, w: u64)
     requires { ⌜ at + 2 ≤ length (now s) ⌝ }
     ensures { λ _. ⌜ now (s .exit) ≡ splice at (leBytes 2 w) (now (s .entry)) ⌝ }
 {
-    put_byte(s, at, w);
-    put_byte(s, at + 1, w / 0x100);
+    write_u8(s, at, w);
+    write_u8(s, at + 1, w / 0x100);
 }
 
-fn put_quad(s: &mut [u8], at: usize, w: u64)
+fn write_u32(s: &mut [u8], at: usize, w: u64)
     requires { ⌜ at + 4 ≤ length (now s) ⌝ }
     ensures { λ _. ⌜ now (s .exit) ≡ splice at (leBytes 4 w) (now (s .entry)) ⌝ }
 {
-    put_pair(s, at, w);
-    put_pair(s, at + 2, w / 0x1_0000);
+    write_u16(s, at, w);
+    write_u16(s, at + 2, w / 0x1_0000);
 }
 
-fn put_eight(s: &mut [u8], at: usize, w: u64)
+fn write_u64(s: &mut [u8], at: usize, w: u64)
     requires { ⌜ at + 8 ≤ length (now s) ⌝ }
     ensures { λ _. ⌜ now (s .exit) ≡ splice at (leBytes 8 w) (now (s .entry)) ⌝ }
 {
-    put_quad(s, at, w);
-    put_quad(s, at + 4, w / 0x1_0000_0000);
+    write_u32(s, at, w);
+    write_u32(s, at + 4, w / 0x1_0000_0000);
 }
 
 // Writes the 8 bytes of `w` at `at`. If they do not all fit, no byte changes (PG5).
@@ -148,11 +148,11 @@ pub fn put_word(s: &mut [u8], at: usize, w: u64)
     if s.len() - 8 < at {
         return;
     }
-    put_eight(s, at, w);
+    write_u64(s, at, w);
 }
 
 // Writes the low 4 bytes of `w` at `at`. If they do not all fit, no byte changes (PG5).
-pub fn put_half(s: &mut [u8], at: usize, w: u64)
+pub fn put_u32(s: &mut [u8], at: usize, w: u64)
     ensures { λ _. ⌜ now (s .exit) ≡ laid at (leBytes 4 w) (now (s .entry)) ⌝ }
 {
     if s.len() < 4 {
@@ -161,11 +161,11 @@ pub fn put_half(s: &mut [u8], at: usize, w: u64)
     if s.len() - 4 < at {
         return;
     }
-    put_quad(s, at, w);
+    write_u32(s, at, w);
 }
 
 // Writes the low 2 bytes of `w` at `at`. If they do not all fit, no byte changes (PG5).
-pub fn put_quarter(s: &mut [u8], at: usize, w: u64)
+pub fn put_u16(s: &mut [u8], at: usize, w: u64)
     ensures { λ _. ⌜ now (s .exit) ≡ laid at (leBytes 2 w) (now (s .entry)) ⌝ }
 {
     if s.len() < 2 {
@@ -174,7 +174,7 @@ pub fn put_quarter(s: &mut [u8], at: usize, w: u64)
     if s.len() - 2 < at {
         return;
     }
-    put_pair(s, at, w);
+    write_u16(s, at, w);
 }
 
 // Writes all of `words`, one after another, from `at` on. If they do not all fit, no byte changes.
@@ -189,7 +189,7 @@ pub fn put_words(s: &mut [u8], at: usize, words: &[u64])
     }
     let mut to = at;
     for i in 0..words.len() {
-        put_eight(s, to, words[i]);
+        write_u64(s, to, words[i]);
         to += 8;
     }
 }
@@ -213,7 +213,7 @@ pub fn copy(to: &mut [u8], from: &[u8])
     }
     let whole = from.len() / 8;
     for k in 0..whole {
-        put_eight(to, 8 * k, eight(from, 8 * k));
+        write_u64(to, 8 * k, read_u64(from, 8 * k));
     }
     for i in 8 * whole..from.len() {
         to[i] = from[i];

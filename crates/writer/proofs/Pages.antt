@@ -14,15 +14,16 @@ use Rattle.words.proofs.Lists.{bytesOf-length, bytesOf-append, joined-length, j
 use Rattle.versions.specs.Edition.{sectionCount, core}
 use Rattle.versions.proofs.Editions.{section-count-most}
 use Rattle.fields.specs.Fields.{endMark}
-use Rattle.lists.specs.Description.{Description, four, descriptionOf, withMark, platBytes, used}
-use Rattle.lists.proofs.Lists.{marked-more}
+use Rattle.writer_checks.specs.Description.{Description, fourLists, descriptionOf, withMark, platBytes, used}
+use Rattle.writer_checks.proofs.Lists.{marked-more}
 use Rattle.writer_rules.specs.Write.{descriptor, arrayAddress, pointTo, platWord, descriptorAt, coreWords, filled, pageOf}
 use Rattle.writer.specs.Steps.{sectionOn, arraysOn}
 use Rattle.writer_rules.proofs.Given.{desc-length}
 
 -- ---- the new bytes, then the page as it was
 -- bytes placed directly after those already written
-bytes-more : (xs ys p : List ℕ) → length p ≡ 4096 → length xs + length ys ≤ 4096 → laid (length xs) ys (splice 0 xs p) ≡ splice 0 (xs ++ ys) p
+bytes-more : (xs ys p : List ℕ) → length p ≡ 4096 → length xs + length ys ≤ 4096 →
+    laid (length xs) ys (splice 0 xs p) ≡ splice 0 (xs ++ ys) p
 bytes-more xs ys p e h =
     let l : length (splice 0 xs p) ≡ length p = length-splice 0 xs p (omega arith) in
     bytes-in (length xs) ys (splice 0 xs p) (omega arith) ∙ rw zero-add at (splice-splice 0 xs p (omega arith) ys)
@@ -43,8 +44,8 @@ unfolding pointTo
 point-some a [] h e = absurd (h refl)
 point-some a (b ∷ bs) h e = e
 
-lists-length : (a b c d : List ℕ) → length (joined 4 (four a b c d)) ≡ length a + length b + length c + length d
-unfolding joined four
+lists-length : (a b c d : List ℕ) → length (joined 4 (fourLists a b c d)) ≡ length a + length b + length c + length d
+unfolding joined fourLists
 lists-length a b c d = simp length-append (omega arith)
 
 mark-3 : length endMark ≡ 3
@@ -53,7 +54,8 @@ mark-3 = refl
 
 -- ---- zeros after them
 -- a slice from an offset on, cleared
-cleared : (at : ℕ) (s : List ℕ) → at ≤ length s → take at s ++ (replicate (length (take (length s - at) (drop at s))) 0 ++ drop (length s - at) (drop at s)) ≡ take at s ++ replicate (length s - at) 0
+cleared : (at : ℕ) (s : List ℕ) → at ≤ length s → take at s ++
+    (replicate (length (take (length s - at) (drop at s))) 0 ++ drop (length s - at) (drop at s)) ≡ take at s ++ replicate (length s - at) 0
 cleared at s h =
     let p : length (drop at s) ≤ length s - at = omega (arith, length-drop at s) in
     rw (take-all (length s - at) (drop at s) p, drop-of-length-le (drop at s) p, append-nil, length-drop)
@@ -84,12 +86,14 @@ pub pointer-none : (base v : ℕ) (a b c d fs : List ℕ) → length fs ≡ 0 �
 unfolding platWord descriptionOf
 pointer-none base v a b c d fs h = point-none _ fs h
 
-pub pointer-some : (base v s r : ℕ) (a b c d fs : List ℕ) → (length fs ≡ 0 → ⊥) → s ≡ core v → r ≡ base + s + 8 * (length a + length b + length c + length d) → r ≡ platWord base v (descriptionOf a b c d fs)
+pub pointer-some : (base v s r : ℕ) (a b c d fs : List ℕ) → (length fs ≡ 0 → ⊥) → s ≡ core v →
+    r ≡ base + s + 8 * (length a + length b + length c + length d) → r ≡ platWord base v (descriptionOf a b c d fs)
 unfolding platWord descriptionOf arrayAddress
 pointer-some base v s r a b c d fs h e f = point-some _ fs h (omega (arith, lists-length a b c d))
 
 -- ---- the core
-pub section-in : (v k p : ℕ) (ws page : List ℕ) → k < sectionCount v → sectionOn v k p ws page ≡ laid (16 + 24 * k) (bytesOf (descriptor k p ws)) page
+pub section-in : (v k p : ℕ) (ws page : List ℕ) → k < sectionCount v →
+    sectionOn v k p ws page ≡ laid (16 + 24 * k) (bytesOf (descriptor k p ws)) page
 unfolding sectionOn
 section-in v k p ws page h = rw (lt-ltb k (sectionCount v) h)
 
@@ -109,22 +113,31 @@ offset v d k = core v + 8 * length (joined k (d .lists))
 module _ (base v : ℕ) (d : Description) (p : List ℕ) (whole : length p ≡ 4096) where
   head-length : (k : ℕ) → length (headTo base v d k) ≡ 2 + 3 * min k (sectionCount v)
   unfolding headTo descriptorAt
-  head-length k = let e = joined-length (min k (sectionCount v)) 3 (descriptorAt base v (d .lists)) (λ j. desc-length j (arrayAddress base v (d .lists) j) (d .lists j)) in omega arith
+  head-length k =
+      let e = joined-length (min k (sectionCount v)) 3 (descriptorAt base v (d .lists))
+      (λ j. desc-length j (arrayAddress base v (d .lists) j) (d .lists j)) in
+      omega arith
 
   head-start : v ∷ platWord base v d ∷ [] ≡ headTo base v d 0
   unfolding headTo joined
-  head-start = ap (λ (n : ℕ). v ∷ platWord base v d ∷ joined n (descriptorAt base v (d .lists))) (let e : 0 ≡ min 0 (sectionCount v) = omega arith in e)
+  head-start =
+      ap (λ (n : ℕ). v ∷ platWord base v d ∷ joined n (descriptorAt base v (d .lists)))
+      (let e : 0 ≡ min 0 (sectionCount v) = omega arith in e)
 
   head-none : (q : ℕ) → q ≡ platWord base v d → laid 0 (bytesOf (v ∷ q ∷ [])) p ≡ splice 0 (bytesOf (headTo base v d 0)) p
   head-none q e = rw e (words-in 0 (v ∷ platWord base v d ∷ []) p (omega arith) ∙ ap (λ (ws : List ℕ). splice 0 (bytesOf ws) p) head-start)
 
-  head-in : (k : ℕ) → k < sectionCount v → headTo base v d (suc k) ≡ headTo base v d k ++ descriptor k (arrayAddress base v (d .lists) k) (d .lists k)
+  head-in : (k : ℕ) → k < sectionCount v → headTo base v d (suc k) ≡ headTo base v d k ++
+      descriptor k (arrayAddress base v (d .lists) k) (d .lists k)
   unfolding headTo joined descriptorAt
-  head-in k h = rw ((let e : min (suc k) (sectionCount v) ≡ suc k = omega arith in e), (let e : min k (sectionCount v) ≡ k = omega arith in e))
+  head-in k h =
+      rw ((let e : min (suc k) (sectionCount v) ≡ suc k = omega arith in e), (let e : min k (sectionCount v) ≡ k = omega arith in e))
 
   head-out : (k : ℕ) → sectionCount v ≤ k → headTo base v d (suc k) ≡ headTo base v d k
   unfolding headTo
-  head-out k h = ap (λ (n : ℕ). v ∷ platWord base v d ∷ joined n (descriptorAt base v (d .lists))) (let e : min (suc k) (sectionCount v) ≡ min k (sectionCount v) = omega arith in e)
+  head-out k h =
+      ap (λ (n : ℕ). v ∷ platWord base v d ∷ joined n (descriptorAt base v (d .lists)))
+      (let e : min (suc k) (sectionCount v) ≡ min k (sectionCount v) = omega arith in e)
 
   head-more : (k q : ℕ) (page : List ℕ) → k < 4 → q ≡ arrayAddress base v (d .lists) k → page ≡ splice 0 (bytesOf (headTo base v d k)) p →
       sectionOn v k q (d .lists k) page ≡ splice 0 (bytesOf (headTo base v d (suc k))) p
@@ -135,13 +148,18 @@ module _ (base v : ℕ) (d : Description) (p : List ℕ) (whole : length p ≡ 4
           let n : length (headTo base v d k) ≡ 2 + 3 * min k (sectionCount v) = head-length k in
           let i : 16 + 24 * k ≡ 8 * length (headTo base v d k) = omega arith in
           section-in v k q (d .lists k) page m
-          ∙ rw (f, e, i) (words-more (headTo base v d k) (descriptor k (arrayAddress base v (d .lists) k) (d .lists k)) p whole (omega (arith, section-count-most v, desc-length k (arrayAddress base v (d .lists) k) (d .lists k))))
+          ∙ rw (f, e, i) (words-more (headTo base v d k) (descriptor k (arrayAddress base v (d .lists) k) (d .lists k)) p whole
+          (omega (arith, section-count-most v, desc-length k (arrayAddress base v (d .lists) k) (d .lists k))))
           ∙ ap (λ (ws : List ℕ). splice 0 (bytesOf ws) p) (sym (head-in k m))
-      go (no m) = section-out v k q (d .lists k) page (omega arith) ∙ f ∙ ap (λ (ws : List ℕ). splice 0 (bytesOf ws) p) (sym (head-out k (omega arith)))
+      go (no m) =
+          section-out v k q (d .lists k) page (omega arith) ∙ f ∙
+          ap (λ (ws : List ℕ). splice 0 (bytesOf ws) p) (sym (head-out k (omega arith)))
 
   head-all : headTo base v d 4 ≡ coreWords base v d
   unfolding headTo coreWords
-  head-all = ap (λ (n : ℕ). v ∷ platWord base v d ∷ joined n (descriptorAt base v (d .lists))) (let e : min 4 (sectionCount v) ≡ sectionCount v = omega (arith, section-count-most v) in e)
+  head-all =
+      ap (λ (n : ℕ). v ∷ platWord base v d ∷ joined n (descriptorAt base v (d .lists)))
+      (let e : min 4 (sectionCount v) ≡ sectionCount v = omega (arith, section-count-most v) in e)
 
   place-none : arrayAddress base v (d .lists) 0 ≡ base + core v
   unfolding arrayAddress joined
@@ -152,9 +170,12 @@ module _ (base v : ℕ) (d : Description) (p : List ℕ) (whole : length p ≡ 4
   place-more k = rw length-append (omega arith)
 
   -- by the steps of the code
-  pub core-law : (p1 p2 p3 p4 p5 : List ℕ) (q a b c e : ℕ) → q ≡ platWord base v d → p1 ≡ laid 0 (bytesOf (v ∷ q ∷ [])) p → a ≡ base + core v →
-      p2 ≡ sectionOn v 0 a (d .lists 0) p1 → b ≡ a + 8 * length (d .lists 0) → p3 ≡ sectionOn v 1 b (d .lists 1) p2 → c ≡ b + 8 * length (d .lists 1) →
-      p4 ≡ sectionOn v 2 c (d .lists 2) p3 → e ≡ c + 8 * length (d .lists 2) → p5 ≡ sectionOn v 3 e (d .lists 3) p4 → p5 ≡ splice 0 (bytesOf (coreWords base v d)) p
+  pub core-law : (p1 p2 p3 p4 p5 : List ℕ) (q a b c e : ℕ) → q ≡ platWord base v d → p1 ≡ laid 0 (bytesOf (v ∷ q ∷ [])) p →
+      a ≡ base + core v →
+      p2 ≡ sectionOn v 0 a (d .lists 0) p1 → b ≡ a + 8 * length (d .lists 0) → p3 ≡ sectionOn v 1 b (d .lists 1) p2 →
+      c ≡ b + 8 * length (d .lists 1) →
+      p4 ≡ sectionOn v 2 c (d .lists 2) p3 → e ≡ c + 8 * length (d .lists 2) → p5 ≡ sectionOn v 3 e (d .lists 3) p4 →
+      p5 ≡ splice 0 (bytesOf (coreWords base v d)) p
   core-law p1 p2 p3 p4 p5 q a b c e e0 e1 f0 e2 f1 e3 f2 e4 f3 e5 =
       let g0 : a ≡ arrayAddress base v (d .lists) 0 = omega (arith, place-none) in
       let g1 : b ≡ arrayAddress base v (d .lists) 1 = omega (arith, place-more 0) in
@@ -179,12 +200,14 @@ module _ (base v : ℕ) (d : Description) (p : List ℕ) (whole : length p ≡ 4
   unfolding offset joined
   offset-more k = rw length-append (omega arith)
 
-  body-more : (k at : ℕ) (page : List ℕ) → k < 4 → used v d ≤ 4096 → at ≡ offset v d k → page ≡ splice 0 (bytesOf (coreWords base v d ++ joined k (d .lists))) p →
+  body-more : (k at : ℕ) (page : List ℕ) → k < 4 → used v d ≤ 4096 → at ≡ offset v d k →
+      page ≡ splice 0 (bytesOf (coreWords base v d ++ joined k (d .lists))) p →
       laid at (bytesOf (d .lists k)) page ≡ splice 0 (bytesOf (coreWords base v d ++ joined (suc k) (d .lists))) p
   unfolding offset joined used
   body-more k at page h fit e f =
       let c = core-bytes in
-      let n : length (coreWords base v d ++ joined k (d .lists)) ≡ length (coreWords base v d) + length (joined k (d .lists)) = length-append (coreWords base v d) (joined k (d .lists)) in
+      let n : length (coreWords base v d ++ joined k (d .lists)) ≡ length (coreWords base v d) + length
+      (joined k (d .lists)) = length-append (coreWords base v d) (joined k (d .lists)) in
       let i : at ≡ 8 * length (coreWords base v d ++ joined k (d .lists)) = omega arith in
       rw (f, i) (words-more (coreWords base v d ++ joined k (d .lists)) (d .lists k) p whole (omega (arith, joined-mono 4 (d .lists) k h)))
       ∙ ap (λ (ws : List ℕ). splice 0 (bytesOf ws) p) (append-assoc (coreWords base v d) (joined k (d .lists)) (d .lists k))
@@ -193,15 +216,18 @@ module _ (base v : ℕ) (d : Description) (p : List ℕ) (whole : length p ≡ 4
   unfolding joined
   body-none = rw append-nil
 
-  pub arrays-law : (at : ℕ) (page after : List ℕ) → used v d ≤ 4096 → at ≡ core v → page ≡ splice 0 (bytesOf (coreWords base v d)) p → after ≡ arraysOn at (d .lists) page →
+  pub arrays-law : (at : ℕ) (page after : List ℕ) → used v d ≤ 4096 → at ≡ core v → page ≡ splice 0 (bytesOf (coreWords base v d)) p →
+      after ≡ arraysOn at (d .lists) page →
       after ≡ splice 0 (bytesOf (coreWords base v d ++ joined 4 (d .lists))) p
   unfolding arraysOn
   arrays-law at page after fit e f g =
       let g0 : at ≡ offset v d 0 = omega (arith, offset-none) in
       let h0 = body-more 0 at page (omega arith) fit g0 (f ∙ body-none) in
       let h1 = body-more 1 (at + 8 * length (d .lists 0)) _ (omega arith) fit (omega (arith, offset-more 0)) h0 in
-      let h2 = body-more 2 (at + 8 * length (d .lists 0) + 8 * length (d .lists 1)) _ (omega arith) fit (omega (arith, offset-more 0, offset-more 1)) h1 in
-      let h3 = body-more 3 (at + 8 * length (d .lists 0) + 8 * length (d .lists 1) + 8 * length (d .lists 2)) _ (omega arith) fit (omega (arith, offset-more 0, offset-more 1, offset-more 2)) h2 in
+      let h2 = body-more 2 (at + 8 * length (d .lists 0) + 8 * length (d .lists 1)) _ (omega arith) fit
+      (omega (arith, offset-more 0, offset-more 1)) h1 in
+      let h3 = body-more 3 (at + 8 * length (d .lists 0) + 8 * length (d .lists 1) + 8 * length (d .lists 2)) _ (omega arith) fit
+      (omega (arith, offset-more 0, offset-more 1, offset-more 2)) h2 in
       g ∙ h3
 
   -- where they end
@@ -209,7 +235,8 @@ module _ (base v : ℕ) (d : Description) (p : List ℕ) (whole : length p ≡ 4
   unfolding offset
   body-bytes = rw (bytesOf-length, length-append) (omega (arith, core-bytes))
 
-  module _ (at behind : ℕ) (fit : used v d ≤ 4096) (e : at ≡ core v) (f : behind ≡ at + 8 * length (d .lists 0) + 8 * length (d .lists 1) + 8 * length (d .lists 2) + 8 * length (d .lists 3)) where
+  module _ (at behind : ℕ) (fit : used v d ≤ 4096) (e : at ≡ core v)
+      (f : behind ≡ at + 8 * length (d .lists 0) + 8 * length (d .lists 1) + 8 * length (d .lists 2) + 8 * length (d .lists 3)) where
     behind-at : behind ≡ offset v d 4
     behind-at = omega (arith, offset-none, offset-more 0, offset-more 1, offset-more 2, offset-more 3)
 
@@ -221,7 +248,8 @@ module _ (base v : ℕ) (d : Description) (p : List ℕ) (whole : length p ≡ 4
     fields-in = omega (arith, marked-in, marked-more (d .fields))
 
     -- the fields after the arrays, then zero
-    pub page-law : (end : ℕ) (r s : List ℕ) → r ≡ splice 0 (bytesOf (coreWords base v d ++ joined 4 (d .lists))) p → s ≡ laid behind (d .fields) r → end ≡ behind + length (d .fields) →
+    pub page-law : (end : ℕ) (r s : List ℕ) → r ≡ splice 0 (bytesOf (coreWords base v d ++ joined 4 (d .lists))) p →
+        s ≡ laid behind (d .fields) r → end ≡ behind + length (d .fields) →
         take end s ++ (replicate (length (take (length s - end) (drop end s))) 0 ++ drop (length s - end) (drop end s)) ≡ pageOf base v d
     unfolding pageOf platBytes
     page-law end r s g h i =

@@ -1,7 +1,7 @@
 // The manifest writer: checks the description, then makes the page.
-use lists::Sums;
-use lists::Totals;
 use versions::Edition;
+use writer_checks::Sums;
+use writer_checks::Totals;
 pub use writer_rules::Wrote;
 ghost use mathlib.Core.Path.{_≡_};
 ghost use Prim.Native.Nat.{_+_, _*_, _%_, _^_, _≤_, _<_};
@@ -9,8 +9,8 @@ ghost use lib.ListN.{length};
 ghost use Rattle.words.specs.Tests.{Yes};
 ghost use Rattle.words.specs.Word.{bytesOf, splice, laid};
 ghost use Rattle.entries.specs.Entry.{sum};
-ghost use Rattle.lists.specs.Description.{four, descriptionOf, used};
-ghost use Rattle.lists.specs.Fast.{totalsOf};
+ghost use Rattle.writer_checks.specs.Description.{fourLists, descriptionOf, used};
+ghost use Rattle.writer_checks.specs.Fast.{totalsOf};
 ghost use Rattle.writer_rules.specs.Write.{descriptor, platWord, coreWords, pageOf, descriptionFits};
 ghost use Rattle.writer_rules.specs.Wrote.{writeLists, madeBy, pageAfter};
 ghost use Rattle.writer.specs.Steps.{sectionOn, arraysOn};
@@ -122,7 +122,7 @@ fn put_arrays(
 ) -> usize
     requires { ⌜ (at ≤ 112) × (length (now dram) + length (now console) + length (now ncoh) + length (now coh) ≤ 512) ⌝ }
     ensures { λ r. ⌜ (r ≡ at + 8 * length (now (dram .entry)) + 8 * length (now (console .entry)) + 8 * length (now (ncoh .entry)) + 8 * length (now (coh .entry)))
-        × (now (page .exit) ≡ arraysOn at (four (now (dram .entry)) (now (console .entry)) (now (ncoh .entry)) (now (coh .entry))) (now (page .entry))) ⌝ }
+        × (now (page .exit) ≡ arraysOn at (fourLists (now (dram .entry)) (now (console .entry)) (now (ncoh .entry)) (now (coh .entry))) (now (page .entry))) ⌝ }
 {
     let second = put_array(page, at, dram);
     let third = put_array(page, second, console);
@@ -178,18 +178,18 @@ pub fn write(
     if !versions::is_edition(edition) {
         return Wrote::Edition;
     }
-    let Sums::Sound(totals) = lists::sum_lists(edition, dram, console, ncoh, coh) else {
-        return Wrote::Lists;
+    let Sums::Sound(totals) = writer_checks::sum_lists(edition, dram, console, ncoh, coh) else {
+        return Wrote::BadEntry;
     };
-    if !lists::fields_ok(fields) {
-        return Wrote::Lists;
+    if !writer_checks::fields_ok(fields) {
+        return Wrote::BadEntry;
     }
     let e = Edition { minor: edition };
-    if !lists::none_late(e, dram, console, ncoh, coh) {
-        return Wrote::Late;
+    if !writer_checks::later_sections_empty(e, dram, console, ncoh, coh) {
+        return Wrote::SectionAfterEdition;
     }
-    if !lists::room_ok(e, dram, console, ncoh, coh, fields) {
-        return Wrote::Room;
+    if !writer_checks::room_ok(e, dram, console, ncoh, coh, fields) {
+        return Wrote::TooLong;
     }
     put_page(base, e, totals, dram, console, ncoh, coh, fields, page);
     Wrote::Page

@@ -18,15 +18,16 @@ use Rattle.versions.proofs.Editions.{core-sizes, section-count-mono, edition-of
 use Rattle.entries.specs.Entry.{wordsPerEntry, entryRule, entryOk, entriesOk}
 use Rattle.entries.specs.Facts.{BankFacts, ConsoleFacts}
 use Rattle.entries.proofs.Facts.{bank-acts, bank-only, console-acts, console-only}
-use Rattle.fields.specs.Fields.{Field, scanOf, fieldsTold, tellable, count}
+use Rattle.fields.specs.Fields.{Field, scanOf, fieldsDescribed, describable, count}
 use Rattle.fields.proofs.Rules.{no-test}
 use Rattle.fields.proofs.Facts.{tell-acts, tell-only}
 use Rattle.sections.specs.Page.{placeOk}
 use Rattle.sections.proofs.Sections.{placed}
 use Rattle.sections.proofs.Facts.{place-acts}
-use Rattle.lists.specs.Description.{Description, listOk, listsOk, descriptionOk, noneLate, withMark, platBytes, used}
-use Rattle.lists.proofs.Lists.{marked-none, marked-some}
-use Rattle.writer_rules.specs.Unrefused.{EditionFacts, NoneWithdrawn, DescriptionFacts, LateFacts, RoomAfter, RoomFacts, Unrefused, Refuses}
+use Rattle.writer_checks.specs.Description.{Description, listOk, listsOk, descriptionOk, laterSectionsEmpty, withMark, platBytes, used}
+use Rattle.writer_checks.proofs.Lists.{marked-none, marked-some}
+use Rattle.writer_rules.specs.Unrefused.{EditionFacts, NoneWithdrawn, DescriptionFacts, LateFacts, RoomAfter, RoomFacts, Unrefused}
+use Rattle.writer_rules.specs.Unrefused.{WriteRefuses}
 use Rattle.writer_rules.specs.Write.{pageOf, no-page, a-page, writerGate, writeOf}
 use Rattle.writer_rules.proofs.Checks.{w-place, w-edition, w-late, w-room, w-made}
 use Rattle.writer_rules.proofs.Round.{writer-gate-page}
@@ -49,7 +50,8 @@ module _ (v : ℕ) (d : Description) (t : DescriptionFacts v d) where
   unfolding entryOk entryRule wordsPerEntry
   entry-is zero i l m = bank-acts _ _ (t .banks 0 i l (λ z. omega arith) m)
   entry-is (suc zero) i l m = console-acts v _ _ _ (t .consoles i m)
-  entry-is (suc (suc k)) i l m = rw (ne-eqb (suc (suc k)) 1 (λ z. omega arith)) (bank-acts _ _ (t .banks (suc (suc k)) i l (λ z. omega arith) m))
+  entry-is (suc (suc k)) i l m =
+      rw (ne-eqb (suc (suc k)) 1 (λ z. omega arith)) (bank-acts _ _ (t .banks (suc (suc k)) i l (λ z. omega arith) m))
 
   whole-is : (k : ℕ) → k < 4 → length (d .lists k) % wordsPerEntry k ≡ 0
   unfolding wordsPerEntry
@@ -65,7 +67,7 @@ module _ (v : ℕ) (d : Description) (t : DescriptionFacts v d) where
       both-of _ _ (eq-eqb (length (d .lists k) % wordsPerEntry k) 0 (whole-is k l))
       (every-of (length (d .lists k) / wordsPerEntry k) _ (λ i m. entry-is k i l m)))
 
-  fields-are : Yes (tellable (scanOf (d .fields)))
+  fields-are : Yes (describable (scanOf (d .fields)))
   fields-are = rw (t .bytes) (tell-acts (t .fields) (t .keep) (none-count (t .fields) (t .unwithdrawn)))
 
 whole-only : (k : ℕ) (ws : List ℕ) → (k ≡ 1 → ⊥) → length ws % wordsPerEntry k ≡ 0 → length ws % 2 ≡ 0
@@ -78,7 +80,8 @@ consoles-whole : (ws : List ℕ) → length ws % wordsPerEntry 1 ≡ 0 → lengt
 unfolding wordsPerEntry
 consoles-whole ws h = h
 
-bank-only-at : (v k : ℕ) (ws : List ℕ) → (k ≡ 1 → ⊥) → ((i : ℕ) → i < length ws / wordsPerEntry k → Yes (entryOk v k ws (wordsPerEntry k * i))) →
+bank-only-at : (v k : ℕ) (ws : List ℕ) → (k ≡ 1 → ⊥) → ((i : ℕ) → i < length ws / wordsPerEntry k →
+    Yes (entryOk v k ws (wordsPerEntry k * i))) →
     (i : ℕ) → i < length ws / 2 → BankFacts (getD ws (2 * i) 0) (getD ws (2 * i + 1) 0)
 unfolding entryOk entryRule wordsPerEntry
 bank-only-at v zero ws n h i l = bank-only _ _ (h i l)
@@ -114,10 +117,10 @@ module _ (v : ℕ) (d : Description) (h : Yes (descriptionOk v d)) where
         wholeConsoles = consoles-whole (d .lists 1) (whole 1 (omega arith));
         banks = λ k i l m. bank-only-at v k (d .lists k) m (entry k l) i;
         consoles = console-only-at v (d .lists 1) (entry 1 (omega arith));
-        fields = fieldsTold (scanOf (d .fields));
+        fields = fieldsDescribed (scanOf (d .fields));
         bytes = f .2;
         keep = f .0;
-        unwithdrawn = count-none (fieldsTold (scanOf (d .fields))) (f .1);
+        unwithdrawn = count-none (fieldsDescribed (scanOf (d .fields))) (f .1);
       }
 
 -- ---- W4: how many sections an edition has
@@ -140,21 +143,21 @@ late-is v d t (suc (suc zero)) l s = t .2 (earlier 4 v (omega (arith, counts)))
 late-is v d t (suc (suc (suc zero))) l s = t .3 (earlier 4 v (omega (arith, counts)))
 late-is v d t (suc (suc (suc (suc k)))) l s = absurd (let z : ⊥ = omega arith in z)
 
-late-acts : (v : ℕ) (d : Description) → LateFacts v d → Yes (noneLate v (d .lists))
-unfolding noneLate
+late-acts : (v : ℕ) (d : Description) → LateFacts v d → Yes (laterSectionsEmpty v (d .lists))
+unfolding laterSectionsEmpty
 late-acts v d t = every-of 4 _ (λ k l. go k l (decLt k (sectionCount v)))
   where
     go : (k : ℕ) → k < 4 → Dec (k < sectionCount v) → Yes (either (ltb k (sectionCount v)) (eqb (length (d .lists k)) 0))
     go k l (yes a) = either-l _ _ (lt-ltb k (sectionCount v) a)
     go k l (no a) = either-r _ _ (eq-eqb (length (d .lists k)) 0 (late-is v d t k l (omega arith)))
 
-late-at : (v : ℕ) (l : ℕ → List ℕ) → Yes (noneLate v l) → (k : ℕ) → k < 4 → sectionCount v ≤ k → length (l k) ≡ 0
-unfolding noneLate
+late-at : (v : ℕ) (l : ℕ → List ℕ) → Yes (laterSectionsEmpty v l) → (k : ℕ) → k < 4 → sectionCount v ≤ k → length (l k) ≡ 0
+unfolding laterSectionsEmpty
 late-at v l h k m s =
     either-cases _ _ (λ z. let y : k < sectionCount v = ltb-true _ _ z in absurd (let x : ⊥ = omega arith in x)) (λ z. eqb-true _ _ z)
     (every-at 4 (λ k. either (ltb k (sectionCount v)) (eqb (length (l k)) 0)) h k m)
 
-late-only : (v : ℕ) (d : Description) → Yes (noneLate v (d .lists)) → LateFacts v d
+late-only : (v : ℕ) (d : Description) → Yes (laterSectionsEmpty v (d .lists)) → LateFacts v d
 late-only v d h = (
   λ l. late-at v (d .lists) h 0 (omega arith) (omega (arith, counts, section-count-mono v 1 (omega arith))),
   λ l. late-at v (d .lists) h 1 (omega arith) (omega (arith, counts, section-count-mono v 2 (omega arith))),
@@ -168,7 +171,8 @@ unfolding joined platBytes
 after-acts s d t = let r = go (decLt 0 (length (d .fields))) in simp length-append (omega arith)
   where
     go : Dec (0 < length (d .fields)) →
-        s + 8 * (length (d .lists 0) + length (d .lists 1) + length (d .lists 2) + length (d .lists 3)) + length (withMark (d .fields)) ≤ 4096
+        s + 8 * (length (d .lists 0) + length (d .lists 1) + length (d .lists 2) + length (d .lists 3)) + length
+        (withMark (d .fields)) ≤ 4096
     go (yes l) = let m = t .1 l in omega (arith, marked-some (d .fields) (λ z. omega arith))
     go (no l) = let e : length (d .fields) ≡ 0 = omega arith in let m = t .0 e in omega (arith, marked-none (d .fields) e)
 
@@ -204,7 +208,8 @@ module _ (base n v : ℕ) (d : Description) where
   pub makes : Unrefused base n v d → writeOf base n v d ≡ a-page (pageOf base v d)
   makes t =
       let e = t .edition in
-      w-made base n v d (place-acts base n (t .place)) (edition-of v (e .0) (e .1)) (lists-are v d (t .description)) (fields-are v d (t .description))
+      w-made base n v d (place-acts base n (t .place)) (edition-of v (e .0) (e .1)) (lists-are v d (t .description))
+      (fields-are v d (t .description))
       (late-acts v d (t .late)) (le-leb (used v d) 4096 (room-acts v d e (t .room)))
 
   -- for fields in bytes, as lent ones are
@@ -225,13 +230,15 @@ module _ (base n v : ℕ) (d : Description) where
   w-description p e h = rw (p, e, h)
 
   -- "Writer refusals, in order"
-  pub refuses : Bytes (d .fields) → Refuses base n v d
+  pub refuses : Bytes (d .fields) → WriteRefuses base n v d
   refuses b =
       record {
         w1 = λ f. w-place base n v d (no-test _ (λ y. f (placed base n y)));
         w2 = λ p f. w-edition base n v d (place-acts base n p) (no-test _ (λ y. f (edition-range v y)));
         w3 = λ p e f. w-description (place-acts base n p) (edition-of v (e .0) (e .1)) (no-test _ (λ y. f (description-only v d y b)));
-        w4 = λ p e t f. w-late base n v d (place-acts base n p) (edition-of v (e .0) (e .1)) (lists-are v d t) (fields-are v d t) (no-test _ (λ y. f (late-only v d y)));
+        w4 =
+            λ p e t f. w-late base n v d (place-acts base n p) (edition-of v (e .0) (e .1)) (lists-are v d t) (fields-are v d t)
+            (no-test _ (λ y. f (late-only v d y)));
         w5 = λ p e t l f.
             w-room base n v d (place-acts base n p) (edition-of v (e .0) (e .1)) (lists-are v d t) (fields-are v d t) (late-acts v d l)
             (no-test _ (λ y. f (room-only v d (leb-true _ _ y))));

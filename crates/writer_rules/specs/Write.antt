@@ -13,8 +13,8 @@ use Rattle.versions.specs.Edition.{sectionCount, core, editionOk}
 use Rattle.entries.specs.Entry.{wordsPerEntry, sum}
 use Rattle.sections.specs.Page.{placeOk}
 use Rattle.reader.specs.Answer.{Shown, absent, empty, full, PlatShown}
-use Rattle.fields.specs.Fields.{scanOf, fieldsTold, shownFields}
-use Rattle.lists.specs.Description.{Description, descriptionOk, noneLate, platBytes, used}
+use Rattle.fields.specs.Fields.{scanOf, fieldsDescribed, shownFields}
+use Rattle.writer_checks.specs.Description.{Description, descriptionOk, laterSectionsEmpty, platBytes, used}
 
 -- the word that makes a sum 0 modulo 2^64
 unfoldable pub neg : ℕ → ℕ
@@ -72,7 +72,7 @@ writerGate false b c d e p = no-page 1
 
 -- what the writer of edition `v` makes at base B on a lent page of `n` bytes
 unfoldable pub writeOf : ℕ → ℕ → ℕ → Description → Made
-writeOf base n v d = writerGate (placeOk base n) (editionOk v) (descriptionOk v d) (noneLate v (d .lists)) (leb (used v d) 4096) (pageOf base v d)
+writeOf base n v d = writerGate (placeOk base n) (editionOk v) (descriptionOk v d) (laterSectionsEmpty v (d .lists)) (leb (used v d) 4096) (pageOf base v d)
 
 -- ---- what a reader shows of a page that the writer made
 -- each word of the lists is below 2^64: true of any lent list of 64-bit words, and promised by `write`
@@ -90,4 +90,4 @@ described e d k = cond (ltb k (sectionCount e)) (shownList (d .lists k)) absent
 
 -- the platform data: the written pointer, and the fields in list order
 unfoldable pub platDescribed : ℕ → ℕ → Description → PlatShown
-platDescribed base v d = record { pointer = platWord base v d; fields = shownFields (fieldsTold (scanOf (d .fields))) }
+platDescribed base v d = record { pointer = platWord base v d; fields = shownFields (fieldsDescribed (scanOf (d .fields))) }

@@ -2,10 +2,10 @@
 use Prim.Native.Nat.{ℕ}
 use mathlib.Core.List.{List}
 use lib.ListN.{length}
-use Rattle.lists.specs.Description.{descriptionOf}
+use Rattle.writer_checks.specs.Description.{descriptionOf}
 use Rattle.writer_rules.specs.Write.{Made, no-page, a-page, writeOf}
 use Rattle.writer_rules.specs.declared.Wrote.{Wrote}
-use Rattle.writer_rules.specs.declared.Wrote.the-variants.{Page, Place, Edition, Lists, Late, Room}
+use Rattle.writer_rules.specs.declared.Wrote.the-variants.{Page, Place, Edition, BadEntry, SectionAfterEdition, TooLong}
 
 -- "The writer takes B, an edition, four lists of 64-bit words .. and a page."; 02, E7: "The writer takes a list of fields"
 abbrev pub writeLists : ℕ → ℕ → List ℕ → List ℕ → List ℕ → List ℕ → List ℕ → List ℕ → Made
@@ -16,9 +16,9 @@ unfoldable pub madeBy : List ℕ → Wrote → Made
 madeBy page Page = a-page page
 madeBy page Place = no-page 1
 madeBy page Edition = no-page 2
-madeBy page Lists = no-page 3
-madeBy page Late = no-page 4
-madeBy page Room = no-page 5
+madeBy page BadEntry = no-page 3
+madeBy page SectionAfterEdition = no-page 4
+madeBy page TooLong = no-page 5
 
 -- the lent page at exit: "the page stays untouched", or the one made
 unfoldable pub pageAfter : List ℕ → Made → List ℕ

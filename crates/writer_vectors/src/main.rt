@@ -27,9 +27,9 @@ fn number(answer: Wrote) -> u64 {
         Wrote::Page => 0,
         Wrote::Place => 1,
         Wrote::Edition => 2,
-        Wrote::Lists => 3,
-        Wrote::Late => 4,
-        Wrote::Room => 5,
+        Wrote::BadEntry => 3,
+        Wrote::SectionAfterEdition => 4,
+        Wrote::TooLong => 5,
     }
 }
 
@@ -49,11 +49,11 @@ fn print_page(refusal: u64, base: u64, page: &[u8], expected: &[u8]) {
         io::write_all(STDOUT_FILENO, b"refused W");
         io::print_decimal(STDOUT_FILENO, refusal);
         io::write_all(STDOUT_FILENO, b"\n");
-        cases::print_same(b"page", page, expected);
+        vector_io::print_same(b"page", page, expected);
         return;
     }
     io::write_all(STDOUT_FILENO, b"made\n");
-    cases::print_same(b"page", page, expected);
+    vector_io::print_same(b"page", page, expected);
     for edition in 1..5u64 {
         print_reading(page, base, edition);
     }
@@ -71,10 +71,10 @@ fn behind(input: &[u8], at: usize) -> &[u8] {
 fn print_written(input: &[u8], list: &[u64], page: &mut [u8])
     requires { ⌜ 4096 ≤ length (now list) ⌝ }
 {
-    let a = 8 + cases::length_at(input, 32, 600);
-    let b = a + cases::length_at(input, 40, 600);
-    let c = b + cases::length_at(input, 48, 600);
-    let d = c + cases::length_at(input, 56, 600);
+    let a = 8 + vector_io::length_at(input, 32, 600);
+    let b = a + vector_io::length_at(input, 40, 600);
+    let c = b + vector_io::length_at(input, 48, 600);
+    let d = c + vector_io::length_at(input, 56, 600);
     let base = list[0];
     let rest = behind(input, 8 * d);
     let fields = behind(rest, page.len());
@@ -98,14 +98,14 @@ fn print_written(input: &[u8], list: &[u64], page: &mut [u8])
 fn print_case(input: &[u8]) {
     let list = load(input);
     let mut room = filled((list[2] % 256) as u8);
-    let n = cases::length_at(input, 24, 8192);
+    let n = vector_io::length_at(input, 24, 8192);
     print_written(input, &list, &mut room[..n]);
 }
 
 fn main() {
     let mut input = [0u8; 32768];
     for n in 0..1000u64 {
-        let length = cases::load(n, &mut input);
+        let length = vector_io::load(n, &mut input);
         if length == 0 {
             return;
         }

@@ -4,14 +4,16 @@ use native.Mathlib.Omega.{arith}
 use borrow.Author.Tests.{lt-leb, le-leb}
 use borrow.Author.Needs.{needs}
 use Rattle.banks.specs.Banks.{banksOf, bankCount}
-use Rattle.banks.proofs.Passing.{left, left-all}
+use Rattle.banks.proofs.Passing.{banksFrom, left-all}
 use Rattle.banks.specs.Fast.{bankAmong, bankOf}
 use Rattle.banks.proofs.Fast.{bank-last, bank-more, bank-hit}
 use Rattle.banks.proofs.bank_of.Statement.{statement}
 use Rattle.banks.proofs.bank_of.Tie as tie
 
 abbrev Inv-loop : tie.InvT-loop
-Inv-loop granules address count before₀ i₀ i-end before i = (i ≤ i-end) × (before ≤ 0x10_0000_0000_0000 * i) × (bankAmong 0 (banksOf granules) address ≡ bankAmong before (left granules i) address)
+Inv-loop granules address count before₀ i₀ i-end before i =
+    (i ≤ i-end) × (before ≤ 0x10_0000_0000_0000 * i) × (bankAmong 0 (banksOf granules) address ≡ bankAmong before
+    (banksFrom granules i) address)
 
 abbrev μ-loop : tie.MeasureT-loop
 μ-loop granules address count before₀ i₀ i-end before i = i-end - i
@@ -66,7 +68,8 @@ returns-2 c =
     let a = c .before .before .before .before .before .before .before .before .args in
     let l = c .before .before .before .before .before .loop in
     simp (le-leb (bankCount (a .granules .now)) 16 (search needs))
-    (sym (l .inv .2 ∙ bank-hit (a .granules .now) (a .address) (l .i) (l .before) (search needs) _ (c .before .bank-holds .ensures) (c .if2 .taken)))
+    (sym (l .inv .2 ∙ bank-hit (a .granules .now) (a .address) (l .i) (l .before) (search needs) _ (c .before .bank-holds .ensures)
+    (c .if2 .taken)))
 
 granules-in-requires : tie.Need-granules-in-requires Inv-loop μ-loop
 granules-in-requires c κs = search needs
@@ -84,7 +87,8 @@ loop-again : tie.Need-loop-again Inv-loop μ-loop
 loop-again c =
     let a = c .before .before .before .before .before .before .before .before .before .args in
     let l = c .before .before .before .before .before .before .loop in
-    let m = bank-more (a .granules .now) (a .address) (l .i) (l .before) (search needs) _ (c .before .before .bank-holds .ensures) (c .before .if2 .left) in
+    let m = bank-more (a .granules .now) (a .address) (l .i) (l .before) (search needs) _ (c .before .before .bank-holds .ensures)
+    (c .before .if2 .left) in
     (search needs, omega arith, rw (c .granules-in .ensures .0) (l .inv .2 ∙ m))
 
 no-bank-requires-2 : tie.Need-no-bank-requires-2 Inv-loop μ-loop
@@ -95,7 +99,8 @@ unfolding bankOf
 returns-3 c =
     let a = c .before .before .before .before .before .args in
     let l = c .before .before .loop in
-    simp (le-leb (bankCount (a .granules .now)) 16 (search needs)) (c .no-bank2 .ensures ∙ sym (l .inv .2 ∙ bank-last (a .granules .now) (a .address) (l .i) (l .before) (search needs)))
+    simp (le-leb (bankCount (a .granules .now)) 16 (search needs))
+    (c .no-bank2 .ensures ∙ sym (l .inv .2 ∙ bank-last (a .granules .now) (a .address) (l .i) (l .before) (search needs)))
 
 pub bank-of-spec : {M : Type 1} → statement M
 bank-of-spec =

@@ -25,7 +25,12 @@ granule-in-requires-2 c κs = search needs
 returns-2 : tie.Need-returns-2
 unfolding foundFrom foundIn
 returns-2 c =
-    rw (← c .before .before .before .before .granule-in .ensures, c .before .before .enum-told .given .1, c .granule-in2 .ensures, c .before .bank-of .ensures)
+    rw (
+      ← c .before .before .before .before .granule-in .ensures,
+      c .before .before .enum-told .given .1,
+      c .granule-in2 .ensures,
+      c .before .bank-of .ensures,
+    )
 
 pub find-from-spec : {M : Type 1} → statement M
 find-from-spec =

@@ -3,7 +3,8 @@ use mathlib.Core.Path.{refl, sym, _∙_}
 use native.Mathlib.Omega.{arith}
 use borrow.Author.Tests.{not-true, not-false}
 use borrow.Author.Needs.{needs}
-use Rattle.banks.proofs.Passing.{refused, many-refused, badly-refused, passed, Stage, follows-is, stage-first, stage-more, stage-stops, stage-judged, stage-counted}
+use Rattle.banks.proofs.Passing.{refused, many-refused, badly-refused, passed, Stage, follows-is, stage-first, stage-more}
+use Rattle.banks.proofs.Passing.{stage-stops, stage-judged, stage-counted}
 use Rattle.banks.proofs.granule_count.Statement.{statement}
 use Rattle.banks.proofs.granule_count.Tie as tie
 
@@ -54,7 +55,8 @@ returns-2 c =
     let a = c .before .before .before .before .before .before .before .before .args in
     let l = c .before .before .before .before .before .loop in
     let f = sym (c .before .bank-follows .ensures) ∙ not-true _ (c .if2 .taken) in
-    refused (a .granules .now) (badly-refused (a .granules .now) (stage-stops (a .granules .now) (l .i) (l .low) (l .sum) (l .inv .1) _ _ (search needs) refl refl f))
+    refused (a .granules .now) (badly-refused (a .granules .now)
+    (stage-stops (a .granules .now) (l .i) (l .low) (l .sum) (l .inv .1) _ _ (search needs) refl refl f))
 
 add-sum : tie.Need-add-sum Inv-loop μ-loop
 add-sum c =
@@ -85,7 +87,8 @@ returns-3 c =
     let l = c .before .loop in
     let g = a .granules .now in
     let s = l .inv .1 in
-    passed g (l .sum) (search needs) (stage-judged g (l .i) (l .low) (l .sum) s (search needs)) (stage-counted g (l .i) (l .low) (l .sum) s (search needs))
+    passed g (l .sum) (search needs) (stage-judged g (l .i) (l .low) (l .sum) s (search needs))
+    (stage-counted g (l .i) (l .low) (l .sum) s (search needs))
 
 pub granule-count-spec : {M : Type 1} → statement M
 granule-count-spec =

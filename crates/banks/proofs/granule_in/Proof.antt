@@ -6,7 +6,7 @@ use borrow.Author.Needs.{needs}
 use Rattle.words.specs.Tests.{both}
 use Rattle.banks.specs.declared.Granule.the-variants.{At}
 use Rattle.banks.specs.Fast.{granuleIn}
-use Rattle.banks.proofs.Laws.{held}
+use Rattle.banks.proofs.Laws.{holds-facts}
 use Rattle.banks.proofs.granule_in.Statement.{statement}
 use Rattle.banks.proofs.granule_in.Tie as tie
 
@@ -25,7 +25,7 @@ returns-2 c =
 
 sub-wrapping-add-u64 : tie.Need-sub-wrapping-add-u64
 sub-wrapping-add-u64 c =
-    let v = held _ _ _ (sym (c .before .bank-holds .ensures) ∙ not-false _ (c .if2 .left)) in
+    let v = holds-facts _ _ _ (sym (c .before .bank-holds .ensures) ∙ not-false _ (c .if2 .left)) in
     omega (arith, v .from)
 
 wrapping-add-u64-requires : tie.Need-wrapping-add-u64-requires

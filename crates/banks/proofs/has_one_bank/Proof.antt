@@ -30,7 +30,9 @@ bank-ok-requires c κs = search needs
 
 returns-3 : tie.Need-returns-3
 unfolding hasOneBank both
-returns-3 c = rw (eq-eqb _ 1 (c .before .before .before .before .before .if1 .left), eq-eqb _ _ (c .before .before .before .if2 .left)) (c .bank-ok .ensures)
+returns-3 c =
+    rw (eq-eqb _ 1 (c .before .before .before .before .before .if1 .left), eq-eqb _ _ (c .before .before .before .if2 .left))
+    (c .bank-ok .ensures)
 
 pub has-one-bank-spec : {M : Type 1} → statement M
 has-one-bank-spec =

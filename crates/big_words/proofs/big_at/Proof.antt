@@ -14,11 +14,11 @@ sub-if2 c = search needs
 returns-2 : tie.Need-returns-2
 returns-2 c = let a = c .before .before .before .args in sym (whole-out (a .at) (a .s .now) (omega arith))
 
-quad-at-requires : tie.Need-quad-at-requires
-quad-at-requires c κs = search needs
+u32-in-requires : tie.Need-u32-in-requires
+u32-in-requires c κs = search needs
 
 returns-3 : tie.Need-returns-3
-returns-3 c = let a = c .before .before .before .before .args in c .quad-at .ensures ∙ sym (whole-in (a .at) (a .s .now) (omega arith))
+returns-3 c = let a = c .before .before .before .before .args in c .u32-in .ensures ∙ sym (whole-in (a .at) (a .s .now) (omega arith))
 
 pub big-at-spec : {M : Type 1} → statement M
-big-at-spec = tie.close (tie.spec returns sub-if2 returns-2 quad-at-requires returns-3)
+big-at-spec = tie.close (tie.spec returns sub-if2 returns-2 u32-in-requires returns-3)

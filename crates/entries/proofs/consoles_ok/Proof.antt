@@ -17,7 +17,8 @@ use Rattle.entries.proofs.with_console.Reads as with-console-reads
 use Rattle.words.proofs.word_at.Reads as word-at-reads
 
 abbrev Inv-loop : tie.InvT-loop
-Inv-loop page minor at count bits₀ from₀ i₀ bits from i = (i ≤ count) × (from ≡ at + 48 * i) × (consoleClear minor bits ≡ entriesAt minor 1 at i page)
+Inv-loop page minor at count bits₀ from₀ i₀ bits from i =
+    (i ≤ count) × (from ≡ at + 48 * i) × (consoleClear minor bits ≡ entriesAt minor 1 at i page)
 
 abbrev μ-loop : tie.MeasureT-loop
 μ-loop page minor at count bits₀ from₀ i₀ bits from i = count - i
@@ -63,9 +64,18 @@ loop-less c = search needs
 
 loop-again : tie.Need-loop-again Inv-loop μ-loop
 loop-again c =
-    let a = c .before .before .before .before .before .before .before .before .before .args in
-    let l = c .before .before .before .before .before .before .loop in
-    (search needs, search needs, console-step (a .minor) (a .at) (l .i) (a .page .now) _ _ _ _ (c .before .before .before .whole-word .ensures ∙ word-lent (l .from) 48 0 (a .at + 48 * l .i) (a .page .now) (omega arith) (omega arith) (omega arith)) (c .before .before .whole-word2 .ensures ∙ word-lent (l .from) 48 8 (a .at + 48 * l .i + 8) (a .page .now) (omega arith) (omega arith) (omega arith)) (c .before .whole-word3 .ensures ∙ word-lent (l .from) 48 40 (a .at + 48 * l .i + 40) (a .page .now) (omega arith) (omega arith) (omega arith)) _ (l .inv .2) (c .with-console .ensures))
+    let b8 = c .before .before .before .before .before .before .before .before in
+    let a = b8 .before .args in
+    let l = c .before .before .before .before .before .before .loop in (
+      search needs,
+      search needs,
+      console-step (a .minor) (a .at) (l .i) (a .page .now) _ _ _ _
+          (c .before .before .before .whole-word .ensures ∙ word-lent (l .from) 48 0 (a .at + 48 * l .i) (a .page .now) (omega arith)
+          (omega arith) (omega arith)) (c .before .before .whole-word2 .ensures ∙
+          word-lent (l .from) 48 8 (a .at + 48 * l .i + 8) (a .page .now) (omega arith) (omega arith) (omega arith))
+          (c .before .whole-word3 .ensures ∙ word-lent (l .from) 48 40 (a .at + 48 * l .i + 40) (a .page .now) (omega arith)
+          (omega arith) (omega arith)) _ (l .inv .2) (c .with-console .ensures),
+    )
 
 consoles-clear-requires : tie.Need-consoles-clear-requires Inv-loop μ-loop
 consoles-clear-requires c κs = search needs

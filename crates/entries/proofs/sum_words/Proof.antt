@@ -47,8 +47,13 @@ loop-less c = search needs
 loop-again : tie.Need-loop-again Inv-loop μ-loop
 loop-again c =
     let l = c .before .before .before .before .loop in
-    let p = c .before .before .before .before .before .before .args .page .now in
-    (search needs, search needs, sum-step _ _ (l .from) _ _ _ _ _ (omega arith) (l .inv .1) (l .inv .2) (c .before .whole-word .ensures ∙ word-lent (l .from) 8 0 (l .from) p (omega arith) (omega arith) (omega arith)) (c .wrapping-add-u64 .ensures))
+    let p = c .before .before .before .before .before .before .args .page .now in (
+      search needs,
+      search needs,
+      sum-step _ _ (l .from) _ _ _ _ _ (omega arith) (l .inv .1) (l .inv .2)
+          (c .before .whole-word .ensures ∙ word-lent (l .from) 8 0 (l .from) p (omega arith) (omega arith) (omega arith))
+          (c .wrapping-add-u64 .ensures),
+    )
 
 returns : tie.Need-returns Inv-loop μ-loop
 unfolding sumAt

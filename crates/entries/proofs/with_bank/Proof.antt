@@ -14,7 +14,9 @@ wrapping-add-u64-requires c κs = search needs
 returns : tie.Need-returns
 returns c =
     let a = c .before .before .before .before .args in
-    with-bank (a .bits) (a .base) (a .size) (c .before .before .before .wrapping-sub-u64 .result) (c .before .before .wrapping-add-u64 .result) (search needs) (search needs) (search needs) (c .before .before .before .wrapping-sub-u64 .ensures) (c .before .before .wrapping-add-u64 .ensures)
+    with-bank (a .bits) (a .base) (a .size) (c .before .before .before .wrapping-sub-u64 .result)
+    (c .before .before .wrapping-add-u64 .result) (search needs) (search needs) (search needs)
+    (c .before .before .before .wrapping-sub-u64 .ensures) (c .before .before .wrapping-add-u64 .ensures)
 
 pub with-bank-spec : {M : Type 1} → statement M
 with-bank-spec = tie.close (tie.spec wrapping-sub-u64-requires wrapping-add-u64-requires returns)

@@ -14,7 +14,9 @@ wrapping-add-u64-requires c κs = search needs
 returns : tie.Need-returns
 returns c =
     let a = c .before .before .before .before .before .args in
-    with-console (a .minor) (a .bits) (a .base) (a .pages) (c .before .before .before .before .wrapping-sub-u64 .result) (c .before .before .before .wrapping-add-u64 .result) (a .flags) (search needs) (search needs) (search needs) (c .before .before .before .before .wrapping-sub-u64 .ensures) (c .before .before .before .wrapping-add-u64 .ensures)
+    with-console (a .minor) (a .bits) (a .base) (a .pages) (c .before .before .before .before .wrapping-sub-u64 .result)
+    (c .before .before .before .wrapping-add-u64 .result) (a .flags) (search needs) (search needs) (search needs)
+    (c .before .before .before .before .wrapping-sub-u64 .ensures) (c .before .before .before .wrapping-add-u64 .ensures)
 
 pub with-console-spec : {M : Type 1} → statement M
 with-console-spec =

@@ -21,7 +21,9 @@ found-at-requires-2 c κs = search needs
 
 returns-2 : tie.Need-returns-2
 unfolding unless bankFault
-returns-2 c = let a = c .before .before .before .args in simp (eq-eqb (a .base % 4096) 0 (search needs), ne-eqb (a .size % 4096) 0 (search needs)) (c .found-at2 .ensures)
+returns-2 c =
+    let a = c .before .before .before .args in
+    simp (eq-eqb (a .base % 4096) 0 (search needs), ne-eqb (a .size % 4096) 0 (search needs)) (c .found-at2 .ensures)
 
 add-found-at-2 : tie.Need-add-found-at-2
 add-found-at-2 c = search needs
@@ -31,7 +33,10 @@ found-at-requires-3 c κs = search needs
 
 returns-3 : tie.Need-returns-3
 unfolding unless bankFault
-returns-3 c = let a = c .before .before .before .before .args in simp (eq-eqb (a .base % 4096) 0 (search needs), eq-eqb (a .size % 4096) 0 (search needs), le-ltb 0 (a .size) (search needs)) (c .found-at3 .ensures)
+returns-3 c =
+    let a = c .before .before .before .before .args in
+    simp (eq-eqb (a .base % 4096) 0 (search needs), eq-eqb (a .size % 4096) 0 (search needs), le-ltb 0 (a .size) (search needs))
+    (c .found-at3 .ensures)
 
 add-found-at-3 : tie.Need-add-found-at-3
 add-found-at-3 c = search needs
@@ -41,7 +46,14 @@ found-at-requires-4 c κs = search needs
 
 returns-4 : tie.Need-returns-4
 unfolding unless bankFault
-returns-4 c = let a = c .before .before .before .before .before .args in simp (eq-eqb (a .base % 4096) 0 (search needs), eq-eqb (a .size % 4096) 0 (search needs), lt-ltb 0 (a .size) (search needs), lt-leb (a .base + a .size) (2 ^ 52) (omega arith)) (c .found-at4 .ensures)
+returns-4 c =
+    let a = c .before .before .before .before .before .args in
+    simp (
+      eq-eqb (a .base % 4096) 0 (search needs),
+      eq-eqb (a .size % 4096) 0 (search needs),
+      lt-ltb 0 (a .size) (search needs),
+      lt-leb (a .base + a .size) (2 ^ 52) (omega arith),
+    ) (c .found-at4 .ensures)
 
 add-found-at-4 : tie.Need-add-found-at-4
 add-found-at-4 c = search needs
@@ -51,11 +63,25 @@ found-at-requires-5 c κs = search needs
 
 returns-5 : tie.Need-returns-5
 unfolding unless bankFault
-returns-5 c = let a = c .before .before .before .before .before .before .args in simp (eq-eqb (a .base % 4096) 0 (search needs), eq-eqb (a .size % 4096) 0 (search needs), lt-ltb 0 (a .size) (search needs), lt-leb (a .base + a .size) (2 ^ 52) (omega arith)) (c .found-at5 .ensures)
+returns-5 c =
+    let a = c .before .before .before .before .before .before .args in
+    simp (
+      eq-eqb (a .base % 4096) 0 (search needs),
+      eq-eqb (a .size % 4096) 0 (search needs),
+      lt-ltb 0 (a .size) (search needs),
+      lt-leb (a .base + a .size) (2 ^ 52) (omega arith),
+    ) (c .found-at5 .ensures)
 
 returns-6 : tie.Need-returns-6
 unfolding unless bankFault
-returns-6 c = let a = c .before .before .before .before .before .args in simp (eq-eqb (a .base % 4096) 0 (search needs), eq-eqb (a .size % 4096) 0 (search needs), lt-ltb 0 (a .size) (search needs), le-leb (a .base + a .size) (2 ^ 52) (omega arith))
+returns-6 c =
+    let a = c .before .before .before .before .before .args in
+    simp (
+      eq-eqb (a .base % 4096) 0 (search needs),
+      eq-eqb (a .size % 4096) 0 (search needs),
+      lt-ltb 0 (a .size) (search needs),
+      le-leb (a .base + a .size) (2 ^ 52) (omega arith),
+    )
 
 pub bank-fault-spec : {M : Type 1} → statement M
 bank-fault-spec =

@@ -17,7 +17,8 @@ abbrev μ-loop : tie.MeasureT-loop
 μ-loop page rule section offset from to n j₀ j = n - j
 
 loop-holds : tie.Need-loop-holds Inv-loop μ-loop
-loop-holds c = let a = c .before .args in (search needs, first-none (clash (a .rule) (a .section) (a .offset) (a .from) (a .to) (a .page .now)))
+loop-holds c =
+    let a = c .before .args in (search needs, first-none (clash (a .rule) (a .section) (a .offset) (a .from) (a .to) (a .page .now)))
 
 is-clear-requires : tie.Need-is-clear-requires Inv-loop μ-loop
 is-clear-requires c κs = search needs
@@ -32,8 +33,10 @@ returns : tie.Need-returns Inv-loop μ-loop
 returns c =
     let a = c .before .before .before .before .before .before .args in
     let l = c .before .before .before .before .loop in
-    let z = clash-at (a .rule) (a .section) (a .offset) (a .from) (a .to) (a .page .now) (l .j) (sym (c .before .before .is-clear .ensures) ∙ not-true _ (c .before .if1 .taken)) in
-    told-at (clash (a .rule) (a .section) (a .offset) (a .from) (a .to) (a .page .now)) (l .j) _ (l .inv .1) (c .found-at .ensures ∙ sym z) (a .n) _ (omega arith) (c .found-at .ensures)
+    let z = clash-at (a .rule) (a .section) (a .offset) (a .from) (a .to) (a .page .now) (l .j)
+    (sym (c .before .before .is-clear .ensures) ∙ not-true _ (c .before .if1 .taken)) in
+    told-at (clash (a .rule) (a .section) (a .offset) (a .from) (a .to) (a .page .now)) (l .j) _ (l .inv .1)
+    (c .found-at .ensures ∙ sym z) (a .n) _ (omega arith) (c .found-at .ensures)
 
 add-j : tie.Need-add-j Inv-loop μ-loop
 add-j c = search needs
@@ -45,13 +48,18 @@ loop-again : tie.Need-loop-again Inv-loop μ-loop
 loop-again c =
     let a = c .before .before .before .before .before .args in
     let l = c .before .before .before .loop in
-    let z = clash-clear (a .rule) (a .section) (a .offset) (a .from) (a .to) (a .page .now) (l .j) (sym (c .before .is-clear .ensures) ∙ not-false _ (c .if1 .left)) in
-    (search needs, told-more (clash (a .rule) (a .section) (a .offset) (a .from) (a .to) (a .page .now)) (l .j) Clear (l .inv .1) (sym z) refl)
+    let z = clash-clear (a .rule) (a .section) (a .offset) (a .from) (a .to) (a .page .now) (l .j)
+    (sym (c .before .is-clear .ensures) ∙ not-false _ (c .if1 .left)) in (
+      search needs,
+      told-more (clash (a .rule) (a .section) (a .offset) (a .from) (a .to) (a .page .now)) (l .j) Clear (l .inv .1)
+          (sym z) refl,
+    )
 
 returns-2 : tie.Need-returns-2 Inv-loop μ-loop
 returns-2 c =
     let a = c .before .before .before .args in
-    told-all (clash (a .rule) (a .section) (a .offset) (a .from) (a .to) (a .page .now)) (c .before .loop .j) (a .n) (c .before .loop .inv .1) (omega arith)
+    told-all (clash (a .rule) (a .section) (a .offset) (a .from) (a .to) (a .page .now)) (c .before .loop .j) (a .n)
+    (c .before .loop .inv .1) (omega arith)
 
 pub clash-fault-spec : {M : Type 1} → statement M
 clash-fault-spec =

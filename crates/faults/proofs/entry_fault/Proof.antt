@@ -25,14 +25,24 @@ console-fault-requires c κs = search needs
 
 returns : tie.Need-returns
 unfolding entryFault
-returns c = let a = c .before .before .before .before .before .before .args in simp (eq-eqb (a .k) 1 (search needs), sym (c .before .before .before .before .word-at .ensures), sym (c .before .before .before .word-at2 .ensures), sym (c .before .word-at3 .ensures)) (c .console-fault .ensures)
+returns c =
+    let a = c .before .before .before .before .before .before .args in
+    simp (
+      eq-eqb (a .k) 1 (search needs),
+      sym (c .before .before .before .before .word-at .ensures),
+      sym (c .before .before .before .word-at2 .ensures),
+      sym (c .before .word-at3 .ensures),
+    ) (c .console-fault .ensures)
 
 bank-fault-requires : tie.Need-bank-fault-requires
 bank-fault-requires c κs = search needs
 
 returns-2 : tie.Need-returns-2
 unfolding entryFault
-returns-2 c = let a = c .before .before .before .before .before .args in simp (ne-eqb (a .k) 1 (search needs), sym (c .before .before .before .word-at .ensures), sym (c .before .before .word-at2 .ensures)) (c .bank-fault .ensures)
+returns-2 c =
+    let a = c .before .before .before .before .before .args in
+    simp (ne-eqb (a .k) 1 (search needs), sym (c .before .before .before .word-at .ensures), sym (c .before .before .word-at2 .ensures))
+    (c .bank-fault .ensures)
 
 pub entry-fault-spec : {M : Type 1} → statement M
 entry-fault-spec =

@@ -27,11 +27,16 @@ field-found-requires-2 c κs = search needs
 
 returns-2 : tie.Need-returns-2
 unfolding unless fieldTests
-returns-2 c = let a = c .before .before .before .before .args in simp (le-leb (a .at + 3 + a .len) (a .n) (search needs), eq-eqb (a .tag) 0 (search needs), ne-eqb (a .len) 0 (search needs)) (c .field-found2 .ensures)
+returns-2 c =
+    let a = c .before .before .before .before .args in
+    simp (le-leb (a .at + 3 + a .len) (a .n) (search needs), eq-eqb (a .tag) 0 (search needs), ne-eqb (a .len) 0 (search needs))
+    (c .field-found2 .ensures)
 
 returns-3 : tie.Need-returns-3
 unfolding unless fieldTests
-returns-3 c = let a = c .before .before .before .args in simp (le-leb (a .at + 3 + a .len) (a .n) (search needs), eq-eqb (a .tag) 0 (search needs), eq-eqb (a .len) 0 (search needs))
+returns-3 c =
+    let a = c .before .before .before .args in
+    simp (le-leb (a .at + 3 + a .len) (a .n) (search needs), eq-eqb (a .tag) 0 (search needs), eq-eqb (a .len) 0 (search needs))
 
 length-ok-requires : tie.Need-length-ok-requires
 length-ok-requires c κs = search needs
@@ -41,7 +46,13 @@ field-found-requires-3 c κs = search needs
 
 returns-4 : tie.Need-returns-4
 unfolding unless fieldTests
-returns-4 c = let a = c .before .before .before .before .before .args in simp (le-leb (a .at + 3 + a .len) (a .n) (search needs), ne-eqb (a .tag) 0 (search needs), sym (c .before .before .length-ok .ensures) ∙ not-true _ (c .before .if4 .taken)) (c .field-found3 .ensures)
+returns-4 c =
+    let a = c .before .before .before .before .before .args in
+    simp (
+      le-leb (a .at + 3 + a .len) (a .n) (search needs),
+      ne-eqb (a .tag) 0 (search needs),
+      sym (c .before .before .length-ok .ensures) ∙ not-true _ (c .before .if4 .taken),
+    ) (c .field-found3 .ensures)
 
 is-seen-requires : tie.Need-is-seen-requires
 is-seen-requires c κs = search needs
@@ -51,11 +62,25 @@ field-found-requires-4 c κs = search needs
 
 returns-5 : tie.Need-returns-5
 unfolding unless fieldTests
-returns-5 c = let a = c .before .before .before .before .before .before .before .args in simp (le-leb (a .at + 3 + a .len) (a .n) (search needs), ne-eqb (a .tag) 0 (search needs), sym (c .before .before .before .before .length-ok .ensures) ∙ not-false _ (c .before .before .before .if4 .left), sym (c .before .before .is-seen .ensures) ∙ c .before .if5 .taken) (c .field-found4 .ensures)
+returns-5 c =
+    let a = c .before .before .before .before .before .before .before .args in
+    simp (
+      le-leb (a .at + 3 + a .len) (a .n) (search needs),
+      ne-eqb (a .tag) 0 (search needs),
+      sym (c .before .before .before .before .length-ok .ensures) ∙ not-false _ (c .before .before .before .if4 .left),
+      sym (c .before .before .is-seen .ensures) ∙ c .before .if5 .taken,
+    ) (c .field-found4 .ensures)
 
 returns-6 : tie.Need-returns-6
 unfolding unless fieldTests
-returns-6 c = let a = c .before .before .before .before .before .before .args in simp (le-leb (a .at + 3 + a .len) (a .n) (search needs), ne-eqb (a .tag) 0 (search needs), sym (c .before .before .before .length-ok .ensures) ∙ not-false _ (c .before .before .if4 .left), sym (c .before .is-seen .ensures) ∙ c .if5 .left)
+returns-6 c =
+    let a = c .before .before .before .before .before .before .args in
+    simp (
+      le-leb (a .at + 3 + a .len) (a .n) (search needs),
+      ne-eqb (a .tag) 0 (search needs),
+      sym (c .before .before .before .length-ok .ensures) ∙ not-false _ (c .before .before .if4 .left),
+      sym (c .before .is-seen .ensures) ∙ c .if5 .left,
+    )
 
 pub field-fault-spec : {M : Type 1} → statement M
 field-fault-spec =

@@ -18,7 +18,10 @@ found-at-requires c κs = search needs
 
 returns : tie.Need-returns
 unfolding fieldFault
-returns c = let a = c .before .args in c .found-at .ensures ∙ ap (λ x. At (mkFault (a .rule) 0 (a .i) (a .offset) x 0)) (let e : a .tag + a .len * 256 ≡ a .tag + 256 * a .len = omega arith in e)
+returns c =
+    let a = c .before .args in
+    c .found-at .ensures ∙ ap (λ x. At (mkFault (a .rule) 0 (a .i) (a .offset) x 0))
+    (let e : a .tag + a .len * 256 ≡ a .tag + 256 * a .len = omega arith in e)
 
 pub field-found-spec : {M : Type 1} → statement M
 field-found-spec = tie.close (tie.spec mul-found add-found found-at-requires returns)

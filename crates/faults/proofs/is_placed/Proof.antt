@@ -26,7 +26,12 @@ add-if2 c = search needs
 
 returns-2 : tie.Need-returns-2
 unfolding inRange both
-returns-2 c = let a = c .before .before .before .args in simp (le-leb (a .base + core (a .e .minor)) (a .pointer) (omega arith), lt-leb (a .pointer + size (a .k) (a .count)) (a .base + 4096) (omega arith))
+returns-2 c =
+    let a = c .before .before .before .args in
+    simp (
+      le-leb (a .base + core (a .e .minor)) (a .pointer) (omega arith),
+      lt-leb (a .pointer + size (a .k) (a .count)) (a .base + 4096) (omega arith),
+    )
 
 add-fits : tie.Need-add-fits
 add-fits c = search needs
@@ -38,7 +43,9 @@ fits-requires : tie.Need-fits-requires
 fits-requires c κs = search needs
 
 returns-3 : tie.Need-returns-3
-returns-3 c = let a = c .before .before .before .before .args in c .fits2 .ensures ∙ sym (range-fits (a .e .minor) (a .base) (a .k) (a .count) (a .pointer) (omega arith) (omega arith))
+returns-3 c =
+    let a = c .before .before .before .before .args in
+    c .fits2 .ensures ∙ sym (range-fits (a .e .minor) (a .base) (a .k) (a .count) (a .pointer) (omega arith) (omega arith))
 
 pub is-placed-spec : {M : Type 1} → statement M
 is-placed-spec =

@@ -15,13 +15,30 @@ count-at-requires : tie.Need-count-at-requires
 count-at-requires c κs = search needs
 
 mul-to : tie.Need-mul-to
-mul-to c = omega (arith, end-steps (c .before .before .before .before .args .i) (c .before .before .entry-words .result) (c .count-at .result) (c .before .before .before .before .args .page .now) (c .before .before .entry-words .ensures .0) (c .count-at .ensures))
+mul-to c =
+    omega (
+      arith,
+      end-steps (c .before .before .before .before .args .i) (c .before .before .entry-words .result) (c .count-at .result)
+          (c .before .before .before .before .args .page .now) (c .before .before .entry-words .ensures .0) (c .count-at .ensures),
+    )
 
 mul-to-2 : tie.Need-mul-to-2
-mul-to-2 c = omega (arith, end-steps (c .before .before .before .before .args .i) (c .before .before .entry-words .result) (c .count-at .result) (c .before .before .before .before .args .page .now) (c .before .before .entry-words .ensures .0) (c .count-at .ensures))
+mul-to-2 c =
+    omega (
+      arith,
+      end-steps (c .before .before .before .before .args .i) (c .before .before .entry-words .result) (c .count-at .result)
+          (c .before .before .before .before .args .page .now) (c .before .before .entry-words .ensures .0) (c .count-at .ensures),
+    )
 
 add-to : tie.Need-add-to
-add-to c = omega (arith, c .before .pointer-at .ensures, end-steps (c .before .before .before .before .args .i) (c .before .before .entry-words .result) (c .count-at .result) (c .before .before .before .before .args .page .now) (c .before .before .entry-words .ensures .0) (c .count-at .ensures))
+add-to c =
+    omega (
+      arith,
+      c .before .pointer-at .ensures,
+      end-steps (c .before .before .before .before .args .i)
+          (c .before .before .entry-words .result) (c .count-at .result) (c .before .before .before .before .args .page .now)
+          (c .before .before .entry-words .ensures .0) (c .count-at .ensures),
+    )
 
 mul-clash-fault : tie.Need-mul-clash-fault
 mul-clash-fault c = search needs
@@ -33,7 +50,10 @@ clash-fault-requires : tie.Need-clash-fault-requires
 clash-fault-requires c κs = search needs
 
 returns : tie.Need-returns
-returns c = told-overlap (c .before .before .before .before .before .args .page .now) (c .before .before .before .before .before .args .i) _ _ _ (c .before .before .before .entry-words .ensures .0) (c .before .count-at .ensures) (c .before .before .pointer-at .ensures) _ (c .clash-fault .ensures)
+returns c =
+    told-overlap (c .before .before .before .before .before .args .page .now) (c .before .before .before .before .before .args .i) _ _ _
+    (c .before .before .before .entry-words .ensures .0) (c .before .count-at .ensures) (c .before .before .pointer-at .ensures) _
+    (c .clash-fault .ensures)
 
 pub overlap-fault-spec : {M : Type 1} → statement M
 overlap-fault-spec =

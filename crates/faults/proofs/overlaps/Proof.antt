@@ -19,7 +19,8 @@ clash-fault-requires : tie.Need-clash-fault-requires
 clash-fault-requires c κs = search needs
 
 returns-2 : tie.Need-returns-2
-returns-2 c = or-next _ _ _ (c .before .before .before .overlaps-fault .ensures) (c .before .enum-told .given .1) _ (c .clash-fault .ensures)
+returns-2 c =
+    or-next _ _ _ (c .before .before .before .overlaps-fault .ensures) (c .before .enum-told .given .1) _ (c .clash-fault .ensures)
 
 pub overlaps-spec : {M : Type 1} → statement M
 overlaps-spec =

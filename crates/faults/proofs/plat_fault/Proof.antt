@@ -25,7 +25,9 @@ found-at-requires c κs = search needs
 
 returns-2 : tie.Need-returns-2
 unfolding unless platFault both
-returns-2 c = let a = c .before .before .before .before .before .args in simp (ne-eqb (a .plat) 0 (search needs), lt-leb (a .base + core (a .e .minor)) (a .plat) (omega arith)) (c .found-at .ensures)
+returns-2 c =
+    let a = c .before .before .before .before .before .args in
+    simp (ne-eqb (a .plat) 0 (search needs), lt-leb (a .base + core (a .e .minor)) (a .plat) (omega arith)) (c .found-at .ensures)
 
 add-if3 : tie.Need-add-if3
 add-if3 c = search needs
@@ -35,7 +37,13 @@ found-at-requires-2 c κs = search needs
 
 returns-3 : tie.Need-returns-3
 unfolding unless platFault both
-returns-3 c = let a = c .before .before .before .before .before .before .args in simp (ne-eqb (a .plat) 0 (search needs), le-leb (a .base + core (a .e .minor)) (a .plat) (omega arith), le-ltb (a .plat) (a .base + 4096) (omega arith)) (c .found-at2 .ensures)
+returns-3 c =
+    let a = c .before .before .before .before .before .before .args in
+    simp (
+      ne-eqb (a .plat) 0 (search needs),
+      le-leb (a .base + core (a .e .minor)) (a .plat) (omega arith),
+      le-ltb (a .plat) (a .base + 4096) (omega arith),
+    ) (c .found-at2 .ensures)
 
 sub-at : tie.Need-sub-at
 sub-at c = search needs
@@ -54,7 +62,14 @@ fields-fault-requires c κs = search needs
 
 returns-4 : tie.Need-returns-4
 unfolding unless platFault both
-returns-4 c = let a = c .before .before .before .before .before .before .before .args in simp (ne-eqb (a .plat) 0 (search needs), le-leb (a .base + core (a .e .minor)) (a .plat) (omega arith), lt-ltb (a .plat) (a .base + 4096) (omega arith)) (c .fields-fault .ensures ∙ fields-lent (a .plat - a .base) (a .plat - a .base) (a .page .now))
+returns-4 c =
+    let a = c .before .before .before .before .before .before .before .args in
+    simp (
+      ne-eqb (a .plat) 0 (search needs),
+      le-leb (a .base + core (a .e .minor)) (a .plat) (omega arith),
+      lt-ltb (a .plat) (a .base + 4096) (omega arith),
+    ) (c .fields-fault .ensures ∙
+    fields-lent (a .plat - a .base) (a .plat - a .base) (a .page .now))
 
 pub plat-fault-spec : {M : Type 1} → statement M
 plat-fault-spec =

@@ -23,7 +23,11 @@ is-nothing-requires c κs = search needs
 
 returns : tie.Need-returns
 unfolding unless sectionTests
-returns c = let a = c .before .before .before .before .before .before .args in told-section (a .minor) (a .e .minor) (a .base) (a .k) (a .page .now) _ _ _ (c .before .before .before .before .count-at .ensures) (c .before .before .before .pointer-at .ensures) (c .before .before .check-at .ensures) _ (simp (sym (c .before .is-nothing .ensures) ∙ c .if1 .taken))
+returns c =
+    let a = c .before .before .before .before .before .before .args in
+    told-section (a .minor) (a .e .minor) (a .base) (a .k) (a .page .now) _ _ _ (c .before .before .before .before .count-at .ensures)
+    (c .before .before .before .pointer-at .ensures) (c .before .before .check-at .ensures) _
+    (simp (sym (c .before .is-nothing .ensures) ∙ c .if1 .taken))
 
 mul-found-at : tie.Need-mul-found-at
 mul-found-at c = search needs
@@ -36,7 +40,16 @@ found-at-requires c κs = search needs
 
 returns-2 : tie.Need-returns-2
 unfolding unless sectionTests
-returns-2 c = let a = c .before .before .before .before .before .before .before .before .args in told-section (a .minor) (a .e .minor) (a .base) (a .k) (a .page .now) _ _ _ (c .before .before .before .before .before .before .count-at .ensures) (c .before .before .before .before .before .pointer-at .ensures) (c .before .before .before .before .check-at .ensures) _ (simp (sym (c .before .before .before .is-nothing .ensures) ∙ c .before .before .if1 .left, le-ltb 0 (c .before .before .before .before .before .before .count-at .result) (search needs)) (c .found-at .ensures))
+returns-2 c =
+    let b8 = c .before .before .before .before .before .before .before .before in
+    let a = b8 .args in
+    told-section (a .minor) (a .e .minor) (a .base) (a .k) (a .page .now) _ _ _
+    (c .before .before .before .before .before .before .count-at .ensures)
+    (c .before .before .before .before .before .pointer-at .ensures) (c .before .before .before .before .check-at .ensures) _
+    (simp (
+      sym (c .before .before .before .is-nothing .ensures) ∙ c .before .before .if1 .left,
+      le-ltb 0 (c .before .before .before .before .before .before .count-at .result) (search needs),
+    ) (c .found-at .ensures))
 
 mul-found-at-2 : tie.Need-mul-found-at-2
 mul-found-at-2 c = search needs
@@ -49,7 +62,19 @@ found-at-requires-2 c κs = search needs
 
 returns-3 : tie.Need-returns-3
 unfolding unless sectionTests
-returns-3 c = let a = c .before .before .before .before .before .before .before .before .before .args in told-section (a .minor) (a .e .minor) (a .base) (a .k) (a .page .now) _ _ _ (c .before .before .before .before .before .before .before .count-at .ensures) (c .before .before .before .before .before .before .pointer-at .ensures) (c .before .before .before .before .before .check-at .ensures) _ (simp (sym (c .before .before .before .before .is-nothing .ensures) ∙ c .before .before .before .if1 .left, lt-ltb 0 (c .before .before .before .before .before .before .before .count-at .result) (search needs), ne-eqb (c .before .before .before .before .before .before .pointer-at .result % 8) 0 (search needs)) (c .found-at2 .ensures))
+returns-3 c =
+    let b8 = c .before .before .before .before .before .before .before .before in
+    let a = b8 .before .args in
+    told-section (a .minor) (a .e .minor) (a .base) (a .k) (a .page .now) _ _ _
+    (c .before .before .before .before .before .before .before .count-at .ensures)
+    (c .before .before .before .before .before .before .pointer-at .ensures)
+    (c .before .before .before .before .before .check-at .ensures) _
+    (simp (
+      sym (c .before .before .before .before .is-nothing .ensures) ∙ c .before .before .before .if1 .left,
+      lt-ltb 0 (c .before .before .before .before .before .before .before .count-at .result) (search needs),
+      ne-eqb (c .before .before .before .before .before .before .pointer-at .result % 8) 0 (search needs),
+    )
+    (c .found-at2 .ensures))
 
 is-placed-requires : tie.Need-is-placed-requires
 is-placed-requires c κs = search needs
@@ -65,17 +90,58 @@ found-at-requires-3 c κs = search needs
 
 returns-4 : tie.Need-returns-4
 unfolding unless sectionTests
-returns-4 c = let a = c .before .before .before .before .before .before .before .before .before .before .before .args in told-section (a .minor) (a .e .minor) (a .base) (a .k) (a .page .now) _ _ _ (c .before .before .before .before .before .before .before .before .before .count-at .ensures) (c .before .before .before .before .before .before .before .before .pointer-at .ensures) (c .before .before .before .before .before .before .before .check-at .ensures) _ (simp (sym (c .before .before .before .before .before .before .is-nothing .ensures) ∙ c .before .before .before .before .before .if1 .left, lt-ltb 0 (c .before .before .before .before .before .before .before .before .before .count-at .result) (search needs), eq-eqb (c .before .before .before .before .before .before .before .before .pointer-at .result % 8) 0 (search needs), sym (c .before .before .is-placed .ensures) ∙ not-true _ (c .before .if4 .taken)) (c .found-at3 .ensures))
+returns-4 c =
+    let b8 = c .before .before .before .before .before .before .before .before in
+    let a = b8 .before .before .before .args in
+    told-section (a .minor) (a .e .minor) (a .base) (a .k) (a .page .now) _ _ _ (b8 .before .count-at .ensures) (b8 .pointer-at .ensures)
+    (c .before .before .before .before .before .before .before .check-at .ensures) _
+    (simp (
+      sym (c .before .before .before .before .before .before .is-nothing .ensures) ∙
+          c .before .before .before .before .before .if1 .left,
+      lt-ltb 0 (b8 .before .count-at .result) (search needs),
+      eq-eqb (b8 .pointer-at .result % 8) 0 (search needs),
+      sym (c .before .before .is-placed .ensures) ∙ not-true _ (c .before .if4 .taken),
+    ) (c .found-at3 .ensures))
 
 sub-array-fault : tie.Need-sub-array-fault
-sub-array-fault c = let a = c .before .before .before .before .before .before .before .before .before .before .args in omega (arith, range-low (a .e .minor) (a .base) (a .k) (c .before .before .before .before .before .before .before .before .count-at .result) (c .before .before .before .before .before .before .before .pointer-at .result) (sym (c .before .is-placed .ensures) ∙ not-false _ (c .if4 .left)))
+sub-array-fault c =
+    let b8 = c .before .before .before .before .before .before .before .before in
+    let a = b8 .before .before .args in
+    omega (
+      arith,
+      range-low (a .e .minor) (a .base) (a .k) (b8 .count-at .result)
+          (c .before .before .before .before .before .before .before .pointer-at .result)
+          (sym (c .before .is-placed .ensures) ∙ not-false _ (c .if4 .left)),
+    )
 
 array-fault-requires : tie.Need-array-fault-requires
-array-fault-requires c κs = let a = c .before .before .before .before .before .before .before .before .before .before .args in omega (arith, range-low (a .e .minor) (a .base) (a .k) (c .before .before .before .before .before .before .before .before .count-at .result) (c .before .before .before .before .before .before .before .pointer-at .result) (sym (c .before .is-placed .ensures) ∙ not-false _ (c .if4 .left)), range-high (a .e .minor) (a .base) (a .k) (c .before .before .before .before .before .before .before .before .count-at .result) (c .before .before .before .before .before .before .before .pointer-at .result) (sym (c .before .is-placed .ensures) ∙ not-false _ (c .if4 .left)))
+array-fault-requires c κs =
+    let b8 = c .before .before .before .before .before .before .before .before in
+    let a = b8 .before .before .args in
+    omega (
+      arith,
+      range-low (a .e .minor) (a .base) (a .k) (b8 .count-at .result)
+          (c .before .before .before .before .before .before .before .pointer-at .result)
+          (sym (c .before .is-placed .ensures) ∙ not-false _ (c .if4 .left)),
+      range-high (a .e .minor) (a .base) (a .k) (b8 .count-at .result)
+          (c .before .before .before .before .before .before .before .pointer-at .result)
+          (sym (c .before .is-placed .ensures) ∙ not-false _ (c .if4 .left)),
+    )
 
 returns-5 : tie.Need-returns-5
 unfolding unless sectionTests
-returns-5 c = let a = c .before .before .before .before .before .before .before .before .before .before .before .args in told-section (a .minor) (a .e .minor) (a .base) (a .k) (a .page .now) _ _ _ (c .before .before .before .before .before .before .before .before .before .count-at .ensures) (c .before .before .before .before .before .before .before .before .pointer-at .ensures) (c .before .before .before .before .before .before .before .check-at .ensures) _ (simp (sym (c .before .before .before .before .before .before .is-nothing .ensures) ∙ c .before .before .before .before .before .if1 .left, lt-ltb 0 (c .before .before .before .before .before .before .before .before .before .count-at .result) (search needs), eq-eqb (c .before .before .before .before .before .before .before .before .pointer-at .result % 8) 0 (search needs), sym (c .before .before .is-placed .ensures) ∙ not-false _ (c .before .if4 .left)) (c .array-fault .ensures))
+returns-5 c =
+    let b8 = c .before .before .before .before .before .before .before .before in
+    let a = b8 .before .before .before .args in
+    told-section (a .minor) (a .e .minor) (a .base) (a .k) (a .page .now) _ _ _ (b8 .before .count-at .ensures) (b8 .pointer-at .ensures)
+    (c .before .before .before .before .before .before .before .check-at .ensures) _
+    (simp (
+      sym (c .before .before .before .before .before .before .is-nothing .ensures) ∙
+          c .before .before .before .before .before .if1 .left,
+      lt-ltb 0 (b8 .before .count-at .result) (search needs),
+      eq-eqb (b8 .pointer-at .result % 8) 0 (search needs),
+      sym (c .before .before .is-placed .ensures) ∙ not-false _ (c .before .if4 .left),
+    ) (c .array-fault .ensures))
 
 pub section-fault-spec : {M : Type 1} → statement M
 section-fault-spec =

@@ -27,7 +27,11 @@ enum-told-2 : tie.Need-enum-told-2 Inv-loop μ-loop
 enum-told-2 c = search needs
 
 returns : tie.Need-returns Inv-loop μ-loop
-returns c = let a = c .before .before .before .before .before .before .args in let l = c .before .before .before .before .loop in told-at (sectionFault (a .minor) (a .e .minor) (a .base) (a .page .now)) (l .k) _ (l .inv .1) (c .before .before .section-fault .ensures) (a .n) _ (omega arith) (c .enum-told2 .given .1)
+returns c =
+    let a = c .before .before .before .before .before .before .args in
+    let l = c .before .before .before .before .loop in
+    told-at (sectionFault (a .minor) (a .e .minor) (a .base) (a .page .now)) (l .k) _ (l .inv .1)
+    (c .before .before .section-fault .ensures) (a .n) _ (omega arith) (c .enum-told2 .given .1)
 
 add-k : tie.Need-add-k Inv-loop μ-loop
 add-k c = search needs
@@ -36,10 +40,19 @@ loop-less : tie.Need-loop-less Inv-loop μ-loop
 loop-less c = search needs
 
 loop-again : tie.Need-loop-again Inv-loop μ-loop
-loop-again c = let a = c .before .before .before .before .before .before .args in let l = c .before .before .before .before .loop in (search needs, told-more (sectionFault (a .minor) (a .e .minor) (a .base) (a .page .now)) (l .k) _ (l .inv .1) (c .before .before .section-fault .ensures) (c .enum-told .given .1))
+loop-again c =
+    let a = c .before .before .before .before .before .before .args in
+    let l = c .before .before .before .before .loop in (
+      search needs,
+      told-more (sectionFault (a .minor) (a .e .minor) (a .base) (a .page .now)) (l .k) _ (l .inv .1)
+          (c .before .before .section-fault .ensures) (c .enum-told .given .1),
+    )
 
 returns-2 : tie.Need-returns-2 Inv-loop μ-loop
-returns-2 c = let a = c .before .before .before .args in told-all (sectionFault (a .minor) (a .e .minor) (a .base) (a .page .now)) (c .before .loop .k) (a .n) (c .before .loop .inv .1) (omega arith)
+returns-2 c =
+    let a = c .before .before .before .args in
+    told-all (sectionFault (a .minor) (a .e .minor) (a .base) (a .page .now)) (c .before .loop .k) (a .n) (c .before .loop .inv .1)
+    (omega arith)
 
 pub sections-fault-spec : {M : Type 1} → statement M
 sections-fault-spec =

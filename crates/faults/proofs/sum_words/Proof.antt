@@ -35,7 +35,13 @@ loop-less : tie.Need-loop-less Inv-loop μ-loop
 loop-less c = search needs
 
 loop-again : tie.Need-loop-again Inv-loop μ-loop
-loop-again c = let l = c .before .before .before .loop in (search needs, search needs, sum-step _ _ (l .from) _ _ _ _ _ (omega arith) (l .inv .1) (l .inv .2) (c .before .word-at .ensures) (c .wrapping-add-u64 .ensures))
+loop-again c =
+    let l = c .before .before .before .loop in (
+      search needs,
+      search needs,
+      sum-step _ _ (l .from) _ _ _ _ _ (omega arith) (l .inv .1) (l .inv .2) (c .before .word-at .ensures)
+          (c .wrapping-add-u64 .ensures),
+    )
 
 returns : tie.Need-returns Inv-loop μ-loop
 unfolding sumAt

@@ -29,7 +29,8 @@ count-requires c κs = search needs
 returns-3 : tie.Need-returns-3
 returns-3 c =
     let a = c .before .before .before .before .before .args in
-    c .count .ensures ∙ ap (λ s. length (fieldsIn (scanOf s))) (lent-on (a .view .plat % 4096) (a .page .now)) ∙ count-there (a .page .now) (a .view) (search needs)
+    c .count .ensures ∙ ap (λ s. length (fieldsIn (scanOf s))) (lent-on (a .view .plat % 4096) (a .page .now)) ∙
+    count-there (a .page .now) (a .view) (search needs)
 
 pub field-count-spec : {M : Type 1} → statement M
 field-count-spec =

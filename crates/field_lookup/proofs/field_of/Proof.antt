@@ -66,7 +66,8 @@ loop-again : tie.Need-loop-again Inv-loop μ-loop
 loop-again c =
     let a = c .before .before .before .before .before .before .before .args in
     let l = c .before .before .before .before .loop in
-    ap (λ (s : FieldStep). placeNth (l .left - 1) (s .next) (a .page .now)) (c .before .before .before .field-next .ensures .0) ∙ nth-later (l .left) (l .cursor) (a .page .now) (search needs) ∙ l .inv
+    ap (λ (s : FieldStep). placeNth (l .left - 1) (s .next) (a .page .now)) (c .before .before .before .field-next .ensures .0) ∙
+    nth-later (l .left) (l .cursor) (a .page .now) (search needs) ∙ l .inv
 
 pub field-of-spec : {M : Type 1} → statement M
 field-of-spec =

@@ -11,7 +11,8 @@ use Rattle.field_lookup.proofs.field_of_tag.Statement.{statement}
 use Rattle.field_lookup.proofs.field_of_tag.Tie as tie
 
 abbrev Inv-loop : tie.InvT-loop
-Inv-loop page tag cursor₀ cursor = placeTagged tag (length (shownFrom cursor page)) cursor page ≡ placeTagged tag (length (shownFrom cursor₀ page)) cursor₀ page
+Inv-loop page tag cursor₀ cursor =
+    placeTagged tag (length (shownFrom cursor page)) cursor page ≡ placeTagged tag (length (shownFrom cursor₀ page)) cursor₀ page
 
 abbrev μ-loop : tie.MeasureT-loop
 μ-loop page tag cursor₀ cursor = length (shownFrom cursor page)
@@ -34,12 +35,14 @@ returns c =
     let a = c .before .before .before .before .before .before .args in
     let l = c .before .before .before .loop in
     let s = c .before .before .field-next in
-    let n = ap (λ (x : FieldStep). searchEnds (a .tag) (x .field)) (sym (s .ensures .0)) ∙ sym (c .before .search-ends .ensures) ∙ c .if1 .taken in
+    let n = ap (λ (x : FieldStep). searchEnds (a .tag) (x .field)) (sym (s .ensures .0)) ∙ sym (c .before .search-ends .ensures) ∙
+    c .if1 .taken in
     let r =
     ap (λ (x : FieldStep). x .field) (s .ensures .0)
     ∙ tag-here (a .tag) (l .cursor) (a .page .now) n
     ∙ l .inv
-    ∙ ap (λ x. placeTagged (a .tag) (length (shownFrom x (a .page .now))) x (a .page .now)) (c .before .before .before .before .fields-start .ensures .0)
+    ∙ ap (λ x. placeTagged (a .tag) (length (shownFrom x (a .page .now))) x (a .page .now))
+    (c .before .before .before .before .fields-start .ensures .0)
     in
     (r, ap (λ f. fieldAs f (a .page .now)) r ∙ tag-place (a .tag) (a .view) (a .page .now))
 
@@ -48,7 +51,8 @@ loop-less c =
     let a = c .before .before .before .before .before .before .args in
     let l = c .before .before .before .loop in
     let s = c .before .before .field-next in
-    let n = ap (λ (x : FieldStep). searchEnds (a .tag) (x .field)) (sym (s .ensures .0)) ∙ sym (c .before .search-ends .ensures) ∙ c .if1 .left in
+    let n = ap (λ (x : FieldStep). searchEnds (a .tag) (x .field)) (sym (s .ensures .0)) ∙ sym (c .before .search-ends .ensures) ∙
+    c .if1 .left in
     rw (s .ensures .0) (step-less (l .cursor) (a .page .now) (goes-on (a .tag) (stepAt (l .cursor) (a .page .now) .field) n))
 
 loop-again : tie.Need-loop-again Inv-loop μ-loop
@@ -56,8 +60,10 @@ loop-again c =
     let a = c .before .before .before .before .before .before .args in
     let l = c .before .before .before .loop in
     let s = c .before .before .field-next in
-    let n = ap (λ (x : FieldStep). searchEnds (a .tag) (x .field)) (sym (s .ensures .0)) ∙ sym (c .before .search-ends .ensures) ∙ c .if1 .left in
-    ap (λ (x : FieldStep). placeTagged (a .tag) (length (shownFrom (x .next) (a .page .now))) (x .next) (a .page .now)) (s .ensures .0) ∙ tag-later (a .tag) (l .cursor) (a .page .now) n ∙ l .inv
+    let n = ap (λ (x : FieldStep). searchEnds (a .tag) (x .field)) (sym (s .ensures .0)) ∙ sym (c .before .search-ends .ensures) ∙
+    c .if1 .left in
+    ap (λ (x : FieldStep). placeTagged (a .tag) (length (shownFrom (x .next) (a .page .now))) (x .next) (a .page .now)) (s .ensures .0) ∙
+    tag-later (a .tag) (l .cursor) (a .page .now) n ∙ l .inv
 
 pub field-of-tag-spec : {M : Type 1} → statement M
 field-of-tag-spec =

@@ -6,7 +6,10 @@ use Rattle.field_lookup.proofs.fields_start.Statement.{statement}
 use Rattle.field_lookup.proofs.fields_start.Tie as tie
 
 returns : tie.Need-returns
-returns c = let a = c .before .before .args in let e = start-none (a .page .now) (a .view) (search needs) in (e, ap (λ x. shownFrom x (a .page .now)) e ∙ started (a .page .now) (a .view))
+returns c =
+    let a = c .before .before .args in
+    let e = start-none (a .page .now) (a .view) (search needs) in
+    (e, ap (λ x. shownFrom x (a .page .now)) e ∙ started (a .page .now) (a .view))
 
 scan-at-requires : tie.Need-scan-at-requires
 scan-at-requires c κs = search needs

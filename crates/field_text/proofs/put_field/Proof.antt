@@ -39,7 +39,8 @@ returns-2 c = rw (c .before .before .before .before .before .enum-told .given .1
 
 returns-3 : tie.Need-returns-3
 unfolding placeText
-returns-3 c = let a = c .before .before .before .before .args in rw (c .enum-told2 .given .1) (wrote-none (a .at) (a .out .now) (search needs))
+returns-3 c =
+    let a = c .before .before .before .before .args in rw (c .enum-told2 .given .1) (wrote-none (a .at) (a .out .now) (search needs))
 
 pub put-field-spec : {M : Type 1} → statement M
 put-field-spec =

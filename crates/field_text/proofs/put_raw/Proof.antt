@@ -28,11 +28,14 @@ same-length c = search needs
 returns : tie.Need-returns
 unfolding fieldText space
 returns c =
+    let b8 = c .before .before .before .before .before .before .before .before in
+    let b16 = b8 .before .before .before .before .before .before .before .before in
     wrote-then (search needs)
     (wrote-then (search needs)
     (wrote-then (search needs)
-    (wrote-then (search needs) (c .before .before .before .before .before .before .before .before .before .before .before .before .before .before .before .before .before .before .before .put-decimal .ensures) (c .before .before .before .before .before .before .before .before .before .before .before .before .before .before .put .ensures))
-    (c .before .before .before .before .before .before .before .before .before .before .put-decimal2 .ensures))
+    (wrote-then (search needs) (b16 .before .before .before .put-decimal .ensures)
+    (b8 .before .before .before .before .before .before .put .ensures))
+    (b8 .before .before .put-decimal2 .ensures))
     (c .before .before .before .before .before .before .put-value .ensures))
     (c .before .before .put-end .ensures)
 

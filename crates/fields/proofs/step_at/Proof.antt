@@ -18,12 +18,14 @@ returns c =
 returns-2 : tie.Need-returns-2
 returns-2 c =
     let a = c .before .before .before .before .before .before .args in
-    step-withdrawn (a .at) (a .part .now) (sym (c .before .before .before .before .field-at .ensures) ∙ c .before .before .head .given .1) (search needs)
+    step-withdrawn (a .at) (a .part .now) (sym (c .before .before .before .before .field-at .ensures) ∙ c .before .before .head .given .1)
+    (search needs)
 
 returns-3 : tie.Need-returns-3
 returns-3 c =
     let a = c .before .before .before .before .before .before .args in
-    step-field (a .at) (a .part .now) (sym (c .before .before .before .before .field-at .ensures) ∙ c .before .before .head .given .1) (search needs)
+    step-field (a .at) (a .part .now) (sym (c .before .before .before .before .field-at .ensures) ∙ c .before .before .head .given .1)
+    (search needs)
 
 pub step-at-spec : {M : Type 1} → statement M
 step-at-spec =

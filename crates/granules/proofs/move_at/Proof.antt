@@ -22,7 +22,8 @@ is-shared-page-requires c κs = search needs
 returns-2 : tie.Need-returns-2
 returns-2 c =
     let a = c .before .before .before .before .before .before .before .args in
-    λ g e. move-shared (a .params) g (a .direction) (a .table .now) (a .words .now) (a .address) _ (sym e ∙ c .before .before .before .granule .given .1) (sym (c .before .is-shared-page .ensures) ∙ c .if1 .taken)
+    λ g e. move-shared (a .params) g (a .direction) (a .table .now) (a .words .now) (a .address) _
+    (sym e ∙ c .before .before .before .granule .given .1) (sym (c .before .is-shared-page .ensures) ∙ c .if1 .taken)
 
 from-byte-requires : tie.Need-from-byte-requires
 from-byte-requires c κs = search needs
@@ -31,18 +32,31 @@ to-byte-requires : tie.Need-to-byte-requires
 to-byte-requires c κs = search needs
 
 slice-read-byte : tie.Need-slice-read-byte
-slice-read-byte c = omega (arith, (c .before .before .before .before .before .before .before .before .before .before .pre _ (c .before .before .before .before .before .before .granule .given .1)) .0)
+slice-read-byte c =
+    omega (
+      arith,
+      (c .before .before .before .before .before .before .before .before .before .before .pre _
+          (c .before .before .before .before .before .before .granule .given .1)) .0,
+    )
 
 returns-3 : tie.Need-returns-3
 returns-3 c =
-    let a = c .before .before .before .before .before .before .before .before .before .before .before .args in
-    λ g e. move-pas (a .params) g (a .direction) (a .table .now) (a .words .now) (a .address) _ (sym e ∙ c .before .before .before .before .before .before .before .granule .given .1) (sym (c .before .before .before .before .before .is-shared-page .ensures) ∙ c .before .before .before .before .if1 .left) (rw (← c .before .before .before .from-byte .ensures) (c .if2 .taken))
+    let b8 = c .before .before .before .before .before .before .before .before in
+    let a = b8 .before .before .before .args in
+    λ g e. move-pas (a .params) g (a .direction) (a .table .now) (a .words .now) (a .address) _
+    (sym e ∙ c .before .before .before .before .before .before .before .granule .given .1)
+    (sym (c .before .before .before .before .before .is-shared-page .ensures) ∙ c .before .before .before .before .if1 .left)
+    (rw (← c .before .before .before .from-byte .ensures) (c .if2 .taken))
 
 slice-write-table : tie.Need-slice-write-table
-slice-write-table c = omega (arith, (c .before .before .before .before .before .before .before .before .before .before .before .pre _ (c .before .before .before .before .before .before .before .granule .given .1)) .0)
+slice-write-table c =
+    let b8 = c .before .before .before .before .before .before .before .before in
+    omega (arith, (b8 .before .before .before .pre _ (c .before .before .before .before .before .before .before .granule .given .1)) .0)
 
 put-bit-requires : tie.Need-put-bit-requires
-put-bit-requires c κs = c .before .before .before .before .before .before .before .before .before .before .before .before .pre _ (c .before .before .before .before .before .before .before .before .granule .given .1) .1
+put-bit-requires c κs =
+    let b8 = c .before .before .before .before .before .before .before .before in
+    b8 .before .before .before .before .pre _ (b8 .granule .given .1) .1
 
 same-length : tie.Need-same-length
 same-length c = search needs
@@ -52,9 +66,13 @@ same-length-2 c = search needs
 
 returns-4 : tie.Need-returns-4
 returns-4 c =
-    let a = c .before .before .before .before .before .before .before .before .before .before .before .before .before .before .before .args in
+    let b8 = c .before .before .before .before .before .before .before .before in
+    let a = b8 .before .before .before .before .before .before .before .args in
     λ g e. rw (c .before .before .put-bit .ensures)
-    (move-ok (a .params) g (a .direction) (a .table .now) (a .words .now) (a .address) _ (sym e ∙ c .before .before .before .before .before .before .before .before .before .before .before .granule .given .1) (sym (c .before .before .before .before .before .before .before .before .before .is-shared-page .ensures) ∙ c .before .before .before .before .before .before .before .before .if1 .left) (c .before .before .before .before .if2 .left ∙ c .before .before .before .before .before .before .before .from-byte .ensures) _ (c .before .before .before .before .before .before .to-byte .ensures))
+    (move-ok (a .params) g (a .direction) (a .table .now) (a .words .now) (a .address) _
+    (sym e ∙ b8 .before .before .before .granule .given .1) (sym (b8 .before .is-shared-page .ensures) ∙ b8 .if1 .left)
+    (c .before .before .before .before .if2 .left ∙ c .before .before .before .before .before .before .before .from-byte .ensures)
+    _ (c .before .before .before .before .before .before .to-byte .ensures))
 
 pub move-at-spec : {M : Type 1} → statement M
 move-at-spec =

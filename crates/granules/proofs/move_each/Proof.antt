@@ -16,7 +16,8 @@ use Rattle.granules.proofs.move_each.Tie as tie
 abbrev Inv-loop : tie.InvT-loop
 Inv-loop params granules direction table₀ words₀ addresses n bank₀ i₀ table words bank i =
     (i ≤ length addresses) × (length table ≡ length table₀) × (length words ≡ length words₀) × SpanOf granules bank
-    × (listBy (moveAt params granules direction) 0 (tableOf table₀ words₀) addresses ≡ listBy (moveAt params granules direction) i (tableOf table words) (drop i addresses))
+    × (listBy (moveAt params granules direction) 0 (tableOf table₀ words₀) addresses ≡ listBy (moveAt params granules direction) i
+    (tableOf table words) (drop i addresses))
 
 abbrev μ-loop : tie.MeasureT-loop
 μ-loop params granules direction table₀ words₀ addresses n bank₀ i₀ table words bank i = length addresses - i
@@ -44,15 +45,16 @@ move-at-requires c κs =
     let l = f .before .before .before .loop in
     let s = f .before .before .before .before .before .before .before .before in
     let a = s .args in
-    let k = found-is (a .granules .now) (l .bank) (length (l .table)) _ (f .find-from .result) (s .pre .0) (s .pre .1 ∙ sym (l .inv .1)) (l .inv .3) (f .find-from .ensures) in
+    let k = found-is (a .granules .now) (l .bank) (length (l .table)) _ (f .find-from .result) (s .pre .0) (s .pre .1 ∙ sym (l .inv .1))
+    (l .inv .3) (f .find-from .ensures) in
     granule-inside (a .granules .now) (l .table) (l .words) _ _
     (fit-long (l .words) (a .words .now) (granuleCount (a .granules .now)) (l .inv .2) (s .pre .2)) (k .0)
 
 is-ok-requires : tie.Need-is-ok-requires Inv-loop μ-loop
 is-ok-requires c κs = search needs
 
-answered-requires : tie.Need-answered-requires Inv-loop μ-loop
-answered-requires c κs = search needs
+answer-with-requires : tie.Need-answer-with-requires Inv-loop μ-loop
+answer-with-requires c κs = search needs
 
 same-length : tie.Need-same-length Inv-loop μ-loop
 same-length c = search needs
@@ -67,14 +69,18 @@ returns c =
     let l = f .before .before .before .loop in
     let s = f .before .before .before .before .before .before .before .before in
     let a = s .args in
-    let k = found-is (a .granules .now) (l .bank) (length (l .table)) _ (f .find-from .result) (s .pre .0) (s .pre .1 ∙ sym (l .inv .1)) (l .inv .3) (f .find-from .ensures) in
-    told-stop (moveAt (a .params) (a .granules .now) (a .direction)) (a .addresses .now) (l .i) (tableOf (l .table) (l .words)) _ (l .inv .4)
-    (f .before .before .loop-test .taken) _ _ _ (m .move-at .ensures (a .granules .now) (k .0)) _ (c .before .before .is-ok .ensures) (not-true _ (c .before .if1 .taken))
-    _ (c .answered .ensures)
+    let k = found-is (a .granules .now) (l .bank) (length (l .table)) _ (f .find-from .result) (s .pre .0) (s .pre .1 ∙ sym (l .inv .1))
+    (l .inv .3) (f .find-from .ensures) in
+    told-stop (moveAt (a .params) (a .granules .now) (a .direction)) (a .addresses .now) (l .i) (tableOf (l .table) (l .words)) _
+    (l .inv .4)
+    (f .before .before .loop-test .taken) _ _ _ (m .move-at .ensures (a .granules .now) (k .0)) _ (c .before .before .is-ok .ensures)
+    (not-true _ (c .before .if1 .taken))
+    _ (c .answer-with .ensures)
 
 add-i : tie.Need-add-i Inv-loop μ-loop
 add-i c =
-    let s = c .before .before .before .before .before .before .before .before .before .before .before .before .before .before .before .before .before .before in search needs
+    let s = c .before .before .before .before .before .before .before .before .before .before .before .before .before .before .before .before .before .before in
+    search needs
 
 loop-less : tie.Need-loop-less Inv-loop μ-loop
 loop-less c = search needs
@@ -87,19 +93,21 @@ loop-again c =
     let l = f .before .before .before .loop in
     let s = f .before .before .before .before .before .before .before .before in
     let a = s .args in
-    let k = found-is (a .granules .now) (l .bank) (length (l .table)) _ (f .find-from .result) (s .pre .0) (s .pre .1 ∙ sym (l .inv .1)) (l .inv .3) (f .find-from .ensures) in
+    let k = found-is (a .granules .now) (l .bank) (length (l .table)) _ (f .find-from .result) (s .pre .0) (s .pre .1 ∙ sym (l .inv .1))
+    (l .inv .3) (f .find-from .ensures) in
     let e = m .move-at .ensures (a .granules .now) (k .0) in
     let n = told-lengths (a .params) (a .granules .now) (a .direction) (tableOf (l .table) (l .words)) _ _ e in (
       search needs,
       n .0 ∙ l .inv .1,
       n .1 ∙ l .inv .2,
       k .1,
-      told-more (moveAt (a .params) (a .granules .now) (a .direction)) (a .addresses .now) (l .i) (tableOf (l .table) (l .words)) _ (l .inv .4)
+      told-more (moveAt (a .params) (a .granules .now) (a .direction)) (a .addresses .now) (l .i) (tableOf (l .table) (l .words)) _
+          (l .inv .4)
           (search needs) _ _ _ e _ (c .before .before .is-ok .ensures) (not-false _ (c .before .if1 .left)),
     )
 
-answered-requires-2 : tie.Need-answered-requires-2 Inv-loop μ-loop
-answered-requires-2 c κs = search needs
+answer-with-requires-2 : tie.Need-answer-with-requires-2 Inv-loop μ-loop
+answer-with-requires-2 c κs = search needs
 
 same-length-3 : tie.Need-same-length-3 Inv-loop μ-loop
 same-length-3 c = search needs
@@ -112,7 +120,8 @@ unfolding movedTo
 returns-2 c =
     let l = c .before .before .loop in
     let a = c .before .before .before .before .before .before .before .args in
-    told-last (moveAt (a .params) (a .granules .now) (a .direction)) (a .addresses .now) (l .i) (tableOf (l .table) (l .words)) _ (l .inv .4) (omega arith) _ (c .answered2 .ensures)
+    told-last (moveAt (a .params) (a .granules .now) (a .direction)) (a .addresses .now) (l .i) (tableOf (l .table) (l .words)) _
+    (l .inv .4) (omega arith) _ (c .answer-with2 .ensures)
 
 pub move-each-spec : {M : Type 1} → statement M
 move-each-spec =
@@ -127,14 +136,14 @@ move-each-spec =
     find-from-requires
     move-at-requires
     is-ok-requires
-    answered-requires
+    answer-with-requires
     same-length
     same-length-2
     returns
     add-i
     loop-less
     loop-again
-    answered-requires-2
+    answer-with-requires-2
     same-length-3
     same-length-4
     returns-2)

@@ -24,7 +24,8 @@ returns c =
     let g = w .before .before in
     let a = g .before .before .before .args in
     move-unfit (a .state) (a .granules .now) (a .direction) (tableOf (a .table .now) (a .words .now)) (a .address)
-    (fit-told (a .granules .now) (a .table .now) (a .words .now) _ _ _ (g .granule-count .ensures) (w .words-fit .ensures) (not-true _ (c .if1 .taken)))
+    (fit-told (a .granules .now) (a .table .now) (a .words .now) _ _ _ (g .granule-count .ensures) (w .words-fit .ensures)
+    (not-true _ (c .if1 .taken)))
 
 is-up-requires : tie.Need-is-up-requires
 is-up-requires c κs = search needs
@@ -40,7 +41,8 @@ returns-2 c =
     let g = w .before .before in
     let a = g .before .before .before .args in
     move-down (a .state) (a .granules .now) (a .direction) (tableOf (a .table .now) (a .words .now)) (a .address)
-    (fit-told (a .granules .now) (a .table .now) (a .words .now) _ _ _ (g .granule-count .ensures) (w .words-fit .ensures) (not-false _ (s .before .if1 .left)))
+    (fit-told (a .granules .now) (a .table .now) (a .words .now) _ _ _ (g .granule-count .ensures) (w .words-fit .ensures)
+    (not-false _ (s .before .if1 .left)))
     (sym (s .is-up .ensures) ∙ not-true _ (c .if2 .taken))
 
 table-fits-requires : tie.Need-table-fits-requires
@@ -57,12 +59,14 @@ returns-3 c =
     let g = w .before .before in
     let a = g .before .before .before .args in
     move-nowhere (a .state) (a .granules .now) (a .direction) (tableOf (a .table .now) (a .words .now)) (a .address)
-    (fit-told (a .granules .now) (a .table .now) (a .words .now) _ _ _ (g .granule-count .ensures) (w .words-fit .ensures) (not-false _ (s .before .if1 .left)))
+    (fit-told (a .granules .now) (a .table .now) (a .words .now) _ _ _ (g .granule-count .ensures) (w .words-fit .ensures)
+    (not-false _ (s .before .if1 .left)))
     (sym (s .is-up .ensures) ∙ not-false _ (t .before .if2 .left))
-    (table-unfit (a .granules .now) (length (a .table .now)) (a .address) (rw (← g .granule-count .ensures) (sym (t .table-fits .ensures) ∙ not-true _ (c .if3 .taken))))
+    (table-unfit (a .granules .now) (length (a .table .now)) (a .address)
+    (rw (← g .granule-count .ensures) (sym (t .table-fits .ensures) ∙ not-true _ (c .if3 .taken))))
 
-up-of-requires : tie.Need-up-of-requires
-up-of-requires c κs = search needs
+boot-params-requires : tie.Need-boot-params-requires
+boot-params-requires c κs = search needs
 
 no-bank-requires : tie.Need-no-bank-requires
 no-bank-requires c κs = search needs
@@ -80,11 +84,13 @@ move-at-requires c κs =
     let w = s .before .before in
     let g = w .before .before in
     let a = g .before .before .before .args in
-    let h = table-fits (a .granules .now) (length (a .table .now)) (rw (← g .granule-count .ensures) (sym (t .table-fits .ensures) ∙ not-false _ (u .before .if3 .left))) in
+    let h = table-fits (a .granules .now) (length (a .table .now))
+    (rw (← g .granule-count .ensures) (sym (t .table-fits .ensures) ∙ not-false _ (u .before .if3 .left))) in
     let k = found-is (a .granules .now) (n .no-bank .result) (length (a .table .now)) (a .address) (f .find-from .result) (h .0) (h .1)
     (rw (n .no-bank .ensures) (none-span (a .granules .now))) (f .find-from .ensures) in
     granule-inside (a .granules .now) (a .table .now) (a .words .now) (a .address) _
-    (fit-told (a .granules .now) (a .table .now) (a .words .now) _ _ _ (g .granule-count .ensures) (w .words-fit .ensures) (not-false _ (s .before .if1 .left))) (k .0)
+    (fit-told (a .granules .now) (a .table .now) (a .words .now) _ _ _ (g .granule-count .ensures) (w .words-fit .ensures)
+    (not-false _ (s .before .if1 .left))) (k .0)
 
 same-length-4 : tie.Need-same-length-4
 same-length-4 c = search needs
@@ -103,12 +109,15 @@ returns-4 c =
     let w = s .before .before in
     let g = w .before .before in
     let a = g .before .before .before .args in
-    let h = table-fits (a .granules .now) (length (a .table .now)) (rw (← g .granule-count .ensures) (sym (t .table-fits .ensures) ∙ not-false _ (u .before .if3 .left))) in
+    let h = table-fits (a .granules .now) (length (a .table .now))
+    (rw (← g .granule-count .ensures) (sym (t .table-fits .ensures) ∙ not-false _ (u .before .if3 .left))) in
     let k = found-is (a .granules .now) (n .no-bank .result) (length (a .table .now)) (a .address) (f .find-from .result) (h .0) (h .1)
     (rw (n .no-bank .ensures) (none-span (a .granules .now))) (f .find-from .ensures) in
     told-up (a .state) (a .granules .now) (a .direction) (tableOf (a .table .now) (a .words .now)) (a .address)
-    (fit-told (a .granules .now) (a .table .now) (a .words .now) _ _ _ (g .granule-count .ensures) (w .words-fit .ensures) (not-false _ (s .before .if1 .left)))
-    (sym (s .is-up .ensures) ∙ not-false _ (t .before .if2 .left)) _ (u .up-of .ensures) _ (m .move-at .ensures (a .granules .now) (k .0))
+    (fit-told (a .granules .now) (a .table .now) (a .words .now) _ _ _ (g .granule-count .ensures) (w .words-fit .ensures)
+    (not-false _ (s .before .if1 .left)))
+    (sym (s .is-up .ensures) ∙ not-false _ (t .before .if2 .left)) _ (u .boot-params .ensures) _
+    (m .move-at .ensures (a .granules .now) (k .0))
 
 pub move-one-spec : {M : Type 1} → statement M
 move-one-spec =
@@ -124,7 +133,7 @@ move-one-spec =
     table-fits-requires
     same-length-3
     returns-3
-    up-of-requires
+    boot-params-requires
     no-bank-requires
     find-from-requires
     move-at-requires

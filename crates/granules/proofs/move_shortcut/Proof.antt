@@ -10,8 +10,8 @@ use borrow.Author.Needs.{needs}
 use Rattle.granules.proofs.move_shortcut.Statement.{statement}
 use Rattle.granules.proofs.move_shortcut.Tie as tie
 
-up-of-requires : tie.Need-up-of-requires
-up-of-requires c κs = search needs
+boot-params-requires : tie.Need-boot-params-requires
+boot-params-requires c κs = search needs
 
 find-first-requires : tie.Need-find-first-requires
 find-first-requires c κs = search needs
@@ -42,13 +42,13 @@ returns c =
     let w : Yes (wordsFit (a .words .now) (granuleCount (a .granules .now))) = rw (o .2) (s .pre .2) in
     let k = f .find-first .ensures ∙ first-is (a .granules .now) (length (a .table .now)) (a .address) (s .pre .1) in
     told-up (a .state) (a .granules .now) (a .direction) (tableOf (a .table .now) (a .words .now)) (a .address) w (s .pre .0)
-    _ (f .before .up-of .ensures) _ (m .move-at .ensures (a .granules .now) k)
+    _ (f .before .boot-params .ensures) _ (m .move-at .ensures (a .granules .now) k)
 
 pub move-shortcut-spec : {M : Type 1} → statement M
 move-shortcut-spec =
     tie.close
     (tie.spec
-    up-of-requires
+    boot-params-requires
     find-first-requires
     move-at-requires
     same-length

@@ -18,7 +18,10 @@ has-one-bank-requires c κs = search needs
 returns-2 : tie.Need-returns-2
 unfolding both
 returns-2 c =
-    rw (sym (c .before .before .before .is-up .ensures) ∙ not-false _ (c .before .before .if1 .left), sym (c .before .has-one-bank .ensures) ∙ not-true _ (c .if2 .taken))
+    rw (
+      sym (c .before .before .before .is-up .ensures) ∙ not-false _ (c .before .before .if1 .left),
+      sym (c .before .has-one-bank .ensures) ∙ not-true _ (c .if2 .taken),
+    )
 
 words-fit-requires : tie.Need-words-fit-requires
 words-fit-requires c κs = search needs
@@ -26,7 +29,10 @@ words-fit-requires c κs = search needs
 returns-3 : tie.Need-returns-3
 unfolding both
 returns-3 c =
-    rw (sym (c .before .before .before .before .is-up .ensures) ∙ not-false _ (c .before .before .before .if1 .left), sym (c .before .before .has-one-bank .ensures) ∙ not-false _ (c .before .if2 .left))
+    rw (
+      sym (c .before .before .before .before .is-up .ensures) ∙ not-false _ (c .before .before .before .if1 .left),
+      sym (c .before .before .has-one-bank .ensures) ∙ not-false _ (c .before .if2 .left),
+    )
     (c .words-fit .ensures)
 
 pub takes-shortcut-spec : {M : Type 1} → statement M

@@ -3,8 +3,8 @@ use mathlib.Core.Path.{_≡_}
 use native.Mathlib.Omega.{arith}
 use Rattle.reader.specs.Reading.{sectionOf}
 use Rattle.reader.specs.declared.Section.{Section}
-use Rattle.kept.specs.Kept.{sectionEnd, highestOf, keptFor}
-use Rattle.kept.proofs.Kept.{end-most}
+use Rattle.manifest_extent.specs.Kept.{sectionEnd, highestOf, keptFor}
+use Rattle.manifest_extent.proofs.Kept.{end-most}
 use Rattle.images.specs.Image.{viewOf}
 use borrow.Author.Needs.{needs}
 use Rattle.images.proofs.kept_for.Statement.{statement}
@@ -48,7 +48,8 @@ higher-end-requires-4 c κs = search needs
 
 add-result : tie.Need-add-result
 add-result c =
-    let b1 = still-most _ _ _ _ (c .before .before .before .before .before .before .higher-end .ensures) (c .before .before .before .before .before .before .before .before .core-end .ensures .1) in
+    let b1 = still-most _ _ _ _ (c .before .before .before .before .before .before .higher-end .ensures)
+    (c .before .before .before .before .before .before .before .before .core-end .ensures .1) in
     let b2 = still-most _ _ _ _ (c .before .before .before .before .higher-end2 .ensures) b1 in
     let b3 = still-most _ _ _ _ (c .before .before .higher-end3 .ensures) b2 in
     let b4 = still-most _ _ _ _ (c .higher-end4 .ensures) b3 in
@@ -56,7 +57,8 @@ add-result c =
 
 mul-result : tie.Need-mul-result
 mul-result c =
-    let b1 = still-most _ _ _ _ (c .before .before .before .before .before .before .higher-end .ensures) (c .before .before .before .before .before .before .before .before .core-end .ensures .1) in
+    let b1 = still-most _ _ _ _ (c .before .before .before .before .before .before .higher-end .ensures)
+    (c .before .before .before .before .before .before .before .before .core-end .ensures .1) in
     let b2 = still-most _ _ _ _ (c .before .before .before .before .higher-end2 .ensures) b1 in
     let b3 = still-most _ _ _ _ (c .before .before .higher-end3 .ensures) b2 in
     let b4 = still-most _ _ _ _ (c .higher-end4 .ensures) b3 in
@@ -65,7 +67,8 @@ mul-result c =
 returns : tie.Need-returns
 unfolding keptFor highestOf sectionOf viewOf
 returns c =
-    let b1 = still-most _ _ _ _ (c .before .before .before .before .before .before .higher-end .ensures) (c .before .before .before .before .before .before .before .before .core-end .ensures .1) in
+    let b1 = still-most _ _ _ _ (c .before .before .before .before .before .before .higher-end .ensures)
+    (c .before .before .before .before .before .before .before .before .core-end .ensures .1) in
     let b2 = still-most _ _ _ _ (c .before .before .before .before .higher-end2 .ensures) b1 in
     let b3 = still-most _ _ _ _ (c .before .before .higher-end3 .ensures) b2 in
     let b4 = still-most _ _ _ _ (c .higher-end4 .ensures) b3 in

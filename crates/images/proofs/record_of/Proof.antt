@@ -36,7 +36,10 @@ returns-2 : tie.Need-returns-2
 unfolding recordOf
 returns-2 c =
     let w = c .before .before .before .before .before .before .before .before .args .image .now in
-    simp (ne-eqb (getD w 0 0) 0 (c .before .before .before .before .before .before .if1 .left), eq-eqb (getD w 0 0) 1 (c .before .before .before .before .if2 .taken))
+    simp (
+      ne-eqb (getD w 0 0) 0 (c .before .before .before .before .before .before .if1 .left),
+      eq-eqb (getD w 0 0) 1 (c .before .before .before .before .if2 .taken),
+    )
 
 returns-3 : tie.Need-returns-3
 unfolding recordOf

@@ -28,7 +28,10 @@ returns-2 : tie.Need-returns-2
 unfolding sectionBy sectionIn
 returns-2 c =
     let a = c .before .before .before .before .args in
-    simp (ne-eqb (getD (a .image .now) (a .at) 0) 0 (c .before .before .if1 .left), eq-eqb (getD (a .image .now) (a .at) 0) 1 (c .if2 .taken))
+    simp (
+      ne-eqb (getD (a .image .now) (a .at) 0) 0 (c .before .before .if1 .left),
+      eq-eqb (getD (a .image .now) (a .at) 0) 1 (c .if2 .taken),
+    )
 
 add-t3 : tie.Need-add-t3
 add-t3 c = search needs
@@ -52,7 +55,10 @@ returns-3 : tie.Need-returns-3
 unfolding sectionBy sectionIn
 returns-3 c =
     let a = c .before .before .before .before .before .before .args in
-    simp (ne-eqb (getD (a .image .now) (a .at) 0) 0 (c .before .before .before .before .if1 .left), ne-eqb (getD (a .image .now) (a .at) 0) 1 (c .before .before .if2 .left))
+    simp (
+      ne-eqb (getD (a .image .now) (a .at) 0) 0 (c .before .before .before .before .if1 .left),
+      ne-eqb (getD (a .image .now) (a .at) 0) 1 (c .before .before .if2 .left),
+    )
 
 pub section-in-spec : {M : Type 1} → statement M
 section-in-spec =

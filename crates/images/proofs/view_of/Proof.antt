@@ -26,7 +26,13 @@ section-in-requires-4 c κs = search needs
 
 returns : tie.Need-returns
 unfolding viewOf
-returns c = rw (c .before .before .before .section-in .ensures, c .before .before .section-in2 .ensures, c .before .section-in3 .ensures, c .section-in4 .ensures)
+returns c =
+    rw (
+      c .before .before .before .section-in .ensures,
+      c .before .before .section-in2 .ensures,
+      c .before .section-in3 .ensures,
+      c .section-in4 .ensures,
+    )
 
 pub view-of-spec : {M : Type 1} → statement M
 view-of-spec =

@@ -18,7 +18,8 @@ returns c =
     let a = c .before .before .before .args in
     let e = c .before .place .ensures in (
       c .part-of .ensures .0 ∙ e .1,
-      told-starts (a .base) (a .page .now) (readOf (a .edition) (a .base) (a .page .now)) (a .k) _ (e .0) (a .page .ptr) _ (c .part-of .ensures .1),
+      told-starts (a .base) (a .page .now) (readOf (a .edition) (a .base) (a .page .now)) (a .k) _ (e .0) (a .page .ptr) _
+          (c .part-of .ensures .1),
     )
 
 pub array-spec : {M : Type 1} → statement M

@@ -20,7 +20,8 @@ returns c =
     let a = c .before .before .before .args in
     let e = c .before .place-of .ensures in (
       c .part-of .ensures .0 ∙ e .1,
-      c .part-of .ensures .1 ∙ ap (λ (p : Span). onFrom (a .page .ptr) (spanStart p (a .page .now))) (e .0) ∙ ap (onFrom (a .page .ptr)) (section-starts (a .k) (sectionOf (a .view) (a .k)) (a .page .now)),
+      c .part-of .ensures .1 ∙ ap (λ (p : Span). onFrom (a .page .ptr) (spanStart p (a .page .now))) (e .0) ∙
+          ap (onFrom (a .page .ptr)) (section-starts (a .k) (sectionOf (a .view) (a .k)) (a .page .now)),
     )
 
 pub array-of-spec : {M : Type 1} → statement M

@@ -14,7 +14,8 @@ count-in-requires c κs = search needs
 returns : tie.Need-returns
 returns c =
     let a = c .before .before .before .args in
-    c .count-in .ensures ∙ ap (λ s. countOf (a .k) s (a .page .now)) (c .before .section-of .ensures) ∙ count-view (a .page .now) (a .view) (a .k)
+    c .count-in .ensures ∙ ap (λ s. countOf (a .k) s (a .page .now)) (c .before .section-of .ensures) ∙
+    count-view (a .page .now) (a .view) (a .k)
 
 pub count-of-spec : {M : Type 1} → statement M
 count-of-spec = tie.close (tie.spec section-of-requires count-in-requires returns)

@@ -10,7 +10,8 @@ use Rattle.lookup.proofs.find_console.Statement.{statement}
 use Rattle.lookup.proofs.find_console.Tie as tie
 
 abbrev Inv-loop : tie.InvT-loop
-Inv-loop page name wanted array count i₀ i = (i ≤ count) × (firstFrom (count - i) i (namedAt array name) ≡ firstFrom count 0 (namedAt array name))
+Inv-loop page name wanted array count i₀ i =
+    (i ≤ count) × (firstFrom (count - i) i (namedAt array name) ≡ firstFrom count 0 (namedAt array name))
 
 abbrev μ-loop : tie.MeasureT-loop
 μ-loop page name wanted array count i₀ i = count - i
@@ -44,12 +45,14 @@ whole-word-requires c κs = search needs
 
 returns : tie.Need-returns Inv-loop μ-loop
 returns c =
-    let a = c .before .before .before .before .before .before .before .before .before .args in
+    let b8 = c .before .before .before .before .before .before .before .before in
+    let a = b8 .before .args in
     let l = c .before .before .before .before .loop in
     let bs = c .before .before .before .before .before .array-of .result .now in
     let x = c .before .whole-word .ensures ∙ word-lent (48 * l .i) 48 16 (48 * l .i + 16) bs (omega arith) (omega arith) (omega arith) in
     let t = name-is bs (a .name .now) (l .i) x (c .before .before .before .before .before .before .word-at .ensures) (search needs) in
-    first-here (namedAt bs (a .name .now)) (length bs / 48) (l .i) (search needs) t ∙ l .inv .1 ∙ array-named (a .page .now) (a .view) bs (a .name .now) (c .before .before .before .before .before .array-of .ensures .0)
+    first-here (namedAt bs (a .name .now)) (length bs / 48) (l .i) (search needs) t ∙ l .inv .1 ∙
+    array-named (a .page .now) (a .view) bs (a .name .now) (c .before .before .before .before .before .array-of .ensures .0)
 
 add-i : tie.Need-add-i Inv-loop μ-loop
 add-i c = search needs
@@ -71,7 +74,8 @@ returns-2 c =
     let a = c .before .before .before .before .before .before .args in
     let l = c .before .loop in
     let bs = c .before .before .array-of .result .now in
-    first-end (namedAt bs (a .name .now)) (length bs / 48) (l .i) (search needs) ∙ l .inv .1 ∙ array-named (a .page .now) (a .view) bs (a .name .now) (c .before .before .array-of .ensures .0)
+    first-end (namedAt bs (a .name .now)) (length bs / 48) (l .i) (search needs) ∙ l .inv .1 ∙
+    array-named (a .page .now) (a .view) bs (a .name .now) (c .before .before .array-of .ensures .0)
 
 pub find-console-spec : {M : Type 1} → statement M
 find-console-spec =

@@ -21,7 +21,9 @@ returns : tie.Need-returns
 returns c =
     let a = c .before .before .before .args in
     let q = place-read (a .edition) (a .base) (a .k) (a .page .now) in
-    let e : c .place-in .result ≡ spanOf (a .k) (sectionRead (readingOf (a .edition) (a .base) (a .page .now)) (a .k)) (length (a .page .now)) = c .place-in .ensures ∙ ap (λ s. spanOf (a .k) s (length (a .page .now))) (c .before .section-read .ensures .0) in
+    let e : c .place-in .result ≡ spanOf (a .k) (sectionRead (readingOf (a .edition) (a .base) (a .page .now)) (a .k))
+    (length (a .page .now)) = c .place-in .ensures ∙ ap (λ s. spanOf (a .k) s (length (a .page .now)))
+    (c .before .section-read .ensures .0) in
     (e ∙ q .0, ap (λ p. spanned p (a .page .now)) e ∙ q .1)
 
 pub place-spec : {M : Type 1} → statement M

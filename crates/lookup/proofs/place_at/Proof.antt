@@ -35,12 +35,20 @@ entry-words-requires c κs = search needs
 mul-span-at : tie.Need-mul-span-at
 mul-span-at c =
     let a = c .before .before .before .before .args in
-    omega (arith, fits-end (a .k) (a .count) (a .at) (a .room) (c .entry-words .result) _ (c .entry-words .ensures .0) (c .before .before .fits2 .ensures) (not-false _ (c .before .if2 .left)) (search needs))
+    omega (
+      arith,
+      fits-end (a .k) (a .count) (a .at) (a .room) (c .entry-words .result) _ (c .entry-words .ensures .0)
+          (c .before .before .fits2 .ensures) (not-false _ (c .before .if2 .left)) (search needs),
+    )
 
 mul-span-at-2 : tie.Need-mul-span-at-2
 mul-span-at-2 c =
     let a = c .before .before .before .before .args in
-    omega (arith, fits-end (a .k) (a .count) (a .at) (a .room) (c .entry-words .result) _ (c .entry-words .ensures .0) (c .before .before .fits2 .ensures) (not-false _ (c .before .if2 .left)) (search needs))
+    omega (
+      arith,
+      fits-end (a .k) (a .count) (a .at) (a .room) (c .entry-words .result) _ (c .entry-words .ensures .0)
+          (c .before .before .fits2 .ensures) (not-false _ (c .before .if2 .left)) (search needs),
+    )
 
 span-at-requires : tie.Need-span-at-requires
 span-at-requires c κs = search needs
@@ -49,7 +57,8 @@ returns-3 : tie.Need-returns-3
 unfolding size
 returns-3 c =
     let a = c .before .before .before .before .before .args in
-    let f = fits-end (a .k) (a .count) (a .at) (a .room) (c .before .entry-words .result) _ (c .before .entry-words .ensures .0) (c .before .before .before .fits2 .ensures) (not-false _ (c .before .before .if2 .left)) (search needs) in
+    let f = fits-end (a .k) (a .count) (a .at) (a .room) (c .before .entry-words .result) _ (c .before .entry-words .ensures .0)
+    (c .before .before .before .fits2 .ensures) (not-false _ (c .before .before .if2 .left)) (search needs) in
     let e : 8 * (c .before .entry-words .result * a .count) ≡ size (a .k) (a .count) = rw (c .before .entry-words .ensures .0) in
     c .span-at .ensures ∙ ap (spanAt (a .at)) e ∙ sym (place-in (a .k) (a .at) (a .count) (a .room) (omega arith))
 

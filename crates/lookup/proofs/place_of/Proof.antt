@@ -19,7 +19,8 @@ place-in-requires c κs = search needs
 returns : tie.Need-returns
 returns c =
     let a = c .before .before .before .args in
-    let e : c .place-in .result ≡ spanOf (a .k) (sectionOf (a .view) (a .k)) (length (a .page .now)) = c .place-in .ensures ∙ ap (λ s. spanOf (a .k) s (length (a .page .now))) (c .before .section-of .ensures) in
+    let e : c .place-in .result ≡ spanOf (a .k) (sectionOf (a .view) (a .k)) (length (a .page .now)) = c .place-in .ensures ∙
+    ap (λ s. spanOf (a .k) s (length (a .page .now))) (c .before .section-of .ensures) in
     (e, ap (λ p. spanned p (a .page .now)) e ∙ place-view (a .page .now) (a .view) (a .k))
 
 pub place-of-spec : {M : Type 1} → statement M

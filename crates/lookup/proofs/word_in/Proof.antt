@@ -11,7 +11,9 @@ is-hidden-requires : tie.Need-is-hidden-requires
 is-hidden-requires c κs = search needs
 
 returns : tie.Need-returns
-returns c = let a = c .before .before .before .args in word-hidden (a .minor) (a .k) (a .i) (a .j) (a .section) (a .page .now) (sym (c .before .is-hidden .ensures) ∙ c .if1 .taken)
+returns c =
+    let a = c .before .before .before .args in
+    word-hidden (a .minor) (a .k) (a .i) (a .j) (a .section) (a .page .now) (sym (c .before .is-hidden .ensures) ∙ c .if1 .taken)
 
 enum-told : tie.Need-enum-told
 enum-told c = search needs
@@ -27,16 +29,22 @@ word-at-requires c κs = search needs
 
 returns-2 : tie.Need-returns-2
 unfolding wordOf shownAs entryWord
-returns-2 c = let a = c .before .before .before .before .before .args in sym (ap (λ s. wordOf (a .minor) (a .k) (a .i) (a .j) s (a .page .now)) (c .enum-told .given .1))
+returns-2 c =
+    let a = c .before .before .before .before .before .args in
+    sym (ap (λ s. wordOf (a .minor) (a .k) (a .i) (a .j) s (a .page .now)) (c .enum-told .given .1))
 
 returns-3 : tie.Need-returns-3
 unfolding wordOf shownAs entryWord
-returns-3 c = let a = c .before .before .before .before .before .args in sym (ap (λ s. wordOf (a .minor) (a .k) (a .i) (a .j) s (a .page .now)) (c .enum-told2 .given .1))
+returns-3 c =
+    let a = c .before .before .before .before .before .args in
+    sym (ap (λ s. wordOf (a .minor) (a .k) (a .i) (a .j) s (a .page .now)) (c .enum-told2 .given .1))
 
 returns-4 : tie.Need-returns-4
 returns-4 c =
     let a = c .before .before .before .before .before .before .before .args in
-    told-word (a .minor) (a .k) (a .i) (a .j) (a .section) _ (a .page .now) _ (c .before .before .before .before .before .is-hidden .ensures) (c .before .before .before .before .if1 .left) (c .before .before .section .given .1) _ (c .word-at .ensures)
+    told-word (a .minor) (a .k) (a .i) (a .j) (a .section) _ (a .page .now) _
+    (c .before .before .before .before .before .is-hidden .ensures) (c .before .before .before .before .if1 .left)
+    (c .before .before .section .given .1) _ (c .word-at .ensures)
 
 pub word-in-spec : {M : Type 1} → statement M
 word-in-spec =

@@ -4,7 +4,7 @@ use mathlib.Core.Path.{_≡_, sym, ap, _∙_}
 use lib.ListN.{length}
 use Rattle.fields.specs.declared.FieldsEnd.{FieldsEnd}
 use Rattle.fields.specs.declared.FieldsEnd.the-variants.{Broken, Ended}
-use Rattle.sections.specs.Page.{placeOk, platAt, mkPlat}
+use Rattle.sections.specs.Page.{placeOk, platformAt, pagePlatform}
 use Rattle.sections.specs.Steps.{platEnd}
 use Rattle.sections.proofs.Sections.{placed, plat-ended, plat-top}
 use Rattle.mend.proofs.Parts.{plat-goes, plat-stays, rule-told}
@@ -32,22 +32,23 @@ returns : tie.Need-returns
 returns c =
     let b = c .before .before .before .before .before .before .before .before .before in
     let a = b .args in
-    let q : Broken ≡ platEnd (a .e .minor) (a .base) (platAt (a .base) (a .page .now)) =
-    sym (c .before .before .before .before .enum-told .given .1) ∙ rule-told (b .pre) (c .before .before .before .before .before .before .plat-rule .ensures) in
+    let q : Broken ≡ platEnd (a .e .minor) (a .base) (platformAt (a .base) (a .page .now)) =
+    sym (c .before .before .before .before .enum-told .given .1) ∙
+    rule-told (b .pre) (c .before .before .before .before .before .before .plat-rule .ensures) in
     plat-goes (a .e .minor) (a .base) (a .page .now) q _ (c .before .before .put-word .ensures)
 
 word-at-requires : tie.Need-word-at-requires
 word-at-requires c κs = search needs
 
 add-to : tie.Need-add-to
-unfolding platAt mkPlat
+unfolding platformAt pagePlatform
 add-to c =
     let b = c .before .before .before .before .before .before .before .before in
     let a = b .args in
     let g = c .before .before .before .told .given in
-    let q : Ended (g .0 .0) ≡ platEnd (a .e .minor) (a .base) (platAt (a .base) (a .page .now)) =
+    let q : Ended (g .0 .0) ≡ platEnd (a .e .minor) (a .base) (platformAt (a .base) (a .page .now)) =
     sym (g .1) ∙ rule-told (b .pre) (c .before .before .before .before .before .plat-rule .ensures) in
-    let t = plat-ended (a .e .minor) (a .base) (platAt (a .base) (a .page .now)) (g .0 .0) q in
+    let t = plat-ended (a .e .minor) (a .base) (platformAt (a .base) (a .page .now)) (g .0 .0) q in
     let n = placed (a .base) (length (a .page .now)) (b .pre) in
     omega (arith, t .1, n .3, c .word-at .ensures, plat-top (a .e .minor) (a .base) (a .page .now) (n .0) (t .0))
 
@@ -59,7 +60,7 @@ returns-2 c =
     let b = c .before .before .before .before .before .before .before .before in
     let a = b .args in
     let g = c .before .before .before .told .given in
-    let q : Ended (g .0 .0) ≡ platEnd (a .e .minor) (a .base) (platAt (a .base) (a .page .now)) =
+    let q : Ended (g .0 .0) ≡ platEnd (a .e .minor) (a .base) (platformAt (a .base) (a .page .now)) =
     sym (g .1) ∙ rule-told (b .pre) (c .before .before .before .before .before .plat-rule .ensures) in
     rw (← c .word-at .ensures) at (plat-stays (a .e .minor) (a .base) (a .page .now) (g .0 .0) q)
 

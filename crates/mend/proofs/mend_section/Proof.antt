@@ -12,8 +12,8 @@ returns c =
     let a = c .before .before .before .args in
     section-lacks (a .minor) (a .e .minor) (a .base) (a .fields) (a .k) (a .page .now) (omega (arith, c .before .sections .ensures .0))
 
-section-stays-requires : tie.Need-section-stays-requires
-section-stays-requires c κs = search needs
+keeps-section-requires : tie.Need-keeps-section-requires
+keeps-section-requires c κs = search needs
 
 same-length : tie.Need-same-length
 same-length c = search needs
@@ -22,7 +22,8 @@ returns-2 : tie.Need-returns-2
 returns-2 c =
     let b = c .before .before .before .before .before .before in
     let a = b .args in
-    section-stands (a .minor) (a .e .minor) (a .base) (a .fields) (a .k) (a .page .now) (b .pre) _ (c .before .section-stays .ensures) (c .if2 .taken)
+    section-stands (a .minor) (a .e .minor) (a .base) (a .fields) (a .k) (a .page .now) (b .pre) _ (c .before .keeps-section .ensures)
+    (c .if2 .taken)
 
 mul-put-words : tie.Need-mul-put-words
 mul-put-words c = search needs
@@ -41,9 +42,12 @@ same-length-2 c = search needs
 
 returns-3 : tie.Need-returns-3
 returns-3 c =
-    let b = c .before .before .before .before .before .before .before .before .before .before .before in
+    let b8 = c .before .before .before .before .before .before .before .before in
+    let b = b8 .before .before .before in
     let a = b .args in
-    section-goes (a .minor) (a .e .minor) (a .base) (a .fields) (a .k) (a .page .now) (b .pre) _ (c .before .before .before .before .before .before .section-stays .ensures) (c .before .before .before .before .before .if2 .left) (omega (arith, c .before .before .before .before .before .before .before .before .before .sections .ensures .0)) _ (c .before .before .put-words .ensures)
+    section-goes (a .minor) (a .e .minor) (a .base) (a .fields) (a .k) (a .page .now) (b .pre) _
+    (c .before .before .before .before .before .before .keeps-section .ensures) (c .before .before .before .before .before .if2 .left)
+    (omega (arith, b8 .before .sections .ensures .0)) _ (c .before .before .put-words .ensures)
 
 pub mend-section-spec : {M : Type 1} → statement M
 mend-section-spec =
@@ -51,7 +55,7 @@ mend-section-spec =
     (tie.spec
     sections-requires
     returns
-    section-stays-requires
+    keeps-section-requires
     same-length
     returns-2
     mul-put-words

@@ -31,7 +31,14 @@ enum-told c = search needs
 returns : tie.Need-returns
 unfolding reportWords changeWords
 returns c =
-    rw (c .before .before .before .before .before .flag .ensures, c .before .before .before .before .flag2 .ensures, c .before .before .before .flag3 .ensures, c .before .before .flag4 .ensures, c .before .flag5 .ensures, c .flag6 .ensures)
+    rw (
+      c .before .before .before .before .before .flag .ensures,
+      c .before .before .before .before .flag2 .ensures,
+      c .before .before .before .flag3 .ensures,
+      c .before .before .flag4 .ensures,
+      c .before .flag5 .ensures,
+      c .flag6 .ensures,
+    )
     (sym (ap reportWords (c .before .before .before .before .before .before .before .mended .given .1)))
 
 returns-2 : tie.Need-returns-2

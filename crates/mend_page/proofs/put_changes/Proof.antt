@@ -49,19 +49,28 @@ same-length c = search needs
 returns : tie.Need-returns
 unfolding changesText paddingTitle platTitle dramTitle consoleTitle ncohTitle cohTitle
 returns c =
-    let a = c .before .before .before .before .before .before .before .before .before .before .before .before .before .before .before .before .before .before .before .before .before .before .before .before .before .before .before .before .before .before .before .args in
+    let b8 = c .before .before .before .before .before .before .before .before in
+    let b16 = b8 .before .before .before .before .before .before .before .before in
+    let b24 = b16 .before .before .before .before .before .before .before .before in
+    let a = b24 .before .before .before .before .before .before .before .args in
     let m = a .changes in
-    let e1 = c .before .before .before .before .before .before .before .before .before .before .before .before .before .before .before .before .before .before .before .before .before .before .before .before .before .before .before .put-line .ensures in
-    let e2 = c .before .before .before .before .before .before .before .before .before .before .before .before .before .before .before .before .before .before .before .before .before .before .put-line2 .ensures in
-    let e3 = c .before .before .before .before .before .before .before .before .before .before .before .before .before .before .before .before .before .put-line3 .ensures in
-    let e4 = c .before .before .before .before .before .before .before .before .before .before .before .before .put-line4 .ensures in
+    let e1 = b24 .before .before .before .put-line .ensures in
+    let e2 = b16 .before .before .before .before .before .before .put-line2 .ensures in
+    let e3 = b16 .before .put-line3 .ensures in
+    let e4 = b8 .before .before .before .before .put-line4 .ensures in
     let e5 = c .before .before .before .before .before .before .before .put-line5 .ensures in
     let e6 = c .before .before .put-line6 .ensures in
-    let s2 = text-more (lineText paddingTitle (m .padding)) (lineText platTitle (m .plat)) (a .out .now) (e1 .0 ∙ zero-add _) (e1 .1) (e2 .0) (e2 .1) in
-    let s3 = text-more (lineText paddingTitle (m .padding) ++ lineText platTitle (m .plat)) (lineText dramTitle (m .dram)) (a .out .now) (s2 .0) (s2 .1) (e3 .0) (e3 .1) in
-    let s4 = text-more (lineText paddingTitle (m .padding) ++ lineText platTitle (m .plat) ++ lineText dramTitle (m .dram)) (lineText consoleTitle (m .console)) (a .out .now) (s3 .0) (s3 .1) (e4 .0) (e4 .1) in
-    let s5 = text-more (lineText paddingTitle (m .padding) ++ lineText platTitle (m .plat) ++ lineText dramTitle (m .dram) ++ lineText consoleTitle (m .console)) (lineText ncohTitle (m .ncoh)) (a .out .now) (s4 .0) (s4 .1) (e5 .0) (e5 .1) in
-    let s6 = text-more (lineText paddingTitle (m .padding) ++ lineText platTitle (m .plat) ++ lineText dramTitle (m .dram) ++ lineText consoleTitle (m .console) ++ lineText ncohTitle (m .ncoh)) (lineText cohTitle (m .coh)) (a .out .now) (s5 .0) (s5 .1) (e6 .0) (e6 .1) in
+    let s2 = text-more (lineText paddingTitle (m .padding)) (lineText platTitle (m .plat)) (a .out .now) (e1 .0 ∙ zero-add _) (e1 .1)
+    (e2 .0) (e2 .1) in
+    let s3 = text-more (lineText paddingTitle (m .padding) ++ lineText platTitle (m .plat)) (lineText dramTitle (m .dram)) (a .out .now)
+    (s2 .0) (s2 .1) (e3 .0) (e3 .1) in
+    let s4 = text-more (lineText paddingTitle (m .padding) ++ lineText platTitle (m .plat) ++ lineText dramTitle (m .dram))
+    (lineText consoleTitle (m .console)) (a .out .now) (s3 .0) (s3 .1) (e4 .0) (e4 .1) in
+    let s5 = text-more (lineText paddingTitle (m .padding) ++ lineText platTitle (m .plat) ++ lineText dramTitle (m .dram) ++
+    lineText consoleTitle (m .console)) (lineText ncohTitle (m .ncoh)) (a .out .now) (s4 .0) (s4 .1) (e5 .0) (e5 .1) in
+    let s6 = text-more (lineText paddingTitle (m .padding) ++ lineText platTitle (m .plat) ++ lineText dramTitle (m .dram) ++
+    lineText consoleTitle (m .console) ++ lineText ncohTitle (m .ncoh)) (lineText cohTitle (m .coh)) (a .out .now) (s5 .0) (s5 .1)
+    (e6 .0) (e6 .1) in
     (s6 .0, s6 .1, search needs)
 
 pub put-changes-spec : {M : Type 1} → statement M

@@ -19,7 +19,13 @@ same-length c = search needs
 
 returns : tie.Need-returns
 unfolding saidText
-returns c = let a = c .before .before .before .before .before .before .before .before .before .before .before .before .args in let p = c .before .before .before .before .before .before .before .before .put .ensures in let q = c .before .before .put2 .ensures in line-put (a .changed) (a .title .now) _ (a .out .now) (sym (ap saidText (c .before .before .before .before .before .if1 .taken))) (search needs) (p .0) (p .1) (q .0) (q .1)
+returns c =
+    let b8 = c .before .before .before .before .before .before .before .before in
+    let a = b8 .before .before .before .before .args in
+    let p = b8 .put .ensures in
+    let q = c .before .before .put2 .ensures in
+    line-put (a .changed) (a .title .now) _ (a .out .now) (sym (ap saidText (c .before .before .before .before .before .if1 .taken)))
+    (search needs) (p .0) (p .1) (q .0) (q .1)
 
 slice-aggregate-put-2 : tie.Need-slice-aggregate-put-2
 slice-aggregate-put-2 c = search needs
@@ -32,7 +38,13 @@ same-length-2 c = search needs
 
 returns-2 : tie.Need-returns-2
 unfolding saidText
-returns-2 c = let a = c .before .before .before .before .before .before .before .before .before .before .before .before .args in let p = c .before .before .before .before .before .before .before .before .put .ensures in let q = c .before .before .put3 .ensures in line-put (a .changed) (a .title .now) _ (a .out .now) (sym (ap saidText (c .before .before .before .before .before .if1 .left))) (search needs) (p .0) (p .1) (q .0) (q .1)
+returns-2 c =
+    let b8 = c .before .before .before .before .before .before .before .before in
+    let a = b8 .before .before .before .before .args in
+    let p = b8 .put .ensures in
+    let q = c .before .before .put3 .ensures in
+    line-put (a .changed) (a .title .now) _ (a .out .now) (sym (ap saidText (c .before .before .before .before .before .if1 .left)))
+    (search needs) (p .0) (p .1) (q .0) (q .1)
 
 pub put-line-spec : {M : Type 1} → statement M
 put-line-spec =

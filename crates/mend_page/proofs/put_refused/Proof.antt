@@ -38,21 +38,36 @@ same-length c = search needs
 
 returns : tie.Need-returns
 unfolding refusalText
-returns c = let a = c .before .before .before .before .before .before .before .before .args in let p = c .before .before .put .ensures in text-put _ _ (a .out .now) (sym (ap refusalText (c .before .before .before .before .before .enum-told .given .1))) (lit≤ tt) (p .0) (p .1)
+returns c =
+    let b8 = c .before .before .before .before .before .before .before .before in
+    let a = b8 .args in
+    let p = c .before .before .put .ensures in
+    text-put _ _ (a .out .now) (sym (ap refusalText (c .before .before .before .before .before .enum-told .given .1))) (lit≤ tt) (p .0)
+    (p .1)
 
 same-length-2 : tie.Need-same-length-2
 same-length-2 c = search needs
 
 returns-2 : tie.Need-returns-2
 unfolding refusalText
-returns-2 c = let a = c .before .before .before .before .before .before .before .before .args in let p = c .before .before .put2 .ensures in text-put _ _ (a .out .now) (sym (ap refusalText (c .before .before .before .before .before .enum-told2 .given .1))) (lit≤ tt) (p .0) (p .1)
+returns-2 c =
+    let b8 = c .before .before .before .before .before .before .before .before in
+    let a = b8 .args in
+    let p = c .before .before .put2 .ensures in
+    text-put _ _ (a .out .now) (sym (ap refusalText (c .before .before .before .before .before .enum-told2 .given .1))) (lit≤ tt) (p .0)
+    (p .1)
 
 same-length-3 : tie.Need-same-length-3
 same-length-3 c = search needs
 
 returns-3 : tie.Need-returns-3
 unfolding refusalText
-returns-3 c = let a = c .before .before .before .before .before .before .before .before .args in let p = c .before .before .put3 .ensures in text-put _ _ (a .out .now) (sym (ap refusalText (c .before .before .before .before .before .enum-told3 .given .1))) (lit≤ tt) (p .0) (p .1)
+returns-3 c =
+    let b8 = c .before .before .before .before .before .before .before .before in
+    let a = b8 .args in
+    let p = c .before .before .put3 .ensures in
+    text-put _ _ (a .out .now) (sym (ap refusalText (c .before .before .before .before .before .enum-told3 .given .1))) (lit≤ tt) (p .0)
+    (p .1)
 
 pub put-refused-spec : {M : Type 1} → statement M
 put-refused-spec =

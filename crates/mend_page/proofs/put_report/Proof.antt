@@ -22,14 +22,20 @@ same-length c = search needs
 
 returns : tie.Need-returns
 unfolding reportText
-returns c = report-put _ _ (c .before .before .before .before .before .before .before .before .args .out .now) (sym (ap reportText (c .before .before .before .before .before .mended .given .1))) (c .before .before .put-changes .ensures) (search needs)
+returns c =
+    let b8 = c .before .before .before .before .before .before .before .before in
+    report-put _ _ (b8 .args .out .now) (sym (ap reportText (c .before .before .before .before .before .mended .given .1)))
+    (c .before .before .put-changes .ensures) (search needs)
 
 same-length-2 : tie.Need-same-length-2
 same-length-2 c = search needs
 
 returns-2 : tie.Need-returns-2
 unfolding reportText
-returns-2 c = report-put _ _ (c .before .before .before .before .before .before .before .before .args .out .now) (sym (ap reportText (c .before .before .before .before .before .mended2 .given .1))) (c .before .before .put-refused .ensures) (search needs)
+returns-2 c =
+    let b8 = c .before .before .before .before .before .before .before .before in
+    report-put _ _ (b8 .args .out .now) (sym (ap reportText (c .before .before .before .before .before .mended2 .given .1)))
+    (c .before .before .put-refused .ensures) (search needs)
 
 pub put-report-spec : {M : Type 1} → statement M
 put-report-spec =

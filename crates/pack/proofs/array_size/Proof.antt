@@ -13,15 +13,18 @@ count-at-requires c κs = search needs
 
 mul-result : tie.Need-mul-result
 unfolding size
-mul-result c = let m = c .before .before .before .pre .0 .inside in rw (c .before .entry-words .ensures .0, c .count-at .ensures) (omega arith)
+mul-result c =
+    let m = c .before .before .before .pre .0 .inside in rw (c .before .entry-words .ensures .0, c .count-at .ensures) (omega arith)
 
 mul-result-2 : tie.Need-mul-result-2
 unfolding size
-mul-result-2 c = let m = c .before .before .before .pre .0 .inside in rw (c .before .entry-words .ensures .0, c .count-at .ensures) (omega arith)
+mul-result-2 c =
+    let m = c .before .before .before .pre .0 .inside in rw (c .before .entry-words .ensures .0, c .count-at .ensures) (omega arith)
 
 returns : tie.Need-returns
 unfolding size
-returns c = let m = c .before .before .before .pre .0 .inside in rw (c .before .entry-words .ensures .0, c .count-at .ensures) (refl, omega arith)
+returns c =
+    let m = c .before .before .before .pre .0 .inside in rw (c .before .entry-words .ensures .0, c .count-at .ensures) (refl, omega arith)
 
 pub array-size-spec : {M : Type 1} → statement M
 array-size-spec =

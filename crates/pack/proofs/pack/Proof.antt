@@ -27,35 +27,49 @@ unfolding packedBy targetAfter
 returns c =
     let a = c .before .before .before .before .before .before .before .args in
     packs-not (packing.Refused refusal.Version) (a .target .now) _ (stopped (minus 6)) refl refl
-    (late-packs (a .base) (a .page .now) _ (sym (c .before .before .minor .given .1) ∙ c .before .before .before .before .judge-page .ensures .0) (length (a .target .now)) (search needs)) (λ i. omega (arith, c .before .before .before .before .before .before .shared-slice-known .given i))
+    (late-packs (a .base) (a .page .now) _ (sym (c .before .before .minor .given .1) ∙
+    c .before .before .before .before .judge-page .ensures .0) (length (a .target .now)) (search needs))
+    (λ i. omega (arith, c .before .before .before .before .before .before .shared-slice-known .given i))
 
 returns-2 : tie.Need-returns-2
 unfolding packedBy targetAfter pageAfter
 returns-2 c =
-    let a = c .before .before .before .before .before .before .before .before .args in
+    let b8 = c .before .before .before .before .before .before .before .before in
+    let a = b8 .args in
     packs-not packing.Target (a .target .now) _ (written (no-page 1)) refl refl
-    (target-packs (a .base) (a .page .now) _ (sym (c .before .before .before .minor .given .1) ∙ c .before .before .before .before .before .judge-page .ensures .0) (length (a .target .now)) (search needs) (search needs)) (λ i. omega (arith, c .before .before .before .before .before .before .before .shared-slice-known .given i))
+    (target-packs (a .base) (a .page .now) _ (sym (c .before .before .before .minor .given .1) ∙
+    c .before .before .before .before .before .judge-page .ensures .0) (length (a .target .now)) (search needs) (search needs))
+    (λ i. omega (arith, c .before .before .before .before .before .before .before .shared-slice-known .given i))
 
 put-page-requires : tie.Need-put-page-requires
 put-page-requires c κs =
-    let a = c .before .before .before .before .before .before .before .before .before .args in
-    let r = page-ready (a .base) (a .page .now) _ (sym (c .before .before .before .before .minor .given .1) ∙ c .before .before .before .before .before .before .judge-page .ensures .0) (search needs) in
+    let b8 = c .before .before .before .before .before .before .before .before in
+    let a = b8 .before .args in
+    let r = page-ready (a .base) (a .page .now) _ (sym (c .before .before .before .before .minor .given .1) ∙
+    c .before .before .before .before .before .before .judge-page .ensures .0) (search needs) in
     (r .0, search needs, r .1, r .2, r .3)
 
 returns-3 : tie.Need-returns-3
 unfolding packedBy targetAfter
 returns-3 c =
     let a = c .before .before .before .before .before .before .args in
-    packs-not (packing.Refused (c .before .code .given .0 .0)) (a .target .now) _ (stopped (refusalNumber (c .before .code .given .0 .0))) refl refl
-    (refused-packs (a .base) (a .page .now) (length (a .target .now)) _ (sym (c .before .code .given .1) ∙ c .before .before .before .judge-page .ensures .0)) (λ i. omega (arith, c .before .before .before .before .before .shared-slice-known .given i))
+    packs-not (packing.Refused (c .before .code .given .0 .0)) (a .target .now) _
+    (stopped (refusalNumber (c .before .code .given .0 .0))) refl refl
+    (refused-packs (a .base) (a .page .now) (length (a .target .now)) _
+    (sym (c .before .code .given .1) ∙ c .before .before .before .judge-page .ensures .0))
+    (λ i. omega (arith, c .before .before .before .before .before .shared-slice-known .given i))
 
 same-length : tie.Need-same-length
 same-length c = search needs
 
 returns-4 : tie.Need-returns-4
 returns-4 c =
-    let a = c .before .before .before .before .before .before .before .before .before .before .before .before .args in
-    packs-page (a .target .now) _ _ _ (page-packs (a .base) (a .page .now) _ (sym (c .before .before .before .before .before .before .before .minor .given .1) ∙ c .before .before .before .before .before .before .before .before .before .judge-page .ensures .0) (length (a .target .now)) (search needs) (search needs)) (c .before .before .put-page .ensures) (λ i. omega (arith, c .before .before .before .before .before .before .before .before .before .before .before .shared-slice-known .given i))
+    let b8 = c .before .before .before .before .before .before .before .before in
+    let a = b8 .before .before .before .before .args in
+    packs-page (a .target .now) _ _ _ (page-packs (a .base) (a .page .now) _
+    (sym (c .before .before .before .before .before .before .before .minor .given .1) ∙ b8 .before .judge-page .ensures .0)
+    (length (a .target .now)) (search needs) (search needs)) (c .before .before .put-page .ensures)
+    (λ i. omega (arith, b8 .before .before .before .shared-slice-known .given i))
 
 pub pack-spec : {M : Type 1} → statement M
 pack-spec =

@@ -3,7 +3,7 @@ use Prim.Native.Nat.{_+_, _-_, _*_, _≤_}
 use lib.ListN.{length}
 use Rattle.words.specs.Word.{bytesOf, joined, splice}
 use Rattle.words.proofs.Lists.{bytesOf-length, joined-mono}
-use Rattle.pack.specs.Steps.{arrayWords}
+use Rattle.pack.specs.Steps.{arrayWordsIn}
 use Rattle.pack.proofs.Moves.{joined-none, joined-grow, laid-none, laid-more}
 use native.Mathlib.Omega.{arith}
 use borrow.Author.Needs.{needs}
@@ -12,26 +12,34 @@ use Rattle.pack.proofs.put_arrays.Tie as tie
 
 abbrev Inv-loop : tie.InvT-loop
 Inv-loop page from n target₀ at₀ k₀ target at k =
-    (k ≤ n) × (length target ≡ 4096) × (at ≡ from + 8 * length (joined k (arrayWords page))) × (target ≡ splice from (bytesOf (joined k (arrayWords page))) target₀)
+    (k ≤ n) × (length target ≡ 4096) × (at ≡ from + 8 * length (joined k (arrayWordsIn page))) ×
+    (target ≡ splice from (bytesOf (joined k (arrayWordsIn page))) target₀)
 
 abbrev μ-loop : tie.MeasureT-loop
 μ-loop page from n target₀ at₀ k₀ target at k = n - k
 
 loop-holds : tie.Need-loop-holds Inv-loop μ-loop
 loop-holds c =
-    let a = c .before .before .args in
-    (search needs, c .before .before .pre .1, omega (arith, joined-none (arrayWords (a .page .now))), laid-none (arrayWords (a .page .now)) (a .from) (a .target .now))
+    let a = c .before .before .args in (
+      search needs,
+      c .before .before .pre .1,
+      omega (arith, joined-none (arrayWordsIn (a .page .now))),
+      laid-none (arrayWordsIn (a .page .now)) (a .from) (a .target .now),
+    )
 
 array-of-requires : tie.Need-array-of-requires Inv-loop μ-loop
-array-of-requires c κs = (c .before .before .before .before .before .pre .2 (c .before .before .loop .k) (omega arith), c .before .before .before .before .before .pre .0)
+array-of-requires c κs = (
+  c .before .before .before .before .before .pre .2 (c .before .before .loop .k) (omega arith),
+  c .before .before .before .before .before .pre .0,
+)
 
 put-bytes-requires : tie.Need-put-bytes-requires Inv-loop μ-loop
 put-bytes-requires c κs =
     let a = c .before .before .before .before .before .before .args in
     let l = c .before .before .before .loop in
-    let m = joined-mono (a .n) (arrayWords (a .page .now)) (l .k) (omega arith) in
+    let m = joined-mono (a .n) (arrayWordsIn (a .page .now)) (l .k) (omega arith) in
     let n = ap length (c .array-of .ensures) in
-    (omega (arith, bytesOf-length (arrayWords (a .page .now) (l .k))), search needs)
+    (omega (arith, bytesOf-length (arrayWordsIn (a .page .now) (l .k))), search needs)
 
 add-k : tie.Need-add-k Inv-loop μ-loop
 add-k c = search needs
@@ -41,20 +49,28 @@ loop-less c = search needs
 
 loop-again : tie.Need-loop-again Inv-loop μ-loop
 loop-again c =
-    let a = c .before .before .before .before .before .before .before .before .before .args in
+    let b8 = c .before .before .before .before .before .before .before .before in
+    let a = b8 .before .args in
     let l = c .before .before .before .before .before .before .loop in
     let n = ap length (c .before .before .before .array-of .ensures) in (
       search needs,
       search needs,
-      omega (arith, joined-grow (arrayWords (a .page .now)) (l .k), bytesOf-length (arrayWords (a .page .now) (l .k)), c .before .before .put-bytes .ensures .0),
-      c .before .before .put-bytes .ensures .1 ∙ laid-more (arrayWords (a .page .now)) (a .from) (l .k) (l .at) _ _ (a .target .now) (omega arith) (l .inv .2) (c .before .before .before .array-of .ensures) (l .inv .3),
+      omega (
+        arith,
+        joined-grow (arrayWordsIn (a .page .now)) (l .k),
+        bytesOf-length (arrayWordsIn (a .page .now) (l .k)),
+        c .before .before .put-bytes .ensures .0,
+      ),
+      c .before .before .put-bytes .ensures .1 ∙ laid-more (arrayWordsIn (a .page .now)) (a .from) (l .k) (l .at) _ _ (a .target .now)
+          (omega arith) (l .inv .2) (c .before .before .before .array-of .ensures) (l .inv .3),
     )
 
 same-length : tie.Need-same-length Inv-loop μ-loop
 same-length c = search needs
 
 returns : tie.Need-returns Inv-loop μ-loop
-returns c = let l = c .before .loop in let e : l .k ≡ c .before .before .before .before .args .n = omega arith in rw (← e) (l .inv .2, l .inv .3)
+returns c =
+    let l = c .before .loop in let e : l .k ≡ c .before .before .before .before .args .n = omega arith in rw (← e) (l .inv .2, l .inv .3)
 
 pub put-arrays-spec : {M : Type 1} → statement M
 put-arrays-spec =

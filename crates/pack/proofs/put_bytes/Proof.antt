@@ -24,8 +24,11 @@ same-length c = search needs
 
 returns : tie.Need-returns
 returns c =
-    let a = c .before .before .before .before .before .before .args in
-    (refl, rw (c .before .before .copy .ensures) (lent-back (a .at) (a .bytes .now) (a .target .now) (search needs) ∙ bytes-in (a .at) (a .bytes .now) (a .target .now) (search needs)))
+    let a = c .before .before .before .before .before .before .args in (
+      refl,
+      rw (c .before .before .copy .ensures) (lent-back (a .at) (a .bytes .now) (a .target .now) (search needs) ∙
+          bytes-in (a .at) (a .bytes .now) (a .target .now) (search needs)),
+    )
 
 pub put-bytes-spec : {M : Type 1} → statement M
 put-bytes-spec =

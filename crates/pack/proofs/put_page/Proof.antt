@@ -19,14 +19,17 @@ put-sections-requires : tie.Need-put-sections-requires
 put-sections-requires c κs =
     let s = c .before .before .before .before .before in
     let a = s .args in
-    let t = told-size (a .e .minor) (a .page .now) _ _ _ (c .before .sections .ensures .0) (c .before .before .core-size .ensures .0) refl (s .pre .4) in
+    let t = told-size (a .e .minor) (a .page .now) _ _ _ (c .before .sections .ensures .0) (c .before .before .core-size .ensures .0) refl
+    (s .pre .4) in
     (s .pre .0, s .pre .1, c .before .sections .ensures .1, (λ k l. s .pre .3 k (rw (c .before .sections .ensures .0) at l)), omega arith)
 
 put-arrays-requires : tie.Need-put-arrays-requires
 put-arrays-requires c κs =
-    let s = c .before .before .before .before .before .before .before .before .before in
+    let b8 = c .before .before .before .before .before .before .before .before in
+    let s = b8 .before in
     let a = s .args in
-    let t = told-size (a .e .minor) (a .page .now) _ _ _ (c .before .before .before .before .before .sections .ensures .0) (c .before .before .before .before .before .before .core-size .ensures .0) refl (s .pre .4) in
+    let t = told-size (a .e .minor) (a .page .now) _ _ _ (c .before .before .before .before .before .sections .ensures .0)
+    (c .before .before .before .before .before .before .core-size .ensures .0) refl (s .pre .4) in
     (s .pre .0, search needs, (λ k l. s .pre .3 k (rw (c .before .before .before .before .before .sections .ensures .0) at l)), omega arith)
 
 fields-place-requires : tie.Need-fields-place-requires
@@ -34,16 +37,26 @@ fields-place-requires c κs = search needs
 
 put-fields-requires : tie.Need-put-fields-requires
 put-fields-requires c κs =
-    let s = c .before .before .before .before .before .before .before .before .before .before .before .before .before .before in
+    let b8 = c .before .before .before .before .before .before .before .before in
+    let s = b8 .before .before .before .before .before .before in
     let a = s .args in
-    let t = told-size (a .e .minor) (a .page .now) _ _ _ (c .before .before .before .before .before .before .before .before .before .before .sections .ensures .0) (c .before .before .before .before .before .before .before .before .before .before .before .core-size .ensures .0) (c .before .fields-place .ensures) (s .pre .4) in
-    (s .pre .0, search needs, rw (c .before .fields-place .ensures) (place-most (a .page .now) (s .pre .0)), omega (arith, c .before .before .before .before .put-arrays .ensures .0))
+    let t = told-size (a .e .minor) (a .page .now) _ _ _ (b8 .before .before .sections .ensures .0)
+    (b8 .before .before .before .core-size .ensures .0) (c .before .fields-place .ensures) (s .pre .4) in (
+      s .pre .0,
+      search needs,
+      rw (c .before .fields-place .ensures) (place-most (a .page .now) (s .pre .0)),
+      omega (arith, c .before .before .before .before .put-arrays .ensures .0),
+    )
 
 plat-pointer-requires : tie.Need-plat-pointer-requires
 plat-pointer-requires c κs =
-    let s = c .before .before .before .before .before .before .before .before .before .before .before .before .before .before .before .before .before in
+    let b8 = c .before .before .before .before .before .before .before .before in
+    let b16 = b8 .before .before .before .before .before .before .before .before in
+    let s = b16 .before in
     let a = s .args in
-    let t = told-size (a .e .minor) (a .page .now) _ _ _ (c .before .before .before .before .before .before .before .before .before .before .before .before .before .sections .ensures .0) (c .before .before .before .before .before .before .before .before .before .before .before .before .before .before .core-size .ensures .0) (c .before .before .before .before .fields-place .ensures) (s .pre .4) in
+    let t = told-size (a .e .minor) (a .page .now) _ _ _ (b8 .before .before .before .before .before .sections .ensures .0)
+    (b8 .before .before .before .before .before .before .core-size .ensures .0)
+    (c .before .before .before .before .fields-place .ensures) (s .pre .4) in
     (s .pre .2, omega (arith, c .before .before .before .before .before .before .before .put-arrays .ensures .0))
 
 slice-aggregate-put-words : tie.Need-slice-aggregate-put-words
@@ -54,17 +67,23 @@ put-words-requires c κs = search needs
 
 sub-clear : tie.Need-sub-clear
 sub-clear c =
-    let s = c .before .before .before .before .before .before .before .before .before .before .before .before .before .before .before .before .before .before .before .before .before .before .before in
+    let b8 = c .before .before .before .before .before .before .before .before in
+    let b16 = b8 .before .before .before .before .before .before .before .before in
+    let s = b16 .before .before .before .before .before .before .before in
     let a = s .args in
-    let t = told-size (a .e .minor) (a .page .now) _ _ _ (c .before .before .before .before .before .before .before .before .before .before .before .before .before .before .before .before .before .before .before .sections .ensures .0) (c .before .before .before .before .before .before .before .before .before .before .before .before .before .before .before .before .before .before .before .before .core-size .ensures .0) (c .before .before .before .before .before .before .before .before .before .before .fields-place .ensures) (s .pre .4) in
-    omega (arith, c .before .before .before .before .before .before .before .before .before .before .before .before .before .put-arrays .ensures .0, c .before .before .before .before .before .before .before .before .put-fields .ensures .0)
+    let t = told-size (a .e .minor) (a .page .now) _ _ _ (b16 .before .before .before .sections .ensures .0)
+    (b16 .before .before .before .before .core-size .ensures .0) (b8 .before .before .fields-place .ensures) (s .pre .4) in
+    omega (arith, b8 .before .before .before .before .before .put-arrays .ensures .0, b8 .put-fields .ensures .0)
 
 part-clear-start : tie.Need-part-clear-start
 part-clear-start c =
-    let s = c .before .before .before .before .before .before .before .before .before .before .before .before .before .before .before .before .before .before .before .before .before .before .before in
+    let b8 = c .before .before .before .before .before .before .before .before in
+    let b16 = b8 .before .before .before .before .before .before .before .before in
+    let s = b16 .before .before .before .before .before .before .before in
     let a = s .args in
-    let t = told-size (a .e .minor) (a .page .now) _ _ _ (c .before .before .before .before .before .before .before .before .before .before .before .before .before .before .before .before .before .before .before .sections .ensures .0) (c .before .before .before .before .before .before .before .before .before .before .before .before .before .before .before .before .before .before .before .before .core-size .ensures .0) (c .before .before .before .before .before .before .before .before .before .before .fields-place .ensures) (s .pre .4) in
-    omega (arith, c .before .before .before .before .before .before .before .before .before .before .before .before .before .put-arrays .ensures .0, c .before .before .before .before .before .before .before .before .put-fields .ensures .0)
+    let t = told-size (a .e .minor) (a .page .now) _ _ _ (b16 .before .before .before .sections .ensures .0)
+    (b16 .before .before .before .before .core-size .ensures .0) (b8 .before .before .fields-place .ensures) (s .pre .4) in
+    omega (arith, b8 .before .before .before .before .before .put-arrays .ensures .0, b8 .put-fields .ensures .0)
 
 part-clear-end : tie.Need-part-clear-end
 part-clear-end c = search needs
@@ -77,12 +96,19 @@ same-length c = search needs
 
 returns : tie.Need-returns
 returns c =
-    let s = c .before .before .before .before .before .before .before .before .before .before .before .before .before .before .before .before .before .before .before .before .before .before .before .before .before .before .before in
+    let b8 = c .before .before .before .before .before .before .before .before in
+    let b16 = b8 .before .before .before .before .before .before .before .before in
+    let b24 = b16 .before .before .before .before .before .before .before .before in
+    let s = b24 .before .before .before in
     let a = s .args in
     rw (c .before .before .clear .ensures)
     (page-made (a .base) (a .e .minor) (a .page .now) (a .target .now) (s .pre .1) (s .pre .4) _ _ _ _ _ _ _ _ _ _
-    (c .before .before .before .before .before .before .before .before .before .before .before .before .before .before .before .before .before .before .before .before .before .before .before .sections .ensures .0) (c .before .before .before .before .before .before .before .before .before .before .before .before .before .before .before .before .before .before .before .before .before .before .before .before .core-size .ensures .0) (c .before .before .before .before .before .before .before .before .before .before .before .before .before .before .fields-place .ensures) (search needs)
-    (c .before .before .before .before .before .before .before .before .before .before .before .before .before .before .before .before .before .before .before .before .before .put-sections .ensures) (c .before .before .before .before .before .before .before .before .before .before .before .before .before .before .before .before .before .put-arrays .ensures .0) (c .before .before .before .before .before .before .before .before .before .before .before .before .before .before .before .before .before .put-arrays .ensures .1) (c .before .before .before .before .before .before .before .before .before .before .before .before .put-fields .ensures .0) (c .before .before .before .before .before .before .before .before .before .before .before .before .put-fields .ensures .1) (c .before .before .before .before .before .before .before .before .before .plat-pointer .ensures) (c .before .before .before .before .before .before .put-words .ensures))
+    (b16 .before .before .before .before .before .before .before .sections .ensures .0) (b24 .core-size .ensures .0)
+    (b8 .before .before .before .before .before .before .fields-place .ensures) (search needs)
+    (b16 .before .before .before .before .before .put-sections .ensures) (b16 .before .put-arrays .ensures .0)
+    (b16 .before .put-arrays .ensures .1) (b8 .before .before .before .before .put-fields .ensures .0)
+    (b8 .before .before .before .before .put-fields .ensures .1) (b8 .before .plat-pointer .ensures)
+    (c .before .before .before .before .before .before .put-words .ensures))
 
 pub put-page-spec : {M : Type 1} → statement M
 put-page-spec =

@@ -3,7 +3,7 @@ use Prim.Native.Nat.{_+_, _-_, _*_, _≤_}
 use lib.ListN.{length}
 use Rattle.words.specs.Word.{bytesOf, joined, splice}
 use Rattle.words.proofs.Lists.{joined-mono}
-use Rattle.pack.specs.Steps.{arrayWords, sectionMoved}
+use Rattle.pack.specs.Steps.{arrayWordsIn, sectionMoved}
 use Rattle.pack.proofs.Moves.{array-size, joined-none, joined-grow, laid-none, section-more}
 use native.Mathlib.Omega.{arith}
 use borrow.Author.Needs.{needs}
@@ -12,15 +12,20 @@ use Rattle.pack.proofs.put_sections.Tie as tie
 
 abbrev Inv-loop : tie.InvT-loop
 Inv-loop page first n target₀ pointer₀ k₀ target pointer k =
-    (k ≤ n) × (length target ≡ 4096) × (pointer ≡ first + 8 * length (joined k (arrayWords page))) × (target ≡ splice 16 (bytesOf (joined k (sectionMoved first page))) target₀)
+    (k ≤ n) × (length target ≡ 4096) × (pointer ≡ first + 8 * length (joined k (arrayWordsIn page))) ×
+    (target ≡ splice 16 (bytesOf (joined k (sectionMoved first page))) target₀)
 
 abbrev μ-loop : tie.MeasureT-loop
 μ-loop page first n target₀ pointer₀ k₀ target pointer k = n - k
 
 loop-holds : tie.Need-loop-holds Inv-loop μ-loop
 loop-holds c =
-    let a = c .before .before .args in
-    (search needs, c .before .before .pre .1, omega (arith, joined-none (arrayWords (a .page .now))), laid-none (sectionMoved (a .first) (a .page .now)) 16 (a .target .now))
+    let a = c .before .before .args in (
+      search needs,
+      c .before .before .pre .1,
+      omega (arith, joined-none (arrayWordsIn (a .page .now))),
+      laid-none (sectionMoved (a .first) (a .page .now)) 16 (a .target .now),
+    )
 
 section-words-requires : tie.Need-section-words-requires Inv-loop μ-loop
 section-words-requires c κs = c .before .before .before .before .pre .3 (c .before .loop .k) (omega arith)
@@ -41,13 +46,17 @@ put-words-requires : tie.Need-put-words-requires Inv-loop μ-loop
 put-words-requires c κs = search needs
 
 array-size-requires : tie.Need-array-size-requires Inv-loop μ-loop
-array-size-requires c κs = (c .before .before .before .before .before .before .before .before .before .before .pre .3 (c .before .before .before .before .before .before .before .loop .k) (omega arith), c .before .before .before .before .before .before .before .before .before .before .pre .0)
+array-size-requires c κs =
+    let b8 = c .before .before .before .before .before .before .before .before in (
+      b8 .before .before .pre .3 (c .before .before .before .before .before .before .before .loop .k) (omega arith),
+      b8 .before .before .pre .0,
+    )
 
 add-pointer : tie.Need-add-pointer Inv-loop μ-loop
 add-pointer c =
     let a = c .before .before .before .before .before .before .before .before .before .before .before .args in
     let l = c .before .before .before .before .before .before .before .before .loop in
-    let m = joined-mono (a .n) (arrayWords (a .page .now)) (l .k) (omega arith) in
+    let m = joined-mono (a .n) (arrayWordsIn (a .page .now)) (l .k) (omega arith) in
     omega (arith, array-size (a .page .now) (l .k), c .array-size .ensures .0)
 
 add-k : tie.Need-add-k Inv-loop μ-loop
@@ -58,12 +67,15 @@ loop-less c = search needs
 
 loop-again : tie.Need-loop-again Inv-loop μ-loop
 loop-again c =
-    let a = c .before .before .before .before .before .before .before .before .before .before .before .args in
-    let l = c .before .before .before .before .before .before .before .before .loop in (
+    let b8 = c .before .before .before .before .before .before .before .before in
+    let a = b8 .before .before .before .args in
+    let l = b8 .loop in (
       search needs,
       search needs,
-      omega (arith, joined-grow (arrayWords (a .page .now)) (l .k), array-size (a .page .now) (l .k), c .array-size .ensures .0),
-      c .before .before .before .put-words .ensures ∙ section-more (a .first) (l .k) (a .page .now) _ _ (a .target .now) (omega arith) (c .before .before .before .before .before .before .before .before .before .before .before .pre .1) (l .inv .1) (l .inv .3) (rw (l .inv .2) at (c .before .before .before .before .before .before .section-words .ensures)),
+      omega (arith, joined-grow (arrayWordsIn (a .page .now)) (l .k), array-size (a .page .now) (l .k), c .array-size .ensures .0),
+      c .before .before .before .put-words .ensures ∙ section-more (a .first) (l .k) (a .page .now) _ _ (a .target .now) (omega arith)
+          (b8 .before .before .before .pre .1) (l .inv .1) (l .inv .3)
+          (rw (l .inv .2) at (c .before .before .before .before .before .before .section-words .ensures)),
     )
 
 same-length : tie.Need-same-length Inv-loop μ-loop

@@ -16,7 +16,12 @@ same-length : tie.Need-same-length
 same-length c = search needs
 
 returns : tie.Need-returns
-returns c = (c .before .before .put-code .ensures .0, c .before .before .put-code .ensures .1 ∙ input-short (c .before .before .before .before .before .before .before .args .input .now) (c .before .before .before .before .if1 .taken))
+returns c = (
+  c .before .before .put-code .ensures .0,
+  c .before .before .put-code .ensures .1 ∙
+      input-short (c .before .before .before .before .before .before .before .args .input .now)
+      (c .before .before .before .before .if1 .taken),
+)
 
 sub-pack : tie.Need-sub-pack
 sub-pack c = search needs
@@ -50,21 +55,42 @@ same-length-2 c = search needs
 
 returns-2 : tie.Need-returns-2
 unfolding packedBy outputOf
-returns-2 c = (search needs, take-length _ ∙ input-packed (c .before .before .before .before .before .before .before .before .before .before .before .args .input .now) _ (length (c .before .before .before .before .before .before .before .before .before .before .before .args .out .now)) _ (search needs) (c .before .before .before .before .before .before .word-at .ensures) (c .before .before .before .before .before .before .before .before .before .before .before .pre) (ap (packedBy _) (sym (c .enum-told .given .1)) ∙ c .before .before .before .before .pack .ensures .0))
+returns-2 c =
+    let b8 = c .before .before .before .before .before .before .before .before in (
+      search needs,
+      take-length _ ∙ input-packed (b8 .before .before .before .args .input .now) _
+          (length (b8 .before .before .before .args .out .now)) _ (search needs)
+          (c .before .before .before .before .before .before .word-at .ensures) (b8 .before .before .before .pre)
+          (ap (packedBy _) (sym (c .enum-told .given .1)) ∙ c .before .before .before .before .pack .ensures .0),
+    )
 
 same-length-3 : tie.Need-same-length-3
 same-length-3 c = search needs
 
 returns-3 : tie.Need-returns-3
 unfolding packedBy outputOf
-returns-3 c = (c .before .before .put-code2 .ensures .0, c .before .before .put-code2 .ensures .1 ∙ input-packed (c .before .before .before .before .before .before .before .before .before .before .before .before .before .before .before .before .args .input .now) _ (length (c .before .before .before .before .before .before .before .before .before .before .before .before .before .before .before .before .args .out .now)) _ (search needs) (c .before .before .before .before .before .before .before .before .before .before .before .word-at .ensures) (c .before .before .before .before .before .before .before .before .before .before .before .before .before .before .before .before .pre) (ap (packedBy _) (sym (c .before .before .before .before .before .code .given .1)) ∙ c .before .before .before .before .before .before .before .before .before .pack .ensures .0))
+returns-3 c =
+    let b8 = c .before .before .before .before .before .before .before .before in
+    let b16 = b8 .before .before .before .before .before .before .before .before in (
+      c .before .before .put-code2 .ensures .0,
+      c .before .before .put-code2 .ensures .1 ∙
+          input-packed (b16 .args .input .now) _ (length (b16 .args .out .now)) _ (search needs)
+          (b8 .before .before .before .word-at .ensures) (b16 .pre)
+          (ap (packedBy _) (sym (c .before .before .before .before .before .code .given .1)) ∙ b8 .before .pack .ensures .0),
+    )
 
 same-length-4 : tie.Need-same-length-4
 same-length-4 c = search needs
 
 returns-4 : tie.Need-returns-4
 unfolding packedBy outputOf
-returns-4 c = (search needs, input-packed (c .before .before .before .before .before .before .before .before .before .before .before .args .input .now) _ (length (c .before .before .before .before .before .before .before .before .before .before .before .args .out .now)) _ (search needs) (c .before .before .before .before .before .before .word-at .ensures) (c .before .before .before .before .before .before .before .before .before .before .before .pre) (ap (packedBy _) (sym (c .enum-told2 .given .1)) ∙ c .before .before .before .before .pack .ensures .0))
+returns-4 c =
+    let b8 = c .before .before .before .before .before .before .before .before in (
+      search needs,
+      input-packed (b8 .before .before .before .args .input .now) _ (length (b8 .before .before .before .args .out .now)) _
+          (search needs) (c .before .before .before .before .before .before .word-at .ensures) (b8 .before .before .before .pre)
+          (ap (packedBy _) (sym (c .enum-told2 .given .1)) ∙ c .before .before .before .before .pack .ensures .0),
+    )
 
 pub pack-input-spec : {M : Type 1} → statement M
 pack-input-spec =

@@ -11,7 +11,9 @@ same-length : tie.Need-same-length
 same-length c = search needs
 
 returns : tie.Need-returns
-returns c = let a = c .before .before .before .before .before .before .args in (refl, rw (c .before .before .copy .ensures) (laid-front (a .text .now) (a .out .now) (search needs)))
+returns c =
+    let a = c .before .before .before .before .before .before .args in
+    (refl, rw (c .before .before .copy .ensures) (laid-front (a .text .now) (a .out .now) (search needs)))
 
 pub put-spec : {M : Type 1} → statement M
 put-spec =

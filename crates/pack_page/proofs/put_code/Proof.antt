@@ -39,21 +39,33 @@ same-length c = search needs
 
 returns : tie.Need-returns
 unfolding refusedLine refusalLine reasonText
-returns c = (omega (arith, c .before .before .put .ensures .0), c .before .before .put .ensures .1 ∙ sym (ap (λ (x : Refusal). refusedLine (refusalNumber x)) (c .before .before .before .before .before .enum-told .given .1)))
+returns c = (
+  omega (arith, c .before .before .put .ensures .0),
+  c .before .before .put .ensures .1 ∙
+      sym (ap (λ (x : Refusal). refusedLine (refusalNumber x)) (c .before .before .before .before .before .enum-told .given .1)),
+)
 
 same-length-2 : tie.Need-same-length-2
 same-length-2 c = search needs
 
 returns-2 : tie.Need-returns-2
 unfolding refusedLine refusalLine reasonText
-returns-2 c = (omega (arith, c .before .before .put2 .ensures .0), c .before .before .put2 .ensures .1 ∙ sym (ap (λ (x : Refusal). refusedLine (refusalNumber x)) (c .before .before .before .before .before .enum-told2 .given .1)))
+returns-2 c = (
+  omega (arith, c .before .before .put2 .ensures .0),
+  c .before .before .put2 .ensures .1 ∙
+      sym (ap (λ (x : Refusal). refusedLine (refusalNumber x)) (c .before .before .before .before .before .enum-told2 .given .1)),
+)
 
 same-length-3 : tie.Need-same-length-3
 same-length-3 c = search needs
 
 returns-3 : tie.Need-returns-3
 unfolding refusedLine refusalLine reasonText
-returns-3 c = (omega (arith, c .before .before .put3 .ensures .0), c .before .before .put3 .ensures .1 ∙ sym (ap (λ (x : Refusal). refusedLine (refusalNumber x)) (c .before .before .before .before .before .enum-told3 .given .1)))
+returns-3 c = (
+  omega (arith, c .before .before .put3 .ensures .0),
+  c .before .before .put3 .ensures .1 ∙
+      sym (ap (λ (x : Refusal). refusedLine (refusalNumber x)) (c .before .before .before .before .before .enum-told3 .given .1)),
+)
 
 pub put-code-spec : {M : Type 1} → statement M
 put-code-spec =

@@ -21,7 +21,8 @@ span-words-requires c κs = search needs
 returns : tie.Need-returns
 returns c =
     let a = c .before .before .before .before .args in
-    c .span-words .ensures ∙ ap spanWords (c .before .place-in .ensures ∙ ap (λ s. spanOf (a .section) s (length (a .page .now))) (c .before .before .section-of .ensures))
+    c .span-words .ensures ∙ ap spanWords (c .before .place-in .ensures ∙
+    ap (λ s. spanOf (a .section) s (length (a .page .now))) (c .before .before .section-of .ensures))
 
 pub pbeam-array-of-spec : {M : Type 1} → statement M
 pbeam-array-of-spec =

@@ -1,4 +1,5 @@
-use Rattle.export_rules.proofs.Left.{left-forward, left-delegate, left-undelegate, left-key, left-token, left-features, left-signing, left-update, left-unlisted}
+use Rattle.export_rules.proofs.Left.{left-forward, left-delegate, left-undelegate, left-key, left-token, left-features, left-signing}
+use Rattle.export_rules.proofs.Left.{left-update, left-unlisted}
 use borrow.Author.Needs.{needs}
 use Rattle.potterbeam.proofs.pbeam_call.Statement.{statement}
 use Rattle.potterbeam.proofs.pbeam_call.Tie as tie
@@ -72,8 +73,8 @@ pbeam-key-update-requires c κs = search needs
 enum-told-9 : tie.Need-enum-told-9
 enum-told-9 c = search needs
 
-answered-requires : tie.Need-answered-requires
-answered-requires c κs = search needs
+answer-with-requires : tie.Need-answer-with-requires
+answer-with-requires c κs = search needs
 
 registers-requires : tie.Need-registers-requires
 registers-requires c κs = search needs
@@ -123,7 +124,8 @@ returns-4 c =
     let a = m .before .before .before .before .before .before .before .before .before .before .before .before .before .before .before .args in
     left-key (a .granules .now) (a .session .now) (a .queue .now) (a .page .now) (a .table .now) (a .words .now) (a .state .now)
     (a .call .now) (a .busy) (a .key .now) (a .token .now) (a .public .now) (a .width) _
-    (m .before .before .kind-of .ensures) (m .enum-told4 .given .1) _ _ (c .before .before .pbeam-realm-key .ensures .0) (c .before .before .pbeam-realm-key .ensures .1)
+    (m .before .before .kind-of .ensures) (m .enum-told4 .given .1) _ _ (c .before .before .pbeam-realm-key .ensures .0)
+    (c .before .before .pbeam-realm-key .ensures .1)
 
 same-length-6 : tie.Need-same-length-6
 same-length-6 c = search needs
@@ -169,7 +171,7 @@ returns-9 c =
     let a = m .before .before .before .before .before .before .before .before .before .before .before .before .before .before .before .args in
     left-unlisted (a .granules .now) (a .session .now) (a .queue .now) (a .page .now) (a .table .now) (a .words .now) (a .state .now)
     (a .call .now) (a .busy) (a .key .now) (a .token .now) (a .public .now) (a .width) _
-    (m .before .before .kind-of .ensures) (m .enum-told9 .given .1) _ (c .before .answered .ensures) _ (c .registers .ensures)
+    (m .before .before .kind-of .ensures) (m .enum-told9 .given .1) _ (c .before .answer-with .ensures) _ (c .registers .ensures)
 
 pub pbeam-call-spec : {M : Type 1} → statement M
 pbeam-call-spec =
@@ -198,7 +200,7 @@ pbeam-call-spec =
     enum-told-8
     pbeam-key-update-requires
     enum-told-9
-    answered-requires
+    answer-with-requires
     registers-requires
     returns
     same-length

@@ -23,7 +23,7 @@ returns : tie.Need-returns
 returns c =
     let a = c .before .before .before .before .before .before .args in
     let q : toZ w32 (ofZ w32 (c .number .result)) ≡ c .number .result = search needs in
-    told-cold (recordOf (a .image .now)) _ (a .x0) (a .x1) (a .x2) (a .x3) (a .most) (a .kept) (a .page .now)
+    told-cold (recordOf (a .image .now)) _ (a .x0) (a .x1) (a .x2) (a .x3) (a .maxcpus) (a .kept) (a .page .now)
     (c .before .before .before .record-of .ensures) (c .before .before .cold .result .code) (c .before .before .cold .result .next)
     (c .before .before .cold .ensures) _ _ q (c .number .ensures) _ (c .before .record-words .ensures)
 

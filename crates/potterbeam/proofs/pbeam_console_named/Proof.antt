@@ -21,7 +21,8 @@ returns : tie.Need-returns
 returns c =
     let a = c .before .before .before .before .args in
     c .console-number .ensures
-    ∙ ap consoleNumber (c .before .find-console .ensures ∙ ap (λ (v : View). consoleNamed (readingAnswer (a .page .now) (Accepted v)) (a .name .now)) (c .before .before .view-of .ensures))
+    ∙ ap consoleNumber (c .before .find-console .ensures ∙
+    ap (λ (v : View). consoleNamed (readingAnswer (a .page .now) (Accepted v)) (a .name .now)) (c .before .before .view-of .ensures))
 
 pub pbeam-console-named-spec : {M : Type 1} → statement M
 pbeam-console-named-spec = tie.close (tie.spec view-of-requires find-console-requires console-number-requires returns)

@@ -17,7 +17,8 @@ count-in-requires c κs = search needs
 returns : tie.Need-returns
 returns c =
     let a = c .before .before .before .args in
-    c .count-in .ensures ∙ ap (λ s. countOf (a .section) s (a .page .now)) (c .before .section-of .ensures) ∙ count-view (a .page .now) (viewOf (a .view .now)) (a .section)
+    c .count-in .ensures ∙ ap (λ s. countOf (a .section) s (a .page .now)) (c .before .section-of .ensures) ∙
+    count-view (a .page .now) (viewOf (a .view .now)) (a .section)
 
 pub pbeam-count-spec : {M : Type 1} → statement M
 pbeam-count-spec = tie.close (tie.spec section-of-requires count-in-requires returns)

@@ -17,7 +17,8 @@ field-count-requires c κs = search needs
 returns : tie.Need-returns
 returns c =
     let a = c .before .before .before .args in
-    c .field-count .ensures ∙ ap (λ (v : View). length (fieldsShown (readingAnswer (a .page .now) (Accepted v)))) (c .before .view-of .ensures)
+    c .field-count .ensures ∙ ap (λ (v : View). length (fieldsShown (readingAnswer (a .page .now) (Accepted v))))
+    (c .before .view-of .ensures)
 
 pub pbeam-field-count-spec : {M : Type 1} → statement M
 pbeam-field-count-spec = tie.close (tie.spec view-of-requires field-count-requires returns)

@@ -19,7 +19,8 @@ field-words-requires c κs = search needs
 returns : tie.Need-returns
 returns c =
     let a = c .before .before .before .before .args in (
-      c .field-words .ensures ∙ ap fieldWords (c .before .field-of-tag .ensures .0 ∙ ap (λ (v : View). tagPlace (a .tag) v (a .page .now)) (c .before .before .view-of .ensures)),
+      c .field-words .ensures ∙ ap fieldWords (c .before .field-of-tag .ensures .0 ∙
+          ap (λ (v : View). tagPlace (a .tag) v (a .page .now)) (c .before .before .view-of .ensures)),
       tag-place (a .tag) _ (a .page .now),
     )
 

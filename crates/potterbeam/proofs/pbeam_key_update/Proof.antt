@@ -1,5 +1,5 @@
 use mathlib.Core.Path.{_≡_, sym, ap, _∙_}
-use Rattle.features.specs.declared.Updated.{Updated}
+use Rattle.features.specs.declared.UpdateResult.{UpdateResult}
 use Rattle.images.specs.Image.{workWords, registerWords}
 use borrow.Author.Needs.{needs}
 use Rattle.potterbeam.proofs.pbeam_key_update.Statement.{statement}
@@ -20,8 +20,9 @@ registers-requires c κs = search needs
 returns : tie.Need-returns
 returns c =
     rw (← c .before .before .before .before .record-of .ensures) (
-      c .registers .ensures ∙ ap (λ (u : Updated). registerWords (u .answer)) (c .before .before .before .key-update .ensures),
-      c .before .before .work-words .ensures ∙ ap (λ (u : Updated). workWords (u .work)) (c .before .before .before .key-update .ensures),
+      c .registers .ensures ∙ ap (λ (u : UpdateResult). registerWords (u .answer)) (c .before .before .before .key-update .ensures),
+      c .before .before .work-words .ensures ∙ ap (λ (u : UpdateResult). workWords (u .work))
+          (c .before .before .before .key-update .ensures),
     )
 
 pub pbeam-key-update-spec : {M : Type 1} → statement M

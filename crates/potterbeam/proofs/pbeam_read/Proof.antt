@@ -24,7 +24,8 @@ edition-read-requires c κs = search needs
 show-requires : tie.Need-show-requires
 show-requires c κs =
     let a = c .before .before .before .before .before .before .before .args in
-    let f = fine-reads (a .edition) (a .base) (a .page .now) _ (sym (c .before .before .before .w .given .1) ∙ c .before .before .before .before .before .judge-page .ensures .0) in
+    let f = fine-reads (a .edition) (a .base) (a .page .now) _
+    (sym (c .before .before .before .w .given .1) ∙ c .before .before .before .before .before .judge-page .ensures .0) in
     (f .0, search needs, rw (c .before .edition-read .ensures) (f .1))
 
 enum-known-code : tie.Need-enum-known-code
@@ -36,13 +37,16 @@ number-requires c κs = search needs
 returns : tie.Need-returns
 returns c =
     let a = c .before .before .before .before .before .before .before .before .args in
-    let f = fine-reads (a .edition) (a .base) (a .page .now) _ (sym (c .before .before .before .before .w .given .1) ∙ c .before .before .before .before .before .before .judge-page .ensures .0) in
+    let f = fine-reads (a .edition) (a .base) (a .page .now) _
+    (sym (c .before .before .before .before .w .given .1) ∙
+    c .before .before .before .before .before .before .judge-page .ensures .0) in
     told-read (a .edition) (a .base) _ _ (a .page .now) (c .before .before .edition-read .ensures) (f .2) _ (c .show .ensures)
 
 returns-2 : tie.Need-returns-2
 returns-2 c =
     let a = c .before .before .before .before .before .before .before .args in
-    let h = refused-reads (a .edition) (a .base) (a .page .now) _ (sym (c .before .before .before .code .given .1) ∙ c .before .before .before .before .before .judge-page .ensures .0) in
+    let h = refused-reads (a .edition) (a .base) (a .page .now) _
+    (sym (c .before .before .before .code .given .1) ∙ c .before .before .before .before .before .judge-page .ensures .0) in
     let g = refused-answer (a .edition) (a .base) (a .page .now) _ h in
     let q : toZ w32 (ofZ w32 (c .number .result)) ≡ c .number .result = search needs in
     (q ∙ c .number .ensures ∙ g .0, g .1)

@@ -18,7 +18,9 @@ same-length c = search needs
 
 returns : tie.Need-returns
 unfolding buildIn buildLeft
-returns c = rw (c .built-x0 .ensures) (ap buildLeft (c .before .before .before .build .ensures .0 ∙ rw (c .before .before .before .before .before .granule-count .ensures)))
+returns c =
+    rw (c .built-x0 .ensures) (ap buildLeft (c .before .before .before .build .ensures .0 ∙
+    rw (c .before .before .before .before .before .granule-count .ensures)))
 
 pub pbeam-realm-build-spec : {M : Type 1} → statement M
 pbeam-realm-build-spec =

@@ -15,7 +15,9 @@ number-x0-requires : tie.Need-number-x0-requires
 number-x0-requires c κs = search needs
 
 returns : tie.Need-returns
-returns c = rw (← c .before .before .before .granule-count .ensures, ← c .before .before .count .ensures .0) (c .number-x0 .ensures, c .before .number-words .ensures)
+returns c =
+    rw (← c .before .before .before .granule-count .ensures, ← c .before .before .count .ensures .0)
+    (c .number-x0 .ensures, c .before .number-words .ensures)
 
 pub pbeam-realm-count-spec : {M : Type 1} → statement M
 pbeam-realm-count-spec =

@@ -15,7 +15,9 @@ hit-x0-requires : tie.Need-hit-x0-requires
 hit-x0-requires c κs = search needs
 
 returns : tie.Need-returns
-returns c = rw (← c .before .before .before .granule-count .ensures, ← c .before .before .next .ensures .0) (c .hit-x0 .ensures, c .before .hit-words .ensures)
+returns c =
+    rw (← c .before .before .before .granule-count .ensures, ← c .before .before .next .ensures .0)
+    (c .hit-x0 .ensures, c .before .hit-words .ensures)
 
 pub pbeam-realm-next-spec : {M : Type 1} → statement M
 pbeam-realm-next-spec =

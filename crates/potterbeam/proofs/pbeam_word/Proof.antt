@@ -19,7 +19,8 @@ returns : tie.Need-returns
 unfolding viewOf
 returns c =
     let a = c .before .before .before .before .args in
-    told-view (a .page .now) (viewOf (a .view .now)) (a .section) (a .entry) (a .word) _ (c .before .before .section-of .ensures) _ (c .word-in .ensures)
+    told-view (a .page .now) (viewOf (a .view .now)) (a .section) (a .entry) (a .word) _ (c .before .before .section-of .ensures) _
+    (c .word-in .ensures)
 
 pub pbeam-word-spec : {M : Type 1} → statement M
 pbeam-word-spec = tie.close (tie.spec section-of-requires element-copy-out-word-in word-in-requires returns)

@@ -19,8 +19,11 @@ same-length c = search needs
 returns : tie.Need-returns
 returns c =
     let a = c .before .before .before .before .before .before .before .before .before .before .before .args in
-    let e = c .before .before .before .write .ensures in
-    (c .wrote-number .ensures ∙ wrote-code _ _ (writeLists (a .base) (a .edition) (a .dram .now) (a .console .now) (a .ncoh .now) (a .coh .now) (a .fields .now) (a .page .now)) (e .0), e .1)
+    let e = c .before .before .before .write .ensures in (
+      c .wrote-number .ensures ∙ wrote-code _ _ (writeLists (a .base) (a .edition) (a .dram .now) (a .console .now) (a .ncoh .now)
+          (a .coh .now) (a .fields .now) (a .page .now)) (e .0),
+      e .1,
+    )
 
 pub pbeam-write-spec : {M : Type 1} → statement M
 pbeam-write-spec = tie.close (tie.spec write-requires wrote-number-requires same-length returns)

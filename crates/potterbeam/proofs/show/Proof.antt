@@ -59,14 +59,18 @@ same-length c = search needs
 returns : tie.Need-returns
 unfolding part viewAt
 returns c =
-    let s = c .before .before .before .before .before .before .before .before .before .before .before .before .before .before .before .before .before .before .before .before .before .before .before .before in
+    let b8 = c .before .before .before .before .before .before .before .before in
+    let b16 = b8 .before .before .before .before .before .before .before .before in
+    let b24 = b16 .before .before .before .before .before .before .before .before in
+    let s = b24 in
     let a = s .args in
     view-laid (viewAt (a .minor) (a .e .minor) (a .base) (a .page .now)) (a .view .now) (s .pre .1) _ _ _ _ _
-    (rw (c .before .before .before .before .before .before .before .before .before .before .before .before .before .before .before .before .before .before .before .word-at .ensures ∙ core-plat (a .page .now)) at (c .before .before .before .before .before .before .before .before .before .before .before .before .before .before .before .before .before .before .put-three .ensures))
+    (rw (b16 .before .before .before .word-at .ensures ∙ core-plat (a .page .now)) at (b16 .before .before .put-three .ensures))
     (rw (core-section (a .e .minor) (a .base) 0 (a .page .now) (omega arith)) at
-    (c .before .before .before .before .before .before .before .before .before .before .before .before .before .before .show-section .ensures))
-    (rw (core-section (a .e .minor) (a .base) 1 (a .page .now) (omega arith)) at (c .before .before .before .before .before .before .before .before .before .before .show-section2 .ensures))
-    (rw (core-section (a .e .minor) (a .base) 2 (a .page .now) (omega arith)) at (c .before .before .before .before .before .before .show-section3 .ensures))
+    (b8 .before .before .before .before .before .before .show-section .ensures))
+    (rw (core-section (a .e .minor) (a .base) 1 (a .page .now) (omega arith)) at (b8 .before .before .show-section2 .ensures))
+    (rw (core-section (a .e .minor) (a .base) 2 (a .page .now) (omega arith)) at
+    (c .before .before .before .before .before .before .show-section3 .ensures))
     (rw (core-section (a .e .minor) (a .base) 3 (a .page .now) (omega arith)) at (c .before .before .show-section4 .ensures))
 
 pub show-spec : {M : Type 1} → statement M

@@ -33,7 +33,8 @@ returns : tie.Need-returns
 unfolding sectionWords tagWord placeWord countWord
 returns c =
     let a = c .before .before .before .before .before .before .before .before .args in
-    c .before .before .put-three .ensures ∙ ap (λ s. splice (3 + 3 * a .k) (sectionWords s) (a .view .now)) (section-absent (a .e .minor) (a .base) (a .k) (a .core .now) (omega arith))
+    c .before .before .put-three .ensures ∙ ap (λ s. splice (3 + 3 * a .k) (sectionWords s) (a .view .now))
+    (section-absent (a .e .minor) (a .base) (a .k) (a .core .now) (omega arith))
 
 count-at-requires : tie.Need-count-at-requires
 count-at-requires c κs = search needs
@@ -48,7 +49,8 @@ returns-2 : tie.Need-returns-2
 unfolding sectionWords tagWord placeWord countWord
 returns-2 c =
     let a = c .before .before .before .before .before .before .before .before .before .before .args in
-    c .before .before .put-three2 .ensures ∙ ap (λ s. splice (3 + 3 * a .k) (sectionWords s) (a .view .now)) (section-empty (a .e .minor) (a .base) (a .k) (a .core .now) (omega arith) (omega arith))
+    c .before .before .put-three2 .ensures ∙ ap (λ s. splice (3 + 3 * a .k) (sectionWords s) (a .view .now))
+    (section-empty (a .e .minor) (a .base) (a .k) (a .core .now) (omega arith) (omega arith))
 
 pointer-at-requires : tie.Need-pointer-at-requires
 pointer-at-requires c κs = search needs

@@ -24,14 +24,23 @@ same-length c = search needs
 
 returns : tie.Need-returns
 unfolding outcome verdictLeft
-returns c = rw (← c .before .before .before .before .before .before .before .before .collector-of .ensures, ← c .before .before .before .before .before .before .collect .ensures, c .before .enum-told .given .1)
+returns c =
+    let b8 = c .before .before .before .before .before .before .before .before in
+    rw (← b8 .collector-of .ensures, ← c .before .before .before .before .before .before .collect .ensures, c .before .enum-told .given .1)
 
 same-length-2 : tie.Need-same-length-2
 same-length-2 c = search needs
 
 returns-2 : tie.Need-returns-2
 unfolding outcome verdictLeft
-returns-2 c = rw (c .refusal-number .ensures, ← c .before .before .before .before .before .before .before .before .before .collector-of .ensures, ← c .before .before .before .before .before .before .before .collect .ensures, c .before .before .verdict .given .1)
+returns-2 c =
+    let b8 = c .before .before .before .before .before .before .before .before in
+    rw (
+      c .refusal-number .ensures,
+      ← b8 .before .collector-of .ensures,
+      ← c .before .before .before .before .before .before .before .collect .ensures,
+      c .before .before .verdict .given .1,
+    )
 
 pub pbeam-swtpm-collect-spec : {M : Type 1} → statement M
 pbeam-swtpm-collect-spec =

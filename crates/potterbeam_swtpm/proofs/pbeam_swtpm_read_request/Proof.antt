@@ -22,7 +22,8 @@ returns c = rw (sym (c .before .before .before .before .read-request .ensures) �
 
 returns-2 : tie.Need-returns-2
 unfolding requestLeft
-returns-2 c = rw (c .refusal-number .ensures, sym (c .before .before .before .before .read-request .ensures) ∙ c .before .before .read2 .given .1)
+returns-2 c =
+    rw (c .refusal-number .ensures, sym (c .before .before .before .before .read-request .ensures) ∙ c .before .before .read2 .given .1)
 
 pub pbeam-swtpm-read-request-spec : {M : Type 1} → statement M
 pbeam-swtpm-read-request-spec =

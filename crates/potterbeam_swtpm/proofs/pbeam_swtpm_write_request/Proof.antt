@@ -27,7 +27,12 @@ same-length-2 c = search needs
 
 returns-2 : tie.Need-returns-2
 unfolding writtenLeft
-returns-2 c = rw (c .refusal-number .ensures, ← c .before .before .before .before .before .before .write-request .ensures, c .before .before .written2 .given .1)
+returns-2 c =
+    rw (
+      c .refusal-number .ensures,
+      ← c .before .before .before .before .before .before .write-request .ensures,
+      c .before .before .written2 .given .1,
+    )
 
 pub pbeam-swtpm-write-request-spec : {M : Type 1} → statement M
 pbeam-swtpm-write-request-spec =

@@ -37,10 +37,14 @@ same-length c = search needs
 -- src/lib.rt:51:1
 returns : tie.Need-returns
 returns c =
-    let a = c .before .before .before .before .before .before .before .before .before .before .before .before .args in
+    let b8 = c .before .before .before .before .before .before .before .before in
+    let a = b8 .before .before .before .before .args in
     let r = c .before .before .before .before .comm in
     let q : toZ w64 (ofZ w64 (c .hcall-number .result)) ≡ c .hcall-number .result = search needs in
-    left-is _ (r .result) (a .session .now) _ (a .memory .now) _ (a .response .now) _ (a .forbidden) (a .fault) (q ∙ c .hcall-number .ensures) (c .before .word-after .ensures) _ _ _ (c .before .before .before .before .before .before .before .before .session-of .ensures) (c .before .before .before .before .before .before .says .ensures) (c .before .before .before .before .before .says2 .ensures) (r .ensures)
+    left-is _ (r .result) (a .session .now) _ (a .memory .now) _ (a .response .now) _ (a .forbidden) (a .fault)
+    (q ∙ c .hcall-number .ensures) (c .before .word-after .ensures) _ _ _ (b8 .session-of .ensures)
+    (c .before .before .before .before .before .before .says .ensures) (c .before .before .before .before .before .says2 .ensures)
+    (r .ensures)
 
 pub pbeam-tpm-comm-spec : {M : Type 1} → statement M
 pbeam-tpm-comm-spec =

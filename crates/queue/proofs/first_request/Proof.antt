@@ -14,7 +14,9 @@ no-request-requires c κs = search needs
 
 returns : tie.Need-returns
 unfolding waiting oldestRequest
-returns c = c .no-request .ensures ∙ none-first (waiting (c .before .before .before .args .side)) noRequest (omega (arith, c .before .before .request-count .ensures .0))
+returns c =
+    c .no-request .ensures ∙ none-first (waiting (c .before .before .before .args .side)) noRequest
+    (omega (arith, c .before .before .request-count .ensures .0))
 
 array-copy-out-result : tie.Need-array-copy-out-result
 array-copy-out-result c = search needs

@@ -20,7 +20,9 @@ add-t7 : tie.Need-add-t7
 add-t7 c = search needs
 
 returns-2 : tie.Need-returns-2
-returns-2 c = requests-join (c .before .before .requests-from .result) (waiting (c .before .before .before .args .side)) _ (c .before .before .requests-from .ensures) (search needs)
+returns-2 c =
+    requests-join (c .before .before .requests-from .result) (waiting (c .before .before .before .args .side)) _
+    (c .before .before .requests-from .ensures) (search needs)
 
 pub join-request-spec : {M : Type 1} → statement M
 join-request-spec =

@@ -1,4 +1,4 @@
-use Rattle.queue.specs.Queue.{ready, signedIn}
+use Rattle.queue.specs.Queue.{waitingSigned, signedIn}
 use Rattle.queue.proofs.Holding.{responses-full, responses-join}
 use borrow.Author.Needs.{needs}
 use Rattle.queue.proofs.join_response.Statement.{statement}
@@ -8,10 +8,10 @@ responses-from-requires : tie.Need-responses-from-requires
 responses-from-requires c κs = search needs
 
 returns : tie.Need-returns
-returns c = responses-full _ (ready (c .before .before .args .side)) _ (c .before .responses-from .ensures) (search needs)
+returns c = responses-full _ (waitingSigned (c .before .before .args .side)) _ (c .before .responses-from .ensures) (search needs)
 
-only-signed-requires : tie.Need-only-signed-requires
-only-signed-requires c κs = search needs
+clear-after-signature-requires : tie.Need-clear-after-signature-requires
+clear-after-signature-requires c κs = search needs
 
 mul-items : tie.Need-mul-items
 mul-items c = search needs
@@ -25,7 +25,7 @@ add-t8 c = search needs
 returns-2 : tie.Need-returns-2
 returns-2 c =
     let a = c .before .before .before .before .args in
-    rw (c .only-signed .ensures) (responses-join (c .before .before .before .responses-from .result) (ready (a .side))
+    rw (c .clear-after-signature .ensures) (responses-join (c .before .before .before .responses-from .result) (waitingSigned (a .side))
     (signedIn (a .response)) (c .before .before .before .responses-from .ensures) (search needs))
 
 pub join-response-spec : {M : Type 1} → statement M
@@ -34,7 +34,7 @@ join-response-spec =
     (tie.spec
     responses-from-requires
     returns
-    only-signed-requires
+    clear-after-signature-requires
     mul-items
     array-set-from-items
     add-t8

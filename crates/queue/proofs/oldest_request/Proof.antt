@@ -16,13 +16,21 @@ returns : tie.Need-returns
 unfolding listsOf oldestOf waitingOf
 returns c =
     let a = c .before .before .before .before .args in
-    rw (c .before .before .first-request .ensures, eq-eqb (length (waiting (a .queue .requests))) 0 (sym (c .before .request-count .ensures .0) ∙ c .if1 .taken))
+    rw (
+      c .before .before .first-request .ensures,
+      eq-eqb (length (waiting (a .queue .requests))) 0
+          (sym (c .before .request-count .ensures .0) ∙ c .if1 .taken),
+    )
 
 returns-2 : tie.Need-returns-2
 unfolding listsOf oldestOf waitingOf
 returns-2 c =
     let a = c .before .before .before .before .args in
-    rw (c .before .before .first-request .ensures, ne-eqb (length (waiting (a .queue .requests))) 0 (λ e. c .if1 .left (c .before .request-count .ensures .0 ∙ e)))
+    rw (
+      c .before .before .first-request .ensures,
+      ne-eqb (length (waiting (a .queue .requests))) 0
+          (λ e. c .if1 .left (c .before .request-count .ensures .0 ∙ e)),
+    )
 
 pub oldest-request-spec : {M : Type 1} → statement M
 oldest-request-spec =

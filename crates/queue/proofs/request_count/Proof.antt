@@ -8,11 +8,15 @@ use Rattle.queue.proofs.request_count.Tie as tie
 
 returns : tie.Need-returns
 unfolding waiting
-returns c = let s = c .before .args .side in (sym (count-over (s .count) (s .items) (simp length-map at (c .before .good .0 .1 .1 .0 .1 .0 .1)) (search needs)), search needs)
+returns c =
+    let s = c .before .args .side in
+    (sym (count-over (s .count) (s .items) (simp length-map at (c .before .good .0 .1 .1 .0 .1 .0 .1)) (search needs)), search needs)
 
 returns-2 : tie.Need-returns-2
 unfolding waiting
-returns-2 c = let s = c .before .args .side in (sym (count-within (s .count) (s .items) (simp length-map at (c .before .good .0 .1 .1 .0 .1 .0 .1)) (search needs)), search needs)
+returns-2 c =
+    let s = c .before .args .side in
+    (sym (count-within (s .count) (s .items) (simp length-map at (c .before .good .0 .1 .1 .0 .1 .0 .1)) (search needs)), search needs)
 
 pub request-count-spec : {M : Type 1} → statement M
 request-count-spec = tie.close (tie.spec returns returns-2)

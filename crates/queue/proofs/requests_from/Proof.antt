@@ -25,7 +25,8 @@ returns c =
     let a = c .before .before .before .before .args in
     let m = c .before .before .before .request-count in
     let z = simp length-map at (c .before .before .before .before .good .0 .1 .1 .0 .1 .0 .1) in
-    requests-none (a .side) z (m .result) (a .gone) (m .ensures .0) (m .ensures .1) _ (fill-none noRequest (c .before .no-request .result) _ refl (c .before .no-request .ensures)) (search needs)
+    requests-none (a .side) z (m .result) (a .gone) (m .ensures .0) (m .ensures .1) _
+    (fill-none noRequest (c .before .no-request .result) _ refl (c .before .no-request .ensures)) (search needs)
 
 sub-count : tie.Need-sub-count Inv-loop μ-loop
 sub-count c = search needs
@@ -59,8 +60,11 @@ loop-again c =
     let a = c .before .before .before .before .before .before .before .args in
     let m = c .before .before .before .before .before .before .request-count in
     let z = simp length-map at (c .before .before .before .before .before .before .before .good .0 .1 .1 .0 .1 .0 .1) in
-    let l = c .before .before .loop in
-    (search needs, requests-more (a .side) z (m .result) (a .gone) (m .ensures .0) (m .ensures .1) (l .i) (l .items) _ (l .inv .1) (search needs))
+    let l = c .before .before .loop in (
+      search needs,
+      requests-more (a .side) z (m .result) (a .gone) (m .ensures .0) (m .ensures .1) (l .i) (l .items) _ (l .inv .1)
+          (search needs),
+    )
 
 returns-2 : tie.Need-returns-2 Inv-loop μ-loop
 returns-2 c =

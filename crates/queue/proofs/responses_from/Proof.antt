@@ -10,7 +10,8 @@ use Rattle.queue.proofs.responses_from.Statement.{statement}
 use Rattle.queue.proofs.responses_from.Tie as tie
 
 abbrev Inv-loop : tie.InvT-loop
-Inv-loop gone n from items₀ count i₀ items i = (i ≤ count) × (items ≡ padTo 8 noResponse (take i (map responseHolding (drop gone (map signedIn (take n from))))))
+Inv-loop gone n from items₀ count i₀ items i =
+    (i ≤ count) × (items ≡ padTo 8 noResponse (take i (map responseHolding (drop gone (map signedIn (take n from))))))
 
 abbrev μ-loop : tie.MeasureT-loop
 μ-loop gone n from items₀ count i₀ items i = count - i
@@ -26,7 +27,8 @@ returns c =
     let a = c .before .before .before .before .args in
     let m = c .before .before .before .response-count in
     let z = simp length-map at (c .before .before .before .before .good .0 .1 .1 .0 .1 .0 .1) in
-    responses-none (a .side) z (m .result) (a .gone) (m .ensures .0) (m .ensures .1) _ (fill-none noResponse (c .before .no-response .result) _ refl (c .before .no-response .ensures)) (search needs)
+    responses-none (a .side) z (m .result) (a .gone) (m .ensures .0) (m .ensures .1) _
+    (fill-none noResponse (c .before .no-response .result) _ refl (c .before .no-response .ensures)) (search needs)
 
 sub-count : tie.Need-sub-count Inv-loop μ-loop
 sub-count c = search needs
@@ -43,8 +45,8 @@ mul-next c = search needs
 array-copy-out-next : tie.Need-array-copy-out-next Inv-loop μ-loop
 array-copy-out-next c = search needs
 
-only-signed-requires : tie.Need-only-signed-requires Inv-loop μ-loop
-only-signed-requires c κs = search needs
+clear-after-signature-requires : tie.Need-clear-after-signature-requires Inv-loop μ-loop
+clear-after-signature-requires c κs = search needs
 
 mul-items : tie.Need-mul-items Inv-loop μ-loop
 mul-items c = search needs
@@ -63,8 +65,11 @@ loop-again c =
     let a = c .before .before .before .before .before .before .before .before .args in
     let m = c .before .before .before .before .before .before .before .response-count in
     let z = simp length-map at (c .before .before .before .before .before .before .before .before .good .0 .1 .1 .0 .1 .0 .1) in
-    let l = c .before .before .before .loop in
-    (search needs, responses-more (a .side) z (m .result) (a .gone) (m .ensures .0) (m .ensures .1) (l .i) (l .items) _ _ (c .only-signed .ensures) (l .inv .1) (search needs))
+    let l = c .before .before .before .loop in (
+      search needs,
+      responses-more (a .side) z (m .result) (a .gone) (m .ensures .0) (m .ensures .1) (l .i) (l .items) _ _
+          (c .clear-after-signature .ensures) (l .inv .1) (search needs),
+    )
 
 returns-2 : tie.Need-returns-2 Inv-loop μ-loop
 returns-2 c =
@@ -88,7 +93,7 @@ responses-from-spec =
     add-next
     mul-next
     array-copy-out-next
-    only-signed-requires
+    clear-after-signature-requires
     mul-items
     array-set-from-items
     add-i

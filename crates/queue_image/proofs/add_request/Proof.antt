@@ -10,7 +10,9 @@ rows-waiting-requires : tie.Need-rows-waiting-requires
 rows-waiting-requires c κs = search needs
 
 returns : tie.Need-returns
-returns c = let a = c .before .before .before .before .args in row-full requestSide (requestWords (a .request)) (a .image .now) (omega (arith, c .before .rows-waiting .ensures .0))
+returns c =
+    let a = c .before .before .before .before .args in
+    row-full requestSide (requestWords (a .request)) (a .image .now) (omega (arith, c .before .rows-waiting .ensures .0))
 
 mul-put-request : tie.Need-mul-put-request
 mul-put-request c = search needs
@@ -31,7 +33,8 @@ returns-2 : tie.Need-returns-2
 returns-2 c =
     let a = c .before .before .before .before .before .before .args in
     let n = c .before .before .before .rows-waiting in
-    row-joined requestSide (requestWords (a .request)) (a .image .now) (n .result) (n .ensures .0) (omega arith) _ (c .put-request .ensures) (search needs)
+    row-joined requestSide (requestWords (a .request)) (a .image .now) (n .result) (n .ensures .0) (omega arith) _
+    (c .put-request .ensures) (search needs)
 
 pub add-request-spec : {M : Type 1} → statement M
 add-request-spec =

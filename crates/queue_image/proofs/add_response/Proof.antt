@@ -11,7 +11,9 @@ rows-waiting-requires : tie.Need-rows-waiting-requires
 rows-waiting-requires c κs = search needs
 
 returns : tie.Need-returns
-returns c = let a = c .before .before .before .before .args in row-full responseSide (responseWords (signedIn (a .response))) (a .image .now) (omega (arith, c .before .rows-waiting .ensures .0))
+returns c =
+    let a = c .before .before .before .before .args in
+    row-full responseSide (responseWords (signedIn (a .response))) (a .image .now) (omega (arith, c .before .rows-waiting .ensures .0))
 
 mul-put-response : tie.Need-mul-put-response
 mul-put-response c = search needs
@@ -32,7 +34,8 @@ returns-2 : tie.Need-returns-2
 returns-2 c =
     let a = c .before .before .before .before .before .before .args in
     let n = c .before .before .before .rows-waiting in
-    row-joined responseSide (responseWords (signedIn (a .response))) (a .image .now) (n .result) (n .ensures .0) (omega arith) _ (c .put-response .ensures) (search needs)
+    row-joined responseSide (responseWords (signedIn (a .response))) (a .image .now) (n .result) (n .ensures .0) (omega arith) _
+    (c .put-response .ensures) (search needs)
 
 pub add-response-spec : {M : Type 1} → statement M
 add-response-spec =

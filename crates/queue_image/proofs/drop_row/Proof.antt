@@ -13,7 +13,8 @@ rows-behind-requires c κs = search needs
 mul-n : tie.Need-mul-n
 mul-n c =
     let a = c .before .before .before .args in
-    let r : a .width + a .width * c .rows-behind .result ≤ a .width * 8 = row-room (a .width) (c .rows-behind .result) (c .rows-behind .ensures .1) in
+    let r : a .width + a .width * c .rows-behind .result ≤ a .width * 8 = row-room (a .width) (c .rows-behind .result)
+    (c .rows-behind .ensures .1) in
     search needs
 
 move-up-requires : tie.Need-move-up-requires

@@ -41,8 +41,12 @@ loop-less c = search needs
 loop-again : tie.Need-loop-again Inv-loop μ-loop
 loop-again c =
     let a = c .before .before .before .before .before .args in
-    let l = c .before .before .loop in
-    (search needs, simp length-set (omega arith), rw (l .inv .2, c .word-at .ensures) (bytes-more (a .at) (l .i) (a .bytes .now) (a .image .now) (omega arith)))
+    let l = c .before .before .loop in (
+      search needs,
+      simp length-set (omega arith),
+      rw (l .inv .2, c .word-at .ensures)
+          (bytes-more (a .at) (l .i) (a .bytes .now) (a .image .now) (omega arith)),
+    )
 
 same-length : tie.Need-same-length Inv-loop μ-loop
 same-length c = search needs

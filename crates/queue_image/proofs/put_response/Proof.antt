@@ -53,7 +53,8 @@ slice-aggregate-put-bytes : tie.Need-slice-aggregate-put-bytes
 slice-aggregate-put-bytes c =
     let s = c .before .before .before .before .before .args .response .signature in
     let l : length s ≡ 104 = search needs in
-    sym (length-take-le (c .before .before .before .signature-len .result) s (omega (arith, c .before .before .before .signature-len .ensures .1)))
+    sym (length-take-le (c .before .before .before .signature-len .result) s
+    (omega (arith, c .before .before .before .signature-len .ensures .1)))
 
 put-bytes-requires : tie.Need-put-bytes-requires
 put-bytes-requires c κs = (simp length-set (omega arith), search needs)
@@ -69,7 +70,8 @@ returns c =
     let s = a .image .now in
     let n = c .before .before .before .before .before .before .signature-len .result in
     let e = c .before .before .before .before .before .before .signature-len .ensures .0 in
-    let bytes : take n (r .signature) ≡ take (r .len) (r .signature) = ap (λ i. take i (r .signature)) e ∙ taken-all (r .len) (r .signature) in
+    let bytes : take n (r .signature) ≡ take (r .len) (r .signature) = ap (λ i. take i (r .signature)) e ∙
+    taken-all (r .len) (r .signature) in
     c .before .before .put-bytes .ensures
     ∙ ap (splice (a .at + 3) (wordsOf 13 (take n (r .signature)))) (put-three s (a .at) (r .granule) (r .ticket) n (omega arith))
     ∙ splice-splice (a .at) (r .granule ∷ r .ticket ∷ n ∷ []) s (omega arith) (wordsOf 13 (take n (r .signature)))

@@ -74,7 +74,8 @@ returns c =
     let word1 = row-at 10 (a .at) 1 w (search needs) in
     let word2 = row-at 10 (a .at) 2 w (search needs) in
     let word3 = row-at 10 (a .at) 3 w (search needs) in
-    let bytes = c .before .before .before .before .before .put-words .ensures ∙ row-bytes 4 6 (a .at) w (replicate 48 0) (a .at + 10 - (a .at + 4)) (omega arith) (search needs) refl in
+    let bytes = c .before .before .before .before .before .put-words .ensures ∙
+    row-bytes 4 6 (a .at) w (replicate 48 0) (a .at + 10 - (a .at + 4)) (omega arith) (search needs) refl in
     cc
 
 pub request-in-spec : {M : Type 1} → statement M

@@ -46,8 +46,11 @@ loop-less c = search needs
 
 loop-again : tie.Need-loop-again Inv-loop μ-loop
 loop-again c =
-    let l = c .before .before .loop in
-    (search needs, read-more requestIn 10 2 (c .before .before .before .before .before .args .image .now) _ (l .i) (l .items) noRequest _ (l .inv .1) (omega arith) (c .request-in2 .ensures))
+    let l = c .before .before .loop in (
+      search needs,
+      read-more requestIn 10 2 (c .before .before .before .before .before .args .image .now) _ (l .i) (l .items) noRequest _
+          (l .inv .1) (omega arith) (c .request-in2 .ensures),
+    )
 
 shared-slice-read-t14 : tie.Need-shared-slice-read-t14 Inv-loop μ-loop
 shared-slice-read-t14 c = search needs
@@ -57,7 +60,8 @@ unfolding queueIn
 returns c =
     let l = c .before .before .loop in
     let w = c .before .before .before .before .before .args .image .now in
-    ap (λ (items : List Request). record { items = items; count = getD w 0 0 }) (read-all requestIn 10 2 w _ (l .i) (l .items) (l .inv .1) (search needs) (omega arith))
+    ap (λ (items : List Request). record { items = items; count = getD w 0 0 })
+    (read-all requestIn 10 2 w _ (l .i) (l .items) (l .inv .1) (search needs) (omega arith))
 
 pub requests-in-spec : {M : Type 1} → statement M
 requests-in-spec =

@@ -64,7 +64,8 @@ returns c =
     let first = row-first 16 (a .at) w (search needs) in
     let word1 = row-at 16 (a .at) 1 w (search needs) in
     let word2 = row-at 16 (a .at) 2 w (search needs) in
-    let bytes = c .before .before .before .before .put-words .ensures ∙ row-bytes 3 13 (a .at) w (replicate 104 0) (a .at + 16 - (a .at + 3)) (omega arith) (search needs) refl in
+    let bytes = c .before .before .before .before .put-words .ensures ∙
+    row-bytes 3 13 (a .at) w (replicate 104 0) (a .at + 16 - (a .at + 3)) (omega arith) (search needs) refl in
     cc
 
 pub response-in-spec : {M : Type 1} → statement M

@@ -19,7 +19,8 @@ edition-read-requires c κs = search needs
 view-at-requires : tie.Need-view-at-requires
 view-at-requires c κs =
     let a = c .before .before .before .before .before .before .args in
-    let f = fine-reads (a .edition) (a .base) (a .page .now) _ (sym (c .before .before .w .given .1) ∙ c .before .before .before .before .judge-page .ensures .0) in
+    let f = fine-reads (a .edition) (a .base) (a .page .now) _
+    (sym (c .before .before .w .given .1) ∙ c .before .before .before .before .judge-page .ensures .0) in
     (f .0, rules-sections _ _ _ _ (rw (c .edition-read .ensures) (f .1)))
 
 enum-known-code : tie.Need-enum-known-code
@@ -28,14 +29,17 @@ enum-known-code c = search needs
 returns : tie.Need-returns
 returns c =
     let a = c .before .before .before .before .before .before .before .args in
-    let f = fine-reads (a .edition) (a .base) (a .page .now) _ (sym (c .before .before .before .w .given .1) ∙ c .before .before .before .before .before .judge-page .ensures .0) in
-    let e : Accepted _ ≡ readingOf (a .edition) (a .base) (a .page .now) = ap Accepted (c .view-at .ensures) ∙ rw (c .before .edition-read .ensures) (f .2) in
+    let f = fine-reads (a .edition) (a .base) (a .page .now) _
+    (sym (c .before .before .before .w .given .1) ∙ c .before .before .before .before .before .judge-page .ensures .0) in
+    let e : Accepted _ ≡ readingOf (a .edition) (a .base) (a .page .now) = ap Accepted (c .view-at .ensures) ∙
+    rw (c .before .edition-read .ensures) (f .2) in
     (e, ap (readingAnswer (a .page .now)) e ∙ reading-answer (a .edition) (a .base) (a .page .now))
 
 returns-2 : tie.Need-returns-2
 returns-2 c =
     let a = c .before .before .before .before .before .args in
-    let e = refused-reads (a .edition) (a .base) (a .page .now) _ (sym (c .before .code .given .1) ∙ c .before .before .before .judge-page .ensures .0) in
+    let e = refused-reads (a .edition) (a .base) (a .page .now) _
+    (sym (c .before .code .given .1) ∙ c .before .before .before .judge-page .ensures .0) in
     (e, ap (readingAnswer (a .page .now)) e ∙ reading-answer (a .edition) (a .base) (a .page .now))
 
 pub read-spec : {M : Type 1} → statement M

@@ -31,7 +31,11 @@ sub-at c =
     let a = c .before .before .before .before .before .before .args in
     let z : (countAt (a .k) (a .page .now) ≡ 0 → ⊥) = (λ e. c .before .if2 .left (c .before .before .count-at .ensures ∙ e)) in
     let o = c .before .before .before .before .before .before .pre .1 (omega arith) in
-    omega (arith, range-low (a .e .minor) (a .base) (a .k) (countAt (a .k) (a .page .now)) (pointerAt (a .k) (a .page .now)) (ok-in-range (a .minor) (a .e .minor) (a .base) (a .k) (a .page .now) o z))
+    omega (
+      arith,
+      range-low (a .e .minor) (a .base) (a .k) (countAt (a .k) (a .page .now)) (pointerAt (a .k) (a .page .now))
+          (ok-in-range (a .minor) (a .e .minor) (a .base) (a .k) (a .page .now) o z),
+    )
 
 returns-3 : tie.Need-returns-3
 returns-3 c =

@@ -34,7 +34,14 @@ section-at-requires-4 c κs =
 
 returns : tie.Need-returns
 unfolding viewAt
-returns c = rw (c .before .before .before .before .word-at .ensures, c .before .before .before .section-at .ensures, c .before .before .section-at2 .ensures, c .before .section-at3 .ensures, c .section-at4 .ensures)
+returns c =
+    rw (
+      c .before .before .before .before .word-at .ensures,
+      c .before .before .before .section-at .ensures,
+      c .before .before .section-at2 .ensures,
+      c .before .section-at3 .ensures,
+      c .section-at4 .ensures,
+    )
 
 pub view-at-spec : {M : Type 1} → statement M
 view-at-spec =

@@ -14,7 +14,8 @@ use Rattle.realm_next.proofs.next.Statement.{statement}
 use Rattle.realm_next.proofs.next.Tie as tie
 
 abbrev Inv-loop : tie.InvT-loop
-Inv-loop words granules index at₀ bits₀ at bits = (length words ≡ wordsFor granules) × (index < granules) × Look words granules index at bits
+Inv-loop words granules index at₀ bits₀ at bits =
+    (length words ≡ wordsFor granules) × (index < granules) × Look words granules index at bits
 
 abbrev μ-loop : tie.MeasureT-loop
 μ-loop words granules index at₀ bits₀ at bits = length words - at
@@ -42,7 +43,8 @@ shared-slice-read-high-bits : tie.Need-shared-slice-read-high-bits Inv-loop μ-l
 unfolding wordsFor
 shared-slice-read-high-bits c =
     let a = c .before .before .before .before .before .args in
-    let f : length (a .words .now) ≡ wordsFor (a .granules) = eqb-true _ _ (sym (c .before .before .before .words-fit .ensures) ∙ not-false _ (c .before .before .if1 .left)) in
+    let f : length (a .words .now) ≡ wordsFor (a .granules) = eqb-true _ _
+    (sym (c .before .before .before .words-fit .ensures) ∙ not-false _ (c .before .before .if1 .left)) in
     omega arith
 
 high-bits-requires : tie.Need-high-bits-requires Inv-loop μ-loop
@@ -51,7 +53,8 @@ high-bits-requires c κs = search needs
 loop-holds : tie.Need-loop-holds Inv-loop μ-loop
 loop-holds c =
     let a = c .before .before .before .before .before .before .args in
-    let f : length (a .words .now) ≡ wordsFor (a .granules) = eqb-true _ _ (sym (c .before .before .before .before .words-fit .ensures) ∙ not-false _ (c .before .before .before .if1 .left)) in
+    let f : length (a .words .now) ≡ wordsFor (a .granules) = eqb-true _ _
+    (sym (c .before .before .before .before .words-fit .ensures) ∙ not-false _ (c .before .before .before .if1 .left)) in
     (f, search needs, look-first (a .words .now) (a .granules) (a .index) _ (search needs) (c .high-bits .ensures))
 
 add-at : tie.Need-add-at Inv-loop μ-loop
@@ -60,10 +63,15 @@ add-at c = search needs
 returns-3 : tie.Need-returns-3 Inv-loop μ-loop
 unfolding realmNextOf both
 returns-3 c =
-    let a = c .before .before .before .before .before .before .before .before .before .args in
+    let b8 = c .before .before .before .before .before .before .before .before in
+    let a = b8 .before .args in
     let l = c .before .before .loop in
     next-told (a .words .now) (a .granules) (a .index) _
-    (rw (sym (c .before .before .before .before .before .before .before .words-fit .ensures) ∙ not-false _ (c .before .before .before .before .before .before .if1 .left), lt-ltb (a .index) (a .granules) (search needs))
+    (rw (
+      sym (c .before .before .before .before .before .before .before .words-fit .ensures) ∙
+          not-false _ (c .before .before .before .before .before .before .if1 .left),
+      lt-ltb (a .index) (a .granules) (search needs),
+    )
     (sym (look-none (a .words .now) (a .granules) (a .index) (l .at) (l .bits) (l .inv .2) (search needs) (search needs) (omega arith))))
 
 mul-bits : tie.Need-mul-bits Inv-loop μ-loop
@@ -78,8 +86,12 @@ loop-less c = search needs
 loop-again : tie.Need-loop-again Inv-loop μ-loop
 loop-again c =
     let a = c .before .before .before .before .before .before .before .before .before .before .args in
-    let l = c .before .before .before .loop in
-    (l .inv .0, l .inv .1, look-more (a .words .now) (a .granules) (a .index) (l .at) (l .bits) (l .inv .2) (search needs) _ (omega arith) refl)
+    let l = c .before .before .before .loop in (
+      l .inv .0,
+      l .inv .1,
+      look-more (a .words .now) (a .granules) (a .index) (l .at) (l .bits) (l .inv .2) (search needs) _
+          (omega arith) refl,
+    )
 
 mul-hit-below : tie.Need-mul-hit-below Inv-loop μ-loop
 mul-hit-below c = search needs
@@ -100,13 +112,18 @@ hit-below-requires c κs = search needs
 returns-4 : tie.Need-returns-4 Inv-loop μ-loop
 unfolding realmNextOf both
 returns-4 c =
-    let a = c .before .before .before .before .before .before .before .before .before .before .args in
+    let b8 = c .before .before .before .before .before .before .before .before in
+    let a = b8 .before .before .args in
     let l = c .before .before .before .loop in
     let e : c .before .first-bit .result ≡ trailingZeros 64 (l .bits) = c .before .first-bit .ensures .0 in
     let t : c .before .first-bit .result < 64 = c .before .first-bit .ensures .1 (omega arith) in
     next-told (a .words .now) (a .granules) (a .index) _
-    (rw (sym (c .before .before .before .before .before .before .before .before .words-fit .ensures) ∙ not-false _ (c .before .before .before .before .before .before .before .if1 .left), lt-ltb (a .index) (a .granules) (search needs))
-    (c .hit-below .ensures ∙ rw e (sym (look-hit (a .words .now) (a .granules) (a .index) (l .at) (l .bits) (l .inv .2) (rw (← e) t) (search needs)))))
+    (rw (
+      sym (b8 .words-fit .ensures) ∙ not-false _ (c .before .before .before .before .before .before .before .if1 .left),
+      lt-ltb (a .index) (a .granules) (search needs),
+    )
+    (c .hit-below .ensures ∙ rw e (sym (look-hit (a .words .now) (a .granules) (a .index) (l .at) (l .bits) (l .inv .2) (rw (← e) t)
+    (search needs)))))
 
 pub next-spec : {M : Type 1} → statement M
 next-spec =

@@ -13,7 +13,8 @@ use Rattle.realm_words.proofs.agrees.Statement.{statement}
 use Rattle.realm_words.proofs.agrees.Tie as tie
 
 abbrev Inv-loop : tie.InvT-loop
-Inv-loop table words granules i₀ i-end i = Fits table words granules × (i ≤ length words) × (sameWords words (realmWords table) ≡ rest words table i)
+Inv-loop table words granules i₀ i-end i =
+    Fits table words granules × (i ≤ length words) × (sameWords words (realmWords table) ≡ rest words table i)
 
 abbrev μ-loop : tie.MeasureT-loop
 μ-loop table words granules i₀ i-end i = length words - i
@@ -50,10 +51,14 @@ word-from-requires c κs = omega arith
 returns-2 : tie.Need-returns-2 Inv-loop μ-loop
 unfolding realmAgreeOf
 returns-2 c =
-    let a = c .before .before .before .before .before .before .before .before .before .args in
+    let b8 = c .before .before .before .before .before .before .before .before in
+    let a = b8 .before .args in
     let l = c .before .before .before .before .loop in
-    let y : bothFit (a .table .now) (a .words .now) (a .granules) ≡ true = sym (c .before .before .before .before .before .before .both-fit .ensures) ∙ not-false _ (c .before .before .before .before .before .if1 .left) in
-    let n : sameWords (a .words .now) (realmWords (a .table .now)) ≡ false = l .inv .2 ∙ agree-not (a .words .now) (a .table .now) (l .i) (search needs) (λ e. c .if2 .taken (e ∙ sym (c .before .word-from .ensures))) in
+    let y : bothFit (a .table .now) (a .words .now) (a .granules) ≡ true = sym
+    (c .before .before .before .before .before .before .both-fit .ensures) ∙
+    not-false _ (c .before .before .before .before .before .if1 .left) in
+    let n : sameWords (a .words .now) (realmWords (a .table .now)) ≡ false = l .inv .2 ∙
+    agree-not (a .words .now) (a .table .now) (l .i) (search needs) (λ e. c .if2 .taken (e ∙ sym (c .before .word-from .ensures))) in
     agree-code (a .table .now) (a .words .now) (a .granules) _ (rw (y, n))
 
 add-i : tie.Need-add-i Inv-loop μ-loop
@@ -65,16 +70,22 @@ loop-less c = search needs
 loop-again : tie.Need-loop-again Inv-loop μ-loop
 loop-again c =
     let a = c .before .before .before .before .before .before .before .before .before .args in
-    let l = c .before .before .before .before .loop in
-    (l .inv .0, search needs, l .inv .2 ∙ agree-more (a .words .now) (a .table .now) (l .i) (search needs) (c .if2 .left ∙ c .before .word-from .ensures))
+    let l = c .before .before .before .before .loop in (
+      l .inv .0,
+      search needs,
+      l .inv .2 ∙ agree-more (a .words .now) (a .table .now) (l .i) (search needs)
+          (c .if2 .left ∙ c .before .word-from .ensures),
+    )
 
 returns-3 : tie.Need-returns-3 Inv-loop μ-loop
 unfolding realmAgreeOf
 returns-3 c =
     let a = c .before .before .before .before .before .before .args in
     let l = c .before .loop in
-    let y : bothFit (a .table .now) (a .words .now) (a .granules) ≡ true = sym (c .before .before .before .both-fit .ensures) ∙ not-false _ (c .before .before .if1 .left) in
-    let s : sameWords (a .words .now) (realmWords (a .table .now)) ≡ true = l .inv .2 ∙ agree-last (a .words .now) (a .table .now) (l .i) (omega arith) in
+    let y : bothFit (a .table .now) (a .words .now) (a .granules) ≡ true = sym (c .before .before .before .both-fit .ensures) ∙
+    not-false _ (c .before .before .if1 .left) in
+    let s : sameWords (a .words .now) (realmWords (a .table .now)) ≡ true = l .inv .2 ∙
+    agree-last (a .words .now) (a .table .now) (l .i) (omega arith) in
     agree-code (a .table .now) (a .words .now) (a .granules) _ (rw (y, s))
 
 pub agrees-spec : {M : Type 1} → statement M

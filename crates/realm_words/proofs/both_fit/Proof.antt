@@ -17,13 +17,19 @@ returns-2 : tie.Need-returns-2
 unfolding both
 returns-2 c =
     let a = c .before .before .before .before .before .args in
-    rw (sym (c .before .before .words-fit .ensures) ∙ not-false _ (c .before .if1 .left), ne-eqb (length (a .table .now)) (a .granules) (search needs))
+    rw (
+      sym (c .before .before .words-fit .ensures) ∙ not-false _ (c .before .if1 .left),
+      ne-eqb (length (a .table .now)) (a .granules) (search needs),
+    )
 
 returns-3 : tie.Need-returns-3
 unfolding both
 returns-3 c =
     let a = c .before .before .before .before .before .args in
-    rw (sym (c .before .before .words-fit .ensures) ∙ not-false _ (c .before .if1 .left), eq-eqb (length (a .table .now)) (a .granules) (search needs))
+    rw (
+      sym (c .before .before .words-fit .ensures) ∙ not-false _ (c .before .if1 .left),
+      eq-eqb (length (a .table .now)) (a .granules) (search needs),
+    )
 
 pub both-fit-spec : {M : Type 1} → statement M
 both-fit-spec = tie.close (tie.spec words-fit-requires returns returns-2 returns-3)

@@ -14,7 +14,8 @@ use Rattle.realm_words.proofs.build.Statement.{statement}
 use Rattle.realm_words.proofs.build.Tie as tie
 
 abbrev Inv-loop : tie.InvT-loop
-Inv-loop table words₀ granules i₀ i-end words i = Fits table words₀ granules × (i ≤ length words₀) × (length words ≡ length words₀) × (words ≡ packedTo i table ++ drop i words₀)
+Inv-loop table words₀ granules i₀ i-end words i =
+    Fits table words₀ granules × (i ≤ length words₀) × (length words ≡ length words₀) × (words ≡ packedTo i table ++ drop i words₀)
 
 abbrev μ-loop : tie.MeasureT-loop
 μ-loop table words₀ granules i₀ i-end words i = i-end - i
@@ -33,8 +34,12 @@ returns c =
 
 loop-holds : tie.Need-loop-holds Inv-loop μ-loop
 loop-holds c =
-    let a = c .before .before .before .before .before .args in
-    (fits (a .table .now) (a .words .now) (a .granules) (sym (c .before .both-fit .ensures) ∙ not-false _ (c .if1 .left)), search needs, refl, build-none (a .table .now) (a .words .now))
+    let a = c .before .before .before .before .before .args in (
+      fits (a .table .now) (a .words .now) (a .granules) (sym (c .before .both-fit .ensures) ∙ not-false _ (c .if1 .left)),
+      search needs,
+      refl,
+      build-none (a .table .now) (a .words .now),
+    )
 
 mul-word-from : tie.Need-mul-word-from Inv-loop μ-loop
 unfolding wordsFor
@@ -61,8 +66,12 @@ loop-again : tie.Need-loop-again Inv-loop μ-loop
 unfolding wordsFor
 loop-again c =
     let a = c .before .before .before .before .before .before .before .before .args in
-    let l = c .before .before .loop in
-    (l .inv .0, omega arith, simp length-set (omega arith), rw (l .inv .3) (build-more (a .table .now) (a .words .now) (l .i) _ (omega arith) (c .word-from .ensures)))
+    let l = c .before .before .loop in (
+      l .inv .0,
+      omega arith,
+      simp length-set (omega arith),
+      rw (l .inv .3) (build-more (a .table .now) (a .words .now) (l .i) _ (omega arith) (c .word-from .ensures)),
+    )
 
 same-length-2 : tie.Need-same-length-2 Inv-loop μ-loop
 same-length-2 c = search needs
@@ -72,7 +81,8 @@ unfolding realmBuildOf
 returns-2 c =
     let a = c .before .before .before .before .before .before .before .args in
     let l = c .before .loop in
-    let y : bothFit (a .table .now) (a .words .now) (a .granules) ≡ true = sym (c .before .before .before .both-fit .ensures) ∙ not-false _ (c .before .before .if1 .left) in
+    let y : bothFit (a .table .now) (a .words .now) (a .granules) ≡ true = sym (c .before .before .before .both-fit .ensures) ∙
+    not-false _ (c .before .before .if1 .left) in
     let f = l .inv .0 in
     let e : l .i ≡ length (a .words .now) = omega arith in
     build-code (a .table .now) (a .words .now) (a .granules) _

@@ -16,7 +16,8 @@ use Rattle.realm_words.proofs.count.Statement.{statement}
 use Rattle.realm_words.proofs.count.Tie as tie
 
 abbrev Inv-loop : tie.InvT-loop
-Inv-loop words granules whole sum₀ at₀ sum at = (length words ≡ wordsFor granules) × (at ≤ whole) × (sum ≤ 64 * at) × (sum ≡ marked (bitAt words) (64 * at))
+Inv-loop words granules whole sum₀ at₀ sum at =
+    (length words ≡ wordsFor granules) × (at ≤ whole) × (sum ≤ 64 * at) × (sum ≡ marked (bitAt words) (64 * at))
 
 abbrev μ-loop : tie.MeasureT-loop
 μ-loop words granules whole sum₀ at₀ sum at = whole - at
@@ -31,7 +32,12 @@ returns c =
     count-told (a .words .now) (a .granules) _ (rw (sym (c .before .words-fit .ensures) ∙ not-true _ (c .if1 .taken)))
 
 loop-holds : tie.Need-loop-holds Inv-loop μ-loop
-loop-holds c = (eqb-true _ _ (sym (c .before .words-fit .ensures) ∙ not-false _ (c .if1 .left)), search needs, search needs, marked-none (c .before .before .before .args .words .now))
+loop-holds c = (
+  eqb-true _ _ (sym (c .before .words-fit .ensures) ∙ not-false _ (c .if1 .left)),
+  search needs,
+  search needs,
+  marked-none (c .before .before .before .args .words .now),
+)
 
 mul-ones-in : tie.Need-mul-ones-in Inv-loop μ-loop
 mul-ones-in c = search needs
@@ -55,8 +61,13 @@ loop-less c = search needs
 loop-again : tie.Need-loop-again Inv-loop μ-loop
 loop-again c =
     let a = c .before .before .before .before .before .before .before .args in
-    let l = c .before .before .before .loop in
-    (l .inv .0, search needs, search needs, marked-more (a .words .now) (l .at) (l .sum) _ (omega (arith, c .before .shared-slice-known2 .given (l .at))) (l .inv .3) (c .ones-in .ensures .0))
+    let l = c .before .before .before .loop in (
+      l .inv .0,
+      search needs,
+      search needs,
+      marked-more (a .words .now) (l .at) (l .sum) _
+          (omega (arith, c .before .shared-slice-known2 .given (l .at))) (l .inv .3) (c .ones-in .ensures .0),
+    )
 
 returns-2 : tie.Need-returns-2 Inv-loop μ-loop
 unfolding realmCountOf
@@ -82,22 +93,28 @@ ones-in-requires-2 c κs = search needs
 
 add-t19 : tie.Need-add-t19 Inv-loop μ-loop
 add-t19 c =
-    let a = c .before .before .before .before .before .before .before .before .before .args in
+    let b8 = c .before .before .before .before .before .before .before .before in
+    let a = b8 .before .args in
     let o : c .ones-in2 .result ≡ ones (c .before .low-bits .result) = c .ones-in2 .ensures .0 in
-    let b : ones (c .before .low-bits .result) ≤ a .granules % 64 = ones-le (a .granules % 64) (c .before .low-bits .result) (rw (c .before .low-bits .ensures) (mod-lt _ (pow-pos (a .granules % 64)))) in
+    let b : ones (c .before .low-bits .result) ≤ a .granules % 64 = ones-le (a .granules % 64) (c .before .low-bits .result)
+    (rw (c .before .low-bits .ensures) (mod-lt _ (pow-pos (a .granules % 64)))) in
     omega arith
 
 returns-3 : tie.Need-returns-3 Inv-loop μ-loop
 unfolding realmCountOf
 returns-3 c =
-    let a = c .before .before .before .before .before .before .before .before .before .args in
+    let b8 = c .before .before .before .before .before .before .before .before in
+    let a = b8 .before .args in
     let l = c .before .before .before .before .before .loop in
-    let y = sym (c .before .before .before .before .before .before .before .words-fit .ensures) ∙ not-false _ (c .before .before .before .before .before .before .if1 .left) in
+    let y = sym (c .before .before .before .before .before .before .before .words-fit .ensures) ∙
+    not-false _ (c .before .before .before .before .before .before .if1 .left) in
     let e : a .granules ≡ 64 * (a .granules / 64) + a .granules % 64 = omega arith in
     let w : l .at ≡ a .granules / 64 = omega arith in
     let s : l .sum ≡ marked (bitAt (a .words .now)) (64 * (a .granules / 64)) = l .inv .3 ∙ rw w in
     let o = c .ones-in2 .ensures .0 ∙ ap ones (c .before .low-bits .ensures) in
-    count-told (a .words .now) (a .granules) _ (rw y (ap Number.Count (rw (s, o) (sym (ap (marked (bitAt (a .words .now))) e ∙ marked-word (a .words .now) (a .granules / 64) (a .granules % 64) (omega arith))))))
+    count-told (a .words .now) (a .granules) _ (rw y (ap Number.Count
+    (rw (s, o) (sym (ap (marked (bitAt (a .words .now))) e ∙
+    marked-word (a .words .now) (a .granules / 64) (a .granules % 64) (omega arith))))))
 
 pub count-spec : {M : Type 1} → statement M
 count-spec =

@@ -29,13 +29,15 @@ realm-bit-requires c κs = search needs
 mul-bits : tie.Need-mul-bits Inv-loop μ-loop
 mul-bits c =
     let l = c .before .before .before .loop in
-    let r : 2 * packed (drop (l .i) (c .before .before .before .before .before .args .block .now)) + 1 < 2 ^ 64 = packed-room (c .before .before .before .before .before .args .block .now) (l .i) (search needs) (search needs) (search needs) in
+    let r : 2 * packed (drop (l .i) (c .before .before .before .before .before .args .block .now)) + 1 < 2 ^ 64 = packed-room
+    (c .before .before .before .before .before .args .block .now) (l .i) (search needs) (search needs) (search needs) in
     omega arith
 
 add-bits : tie.Need-add-bits Inv-loop μ-loop
 add-bits c =
     let l = c .before .before .before .loop in
-    let r : 2 * packed (drop (l .i) (c .before .before .before .before .before .args .block .now)) + 1 < 2 ^ 64 = packed-room (c .before .before .before .before .before .args .block .now) (l .i) (search needs) (search needs) (search needs) in
+    let r : 2 * packed (drop (l .i) (c .before .before .before .before .before .args .block .now)) + 1 < 2 ^ 64 = packed-room
+    (c .before .before .before .before .before .args .block .now) (l .i) (search needs) (search needs) (search needs) in
     omega arith
 
 loop-less : tie.Need-loop-less Inv-loop μ-loop
@@ -43,8 +45,11 @@ loop-less c = search needs
 
 loop-again : tie.Need-loop-again Inv-loop μ-loop
 loop-again c =
-    let l = c .before .before .before .loop in
-    (search needs, packed-more (c .before .before .before .before .before .args .block .now) (l .i) _ _ (search needs) (search needs) (c .realm-bit .ensures .0) (l .inv .1))
+    let l = c .before .before .before .loop in (
+      search needs,
+      packed-more (c .before .before .before .before .before .args .block .now) (l .i) _ _ (search needs) (search needs)
+          (c .realm-bit .ensures .0) (l .inv .1),
+    )
 
 returns : tie.Need-returns Inv-loop μ-loop
 returns c =

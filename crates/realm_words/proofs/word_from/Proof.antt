@@ -22,7 +22,9 @@ packed-of-requires : tie.Need-packed-of-requires
 packed-of-requires c κs = search needs
 
 returns : tie.Need-returns
-returns c = let a = c .before .before .before .before .args in c .packed-of .ensures ∙ ap packed (block-short (a .table .now) (a .index) (search needs))
+returns c =
+    let a = c .before .before .before .before .args in
+    c .packed-of .ensures ∙ ap packed (block-short (a .table .now) (a .index) (search needs))
 
 octet-requires : tie.Need-octet-requires
 octet-requires c κs = search needs
@@ -113,8 +115,18 @@ add-result-7 c = search needs
 
 returns-2 : tie.Need-returns-2
 returns-2 c =
-    let a = c .before .before .before .before .before .before .before .before .before .before .args in
-    rw (c .before .before .before .before .before .before .before .octet .ensures .0, c .before .before .before .before .before .before .octet2 .ensures .0, c .before .before .before .before .before .octet3 .ensures .0, c .before .before .before .before .octet4 .ensures .0, c .before .before .before .octet5 .ensures .0, c .before .before .octet6 .ensures .0, c .before .octet7 .ensures .0, c .octet8 .ensures .0)
+    let b8 = c .before .before .before .before .before .before .before .before in
+    let a = b8 .before .before .args in
+    rw (
+      c .before .before .before .before .before .before .before .octet .ensures .0,
+      c .before .before .before .before .before .before .octet2 .ensures .0,
+      c .before .before .before .before .before .octet3 .ensures .0,
+      c .before .before .before .before .octet4 .ensures .0,
+      c .before .before .before .octet5 .ensures .0,
+      c .before .before .octet6 .ensures .0,
+      c .before .octet7 .ensures .0,
+      c .octet8 .ensures .0,
+    )
     (sym (eight-octets (a .index) (a .table .now) (omega arith)))
 
 pub word-from-spec : {M : Type 1} → statement M

@@ -61,8 +61,8 @@ join-request-requires c κs = search needs
 responses-from-requires : tie.Need-responses-from-requires
 responses-from-requires c κs = search needs
 
-answered-requires : tie.Need-answered-requires
-answered-requires c κs = search needs
+answer-with-requires : tie.Need-answer-with-requires
+answer-with-requires c κs = search needs
 
 returns-3 : tie.Need-returns-3
 unfolding pushOf pushed listsOf queueHolding
@@ -80,7 +80,7 @@ returns-3 c =
     let r = c .before .before .before .before .before .before .before .request-of in
     let k : length (waiting (a .queue .requests)) < 8 = push-passed b q o .1 in
     rw (
-      c .answered .ensures,
+      c .answer-with .ensures,
       c .before .before .join-request .ensures,
       c .before .responses-from .ensures,
       joined-room
@@ -102,5 +102,5 @@ push-spec =
     returns-2
     join-request-requires
     responses-from-requires
-    answered-requires
+    answer-with-requires
     returns-3)

@@ -24,8 +24,8 @@ part-copy-end c = search needs
 copy-requires : tie.Need-copy-requires
 copy-requires c κs = search needs
 
-half-at-requires : tie.Need-half-at-requires
-half-at-requires c κs = search needs
+u32-at-requires : tie.Need-u32-at-requires
+u32-at-requires c κs = search needs
 
 word-at-requires : tie.Need-word-at-requires
 word-at-requires c κs = search needs
@@ -33,15 +33,16 @@ word-at-requires c κs = search needs
 word-at-requires-2 : tie.Need-word-at-requires-2
 word-at-requires-2 c κs = search needs
 
-half-at-requires-2 : tie.Need-half-at-requires-2
-half-at-requires-2 c κs = search needs
+u32-at-requires-2 : tie.Need-u32-at-requires-2
+u32-at-requires-2 c κs = search needs
 
 returns : tie.Need-returns
 unfolding requestOf part
 returns c =
     let b = c .before .before .before .before .before .before .before .before .before .args .buffer .now in
     let l : length (take 48 (drop 32 b)) ≡ 48 = length-take-le 48 (drop 32 b) (omega (arith, length-drop 32 b)) in
-    let h : c .before .before .before .before .before .copy .last .0 ≡ take 48 (drop 32 b) = c .before .before .before .before .before .copy .ensures ∙ laid-all (take 48 (drop 32 b)) _ l in
+    let h : c .before .before .before .before .before .copy .last .0 ≡ take 48
+    (drop 32 b) = c .before .before .before .before .before .copy .ensures ∙ laid-all (take 48 (drop 32 b)) _ l in
     cc
 
 pub request-of-spec : {M : Type 1} → statement M
@@ -53,8 +54,8 @@ request-of-spec =
     part-copy-start
     part-copy-end
     copy-requires
-    half-at-requires
+    u32-at-requires
     word-at-requires
     word-at-requires-2
-    half-at-requires-2
+    u32-at-requires-2
     returns)

@@ -1,7 +1,7 @@
 use mathlib.Core.Path.{_≡_, sym, ap, _∙_}
 use lib.ListN.{length}
 use borrow.Author.Tests.{not-true, not-false}
-use Rattle.queue.specs.Queue.{Signed, ready, listsOf, signedIn, oldestResponse, queueHolding}
+use Rattle.queue.specs.Queue.{Signed, waitingSigned, listsOf, signedIn, oldestResponse, queueHolding}
 use Rattle.queue.proofs.Steps.{refuses, accepts}
 use Rattle.queue_image.proofs.Steps.{ok-is}
 use Rattle.response_rules.specs.Pull.{pullCode, pulled, pullOf}
@@ -35,7 +35,7 @@ returns c =
     let a = c .before .before .before .before .before .before .before .before .before .before .args in
     let b = a .buffer .now in
     let q = listsOf (a .queue) in
-    let f : oldestResponse (ready (a .queue .responses)) ≡ signedIn
+    let f : oldestResponse (waitingSigned (a .queue .responses)) ≡ signedIn
     (c .before .before .before .before .before .before .first-response .result) = ready-first (a .queue .responses)
     (c .before .before .before .before .before .before .first-response .result)
     (c .before .before .before .before .before .before .first-response .ensures) in
@@ -51,7 +51,7 @@ put-response-requires c κs =
     let a = c .before .before .before .before .before .before .before .before .before .before .args in
     let b = a .buffer .now in
     let q = listsOf (a .queue) in
-    let f : oldestResponse (ready (a .queue .responses)) ≡ signedIn
+    let f : oldestResponse (waitingSigned (a .queue .responses)) ≡ signedIn
     (c .before .before .before .before .before .before .first-response .result) = ready-first (a .queue .responses)
     (c .before .before .before .before .before .before .first-response .result)
     (c .before .before .before .before .before .before .first-response .ensures) in
@@ -66,8 +66,8 @@ requests-from-requires c κs = search needs
 responses-from-requires : tie.Need-responses-from-requires
 responses-from-requires c κs = search needs
 
-answered-requires : tie.Need-answered-requires
-answered-requires c κs = search needs
+answer-with-requires : tie.Need-answer-with-requires
+answer-with-requires c κs = search needs
 
 same-length : tie.Need-same-length
 same-length c = search needs
@@ -75,16 +75,28 @@ same-length c = search needs
 returns-2 : tie.Need-returns-2
 unfolding pullOf pulled listsOf queueHolding
 returns-2 c =
-    let a = c .before .before .before .before .before .before .before .before .before .before .before .before .before .before .before .before .args in
+    let b8 = c .before .before .before .before .before .before .before .before in
+    let b16 = b8 .before .before .before .before .before .before .before .before in
+    let a = b16 .args in
     let b = a .buffer .now in
     let q = listsOf (a .queue) in
-    let f : oldestResponse (ready (a .queue .responses)) ≡ signedIn
-    (c .before .before .before .before .before .before .before .before .before .before .before .before .first-response .result) =
-    ready-first (a .queue .responses) (c .before .before .before .before .before .before .before .before .before .before .before .before .first-response .result) (c .before .before .before .before .before .before .before .before .before .before .before .before .first-response .ensures) in
-    rw (c .answered .ensures, c .before .before .requests-from .ensures, c .before .responses-from .ensures, c .before .before .before .before .before .put-response .ensures, ← f)
+    let f : oldestResponse (waitingSigned (a .queue .responses)) ≡ signedIn
+    (b8 .before .before .before .before .first-response .result) =
+    ready-first (a .queue .responses) (b8 .before .before .before .before .first-response .result)
+    (b8 .before .before .before .before .first-response .ensures) in
+    rw (
+      c .answer-with .ensures,
+      c .before .before .requests-from .ensures,
+      c .before .responses-from .ensures,
+      c .before .before .before .before .before .put-response .ensures,
+      ← f,
+    )
     (accepts (pullCode (length b) q) b q (a .queue) 0 0 _ _
-    (sym (c .before .before .before .before .before .before .before .before .before .pull-code .ensures q
-    (ready-length (a .queue .responses) ∙ sym (c .before .before .before .before .before .before .before .before .before .before .response-count .ensures .0)) (λ z. ap (λ (x : Signed). length (x .signature)) f ∙ sym (c .before .before .before .before .before .before .before .before .before .before .before .signature-len .ensures .0))) ∙ ok-is _ (sym (c .before .before .before .before .before .before .before .before .is-ok .ensures) ∙ not-false (c .before .before .before .before .before .before .before .before .is-ok .result) (c .before .before .before .before .before .before .before .if1 .left))))
+    (sym (b8 .before .pull-code .ensures q
+    (ready-length (a .queue .responses) ∙ sym (b8 .before .before .response-count .ensures .0))
+    (λ z. ap (λ (x : Signed). length (x .signature)) f ∙ sym (b8 .before .before .before .signature-len .ensures .0))) ∙
+    ok-is _ (sym (b8 .is-ok .ensures) ∙ not-false (b8 .is-ok .result)
+    (c .before .before .before .before .before .before .before .if1 .left))))
 
 pub pull-spec : {M : Type 1} → statement M
 pull-spec =
@@ -100,6 +112,6 @@ pull-spec =
     put-response-requires
     requests-from-requires
     responses-from-requires
-    answered-requires
+    answer-with-requires
     same-length
     returns-2)

@@ -17,8 +17,8 @@ put-word-requires c κs = search needs
 put-word-requires-2 : tie.Need-put-word-requires-2
 put-word-requires-2 c κs = search needs
 
-put-quarter-requires : tie.Need-put-quarter-requires
-put-quarter-requires c κs = search needs
+put-u16-requires : tie.Need-put-u16-requires
+put-u16-requires c κs = search needs
 
 sub-copy : tie.Need-sub-copy
 sub-copy c = search needs
@@ -31,14 +31,19 @@ part-copy-end c = search needs
 
 array-share-prefix-signature : tie.Need-array-share-prefix-signature
 array-share-prefix-signature c =
-    let l : length (c .before .before .before .before .before .before .before .before .before .before .before .before .before .before .before .before .args .response .signature) ≡ 104 = search needs in
-    omega (arith, c .before .before .before .before .before .before .before .before .before .before .before .before .before .before .signature-len .ensures .1)
+    let b8 = c .before .before .before .before .before .before .before .before in
+    let b16 = b8 .before .before .before .before .before .before .before .before in
+    let l : length (b16 .args .response .signature) ≡ 104 = search needs in
+    omega (arith, b8 .before .before .before .before .before .before .signature-len .ensures .1)
 
 slice-aggregate-copy : tie.Need-slice-aggregate-copy
 slice-aggregate-copy c =
-    let r = c .before .before .before .before .before .before .before .before .before .before .before .before .before .before .before .before .before .args .response in
+    let b8 = c .before .before .before .before .before .before .before .before in
+    let b16 = b8 .before .before .before .before .before .before .before .before in
+    let r = b16 .before .args .response in
     let l : length (r .signature) ≡ 104 = search needs in
-    sym (length-take-le (c .before .before .before .before .before .before .before .before .before .before .before .before .before .before .before .signature-len .result) (r .signature) (omega (arith, c .before .before .before .before .before .before .before .before .before .before .before .before .before .before .before .signature-len .ensures .1)))
+    sym (length-take-le (b8 .before .before .before .before .before .before .before .signature-len .result) (r .signature)
+    (omega (arith, b8 .before .before .before .before .before .before .before .signature-len .ensures .1)))
 
 copy-requires : tie.Need-copy-requires
 copy-requires c κs = search needs
@@ -48,9 +53,16 @@ same-length c = search needs
 
 returns : tie.Need-returns
 returns c =
-    let a = c .before .before .before .before .before .before .before .before .before .before .before .before .before .before .before .before .before .before .before .before .args in
+    let b8 = c .before .before .before .before .before .before .before .before in
+    let b16 = b8 .before .before .before .before .before .before .before .before in
+    let a = b16 .before .before .before .before .args in
     rw (c .before .before .copy .ensures) (response-laid (a .buffer .now) (a .response)
-    (c .before .before .before .before .before .before .before .before .before .before .before .before .before .before .before .before .before .before .signature-len .result) (c .before .before .before .before .before .before .before .before .before .before .before .before .before .before .before .before .before .before .signature-len .ensures .0) (search needs) _ (c .before .before .before .before .before .before .before .put-quarter .ensures ∙ rw (c .before .before .before .before .before .before .before .before .before .before .before .put-word2 .ensures, c .before .before .before .before .before .before .before .before .before .before .before .before .before .before .before .put-word .ensures)))
+    (b16 .before .before .signature-len .result) (b16 .before .before .signature-len .ensures .0) (search needs) _
+    (c .before .before .before .before .before .before .before .put-u16 .ensures ∙
+    rw (
+      b8 .before .before .before .put-word2 .ensures,
+      b8 .before .before .before .before .before .before .before .put-word .ensures,
+    )))
 
 pub put-response-spec : {M : Type 1} → statement M
 put-response-spec =
@@ -59,7 +71,7 @@ put-response-spec =
     signature-len-requires
     put-word-requires
     put-word-requires-2
-    put-quarter-requires
+    put-u16-requires
     sub-copy
     part-copy-start
     part-copy-end

@@ -3,7 +3,7 @@ use Prim.Native.Nat.{_<_}
 use lib.ListN.{length}
 use borrow.Author.Tests.{not-true, not-false}
 use Rattle.codes.specs.declared.Code.the-variants.{Ok}
-use Rattle.queue.specs.Queue.{ready, listsOf, queueHolding}
+use Rattle.queue.specs.Queue.{waitingSigned, listsOf, queueHolding}
 use Rattle.queue.proofs.Sides.{joined-room}
 use Rattle.queue_image.proofs.Steps.{ok-is}
 use Rattle.response_rules.specs.Sign.{signCode, signed, signedBy}
@@ -59,24 +59,28 @@ response-of-requires c κs =
 join-response-requires : tie.Need-join-response-requires
 join-response-requires c κs = search needs
 
-answered-requires : tie.Need-answered-requires
-answered-requires c κs = search needs
+answer-with-requires : tie.Need-answer-with-requires
+answer-with-requires c κs = search needs
 
 returns-2 : tie.Need-returns-2
 unfolding listsOf signed signedBy queueHolding
 returns-2 c =
-    let a = c .before .before .before .before .before .before .before .before .before .before .before .before .before .args in
+    let b8 = c .before .before .before .before .before .before .before .before in
+    let a = b8 .before .before .before .before .before .args in
     let q = listsOf (a .queue) in
     let o : signCode q (a .signature .now) ≡ Ok = sym (c .before .before .before .before .before .before .before .sign-code .ensures q
-    (sym (c .before .before .before .before .before .before .before .before .before .request-count .ensures .0))
-    (ready-length (a .queue .responses) ∙ sym (c .before .before .before .before .before .before .before .before .response-count .ensures .0))) ∙ ok-is _ (sym (c .before .before .before .before .before .before .is-ok .ensures) ∙ not-false (c .before .before .before .before .before .before .is-ok .result) (c .before .before .before .before .before .if1 .left)) in
-    let l : length (ready (a .queue .responses)) < 8 = sign-passed q (a .signature .now) o .2 in
+    (sym (b8 .before .request-count .ensures .0))
+    (ready-length (a .queue .responses) ∙ sym (b8 .response-count .ensures .0))) ∙
+    ok-is _ (sym (c .before .before .before .before .before .before .is-ok .ensures) ∙
+    not-false (c .before .before .before .before .before .before .is-ok .result)
+    (c .before .before .before .before .before .if1 .left)) in
+    let l : length (waitingSigned (a .queue .responses)) < 8 = sign-passed q (a .signature .now) o .2 in
     rw (
-      c .answered .ensures,
+      c .answer-with .ensures,
       c .before .before .before .requests-from .ensures,
       c .before .join-response .ensures,
       joined-room
-          (ready (a .queue .responses)) _ l,
+          (waitingSigned (a .queue .responses)) _ l,
       c .before .before .response-of .ensures,
       c .before .before .before .before .first-request .ensures,
     )
@@ -96,5 +100,5 @@ sign-spec =
     requests-from-requires
     response-of-requires
     join-response-requires
-    answered-requires
+    answer-with-requires
     returns-2)

@@ -10,7 +10,9 @@ returns-2 : tie.Need-returns-2
 returns-2 c = λ q e f. sym (sign-long q (c .before .before .args .signature .now) (c .before .if1 .left) (c .if2 .taken))
 
 returns-3 : tie.Need-returns-3
-returns-3 c = λ q e f. sym (sign-none q (c .before .before .before .args .signature .now) (c .before .before .if1 .left) (c .before .if2 .left) (e ∙ c .if3 .taken))
+returns-3 c =
+    λ q e f. sym (sign-none q (c .before .before .before .args .signature .now) (c .before .before .if1 .left) (c .before .if2 .left)
+    (e ∙ c .if3 .taken))
 
 returns-4 : tie.Need-returns-4
 returns-4 c =

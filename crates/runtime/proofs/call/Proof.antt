@@ -3,8 +3,10 @@ use Rattle.codes.specs.declared.Work.the-variants.{Nothing}
 use Rattle.queue.specs.Queue.{SigningExit, exitOf}
 use Rattle.granule_rules.specs.Granules.{movedTo}
 use Rattle.runtime.specs.declared.Reply.the-variants.{Back}
-use Rattle.runtime.specs.Step.{kindOf, callOf, callBy, exitBy, queueBy, replyCode, afterMove, afterKey, afterToken, afterSigning, afterUpdate}
-use Rattle.runtime.specs.declared.Kind.the-variants.{ForwardError, Delegate, Undelegate, RealmKey, PlatformToken, Features, TokenSigning, KeyUpdate, Unlisted}
+use Rattle.runtime.specs.Step.{kindOf, callOf, callBy, exitBy, queueBy, replyCode, afterMove, afterKey, afterToken, afterSigning}
+use Rattle.runtime.specs.Step.{afterUpdate}
+use Rattle.runtime.specs.declared.Kind.the-variants.{ForwardError, Delegate, Undelegate, RealmKey, PlatformToken, Features}
+use Rattle.runtime.specs.declared.Kind.the-variants.{TokenSigning, KeyUpdate, Unlisted}
 use borrow.Author.Needs.{needs}
 use Rattle.runtime.proofs.call.Statement.{statement}
 use Rattle.runtime.proofs.call.Tie as tie
@@ -84,8 +86,8 @@ updated-requires c κs = search needs
 enum-told-9 : tie.Need-enum-told-9
 enum-told-9 c = search needs
 
-answered-requires : tie.Need-answered-requires
-answered-requires c κs = search needs
+answer-with-requires : tie.Need-answer-with-requires
+answer-with-requires c κs = search needs
 
 back-requires-5 : tie.Need-back-requires-5
 back-requires-5 c κs = search needs
@@ -106,8 +108,10 @@ same-length-2 c = search needs
 returns-2 : tie.Need-returns-2
 unfolding callOf callBy exitBy queueBy replyCode movedTo afterMove afterKey afterToken afterSigning afterUpdate exitOf
 returns-2 c =
-    let a = c .before .before .before .before .before .before .before .before .before .before .before .before .before .before .before .before .before .args in
-    let h : kindOf (a .id) ≡ Delegate = sym (c .before .before .before .before .before .before .before .before .before .before .kind-of .ensures) ∙ c .before .before .before .before .before .before .before .before .enum-told2 .given .1 in
+    let b8 = c .before .before .before .before .before .before .before .before in
+    let b16 = b8 .before .before .before .before .before .before .before .before in
+    let a = b16 .before .args in
+    let h : kindOf (a .id) ≡ Delegate = sym (b8 .before .before .kind-of .ensures) ∙ b8 .enum-told2 .given .1 in
     rw (h, c .back .ensures, ← c .before .before .before .before .before .delegate .ensures)
 
 same-length-3 : tie.Need-same-length-3
@@ -119,8 +123,10 @@ same-length-4 c = search needs
 returns-3 : tie.Need-returns-3
 unfolding callOf callBy exitBy queueBy replyCode movedTo afterMove afterKey afterToken afterSigning afterUpdate exitOf
 returns-3 c =
-    let a = c .before .before .before .before .before .before .before .before .before .before .before .before .before .before .before .before .before .args in
-    let h : kindOf (a .id) ≡ Undelegate = sym (c .before .before .before .before .before .before .before .before .before .before .kind-of .ensures) ∙ c .before .before .before .before .before .before .before .before .enum-told3 .given .1 in
+    let b8 = c .before .before .before .before .before .before .before .before in
+    let b16 = b8 .before .before .before .before .before .before .before .before in
+    let a = b16 .before .args in
+    let h : kindOf (a .id) ≡ Undelegate = sym (b8 .before .before .kind-of .ensures) ∙ b8 .enum-told3 .given .1 in
     rw (h, c .back2 .ensures, ← c .before .before .before .before .before .undelegate .ensures)
 
 same-length-5 : tie.Need-same-length-5
@@ -130,7 +136,8 @@ returns-4 : tie.Need-returns-4
 unfolding callOf callBy exitBy queueBy replyCode movedTo afterMove afterKey afterToken afterSigning afterUpdate exitOf
 returns-4 c =
     let a = c .before .before .before .before .before .before .before .before .before .before .before .before .before .before .args in
-    let h : kindOf (a .id) ≡ RealmKey = sym (c .before .before .before .before .before .before .before .kind-of .ensures) ∙ c .before .before .before .before .before .enum-told4 .given .1 in
+    let h : kindOf (a .id) ≡ RealmKey = sym (c .before .before .before .before .before .before .before .kind-of .ensures) ∙
+    c .before .before .before .before .before .enum-told4 .given .1 in
     rw (h, c .back3 .ensures, ← c .before .before .before .realm-key .ensures)
 
 same-length-6 : tie.Need-same-length-6
@@ -140,14 +147,16 @@ returns-5 : tie.Need-returns-5
 unfolding callOf callBy exitBy queueBy replyCode movedTo afterMove afterKey afterToken afterSigning afterUpdate exitOf
 returns-5 c =
     let a = c .before .before .before .before .before .before .before .before .before .before .before .before .before .before .args in
-    let h : kindOf (a .id) ≡ PlatformToken = sym (c .before .before .before .before .before .before .before .kind-of .ensures) ∙ c .before .before .before .before .before .enum-told5 .given .1 in
+    let h : kindOf (a .id) ≡ PlatformToken = sym (c .before .before .before .before .before .before .before .kind-of .ensures) ∙
+    c .before .before .before .before .before .enum-told5 .given .1 in
     rw (h, c .after-token .ensures, ← c .before .before .before .platform-token .ensures)
 
 returns-6 : tie.Need-returns-6
 unfolding callOf callBy exitBy queueBy replyCode movedTo afterMove afterKey afterToken afterSigning afterUpdate exitOf
 returns-6 c =
     let a = c .before .before .before .before .before .before .before .before .before .before .before .args in
-    let h : kindOf (a .id) ≡ Features = sym (c .before .before .before .before .kind-of .ensures) ∙ c .before .before .enum-told6 .given .1 in
+    let h : kindOf (a .id) ≡ Features = sym (c .before .before .before .before .kind-of .ensures) ∙
+    c .before .before .enum-told6 .given .1 in
     rw (h, c .back4 .ensures, ← c .before .features .ensures)
 
 same-length-7 : tie.Need-same-length-7
@@ -156,23 +165,34 @@ same-length-7 c = search needs
 returns-7 : tie.Need-returns-7
 unfolding callOf callBy exitBy queueBy replyCode movedTo afterMove afterKey afterToken afterSigning afterUpdate exitOf
 returns-7 c =
-    let a = c .before .before .before .before .before .before .before .before .before .before .before .before .before .before .args in
-    let h : kindOf (a .id) ≡ TokenSigning = sym (c .before .before .before .before .before .before .before .kind-of .ensures) ∙ c .before .before .before .before .before .enum-told7 .given .1 in
-    rw (h, c .after-signing .ensures) (ap (λ (x : SigningExit). record { reply = Back (x .answer) Nothing; page = x .page; table = a .table .now; words = a .words .now; session = a .session; queue = x .queue }) (c .before .before .before .token-signing .ensures))
+    let b8 = c .before .before .before .before .before .before .before .before in
+    let a = b8 .before .before .before .before .before .before .args in
+    let h : kindOf (a .id) ≡ TokenSigning = sym (c .before .before .before .before .before .before .before .kind-of .ensures) ∙
+    c .before .before .before .before .before .enum-told7 .given .1 in
+    rw (h, c .after-signing .ensures) (ap (λ (x : SigningExit). record {
+      reply = Back (x .answer) Nothing;
+      page = x .page;
+      table = a .table .now;
+      words = a .words .now;
+      session = a .session;
+      queue = x .queue;
+    }) (c .before .before .before .token-signing .ensures))
 
 returns-8 : tie.Need-returns-8
 unfolding callOf callBy exitBy queueBy replyCode movedTo afterMove afterKey afterToken afterSigning afterUpdate exitOf
 returns-8 c =
     let a = c .before .before .before .before .before .before .before .before .before .before .before .args in
-    let h : kindOf (a .id) ≡ KeyUpdate = sym (c .before .before .before .before .kind-of .ensures) ∙ c .before .before .enum-told8 .given .1 in
+    let h : kindOf (a .id) ≡ KeyUpdate = sym (c .before .before .before .before .kind-of .ensures) ∙
+    c .before .before .enum-told8 .given .1 in
     rw (h, c .updated .ensures, ← c .before .key-update .ensures)
 
 returns-9 : tie.Need-returns-9
 unfolding callOf callBy exitBy queueBy replyCode movedTo afterMove afterKey afterToken afterSigning afterUpdate exitOf
 returns-9 c =
     let a = c .before .before .before .before .before .before .before .before .before .before .before .args in
-    let h : kindOf (a .id) ≡ Unlisted = sym (c .before .before .before .before .kind-of .ensures) ∙ c .before .before .enum-told9 .given .1 in
-    rw (h, c .back5 .ensures, c .before .answered .ensures)
+    let h : kindOf (a .id) ≡ Unlisted = sym (c .before .before .before .before .kind-of .ensures) ∙
+    c .before .before .enum-told9 .given .1 in
+    rw (h, c .back5 .ensures, c .before .answer-with .ensures)
 
 pub call-spec : {M : Type 1} → statement M
 call-spec =
@@ -203,7 +223,7 @@ call-spec =
     key-update-requires
     updated-requires
     enum-told-9
-    answered-requires
+    answer-with-requires
     back-requires-5
     returns
     same-length

@@ -40,7 +40,16 @@ returns-9 : tie.Need-returns-9
 unfolding kindOf
 returns-9 c =
     let a = c .before .args in
-    simp (ne-eqb (a .id) 0xC400018F (search needs), ne-eqb (a .id) 0xC40001B0 (search needs), ne-eqb (a .id) 0xC40001B1 (search needs), ne-eqb (a .id) 0xC40001B2 (search needs), ne-eqb (a .id) 0xC40001B3 (search needs), ne-eqb (a .id) 0xC40001B4 (search needs), ne-eqb (a .id) 0xC40001B5 (search needs), ne-eqb (a .id) 0xC40001B6 (search needs))
+    simp (
+      ne-eqb (a .id) 0xC400018F (search needs),
+      ne-eqb (a .id) 0xC40001B0 (search needs),
+      ne-eqb (a .id) 0xC40001B1 (search needs),
+      ne-eqb (a .id) 0xC40001B2 (search needs),
+      ne-eqb (a .id) 0xC40001B3 (search needs),
+      ne-eqb (a .id) 0xC40001B4 (search needs),
+      ne-eqb (a .id) 0xC40001B5 (search needs),
+      ne-eqb (a .id) 0xC40001B6 (search needs),
+    )
 
 pub kind-of-spec : {M : Type 1} → statement M
 kind-of-spec =

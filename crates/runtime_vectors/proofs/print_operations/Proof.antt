@@ -7,7 +7,8 @@ use Rattle.runtime_vectors.proofs.print_operations.Tie as tie
 
 abbrev Inv-loop : tie.InvT-loop
 Inv-loop input page₀ expected₀ table₀ wanted₀ words₀ state₀ count i₀ t11 t12 t13 page expected table wanted words state i =
-    (i ≤ count) × (count ≤ 250) × (length page ≡ length page₀) × (length expected ≡ length expected₀) × (length table ≡ length table₀) × (length wanted ≡ length wanted₀) × (length words ≡ length words₀)
+    (i ≤ count) × (count ≤ 250) × (length page ≡ length page₀) × (length expected ≡ length expected₀) × (length table ≡ length table₀) ×
+    (length wanted ≡ length wanted₀) × (length words ≡ length words₀)
 
 abbrev μ-loop : tie.MeasureT-loop
 μ-loop input page₀ expected₀ table₀ wanted₀ words₀ state₀ count i₀ t11 t12 t13 page expected table wanted words state i =

@@ -31,7 +31,12 @@ end-of-requires : tie.Need-end-of-requires Inv-loop μ-loop Inv-pairs μ-pairs
 end-of-requires c κs = c .before .before .before .before .pre .1 (c .before .before .pairs .i) (search needs)
 
 loop-holds : tie.Need-loop-holds Inv-loop μ-loop Inv-pairs μ-pairs
-loop-holds c = (search needs, search needs, clear-none (c .before .before .before .before .before .args .page .now) (c .before .before .before .pairs .i))
+loop-holds c = (
+  search needs,
+  search needs,
+  clear-none (c .before .before .before .before .before .args .page .now)
+      (c .before .before .before .pairs .i),
+)
 
 is-clear-requires : tie.Need-is-clear-requires Inv-loop μ-loop Inv-pairs μ-pairs
 is-clear-requires c κs = search needs
@@ -47,8 +52,13 @@ loop-again c =
     let a = c .before .before .before .before .before .before .before .before .before .args in
     let o = c .before .before .before .before .before .before .before .pairs in
     let l = c .before .before .before .loop in
-    let e = pair-apart (a .page .now) (o .i) (l .j) _ _ (c .before .before .before .before .before .pointer-at .ensures) (c .before .before .before .before .end-of .ensures) in
-    (search needs, search needs, clear-more (a .page .now) (o .i) (l .j) (l .inv .2) (sym e ∙ sym (c .before .is-clear .ensures) ∙ not-false _ (c .if1 .left)))
+    let e = pair-apart (a .page .now) (o .i) (l .j) _ _ (c .before .before .before .before .before .pointer-at .ensures)
+    (c .before .before .before .before .end-of .ensures) in (
+      search needs,
+      search needs,
+      clear-more (a .page .now) (o .i) (l .j) (l .inv .2)
+          (sym e ∙ sym (c .before .is-clear .ensures) ∙ not-false _ (c .if1 .left)),
+    )
 
 add-i : tie.Need-add-i Inv-loop μ-loop Inv-pairs μ-pairs
 add-i c = search needs
@@ -61,8 +71,12 @@ pairs-again c =
     let l = c .before .loop in
     let o = c .before .before .before .before .before .pairs in
     let a = c .before .before .before .before .before .before .before .args in
-    let e : l .j ≡ o .i = omega arith in
-    (search needs, search needs, apart-more (a .page .now) (o .i) (o .inv .2) (ap (λ x. clearTo (o .i) x (a .page .now)) (sym e) ∙ l .inv .2))
+    let e : l .j ≡ o .i = omega arith in (
+      search needs,
+      search needs,
+      apart-more (a .page .now) (o .i) (o .inv .2)
+          (ap (λ x. clearTo (o .i) x (a .page .now)) (sym e) ∙ l .inv .2),
+    )
 
 returns : tie.Need-returns Inv-loop μ-loop Inv-pairs μ-pairs
 returns c =
@@ -76,8 +90,10 @@ returns-2 c =
     let a = c .before .before .before .before .before .before .before .before .before .args in
     let o = c .before .before .before .before .before .before .before .pairs in
     let l = c .before .before .before .loop in
-    let e = pair-apart (a .page .now) (o .i) (l .j) _ _ (c .before .before .before .before .before .pointer-at .ensures) (c .before .before .before .before .end-of .ensures) in
-    sym (apart-not (a .page .now) (a .n) (o .i) (l .j) (search needs) (search needs) (sym e ∙ sym (c .before .is-clear .ensures) ∙ not-true _ (c .if1 .taken)))
+    let e = pair-apart (a .page .now) (o .i) (l .j) _ _ (c .before .before .before .before .before .pointer-at .ensures)
+    (c .before .before .before .before .end-of .ensures) in
+    sym (apart-not (a .page .now) (a .n) (o .i) (l .j) (search needs) (search needs)
+    (sym e ∙ sym (c .before .is-clear .ensures) ∙ not-true _ (c .if1 .taken)))
 
 pub all-apart-spec : {M : Type 1} → statement M
 all-apart-spec =

@@ -28,7 +28,8 @@ returns-2 : tie.Need-returns-2 Inv-loop μ-loop
 returns-2 c =
     let a = c .before .before .before .before .before .before .args in
     let l = c .before .before .before .loop in
-    sym (clear-from-not (a .from) (a .to) (a .page .now) (a .n) (l .k) (omega arith) (sym (c .before .is-clear .ensures) ∙ not-true _ (c .if2 .taken)))
+    sym (clear-from-not (a .from) (a .to) (a .page .now) (a .n) (l .k) (omega arith)
+    (sym (c .before .is-clear .ensures) ∙ not-true _ (c .if2 .taken)))
 
 add-k : tie.Need-add-k Inv-loop μ-loop
 add-k c = search needs
@@ -39,11 +40,16 @@ loop-less c = search needs
 loop-again : tie.Need-loop-again Inv-loop μ-loop
 loop-again c =
     let a = c .before .before .before .before .before .before .args in
-    let l = c .before .before .before .loop in
-    (search needs, clear-from-more (a .from) (a .to) (a .page .now) (l .k) (l .inv .1) (sym (c .before .is-clear .ensures) ∙ not-false _ (c .if2 .left)))
+    let l = c .before .before .before .loop in (
+      search needs,
+      clear-from-more (a .from) (a .to) (a .page .now) (l .k) (l .inv .1)
+          (sym (c .before .is-clear .ensures) ∙ not-false _ (c .if2 .left)),
+    )
 
 returns-3 : tie.Need-returns-3 Inv-loop μ-loop
-returns-3 c = let a = c .before .before .before .before .args in let l = c .before .loop in let e : l .k ≡ a .n = omega arith in rw (← e) (sym (l .inv .1))
+returns-3 c =
+    let a = c .before .before .before .before .args in
+    let l = c .before .loop in let e : l .k ≡ a .n = omega arith in rw (← e) (sym (l .inv .1))
 
 pub all-clear-spec : {M : Type 1} → statement M
 all-clear-spec =

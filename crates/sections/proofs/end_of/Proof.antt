@@ -14,16 +14,36 @@ count-at-requires : tie.Need-count-at-requires
 count-at-requires c κs = search needs
 
 mul-result : tie.Need-mul-result
-mul-result c = omega (arith, end-steps (c .before .before .before .before .args .k) (c .before .before .entry-words .result) (c .count-at .result) (c .before .before .before .before .args .page .now) (c .before .before .entry-words .ensures .0) (c .count-at .ensures))
+mul-result c =
+    omega (
+      arith,
+      end-steps (c .before .before .before .before .args .k) (c .before .before .entry-words .result) (c .count-at .result)
+          (c .before .before .before .before .args .page .now) (c .before .before .entry-words .ensures .0) (c .count-at .ensures),
+    )
 
 mul-result-2 : tie.Need-mul-result-2
-mul-result-2 c = omega (arith, end-steps (c .before .before .before .before .args .k) (c .before .before .entry-words .result) (c .count-at .result) (c .before .before .before .before .args .page .now) (c .before .before .entry-words .ensures .0) (c .count-at .ensures))
+mul-result-2 c =
+    omega (
+      arith,
+      end-steps (c .before .before .before .before .args .k) (c .before .before .entry-words .result) (c .count-at .result)
+          (c .before .before .before .before .args .page .now) (c .before .before .entry-words .ensures .0) (c .count-at .ensures),
+    )
 
 add-result : tie.Need-add-result
-add-result c = omega (arith, end-steps (c .before .before .before .before .args .k) (c .before .before .entry-words .result) (c .count-at .result) (c .before .before .before .before .args .page .now) (c .before .before .entry-words .ensures .0) (c .count-at .ensures))
+add-result c =
+    omega (
+      arith,
+      end-steps (c .before .before .before .before .args .k) (c .before .before .entry-words .result) (c .count-at .result)
+          (c .before .before .before .before .args .page .now) (c .before .before .entry-words .ensures .0) (c .count-at .ensures),
+    )
 
 returns : tie.Need-returns
-returns c = omega (arith, end-steps (c .before .before .before .before .args .k) (c .before .before .entry-words .result) (c .count-at .result) (c .before .before .before .before .args .page .now) (c .before .before .entry-words .ensures .0) (c .count-at .ensures))
+returns c =
+    omega (
+      arith,
+      end-steps (c .before .before .before .before .args .k) (c .before .before .entry-words .result) (c .count-at .result)
+          (c .before .before .before .before .args .page .now) (c .before .before .entry-words .ensures .0) (c .count-at .ensures),
+    )
 
 pub end-of-spec : {M : Type 1} → statement M
 end-of-spec =

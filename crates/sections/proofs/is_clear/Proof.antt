@@ -7,10 +7,14 @@ pointer-at-requires : tie.Need-pointer-at-requires
 pointer-at-requires c κs = search needs
 
 returns : tie.Need-returns
-returns c = let a = c .before .before .before .args in told-below (a .from) (a .to) (a .k) (a .page .now) _ (c .before .pointer-at .ensures) (c .if1 .taken)
+returns c =
+    let a = c .before .before .before .args in
+    told-below (a .from) (a .to) (a .k) (a .page .now) _ (c .before .pointer-at .ensures) (c .if1 .taken)
 
 returns-2 : tie.Need-returns-2
-returns-2 c = let a = c .before .before .before .before .args in told-across (a .from) (a .to) (a .k) (a .page .now) _ (c .before .before .pointer-at .ensures) (search needs) (c .if2 .taken)
+returns-2 c =
+    let a = c .before .before .before .before .args in
+    told-across (a .from) (a .to) (a .k) (a .page .now) _ (c .before .before .pointer-at .ensures) (search needs) (c .if2 .taken)
 
 count-at-requires : tie.Need-count-at-requires
 count-at-requires c κs = search needs
@@ -21,7 +25,8 @@ fits-requires c κs = search needs
 returns-3 : tie.Need-returns-3
 returns-3 c =
     let a = c .before .before .before .before .before .before .args in
-    told-above (a .from) (a .to) (a .k) (a .page .now) _ (c .before .before .before .before .pointer-at .ensures) (search needs) (search needs) _ (c .before .count-at .ensures) _ (c .fits2 .ensures)
+    told-above (a .from) (a .to) (a .k) (a .page .now) _ (c .before .before .before .before .pointer-at .ensures) (search needs)
+    (search needs) _ (c .before .count-at .ensures) _ (c .fits2 .ensures)
 
 pub is-clear-spec : {M : Type 1} → statement M
 is-clear-spec =

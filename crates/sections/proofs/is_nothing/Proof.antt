@@ -15,11 +15,15 @@ returns-2 c = let a = c .before .before .args in simp (eq-eqb (a .count) 0 (sear
 
 returns-3 : tie.Need-returns-3
 unfolding nothing both
-returns-3 c = let a = c .before .before .before .args in simp (eq-eqb (a .count) 0 (search needs), eq-eqb (a .pointer) 0 (search needs), ne-eqb (a .check) 0 (search needs))
+returns-3 c =
+    let a = c .before .before .before .args in
+    simp (eq-eqb (a .count) 0 (search needs), eq-eqb (a .pointer) 0 (search needs), ne-eqb (a .check) 0 (search needs))
 
 returns-4 : tie.Need-returns-4
 unfolding nothing both
-returns-4 c = let a = c .before .before .before .args in simp (eq-eqb (a .count) 0 (search needs), eq-eqb (a .pointer) 0 (search needs), eq-eqb (a .check) 0 (search needs))
+returns-4 c =
+    let a = c .before .before .before .args in
+    simp (eq-eqb (a .count) 0 (search needs), eq-eqb (a .pointer) 0 (search needs), eq-eqb (a .check) 0 (search needs))
 
 pub is-nothing-spec : {M : Type 1} → statement M
 is-nothing-spec = tie.close (tie.spec returns returns-2 returns-3 returns-4)

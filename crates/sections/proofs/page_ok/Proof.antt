@@ -31,7 +31,8 @@ returns-2 : tie.Need-returns-2
 unfolding both
 returns-2 c =
     let a = c .before .before .before .before .args in
-    let q : placeOk (a .base) (length (a .page .now)) ≡ true = sym (c .before .before .place-ok .ensures) ∙ not-false _ (c .before .if1 .left) in
+    let q : placeOk (a .base) (length (a .page .now)) ≡ true = sym (c .before .before .place-ok .ensures) ∙
+    not-false _ (c .before .if1 .left) in
     simp q (c .rules-ok .ensures)
 
 pub page-ok-spec : {M : Type 1} → statement M

@@ -17,15 +17,31 @@ returns-2 c = let a = c .before .before .args in simp (eq-eqb (a .n) 4096 (searc
 
 returns-3 : tie.Need-returns-3
 unfolding placeOk both
-returns-3 c = let a = c .before .before .before .args in simp (eq-eqb (a .n) 4096 (search needs), lt-ltb (0) (a .base) (search needs), ne-eqb (a .base % 4096) 0 (search needs))
+returns-3 c =
+    let a = c .before .before .before .args in
+    simp (eq-eqb (a .n) 4096 (search needs), lt-ltb (0) (a .base) (search needs), ne-eqb (a .base % 4096) 0 (search needs))
 
 returns-4 : tie.Need-returns-4
 unfolding placeOk both
-returns-4 c = let a = c .before .before .before .before .args in simp (eq-eqb (a .n) 4096 (search needs), lt-ltb (0) (a .base) (search needs), eq-eqb (a .base % 4096) 0 (search needs), lt-leb (a .base) (2 ^ 52 - 4096) (omega arith))
+returns-4 c =
+    let a = c .before .before .before .before .args in
+    simp (
+      eq-eqb (a .n) 4096 (search needs),
+      lt-ltb (0) (a .base) (search needs),
+      eq-eqb (a .base % 4096) 0 (search needs),
+      lt-leb (a .base) (2 ^ 52 - 4096) (omega arith),
+    )
 
 returns-5 : tie.Need-returns-5
 unfolding placeOk both
-returns-5 c = let a = c .before .before .before .before .args in simp (eq-eqb (a .n) 4096 (search needs), lt-ltb (0) (a .base) (search needs), eq-eqb (a .base % 4096) 0 (search needs), le-leb (a .base) (2 ^ 52 - 4096) (omega arith))
+returns-5 c =
+    let a = c .before .before .before .before .args in
+    simp (
+      eq-eqb (a .n) 4096 (search needs),
+      lt-ltb (0) (a .base) (search needs),
+      eq-eqb (a .base % 4096) 0 (search needs),
+      le-leb (a .base) (2 ^ 52 - 4096) (omega arith),
+    )
 
 pub place-ok-spec : {M : Type 1} → statement M
 place-ok-spec = tie.close (tie.spec returns returns-2 returns-3 returns-4 returns-5)

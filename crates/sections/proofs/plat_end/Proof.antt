@@ -12,13 +12,16 @@ add-if2 : tie.Need-add-if2
 add-if2 c = search needs
 
 returns-2 : tie.Need-returns-2
-returns-2 c = let a = c .before .before .before .args in sym (plat-low (a .e .minor) (a .base) (a .plat) (a .page .now) (search needs) (omega arith))
+returns-2 c =
+    let a = c .before .before .before .args in sym (plat-low (a .e .minor) (a .base) (a .plat) (a .page .now) (search needs) (omega arith))
 
 add-if3 : tie.Need-add-if3
 add-if3 c = search needs
 
 returns-3 : tie.Need-returns-3
-returns-3 c = let a = c .before .before .before .before .args in sym (plat-high (a .e .minor) (a .base) (a .plat) (a .page .now) (search needs) (omega arith) (omega arith))
+returns-3 c =
+    let a = c .before .before .before .before .args in
+    sym (plat-high (a .e .minor) (a .base) (a .plat) (a .page .now) (search needs) (omega arith) (omega arith))
 
 sub-at : tie.Need-sub-at
 sub-at c = search needs

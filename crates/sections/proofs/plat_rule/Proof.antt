@@ -2,7 +2,7 @@ use mathlib.Core.Bool.{true, false}
 use mathlib.Core.Path.{_≡_, sym, _∙_}
 use lib.ListN.{length}
 use borrow.Author.Tests.{not-true, not-false}
-use Rattle.sections.specs.Page.{placeOk, platAt}
+use Rattle.sections.specs.Page.{placeOk, platformAt}
 use Rattle.sections.proofs.Sections.{placed}
 use borrow.Author.Needs.{needs}
 use native.Mathlib.Omega.{arith}
@@ -27,15 +27,17 @@ word-at-requires c κs = search needs
 plat-end-requires : tie.Need-plat-end-requires
 plat-end-requires c κs =
     let a = c .before .before .before .before .before .args in
-    let q : placeOk (a .base) (length (a .page .now)) ≡ true = sym (c .before .before .before .place-ok .ensures) ∙ not-false _ (c .before .before .if1 .left) in
+    let q : placeOk (a .base) (length (a .page .now)) ≡ true = sym (c .before .before .before .place-ok .ensures) ∙
+    not-false _ (c .before .before .if1 .left) in
     let p = placed (a .base) (length (a .page .now)) q in
     (p .0, omega arith, search needs, search needs)
 
 returns-2 : tie.Need-returns-2
-unfolding platAt
+unfolding platformAt
 returns-2 c =
     let a = c .before .before .before .before .before .before .args in
-    let q : placeOk (a .base) (length (a .page .now)) ≡ true = sym (c .before .before .before .before .place-ok .ensures) ∙ not-false _ (c .before .before .before .if1 .left) in
+    let q : placeOk (a .base) (length (a .page .now)) ≡ true = sym (c .before .before .before .before .place-ok .ensures) ∙
+    not-false _ (c .before .before .before .if1 .left) in
     simp q (rw (← c .before .word-at .ensures) (c .plat-end .ensures))
 
 pub plat-rule-spec : {M : Type 1} → statement M

@@ -30,8 +30,11 @@ enum-told c = search needs
 
 returns-2 : tie.Need-returns-2
 returns-2 c =
-    let a = c .before .before .before .before .before .before .before .before .args in
-    told-broken (a .minor) (a .e .minor) (a .base) (a .page .now) _ (c .before .before .before .before .before .padding-at .ensures) (c .before .before .before .before .if1 .left) _ (c .before .before .before .word-at .ensures) _ (c .before .before .plat-end .ensures) (c .enum-told .given .1)
+    let b8 = c .before .before .before .before .before .before .before .before in
+    let a = b8 .args in
+    told-broken (a .minor) (a .e .minor) (a .base) (a .page .now) _ (c .before .before .before .before .before .padding-at .ensures)
+    (c .before .before .before .before .if1 .left) _ (c .before .before .before .word-at .ensures) _
+    (c .before .before .plat-end .ensures) (c .enum-told .given .1)
 
 sections-requires : tie.Need-sections-requires
 sections-requires c κs = search needs
@@ -41,31 +44,58 @@ sections-ok-requires c κs = search needs
 
 returns-3 : tie.Need-returns-3
 returns-3 c =
-    let a = c .before .before .before .before .before .before .before .before .before .before .before .before .args in
-    told-each (a .minor) (a .e .minor) (a .base) (a .page .now) _ (c .before .before .before .before .before .before .before .before .before .padding-at .ensures) (c .before .before .before .before .before .before .before .before .if1 .left) _ (c .before .before .before .before .before .before .before .word-at .ensures) _ (c .before .before .before .before .before .before .plat-end .ensures) _ (c .before .before .before .before .told .given .1) _ (c .before .before .sections .ensures .0) _ (c .before .sections-ok .ensures) (not-true _ (c .if2 .taken))
+    let b8 = c .before .before .before .before .before .before .before .before in
+    let a = b8 .before .before .before .before .args in
+    told-each (a .minor) (a .e .minor) (a .base) (a .page .now) _ (b8 .before .padding-at .ensures) (b8 .if1 .left) _
+    (c .before .before .before .before .before .before .before .word-at .ensures) _
+    (c .before .before .before .before .before .before .plat-end .ensures) _ (c .before .before .before .before .told .given .1) _
+    (c .before .before .sections .ensures .0) _ (c .before .sections-ok .ensures) (not-true _ (c .if2 .taken))
 
 all-apart-requires : tie.Need-all-apart-requires
 all-apart-requires c κs =
-    let a = c .before .before .before .before .before .before .before .before .before .before .before .before .args in
-    (search needs, λ k h. omega (arith, told-ends (a .minor) (a .e .minor) (a .base) _ (a .page .now) _ (c .before .sections-ok .ensures) (not-false _ (c .if2 .left)) k h))
+    let a = c .before .before .before .before .before .before .before .before .before .before .before .before .args in (
+      search needs,
+      λ k h. omega (
+        arith,
+        told-ends (a .minor) (a .e .minor) (a .base) _ (a .page .now) _ (c .before .sections-ok .ensures)
+            (not-false _ (c .if2 .left)) k h,
+      ),
+    )
 
 returns-4 : tie.Need-returns-4
 returns-4 c =
-    let a = c .before .before .before .before .before .before .before .before .before .before .before .before .before .before .args in
-    told-apart (a .minor) (a .e .minor) (a .base) (a .page .now) _ (c .before .before .before .before .before .before .before .before .before .before .before .padding-at .ensures) (c .before .before .before .before .before .before .before .before .before .before .if1 .left) _ (c .before .before .before .before .before .before .before .before .before .word-at .ensures) _ (c .before .before .before .before .before .before .before .before .plat-end .ensures) _ (c .before .before .before .before .before .before .told .given .1) _ (c .before .before .before .before .sections .ensures .0) _ (c .before .before .before .sections-ok .ensures) (not-false _ (c .before .before .if2 .left)) _ (c .before .all-apart .ensures) (not-true _ (c .if3 .taken))
+    let b8 = c .before .before .before .before .before .before .before .before in
+    let a = b8 .before .before .before .before .before .before .args in
+    told-apart (a .minor) (a .e .minor) (a .base) (a .page .now) _ (b8 .before .before .before .padding-at .ensures)
+    (b8 .before .before .if1 .left) _ (b8 .before .word-at .ensures) _ (b8 .plat-end .ensures) _
+    (c .before .before .before .before .before .before .told .given .1) _
+    (c .before .before .before .before .sections .ensures .0) _ (c .before .before .before .sections-ok .ensures)
+    (not-false _ (c .before .before .if2 .left)) _ (c .before .all-apart .ensures) (not-true _ (c .if3 .taken))
 
 add-end : tie.Need-add-end
 add-end c =
-    let a = c .before .before .before .before .before .before .before .before .before .before .before .before .before .before .args in
-    omega (arith, told-top (a .minor) (a .e .minor) (a .base) (a .page .now) _ (c .before .before .before .before .before .before .before .before .before .before .before .padding-at .ensures) (c .before .before .before .before .before .before .before .before .before .before .if1 .left) _ (c .before .before .before .before .before .before .before .before .before .word-at .ensures) _ (c .before .before .before .before .before .before .before .before .plat-end .ensures) _ (c .before .before .before .before .before .before .told .given .1) (search needs))
+    let b8 = c .before .before .before .before .before .before .before .before in
+    let a = b8 .before .before .before .before .before .before .args in
+    omega (
+      arith,
+      told-top (a .minor) (a .e .minor) (a .base) (a .page .now) _ (b8 .before .before .before .padding-at .ensures)
+          (b8 .before .before .if1 .left) _ (b8 .before .word-at .ensures) _ (b8 .plat-end .ensures) _
+          (c .before .before .before .before .before .before .told .given .1) (search needs),
+    )
 
 all-clear-requires : tie.Need-all-clear-requires
 all-clear-requires c κs = search needs
 
 returns-5 : tie.Need-returns-5
 returns-5 c =
-    let a = c .before .before .before .before .before .before .before .before .before .before .before .before .before .before .before .args in
-    told-clear (a .minor) (a .e .minor) (a .base) (a .page .now) _ (c .before .before .before .before .before .before .before .before .before .before .before .before .padding-at .ensures) (c .before .before .before .before .before .before .before .before .before .before .before .if1 .left) _ (c .before .before .before .before .before .before .before .before .before .before .word-at .ensures) _ (c .before .before .before .before .before .before .before .before .before .plat-end .ensures) _ (c .before .before .before .before .before .before .before .told .given .1) _ (c .before .before .before .before .before .sections .ensures .0) _ (c .before .before .before .before .sections-ok .ensures) (not-false _ (c .before .before .before .if2 .left)) _ (c .before .before .all-apart .ensures) (not-false _ (c .before .if3 .left)) _ (c .all-clear .ensures)
+    let b8 = c .before .before .before .before .before .before .before .before in
+    let a = b8 .before .before .before .before .before .before .before .args in
+    told-clear (a .minor) (a .e .minor) (a .base) (a .page .now) _ (b8 .before .before .before .before .padding-at .ensures)
+    (b8 .before .before .before .if1 .left) _ (b8 .before .before .word-at .ensures) _ (b8 .before .plat-end .ensures) _
+    (c .before .before .before .before .before .before .before .told .given .1) _
+    (c .before .before .before .before .before .sections .ensures .0) _
+    (c .before .before .before .before .sections-ok .ensures) (not-false _ (c .before .before .before .if2 .left)) _
+    (c .before .before .all-apart .ensures) (not-false _ (c .before .if3 .left)) _ (c .all-clear .ensures)
 
 pub rules-ok-spec : {M : Type 1} → statement M
 rules-ok-spec =

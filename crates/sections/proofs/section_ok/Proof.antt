@@ -19,7 +19,9 @@ is-nothing-requires c κs = search needs
 returns : tie.Need-returns
 returns c =
     let a = c .before .before .before .before .before .before .args in
-    told-nothing (a .minor) (a .e .minor) (a .base) (a .k) (a .page .now) _ _ _ (c .before .before .before .before .count-at .ensures) (c .before .before .before .pointer-at .ensures) (c .before .before .check-at .ensures) _ (c .before .is-nothing .ensures) (c .if1 .taken)
+    told-nothing (a .minor) (a .e .minor) (a .base) (a .k) (a .page .now) _ _ _ (c .before .before .before .before .count-at .ensures)
+    (c .before .before .before .pointer-at .ensures) (c .before .before .check-at .ensures) _ (c .before .is-nothing .ensures)
+    (c .if1 .taken)
 
 add-if2 : tie.Need-add-if2
 add-if2 c = search needs
@@ -27,18 +29,25 @@ add-if2 c = search needs
 returns-2 : tie.Need-returns-2
 returns-2 c =
     let a = c .before .before .before .before .before .before .before .args in
-    told-low (a .minor) (a .e .minor) (a .base) (a .k) (a .page .now) _ _ _ (c .before .before .before .before .before .count-at .ensures) (c .before .before .before .before .pointer-at .ensures) (c .before .before .before .check-at .ensures) _ (c .before .before .is-nothing .ensures) (c .before .if1 .left) (omega arith)
+    told-low (a .minor) (a .e .minor) (a .base) (a .k) (a .page .now) _ _ _ (c .before .before .before .before .before .count-at .ensures)
+    (c .before .before .before .before .pointer-at .ensures) (c .before .before .before .check-at .ensures) _
+    (c .before .before .is-nothing .ensures) (c .before .if1 .left) (omega arith)
 
 sub-at : tie.Need-sub-at
 sub-at c = search needs
 
-sound-at-requires : tie.Need-sound-at-requires
-sound-at-requires c κs = search needs
+array-ok-requires : tie.Need-array-ok-requires
+array-ok-requires c κs = search needs
 
 returns-3 : tie.Need-returns-3
 returns-3 c =
-    let a = c .before .before .before .before .before .before .before .before .args in
-    told-placed (a .minor) (a .e .minor) (a .base) (a .k) (a .page .now) _ _ _ (c .before .before .before .before .before .before .count-at .ensures) (c .before .before .before .before .before .pointer-at .ensures) (c .before .before .before .before .check-at .ensures) _ (c .before .before .before .is-nothing .ensures) (c .before .before .if1 .left) (omega arith) (search needs) _ (c .sound-at .ensures)
+    let b8 = c .before .before .before .before .before .before .before .before in
+    let a = b8 .args in
+    told-placed (a .minor) (a .e .minor) (a .base) (a .k) (a .page .now) _ _ _
+    (c .before .before .before .before .before .before .count-at .ensures)
+    (c .before .before .before .before .before .pointer-at .ensures) (c .before .before .before .before .check-at .ensures) _
+    (c .before .before .before .is-nothing .ensures) (c .before .before .if1 .left) (omega arith) (search needs) _
+    (c .array-ok .ensures)
 
 pub section-ok-spec : {M : Type 1} → statement M
 section-ok-spec =
@@ -52,5 +61,5 @@ section-ok-spec =
     add-if2
     returns-2
     sub-at
-    sound-at-requires
+    array-ok-requires
     returns-3)

@@ -22,7 +22,11 @@ section-ok-requires : tie.Need-section-ok-requires Inv-loop μ-loop
 section-ok-requires c κs = search needs
 
 returns : tie.Need-returns Inv-loop μ-loop
-returns c = let a = c .before .before .before .before .before .args in let l = c .before .before .before .loop in ok-not (a .minor) (a .e .minor) (a .base) (a .page .now) (a .n) (l .k) (omega arith) _ (c .before .section-ok .ensures) (not-true _ (c .if1 .taken))
+returns c =
+    let a = c .before .before .before .before .before .args in
+    let l = c .before .before .before .loop in
+    ok-not (a .minor) (a .e .minor) (a .base) (a .page .now) (a .n) (l .k) (omega arith) _ (c .before .section-ok .ensures)
+    (not-true _ (c .if1 .taken))
 
 add-k : tie.Need-add-k Inv-loop μ-loop
 add-k c = search needs
@@ -31,10 +35,17 @@ loop-less : tie.Need-loop-less Inv-loop μ-loop
 loop-less c = search needs
 
 loop-again : tie.Need-loop-again Inv-loop μ-loop
-loop-again c = let a = c .before .before .before .before .before .args in let l = c .before .before .before .loop in (search needs, ok-more (a .minor) (a .e .minor) (a .base) (a .page .now) (l .k) (l .inv .1) _ (c .before .section-ok .ensures) (not-false _ (c .if1 .left)))
+loop-again c =
+    let a = c .before .before .before .before .before .args in
+    let l = c .before .before .before .loop in (
+      search needs,
+      ok-more (a .minor) (a .e .minor) (a .base) (a .page .now) (l .k) (l .inv .1) _ (c .before .section-ok .ensures)
+          (not-false _ (c .if1 .left)),
+    )
 
 returns-2 : tie.Need-returns-2 Inv-loop μ-loop
-returns-2 c = let a = c .before .before .before .args in let l = c .before .loop in let e : l .k ≡ a .n = omega arith in rw (← e) (sym (l .inv .1))
+returns-2 c =
+    let a = c .before .before .before .args in let l = c .before .loop in let e : l .k ≡ a .n = omega arith in rw (← e) (sym (l .inv .1))
 
 pub sections-ok-spec : {M : Type 1} → statement M
 sections-ok-spec =

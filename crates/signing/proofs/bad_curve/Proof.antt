@@ -1,12 +1,12 @@
 use borrow.Author.Tests.{eq-eqb, ne-eqb}
-use Rattle.codes.specs.Codes.{unless}
+use Rattle.codes.specs.Codes.{isFalse}
 use Rattle.signing.specs.Signing.{opcodeOf, badCurve}
 use borrow.Author.Needs.{needs}
 use Rattle.signing.proofs.bad_curve.Statement.{statement}
 use Rattle.signing.proofs.bad_curve.Tie as tie
 
 returns : tie.Need-returns
-unfolding opcodeOf badCurve unless
+unfolding opcodeOf badCurve isFalse
 returns c = rw (c .before .match .keys3, eq-eqb (c .before .before .args .curve) 0 (search needs))
 
 returns-2 : tie.Need-returns-2
@@ -18,7 +18,7 @@ unfolding opcodeOf badCurve
 returns-3 c = rw (c .match .keys2)
 
 returns-4 : tie.Need-returns-4
-unfolding opcodeOf badCurve unless
+unfolding opcodeOf badCurve isFalse
 returns-4 c = rw (c .before .match .keys3, ne-eqb (c .before .before .args .curve) 0 (search needs))
 
 returns-5 : tie.Need-returns-5

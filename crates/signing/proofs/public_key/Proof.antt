@@ -12,7 +12,8 @@ use Rattle.signing.proofs.public_key.Statement.{statement}
 use Rattle.signing.proofs.public_key.Tie as tie
 
 -- what is handed back with a queue, refused and accepted
-module _ (a : Answer) (page : List ℕ) (q : Lists) (old : Queue) (s : SigningStep) (e : _≡_ {A = SigningStep} (record { answer = a; page = page; queue = q }) s) where
+module _ (a : Answer) (page : List ℕ) (q : Lists) (old : Queue) (s : SigningStep)
+    (e : _≡_ {A = SigningStep} (record { answer = a; page = page; queue = q }) s) where
   stays : isOk (a .code) ≡ false → _≡_ {A = SigningExit} (record { answer = a; page = page; queue = old }) (exitOf old s)
   unfolding exitOf queueNext
   stays h = rw (← e, h)
@@ -36,8 +37,8 @@ returns c =
     stays _ _ (listsOf (a .queue)) (a .queue) _ (c .before .before .before .before .put-key .ensures (listsOf (a .queue)))
     (sym (c .before .is-ok .ensures) ∙ not-true (c .before .is-ok .result) (c .if1 .taken))
 
-only-waiting-requires : tie.Need-only-waiting-requires
-only-waiting-requires c κs = search needs
+clear-free-requires : tie.Need-clear-free-requires
+clear-free-requires c κs = search needs
 
 same-length-2 : tie.Need-same-length-2
 same-length-2 c = search needs
@@ -45,7 +46,7 @@ same-length-2 c = search needs
 returns-2 : tie.Need-returns-2
 returns-2 c =
     let a = c .before .before .before .before .before .before .before .before .before .args in
-    rw (c .only-waiting .ensures) (holds _ _ (listsOf (a .queue)) (a .queue) _
+    rw (c .clear-free .ensures) (holds _ _ (listsOf (a .queue)) (a .queue) _
     (c .before .before .before .before .before .put-key .ensures (listsOf (a .queue)))
     (sym (c .before .before .is-ok .ensures) ∙ not-false (c .before .before .is-ok .result) (c .before .if1 .left)))
 
@@ -57,6 +58,6 @@ public-key-spec =
     is-ok-requires
     same-length
     returns
-    only-waiting-requires
+    clear-free-requires
     same-length-2
     returns-2)

@@ -72,7 +72,8 @@ unfolding part opAt opOf
 returns c =
     let a = c .before .before .before .before .before .before .before .args in
     let e : a .at + a .size - a .at ≡ a .size = omega arith in
-    rw (c .before .before .before .enum-told .given .1) (exit-same (a .at) (a .size) (a .page .now) (a .queue) _ _ (search needs) (rw e at (c .push .ensures)))
+    rw (c .before .before .before .enum-told .given .1) (exit-same (a .at) (a .size) (a .page .now) (a .queue) _ _ (search needs)
+    (rw e at (c .push .ensures)))
 
 same-length-2 : tie.Need-same-length-2
 same-length-2 c = search needs
@@ -82,7 +83,8 @@ unfolding part opAt opOf
 returns-2 c =
     let a = c .before .before .before .before .before .before .before .before .args in
     let e : a .at + a .size - a .at ≡ a .size = omega arith in
-    rw (c .before .before .before .before .enum-told2 .given .1, e) (exit-back (a .at) (a .size) (a .page .now) (a .queue) _ _ _ (search needs) (rw e at (c .before .before .pull .ensures)))
+    rw (c .before .before .before .before .enum-told2 .given .1, e)
+    (exit-back (a .at) (a .size) (a .page .now) (a .queue) _ _ _ (search needs) (rw e at (c .before .before .pull .ensures)))
 
 same-length-3 : tie.Need-same-length-3
 same-length-3 c = search needs
@@ -92,13 +94,15 @@ unfolding part opAt opOf
 returns-3 c =
     let a = c .before .before .before .before .before .before .before .before .args in
     let e : a .at + a .size - a .at ≡ a .size = omega arith in
-    rw (c .before .before .before .before .enum-told3 .given .1, e) (exit-back (a .at) (a .size) (a .page .now) (a .queue) _ _ _ (search needs) (rw e at (c .before .before .public-key .ensures)))
+    rw (c .before .before .before .before .enum-told3 .given .1, e)
+    (exit-back (a .at) (a .size) (a .page .now) (a .queue) _ _ _ (search needs) (rw e at (c .before .before .public-key .ensures)))
 
 returns-4 : tie.Need-returns-4
 unfolding part opAt opOf exitOf queueNext answerOf
 returns-4 c =
     let a = c .before .before .before .before .before .args in
-    rw (c .before .enum-told4 .given .1) (exit-same (a .at) (a .size) (a .page .now) (a .queue) _ _ (search needs) (rw (c .refused .ensures)))
+    rw (c .before .enum-told4 .given .1) (exit-same (a .at) (a .size) (a .page .now) (a .queue) _ _ (search needs)
+    (rw (c .refused .ensures)))
 
 pub serve-spec : {M : Type 1} → statement M
 serve-spec =

@@ -1,6 +1,6 @@
 use lib.ListN.{length}
-use Rattle.codes.specs.Codes.{upOf}
-use Rattle.range.specs.Range.{placeOf}
+use Rattle.codes.specs.Codes.{bootParams}
+use Rattle.buffer_check.specs.Range.{placeOf}
 use Rattle.queue.specs.Queue.{listsOf}
 use Rattle.queue.proofs.Steps.{refuses}
 use Rattle.signing.specs.Signing.{opcodeOf, sharedCode, opAt, signingOf}
@@ -9,8 +9,8 @@ use borrow.Author.Needs.{needs}
 use Rattle.signing.proofs.token_signing.Statement.{statement}
 use Rattle.signing.proofs.token_signing.Tie as tie
 
-gate-of-requires : tie.Need-gate-of-requires
-gate-of-requires c κs = search needs
+common-checks-requires : tie.Need-common-checks-requires
+common-checks-requires c κs = search needs
 
 enum-known-gate : tie.Need-enum-known-gate
 enum-known-gate c = search needs
@@ -27,15 +27,17 @@ opcode-of-requires c κs = search needs
 serve-requires : tie.Need-serve-requires
 serve-requires c κs =
     let a = c .before .before .before .before .before .before .before .before .args in
-    told-room (a .state) (a .page .now) (a .opcode) (a .pa) (a .size) (a .curve) _ (c .before .before .before .before .before .gate-of .ensures) _ (c .before .before .before .gate2 .given .1)
+    told-room (a .state) (a .page .now) (a .opcode) (a .pa) (a .size) (a .curve) _
+    (c .before .before .before .before .before .common-checks .ensures) _ (c .before .before .before .gate2 .given .1)
 
 returns : tie.Need-returns
 unfolding signingOf
 returns c =
     let a = c .before .before .before .before .before .before .before .args in
-    let g = told-stop (a .state) (a .page .now) (a .opcode) (a .pa) (a .size) (a .curve) _ (c .before .before .before .before .gate-of .ensures) _ (c .before .before .gate .given .1) in
+    let g = told-stop (a .state) (a .page .now) (a .opcode) (a .pa) (a .size) (a .curve) _
+    (c .before .before .before .before .common-checks .ensures) _ (c .before .before .gate .given .1) in
     refuses (sharedCode (a .state) (length (a .page .now)) (opcodeOf (a .opcode)) (a .pa) (a .size) (a .curve)) (a .page .now)
-    (listsOf (a .queue)) (a .queue) (opAt (opcodeOf (a .opcode)) (placeOf (upOf (a .state)) (a .pa)) (a .size) (a .page .now)
+    (listsOf (a .queue)) (a .queue) (opAt (opcodeOf (a .opcode)) (placeOf (bootParams (a .state)) (a .pa)) (a .size) (a .page .now)
     (listsOf (a .queue)) (a .key .now)) _ _ (c .refused .ensures) (g .0) (g .1)
 
 same-length : tie.Need-same-length
@@ -45,7 +47,7 @@ returns-2 : tie.Need-returns-2
 returns-2 c =
     let a = c .before .before .before .before .before .before .before .before .before .before .before .args in
     told-served (a .state) (a .page .now) (a .opcode) (a .pa) (a .size) (a .curve) _
-    (c .before .before .before .before .before .before .before .before .gate-of .ensures) _
+    (c .before .before .before .before .before .before .before .before .common-checks .ensures) _
     (c .before .before .before .before .before .before .gate2 .given .1) _ (c .before .before .before .opcode-of .ensures) (a .queue)
     (a .key .now) _ (c .before .before .serve .ensures)
 
@@ -53,7 +55,7 @@ pub token-signing-spec : {M : Type 1} → statement M
 token-signing-spec =
     tie.close
     (tie.spec
-    gate-of-requires
+    common-checks-requires
     enum-known-gate
     refused-requires
     enum-known-gate-2

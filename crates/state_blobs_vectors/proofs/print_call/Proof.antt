@@ -56,7 +56,9 @@ slice-relend-prefix-make : tie.Need-slice-relend-prefix-make
 slice-relend-prefix-make c = search needs
 
 slice-aggregate-make : tie.Need-slice-aggregate-make
-slice-aggregate-make c = sym (length-take-le (c .before .before .before .length-at .result) (c .before .before .before .before .before .before .before .before .before .args .buffer .now) (search needs))
+slice-aggregate-make c =
+    let b8 = c .before .before .before .before .before .before .before .before in
+    sym (length-take-le (c .before .before .before .length-at .result) (b8 .before .args .buffer .now) (search needs))
 
 make-requires : tie.Need-make-requires
 make-requires c κs = search needs

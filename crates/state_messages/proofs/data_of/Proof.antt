@@ -17,7 +17,8 @@ part-result-end : tie.Need-part-result-end
 part-result-end c = search needs
 
 returns : tie.Need-returns
-returns c = (sym (drop-of-length-le (c .before .before .args .message .now) {i = 16} (search needs)), λ h. absurd (let z : ⊥ = omega arith in z))
+returns c =
+    (sym (drop-of-length-le (c .before .before .args .message .now) {i = 16} (search needs)), λ h. absurd (let z : ⊥ = omega arith in z))
 
 sub-result-2 : tie.Need-sub-result-2
 sub-result-2 c = search needs

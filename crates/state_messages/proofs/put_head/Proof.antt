@@ -20,8 +20,16 @@ same-length c = search needs
 
 returns : tie.Need-returns
 returns c =
-    let a = c .before .before .before .before .before .before .before .before .before .before .before .before .before .before .before .before .before .args in
-    rw (c .before .before .put-number4 .ensures, c .before .before .before .before .before .before .put-number3 .ensures, c .before .before .before .before .before .before .before .before .before .before .put-number2 .ensures, c .before .before .before .before .before .before .before .before .before .before .before .before .before .before .put-number .ensures) (head-put (a .a) (a .b) (a .c) (a .d) (a .s .now))
+    let b8 = c .before .before .before .before .before .before .before .before in
+    let b16 = b8 .before .before .before .before .before .before .before .before in
+    let a = b16 .before .args in
+    rw (
+      c .before .before .put-number4 .ensures,
+      c .before .before .before .before .before .before .put-number3 .ensures,
+      b8 .before .before .put-number2 .ensures,
+      b8 .before .before .before .before .before .before .put-number .ensures,
+    )
+    (head-put (a .a) (a .b) (a .c) (a .d) (a .s .now))
 
 pub put-head-spec : {M : Type 1} → statement M
 put-head-spec =

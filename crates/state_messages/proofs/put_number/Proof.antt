@@ -11,7 +11,9 @@ same-length : tie.Need-same-length
 same-length c = search needs
 
 returns : tie.Need-returns
-returns c = let a = c .before .before .before .before .before .args in c .before .before .put-big .ensures ∙ big-in 4 (a .at) (a .w) (a .s .now) (search needs)
+returns c =
+    let a = c .before .before .before .before .before .args in
+    c .before .before .put-big .ensures ∙ big-in 4 (a .at) (a .w) (a .s .now) (search needs)
 
 pub put-number-spec : {M : Type 1} → statement M
 put-number-spec = tie.close (tie.spec put-big-requires same-length returns)

@@ -13,7 +13,8 @@ returns c = let m = c .before .before .args .message .now in simp (lt-ltb (lengt
 
 returns-2 : tie.Need-returns-2
 unfolding readRequest
-returns-2 c = let m = c .before .before .before .args .message .now in simp (le-ltb (length m) 16 (search needs), lt-ltb 16 (length m) (search needs))
+returns-2 c =
+    let m = c .before .before .before .args .message .now in simp (le-ltb (length m) 16 (search needs), lt-ltb 16 (length m) (search needs))
 
 number-at-requires : tie.Need-number-at-requires
 number-at-requires c κs = search needs
@@ -23,7 +24,11 @@ unfolding readRequest
 returns-3 c =
     let a = c .before .before .before .before .before .args in
     let m = a .message .now in
-    simp (le-ltb (length m) 16 (search needs), le-ltb 16 (length m) (search needs), ne-eqb (bigAt 4 0 m) (a .code) (λ e. c .if3 .taken (c .before .number-at .ensures ∙ e)))
+    simp (
+      le-ltb (length m) 16 (search needs),
+      le-ltb 16 (length m) (search needs),
+      ne-eqb (bigAt 4 0 m) (a .code) (λ e. c .if3 .taken (c .before .number-at .ensures ∙ e)),
+    )
 
 number-at-requires-2 : tie.Need-number-at-requires-2
 number-at-requires-2 c κs = search needs

@@ -7,7 +7,9 @@ use Rattle.state_messages.proofs.write_request.Tie as tie
 
 returns : tie.Need-returns
 unfolding writeRequest
-returns c = let a = c .before .before .args in sym (write-out (requestMessage (a .request)) (a .buffer .now) (request-length (a .request)) (search needs))
+returns c =
+    let a = c .before .before .args in
+    sym (write-out (requestMessage (a .request)) (a .buffer .now) (request-length (a .request)) (search needs))
 
 put-head-requires : tie.Need-put-head-requires
 put-head-requires c κs = search needs
@@ -19,7 +21,8 @@ returns-2 : tie.Need-returns-2
 unfolding writeRequest requestMessage
 returns-2 c =
     let a = c .before .before .before .before .before .before .args in
-    rw (c .before .before .put-head .ensures) (sym (write-in (requestMessage (a .request)) (a .buffer .now) (request-length (a .request)) (search needs)))
+    rw (c .before .before .put-head .ensures) (sym (write-in (requestMessage (a .request)) (a .buffer .now) (request-length (a .request))
+    (search needs)))
 
 pub write-request-spec : {M : Type 1} → statement M
 write-request-spec = tie.close (tie.spec returns put-head-requires same-length returns-2)

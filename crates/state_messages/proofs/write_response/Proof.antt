@@ -50,7 +50,11 @@ returns-4 : tie.Need-returns-4
 returns-4 c =
     let a = c .before .before .before .before .before .before .before .before .before .before .before .before .before .args in
     let p = responseOf (a .header) (a .bytes .now) in
-    rw (c .before .before .copy .ensures, response-put p (a .buffer .now) _ (c .before .before .before .before .before .before .put-head .ensures) (search needs))
+    rw (
+      c .before .before .copy .ensures,
+      response-put p (a .buffer .now) _
+          (c .before .before .before .before .before .before .put-head .ensures) (search needs),
+    )
     (sym (response-in (a .largest) p (a .buffer .now) (search needs) (search needs)))
 
 pub write-response-spec : {M : Type 1} → statement M

@@ -23,8 +23,11 @@ same-length c = search needs
 
 returns : tie.Need-returns
 returns c =
-    let a = c .before .before .before .before .before .before .before .before .before .args in
-    listed (listing-fits (a .edition) (a .base) (a .page .now) (λ i. omega (arith, c .before .before .before .before .before .before .before .before .shared-slice-known .given i))) (wrote-same (list-refused (a .edition) (a .base) (a .page .now) _ _ (c .before .before .before .before .enum-told .given .1) (c .before .before .before .before .before .before .read .ensures .0)) (c .before .before .put-refused .ensures))
+    let b8 = c .before .before .before .before .before .before .before .before in
+    let a = b8 .before .args in
+    listed (listing-fits (a .edition) (a .base) (a .page .now) (λ i. omega (arith, b8 .shared-slice-known .given i)))
+    (wrote-same (list-refused (a .edition) (a .base) (a .page .now) _ _ (c .before .before .before .before .enum-told .given .1)
+    (c .before .before .before .before .before .before .read .ensures .0)) (c .before .before .put-refused .ensures))
 
 put-view-requires : tie.Need-put-view-requires
 put-view-requires c κs = search needs
@@ -34,8 +37,12 @@ same-length-2 c = search needs
 
 returns-2 : tie.Need-returns-2
 returns-2 c =
-    let a = c .before .before .before .before .before .before .before .before .before .before .args in
-    listed (listing-fits (a .edition) (a .base) (a .page .now) (λ i. omega (arith, c .before .before .before .before .before .before .before .before .before .shared-slice-known .given i))) (wrote-same (list-accepted (a .edition) (a .base) (a .page .now) _ _ (c .before .before .before .before .before .reading .given .1) (c .before .before .before .before .before .before .before .read .ensures .0)) (c .before .before .put-view .ensures))
+    let b8 = c .before .before .before .before .before .before .before .before in
+    let a = b8 .before .before .args in
+    listed (listing-fits (a .edition) (a .base) (a .page .now) (λ i. omega (arith, b8 .before .shared-slice-known .given i)))
+    (wrote-same (list-accepted (a .edition) (a .base) (a .page .now) _ _
+    (c .before .before .before .before .before .reading .given .1)
+    (c .before .before .before .before .before .before .before .read .ensures .0)) (c .before .before .put-view .ensures))
 
 pub list-spec : {M : Type 1} → statement M
 list-spec =

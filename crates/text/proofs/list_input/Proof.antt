@@ -16,7 +16,11 @@ same-length c = search needs
 returns : tie.Need-returns
 returns c =
     let a = c .before .before .before .before .before .before .before .args in
-    listed (printed-fits (a .input .now) (λ i. omega (arith, c .before .before .before .before .before .before .shared-slice-known .given i))) (wrote-same (input-refused (a .input .now) (search needs)) (c .before .before .put-code .ensures))
+    listed (printed-fits (a .input .now) (λ i. omega (
+      arith,
+      c .before .before .before .before .before .before .shared-slice-known .given i,
+    )))
+    (wrote-same (input-refused (a .input .now) (search needs)) (c .before .before .put-code .ensures))
 
 sub-list : tie.Need-sub-list
 sub-list c = search needs
@@ -37,7 +41,10 @@ same-length-2 : tie.Need-same-length-2
 same-length-2 c = search needs
 
 returns-2 : tie.Need-returns-2
-returns-2 c = rw (← input-read (c .before .before .before .before .before .before .before .before .before .args .input .now) _ _ (search needs) (c .before .before .before .before .word-at .ensures) refl) (c .before .before .list .ensures)
+returns-2 c =
+    let b8 = c .before .before .before .before .before .before .before .before in
+    rw (← input-read (b8 .before .args .input .now) _ _ (search needs) (c .before .before .before .before .word-at .ensures) refl)
+    (c .before .before .list .ensures)
 
 pub list-input-spec : {M : Type 1} → statement M
 list-input-spec =

@@ -26,10 +26,13 @@ same-length c = search needs
 returns : tie.Need-returns
 unfolding countText
 returns c =
-    let a = c .before .before .before .before .before .before .before .before .before .before .before .before .before .before .before .args in
-    let n = c .before .before .before .before .before .before .before .before .before .before .before .before .count-in in
-    let e : n .result ≡ entryCount (a .k) (shownAs (a .minor) (a .k) (a .section) (a .page .now)) = n .ensures ∙ count-shown (a .minor) (a .k) (a .section) (a .page .now) in
-    rw (← e) (wrote-then (search needs) (wrote-then (search needs) (c .before .before .before .before .before .before .before .before .before .before .put-decimal .ensures) (c .before .before .before .before .before .before .put-end .ensures)) (c .before .before .put-entries .ensures))
+    let b8 = c .before .before .before .before .before .before .before .before in
+    let a = b8 .before .before .before .before .before .before .before .args in
+    let n = b8 .before .before .before .before .count-in in
+    let e : n .result ≡ entryCount (a .k) (shownAs (a .minor) (a .k) (a .section) (a .page .now)) = n .ensures ∙
+    count-shown (a .minor) (a .k) (a .section) (a .page .now) in
+    rw (← e) (wrote-then (search needs) (wrote-then (search needs) (b8 .before .before .put-decimal .ensures)
+    (c .before .before .before .before .before .before .put-end .ensures)) (c .before .before .put-entries .ensures))
 
 pub put-count-spec : {M : Type 1} → statement M
 put-count-spec =

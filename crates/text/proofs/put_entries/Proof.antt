@@ -32,8 +32,11 @@ loop-less c = search needs
 loop-again : tie.Need-loop-again Inv-loop μ-loop
 loop-again c =
     let a = c .before .before .before .before .before .before .before .before .args in
-    let l = c .before .before .before .before .before .loop in
-    (search needs, wrote-more (entryText (a .k) (shownAs (a .minor) (a .k) (a .section) (a .page .now))) (l .i) (search needs) (l .inv .1) (c .before .before .put-entry .ensures))
+    let l = c .before .before .before .before .before .loop in (
+      search needs,
+      wrote-more (entryText (a .k) (shownAs (a .minor) (a .k) (a .section) (a .page .now))) (l .i) (search needs) (l .inv .1)
+          (c .before .before .put-entry .ensures),
+    )
 
 same-length : tie.Need-same-length Inv-loop μ-loop
 same-length c = search needs

@@ -44,13 +44,16 @@ loop-less c = search needs
 loop-again : tie.Need-loop-again Inv-loop μ-loop
 unfolding partText
 loop-again c =
-    let a = c .before .before .before .before .before .before .before .before .before .before .before .before .before .before .args in
-    let l = c .before .before .before .before .before .before .before .before .before .before .loop in
+    let b8 = c .before .before .before .before .before .before .before .before in
+    let a = b8 .before .before .before .before .before .before .args in
+    let l = b8 .before .before .loop in
     let x = shownAs (a .minor) (a .k) (a .section) (a .page .now) in
-    let e : c .before .before .before .before .word-in .result ≡ entryWord (a .k) (a .i) (l .j) x = word-shown (a .minor) (a .k) (a .i) (l .j) (a .section) (a .page .now) _ (c .before .before .before .before .word-in .ensures) in (
+    let e : c .before .before .before .before .word-in .result ≡ entryWord (a .k) (a .i) (l .j) x = word-shown (a .minor) (a .k) (a .i)
+    (l .j) (a .section) (a .page .now) _ (c .before .before .before .before .word-in .ensures) in (
       search needs,
       wrote-more (partText (a .k) x (a .i)) (l .j) (search needs) (l .inv .1)
-          (wrote-then (search needs) (c .before .before .before .before .before .before .before .put-gap .ensures) (wrote-same (ap (wordText (a .k) (l .j)) e) (c .before .before .put-word .ensures))),
+          (wrote-then (search needs) (c .before .before .before .before .before .before .before .put-gap .ensures)
+          (wrote-same (ap (wordText (a .k) (l .j)) e) (c .before .before .put-word .ensures))),
     )
 
 put-end-requires : tie.Need-put-end-requires Inv-loop μ-loop

@@ -20,7 +20,8 @@ abbrev Inv-loop : tie.InvT-loop
 Inv-loop out₀ at page start to₀ cursor₀ out to cursor =
     (length out ≡ length out₀)
     × (to ≤ lastOffset)
-    × ((r : ℕ) (u : List ℕ) → LaidOver to (fieldsText (shownFrom cursor page)) out r u → LaidOver at (fieldsText (shownFrom start page)) out₀ r u)
+    × ((r : ℕ) (u : List ℕ) → LaidOver to (fieldsText (shownFrom cursor page)) out r u →
+    LaidOver at (fieldsText (shownFrom start page)) out₀ r u)
 
 abbrev μ-loop : tie.MeasureT-loop
 μ-loop out₀ at page start to₀ cursor₀ out to cursor = length (shownFrom cursor page)
@@ -42,7 +43,8 @@ unfolding fieldsText
 returns c =
     let a = c .before .before .before .before .before .before .args in
     let l = c .before .before .before .loop in
-    let e = ap (λ (s : FieldStep). isNothing (s .field)) (sym (c .before .before .field-next .ensures .0)) ∙ sym (c .before .is-nothing .ensures) ∙ c .if1 .taken in
+    let e = ap (λ (s : FieldStep). isNothing (s .field)) (sym (c .before .before .field-next .ensures .0)) ∙
+    sym (c .before .is-nothing .ensures) ∙ c .if1 .taken in
     l .inv .2 _ _ (wrote-same (sym (ap fieldsText (step-none (l .cursor) (a .page .now) e))) (wrote-none (l .to) (l .out) (l .inv .1)))
 
 value-of-requires : tie.Need-value-of-requires Inv-loop μ-loop
@@ -53,10 +55,13 @@ put-field-requires c κs = search needs
 
 loop-less : tie.Need-loop-less Inv-loop μ-loop
 loop-less c =
-    let a = c .before .before .before .before .before .before .before .before .before .before .before .args in
-    let l = c .before .before .before .before .before .before .before .before .loop in
+    let b8 = c .before .before .before .before .before .before .before .before in
+    let a = b8 .before .before .before .args in
+    let l = b8 .loop in
     let s = c .before .before .before .before .before .before .before .field-next in
-    let e = ap (λ (x : FieldStep). isNothing (x .field)) (sym (s .ensures .0)) ∙ sym (c .before .before .before .before .before .before .is-nothing .ensures) ∙ c .before .before .before .before .before .if1 .left in
+    let e = ap (λ (x : FieldStep). isNothing (x .field)) (sym (s .ensures .0)) ∙
+    sym (c .before .before .before .before .before .before .is-nothing .ensures) ∙
+    c .before .before .before .before .before .if1 .left in
     rw (s .ensures .0) (step-less (l .cursor) (a .page .now) e)
 
 loop-again : tie.Need-loop-again Inv-loop μ-loop
@@ -64,9 +69,14 @@ loop-again c =
     let a = c .before .before .before .before .before .before .before .before .before .before .before .args in
     let l = c .before .before .before .before .before .before .before .before .loop in
     let s = c .before .before .before .before .before .before .before .field-next in
-    let n = sym (c .before .before .before .before .before .before .is-nothing .ensures) ∙ c .before .before .before .before .before .if1 .left in
-    let q = fields-step (l .cursor) (a .page .now) (s .result) _ (s .ensures .0) n (c .before .before .before .before .value-of .ensures .0) in
-    (search needs, omega (arith, c .before .before .put-field .ensures .cursor), λ r u p. l .inv .2 r u (wrote-same q (wrote-then (search needs) (c .before .before .put-field .ensures) p)))
+    let n = sym (c .before .before .before .before .before .before .is-nothing .ensures) ∙
+    c .before .before .before .before .before .if1 .left in
+    let q = fields-step (l .cursor) (a .page .now) (s .result) _ (s .ensures .0) n
+    (c .before .before .before .before .value-of .ensures .0) in (
+      search needs,
+      omega (arith, c .before .before .put-field .ensures .cursor),
+      λ r u p. l .inv .2 r u (wrote-same q (wrote-then (search needs) (c .before .before .put-field .ensures) p)),
+    )
 
 pub put-fields-spec : {M : Type 1} → statement M
 put-fields-spec =

@@ -30,7 +30,13 @@ same-length c = search needs
 
 returns : tie.Need-returns
 unfolding headText manifestText readAsText
-returns c = wrote-then (search needs) (wrote-then (search needs) (wrote-then (search needs) (wrote-then (search needs) (c .before .before .before .before .before .before .before .before .before .before .before .before .before .before .before .before .before .before .before .put .ensures) (c .before .before .before .before .before .before .before .before .before .before .before .before .before .before .before .put-decimal .ensures)) (c .before .before .before .before .before .before .before .before .before .before .put2 .ensures)) (c .before .before .before .before .before .before .put-decimal2 .ensures)) (c .before .before .put-end .ensures)
+returns c =
+    let b8 = c .before .before .before .before .before .before .before .before in
+    let b16 = b8 .before .before .before .before .before .before .before .before in
+    wrote-then (search needs) (wrote-then (search needs) (wrote-then (search needs)
+    (wrote-then (search needs) (b16 .before .before .before .put .ensures)
+    (b8 .before .before .before .before .before .before .before .put-decimal .ensures)) (b8 .before .before .put2 .ensures))
+    (c .before .before .before .before .before .before .put-decimal2 .ensures)) (c .before .before .put-end .ensures)
 
 pub put-head-spec : {M : Type 1} → statement M
 put-head-spec =

@@ -21,7 +21,10 @@ same-length c = search needs
 
 returns : tie.Need-returns
 unfolding platText platformText
-returns c = wrote-then (search needs) (wrote-then (search needs) (c .before .before .before .before .before .before .before .before .before .before .put .ensures) (c .before .before .before .before .before .before .put-pointer .ensures)) (c .before .before .put-end .ensures)
+returns c =
+    let b8 = c .before .before .before .before .before .before .before .before in
+    wrote-then (search needs) (wrote-then (search needs) (b8 .before .before .put .ensures)
+    (c .before .before .before .before .before .before .put-pointer .ensures)) (c .before .before .put-end .ensures)
 
 pub put-plat-spec : {M : Type 1} → statement M
 put-plat-spec =

@@ -16,7 +16,9 @@ same-length c = search needs
 
 returns : tie.Need-returns
 unfolding noneText
-returns c = let a = c .before .before .before .before .before .before .before .args in wrote-same (pointer-none (a .plat) (search needs)) (c .before .before .put .ensures)
+returns c =
+    let a = c .before .before .before .before .before .before .before .args in
+    wrote-same (pointer-none (a .plat) (search needs)) (c .before .before .put .ensures)
 
 put-hex-requires : tie.Need-put-hex-requires
 put-hex-requires c κs = search needs
@@ -25,7 +27,9 @@ same-length-2 : tie.Need-same-length-2
 same-length-2 c = search needs
 
 returns-2 : tie.Need-returns-2
-returns-2 c = let a = c .before .before .before .before .before .before .args in wrote-same (pointer-some (a .plat) (search needs)) (c .before .before .put-hex .ensures)
+returns-2 c =
+    let a = c .before .before .before .before .before .before .args in
+    wrote-same (pointer-some (a .plat) (search needs)) (c .before .before .put-hex .ensures)
 
 pub put-pointer-spec : {M : Type 1} → statement M
 put-pointer-spec =

@@ -21,7 +21,10 @@ same-length c = search needs
 
 returns : tie.Need-returns
 unfolding space sectionText
-returns c = wrote-then (search needs) (wrote-then (search needs) (c .before .before .before .before .before .before .before .before .before .before .before .put-title .ensures) (c .before .before .before .before .before .before .put .ensures)) (c .before .before .put-state .ensures)
+returns c =
+    let b8 = c .before .before .before .before .before .before .before .before in
+    wrote-then (search needs) (wrote-then (search needs) (b8 .before .before .before .put-title .ensures)
+    (c .before .before .before .before .before .before .put .ensures)) (c .before .before .put-state .ensures)
 
 pub put-section-spec : {M : Type 1} → statement M
 put-section-spec =

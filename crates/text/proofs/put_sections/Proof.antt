@@ -37,8 +37,11 @@ loop-again : tie.Need-loop-again Inv-loop μ-loop
 loop-again c =
     let a = c .before .before .before .before .before .before .before .before .before .args in
     let l = c .before .before .before .before .before .before .loop in
-    let e = section-seen (a .view) (a .page .now) (l .k) _ (c .before .before .before .before .section-of .ensures) in
-    (search needs, wrote-more (sectionText (seen (a .view) (a .page .now))) (l .k) (search needs) (l .inv .1) (wrote-same e (c .before .before .put-section .ensures)))
+    let e = section-seen (a .view) (a .page .now) (l .k) _ (c .before .before .before .before .section-of .ensures) in (
+      search needs,
+      wrote-more (sectionText (seen (a .view) (a .page .now))) (l .k) (search needs) (l .inv .1)
+          (wrote-same e (c .before .before .put-section .ensures)),
+    )
 
 same-length : tie.Need-same-length Inv-loop μ-loop
 same-length c = search needs

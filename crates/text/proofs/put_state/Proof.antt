@@ -22,13 +22,20 @@ same-length c = search needs
 
 returns : tie.Need-returns
 unfolding absentText newline
-returns c = let a = c .before .before .before .before .before .before .before .before .before .args in wrote-same (state-absent (a .minor) (a .k) (a .section) (a .page .now) (c .before .before .before .before .before .enum-told .given .1)) (c .before .before .put .ensures)
+returns c =
+    let b8 = c .before .before .before .before .before .before .before .before in
+    let a = b8 .before .args in
+    wrote-same (state-absent (a .minor) (a .k) (a .section) (a .page .now)
+    (c .before .before .before .before .before .enum-told .given .1)) (c .before .before .put .ensures)
 
 same-length-2 : tie.Need-same-length-2
 same-length-2 c = search needs
 
 returns-2 : tie.Need-returns-2
-returns-2 c = let a = c .before .before .before .before .before .before .before .args in wrote-same (count-other (a .minor) (a .k) (a .section) (a .page .now) (c .before .before .before .before .match .keys2)) (c .before .before .put-count .ensures)
+returns-2 c =
+    let a = c .before .before .before .before .before .before .before .args in
+    wrote-same (count-other (a .minor) (a .k) (a .section) (a .page .now) (c .before .before .before .before .match .keys2))
+    (c .before .before .put-count .ensures)
 
 pub put-state-spec : {M : Type 1} → statement M
 put-state-spec =

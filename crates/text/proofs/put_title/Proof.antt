@@ -36,21 +36,30 @@ same-length c = search needs
 
 returns : tie.Need-returns
 unfolding titleText
-returns c = let e : c .before .before .before .before .before .before .before .args .k ≡ 0 = c .before .before .before .before .before .match .keys1 in rw e (c .before .before .put .ensures)
+returns c =
+    let e : c .before .before .before .before .before .before .before .args .k ≡ 0 =
+    c .before .before .before .before .before .match .keys1 in
+    rw e (c .before .before .put .ensures)
 
 same-length-2 : tie.Need-same-length-2
 same-length-2 c = search needs
 
 returns-2 : tie.Need-returns-2
 unfolding titleText
-returns-2 c = let e : c .before .before .before .before .before .before .before .args .k ≡ 1 = c .before .before .before .before .before .match .keys2 in rw e (c .before .before .put2 .ensures)
+returns-2 c =
+    let e : c .before .before .before .before .before .before .before .args .k ≡ 1 =
+    c .before .before .before .before .before .match .keys2 in
+    rw e (c .before .before .put2 .ensures)
 
 same-length-3 : tie.Need-same-length-3
 same-length-3 c = search needs
 
 returns-3 : tie.Need-returns-3
 unfolding titleText
-returns-3 c = let e : c .before .before .before .before .before .before .before .args .k ≡ 2 = c .before .before .before .before .before .match .keys3 in rw e (c .before .before .put3 .ensures)
+returns-3 c =
+    let e : c .before .before .before .before .before .before .before .args .k ≡ 2 =
+    c .before .before .before .before .before .match .keys3 in
+    rw e (c .before .before .put3 .ensures)
 
 same-length-4 : tie.Need-same-length-4
 same-length-4 c = search needs

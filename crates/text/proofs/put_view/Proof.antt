@@ -31,7 +31,8 @@ returns c =
     wrote-same (seen-listed (a .view) (a .page .now))
     (wrote-then (search needs)
     (wrote-then (search needs)
-    (wrote-then (search needs) (f .before .before .before .before .before .before .before .put-head .ensures) (f .before .before .before .put-plat .ensures))
+    (wrote-then (search needs) (f .before .before .before .before .before .before .before .put-head .ensures)
+    (f .before .before .before .put-plat .ensures))
     (wrote-same (ap fieldsText (f .fields-start .ensures .1)) (c .before .before .before .before .before .before .put-fields .ensures)))
     (c .before .before .put-sections .ensures))
 

@@ -1,7 +1,7 @@
 use Prim.Native.Nat.{_-_, _≤_}
 use mathlib.Core.Path.{_≡_, refl, sym}
 use lib.ListN.{length, take, length-set}
-use Rattle.text_lines.specs.Text.{lay}
+use Rattle.text_lines.specs.Text.{layClipped}
 use Rattle.text_lines.proofs.Lay.{lay-none, lay-more, wrote-put}
 use borrow.Author.Needs.{needs}
 use native.Mathlib.Omega.{arith}
@@ -9,7 +9,7 @@ use Rattle.text_lines.proofs.put.Statement.{statement}
 use Rattle.text_lines.proofs.put.Tie as tie
 
 abbrev Inv-loop : tie.InvT-loop
-Inv-loop out₀ at text from n i₀ out i = (i ≤ n) × (length out ≡ length out₀) × (out ≡ lay at (take i text) out₀)
+Inv-loop out₀ at text from n i₀ out i = (i ≤ n) × (length out ≡ length out₀) × (out ≡ layClipped at (take i text) out₀)
 
 abbrev μ-loop : tie.MeasureT-loop
 μ-loop out₀ at text from n i₀ out i = n - i
@@ -44,11 +44,15 @@ loop-less c = search needs
 loop-again : tie.Need-loop-again Inv-loop μ-loop
 loop-again c =
     let a = c .before .before .before .before .before .before .before .args in
-    let l = c .before .before .loop in
-    (search needs, simp length-set (omega arith), rw (l .inv .2) (lay-more (a .at) (l .i) (a .text .now) (a .out .now) (omega arith) (omega arith)))
+    let l = c .before .before .loop in (
+      search needs,
+      simp length-set (omega arith),
+      rw (l .inv .2)
+          (lay-more (a .at) (l .i) (a .text .now) (a .out .now) (omega arith) (omega arith)),
+    )
 
-past-requires : tie.Need-past-requires Inv-loop μ-loop
-past-requires c κs = search needs
+saturating-add-requires : tie.Need-saturating-add-requires Inv-loop μ-loop
+saturating-add-requires c κs = search needs
 
 same-length : tie.Need-same-length Inv-loop μ-loop
 same-length c = search needs
@@ -59,7 +63,7 @@ returns c =
     let l = c .before .before .loop in
     let n = c .before .before .before .smaller2 in
     let e : l .i ≡ n .result = omega arith in
-    wrote-put (a .at) (n .result) _ (a .text .now) (a .out .now) (l .out) (omega arith) (c .past .ensures) (rw (← e) (l .inv .2))
+    wrote-put (a .at) (n .result) _ (a .text .now) (a .out .now) (l .out) (omega arith) (c .saturating-add .ensures) (rw (← e) (l .inv .2))
 
 pub put-spec : {M : Type 1} → statement M
 put-spec =
@@ -77,6 +81,6 @@ put-spec =
     add-i
     loop-less
     loop-again
-    past-requires
+    saturating-add-requires
     same-length
     returns)

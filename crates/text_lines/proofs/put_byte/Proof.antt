@@ -23,7 +23,9 @@ same-length c = search needs
 
 returns : tie.Need-returns
 unfolding byteText
-returns c = wrote-same (hex-put 2 _ _ _ (omega arith) (c .before .before .before .before .before .hex .ensures .1 .0) (c .before .before .before .before .before .hex .ensures .1 .1)) (c .before .before .put .ensures)
+returns c =
+    wrote-same (hex-put 2 _ _ _ (omega arith) (c .before .before .before .before .before .hex .ensures .1 .0)
+    (c .before .before .before .before .before .hex .ensures .1 .1)) (c .before .before .put .ensures)
 
 pub put-byte-spec : {M : Type 1} → statement M
 put-byte-spec =

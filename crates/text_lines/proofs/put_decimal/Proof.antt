@@ -20,7 +20,9 @@ same-length : tie.Need-same-length
 same-length c = search needs
 
 returns : tie.Need-returns
-returns c = wrote-same (decimal-put _ _ _ (c .before .before .before .before .before .decimal .ensures .1 .0) (c .before .before .before .before .before .decimal .ensures .1 .1)) (c .before .before .put .ensures)
+returns c =
+    wrote-same (decimal-put _ _ _ (c .before .before .before .before .before .decimal .ensures .1 .0)
+    (c .before .before .before .before .before .decimal .ensures .1 .1)) (c .before .before .put .ensures)
 
 pub put-decimal-spec : {M : Type 1} → statement M
 put-decimal-spec =

@@ -19,7 +19,9 @@ same-length c = search needs
 
 returns-2 : tie.Need-returns-2
 unfolding space
-returns-2 c = let a = c .before .before .before .before .before .before .before .args in wrote-same (gap-more (a .j) (search needs)) (c .before .before .put .ensures)
+returns-2 c =
+    let a = c .before .before .before .before .before .before .before .args in
+    wrote-same (gap-more (a .j) (search needs)) (c .before .before .put .ensures)
 
 pub put-gap-spec : {M : Type 1} → statement M
 put-gap-spec = tie.close (tie.spec returns slice-aggregate-put put-requires same-length returns-2)

@@ -29,7 +29,11 @@ same-length c = search needs
 
 returns : tie.Need-returns
 unfolding zeroX hexText
-returns c = wrote-then (search needs) (c .before .before .before .before .before .before .before .put .ensures) (wrote-same (hex-put 16 _ _ _ (omega arith) (c .before .before .before .before .before .before .before .before .before .before .hex .ensures .1 .0) (c .before .before .before .before .before .before .before .before .before .before .hex .ensures .1 .1)) (c .before .before .put2 .ensures))
+returns c =
+    let b8 = c .before .before .before .before .before .before .before .before in
+    wrote-then (search needs) (c .before .before .before .before .before .before .before .put .ensures)
+    (wrote-same (hex-put 16 _ _ _ (omega arith) (b8 .before .before .hex .ensures .1 .0) (b8 .before .before .hex .ensures .1 .1))
+    (c .before .before .put2 .ensures))
 
 pub put-hex-spec : {M : Type 1} → statement M
 put-hex-spec =

@@ -38,7 +38,8 @@ loop-again c =
     let l = c .before .before .before .before .before .loop in (
       search needs,
       name-rest (a .w) (l .i) (l .rest) (l .inv .1),
-      wrote-more (nameByte (a .w)) (l .i) (search needs) (l .inv .2) (wrote-same (name-byte (a .w) (l .i) (l .rest) (omega arith) (l .inv .1)) (c .before .before .put-byte .ensures)),
+      wrote-more (nameByte (a .w)) (l .i) (search needs) (l .inv .2)
+          (wrote-same (name-byte (a .w) (l .i) (l .rest) (omega arith) (l .inv .1)) (c .before .before .put-byte .ensures)),
     )
 
 same-length : tie.Need-same-length Inv-loop μ-loop

@@ -38,9 +38,14 @@ loop-less c = search needs
 loop-again : tie.Need-loop-again Inv-loop μ-loop
 unfolding valueByte gapText
 loop-again c =
-    let a = c .before .before .before .before .before .before .before .before .before .before .before .before .before .args in
-    let l = c .before .before .before .before .before .before .before .before .before .before .loop in
-    (search needs, wrote-more (valueByte (a .value .now)) (l .i) (search needs) (l .inv .1) (wrote-then (search needs) (c .before .before .before .before .before .before .before .put-gap .ensures) (c .before .before .put-byte .ensures)))
+    let b8 = c .before .before .before .before .before .before .before .before in
+    let a = b8 .before .before .before .before .before .args in
+    let l = b8 .before .before .loop in (
+      search needs,
+      wrote-more (valueByte (a .value .now)) (l .i) (search needs) (l .inv .1)
+          (wrote-then (search needs) (c .before .before .before .before .before .before .before .put-gap .ensures)
+          (c .before .before .put-byte .ensures)),
+    )
 
 same-length : tie.Need-same-length Inv-loop μ-loop
 same-length c = search needs

@@ -19,7 +19,8 @@ enum-told c = search needs
 returns : tie.Need-returns
 returns c =
     let a = c .before .before .before .before .args in
-    told-outside (a .state) (a .len) (a .busy) (a .pa) (a .size) (a .csize) _ (c .before .before .before .code-if .ensures) _ (c .before .before .page-gate .ensures) _ (c .enum-told .given .1)
+    told-outside (a .state) (a .len) (a .busy) (a .pa) (a .size) (a .csize) _ (c .before .before .before .code-if .ensures) _
+    (c .before .before .page-gate .ensures) _ (c .enum-told .given .1)
 
 is-listed-requires : tie.Need-is-listed-requires
 is-listed-requires c κs = search needs

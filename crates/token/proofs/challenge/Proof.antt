@@ -14,7 +14,8 @@ part-of-requires c κs = search needs
 returns : tie.Need-returns
 returns c =
     let a = c .before .before .before .args in
-    told-part (a .state) (a .page .now) (a .pa) (a .size) (a .csize) _ (c .before .challenge-place .ensures) (a .page .ptr) _ _ (c .part-of .ensures)
+    told-part (a .state) (a .page .now) (a .pa) (a .size) (a .csize) _ (c .before .challenge-place .ensures) (a .page .ptr) _ _
+    (c .part-of .ensures)
 
 pub challenge-spec : {M : Type 1} → statement M
 challenge-spec = tie.close (tie.spec challenge-place-requires part-of-requires returns)

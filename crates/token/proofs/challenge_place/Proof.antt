@@ -25,7 +25,8 @@ span-at-requires c κs = search needs
 returns-2 : tie.Need-returns-2
 returns-2 c =
     let a = c .before .before .before .before .before .before .args in
-    told-shown (a .state) (a .page .now) (a .pa) (a .size) (a .csize) _ (c .before .before .before .before .buffer-of .ensures) _ (c .before .before .gate .given .1) _ (c .span-at .ensures)
+    told-shown (a .state) (a .page .now) (a .pa) (a .size) (a .csize) _ (c .before .before .before .before .buffer-of .ensures) _
+    (c .before .before .gate .given .1) _ (c .span-at .ensures)
 
 pub challenge-place-spec : {M : Type 1} → statement M
 challenge-place-spec =

@@ -23,7 +23,14 @@ returns-4 c = rw (c .match .keys4)
 
 returns-5 : tie.Need-returns-5
 unfolding listed either
-returns-5 c = let a = c .before .args in simp (ne-eqb (a .csize) 0 (search needs), ne-eqb (a .csize) 32 (search needs), ne-eqb (a .csize) 48 (search needs), ne-eqb (a .csize) 64 (search needs))
+returns-5 c =
+    let a = c .before .args in
+    simp (
+      ne-eqb (a .csize) 0 (search needs),
+      ne-eqb (a .csize) 32 (search needs),
+      ne-eqb (a .csize) 48 (search needs),
+      ne-eqb (a .csize) 64 (search needs),
+    )
 
 pub is-listed-spec : {M : Type 1} → statement M
 is-listed-spec = tie.close (tie.spec returns returns-2 returns-3 returns-4 returns-5)

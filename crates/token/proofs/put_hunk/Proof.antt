@@ -39,7 +39,8 @@ unfolding part
 returns c =
     let a = c .before .before .before .before .before .before .before .args in
     let e : a .from + a .n - a .from ≡ a .n = omega arith in
-    rw (c .before .before .copy .ensures, e) (hunk-back (a .at) (a .from) (a .n) (a .token .now) (a .page .now) (search needs) (search needs))
+    rw (c .before .before .copy .ensures, e) (hunk-back (a .at) (a .from) (a .n) (a .token .now) (a .page .now) (search needs)
+    (search needs))
 
 pub put-hunk-spec : {M : Type 1} → statement M
 put-hunk-spec =

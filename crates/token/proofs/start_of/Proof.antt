@@ -10,7 +10,8 @@ use Rattle.token.proofs.start_of.Tie as tie
 returns : tie.Need-returns
 returns c =
     let a = c .before .before .args in
-    stops (startCode (a .session) (a .csize) (a .len)) (beginOf (a .session) (a .csize)) Unk (start-empty (a .session) (a .csize) (a .len) (search needs) (search needs)) refl
+    stops (startCode (a .session) (a .csize) (a .len)) (beginOf (a .session) (a .csize)) Unk
+    (start-empty (a .session) (a .csize) (a .len) (search needs) (search needs)) refl
 
 returns-2 : tie.Need-returns-2
 returns-2 c =
@@ -28,7 +29,8 @@ enum-told c = search needs
 returns-3 : tie.Need-returns-3
 returns-3 c =
     let a = c .before .before .before .args in
-    stops (startCode (a .session) (a .csize) (a .len)) (beginOf (a .session) (a .csize)) Inval (next-idle (a .session) (a .csize) (a .len) (search needs) (c .enum-told .given .1)) refl
+    stops (startCode (a .session) (a .csize) (a .len)) (beginOf (a .session) (a .csize)) Inval
+    (next-idle (a .session) (a .csize) (a .len) (search needs) (c .enum-told .given .1)) refl
 
 returns-4 : tie.Need-returns-4
 returns-4 c =

@@ -14,7 +14,8 @@ is-success-requires c κs = search needs
 returns : tie.Need-returns
 returns c =
     let a = c .before .before .before .args in
-    input-stops (a .asked) (a .n) _ (c .before .before .buffer-check .ensures) (sym (c .before .is-success .ensures) ∙ not-true _ (c .if1 .taken))
+    input-stops (a .asked) (a .n) _ (c .before .before .buffer-check .ensures)
+    (sym (c .before .is-success .ensures) ∙ not-true _ (c .if1 .taken))
 
 buffer-check-requires-2 : tie.Need-buffer-check-requires-2
 buffer-check-requires-2 c κs = search needs
@@ -22,7 +23,8 @@ buffer-check-requires-2 c κs = search needs
 returns-2 : tie.Need-returns-2
 returns-2 c =
     let a = c .before .before .before .before .args in
-    input-goes (a .asked) (a .n) _ _ (c .before .before .before .buffer-check .ensures) (sym (c .before .before .is-success .ensures) ∙ not-false _ (c .before .if1 .left)) (c .buffer-check2 .ensures)
+    input-goes (a .asked) (a .n) _ _ (c .before .before .before .buffer-check .ensures)
+    (sym (c .before .before .is-success .ensures) ∙ not-false _ (c .before .if1 .left)) (c .buffer-check2 .ensures)
 
 pub buffers-check-spec : {M : Type 1} → statement M
 buffers-check-spec =

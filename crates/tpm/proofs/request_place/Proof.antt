@@ -23,7 +23,11 @@ returns-2 : tie.Need-returns-2
 unfolding tpmRequestSpan hasRequest both isExecute noSpan
 returns-2 c =
     let a = c .before .before .before .before .before .args in
-    rw (eq-eqb (a .asked .operation) 1 (search needs), stopped _ _ _ (c .before .before .request-check .ensures) (c .before .is-success .ensures) (c .if2 .taken))
+    rw (
+      eq-eqb (a .asked .operation) 1 (search needs),
+      stopped _ _ _ (c .before .before .request-check .ensures)
+          (c .before .is-success .ensures) (c .if2 .taken),
+    )
 
 span-at-requires : tie.Need-span-at-requires
 span-at-requires c κs = search needs
@@ -32,7 +36,11 @@ returns-3 : tie.Need-returns-3
 unfolding tpmRequestSpan hasRequest both isExecute
 returns-3 c =
     let a = c .before .before .before .before .before .before .args in
-    rw (c .span-at .ensures, eq-eqb (a .asked .operation) 1 (search needs), passed _ _ _ (c .before .before .before .request-check .ensures) (c .before .before .is-success .ensures) (c .before .if2 .left))
+    rw (
+      c .span-at .ensures,
+      eq-eqb (a .asked .operation) 1 (search needs),
+      passed _ _ _ (c .before .before .before .request-check .ensures) (c .before .before .is-success .ensures) (c .before .if2 .left),
+    )
 
 pub request-place-spec : {M : Type 1} → statement M
 request-place-spec =

@@ -6,7 +6,8 @@ use Rattle.tpm_vectors.proofs.print_calls.Statement.{statement}
 use Rattle.tpm_vectors.proofs.print_calls.Tie as tie
 
 abbrev Inv-loop : tie.InvT-loop
-Inv-loop input memory₀ response₀ session₀ k₀ memory response session k = (k ≤ 900) × (length memory ≡ length memory₀) × (length response ≡ length response₀)
+Inv-loop input memory₀ response₀ session₀ k₀ memory response session k =
+    (k ≤ 900) × (length memory ≡ length memory₀) × (length response ≡ length response₀)
 
 abbrev μ-loop : tie.MeasureT-loop
 μ-loop input memory₀ response₀ session₀ k₀ memory response session k = 900 - k

@@ -28,13 +28,17 @@ loop-less : tie.Need-loop-less Inv-loop μ-loop
 loop-less c = search needs
 
 loop-again : tie.Need-loop-again Inv-loop μ-loop
-loop-again c = let a = c .before .before .args in let l = c .before .loop in (search needs, simp length-set (omega arith), rw (l .inv .2) (fill-more (l .i) 0 (a .s .now) (omega arith)))
+loop-again c =
+    let a = c .before .before .args in
+    let l = c .before .loop in (search needs, simp length-set (omega arith), rw (l .inv .2) (fill-more (l .i) 0 (a .s .now) (omega arith)))
 
 same-length : tie.Need-same-length Inv-loop μ-loop
 same-length c = search needs
 
 returns : tie.Need-returns Inv-loop μ-loop
-returns c = let a = c .before .before .args in let e : c .before .loop .i ≡ length (a .s .now) = omega arith in c .before .loop .inv .2 ∙ rw (e, drop-length, append-nil)
+returns c =
+    let a = c .before .before .args in
+    let e : c .before .loop .i ≡ length (a .s .now) = omega arith in c .before .loop .inv .2 ∙ rw (e, drop-length, append-nil)
 
 pub clear-spec : {M : Type 1} → statement M
 clear-spec =

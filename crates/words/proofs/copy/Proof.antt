@@ -8,8 +8,8 @@ use borrow.Author.Needs.{needs}
 use native.Mathlib.Omega.{arith}
 use Rattle.words.proofs.copy.Statement.{statement}
 use Rattle.words.proofs.copy.Tie as tie
-use Rattle.words.proofs.eight.Reads as eight-reads
-use Rattle.words.proofs.put_eight.Reads as put-eight-reads
+use Rattle.words.proofs.read_u64.Reads as read-u64-reads
+use Rattle.words.proofs.write_u64.Reads as write-u64-reads
 
 abbrev Inv-loop : tie.InvT-loop
 Inv-loop to₀ from whole k₀ to k = (k ≤ whole) × (length to ≡ length to₀) × (to ≡ bytesTo from (8 * k) to₀)
@@ -18,7 +18,8 @@ abbrev μ-loop : tie.MeasureT-loop
 μ-loop to₀ from whole k₀ to k = whole - k
 
 abbrev Inv-loop2 : tie.InvT-loop2
-Inv-loop2 to₀ from whole i₀ i-end to i = (i ≤ length from) × (length to ≡ length to₀) × ((s : List ℕ) → length s ≡ length to₀ → to₀ ≡ bytesTo from i₀ s → to ≡ bytesTo from i s)
+Inv-loop2 to₀ from whole i₀ i-end to i =
+    (i ≤ length from) × (length to ≡ length to₀) × ((s : List ℕ) → length s ≡ length to₀ → to₀ ≡ bytesTo from i₀ s → to ≡ bytesTo from i s)
 
 abbrev μ-loop2 : tie.MeasureT-loop2
 μ-loop2 to₀ from whole i₀ i-end to i = length from - i
@@ -29,17 +30,17 @@ returns c = let a = c .before .before .before .args in sym (bytes-out 0 (a .from
 loop-holds : tie.Need-loop-holds Inv-loop μ-loop Inv-loop2 μ-loop2
 loop-holds c = let a = c .before .before .before .args in (search needs, refl, bytes-none (a .from .now) (a .to .now))
 
-mul-put-eight : tie.Need-mul-put-eight Inv-loop μ-loop Inv-loop2 μ-loop2
-mul-put-eight c = search needs
+mul-write-u64 : tie.Need-mul-write-u64 Inv-loop μ-loop Inv-loop2 μ-loop2
+mul-write-u64 c = search needs
 
-mul-eight : tie.Need-mul-eight Inv-loop μ-loop Inv-loop2 μ-loop2
-mul-eight c = search needs
+mul-read-u64 : tie.Need-mul-read-u64 Inv-loop μ-loop Inv-loop2 μ-loop2
+mul-read-u64 c = search needs
 
-eight-requires : tie.Need-eight-requires Inv-loop μ-loop Inv-loop2 μ-loop2
-eight-requires c κs = search needs
+read-u64-requires : tie.Need-read-u64-requires Inv-loop μ-loop Inv-loop2 μ-loop2
+read-u64-requires c κs = search needs
 
-put-eight-requires : tie.Need-put-eight-requires Inv-loop μ-loop Inv-loop2 μ-loop2
-put-eight-requires c κs = search needs
+write-u64-requires : tie.Need-write-u64-requires Inv-loop μ-loop Inv-loop2 μ-loop2
+write-u64-requires c κs = search needs
 
 add-k : tie.Need-add-k Inv-loop μ-loop Inv-loop2 μ-loop2
 add-k c = search needs
@@ -53,7 +54,7 @@ loop-again c =
     let l = c .before .before .before .before .before .before .loop in
     let n : Bytes (a .from .now) = λ i. omega (arith, c .before .before .before .before .before .before .before .before .shared-slice-known .given i) in
     let e = word-more (a .from .now) (l .k) (a .to .now) n (omega arith) (omega arith) in
-    (search needs, search needs, c .before .before .put-eight .ensures ∙ rw (c .before .before .before .eight .ensures, l .inv .2) e)
+    (search needs, search needs, c .before .before .write-u64 .ensures ∙ rw (c .before .before .before .read-u64 .ensures, l .inv .2) e)
 
 mul-i : tie.Need-mul-i Inv-loop μ-loop Inv-loop2 μ-loop2
 mul-i c = search needs
@@ -105,10 +106,10 @@ copy-spec =
     μ-loop2
     returns
     loop-holds
-    mul-put-eight
-    mul-eight
-    eight-requires
-    put-eight-requires
+    mul-write-u64
+    mul-read-u64
+    read-u64-requires
+    write-u64-requires
     add-k
     loop-less
     loop-again

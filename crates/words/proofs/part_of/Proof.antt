@@ -58,7 +58,8 @@ returns-3 : tie.Need-returns-3
 unfolding spanned part spanStart onFrom
 returns-3 c =
     let a = c .before .before .before .args in
-    simp (le-leb (a .span .at + a .span .len) (length (a .s .now)) (omega arith), add-sub-cancel-left) (refl, ap (λ x. (a .s .ptr .0, x)) (omega arith))
+    simp (le-leb (a .span .at + a .span .len) (length (a .s .now)) (omega arith), add-sub-cancel-left)
+    (refl, ap (λ x. (a .s .ptr .0, x)) (omega arith))
 
 pub part-of-spec : {M : Type 1} → statement M
 part-of-spec =

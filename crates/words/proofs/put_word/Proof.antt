@@ -14,15 +14,17 @@ sub-if2 c = search needs
 returns-2 : tie.Need-returns-2
 returns-2 c = let a = c .before .before .before .args in sym (put-out 8 (a .at) (a .w) (a .s .now) (omega arith))
 
-put-eight-requires : tie.Need-put-eight-requires
-put-eight-requires c κs = search needs
+write-u64-requires : tie.Need-write-u64-requires
+write-u64-requires c κs = search needs
 
 same-length : tie.Need-same-length
 same-length c = search needs
 
 returns-3 : tie.Need-returns-3
-returns-3 c = let a = c .before .before .before .before .before .before .before .args in c .before .before .put-eight .ensures ∙ sym (put-in 8 (a .at) (a .w) (a .s .now) (omega arith))
+returns-3 c =
+    let a = c .before .before .before .before .before .before .before .args in
+    c .before .before .write-u64 .ensures ∙ sym (put-in 8 (a .at) (a .w) (a .s .now) (omega arith))
 
 pub put-word-spec : {M : Type 1} → statement M
 put-word-spec =
-    tie.close (tie.spec returns sub-if2 returns-2 put-eight-requires same-length returns-3)
+    tie.close (tie.spec returns sub-if2 returns-2 write-u64-requires same-length returns-3)

@@ -8,7 +8,8 @@ use Rattle.words.proofs.put_words.Statement.{statement}
 use Rattle.words.proofs.put_words.Tie as tie
 
 abbrev Inv-loop : tie.InvT-loop
-Inv-loop page₀ at words to₀ i₀ i-end page to i = (i ≤ length words) × (to ≡ at + 8 * i) × (length page ≡ length page₀) × (page ≡ wordsTo at words i page₀)
+Inv-loop page₀ at words to₀ i₀ i-end page to i =
+    (i ≤ length words) × (to ≡ at + 8 * i) × (length page ≡ length page₀) × (page ≡ wordsTo at words i page₀)
 
 abbrev μ-loop : tie.MeasureT-loop
 μ-loop page₀ at words to₀ i₀ i-end page to i = length words - i
@@ -23,16 +24,17 @@ returns-2 : tie.Need-returns-2 Inv-loop μ-loop
 returns-2 c = let a = c .before .before .before .before .args in sym (words-out (a .at) (a .words .now) (a .s .now) (omega arith))
 
 loop-holds : tie.Need-loop-holds Inv-loop μ-loop
-loop-holds c = let a = c .before .before .before .before .args in (search needs, search needs, refl, words-none (a .at) (a .words .now) (a .s .now))
+loop-holds c =
+    let a = c .before .before .before .before .args in (search needs, search needs, refl, words-none (a .at) (a .words .now) (a .s .now))
 
-mul-put-eight : tie.Need-mul-put-eight Inv-loop μ-loop
-mul-put-eight c = search needs
+mul-write-u64 : tie.Need-mul-write-u64 Inv-loop μ-loop
+mul-write-u64 c = search needs
 
-shared-slice-read-put-eight : tie.Need-shared-slice-read-put-eight Inv-loop μ-loop
-shared-slice-read-put-eight c = search needs
+shared-slice-read-write-u64 : tie.Need-shared-slice-read-write-u64 Inv-loop μ-loop
+shared-slice-read-write-u64 c = search needs
 
-put-eight-requires : tie.Need-put-eight-requires Inv-loop μ-loop
-put-eight-requires c κs = search needs
+write-u64-requires : tie.Need-write-u64-requires Inv-loop μ-loop
+write-u64-requires c κs = search needs
 
 add-to : tie.Need-add-to Inv-loop μ-loop
 add-to c = search needs
@@ -44,13 +46,24 @@ loop-less : tie.Need-loop-less Inv-loop μ-loop
 loop-less c = search needs
 
 loop-again : tie.Need-loop-again Inv-loop μ-loop
-loop-again c = let a = c .before .before .before .before .before .before .before .before .before .before .before .args in let l = c .before .before .before .before .before .before .loop in (search needs, search needs, search needs, c .before .before .put-eight .ensures ∙ rw (l .inv .3, l .inv .1) (words-more (a .at) (a .words .now) (l .i) (a .s .now) (omega arith) (omega arith)))
+loop-again c =
+    let b8 = c .before .before .before .before .before .before .before .before in
+    let a = b8 .before .before .before .args in
+    let l = c .before .before .before .before .before .before .loop in (
+      search needs,
+      search needs,
+      search needs,
+      c .before .before .write-u64 .ensures ∙
+          rw (l .inv .3, l .inv .1) (words-more (a .at) (a .words .now) (l .i) (a .s .now) (omega arith) (omega arith)),
+    )
 
 same-length : tie.Need-same-length Inv-loop μ-loop
 same-length c = search needs
 
 returns-3 : tie.Need-returns-3 Inv-loop μ-loop
-returns-3 c = let a = c .before .before .before .before .before .before .args in let l = c .before .loop in l .inv .3 ∙ words-all (a .at) (a .words .now) (a .s .now) (l .i) (omega arith) (omega arith)
+returns-3 c =
+    let a = c .before .before .before .before .before .before .args in
+    let l = c .before .loop in l .inv .3 ∙ words-all (a .at) (a .words .now) (a .s .now) (l .i) (omega arith) (omega arith)
 
 pub put-words-spec : {M : Type 1} → statement M
 put-words-spec =
@@ -62,9 +75,9 @@ put-words-spec =
     sub-if2
     returns-2
     loop-holds
-    mul-put-eight
-    shared-slice-read-put-eight
-    put-eight-requires
+    mul-write-u64
+    shared-slice-read-write-u64
+    write-u64-requires
     add-to
     add-i
     loop-less

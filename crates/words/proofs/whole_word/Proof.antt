@@ -22,14 +22,14 @@ returns-2 c =
     let a = c .before .before .before .args in
     simp (lt-leb (a .at + 8) (length (a .s .now)) (omega arith))
 
-eight-requires : tie.Need-eight-requires
-eight-requires c κs = search needs
+read-u64-requires : tie.Need-read-u64-requires
+read-u64-requires c κs = search needs
 
 returns-3 : tie.Need-returns-3
 unfolding wholeWord
 returns-3 c =
     let a = c .before .before .before .before .args in
-    simp (le-leb (a .at + 8) (length (a .s .now)) (omega arith), c .eight .ensures)
+    simp (le-leb (a .at + 8) (length (a .s .now)) (omega arith), c .read-u64 .ensures)
 
 pub whole-word-spec : {M : Type 1} → statement M
-whole-word-spec = tie.close (tie.spec returns sub-if2 returns-2 eight-requires returns-3)
+whole-word-spec = tie.close (tie.spec returns sub-if2 returns-2 read-u64-requires returns-3)

@@ -33,7 +33,8 @@ add-result c = search needs
 returns-2 : tie.Need-returns-2
 returns-2 c =
     let a = c .before .before .before .before .before .before .before .args in
-    pointer-some (a .base) (a .e .minor) _ _ (a .dram .now) (a .console .now) (a .ncoh .now) (a .coh .now) (a .fields .now) (search needs) (c .core-size .ensures .0) refl
+    pointer-some (a .base) (a .e .minor) _ _ (a .dram .now) (a .console .now) (a .ncoh .now) (a .coh .now) (a .fields .now) (search needs)
+    (c .core-size .ensures .0) refl
 
 pub plat-pointer-spec : {M : Type 1} → statement M
 plat-pointer-spec =

@@ -1,4 +1,4 @@
-use Rattle.lists.specs.Description.{four}
+use Rattle.writer_checks.specs.Description.{fourLists}
 use Rattle.writer.specs.Steps.{arraysOn}
 use borrow.Author.Needs.{needs}
 use Rattle.writer.proofs.put_arrays.Statement.{statement}
@@ -20,7 +20,7 @@ same-length : tie.Need-same-length
 same-length c = search needs
 
 returns : tie.Need-returns
-unfolding arraysOn four
+unfolding arraysOn fourLists
 returns c = (search needs, cc)
 
 pub put-arrays-spec : {M : Type 1} → statement M

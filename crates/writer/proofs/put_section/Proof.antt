@@ -15,7 +15,9 @@ sections-requires : tie.Need-sections-requires
 sections-requires c κs = search needs
 
 returns : tie.Need-returns
-returns c = let a = c .before .before .before .before .args in (refl, sym (section-out (a .e .minor) (a .k) (a .pointer) (a .words .now) (a .page .now) (omega arith)))
+returns c =
+    let a = c .before .before .before .before .args in
+    (refl, sym (section-out (a .e .minor) (a .k) (a .pointer) (a .words .now) (a .page .now) (omega arith)))
 
 section-words-requires : tie.Need-section-words-requires
 section-words-requires c κs = search needs
@@ -36,7 +38,10 @@ same-length : tie.Need-same-length
 same-length c = search needs
 
 returns-2 : tie.Need-returns-2
-returns-2 c = let a = c .before .before .before .before .before .before .before .before .before .before .args in (refl, cc (section-in (a .e .minor) (a .k) (a .pointer) (a .words .now) (a .page .now) (omega arith)))
+returns-2 c =
+    let b8 = c .before .before .before .before .before .before .before .before in
+    let a = b8 .before .before .args in
+    (refl, cc (section-in (a .e .minor) (a .k) (a .pointer) (a .words .now) (a .page .now) (omega arith)))
 
 pub put-section-spec : {M : Type 1} → statement M
 put-section-spec =

@@ -31,7 +31,9 @@ returns-2 c =
     let w = c .before .before .before .entry-words in
     let e : length (a .words .now) / w .result ≡ length (a .words .now) / wordsPerEntry (a .k) = rw (w .ensures .0) in
     desc-some (a .k) (a .pointer) _ _ (a .words .now) (c .before .before .before .before .if1 .left) e
-    (neg-law _ (a .pointer) _ _ _ _ _ (c .before .before .before .before .before .before .pre) (c .before .before .wrapping-add-u64 .ensures) (c .before .wrapping-add-u642 .ensures) (c .wrapping-sub-u64 .ensures) (search needs))
+    (neg-law _ (a .pointer) _ _ _ _ _ (c .before .before .before .before .before .before .pre)
+    (c .before .before .wrapping-add-u64 .ensures) (c .before .wrapping-add-u642 .ensures) (c .wrapping-sub-u64 .ensures)
+    (search needs))
 
 pub section-words-spec : {M : Type 1} → statement M
 section-words-spec =

@@ -26,8 +26,10 @@ returns : tie.Need-returns
 unfolding warmCode warmNext after
 returns c =
     let a = c .before .before .before .args in
-    let t = c .before .enum-told .given .1 in
-    (ap bootNumber (c .failed .ensures .1) ∙ sym (ap (λ s. warmCode s (a .x0)) t), c .failed .ensures .0 ∙ sym (ap (λ s. warmNext s (a .x0)) t))
+    let t = c .before .enum-told .given .1 in (
+      ap bootNumber (c .failed .ensures .1) ∙ sym (ap (λ s. warmCode s (a .x0)) t),
+      c .failed .ensures .0 ∙ sym (ap (λ s. warmNext s (a .x0)) t),
+    )
 
 returns-2 : tie.Need-returns-2
 unfolding warmCode warmNext after
@@ -40,8 +42,10 @@ returns-3 : tie.Need-returns-3
 unfolding warmCode warmNext after
 returns-3 c =
     let a = c .before .before .before .args in
-    let t = c .before .enum-told2 .given .1 in
-    (ap bootNumber (c .failed2 .ensures .1) ∙ sym (ap (λ s. warmCode s (a .x0)) t), c .failed2 .ensures .0 ∙ sym (ap (λ s. warmNext s (a .x0)) t))
+    let t = c .before .enum-told2 .given .1 in (
+      ap bootNumber (c .failed2 .ensures .1) ∙ sym (ap (λ s. warmCode s (a .x0)) t),
+      c .failed2 .ensures .0 ∙ sym (ap (λ s. warmNext s (a .x0)) t),
+    )
 
 pub warm-spec : {M : Type 1} → statement M
 warm-spec =

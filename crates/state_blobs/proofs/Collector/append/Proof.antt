@@ -32,7 +32,11 @@ returns : tie.Need-returns
 unfolding outcome pieceAppended
 returns c =
     let a = c .before .before .before .before .before .before .before .args in
-    rw (c .before .before .copy .ensures, c .before .before .before .before .bytes-held .ensures .0, lent-splice (a .self .held) (a .bytes .now) (a .buffer .now) (search needs))
+    rw (
+      c .before .before .copy .ensures,
+      c .before .before .before .before .bytes-held .ensures .0,
+      lent-splice (a .self .held) (a .bytes .now) (a .buffer .now) (search needs),
+    )
 
 pub append-spec : {M : Type 1} → statement M
 append-spec =

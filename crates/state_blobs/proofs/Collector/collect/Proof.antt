@@ -18,8 +18,10 @@ data-of-requires c κs = search needs
 
 offer-requires : tie.Need-offer-requires
 offer-requires c κs =
-    let a = c .before .before .before .before .before .before .before .before .args in
-    let f = collect-got (a .largest) (a .message .now) (a .self) (a .buffer .now) (sym (c .before .before .before .before .before .read-response .ensures) ∙ c .before .before .before .read .given .1) in
+    let b8 = c .before .before .before .before .before .before .before .before in
+    let a = b8 .args in
+    let f = collect-got (a .largest) (a .message .now) (a .self) (a .buffer .now)
+    (sym (c .before .before .before .before .before .read-response .ensures) ∙ c .before .before .before .read .given .1) in
     rw (c .before .data-of .ensures .0, length-drop) (omega arith)
 
 enum-known-read-2 : tie.Need-enum-known-read-2
@@ -30,15 +32,18 @@ same-length c = search needs
 
 returns : tie.Need-returns
 returns c =
-    let a = c .before .before .before .before .before .before .before .before .before .before .before .args in
-    let f = collect-got (a .largest) (a .message .now) (a .self) (a .buffer .now) (sym (c .before .before .before .before .before .before .before .before .read-response .ensures) ∙ c .before .before .before .before .before .before .read .given .1) in
+    let b8 = c .before .before .before .before .before .before .before .before in
+    let a = b8 .before .before .before .args in
+    let f = collect-got (a .largest) (a .message .now) (a .self) (a .buffer .now)
+    (sym (b8 .read-response .ensures) ∙ c .before .before .before .before .before .before .read .given .1) in
     rw (c .before .before .offer .ensures, c .before .before .before .before .data-of .ensures .0) (sym (f .0))
 
 returns-2 : tie.Need-returns-2
 unfolding outcome unchanged
 returns-2 c =
     let a = c .before .before .before .before .before .before .args in
-    sym (collect-rejected (a .largest) (a .message .now) (a .self) (a .buffer .now) (sym (c .before .before .before .read-response .ensures) ∙ c .before .read2 .given .1))
+    sym (collect-rejected (a .largest) (a .message .now) (a .self) (a .buffer .now)
+    (sym (c .before .before .before .read-response .ensures) ∙ c .before .read2 .given .1))
 
 pub collect-spec : {M : Type 1} → statement M
 collect-spec =

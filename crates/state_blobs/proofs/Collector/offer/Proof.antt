@@ -15,7 +15,8 @@ enum-told c = search needs
 append-requires : tie.Need-append-requires
 append-requires c κs =
     let a = c .before .before .before .before .before .before .args in
-    let f = decide-fits (a .self) (a .total) (length (a .bytes .now)) (length (a .buffer .now)) (sym (c .before .before .before .decide .ensures) ∙ c .before .enum-told .given .1) in
+    let f = decide-fits (a .self) (a .total) (length (a .bytes .now)) (length (a .buffer .now))
+    (sym (c .before .before .before .decide .ensures) ∙ c .before .enum-told .given .1) in
     (f .1, f .2)
 
 enum-known-verdict : tie.Need-enum-known-verdict
@@ -26,7 +27,9 @@ same-length c = search needs
 
 returns : tie.Need-returns
 unfolding settle offerBytes
-returns c = rw (sym (c .before .before .before .before .before .before .decide .ensures) ∙ c .before .before .before .before .enum-told .given .1) (c .before .before .append .ensures)
+returns c =
+    rw (sym (c .before .before .before .before .before .before .decide .ensures) ∙ c .before .before .before .before .enum-told .given .1)
+    (c .before .before .append .ensures)
 
 returns-2 : tie.Need-returns-2
 unfolding outcome unchanged settle offerBytes

@@ -20,7 +20,10 @@ returns-3 c = let a = c .before .before .args in (rw (section-count-first (a .se
 
 returns-4 : tie.Need-returns-4
 unfolding core
-returns-4 c = let a = c .before .before .args in let p = c .before .match .rest .0 .1 in let q = c .before .match .rest .1 in (rw (section-count-last (a .self .minor) (omega arith)), search needs)
+returns-4 c =
+    let a = c .before .before .args in
+    let p = c .before .match .rest .0 .1 in
+    let q = c .before .match .rest .1 in (rw (section-count-last (a .self .minor) (omega arith)), search needs)
 
 pub core-size-spec : {M : Type 1} → statement M
 core-size-spec = tie.close (tie.spec returns returns-2 returns-3 returns-4)
