@@ -220,3 +220,10 @@ module _ (g : Granules) (addr i before : ℕ) where
         record { base = getD g (1 + 2 * i) 0; size = getD g (2 + 2 * i) 0; before = before }
     unfolding bankAmong
     bank-hit y = rw (left-more g i h, sym e ∙ y)
+
+-- ---- an address that the bank passed does not hold
+pub found-on : (g : Granules) (b own : BankSpan) (addr : ℕ) (k : Granule) →
+    granuleIn b addr ≡ Nothing → own ≡ bankOf g addr → k ≡ granuleIn own addr →
+    _≡_ {A = Found} (record { granule = k; bank = own }) (foundFrom g b addr)
+unfolding foundFrom foundIn
+found-on g b own addr k n o e = rw (n, e, o)

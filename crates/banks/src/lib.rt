@@ -3,9 +3,12 @@
 use codes::Code;
 use entries::Bits;
 ghost use mathlib.Core.Path.{_≡_};
+ghost use mathlib.Core.Bool.{cond};
 ghost use Prim.Native.Nat.{_/_, _≤_};
+ghost use lib.IntN.{pos};
+ghost use Rattle.codes.specs.Codes.{minus, numberOf};
 ghost use Rattle.entries.specs.Entry.{bankOk};
-ghost use Rattle.banks.specs.Banks.{follows, granuleCount, holds, recordFrom, SetUp, setUpOf};
+ghost use Rattle.banks.specs.Banks.{follows, granuleCount, holds, recordFrom, takes, SetUp, setUpOf};
 ghost use Rattle.banks.specs.Fast.{noBank, granuleIn, bankOf, foundFrom, firstBank, hasOneBank};
 
 // The granule of an address: its index in the table, or nothing.
@@ -85,6 +88,7 @@ fn record_from(shown: &[u8], count: usize) -> [u64; 33]
 // leaves the record unchanged.
 pub fn set_up(shown: &[u8], n: u64, granules: &mut [u64; 33]) -> Code
     ensures { λ r. ⌜ _≡_ {A = SetUp} (record { code = r; granules = now (granules .exit) }) (setUpOf (now (shown .entry)) n (now (granules .entry))) ⌝ }
+    ensures { λ r. ⌜ numberOf r ≡ cond (takes (now (shown .entry)) n) (pos 0) (minus 5) ⌝ }
 {
     if shown.len() % 16 != 0 {
         return Code::Inval;

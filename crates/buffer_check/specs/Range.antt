@@ -1,12 +1,14 @@
 -- 01, Range check: the only place that compares a buffer with the page; and the checks that every command on the page starts with. Assumes
 -- nothing.
 use Prim.Native.Nat.{ℕ, _+_, _-_}
-use mathlib.Core.Bool.{Bool}
+use mathlib.Core.Bool.{Bool, cond, not}
 use lib.Dec.{leb, ltb, eqb}
+use lib.IntN.{ℤ}
 use Rattle.words.specs.Tests.{either}
 use Rattle.boot.specs.declared.Params.{Params}
 use Rattle.boot.specs.declared.Record.{Record}
-use Rattle.codes.specs.Codes.{isFalse, fails, bootParams, whenUp, andThen}
+use Rattle.boot.specs.declared.Record.the-variants.{Fresh, Up, Closed}
+use Rattle.codes.specs.Codes.{minus, numberOf, isOk, isFalse, fails, bootParams, whenUp, andThen}
 use Rattle.codes.specs.declared.Code.{Code}
 use Rattle.codes.specs.declared.Code.the-variants.{Ok, Unk, BadAddr, Inval}
 use Rattle.buffer_check.specs.declared.OutsideAs.{OutsideAs}
@@ -42,3 +44,21 @@ pageCode r len first out pa size =
     (fails (isFalse (eqb len 4096)) Unk
     (andThen first
     (rangeCode (bootParams r) out pa size)))
+
+-- ---- the same checks by 01's numbers: UNK -1, BAD_ADDR -2, INVAL -5
+-- the number of a buffer outside
+abbrev pub outsideNumber : OutsideAs → ℤ
+outsideNumber BadAddress = minus 2
+outsideNumber Invalid = minus 5
+
+-- the number of the first check that fails, in 01's order; `read_tail` if none does
+unfoldable pub pageNumber : Record → (len : ℕ) → (first : Code) → OutsideAs → (pa size : ℕ) → (rest : ℤ) → ℤ
+pageNumber Fresh len first out pa size rest = minus 1
+pageNumber Closed len first out pa size rest = minus 1
+pageNumber (Up u) len first out pa size rest =
+    cond (not (eqb len 4096)) (minus 1)
+    (cond (not (isOk first)) (numberOf first)
+    (cond (ltb pa (u .base + u .kept)) (outsideNumber out)
+    (cond (leb (u .base + 4096) pa) (outsideNumber out)
+    (cond (ltb (u .base + 4096 - pa) size) (minus 5)
+    rest))))

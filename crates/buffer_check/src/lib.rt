@@ -4,8 +4,9 @@ use boot::Record;
 use codes::Code;
 use codes::Gate;
 ghost use mathlib.Core.Path.{_≡_};
-ghost use Rattle.codes.specs.Codes.{bootParams, gated};
-ghost use Rattle.buffer_check.specs.Range.{outsideCode, rangeCode, placeOf, pageCode};
+ghost use lib.IntN.{pos};
+ghost use Rattle.codes.specs.Codes.{bootParams, gated, gateNumber};
+ghost use Rattle.buffer_check.specs.Range.{outsideCode, rangeCode, placeOf, pageCode, pageNumber};
 
 // The code that a command gives to a buffer outside the page: BAD_ADDR or INVAL.
 pub enum OutsideAs {
@@ -48,6 +49,7 @@ fn range_gate(params: Params, out: OutsideAs, pa: u64, size: u64) -> Gate
 // `first`, the buffer's range. Returns the buffer's offset in the page.
 pub fn page_gate(state: Record, len: usize, first: Code, out: OutsideAs, pa: u64, size: u64) -> Gate
     ensures { λ r. ⌜ r ≡ gated (pageCode state len first out pa size) (placeOf (bootParams state) pa) ⌝ }
+    ensures { λ r. ⌜ gateNumber r ≡ pageNumber state len first out pa size (pos 0) ⌝ }
 {
     if !codes::is_up(state) {
         return Gate::Stop(Code::Unk);

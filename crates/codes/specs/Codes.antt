@@ -3,7 +3,7 @@
 use Prim.Native.Nat.{ℕ, suc, _-_, _^_}
 use mathlib.Core.Bool.{Bool, true, false, cond}
 use lib.IntN.{ℤ, pos, negsuc}
-use Rattle.reader.specs.Answer.{minus}
+pub use Rattle.reader.specs.Answer.{minus}
 use Rattle.boot.specs.declared.Params.{Params}
 use Rattle.boot.specs.declared.Record.{Record}
 use Rattle.boot.specs.declared.Record.the-variants.{Fresh, Up, Closed}
@@ -81,3 +81,8 @@ andThen k next = ifOk k next k
 -- the result of checks with code k: stop with k, or go on with n if k is OK
 unfoldable pub gated : Code → ℕ → Gate
 gated k n = cond (isOk k) (Go n) (Stop k)
+
+-- the number of the code that a gate stops with; OK's 0 if it goes on
+abbrev pub gateNumber : Gate → ℤ
+gateNumber (Stop k) = numberOf k
+gateNumber (Go n) = pos 0

@@ -2,7 +2,9 @@
 use boot::Params;
 use boot::Record;
 ghost use mathlib.Core.Path.{_≡_};
-ghost use Rattle.codes.specs.Codes.{x0Of, answerOf, isOk, fails, isUp, bootParams};
+ghost use mathlib.Core.Bool.{cond};
+ghost use lib.IntN.{pos};
+ghost use Rattle.codes.specs.Codes.{numberOf, x0Of, answerOf, isOk, fails, isUp, bootParams};
 
 // The code of a runtime command.
 pub enum Code {
@@ -77,6 +79,7 @@ pub fn is_ok(code: Code) -> bool
 // Returns `code` if the test holds, otherwise OK.
 pub fn code_if(test: bool, code: Code) -> Code
     ensures { λ r. ⌜ r ≡ fails test code Code.Ok ⌝ }
+    ensures { λ r. ⌜ numberOf r ≡ cond test (numberOf code) (pos 0) ⌝ }
 {
     if test {
         return code;

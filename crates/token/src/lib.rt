@@ -12,8 +12,9 @@ ghost use Prim.Native.Nat.{_+_, _≤_};
 ghost use lib.ListN.{length};
 ghost use Rattle.words.specs.Word.{part, splice, spanned, onFrom};
 ghost use Rattle.buffer_check.specs.Range.{placeOf};
-ghost use Rattle.codes.specs.Codes.{bootParams, answerOf, gated};
-ghost use Rattle.token_rules.specs.Token.{listed, bufferCode, startCode, beginOf, tokenExit, sendOf, tokenOf, challengeOf, challengeSpan};
+ghost use Rattle.codes.specs.Codes.{numberOf, bootParams, answerOf, gated};
+ghost use Rattle.token_rules.specs.Token.{listed, bufferCode, startCode, beginOf, tokenExit, sendOf, tokenOf};
+ghost use Rattle.token_rules.specs.Token.{challengeOf, challengeSpan, challengeNumber};
 
 // Whether `csize` is 0, 32, 48 or 64.
 fn is_listed(csize: u64) -> bool
@@ -160,6 +161,7 @@ pub fn challenge_place(state: Record, page: &[u8], pa: u64, size: u64, csize: u6
 // Returns the code of the first check that fails for the challenge, or OK. With OK and `csize` 0 the call is no start.
 pub fn challenge_code(state: Record, page: &[u8], pa: u64, size: u64, csize: u64) -> Code
     ensures { λ r. ⌜ r ≡ bufferCode state (length (now (page .entry))) false pa size csize ⌝ }
+    ensures { λ r. ⌜ numberOf r ≡ challengeNumber state (length (now (page .entry))) pa size csize ⌝ }
 {
     let gate = buffer_of(state, page.len(), false, pa, size, csize);
     match gate {

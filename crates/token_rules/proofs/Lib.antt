@@ -3,3 +3,4 @@ pub mod Calls
 pub mod Acts
 pub mod Unread
 pub mod Reasons
+pub mod Numbers

@@ -1,16 +1,17 @@
 -- 0xC40001B3: platform token, and the lookup of its challenge. Assumes nothing.
 use Prim.Native.Nat.{ℕ, _+_, _-_, min}
-use mathlib.Core.Bool.{Bool, true, false, cond}
+use mathlib.Core.Bool.{Bool, true, false, cond, not}
 use mathlib.Core.List.{List, []}
 use lib.ListN.{length}
 use lib.Dec.{ltb, eqb}
+use lib.IntN.{ℤ, pos}
 use Rattle.words.specs.Tests.{both, either}
 use Rattle.words.specs.Word.{part, splice, noSpan, spanAt}
 use Rattle.words.specs.declared.Span.{Span}
 use Rattle.boot.specs.declared.Record.{Record}
-use Rattle.buffer_check.specs.Range.{placeOf, pageCode}
+use Rattle.buffer_check.specs.Range.{placeOf, pageCode, pageNumber}
 use Rattle.buffer_check.specs.declared.OutsideAs.the-variants.{BadAddress}
-use Rattle.codes.specs.Codes.{isFalse, fails, bootParams, ifOk, andThen, answerOf}
+use Rattle.codes.specs.Codes.{minus, isFalse, fails, bootParams, ifOk, andThen, answerOf}
 use Rattle.codes.specs.declared.Code.{Code}
 use Rattle.codes.specs.declared.Code.the-variants.{Ok, Unk, Inval, Again}
 use Rattle.codes.specs.declared.Answer.{Answer}
@@ -118,3 +119,12 @@ challengeOf r page pa size c = ifOk (bufferCode r (length page) false pa size c)
 -- the challenge's place in the page; offset 0 and length 0 if a check fails
 unfoldable pub challengeSpan : (state : Record) (page : List ℕ) (pa size csize : ℕ) → Span
 challengeSpan r page pa size c = ifOk (bufferCode r (length page) false pa size c) (spanAt (placeOf (bootParams r) pa) c) noSpan
+
+-- the number of the lookup's first check that fails, in 01's order, which leaves out the platform's; OK's 0 if none does. A c_size that is
+-- not 0, 32, 48 or 64, or above the buffer's size, is INVAL, -5.
+unfoldable pub challengeNumber : Record → (len pa size c : ℕ) → ℤ
+challengeNumber r len pa size c =
+    pageNumber r len Ok BadAddress pa size
+    (cond (not (listed c)) (minus 5)
+    (cond (ltb size c) (minus 5)
+    (pos 0)))

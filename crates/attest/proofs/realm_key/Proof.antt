@@ -19,23 +19,22 @@ put-key-requires : tie.Need-put-key-requires
 put-key-requires c κs =
     let a = c .before .before .before .before .before .before .before .args in
     told-room (a .state) (a .page .now) (a .key .now) (a .pa) (a .size) (a .curve) _
-    (c .before .before .before .before .page-gate .ensures) _ (c .before .before .gate2 .given .1)
+    (c .before .before .before .before .page-gate .ensures .0) _ (c .before .before .gate2 .given .1)
 
 returns : tie.Need-returns
 returns c =
     let a = c .before .before .before .before .before .before .before .args in
     told-stop (a .state) (a .page .now) (a .key .now) (a .pa) (a .size) (a .curve) _
-    (c .before .before .before .before .page-gate .ensures) _ (c .before .before .gate .given .1) _ (c .answer-with .ensures)
+    (c .before .before .before .before .page-gate .ensures .0) _ (c .before .before .gate .given .1) _ (c .answer-with .ensures)
 
 same-length : tie.Need-same-length
 same-length c = search needs
 
 returns-2 : tie.Need-returns-2
 returns-2 c =
-    let b8 = c .before .before .before .before .before .before .before .before in
-    let a = b8 .before .before .args in
+    let a = c .before .before .before .before .before .before .before .before .before .before .args in
     told-put (a .state) (a .page .now) (a .key .now) (a .pa) (a .size) (a .curve) _
-    (c .before .before .before .before .before .before .before .page-gate .ensures) _
+    (c .before .before .before .before .before .before .before .page-gate .ensures .0) _
     (c .before .before .before .before .before .gate2 .given .1) _ (c .before .before .put-key .ensures)
 
 pub realm-key-spec : {M : Type 1} → statement M

@@ -1,4 +1,6 @@
+use mathlib.Core.Path.{sym, _∙_}
 use Rattle.banks.specs.Fast.{foundIn, foundFrom}
+use Rattle.banks.proofs.Fast.{found-on}
 use borrow.Author.Needs.{needs}
 use Rattle.banks.proofs.find_from.Statement.{statement}
 use Rattle.banks.proofs.find_from.Tie as tie
@@ -23,14 +25,11 @@ granule-in-requires-2 : tie.Need-granule-in-requires-2
 granule-in-requires-2 c κs = search needs
 
 returns-2 : tie.Need-returns-2
-unfolding foundFrom foundIn
 returns-2 c =
-    rw (
-      ← c .before .before .before .before .granule-in .ensures,
-      c .before .before .enum-told .given .1,
-      c .granule-in2 .ensures,
-      c .before .bank-of .ensures,
-    )
+    let a = c .before .before .before .before .before .args in
+    found-on (a .granules .now) (a .bank) _ (a .address) _
+    (sym (c .before .before .before .before .granule-in .ensures) ∙ c .before .before .enum-told .given .1)
+    (c .before .bank-of .ensures) (search needs)
 
 pub find-from-spec : {M : Type 1} → statement M
 find-from-spec =

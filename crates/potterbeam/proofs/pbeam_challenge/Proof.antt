@@ -20,7 +20,7 @@ x0-requires c κs = search needs
 returns : tie.Need-returns
 returns c =
     rw (← c .before .before .before .before .record-of .ensures) (
-      rw (← c .before .challenge-code .ensures) (c .x0 .ensures),
+      rw (← c .before .challenge-code .ensures .0) (c .x0 .ensures),
       rw (← c .before .before .before .challenge-place .ensures .0)
           (c .before .before .span-words .ensures),
     )

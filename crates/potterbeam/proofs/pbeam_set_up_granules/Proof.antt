@@ -12,7 +12,7 @@ x0-requires c κs = search needs
 
 returns : tie.Need-returns
 unfolding setUpIn setUpLeft
-returns c = rw (c .x0 .ensures) (ap setUpLeft (c .before .set-up .ensures))
+returns c = rw (c .x0 .ensures) (ap setUpLeft (c .before .set-up .ensures .0))
 
 pub pbeam-set-up-granules-spec : {M : Type 1} → statement M
 pbeam-set-up-granules-spec = tie.close (tie.spec set-up-requires x0-requires returns)

@@ -23,8 +23,8 @@ returns : tie.Need-returns
 returns c =
     let a = c .before .before .before .before .before .args in
     gate-stop (a .state) (a .len) (opcodeOf (a .opcode)) (a .pa) (a .size) (a .curve) _
-    (c .before .before .before .before .is-other .ensures) _ (c .before .before .before .code-if .ensures) _
-    (c .before .before .page-gate .ensures) _ (c .enum-told .given .1)
+    (c .before .before .before .before .is-other .ensures) _ (c .before .before .before .code-if .ensures .0) _
+    (c .before .before .page-gate .ensures .0) _ (c .enum-told .given .1)
 
 bad-curve-requires : tie.Need-bad-curve-requires
 bad-curve-requires c κs = search needs
@@ -34,7 +34,8 @@ returns-2 c =
     let a = c .before .before .before .before .before .before .before .before .args in
     gate-curve (a .state) (a .len) (opcodeOf (a .opcode)) (a .pa) (a .size) (a .curve) _
     (c .before .before .before .before .before .before .before .is-other .ensures) _
-    (c .before .before .before .before .before .before .code-if .ensures) _ (c .before .before .before .before .before .page-gate .ensures)
+    (c .before .before .before .before .before .before .code-if .ensures .0) _
+    (c .before .before .before .before .before .page-gate .ensures .0)
     _ (c .before .before .before .gate .given .1) _ (c .before .bad-curve .ensures) (c .if1 .taken)
 
 boot-params-requires : tie.Need-boot-params-requires
@@ -45,8 +46,8 @@ returns-3 c =
     let a = c .before .before .before .before .before .before .before .before .before .before .before .args in
     gate-minor (a .state) (a .len) (opcodeOf (a .opcode)) (a .pa) (a .size) (a .curve) _
     (c .before .before .before .before .before .before .before .before .before .before .is-other .ensures) _
-    (c .before .before .before .before .before .before .before .before .before .code-if .ensures) _
-    (c .before .before .before .before .before .before .before .before .page-gate .ensures) _
+    (c .before .before .before .before .before .before .before .before .before .code-if .ensures .0) _
+    (c .before .before .before .before .before .before .before .before .page-gate .ensures .0) _
     (c .before .before .before .before .before .before .gate .given .1) _ (c .before .before .before .before .bad-curve .ensures)
     (c .before .before .before .if1 .left) _ (c .before .before .boot-params .ensures) (search needs)
 
@@ -55,8 +56,8 @@ returns-4 c =
     let a = c .before .before .before .before .before .before .before .before .before .before .before .args in
     gate-go (a .state) (a .len) (opcodeOf (a .opcode)) (a .pa) (a .size) (a .curve) _
     (c .before .before .before .before .before .before .before .before .before .before .is-other .ensures) _
-    (c .before .before .before .before .before .before .before .before .before .code-if .ensures) _
-    (c .before .before .before .before .before .before .before .before .page-gate .ensures) _
+    (c .before .before .before .before .before .before .before .before .before .code-if .ensures .0) _
+    (c .before .before .before .before .before .before .before .before .page-gate .ensures .0) _
     (c .before .before .before .before .before .before .gate .given .1) _ (c .before .before .before .before .bad-curve .ensures)
     (c .before .before .before .if1 .left) _ (c .before .before .boot-params .ensures) (search needs)
 

@@ -19,8 +19,8 @@ enum-told c = search needs
 returns : tie.Need-returns
 returns c =
     let a = c .before .before .before .before .args in
-    told-outside (a .state) (a .len) (a .busy) (a .pa) (a .size) (a .csize) _ (c .before .before .before .code-if .ensures) _
-    (c .before .before .page-gate .ensures) _ (c .enum-told .given .1)
+    told-outside (a .state) (a .len) (a .busy) (a .pa) (a .size) (a .csize) _
+    (c .before .before .before .code-if .ensures .0) _ (c .before .before .page-gate .ensures .0) _ (c .enum-told .given .1)
 
 is-listed-requires : tie.Need-is-listed-requires
 is-listed-requires c κs = search needs
@@ -29,23 +29,24 @@ returns-2 : tie.Need-returns-2
 returns-2 c =
     let a = c .before .before .before .before .before .before .before .args in
     told-unlisted (a .state) (a .len) (a .busy) (a .pa) (a .size) (a .csize) _
-    (c .before .before .before .before .before .before .code-if .ensures) _ (c .before .before .before .before .before .page-gate .ensures)
+    (c .before .before .before .before .before .before .code-if .ensures .0) _
+    (c .before .before .before .before .before .page-gate .ensures .0)
     _ (c .before .before .before .gate .given .1) _ (c .before .is-listed .ensures) (not-true _ (c .if1 .taken))
 
 returns-3 : tie.Need-returns-3
 returns-3 c =
     let a = c .before .before .before .before .before .before .before .before .args in
     told-small (a .state) (a .len) (a .busy) (a .pa) (a .size) (a .csize) _
-    (c .before .before .before .before .before .before .before .code-if .ensures) _
-    (c .before .before .before .before .before .before .page-gate .ensures) _ (c .before .before .before .before .gate .given .1) _
+    (c .before .before .before .before .before .before .before .code-if .ensures .0) _
+    (c .before .before .before .before .before .before .page-gate .ensures .0) _ (c .before .before .before .before .gate .given .1) _
     (c .before .before .is-listed .ensures) (not-false _ (c .before .if1 .left)) (search needs)
 
 returns-4 : tie.Need-returns-4
 returns-4 c =
     let a = c .before .before .before .before .before .before .before .before .args in
     told-buffer (a .state) (a .len) (a .busy) (a .pa) (a .size) (a .csize) _
-    (c .before .before .before .before .before .before .before .code-if .ensures) _
-    (c .before .before .before .before .before .before .page-gate .ensures) _ (c .before .before .before .before .gate .given .1) _
+    (c .before .before .before .before .before .before .before .code-if .ensures .0) _
+    (c .before .before .before .before .before .before .page-gate .ensures .0) _ (c .before .before .before .before .gate .given .1) _
     (c .before .before .is-listed .ensures) (not-false _ (c .before .if1 .left)) (search needs)
 
 pub buffer-of-spec : {M : Type 1} → statement M
