@@ -18,9 +18,7 @@ use Rattle.entries.proofs.Entries.{entries-same, sum-snoc}
 -- ---- one entry
 pub bank-acts : (b s : ℕ) → BankFacts b s → Yes (bankOk b s)
 unfolding bankOk
-bank-acts b s h =
-    both-of _ _ (eq-eqb (b % 4096) 0 (h .0)) (both-of _ _ (eq-eqb (s % 4096) 0 (h .1))
-    (both-of _ _ (lt-ltb 0 s (h .2)) (le-leb (b + s) (2 ^ 52) (h .3))))
+bank-acts b s h = both-of _ _ (eq-eqb (b % 4096) 0 (h .0)) (both-of _ _ (eq-eqb (s % 4096) 0 (h .1)) (both-of _ _ (lt-ltb 0 s (h .2)) (le-leb (b + s) (2 ^ 52) (h .3))))
 
 pub bank-only : (b s : ℕ) → Yes (bankOk b s) → BankFacts b s
 unfolding bankOk

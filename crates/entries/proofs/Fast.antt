@@ -105,8 +105,7 @@ bank-one base size span last f p q r s t =
     let b1 : base < 2 ^ 53 = ltb-true _ _ (both-l _ _ b) in
     let c1 : span < 2 ^ 52 = ltb-true _ _ (both-l _ _ c) in
     let c2 : last < 2 ^ 52 = ltb-true _ _ (both-r _ _ c) in
-    both-of _ _ (both-l _ _ a) (both-of _ _ (both-r _ _ a)
-    (both-of _ _ (lt-ltb 0 size (omega arith)) (le-leb (base + size) (2 ^ 52) (omega arith)))))
+    both-of _ _ (both-l _ _ a) (both-of _ _ (both-r _ _ a) (both-of _ _ (lt-ltb 0 size (omega arith)) (le-leb (base + size) (2 ^ 52) (omega arith)))))
     (λ h.
     let b = both-r _ _ h in
     let z : 0 < size = ltb-true _ _ (both-l _ _ (both-r _ _ b)) in
@@ -138,11 +137,9 @@ console-one w base pages span last f p q r s t =
 
 pub with-bank : (b : Bits) (base size span last : ℕ) → base < 2 ^ 64 → size < 2 ^ 64 → span < 2 ^ 64 → (span + 1) % 2 ^ 64 ≡ size →
     last ≡ (base + span) % 2 ^ 64 →
-    bankClear (record { low = bitOr (b .low) (bitOr base size); high = bitOr (b .high) (bitOr span last); flags = b .flags }) ≡ both
-    (bankClear b) (bankOk base size)
+    bankClear (record { low = bitOr (b .low) (bitOr base size); high = bitOr (b .high) (bitOr span last); flags = b .flags }) ≡ both (bankClear b) (bankOk base size)
 with-bank b base size span last p q r s t =
-    bank-more b (record { low = bitOr base size; high = bitOr span last; flags = 0 }) (b .flags) ∙
-    ap (both (bankClear b)) (bank-one base size span last 0 p q r s t)
+    bank-more b (record { low = bitOr base size; high = bitOr span last; flags = 0 }) (b .flags) ∙ ap (both (bankClear b)) (bank-one base size span last 0 p q r s t)
 
 pub with-console : (w : ℕ) (b : Bits) (base pages span last f : ℕ) → base < 2 ^ 64 → pages < 2 ^ 64 → span < 2 ^ 64 →
     (span + 1) % 2 ^ 64 ≡ pages → last ≡ (base / 4096 + span) % 2 ^ 64 →

@@ -22,8 +22,7 @@ never q = absurd (let z : ⊥ = omega arith in z)
 
 -- not cut short; not too long; not above the largest; not failed
 passed : (c t l z : Bool) (q p : StateResponse) →
-    cond c (rejected refusal.CutShort) (cond t (rejected refusal.TooLong)
-    (cond l (rejected refusal.AboveLargest) (cond z (got q) (rejected refusal.Failed)))) ≡ got p →
+    cond c (rejected refusal.CutShort) (cond t (rejected refusal.TooLong) (cond l (rejected refusal.AboveLargest) (cond z (got q) (rejected refusal.Failed)))) ≡ got p →
     (c ≡ false) × (t ≡ false) × (l ≡ false) × (z ≡ true) × (p ≡ q)
 passed true t l z q p h = never (cc)
 passed false true l z q p h = never (cc)

@@ -35,7 +35,7 @@ given k p (w ∷ ws) =
     pageSection c p (neg (c + p + sum (w ∷ ws))) (bytesOf (w ∷ ws))
 
 -- the checksum holds and is below 2^64
-neg-zero : (x : ℕ) → (x + neg x) % 2 ^ 64 ≡ 0
+pub neg-zero : (x : ℕ) → (x + neg x) % 2 ^ 64 ≡ 0
 unfolding neg
 neg-zero x = omega arith
 

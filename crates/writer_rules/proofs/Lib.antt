@@ -4,3 +4,4 @@ pub mod Demand
 pub mod Checks
 pub mod Makes
 pub mod Sample
+pub mod Laid

@@ -55,7 +55,7 @@ module _ (base v : ℕ) (d : Description) (g : Fit base v d) where
   unfolding used
   fits = let r = g .room in omega arith
 
-  ok : (k : ℕ) → k < 4 → Yes (listOk v k (d .lists k))
+  pub ok : (k : ℕ) → k < 4 → Yes (listOk v k (d .lists k))
   unfolding descriptionOk listsOk
   ok = every-at 4 (λ k. listOk v k (d .lists k)) (both-l _ _ (g .told))
 
@@ -121,7 +121,7 @@ module _ (base v : ℕ) (d : Description) (g : Fit base v d) where
       words-cons v _ (omega arith) (words-cons (platWord base v d) _ plat-word
       (words-joined (sectionCount v) (descriptorAt base v (d .lists)) descs-words))
 
-  core-length : 8 * length (coreWords base v d) ≡ core v
+  pub core-length : 8 * length (coreWords base v d) ≡ core v
   unfolding coreWords core
   core-length = let n = descs-length (sectionCount v) in omega arith
 
@@ -132,15 +132,15 @@ module _ (base v : ℕ) (d : Description) (g : Fit base v d) where
   page-words : Yes (areWords (pageWords base v d))
   page-words = words-append _ _ core-words (words-joined 4 (d .lists) wd)
 
-  bytes-length : length (bytesOf (pageWords base v d)) ≡ core v + 8 * length (joined 4 (d .lists))
+  pub bytes-length : length (bytesOf (pageWords base v d)) ≡ core v + 8 * length (joined 4 (d .lists))
   bytes-length = let n = core-length in rw (bytesOf-length, length-append) (omega arith)
 
-  page-length : length (pageOf base v d) ≡ 4096
+  pub page-length : length (pageOf base v d) ≡ 4096
   unfolding pageOf filled used
   page-length = let r = g .room in simp (length-append, length-replicate, bytes-length) (omega arith)
 
   -- the section that the reader finds is the one its list makes
-  field : (k : ℕ) → k < sectionCount v → (j : ℕ) → j < 3 →
+  pub field : (k : ℕ) → k < sectionCount v → (j : ℕ) → j < 3 →
       wordAt (16 + 8 * j + 24 * k) (pageOf base v d) ≡ getD (descriptorAt base v (d .lists) k) j 0
   unfolding pageOf filled coreWords descriptorAt
   field k h j m =
@@ -152,7 +152,7 @@ module _ (base v : ℕ) (d : Description) (g : Fit base v d) where
       )
       (joined-get (sectionCount v) (descriptorAt base v (d .lists)) _ k j h (rw desc-length m))
 
-  array : (k : ℕ) → k < 4 → part (arrayAddress base v (d .lists) k - base) (8 * length (d .lists k)) (pageOf base v d) ≡ bytesOf
+  pub array : (k : ℕ) → k < 4 → part (arrayAddress base v (d .lists) k - base) (8 * length (d .lists k)) (pageOf base v d) ≡ bytesOf
       (d .lists k)
   unfolding pageOf filled
   array k h =
@@ -172,13 +172,16 @@ module _ (base v : ℕ) (d : Description) (g : Fit base v d) where
       (sec-made base v k _ (d .lists k) (pageOf base v d) (ok k (one k h)) (g .positive) (place-low k) (place-end k (one k h))
       (array k (one k h)))
 
+  pub version-word : wordAt 0 (pageOf base v d) ≡ v
+  unfolding pageOf filled coreWords
+  version-word = rw (append-assoc, word-at 0 (pageWords base v d) _ page-words (omega arith))
+
   -- the same for the platform data
-  plat-pointer : wordAt 8 (pageOf base v d) ≡ platWord base v d
+  pub plat-pointer : wordAt 8 (pageOf base v d) ≡ platWord base v d
   unfolding pageOf filled coreWords
   plat-pointer = rw (append-assoc, word-at 1 (pageWords base v d) _ page-words (omega arith))
 
-  fields-at : drop (arrayAddress base v (d .lists) 4 - base) (pageOf base v d) ≡ withMark (d .fields) ++
-      replicate (4096 - length (bytesOf (pageWords base v d) ++ withMark (d .fields))) 0
+  pub fields-at : drop (arrayAddress base v (d .lists) 4 - base) (pageOf base v d) ≡ withMark (d .fields) ++ replicate (4096 - length (bytesOf (pageWords base v d) ++ withMark (d .fields))) 0
   unfolding pageOf filled platBytes arrayAddress
   fields-at =
       rw append-assoc (drop-at (bytesOf (pageWords base v d)) _ (arrayAddress base v (d .lists) 4 - base) (rw bytes-length (omega arith)))

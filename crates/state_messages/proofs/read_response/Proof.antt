@@ -36,11 +36,7 @@ unfolding readResponse responseRead
 returns-4 c =
     let a = c .before .before .before .before .before .before .before .args in
     let m = a .message .now in
-    simp (
-      le-ltb (length m) (16 + bigAt 4 12 m) (omega arith),
-      le-ltb (16 + bigAt 4 12 m) (length m) (omega arith),
-      lt-ltb (a .largest) (bigAt 4 12 m) (omega arith),
-    )
+    simp (le-ltb (length m) (16 + bigAt 4 12 m) (omega arith), le-ltb (16 + bigAt 4 12 m) (length m) (omega arith), lt-ltb (a .largest) (bigAt 4 12 m) (omega arith))
 
 number-at-requires-2 : tie.Need-number-at-requires-2
 number-at-requires-2 c κs = search needs
