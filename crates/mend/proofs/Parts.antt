@@ -163,8 +163,7 @@ gate-numbers false v c = refl
 pub mend-told : (base : ℕ) (page after : List ℕ) (a : Mended) → (a ≡ mendedOf base page) × (after ≡ mendedPage base page) →
     (a ≡ mendedOf base page) × ((after ≡ mendedPage base page) × (mendAnswer a ≡ mendOf base page))
 unfolding mendedOf mendOf mendChanges
-mend-told base page after a h =
-    (h .0, (h .1, ap mendAnswer (h .0) ∙ gate-numbers (placeOk base (length page)) (versionOk (versionAt page)) (mendChanges base page)))
+mend-told base page after a h = (h .0, (h .1, ap mendAnswer (h .0) ∙ gate-numbers (placeOk base (length page)) (versionOk (versionAt page)) (mendChanges base page)))
 
 module _ (base : ℕ) (page : List ℕ) where
   pub mend-place : placeOk base (length page) ≡ false → (Refused Place ≡ mendedOf base page) × (page ≡ mendedPage base page)
@@ -176,7 +175,6 @@ module _ (base : ℕ) (page : List ℕ) where
     unfolding mendedOf mendGate mendedPage both
     mend-version v = (rw (h, v), rw (h, v))
 
-    pub mend-done : versionOk (versionAt page) ≡ true → (Done (mendChanges base page) ≡ mendedOf base page) ×
-        (pageTo 6 base page ≡ mendedPage base page)
+    pub mend-done : versionOk (versionAt page) ≡ true → (Done (mendChanges base page) ≡ mendedOf base page) × (pageTo 6 base page ≡ mendedPage base page)
     unfolding mendedOf mendGate mendedPage both
     mend-done v = (rw (h, v), rw (h, v) (to-all base page))

@@ -206,8 +206,7 @@ abbrev codeIn : Mended → Refusal
 codeIn (Done c) = Rules
 codeIn (Refused c) = c
 
-gate-refused : (p v o : Bool) (a : ReaderAnswer) (x : Changes) (y z : List ℕ) (c : Refusal) → mendGate p v x ≡ Refused c →
-    (readerGate p v o a ≡ refused (refusalNumber c)) × (cond (both p v) y z ≡ z)
+gate-refused : (p v o : Bool) (a : ReaderAnswer) (x : Changes) (y z : List ℕ) (c : Refusal) → mendGate p v x ≡ Refused c → (readerGate p v o a ≡ refused (refusalNumber c)) × (cond (both p v) y z ≡ z)
 unfolding readerGate mendGate both
 gate-refused true true o a x y z c h = absurd (never-both true refl (ap isDone h))
 gate-refused true false o a x y z c h = (ap (λ r. refused (refusalNumber r)) (ap codeIn h), refl)

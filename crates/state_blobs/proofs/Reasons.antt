@@ -44,11 +44,5 @@ collector-gives c total n room =
             eq-eqb n 0 z,
             lt-ltb (c .held) total m,
           );
-      accepts =
-          λ s a b m. rw (
-            same (c .accepted) (c .total) total s,
-            le-ltb total (c .held + n) a,
-            le-ltb room (c .held + n) b,
-            some n (c .held) total m,
-          );
+      accepts = λ s a b m. rw (same (c .accepted) (c .total) total s, le-ltb total (c .held + n) a, le-ltb room (c .held + n) b, some n (c .held) total m);
     }

@@ -64,9 +64,7 @@ module _ (t : List ℕ) (i size : ℕ) where
     where
       go : Dec (length t ≤ i + size) → nextSession t i size ≡ sessionAt t (i + size)
       go (yes a) = rw (eq-eqb (length t - i - min size (length t - i)) 0 (omega arith), le-leb (length t) (i + size) a)
-      go (no a) =
-          rw (ne-eqb (length t - i - min size (length t - i)) 0 (omega arith), lt-leb (length t) (i + size) (omega arith))
-          (ap (Sending (length t)) (omega arith))
+      go (no a) = rw (ne-eqb (length t - i - min size (length t - i)) 0 (omega arith), lt-leb (length t) (i + size) (omega arith)) (ap (Sending (length t)) (omega arith))
 
   rest-next : restOf t i size ≡ length t - (i + size)
   unfolding restOf hunkOf
@@ -164,8 +162,7 @@ record Next (t : List ℕ) (size k : ℕ) (s : Session) (x : TokenCall) : Type 0
   shown : shownOf s x ≡ take size (drop k t)
   left : tokenStepOf s x .answer .x2 ≡ length t - (k + size)
 
-step-on : (t : List ℕ) (size : ℕ) (s : Session) (x : TokenCall) (k : ℕ) → tokenAccepted s x ≡ true → x .csize ≡ 0 → x .size ≡ size →
-    x .token ≡ t → s ≡ sessionAt t k → Next t size k s x
+step-on : (t : List ℕ) (size : ℕ) (s : Session) (x : TokenCall) (k : ℕ) → tokenAccepted s x ≡ true → x .csize ≡ 0 → x .size ≡ size → x .token ≡ t → s ≡ sessionAt t k → Next t size k s x
 step-on t size s x k h c z e o =
     let q = start-is s x h in
     let l : k < length t = is-open t k (λ i. false≢true (ap isOk (sym (next-idle s (x .csize) (length (x .token)) c (o ∙ i)) ∙ q))) in
@@ -267,8 +264,7 @@ module _ (s : Session) (x : TokenCall) (xs : List TokenCall) (n : x .csize ≡ 0
       let a = session-is s x h (rw b l) in
       let d = left-is s x h in
       rw (h, shown-is s x h, b)
-      (sent-more (x .token) (x .size) 0 _ _ _ _ (goes-on (x .token) (x .size) xs _ (0 + x .size) _ (rw b at d) (rw b at a)
-      (omega (arith, l)) f))
+      (sent-more (x .token) (x .size) 0 _ _ _ _ (goes-on (x .token) (x .size) xs _ (0 + x .size) _ (rw b at d) (rw b at a) (omega (arith, l)) f))
 
   -- "a token of L bytes takes exactly L / b calls, rounded up, refusals not counted", and the hunks joined are the token: for a start that
   -- is OK, in any session, and any calls after it of which those that are OK continue with its token and buffer

@@ -17,8 +17,7 @@ place-ok-requires c κs = search needs
 returns : tie.Need-returns
 returns c =
     let a = c .before .before .before .args in
-    mend-told (a .base) (a .page .now) _ _ (mend-place (a .base) (a .page .now)
-    (sym (c .before .place-ok .ensures) ∙ not-true _ (c .if1 .taken)))
+    mend-told (a .base) (a .page .now) _ _ (mend-place (a .base) (a .page .now) (sym (c .before .place-ok .ensures) ∙ not-true _ (c .if1 .taken)))
 
 version-at-requires : tie.Need-version-at-requires
 version-at-requires c κs = search needs
@@ -48,12 +47,8 @@ mend-parts-requires : tie.Need-mend-parts-requires
 mend-parts-requires c κs =
     let b8 = c .before .before .before .before .before .before .before .before in
     let a = b8 .before .before .args in
-    let p : placeOk (a .base) (length (a .page .now)) ≡ true = sym (b8 .place-ok .ensures) ∙
-    not-false _ (c .before .before .before .before .before .before .before .if1 .left) in (
-      p,
-      c .before .before .minor .ensures .0 ∙ rw (c .before .before .before .before .before .version-at .ensures),
-      c .before .edition-read .ensures,
-    )
+    let p : placeOk (a .base) (length (a .page .now)) ≡ true = sym (b8 .place-ok .ensures) ∙ not-false _ (c .before .before .before .before .before .before .before .if1 .left) in
+    (p, c .before .before .minor .ensures .0 ∙ rw (c .before .before .before .before .before .version-at .ensures), c .before .edition-read .ensures)
 
 same-length-2 : tie.Need-same-length-2
 same-length-2 c = search needs
@@ -68,10 +63,7 @@ returns-3 c =
     (sym (c .before .before .before .before .before .before .before .is-accepted .ensures) ∙
     not-false _ (c .before .before .before .before .before .before .if2 .left)) in
     let d = mend-done (a .base) (a .page .now) p v in
-    mend-told (a .base) (a .page .now) _ _ (
-      ap {B = Mended} Done (c .before .before .mend-parts .ensures .0) ∙ d .0,
-      c .before .before .mend-parts .ensures .1 ∙ d .1,
-    )
+    mend-told (a .base) (a .page .now) _ _ (ap {B = Mended} Done (c .before .before .mend-parts .ensures .0) ∙ d .0, c .before .before .mend-parts .ensures .1 ∙ d .1)
 
 pub mend-spec : {M : Type 1} → statement M
 mend-spec =
