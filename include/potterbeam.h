@@ -19,8 +19,11 @@
  * - The first check that fails decides the answer. The checks are listed below in their order.
  * - A refused runtime command returns its code in x0 and 0 in x1 and x2, and leaves page, table, words, session and queue unchanged, for any
  *   contents. A refused list of granules differs: x1 is the number of granules changed, and these stay changed.
- * - size_t has 64 bits: the archives are for x86-64 and AArch64 (LP64). On a 32-bit target the prototypes would not match the
- *   library, and PBEAM_CONSOLE_NONE would not fit a size_t.
+ * - size_t has 64 bits, which the header asserts: the archives are for x86-64 and AArch64 (LP64). On a 32-bit target the prototypes would
+ *   not match the library, and PBEAM_CONSOLE_NONE would not fit a size_t.
+ * - GCC and Clang warn of a NULL for an image, and of a result that is not used where nothing else tells the caller whether the call wrote
+ *   anything (PBEAM_MUST_CHECK). GCC warns if memory that a call writes is passed for another argument, too (-Wrestrict, in -Wall).
+ * - Header and archive have the same version, or the program does not link: see potterbeam_common.h.
  * - "Stack" is the most that a call was seen to write on x86-64, accepted or refused, rounded up to a multiple of 32, with its return
  *   address and the words that its caller passes on the stack. It is measured (rust/tests/stack.rs), not proved. All fit in 1 KiB.
  * - The figure after "AArch64" is static, rounded in the same way: the frames of the function and of all functions that it calls, in the
@@ -74,17 +77,7 @@
 #include <stddef.h>
 #include <stdint.h>
 
-/* Version of the kit. */
-#define PBEAM_VERSION_MAJOR 0
-#define PBEAM_VERSION_MINOR 3
-#define PBEAM_VERSION_PATCH 0
-
-/* The numbers of the arguments that must not be NULL, for compilers that can warn. */
-#if defined(__GNUC__) || defined(__clang__)
-#define PBEAM_NONNULL(...) __attribute__((nonnull(__VA_ARGS__)))
-#else
-#define PBEAM_NONNULL(...)
-#endif
+#include "potterbeam_common.h"
 
 /* ---- Function ids: x0 of a call, compared as 64 bits; each with 002's name ---- */
 
@@ -416,8 +409,9 @@ extern "C" {
  * Stack    256 bytes; AArch64 256
  * A later minor is never refused. Sections after e and bytes after the end mark are not read. Fields belong to every edition.
  */
-PBEAM_NONNULL(5)
-int32_t pbeam_read(const uint8_t *page, size_t page_len, uint64_t base, uint64_t edition, uint64_t view[PBEAM_VIEW_WORDS]);
+PBEAM_MUST_CHECK PBEAM_NONNULL(5)
+int32_t pbeam_read(const uint8_t *page, size_t page_len, uint64_t base, uint64_t edition,
+                   uint64_t view[PBEAM_RESTRICT_WORDS PBEAM_VIEW_WORDS]);
 
 /*
  * pbeam_array: reads a page and finds the array of one section.
@@ -429,7 +423,7 @@ int32_t pbeam_read(const uint8_t *page, size_t page_len, uint64_t base, uint64_t
  */
 PBEAM_NONNULL(6)
 void pbeam_array(const uint8_t *page, size_t page_len, uint64_t base, uint64_t edition, size_t section,
-                 uint64_t place[PBEAM_PLACE_WORDS]);
+                 uint64_t place[PBEAM_RESTRICT_WORDS PBEAM_PLACE_WORDS]);
 
 /*
  * pbeam_array_of: finds the array of one section with a view.
@@ -442,7 +436,7 @@ void pbeam_array(const uint8_t *page, size_t page_len, uint64_t base, uint64_t e
  */
 PBEAM_NONNULL(3, 5)
 void pbeam_array_of(const uint8_t *page, size_t page_len, const uint64_t view[PBEAM_VIEW_WORDS], size_t section,
-                    uint64_t place[PBEAM_PLACE_WORDS]);
+                    uint64_t place[PBEAM_RESTRICT_WORDS PBEAM_PLACE_WORDS]);
 
 /*
  * pbeam_count: the number of entries in a section.
@@ -499,7 +493,7 @@ size_t pbeam_field_count(const uint8_t *page, size_t page_len, const uint64_t vi
  */
 PBEAM_NONNULL(3, 5)
 void pbeam_field(const uint8_t *page, size_t page_len, const uint64_t view[PBEAM_VIEW_WORDS], size_t index,
-                 uint64_t field[PBEAM_FIELD_WORDS]);
+                 uint64_t field[PBEAM_RESTRICT_WORDS PBEAM_FIELD_WORDS]);
 
 /*
  * pbeam_field_of_tag: finds the first field with a tag, for example the board name (PBEAM_TAG_NAME) or the serial (PBEAM_TAG_SERIAL).
@@ -510,7 +504,7 @@ void pbeam_field(const uint8_t *page, size_t page_len, const uint64_t view[PBEAM
  */
 PBEAM_NONNULL(3, 5)
 void pbeam_field_of_tag(const uint8_t *page, size_t page_len, const uint64_t view[PBEAM_VIEW_WORDS], uint8_t tag,
-                        uint64_t field[PBEAM_FIELD_WORDS]);
+                        uint64_t field[PBEAM_RESTRICT_WORDS PBEAM_FIELD_WORDS]);
 
 /*
  * pbeam_field_start: the cursor at the first field, for pbeam_field_next.
@@ -546,8 +540,8 @@ size_t pbeam_field_start(const uint8_t *page, size_t page_len, const uint64_t vi
  * may be returned as a tag or a length, and tags 1 to 3 may appear with any length and more than once. Pass a cursor only to this function:
  * it is not the offset of a value.
  */
-PBEAM_NONNULL(4)
-size_t pbeam_field_next(const uint8_t *page, size_t page_len, size_t cursor, uint64_t field[PBEAM_FIELD_WORDS]);
+PBEAM_MUST_CHECK PBEAM_NONNULL(4)
+size_t pbeam_field_next(const uint8_t *page, size_t page_len, size_t cursor, uint64_t field[PBEAM_RESTRICT_WORDS PBEAM_FIELD_WORDS]);
 
 /*
  * pbeam_kept_for: the number of bytes at the page's start that the manifest takes. Pass it to pbeam_cold_boot as kept bytes, and no
@@ -581,7 +575,8 @@ uint64_t pbeam_kept_for(const uint8_t *page, size_t page_len, const uint64_t vie
  * console are 0 on a page of minor 5 or above, as for pbeam_word. No byte of the page is copied to the text, so it is safe
  * to print.
  */
-size_t pbeam_listing(const uint8_t *page, size_t page_len, uint64_t base, uint64_t edition, uint8_t *text, size_t text_len);
+PBEAM_MUST_CHECK
+size_t pbeam_listing(const uint8_t *page, size_t page_len, uint64_t base, uint64_t edition, uint8_t *PBEAM_RESTRICT text, size_t text_len);
 
 /*
  * pbeam_write: writes a manifest page.
@@ -601,9 +596,10 @@ size_t pbeam_listing(const uint8_t *page, size_t page_len, uint64_t base, uint64
  *          of 24 zero bytes. Refused, the page is unchanged. Lists and fields are unchanged.
  * Stack    448 bytes; AArch64 640
  */
-uint32_t pbeam_write(uint64_t base, uint64_t edition, const uint64_t *dram, size_t dram_len, const uint64_t *console,
-                     size_t console_len, const uint64_t *ncoh, size_t ncoh_len, const uint64_t *coh, size_t coh_len,
-                     const uint8_t *fields, size_t fields_len, uint8_t *page, size_t page_len);
+PBEAM_MUST_CHECK
+uint32_t pbeam_write(uint64_t base, uint64_t edition, const uint64_t *dram, size_t dram_len, const uint64_t *console, size_t console_len,
+                     const uint64_t *ncoh, size_t ncoh_len, const uint64_t *coh, size_t coh_len, const uint8_t *fields, size_t fields_len,
+                     uint8_t *PBEAM_RESTRICT page, size_t page_len);
 
 /* ---- Boot ---- */
 
@@ -624,9 +620,9 @@ uint32_t pbeam_write(uint64_t base, uint64_t edition, const uint64_t *dram, size
  * The boot keeps no view. With K = 0 call pbeam_read before a command writes into the page. K need not cover the manifest; with K =
  * 4,096 every buffer is outside.
  */
-PBEAM_NONNULL(1)
-int32_t pbeam_cold_boot(uint64_t state[PBEAM_STATE_WORDS], uint64_t x0, uint64_t x1, uint64_t x2, uint64_t x3, uint64_t max_cpus, uint64_t kept,
-                        const uint8_t *page, size_t page_len);
+PBEAM_MUST_CHECK PBEAM_NONNULL(1)
+int32_t pbeam_cold_boot(uint64_t state[PBEAM_RESTRICT_WORDS PBEAM_STATE_WORDS], uint64_t x0, uint64_t x1, uint64_t x2, uint64_t x3,
+                        uint64_t max_cpus, uint64_t kept, const uint8_t *page, size_t page_len);
 
 /*
  * pbeam_warm_boot: a CPU's boot after the cold boot.
@@ -637,7 +633,7 @@ int32_t pbeam_cold_boot(uint64_t state[PBEAM_STATE_WORDS], uint64_t x0, uint64_t
  * Leaves   state: up and unchanged; refused: closed, permanently. A CPU may warm boot twice.
  * Stack    32 bytes; AArch64 32
  */
-PBEAM_NONNULL(1)
+PBEAM_MUST_CHECK PBEAM_NONNULL(1)
 int32_t pbeam_warm_boot(uint64_t state[PBEAM_STATE_WORDS], uint64_t x0, uint64_t x1, uint64_t x2, uint64_t x3);
 
 /*
@@ -688,8 +684,9 @@ bool pbeam_is_later(uint64_t a, uint64_t b);
  * It needs no boot record and keeps no pointer: the page may be overwritten afterwards. The reader accepts more than this: banks in any order,
  * overlapping ones, up to 249. Such a board has no record, and its commands answer PBEAM_X0_BAD_ADDR.
  */
-PBEAM_NONNULL(1)
-uint64_t pbeam_set_up_granules(uint64_t granules[PBEAM_GRANULES_WORDS], const uint8_t *banks, size_t banks_len, uint64_t table_len);
+PBEAM_MUST_CHECK PBEAM_NONNULL(1)
+uint64_t pbeam_set_up_granules(uint64_t granules[PBEAM_RESTRICT_WORDS PBEAM_GRANULES_WORDS], const uint8_t *banks, size_t banks_len,
+                               uint64_t table_len);
 
 /*
  * pbeam_delegate (0xC40001B0): changes a granule from Non-secure to Realm.
@@ -706,8 +703,9 @@ uint64_t pbeam_set_up_granules(uint64_t granules[PBEAM_GRANULES_WORDS], const ui
  * The library updates table and words. Changing the hardware after an OK is up to the platform.
  */
 PBEAM_NONNULL(1, 2, 8)
-void pbeam_delegate(const uint64_t state[PBEAM_STATE_WORDS], const uint64_t granules[PBEAM_GRANULES_WORDS], uint8_t *table,
-                    size_t table_len, uint64_t *words, size_t words_len, uint64_t address, uint64_t out[PBEAM_OUT_WORDS]);
+void pbeam_delegate(const uint64_t state[PBEAM_STATE_WORDS], const uint64_t granules[PBEAM_GRANULES_WORDS], uint8_t *PBEAM_RESTRICT table,
+                    size_t table_len, uint64_t *PBEAM_RESTRICT words, size_t words_len, uint64_t address,
+                    uint64_t out[PBEAM_RESTRICT_WORDS PBEAM_OUT_WORDS]);
 
 /*
  * pbeam_undelegate (0xC40001B1): changes a granule from Realm to Non-secure.
@@ -716,8 +714,9 @@ void pbeam_delegate(const uint64_t state[PBEAM_STATE_WORDS], const uint64_t gran
  * Stack    192 bytes; AArch64 96
  */
 PBEAM_NONNULL(1, 2, 8)
-void pbeam_undelegate(const uint64_t state[PBEAM_STATE_WORDS], const uint64_t granules[PBEAM_GRANULES_WORDS], uint8_t *table,
-                      size_t table_len, uint64_t *words, size_t words_len, uint64_t address, uint64_t out[PBEAM_OUT_WORDS]);
+void pbeam_undelegate(const uint64_t state[PBEAM_STATE_WORDS], const uint64_t granules[PBEAM_GRANULES_WORDS], uint8_t *PBEAM_RESTRICT table,
+                      size_t table_len, uint64_t *PBEAM_RESTRICT words, size_t words_len, uint64_t address,
+                      uint64_t out[PBEAM_RESTRICT_WORDS PBEAM_OUT_WORDS]);
 
 /*
  * pbeam_delegate_list: changes the granules at a list of addresses from Non-secure to Realm, one after another, up to the first
@@ -732,18 +731,18 @@ void pbeam_undelegate(const uint64_t state[PBEAM_STATE_WORDS], const uint64_t gr
  * The library updates table and words. Changing the hardware for the first x1 addresses, also after a refusal, is up to the platform.
  */
 PBEAM_NONNULL(1, 2, 9)
-void pbeam_delegate_list(const uint64_t state[PBEAM_STATE_WORDS], const uint64_t granules[PBEAM_GRANULES_WORDS], uint8_t *table,
-                         size_t table_len, uint64_t *words, size_t words_len, const uint64_t *addresses, size_t addresses_len,
-                         uint64_t out[PBEAM_OUT_WORDS]);
+void pbeam_delegate_list(const uint64_t state[PBEAM_STATE_WORDS], const uint64_t granules[PBEAM_GRANULES_WORDS],
+                         uint8_t *PBEAM_RESTRICT table, size_t table_len, uint64_t *PBEAM_RESTRICT words, size_t words_len,
+                         const uint64_t *addresses, size_t addresses_len, uint64_t out[PBEAM_RESTRICT_WORDS PBEAM_OUT_WORDS]);
 
 /*
  * pbeam_undelegate_list: the same from Realm to Non-secure, each address as pbeam_undelegate takes it.
  * Stack    256 bytes; AArch64 192
  */
 PBEAM_NONNULL(1, 2, 9)
-void pbeam_undelegate_list(const uint64_t state[PBEAM_STATE_WORDS], const uint64_t granules[PBEAM_GRANULES_WORDS], uint8_t *table,
-                           size_t table_len, uint64_t *words, size_t words_len, const uint64_t *addresses, size_t addresses_len,
-                           uint64_t out[PBEAM_OUT_WORDS]);
+void pbeam_undelegate_list(const uint64_t state[PBEAM_STATE_WORDS], const uint64_t granules[PBEAM_GRANULES_WORDS],
+                           uint8_t *PBEAM_RESTRICT table, size_t table_len, uint64_t *PBEAM_RESTRICT words, size_t words_len,
+                           const uint64_t *addresses, size_t addresses_len, uint64_t out[PBEAM_RESTRICT_WORDS PBEAM_OUT_WORDS]);
 
 /* ---- Realm words: one bit for each byte of the granule table. Granule i is bit i mod 64 of word i / 64, set if its byte is
  * PBEAM_GRANULE_REALM; the spare bits of the last word are 0. There are ceil(granules of the record / 64) words; with any other number
@@ -756,8 +755,9 @@ void pbeam_undelegate_list(const uint64_t state[PBEAM_STATE_WORDS], const uint64
  * Returns  PBEAM_X0_OK with the number, or PBEAM_X0_INVAL with 0. Set spare bits are not counted.
  * Stack    32 bytes; AArch64 0
  */
-PBEAM_NONNULL(1, 4)
-uint64_t pbeam_realm_count(const uint64_t granules[PBEAM_GRANULES_WORDS], const uint64_t *words, size_t words_len, uint64_t number[1]);
+PBEAM_MUST_CHECK PBEAM_NONNULL(1, 4)
+uint64_t pbeam_realm_count(const uint64_t granules[PBEAM_GRANULES_WORDS], const uint64_t *words, size_t words_len,
+                           uint64_t number[PBEAM_RESTRICT_WORDS 1]);
 
 /*
  * pbeam_realm_next: the first Realm granule at or after an index. It reads only the words and stops at the first hit.
@@ -766,9 +766,9 @@ uint64_t pbeam_realm_count(const uint64_t granules[PBEAM_GRANULES_WORDS], const 
  *          not below the number of granules. To visit all: start at 0, then at the index found + 1, while that is below this number.
  * Stack    32 bytes; AArch64 0
  */
-PBEAM_NONNULL(1, 5)
+PBEAM_MUST_CHECK PBEAM_NONNULL(1, 5)
 uint64_t pbeam_realm_next(const uint64_t granules[PBEAM_GRANULES_WORDS], const uint64_t *words, size_t words_len, uint64_t index,
-                          uint64_t found[1]);
+                          uint64_t found[PBEAM_RESTRICT_WORDS 1]);
 
 /*
  * pbeam_realm_agrees: whether words and table agree, including the spare bits. It reads the whole table.
@@ -788,9 +788,9 @@ uint64_t pbeam_realm_agrees(const uint64_t granules[PBEAM_GRANULES_WORDS], const
  * Leaves   on OK the words of the table, spare bits 0. With PBEAM_X0_INVAL the words are unchanged.
  * Stack    160 bytes; AArch64 64
  */
-PBEAM_NONNULL(1)
-uint64_t pbeam_realm_build(const uint64_t granules[PBEAM_GRANULES_WORDS], const uint8_t *table, size_t table_len, uint64_t *words,
-                           size_t words_len);
+PBEAM_MUST_CHECK PBEAM_NONNULL(1)
+uint64_t pbeam_realm_build(const uint64_t granules[PBEAM_GRANULES_WORDS], const uint8_t *table, size_t table_len,
+                           uint64_t *PBEAM_RESTRICT words, size_t words_len);
 
 /*
  * pbeam_realm_key (0xC40001B2): the realm attestation key.
@@ -804,8 +804,8 @@ uint64_t pbeam_realm_build(const uint64_t granules[PBEAM_GRANULES_WORDS], const 
  * Stack    96 bytes; AArch64 32
  */
 PBEAM_NONNULL(1, 9)
-void pbeam_realm_key(const uint64_t state[PBEAM_STATE_WORDS], uint8_t *page, size_t page_len, const uint8_t *key, size_t key_len,
-                     uint64_t pa, uint64_t size, uint64_t curve, uint64_t out[PBEAM_OUT_WORDS]);
+void pbeam_realm_key(const uint64_t state[PBEAM_STATE_WORDS], uint8_t *PBEAM_RESTRICT page, size_t page_len, const uint8_t *key,
+                     size_t key_len, uint64_t pa, uint64_t size, uint64_t curve, uint64_t out[PBEAM_RESTRICT_WORDS PBEAM_OUT_WORDS]);
 
 /*
  * pbeam_platform_token (0xC40001B3): the next hunk of the platform token.
@@ -825,9 +825,9 @@ void pbeam_realm_key(const uint64_t state[PBEAM_STATE_WORDS], uint8_t *page, siz
  * The hunk overwrites the challenge: call pbeam_challenge first. Size 0 with c_size 0 in a session is OK and delivers nothing.
  */
 PBEAM_NONNULL(1, 2, 11)
-void pbeam_platform_token(const uint64_t state[PBEAM_STATE_WORDS], uint64_t session[PBEAM_SESSION_WORDS], uint8_t *page,
-                          size_t page_len, const uint8_t *token, size_t token_len, uint64_t busy, uint64_t pa, uint64_t size,
-                          uint64_t csize, uint64_t out[PBEAM_OUT_WORDS]);
+void pbeam_platform_token(const uint64_t state[PBEAM_STATE_WORDS], uint64_t session[PBEAM_RESTRICT_WORDS PBEAM_SESSION_WORDS],
+                          uint8_t *PBEAM_RESTRICT page, size_t page_len, const uint8_t *token, size_t token_len, uint64_t busy, uint64_t pa,
+                          uint64_t size, uint64_t csize, uint64_t out[PBEAM_RESTRICT_WORDS PBEAM_OUT_WORDS]);
 
 /*
  * pbeam_challenge: the place of the challenge, from which the platform makes its token.
@@ -844,7 +844,7 @@ void pbeam_platform_token(const uint64_t state[PBEAM_STATE_WORDS], uint64_t sess
  */
 PBEAM_NONNULL(1, 7)
 uint64_t pbeam_challenge(const uint64_t state[PBEAM_STATE_WORDS], const uint8_t *page, size_t page_len, uint64_t pa, uint64_t size,
-                         uint64_t csize, uint64_t place[PBEAM_PLACE_WORDS]);
+                         uint64_t csize, uint64_t place[PBEAM_RESTRICT_WORDS PBEAM_PLACE_WORDS]);
 
 /*
  * pbeam_features (0xC40001B4): the feature register.
@@ -856,7 +856,7 @@ uint64_t pbeam_challenge(const uint64_t state[PBEAM_STATE_WORDS], const uint8_t 
  * Stack    32 bytes; AArch64 0
  */
 PBEAM_NONNULL(1, 3)
-void pbeam_features(const uint64_t state[PBEAM_STATE_WORDS], uint64_t index, uint64_t out[PBEAM_OUT_WORDS]);
+void pbeam_features(const uint64_t state[PBEAM_STATE_WORDS], uint64_t index, uint64_t out[PBEAM_RESTRICT_WORDS PBEAM_OUT_WORDS]);
 
 /*
  * pbeam_token_signing (0xC40001B5): pushes a request, pulls a response, or gets the public key.
@@ -877,9 +877,9 @@ void pbeam_features(const uint64_t state[PBEAM_STATE_WORDS], uint64_t index, uin
  * Stack    224 bytes; AArch64 384
  */
 PBEAM_NONNULL(1, 2, 11)
-void pbeam_token_signing(const uint64_t state[PBEAM_STATE_WORDS], uint64_t queue[PBEAM_QUEUE_WORDS], uint8_t *page, size_t page_len,
-                         const uint8_t *key, size_t key_len, uint64_t opcode, uint64_t pa, uint64_t size, uint64_t curve,
-                         uint64_t out[PBEAM_OUT_WORDS]);
+void pbeam_token_signing(const uint64_t state[PBEAM_STATE_WORDS], uint64_t queue[PBEAM_RESTRICT_WORDS PBEAM_QUEUE_WORDS],
+                         uint8_t *PBEAM_RESTRICT page, size_t page_len, const uint8_t *key, size_t key_len, uint64_t opcode, uint64_t pa,
+                         uint64_t size, uint64_t curve, uint64_t out[PBEAM_RESTRICT_WORDS PBEAM_OUT_WORDS]);
 
 /*
  * pbeam_key_update (0xC40001B6): a new key for a mecid.
@@ -893,8 +893,8 @@ void pbeam_token_signing(const uint64_t state[PBEAM_STATE_WORDS], uint64_t queue
  * The library makes no key: the platform does, if work is PBEAM_WORK_REPROGRAM.
  */
 PBEAM_NONNULL(1, 4, 5)
-void pbeam_key_update(const uint64_t state[PBEAM_STATE_WORDS], uint64_t width, uint64_t mecid, uint64_t out[PBEAM_OUT_WORDS],
-                      uint64_t work[PBEAM_WORK_WORDS]);
+void pbeam_key_update(const uint64_t state[PBEAM_STATE_WORDS], uint64_t width, uint64_t mecid,
+                      uint64_t out[PBEAM_RESTRICT_WORDS PBEAM_OUT_WORDS], uint64_t work[PBEAM_RESTRICT_WORDS PBEAM_WORK_WORDS]);
 
 /*
  * pbeam_forward (0xC400018F): the error code of an RMI call, for the Non-secure world.
@@ -902,7 +902,7 @@ void pbeam_key_update(const uint64_t state[PBEAM_STATE_WORDS], uint64_t width, u
  * Returns  err_code, which is x1. It is never refused.
  * Stack    32 bytes; AArch64 0
  */
-PBEAM_NONNULL(1)
+PBEAM_MUST_CHECK PBEAM_NONNULL(1)
 uint64_t pbeam_forward(const uint64_t state[PBEAM_STATE_WORDS], uint64_t x1);
 
 /* ---- The signer's side: these are not commands of the interface, and they do not take the boot record ---- */
@@ -919,7 +919,8 @@ uint64_t pbeam_forward(const uint64_t state[PBEAM_STATE_WORDS], uint64_t x1);
  * Stack    224 bytes; AArch64 192
  */
 PBEAM_NONNULL(1, 4)
-void pbeam_sign(uint64_t queue[PBEAM_QUEUE_WORDS], const uint8_t *signature, size_t signature_len, uint64_t out[PBEAM_OUT_WORDS]);
+void pbeam_sign(uint64_t queue[PBEAM_RESTRICT_WORDS PBEAM_QUEUE_WORDS], const uint8_t *signature, size_t signature_len,
+                uint64_t out[PBEAM_RESTRICT_WORDS PBEAM_OUT_WORDS]);
 
 /*
  * pbeam_oldest: the oldest request.
@@ -928,8 +929,8 @@ void pbeam_sign(uint64_t queue[PBEAM_QUEUE_WORDS], const uint8_t *signature, siz
  * Leaves   the queue unchanged: the request waits until pbeam_sign removes it.
  * Stack    32 bytes; AArch64 0
  */
-PBEAM_NONNULL(1, 2)
-size_t pbeam_oldest(const uint64_t queue[PBEAM_QUEUE_WORDS], uint64_t request[PBEAM_REQUEST_WORDS]);
+PBEAM_MUST_CHECK PBEAM_NONNULL(1, 2)
+size_t pbeam_oldest(const uint64_t queue[PBEAM_QUEUE_WORDS], uint64_t request[PBEAM_RESTRICT_WORDS PBEAM_REQUEST_WORDS]);
 
 /*
  * pbeam_responses: the number of responses that wait for a pull.
@@ -957,14 +958,23 @@ size_t pbeam_responses(const uint64_t queue[PBEAM_QUEUE_WORDS]);
  * Stack    416 bytes with PBEAM_ID_TOKEN_SIGNING, 384 bytes with any other id; AArch64 544
  */
 PBEAM_NONNULL(1, 2, 3, 6, 19, 20, 21)
-void pbeam_call(const uint64_t state[PBEAM_STATE_WORDS], uint64_t session[PBEAM_SESSION_WORDS], uint64_t queue[PBEAM_QUEUE_WORDS],
-                uint8_t *page, size_t page_len, const uint64_t granules[PBEAM_GRANULES_WORDS], uint8_t *table, size_t table_len,
-                uint64_t *words, size_t words_len, const uint8_t *key, size_t key_len, const uint8_t *token, size_t token_len,
-                uint64_t busy, const uint8_t *public_key, size_t public_len, uint64_t width, const uint64_t call[PBEAM_CALL_WORDS],
-                uint64_t out[PBEAM_OUT_WORDS], uint64_t work[PBEAM_WORK_WORDS]);
+void pbeam_call(const uint64_t state[PBEAM_STATE_WORDS], uint64_t session[PBEAM_RESTRICT_WORDS PBEAM_SESSION_WORDS],
+                uint64_t queue[PBEAM_RESTRICT_WORDS PBEAM_QUEUE_WORDS], uint8_t *PBEAM_RESTRICT page, size_t page_len,
+                const uint64_t granules[PBEAM_GRANULES_WORDS], uint8_t *PBEAM_RESTRICT table, size_t table_len,
+                uint64_t *PBEAM_RESTRICT words, size_t words_len, const uint8_t *key, size_t key_len, const uint8_t *token,
+                size_t token_len, uint64_t busy, const uint8_t *public_key, size_t public_len, uint64_t width,
+                const uint64_t call[PBEAM_CALL_WORDS], uint64_t out[PBEAM_RESTRICT_WORDS PBEAM_OUT_WORDS],
+                uint64_t work[PBEAM_RESTRICT_WORDS PBEAM_WORK_WORDS]);
 
 #ifdef __cplusplus
 }
 #endif
 
+#endif
+
+/* The version of the archive: see potterbeam_common.h. This is outside the guard, because potterbeam_pages.h includes this header for its
+ * names only: a program that includes it itself gets the check then. */
+#if !defined(POTTERBEAM_NAMES_ONLY) && !defined(POTTERBEAM_LINKS)
+#define POTTERBEAM_LINKS
+PBEAM_LINKS(pbeam_version);
 #endif

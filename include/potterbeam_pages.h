@@ -16,7 +16,7 @@
  *   alignment in memory; words (uint64_t) have C's alignment.
  * - page, target and changed must not overlap. There is no lock: use one page in one call at a time.
  * - The first check that fails decides the answer. The checks are listed below in their order.
- * - size_t has 64 bits: the archives are for x86-64 and AArch64 (LP64).
+ * - size_t has 64 bits, which the header asserts: the archives are for x86-64 and AArch64 (LP64).
  * - "Stack" is the most that a call was seen to write on x86-64, and after "AArch64" a static bound of the archive that tools/aarch64
  *   builds; both with the words that its caller passes on the stack, rounded up to a multiple of 32 (docs/STACK.md).
  */
@@ -27,7 +27,14 @@
 #include <stddef.h>
 #include <stdint.h>
 
+/* For its names and types: no reference to libpotterbeam.a. A program that also reads or writes pages includes potterbeam.h or
+ * potterbeam_types.h itself, before or after this header, so that the version of that archive is checked, too. */
+#define POTTERBEAM_NAMES_ONLY
 #include "potterbeam_types.h"
+#undef POTTERBEAM_NAMES_ONLY
+
+/* The version of the archive: see potterbeam_common.h. */
+PBEAM_LINKS(pbeam_pages_version);
 
 /* ---- Answers ---- */
 
@@ -66,7 +73,8 @@ extern "C" {
  * A reader of any edition shows the same for both, except plat_data, the withdrawn field and the offsets of the arrays; packing the target
  * again changes no byte (proved).
  */
-int32_t pbeam_pack(const uint8_t *page, size_t page_len, uint64_t base, uint8_t *target, size_t target_len);
+PBEAM_MUST_CHECK
+int32_t pbeam_pack(const uint8_t *page, size_t page_len, uint64_t base, uint8_t *PBEAM_RESTRICT target, size_t target_len);
 
 /*
  * pbeam_mend: removes what breaks a rule from a damaged page, in place, so that the rest can be read.
@@ -83,8 +91,8 @@ int32_t pbeam_pack(const uint8_t *page, size_t page_len, uint64_t base, uint8_t 
  * Afterwards pbeam_read accepts the page as PBEAM_EDITION_LAST, and shows all that was kept; a page that it accepts before is unchanged,
  * with no part changed (proved).
  */
-PBEAM_NONNULL(4)
-int32_t pbeam_mend(uint8_t *page, size_t page_len, uint64_t base, uint64_t changed[PBEAM_MEND_WORDS]);
+PBEAM_MUST_CHECK PBEAM_NONNULL(4)
+int32_t pbeam_mend(uint8_t *PBEAM_RESTRICT page, size_t page_len, uint64_t base, uint64_t changed[PBEAM_RESTRICT_WORDS PBEAM_MEND_WORDS]);
 
 #ifdef __cplusplus
 }
@@ -111,15 +119,15 @@ typedef struct {
 } pbeam_changes_t;
 
 /* pbeam_pack: to another page, for the same B. */
-PBEAM_NONNULL(1, 3)
-static inline pbeam_packing_t pbeam_manifest_pack(const pbeam_page_t *page, uint64_t base, pbeam_page_t *target)
+PBEAM_MUST_CHECK PBEAM_NONNULL(1, 3)
+static inline pbeam_packing_t pbeam_manifest_pack(const pbeam_page_t *page, uint64_t base, pbeam_page_t *PBEAM_RESTRICT target)
 {
-    return (pbeam_packing_t)pbeam_pack(page->bytes, sizeof page->bytes, base, target->bytes, sizeof target->bytes);
+    return PBEAM_CAST(pbeam_packing_t, pbeam_pack(page->bytes, sizeof page->bytes, base, target->bytes, sizeof target->bytes));
 }
 
 /* pbeam_mend: in place. A refused page is unchanged, and all of *changes is false. */
-PBEAM_NONNULL(1, 3)
-static inline int32_t pbeam_manifest_mend(pbeam_page_t *page, uint64_t base, pbeam_changes_t *changes)
+PBEAM_MUST_CHECK PBEAM_NONNULL(1, 3)
+static inline int32_t pbeam_manifest_mend(pbeam_page_t *PBEAM_RESTRICT page, uint64_t base, pbeam_changes_t *PBEAM_RESTRICT changes)
 {
     uint64_t changed[PBEAM_MEND_WORDS];
     const int32_t code = pbeam_mend(page->bytes, sizeof page->bytes, base, changed);

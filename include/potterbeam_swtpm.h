@@ -17,7 +17,7 @@
  * - There is no lock. Use one collector or buffer in one call at a time; different ones may be used at the same time.
  * - A call that can be refused returns PBEAM_SWTPM_OK or the number of the refusal. The first check that fails decides; the checks are
  *   listed below in their order. A refused call leaves every lent byte and word unchanged: buffer, collector, parts and len.
- * - size_t has 64 bits: the archives are for x86-64 and AArch64 (LP64).
+ * - size_t has 64 bits, which the header asserts: the archives are for x86-64 and AArch64 (LP64).
  * - "Stack" is the most that a call was seen to write on x86-64, and after "AArch64" a static bound of the archive that tools/aarch64
  *   builds; both with the words that its caller passes on the stack, rounded up to a multiple of 32 (docs/STACK.md).
  */
@@ -27,6 +27,11 @@
 #include <stdbool.h>
 #include <stddef.h>
 #include <stdint.h>
+
+#include "potterbeam_common.h"
+
+/* The version of the archive: see potterbeam_common.h. */
+PBEAM_LINKS(pbeam_swtpm_version);
 
 /* ---- Answers ---- */
 
@@ -108,8 +113,9 @@ extern "C" {
  * Leaves   the message unchanged. On OK parts: code, state_flags, type and offset; the last three may be any numbers.
  * Stack    32 bytes; AArch64 0
  */
+PBEAM_MUST_CHECK PBEAM_NONNULL(4)
 uint32_t pbeam_swtpm_read_request(const uint8_t *message, size_t message_len, uint32_t code,
-                                  uint32_t parts[PBEAM_SWTPM_PARTS_WORDS]);
+                                  uint32_t parts[PBEAM_RESTRICT_WORDS PBEAM_SWTPM_PARTS_WORDS]);
 
 /*
  * pbeam_swtpm_write_request: writes a request to the start of a buffer.
@@ -119,8 +125,9 @@ uint32_t pbeam_swtpm_read_request(const uint8_t *message, size_t message_len, ui
  * Leaves   on OK the message in the buffer's first 16 bytes, the bytes after it unchanged, and 16 in *len.
  * Stack    32 bytes; AArch64 0
  */
-uint32_t pbeam_swtpm_write_request(uint8_t *buffer, size_t buffer_len, uint32_t code, uint32_t flags, uint32_t type, uint32_t offset,
-                                   size_t *len);
+PBEAM_MUST_CHECK PBEAM_NONNULL(7)
+uint32_t pbeam_swtpm_write_request(uint8_t *PBEAM_RESTRICT buffer, size_t buffer_len, uint32_t code, uint32_t flags, uint32_t type,
+                                   uint32_t offset, size_t *PBEAM_RESTRICT len);
 
 /*
  * pbeam_swtpm_read_response: reads a response.
@@ -134,8 +141,9 @@ uint32_t pbeam_swtpm_write_request(uint8_t *buffer, size_t buffer_len, uint32_t 
  * Stack    32 bytes; AArch64 0
  * The message must be exactly one response: on a stream read 16 bytes, then the number of bytes in bytes 12 to 15.
  */
+PBEAM_MUST_CHECK PBEAM_NONNULL(4)
 uint32_t pbeam_swtpm_read_response(const uint8_t *message, size_t message_len, uint32_t largest,
-                                   uint32_t parts[PBEAM_SWTPM_PARTS_WORDS]);
+                                   uint32_t parts[PBEAM_RESTRICT_WORDS PBEAM_SWTPM_PARTS_WORDS]);
 
 /*
  * pbeam_swtpm_write_response: writes a response to the start of a buffer.
@@ -146,8 +154,9 @@ uint32_t pbeam_swtpm_read_response(const uint8_t *message, size_t message_len, u
  * Leaves   the data unchanged. On OK the message at the buffer's start, the bytes after it unchanged, and 16 + data_len in *len.
  * Stack    64 bytes; AArch64 32
  */
-uint32_t pbeam_swtpm_write_response(uint8_t *buffer, size_t buffer_len, uint32_t largest, uint32_t result, uint32_t flags,
-                                    uint32_t total, const uint8_t *data, size_t data_len, size_t *len);
+PBEAM_MUST_CHECK PBEAM_NONNULL(9)
+uint32_t pbeam_swtpm_write_response(uint8_t *PBEAM_RESTRICT buffer, size_t buffer_len, uint32_t largest, uint32_t result, uint32_t flags,
+                                    uint32_t total, const uint8_t *data, size_t data_len, size_t *PBEAM_RESTRICT len);
 
 /*
  * pbeam_swtpm_collect: appends a response's data to the bytes held.
@@ -165,8 +174,9 @@ uint32_t pbeam_swtpm_write_response(uint8_t *buffer, size_t buffer_len, uint32_t
  * as totlength, the buffer starts with the blob's first bytes: request offset pbeam_swtpm_held each time. (swtpm 0.7.1 differs: one
  * response carries all remaining bytes, and its totlength counts from the offset. Send it one request, with offset 0. See docs/SWTPM.md.)
  */
-uint32_t pbeam_swtpm_collect(uint32_t collector[PBEAM_SWTPM_COLLECTOR_WORDS], const uint8_t *message, size_t message_len,
-                             uint32_t largest, uint8_t *buffer, size_t buffer_len);
+PBEAM_MUST_CHECK PBEAM_NONNULL(1)
+uint32_t pbeam_swtpm_collect(uint32_t collector[PBEAM_RESTRICT_WORDS PBEAM_SWTPM_COLLECTOR_WORDS], const uint8_t *message,
+                             size_t message_len, uint32_t largest, uint8_t *PBEAM_RESTRICT buffer, size_t buffer_len);
 
 /*
  * pbeam_swtpm_complete: whether the whole blob is held.
@@ -174,6 +184,7 @@ uint32_t pbeam_swtpm_collect(uint32_t collector[PBEAM_SWTPM_COLLECTOR_WORDS], co
  * Leaves   the collector unchanged.
  * Stack    32 bytes; AArch64 0
  */
+PBEAM_NONNULL(1)
 bool pbeam_swtpm_complete(const uint32_t collector[PBEAM_SWTPM_COLLECTOR_WORDS]);
 
 /*
@@ -181,6 +192,7 @@ bool pbeam_swtpm_complete(const uint32_t collector[PBEAM_SWTPM_COLLECTOR_WORDS])
  * Leaves   the collector unchanged.
  * Stack    32 bytes; AArch64 0
  */
+PBEAM_NONNULL(1)
 uint32_t pbeam_swtpm_held(const uint32_t collector[PBEAM_SWTPM_COLLECTOR_WORDS]);
 
 #ifdef __cplusplus

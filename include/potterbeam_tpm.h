@@ -28,7 +28,7 @@
  *   bytes at out_buffer. Between pbeam_tpm_request and the time when the TPM reads the request the guest may change it: a platform that
  *   checks its bytes must copy them first.
  * - There is no lock. Use one memory and one session word in one call at a time; different guests may call at the same time.
- * - size_t has 64 bits: the archives are for x86-64 and AArch64 (LP64).
+ * - size_t has 64 bits, which the header asserts: the archives are for x86-64 and AArch64 (LP64).
  * - "Stack" is the most that a call was seen to write on x86-64, and after "AArch64" a static bound of the archive that tools/aarch64
  *   builds; both with the words that its caller passes on the stack, rounded up to a multiple of 32 (docs/STACK.md).
  * - The first check that fails decides the answer. The checks are listed below in their order.
@@ -38,6 +38,11 @@
 
 #include <stddef.h>
 #include <stdint.h>
+
+#include "potterbeam_common.h"
+
+/* The version of the archive: see potterbeam_common.h. */
+PBEAM_LINKS(pbeam_tpm_version);
 
 /* ---- Operations: compared as 64 bits ---- */
 
@@ -96,9 +101,10 @@ extern "C" {
  *          refused: the memory and *session unchanged, for any number in *session; *r4 is 0.
  * Stack    96 bytes; AArch64 64
  */
-int64_t pbeam_tpm_comm(uint64_t *session, uint64_t operation, uint64_t in_buffer, uint64_t in_size, uint64_t out_buffer,
-                       uint64_t out_size, uint8_t *memory, size_t memory_len, const uint8_t *response, size_t response_len,
-                       uint64_t forbidden, uint64_t fault, uint64_t *r4);
+PBEAM_MUST_CHECK PBEAM_NONNULL(1, 13)
+int64_t pbeam_tpm_comm(uint64_t *PBEAM_RESTRICT session, uint64_t operation, uint64_t in_buffer, uint64_t in_size, uint64_t out_buffer,
+                       uint64_t out_size, uint8_t *PBEAM_RESTRICT memory, size_t memory_len, const uint8_t *response, size_t response_len,
+                       uint64_t forbidden, uint64_t fault, uint64_t *PBEAM_RESTRICT r4);
 
 /*
  * pbeam_tpm_request: the place of the request in the guest's memory.
@@ -110,8 +116,10 @@ int64_t pbeam_tpm_comm(uint64_t *session, uint64_t operation, uint64_t in_buffer
  * If place is (0, 0) on an execute, there is nothing to send. Call pbeam_tpm_comm anyway: it returns the refusal. With fault set, a request of
  * 0 bytes is PBEAM_TPM_H_RESOURCE.
  */
+PBEAM_NONNULL(9)
 void pbeam_tpm_request(uint64_t operation, uint64_t in_buffer, uint64_t in_size, uint64_t out_buffer, uint64_t out_size,
-                       const uint8_t *memory, size_t memory_len, uint64_t forbidden, uint64_t place[PBEAM_TPM_PLACE_WORDS]);
+                       const uint8_t *memory, size_t memory_len, uint64_t forbidden,
+                       uint64_t place[PBEAM_RESTRICT_WORDS PBEAM_TPM_PLACE_WORDS]);
 
 #ifdef __cplusplus
 }

@@ -8,20 +8,10 @@
  *
  * A pointer to an image, a page or a struct is never NULL, unless its comment allows it. Otherwise as in potterbeam.h: any value is accepted.
  */
+#include "potterbeam.h" /* before the guard: see its end */
+
 #ifndef POTTERBEAM_TYPES_H
 #define POTTERBEAM_TYPES_H
-
-#include <stdbool.h>
-#include <stddef.h>
-#include <stdint.h>
-
-#include "potterbeam.h"
-
-#ifdef __cplusplus
-#define PBEAM_ASSERT(holds, text) static_assert(holds, text)
-#else
-#define PBEAM_ASSERT(holds, text) _Static_assert(holds, text)
-#endif
 
 /* ---- 002's own names. Define PBEAM_NO_002_NAMES before this header if the firmware defines them already. ---- */
 
@@ -221,45 +211,45 @@ PBEAM_ASSERT(offsetof(pbeam_console_t, flags) == 8 * PBEAM_CONSOLE_FLAGS, "words
 PBEAM_NONNULL(1)
 static inline uint16_t pbeam_get16(const uint8_t *at)
 {
-    return (uint16_t)(at[0] | (unsigned)at[1] << 8);
+    return PBEAM_CAST(uint16_t, at[0] | PBEAM_CAST(unsigned, at[1]) << 8);
 }
 
 /* The 32-bit number at `at`. */
 PBEAM_NONNULL(1)
 static inline uint32_t pbeam_get32(const uint8_t *at)
 {
-    return pbeam_get16(at) | (uint32_t)pbeam_get16(at + 2) << 16;
+    return pbeam_get16(at) | PBEAM_CAST(uint32_t, pbeam_get16(at + 2)) << 16;
 }
 
 /* The 64-bit number at `at`. */
 PBEAM_NONNULL(1)
 static inline uint64_t pbeam_get64(const uint8_t *at)
 {
-    return pbeam_get32(at) | (uint64_t)pbeam_get32(at + 4) << 32;
+    return pbeam_get32(at) | PBEAM_CAST(uint64_t, pbeam_get32(at + 4)) << 32;
 }
 
 /* Writes a 16-bit number to `at`. */
 PBEAM_NONNULL(1)
 static inline void pbeam_put16(uint8_t *at, uint16_t number)
 {
-    at[0] = (uint8_t)(number & 0xFF);
-    at[1] = (uint8_t)(number >> 8);
+    at[0] = PBEAM_CAST(uint8_t, number & 0xFF);
+    at[1] = PBEAM_CAST(uint8_t, number >> 8);
 }
 
 /* Writes a 32-bit number to `at`. */
 PBEAM_NONNULL(1)
 static inline void pbeam_put32(uint8_t *at, uint32_t number)
 {
-    pbeam_put16(at, (uint16_t)(number & 0xFFFF));
-    pbeam_put16(at + 2, (uint16_t)(number >> 16));
+    pbeam_put16(at, PBEAM_CAST(uint16_t, number & 0xFFFF));
+    pbeam_put16(at + 2, PBEAM_CAST(uint16_t, number >> 16));
 }
 
 /* Writes a 64-bit number to `at`. */
 PBEAM_NONNULL(1)
 static inline void pbeam_put64(uint8_t *at, uint64_t number)
 {
-    pbeam_put32(at, (uint32_t)(number & 0xFFFFFFFF));
-    pbeam_put32(at + 4, (uint32_t)(number >> 32));
+    pbeam_put32(at, PBEAM_CAST(uint32_t, number & 0xFFFFFFFF));
+    pbeam_put32(at + 4, PBEAM_CAST(uint32_t, number >> 32));
 }
 
 /* ---- Codes as text, for a log ---- */
@@ -332,7 +322,7 @@ static inline pbeam_bytes_t pbeam_bytes(const uint8_t *at, size_t length)
 }
 
 /* Sets the name of a console from a C string. Returns false, and changes nothing, if it has more than 8 characters. */
-PBEAM_NONNULL(1, 2)
+PBEAM_MUST_CHECK PBEAM_NONNULL(1, 2)
 static inline bool pbeam_console_set_name(pbeam_console_t *console, const char *name)
 {
     uint64_t word = 0;
@@ -340,7 +330,7 @@ static inline bool pbeam_console_set_name(pbeam_console_t *console, const char *
     for (; name[i] != '\0'; i++) {
         if (i == 8)
             return false;
-        word |= (uint64_t)(unsigned char)name[i] << (8 * i);
+        word |= PBEAM_CAST(uint64_t, PBEAM_CAST(unsigned char, name[i])) << (8 * i);
     }
     console->name = word;
     return true;
@@ -351,7 +341,7 @@ PBEAM_NONNULL(1, 2)
 static inline void pbeam_console_text(const pbeam_console_t *console, char text[9])
 {
     for (unsigned i = 0; i < 8; i++)
-        text[i] = (char)(unsigned char)(console->name >> (8 * i) & 0xFF);
+        text[i] = PBEAM_CAST(char, PBEAM_CAST(unsigned char, console->name >> (8 * i) & 0xFF));
     text[8] = '\0';
 }
 
@@ -359,8 +349,9 @@ static inline void pbeam_console_text(const pbeam_console_t *console, char text[
  * Adds a field after the first *used bytes of a description, and increases *used. Returns false, and changes nothing, if the value is longer
  * than PBEAM_FIELD_VALUE_MOST or the room is too short. pbeam_write checks the rules of the tags.
  */
-PBEAM_NONNULL(1, 3)
-static inline bool pbeam_fields_add(uint8_t *fields, size_t room, size_t *used, uint8_t tag, pbeam_bytes_t value)
+PBEAM_MUST_CHECK PBEAM_NONNULL(1, 3)
+static inline bool pbeam_fields_add(uint8_t *PBEAM_RESTRICT fields, size_t room, size_t *PBEAM_RESTRICT used, uint8_t tag,
+                                    pbeam_bytes_t value)
 {
     const size_t length = value.at == NULL ? 0 : value.length;
     uint8_t *field;
@@ -368,7 +359,7 @@ static inline bool pbeam_fields_add(uint8_t *fields, size_t room, size_t *used, 
         return false;
     field = fields + *used;
     field[PBEAM_FIELD_TAG] = tag;
-    pbeam_put16(field + PBEAM_FIELD_LENGTH, (uint16_t)length);
+    pbeam_put16(field + PBEAM_FIELD_LENGTH, PBEAM_CAST(uint16_t, length));
     for (size_t i = 0; i < length; i++)
         field[PBEAM_FIELD_VALUE + i] = value.at[i];
     *used += PBEAM_FIELD_VALUE + length;
@@ -381,22 +372,23 @@ static inline bool pbeam_fields_add(uint8_t *fields, size_t room, size_t *used, 
  * pbeam_write with lists that are counted in entries. A count above SIZE_MAX / the size of an entry is
  * PBEAM_WRITE_W3_LISTS before all other checks: the count of words would overflow to that of a short list.
  */
-PBEAM_NONNULL(3, 4)
+PBEAM_MUST_CHECK PBEAM_NONNULL(3, 4)
 static inline uint32_t pbeam_manifest_write(uint64_t base, uint64_t edition, const pbeam_lists_t *lists, pbeam_page_t *page)
 {
     const size_t banks_most = SIZE_MAX / PBEAM_BANK_BYTES, consoles_most = SIZE_MAX / PBEAM_CONSOLE_BYTES;
     if (lists->dram_count > banks_most || lists->console_count > consoles_most || lists->ncoh_count > banks_most ||
         lists->coh_count > banks_most)
         return PBEAM_WRITE_W3_LISTS;
-    return pbeam_write(base, edition, (const uint64_t *)(const void *)lists->dram, lists->dram_count * PBEAM_BANK_WORDS,
-                       (const uint64_t *)(const void *)lists->console, lists->console_count * PBEAM_CONSOLE_WORDS,
-                       (const uint64_t *)(const void *)lists->ncoh, lists->ncoh_count * PBEAM_BANK_WORDS,
-                       (const uint64_t *)(const void *)lists->coh, lists->coh_count * PBEAM_BANK_WORDS, lists->fields.at,
-                       lists->fields.at == NULL ? 0 : lists->fields.length, page->bytes, sizeof page->bytes);
+    return pbeam_write(base, edition, PBEAM_CAST(const uint64_t *, PBEAM_CAST(const void *, lists->dram)),
+                       lists->dram_count * PBEAM_BANK_WORDS, PBEAM_CAST(const uint64_t *, PBEAM_CAST(const void *, lists->console)),
+                       lists->console_count * PBEAM_CONSOLE_WORDS, PBEAM_CAST(const uint64_t *, PBEAM_CAST(const void *, lists->ncoh)),
+                       lists->ncoh_count * PBEAM_BANK_WORDS, PBEAM_CAST(const uint64_t *, PBEAM_CAST(const void *, lists->coh)),
+                       lists->coh_count * PBEAM_BANK_WORDS, lists->fields.at, lists->fields.at == NULL ? 0 : lists->fields.length,
+                       page->bytes, sizeof page->bytes);
 }
 
 /* pbeam_read. */
-PBEAM_NONNULL(1, 4)
+PBEAM_MUST_CHECK PBEAM_NONNULL(1, 4)
 static inline int32_t pbeam_manifest_read(const pbeam_page_t *page, uint64_t base, uint64_t edition, pbeam_view_t *view)
 {
     return pbeam_read(page->bytes, sizeof page->bytes, base, edition, view->words);
@@ -407,10 +399,12 @@ static inline int32_t pbeam_manifest_read(const pbeam_page_t *page, uint64_t bas
  * the whole text's length; the text was cut if that is not below the room. A room of 0 stays unchanged.
  */
 PBEAM_NONNULL(1)
-static inline size_t pbeam_manifest_listing(const pbeam_page_t *page, uint64_t base, uint64_t edition, char *text, size_t room)
+static inline size_t pbeam_manifest_listing(const pbeam_page_t *page, uint64_t base, uint64_t edition, char *PBEAM_RESTRICT text,
+                                            size_t room)
 {
     const size_t most = room == 0 ? 0 : room - 1;
-    const size_t length = pbeam_listing(page->bytes, sizeof page->bytes, base, edition, (uint8_t *)(void *)text, most);
+    uint8_t *const bytes = PBEAM_CAST(uint8_t *, PBEAM_CAST(void *, text));
+    const size_t length = pbeam_listing(page->bytes, sizeof page->bytes, base, edition, bytes, most);
     if (room != 0)
         text[length < most ? length : most] = '\0';
     return length;
@@ -508,9 +502,17 @@ static inline size_t pbeam_view_field_start(const pbeam_page_t *page, const pbea
     return pbeam_field_start(page->bytes, sizeof page->bytes, view->words);
 }
 
-/* pbeam_field_next: the field at *cursor; moves *cursor past it. End a walk when pbeam_field_found is false, not by comparing
- * cursors. */
-PBEAM_NONNULL(1, 2)
+/* pbeam_field_next: the field at *cursor; moves *cursor past it. End a walk when pbeam_field_found is false, not by comparing cursors:
+ *
+ *     size_t cursor = pbeam_view_field_start(page, view);
+ *     for (;;) {
+ *         const pbeam_field_t field = pbeam_view_field_next(page, &cursor);
+ *         if (!pbeam_field_found(&field))
+ *             break;
+ *         use(pbeam_field_tag(&field), pbeam_field_value(page, &field));
+ *     }
+ */
+PBEAM_MUST_CHECK PBEAM_NONNULL(1, 2)
 static inline pbeam_field_t pbeam_view_field_next(const pbeam_page_t *page, size_t *cursor)
 {
     pbeam_field_t field;
@@ -536,7 +538,7 @@ static inline bool pbeam_field_withdrawn(const pbeam_field_t *field)
 PBEAM_NONNULL(1)
 static inline uint8_t pbeam_field_tag(const pbeam_field_t *field)
 {
-    return (uint8_t)(field->words[PBEAM_FIELD_WORD_TAG] & 0xFF);
+    return PBEAM_CAST(uint8_t, field->words[PBEAM_FIELD_WORD_TAG] & 0xFF);
 }
 
 /* The value of a field, as a part of the page; empty if no field was found, if it is withdrawn, or if a forged field is outside the
@@ -547,7 +549,7 @@ static inline pbeam_bytes_t pbeam_field_value(const pbeam_page_t *page, const pb
     const uint64_t offset = field->words[PBEAM_FIELD_WORD_OFFSET], length = field->words[PBEAM_FIELD_WORD_LENGTH];
     if (field->words[PBEAM_FIELD_WORD_FOUND] != PBEAM_FOUND_VALUE || offset > sizeof page->bytes || length > sizeof page->bytes - offset)
         return pbeam_bytes(NULL, 0);
-    return pbeam_bytes(page->bytes + offset, (size_t)length);
+    return pbeam_bytes(page->bytes + offset, PBEAM_CAST(size_t, length));
 }
 
 /* The board name, empty if the page has none. It has no '\0' at the end. */
@@ -603,7 +605,7 @@ static inline pbeam_console_t pbeam_view_console(const pbeam_page_t *page, const
 
 /* pbeam_console_named: the first console with a name, given as a C string. Returns false, and sets *console to all zero, if no console has
  * the name or the name has more than 8 characters. */
-PBEAM_NONNULL(1, 2, 3, 4)
+PBEAM_MUST_CHECK PBEAM_NONNULL(1, 2, 3, 4)
 static inline bool pbeam_view_console_named(const pbeam_page_t *page, const pbeam_view_t *view, const char *name,
                                             pbeam_console_t *console)
 {
@@ -622,20 +624,20 @@ static inline bool pbeam_view_console_named(const pbeam_page_t *page, const pbea
 PBEAM_NONNULL(1)
 static inline size_t pbeam_place_offset(const pbeam_place_t *place)
 {
-    return (size_t)place->words[PBEAM_PLACE_OFFSET];
+    return PBEAM_CAST(size_t, place->words[PBEAM_PLACE_OFFSET]);
 }
 
 /* Length of a place. */
 PBEAM_NONNULL(1)
 static inline size_t pbeam_place_length(const pbeam_place_t *place)
 {
-    return (size_t)place->words[PBEAM_PLACE_LENGTH];
+    return PBEAM_CAST(size_t, place->words[PBEAM_PLACE_LENGTH]);
 }
 
 /* ---- Boot record ---- */
 
 /* A version from major and minor. Returns false, and changes nothing, if major is above 32,767 or minor above 65,535. */
-PBEAM_NONNULL(3)
+PBEAM_MUST_CHECK PBEAM_NONNULL(3)
 static inline bool pbeam_version(uint64_t major, uint64_t minor, uint64_t *version)
 {
     if (major > 0x7FFF || minor > 0xFFFF)
@@ -660,7 +662,7 @@ static inline void pbeam_record_close(pbeam_record_t *record)
 }
 
 /* pbeam_cold_boot. `manifest_extent`: the number of bytes at the page's start that no command may write; pbeam_view_kept returns what a manifest takes. */
-PBEAM_NONNULL(1, 2, 5)
+PBEAM_MUST_CHECK PBEAM_NONNULL(1, 2, 5)
 static inline int32_t pbeam_record_cold_boot(pbeam_record_t *record, const pbeam_cold_t *x, uint64_t max_cpus, uint64_t kept,
                                              const pbeam_page_t *page)
 {
@@ -668,7 +670,7 @@ static inline int32_t pbeam_record_cold_boot(pbeam_record_t *record, const pbeam
 }
 
 /* pbeam_warm_boot. */
-PBEAM_NONNULL(1)
+PBEAM_MUST_CHECK PBEAM_NONNULL(1)
 static inline int32_t pbeam_record_warm_boot(pbeam_record_t *record, uint64_t cpu)
 {
     return pbeam_warm_boot(record->words, cpu, 0, 0, 0);
@@ -808,7 +810,7 @@ static inline uint64_t pbeam_registers_x2(const pbeam_registers_t *out)
 PBEAM_NONNULL(1)
 static inline int32_t pbeam_registers_code(const pbeam_registers_t *out)
 {
-    return (int32_t)(uint32_t)(out->words[PBEAM_OUT_X0] & 0xFFFFFFFF);
+    return PBEAM_CAST(int32_t, PBEAM_CAST(uint32_t, out->words[PBEAM_OUT_X0] & 0xFFFFFFFF));
 }
 
 /* Whether work is of this kind: PBEAM_WORK_REPROGRAM or PBEAM_WORK_FORWARD. */
@@ -862,7 +864,7 @@ static inline uint64_t pbeam_view_granules(const pbeam_page_t *page, const pbeam
 
 /* pbeam_set_up_granules: makes the context's granule record from the banks that a view of the page shows, for the context's table.
  * Returns PBEAM_X0_OK, or PBEAM_X0_INVAL with the record unchanged. */
-PBEAM_NONNULL(1, 2, 3)
+PBEAM_MUST_CHECK PBEAM_NONNULL(1, 2, 3)
 static inline uint64_t pbeam_context_set_up_granules(pbeam_context_t *context, const pbeam_page_t *page, const pbeam_view_t *view)
 {
     pbeam_place_t place;
@@ -880,7 +882,7 @@ static inline size_t pbeam_words_for(size_t granules)
 
 /* pbeam_realm_build: builds the context's Realm words from its granule table. Returns PBEAM_X0_OK, or PBEAM_X0_INVAL with the words
  * unchanged. */
-PBEAM_NONNULL(1)
+PBEAM_MUST_CHECK PBEAM_NONNULL(1)
 static inline uint64_t pbeam_context_build_words(pbeam_context_t *context)
 {
     return pbeam_realm_build(context->granules.words, context->table, context->table == NULL ? 0 : context->table_count,
@@ -896,14 +898,14 @@ static inline uint64_t pbeam_context_words_agree(const pbeam_context_t *context)
 }
 
 /* The number of Realm granules of the context. Returns what pbeam_realm_count does. */
-PBEAM_NONNULL(1, 2)
+PBEAM_MUST_CHECK PBEAM_NONNULL(1, 2)
 static inline uint64_t pbeam_context_realm_count(const pbeam_context_t *context, uint64_t *number)
 {
     return pbeam_realm_count(context->granules.words, context->words, context->words == NULL ? 0 : context->words_count, number);
 }
 
 /* The first Realm granule of the context at or after an index. Returns what pbeam_realm_next does. */
-PBEAM_NONNULL(1, 3)
+PBEAM_MUST_CHECK PBEAM_NONNULL(1, 3)
 static inline uint64_t pbeam_context_realm_next(const pbeam_context_t *context, uint64_t index, uint64_t *found)
 {
     return pbeam_realm_next(context->granules.words, context->words, context->words == NULL ? 0 : context->words_count, index, found);
@@ -946,16 +948,19 @@ static inline void pbeam_context_undelegate_list(pbeam_context_t *context, const
 }
 
 /* pbeam_challenge: the challenge of a call that starts a token session; place (0, 0) for any other call. For PBEAM_ID_PLATFORM_TOKEN it
- * returns what pbeam_challenge does. For any other id the result is not the command's code: it is that of pbeam_challenge with x1 as pa, x2
- * as size and c_size 0, for example PBEAM_X0_BAD_ADDR for PBEAM_ID_FEATURES with index 0. A handler that calls this for every command must
- * look at place, not at the code. */
+ * returns what pbeam_challenge does; for any other id PBEAM_X0_OK, since such a call has no challenge. So a handler may call this for every
+ * command, and leave on another code than PBEAM_X0_OK: it is the code that pbeam_context_call answers, unless the platform is busy. */
 PBEAM_NONNULL(1, 2, 3)
 static inline uint64_t pbeam_context_challenge(const pbeam_context_t *context, const pbeam_call_t *call, pbeam_place_t *place)
 {
-    const bool is_token = call->words[PBEAM_CALL_ID] == PBEAM_ID_PLATFORM_TOKEN;
+    if (call->words[PBEAM_CALL_ID] != PBEAM_ID_PLATFORM_TOKEN) {
+        place->words[PBEAM_PLACE_OFFSET] = 0;
+        place->words[PBEAM_PLACE_LENGTH] = 0;
+        return PBEAM_X0_OK;
+    }
     return pbeam_challenge(context->record.words, context->page == NULL ? NULL : context->page->bytes,
                            context->page == NULL ? 0 : PBEAM_PAGE_BYTES, call->words[PBEAM_CALL_X1], call->words[PBEAM_CALL_X2],
-                           is_token ? call->words[PBEAM_CALL_X3] : PBEAM_CHALLENGE_NONE, place->words);
+                           call->words[PBEAM_CALL_X3], place->words);
 }
 
 /* pbeam_responses: the number of responses that wait for a pull. */
@@ -966,7 +971,7 @@ static inline size_t pbeam_queue_responses(const pbeam_queue_t *queue)
 }
 
 /* pbeam_oldest: the number of waiting requests, and the oldest one. */
-PBEAM_NONNULL(1, 2)
+PBEAM_MUST_CHECK PBEAM_NONNULL(1, 2)
 static inline size_t pbeam_queue_oldest(const pbeam_queue_t *queue, pbeam_request_t *request)
 {
     return pbeam_oldest(queue->words, request->words);
@@ -1020,7 +1025,8 @@ static inline void pbeam_request_hash_buf(const pbeam_request_t *request, uint8_
 
 /* Writes a request to the buffer of a push, which has PBEAM_REQUEST_BYTES bytes. Bytes that EL3 does not read become zero. */
 PBEAM_NONNULL(1, 4)
-static inline void pbeam_put_request(uint8_t *at, uint64_t rec_granule, uint64_t req_ticket, const uint8_t hash[PBEAM_HASH_BYTES])
+static inline void pbeam_put_request(uint8_t *PBEAM_RESTRICT at, uint64_t rec_granule, uint64_t req_ticket,
+                                     const uint8_t hash[PBEAM_HASH_BYTES])
 {
     pbeam_put64(at + PBEAM_REQUEST_ALGORITHM, PBEAM_ALGORITHM_SECP384R1);
     pbeam_put64(at + PBEAM_REQUEST_GRANULE, rec_granule);
@@ -1030,17 +1036,17 @@ static inline void pbeam_put_request(uint8_t *at, uint64_t rec_granule, uint64_t
         at[PBEAM_REQUEST_HASH + i] = hash[i];
 }
 
-/* The response that a pull wrote to a buffer of `size` bytes. Returns false if its signature ends after the buffer, or size is below 18. */
-PBEAM_NONNULL(1, 3)
-static inline bool pbeam_get_response(const uint8_t *at, size_t size, pbeam_response_t *response)
+/* The response that a pull wrote to a buffer of `size` bytes. Returns false, and sets *response to zeros with signature_buf NULL, if its
+ * signature ends after the buffer, or size is below 18. */
+PBEAM_MUST_CHECK PBEAM_NONNULL(1, 3)
+static inline bool pbeam_get_response(const uint8_t *at, size_t size, pbeam_response_t *PBEAM_RESTRICT response)
 {
-    if (size < PBEAM_RESPONSE_SIGNATURE)
-        return false;
-    response->rec_granule = pbeam_get64(at + PBEAM_RESPONSE_GRANULE);
-    response->req_ticket = pbeam_get64(at + PBEAM_RESPONSE_TICKET);
-    response->sig_len = pbeam_get16(at + PBEAM_RESPONSE_LENGTH);
-    response->signature_buf = at + PBEAM_RESPONSE_SIGNATURE;
-    return response->sig_len <= size - PBEAM_RESPONSE_SIGNATURE;
+    const bool whole = size >= PBEAM_RESPONSE_SIGNATURE && pbeam_get16(at + PBEAM_RESPONSE_LENGTH) <= size - PBEAM_RESPONSE_SIGNATURE;
+    response->rec_granule = whole ? pbeam_get64(at + PBEAM_RESPONSE_GRANULE) : 0;
+    response->req_ticket = whole ? pbeam_get64(at + PBEAM_RESPONSE_TICKET) : 0;
+    response->sig_len = whole ? pbeam_get16(at + PBEAM_RESPONSE_LENGTH) : PBEAM_CAST(uint16_t, 0);
+    response->signature_buf = whole ? at + PBEAM_RESPONSE_SIGNATURE : NULL;
+    return whole;
 }
 
 #endif

@@ -49,7 +49,8 @@ file == 1 {
 }
 
 # NAME.s: labels that start a function, and the branches in it that leave it.
-file == 2 && $1 == ".globl" { export[$2] = 1 }
+# The function that carries the version in its name is for the linker: the header has no figure of it.
+file == 2 && $1 == ".globl" && $2 !~ /_version_[0-9]+_[0-9]+_[0-9]+$/ { export[$2] = 1 }
 file == 2 && /^("[^"]*"|[A-Za-z_][A-Za-z0-9_.]*):/ {
     inside = $0
     match(inside, /^("[^"]*"|[^:]*)/)

@@ -4,7 +4,7 @@
  *   1  EL3 writes a manifest with two banks, two consoles, and the board's name and serial, and sets up its granule record from what the
  *      manifest shows: the table has a byte for each granule of the two. From the table it builds the Realm words, a bit for each granule.
  *   2  EL3 enters the monitor: cold boot on CPU 0, with enough kept bytes that no command overwrites the manifest. The monitor lists what
- *      the manifest shows, picks its console by name, and reports with RMM_BOOT_COMPLETE.
+ *      the manifest shows, walks over the fields, picks its console by name, and reports with RMM_BOOT_COMPLETE.
  *   3  Warm boot on CPU 1: the monitor reads the manifest again.
  *   4  The monitor delegates a granule, and tries the same one again: a refusal. It delegates one of the second bank; an address in the hole
  *      between the banks is refused. EL3 delegates 200 granules of guest memory in one call; a second list runs into the granule that is
@@ -211,7 +211,8 @@ static bool el3_set_up_granules(void)
 {
     pbeam_view_t view;
     uint64_t x0;
-    (void)pbeam_manifest_read(&page, BASE, PBEAM_EDITION_LAST, &view); /* of a refused page the view shows no bank, which is refused here */
+    if (pbeam_manifest_read(&page, BASE, PBEAM_EDITION_LAST, &view) != PBEAM_READ_ACCEPTED)
+        return false;
     x0 = pbeam_context_set_up_granules(&el3.context, &page, &view);
     printf("EL3: set up %" PRIu64 " banks, %" PRIu64 " granules: %s\n", el3.context.granules.words[PBEAM_GRANULES_COUNT],
            pbeam_view_granules(&page, &view), pbeam_x0_text(x0));
@@ -231,8 +232,9 @@ static bool el3_build_words(void)
 static bool el3_count_realm(uint64_t want)
 {
     uint64_t number, next, x0;
+    bool counted;
     el3_lock();
-    (void)pbeam_context_realm_count(&el3.context, &number); /* the words fit: they were built */
+    counted = pbeam_context_realm_count(&el3.context, &number) == PBEAM_X0_OK;
     x0 = pbeam_context_realm_next(&el3.context, 3, &next);
     el3_unlock();
     printf("EL3: Realm granules: %" PRIu64 ", ", number);
@@ -240,7 +242,7 @@ static bool el3_count_realm(uint64_t want)
         printf("from granule 3 on the first is %" PRIu64 "\n", next);
     else
         printf("none from granule 3 on\n");
-    return number == want;
+    return counted && number == want;
 }
 
 /* Delegates guest memory, a range of granules in one call. The call has no function id in the interface: a board chooses one.
@@ -269,9 +271,9 @@ static bool el3_boot_first_cpu(void)
 {
     const pbeam_cold_t x = {.cpu = 0, .version = PBEAM_INTERFACE_MINOR, .cpus = CPUS, .base = BASE}; /* version 0.5 */
     pbeam_view_t view;
-    int32_t code;
-    (void)pbeam_manifest_read(&page, BASE, PBEAM_EDITION_LAST, &view); /* a refused page is refused again by the cold boot */
-    code = pbeam_record_cold_boot(&el3.context.record, &x, CPUS, pbeam_view_kept(&page, &view), &page);
+    const bool shown = pbeam_manifest_read(&page, BASE, PBEAM_EDITION_LAST, &view) == PBEAM_READ_ACCEPTED;
+    /* A refused page is refused again by the cold boot. */
+    const int32_t code = pbeam_record_cold_boot(&el3.context.record, &x, CPUS, shown ? pbeam_view_kept(&page, &view) : 0, &page);
     if (code == E_RMM_BOOT_SUCCESS)
         monitor_cold_boot(&x);
     else
@@ -326,6 +328,19 @@ static void monitor_pick_console(const pbeam_view_t *view)
     printf("at 0x%" PRIx64 ", %" PRIu64 " Hz, %" PRIu64 " baud\n", console.base, console.clk_in_hz, console.baud_rate);
 }
 
+/* Each field of the platform data, in page order. The walk ends where no field is found. A withdrawn field has a tag and no value. */
+static void monitor_walk_fields(const pbeam_view_t *view)
+{
+    size_t cursor = pbeam_view_field_start(&page, view);
+    for (;;) {
+        const pbeam_field_t field = pbeam_view_field_next(&page, &cursor);
+        if (!pbeam_field_found(&field))
+            break;
+        printf("monitor: field with tag %d, %zu bytes%s\n", pbeam_field_tag(&field), pbeam_field_value(&page, &field).length,
+               pbeam_field_withdrawn(&field) ? ", withdrawn" : "");
+    }
+}
+
 static void monitor_list(const pbeam_view_t *view)
 {
     const pbeam_bytes_t name = pbeam_view_board_name(&page, view), serial = pbeam_view_serial(&page, view);
@@ -335,6 +350,7 @@ static void monitor_list(const pbeam_view_t *view)
     for (size_t i = 0; i < serial.length; i++)
         printf("%02x", serial.at[i]);
     printf("\n");
+    monitor_walk_fields(view);
     for (size_t i = 0; i < pbeam_view_count(&page, view, PBEAM_DRAM); i++) {
         const pbeam_bank_t bank = pbeam_view_dram(&page, view, i);
         printf("monitor: bank at 0x%" PRIx64 ", 0x%" PRIx64 " bytes\n", bank.base, bank.size);
@@ -366,9 +382,10 @@ static uint8_t *monitor_bytes(void)
 /* No register carries the number of kept bytes: both sides compute it from the page. */
 static void monitor_cold_boot(const pbeam_cold_t *x)
 {
-    int32_t code;
-    (void)pbeam_manifest_read(&page, x->base, PBEAM_EDITION_LAST, &monitor.view); /* the cold boot answers for a refused page */
-    code = pbeam_record_cold_boot(&monitor.record, x, CPUS_MOST, pbeam_view_kept(&page, &monitor.view), &page);
+    const bool shown = pbeam_manifest_read(&page, x->base, PBEAM_EDITION_LAST, &monitor.view) == PBEAM_READ_ACCEPTED;
+    /* The cold boot answers for a refused page. */
+    const int32_t code =
+        pbeam_record_cold_boot(&monitor.record, x, CPUS_MOST, shown ? pbeam_view_kept(&page, &monitor.view) : 0, &page);
     printf("monitor: cold boot of CPU %" PRIu64 ": %s\n", x->cpu, pbeam_boot_text(code));
     if (code == E_RMM_BOOT_SUCCESS) {
         printf("monitor: %" PRIu64 " CPUs, page at 0x%" PRIx64 ", agreed minor %" PRIu64 ", %" PRIu64 " bytes kept\n",

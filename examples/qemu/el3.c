@@ -117,13 +117,13 @@ static bool write_manifest(void)
     return refusal == PBEAM_WRITE_PAGE;
 }
 
-/* The granule record, of the banks that the manifest shows, and the Realm words of the table. Of a refused page the view shows no bank, which
- * is refused here. */
+/* The granule record, of the banks that the manifest shows, and the Realm words of the table. */
 static bool set_up_granules(void)
 {
     pbeam_view_t view;
     uint64_t x0;
-    (void)pbeam_manifest_read(el3.kit.page, PAGE, PBEAM_EDITION_LAST, &view);
+    if (pbeam_manifest_read(el3.kit.page, PAGE, PBEAM_EDITION_LAST, &view) != PBEAM_READ_ACCEPTED)
+        return false;
     x0 = pbeam_context_set_up_granules(&el3.kit, el3.kit.page, &view);
     say("EL3: sets up %d banks, %d granules: %s\n", pbeam_view_count(el3.kit.page, &view, PBEAM_DRAM),
         pbeam_view_granules(el3.kit.page, &view), pbeam_x0_text(x0));
@@ -151,9 +151,9 @@ static struct context *cold_boot(void)
     const pbeam_cold_t x = {.cpu = 0, .version = offered, .cpus = CPUS, .base = PAGE};
     struct context *to = enter(0, WORLD_MONITOR, x.cpu);
     pbeam_view_t view;
-    int32_t code;
-    (void)pbeam_manifest_read(el3.kit.page, PAGE, PBEAM_EDITION_LAST, &view); /* the cold boot answers for a refused page */
-    code = pbeam_record_cold_boot(&el3.kit.record, &x, CPUS, pbeam_view_kept(el3.kit.page, &view), el3.kit.page);
+    const bool shown = pbeam_manifest_read(el3.kit.page, PAGE, PBEAM_EDITION_LAST, &view) == PBEAM_READ_ACCEPTED;
+    const uint64_t kept = shown ? pbeam_view_kept(el3.kit.page, &view) : 0; /* the cold boot answers for a refused page */
+    const int32_t code = pbeam_record_cold_boot(&el3.kit.record, &x, CPUS, kept, el3.kit.page);
     say("EL3: cold boot of its own record: %s, %d bytes kept\n", pbeam_boot_text(code), pbeam_record_kept(&el3.kit.record));
     if (code != E_RMM_BOOT_SUCCESS)
         end(EXIT_NO_BOOT);
@@ -235,7 +235,8 @@ static struct context *boot_complete(uint64_t cpu, struct context *from)
 static void say_realm(void)
 {
     uint64_t number, first;
-    (void)pbeam_context_realm_count(&el3.kit, &number); /* the words fit: they were built */
+    if (pbeam_context_realm_count(&el3.kit, &number) != PBEAM_X0_OK)
+        say("EL3: the Realm words do not fit the granule record\n"); /* not here: they were built */
     if (pbeam_context_realm_next(&el3.kit, 0, &first) == PBEAM_X0_OK)
         say("EL3: Realm granules: %d, the first is granule %d\n", number, first);
     else

@@ -161,9 +161,9 @@ _Noreturn void cold(uint64_t x0, uint64_t x1, uint64_t x2, uint64_t x3)
     const pbeam_cold_t x = {.cpu = x0, .version = x1, .cpus = x2, .base = x3};
     const pbeam_page_t *lent = (const pbeam_page_t *)x3;
     pbeam_view_t view;
-    int32_t code;
-    (void)pbeam_manifest_read(lent, x3, PBEAM_EDITION_LAST, &view); /* the cold boot answers for a refused page */
-    code = pbeam_record_cold_boot(&record, &x, CPUS_MOST, pbeam_view_kept(lent, &view), lent);
+    const bool shown = pbeam_manifest_read(lent, x3, PBEAM_EDITION_LAST, &view) == PBEAM_READ_ACCEPTED;
+    const uint64_t kept = shown ? pbeam_view_kept(lent, &view) : 0; /* the cold boot answers for a refused page */
+    const int32_t code = pbeam_record_cold_boot(&record, &x, CPUS_MOST, kept, lent);
     say("monitor: CPU %d at level %d%s, cold boot: %s\n", x0, level(), has_rme() ? " of the Realm world" : "", pbeam_boot_text(code));
     if (code == E_RMM_BOOT_SUCCESS) {
         say("monitor: %d CPUs, page at 0x%x, agreed minor %d, %d bytes kept\n", pbeam_record_cpus(&record), pbeam_record_base(&record),

@@ -94,7 +94,7 @@ static size_t core_of(uint64_t edition)
 {
     uint64_t view[ROOM];
     size_t at = 1;
-    pbeam_write(BASE, edition, NULL, 0, NULL, 0, NULL, 0, NULL, 0, NULL, 0, page, LEN);
+    SAME(pbeam_write(BASE, edition, NULL, 0, NULL, 0, NULL, 0, NULL, 0, NULL, 0, page, LEN), PBEAM_WRITE_PAGE);
     for (; at < LEN; at++) {
         put(page + 8, BASE + at, 8);
         if (pbeam_read(page, LEN, BASE, edition, view) == 0)
@@ -190,8 +190,8 @@ static void check_view(void)
     SAME(view[PBEAM_VIEW_MINOR], 4);
     SAME(view[PBEAM_VIEW_EDITION], 2);
     section_shown(view, PBEAM_CONSOLE, PBEAM_VIEW_ABSENT, 0, 0);
-    pbeam_write(BASE, 4, dram, 4, NULL, 0, NULL, 0, NULL, 0, NULL, 0, page, LEN);
-    pbeam_read(page, LEN, BASE, 4, view);
+    SAME(pbeam_write(BASE, 4, dram, 4, NULL, 0, NULL, 0, NULL, 0, NULL, 0, page, LEN), PBEAM_WRITE_PAGE);
+    SAME(pbeam_read(page, LEN, BASE, 4, view), PBEAM_READ_ACCEPTED);
     section_shown(view, PBEAM_CONSOLE, PBEAM_VIEW_EMPTY, 0, 0);
     /* A refused page shows zeros. */
     guard(view);
@@ -205,7 +205,7 @@ static void check_lookups(void)
 {
     uint64_t view[ROOM], place[ROOM];
     make(4);
-    pbeam_read(page, LEN, BASE, 4, view);
+    SAME(pbeam_read(page, LEN, BASE, 4, view), PBEAM_READ_ACCEPTED);
     guard(place);
     pbeam_array(page, LEN, BASE, 4, PBEAM_DRAM, place);
     SAME(PBEAM_PLACE_WORDS, written(place));
@@ -473,11 +473,11 @@ static void check_editions_and_length(void)
     SAME(PBEAM_PAGE_BYTES, length);
 }
 
-/* Of the header alone: 0.3.0, as docs/REFERENCE.md has it. */
+/* Of potterbeam_common.h alone, as docs/REFERENCE.md has it. tests/c/run_mistakes compares it with the libraries. */
 static void check_version(void)
 {
     SAME(PBEAM_VERSION_MAJOR, 0);
-    SAME(PBEAM_VERSION_MINOR, 3);
+    SAME(PBEAM_VERSION_MINOR, 4);
     SAME(PBEAM_VERSION_PATCH, 0);
 }
 
@@ -802,18 +802,18 @@ static void check_kept_for(void)
 {
     uint64_t view[ROOM];
     make(1);
-    pbeam_read(page, LEN, BASE, 4, view);
+    SAME(pbeam_read(page, LEN, BASE, 4, view), PBEAM_READ_ACCEPTED);
     SAME(PBEAM_CORE_BYTES_1, pbeam_kept_for(page, LEN, view));
     make(2);
-    pbeam_read(page, LEN, BASE, 4, view);
+    SAME(pbeam_read(page, LEN, BASE, 4, view), PBEAM_READ_ACCEPTED);
     SAME(PBEAM_CORE_BYTES_2 + 32, pbeam_kept_for(page, LEN, view));
     make(4);
-    pbeam_read(page, LEN, BASE, 4, view);
+    SAME(pbeam_read(page, LEN, BASE, 4, view), PBEAM_READ_ACCEPTED);
     SAME(PBEAM_CORE_BYTES_4 + 192, pbeam_kept_for(page, LEN, view));
-    pbeam_read(page, LEN, BASE, 3, view); /* what an older reader needs is all that it reads */
+    SAME(pbeam_read(page, LEN, BASE, 3, view), PBEAM_READ_ACCEPTED); /* what an older reader needs is all that it reads */
     SAME(PBEAM_CORE_BYTES_4 + 80, pbeam_kept_for(page, LEN, view));
     SAME(write_fact(9, 10), PBEAM_WRITE_PAGE);
-    pbeam_read(page, LEN, BASE, 4, view);
+    SAME(pbeam_read(page, LEN, BASE, 4, view), PBEAM_READ_ACCEPTED);
     SAME(pbeam_kept_for(page, LEN, view), 32); /* 16 + 3 + 10 + 3 */
     SAME(write_fact(9, 11), PBEAM_WRITE_PAGE);
     SAME(pbeam_kept_for(page, LEN, view), 40);
@@ -856,7 +856,7 @@ static void check_kept_bytes(void)
     guard(again);
     memset(state, 0, sizeof state);
     guard(view);
-    pbeam_read(page, LEN, BASE, 4, view);
+    SAME(pbeam_read(page, LEN, BASE, 4, view), PBEAM_READ_ACCEPTED);
     kept = pbeam_kept_for(page, LEN, view);
     SAME(PBEAM_BOOT_DONE, pbeam_cold_boot(state, 0, 5, 3, BASE, 8, kept, page, LEN));
     SAME(PBEAM_BOOT_DONE, pbeam_warm_boot(state, 1, 0, 0, 0));

@@ -86,7 +86,7 @@ static void make_holes(void)
     static const uint8_t told[] = {1, 2, 0, 'D', 'K', 9, 1, 0, 7, 9, 0, 0};
     static const size_t at[] = {2000, 1800, 1600, 1400}, size[] = {32, 48, 48, 64};
     static uint8_t packed[LEN];
-    pbeam_write(BASE, 4, dram, 4, console, 6, ncoh, 6, coh, 8, told, sizeof told, packed, LEN);
+    SAME(pbeam_write(BASE, 4, dram, 4, console, 6, ncoh, 6, coh, 8, told, sizeof told, packed, LEN), PBEAM_WRITE_PAGE);
     memset(page, 0xEE, sizeof page);
     memcpy(page, packed, 112);
     for (size_t k = 0, from = 112; k < 4; from += size[k], k++) {
@@ -106,7 +106,7 @@ static void check_packer(void)
     static const uint8_t left[] = {1, 2, 0, 'D', 'K', 9, 0, 0};
     static uint8_t want[LEN], target[2 * LEN];
     make_holes();
-    pbeam_write(BASE, 4, dram, 4, console, 6, ncoh, 6, coh, 8, left, sizeof left, want, LEN);
+    SAME(pbeam_write(BASE, 4, dram, 4, console, 6, ncoh, 6, coh, 8, left, sizeof left, want, LEN), PBEAM_WRITE_PAGE);
     memset(target, 0xA5, sizeof target);
     SAME(PBEAM_PACK_W1_TARGET, pbeam_pack(page, LEN, BASE, target, LEN - 1));
     SAME(PBEAM_PACK_W1_TARGET, pbeam_pack(page, LEN, BASE, target, LEN + 1));

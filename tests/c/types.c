@@ -500,7 +500,7 @@ static void set_up(void)
     static const uint8_t realm_key[] = {0x11, 0x12, 0x13}, token[] = {0x21, 0x22, 0x23, 0x24}, public_key[] = {0x31, 0x32};
     const pbeam_cold_t x = {0, 5, 1, BASE};
     memset(&context, 0, sizeof context);
-    pbeam_manifest_write(BASE, 4, &banks, &page);
+    SAME(pbeam_manifest_write(BASE, 4, &banks, &page), PBEAM_WRITE_PAGE);
     SAME(pbeam_record_cold_boot(&context.record, &x, 1, 0, &page), PBEAM_BOOT_DONE);
     memset(table, 0, sizeof table);
     context.page = &page;
@@ -649,6 +649,15 @@ static void check_commands(void)
     SAME(called(pbeam_call_of(PBEAM_ID_BOOT_COMPLETE, 0, 0, 0, 0)), E_RMM_UNK);
 }
 
+/* A call without a challenge is OK, with an empty place. */
+static void check_no_challenge(pbeam_call_t call)
+{
+    pbeam_place_t place = {{9, 9}};
+    SAME(pbeam_context_challenge(&context, &call, &place), PBEAM_X0_OK);
+    SAME(pbeam_place_offset(&place), 0);
+    SAME(pbeam_place_length(&place), 0);
+}
+
 static void check_token(void)
 {
     pbeam_place_t place;
@@ -660,9 +669,11 @@ static void check_token(void)
     call.words[PBEAM_CALL_X2] = 47; /* a buffer shorter than the challenge */
     SAME(pbeam_context_challenge(&context, &call, &place), PBEAM_X0_INVAL);
     SAME(pbeam_place_length(&place), 0);
-    call = pbeam_call_of(PBEAM_ID_REALM_KEY, BASE + 8, 64, 48, 0); /* 48 is no c_size here */
-    SAME(pbeam_context_challenge(&context, &call, &place), PBEAM_X0_OK);
-    SAME(pbeam_place_length(&place), 0);
+    check_no_challenge(pbeam_call_of(PBEAM_ID_REALM_KEY, BASE + 8, 64, 48, 0)); /* 48 is no c_size here */
+    check_no_challenge(pbeam_call_features());                                 /* x1 is no pa */
+    check_no_challenge(pbeam_call_delegate(0));
+    check_no_challenge(pbeam_call_of(PBEAM_ID_PLATFORM_TOKEN + (UINT64_C(1) << 32), BASE + 8, 64, 48, 0));
+    check_no_challenge(pbeam_call_platform_token(BASE + 8, 64, 0)); /* goes on */
     context.busy = true;
     SAME(called(pbeam_call_platform_token(BASE + 8, 64, 48)), E_RMM_AGAIN);
     context.busy = false;
@@ -692,6 +703,18 @@ static void check_requests(const uint8_t hash[PBEAM_HASH_BYTES])
     SAME(found[PBEAM_HASH_BYTES], 0xEE);
 }
 
+/* Bytes that are no whole response leave zeros, nothing of what was there. */
+static void check_no_response(const uint8_t *at, size_t size)
+{
+    pbeam_response_t response;
+    memset(&response, 0xEE, sizeof response);
+    SAME(pbeam_get_response(at, size, &response), false);
+    SAME(response.rec_granule, 0);
+    SAME(response.req_ticket, 0);
+    SAME(response.sig_len, 0);
+    SAME(response.signature_buf == NULL, true);
+}
+
 static void check_signing(void)
 {
     static const uint8_t signature[] = {0xD1, 0xD2, 0xD3, 0xD4, 0xD5};
@@ -710,8 +733,9 @@ static void check_signing(void)
     pbeam_queue_sign(&context.queue, pbeam_bytes(signature, sizeof signature), &out);
     SAME(pbeam_registers_code(&out), E_RMM_OK);
     SAME(called(pbeam_call_pull(BASE + 16, 64)), E_RMM_OK);
-    SAME(pbeam_get_response(page.bytes + 16, 17, &response), false);
-    SAME(pbeam_get_response(page.bytes + 16, 18 + 4, &response), false);
+    check_no_response(page.bytes + 16, 0);
+    check_no_response(page.bytes + 16, 17);
+    check_no_response(page.bytes + 16, 18 + 4);
     SAME(pbeam_get_response(page.bytes + 16, 18 + 5, &response), true);
     SAME(response.rec_granule, UINT64_C(0x1122334455667788));
     SAME(response.req_ticket, 99);

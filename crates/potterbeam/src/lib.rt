@@ -281,6 +281,15 @@ pub extern "C" fn pbeam_is_later(a: u64, b: u64) -> bool
     versions::is_later(a, b)
 }
 
+// The archive's version, 0.4.0, as major * 65,536 + minor * 256 + patch. include/potterbeam.h refers to this name, so an object that was compiled with
+// the header of another version does not link.
+#[no_mangle]
+pub extern "C" fn pbeam_version_0_4_0() -> u64
+    ensures { λ r. ⌜ r ≡ 1024 ⌝ }
+{
+    1024
+}
+
 // ---- Boot ----
 
 // Cold boot with x0 to x3, on a monitor of at most `maxcpus` CPUs, with `manifest_extent` kept bytes at the start of the page, which is at physical

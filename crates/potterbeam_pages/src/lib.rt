@@ -29,3 +29,12 @@ pub extern "C" fn pbeam_mend(page: &mut [u8], base: u64, changed: &mut [u64; 6])
     *changed = mend::report_words(mended);
     mend::number(mended)
 }
+
+// The archive's version, 0.4.0, as major * 65,536 + minor * 256 + patch. include/potterbeam_pages.h refers to this name, so an object that was compiled with
+// the header of another version does not link.
+#[no_mangle]
+pub extern "C" fn pbeam_pages_version_0_4_0() -> u64
+    ensures { λ r. ⌜ r ≡ 1024 ⌝ }
+{
+    1024
+}

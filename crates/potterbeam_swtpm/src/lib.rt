@@ -176,3 +176,12 @@ pub extern "C" fn pbeam_swtpm_held(image: &[u32; 3]) -> u32
 {
     collector_of(image).held
 }
+
+// The archive's version, 0.4.0, as major * 65,536 + minor * 256 + patch. include/potterbeam_swtpm.h refers to this name, so an object that was compiled with
+// the header of another version does not link.
+#[no_mangle]
+pub extern "C" fn pbeam_swtpm_version_0_4_0() -> u64
+    ensures { λ r. ⌜ r ≡ 1024 ⌝ }
+{
+    1024
+}

@@ -114,3 +114,12 @@ pub extern "C" fn pbeam_tpm_request(
     let span = tpm::request_place(asked, memory, says(forbidden));
     *place = [span.at as u64, span.len as u64];
 }
+
+// The archive's version, 0.4.0, as major * 65,536 + minor * 256 + patch. include/potterbeam_tpm.h refers to this name, so an object that was compiled with
+// the header of another version does not link.
+#[no_mangle]
+pub extern "C" fn pbeam_tpm_version_0_4_0() -> u64
+    ensures { λ r. ⌜ r ≡ 1024 ⌝ }
+{
+    1024
+}
