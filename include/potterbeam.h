@@ -47,10 +47,21 @@
  *   it must pass that number to the monitor. K restricts only the commands: the monitor itself may still write below B + K.
  * Boot errors. The monitor ends each boot with RMM_BOOT_COMPLETE (0xC40001CF, the code in x1). The platform serves that call: pbeam_call
  *   answers PBEAM_X0_UNK. If x1 is not 0, EL3 closes its record with pbeam_close and lets no CPU enter the monitor again. From then on
- *   every command except 0xC400018F answers PBEAM_X0_UNK.
+ *   every command except 0xC400018F answers PBEAM_X0_UNK. EL3 compares all 64 bits of x1 with 0. It accepts RMM_BOOT_COMPLETE only from a CPU
+ *   that is booting, which is one that EL3 entered for a boot and that has not made this call since, and from no CPU after an
+ *   error, also with x1 = 0; otherwise it answers PBEAM_X0_UNK and changes nothing.
  * The page. During a call no other CPU and no other world may write it. 002 gives it to the Realm world and makes the monitor responsible
- *   for its use by one CPU at a time; EL3 still needs its own lock around each call, for session, queue and table.
+ *   for its use by one CPU at a time; EL3 still needs its own lock, for record, session, queue, table and words ("One lock" below).
  *   The promises for a call hold only if the page does not change during the call.
+ * One lock. If more than one CPU runs, EL3 has one lock. A lock around each call of the library alone is too little; one lock spans
+ *   - a command: copies of what the monitor can write, the call, and the change in hardware that it asks for;
+ *   - a start of a platform token: pbeam_challenge, the copy of the challenge, the choice of the token, and the call;
+ *   - a signature: pbeam_oldest, the making of the signature, and pbeam_sign, unless there is only one signer;
+ *   - a boot of EL3's record, and RMM_BOOT_COMPLETE with pbeam_close: they write the record that all commands read;
+ *   - pbeam_realm_count, pbeam_realm_next and pbeam_realm_agrees, which read what delegation writes.
+ *   Release it before the monitor runs on this CPU. examples/qemu/el3.c and examples/c/boot_to_token.c do all of it.
+ * Copies. EL3 cannot stop the monitor on another CPU from writing memory that it shares with it. So EL3 reads a list of addresses and
+ *   the challenge once, into its own memory, and uses only the copies: in the call of the library and in its own steps.
  * The platform token. Lend the same bytes at each call from an accepted start to the session's end. The library notices a new length
  *   (PBEAM_X0_UNK), but not other bytes of the same length: the monitor then gets the start of one token and the rest of another, each
  *   hunk answered OK. So do not change the lent token after a start that answers PBEAM_X0_AGAIN: the session before it may still go
@@ -619,6 +630,7 @@ uint32_t pbeam_write(uint64_t base, uint64_t edition, const uint64_t *dram, size
  * Stack    288 bytes; AArch64 256
  * The boot keeps no view. With K = 0 call pbeam_read before a command writes into the page. K need not cover the manifest; with K =
  * 4,096 every buffer is outside.
+ * EL3 holds its lock for the call, and marks the CPU as booting under it.
  */
 PBEAM_MUST_CHECK PBEAM_NONNULL(1)
 int32_t pbeam_cold_boot(uint64_t state[PBEAM_RESTRICT_WORDS PBEAM_STATE_WORDS], uint64_t x0, uint64_t x1, uint64_t x2, uint64_t x3,
@@ -632,6 +644,8 @@ int32_t pbeam_cold_boot(uint64_t state[PBEAM_RESTRICT_WORDS PBEAM_STATE_WORDS], 
  *          PBEAM_BOOT_CPU          x0 not below the cold boot's x2
  * Leaves   state: up and unchanged; refused: closed, permanently. A CPU may warm boot twice.
  * Stack    32 bytes; AArch64 32
+ * EL3 holds its lock for the call, and marks the CPU as booting under it: commands on other CPUs read the record, and another CPU
+ * may be about to close it.
  */
 PBEAM_MUST_CHECK PBEAM_NONNULL(1)
 int32_t pbeam_warm_boot(uint64_t state[PBEAM_STATE_WORDS], uint64_t x0, uint64_t x1, uint64_t x2, uint64_t x3);
@@ -640,6 +654,8 @@ int32_t pbeam_warm_boot(uint64_t state[PBEAM_STATE_WORDS], uint64_t x0, uint64_t
  * pbeam_close: closes the record permanently, from any state. EL3 calls it when the monitor reports that its boot failed.
  * Leaves   state: closed.
  * Stack    32 bytes; AArch64 0
+ * EL3 holds its lock while it checks that RMM_BOOT_COMPLETE comes from a booting CPU and that the record is up, compares all 64 bits of x1
+ * with 0, and calls this function.
  */
 PBEAM_NONNULL(1)
 void pbeam_close(uint64_t state[PBEAM_STATE_WORDS]);
@@ -701,6 +717,8 @@ uint64_t pbeam_set_up_granules(uint64_t granules[PBEAM_RESTRICT_WORDS PBEAM_GRAN
  *          words are unchanged.
  * Stack    192 bytes; AArch64 96
  * The library updates table and words. Changing the hardware after an OK is up to the platform.
+ * One lock spans the call and the change in hardware. Otherwise another CPU undelegates the granule in between, and the hardware ends as
+ * Realm where the table is Non-secure.
  */
 PBEAM_NONNULL(1, 2, 8)
 void pbeam_delegate(const uint64_t state[PBEAM_STATE_WORDS], const uint64_t granules[PBEAM_GRANULES_WORDS], uint8_t *PBEAM_RESTRICT table,
@@ -712,6 +730,7 @@ void pbeam_delegate(const uint64_t state[PBEAM_STATE_WORDS], const uint64_t gran
  * As pbeam_delegate, with PBEAM_X0_BAD_PAS if the byte is not PBEAM_GRANULE_REALM; on OK it becomes PBEAM_GRANULE_NON_SECURE, and its
  * bit is cleared. Before that check address B, the shared page, is PBEAM_X0_BAD_ADDR for any byte: it must stay Realm.
  * Stack    192 bytes; AArch64 96
+ * One lock spans the call and the change in hardware, as for pbeam_delegate.
  */
 PBEAM_NONNULL(1, 2, 8)
 void pbeam_undelegate(const uint64_t state[PBEAM_STATE_WORDS], const uint64_t granules[PBEAM_GRANULES_WORDS], uint8_t *PBEAM_RESTRICT table,
@@ -729,6 +748,9 @@ void pbeam_undelegate(const uint64_t state[PBEAM_STATE_WORDS], const uint64_t gr
  *          address that is in the list twice is refused with PBEAM_X0_BAD_PAS the second time.
  * Stack    256 bytes; AArch64 192
  * The library updates table and words. Changing the hardware for the first x1 addresses, also after a refusal, is up to the platform.
+ * If the monitor can write the list, copy it into EL3's own memory first, and pass the copy: after the library EL3 reads the first x1
+ * addresses again, for the hardware. In shared memory they can be others by then, which the table never allowed.
+ * One lock spans the copy, the call and the changes in hardware.
  */
 PBEAM_NONNULL(1, 2, 9)
 void pbeam_delegate_list(const uint64_t state[PBEAM_STATE_WORDS], const uint64_t granules[PBEAM_GRANULES_WORDS],
@@ -738,6 +760,7 @@ void pbeam_delegate_list(const uint64_t state[PBEAM_STATE_WORDS], const uint64_t
 /*
  * pbeam_undelegate_list: the same from Realm to Non-secure, each address as pbeam_undelegate takes it.
  * Stack    256 bytes; AArch64 192
+ * Copy and lock as for pbeam_delegate_list.
  */
 PBEAM_NONNULL(1, 2, 9)
 void pbeam_undelegate_list(const uint64_t state[PBEAM_STATE_WORDS], const uint64_t granules[PBEAM_GRANULES_WORDS],
@@ -747,7 +770,8 @@ void pbeam_undelegate_list(const uint64_t state[PBEAM_STATE_WORDS], const uint64
 /* ---- Realm words: one bit for each byte of the granule table. Granule i is bit i mod 64 of word i / 64, set if its byte is
  * PBEAM_GRANULE_REALM; the spare bits of the last word are 0. There are ceil(granules of the record / 64) words; with any other number
  * the four functions below return PBEAM_X0_INVAL, and delegation answers it. If words and table agree, they agree after any delegation;
- * pbeam_realm_build makes them agree. The four functions do not take the boot record. ---- */
+ * pbeam_realm_build makes them agree. The four functions do not take the boot record. EL3 holds its lock for each of them: a delegation on
+ * another CPU writes table and words. ---- */
 
 /*
  * pbeam_realm_count: the number of Realm granules. It reads only the words, so a board does not stall while the table is scanned.
@@ -823,6 +847,7 @@ void pbeam_realm_key(const uint64_t state[PBEAM_STATE_WORDS], uint8_t *PBEAM_RES
  *          otherwise sending. Refused, page and session are unchanged.
  * Stack    128 bytes; AArch64 32
  * The hunk overwrites the challenge: call pbeam_challenge first. Size 0 with c_size 0 in a session is OK and delivers nothing.
+ * One lock spans pbeam_challenge, the copy of the challenge, the choice of the token and this call: there is one session for all CPUs.
  */
 PBEAM_NONNULL(1, 2, 11)
 void pbeam_platform_token(const uint64_t state[PBEAM_STATE_WORDS], uint64_t session[PBEAM_RESTRICT_WORDS PBEAM_SESSION_WORDS],
@@ -841,6 +866,8 @@ void pbeam_platform_token(const uint64_t state[PBEAM_STATE_WORDS], uint64_t sess
  * Stack    32 bytes; AArch64 32
  * Make a token only if the result is PBEAM_X0_OK and place is not (0, 0): any other call is no start, or will be refused with that code.
  * This function does not check whether the platform is busy.
+ * Copy the challenge from its place into EL3's own memory, once, and use only the copy. In the page the monitor on another CPU can change it
+ * after EL3 has compared it with an earlier one and before EL3 makes the token. Hold the lock from this function to the end of the command.
  */
 PBEAM_NONNULL(1, 7)
 uint64_t pbeam_challenge(const uint64_t state[PBEAM_STATE_WORDS], const uint8_t *page, size_t page_len, uint64_t pa, uint64_t size,
@@ -875,6 +902,7 @@ void pbeam_features(const uint64_t state[PBEAM_STATE_WORDS], uint64_t index, uin
  *          from the queue; key: the key at pa, the queue unchanged. Every other byte of the page is unchanged. Refused, page and queue are
  *          unchanged.
  * Stack    224 bytes; AArch64 384
+ * EL3 holds its lock for the call: the signer's side writes the queue.
  */
 PBEAM_NONNULL(1, 2, 11)
 void pbeam_token_signing(const uint64_t state[PBEAM_STATE_WORDS], uint64_t queue[PBEAM_RESTRICT_WORDS PBEAM_QUEUE_WORDS],
@@ -890,7 +918,7 @@ void pbeam_token_signing(const uint64_t state[PBEAM_STATE_WORDS], uint64_t queue
  *          PBEAM_X0_UNK       m above PBEAM_WIDTH_MOST; agreed minor below PBEAM_KEY_UPDATE_MINOR
  *          Refused, work is (PBEAM_WORK_NOTHING, 0).
  * Stack    32 bytes; AArch64 0
- * The library makes no key: the platform does, if work is PBEAM_WORK_REPROGRAM.
+ * The library makes no key: the platform does, if work is PBEAM_WORK_REPROGRAM. One lock spans the call and the making of the key.
  */
 PBEAM_NONNULL(1, 4, 5)
 void pbeam_key_update(const uint64_t state[PBEAM_STATE_WORDS], uint64_t width, uint64_t mecid,
@@ -917,6 +945,9 @@ uint64_t pbeam_forward(const uint64_t state[PBEAM_STATE_WORDS], uint64_t x1);
  * Leaves   on OK the queue with one request less and one response more: rec_granule and req_ticket of the request, and the signature.
  *          Refused, the queue is unchanged.
  * Stack    224 bytes; AArch64 192
+ * One lock spans pbeam_oldest, the making of the signature and this call. With a lock around each alone, two signers get the same request;
+ * the second signature goes to the next ticket, whose hash it is not for, and both calls are OK. If there is only one signer, it may
+ * release the lock while it makes the signature: only this function removes a request.
  */
 PBEAM_NONNULL(1, 4)
 void pbeam_sign(uint64_t queue[PBEAM_RESTRICT_WORDS PBEAM_QUEUE_WORDS], const uint8_t *signature, size_t signature_len,
@@ -928,6 +959,7 @@ void pbeam_sign(uint64_t queue[PBEAM_RESTRICT_WORDS PBEAM_QUEUE_WORDS], const ui
  * Returns  the number of waiting requests, with all fields of the oldest in request; 0 with request all zero if no request waits.
  * Leaves   the queue unchanged: the request waits until pbeam_sign removes it.
  * Stack    32 bytes; AArch64 0
+ * EL3 holds its lock from here to the end of pbeam_sign.
  */
 PBEAM_MUST_CHECK PBEAM_NONNULL(1, 2)
 size_t pbeam_oldest(const uint64_t queue[PBEAM_QUEUE_WORDS], uint64_t request[PBEAM_RESTRICT_WORDS PBEAM_REQUEST_WORDS]);
@@ -956,6 +988,7 @@ size_t pbeam_responses(const uint64_t queue[PBEAM_QUEUE_WORDS]);
  * Leaves   what the command leaves; everything else is unchanged. Only PBEAM_ID_PLATFORM_TOKEN reads or writes the session, only
  *          PBEAM_ID_TOKEN_SIGNING the queue.
  * Stack    416 bytes with PBEAM_ID_TOKEN_SIGNING, 384 bytes with any other id; AArch64 544
+ * One lock spans what EL3 copies before the call, the call, and what the hardware must do after it ("One lock" at the head of this file).
  */
 PBEAM_NONNULL(1, 2, 3, 6, 19, 20, 21)
 void pbeam_call(const uint64_t state[PBEAM_STATE_WORDS], uint64_t session[PBEAM_RESTRICT_WORDS PBEAM_SESSION_WORDS],

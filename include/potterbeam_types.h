@@ -156,7 +156,8 @@ typedef struct {
     uint64_t base;    /* x3: B */
 } pbeam_cold_t;
 
-/* All that a runtime command takes in addition to its registers. If it is all zero, no command is served. */
+/* All that a runtime command takes in addition to its registers. If it is all zero, no command is served. EL3's lock guards all of it: see "One
+ * lock" in potterbeam.h. */
 typedef struct {
     pbeam_record_t record;   /* EL3's own record */
     pbeam_session_t session;
@@ -911,7 +912,7 @@ static inline uint64_t pbeam_context_realm_next(const pbeam_context_t *context, 
     return pbeam_realm_next(context->granules.words, context->words, context->words == NULL ? 0 : context->words_count, index, found);
 }
 
-/* pbeam_call: runs one command. */
+/* pbeam_call: runs one command. EL3 holds its lock from the copy of a challenge, before this, to the change in hardware after it. */
 PBEAM_NONNULL(1, 2, 3, 4)
 static inline void pbeam_context_call(pbeam_context_t *context, const pbeam_call_t *call, pbeam_registers_t *out, pbeam_work_t *work)
 {
@@ -927,7 +928,7 @@ static inline void pbeam_context_call(pbeam_context_t *context, const pbeam_call
 }
 
 /* pbeam_delegate_list: several addresses in one call. Also on a refusal, pbeam_registers_x1 of out is the number of
- * granules changed, and these stay changed. */
+ * granules changed, and these stay changed. `addresses` is EL3's own copy, never memory that the monitor can write. */
 PBEAM_NONNULL(1, 4)
 static inline void pbeam_context_delegate_list(pbeam_context_t *context, const uint64_t *addresses, size_t count,
                                                pbeam_registers_t *out)
@@ -949,7 +950,8 @@ static inline void pbeam_context_undelegate_list(pbeam_context_t *context, const
 
 /* pbeam_challenge: the challenge of a call that starts a token session; place (0, 0) for any other call. For PBEAM_ID_PLATFORM_TOKEN it
  * returns what pbeam_challenge does; for any other id PBEAM_X0_OK, since such a call has no challenge. So a handler may call this for every
- * command, and leave on another code than PBEAM_X0_OK: it is the code that pbeam_context_call answers, unless the platform is busy. */
+ * command, and leave on another code than PBEAM_X0_OK: it is the code that pbeam_context_call answers, unless the platform is busy. Copy the
+ * bytes at place once, and make the token from the copy. */
 PBEAM_NONNULL(1, 2, 3)
 static inline uint64_t pbeam_context_challenge(const pbeam_context_t *context, const pbeam_call_t *call, pbeam_place_t *place)
 {
@@ -977,7 +979,7 @@ static inline size_t pbeam_queue_oldest(const pbeam_queue_t *queue, pbeam_reques
     return pbeam_oldest(queue->words, request->words);
 }
 
-/* pbeam_sign: answers the oldest request with a signature. */
+/* pbeam_sign: answers the oldest request with a signature. One lock spans pbeam_queue_oldest and this. */
 PBEAM_NONNULL(1, 3)
 static inline void pbeam_queue_sign(pbeam_queue_t *queue, pbeam_bytes_t signature, pbeam_registers_t *out)
 {

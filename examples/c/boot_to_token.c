@@ -7,21 +7,27 @@
  *      the manifest shows, walks over the fields, picks its console by name, and reports with RMM_BOOT_COMPLETE.
  *   3  Warm boot on CPU 1: the monitor reads the manifest again.
  *   4  The monitor delegates a granule, and tries the same one again: a refusal. It delegates one of the second bank; an address in the hole
- *      between the banks is refused. EL3 delegates 200 granules of guest memory in one call; a second list runs into the granule that is
- *      Realm already, and reports how many it did before. Before and after, EL3 reads from the words how many granules are
- *      Realm and which is the first, without a walk over the table.
+ *      between the banks is refused. The monitor passes a list in the page: EL3 copies it, and delegates 200 granules of guest memory in one
+ *      call; a second list runs into the granule that is Realm already, and reports how many it did before. Before and after, EL3 reads from
+ *      the words how many granules are Realm and which is the first, without a walk over the table.
  *   5  It draws the platform token, 100 bytes through a buffer of 64. The platform takes its time: AGAIN, and the monitor asks again. In
  *      mid-session the monitor starts again, gets AGAIN, and goes on: it still gets the rest of the first token. Then it gets the new one.
  *      A buffer in the kept bytes is refused, and the manifest is still there.
  *   6  It completes an RMI call of the Non-secure world.
  *   7  It has a token signed: push, the signer's step, pull.
- *   8  A second warm boot of CPU 1 finds the manifest unchanged. Then a warm boot that the monitor reports as failed: EL3 closes its record
- *      and serves nothing more.
+ *   8  A second warm boot of CPU 1 finds the manifest unchanged. RMM_BOOT_COMPLETE from a CPU that is not booting is not accepted. Then
+ *      a warm boot that the monitor reports as failed, with a code whose low 32 bits are 0: EL3 closes its record and serves nothing more,
+ *      no RMM_BOOT_COMPLETE either.
  *
- * On a board the two sides are two programs. Here the entry to the monitor and its SMCs are plain C calls, and a fill of bytes
- * takes the place of cryptography. el3_smc is the handler to copy; el3_choose_token is its part for a platform that can be busy.
+ * On a board the two sides are two programs. Here the entry to the monitor and its SMCs are plain C calls, one CPU after another, and a fill
+ * of bytes takes the place of cryptography. el3_smc is the handler to copy; el3_choose_token is its part for a platform that can be busy.
+ *
+ * What CPUs share is used under one lock, el3_lock to el3_unlock: the copy of what the monitor can write (challenge, list), the call of the
+ * library and the step in hardware; the oldest request and its signature; each boot of EL3's record, and RMM_BOOT_COMPLETE. It is not held
+ * while the monitor runs.
  */
 #include <inttypes.h>
+#include <stdatomic.h>
 #include <stdio.h>
 #include <string.h>
 
@@ -33,7 +39,8 @@
 #define HIGH UINT64_C(0x880000000)      /* the second */
 #define HIGH_BYTES UINT64_C(0x80000000)
 #define GRANULES ((MEMORY_BYTES + HIGH_BYTES) / PBEAM_GRANULE_BYTES) /* of this board; a byte each */
-#define GUEST_GRANULES 200
+#define GUEST_GRANULES 200              /* also the longest list that EL3 takes */
+#define HAND_OVER UINT64_C(0xC3000000)  /* this board's own SMC: delegates a list. x1 its address in the page, x2 the number of granules */
 #define CPUS 3
 #define CPUS_MOST 8                     /* what the monitor is built for */
 #define TOKEN_BYTES 100
@@ -55,12 +62,24 @@ static struct {
     uint64_t words[GRANULES / PBEAM_REALM_WORD_GRANULES]; /* GRANULES is a multiple of 64 */
     struct token tokens[2];  /* the one that a session is lent, and one to make the next */
     size_t lent;             /* which of them is lent */
+    uint64_t list[GUEST_GRANULES]; /* the copy of a list of addresses */
+    bool booting[CPUS];      /* entered by a boot, and RMM_BOOT_COMPLETE not yet called */
     uint64_t non_secure[5];  /* x0 to x4 of the Non-secure world */
 } el3;
 
-/* A spin lock on a board: session, queue, table, words and page are used by one call at a time. */
-static void el3_lock(void) {}
-static void el3_unlock(void) {}
+/* A spin lock, for all of `el3` and for what the hardware has of it. On AArch64 it needs the MMU: see examples/qemu/lock.c. */
+static atomic_flag el3_taken = ATOMIC_FLAG_INIT;
+
+static void el3_lock(void)
+{
+    while (atomic_flag_test_and_set_explicit(&el3_taken, memory_order_acquire))
+        ;
+}
+
+static void el3_unlock(void)
+{
+    atomic_flag_clear_explicit(&el3_taken, memory_order_release);
+}
 
 /* ---- EL3: the part that makes tokens, as slow as a security processor. It answers the second request. ---- */
 
@@ -69,11 +88,11 @@ static struct {
     size_t length; /* 0: it has nothing to do */
 } maker;
 
-/* Returns whether the token for this challenge is made, into `into`. The caller asks again until it is. */
+/* Returns whether the token for this challenge, EL3's copy, is made, into `into`. The caller asks again until it is. */
 static bool maker_has(const uint8_t *challenge, size_t length, struct token *into)
 {
     if (maker.length != length || memcmp(maker.challenge, challenge, length) != 0) {
-        memcpy(maker.challenge, challenge, length); /* a copy: the page is the monitor's after the call */
+        memcpy(maker.challenge, challenge, length);
         maker.length = length;
         printf("EL3: begins a token for a challenge of %zu bytes\n", length);
         return false;
@@ -91,16 +110,19 @@ static bool maker_has(const uint8_t *challenge, size_t length, struct token *int
  * is under way is never written: a start that gets AGAIN leaves that session unchanged, and it may go on. */
 static bool el3_choose_token(const pbeam_call_t *call)
 {
+    uint8_t challenge[PBEAM_CHALLENGE_SHA512];
     pbeam_place_t place;
     const struct token *lent = &el3.tokens[el3.lent];
     struct token *next = &el3.tokens[1 - el3.lent];
     el3.context.busy = false;
     el3.context.token = pbeam_bytes(lent->bytes, lent->length);
-    /* The challenge is where the first hunk will be written, so read it before the call. */
+    /* The challenge is where the first hunk will be written, so copy it before the call. EL3 reads it once: the monitor on another CPU may
+     * change it at any time. */
     (void)pbeam_context_challenge(&el3.context, call, &place);
     if (pbeam_place_length(&place) == 0)
         return false; /* the call goes on, or will be refused */
-    if (!maker_has(page.bytes + pbeam_place_offset(&place), pbeam_place_length(&place), next)) {
+    memcpy(challenge, page.bytes + pbeam_place_offset(&place), pbeam_place_length(&place));
+    if (!maker_has(challenge, pbeam_place_length(&place), next)) {
         el3.context.busy = true;
         return false;
     }
@@ -118,12 +140,59 @@ static void el3_act(const pbeam_call_t *call, const pbeam_registers_t *out, cons
         printf("EL3: hardware: a new key for mecid %" PRIu64 "\n", pbeam_work_value(work));
 }
 
-/* RMM_BOOT_COMPLETE is EL3's own, no command of the library. After an error on any CPU no CPU enters the monitor again. */
-static void el3_boot_complete(int32_t code)
+/* The text of a code in x1, all 64 bits of it: 2^32 is no success. */
+static const char *el3_code_text(uint64_t x1)
 {
-    printf("EL3: boot complete: %s\n", pbeam_boot_text(code));
-    if (code != E_RMM_BOOT_SUCCESS)
+    const int32_t code = (int32_t)(uint32_t)(x1 & 0xFFFFFFFF);
+    return (uint64_t)(int64_t)code == x1 ? pbeam_boot_text(code) : "no boot code";
+}
+
+/* RMM_BOOT_COMPLETE is EL3's own, no command of the library. It is accepted once for each boot, from the CPU that is booting, and not after
+ * an error: the record is closed then. After an error on any CPU no CPU enters the monitor again. Returns whether it is accepted. */
+static bool el3_boot_complete(uint64_t cpu, uint64_t x1)
+{
+    bool accepted;
+    el3_lock();
+    accepted = el3.booting[cpu] && pbeam_record_is_up(&el3.context.record);
+    if (accepted)
+        el3.booting[cpu] = false;
+    if (accepted && x1 != E_RMM_BOOT_SUCCESS)
         pbeam_record_close(&el3.context.record);
+    printf("EL3: boot complete of CPU %" PRIu64 ": %s\n", cpu, accepted ? el3_code_text(x1) : "not accepted");
+    el3_unlock();
+    return accepted;
+}
+
+/* Copies the list of `count` addresses at `pa` into el3.list. Returns PBEAM_X0_OK, or the code of a list that is not in the monitor's part of
+ * the page, or too long. */
+static uint64_t el3_copy_list(uint64_t pa, uint64_t count)
+{
+    const uint64_t first = BASE + pbeam_record_kept(&el3.context.record), end = BASE + PBEAM_PAGE_BYTES;
+    if (!pbeam_record_is_up(&el3.context.record))
+        return PBEAM_X0_UNK;
+    if (pa < first || pa >= end)
+        return PBEAM_X0_BAD_ADDR;
+    if (count > GUEST_GRANULES || count * sizeof el3.list[0] > end - pa)
+        return PBEAM_X0_INVAL;
+    for (size_t i = 0; i < count; i++)
+        el3.list[i] = pbeam_get64(page.bytes + (pa - BASE) + i * sizeof el3.list[0]);
+    return PBEAM_X0_OK;
+}
+
+/* Delegates a list: no function id of the interface has one, a board chooses its own. What was done before a refusal stays done, so the caller
+ * goes on at x1. Library and hardware take the addresses from the copy: from the page they could be others the second time. */
+static void el3_hand_over(uint64_t x[6])
+{
+    pbeam_registers_t out = {{0}};
+    el3_lock();
+    out.words[PBEAM_OUT_X0] = el3_copy_list(x[1], x[2]);
+    if (pbeam_registers_code(&out) == E_RMM_OK) {
+        pbeam_context_delegate_list(&el3.context, el3.list, (size_t)x[2], &out);
+        if (pbeam_registers_x1(&out) != 0) /* on a board: each of el3.list[0] to el3.list[x1 - 1] */
+            printf("EL3: hardware: %" PRIu64 " granules from 0x%" PRIx64 " to Realm\n", pbeam_registers_x1(&out), el3.list[0]);
+    }
+    el3_unlock();
+    memcpy(x, out.words, sizeof out.words);
 }
 
 /* RMM_RMI_REQ_COMPLETE: the Non-secure world goes on, with err_code and what the monitor has in x2 to x5. */
@@ -133,8 +202,8 @@ static void el3_return_to_non_secure(const pbeam_work_t *work, const uint64_t x[
     memcpy(el3.non_secure + 1, x + 2, 4 * sizeof x[0]);
 }
 
-/* An SMC of the monitor: x0 to x5 as it made it. Afterwards x0 to x2 are the answer; x3 to x5 stay the monitor's. */
-static void el3_smc(uint64_t x[6])
+/* An SMC of the monitor on a CPU: x0 to x5 as it made it. Afterwards x0 to x2 are the answer; x3 to x5 stay the monitor's. */
+static void el3_smc(uint64_t cpu, uint64_t x[6])
 {
     const pbeam_call_t call = pbeam_call_of(x[0], x[1], x[2], x[3], x[4]);
     pbeam_registers_t out;
@@ -142,9 +211,15 @@ static void el3_smc(uint64_t x[6])
     bool is_new;
 
     if (x[0] == RMM_BOOT_COMPLETE) {
-        el3_boot_complete((int32_t)(uint32_t)x[1]);
-        return; /* on a board: to where EL3 entered the monitor */
+        if (!el3_boot_complete(cpu, x[1]))
+            x[0] = PBEAM_X0_UNK; /* to the monitor */
+        return;                  /* on a board, if accepted: to where EL3 entered the monitor */
     }
+    if (x[0] == HAND_OVER) {
+        el3_hand_over(x);
+        return;
+    }
+    /* One lock for the challenge, the call and the hardware. */
     el3_lock();
     is_new = x[0] == RMM_ATTEST_GET_PLAT_TOKEN && el3_choose_token(&call);
     pbeam_context_call(&el3.context, &call, &out, &work);
@@ -159,7 +234,9 @@ static void el3_smc(uint64_t x[6])
     memcpy(x, out.words, sizeof out.words);
 }
 
-/* The signer runs when it has time. It signs the oldest request; the library carries rec_granule and req_ticket over. */
+/* The signer runs when it has time. It signs the oldest request; the library carries rec_granule and req_ticket over. The request is read and
+ * answered under one lock: a second signer in between would answer it, and this signature would go to the next ticket. A board with
+ * one signer, and a slow one, may release the lock in between: only the signer removes a request. */
 static void el3_sign_oldest(void)
 {
     pbeam_request_t request;
@@ -245,21 +322,23 @@ static bool el3_count_realm(uint64_t want)
     return counted && number == want;
 }
 
-/* Delegates guest memory, a range of granules in one call. The call has no function id in the interface: a board chooses one.
- * What was done before a refusal stays done, so go on at x1; the change in hardware is for the first x1 granules. */
-static bool el3_hand_over(size_t first, uint64_t *done)
+static bool el3_is_up(void)
 {
-    uint64_t addresses[GUEST_GRANULES];
-    pbeam_registers_t out;
-    for (size_t i = 0; i < GUEST_GRANULES; i++)
-        addresses[i] = MEMORY + (first + i) * PBEAM_GRANULE_BYTES;
+    bool up;
     el3_lock();
-    pbeam_context_delegate_list(&el3.context, addresses, GUEST_GRANULES, &out);
+    up = pbeam_record_is_up(&el3.context.record);
     el3_unlock();
-    *done = pbeam_registers_x1(&out);
-    printf("EL3: hand over %d granules from 0x%" PRIx64 ": %s, %" PRIu64 " done\n", GUEST_GRANULES, addresses[0],
-           pbeam_x0_text(pbeam_registers_x0(&out)), *done);
-    return pbeam_registers_code(&out) == E_RMM_OK;
+    return up;
+}
+
+/* Whether the words are still those of the table. */
+static bool el3_words_agree(void)
+{
+    uint64_t x0;
+    el3_lock();
+    x0 = pbeam_context_words_agree(&el3.context);
+    el3_unlock();
+    return x0 == PBEAM_X0_OK;
 }
 
 static void monitor_cold_boot(const pbeam_cold_t *x);
@@ -271,24 +350,34 @@ static bool el3_boot_first_cpu(void)
 {
     const pbeam_cold_t x = {.cpu = 0, .version = PBEAM_INTERFACE_MINOR, .cpus = CPUS, .base = BASE}; /* version 0.5 */
     pbeam_view_t view;
-    const bool shown = pbeam_manifest_read(&page, BASE, PBEAM_EDITION_LAST, &view) == PBEAM_READ_ACCEPTED;
+    int32_t code;
+    bool shown;
+    el3_lock();
+    shown = pbeam_manifest_read(&page, BASE, PBEAM_EDITION_LAST, &view) == PBEAM_READ_ACCEPTED;
     /* A refused page is refused again by the cold boot. */
-    const int32_t code = pbeam_record_cold_boot(&el3.context.record, &x, CPUS, shown ? pbeam_view_kept(&page, &view) : 0, &page);
+    code = pbeam_record_cold_boot(&el3.context.record, &x, CPUS, shown ? pbeam_view_kept(&page, &view) : 0, &page);
+    el3.booting[x.cpu] = code == E_RMM_BOOT_SUCCESS;
+    el3_unlock();
     if (code == E_RMM_BOOT_SUCCESS)
         monitor_cold_boot(&x);
     else
         printf("EL3: does not enter the monitor: %s\n", pbeam_boot_text(code));
-    return pbeam_record_is_up(&el3.context.record);
+    return el3_is_up();
 }
 
 static bool el3_boot_next_cpu(uint64_t cpu)
 {
-    int32_t code = pbeam_record_warm_boot(&el3.context.record, cpu);
+    int32_t code;
+    el3_lock();
+    code = pbeam_record_warm_boot(&el3.context.record, cpu);
+    if (code == E_RMM_BOOT_SUCCESS) /* cpu is below CPUS then */
+        el3.booting[cpu] = true;
+    el3_unlock();
     if (code == E_RMM_BOOT_SUCCESS)
         monitor_warm_boot(cpu);
     else
         printf("EL3: does not enter the monitor: %s\n", pbeam_boot_text(code));
-    return pbeam_record_is_up(&el3.context.record);
+    return el3_is_up();
 }
 
 /* ---- Monitor ---- */
@@ -296,6 +385,7 @@ static bool el3_boot_next_cpu(uint64_t cpu)
 static struct {
     pbeam_record_t record; /* the monitor's own */
     pbeam_view_t view;     /* of the manifest, as the first boot read it */
+    uint64_t cpu;          /* that runs now; on a board MPIDR_EL1 has it */
     bool out_of_memory;    /* an error unknown to the library */
 } monitor;
 
@@ -306,14 +396,16 @@ static pbeam_registers_t monitor_smc(pbeam_call_t call, uint64_t x5)
     uint64_t x[6];
     memcpy(x, call.words, sizeof call.words);
     x[5] = x5;
-    el3_smc(x);
+    el3_smc(monitor.cpu, x);
     memcpy(out.words, x, sizeof out.words);
     return out;
 }
 
-static void monitor_boot_complete(int32_t code)
+/* Returns x0, which EL3 changes only if it does not accept the call. */
+static uint64_t monitor_boot_complete(uint64_t x1)
 {
-    monitor_smc(pbeam_call_of(RMM_BOOT_COMPLETE, (uint64_t)(int64_t)code, 0, 0, 0), 0);
+    const pbeam_registers_t out = monitor_smc(pbeam_call_of(RMM_BOOT_COMPLETE, x1, 0, 0, 0), 0);
+    return pbeam_registers_x0(&out);
 }
 
 /* The monitor's console is found by its name, at any place among the others. */
@@ -386,6 +478,7 @@ static void monitor_cold_boot(const pbeam_cold_t *x)
     /* The cold boot answers for a refused page. */
     const int32_t code =
         pbeam_record_cold_boot(&monitor.record, x, CPUS_MOST, shown ? pbeam_view_kept(&page, &monitor.view) : 0, &page);
+    monitor.cpu = x->cpu;
     printf("monitor: cold boot of CPU %" PRIu64 ": %s\n", x->cpu, pbeam_boot_text(code));
     if (code == E_RMM_BOOT_SUCCESS) {
         printf("monitor: %" PRIu64 " CPUs, page at 0x%" PRIx64 ", agreed minor %" PRIu64 ", %" PRIu64 " bytes kept\n",
@@ -393,22 +486,41 @@ static void monitor_cold_boot(const pbeam_cold_t *x)
                pbeam_record_kept(&monitor.record));
         monitor_list(&monitor.view);
     }
-    monitor_boot_complete(code);
+    (void)monitor_boot_complete((uint64_t)(int64_t)code);
 }
 
+/* Out of memory the monitor reports 2^32: no code of 002, and 0 in the low 32 bits. EL3 takes it as the error that it is. */
 static void monitor_warm_boot(uint64_t cpu)
 {
-    int32_t code = pbeam_record_warm_boot(&monitor.record, cpu);
-    if (code == E_RMM_BOOT_SUCCESS && (monitor.out_of_memory || !monitor_manifest_is_whole()))
-        code = E_RMM_BOOT_ERR_UNKNOWN;
-    printf("monitor: warm boot of CPU %" PRIu64 ": %s\n", cpu, code == E_RMM_BOOT_SUCCESS ? "done" : "failed");
-    monitor_boot_complete(code);
+    const int32_t code = pbeam_record_warm_boot(&monitor.record, cpu);
+    uint64_t x1 = (uint64_t)(int64_t)code;
+    monitor.cpu = cpu;
+    if (monitor.out_of_memory)
+        x1 = UINT64_C(0x100000000);
+    else if (code == E_RMM_BOOT_SUCCESS && !monitor_manifest_is_whole())
+        x1 = (uint64_t)(int64_t)E_RMM_BOOT_ERR_UNKNOWN;
+    printf("monitor: warm boot of CPU %" PRIu64 ": %s\n", cpu, x1 == E_RMM_BOOT_SUCCESS ? "done" : "failed");
+    (void)monitor_boot_complete(x1);
 }
 
 static int32_t monitor_delegate(uint64_t address)
 {
     const pbeam_registers_t out = monitor_smc(pbeam_call_delegate(address), 0);
     printf("monitor: delegate 0x%" PRIx64 ": %s\n", address, pbeam_x0_text(pbeam_registers_x0(&out)));
+    return pbeam_registers_code(&out);
+}
+
+/* Hands a range of guest memory over: a list in the page, in the order of its addresses. Returns the code, and in `done` how many it did. */
+static int32_t monitor_hand_over(size_t first, uint64_t *done)
+{
+    const uint64_t from = MEMORY + first * PBEAM_GRANULE_BYTES;
+    pbeam_registers_t out;
+    for (size_t i = 0; i < GUEST_GRANULES; i++)
+        pbeam_put64(monitor_bytes() + 8 * i, from + i * PBEAM_GRANULE_BYTES);
+    out = monitor_smc(pbeam_call_of(HAND_OVER, monitor_buffer(), GUEST_GRANULES, 0, 0), 0);
+    *done = pbeam_registers_x1(&out);
+    printf("monitor: hand over %d granules from 0x%" PRIx64 ": %s, %" PRIu64 " done\n", GUEST_GRANULES, from,
+           pbeam_x0_text(pbeam_registers_x0(&out)), *done);
     return pbeam_registers_code(&out);
 }
 
@@ -512,9 +624,11 @@ int main(void)
         return 1;
     if (!el3_count_realm(2))
         return 1;
-    if (!el3_hand_over(300, &done) || el3_hand_over(0, &done) || done != 2) /* granule 2 is Realm already */
+    if (monitor_hand_over(300, &done) != E_RMM_OK || done != GUEST_GRANULES)
         return 1;
-    if (!el3_count_realm(2 + GUEST_GRANULES + 2) || pbeam_context_words_agree(&el3.context) != PBEAM_X0_OK)
+    if (monitor_hand_over(0, &done) != E_RMM_BAD_PAS || done != 2) /* granule 2 is Realm already */
+        return 1;
+    if (!el3_count_realm(2 + GUEST_GRANULES + 2) || !el3_words_agree())
         return 1;
     if (!monitor_draw_token(0x41, 0x91) || !monitor_draw_token(0x91, 0))
         return 1;
@@ -529,8 +643,12 @@ int main(void)
         return 1;
     if (!el3_boot_next_cpu(1)) /* the monitor reads the manifest again */
         return 1;
+    if (monitor_boot_complete(E_RMM_BOOT_SUCCESS) != PBEAM_X0_UNK || !el3_is_up()) /* CPU 1 is not booting */
+        return 1;
     monitor.out_of_memory = true;
     if (el3_boot_next_cpu(2) || el3_boot_next_cpu(1)) /* after the first error no CPU enters the monitor */
+        return 1;
+    if (monitor_boot_complete(E_RMM_BOOT_SUCCESS) != PBEAM_X0_UNK || el3_is_up()) /* nor does a success open the record again */
         return 1;
     return monitor_delegate(granule) == E_RMM_UNK ? 0 : 1;
 }

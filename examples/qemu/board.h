@@ -13,6 +13,7 @@
 #define SET_WRONG 2           /* the monitor expects a wrong answer */
 #define SET_STACK 4           /* the stack of each command is printed */
 #define SET_OLDER 8           /* EL3 offers an older interface, which has no token signing and no key update */
+#define SET_HIGH 16           /* the code of the monitor's first boot is 2^32: 0 in the low 32 bits */
 #define MEMORY 0x44000000     /* the first bank of the manifest, and the first granule of the granule table */
 #define MEMORY_BYTES 0x04000000
 #define HIGH 0x4A000000       /* the second bank; addresses between the banks are not granules */
@@ -25,6 +26,15 @@
 /* An OEM call, only for the test: what the platform gives from now on. x1 and x2 are the lengths of realm key and token, x3 is
  * MECIDWidthm1. OK, or INVAL for more bytes than there are. */
 #define PLATFORM_GIVES 0xC3000001
+
+/* Another call for the test: while x1 is not 0 EL3 prints no line for a command. Two CPUs that call at the same time would print their lines
+ * in any order. */
+#define BOARD_QUIET 0xC3000002
+
+/* The board's own call for a list: delegates the granules of a list in the page. x1 is the list's address, x2 the number of granules. The answer
+ * is that of pbeam_delegate_list, or BAD_ADDR or INVAL for a list that is not in the monitor's part of the page, or too long. */
+#define BOARD_LIST 0xC3000003
+#define LIST_MOST 16
 
 /* Lengths of what the platform gives: keys and signatures as those of SECP384R1 are. */
 #define TOKEN_BYTES 100

@@ -77,6 +77,13 @@ uint64_t level(void)
     return current >> 2;
 }
 
+uint64_t this_cpu(void)
+{
+    uint64_t affinity;
+    __asm__ volatile("mrs %0, mpidr_el1" : "=r"(affinity));
+    return affinity & 0xFF;
+}
+
 /* Upwards, so that the two may overlap if `to` is the lower one. */
 static void *copy_upwards(uint8_t *to, const uint8_t *from, size_t n)
 {

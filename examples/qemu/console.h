@@ -20,6 +20,9 @@ int has_rme(void);
 /* The number of the exception level that this runs at. */
 uint64_t level(void);
 
+/* The number of the CPU that this runs on. */
+uint64_t this_cpu(void);
+
 void *memcpy(void *restrict to, const void *restrict from, size_t n);
 void *memmove(void *to, const void *from, size_t n);
 void *memset(void *to, int byte, size_t n);

@@ -37,8 +37,9 @@ _start:                                 /* every CPU, at reset: MMU and caches o
     msr cptr_el3, x1
     mov x1, #1 << 31                    /* the host below the monitor is AArch64 */
     msr hcr_el2, x1
-    isb
     mrs x19, mpidr_el1
+    msr vmpidr_el2, x19                 /* what EL1 reads as its own */
+    isb
     and x19, x19, #0xff
     ldr x20, =stacks + AREA
     mov x1, #AREA

@@ -9,6 +9,7 @@
 
 #include "board.h"
 #include "console.h"
+#include "lock.h"
 #include "rmi.h"
 #include "world.h"
 
@@ -141,12 +142,13 @@ static const struct step after_error[] = {
     {"features after the error", {RMM_EL3_FEATURES}, {PBEAM_X0_UNK}},
     {"public key after the error", {RMM_EL3_TOKEN_SIGN, PBEAM_OPCODE_KEY, PAGE + SIGN_AT, PUBLIC_KEY_BYTES}, {PBEAM_X0_UNK}},
     {"key update after the error", {RMM_MECID_KEY_UPDATE, 9}, {PBEAM_X0_UNK}},
+    {"boot complete after the error", {RMM_BOOT_COMPLETE}, {PBEAM_X0_UNK}},
 };
 
 /* The answer of RMM_BOOT_COMPLETE is the host's first call. After an error no call comes: EL3 serves nothing more. */
-_Noreturn static void boot_complete(int32_t code)
+_Noreturn static void boot_complete(uint64_t code)
 {
-    uint64_t x[8] = {RMM_BOOT_COMPLETE, (uint64_t)(int64_t)code};
+    uint64_t x[8] = {RMM_BOOT_COMPLETE, code};
     smc(x);
     if (code != E_RMM_BOOT_SUCCESS) {
         TAKE_ALL(after_error);
@@ -173,7 +175,7 @@ _Noreturn void cold(uint64_t x0, uint64_t x1, uint64_t x2, uint64_t x3)
         expect_read("EL3's memory", SECURE_RAM, NO_ACCESS);
         prepare();
     }
-    boot_complete(code);
+    boot_complete(settings() & SET_HIGH ? UINT64_C(1) << 32 : (uint64_t)(int64_t)code);
 }
 
 _Noreturn void warm(uint64_t x0)
@@ -181,7 +183,7 @@ _Noreturn void warm(uint64_t x0)
     const int32_t code = pbeam_record_warm_boot(&record, x0);
     say("monitor: CPU %d at level %d, warm boot: %s\n", x0, level(), pbeam_boot_text(code));
     list_manifest();
-    boot_complete(code);
+    boot_complete((uint64_t)(int64_t)code);
 }
 
 /* ---- Calls of the host ---- */
@@ -210,7 +212,8 @@ static uint64_t change_granule(uint64_t id, uint64_t granule)
 static void put_request(uint64_t ticket)
 {
     uint8_t hash[PBEAM_HASH_BYTES];
-    memset(hash, (int)(0x30 + ticket), sizeof hash);
+    memset(hash, (int)((0x30 + ticket) & 0xFF), sizeof hash);
+    hash[1] = (uint8_t)(ticket >> 8);
     pbeam_put_request(page->bytes + SIGN_AT, MEMORY, ticket, hash);
 }
 
@@ -230,7 +233,8 @@ static void pull_ticket(uint64_t ticket)
     expect("ticket", response.req_ticket, ticket);
     expect("signature's length", response.sig_len, SIGNATURE_BYTES);
     expect("signature's first byte", response.signature_buf[0], 0x30 + ticket);
-    bytes_are("signature's byte", response.signature_buf + 1, SIGNATURE_BYTES - 1, 0x5A, 0);
+    expect("signature's second byte", response.signature_buf[1], 0);
+    bytes_are("signature's byte", response.signature_buf + 2, SIGNATURE_BYTES - 2, 0x5A, 0);
 }
 
 /* A realm asks for a token: the request at its first entry, the response at the next. */
@@ -249,6 +253,10 @@ static uint64_t rec_enter(void)
 }
 
 static uint64_t refusals(void);
+static uint64_t at_once_round(uint64_t number, uint64_t *result);
+static uint64_t at_once_totals(void);
+static uint64_t delegate_list(uint64_t number);
+static uint64_t swap(void);
 
 static uint64_t drain(void)
 {
@@ -281,6 +289,10 @@ static uint64_t rmi(const uint64_t x[8], uint64_t *result)
     case RMI_REFUSALS: return refusals();
     case RMI_DRAIN: return drain();
     case RMI_REPORT: return report(result);
+    case RMI_ROUND: return at_once_round(x[1], result);
+    case RMI_TOTALS: return at_once_totals();
+    case RMI_LIST: return delegate_list(x[1]);
+    case RMI_SWAP: return swap();
     default: return RMI_ERROR_INPUT;
     }
 }
@@ -333,6 +345,7 @@ static const struct step refused[] = {
     {"public key", SIGN(PBEAM_OPCODE_KEY, AT(SIGN_AT), PUBLIC_KEY_BYTES, 0), {PBEAM_X0_OK, PUBLIC_KEY_BYTES}},
     {"key update of mecid 65,536", {RMM_MECID_KEY_UPDATE, 65536}, {PBEAM_X0_INVAL}},
     {"key update of mecid 9", {RMM_MECID_KEY_UPDATE, 9}, {PBEAM_X0_OK}},
+    {"boot complete a second time", {RMM_BOOT_COMPLETE}, {PBEAM_X0_UNK}},
     {"a call that no one knows", {UINT64_C(0xC40001B7), 1, 2, 3, 4}, {PBEAM_X0_UNK}},
 };
 
@@ -416,5 +429,180 @@ static uint64_t refusals(void)
     fill_queue();
     if (settings() & SET_WRONG)
         take(&pull); /* nothing is signed yet: the answer is AGAIN */
+    return RMI_SUCCESS;
+}
+
+/* ---- Two CPUs at the same time. Each prints nothing, and counts what it did and what was wrong. ---- */
+
+#define ROUND_GRANULES (MEMORY + 64 * PBEAM_GRANULE_BYTES) /* of CPU 0 and CPU 1 in turn, so both change bits of one word */
+#define SHARED_GRANULE (MEMORY + 63 * PBEAM_GRANULE_BYTES) /* of both */
+#define TOKEN_ROUNDS 16 /* a token in each sixteenth round */
+
+/* 002 makes the monitor responsible for the use of the page by one CPU at a time: it holds this from its first write to its last read. */
+static struct lock page_lock;
+
+static struct {
+    uint64_t pushed, pulled; /* requests and responses */
+    uint64_t tickets;        /* sum of the tickets pulled */
+    uint64_t tokens;         /* drawn whole */
+    uint64_t signatures;     /* over another ticket's hash */
+    uint64_t answers;        /* other than the interface requires */
+} tally[CPUS];
+
+/* A call of EL3; returns x0. */
+static uint64_t quiet_call(uint64_t id, uint64_t x1, uint64_t x2, uint64_t x3, uint64_t x[8])
+{
+    const uint64_t call[8] = {id, x1, x2, x3};
+    memcpy(x, call, sizeof call);
+    smc(x);
+    return x[0];
+}
+
+static void must(uint64_t cpu, bool holds)
+{
+    tally[cpu].answers += !holds;
+}
+
+/* A granule of this CPU stays Realm. One of both is OK for the CPU that comes first, and only that CPU gives it back. */
+static void round_granules(uint64_t cpu, uint64_t number)
+{
+    const uint64_t mine = ROUND_GRANULES + (2 * number + cpu) * PBEAM_GRANULE_BYTES;
+    uint64_t x[8], x0;
+    must(cpu, quiet_call(RMM_GTSI_DELEGATE, mine, 0, 0, x) == PBEAM_X0_OK);
+    must(cpu, quiet_call(RMM_GTSI_DELEGATE, mine, 0, 0, x) == PBEAM_X0_BAD_PAS);
+    x0 = quiet_call(RMM_GTSI_DELEGATE, SHARED_GRANULE, 0, 0, x);
+    must(cpu, x0 == PBEAM_X0_OK || x0 == PBEAM_X0_BAD_PAS);
+    if (x0 == PBEAM_X0_OK)
+        must(cpu, quiet_call(RMM_GTSI_UNDELEGATE, SHARED_GRANULE, 0, 0, x) == PBEAM_X0_OK);
+}
+
+static void round_push(uint64_t cpu, uint64_t ticket)
+{
+    uint64_t x[8];
+    lock_take(&page_lock);
+    put_request(ticket);
+    must(cpu, quiet_call(RMM_EL3_TOKEN_SIGN, PBEAM_OPCODE_PUSH, PAGE + SIGN_AT, PBEAM_REQUEST_BYTES, x) == PBEAM_X0_OK);
+    lock_release(&page_lock);
+    tally[cpu].pushed++;
+}
+
+/* Pulls one response, of any CPU's request. Returns whether there was one. */
+static bool round_pull(uint64_t cpu)
+{
+    pbeam_response_t response;
+    uint64_t x[8];
+    bool there;
+    lock_take(&page_lock);
+    there = quiet_call(RMM_EL3_TOKEN_SIGN, PBEAM_OPCODE_PULL, PAGE + SIGN_AT, PBEAM_RESPONSE_BYTES_MOST, x) == PBEAM_X0_OK;
+    must(cpu, there || x[0] == PBEAM_X0_AGAIN);
+    if (there && pbeam_get_response(page->bytes + SIGN_AT, PBEAM_RESPONSE_BYTES_MOST, &response)) {
+        const uint64_t ticket = response.req_ticket;
+        tally[cpu].pulled++;
+        tally[cpu].tickets += ticket;
+        tally[cpu].signatures +=
+            response.signature_buf[0] != (uint8_t)(0x30 + ticket) || response.signature_buf[1] != (uint8_t)(ticket >> 8);
+    }
+    lock_release(&page_lock);
+    return there;
+}
+
+static void round_pull_all(uint64_t cpu)
+{
+    for (size_t i = 0; i < PBEAM_RESPONSES_MOST && round_pull(cpu); i++)
+        ;
+}
+
+/* A whole session under the monitor's lock: there is one session for all CPUs. */
+static void round_token(uint64_t cpu, uint64_t number)
+{
+    const uint64_t at = PAGE + TOKEN_AT;
+    const uint8_t fill = (uint8_t)(2 * number + cpu), *buffer = page->bytes + TOKEN_AT;
+    bool good;
+    uint64_t x[8];
+    lock_take(&page_lock);
+    memset(page->bytes + TOKEN_AT, fill, 48);
+    good = quiet_call(RMM_ATTEST_GET_PLAT_TOKEN, at, TOKEN_BUFFER, 48, x) == PBEAM_X0_AGAIN;
+    good = quiet_call(RMM_ATTEST_GET_PLAT_TOKEN, at, TOKEN_BUFFER, 48, x) == PBEAM_X0_OK && x[2] == TOKEN_BYTES - TOKEN_BUFFER && good;
+    for (size_t i = 0; i < TOKEN_BUFFER; i++)
+        good = buffer[i] == (uint8_t)(fill + i) && good;
+    good = quiet_call(RMM_ATTEST_GET_PLAT_TOKEN, at, TOKEN_BUFFER, 0, x) == PBEAM_X0_OK && x[2] == 0 && good;
+    for (size_t i = 0; i < TOKEN_BYTES - TOKEN_BUFFER; i++)
+        good = buffer[i] == (uint8_t)(fill + TOKEN_BUFFER + i) && good;
+    lock_release(&page_lock);
+    must(cpu, good);
+    tally[cpu].tokens += good;
+}
+
+/* One round: EL3 signs what waits when the host's call is complete. */
+static uint64_t at_once_round(uint64_t number, uint64_t *result)
+{
+    const uint64_t cpu = this_cpu();
+    *result = 0;
+    round_granules(cpu, number);
+    round_pull_all(cpu);
+    round_push(cpu, 2 * number + cpu);
+    if (number % TOKEN_ROUNDS == 0)
+        round_token(cpu, number);
+    return RMI_SUCCESS;
+}
+
+/* ---- Lists in the page, which the other CPU changes ---- */
+
+#define LIST_AT 0xC00                       /* offset in the page, a multiple of 8 */
+#define LIST_GRANULES (MEMORY + 0x800000)   /* and as many 16 MiB after it, where byte 3 of the address is one more */
+#define SWAPPED 3                           /* that byte */
+
+static volatile bool swapping, lists_done;
+
+/* Writes each address of a list but its byte 3, which is the other CPU's. Each list has granules of its own. */
+static void put_list(uint64_t number)
+{
+    for (uint64_t i = 0; i < LIST_MOST; i++) {
+        const uint64_t address = LIST_GRANULES + (number * LIST_MOST + i) * PBEAM_GRANULE_BYTES;
+        uint8_t *at = page->bytes + LIST_AT + 8 * i;
+        for (uint64_t byte = 0; byte < 8; byte++)
+            if (byte != SWAPPED)
+                at[byte] = (uint8_t)(address >> 8 * byte);
+    }
+}
+
+/* With either byte 3 the address is that of a Non-secure granule: the whole list is OK. */
+static uint64_t delegate_list(uint64_t number)
+{
+    uint64_t x[8];
+    while (!swapping)
+        ;
+    put_list(number);
+    must(0, quiet_call(BOARD_LIST, PAGE + LIST_AT, LIST_MOST, 0, x) == PBEAM_X0_OK && x[1] == LIST_MOST);
+    lists_done = number == LISTS - 1;
+    return RMI_SUCCESS;
+}
+
+/* Changes byte 3 of each address, between two granules, until the last list is done. A monitor that does this breaks 002; EL3 cannot stop it. */
+static uint64_t swap(void)
+{
+    volatile uint8_t *at = page->bytes + LIST_AT + SWAPPED;
+    for (uint64_t n = 0; !lists_done; n++) {
+        for (uint64_t i = 0; i < LIST_MOST; i++)
+            at[8 * i] = (uint8_t)((LIST_GRANULES >> 24) + ((n + i) & 1));
+        swapping = true;
+    }
+    return RMI_SUCCESS;
+}
+
+/* ---- The sums are the same for any order of the two CPUs' calls. ---- */
+
+static uint64_t at_once_totals(void)
+{
+    const uint64_t requests = CPUS * ROUNDS, before = wrong;
+    round_pull_all(0);
+    say("monitor: both CPUs: %d requests, %d responses, %d tokens\n", tally[0].pushed + tally[1].pushed, tally[0].pulled + tally[1].pulled,
+        tally[0].tokens + tally[1].tokens);
+    expect("responses", tally[0].pulled + tally[1].pulled, requests);
+    expect("sum of the tickets", tally[0].tickets + tally[1].tickets, requests * (requests - 1) / 2);
+    expect("tokens", tally[0].tokens + tally[1].tokens, CPUS * ROUNDS / TOKEN_ROUNDS);
+    expect("signatures over another ticket's hash", tally[0].signatures + tally[1].signatures, 0);
+    expect("answers that one CPU alone would not get", tally[0].answers + tally[1].answers, 0);
+    say("monitor: both CPUs at once: %s\n", wrong == before ? "as one after another" : "NOT as one after another");
     return RMI_SUCCESS;
 }

@@ -2,8 +2,11 @@
 
 #include <stddef.h>
 
+#include "potterbeam.h"
+
 #include "board.h"
 #include "console.h"
+#include "lock.h"
 
 #define GRANULE_BYTES 4096
 #define ANY UINT64_C(15) /* granule protection information: no check, or the one world that may use it */
@@ -11,6 +14,7 @@
 #define REALM UINT64_C(11)
 #define BLOCK_OF_ANY (ANY << 4 | 1)
 #define TABLE 3
+#define CHANGE_TURNS 10000 /* how long the change of a granule takes */
 #define CONTROL UINT64_C(0x12000) /* GPCCR_EL3: checks on, outer shareable, granules of 4 KiB, 4 GiB protected */
 
 /* An entry of level 0 is for 1 GiB; a word of level 1 is for sixteen granules, 4 bits each. */
@@ -35,10 +39,29 @@ static void put_bank(uint64_t base, uint64_t size)
         put(at, NON_SECURE);
 }
 
+/* The caller holds EL3's lock: a word is shared by sixteen granules. */
 static void set(uint64_t granule, uint64_t world)
 {
+    pass_time(CHANGE_TURNS);
     put(granule, world);
-    forget_all();
+    if (has_rme())
+        forget_all();
+}
+
+static bool bank_agrees(const uint8_t *table, uint64_t base, uint64_t size)
+{
+    for (uint64_t i = 0; i < size / GRANULE_BYTES; i++) {
+        const uint64_t granule = base + i * GRANULE_BYTES;
+        const uint64_t world = level1[granule >> 16 & 16383] >> 4 * (granule >> 12 & 15) & ANY;
+        if (world != (table[i] == PBEAM_GRANULE_REALM ? REALM : NON_SECURE))
+            return false;
+    }
+    return true;
+}
+
+bool protection_agrees(const uint8_t table[GRANULES])
+{
+    return bank_agrees(table, MEMORY, MEMORY_BYTES) && bank_agrees(table + MEMORY_BYTES / GRANULE_BYTES, HIGH, HIGH_BYTES);
 }
 
 static void make_tables(void)
@@ -53,10 +76,10 @@ static void make_tables(void)
 
 void protection_on(uint64_t cpu)
 {
-    if (!has_rme())
-        return;
     if (cpu == 0)
         make_tables();
+    if (!has_rme())
+        return;
     /* GPTBR_EL3 and GPCCR_EL3, by their numbers: assemblers of today know no names for them. */
     __asm__ volatile("msr s3_6_c2_c1_4, %0; msr s3_6_c2_c1_6, %1; isb" ::"r"((uint64_t)level0 >> 12), "r"(CONTROL) : "memory");
     forget_all();
@@ -64,12 +87,10 @@ void protection_on(uint64_t cpu)
 
 void protection_to_realm(uint64_t granule)
 {
-    if (has_rme())
-        set(granule, REALM);
+    set(granule, REALM);
 }
 
 void protection_to_non_secure(uint64_t granule)
 {
-    if (has_rme())
-        set(granule, NON_SECURE);
+    set(granule, NON_SECURE);
 }

@@ -25,18 +25,27 @@ _start:                                 /* x0 to x3 are the caller's: a boot has
     mov x6, #AREA
     madd x5, x6, x4, x5
     mov sp, x5
-    ldr x5, =entered                    /* the first entry is the cold one */
-    ldr x6, [x5]
-    cbnz x6, 2f
-    mov x6, #1
-    str x6, [x5]
+    ldr x7, =entered                    /* the first entry of CPU 0 is the cold one */
+    ldr x6, [x7]
+    cbnz x6, warm
+    cbnz x4, 3f
     ldr x5, =bss_start
     ldr x6, =bss_end
 1:  cmp x5, x6
-    b.hs cold
+    b.hs 2f
     str xzr, [x5], #8
     b 1b
-2:  b warm
+2:  dsb sy
+    mov x6, #1
+    str x6, [x7]
+    dsb sy
+    sev
+    b cold
+3:  wfe                                 /* another CPU waits until the data is there */
+    ldr x6, [x7]
+    cbz x6, 3b
+    dsb sy
+    b warm
 
     .globl smc                          /* x0: eight registers, in and out */
 smc:
