@@ -33,8 +33,7 @@ returns-2 c =
     let a = c .before .before .before .before .before .before .before .args in
     let p : placeOk (a .base) (length (a .page .now)) ≡ true = sym (c .before .before .before .before .before .place-ok .ensures) ∙
     not-false _ (c .before .before .before .before .if1 .left) in
-    let v : versionOk (versionAt (a .page .now)) ≡ false = rw (← c .before .before .version-at .ensures)
-    (sym (c .before .is-accepted .ensures) ∙ not-true _ (c .if2 .taken)) in
+    let v : versionOk (versionAt (a .page .now)) ≡ false = rw (← c .before .before .version-at .ensures) (sym (c .before .is-accepted .ensures) ∙ not-true _ (c .if2 .taken)) in
     mend-told (a .base) (a .page .now) _ _ (mend-version (a .base) (a .page .now) p v)
 
 minor-requires : tie.Need-minor-requires
@@ -45,9 +44,9 @@ edition-read-requires c κs = search needs
 
 mend-parts-requires : tie.Need-mend-parts-requires
 mend-parts-requires c κs =
-    let b8 = c .before .before .before .before .before .before .before .before in
-    let a = b8 .before .before .args in
-    let p : placeOk (a .base) (length (a .page .now)) ≡ true = sym (b8 .place-ok .ensures) ∙ not-false _ (c .before .before .before .before .before .before .before .if1 .left) in
+    let a = c .before .before .before .before .before .before .before .before .before .before .args in
+    let p : placeOk (a .base) (length (a .page .now)) ≡ true = sym (c .before .before .before .before .before .before .before .before .place-ok .ensures) ∙
+    not-false _ (c .before .before .before .before .before .before .before .if1 .left) in
     (p, c .before .before .minor .ensures .0 ∙ rw (c .before .before .before .before .before .version-at .ensures), c .before .edition-read .ensures)
 
 same-length-2 : tie.Need-same-length-2
@@ -55,13 +54,11 @@ same-length-2 c = search needs
 
 returns-3 : tie.Need-returns-3
 returns-3 c =
-    let b8 = c .before .before .before .before .before .before .before .before in
-    let a = b8 .before .before .before .before .before .args in
-    let p : placeOk (a .base) (length (a .page .now)) ≡ true = sym (b8 .before .before .before .place-ok .ensures) ∙
-    not-false _ (b8 .before .before .if1 .left) in
-    let v : versionOk (versionAt (a .page .now)) ≡ true = rw (← b8 .version-at .ensures)
-    (sym (c .before .before .before .before .before .before .before .is-accepted .ensures) ∙
-    not-false _ (c .before .before .before .before .before .before .if2 .left)) in
+    let a = c .before .before .before .before .before .before .before .before .before .before .before .before .before .args in
+    let p : placeOk (a .base) (length (a .page .now)) ≡ true = sym (c .before .before .before .before .before .before .before .before .before .before .before .place-ok .ensures) ∙
+    not-false _ (c .before .before .before .before .before .before .before .before .before .before .if1 .left) in
+    let v : versionOk (versionAt (a .page .now)) ≡ true = rw (← c .before .before .before .before .before .before .before .before .version-at .ensures)
+    (sym (c .before .before .before .before .before .before .before .is-accepted .ensures) ∙ not-false _ (c .before .before .before .before .before .before .if2 .left)) in
     let d = mend-done (a .base) (a .page .now) p v in
     mend-told (a .base) (a .page .now) _ _ (ap {B = Mended} Done (c .before .before .mend-parts .ensures .0) ∙ d .0, c .before .before .mend-parts .ensures .1 ∙ d .1)
 

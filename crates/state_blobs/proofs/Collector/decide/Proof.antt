@@ -54,27 +54,17 @@ returns-5 : tie.Need-returns-5
 unfolding decide both
 returns-5 c =
     let a = c .before .before .before .before .before .before .before .args in
+    let h = a .self .held in
     let d : otherTotal (a .self) (a .total) ≡ false = (cc) in
-    simp (
-      d,
-      le-ltb (a .total) (a .self .held + a .len) (search needs),
-      le-ltb (a .room) (a .self .held + a .len) (search needs),
-      eq-eqb (a .len) 0 (search needs),
-      lt-ltb (a .self .held) (a .total) (search needs),
-    )
+    simp (d, le-ltb (a .total) (h + a .len) (search needs), le-ltb (a .room) (h + a .len) (search needs), eq-eqb (a .len) 0 (search needs), lt-ltb h (a .total) (search needs))
 
 returns-6 : tie.Need-returns-6
 unfolding decide both
 returns-6 c =
     let a = c .before .before .before .before .before .before .before .args in
+    let h = a .self .held in
     let d : otherTotal (a .self) (a .total) ≡ false = (cc) in
-    simp (
-      d,
-      le-ltb (a .total) (a .self .held + a .len) (search needs),
-      le-ltb (a .room) (a .self .held + a .len) (search needs),
-      eq-eqb (a .len) 0 (search needs),
-      le-ltb (a .self .held) (a .total) (search needs),
-    )
+    simp (d, le-ltb (a .total) (h + a .len) (search needs), le-ltb (a .room) (h + a .len) (search needs), eq-eqb (a .len) 0 (search needs), le-ltb h (a .total) (search needs))
 
 pub decide-spec : {M : Type 1} → statement M
 decide-spec =
