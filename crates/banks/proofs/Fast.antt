@@ -165,13 +165,13 @@ found-is g b n addr f some m own e = rw (e, ← m) (go (granuleIn b addr) refl)
     go Nothing q = (bank-own g (counted-ok g some) addr, bank-span g (counted-ok g some) addr)
 
 -- the record has granules, and the table has as many; otherwise no address is on a granule
-abbrev TableFits : Granules → ℕ → Bool
-TableFits g n = both (ltb 0 (granuleCount g)) (eqb (granuleCount g) n)
+abbrev pub tableFits : Granules → ℕ → Bool
+tableFits g n = both (ltb 0 (granuleCount g)) (eqb (granuleCount g) n)
 
-pub table-fits : (g : Granules) (n : ℕ) → Yes (TableFits g n) → (0 < granuleCount g) × (granuleCount g ≡ n)
+pub table-fits : (g : Granules) (n : ℕ) → Yes (tableFits g n) → (0 < granuleCount g) × (granuleCount g ≡ n)
 table-fits g n h = (ltb-true _ _ (both-l _ _ h), eqb-true _ _ (both-r _ _ h))
 
-pub table-unfit : (g : Granules) (n addr : ℕ) → TableFits g n ≡ false → granuleAt g n addr ≡ Nothing
+pub table-unfit : (g : Granules) (n addr : ℕ) → tableFits g n ≡ false → granuleAt g n addr ≡ Nothing
 table-unfit g n addr h = go (granuleAt g n addr) refl
   where
     go : (k : Granule) → granuleAt g n addr ≡ k → granuleAt g n addr ≡ Nothing

@@ -6,27 +6,20 @@ ghost use Rattle.words.specs.Word.{leBytes, laid};
 ghost use Rattle.big_words.specs.Big.{beBytes, bigAt};
 ghost use Rattle.big_words.specs.Fast.{wholeBig};
 
-// The byte as a 32-bit number.
-fn wide(x: u8) -> u32
-    ensures { λ r. ⌜ (r ≡ x) × (r < 0x100) ⌝ }
-{
-    x as u32
-}
-
 // The 2-byte number at offset `at`, which must be within the slice.
-fn u16_at(s: &[u8], at: usize) -> u32
+fn u16_at(s: &[u8], at: usize) -> u64
     requires { ⌜ at + 2 ≤ length (now s) ⌝ }
     ensures { λ r. ⌜ (r ≡ bigAt 2 at (now (s .entry))) × (r < 0x1_0000) ⌝ }
 {
-    let high = wide(s[at]);
-    let low = wide(s[at + 1]);
+    let high = words::widen(s[at]);
+    let low = words::widen(s[at + 1]);
     high * 0x100 + low
 }
 
 // The 4-byte number at offset `at`, which must be within the slice.
-fn u32_in(s: &[u8], at: usize) -> u32
+fn u32_in(s: &[u8], at: usize) -> u64
     requires { ⌜ at + 4 ≤ length (now s) ⌝ }
-    ensures { λ r. ⌜ r ≡ bigAt 4 at (now (s .entry)) ⌝ }
+    ensures { λ r. ⌜ (r ≡ bigAt 4 at (now (s .entry))) × (r < 0x1_0000_0000) ⌝ }
 {
     let high = u16_at(s, at);
     let low = u16_at(s, at + 2);
@@ -43,7 +36,7 @@ pub fn big_at(s: &[u8], at: usize) -> u32
     if s.len() - 4 < at {
         return 0;
     }
-    u32_in(s, at)
+    u32_in(s, at) as u32
 }
 
 // `w` with its four bytes reversed. The compiler turns this form into one instruction, and `put_u32` into one store.

@@ -16,6 +16,6 @@ wordsAt k c at page = wordsOf (wordsPerEntry k * c) (part at (size k c) page)
 unfoldable pub soundOf : (minor k count pointer check : ℕ) (words : List ℕ) → Bool
 soundOf w k c p s ws = both (ltb 0 c) (both (eqb (p % 8) 0) (both (checkOk c p ws s) (entriesOk w k c ws)))
 
--- the offset of entry i of the array at offset `at`
+-- the offset of entry i of the array at offset `at`; a rule of its own: the diagnosis reports it (faults/specs/Faults.antt)
 unfoldable pub entryPlace : ℕ → ℕ → ℕ → ℕ
 entryPlace k at i = at + 8 * (wordsPerEntry k * i)

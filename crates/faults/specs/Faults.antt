@@ -121,7 +121,7 @@ fieldTests s from i at t m n =
     (unless (lengthOk t m) (fieldFault rule.FieldLength i (from + at) t m)
     (unless (not (isSeen s t)) (fieldFault rule.FieldTwice i (from + at) t m) Clear)))
 
--- at most n fields, up to the end mark: enough for at most n bytes
+-- at most n fields, up to the end mark: enough for at most n bytes. A rule of its own: `fieldsFault` is defined by it.
 unfoldable pub walkFault : ℕ → Seen → ℕ → ℕ → ℕ → List ℕ → Diagnosis
 walkFault zero s from i at bs = At (fieldFault rule.NoEndMark i (from + at) (getD bs at 0) (numAt 2 (at + 1) bs))
 walkFault (suc n) s from i at bs =

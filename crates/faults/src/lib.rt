@@ -339,24 +339,6 @@ fn overlaps_fault(page: &[u8], n: u8) -> Diagnosis
     Diagnosis::Clear
 }
 
-// The byte at `at`, or 0 past the end.
-fn byte_at(s: &[u8], at: usize) -> u8
-    ensures { λ r. ⌜ r ≡ getD (now (s .entry)) at 0 ⌝ }
-{
-    if s.len() <= at {
-        return 0;
-    }
-    s[at]
-}
-
-// The two-byte number at `at`. Bytes past the end count as 0.
-fn u16_at(s: &[u8], at: usize) -> usize
-    requires { ⌜ at ≤ 0x1001 ⌝ }
-    ensures { λ r. ⌜ (r ≡ numAt 2 at (now (s .entry))) × (r < 0x1_0000) ⌝ }
-{
-    (byte_at(s, at) as usize) + (byte_at(s, at + 1) as usize) * 0x100
-}
-
 // A fault of field `i`, with tag + 256 * length as the word found.
 fn field_found(rule: Rule, i: usize, offset: usize, tag: u8, len: usize) -> Diagnosis
     requires { ⌜ len < 0x1_0000 ⌝ }
@@ -406,8 +388,8 @@ fn fields_fault(part: &[u8], from: usize) -> Diagnosis
     let mut seen = fields::none_seen();
     let mut at = 0;
     for i in 0..part.len() {
-        let tag = byte_at(part, at);
-        let len = u16_at(part, at + 1);
+        let tag = words::byte_at(part, at);
+        let len = words::u16_at(part, at + 1) as usize;
         let told = field_fault(seen, from, i, at, tag, len, part.len());
         let Diagnosis::Clear = told else {
             return told;
@@ -422,8 +404,8 @@ fn fields_fault(part: &[u8], from: usize) -> Diagnosis
         Rule::NoEndMark,
         part.len(),
         from + at,
-        byte_at(part, at),
-        u16_at(part, at + 1),
+        words::byte_at(part, at),
+        words::u16_at(part, at + 1) as usize,
     )
 }
 

@@ -1,7 +1,7 @@
 -- Lookups in the fields that a page shows (FD10): "The writer takes a list of fields", and a reader shows one in page order (02, E7);
 -- "show the console choice as withdrawn without its value" (02, E10). Assumes nothing.
 use Prim.Native.Nat.{ℕ, zero, suc, _+_}
-use mathlib.Core.Bool.{Bool, true, false, cond}
+use mathlib.Core.Bool.{cond}
 use mathlib.Core.List.{List, [], _∷_}
 use lib.ListN.{length}
 use lib.Dec.{leb, eqb}
@@ -57,12 +57,6 @@ unfoldable pub fieldAs : FieldPlace → List ℕ → Asked
 fieldAs (Raw t at n) page = cond (leb (at + n) (length page)) (field (raw t (part at n page))) noField
 fieldAs Withdrawn page = field withdrawn
 fieldAs Nothing page = noField
-
--- the place is that of no field
-unfoldable pub isNothing : FieldPlace → Bool
-isNothing (Raw t at n) = false
-isNothing Withdrawn = false
-isNothing Nothing = true
 
 -- the span of a field's value; empty if the field is withdrawn or absent
 unfoldable pub placeSpan : FieldPlace → Span

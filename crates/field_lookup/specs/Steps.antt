@@ -1,7 +1,8 @@
 -- For the loops over a page's fields, by cursor. `started`, `nth-place` and `tag-place` (proofs/Fields.antt) prove `shownFrom`, `nthPlace` and `tagPlace`
--- equal to `fieldsShown` (reader/specs/Answer.antt), `nthIn` and `ofTag` (Fields.antt). Assumes nothing.
+-- equal to `fieldsShown` (reader/specs/Answer.antt), `nthIn` and `ofTag` (Fields.antt);
+-- `nothing-is` (also there) proves that `isNothing` holds of `Nothing` alone. Assumes nothing.
 use Prim.Native.Nat.{ℕ, zero, suc, _%_}
-use mathlib.Core.Bool.{Bool, true, cond}
+use mathlib.Core.Bool.{Bool, true, false, cond}
 use mathlib.Core.List.{List}
 use lib.ListN.{length, drop}
 use lib.Dec.{eqb}
@@ -44,3 +45,9 @@ nthPlace i v page = placeNth i (startAt (v .plat) page) page
 -- the place of the first field of a view with tag t
 unfoldable pub tagPlace : ℕ → View → List ℕ → FieldPlace
 tagPlace t v page = placeTagged t (length (shownFrom (startAt (v .plat) page) page)) (startAt (v .plat) page) page
+
+-- the place is that of no field
+unfoldable pub isNothing : FieldPlace → Bool
+isNothing (Raw t at n) = false
+isNothing Withdrawn = false
+isNothing Nothing = true

@@ -11,8 +11,8 @@ ghost use Rattle.words.specs.Word.{spanStart, onFrom};
 ghost use Rattle.fields.specs.Steps.{stepAt};
 ghost use Rattle.reader.specs.Answer.{fieldsShown};
 ghost use Rattle.reader.specs.Reading.{readingAnswer};
-ghost use Rattle.field_lookup.specs.Fields.{firstIn, restIn, nthIn, ofTag, valueIn, fieldAs, isNothing, placeSpan};
-ghost use Rattle.field_lookup.specs.Steps.{searchEnds, shownFrom, startAt, nthPlace, tagPlace};
+ghost use Rattle.field_lookup.specs.Fields.{firstIn, restIn, nthIn, ofTag, valueIn, fieldAs, placeSpan};
+ghost use Rattle.field_lookup.specs.Steps.{searchEnds, shownFrom, startAt, nthPlace, tagPlace, isNothing};
 
 // The cursor at the first field of a view. It is the page's length if the view has no pointer, or if a hand-written view points at broken
 // fields.

@@ -2,8 +2,7 @@
 use fields::FieldPlace;
 ghost use Rattle.fields.specs.Fields.{raw};
 ghost use Rattle.text_lines.specs.Text.{fieldText};
-ghost use Rattle.text_lines.specs.Laid.{LaidOver};
-ghost use Rattle.text_lines.specs.Steps.{placeText};
+ghost use Rattle.text_lines.specs.Steps.{placeText, LaidOver};
 
 // Writes a field with its value: tag, length and the bytes of the value.
 fn put_raw(out: &mut [u8], at: usize, tag: u8, value: &[u8]) -> usize

@@ -54,21 +54,6 @@ pub struct Seen {
     pub console: bool,
 }
 
-// `x` as a `usize`.
-fn wide(x: u8) -> usize
-    ensures { λ r. ⌜ (r ≡ x) × (r < 0x100) ⌝ }
-{
-    x as usize
-}
-
-// The two-byte number at `at`.
-fn u16_at(s: &[u8], at: usize) -> usize
-    requires { ⌜ at + 2 ≤ length (now s) ⌝ }
-    ensures { λ r. ⌜ (r ≡ numAt 2 at (now (s .entry))) × (r < 0x1_0000) ⌝ }
-{
-    wide(s[at]) + wide(s[at + 1]) * 0x100
-}
-
 // What is at `at`. Checks neither the lengths of tags 1 to 3 nor whether they repeat.
 fn field_at(part: &[u8], at: usize) -> Head
     ensures { λ r. ⌜ r ≡ headAt at (now (part .entry)) ⌝ }
@@ -80,7 +65,7 @@ fn field_at(part: &[u8], at: usize) -> Head
         return Head::Broken;
     }
     let tag = part[at];
-    let len = u16_at(part, at + 1);
+    let len = words::pair_at(part, at + 1) as usize;
     let value = at + 3;
     if part.len() - value < len {
         return Head::Broken;

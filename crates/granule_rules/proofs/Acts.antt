@@ -17,7 +17,8 @@ use Rattle.realm_words.specs.Bits.{wordsFor, bitAt, realmBit, putBit}
 use Rattle.realm_words.proofs.Laws.{realm-lt, put-same, put-other, put-length}
 use Rattle.banks.proofs.Laws.{falls, index-below, index-named, one-address}
 use Rattle.granule_rules.specs.Granules.{GranuleTable, fromByte, toByte, isSharedPage, granuleCode, moveCode, granuleSet, moved}
-use Rattle.granule_rules.specs.Granules.{Moved, movedBy, moveAt, whenFit, fitting, moveOf, movedTo}
+use Rattle.granule_rules.specs.Granules.{Moved, movedBy, whenFit, fitting, moveOf, movedTo}
+use Rattle.granule_rules.specs.Steps.{moveAt}
 use Rattle.granule_rules.specs.Acts.{MoveActed}
 use Rattle.banks.specs.declared.Granule.{Granule}
 use Rattle.banks.specs.declared.Granule.the-variants.{Nothing, At}

@@ -9,16 +9,17 @@ use lib.ListN.{length, getD, drop}
 use lib.Seq.{drop-cons, drop-length}
 use Rattle.boot.specs.declared.Params.{Params}
 use Rattle.boot.specs.declared.Record.{Record}
-use Rattle.codes.specs.Codes.{isUp, bootParams, isOk, answerOf}
+use Rattle.codes.specs.Codes.{isUp, isFalse, fails, bootParams, isOk, answerOf}
 use Rattle.codes.specs.declared.Answer.{Answer}
 use Rattle.codes.specs.declared.Code.{Code}
-use Rattle.codes.specs.declared.Code.the-variants.{Ok, Unk, BadAddr, Inval}
-use Rattle.banks.specs.Banks.{Granules, granuleAt}
-use Rattle.banks.specs.declared.Granule.the-variants.{Nothing}
-use Rattle.granule_rules.specs.Granules.{GranuleTable, tableOf, Moved, movedBy, moveAt, fitting, moveOf, movedTo}
+use Rattle.codes.specs.declared.Code.the-variants.{Ok, Inval}
+use Rattle.realm_words.specs.Answers.{wordsCode}
+use Rattle.banks.specs.Banks.{Granules, granuleCount}
+use Rattle.granule_rules.specs.Granules.{GranuleTable, tableOf, Moved, movedBy, fitting, moveOf, movedTo}
 use Rattle.granule_rules.specs.Lists.{onward, listBy, moveListOf}
+use Rattle.granule_rules.specs.Steps.{sharedCode, moveAt}
 use Rattle.granule_rules.specs.declared.Direction.{Direction}
-use Rattle.granule_rules.proofs.Moving.{move-down, move-up, move-nowhere, fit-kept}
+use Rattle.granule_rules.proofs.Moving.{move-unfit, move-up, shared-refused, fit-kept}
 
 -- ---- one more call
 onward-ok : (m : Moved) (k : ℕ) (rest : Moved) → isOk (m .answer .code) ≡ true → onward m k rest ≡ rest
@@ -78,10 +79,6 @@ module _ (P : GranuleTable → Type 0) (f h : GranuleTable → ℕ → Moved) (e
       ap (onward (h t a) k) (same-list (suc k) (h t a .table) l (kept t a p))
 
 module _ (s : Record) (g : Granules) (d : Direction) (t : GranuleTable) where
-  pub list-unfit : fitting g t ≡ false → (l : List ℕ) → movedBy Inval t t ≡ moveListOf s g d t l
-  unfolding moveListOf
-  list-unfit f l = rw f
-
   module _ (f : fitting g t ≡ true) where
     list-fit : (l : List ℕ) → listBy (moveOf s g d) 0 t l ≡ moveListOf s g d t l
     unfolding moveListOf
@@ -97,31 +94,34 @@ module _ (s : Record) (g : Granules) (d : Direction) (t : GranuleTable) where
         m ≡ moveListOf s g d t l
     told-list h u v l m e = e ∙ rw v (list-up h l)
 
-    pub list-none : (l : List ℕ) → length l ≡ 0 → _≡_ {A = Moved} (record { answer = answerOf Ok 0 0; table = t }) (moveListOf s g d t l)
-    unfolding listBy
-    list-none l h = go l h ∙ list-fit l
-      where
-        go : (l : List ℕ) → length l ≡ 0 → _≡_ {A = Moved} (record { answer = answerOf Ok 0 0; table = t }) (listBy (moveOf s g d) 0 t l)
-        go [] h = refl
-        go (a ∷ l) h = absurd (omega arith)
+  -- an empty list needs the right number of words alone
+  pub list-none : (l : List ℕ) → length l ≡ 0 → (r : Answer) → r ≡ answerOf (wordsCode (t .words) (granuleCount g)) 0 0 →
+      movedTo r (t .bytes) (t .words) ≡ moveListOf s g d t l
+  unfolding moveListOf listBy movedTo movedBy wordsCode isFalse fails
+  list-none (a ∷ l) h r q = absurd (omega arith)
+  list-none [] h r q = rw q (go (fitting g t) refl)
+    where
+      go : (b : Bool) → fitting g t ≡ b → movedTo (answerOf (fails (isFalse b) Inval Ok) 0 0) (t .bytes) (t .words) ≡ cond b
+          (listBy (moveOf s g d) 0 t []) (movedBy Inval t t)
+      go true f = refl
+      go false f = refl
 
-    first-down : isUp s ≡ false → (a : ℕ) (l : List ℕ) → _≡_ {A = Moved} (record { answer = answerOf Unk 0 0; table = t })
-        (listBy (moveOf s g d) 0 t (a ∷ l))
-    unfolding listBy onward movedBy answerOf
-    first-down h a l = rw (← move-down s g d t a f h)
+  -- a list with a first address is its single calls, whatever the number of words
+  list-some : (a : ℕ) (l : List ℕ) → listBy (moveOf s g d) 0 t (a ∷ l) ≡ moveListOf s g d t (a ∷ l)
+  unfolding moveListOf listBy onward movedBy answerOf
+  list-some a l = go (fitting g t) refl
+    where
+      go : (b : Bool) → fitting g t ≡ b → listBy (moveOf s g d) 0 t (a ∷ l) ≡ moveListOf s g d t (a ∷ l)
+      go true f = rw f
+      go false f = rw (f, ← move-unfit s g d t a f)
 
-    pub list-down : isUp s ≡ false → (l : List ℕ) → (length l ≡ 0 → ⊥) →
-        _≡_ {A = Moved} (record { answer = answerOf Unk 0 0; table = t }) (moveListOf s g d t l)
-    list-down h [] n = absurd (n refl)
-    list-down h (a ∷ l) n = first-down h a l ∙ list-fit (a ∷ l)
-
-    -- if no address is on a granule of the table, the first call is refused
-    first-nowhere : isUp s ≡ true → (a : ℕ) (l : List ℕ) → granuleAt g (length (t .bytes)) a ≡ Nothing →
-        _≡_ {A = Moved} (record { answer = answerOf BadAddr 0 0; table = t }) (listBy (moveOf s g d) 0 t (a ∷ l))
-    unfolding listBy onward movedTo answerOf
-    first-nowhere h a l e = rw (← move-nowhere s g d t a f h e)
-
-    pub list-nowhere : isUp s ≡ true → (l : List ℕ) → (length l ≡ 0 → ⊥) → ((a : ℕ) → granuleAt g (length (t .bytes)) a ≡ Nothing) →
-        _≡_ {A = Moved} (record { answer = answerOf BadAddr 0 0; table = t }) (moveListOf s g d t l)
-    list-nowhere h [] n e = absurd (n refl)
-    list-nowhere h (a ∷ l) n e = first-nowhere h a l (e a) ∙ list-fit (a ∷ l)
+  -- a check that does not depend on the address refuses the first call
+  pub list-refused : (k : Code) → k ≡ sharedCode s g (length (t .bytes)) (t .words) → isOk k ≡ false → (l : List ℕ) → (length l ≡ 0 → ⊥) →
+      (r : Answer) → r ≡ answerOf k 0 0 →
+      movedTo r (t .bytes) (t .words) ≡ moveListOf s g d t l
+  unfolding listBy onward movedTo answerOf
+  list-refused k e n [] h r q = absurd (h refl)
+  list-refused k e n (a ∷ l) h r q = rw q (first ∙ list-some a l)
+    where
+      first : movedTo (answerOf k 0 0) (t .bytes) (t .words) ≡ listBy (moveOf s g d) 0 t (a ∷ l)
+      first = rw (← shared-refused s g t k e n d a (answerOf k 0 0) refl, n)

@@ -1,7 +1,7 @@
 -- Delegation, return by return, and what a refusal leaves. Assumes nothing.
 use Prim.Native.Nat.{ℕ, _+_, _/_, _<_}
 use mathlib.Core.Path.{_≡_, refl, sym, ap, _∙_}
-use mathlib.Core.Bool.{Bool, true, false}
+use mathlib.Core.Bool.{Bool, true, false, false≢true}
 use mathlib.Core.List.{List}
 use native.Mathlib.Omega.{arith}
 use lib.ListN.{length, getD, set, length-set}
@@ -17,20 +17,17 @@ use Rattle.codes.specs.Codes.{isUp, isFalse, fails, bootParams, whenUp, isOk, a
 use Rattle.codes.specs.declared.Code.{Code}
 use Rattle.codes.specs.declared.Code.the-variants.{Ok, Unk, BadAddr, BadPas, Inval}
 use Rattle.codes.proofs.Gates.{if-ok-by}
+use Rattle.codes.specs.declared.Answer.{Answer}
 use Rattle.banks.proofs.Laws.{falls, index-below}
+use Rattle.banks.proofs.Fast.{tableFits, table-fits, table-unfit}
 use Rattle.granule_rules.specs.Granules.{GranuleTable, tableOf, fromByte, toByte, isSharedPage, granuleCode, moveCode, granuleSet}
-use Rattle.granule_rules.specs.Granules.{moved, Moved, movedBy, moveAt, fitting, whenFit, moveOf, movedTo}
-use Rattle.granule_rules.specs.Steps.{Inside}
+use Rattle.granule_rules.specs.Granules.{moved, Moved, movedBy, fitting, whenFit, moveOf, movedTo}
+use Rattle.granule_rules.specs.Steps.{Inside, sharedCode, moveAt}
 use Rattle.banks.specs.declared.Granule.{Granule}
 use Rattle.banks.specs.declared.Granule.the-variants.{Nothing, At}
 use Rattle.granule_rules.specs.declared.Direction.{Direction}
 
 -- ---- the granule of an address is within the table
--- whether the words fit, from the m granules of the record
-pub fit-told : (g : Granules) (bytes words : List ℕ) (m : ℕ) (r b : Bool) → m ≡ granuleCount g → r ≡ wordsFit words m → r ≡ b →
-    fitting g (tableOf bytes words) ≡ b
-fit-told g bytes words m r b c e h = ap (wordsFit words) (sym c) ∙ sym e ∙ h
-
 pub granule-inside : (g : Granules) (t ws : List ℕ) (addr : ℕ) (k : Granule) → Yes (wordsFit ws (granuleCount g)) →
     k ≡ granuleAt g (length t) addr → Inside k t ws
 unfolding wordsFor
@@ -97,7 +94,7 @@ module _ (s : Record) (g : Granules) (d : Direction) (t : GranuleTable) (addr : 
   move-unfit h = rw h
 
   module _ (f : fitting g t ≡ true) where
-    pub move-down : isUp s ≡ false → movedBy Unk t t ≡ moveOf s g d t addr
+    move-down : isUp s ≡ false → movedBy Unk t t ≡ moveOf s g d t addr
     unfolding moveOf movedBy whenFit whenUp isFalse fails
     move-down h = rw (f, h)
 
@@ -109,13 +106,48 @@ module _ (s : Record) (g : Granules) (d : Direction) (t : GranuleTable) (addr : 
     told-up h u v m e = e ∙ rw v (move-up h)
 
     -- the address is on no granule of the table
-    pub move-nowhere : isUp s ≡ true → granuleAt g (length (t .bytes)) addr ≡ Nothing →
+    move-nowhere : isUp s ≡ true → granuleAt g (length (t .bytes)) addr ≡ Nothing →
         movedTo (answerOf BadAddr 0 0) (t .bytes) (t .words) ≡ moveOf s g d t addr
     move-nowhere h e = move-addr (bootParams s) g d (t .bytes) (t .words) addr e ∙ move-up h
 
     -- the right number of words stays right
     pub fit-kept : fitting g (moveOf s g d t addr .table) ≡ true
     fit-kept = fit-long (moveOf s g d t addr .table .words) (t .words) (granuleCount g) (lengths-kept .1) f
+
+-- ---- the checks that do not depend on the address
+module _ (s : Record) (g : Granules) (t : GranuleTable) (k : Code) (e : k ≡ sharedCode s g (length (t .bytes)) (t .words)) where
+  -- refused, they give the code of each call
+  pub shared-refused : isOk k ≡ false → (d : Direction) (addr : ℕ) (r : Answer) → r ≡ answerOf k 0 0 →
+      movedTo r (t .bytes) (t .words) ≡ moveOf s g d t addr
+  unfolding sharedCode isFalse fails movedTo movedBy
+  shared-refused n d addr r q = rw (q, e) (go (fitting g t) (isUp s) (tableFits g (length (t .bytes))) refl refl refl (rw e at n))
+    where
+      go : (a b c : Bool) → fitting g t ≡ a → isUp s ≡ b → tableFits g (length (t .bytes)) ≡ c
+          → isOk (fails (isFalse a) Inval (fails (isFalse b) Unk (fails (isFalse c) BadAddr Ok))) ≡ false
+          → movedTo (answerOf (fails (isFalse a) Inval (fails (isFalse b) Unk (fails (isFalse c) BadAddr Ok))) 0 0) (t .bytes)
+          (t .words) ≡ moveOf s g d t addr
+      go false b c f u w n = move-unfit s g d t addr f
+      go true false c f u w n = move-down s g d t addr f u
+      go true true false f u w n = move-nowhere s g d t addr f u (table-unfit g (length (t .bytes)) addr w)
+      go true true true f u w n = absurd (false≢true (sym n))
+
+  -- passed, they say this
+  pub record Passed : Type 0 where
+    pub fit : fitting g t ≡ true
+    pub up : isUp s ≡ true
+    pub some : 0 < granuleCount g
+    pub count : granuleCount g ≡ length (t .bytes)
+
+  pub shared-passed : isOk k ≡ true → Passed
+  unfolding sharedCode isFalse fails
+  shared-passed y = go (fitting g t) (isUp s) (tableFits g (length (t .bytes))) refl refl refl (rw e at y)
+    where
+      go : (a b c : Bool) → fitting g t ≡ a → isUp s ≡ b → tableFits g (length (t .bytes)) ≡ c
+          → isOk (fails (isFalse a) Inval (fails (isFalse b) Unk (fails (isFalse c) BadAddr Ok))) ≡ true → Passed
+      go false b c f u w y = absurd (false≢true y)
+      go true false c f u w y = absurd (false≢true y)
+      go true true false f u w y = absurd (false≢true y)
+      go true true true f u w y = let h = table-fits g (length (t .bytes)) w in record { fit = f; up = u; some = h .0; count = h .1 }
 
 -- a refused move leaves the table unchanged, with zeros in x1 and x2
 pub move-refused : (s : Record) (g : Granules) (d : Direction) (t : GranuleTable) (addr : ℕ) →

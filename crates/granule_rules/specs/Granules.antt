@@ -78,10 +78,6 @@ pub record Moved : Type 0 where
 unfoldable pub movedBy : Code → GranuleTable → GranuleTable → Moved
 movedBy k new old = record { answer = answerOf k 0 0; table = ifOk k new old }
 
--- a call with the right number of words, and a boot record that is up and keeps u
-unfoldable pub moveAt : Params → Granules → Direction → GranuleTable → ℕ → Moved
-moveAt u g d t addr = movedBy (moveCode u g d t addr) (moved g d t addr) t
-
 -- 02, E6: "INVAL, before all other checks of any call on words, .. if their number is not the record's granules over 64, rounded up"
 abbrev pub fitting : Granules → GranuleTable → Bool
 fitting g t = wordsFit (t .words) (granuleCount g)

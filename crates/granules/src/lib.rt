@@ -15,10 +15,10 @@ ghost use Rattle.words.specs.Tests.{both, Yes};
 ghost use Rattle.codes.specs.Codes.{isUp, answerOf};
 ghost use Rattle.banks.specs.Banks.{Granules, granuleCount, granuleAt};
 ghost use Rattle.banks.specs.Fast.{hasOneBank};
-ghost use Rattle.realm_words.specs.Answers.{wordsFit};
+ghost use Rattle.realm_words.specs.Answers.{wordsFit, wordsCode};
 ghost use Rattle.realm_words.specs.Bits.{realmBit, putBit};
-ghost use Rattle.granule_rules.specs.Granules.{tableOf, fromByte, toByte, isSharedPage, moveAt, moveOf, delegateOf, undelegateOf, movedTo};
-ghost use Rattle.granule_rules.specs.Steps.{Inside};
+ghost use Rattle.granule_rules.specs.Granules.{tableOf, fromByte, toByte, isSharedPage, moveOf, delegateOf, undelegateOf, movedTo};
+ghost use Rattle.granule_rules.specs.Steps.{Inside, sharedCode, moveAt};
 ghost use Rattle.granule_rules.specs.Lists.{listBy, moveListOf, delegateListOf, undelegateListOf};
 
 // Returns the byte that a granule must have.
@@ -103,6 +103,23 @@ fn table_fits(count: u64, n: usize) -> bool
     true
 }
 
+// Makes the checks that do not depend on the address, in order: the number of words, the boot record, the table's length.
+fn shared_code(state: Record, granules: &[u64; 33], n: usize, words: &[u64]) -> Code
+    ensures { λ r. ⌜ r ≡ sharedCode state (now (granules .entry)) n (now (words .entry)) ⌝ }
+{
+    let count = banks::granule_count(granules);
+    if !realm_words::words_fit(words, count as usize) {
+        return Code::Inval;
+    }
+    if !codes::is_up(state) {
+        return Code::Unk;
+    }
+    if !table_fits(count, n) {
+        return Code::BadAddr;
+    }
+    Code::Ok
+}
+
 // ---- a single call ----
 
 fn move_one(
@@ -115,16 +132,9 @@ fn move_one(
 ) -> Code
     ensures { λ r. ⌜ movedTo (answerOf r 0 0) (now (table .exit)) (now (words .exit)) ≡ moveOf state (now (granules .entry)) direction (tableOf (now (table .entry)) (now (words .entry))) address ⌝ }
 {
-    let count = banks::granule_count(granules);
-    if !realm_words::words_fit(words, count as usize) {
-        return Code::Inval;
-    }
-    let up = codes::is_up(state);
-    if !up {
-        return Code::Unk;
-    }
-    if !table_fits(count, table.len()) {
-        return Code::BadAddr;
+    let code = shared_code(state, granules, table.len(), words);
+    if !codes::is_ok(code) {
+        return code;
     }
     let params = codes::boot_params(state);
     let found = banks::find_from(granules, banks::no_bank(), address);
@@ -167,7 +177,7 @@ fn move_shortcut(
 // ---- a list of calls ----
 
 // Makes the single calls of a list in order, up to the first refusal; x1 is the number of granules moved. `move_list` has made the checks
-// that all of them share.
+// that they share.
 fn move_each(
     params: Params,
     granules: &[u64; 33],
@@ -194,8 +204,17 @@ fn move_each(
     codes::answer_with(Code::Ok, n as u64, 0)
 }
 
-// Makes the checks that do not depend on the address once. An empty list is OK if the number of words is right, even if the boot record is
-// not up.
+// An empty list is OK if the number of words is right, even if the boot record is not up.
+fn move_none(granules: &[u64; 33], words: &[u64]) -> Answer
+    ensures { λ r. ⌜ r ≡ answerOf (wordsCode (now (words .entry)) (granuleCount (now (granules .entry)))) 0 0 ⌝ }
+{
+    let count = banks::granule_count(granules);
+    if !realm_words::words_fit(words, count as usize) {
+        return codes::answer_with(Code::Inval, 0, 0);
+    }
+    codes::answer_with(Code::Ok, 0, 0)
+}
+
 fn move_list(
     state: Record,
     granules: &[u64; 33],
@@ -206,19 +225,12 @@ fn move_list(
 ) -> Answer
     ensures { λ r. ⌜ movedTo r (now (table .exit)) (now (words .exit)) ≡ moveListOf state (now (granules .entry)) direction (tableOf (now (table .entry)) (now (words .entry))) (now (addresses .entry)) ⌝ }
 {
-    let count = banks::granule_count(granules);
-    if !realm_words::words_fit(words, count as usize) {
-        return codes::answer_with(Code::Inval, 0, 0);
-    }
     if addresses.len() == 0 {
-        return codes::answer_with(Code::Ok, 0, 0);
+        return move_none(granules, words);
     }
-    let up = codes::is_up(state);
-    if !up {
-        return codes::answer_with(Code::Unk, 0, 0);
-    }
-    if !table_fits(count, table.len()) {
-        return codes::answer_with(Code::BadAddr, 0, 0);
+    let code = shared_code(state, granules, table.len(), words);
+    if !codes::is_ok(code) {
+        return codes::answer_with(code, 0, 0);
     }
     let params = codes::boot_params(state);
     move_each(params, granules, direction, table, words, addresses)

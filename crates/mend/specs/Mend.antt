@@ -48,11 +48,11 @@ unfoldable pub keepsSection : (minor edition base : ℕ) (plat : PagePlatform) (
 keepsSection w e base q f k = stays w e base q (afterMending w e base q f k) k
 
 -- ---- of a page
--- "the page's edition": the smaller of 4 and its minor
+-- the page's own minor version
 abbrev pub minorAt : List ℕ → ℕ
 minorAt page = minorOf (versionAt page)
 
--- the edition that the page is read as
+-- "the page's edition": the smaller of 4 and its minor
 abbrev pub editionAt : List ℕ → ℕ
 editionAt page = min 4 (minorAt page)
 

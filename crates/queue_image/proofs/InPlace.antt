@@ -13,7 +13,8 @@ use Rattle.words.proofs.Store.{drop-splice, splice-splice}
 use Rattle.words.proofs.Lists.{bytesOf-length}
 use Rattle.queue.specs.Queue.{signedIn, oldestRequest, oldestResponse}
 use Rattle.queue_image.specs.Image.{rows, requestIn, heldIn, responseIn, listsIn}
-use Rattle.queue_image.specs.Sides.{Side, requestSide, responseSide, rowsWaiting, rowsIn, rowJoined, rowAppended, rowDropped}
+use Rattle.queue_image.specs.Sides.{Side, requestSide, responseSide, rowsWaiting, rowsIn, rowJoined, rowDropped}
+use Rattle.queue_image.specs.Steps.{rowAppended}
 use Rattle.queue_image.proofs.Rows.{mul-more, drop-take, row-at, splice-none, put-first, put-next}
 use Rattle.queue_image.proofs.Sides.{waits}
 

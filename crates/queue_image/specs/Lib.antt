@@ -1,4 +1,5 @@
 pub mod Image
 pub mod Sides
+pub mod Steps
 pub mod Waits
 pub mod OnImage

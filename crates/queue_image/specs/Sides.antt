@@ -1,10 +1,8 @@
 -- What a call leaves of the image's two sides. It changes the side that it needs: one row and the number, or the rows that wait. A freed
 -- place is zeroed; every other word is unchanged. Assumes nothing.
 use Prim.Native.Nat.{ℕ, suc, min, _+_, _-_, _*_}
-use mathlib.Core.Bool.{cond}
 use mathlib.Core.List.{List, [], _∷_, _++_}
 use lib.ListN.{drop, getD, replicate}
-use lib.Dec.{ltb}
 use Rattle.words.specs.Word.{part, splice}
 
 -- a side: the place of its number, the start of its rows, and the words of a row
@@ -32,10 +30,6 @@ rowsIn s w = part (s .start) (s .width * rowsWaiting s w) w
 -- adds a row after those that wait
 unfoldable pub rowJoined : Side → List ℕ → List ℕ → List ℕ
 rowJoined s row w = splice (s .number) (suc (rowsWaiting s w) ∷ []) (splice (s .start + s .width * rowsWaiting s w) row w)
-
--- the same if fewer than eight wait; otherwise the image is unchanged
-unfoldable pub rowAppended : Side → List ℕ → List ℕ → List ℕ
-rowAppended s row w = cond (ltb (rowsWaiting s w) 8) (rowJoined s row w) w
 
 -- drops the oldest row: the rows after it move up, and the freed place is zeroed
 unfoldable pub rowDropped : Side → List ℕ → List ℕ

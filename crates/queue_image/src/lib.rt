@@ -11,7 +11,8 @@ ghost use lib.ListN.{length, getD, replicate};
 ghost use Rattle.words.specs.Word.{part, wordsOf, splice};
 ghost use Rattle.queue.specs.Queue.{signedIn};
 ghost use Rattle.queue_image.specs.Image.{requestIn, heldIn, responseIn, listsIn, queueIn, requestWords, responseWords, oldestWords};
-ghost use Rattle.queue_image.specs.Sides.{requestSide, responseSide, rowAppended, rowDropped};
+ghost use Rattle.queue_image.specs.Sides.{requestSide, responseSide, rowDropped};
+ghost use Rattle.queue_image.specs.Steps.{rowAppended};
 
 // Reads the request in the ten words at `at`.
 fn request_in(image: &[u64], at: usize) -> Request

@@ -12,7 +12,8 @@ use Rattle.codes.specs.declared.Code.the-variants.{Ok}
 use Rattle.codes.proofs.Gates.{fails-ok}
 use Rattle.queue.specs.Queue.{Lists}
 use Rattle.queue_image.specs.Image.{listsIn, requestWords}
-use Rattle.queue_image.specs.Sides.{requestSide, rowAppended}
+use Rattle.queue_image.specs.Sides.{requestSide}
+use Rattle.queue_image.specs.Steps.{rowAppended}
 use Rattle.queue_image.specs.OnImage.{ImageStep}
 use Rattle.queue_image.proofs.InPlace.{row-room-joined, requests-wait}
 use Rattle.queue_image.proofs.Steps.{image-refuses, image-accepts}

@@ -14,7 +14,8 @@ use Rattle.codes.proofs.Gates.{fails-ok}
 use Rattle.queue.specs.declared.Request.{Request}
 use Rattle.queue.specs.Queue.{Lists, oldestResponse}
 use Rattle.queue_image.specs.Image.{requestIn, responseIn, listsIn, responseWords}
-use Rattle.queue_image.specs.Sides.{requestSide, responseSide, rowAppended, rowDropped}
+use Rattle.queue_image.specs.Sides.{requestSide, responseSide, rowDropped}
+use Rattle.queue_image.specs.Steps.{rowAppended}
 use Rattle.queue_image.specs.OnImage.{ImageStep}
 use Rattle.queue_image.proofs.InPlace.{row-room-joined, responses-wait, front-request-is, front-response-is}
 use Rattle.queue_image.proofs.Steps.{image-refuses, image-accepts}

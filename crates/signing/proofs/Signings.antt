@@ -26,7 +26,8 @@ use Rattle.queue_image.specs.OnImage.{ImageStep}
 use Rattle.request_rules.specs.Push.{pushCode, pushed, pushOf}
 use Rattle.response_rules.specs.Pull.{responseBytes, pullCode, pulled, pullOf}
 use Rattle.signing.specs.Signing.{opcodeOf, isOther, badCurve, sharedCode, publicCode, publicOf, opOf, putBack, opAt, signingOf}
-use Rattle.signing.specs.OnImage.{opOn, signingDone, signingOn}
+use Rattle.signing.specs.OnImage.{signingDone, signingOn}
+use Rattle.signing.specs.Steps.{opOn}
 use Rattle.signing.specs.declared.Opcode.{Opcode}
 use Rattle.signing.specs.declared.Opcode.the-variants.{Push, Pull, Key, Other}
 use Rattle.signing.proofs.Buffers.{buffer-length, back-same, back-over, pull-fits, public-fits}

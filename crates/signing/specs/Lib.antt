@@ -1,3 +1,4 @@
 pub mod Acts
 pub mod Signing
 pub mod OnImage
+pub mod Steps

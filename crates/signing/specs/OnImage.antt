@@ -9,7 +9,7 @@ use Rattle.queue_image.specs.Image.{listsIn}
 use Rattle.queue_image.specs.Sides.{responseSide, rowDropped}
 use Rattle.queue_image.specs.OnImage.{ImageStep, imageStep}
 use Rattle.request_rules.specs.OnImage.{pushDone}
-use Rattle.signing.specs.Signing.{opcodeOf, opAt, signingOf}
+use Rattle.signing.specs.Signing.{opcodeOf, signingOf}
 use Rattle.signing.specs.declared.Opcode.{Opcode}
 use Rattle.signing.specs.declared.Opcode.the-variants.{Push, Pull, Key, Other}
 
@@ -19,10 +19,6 @@ imageDone Push b w = pushDone b w
 imageDone Pull b w = rowDropped responseSide w
 imageDone Key b w = w
 imageDone Other b w = w
-
--- an opcode on the buffer of `size` bytes at offset `at` of the page
-unfoldable pub opOn : Opcode → ℕ → ℕ → List ℕ → List ℕ → List ℕ → ImageStep
-opOn o at size page w key = imageStep (opAt o at size page (listsIn w) key) (imageDone o (part at size page) w) w
 
 -- what an accepted command leaves of the image w, for the buffer of `size` bytes at pa
 unfoldable pub signingDone : (state : Record) (page image : List ℕ) (opcode pa size : ℕ) → List ℕ

@@ -14,7 +14,8 @@ ghost use Rattle.codes.specs.Codes.{bootParams, gated};
 ghost use Rattle.queue.specs.Queue.{Lists, SigningStep, listsOf, signingExit, exitOf};
 ghost use Rattle.queue_image.specs.OnImage.{ImageStep};
 ghost use Rattle.signing.specs.Signing.{opcodeOf, isOther, badCurve, sharedCode, publicOf, opAt, signingOf};
-ghost use Rattle.signing.specs.OnImage.{opOn, signingOn};
+ghost use Rattle.signing.specs.OnImage.{signingOn};
+ghost use Rattle.signing.specs.Steps.{opOn};
 
 // The opcode of a token signing call.
 pub enum Opcode {

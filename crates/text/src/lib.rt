@@ -9,8 +9,8 @@ ghost use Rattle.reader.specs.Reading.{refusalNumber, shownAs, readingAnswer};
 ghost use Rattle.field_lookup.specs.Steps.{shownFrom};
 ghost use Rattle.words.specs.Word.{joined};
 ghost use Rattle.text_lines.specs.Text.{wordText, entryText, countText, stateText, titleText, sectionText, headText, pointerText, platText, fieldsText, listingOf, printed};
-ghost use Rattle.text_lines.specs.Laid.{LaidOver, Listed};
-ghost use Rattle.text_lines.specs.Steps.{seen, refusalLine};
+ghost use Rattle.text_lines.specs.Laid.{Listed};
+ghost use Rattle.text_lines.specs.Steps.{seen, refusalLine, LaidOver};
 
 // Writes word `j` of an entry of section `k`: a console's name as bytes, any other word in hex.
 fn put_word(out: &mut [u8], at: usize, k: usize, j: usize, w: u64) -> usize

@@ -11,7 +11,8 @@ use lib.Seq.{length-take-le, take-nil, take-all, take-at, drop-at, drop-drop, ta
 use lib.Seq.{take-append-add, append-snoc}
 use Rattle.text_lines.specs.Text.{layClipped, listingRoom}
 use Rattle.words.specs.Word.{joined}
-use Rattle.text_lines.specs.Laid.{lastOffset, LaidOver, Listed}
+use Rattle.text_lines.specs.Laid.{Listed}
+use Rattle.text_lines.specs.Steps.{lastOffset, LaidOver}
 
 pub length-lay : (at : ℕ) (vs s : List ℕ) → length (layClipped at vs s) ≡ length s
 unfolding layClipped

@@ -28,8 +28,8 @@ use Rattle.reader.specs.declared.Reading.the-variants.{Accepted, Refused}
 use Rattle.reader.proofs.Whole.{reading-answer}
 use Rattle.fields.specs.Steps.{stepAt}
 use Rattle.lookup.specs.Fast.{wordOf}
-use Rattle.field_lookup.specs.Fields.{shownValue, valueIn, fieldAs, isNothing}
-use Rattle.field_lookup.specs.Steps.{shownFrom}
+use Rattle.field_lookup.specs.Fields.{shownValue, valueIn, fieldAs}
+use Rattle.field_lookup.specs.Steps.{shownFrom, isNothing}
 use Rattle.fields.specs.declared.FieldPlace.{FieldPlace}
 use Rattle.fields.specs.declared.FieldPlace.the-variants.{Raw, Withdrawn, Nothing}
 use Rattle.fields.specs.declared.FieldStep.{FieldStep}

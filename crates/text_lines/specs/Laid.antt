@@ -1,19 +1,9 @@
 -- A text written into a lent slice as far as it fits. Assumes nothing.
-use Prim.Native.Nat.{ℕ, _+_, _≤_, min}
+use Prim.Native.Nat.{ℕ, _≤_}
 use mathlib.Core.Path.{_≡_}
 use mathlib.Core.List.{List}
 use lib.ListN.{length}
 use Rattle.text_lines.specs.Text.{layClipped, listingRoom}
-
--- the largest offset; sums that overflow end there
-abbrev pub lastOffset : ℕ
-lastOffset = 0xFFFF_FFFF_FFFF_FFFF
-
--- `vs` was written over `s` from offset `at` on, as far as it fits: the result is `t`, and the next text goes to offset `r`
-pub record LaidOver (at : ℕ) (vs s : List ℕ) (r : ℕ) (t : List ℕ) : Type 0 where
-  pub cursor : r ≡ min (at + length vs) lastOffset
-  pub same : length t ≡ length s
-  pub bytes : t ≡ layClipped at vs s
 
 -- The text `vs` was written over `s` from its start, as far as it fits: the result is `t`. `r` is the length of the whole text, even if it does not
 -- fit, and is at most `listingRoom`.

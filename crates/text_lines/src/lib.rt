@@ -4,7 +4,7 @@
 ghost use Prim.Native.Nat.{_+_, min};
 ghost use mathlib.Core.Path.{_≡_};
 ghost use Rattle.text_lines.specs.Text.{newline, decimal, hexText, byteText, nameText, gapText, valueText};
-ghost use Rattle.text_lines.specs.Laid.{lastOffset, LaidOver};
+ghost use Rattle.text_lines.specs.Steps.{lastOffset, LaidOver};
 
 // `at + n`, or the largest number if that overflows. No text is that long, but a single step cannot know that.
 fn saturating_add(at: usize, n: usize) -> usize

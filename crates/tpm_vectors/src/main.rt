@@ -25,15 +25,11 @@ fn times_prime(x: u64) -> u64 {
     std::num::wrapping_add_u64(std::num::wrapping_add_u64(low, high), top)
 }
 
-fn wide(x: u8) -> u64 {
-    x as u64
-}
-
 // The 64-bit FNV-1a hash.
 fn digest(s: &[u8]) -> u64 {
     let mut x: u64 = 0xCBF2_9CE4_8422_2325;
     for i in 0..s.len() {
-        x = times_prime(x ^ wide(s[i]));
+        x = times_prime(x ^ words::widen(s[i]));
     }
     x
 }

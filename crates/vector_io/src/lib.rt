@@ -119,13 +119,6 @@ pub fn print_same(what: &[u8], held: &[u8], expected: &[u8]) {
     io::write_all(STDOUT_FILENO, b" not as expected\n");
 }
 
-// A byte as a 64-bit number.
-fn wide(byte: u8) -> u64
-    ensures { λ r. ⌜ (r ≡ byte) × (r < 256) ⌝ }
-{
-    byte as u64
-}
-
 // A 64-bit hash: length and bytes as digits in two bases, modulo the prime 2^32 - 5. No power of either base up to the 4,096th is a quotient
 // of two differences of bytes, so two slices of equal length up to 4,096 that differ in one or two bytes differ in both halves.
 pub fn mark(part: &[u8]) -> u64
@@ -134,7 +127,7 @@ pub fn mark(part: &[u8]) -> u64
     let mut high = part.len() as u64 % 0xFFFF_FFFB;
     let mut low = high;
     for i in 0..part.len() {
-        let byte = wide(part[i]);
+        let byte = words::widen(part[i]);
         high = (high * 0x9E37_79B1 + byte) % 0xFFFF_FFFB;
         low = (low * 0x85EB_CA77 + byte) % 0xFFFF_FFFB;
     }

@@ -1,8 +1,8 @@
-// Little-endian numbers in a slice: reads 8-byte words and 4-byte halves at any offset, writes 8, 4 or 2 bytes and lists of words; copies,
+// Little-endian numbers in a slice: reads 8-byte words, 4-byte halves, 2-byte numbers and bytes at any offset, writes 8, 4 or 2 bytes and lists of words; copies,
 // clears and cuts slices.
 ghost use mathlib.Core.Path.{_≡_};
 ghost use Prim.Native.Nat.{min, _+_, _<_, _≤_};
-ghost use lib.ListN.{length, replicate};
+ghost use lib.ListN.{length, getD, replicate};
 ghost use Rattle.words.specs.Word.{leBytes, numAt, wordAt, u32At, bytesOf, splice, laid, spanAt, spanned, spanStart, onFrom};
 ghost use Rattle.words.specs.Fast.{wholeWord};
 
@@ -13,7 +13,7 @@ pub struct Span {
 }
 
 // `x` as 64 bits.
-fn widen(x: u8) -> u64
+pub fn widen(x: u8) -> u64
     ensures { λ r. ⌜ (r ≡ x) × (r < 0x100) ⌝ }
 {
     x as u64
@@ -104,6 +104,26 @@ pub fn u32_at(s: &[u8], at: usize) -> u64
         return read_tail(s, at);
     }
     read_u32(s, at)
+}
+
+// The byte at `at`; 0 past the end.
+pub fn byte_at(s: &[u8], at: usize) -> u8
+    ensures { λ r. ⌜ r ≡ getD (now (s .entry)) at 0 ⌝ }
+{
+    if s.len() <= at {
+        return 0;
+    }
+    s[at]
+}
+
+// The two-byte number at `at`. Bytes past the end count as 0.
+pub fn pair_at(s: &[u8], at: usize) -> u64
+    ensures { λ r. ⌜ (r ≡ numAt 2 at (now (s .entry))) × (r < 0x1_0000) ⌝ }
+{
+    if s.len() <= at {
+        return 0;
+    }
+    widen(s[at]) + widen(byte_at(s, at + 1)) * 0x100
 }
 
 // Writes the low 1, 2, 4 or 8 bytes of `w` at `at`.

@@ -17,8 +17,11 @@ returns-2 c = let a = c .before .before .before .args in sym (whole-out (a .at) 
 u32-in-requires : tie.Need-u32-in-requires
 u32-in-requires c κs = search needs
 
+cast-result : tie.Need-cast-result
+cast-result c = search needs
+
 returns-3 : tie.Need-returns-3
-returns-3 c = let a = c .before .before .before .before .args in c .u32-in .ensures ∙ sym (whole-in (a .at) (a .s .now) (omega arith))
+returns-3 c = let a = c .before .before .before .before .args in c .u32-in .ensures .0 ∙ sym (whole-in (a .at) (a .s .now) (omega arith))
 
 pub big-at-spec : {M : Type 1} → statement M
-big-at-spec = tie.close (tie.spec returns sub-if2 returns-2 u32-in-requires returns-3)
+big-at-spec = tie.close (tie.spec returns sub-if2 returns-2 u32-in-requires cast-result returns-3)

@@ -5,20 +5,20 @@ use borrow.Author.Needs.{needs}
 use Rattle.big_words.proofs.u16_at.Statement.{statement}
 use Rattle.big_words.proofs.u16_at.Tie as tie
 
-shared-slice-read-wide : tie.Need-shared-slice-read-wide
-shared-slice-read-wide c = search needs
+shared-slice-read-widen : tie.Need-shared-slice-read-widen
+shared-slice-read-widen c = search needs
 
-wide-requires : tie.Need-wide-requires
-wide-requires c κs = search needs
+widen-requires : tie.Need-widen-requires
+widen-requires c κs = search needs
 
-add-wide : tie.Need-add-wide
-add-wide c = search needs
+add-widen : tie.Need-add-widen
+add-widen c = search needs
 
-shared-slice-read-wide-2 : tie.Need-shared-slice-read-wide-2
-shared-slice-read-wide-2 c = search needs
+shared-slice-read-widen-2 : tie.Need-shared-slice-read-widen-2
+shared-slice-read-widen-2 c = search needs
 
-wide-requires-2 : tie.Need-wide-requires-2
-wide-requires-2 c κs = search needs
+widen-requires-2 : tie.Need-widen-requires-2
+widen-requires-2 c κs = search needs
 
 mul-result : tie.Need-mul-result
 mul-result c = search needs
@@ -42,11 +42,11 @@ pub u16-at-spec : {M : Type 1} → statement M
 u16-at-spec =
     tie.close
     (tie.spec
-    shared-slice-read-wide
-    wide-requires
-    add-wide
-    shared-slice-read-wide-2
-    wide-requires-2
+    shared-slice-read-widen
+    widen-requires
+    add-widen
+    shared-slice-read-widen-2
+    widen-requires-2
     mul-result
     add-result
     returns)

@@ -20,7 +20,7 @@ add-result : tie.Need-add-result
 add-result c = search needs
 
 returns : tie.Need-returns
-returns c = let a = c .before .before .before .args in omega (arith, big-add 2 2 (a .at) (a .s .now) (omega arith))
+returns c = let a = c .before .before .before .args in (omega (arith, big-add 2 2 (a .at) (a .s .now) (omega arith)), search needs)
 
 pub u32-in-spec : {M : Type 1} → statement M
 u32-in-spec =

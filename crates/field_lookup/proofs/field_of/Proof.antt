@@ -1,8 +1,8 @@
 use Prim.Native.Nat.{_-_}
 use mathlib.Core.Path.{_≡_, refl, sym, ap, _∙_}
 use native.Mathlib.Omega.{arith}
-use Rattle.field_lookup.specs.Fields.{fieldAs, isNothing}
-use Rattle.field_lookup.specs.Steps.{placeNth, nthPlace}
+use Rattle.field_lookup.specs.Fields.{fieldAs}
+use Rattle.field_lookup.specs.Steps.{placeNth, nthPlace, isNothing}
 use Rattle.fields.specs.declared.FieldStep.{FieldStep}
 use Rattle.field_lookup.proofs.Fields.{nth-none, nth-here, nth-later, nth-place}
 use borrow.Author.Needs.{needs}

@@ -1,5 +1,5 @@
 use mathlib.Core.Path.{sym, ap}
-use Rattle.field_lookup.specs.Fields.{isNothing}
+use Rattle.field_lookup.specs.Steps.{isNothing}
 use borrow.Author.Needs.{needs}
 use Rattle.field_lookup.proofs.is_nothing.Statement.{statement}
 use Rattle.field_lookup.proofs.is_nothing.Tie as tie

@@ -5,7 +5,8 @@ use lib.ListN.{length, drop}
 use borrow.Author.Tests.{not-true, not-false}
 use Rattle.banks.specs.Banks.{granuleCount}
 use Rattle.banks.proofs.Fast.{SpanOf, none-span, found-is}
-use Rattle.granule_rules.specs.Granules.{tableOf, moveAt, movedTo}
+use Rattle.granule_rules.specs.Granules.{tableOf, movedTo}
+use Rattle.granule_rules.specs.Steps.{moveAt}
 use Rattle.granule_rules.specs.Lists.{listBy}
 use Rattle.granule_rules.proofs.Moving.{granule-inside, fit-long, told-lengths}
 use Rattle.granule_rules.proofs.Lists.{told-last, told-more, told-stop}

@@ -1,69 +1,29 @@
-use mathlib.Core.Path.{sym, _∙_}
+use mathlib.Core.Path.{refl, sym, _∙_}
 use lib.ListN.{length}
 use borrow.Author.Tests.{not-true, not-false}
-use Rattle.banks.proofs.Fast.{none-span, found-is, table-fits, table-unfit}
-use Rattle.granule_rules.specs.Granules.{tableOf, movedBy, movedTo}
-use Rattle.granule_rules.proofs.Moving.{fit-told, granule-inside, move-unfit, move-down, move-nowhere, told-up}
+use Rattle.banks.proofs.Fast.{none-span, found-is}
+use Rattle.granule_rules.specs.Granules.{tableOf}
+use Rattle.granule_rules.proofs.Moving.{granule-inside, shared-refused, shared-passed, told-up}
 use borrow.Author.Needs.{needs}
 use Rattle.granules.proofs.move_one.Statement.{statement}
 use Rattle.granules.proofs.move_one.Tie as tie
 
-granule-count-requires : tie.Need-granule-count-requires
-granule-count-requires c κs = search needs
+shared-code-requires : tie.Need-shared-code-requires
+shared-code-requires c κs = search needs
 
-words-fit-requires : tie.Need-words-fit-requires
-words-fit-requires c κs = search needs
+is-ok-requires : tie.Need-is-ok-requires
+is-ok-requires c κs = search needs
 
 same-length : tie.Need-same-length
 same-length c = search needs
 
 returns : tie.Need-returns
-unfolding movedTo movedBy
 returns c =
-    let w = c .before in
-    let g = w .before .before in
-    let a = g .before .before .before .args in
-    move-unfit (a .state) (a .granules .now) (a .direction) (tableOf (a .table .now) (a .words .now)) (a .address)
-    (fit-told (a .granules .now) (a .table .now) (a .words .now) _ _ _ (g .granule-count .ensures) (w .words-fit .ensures)
-    (not-true _ (c .if1 .taken)))
-
-is-up-requires : tie.Need-is-up-requires
-is-up-requires c κs = search needs
-
-same-length-2 : tie.Need-same-length-2
-same-length-2 c = search needs
-
-returns-2 : tie.Need-returns-2
-unfolding movedTo movedBy
-returns-2 c =
-    let s = c .before in
-    let w = s .before .before in
-    let g = w .before .before in
-    let a = g .before .before .before .args in
-    move-down (a .state) (a .granules .now) (a .direction) (tableOf (a .table .now) (a .words .now)) (a .address)
-    (fit-told (a .granules .now) (a .table .now) (a .words .now) _ _ _ (g .granule-count .ensures) (w .words-fit .ensures)
-    (not-false _ (s .before .if1 .left)))
-    (sym (s .is-up .ensures) ∙ not-true _ (c .if2 .taken))
-
-table-fits-requires : tie.Need-table-fits-requires
-table-fits-requires c κs = search needs
-
-same-length-3 : tie.Need-same-length-3
-same-length-3 c = search needs
-
-returns-3 : tie.Need-returns-3
-returns-3 c =
-    let t = c .before in
-    let s = t .before .before in
-    let w = s .before .before in
-    let g = w .before .before in
-    let a = g .before .before .before .args in
-    move-nowhere (a .state) (a .granules .now) (a .direction) (tableOf (a .table .now) (a .words .now)) (a .address)
-    (fit-told (a .granules .now) (a .table .now) (a .words .now) _ _ _ (g .granule-count .ensures) (w .words-fit .ensures)
-    (not-false _ (s .before .if1 .left)))
-    (sym (s .is-up .ensures) ∙ not-false _ (t .before .if2 .left))
-    (table-unfit (a .granules .now) (length (a .table .now)) (a .address)
-    (rw (← g .granule-count .ensures) (sym (t .table-fits .ensures) ∙ not-true _ (c .if3 .taken))))
+    let o = c .before in
+    let s = o .before in
+    let a = s .before .before .before .before .args in
+    shared-refused (a .state) (a .granules .now) (tableOf (a .table .now) (a .words .now)) _ (s .shared-code .ensures)
+    (sym (o .is-ok .ensures) ∙ not-true _ (c .if1 .taken)) (a .direction) (a .address) _ refl
 
 boot-params-requires : tie.Need-boot-params-requires
 boot-params-requires c κs = search needs
@@ -79,64 +39,50 @@ move-at-requires c κs =
     let f = c .before .before in
     let n = f .before in
     let u = n .before in
-    let t = u .before .before in
-    let s = t .before .before in
-    let w = s .before .before in
-    let g = w .before .before in
-    let a = g .before .before .before .args in
-    let h = table-fits (a .granules .now) (length (a .table .now))
-    (rw (← g .granule-count .ensures) (sym (t .table-fits .ensures) ∙ not-false _ (u .before .if3 .left))) in
-    let k = found-is (a .granules .now) (n .no-bank .result) (length (a .table .now)) (a .address) (f .find-from .result) (h .0) (h .1)
-    (rw (n .no-bank .ensures) (none-span (a .granules .now))) (f .find-from .ensures) in
-    granule-inside (a .granules .now) (a .table .now) (a .words .now) (a .address) _
-    (fit-told (a .granules .now) (a .table .now) (a .words .now) _ _ _ (g .granule-count .ensures) (w .words-fit .ensures)
-    (not-false _ (s .before .if1 .left))) (k .0)
+    let o = u .before .before in
+    let s = o .before in
+    let a = s .before .before .before .before .args in
+    let p = shared-passed (a .state) (a .granules .now) (tableOf (a .table .now) (a .words .now)) _ (s .shared-code .ensures)
+    (sym (o .is-ok .ensures) ∙ not-false _ (u .before .if1 .left)) in
+    granule-inside (a .granules .now) (a .table .now) (a .words .now) (a .address) _ (p .fit)
+    (found-is (a .granules .now) (n .no-bank .result) (length (a .table .now)) (a .address) (f .find-from .result) (p .some) (p .count)
+    (rw (n .no-bank .ensures) (none-span (a .granules .now))) (f .find-from .ensures) .0)
 
-same-length-4 : tie.Need-same-length-4
-same-length-4 c = search needs
+same-length-2 : tie.Need-same-length-2
+same-length-2 c = search needs
 
-same-length-5 : tie.Need-same-length-5
-same-length-5 c = search needs
+same-length-3 : tie.Need-same-length-3
+same-length-3 c = search needs
 
-returns-4 : tie.Need-returns-4
-returns-4 c =
+returns-2 : tie.Need-returns-2
+returns-2 c =
     let m = c .before .before .before .before in
     let f = m .before .before .before in
     let n = f .before in
     let u = n .before in
-    let t = u .before .before in
-    let s = t .before .before in
-    let w = s .before .before in
-    let g = w .before .before in
-    let a = g .before .before .before .args in
-    let h = table-fits (a .granules .now) (length (a .table .now))
-    (rw (← g .granule-count .ensures) (sym (t .table-fits .ensures) ∙ not-false _ (u .before .if3 .left))) in
-    let k = found-is (a .granules .now) (n .no-bank .result) (length (a .table .now)) (a .address) (f .find-from .result) (h .0) (h .1)
-    (rw (n .no-bank .ensures) (none-span (a .granules .now))) (f .find-from .ensures) in
-    told-up (a .state) (a .granules .now) (a .direction) (tableOf (a .table .now) (a .words .now)) (a .address)
-    (fit-told (a .granules .now) (a .table .now) (a .words .now) _ _ _ (g .granule-count .ensures) (w .words-fit .ensures)
-    (not-false _ (s .before .if1 .left)))
-    (sym (s .is-up .ensures) ∙ not-false _ (t .before .if2 .left)) _ (u .boot-params .ensures) _
-    (m .move-at .ensures (a .granules .now) (k .0))
+    let o = u .before .before in
+    let s = o .before in
+    let a = s .before .before .before .before .args in
+    let p = shared-passed (a .state) (a .granules .now) (tableOf (a .table .now) (a .words .now)) _ (s .shared-code .ensures)
+    (sym (o .is-ok .ensures) ∙ not-false _ (u .before .if1 .left)) in
+    told-up (a .state) (a .granules .now) (a .direction) (tableOf (a .table .now) (a .words .now)) (a .address) (p .fit) (p .up) _
+    (u .boot-params .ensures) _
+    (m .move-at .ensures (a .granules .now)
+    (found-is (a .granules .now) (n .no-bank .result) (length (a .table .now)) (a .address) (f .find-from .result) (p .some) (p .count)
+    (rw (n .no-bank .ensures) (none-span (a .granules .now))) (f .find-from .ensures) .0))
 
 pub move-one-spec : {M : Type 1} → statement M
 move-one-spec =
     tie.close
     (tie.spec
-    granule-count-requires
-    words-fit-requires
+    shared-code-requires
+    is-ok-requires
     same-length
     returns
-    is-up-requires
-    same-length-2
-    returns-2
-    table-fits-requires
-    same-length-3
-    returns-3
     boot-params-requires
     no-bank-requires
     find-from-requires
     move-at-requires
-    same-length-4
-    same-length-5
-    returns-4)
+    same-length-2
+    same-length-3
+    returns-2)

@@ -6,7 +6,8 @@ use Rattle.queue_image.specs.Image.{listsIn}
 use Rattle.request_rules.specs.OnImage.{pushOn}
 use Rattle.response_rules.specs.OnImage.{pullOn}
 use Rattle.signing.specs.Signing.{opOf, opAt}
-use Rattle.signing.specs.OnImage.{imageDone, opOn}
+use Rattle.signing.specs.OnImage.{imageDone}
+use Rattle.signing.specs.Steps.{opOn}
 use Rattle.signing.proofs.OnImages.{put-back-on, put-same-on, image-same}
 use borrow.Author.Needs.{needs}
 use Rattle.signing.proofs.serve_image.Statement.{statement}

@@ -3,7 +3,7 @@ use mathlib.Core.Path.{_≡_}
 use Rattle.reader.specs.Reading.{shownAs}
 use Rattle.text_lines.specs.Text.{entryText}
 use Rattle.words.specs.Word.{joined}
-use Rattle.text_lines.specs.Laid.{LaidOver}
+use Rattle.text_lines.specs.Steps.{LaidOver}
 use Rattle.text_lines.proofs.Lay.{wrote-none, wrote-more}
 use borrow.Author.Needs.{needs}
 use native.Mathlib.Omega.{arith}

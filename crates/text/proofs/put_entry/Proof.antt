@@ -5,7 +5,7 @@ use Rattle.reader.specs.Answer.{entryWord}
 use Rattle.reader.specs.Reading.{shownAs}
 use Rattle.text_lines.specs.Text.{wordText, partText, entryText}
 use Rattle.words.specs.Word.{joined}
-use Rattle.text_lines.specs.Laid.{LaidOver}
+use Rattle.text_lines.specs.Steps.{LaidOver}
 use Rattle.text_lines.proofs.Lay.{wrote-none, wrote-then, wrote-same, wrote-more}
 use Rattle.text_lines.proofs.Parts.{word-shown}
 use borrow.Author.Needs.{needs}

@@ -2,12 +2,11 @@ use Prim.Native.Nat.{ℕ, _≤_}
 use mathlib.Core.Path.{_≡_, refl, sym, ap, _∙_}
 use mathlib.Core.List.{List}
 use lib.ListN.{length}
-use Rattle.field_lookup.specs.Fields.{isNothing}
-use Rattle.field_lookup.specs.Steps.{shownFrom}
+use Rattle.field_lookup.specs.Steps.{shownFrom, isNothing}
 use Rattle.fields.specs.declared.FieldStep.{FieldStep}
 use Rattle.field_lookup.proofs.Fields.{step-none, step-less}
 use Rattle.text_lines.specs.Text.{fieldsText}
-use Rattle.text_lines.specs.Laid.{lastOffset, LaidOver}
+use Rattle.text_lines.specs.Steps.{lastOffset, LaidOver}
 use Rattle.text_lines.proofs.Lay.{wrote-none, wrote-then, wrote-same}
 use Rattle.text_lines.proofs.Parts.{fields-step}
 use borrow.Author.Needs.{needs}

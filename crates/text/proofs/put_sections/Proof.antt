@@ -2,8 +2,7 @@ use Prim.Native.Nat.{_-_, _≤_}
 use mathlib.Core.Path.{_≡_}
 use Rattle.text_lines.specs.Text.{sectionText}
 use Rattle.words.specs.Word.{joined}
-use Rattle.text_lines.specs.Laid.{LaidOver}
-use Rattle.text_lines.specs.Steps.{seen}
+use Rattle.text_lines.specs.Steps.{seen, LaidOver}
 use Rattle.text_lines.proofs.Lay.{wrote-none, wrote-same, wrote-more}
 use Rattle.text_lines.proofs.Parts.{section-seen}
 use borrow.Author.Needs.{needs}

@@ -2,7 +2,7 @@ use Prim.Native.Nat.{_/_, _^_, _-_, _≤_}
 use mathlib.Core.Path.{_≡_}
 use Rattle.text_lines.specs.Text.{nameByte, nameText}
 use Rattle.words.specs.Word.{joined}
-use Rattle.text_lines.specs.Laid.{LaidOver}
+use Rattle.text_lines.specs.Steps.{LaidOver}
 use Rattle.text_lines.proofs.Lay.{wrote-none, wrote-same, wrote-more}
 use Rattle.text_lines.proofs.Numbers.{name-byte, name-rest, name-all}
 use borrow.Author.Needs.{needs}

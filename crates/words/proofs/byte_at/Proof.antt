@@ -1,8 +1,8 @@
 use mathlib.Core.Path.{sym}
 use lib.ListN.{List·getD-eq-default}
 use borrow.Author.Needs.{needs}
-use Rattle.faults.proofs.byte_at.Statement.{statement}
-use Rattle.faults.proofs.byte_at.Tie as tie
+use Rattle.words.proofs.byte_at.Statement.{statement}
+use Rattle.words.proofs.byte_at.Tie as tie
 
 returns : tie.Need-returns
 returns c = sym (List·getD-eq-default (c .before .args .s .now) 0 (search needs))
