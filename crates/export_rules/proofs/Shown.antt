@@ -1,19 +1,15 @@
 -- The view of an accepted page, written word by word from the page's core. Assumes nothing.
-use Prim.Native.Nat.{ℕ, _+_, _-_, _*_, _≤_, _<_, min}
+use Prim.Native.Nat.{ℕ, _+_, _-_, _*_, _<_, min}
 use mathlib.Core.Path.{_≡_, refl, sym, ap, _∙_}
-use mathlib.Core.Bool.{true}
 use mathlib.Core.List.{List, [], _∷_, _++_}
 use native.Mathlib.Omega.{arith}
 use native.Mathlib.Nat.{zero-add}
 use lib.IntN.{pos}
 use lib.ListN.{length}
-use Rattle.words.specs.Word.{part, wordAt, splice}
-use Rattle.words.proofs.Read.{num-part}
+use Rattle.words.specs.Word.{splice}
 use Rattle.words.proofs.Store.{splice-splice, bytes-in, laid-all}
 use Rattle.versions.specs.Edition.{sectionCount}
 use Rattle.sections.specs.Page.{countAt, pointerAt}
-use Rattle.sections.specs.Section.{rulesAt}
-use Rattle.sections.proofs.Sections.{range-low, ok-in-range, ok-each, rules-sections}
 use Rattle.reader.specs.Answer.{codeIn, readOf, wordIn}
 use Rattle.reader.specs.Reading.{sectionAt, viewAt, readingOf, readingAnswer}
 use Rattle.reader.specs.declared.View.{View}
@@ -21,27 +17,6 @@ use Rattle.reader.specs.declared.Reading.the-variants.{Accepted}
 use Rattle.reader.proofs.Whole.{section-entries}
 use Rattle.images.specs.Image.{tagWord, placeWord, countWord, sectionWords, viewWords, answerWords}
 use Rattle.images.proofs.Answers.{shown-answer}
-
--- ---- the core, a part of the page
-core-word : (off : ℕ) (page : List ℕ) → off + 8 ≤ 112 → wordAt off (part 0 112 page) ≡ wordAt off page
-core-word off page h = num-part 8 0 112 off page h ∙ ap (λ (n : ℕ). wordAt n page) (zero-add off)
-
-pub core-plat : (page : List ℕ) → wordAt 8 (part 0 112 page) ≡ wordAt 8 page
-core-plat page = core-word 8 page (omega arith)
-
-pub core-section : (e base k : ℕ) (page : List ℕ) → k ≤ 3 → sectionAt e base (part 0 112 page) k ≡ sectionAt e base page k
-unfolding sectionAt
-core-section e base k page h = rw (core-word (16 + 24 * k) page (omega arith), core-word (24 + 24 * k) page (omega arith))
-
--- in an accepted page every array starts at or above the base
-pub core-base : (w e base k : ℕ) (page : List ℕ) → rulesAt w e base page ≡ true → k ≤ 3 → k < sectionCount e →
-    (countAt k (part 0 112 page) ≡ 0 → ⊥) → base ≤ pointerAt k (part 0 112 page)
-core-base w e base k page o m h z =
-    let c : countAt k (part 0 112 page) ≡ countAt k page = core-word (16 + 24 * k) page (omega arith) in
-    let p : pointerAt k (part 0 112 page) ≡ pointerAt k page = core-word (24 + 24 * k) page (omega arith) in
-    let g = ok-in-range w e base k page (ok-each w e base page (sectionCount e) k (rules-sections w e base page o) h) (λ y. z (c ∙ y)) in
-    let l = range-low e base k (countAt k page) (pointerAt k page) g in
-    omega arith
 
 -- ---- from the values that the code reads: a section with entries, the page's answer, a word of the view
 pub told-entries : (e base k : ℕ) (core view : List ℕ) → k < sectionCount e → (n p : ℕ) → n ≡ countAt k core → p ≡ pointerAt k core →

@@ -1,3 +1,4 @@
+pub mod Core
 pub mod Fields
 pub mod Made
 pub mod Packed

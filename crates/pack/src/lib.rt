@@ -1,5 +1,6 @@
 // The packer: writes what a reader of edition 4 shows of a page into another lent page, without holes. Arrays and fields are copied once, from page to
-// page.
+// page. Count, pointer and platform pointer are those of the core that the reader judged, never read from the page again: so every access stays within
+// the page and the target, even if another CPU writes the page during the call.
 use fields::FieldPlace;
 use reader::Refusal;
 use reader::Verdict;
@@ -12,7 +13,8 @@ ghost use lib.Dec.{eqb};
 ghost use Rattle.words.specs.Word.{bytesOf, joined, splice};
 ghost use Rattle.versions.specs.Edition.{sectionCount};
 ghost use Rattle.entries.specs.Entry.{size};
-ghost use Rattle.sections.specs.Page.{countAt};
+ghost use Rattle.sections.specs.Page.{countAt, pointerAt};
+ghost use Rattle.sections.specs.Steps.{Copied};
 ghost use Rattle.writer_checks.specs.Description.{used};
 ghost use Rattle.writer_rules.specs.Write.{descriptor, pageOf};
 ghost use Rattle.pack.specs.Pack.{packOf, packedBy, targetAfter, packingNumber};
@@ -36,82 +38,89 @@ pub fn number(packing: Packing) -> i32
     }
 }
 
-// Writes `bytes` at offset `at`. Returns the offset after them.
+// Writes `bytes` at offset `at`. Returns the offset after them. They fit unless another CPU lets a field grow after it was judged: then writes nothing
+// and returns the target's end.
 fn put_bytes(target: &mut [u8], at: usize, bytes: &[u8]) -> usize
     requires { ⌜ (at + length (now bytes) ≤ length (now target)) × (length (now target) ≡ 4096) ⌝ }
     ensures { λ r. ⌜ (r ≡ at + length (now (bytes .entry))) × (now (target .exit) ≡ splice at (now (bytes .entry)) (now (target .entry))) ⌝ }
 {
+    if target.len() - at < bytes.len() {
+        return target.len();
+    }
     words::copy(&mut target[at..], bytes);
     at + bytes.len()
 }
 
-// The size of the array of section `k` in bytes.
-fn array_size(page: &[u8], k: u8) -> usize
-    requires { ⌜ (Movable (now page) k) × (length (now page) ≡ 4096) ⌝ }
-    ensures { λ r. ⌜ (r ≡ size k (countAt k (now (page .entry)))) × (r ≤ 4096) ⌝ }
+// The size of the array of section `k` in bytes, given its count.
+fn array_size(k: u8, count: u64) -> usize
+    requires { ⌜ size k count ≤ 4096 ⌝ }
+    ensures { λ r. ⌜ (r ≡ size k count) × (r ≤ 4096) ⌝ }
 {
     let words = entries::entry_words(k as usize);
-    8 * (words * (sections::count_at(page, k) as usize))
+    8 * (words * (count as usize))
 }
 
-// The array of section `k`, as a slice of the page.
-fn array_of(page: &[u8], k: u8) -> &[u8]
-    requires { ⌜ (Movable (now page) k) × (length (now page) ≡ 4096) ⌝ }
+// The array of section `k`, given its count and pointer, as a slice of the page.
+fn array_of(page: &[u8], k: u8, count: u64, pointer: u64) -> &[u8]
+    requires { ⌜ (Movable (now page) k) × (length (now page) ≡ 4096) × (count ≡ countAt k (now page)) × (pointer ≡ pointerAt k (now page)) ⌝ }
     ensures { λ r. ⌜ now r ≡ bytesOf (arrayWordsIn (now (page .entry)) k) ⌝ }
 {
-    let at = (sections::pointer_at(page, k) % 4096) as usize;
-    let end = at + array_size(page, k);
+    let at = (pointer % 4096) as usize;
+    let end = at + array_size(k, count);
     &page[at..end]
 }
 
 // Returns count, pointer and checksum of section `k` with its array moved to `pointer`; zeros for an empty section. Its words stay the same, so the
-// checksum changes only by the difference of the pointers.
-fn section_words(page: &[u8], k: u8, pointer: u64) -> [u64; 3]
-    requires { ⌜ Movable (now page) k ⌝ }
+// checksum changes only by the difference of the pointers. `core`, here and below, is the core that was judged; `page` only serves the promise.
+fn section_words(page: &[u8], core: &[u8], k: u8, pointer: u64) -> [u64; 3]
+    requires { ⌜ (Movable (now page) k) × (Copied (now core) (now page)) × (k < 4) ⌝ }
     ensures { λ r. ⌜ r ≡ descriptor k pointer (arrayWordsIn (now (page .entry)) k) ⌝ }
 {
-    let count = sections::count_at(page, k);
+    let count = sections::count_at(core, k);
     if count == 0 {
         return [0, 0, 0];
     }
-    let moved = std::num::wrapping_sub_u64(pointer, sections::pointer_at(page, k));
-    let check = std::num::wrapping_sub_u64(sections::check_at(page, k), moved);
+    let moved = std::num::wrapping_sub_u64(pointer, sections::pointer_at(core, k));
+    let check = std::num::wrapping_sub_u64(sections::check_at(core, k), moved);
     [count, pointer, check]
 }
 
 // Writes the words of the first `n` sections; their arrays follow one another from address `first`.
-fn put_sections(page: &[u8], first: u64, n: u8, target: &mut [u8])
+fn put_sections(page: &[u8], core: &[u8], first: u64, n: u8, target: &mut [u8])
     requires { ⌜ (length (now page) ≡ 4096) × (length (now target) ≡ 4096) × (n ≤ 4) × ((k : ℕ) → k < n → Movable (now page) k)
-        × (first + 8 * length (joined n (arrayWordsIn (now page))) < 0x1_0000_0000_0000_0000) ⌝ }
+        × (Copied (now core) (now page)) × (first + 8 * length (joined n (arrayWordsIn (now page))) < 0x1_0000_0000_0000_0000) ⌝ }
     ensures { λ _. ⌜ now (target .exit) ≡ splice 16 (bytesOf (joined n (sectionMoved first (now (page .entry))))) (now (target .entry)) ⌝ }
 {
     let mut pointer = first;
     for k in 0..n {
-        let three = section_words(page, k, pointer);
+        let three = section_words(page, core, k, pointer);
         words::put_words(target, 16 + 24 * (k as usize), &three);
-        pointer += array_size(page, k) as u64;
+        pointer += array_size(k, sections::count_at(core, k)) as u64;
     }
 }
 
 // Copies the arrays of the first `n` sections, one after another from offset `from`. Returns the offset after them.
-fn put_arrays(page: &[u8], from: usize, n: u8, target: &mut [u8]) -> usize
-    requires { ⌜ (length (now page) ≡ 4096) × (length (now target) ≡ 4096) × ((k : ℕ) → k < n → Movable (now page) k)
-        × (from + 8 * length (joined n (arrayWordsIn (now page))) ≤ 4096) ⌝ }
+fn put_arrays(page: &[u8], core: &[u8], from: usize, n: u8, target: &mut [u8]) -> usize
+    requires { ⌜ (length (now page) ≡ 4096) × (length (now target) ≡ 4096) × (n ≤ 4) × ((k : ℕ) → k < n → Movable (now page) k)
+        × (Copied (now core) (now page)) × (from + 8 * length (joined n (arrayWordsIn (now page))) ≤ 4096) ⌝ }
     ensures { λ r. ⌜ (r ≡ from + 8 * length (joined n (arrayWordsIn (now (page .entry)))))
         × (now (target .exit) ≡ splice from (bytesOf (joined n (arrayWordsIn (now (page .entry))))) (now (target .entry))) ⌝ }
 {
     let mut at = from;
     for k in 0..n {
-        at = put_bytes(target, at, array_of(page, k));
+        let count = sections::count_at(core, k);
+        let pointer = sections::pointer_at(core, k);
+        at = put_bytes(target, at, array_of(page, k, count, pointer));
     }
     at
 }
 
 // The offset of the fields; the length of the page if it has no platform pointer.
-fn fields_place(page: &[u8]) -> usize
+fn fields_place(page: &[u8], core: &[u8]) -> usize
+    requires { ⌜ Copied (now core) (now page) ⌝ }
     ensures { λ r. ⌜ r ≡ fieldsPlace (now (page .entry)) ⌝ }
 {
-    let plat = words::word_at(page, 8);
+    let plat = words::word_at(core, 8);
     if plat == 0 {
         return page.len();
     }
@@ -159,16 +168,16 @@ fn plat_pointer(base: u64, at: usize, end: usize) -> u64
 }
 
 // Makes the whole page from one of minor `e`: sections, arrays, fields, version, platform pointer, then zeros.
-fn put_page(page: &[u8], base: u64, e: Edition, target: &mut [u8])
-    requires { ⌜ (length (now page) ≡ 4096) × (length (now target) ≡ 4096) × (base ≤ 0x10_0000_0000_0000)
+fn put_page(page: &[u8], core: &[u8], base: u64, e: Edition, target: &mut [u8])
+    requires { ⌜ (length (now page) ≡ 4096) × (length (now target) ≡ 4096) × (base ≤ 0x10_0000_0000_0000) × (Copied (now core) (now page))
         × ((k : ℕ) → k < sectionCount (e .minor) → Movable (now page) k) × (used (e .minor) (shownDescriptionAt (e .minor) (now page)) ≤ 4096) ⌝ }
     ensures { λ _. ⌜ now (target .exit) ≡ pageOf base (e .minor) (shownDescriptionAt (e .minor) (now (page .entry))) ⌝ }
 {
     let size = e.core_size();
     let n = e.sections();
-    put_sections(page, base + size, n, target);
-    let behind = put_arrays(page, size as usize, n, target);
-    let end = put_fields(page, fields_place(page), behind, target);
+    put_sections(page, core, base + size, n, target);
+    let behind = put_arrays(page, core, size as usize, n, target);
+    let end = put_fields(page, fields_place(page, core), behind, target);
     let head = [e.minor, plat_pointer(base, behind, end)];
     words::put_words(target, 0, &head);
     words::clear(&mut target[end..]);
@@ -181,7 +190,8 @@ pub fn pack(page: &[u8], base: u64, target: &mut [u8]) -> Packing
     ensures { λ r. ⌜ now (target .exit) ≡ targetAfter (now (target .entry)) (packOf base (length (now (target .entry))) (now (page .entry))) ⌝ }
     ensures { λ _. ⌜ ((i : ℕ) → getD (now (page .entry)) i 0 < 256) ⌝ }
 {
-    match reader::judge_page(page, base, 4) {
+    let mut core = [0u8; 112];
+    match reader::judge(page, base, 4, &mut core) {
         Verdict::Refused(code) => Packing::Refused(code),
         Verdict::Passed(minor) => {
             if 4 < minor {
@@ -190,7 +200,7 @@ pub fn pack(page: &[u8], base: u64, target: &mut [u8]) -> Packing
             if target.len() != 4096 {
                 return Packing::Target;
             }
-            put_page(page, base, Edition { minor }, target);
+            put_page(page, &core, base, Edition { minor }, target);
             Packing::Page
         }
     }

@@ -7,12 +7,11 @@ use runtime::Kind;
 use versions::Edition;
 ghost use mathlib.Core.Path.{_≡_};
 ghost use mathlib.Core.List.{[], _∷_};
-ghost use Prim.Native.Nat.{_+_, _*_, _≤_, _<_};
+ghost use Prim.Native.Nat.{ℕ, _+_, _*_, _≤_, _<_};
 ghost use lib.ListN.{length};
 ghost use Rattle.words.specs.Word.{splice};
 ghost use Rattle.versions.specs.Edition.{sectionCount};
 ghost use Rattle.sections.specs.Page.{countAt, pointerAt};
-ghost use Rattle.sections.specs.Section.{rulesAt};
 ghost use Rattle.words.specs.Tests.{Yes};
 ghost use Rattle.reader.specs.Answer.{codeIn, countIn, wordIn, fieldsShown, readOf};
 ghost use Rattle.reader.specs.Reading.{sectionOf, readingAnswer, sectionAt, viewAt};
@@ -75,13 +74,12 @@ fn show_section(core: &[u8], base: u64, e: Edition, k: u8, view: &mut [u64])
     put_three(view, at, 2, from, count);
 }
 
-// Writes the view of an accepted page directly to `view`. The slice `core` has a constant length, so the compiler drops the bounds checks.
-fn show(page: &[u8], base: u64, minor: u64, e: Edition, view: &mut [u64])
-    requires { ⌜ (length (now page) ≡ 4096) × (length (now view) ≡ 15) × (rulesAt minor (e .minor) base (now page) ≡ true) ⌝ }
-    ensures { λ _. ⌜ now (view .exit) ≡ viewWords (viewAt minor (e .minor) base (now (page .entry))) ⌝ }
+// Writes the view of an accepted page directly to `view`, from the core that was judged.
+fn show(core: &[u8], base: u64, minor: u64, e: Edition, view: &mut [u64])
+    requires { ⌜ (length (now view) ≡ 15)
+        × ((k : ℕ) → k < sectionCount (e .minor) → (countAt k (now core) ≡ 0 → ⊥) → base ≤ pointerAt k (now core)) ⌝ }
+    ensures { λ _. ⌜ now (view .exit) ≡ viewWords (viewAt minor (e .minor) base (now (core .entry))) ⌝ }
 {
-    let end = Edition::CORE_4 as usize;
-    let core = &page[0..end];
     put_three(view, 0, minor, e.minor, words::word_at(core, 8));
     show_section(core, base, e, 0, view);
     show_section(core, base, e, 1, view);
@@ -89,15 +87,17 @@ fn show(page: &[u8], base: u64, minor: u64, e: Edition, view: &mut [u64])
     show_section(core, base, e, 3, view);
 }
 
-// Reads the page at `base` as a reader of `edition`. Returns 0 and fills `view`, or returns the code and zeroes `view`.
+// Reads the page at `base` as a reader of `edition`. Returns 0 and fills `view`, or returns the code and zeroes `view`. The view is written from the
+// core that was judged, never read from the page again: its places are within the page even if another CPU writes the page during the call.
 #[no_mangle]
 pub extern "C" fn pbeam_read(page: &[u8], base: u64, edition: u64, view: &mut [u64; 15]) -> i32
     ensures { λ r. ⌜ r ≡ codeIn (readOf edition base (now (page .entry))) ⌝ }
     ensures { λ r. ⌜ now (view .exit) ≡ answerWords base (now (page .entry)) (readOf edition base (now (page .entry))) ⌝ }
 {
-    match reader::judge_page(page, base, edition) {
+    let mut core = [0u8; 112];
+    match reader::judge(page, base, edition, &mut core) {
         Verdict::Passed(w) => {
-            show(page, base, w, reader::edition_read(edition, w), view);
+            show(&core, base, w, reader::edition_read(edition, w), view);
             0
         }
         Verdict::Refused(code) => {

@@ -1,3 +1,4 @@
+pub mod Core
 pub mod Whole
 pub mod Newer
 pub mod Named

@@ -20,7 +20,7 @@ use Rattle.sections.specs.Page.{placeOk, versionAt, countAt, pointerAt, inPage,
 use Rattle.sections.specs.Page.{platformAt}
 use Rattle.fields.specs.Fields.{ended, fieldsIn, shownFields}
 use Rattle.sections.specs.Section.{platformOk, wordsIn, inRange, rulesAt}
-use Rattle.sections.specs.Steps.{okAt, okTo}
+use Rattle.sections.specs.Steps.{Copied, okAt, okTo}
 use Rattle.sections.proofs.Sections.{placed, range-low, range-high, array-in, ok-in-range, ok-each, rules-sections, rules-pointer}
 use Rattle.reader.specs.Answer.{Shown, ReaderAnswer, shows, codeIn, shownIn, shown, shownSec, platShown, allShown, readerGate, judge}
 use Rattle.reader.specs.Answer.{readOf}
@@ -248,6 +248,17 @@ number-read page (Refused c) = refl
 pub verdict-told : (r base : ℕ) (page : List ℕ) (v : Verdict) → v ≡ verdictOf (readingOf r base page) →
     (v ≡ verdictOf (readingOf r base page)) × (numberIn v ≡ codeIn (readOf r base page))
 verdict-told r base page v h = (h, ap numberIn h ∙ number-read page (readingOf r base page) ∙ ap codeIn (reading-answer r base page))
+
+-- ---- a verdict with the judged core of the page, if it is accepted
+module _ (r base : ℕ) (page core : List ℕ) where
+  pub judged-refused : (c : Refusal) → Wrong c ≡ verdictOf (readingOf r base page) →
+      (Wrong c ≡ verdictOf (readingOf r base page)) × ((numberIn (Wrong c) ≡ codeIn (readOf r base page)) ×
+      ((w : ℕ) → Wrong c ≡ Passed w → Copied core page))
+  judged-refused c h = let t = verdict-told r base page (Wrong c) h in (t .0, (t .1, λ w f. absurd (true≢false (ap isPassed (sym f)))))
+
+  pub judged-fine : (v : Verdict) → v ≡ verdictOf (readingOf r base page) → Copied core page →
+      (v ≡ verdictOf (readingOf r base page)) × ((numberIn v ≡ codeIn (readOf r base page)) × ((w : ℕ) → v ≡ Passed w → Copied core page))
+  judged-fine v h g = let t = verdict-told r base page v h in (t .0, (t .1, λ w f. g))
 
 -- ---- the reader's enum, return by return
 module _ (r base : ℕ) (page : List ℕ) where

@@ -3,16 +3,24 @@
 -- `platformOk`. `stays-to` (mend/proofs/Pages.antt) proves `staysAt`, on the
 -- page as mended so far, equal to the mender's `keepsAt`. Assumes nothing.
 use Prim.Native.Nat.{ℕ, _+_}
+use mathlib.Core.Path.{_≡_}
 use mathlib.Core.Bool.{Bool, cond}
 use mathlib.Core.List.{List}
+use lib.ListN.{length}
 use lib.Dec.{leb}
 use Rattle.words.specs.Tests.{both, either, every}
+use Rattle.words.specs.Word.{part}
 use Rattle.entries.specs.Entry.{size}
 use Rattle.fields.specs.Fields.{taken}
 use Rattle.fields.specs.declared.FieldsEnd.{FieldsEnd}
 use Rattle.fields.specs.declared.FieldsEnd.the-variants.{Broken, Ended}
 use Rattle.sections.specs.Page.{countAt, pointerAt, pageSectionAt, PagePlatform}
 use Rattle.sections.specs.Section.{platformOk, sectionOk}
+
+-- a copy of a page's core: 112 bytes, which have the page's own from offset 8 on, the platform pointer and the words of four sections
+pub record Copied (core page : List ℕ) : Type 0 where
+  pub long : length core ≡ 112
+  pub same : part 8 104 core ≡ part 8 104 page
 
 -- the platform data: the number of bytes of the fields through their end mark, or broken
 unfoldable pub platEnd : ℕ → ℕ → PagePlatform → FieldsEnd

@@ -2,7 +2,7 @@
 // that no two arrays overlap, nor the fields and an array.
 use fields::FieldsEnd;
 use versions::Edition;
-ghost use mathlib.Core.Bool.{cond};
+ghost use mathlib.Core.Bool.{true, cond};
 ghost use mathlib.Core.Path.{_≡_};
 ghost use Prim.Native.Nat.{ℕ, _+_, _≤_, _<_};
 ghost use lib.ListN.{length};
@@ -10,7 +10,7 @@ ghost use Rattle.words.specs.Tests.{both};
 ghost use Rattle.versions.specs.Edition.{core};
 ghost use Rattle.sections.specs.Page.{placeOk, versionAt, paddingAt, countAt, pointerAt, checkAt, foundAt, pagePlatform, platformAt};
 ghost use Rattle.sections.specs.Section.{nothing, rulesAt};
-ghost use Rattle.sections.specs.Steps.{platEnd, okAt, okTo, endOf, apartTo, clearAt, clearFrom, staysAt};
+ghost use Rattle.sections.specs.Steps.{Copied, platEnd, okAt, okTo, endOf, apartTo, clearAt, clearFrom, staysAt};
 ghost use Rattle.fields.specs.declared.FieldsEnd.the-variants.{Broken};
 
 // Whether a page of `n` bytes at `base` can hold a manifest (P1, P2).
@@ -102,15 +102,23 @@ pub fn is_nothing(count: u64, pointer: u64, check: u64) -> bool
     true
 }
 
-// Whether section `k` by itself keeps its rule, on a page of minor `minor` read as edition `e`. `array_ok` checks that the array ends
-// within the page.
-fn section_ok(page: &[u8], base: u64, minor: u64, e: Edition, size: u64, k: u8) -> bool
-    requires { ⌜ (length (now page) ≡ 4096) × (base ≤ 0x10_0000_0000_0000) × (size ≡ core (e .minor)) × (size ≤ 112) ⌝ }
+// Whether section `k` by itself keeps its rule, on a page of minor `minor` read as edition `e`; `count`, `pointer` and `check` are its three
+// words. `array_ok` checks that the array ends within the page.
+fn section_ok(
+    page: &[u8],
+    base: u64,
+    minor: u64,
+    e: Edition,
+    size: u64,
+    k: u8,
+    count: u64,
+    pointer: u64,
+    check: u64,
+) -> bool
+    requires { ⌜ (length (now page) ≡ 4096) × (base ≤ 0x10_0000_0000_0000) × (size ≡ core (e .minor)) × (size ≤ 112)
+        × (count ≡ countAt k (now page)) × (pointer ≡ pointerAt k (now page)) × (check ≡ checkAt k (now page)) ⌝ }
     ensures { λ r. ⌜ r ≡ okAt minor (e .minor) base k (now (page .entry)) ⌝ }
 {
-    let count = count_at(page, k);
-    let pointer = pointer_at(page, k);
-    let check = check_at(page, k);
     if is_nothing(count, pointer, check) {
         return true;
     }
@@ -121,13 +129,26 @@ fn section_ok(page: &[u8], base: u64, minor: u64, e: Edition, size: u64, k: u8) 
     entries::array_ok(page, minor, k as usize, at, count, pointer, check)
 }
 
-// Whether each of the first `n` sections keeps its rule by itself.
-fn sections_ok(page: &[u8], base: u64, minor: u64, e: Edition, size: u64, n: u8) -> bool
-    requires { ⌜ (length (now page) ≡ 4096) × (base ≤ 0x10_0000_0000_0000) × (size ≡ core (e .minor)) × (size ≤ 112) ⌝ }
+// Whether each of the first `n` sections keeps its rule by itself. `copied`, here and below, is the copy of the page's core
+// that `judge` made.
+fn sections_ok(
+    page: &[u8],
+    copied: &[u8],
+    base: u64,
+    minor: u64,
+    e: Edition,
+    size: u64,
+    n: u8,
+) -> bool
+    requires { ⌜ (length (now page) ≡ 4096) × (Copied (now copied) (now page)) × (base ≤ 0x10_0000_0000_0000)
+        × (size ≡ core (e .minor)) × (size ≤ 112) × (n ≤ 4) ⌝ }
     ensures { λ r. ⌜ r ≡ okTo minor (e .minor) base n (now (page .entry)) ⌝ }
 {
     for k in 0..n {
-        if !section_ok(page, base, minor, e, size, k) {
+        let count = count_at(copied, k);
+        let pointer = pointer_at(copied, k);
+        let check = check_at(copied, k);
+        if !section_ok(page, base, minor, e, size, k, count, pointer, check) {
             return false;
         }
     }
@@ -193,38 +214,51 @@ fn all_clear(page: &[u8], from: u64, to: u64, n: u8) -> bool
 }
 
 // Whether a page of minor `minor`, read as edition `e`, keeps R1, R2 and all rules of its fields and sections (-7).
-fn rules_ok(page: &[u8], base: u64, minor: u64, e: Edition) -> bool
-    requires { ⌜ (length (now page) ≡ 4096) × (base ≤ 0x10_0000_0000_0000) ⌝ }
+fn rules_ok(page: &[u8], copied: &[u8], base: u64, minor: u64, e: Edition) -> bool
+    requires { ⌜ (length (now page) ≡ 4096) × (Copied (now copied) (now page)) × (base ≤ 0x10_0000_0000_0000) ⌝ }
     ensures { λ r. ⌜ r ≡ rulesAt minor (e .minor) base (now (page .entry)) ⌝ }
 {
     let size = e.core_size();
     if padding_at(page) != 0 {
         return false;
     }
-    let plat = words::word_at(page, 8);
+    let plat = words::word_at(copied, 8);
     let told = plat_end(page, base, e, size, plat);
     let FieldsEnd::Ended(taken) = told else {
         return false;
     };
     let n = e.sections();
-    if !sections_ok(page, base, minor, e, size, n) {
+    if !sections_ok(page, copied, base, minor, e, size, n) {
         return false;
     }
-    if !all_apart(page, n) {
+    if !all_apart(copied, n) {
         return false;
     }
     let end = plat + (taken as u64);
-    all_clear(page, plat, end, n)
+    all_clear(copied, plat, end, n)
 }
 
-// Whether a page of minor `minor`, read as edition `e`, has a good base and length and keeps all rules of its contents.
-pub fn page_ok(page: &[u8], base: u64, minor: u64, e: Edition) -> bool
+// Copies the page's platform pointer and the words of its four sections, bytes 8 to 111, to their place in `core`: the one place where
+// `judge` loads them from the page. From byte 8 on, because the version is loaded before: then each word lies in one 16-byte store of the
+// copy and is loaded again without waiting for two.
+fn copy_core(page: &[u8], core: &mut [u8])
+    requires { ⌜ (length (now page) ≡ 4096) × (length (now core) ≡ 112) ⌝ }
+    ensures { λ _. ⌜ Copied (now (core .exit)) (now (page .entry)) ⌝ }
+{
+    words::copy(&mut core[8..], &page[8..112]);
+}
+
+// Whether a page of minor `minor`, read as edition `e`, has a good base and length and keeps all rules of its contents. A caller takes
+// count, pointer and platform pointer from `core` and so uses what was judged, even if another CPU writes the page during the call.
+pub fn judge(page: &[u8], base: u64, minor: u64, e: Edition, core: &mut [u8; 112]) -> bool
     ensures { λ r. ⌜ r ≡ both (placeOk base (length (now (page .entry)))) (rulesAt minor (e .minor) base (now (page .entry))) ⌝ }
+    ensures { λ r. ⌜ (r ≡ true → Copied (now (core .exit)) (now (page .entry))) ⌝ }
 {
     if !place_ok(base, page.len()) {
         return false;
     }
-    rules_ok(page, base, minor, e)
+    copy_core(page, core);
+    rules_ok(page, core, base, minor, e)
 }
 
 // The rule of the platform pointer and its fields alone: the number of bytes of the fields, or broken. Also broken if base or length is
@@ -253,10 +287,22 @@ pub fn keeps_section(
     if !place_ok(base, page.len()) {
         return false;
     }
-    if !section_ok(page, base, minor, e, e.core_size(), k) {
+    let count = count_at(page, k);
+    let pointer = pointer_at(page, k);
+    let check = check_at(page, k);
+    if !section_ok(
+        page,
+        base,
+        minor,
+        e,
+        e.core_size(),
+        k,
+        count,
+        pointer,
+        check,
+    ) {
         return false;
     }
-    let pointer = pointer_at(page, k);
     let end = end_of(page, k);
     if !all_clear(page, pointer, end, k) {
         return false;

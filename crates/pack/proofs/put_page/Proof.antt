@@ -17,20 +17,32 @@ add-put-sections c = search needs
 
 put-sections-requires : tie.Need-put-sections-requires
 put-sections-requires c κs =
-    let s = c .before .before .before .before .before in
+    let s = c .before .before .before .before .before .before in
     let a = s .args in
     let t = told-size (a .e .minor) (a .page .now) _ _ _ (c .before .sections .ensures .0) (c .before .before .core-size .ensures .0) refl
-    (s .pre .4) in
-    (s .pre .0, s .pre .1, c .before .sections .ensures .1, (λ k l. s .pre .3 k (rw (c .before .sections .ensures .0) at l)), omega arith)
+    (s .pre .5) in (
+      s .pre .0,
+      s .pre .1,
+      c .before .sections .ensures .1,
+      (λ k l. s .pre .4 k (rw (c .before .sections .ensures .0) at l)),
+      s .pre .3,
+      omega arith,
+    )
 
 put-arrays-requires : tie.Need-put-arrays-requires
 put-arrays-requires c κs =
     let b8 = c .before .before .before .before .before .before .before .before in
-    let s = b8 .before in
+    let s = b8 .before .before in
     let a = s .args in
     let t = told-size (a .e .minor) (a .page .now) _ _ _ (c .before .before .before .before .before .sections .ensures .0)
-    (c .before .before .before .before .before .before .core-size .ensures .0) refl (s .pre .4) in
-    (s .pre .0, search needs, (λ k l. s .pre .3 k (rw (c .before .before .before .before .before .sections .ensures .0) at l)), omega arith)
+    (c .before .before .before .before .before .before .core-size .ensures .0) refl (s .pre .5) in (
+      s .pre .0,
+      search needs,
+      c .before .before .before .before .before .sections .ensures .1,
+      (λ k l. s .pre .4 k (rw (c .before .before .before .before .before .sections .ensures .0) at l)),
+      s .pre .3,
+      omega arith,
+    )
 
 fields-place-requires : tie.Need-fields-place-requires
 fields-place-requires c κs = search needs
@@ -38,10 +50,10 @@ fields-place-requires c κs = search needs
 put-fields-requires : tie.Need-put-fields-requires
 put-fields-requires c κs =
     let b8 = c .before .before .before .before .before .before .before .before in
-    let s = b8 .before .before .before .before .before .before in
+    let s = b8 .before .before .before .before .before .before .before in
     let a = s .args in
     let t = told-size (a .e .minor) (a .page .now) _ _ _ (b8 .before .before .sections .ensures .0)
-    (b8 .before .before .before .core-size .ensures .0) (c .before .fields-place .ensures) (s .pre .4) in (
+    (b8 .before .before .before .core-size .ensures .0) (c .before .fields-place .ensures) (s .pre .5) in (
       s .pre .0,
       search needs,
       rw (c .before .fields-place .ensures) (place-most (a .page .now) (s .pre .0)),
@@ -52,11 +64,11 @@ plat-pointer-requires : tie.Need-plat-pointer-requires
 plat-pointer-requires c κs =
     let b8 = c .before .before .before .before .before .before .before .before in
     let b16 = b8 .before .before .before .before .before .before .before .before in
-    let s = b16 .before in
+    let s = b16 .before .before in
     let a = s .args in
     let t = told-size (a .e .minor) (a .page .now) _ _ _ (b8 .before .before .before .before .before .sections .ensures .0)
     (b8 .before .before .before .before .before .before .core-size .ensures .0)
-    (c .before .before .before .before .fields-place .ensures) (s .pre .4) in
+    (c .before .before .before .before .fields-place .ensures) (s .pre .5) in
     (s .pre .2, omega (arith, c .before .before .before .before .before .before .before .put-arrays .ensures .0))
 
 slice-aggregate-put-words : tie.Need-slice-aggregate-put-words
@@ -69,20 +81,22 @@ sub-clear : tie.Need-sub-clear
 sub-clear c =
     let b8 = c .before .before .before .before .before .before .before .before in
     let b16 = b8 .before .before .before .before .before .before .before .before in
-    let s = b16 .before .before .before .before .before .before .before in
+    let b24 = b16 .before .before .before .before .before .before .before .before in
+    let s = b24 in
     let a = s .args in
     let t = told-size (a .e .minor) (a .page .now) _ _ _ (b16 .before .before .before .sections .ensures .0)
-    (b16 .before .before .before .before .core-size .ensures .0) (b8 .before .before .fields-place .ensures) (s .pre .4) in
+    (b16 .before .before .before .before .core-size .ensures .0) (b8 .before .before .fields-place .ensures) (s .pre .5) in
     omega (arith, b8 .before .before .before .before .before .put-arrays .ensures .0, b8 .put-fields .ensures .0)
 
 part-clear-start : tie.Need-part-clear-start
 part-clear-start c =
     let b8 = c .before .before .before .before .before .before .before .before in
     let b16 = b8 .before .before .before .before .before .before .before .before in
-    let s = b16 .before .before .before .before .before .before .before in
+    let b24 = b16 .before .before .before .before .before .before .before .before in
+    let s = b24 in
     let a = s .args in
     let t = told-size (a .e .minor) (a .page .now) _ _ _ (b16 .before .before .before .sections .ensures .0)
-    (b16 .before .before .before .before .core-size .ensures .0) (b8 .before .before .fields-place .ensures) (s .pre .4) in
+    (b16 .before .before .before .before .core-size .ensures .0) (b8 .before .before .fields-place .ensures) (s .pre .5) in
     omega (arith, b8 .before .before .before .before .before .put-arrays .ensures .0, b8 .put-fields .ensures .0)
 
 part-clear-end : tie.Need-part-clear-end
@@ -99,10 +113,10 @@ returns c =
     let b8 = c .before .before .before .before .before .before .before .before in
     let b16 = b8 .before .before .before .before .before .before .before .before in
     let b24 = b16 .before .before .before .before .before .before .before .before in
-    let s = b24 .before .before .before in
+    let s = b24 .before .before .before .before in
     let a = s .args in
     rw (c .before .before .clear .ensures)
-    (page-made (a .base) (a .e .minor) (a .page .now) (a .target .now) (s .pre .1) (s .pre .4) _ _ _ _ _ _ _ _ _ _
+    (page-made (a .base) (a .e .minor) (a .page .now) (a .target .now) (s .pre .1) (s .pre .5) _ _ _ _ _ _ _ _ _ _
     (b16 .before .before .before .before .before .before .before .sections .ensures .0) (b24 .core-size .ensures .0)
     (b8 .before .before .before .before .before .before .fields-place .ensures) (search needs)
     (b16 .before .before .before .before .before .put-sections .ensures) (b16 .before .put-arrays .ensures .0)

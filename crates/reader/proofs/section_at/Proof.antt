@@ -1,6 +1,5 @@
 use mathlib.Core.Path.{_≡_, _∙_}
-use Rattle.sections.specs.Page.{countAt, pointerAt}
-use Rattle.sections.proofs.Sections.{range-low, ok-in-range}
+use Rattle.sections.specs.Page.{countAt}
 use Rattle.reader.proofs.Whole.{section-absent, section-empty, section-entries}
 use borrow.Author.Needs.{needs}
 use native.Mathlib.Omega.{arith}
@@ -13,7 +12,7 @@ sections-requires c κs = search needs
 returns : tie.Need-returns
 returns c =
     let a = c .before .before .before .args in
-    section-absent (a .e .minor) (a .base) (a .k) (a .page .now) (omega arith)
+    section-absent (a .e .minor) (a .base) (a .k) (a .core .now) (omega arith)
 
 count-at-requires : tie.Need-count-at-requires
 count-at-requires c κs = search needs
@@ -21,7 +20,7 @@ count-at-requires c κs = search needs
 returns-2 : tie.Need-returns-2
 returns-2 c =
     let a = c .before .before .before .before .before .args in
-    section-empty (a .e .minor) (a .base) (a .k) (a .page .now) (omega arith) (omega arith)
+    section-empty (a .e .minor) (a .base) (a .k) (a .core .now) (omega arith) (omega arith)
 
 pointer-at-requires : tie.Need-pointer-at-requires
 pointer-at-requires c κs = search needs
@@ -29,19 +28,14 @@ pointer-at-requires c κs = search needs
 sub-at : tie.Need-sub-at
 sub-at c =
     let a = c .before .before .before .before .before .before .args in
-    let z : (countAt (a .k) (a .page .now) ≡ 0 → ⊥) = (λ e. c .before .if2 .left (c .before .before .count-at .ensures ∙ e)) in
-    let o = c .before .before .before .before .before .before .pre .1 (omega arith) in
-    omega (
-      arith,
-      range-low (a .e .minor) (a .base) (a .k) (countAt (a .k) (a .page .now)) (pointerAt (a .k) (a .page .now))
-          (ok-in-range (a .minor) (a .e .minor) (a .base) (a .k) (a .page .now) o z),
-    )
+    let z : (countAt (a .k) (a .core .now) ≡ 0 → ⊥) = (λ e. c .before .if2 .left (c .before .before .count-at .ensures ∙ e)) in
+    omega (arith, c .before .before .before .before .before .before .pre (omega arith) z)
 
 returns-3 : tie.Need-returns-3
 returns-3 c =
     let a = c .before .before .before .before .before .before .args in
-    let z : (countAt (a .k) (a .page .now) ≡ 0 → ⊥) = (λ e. c .before .if2 .left (c .before .before .count-at .ensures ∙ e)) in
-    rw (c .pointer-at .ensures, c .before .before .count-at .ensures) (section-entries (a .e .minor) (a .base) (a .k) (a .page .now) (omega arith) z)
+    let z : (countAt (a .k) (a .core .now) ≡ 0 → ⊥) = (λ e. c .before .if2 .left (c .before .before .count-at .ensures ∙ e)) in
+    rw (c .pointer-at .ensures, c .before .before .count-at .ensures) (section-entries (a .e .minor) (a .base) (a .k) (a .core .now) (omega arith) z)
 
 pub section-at-spec : {M : Type 1} → statement M
 section-at-spec =

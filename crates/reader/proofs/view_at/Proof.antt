@@ -1,5 +1,3 @@
-use Rattle.versions.specs.Edition.{sectionCount}
-use Rattle.sections.proofs.Sections.{ok-each}
 use Rattle.reader.specs.Reading.{viewAt}
 use borrow.Author.Needs.{needs}
 use Rattle.reader.proofs.view_at.Statement.{statement}
@@ -9,28 +7,16 @@ word-at-requires : tie.Need-word-at-requires
 word-at-requires c κs = search needs
 
 section-at-requires : tie.Need-section-at-requires
-section-at-requires c κs =
-    let a = c .before .before .args in
-    let p = c .before .before .pre in
-    (p .0, λ h. ok-each (a .minor) (a .e .minor) (a .base) (a .page .now) (sectionCount (a .e .minor)) 0 (p .1) h)
+section-at-requires c κs = c .before .before .pre 0
 
 section-at-requires-2 : tie.Need-section-at-requires-2
-section-at-requires-2 c κs =
-    let a = c .before .before .before .args in
-    let p = c .before .before .before .pre in
-    (p .0, λ h. ok-each (a .minor) (a .e .minor) (a .base) (a .page .now) (sectionCount (a .e .minor)) 1 (p .1) h)
+section-at-requires-2 c κs = c .before .before .before .pre 1
 
 section-at-requires-3 : tie.Need-section-at-requires-3
-section-at-requires-3 c κs =
-    let a = c .before .before .before .before .args in
-    let p = c .before .before .before .before .pre in
-    (p .0, λ h. ok-each (a .minor) (a .e .minor) (a .base) (a .page .now) (sectionCount (a .e .minor)) 2 (p .1) h)
+section-at-requires-3 c κs = c .before .before .before .before .pre 2
 
 section-at-requires-4 : tie.Need-section-at-requires-4
-section-at-requires-4 c κs =
-    let a = c .before .before .before .before .before .args in
-    let p = c .before .before .before .before .before .pre in
-    (p .0, λ h. ok-each (a .minor) (a .e .minor) (a .base) (a .page .now) (sectionCount (a .e .minor)) 3 (p .1) h)
+section-at-requires-4 c κs = c .before .before .before .before .before .pre 3
 
 returns : tie.Need-returns
 unfolding viewAt

@@ -1,4 +1,6 @@
+use mathlib.Core.Path.{_∙_}
 use borrow.Author.Tests.{not-true, not-false}
+use Rattle.sections.proofs.Core.{core-word, core-end, core-apart, core-clear}
 use Rattle.sections.proofs.Sections.{told-padding, told-broken, told-top, told-each, told-apart, told-clear, told-ends}
 use borrow.Author.Needs.{needs}
 use native.Mathlib.Omega.{arith}
@@ -13,7 +15,7 @@ padding-at-requires c κs = search needs
 
 returns : tie.Need-returns
 returns c =
-    let a = c .before .before .before .before .args in
+    let a = c .before .before .before .before .before .args in
     told-padding (a .minor) (a .e .minor) (a .base) (a .page .now) _ (c .before .padding-at .ensures) (c .if1 .taken)
 
 word-at-requires : tie.Need-word-at-requires
@@ -31,10 +33,11 @@ enum-told c = search needs
 returns-2 : tie.Need-returns-2
 returns-2 c =
     let b8 = c .before .before .before .before .before .before .before .before in
-    let a = b8 .args in
+    let a = b8 .before .args in
+    let w = c .before .before .before .word-at .ensures ∙ core-word (a .page .now) (a .copied .now) (b8 .before .pre .1) 8 (omega arith)
+    (omega arith) in
     told-broken (a .minor) (a .e .minor) (a .base) (a .page .now) _ (c .before .before .before .before .before .padding-at .ensures)
-    (c .before .before .before .before .if1 .left) _ (c .before .before .before .word-at .ensures) _
-    (c .before .before .plat-end .ensures) (c .enum-told .given .1)
+    (c .before .before .before .before .if1 .left) _ w _ (c .before .before .plat-end .ensures) (c .enum-told .given .1)
 
 sections-requires : tie.Need-sections-requires
 sections-requires c κs = search needs
@@ -45,41 +48,52 @@ sections-ok-requires c κs = search needs
 returns-3 : tie.Need-returns-3
 returns-3 c =
     let b8 = c .before .before .before .before .before .before .before .before in
-    let a = b8 .before .before .before .before .args in
-    told-each (a .minor) (a .e .minor) (a .base) (a .page .now) _ (b8 .before .padding-at .ensures) (b8 .if1 .left) _
-    (c .before .before .before .before .before .before .before .word-at .ensures) _
+    let a = b8 .before .before .before .before .before .args in
+    let w = c .before .before .before .before .before .before .before .word-at .ensures ∙
+    core-word (a .page .now) (a .copied .now) (b8 .before .before .before .before .before .pre .1) 8 (omega arith) (omega arith) in
+    told-each (a .minor) (a .e .minor) (a .base) (a .page .now) _ (b8 .before .padding-at .ensures) (b8 .if1 .left) _ w _
     (c .before .before .before .before .before .before .plat-end .ensures) _ (c .before .before .before .before .told .given .1) _
     (c .before .before .sections .ensures .0) _ (c .before .sections-ok .ensures) (not-true _ (c .if2 .taken))
 
 all-apart-requires : tie.Need-all-apart-requires
 all-apart-requires c κs =
-    let a = c .before .before .before .before .before .before .before .before .before .before .before .before .args in (
+    let b8 = c .before .before .before .before .before .before .before .before in
+    let a = b8 .before .before .before .before .before .args in (
       search needs,
-      λ k h. omega (
-        arith,
-        told-ends (a .minor) (a .e .minor) (a .base) _ (a .page .now) _ (c .before .sections-ok .ensures)
-            (not-false _ (c .if2 .left)) k h,
-      ),
+      λ k h.
+          omega (
+            arith,
+            core-end (a .page .now) (a .copied .now) (b8 .before .before .before .before .before .pre .1) k
+                (omega (arith, c .before .before .sections .ensures .1)),
+            told-ends (a .minor) (a .e .minor) (a .base) _ (a .page .now) _ (c .before .sections-ok .ensures)
+                (not-false _ (c .if2 .left)) k h,
+          ),
     )
 
 returns-4 : tie.Need-returns-4
 returns-4 c =
     let b8 = c .before .before .before .before .before .before .before .before in
-    let a = b8 .before .before .before .before .before .before .args in
+    let a = b8 .before .before .before .before .before .before .before .args in
+    let w = b8 .before .word-at .ensures ∙ core-word (a .page .now) (a .copied .now)
+    (b8 .before .before .before .before .before .before .before .pre .1) 8 (omega arith) (omega arith) in
+    let d = c .before .all-apart .ensures ∙ core-apart (a .page .now) (a .copied .now)
+    (b8 .before .before .before .before .before .before .before .pre .1) _ (c .before .before .before .before .sections .ensures .1) in
     told-apart (a .minor) (a .e .minor) (a .base) (a .page .now) _ (b8 .before .before .before .padding-at .ensures)
-    (b8 .before .before .if1 .left) _ (b8 .before .word-at .ensures) _ (b8 .plat-end .ensures) _
+    (b8 .before .before .if1 .left) _ w _ (b8 .plat-end .ensures) _
     (c .before .before .before .before .before .before .told .given .1) _
     (c .before .before .before .before .sections .ensures .0) _ (c .before .before .before .sections-ok .ensures)
-    (not-false _ (c .before .before .if2 .left)) _ (c .before .all-apart .ensures) (not-true _ (c .if3 .taken))
+    (not-false _ (c .before .before .if2 .left)) _ d (not-true _ (c .if3 .taken))
 
 add-end : tie.Need-add-end
 add-end c =
     let b8 = c .before .before .before .before .before .before .before .before in
-    let a = b8 .before .before .before .before .before .before .args in
+    let a = b8 .before .before .before .before .before .before .before .args in
+    let w = b8 .before .word-at .ensures ∙ core-word (a .page .now) (a .copied .now)
+    (b8 .before .before .before .before .before .before .before .pre .1) 8 (omega arith) (omega arith) in
     omega (
       arith,
       told-top (a .minor) (a .e .minor) (a .base) (a .page .now) _ (b8 .before .before .before .padding-at .ensures)
-          (b8 .before .before .if1 .left) _ (b8 .before .word-at .ensures) _ (b8 .plat-end .ensures) _
+          (b8 .before .before .if1 .left) _ w _ (b8 .plat-end .ensures) _
           (c .before .before .before .before .before .before .told .given .1) (search needs),
     )
 
@@ -89,13 +103,19 @@ all-clear-requires c κs = search needs
 returns-5 : tie.Need-returns-5
 returns-5 c =
     let b8 = c .before .before .before .before .before .before .before .before in
-    let a = b8 .before .before .before .before .before .before .before .args in
+    let b16 = b8 .before .before .before .before .before .before .before .before in
+    let a = b16 .args in
+    let w = b8 .before .before .word-at .ensures ∙ core-word (a .page .now) (a .copied .now) (b16 .pre .1) 8 (omega arith) (omega arith) in
+    let d = c .before .before .all-apart .ensures ∙ core-apart (a .page .now) (a .copied .now) (b16 .pre .1) _
+    (c .before .before .before .before .before .sections .ensures .1) in
+    let e = c .all-clear .ensures ∙ core-clear (a .page .now) (a .copied .now) (b16 .pre .1) _ _ _
+    (c .before .before .before .before .before .sections .ensures .1) in
     told-clear (a .minor) (a .e .minor) (a .base) (a .page .now) _ (b8 .before .before .before .before .padding-at .ensures)
-    (b8 .before .before .before .if1 .left) _ (b8 .before .before .word-at .ensures) _ (b8 .before .plat-end .ensures) _
+    (b8 .before .before .before .if1 .left) _ w _ (b8 .before .plat-end .ensures) _
     (c .before .before .before .before .before .before .before .told .given .1) _
     (c .before .before .before .before .before .sections .ensures .0) _
-    (c .before .before .before .before .sections-ok .ensures) (not-false _ (c .before .before .before .if2 .left)) _
-    (c .before .before .all-apart .ensures) (not-false _ (c .before .if3 .left)) _ (c .all-clear .ensures)
+    (c .before .before .before .before .sections-ok .ensures) (not-false _ (c .before .before .before .if2 .left)) _ d
+    (not-false _ (c .before .if3 .left)) _ e
 
 pub rules-ok-spec : {M : Type 1} → statement M
 rules-ok-spec =
