@@ -86,7 +86,7 @@ fn view_at(page: &[u8], base: u64, minor: u64, e: Edition) -> View
     View {
         minor: minor,
         edition: e.minor,
-        plat: words::word_at(page, 8),
+        plat: words::word_at(page, sections::CORE_PLAT_DATA),
         dram: section_at(page, base, minor, e, 0),
         console: section_at(page, base, minor, e, 1),
         ncoh: section_at(page, base, minor, e, 2),
