@@ -127,7 +127,7 @@ impl Record {
         if x2 <= x0 {
             return failed(BootCode::Cpu);
         }
-        if 4096 < kept {
+        if words::PAGE_SIZE < kept {
             return failed(BootCode::Manifest(reader::Refusal::Place));
         }
         let verdict = reader::judge_page(page, x3, 4);

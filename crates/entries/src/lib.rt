@@ -10,14 +10,28 @@ ghost use Rattle.entries.specs.Array.{wordsAt, soundOf};
 ghost use Rattle.entries.specs.Steps.{entriesAt, sumAt};
 ghost use Rattle.entries.specs.Fast.{noBits, bankClear, consoleClear};
 
+// Length of an entry in bytes: of a bank or region, and of a console.
+const BANK_BYTES: u64 = 16;
+
+const CONSOLE_BYTES: u64 = 48;
+
+pub const BANK_LEN: usize = 16;
+
+pub const CONSOLE_LEN: usize = 48;
+
+// Number of words of a bank or region, and of a console.
+const BANK_WORDS: usize = 2;
+
+const CONSOLE_WORDS: usize = 6;
+
 // The number of words in an entry of section `k`: 6 for a console, 2 for a bank or region.
 pub fn entry_words(k: usize) -> usize
     ensures { λ r. ⌜ (r ≡ wordsPerEntry k) × (2 ≤ r) × (r ≤ 6) ⌝ }
 {
     if k == 1 {
-        return 6;
+        return CONSOLE_WORDS;
     }
-    2
+    BANK_WORDS
 }
 
 // Whether `count` entries of section `k` fit into `room` bytes. Divides, because the product could overflow; a constant divisor costs no
@@ -26,12 +40,12 @@ pub fn fits(k: usize, count: u64, room: u64) -> bool
     ensures { λ r. ⌜ r ≡ leb (size k count) room ⌝ }
 {
     if k == 1 {
-        if room / 48 < count {
+        if room / CONSOLE_BYTES < count {
             return false;
         }
         return true;
     }
-    if room / 16 < count {
+    if room / BANK_BYTES < count {
         return false;
     }
     true
@@ -76,7 +90,7 @@ pub fn with_console(bits: Bits, minor: u64, base: u64, pages: u64, flags: u64) -
     ensures { λ r. ⌜ consoleClear minor r ≡ both (consoleClear minor bits) (consoleOk minor base pages flags) ⌝ }
 {
     let span = std::num::wrapping_sub_u64(pages, 1);
-    let last = std::num::wrapping_add_u64(base / 4096, span);
+    let last = std::num::wrapping_add_u64(base / words::PAGE_SIZE, span);
     Bits {
         low: bits.low | base,
         high: bits.high | (span | last),
@@ -88,13 +102,13 @@ pub fn with_console(bits: Bits, minor: u64, base: u64, pages: u64, flags: u64) -
 pub fn banks_clear(bits: Bits) -> bool
     ensures { λ r. ⌜ r ≡ bankClear bits ⌝ }
 {
-    if bits.low % 4096 != 0 {
+    if bits.low % words::PAGE_SIZE != 0 {
         return false;
     }
     if 0x20_0000_0000_0000 <= bits.low {
         return false;
     }
-    if 0x10_0000_0000_0000 <= bits.high {
+    if words::ADDRESS_LIMIT <= bits.high {
         return false;
     }
     true
@@ -104,7 +118,7 @@ pub fn banks_clear(bits: Bits) -> bool
 pub fn consoles_clear(bits: Bits, minor: u64) -> bool
     ensures { λ r. ⌜ r ≡ consoleClear minor bits ⌝ }
 {
-    if bits.low % 4096 != 0 {
+    if bits.low % words::PAGE_SIZE != 0 {
         return false;
     }
     if 0x100_0000_0000 <= bits.high {
@@ -150,7 +164,7 @@ fn sum_and_check_banks(page: &[u8], minor: u64, k: usize, at: usize, count: usiz
     let mut sum: u64 = 0;
     let mut from = at;
     for i in 0..count {
-        let end = from + 16;
+        let end = from + BANK_LEN;
         let bank = &page[from..end];
         let base = words::whole_word(bank, 0);
         let size = words::whole_word(bank, 8);
@@ -171,7 +185,7 @@ fn consoles_ok(page: &[u8], minor: u64, at: usize, count: usize) -> bool
     let mut bits = Bits::none();
     let mut from = at;
     for i in 0..count {
-        let end = from + 48;
+        let end = from + CONSOLE_LEN;
         let console = &page[from..end];
         let base = words::whole_word(console, 0);
         let pages = words::whole_word(console, 8);

@@ -7,6 +7,27 @@ ghost use Rattle.words.specs.Word.{numAt};
 ghost use Rattle.fields.specs.Fields.{lengthOk, scanOf, describable, fieldsIn};
 ghost use Rattle.fields.specs.Steps.{headAt, isSeen, seenWith, noneSeen, allowed, stopOf, endTold, stepAt};
 
+// Bytes of a field before its value: the tag and the two bytes of the length. The end mark has no more than these.
+pub const FIELD_HEAD: usize = 3;
+
+// The tags with a meaning: end mark, board name, serial, and the withdrawn choice of a console.
+pub const TAG_END: u8 = 0;
+
+pub const TAG_NAME: u8 = 1;
+
+pub const TAG_SERIAL: u8 = 2;
+
+pub const TAG_CONSOLE: u8 = 3;
+
+// Lengths of the values, in bytes.
+const NAME_LEAST: usize = 1;
+
+const NAME_MOST: usize = 32;
+
+const SERIAL_BYTES: usize = 8;
+
+const CHOICE_BYTES: usize = 1;
+
 // What is at an offset: broken bytes (cut short, or tag 0 with a length); the end mark; or a field, with the offset and length of its
 // value and the offset after it. Private, because no function may give out the offset of a value with tag 3 (FD9).
 enum Head {
@@ -61,17 +82,17 @@ fn field_at(part: &[u8], at: usize) -> Head
     if part.len() < at {
         return Head::Broken;
     }
-    if part.len() - at < 3 {
+    if part.len() - at < FIELD_HEAD {
         return Head::Broken;
     }
     let tag = part[at];
     let len = words::pair_at(part, at + 1) as usize;
-    let value = at + 3;
+    let value = at + FIELD_HEAD;
     if part.len() - value < len {
         return Head::Broken;
     }
     let next = value + len;
-    if tag != 0 {
+    if tag != TAG_END {
         return Head::Field {
             tag,
             value,
@@ -103,7 +124,7 @@ pub fn step_at(part: &[u8], at: usize) -> FieldStep
             next,
         };
     };
-    if tag == 3 {
+    if tag == TAG_CONSOLE {
         return FieldStep {
             field: FieldPlace::Withdrawn,
             next,
@@ -123,20 +144,20 @@ pub fn step_at(part: &[u8], at: usize) -> FieldStep
 pub fn length_ok(tag: u8, len: usize) -> bool
     ensures { λ r. ⌜ r ≡ lengthOk tag len ⌝ }
 {
-    if tag == 0 {
+    if tag == TAG_END {
         return false;
     }
-    if tag == 1 {
-        if len < 1 {
+    if tag == TAG_NAME {
+        if len < NAME_LEAST {
             return false;
         }
-        return len <= 32;
+        return len <= NAME_MOST;
     }
-    if tag == 2 {
-        return len == 8;
+    if tag == TAG_SERIAL {
+        return len == SERIAL_BYTES;
     }
-    if tag == 3 {
-        return len == 1;
+    if tag == TAG_CONSOLE {
+        return len == CHOICE_BYTES;
     }
     len < 0x1_0000
 }
@@ -145,13 +166,13 @@ pub fn length_ok(tag: u8, len: usize) -> bool
 pub fn is_seen(seen: Seen, tag: u8) -> bool
     ensures { λ r. ⌜ r ≡ isSeen seen tag ⌝ }
 {
-    if tag == 1 {
+    if tag == TAG_NAME {
         return seen.name;
     }
-    if tag == 2 {
+    if tag == TAG_SERIAL {
         return seen.serial;
     }
-    if tag == 3 {
+    if tag == TAG_CONSOLE {
         return seen.console;
     }
     false
@@ -172,21 +193,21 @@ pub fn none_seen() -> Seen
 pub fn marked(seen: Seen, tag: u8) -> Seen
     ensures { λ r. ⌜ r ≡ seenWith seen tag ⌝ }
 {
-    if tag == 1 {
+    if tag == TAG_NAME {
         return Seen {
             name: true,
             serial: seen.serial,
             console: seen.console,
         };
     }
-    if tag == 2 {
+    if tag == TAG_SERIAL {
         return Seen {
             name: seen.name,
             serial: true,
             console: seen.console,
         };
     }
-    if tag == 3 {
+    if tag == TAG_CONSOLE {
         return Seen {
             name: seen.name,
             serial: seen.serial,
@@ -218,7 +239,7 @@ fn walk(part: &[u8]) -> Stop
         match head {
             Head::Broken => return Stop::Broken,
             Head::End => {
-                let end = at + 3;
+                let end = at + FIELD_HEAD;
                 return Stop::Mark { end, passed };
             }
             Head::Field {

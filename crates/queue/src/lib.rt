@@ -10,13 +10,21 @@ ghost use Rattle.codes.specs.Codes.{answerOf};
 ghost use Rattle.queue.specs.Queue.{waiting, waitingItems, waitingSigned, signedIn, listsOf, appended, noRequest, noResponse, oldestRequest, oldestOf};
 ghost use Rattle.queue.specs.Queue.{requestsHolding, responseHolding, responsesHolding, queueHolding};
 
+// Places of each side of the queue.
+pub const PLACES: usize = 8;
+
+// Length of a hash, and the most bytes of a signature.
+pub const HASH_BYTES: usize = 48;
+
+pub const SIGNATURE_BYTES: usize = 104;
+
 // A request to sign a realm's token. `algorithm` and `hashid` are 4-byte numbers.
 pub struct Request {
     pub algorithm: u64,
     pub granule: u64,
     pub ticket: u64,
     pub hashid: u64,
-    pub hash: [u8; 48],
+    pub hash: [u8; HASH_BYTES],
 }
 
 // A response: the request's granule and ticket, and a signature of `len` bytes; a `len` above 104 counts as 104.
@@ -24,18 +32,18 @@ pub struct Response {
     pub granule: u64,
     pub ticket: u64,
     pub len: usize,
-    pub signature: [u8; 104],
+    pub signature: [u8; SIGNATURE_BYTES],
 }
 
 // The requests that wait, oldest first.
 pub struct Requests {
-    pub items: [Request; 8],
+    pub items: [Request; PLACES],
     pub count: usize,
 }
 
 // The responses that wait, oldest first.
 pub struct Responses {
-    pub items: [Response; 8],
+    pub items: [Response; PLACES],
     pub count: usize,
 }
 
@@ -70,11 +78,11 @@ impl Queue {
     {
         Queue {
             requests: Requests {
-                items: [no_request(); 8],
+                items: [no_request(); PLACES],
                 count: 0,
             },
             responses: Responses {
-                items: [no_response(); 8],
+                items: [no_response(); PLACES],
                 count: 0,
             },
         }
@@ -90,7 +98,7 @@ fn no_request() -> Request
         granule: 0,
         ticket: 0,
         hashid: 0,
-        hash: [0u8; 48],
+        hash: [0u8; HASH_BYTES],
     }
 }
 
@@ -101,7 +109,7 @@ fn no_response() -> Response
         granule: 0,
         ticket: 0,
         len: 0,
-        signature: [0u8; 104],
+        signature: [0u8; SIGNATURE_BYTES],
     }
 }
 
@@ -120,8 +128,8 @@ pub fn request_count(side: Requests) -> usize
     ensures { λ r. ⌜ (r ≡ length (waiting side)) × (r ≤ 8) ⌝ }
 {
     let n = side.count;
-    if 8 < n {
-        return 8;
+    if PLACES < n {
+        return PLACES;
     }
     n
 }
@@ -131,8 +139,8 @@ pub fn response_count(side: Responses) -> usize
     ensures { λ r. ⌜ (r ≡ length (waitingItems side)) × (r ≤ 8) ⌝ }
 {
     let n = side.count;
-    if 8 < n {
-        return 8;
+    if PLACES < n {
+        return PLACES;
     }
     n
 }
@@ -142,8 +150,8 @@ pub fn signature_len(response: Response) -> usize
     ensures { λ r. ⌜ (r ≡ length (signedIn response .signature)) × (r ≤ 104) ⌝ }
 {
     let n = response.len;
-    if 104 < n {
-        return 104;
+    if SIGNATURE_BYTES < n {
+        return SIGNATURE_BYTES;
     }
     n
 }
@@ -154,7 +162,7 @@ fn clear_after_signature(response: Response) -> Response
 {
     let n = signature_len(response);
     let from = response.signature;
-    let mut signature = [0u8; 104];
+    let mut signature = [0u8; SIGNATURE_BYTES];
     words::copy(&mut signature, &from[..n]);
     Response {
         granule: response.granule,
@@ -171,7 +179,7 @@ pub fn requests_from(side: Requests, gone: usize) -> Requests
     let n = request_count(side);
     let from = side.items;
     let request = no_request();
-    let mut items = [request; 8];
+    let mut items = [request; PLACES];
     if n <= gone {
         return Requests { items, count: 0 };
     }
@@ -190,7 +198,7 @@ pub fn responses_from(side: Responses, gone: usize) -> Responses
     let n = response_count(side);
     let from = side.items;
     let response = no_response();
-    let mut items = [response; 8];
+    let mut items = [response; PLACES];
     if n <= gone {
         return Responses { items, count: 0 };
     }
@@ -220,7 +228,7 @@ pub fn join_request(side: Requests, request: Request) -> Requests
 {
     let kept = requests_from(side, 0);
     let n = kept.count;
-    if 8 <= n {
+    if PLACES <= n {
         return kept;
     }
     let mut items = kept.items;
@@ -237,7 +245,7 @@ pub fn join_response(side: Responses, response: Response) -> Responses
 {
     let kept = responses_from(side, 0);
     let n = kept.count;
-    if 8 <= n {
+    if PLACES <= n {
         return kept;
     }
     let mut items = kept.items;

@@ -85,7 +85,7 @@ fn view_at(core: &[u8], base: u64, minor: u64, e: Edition) -> View
     View {
         minor: minor,
         edition: e.minor,
-        plat: words::word_at(core, 8),
+        plat: words::word_at(core, sections::CORE_PLAT_DATA),
         dram: section_at(core, base, e, 0),
         console: section_at(core, base, e, 1),
         ncoh: section_at(core, base, e, 2),

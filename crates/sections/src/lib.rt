@@ -13,20 +13,36 @@ ghost use Rattle.sections.specs.Section.{nothing, rulesAt};
 ghost use Rattle.sections.specs.Steps.{Copied, platEnd, okAt, okTo, endOf, apartTo, clearAt, clearFrom, staysAt};
 ghost use Rattle.fields.specs.declared.FieldsEnd.the-variants.{Broken};
 
+// Offsets in the core: version and padding, 4 bytes each, and the pointer to the fields, 8 bytes.
+const CORE_VERSION: usize = 0;
+
+pub const CORE_PADDING: usize = 4;
+
+pub const CORE_PLAT_DATA: usize = 8;
+
+// Offsets of the three words of section 0, and the distance in bytes from a section to the next.
+pub const CORE_COUNT: usize = 16;
+
+pub const CORE_POINTER: usize = 24;
+
+pub const CORE_CHECKSUM: usize = 32;
+
+pub const SECTION_BYTES: usize = 24;
+
 // Whether a page of `n` bytes at `base` can hold a manifest (P1, P2).
 pub fn place_ok(base: u64, n: usize) -> bool
     ensures { λ r. ⌜ r ≡ placeOk base n ⌝ }
 {
-    if n != 4096 {
+    if n != words::PAGE_LEN {
         return false;
     }
     if base == 0 {
         return false;
     }
-    if base % 4096 != 0 {
+    if base % words::PAGE_SIZE != 0 {
         return false;
     }
-    if 0xF_FFFF_FFFF_F000 < base {
+    if words::BASE_MOST < base {
         return false;
     }
     true
@@ -36,35 +52,35 @@ pub fn place_ok(base: u64, n: usize) -> bool
 pub fn version_at(page: &[u8]) -> u64
     ensures { λ r. ⌜ r ≡ versionAt (now (page .entry)) ⌝ }
 {
-    words::u32_at(page, 0)
+    words::u32_at(page, CORE_VERSION)
 }
 
 // The padding: 4 bytes at offset 4.
 pub fn padding_at(page: &[u8]) -> u64
     ensures { λ r. ⌜ r ≡ paddingAt (now (page .entry)) ⌝ }
 {
-    words::u32_at(page, 4)
+    words::u32_at(page, CORE_PADDING)
 }
 
 // The count of section `k`.
 pub fn count_at(page: &[u8], k: u8) -> u64
     ensures { λ r. ⌜ r ≡ countAt k (now (page .entry)) ⌝ }
 {
-    words::word_at(page, 16 + 24 * (k as usize))
+    words::word_at(page, CORE_COUNT + SECTION_BYTES * (k as usize))
 }
 
 // The pointer of section `k`.
 pub fn pointer_at(page: &[u8], k: u8) -> u64
     ensures { λ r. ⌜ r ≡ pointerAt k (now (page .entry)) ⌝ }
 {
-    words::word_at(page, 24 + 24 * (k as usize))
+    words::word_at(page, CORE_POINTER + SECTION_BYTES * (k as usize))
 }
 
 // The checksum of section `k`.
 pub fn check_at(page: &[u8], k: u8) -> u64
     ensures { λ r. ⌜ r ≡ checkAt k (now (page .entry)) ⌝ }
 {
-    words::word_at(page, 32 + 24 * (k as usize))
+    words::word_at(page, CORE_CHECKSUM + SECTION_BYTES * (k as usize))
 }
 
 // The rule of the platform pointer and its fields, on a page read as edition `e` (R2, F1 to F4): the number of bytes of the fields through
@@ -79,7 +95,7 @@ fn plat_end(page: &[u8], base: u64, e: Edition, size: u64, plat: u64) -> FieldsE
     if plat < base + size {
         return FieldsEnd::Broken;
     }
-    if base + 4096 <= plat {
+    if base + words::PAGE_SIZE <= plat {
         return FieldsEnd::Broken;
     }
     let at = (plat - base) as usize;
@@ -222,7 +238,7 @@ fn rules_ok(page: &[u8], copied: &[u8], base: u64, minor: u64, e: Edition) -> bo
     if padding_at(page) != 0 {
         return false;
     }
-    let plat = words::word_at(copied, 8);
+    let plat = words::word_at(copied, CORE_PLAT_DATA);
     let told = plat_end(page, base, e, size, plat);
     let FieldsEnd::Ended(taken) = told else {
         return false;
@@ -269,7 +285,13 @@ pub fn plat_rule(page: &[u8], base: u64, e: Edition) -> FieldsEnd
     if !place_ok(base, page.len()) {
         return FieldsEnd::Broken;
     }
-    plat_end(page, base, e, e.core_size(), words::word_at(page, 8))
+    plat_end(
+        page,
+        base,
+        e,
+        e.core_size(),
+        words::word_at(page, CORE_PLAT_DATA),
+    )
 }
 
 // Whether section `k` keeps its rule by itself, and its array misses the arrays of the sections before it and [from, to).

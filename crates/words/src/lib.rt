@@ -6,6 +6,17 @@ ghost use lib.ListN.{length, getD, replicate};
 ghost use Rattle.words.specs.Word.{leBytes, numAt, wordAt, u32At, bytesOf, splice, laid, spanAt, spanned, spanStart, onFrom};
 ghost use Rattle.words.specs.Fast.{wholeWord};
 
+// Length of the manifest's page, of a granule and of the shared buffer, in bytes: as a number of the interface and as a length.
+pub const PAGE_SIZE: u64 = 4096;
+
+pub const PAGE_LEN: usize = 4096;
+
+// 2^52. No bank, region or console ends above it.
+pub const ADDRESS_LIMIT: u64 = 0x10_0000_0000_0000;
+
+// 2^52 - 4096, the highest base of the manifest's page.
+pub const BASE_MOST: u64 = 0xF_FFFF_FFFF_F000;
+
 // A part of a slice: the `len` bytes [at, at + len).
 pub struct Span {
     pub at: usize,
