@@ -1,5 +1,5 @@
--- The granule record of several banks. 02, E2: "The granule record shall hold the banks, not one start address; the table is the
--- banks' granules joined in bank order. An address in a hole is not a granule address." Assumes nothing.
+-- The granule record of several banks. Request E2: "The granule record shall hold the banks, not one start address; the table is the
+-- banks' granules joined in bank order. An address in a hole is not a granule address." (BN1, BN6) Assumes nothing.
 use Prim.Native.Nat.{ℕ, zero, suc, _+_, _-_, _*_, _/_, _%_}
 use mathlib.Core.Bool.{Bool, true, cond}
 use mathlib.Core.List.{List, [], _∷_, _++_}
@@ -42,6 +42,7 @@ banksOf g = banksBy (bankAt g) 0 (bankCount g)
 
 -- ---- which banks are accepted
 -- the reader's rule for a bank, and its base at or after `low`, the end of the bank before: else "banks not ascending or overlapping"
+-- (BN4.4)
 unfoldable pub follows : (low base size : ℕ) → Bool
 follows low base size = both (leb low base) (bankOk base size)
 
@@ -50,7 +51,8 @@ unfoldable pub ascend : ℕ → List Bank → Bool
 ascend low [] = true
 ascend low (b ∷ bs) = both (follows low (b .base) (b .size)) (ascend (b .base + b .size) bs)
 
--- n banks, with none of "no bank, .. more than 16, a bank that breaks the reader's rule, banks not ascending or overlapping"
+-- n banks, with none of "no bank, .. more than 16, a bank that breaks the reader's rule, banks not ascending or overlapping" (BN4.2 to
+-- BN4.4)
 unfoldable pub banksOk : ℕ → List Bank → Bool
 banksOk n bs = both (ltb 0 n) (both (leb n 16) (ascend 0 bs))
 
@@ -63,7 +65,7 @@ unfoldable pub total : List Bank → ℕ
 total [] = 0
 total (b ∷ bs) = b .size / 4096 + total bs
 
--- "later, a record whose banks the set-up would refuse has no granules"
+-- "later, a record whose banks the set-up would refuse has no granules" (BN5)
 unfoldable pub granuleCount : Granules → ℕ
 granuleCount g = cond (recordOk g) (total (banksOf g)) 0
 
@@ -72,7 +74,7 @@ granuleCount g = cond (recordOk g) (total (banksOf g)) 0
 unfoldable pub holds : (base size addr : ℕ) → Bool
 holds base size addr = both (leb base addr) (ltb addr (base + size))
 
--- the index in one bank, after the granules of the banks before: "the table is the banks' granules joined in bank order"
+-- the index in one bank, after the granules of the banks before: "the table is the banks' granules joined in bank order" (BN7)
 abbrev pub indexIn : (before base addr : ℕ) → ℕ
 indexIn before base addr = before + (addr - base) / 4096
 
@@ -85,7 +87,7 @@ unfoldable pub orElse : Granule → Granule → Granule
 orElse (At i) g = At i
 orElse Nothing g = g
 
--- the granule in the first bank that holds the address: "An address in a hole is not a granule address."
+-- the granule in the first bank that holds the address: "An address in a hole is not a granule address." (BN6)
 unfoldable pub placeAmong : (before : ℕ) → List Bank → (addr : ℕ) → Granule
 placeAmong before [] addr = Nothing
 placeAmong before (b ∷ bs) addr = orElse (placeIn before (b .base) (b .size) addr) (placeAmong (before + b .size / 4096) bs addr)
@@ -94,8 +96,8 @@ placeAmong before (b ∷ bs) addr = orElse (placeIn before (b .base) (b .size) a
 unfoldable pub bankPlace : Granules → ℕ → Granule
 bankPlace g addr = cond (recordOk g) (placeAmong 0 (banksOf g) addr) Nothing
 
--- the granule in a table of n granules. 01: "BAD_ADDR unless .. the address are multiples of 4,096 and the address falls on a granule of
--- the table." 02, E2: "Demand 2 reads "granule of the table" so", and "a table of another length makes every address BAD_ADDR"
+-- the granule in a table of n granules. "BAD_ADDR unless .. the address are multiples of 4,096 and the address falls on a granule of
+-- the table." (CM2.3, CM3.3) Request E2: "a table of another length makes every address BAD_ADDR" (BN6)
 unfoldable pub granuleAt : Granules → (n addr : ℕ) → Granule
 granuleAt g n addr = cond (both (eqb (addr % 4096) 0) (eqb (granuleCount g) n)) (bankPlace g addr) Nothing
 
@@ -109,8 +111,8 @@ addressIn (b ∷ bs) i = cond (ltb i (b .size / 4096)) (b .base + 4096 * i) (add
 abbrev pub addressOf : Granules → ℕ → ℕ
 addressOf g i = addressIn (banksOf g) i
 
--- 01's granule of an address, in a table of n granules that starts at address G: "BAD_ADDR unless G and the address are multiples of 4,096
--- and the address falls on a granule of the table."
+-- The granule of an address in one range of memory, in a table of n granules that starts at address G: "BAD_ADDR unless G and the address
+-- are multiples of 4,096 and the address falls on a granule of the table." (BN8)
 abbrev pub singleRange : (start n addr : ℕ) → Granule
 singleRange start n addr =
     cond (both (eqb (start % 4096) 0) (both (eqb (addr % 4096) 0) (both (leb start addr) (ltb ((addr - start) / 4096) n))))
@@ -130,7 +132,7 @@ abbrev pub shownCount : List ℕ → ℕ
 shownCount shown = length shown / 16
 
 -- none of "no bank, a part of a bank, more than 16, a bank that breaks the reader's rule, banks not ascending or overlapping, or a
--- table length that differs from the sum"
+-- table length that differs from the sum" (BN4)
 unfoldable pub takes : List ℕ → ℕ → Bool
 takes shown n =
     both (eqb (length shown % 16) 0)
@@ -144,7 +146,7 @@ setUpCode shown n = fails (isFalse (takes shown n)) Inval Ok
 abbrev pub recordFrom : ℕ → List ℕ → Granules
 recordFrom n shown = n ∷ wordsOf (2 * n) shown ++ replicate (32 - 2 * n) 0
 
--- the code, and the record's words at exit: "INVAL, with no record made" leaves them unchanged
+-- the code, and the record's words at exit: "INVAL, with no record made" (BN4) leaves them unchanged
 pub record SetUp : Type 0 where
   pub code : Code
   pub granules : Granules

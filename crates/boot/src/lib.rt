@@ -4,8 +4,8 @@ ghost use mathlib.Core.Path.{_≡_};
 ghost use Rattle.reader.specs.Fast.{numberIn};
 ghost use Rattle.boot.specs.Boot.{bootNumber, isFresh, coldCode, coldNext, after, cpuCode, warmCode, warmNext};
 
-// What a boot record keeps of its cold boot: x2 (`cpus`), the base B, the agreed interface minor, and K (`manifest_extent`). No runtime command writes
-// the first K bytes of the page.
+// What a boot record keeps of its cold boot: x2 (`cpus`), the base B, the agreed interface minor, and K (`kept`). No runtime command writes
+// the first K bytes of the page (RULES BT1, KB3).
 pub struct Params {
     pub cpus: u64,
     pub base: u64,
@@ -101,8 +101,8 @@ impl Record {
         Record::Fresh
     }
 
-    // Cold boot with x0 to x3. The monitor supports at most `maxcpus` CPUs, `manifest_extent` bytes at the start of the page are kept, and `page` is the
-    // page at x3, read as edition 4.
+    // Cold boot with x0 to x3 (RULES BT2, BT3). The monitor supports at most `maxcpus` CPUs, the first `kept` bytes of the page are kept, and
+    // `page` is the page at x3, read as edition 4.
     pub fn cold(
         self,
         x0: u64,

@@ -1,5 +1,5 @@
 // The entries of a section's array, read in the page: their rules (E1 to E5) and their checksum (S4).
-// A section is its number in 01's table: 0 DRAM banks, 1 consoles, 2 non-coherent regions, 3 coherent regions.
+// A section is its number in RULES ML1: 0 DRAM banks, 1 consoles, 2 non-coherent regions, 3 coherent regions.
 ghost use mathlib.Core.Path.{_≡_};
 ghost use Prim.Native.Nat.{_+_, _*_, _%_, _^_, _≤_};
 ghost use lib.ListN.{length};

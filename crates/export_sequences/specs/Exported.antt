@@ -81,7 +81,8 @@ exportLeft granules m (pbeam-call state x busy key token public width) =
     callIn granules (m .session) (m .queue) (m .page) (m .table) (m .words) (callLent state x busy key token public width)
 exportLeft granules m (pbeam-sign signature) = signsLeft (signIn (m .queue) signature) m
 
--- ---- the command that an export runs: a call with id and registers, with only its own arguments lent; the signer's step; or a list of granules
+-- ---- the command that an export runs: a call with id and registers, with only its own arguments lent; the signer's step; or a list of
+-- granules
 abbrev callFor : List ℕ → List ℕ → ℕ → List ℕ → List ℕ → List ℕ → ℕ → Command
 callFor state x busy key token public width = call (callLent state x busy key token public width)
 
@@ -118,7 +119,8 @@ unfoldable pub allExported : List ℕ → Lent → List Exported → Lent
 allExported granules m [] = m
 allExported granules m (e ∷ es) = allExported granules (lentOn (exportLeft granules m e)) es
 
--- ---- 02, E8: "with the same boot .. records": the same export with this image of the boot record; the signer's step takes no record
+-- ---- Request E8: "with the same boot .. records" (SH3): the same export with this image of the boot record; the signer's step takes no
+-- record
 unfoldable pub exportUnder : List ℕ → Exported → Exported
 exportUnder image (pbeam-delegate state address) = pbeam-delegate image address
 exportUnder image (pbeam-undelegate state address) = pbeam-undelegate image address
@@ -159,7 +161,7 @@ pub record ExportsIntoRealm (granules image : List ℕ) (m : Lent) : Type 0 wher
   pub response : (key : List ℕ) (opcode pa size curve : ℕ) → Oks granules m (pbeam-token-signing image key opcode pa size curve) →
       LentIntoRealm granules image m pa size
 
--- ---- 02, E14: the accepted calls on granules, read from `out`: the address if x0 is 0, or the first x1 addresses of a list
+-- ---- Request E14: the accepted calls on granules, read from `out`: the address if x0 is 0, or the first x1 addresses of a list
 abbrev whenZero : ℕ → List Change → List Change
 whenZero x0 l = cond (eqb x0 0) l []
 
@@ -188,7 +190,8 @@ pub data NoneAt (addr : ℕ) : List Change → Type 0 where
   nowhere : NoneAt addr []
   elsewhere : (c : Change) (cs : List Change) → (c .address ≡ addr → ⊥) → NoneAt addr cs → NoneAt addr (c ∷ cs)
 
--- "Each granule's byte is the one the last accepted call naming it left, or the starting byte if none did.": for granule i, at address addr
+-- "Each granule's byte is the one the last accepted call naming it left, or the starting byte if none did." (BO2): for granule i, at
+-- address addr
 pub record ByAddress (granules : List ℕ) (m : Lent) (es : List Exported) (addr i : ℕ) : Type 0 where
   pub last : (before : List Change) (d : Direction) (behind : List Change) → allTold granules m es ≡ before ++ change d addr ∷ behind →
       NoneAt addr behind → getD (allExported granules m es .table) i 0 ≡ toByte d

@@ -1,4 +1,4 @@
--- 02, E5: "A monitor rereads the manifest at each warm boot". Assumes nothing.
+-- Request E5: "A monitor rereads the manifest at each warm boot" (KB3). Assumes nothing.
 use Prim.Native.Nat.{ℕ, _<_}
 use mathlib.Core.Path.{_≡_}
 use mathlib.Core.List.{List, [], _∷_}

@@ -1,6 +1,6 @@
--- The first fault of a page, in the order of the reader's checks (RD2, RD6, RD7): the rule, its place in the page, and the word found there.
--- Each test is the reader's own (crates sections, entries, fields). Law `clear-accepts` proves that there is no fault exactly if the
--- reader accepts. Assumes nothing.
+-- The first fault of a page, in the order of the reader's checks (RD2, RD6, RD7): the rule, its place in the page, and the word found
+-- there. Each test is the reader's own (crates sections, entries, fields). Law `accepts` of `Diagnoses` (Promise.antt) proves that there is
+-- no fault exactly if the reader accepts. Assumes nothing.
 use Prim.Native.Nat.{ℕ, zero, suc, _+_, _-_, _*_, _%_, _^_, min}
 use mathlib.Core.Bool.{Bool, true, false, cond, not}
 use mathlib.Core.List.{List}
@@ -133,7 +133,7 @@ walkFault (suc n) s from i at bs =
 unfoldable pub fieldsFault : ℕ → List ℕ → Diagnosis
 fieldsFault from bs = walkFault (length bs) noneSeen from 0 0 bs
 
--- "plat_data is 0 or lies from B + core size of e to B + 4,095", then its fields
+-- "plat_data is 0 or lies from B + core size of e to B + 4,095" (R2), then its fields
 unfoldable pub platFault : ℕ → ℕ → ℕ → List ℕ → Diagnosis
 platFault e base q page =
     cond (eqb q 0) Clear

@@ -1,5 +1,5 @@
--- Lookups in the fields that a page shows (FD10): "The writer takes a list of fields", and a reader shows one in page order (02, E7);
--- "show the console choice as withdrawn without its value" (02, E10). Assumes nothing.
+-- Lookups in the fields that a page shows (FD10): "The writer takes a list of fields", and a reader shows one in page order (request E7);
+-- "show the console choice as withdrawn without its value" (request E10). Assumes nothing.
 use Prim.Native.Nat.{ℕ, zero, suc, _+_}
 use mathlib.Core.Bool.{Bool, true, false, cond}
 use mathlib.Core.List.{List, [], _∷_}

@@ -1,6 +1,7 @@
 -- For the loops over the fields. `head-scan` (proofs/Scans.antt) proves a step by `headAt` equal to one of `scanAll`; `ok-start`,
--- `ok-more` and `ok-not` (proofs/Rules.antt) `allowed`, field by field, equal to `fieldsOk`; `from-told` (proofs/Walks.antt) `fieldsFrom` equal to `fieldsIn` of
--- `scanOf` (all of these: Fields.antt). `stopOf` and `endTold` define what the enums `Stop` and `FieldsEnd` mean. Assumes nothing.
+-- `ok-more` and `ok-not` (proofs/Rules.antt) `allowed`, field by field, equal to `fieldsOk`; `from-told` (proofs/Walks.antt) `fieldsFrom`
+-- equal to `fieldsIn` of `scanOf` (all of these: Fields.antt). `stopOf` and `endTold` define what the enums `Stop` and `FieldsEnd` mean.
+-- Assumes nothing.
 use Prim.Native.Nat.{ℕ, zero, suc, _+_}
 use mathlib.Core.Bool.{Bool, true, false, cond, not}
 use mathlib.Core.List.{List, [], _∷_}
@@ -33,7 +34,7 @@ headAt at bs =
     let m = numAt 2 (at + 1) bs in
     headOf (ltb (length bs) (at + 3 + m)) (eqb (getD bs at 0) 0) (eqb m 0) (head.Field (getD bs at 0) (at + 3) m (at + 3 + m))
 
--- a field as callers see it: E10: "show the console choice as withdrawn without its value"
+-- a field as callers see it: E10: "show the console choice as withdrawn without its value" (FD8)
 unfoldable pub fieldPlaceOf : ℕ → ℕ → ℕ → FieldPlace
 fieldPlaceOf t at n = cond (eqb t 3) Withdrawn (Raw t at n)
 

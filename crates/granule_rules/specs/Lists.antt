@@ -1,4 +1,4 @@
--- 02, E1: delegate and undelegate over a list of addresses. Assumes nothing.
+-- Request E1: delegate and undelegate over a list of addresses. Assumes nothing.
 use Prim.Native.Nat.{ℕ, suc, _<_, _≤_}
 use mathlib.Core.Path.{_≡_}
 use mathlib.Core.Bool.{false, cond}
@@ -13,18 +13,19 @@ use Rattle.granule_rules.specs.Granules.{GranuleTable, Moved, movedBy, f
 use Rattle.granule_rules.specs.declared.Direction.{Direction}
 use Rattle.granule_rules.specs.declared.Direction.the-variants.{Delegate, Undelegate}
 
--- "stopping at the first refusal": after k accepted calls comes the single call m, and if it is accepted the rest. "x1 holds the number
--- done on refusal too."
+-- "stopping at the first refusal" (LG1): after k accepted calls comes the single call m, and if it is accepted the rest. "x1 holds the
+-- number done on refusal too." (LG3)
 unfoldable pub onward : Moved → ℕ → Moved → Moved
 onward m k rest = cond (isOk (m .answer .code)) rest (record { answer = answerOf (m .answer .code) k 0; table = m .table })
 
--- "The result, the table and the number done equal single calls made in list order": f is the single call, and k calls are done before
+-- "The result, the table and the number done equal single calls made in list order" (LG1): f is the single call, and k calls are done
+-- before
 unfoldable pub listBy : (GranuleTable → ℕ → Moved) → ℕ → GranuleTable → List ℕ → Moved
 listBy f k t [] = record { answer = answerOf Ok k 0; table = t }
 listBy f k t (a ∷ l) = onward (f t a) k (listBy f (suc k) (f t a .table) l)
 
--- a list of the command's own single calls. "An empty list is OK with 0, up or not." 02, E6: "INVAL, before all other checks of any call on
--- words, an empty list's too"
+-- a list of the command's own single calls. "An empty list is OK with 0, up or not." (LG2.2) Request E6: "INVAL, before all other checks of
+-- any call on words, an empty list's too" (LG2.1)
 unfoldable pub moveListOf : Record → Granules → Direction → GranuleTable → List ℕ → Moved
 moveListOf s g d t l = cond (fitting g t) (listBy (moveOf s g d) 0 t l) (movedBy Inval t t)
 

@@ -14,7 +14,7 @@ unfoldable pub mendedNumber : Mended → ℤ
 mendedNumber (Done c) = pos 0
 mendedNumber (Refused c) = refusalNumber c
 
--- "for each of the six whether it was changed": 1 if it was
+-- "for each of the six whether it was changed" (MD4, CE5): 1 if it was
 unfoldable pub flagWord : Bool → ℕ
 flagWord b = cond b 1 0
 

@@ -1,4 +1,4 @@
--- What 02, E11 requires of the packer, over the definition that the promise of `pack` cites. Assumes nothing.
+-- What request E11 requires of the packer, over the definition that the promise of `pack` cites. Assumes nothing.
 use Prim.Native.Nat.{ℕ, _≤_, _<_}
 use mathlib.Core.Path.{_≡_}
 use mathlib.Core.List.{List, [], _∷_}
@@ -23,12 +23,12 @@ repacked a (shows w e q s) = shows w e (record { pointer = a; fields = remaining
 
 -- the statements of E11
 pub record Packer : Type 0 where
-  -- PK1, PK3: "The new page is exactly what the writer makes, at the page's own minor, from what reader edition 4 shows": W2 to W5 never happen, and what is
-  -- shown always fits
+  -- PK1, PK3: "The new page is exactly what the writer makes, at the page's own minor, from what reader edition 4 shows": W2 to W5 never
+  -- happen, and what is shown always fits
   pub made : (base : ℕ) (page : List ℕ) (w e : ℕ) (q : PlatShown) (s : ℕ → Shown) → readOf 4 base page ≡ shows w e q s → w ≤ 4 →
       packOf base 4096 page ≡ written (a-page (pageOf base w (shownDescription q s)))
-  -- PK4: "A reader of any edition shows the same as before, apart from plat_data, withdrawn fields, and positions of arrays." The page consists of bytes,
-  -- as each lent page does; `n` is the target's length, `p` the new page.
+  -- PK4: "A reader of any edition shows the same as before, apart from plat_data, withdrawn fields, and positions of arrays." The page
+  -- consists of bytes, as each lent page does; `n` is the target's length, `p` the new page.
   pub same : (base n : ℕ) (page p : List ℕ) → ((i : ℕ) → getD page i 0 < 256) → packOf base n page ≡ written (a-page p) →
       (r : ℕ) → readOf r base p ≡ repacked (wordAt 8 p) (readOf r base page)
   -- PK5: "Packing a packed page changes no byte."

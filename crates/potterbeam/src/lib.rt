@@ -283,8 +283,8 @@ pub extern "C" fn pbeam_is_later(a: u64, b: u64) -> bool
 
 // ---- Boot ----
 
-// Cold boot with x0 to x3, on a monitor of at most `maxcpus` CPUs, with `manifest_extent` kept bytes at the start of the page, which is at physical
-// address x3. Returns 0 or the code.
+// Cold boot with x0 to x3 (RULES BT2, BT3), on a monitor of at most `maxcpus` CPUs. `page` is the page at physical address x3, and its first
+// `kept` bytes are kept. Returns 0 or the code.
 #[no_mangle]
 pub extern "C" fn pbeam_cold_boot(
     image: &mut [u64; 5],

@@ -11,7 +11,7 @@ use Rattle.tpm.specs.declared.TpmSession.the-variants.{None, Open}
 use Rattle.tpm.specs.ReturnCodes.{hcallNumber, isSuccess}
 use Rattle.tpm.specs.Comm.{CommStep, commOf}
 
--- ---- the arguments, in 003's order
+-- ---- the arguments, in the order of TP1
 abbrev pub argumentsOf : (operation inbuffer insize outbuffer outsize : ℕ) → Arguments
 argumentsOf operation inbuffer insize outbuffer outsize =
     record { operation = operation; inbuffer = inbuffer; insize = insize; outbuffer = outbuffer; outsize = outsize }

@@ -1,5 +1,5 @@
--- The signing queue as lists, the oldest first. 01: "eight requests waiting: AGAIN; otherwise the request joins the end."; "The oldest
--- request, all its fields, can be asked for; none is a named answer. Freed places are used again." Assumes nothing.
+-- The signing queue as lists, the oldest first. "eight requests waiting: AGAIN; otherwise the request joins the end." (CM7.10, CM7.15);
+-- "The oldest request, all its fields, can be asked for; none is a named answer. Freed places are used again." (SQ3, SQ6) Assumes nothing.
 use Prim.Native.Nat.{ℕ, _-_}
 use mathlib.Core.Bool.{cond}
 use mathlib.Core.List.{List, [], _∷_, _++_, map}

@@ -73,7 +73,7 @@ fn realm_bit(byte: u8) -> u64
     0
 }
 
-// Returns the word with the bit of granule `index` set if `read_u8` is Realm, and cleared otherwise.
+// Returns the word with the bit of granule `index` set if `byte` is Realm, and cleared otherwise.
 pub fn with_bit(w: u64, index: usize, byte: u8) -> u64
     ensures { λ r. ⌜ r ≡ withBit w (index % 64) (realmBit byte) ⌝ }
 {

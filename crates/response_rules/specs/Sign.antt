@@ -12,7 +12,7 @@ use Rattle.queue.specs.declared.Queue.{Queue}
 use Rattle.queue.specs.declared.QueueResult.{QueueResult}
 use Rattle.queue.specs.Queue.{Signed, Lists, oldestRequest, queueNext}
 
--- "signature length not 1 to 104 INVAL; no request AGAIN; eight responses waiting AGAIN;"
+-- "signature length not 1 to 104 INVAL; no request AGAIN; eight responses waiting AGAIN;" (SQ2.1 to SQ2.3)
 unfoldable pub signCode : Lists → List ℕ → Code
 signCode q s =
     fails (eqb (length s) 0) Inval
@@ -25,7 +25,7 @@ signCode q s =
 unfoldable pub signedBy : Request → List ℕ → Signed
 signedBy r s = record { granule = r .granule; ticket = r .ticket; signature = s }
 
--- "otherwise the oldest request becomes the newest response."
+-- "otherwise the oldest request becomes the newest response." (SQ2)
 unfoldable pub signed : Lists → List ℕ → Lists
 signed q s = record { requests = drop 1 (q .requests); responses = q .responses ++ (signedBy (oldestRequest (q .requests)) s ∷ []) }
 

@@ -35,7 +35,7 @@ changesOf g w (call c) = cond (accepted g w (call c)) (ofMove (kindOf (c .id)) (
 changesOf g w (sign s) = []
 changesOf g w (list r d l) = map (change d) (take (doneOf r g d (w .table) l) l)
 
--- ---- 02, E8: "with the same boot .. records": the same call with boot record s
+-- ---- Request E8: "with the same boot .. records" (SH3): the same call with boot record s
 abbrev pub callUnder : Record → Call → Call
 callUnder s c = callWith s (c .id) (c .x1) (c .x2) (c .x3) (c .x4) (c .busy) (c .realmKey) (c .token) (c .publicKey) (c .width)
 

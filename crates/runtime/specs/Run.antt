@@ -48,7 +48,8 @@ unfoldable pub singleCall : Record → Direction → ℕ → Command
 singleCall r Direction.Delegate a = call (callWith r 0xC40001B0 a 0 0 0 false [] [] [] 0)
 singleCall r Direction.Undelegate a = call (callWith r 0xC40001B1 a 0 0 0 false [] [] [] 0)
 
--- 02, E1: "Demand 1 counts each granule of a list as a call of its own": the single calls that a list has done, also if it is refused
+-- Request E1: "Demand 1 counts each granule of a list as a call of its own" (LG4): the single calls that a list has done, also if it is
+-- refused
 unfoldable pub doneCalls : Granules → World → Command → List Command
 doneCalls g w (call c) = []
 doneCalls g w (sign s) = []

@@ -89,7 +89,7 @@ callWith r id x1 x2 x3 x4 busy key token public width =
       width = width;
     }
 
--- a command: a call of the interface, the signer's step with a signature, or delegation of a list of granules (02, E1), which has
+-- a command: a call of the interface, the signer's step with a signature, or delegation of a list of granules (request E1), which has
 -- no function id
 pub data Command : Type 0 where
   call : Call → Command
@@ -101,7 +101,7 @@ pub record Step : Type 0 where
   pub reply : Reply
   pub next : World
 
--- "Any function id not listed below: UNK. The id is compared as 64 bits."
+-- "Any function id not listed below: UNK. The id is compared as 64 bits." (RT3, RT5)
 unfoldable pub kindOf : ℕ → Kind
 kindOf id =
     cond (eqb id 0xC400018F) ForwardError

@@ -1,4 +1,4 @@
--- What a page holds: "Page" is the shared buffer, 4,096 bytes at physical base B. Assumes nothing.
+-- What a page holds: the page is the shared buffer, 4,096 bytes at physical base B (PG1). Assumes nothing.
 use Prim.Native.Nat.{ℕ, _+_, _-_, _*_, _%_, _^_}
 use mathlib.Core.Bool.{Bool, cond}
 use mathlib.Core.List.{List, []}
@@ -58,8 +58,8 @@ pageSectionAt base page k =
     pageSection (countAt k page) (pointerAt k page) (checkAt k page)
     (arrayAt base page (pointerAt k page) (size k (countAt k page)))
 
--- Everything that the page holds of the platform data: the pointer, and the fields that it points at. 02, E7 amends 01's "what it points
--- at is not read".
+-- Everything that the page holds of the platform data: the pointer, and the fields that it points at. Request E7 amended "what it
+-- points at is not read" (ML7).
 pub record PagePlatform : Type 0 where
   pub at : ℕ
   pub found : Scanned

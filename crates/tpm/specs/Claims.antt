@@ -1,4 +1,5 @@
--- What is proved of one call of H_TPM_COMM, without its chain of checks. Quotes are from 02, E9, or 003. Assumes nothing.
+-- What is proved of one call of H_TPM_COMM, without its chain of checks. Quotes are from request E9 or the H_TPM_COMM document. Assumes
+-- nothing.
 use Prim.Native.Nat.{ℕ, _+_, _≤_, _<_}
 use mathlib.Core.Path.{_≡_}
 use mathlib.Core.Bool.{Bool, true, false}
@@ -19,7 +20,8 @@ pub record Within (start size n : ℕ) : Type 0 where
   pub begins : start < n
   pub ends : start + size ≤ n
 
--- "both buffers lie inside guest memory", with sizes that 003 allows: "Must be less than or equal to 4KB", "Must be at least 4KB"
+-- "both buffers lie inside guest memory", with sizes that the H_TPM_COMM document allows: "Must be less than or equal to 4KB", "Must be at
+-- least 4KB" (TP3.3 to TP3.6)
 pub record Placed (a : Arguments) (n : ℕ) : Type 0 where
   pub input : Within (a .inbuffer) (a .insize) n
   pub output : Within (a .outbuffer) (a .outsize) n
@@ -38,7 +40,7 @@ pub record CommAccepts (a : Arguments) (memory response : List ℕ) (forbidden f
   pub allowed : forbidden ≡ false
   pub kind : (a .operation ≡ 2) ⊎ Executes a memory response fault
 
--- ---- why a call returns its code: 02's condition for it, and none of the conditions before it
+-- ---- why a call returns its code: its condition in TP3, and none of the conditions before it
 -- an execute that the platform allows
 pub record Reached (a : Arguments) (forbidden : Bool) : Type 0 where
   pub allowed : forbidden ≡ false

@@ -109,7 +109,7 @@ pub fn same(a: &[u8], b: &[u8]) -> bool
     true
 }
 
-// Prints the name `what`, and whether `waitingItems` equals `expected`.
+// Prints the name `what`, and whether `held` equals `expected`.
 pub fn print_same(what: &[u8], held: &[u8], expected: &[u8]) {
     io::write_all(STDOUT_FILENO, what);
     if same(held, expected) {
@@ -126,8 +126,8 @@ fn wide(byte: u8) -> u64
     byte as u64
 }
 
-// A 64-bit hash: length and bytes as digits in two bases, modulo the prime 2^32 - 5. No power of either base up to the 4,096th is a quotient
-// of two differences of bytes, so two slices of equal length up to 4,096 that differ in one or two bytes differ in both halves.
+// A 64-bit hash: length and bytes as digits in two bases, modulo the prime 2^32 - 5. No power of either base up to the 4,096th is a
+// quotient of two differences of bytes, so two slices of equal length up to 4,096 that differ in one or two bytes differ in both halves.
 pub fn mark(part: &[u8]) -> u64
     ensures { λ r. ⌜ r ≡ markOf (now (part .entry)) ⌝ }
 {

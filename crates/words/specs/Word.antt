@@ -1,4 +1,4 @@
--- Numbers in bytes. 01: "All fields are little-endian (house rule)." Assumes nothing.
+-- Numbers in bytes. "All fields are little-endian (house rule)." (PG2) Assumes nothing.
 use Prim.Native.Nat.{ℕ, zero, suc, _+_, _*_, _/_, _%_, _^_}
 use mathlib.Core.Bool.{Bool, true, cond}
 use mathlib.Core.List.{List, [], _∷_, _++_}

@@ -1,5 +1,5 @@
--- The description that the writer takes, and its checks W3 to W5. 01: "four lists of 64-bit words (2 words an entry, 6 for a console)"; 02,
--- E7: "The writer takes a list of fields". Assumes nothing.
+-- The description that the writer takes, and its checks W3 to W5. "four lists of 64-bit words (2 words an entry, 6 for a console)" (WR1);
+-- request E7: "The writer takes a list of fields" (WR2). Assumes nothing.
 use Prim.Native.Nat.{ℕ, zero, suc, _+_, _*_, _/_, _%_}
 use mathlib.Core.Bool.{Bool}
 use mathlib.Core.List.{List, [], _∷_, _++_}
@@ -53,6 +53,6 @@ withMark (b ∷ bs) = (b ∷ bs) ++ endMark
 unfoldable pub platBytes : Description → List ℕ
 platBytes d = withMark (d .fields)
 
--- W5: "core and arrays exceed 4,096 bytes"; 02, E7: "W5 counts the fields and, if there are any, their end mark"
+-- W5: "core and arrays exceed 4,096 bytes"; request E7: "W5 counts the fields and, if there are any, their end mark"
 unfoldable pub used : ℕ → Description → ℕ
 used v d = core v + 8 * length (joined 4 (d .lists)) + length (platBytes d)

@@ -1,7 +1,7 @@
--- The writer. 01: "The writer takes B, an edition, four lists of 64-bit words (2 words an entry, 6 for a console) and a page. It
+-- The writer. "The writer takes B, an edition, four lists of 64-bit words (2 words an entry, 6 for a console) and a page. It
 -- writes the core, plat_data 0, then the arrays at once after it in section order, and zero everywhere else. An empty list gives
--- 24 zero bytes." 02, E7: "The writer takes a list of fields, places them in list order at once after core and arrays and points at
--- them, or writes pointer 0 if there are none." Assumes nothing.
+-- 24 zero bytes." (WR1, WR6, WR7) Request E7: "The writer takes a list of fields, places them in list order at once after core and arrays
+-- and points at them, or writes pointer 0 if there are none." (WR6, WR8) Assumes nothing.
 use Prim.Native.Nat.{ℕ, _+_, _-_, _*_, _/_, _%_, _^_}
 use mathlib.Core.Bool.{Bool, true, false, cond}
 use mathlib.Core.List.{List, [], _∷_, _++_}
@@ -79,7 +79,7 @@ writeOf base n v d = writerGate (placeOk base n) (editionOk v) (descriptionOk v 
 unfoldable pub descriptionFits : Description → Bool
 descriptionFits d = every 4 (λ k. areWords (d .lists k))
 
--- "as they were described": a list is shown as its words, in order, with their bytes; an empty list as an empty section
+-- "as they were described" (CP5): a list is shown as its words, in order, with their bytes; an empty list as an empty section
 unfoldable pub shownList : List ℕ → Shown
 shownList [] = empty
 shownList (w ∷ ws) = full (w ∷ ws) (bytesOf (w ∷ ws))
