@@ -1,4 +1,4 @@
--- What an accepted call does. Assumes nothing.
+-- What an accepted call of the realm key does (CM4.6). Assumes nothing.
 use Prim.Native.Nat.{ℕ}
 use mathlib.Core.Path.{_≡_}
 use mathlib.Core.List.{List}

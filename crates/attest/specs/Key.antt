@@ -1,4 +1,4 @@
--- 0xC40001B2: realm key. Assumes nothing.
+-- 0xC40001B2: realm key (CM4). Assumes nothing.
 use Prim.Native.Nat.{ℕ}
 use mathlib.Core.List.{List}
 use lib.ListN.{length}

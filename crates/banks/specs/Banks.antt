@@ -14,7 +14,7 @@ use Rattle.codes.specs.declared.Code.the-variants.{Ok, Inval}
 use Rattle.banks.specs.declared.Granule.{Granule}
 use Rattle.banks.specs.declared.Granule.the-variants.{Nothing, At}
 
--- the record, as its 33 words: the number of banks, then base and size of each. The words after the last bank are not read.
+-- the record, as its 33 words: the number of banks, then base and size of each. The words after the last bank are not read. (BN5, CE1)
 abbrev pub Granules : Type 0
 Granules = List ℕ
 
@@ -56,7 +56,7 @@ ascend low (b ∷ bs) = both (follows low (b .base) (b .size)) (ascend (b .base 
 unfoldable pub banksOk : ℕ → List Bank → Bool
 banksOk n bs = both (ltb 0 n) (both (leb n 16) (ascend 0 bs))
 
--- whether the set-up would accept a record's banks
+-- whether the set-up would accept a record's banks (BN5)
 unfoldable pub recordOk : Granules → Bool
 recordOk g = banksOk (bankCount g) (banksOf g)
 
@@ -92,7 +92,7 @@ unfoldable pub placeAmong : (before : ℕ) → List Bank → (addr : ℕ) → Gr
 placeAmong before [] addr = Nothing
 placeAmong before (b ∷ bs) addr = orElse (placeIn before (b .base) (b .size) addr) (placeAmong (before + b .size / 4096) bs addr)
 
--- the granule in the banks of a record
+-- the granule in the banks of a record (BN5 to BN7)
 unfoldable pub bankPlace : Granules → ℕ → Granule
 bankPlace g addr = cond (recordOk g) (placeAmong 0 (banksOf g) addr) Nothing
 
@@ -119,7 +119,7 @@ singleRange start n addr =
     (At ((addr - start) / 4096)) Nothing
 
 -- ---- the set-up
--- bank i of the banks that the reader shows, from the bytes of the array lookup: 16 bytes a bank, base and size
+-- bank i of the banks that the reader shows, from the bytes of the array lookup: 16 bytes a bank, base and size (BN3)
 abbrev pub bankIn : List ℕ → ℕ → Bank
 bankIn shown i = record { base = wordAt (16 * i) shown; size = wordAt (16 * i + 8) shown }
 
@@ -138,7 +138,7 @@ takes shown n =
     both (eqb (length shown % 16) 0)
     (both (banksOk (shownCount shown) (banksIn (shownCount shown) shown)) (eqb (total (banksIn (shownCount shown) shown)) n))
 
--- the code of the set-up
+-- the code of the set-up (BN4)
 unfoldable pub setUpCode : List ℕ → ℕ → Code
 setUpCode shown n = fails (isFalse (takes shown n)) Inval Ok
 

@@ -1,4 +1,4 @@
--- request E2, in plain facts: which banks the set-up accepts. Uses no definition that the code is proved against. Assumes nothing.
+-- BN4 to BN7 in plain facts: which banks the set-up accepts. Uses no definition that the code is proved against. Assumes nothing.
 use Prim.Native.Nat.{ℕ, zero, suc, _+_, _-_, _*_, _/_, _%_, _^_, _≤_, _<_}
 use mathlib.Core.Path.{_≡_}
 use mathlib.Core.List.{List}

@@ -41,12 +41,13 @@ coldGate true true false n k c = minus 3
 coldGate true false m n k c = minus 2
 coldGate false v m n k c = minus 1
 
--- the code of a cold boot: x0 is the CPU, x1 the version offered, x2 the number of CPUs, x3 the base B, most the monitor's maximum, kept K
+-- the code of a cold boot (BT2): x0 is the CPU, x1 the version offered, x2 the number of CPUs, x3 the base B, `maxcpus` the monitor's
+-- maximum, `kept` K
 unfoldable pub coldCode : (state : Record) (x0 x1 x2 x3 maxcpus kept : ℕ) (page : List ℕ) → ℤ
 coldCode s x0 x1 x2 x3 most kept page =
     coldGate (isFresh s) (versionOk x1) (leb x2 most) (ltb x0 x2) (leb kept 4096) (codeIn (readOf 4 x3 page))
 
--- the record after a boot with code c: s if c is 0, otherwise closed
+-- the record after a boot with code c: s if c is 0, otherwise closed (BT6)
 unfoldable pub after : ℤ → Record → Record
 after (pos n) s = s
 after (negsuc n) s = Closed
@@ -55,7 +56,7 @@ after (negsuc n) s = Closed
 unfoldable pub paramsOf : (x1 x2 x3 kept : ℕ) → Params
 paramsOf x1 x2 x3 kept = record { cpus = x2; base = x3; minor = agreed x1; kept = kept }
 
--- the record after a cold boot
+-- the record after a cold boot (BT3, BT6)
 unfoldable pub coldNext : (state : Record) (x0 x1 x2 x3 maxcpus kept : ℕ) (page : List ℕ) → Record
 coldNext s x0 x1 x2 x3 most kept page = after (coldCode s x0 x1 x2 x3 most kept page) (Up (paramsOf x1 x2 x3 kept))
 
@@ -69,6 +70,6 @@ warmCode Fresh x0 = minus 1
 warmCode (Up u) x0 = cpuCode (u .cpus) x0
 warmCode Closed x0 = minus 1
 
--- the record after a warm boot
+-- the record after a warm boot (BT5, BT6)
 unfoldable pub warmNext : Record → ℕ → Record
 warmNext s x0 = after (warmCode s x0) s

@@ -14,7 +14,7 @@ wordsPerEntry zero = 2
 wordsPerEntry (suc zero) = 6
 wordsPerEntry (suc (suc k)) = 2
 
--- the size of c entries, in bytes
+-- the size of c entries, in bytes (ML5)
 unfoldable pub size : ℕ → ℕ → ℕ
 size k c = 8 * (wordsPerEntry k * c)
 
@@ -22,7 +22,8 @@ size k c = 8 * (wordsPerEntry k * c)
 unfoldable pub bankOk : ℕ → ℕ → Bool
 bankOk b s = both (eqb (b % 4096) 0) (both (eqb (s % 4096) 0) (both (ltb 0 s) (leb (b + s) (2 ^ 52))))
 
--- "flags 0", as request E3 amends it: "flags must be zero only when the page's minor is 4 or less" (E5); w is the page's minor
+-- "flags 0", as request E3 amends it: "flags must be zero only when the page's minor is 4 or less" (E5). Here and below, w is the minor of
+-- the page's version.
 unfoldable pub flagsOk : ℕ → ℕ → Bool
 flagsOk w f = either (eqb f 0) (ltb 4 w)
 
@@ -39,7 +40,7 @@ entryRule w k a b z = cond (eqb k 1) (consoleOk w a b z) (bankOk a b)
 unfoldable pub entryOk : ℕ → ℕ → List ℕ → ℕ → Bool
 entryOk w k ws j = entryRule w k (getD ws j 0) (getD ws (j + 1) 0) (getD ws (j + (wordsPerEntry k - 1)) 0)
 
--- each of c entries keeps its rule
+-- each of c entries keeps its rule (E1 to E5)
 unfoldable pub entriesOk : ℕ → ℕ → ℕ → List ℕ → Bool
 entriesOk w k c ws = every c (λ i. entryOk w k ws (wordsPerEntry k * i))
 
@@ -56,7 +57,7 @@ shownWords w zero ws = ws
 shownWords w (suc zero) ws = cond (ltb 4 w) (flagsCleared 5 ws) ws
 shownWords w (suc (suc k)) ws = ws
 
--- the sum of the words
+-- the sum of the words (ML6)
 unfoldable pub sum : List ℕ → ℕ
 sum [] = 0
 sum (w ∷ ws) = w + sum ws

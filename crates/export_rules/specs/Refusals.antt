@@ -36,7 +36,7 @@ pub record ExportsRefuse : Type 0 where
   pub delegation : (d : Direction) (state granules table words : List ℕ) (address : ℕ) →
       let l = moveIn d state granules table words address in
       RefusedCall (l .out) → l ≡ record { out = x0Alone (l .out); table = table; words = words }
-  -- pbeam_delegate_list, pbeam_undelegate_list. Request E1: each granule counts as a single call, so x1 is the number done, and table and
+  -- pbeam_delegate_list, pbeam_undelegate_list. LG3, LG4: each granule counts as a single call, so x1 is the number done, and table and
   -- words are those after these single calls; also for an accepted list
   pub lists : (d : Direction) (state granules table words addresses : List ℕ) →
       let l = moveListIn d state granules table words addresses in

@@ -152,7 +152,7 @@ pub record LentIntoRealm (granules image : List ℕ) (m : Lent) (pa size : ℕ) 
 abbrev pub Oks : List ℕ → Lent → Exported → Type 0
 Oks granules m e = getD (exportLeft granules m e .out) 0 0 ≡ 0
 
--- each accepted export that writes to the page writes to Realm memory; pbeam_call runs one of these exports (`dispatcher-exports`)
+-- each accepted export that writes to the page writes to Realm memory; pbeam_call runs one of these exports (`dispatcher-exports`) (SH4)
 pub record ExportsIntoRealm (granules image : List ℕ) (m : Lent) : Type 0 where
   pub key : (key : List ℕ) (pa size curve : ℕ) → Oks granules m (pbeam-realm-key image key pa size curve) →
       LentIntoRealm granules image m pa size
@@ -165,7 +165,7 @@ pub record ExportsIntoRealm (granules image : List ℕ) (m : Lent) : Type 0 wher
 abbrev whenZero : ℕ → List Change → List Change
 whenZero x0 l = cond (eqb x0 0) l []
 
--- the changes that `out` of an export reports
+-- the changes that `out` of an export reports (BO4)
 unfoldable pub changesTold : List ℕ → Exported → List Change
 changesTold out (pbeam-delegate state address) = whenZero (getD out 0 0) (change Direction.Delegate address ∷ [])
 changesTold out (pbeam-undelegate state address) = whenZero (getD out 0 0) (change Direction.Undelegate address ∷ [])

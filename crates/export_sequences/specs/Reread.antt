@@ -26,7 +26,7 @@ pub data Event : Type 0 where
   boot : Boot → Event
   command : Command → Event
 
--- each command has the boot record at its time, or one that is not up
+-- each command has the boot record at its time, or one that is not up (KB3)
 unfoldable pub InTurn : Record → List Event → Type 0
 InTurn s [] = Unit {0}
 InTurn s (boot b ∷ es) = InTurn (booted s b) es

@@ -1,4 +1,4 @@
--- 0xC40001B4 features, 0xC40001B6 key update, 0xC400018F. Assumes nothing.
+-- 0xC40001B4 features (CM6), 0xC40001B6 key update (CM8), 0xC400018F forward an error (CM1). Assumes nothing.
 use Prim.Native.Nat.{ℕ, _+_, _-_, _^_, min}
 use lib.Dec.{ltb, eqb}
 use Rattle.words.specs.Tests.{either}

@@ -1,5 +1,5 @@
--- For the loops over a page's fields, by cursor. `started`, `nth-place` and `tag-place` (proofs/Fields.antt) prove `shownFrom`, `nthPlace` and `tagPlace`
--- equal to `fieldsShown` (reader/specs/Answer.antt), `nthIn` and `ofTag` (Fields.antt). Assumes nothing.
+-- For the loops over a page's fields, by cursor. `started`, `nth-place` and `tag-place` (proofs/Fields.antt) prove `shownFrom`, `nthPlace`
+-- and `tagPlace` equal to `fieldsShown` (reader/specs/Answer.antt), `nthIn` and `ofTag` (Fields.antt). Assumes nothing.
 use Prim.Native.Nat.{ℕ, zero, suc, _%_}
 use mathlib.Core.Bool.{Bool, true, cond}
 use mathlib.Core.List.{List}
@@ -15,7 +15,7 @@ use Rattle.reader.specs.declared.View.{View}
 unfoldable pub shownFrom : ℕ → List ℕ → List FieldShown
 shownFrom at page = shownFields (fieldsFrom at page)
 
--- the cursor at the first field of platform pointer q; the page's length if there is no pointer or the fields are broken
+-- the cursor at the first field of platform pointer q; the page's length if there is no pointer or the fields are broken (FD10, RD15)
 unfoldable pub startAt : ℕ → List ℕ → ℕ
 startAt q page = cond (eqb q 0) (length page) (cond (isEnded (scanOf (drop (q % 4096) page))) (q % 4096) (length page))
 

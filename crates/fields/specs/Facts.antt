@@ -24,7 +24,7 @@ FieldFacts t n = (t ≡ 0 → ⊥) × (t ≡ 1 → (1 ≤ n) × (n ≤ 32)) × (
 abbrev pub fieldNo : ℕ → List Field → Field
 fieldNo i fs = getD fs i (mkField 0 [])
 
--- a list of fields keeps the rules
+-- a list of fields keeps the rules (F2 to F4)
 pub record FieldsKeep (fs : List Field) : Type 0 where
   pub each : (i : ℕ) → i < length fs → FieldFacts (fieldNo i fs .tag) (length (fieldNo i fs .value))
   -- "Tags 1 to 3 appear at most once; tags from 4 up may repeat" (F4)

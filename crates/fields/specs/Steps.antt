@@ -38,7 +38,7 @@ headAt at bs =
 unfoldable pub fieldPlaceOf : ℕ → ℕ → ℕ → FieldPlace
 fieldPlaceOf t at n = cond (eqb t 3) Withdrawn (Raw t at n)
 
--- the field of a head and the offset after it; n, the slice's length, if there is no field
+-- the field of a head and the offset after it; n, the slice's length, if there is no field (FD10, FD11)
 unfoldable pub fieldStepOf : Head → ℕ → FieldStep
 fieldStepOf head.Broken n = record { field = Nothing; next = n }
 fieldStepOf head.End n = record { field = Nothing; next = n }
@@ -48,7 +48,7 @@ fieldStepOf (head.Field t v m x) n = record { field = fieldPlaceOf t v m; next =
 unfoldable pub stepAt : ℕ → List ℕ → FieldStep
 stepAt at bs = fieldStepOf (headAt at bs) (length bs)
 
--- the tag t is one of 1 to 3 and was seen before
+-- the tag t is one of 1 to 3 and was seen before (F4)
 unfoldable pub isSeen : Seen → ℕ → Bool
 isSeen s t = either (both (eqb t 1) (s .name)) (either (both (eqb t 2) (s .serial)) (both (eqb t 3) (s .console)))
 

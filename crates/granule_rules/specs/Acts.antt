@@ -1,4 +1,4 @@
--- What an accepted call does. Assumes nothing.
+-- What an accepted call of delegate or undelegate does (CM2.6, CM3.6). Assumes nothing.
 use Prim.Native.Nat.{ℕ}
 use mathlib.Core.Path.{_≡_}
 use lib.ListN.{length, getD}

@@ -54,10 +54,10 @@ pub record Books (g : Granules) (t : GranuleTable) (cs : List Change) (after : G
       Names g (length (t .bytes)) i c → NoneNames g (length (t .bytes)) i behind → getD (after .bytes) i 0 ≡ toByte (c .way)
   -- "or the starting byte if none did." (BO2)
   pub none : (i : ℕ) → NoneNames g (length (t .bytes)) i cs → getD (after .bytes) i 0 ≡ getD (t .bytes) i 0
-  -- a byte of the table that no address names is unchanged
+  -- a byte of the table that no address names is unchanged (BO2)
   pub unnamed : (i : ℕ) → ((a : ℕ) → granuleAt g (length (t .bytes)) a ≡ At i → ⊥) → getD (after .bytes) i 0 ≡ getD (t .bytes) i 0
 
--- the same for the count from the words (request E6): at the start and at the end it is a number, not INVAL, and the numbers balance
+-- the same for the count from the words (request E6): at the start and at the end it is a number, not INVAL, and the numbers balance (BO5)
 pub record CountBooks (g : Granules) (t : GranuleTable) (cs : List Change) (after : GranuleTable) : Type 0 where
   pub first : ℕ
   pub final : ℕ

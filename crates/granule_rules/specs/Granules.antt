@@ -87,7 +87,7 @@ moveAt u g d t addr = movedBy (moveCode u g d t addr) (moved g d t addr) t
 abbrev pub fitting : Granules → GranuleTable → Bool
 fitting g t = wordsFit (t .words) (granuleCount g)
 
--- INVAL if the number of words is wrong, otherwise k
+-- INVAL if the number of words is wrong, otherwise k (CM2.1, CM3.1)
 unfoldable pub whenFit : Granules → GranuleTable → Code → Code
 whenFit g t k = fails (isFalse (fitting g t)) Inval k
 
@@ -95,11 +95,11 @@ whenFit g t k = fails (isFalse (fitting g t)) Inval k
 unfoldable pub moveOf : Record → Granules → Direction → GranuleTable → ℕ → Moved
 moveOf s g d t addr = movedBy (whenFit g t (whenUp s (moveCode (bootParams s) g d t addr))) (moved g d t addr) t
 
--- the delegate command
+-- the delegate command (CM2)
 abbrev pub delegateOf : Record → Granules → GranuleTable → ℕ → Moved
 delegateOf s g t addr = moveOf s g Delegate t addr
 
--- the undelegate command
+-- the undelegate command (CM3)
 abbrev pub undelegateOf : Record → Granules → GranuleTable → ℕ → Moved
 undelegateOf s g t addr = moveOf s g Undelegate t addr
 

@@ -1,4 +1,4 @@
--- Request E1: delegate and undelegate over a list of addresses. Assumes nothing.
+-- Delegate and undelegate over a list of addresses (LG1 to LG6, request E1). Assumes nothing.
 use Prim.Native.Nat.{ℕ, suc, _<_, _≤_}
 use mathlib.Core.Path.{_≡_}
 use mathlib.Core.Bool.{false, cond}
@@ -38,7 +38,7 @@ abbrev pub undelegateListOf : Record → Granules → GranuleTable → List ℕ 
 undelegateListOf s g t l = moveListOf s g Undelegate t l
 
 -- ---- for the theorems on lists
--- the number of calls accepted before the first refusal
+-- the number of calls accepted before the first refusal (LG3)
 unfoldable pub doneBy : (GranuleTable → ℕ → Moved) → GranuleTable → List ℕ → ℕ
 doneBy f t [] = 0
 doneBy f t (a ∷ l) = cond (isOk (f t a .answer .code)) (suc (doneBy f (f t a .table) l)) 0
@@ -61,7 +61,7 @@ codeBy f t (a ∷ l) = ifOk (f t a .answer .code) (codeBy f (f t a .table) l) (f
 unfoldable pub codeAt : (GranuleTable → ℕ → Moved) → GranuleTable → List ℕ → ℕ → Code
 codeAt f t l i = f (tableBy f t (take i l)) (getD l i 0) .answer .code
 
--- the number done is the length of the longest prefix of calls that are all OK, and the code is that of the first refused call
+-- the number done is the length of the longest prefix of calls that are all OK, and the code is that of the first refused call (LG1, LG3)
 pub record Longest (f : GranuleTable → ℕ → Moved) (t : GranuleTable) (l : List ℕ) : Type 0 where
   pub within : doneBy f t l ≤ length l
   pub done : (i : ℕ) → i < doneBy f t l → codeAt f t l i ≡ Ok

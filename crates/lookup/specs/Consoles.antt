@@ -17,6 +17,6 @@ unfoldable pub firstFrom : ℕ → ℕ → (ℕ → Bool) → ConsoleFound
 firstFrom zero i f = Nothing
 firstFrom (suc n) i f = cond (f i) (At i) (firstFrom n (i + 1) f)
 
--- the first console of an answer with this name
+-- the first console of an answer with this name (RD12)
 unfoldable pub consoleNamed : ReaderAnswer → List ℕ → ConsoleFound
 consoleNamed a name = firstFrom (countIn a 1) 0 (hasName a name)

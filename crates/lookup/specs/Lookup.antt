@@ -1,4 +1,4 @@
--- Where a section's array is in the page. Assumes nothing.
+-- Where a section's array is in the page (RD12). Assumes nothing.
 use Prim.Native.Nat.{ℕ, _+_}
 use mathlib.Core.Bool.{cond}
 use mathlib.Core.List.{List}

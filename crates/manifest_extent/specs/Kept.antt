@@ -17,7 +17,7 @@ unfoldable pub spanEnd : Span → ℕ
 spanEnd p = p .at + p .len
 
 -- The offset after the array of a section k. 0 if the page has no such array: absent, empty or, in a hand-written view, not within a page
--- of 4,096 bytes.
+-- of 4,096 bytes (KB6).
 unfoldable pub sectionEnd : ℕ → Section → ℕ
 sectionEnd k s = spanEnd (spanOf k s 4096)
 

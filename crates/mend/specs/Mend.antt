@@ -32,8 +32,8 @@ noSection = pageSection 0 0 0 []
 unfoldable pub platLeft : ℕ → ℕ → PagePlatform → PagePlatform
 platLeft e base q = cond (platformOk e base q) q noPlatform
 
--- whether section `k` stays: it neither "breaks a rule by itself, or overlaps one kept before it" (MD2, MD3). `q` and `g` are the parts
--- left before it, `w` is the page's minor.
+-- whether section `k` stays: it neither "breaks a rule by itself, or overlaps one kept before it" (MD2, MD3). `plat` and
+-- `sections` are what is left of the page before it.
 unfoldable pub stays : (minor edition base : ℕ) (plat : PagePlatform) (sections : ℕ → PageSection) (k : ℕ) → Bool
 stays w e base q g k = both (sectionOk w e base k (g k)) (both (clearBefore g k) (platClear q g k))
 
@@ -48,11 +48,11 @@ unfoldable pub keepsSection : (minor edition base : ℕ) (plat : PagePlatform) (
 keepsSection w e base q f k = stays w e base q (afterMending w e base q f k) k
 
 -- ---- of a page
--- "the page's edition" (MD5): the smaller of 4 and its minor
+-- the minor of the page's version
 abbrev pub minorAt : List ℕ → ℕ
 minorAt page = minorOf (versionAt page)
 
--- the edition that the page is read as
+-- "the page's edition" (MD5), which it is read as: the smaller of 4 and its minor
 abbrev pub editionAt : List ℕ → ℕ
 editionAt page = min 4 (minorAt page)
 
@@ -71,7 +71,7 @@ changed base page zero = not (eqb (paddingAt page) 0)
 changed base page (suc zero) = not (platformOk (editionAt page) base (platformAt base page))
 changed base page (suc (suc k)) = both (ltb k (sectionCount (editionAt page))) (not (keepsAt base page k))
 
--- the offset of part `j` in the core; it ends where the next part starts
+-- the offset of part `j` in the core; it ends where the next part starts (MD2)
 unfoldable pub partAt : ℕ → ℕ
 partAt zero = 4
 partAt (suc zero) = 8
@@ -134,6 +134,6 @@ mendOf base page =
     mendNumbers (placeOk base (length page)) (versionOk (versionAt page))
     (changed base page 0 ∷ changed base page 1 ∷ changed base page 2 ∷ changed base page 3 ∷ changed base page 4 ∷ changed base page 5 ∷ [])
 
--- ---- the page at exit: mended, or unchanged if it is refused
+-- ---- the page at exit: mended, or unchanged if it is refused (MD1)
 unfoldable pub mendedPage : ℕ → List ℕ → List ℕ
 mendedPage base page = cond (both (placeOk base (length page)) (versionOk (versionAt page))) (partsZeroed base page) page

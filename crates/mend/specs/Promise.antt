@@ -25,7 +25,7 @@ pub record Mends (base : ℕ) (page : List ℕ) : Type 0 where
   pub version : readOf 4 base page ≡ refused (minus 6) → mendedOf base page ≡ Refused Version
   pub refusal : (c : Refusal) → mendedOf base page ≡ Refused c →
       (readOf 4 base page ≡ refused (refusalNumber c)) × (mendedPage base page ≡ page)
-  -- and no other refusal: a page that the reader refuses with -7 is mended
+  -- and no other refusal: a page that the reader refuses with -7 is mended (MD1, MD7)
   pub damaged : readOf 4 base page ≡ refused (minus 7) → mendedOf base page ≡ Done (mendChanges base page)
   -- MD7: "Afterwards reader edition 4 accepts, shows all that was kept": the pointer with its fields, and each section with the entries and
   -- lookup bytes that the page held before; a part that was not kept is shown as none or empty
@@ -59,7 +59,7 @@ pub record Mends (base : ℕ) (page : List ℕ) : Type 0 where
   -- MD5: "a section that the page's edition lacks is not touched and reports no"
   pub lacks : (k : ℕ) → sectionCount (editionAt page) ≤ k →
       (changed base page (suc (suc k)) ≡ false) × ((i : ℕ) → Yes (ofPart (suc (suc k)) i) → getD (mendedPage base page) i 0 ≡ getD page i 0)
-  -- for each of the six: a changed part is zero bytes in the core, an unchanged part keeps its bytes
+  -- for each of the six: a changed part is zero bytes in the core, an unchanged part keeps its bytes (MD2, MD6)
   pub zeros : (c : Changes) → mendedOf base page ≡ Done c → (j : ℕ) → j < 6 → Yes (changed base page j) → (i : ℕ) → Yes (ofPart j i) →
       getD (mendedPage base page) i 0 ≡ 0
   pub stands : (j : ℕ) → changed base page j ≡ false → (i : ℕ) → Yes (ofPart j i) → getD (mendedPage base page) i 0 ≡ getD page i 0

@@ -55,7 +55,7 @@ changesText c =
     ++ lineText ncohTitle (c .ncoh)
     ++ lineText cohTitle (c .coh)
 
--- `refused` and the code, as in the listing
+-- `refused` and the code, as in the listing (MD8)
 unfoldable pub refusalText : Refusal → List ℕ
 refusalText Place = 114 ∷ 101 ∷ 102 ∷ 117 ∷ 115 ∷ 101 ∷ 100 ∷ 32 ∷ 45 ∷ 53 ∷ 10 ∷ []
 refusalText Version = 114 ∷ 101 ∷ 102 ∷ 117 ∷ 115 ∷ 101 ∷ 100 ∷ 32 ∷ 45 ∷ 54 ∷ 10 ∷ []

@@ -10,7 +10,7 @@ use Rattle.reader.specs.Answer.{Shown, PlatShown, ReaderAnswer, refused, shows,
 use Rattle.writer_rules.specs.Write.{no-page, a-page, pageOf}
 use Rattle.pack.specs.Pack.{shownDescription, stopped, written, packOf, targetAfter}
 
--- the fields in page order, without the withdrawn ones
+-- the fields in page order, without the withdrawn ones (PK1)
 unfoldable pub remaining : List FieldShown → List FieldShown
 remaining [] = []
 remaining (raw t v ∷ fs) = raw t v ∷ remaining fs
@@ -21,7 +21,7 @@ unfoldable pub repacked : ℕ → ReaderAnswer → ReaderAnswer
 repacked a (refused c) = refused c
 repacked a (shows w e q s) = shows w e (record { pointer = a; fields = remaining (q .fields) }) s
 
--- the statements of E11
+-- PK1 to PK7 (request E11)
 pub record Packer : Type 0 where
   -- PK1, PK3: "The new page is exactly what the writer makes, at the page's own minor, from what reader edition 4 shows": W2 to W5 never
   -- happen, and what is shown always fits
@@ -36,7 +36,7 @@ pub record Packer : Type 0 where
       packOf base n p ≡ written (a-page p)
   -- PK2: "Refusals: the reader's codes;
   pub stops : (base n : ℕ) (page : List ℕ) (c : ℤ) → readOf 4 base page ≡ refused c → packOf base n page ≡ stopped c
-  -- then -6 for minor 5 and above;
+  -- then -6 for minor 5 and above (PK2.2)
   pub late : (base n : ℕ) (page : List ℕ) (w e : ℕ) (q : PlatShown) (s : ℕ → Shown) → readOf 4 base page ≡ shows w e q s → 4 < w →
       packOf base n page ≡ stopped (minus 6)
   -- then W1 for the target." Only its length, because the reader has checked B.

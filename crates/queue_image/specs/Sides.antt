@@ -29,7 +29,7 @@ rowsWaiting s w = min 8 (getD w (s .number) 0)
 unfoldable pub rowsIn : Side → List ℕ → List ℕ
 rowsIn s w = part (s .start) (s .width * rowsWaiting s w) w
 
--- adds a row after those that wait
+-- adds a row after those that wait (CE4)
 unfoldable pub rowJoined : Side → List ℕ → List ℕ → List ℕ
 rowJoined s row w = splice (s .number) (suc (rowsWaiting s w) ∷ []) (splice (s .start + s .width * rowsWaiting s w) row w)
 
@@ -37,7 +37,7 @@ rowJoined s row w = splice (s .number) (suc (rowsWaiting s w) ∷ []) (splice (s
 unfoldable pub rowAppended : Side → List ℕ → List ℕ → List ℕ
 rowAppended s row w = cond (ltb (rowsWaiting s w) 8) (rowJoined s row w) w
 
--- drops the oldest row: the rows after it move up, and the freed place is zeroed
+-- drops the oldest row: the rows after it move up, and the freed place is zeroed (CE4)
 unfoldable pub rowDropped : Side → List ℕ → List ℕ
 rowDropped s w =
     splice (s .number) ((rowsWaiting s w - 1) ∷ []) (splice (s .start) (drop (s .width) (rowsIn s w) ++ replicate (s .width) 0) w)

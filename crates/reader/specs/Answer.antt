@@ -39,7 +39,7 @@ minus n = negℤ (pos n)
 unfoldable pub shownSec : ℕ → ℕ → PageSection → Shown
 shownSec w k s = cond (eqb (s .count) 0) empty (full (shownWords w k (wordsIn k s)) (s .bytes))
 
--- section k as it is shown; absent if it is not in edition e or k is above 3
+-- section k as it is shown; absent if it is not in edition e or k is above 3 (RD4, RD10)
 unfoldable pub shown : ℕ → ℕ → ℕ → PageSection → Shown
 shown w e k s = cond (ltb k (sectionCount e)) (shownSec w k s) absent
 
@@ -64,7 +64,7 @@ unfoldable pub judge : (reader base n version minor padding : ℕ) (plat : PageP
 judge r base n v w pad q f =
     readerGate (placeOk base n) (both (editionOk r) (versionOk v)) (rules w (min r w) base pad q f) (allShown w (min r w) q f)
 
--- the answer of a reader of edition r at base B
+-- the answer of a reader of edition r at base B (RD1, RD2)
 unfoldable pub readOf : ℕ → ℕ → List ℕ → ReaderAnswer
 readOf r base page =
     judge r base (length page) (versionAt page) (minorOf (versionAt page)) (paddingAt page) (platformAt base page) (pageSectionAt base page)
@@ -87,7 +87,7 @@ bytesIn absent = []
 bytesIn empty = []
 bytesIn (full ws bs) = bs
 
--- the array bytes of section k of an answer
+-- the array bytes of section k of an answer (RD12)
 unfoldable pub lookIn : ReaderAnswer → ℕ → List ℕ
 lookIn (refused c) k = []
 lookIn (shows w e q s) k = bytesIn (s k)
@@ -102,7 +102,7 @@ entryWord k i j absent = 0
 entryWord k i j empty = 0
 entryWord k i j (full ws bs) = cond (ltb j (wordsPerEntry k)) (getD ws (wordsPerEntry k * i + j) 0) 0
 
--- word j of entry i of section k of an answer
+-- word j of entry i of section k of an answer (RD12)
 unfoldable pub wordIn : ReaderAnswer → ℕ → ℕ → ℕ → ℕ
 wordIn (refused c) k i j = 0
 wordIn (shows w e q s) k i j = entryWord k i j (s k)
@@ -111,7 +111,7 @@ wordIn (shows w e q s) k i j = entryWord k i j (s k)
 unfoldable pub entryCount : ℕ → Shown → ℕ
 entryCount k s = length (bytesIn s) / (8 * wordsPerEntry k)
 
--- the number of entries of section k of an answer
+-- the number of entries of section k of an answer (RD12)
 unfoldable pub countIn : ReaderAnswer → ℕ → ℕ
 countIn (refused c) k = 0
 countIn (shows w e q s) k = entryCount k (s k)

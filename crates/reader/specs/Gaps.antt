@@ -1,4 +1,4 @@
--- The bytes that an edition does not name. Assumes nothing.
+-- The bytes that an edition does not name (RD13, RD14). Assumes nothing.
 use Prim.Native.Nat.{ℕ, min, _+_, _≤_, _<_}
 use mathlib.Core.Bool.{true, false}
 use mathlib.Core.Logic.{_⊎_}

@@ -37,7 +37,7 @@ sectionOf v (suc (suc zero)) = v .ncoh
 sectionOf v (suc (suc (suc zero))) = v .coh
 sectionOf v (suc (suc (suc (suc k)))) = Absent
 
--- Section k of a view on a page of minor w. Entries of a hand-written view that are not within the page count as none.
+-- Section k of a view on a page of minor w. Entries of a hand-written view that are not within the page count as none. (RD15)
 unfoldable pub shownAs : ℕ → ℕ → Section → List ℕ → Shown
 shownAs w k Absent page = absent
 shownAs w k Empty page = empty

@@ -1,4 +1,4 @@
--- What an accepted page shows, field by field. Assumes nothing.
+-- What an accepted page shows, field by field (RD10). Assumes nothing.
 use Prim.Native.Nat.{ℕ, _+_, _-_, _*_, _≤_, _<_, min}
 use mathlib.Core.Path.{_≡_}
 use mathlib.Core.List.{List}

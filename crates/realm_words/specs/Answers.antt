@@ -1,4 +1,4 @@
--- The answers from the words, for n granules. Assumes nothing.
+-- The answers from the words, for n granules (RW5 to RW9). Assumes nothing.
 use Prim.Native.Nat.{ℕ, zero, suc, _+_, _-_, _*_, _/_, _%_, _^_, _≤_, _<_}
 use mathlib.Core.Path.{_≡_}
 use mathlib.Core.Bool.{Bool, true, false, cond}
@@ -87,7 +87,7 @@ sameWords [] (y ∷ ys) = false
 sameWords (x ∷ xs) [] = false
 sameWords (x ∷ xs) (y ∷ ys) = both (eqb x y) (sameWords xs ys)
 
--- whether words and table agree
+-- whether words and table agree (RW6)
 unfoldable pub realmAgreeOf : List ℕ → List ℕ → ℕ → Agreement
 realmAgreeOf t ws n = cond (bothFit t ws n) (cond (sameWords ws (realmWords t)) Agreement.Yes Agreement.No) Agreement.Inval
 
@@ -96,7 +96,7 @@ pub record Built : Type 0 where
   pub done : Bool
   pub words : List ℕ
 
--- the build call
+-- the build call (RW6)
 unfoldable pub realmBuildOf : List ℕ → List ℕ → ℕ → Built
 realmBuildOf t ws n = cond (bothFit t ws n) (record { done = true; words = realmWords t }) (record { done = false; words = ws })
 

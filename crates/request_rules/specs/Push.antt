@@ -1,4 +1,4 @@
--- 0xC40001B5, push: a request in a buffer. Assumes nothing.
+-- 0xC40001B5, push: a request in a buffer (CM7). Assumes nothing.
 use Prim.Native.Nat.{ℕ}
 use mathlib.Core.List.{List, [], _∷_, _++_}
 use lib.ListN.{length}

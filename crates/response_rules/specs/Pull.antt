@@ -1,4 +1,4 @@
--- 0xC40001B5, pull: the oldest response into a buffer. Assumes nothing.
+-- 0xC40001B5, pull: the oldest response into a buffer (CM7). Assumes nothing.
 use Prim.Native.Nat.{ℕ, _+_}
 use mathlib.Core.List.{List, _++_}
 use lib.ListN.{length, drop}

@@ -1,4 +1,4 @@
--- The signer's own step. Assumes nothing.
+-- The signer's own step (SQ2, SQ4). Assumes nothing.
 use Prim.Native.Nat.{ℕ}
 use mathlib.Core.List.{List, [], _∷_, _++_}
 use lib.ListN.{length, drop}
@@ -21,7 +21,7 @@ signCode q s =
     (fails (leb 8 (length (q .responses))) Again
     Ok)))
 
--- the response to a request; rec_granule and req_ticket never change
+-- the response to a request; rec_granule and req_ticket never change (SQ2, SQ5)
 unfoldable pub signedBy : Request → List ℕ → Signed
 signedBy r s = record { granule = r .granule; ticket = r .ticket; signature = s }
 

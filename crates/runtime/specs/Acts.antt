@@ -14,8 +14,8 @@ use Rattle.signing.specs.Signing.{signingOf}
 use Rattle.runtime.specs.Step.{World, withPage, withTable, withSession, withQueue, Call, callOf}
 use Rattle.runtime.specs.declared.Reply.the-variants.{Forward, Back}
 
--- For each function id of 01, a call returns the answer of that command, with the registers in the order of docs/RULES.md, and changes only
--- the part of the world that the command changes.
+-- For each function id of docs/RULES.md, chapter 14, a call returns the answer of that command, with the registers in the order of
+-- docs/RULES.md, and changes only the part of the world that the command changes.
 pub record CallActed (g : Granules) (w : World) (c : Call) : Type 0 where
   pub forwards : c .id ≡ 0xC400018F → callOf g w c ≡ record { reply = Forward (c .x1); next = w }
   pub delegates : c .id ≡ 0xC40001B0 → (m : Moved) → m ≡ delegateOf (c .state) g (w .table) (c .x1) →

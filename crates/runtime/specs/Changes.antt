@@ -50,7 +50,7 @@ pub record IntoRealm (s : Record) (g : Granules) (w : World) (pa size : ℕ) : T
   pub buffer : BufferIn (bootParams s) (w .page) pa size
   pub realm : RealmAt g (bootParams s .base) (w .table)
 
--- each accepted command that writes to the page writes to Realm memory: realm key, hunk of the platform token, response or public key
+-- each accepted command that writes to the page writes to Realm memory: realm key, hunk of the platform token, response or public key (SH4)
 pub record WritesIntoRealm (s : Record) (g : Granules) (w : World) (c : Call) : Type 0 where
   pub key : c .id ≡ 0xC40001B2 → accepted g w (call (callUnder s c)) ≡ true → IntoRealm s g w (c .x1) (c .x2)
   pub hunk : c .id ≡ 0xC40001B3 → accepted g w (call (callUnder s c)) ≡ true → IntoRealm s g w (c .x1) (c .x2)

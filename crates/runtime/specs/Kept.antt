@@ -9,7 +9,7 @@ use Rattle.boot.specs.declared.Record.{Record}
 use Rattle.codes.specs.Codes.{isUp}
 use Rattle.runtime.specs.Step.{Call, Command, call, sign, list}
 
--- the first n bytes of the page and its length are unchanged
+-- the first n bytes of the page and its length are unchanged (KB3)
 pub record KeptTo (n : ℕ) (page after : List ℕ) : Type 0 where
   pub bytes : take n after ≡ take n page
   pub whole : length after ≡ length page

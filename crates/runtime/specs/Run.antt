@@ -131,7 +131,7 @@ makes g w (call c) = []
 makes g w (sign s) = cond (accepted g w (sign s)) (map (λ (q : Request). signedBy q s) (take 1 (w .queue .requests))) []
 makes g w (list r d l) = []
 
--- what identifies a request and its response, unchanged from push to pull: rec_granule and req_ticket
+-- what identifies a request and its response, unchanged from push to pull: rec_granule and req_ticket (SQ5)
 pub record Name : Type 0 where
   pub granule : ℕ
   pub ticket : ℕ

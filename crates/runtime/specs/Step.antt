@@ -30,7 +30,7 @@ use Rattle.runtime.specs.declared.Reply.{Reply}
 use Rattle.runtime.specs.declared.Reply.the-variants.{Forward, Back}
 use Rattle.runtime.specs.declared.StepResult.{StepResult}
 
--- everything that a command may change. No command changes the boot record or the granule record.
+-- everything that a command may change. No command changes the boot record or the granule record. (BT7, GE5)
 pub record World : Type 0 where
   pub page : List ℕ
   pub table : GranuleTable
@@ -188,7 +188,7 @@ pub record CallExit : Type 0 where
 abbrev pub callExit : StepResult → List ℕ → List ℕ → List ℕ → CallExit
 callExit r page table words = record { reply = r .reply; page = page; table = table; words = words; session = r .session; queue = r .queue }
 
--- only the platform token uses the session
+-- only the platform token uses the session (RT10)
 abbrev pub usesSession : Kind → Bool
 usesSession ForwardError = false
 usesSession Delegate = false
@@ -200,7 +200,7 @@ usesSession TokenSigning = false
 usesSession KeyUpdate = false
 usesSession Unlisted = false
 
--- only token signing uses the queue
+-- only token signing uses the queue (RT10)
 abbrev pub usesQueue : Kind → Bool
 usesQueue ForwardError = false
 usesQueue Delegate = false

@@ -13,11 +13,11 @@ use Rattle.entries.specs.Entry.{size}
 unfoldable pub placeOk : ℕ → ℕ → Bool
 placeOk base n = both (eqb n 4096) (both (ltb 0 base) (both (eqb (base % 4096) 0) (leb base (2 ^ 52 - 4096))))
 
--- Offset 0: version, 4 bytes.
+-- offset 0: version, 4 bytes (ML1)
 abbrev pub versionAt : List ℕ → ℕ
 versionAt page = u32At 0 page
 
--- Offset 4: padding, 4 bytes, zero.
+-- offset 4: padding, 4 bytes, zero (ML1)
 abbrev pub paddingAt : List ℕ → ℕ
 paddingAt page = u32At 4 page
 
@@ -25,11 +25,11 @@ paddingAt page = u32At 4 page
 abbrev pub countAt : ℕ → List ℕ → ℕ
 countAt k page = wordAt (16 + 24 * k) page
 
--- the pointer of section k
+-- the pointer of section k (ML3)
 abbrev pub pointerAt : ℕ → List ℕ → ℕ
 pointerAt k page = wordAt (24 + 24 * k) page
 
--- the checksum of section k
+-- the checksum of section k (ML3)
 abbrev pub checkAt : ℕ → List ℕ → ℕ
 checkAt k page = wordAt (32 + 24 * k) page
 
@@ -72,6 +72,6 @@ pagePlatform q s = record { at = q; found = s }
 unfoldable pub foundAt : ℕ → List ℕ → ℕ → Scanned
 foundAt base page q = cond (eqb q 0) (ended [] 0) (cond (inPage base q 1) (scanOf (drop (q - base) page)) broken)
 
--- Offset 8: plat_data pointer, with its fields.
+-- offset 8: the plat_data pointer, with its fields (ML1)
 unfoldable pub platformAt : ℕ → List ℕ → PagePlatform
 platformAt base page = pagePlatform (wordAt 8 page) (foundAt base page (wordAt 8 page))

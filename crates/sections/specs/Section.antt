@@ -46,7 +46,7 @@ pub record Extent : Type 0 where
 unfoldable pub extent : ℕ → PageSection → Extent
 extent k s = record { from = s .ptr; to = s .ptr + size k (s .count) }
 
--- two ranges share no byte; they may touch
+-- two ranges share no byte; they may touch (S5, RD9)
 unfoldable pub apart : Extent → Extent → Bool
 apart a b = either (leb (a .to) (b .from)) (leb (b .to) (a .from))
 
@@ -54,7 +54,7 @@ apart a b = either (leb (a .to) (b .from)) (leb (b .to) (a .from))
 unfoldable pub clearBefore : (ℕ → PageSection) → ℕ → Bool
 clearBefore f i = every i (λ j. apart (extent i (f i)) (extent j (f j)))
 
--- the addresses of the fields through their end mark; none without a pointer
+-- the addresses of the fields through their end mark; none without a pointer (FD4, FD5)
 unfoldable pub platExtent : PagePlatform → Extent
 platExtent q = record { from = q .at; to = q .at + taken (q .found) }
 

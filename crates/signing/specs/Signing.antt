@@ -1,4 +1,4 @@
--- 0xC40001B5: token signing. Assumes nothing.
+-- 0xC40001B5: token signing (CM7). Assumes nothing.
 use Prim.Native.Nat.{ℕ}
 use mathlib.Core.Bool.{Bool, true, false, cond}
 use mathlib.Core.List.{List}

@@ -14,7 +14,7 @@ use Rattle.state_blobs.specs.declared.CollectVerdict.the-variants as ver
 use Rattle.state_blobs.specs.declared.Collector.{Collector}
 use Rattle.state_blobs.specs.declared.CollectResult.{CollectResult}
 
--- a collector that holds nothing
+-- a collector that holds nothing (CE1)
 unfoldable pub newCollector : Collector
 newCollector = record { accepted = false; total = 0; held = 0 }
 
@@ -73,6 +73,6 @@ unfoldable pub collectGot : Got → Collector → List ℕ → Outcome
 collectGot (got p) c b = offerBytes c (p .total) (p .bytes) b
 collectGot (rejected why) c b = unchanged why c b
 
--- the outcome for a message, with the largest size of data: the reader's refusals come first
+-- the outcome for a message, with the largest size of data: the reader's refusals come first (SB4)
 unfoldable pub collect : ℕ → List ℕ → Collector → List ℕ → Outcome
 collect largest m c b = collectGot (readResponse largest m) c b

@@ -105,7 +105,7 @@ pub record Message : Type 0 where
 abbrev pub notWritten : StateRefusal → List ℕ → Message
 notWritten why b = record { answer = wrote.Refused why; buffer = b }
 
--- a message written at the start of a buffer, or no room
+-- a message written at the start of a buffer, or no room (SB6)
 unfoldable pub writeMessage : List ℕ → List ℕ → Message
 writeMessage vs b =
     cond (ltb (length b) (length vs)) (notWritten refusal.NoRoom b)
@@ -115,7 +115,7 @@ writeMessage vs b =
 unfoldable pub writeRequest : StateRequest → List ℕ → Message
 writeRequest q b = writeMessage (requestMessage q) b
 
--- a response written: first the check of the largest size, then the room
+-- a response written: first the check of the largest size, then the room (SB4)
 unfoldable pub writeResponse : ℕ → StateResponse → List ℕ → Message
 writeResponse largest p b =
     cond (ltb largest (length (p .bytes))) (notWritten refusal.AboveLargest b)

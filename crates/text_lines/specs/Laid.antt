@@ -1,4 +1,4 @@
--- A text written into a lent slice as far as it fits. Assumes nothing.
+-- A text written into a lent slice as far as it fits (LS6). Assumes nothing.
 use Prim.Native.Nat.{ℕ, _+_, _≤_, min}
 use mathlib.Core.Path.{_≡_}
 use mathlib.Core.List.{List}
@@ -15,8 +15,8 @@ pub record LaidOver (at : ℕ) (vs s : List ℕ) (r : ℕ) (t : List ℕ) : Type
   pub same : length t ≡ length s
   pub bytes : t ≡ layClipped at vs s
 
--- The text `vs` was written over `s` from its start, as far as it fits: the result is `t`. `r` is the length of the whole text, even if it does not
--- fit, and is at most `listingRoom`.
+-- The text `vs` was written over `s` from its start, as far as it fits: the result is `t`. `r` is the length of the whole text, even if it
+-- does not fit, and is at most `listingRoom`.
 pub record Listed (vs s : List ℕ) (r : ℕ) (t : List ℕ) : Type 0 where
   pub long : r ≡ length vs
   pub most : r ≤ listingRoom

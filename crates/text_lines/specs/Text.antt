@@ -56,7 +56,7 @@ absentText = 97 ∷ 98 ∷ 115 ∷ 101 ∷ 110 ∷ 116 ∷ []
 unfoldable pub refusedText : List ℕ
 refusedText = 114 ∷ 101 ∷ 102 ∷ 117 ∷ 115 ∷ 101 ∷ 100 ∷ 32 ∷ []
 
--- the name of section k: `dram`, `console`, `ncoh`, `coh`
+-- the name of section k: `dram`, `console`, `ncoh`, `coh` (LS2)
 unfoldable pub titleText : ℕ → List ℕ
 titleText zero = 100 ∷ 114 ∷ 97 ∷ 109 ∷ []
 titleText (suc zero) = 99 ∷ 111 ∷ 110 ∷ 115 ∷ 111 ∷ 108 ∷ 101 ∷ []
@@ -77,7 +77,7 @@ places n = placesIn n n
 unfoldable pub decimal : ℕ → List ℕ
 decimal n = digits 10 (places n) n
 
--- a number in decimal, with `-` if it is negative
+-- a number in decimal, with `-` if it is negative (LS5)
 unfoldable pub signedDecimal : ℤ → List ℕ
 signedDecimal (pos n) = decimal n
 signedDecimal (negsuc n) = dash ++ decimal (suc n)
@@ -87,7 +87,7 @@ signedDecimal (negsuc n) = dash ++ decimal (suc n)
 unfoldable pub hexText : ℕ → List ℕ
 hexText w = zeroX ++ digits 16 16 w
 
--- a byte: two hex digits
+-- a byte: two hex digits (LS2)
 unfoldable pub byteText : ℕ → List ℕ
 byteText b = digits 16 2 b
 
@@ -95,7 +95,7 @@ byteText b = digits 16 2 b
 unfoldable pub nameByte : ℕ → ℕ → List ℕ
 nameByte w i = byteText (getD (leBytes 8 w) i 0)
 
--- the name of a console: its 8 bytes
+-- the name of a console: its 8 bytes (LS3)
 unfoldable pub nameText : ℕ → List ℕ
 nameText w = joined 8 (nameByte w)
 
@@ -149,7 +149,7 @@ platText p = platformText ++ pointerText p ++ newline
 unfoldable pub valueByte : List ℕ → ℕ → List ℕ
 valueByte v i = space ++ byteText (getD v i 0)
 
--- all bytes of a value, each after a space
+-- all bytes of a value, each after a space (LS2, LS4)
 unfoldable pub valueText : List ℕ → List ℕ
 valueText v = joined (length v) (valueByte v)
 

@@ -1,4 +1,4 @@
--- When calls on the platform token are accepted, and what the lookup of a challenge shows. Assumes nothing.
+-- When calls on the platform token are accepted, and what the lookup of a challenge shows (CM5). Assumes nothing.
 use Prim.Native.Nat.{ℕ, _-_, _≤_}
 use mathlib.Core.Path.{_≡_}
 use mathlib.Core.Bool.{Bool, true, false}

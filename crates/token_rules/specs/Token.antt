@@ -1,4 +1,4 @@
--- 0xC40001B3: platform token, and the lookup of its challenge. Assumes nothing.
+-- 0xC40001B3: platform token, and the lookup of its challenge (CM5). Assumes nothing.
 use Prim.Native.Nat.{ℕ, _+_, _-_, min}
 use mathlib.Core.Bool.{Bool, true, false, cond, not}
 use mathlib.Core.List.{List, []}
@@ -70,7 +70,7 @@ beginOf s c = cond (eqb c 0) (sentOf s) 0
 unfoldable pub hunkOf : List ℕ → ℕ → ℕ → ℕ
 hunkOf token i size = min size (length token - i)
 
--- the rest after that hunk
+-- the rest after that hunk (CM5.10)
 unfoldable pub restOf : List ℕ → ℕ → ℕ → ℕ
 restOf token i size = length token - i - hunkOf token i size
 
@@ -97,7 +97,7 @@ sendOf at token i size page =
       session = nextSession token i size;
     }
 
--- a refusal: zeros in x1 and x2, page and session unchanged
+-- a refusal: zeros in x1 and x2, page and session unchanged (GE4)
 unfoldable pub keeps : Code → List ℕ → Session → TokenStep
 keeps k page s = record { answer = answerOf k 0 0; page = page; session = s }
 
@@ -117,7 +117,7 @@ tokenOf r page s busy token pa size c =
 unfoldable pub challengeOf : (state : Record) (page : List ℕ) (pa size csize : ℕ) → List ℕ
 challengeOf r page pa size c = ifOk (bufferCode r (length page) false pa size c) (part (placeOf (bootParams r) pa) c page) []
 
--- the challenge's place in the page; offset 0 and length 0 if a check fails
+-- the challenge's place in the page; offset 0 and length 0 if a check fails (CM5.16)
 unfoldable pub challengeSpan : (state : Record) (page : List ℕ) (pa size csize : ℕ) → Span
 challengeSpan r page pa size c = ifOk (bufferCode r (length page) false pa size c) (spanAt (placeOf (bootParams r) pa) c) noSpan
 

@@ -28,7 +28,7 @@ pub record Placed (a : Arguments) (n : ℕ) : Type 0 where
   pub short : a .insize ≤ 4096
   pub wide : 4096 ≤ a .outsize
 
--- an execute with both buffers in place, no fault of the platform, and room for the response
+-- an execute with both buffers in place, no fault of the platform, and room for the response (TP3.3 to TP3.7)
 pub record Executes (a : Arguments) (memory response : List ℕ) (fault : Bool) : Type 0 where
   pub execute : a .operation ≡ 1
   pub placed : Placed a (length memory)
@@ -77,6 +77,7 @@ pub record Unchanged (s : TpmSession) (memory : List ℕ) (t : CommStep) : Type 
   pub memory-same : t .memory ≡ memory
 
 -- r4 is the length of the response, the session is open, the response is at address `at`, and every byte before and after it is unchanged
+-- (TP4)
 pub record Written (at : ℕ) (memory response : List ℕ) (t : CommStep) : Type 0 where
   pub told : t .r4 ≡ length response
   pub session : t .session ≡ Open

@@ -19,7 +19,7 @@ use Rattle.tpm.specs.ReturnCodes.{isSuccess, returnsIf}
 unfoldable pub isExecute : ℕ → Bool
 isExecute operation = eqb operation 1
 
--- operation 2
+-- operation 2 (TP1)
 unfoldable pub isClose : ℕ → Bool
 isClose operation = eqb operation 2
 
@@ -60,7 +60,7 @@ callChecks a forbidden execute =
 unfoldable pub requestCode : Arguments → ℕ → Bool → ReturnCode
 requestCode a n forbidden = callChecks a forbidden (buffersChecks a n Success)
 
--- all checks
+-- all checks (TP3)
 unfoldable pub commCode : Arguments → List ℕ → List ℕ → Bool → Bool → ReturnCode
 commCode a memory response forbidden fault = callChecks a forbidden (buffersChecks a (length memory) (resourceCheck a response fault))
 
@@ -107,6 +107,6 @@ hasRequest a n forbidden = both (isExecute (a .operation)) (isSuccess (requestCo
 unfoldable pub tpmRequest : Arguments → List ℕ → Bool → List ℕ
 tpmRequest a memory forbidden = cond (hasRequest a (length memory) forbidden) (part (a .inbuffer) (a .insize) memory) []
 
--- offset and length of the request in a memory of `n` bytes; both 0 if there is no request
+-- offset and length of the request in a memory of `n` bytes; both 0 if there is no request (TP7)
 unfoldable pub tpmRequestSpan : Arguments → ℕ → Bool → Span
 tpmRequestSpan a n forbidden = cond (hasRequest a n forbidden) (spanAt (a .inbuffer) (a .insize)) noSpan

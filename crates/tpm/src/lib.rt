@@ -8,7 +8,7 @@ ghost use Rattle.tpm.specs.declared.TpmSession.the-variants.{None};
 ghost use Rattle.tpm.specs.ReturnCodes.{hcallNumber, isSuccess};
 ghost use Rattle.tpm.specs.Comm.{bufferChecks, buffersChecks, requestCode, stepLeft, commOf, tpmRequest, tpmRequestSpan};
 
-// The return codes of H_TPM_COMM, without their H_ (RULES TP3).
+// The return codes of H_TPM_COMM, without their H_ (TP3).
 pub enum ReturnCode {
     Success,
     Function,
@@ -42,7 +42,7 @@ pub struct CommResult {
     pub session: TpmSession,
 }
 
-// The arguments of H_TPM_COMM, r4 to r8 (RULES TP1): the operation (1 execute, 2 close), address and size of the request, address and size
+// The arguments of H_TPM_COMM, r4 to r8 (TP1): the operation (1 execute, 2 close), address and size of the request, address and size
 // of the output.
 pub struct Arguments {
     pub operation: u64,

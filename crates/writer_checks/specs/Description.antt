@@ -11,7 +11,7 @@ use Rattle.versions.specs.Edition.{sectionCount, core}
 use Rattle.entries.specs.Entry.{wordsPerEntry, entriesOk}
 use Rattle.fields.specs.Fields.{scanOf, describable, endMark}
 
--- a description: the words of each section's list, and the bytes of the fields without an end mark
+-- a description: the words of each section's list, and the bytes of the fields without an end mark (WR1, WR2)
 pub record Description : Type 0 where
   pub lists : ℕ → List ℕ
   pub fields : List ℕ
@@ -44,7 +44,7 @@ descriptionOk v d = both (listsOk v (d .lists)) (describable (scanOf (d .fields)
 unfoldable pub laterSectionsEmpty : ℕ → (ℕ → List ℕ) → Bool
 laterSectionsEmpty v l = every 4 (λ k. either (ltb k (sectionCount v)) (eqb (length (l k)) 0))
 
--- the fields followed by their end mark; [] if there are no fields
+-- the fields followed by their end mark; [] if there are no fields (WR8)
 unfoldable pub withMark : List ℕ → List ℕ
 withMark [] = []
 withMark (b ∷ bs) = (b ∷ bs) ++ endMark

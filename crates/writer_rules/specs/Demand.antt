@@ -15,7 +15,7 @@ use Rattle.writer_checks.specs.Description.{Description}
 use Rattle.writer_rules.specs.Unrefused.{NoneWithdrawn}
 use Rattle.writer_rules.specs.Write.{a-page, writeOf, descriptionFits, described, platDescribed}
 
--- the statements of demand 3
+-- CP1 to CP7, also called demand 3
 pub record Demand3 : Type 0 where
   -- CP1: "For every page, every base address and any two reader editions from 1 to 4: if the newer reader accepts, the older accepts
   -- too. It then shows the same version and platform pointer, and the same sections, less those that came after its edition."

@@ -16,7 +16,7 @@ use Rattle.reader.specs.Answer.{Shown, absent, empty, full, PlatShown}
 use Rattle.fields.specs.Fields.{scanOf, fieldsDescribed, shownFields}
 use Rattle.writer_checks.specs.Description.{Description, descriptionOk, laterSectionsEmpty, platBytes, used}
 
--- the word that makes a sum 0 modulo 2^64
+-- the word that makes a sum 0 modulo 2^64 (ML6)
 unfoldable pub neg : ℕ → ℕ
 neg x = (2 ^ 64 - x % 2 ^ 64) % 2 ^ 64
 
@@ -27,7 +27,7 @@ descriptor k p (w ∷ ws) =
     let c = length (w ∷ ws) / wordsPerEntry k in
     c ∷ p ∷ neg (c + p + sum (w ∷ ws)) ∷ []
 
--- the address of the array of section `k`: after the core and the first `k` arrays
+-- the address of the array of section `k`: after the core and the first `k` arrays (WR7)
 unfoldable pub arrayAddress : ℕ → ℕ → (ℕ → List ℕ) → ℕ → ℕ
 arrayAddress base v l k = base + (core v + 8 * length (joined k l))
 
@@ -40,7 +40,7 @@ unfoldable pub pointTo : ℕ → List ℕ → ℕ
 pointTo a [] = 0
 pointTo a (b ∷ bs) = a
 
--- the fields start where a fifth array would
+-- the fields start where a fifth array would (WR6, WR8)
 unfoldable pub platWord : ℕ → ℕ → Description → ℕ
 platWord base v d = pointTo (arrayAddress base v (d .lists) 4) (d .fields)
 
@@ -48,7 +48,7 @@ platWord base v d = pointTo (arrayAddress base v (d .lists) 4) (d .fields)
 unfoldable pub coreWords : ℕ → ℕ → Description → List ℕ
 coreWords base v d = v ∷ platWord base v d ∷ joined (sectionCount v) (descriptorAt base v (d .lists))
 
--- the bytes, then zero up to the end of the page
+-- the bytes, then zero up to the end of the page (WR6)
 unfoldable pub filled : List ℕ → List ℕ
 filled bs = bs ++ replicate (4096 - length bs) 0
 
