@@ -61,7 +61,7 @@ def bank_ok(base, size):
 
 
 def faults(banks):
-    """02, E2: what the set-up has against banks, but for the table's length."""
+    """Request E2: what the set-up has against banks, but for the table's length."""
     pairs = list(zip(banks, banks[1:]))
     return [name for name, fails in (
         ("no bank", not banks), ("more than 16", len(banks) > MOST),
@@ -85,17 +85,17 @@ def granules_of(record):
 
 
 def needed(n):
-    """02, E6: the number of realm words for n granules: ceil(n / 64)."""
+    """Request E6: the number of realm words for n granules: ceil(n / 64)."""
     return n // 64 + (n % 64 > 0)
 
 
 def fit(record, lent):
-    """02, E6: whether realm words are as many as the record's granules need."""
+    """Request E6: whether realm words are as many as the record's granules need."""
     return len(lent) == needed(granules_of(record))
 
 
 def realm_words(table):
-    """02, E6: the words of a table. Granule i is bit i mod 64 of word i / 64, set if its byte is
+    """Request E6: the words of a table. Granule i is bit i mod 64 of word i / 64, set if its byte is
     1; the spare bits are 0."""
     lent = [0] * needed(len(table))
     for i, byte in enumerate(table):
@@ -143,7 +143,7 @@ def meant(record, n, address):
 
 
 def granule_fails(record, n, address):
-    """02, E2: the checks of a granule's address, and whether each fails; BAD_ADDR if one does."""
+    """Request E2: the checks of a granule's address, and whether each fails; BAD_ADDR if one does."""
     banks = banks_of(record)
     return {"banks": banks is None or faults(banks) != [],
             "table": sum(size // 4096 for _, size in banks or []) != n,

@@ -34,7 +34,7 @@ Case = namedtuple("Case", "text record steps answers")          # answers as run
 FRESH, UP, CLOSED = Record("fresh", 0, 0, 0), Record("up", 8, B, 4), Record("closed", 0, 0, 0)
 
 
-# ---- Boot, from 01's and 02's text in their order. All arithmetic is on plain numbers. ----
+# ---- Boot, from docs/RULES.md in its order. All arithmetic is on plain numbers. ----
 
 def code_of(record, step):
     """The code of the first check that fails, 0 if none does."""
@@ -192,7 +192,7 @@ def manifests():
 
 
 def fields():
-    """02, E7: cold boot reads the fields of the platform data by the new rules"""
+    """Request E7: cold boot reads the fields of the platform data by the new rules"""
     for minor in (1, 4, 9):
         page = full(minor, fill=JUNK).facts(0x703, NAME, SERIAL, CHOICE, field(9), field(9, b"ab"))
         add([0, 0], f"name, serial, console and two more, 0.{minor} page", cold(page), warm(7),
@@ -239,7 +239,7 @@ def spoiled(i, *codes):
 
 
 def several_at_once():
-    """Several checks broken together: the first in 01's order answers"""
+    """Several checks broken together: the first in the order of docs/RULES.md answers"""
     assert all(code_of(FRESH, spoiled(i, code)[0]) == code for code in WAYS for i in range(3))
     for n, (one, two) in enumerate(combinations(WAYS, 2)):
         for i in (n, n + 1):

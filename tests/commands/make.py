@@ -38,9 +38,9 @@ CODES = {"OK": 0, "UNK": -1, "BAD_ADDR": -2, "BAD_PAS": -3, "INVAL": -5}
 GRANULE_CHECKS = {"words": "INVAL", "not up": "UNK", "banks": "BAD_ADDR", "table": "BAD_ADDR",
                   "address": "BAD_ADDR", "off": "BAD_ADDR", "byte": "BAD_PAS"}
 SHARED_CHECKS = {"words": "INVAL", "not up": "UNK", "banks": "BAD_ADDR", "table": "BAD_ADDR",
-                 "address": "BAD_ADDR", "off": "BAD_ADDR", "shared": "BAD_ADDR",   # 02, E8
+                 "address": "BAD_ADDR", "off": "BAD_ADDR", "shared": "BAD_ADDR",   # request E8
                  "byte": "BAD_PAS"}
-CHECKS = {                              # the checks of each command in 01's order, with the code
+CHECKS = {                              # the checks of each command in the order of docs/RULES.md, with the code
     FORWARD: {}, DELEGATE: GRANULE_CHECKS, UNDELEGATE: SHARED_CHECKS,
     KEY: {"not up": "UNK", "length": "UNK", "outside": "BAD_ADDR", "too long": "INVAL",
           "curve": "INVAL", "key": "UNK"},
@@ -51,10 +51,10 @@ Case = namedtuple("Case", "text state cpus base minor kept id x1 x2 x3 record m 
 Answer = namedtuple("Answer", "code registers told table page lent")
 
 
-# ---- The commands, from 01's and 02's text. All arithmetic is on plain numbers. ----
+# ---- The commands, from docs/RULES.md. All arithmetic is on plain numbers. ----
 
 def failing(case):
-    """Every check that fails, in 01's order. The first of them gives the answer."""
+    """Every check that fails, in the order of docs/RULES.md. The first of them gives the answer."""
     end, index = case.base + PAGE, meant(case.record, len(case.table), case.x1)
     fails = granule_fails(case.record, len(case.table), case.x1) | {
         "words": not fit(case.record, case.lent),
@@ -372,7 +372,7 @@ def key_updates():
 
 
 def together():
-    """Several checks fail: the first in 01's order answers"""
+    """Several checks fail: the first in the order of docs/RULES.md answers"""
     ways = {                            # one or two ways to make each check fail
         "not up": ({"state": "fresh"}, {"state": "closed"}),
         "length": ({"page": LENT[:4095]}, {"page": LENT[:4097]}),
@@ -472,7 +472,7 @@ def kept_bytes():
 
 
 def shared_page():
-    """02, E8: the granule at B is not undelegated, for any byte"""
+    """Request E8: the granule at B is not undelegated, for any byte"""
     for where, i in (("first", 0), ("middle", 3), ("last", 7)):
         for byte in (0, 1, 2, 3) if where == "middle" else (0, 1):
             table = bytearray(b"\1" * 8)
@@ -498,7 +498,7 @@ def shared_page():
 
 
 def word_numbers():
-    """02, E6: words of each length, one too few and one too many; other commands do not mind"""
+    """Request E6: words of each length, one too few and one too many; other commands do not mind"""
     for n, command in product((0, 1, 63, 64, 65, 127, 128), GRANULE):
         table = bytes([GRANULE.index(command)]) * n
         held, last = realm_words(table), {"x1": G + 4096 * (n - 1), "table": table}
@@ -517,7 +517,7 @@ def word_numbers():
 
 
 def odd_words():
-    """02, E6: words at odds with the table: it decides, and the granule's bit alone is written"""
+    """Request E6: words at odds with the table: it decides, and the granule's bit alone is written"""
     for command in GRANULE:
         table = bytes([GRANULE.index(command)]) * 130
         held = realm_words(table)

@@ -49,7 +49,7 @@ Told = namedtuple("Told", "count next agrees built")
 # ---- The rules. All arithmetic is on plain numbers. ----
 
 def single(case, table, address):
-    """01, with the granules of 02, E2, and E8: the code of one call, and the granule it names."""
+    """CM2 and CM3: the code of one call, and the granule it names."""
     index = granule_at(case.record, len(table), address)
     if case.state != "up":
         return "UNK", None
@@ -61,7 +61,7 @@ def single(case, table, address):
 
 
 def run(case):
-    """02, E1: single calls in list order up to the first refusal; x1 counts those done. 02, E6:
+    """Request E1: single calls in list order up to the first refusal; x1 counts those done. Request E6:
     INVAL first if the words do not fit; each granule's bit is written with its byte."""
     table, lent = bytearray(case.table), case.lent
     if not fit(case.record, lent):
@@ -76,7 +76,7 @@ def run(case):
 
 
 def ask(case):
-    """02, E6: the answers to all four questions."""
+    """Request E6: the answers to all four questions."""
     n, lent = granules_of(case.record), case.lent
     if not fit(case.record, lent):
         return Told(None, None, None, None)
@@ -455,7 +455,7 @@ def shared_tables():
 
 
 def shared():
-    """02, E8: the shared page alone. It is not undelegated, for any byte"""
+    """Request E8: the shared page alone. It is not undelegated, for any byte"""
     for text, held, i in shared_tables():
         record, n = record_of(held), len(addresses_of(held))
         for byte in range(4):
@@ -483,7 +483,7 @@ def shared():
 
 
 def shared_lists():
-    """02, E8: lists with the shared page in them; what comes before it is done"""
+    """Request E8: lists with the shared page in them; what comes before it is done"""
     for text, held, i in shared_tables():
         addresses = addresses_of(held)
         n, given = len(addresses), {"record": record_of(held)}
@@ -521,7 +521,7 @@ def sized(n):
 
 
 def word_lists():
-    """02, E6: lists with words of each length, one word too few and one too many, for records that are up and not up"""
+    """Request E6: lists with words of each length, one word too few and one too many, for records that are up and not up"""
     for n in SIZES:
         record = of_length(n)
         every = [address for bank in (record[1:3], record[3:5]) if bank
@@ -555,7 +555,7 @@ def word_lists():
 
 
 def odd_words():
-    """02, E6: words at odds with the table, which decides; the granule's bit alone is written"""
+    """Request E6: words at odds with the table, which decides; the granule's bit alone is written"""
     indices = (0, 63, 64, 127, 128, 129)
     for way in (DELEGATE, UNDELEGATE):
         table = bytearray([way]) * 130
@@ -581,7 +581,7 @@ def odd_words():
 
 
 def questions():
-    """02, E6: how many, the next one, agreement and build, at each index that counts"""
+    """Request E6: how many, the next one, agreement and build, at each index that counts"""
     for n in SIZES:
         table, held = sized(n), realm_words(sized(n))
         hits = [i for i, byte in enumerate(table) if byte == 1]
@@ -609,7 +609,7 @@ def questions():
 
 
 def spare_bits():
-    """02, E6: set spare bits are not counted and not hit; they do not agree; build clears them"""
+    """Request E6: set spare bits are not counted and not hit; they do not agree; build clears them"""
     for n in (1, 63, 65, 127):
         table, k = bytes(n), needed(n)
         spare = (*[0] * (k - 1), ONES - (1 << n % 64) + 1)
@@ -627,7 +627,7 @@ def spare_bits():
 
 
 def odd_tables():
-    """02, E6: agreement and build with a table of another length, and one bit or byte off"""
+    """Request E6: agreement and build with a table of another length, and one bit or byte off"""
     record = of_length(65)
     for n in (0, 64, 66, 128, 130):
         question(f"65 granules, a table of {n}", bytes([1] * n), 3, record=record, lent=(8, 1),

@@ -33,7 +33,7 @@ WRITER = importlib.util.module_from_spec(SPEC)
 SPEC.loader.exec_module(WRITER)
 
 
-# ---- The packer, from 02, E11 ----
+# ---- The packer, from request E11 ----
 
 def pack(b, page, length):
     """A refusal's name, or the bytes that the target then has."""
@@ -48,7 +48,7 @@ def pack(b, page, length):
     return WRITER.write(b, w, lists, kept, length)
 
 
-# ---- The mender, from 02, E12: each part is put back into a core without them while the reader
+# ---- The mender, from request E12: each part is put back into a core without them while the reader
 # still accepts ----
 
 PARTS = ((4, 4), (8, 8), *((at, 24) for at in HEAD))    # padding, plat_data, the four sections
@@ -458,7 +458,7 @@ def build_all():
 
 
 def check():
-    """What is known apart from the two above: 02's claims, on every case."""
+    """What is known apart from the two above: the claims PK3 to PK7 and MD3 to MD7, on every case."""
     cases = [case for _, group in GROUPS for case in group]
     tally = Counter()
     for case in cases:

@@ -28,10 +28,10 @@ HEAD = (16, 40, 64, 88)             # offset of each section's count, pointer, c
 SINCE = (2, 3, 4, 4)                # edition that brought the section
 ENTRY = (16, 48, 16, 16)            # bytes of one entry
 BANKS = (0, 2, 3)                   # the sections with base and size entries
-ONCE = {1: (1, 32), 2: (8, 8), 3: (1, 1)}   # 02, E7: tags that appear at most once, by length
+ONCE = {1: (1, 32), 2: (8, 8), 3: (1, 1)}   # request E7: tags that appear at most once, by length
 
 
-# ---- The reader, from 01's text in 01's order. All arithmetic is on plain numbers. ----
+# ---- The reader, from docs/RULES.md in its order. All arithmetic is on plain numbers. ----
 
 def number(raw):
     return int.from_bytes(raw, "little")
@@ -55,7 +55,7 @@ def entries(page, k, offset, count):
 
 
 def entry_holds(minor, k, entry):
-    """The rules for one entry: a console in section 1, else a bank or region. 02, E3: flags are
+    """The rules for one entry: a console in section 1, else a bank or region. Request E3: flags are
     held to 0 by the page's minor, not by the reader's edition."""
     if k == 1:
         base, map_pages, _name, _clk_in_hz, _baud_rate, flags = entry
@@ -66,7 +66,7 @@ def entry_holds(minor, k, entry):
 
 
 def fields_of(raw):
-    """02, E7: the fields from the first byte on, each as its tag and its value, and the number of
+    """Request E7: the fields from the first byte on, each as its tag and its value, and the number of
     bytes through their end mark. None if they are broken."""
     fields, at = [], 0
     while at + 3 <= len(raw):
@@ -84,7 +84,7 @@ def fields_of(raw):
 
 
 def broken(r, b, page):
-    """Every rule this page breaks for a reader of edition r, as (code, rule), in 01's order."""
+    """Every rule this page breaks for a reader of edition r, as (code, rule), in the order of docs/RULES.md."""
     found = []
 
     def rule(code, name, holds):
@@ -138,11 +138,11 @@ def broken(r, b, page):
 
 
 def kept_for(e, b, page):
-    """02, E5: how many bytes at the page's start a manifest takes that a reader accepts as
+    """Request E5: how many bytes at the page's start a manifest takes that a reader accepts as
     edition e: the highest end of its core, arrays and fields, up to a multiple of 8."""
     ends = [CORE[e]]
     plat_data = number(page[8:16])
-    if plat_data:                   # 02, E7: through the end mark
+    if plat_data:                   # request E7: through the end mark
         ends.append(plat_data - b + fields_of(page[plat_data - b:])[1])
     for k in range(4):
         count, pointer, _ = head(page, k) if SINCE[k] <= e else (0, b, 0)
@@ -164,18 +164,18 @@ def read(r, b, page):
         count, pointer, _ = head(page, k) if SINCE[k] <= e else (0, b, 0)
         offset = pointer - b if count else 0
         shown = entries(page, k, offset, count) if SINCE[k] <= e else None
-        if k == 1 and w >= 5 and shown:     # 02, E3: shown with flags 0
+        if k == 1 and w >= 5 and shown:     # request E3: shown with flags 0
             shown = [(*entry[:5], 0) for entry in shown]
         sections.append(shown)
         lookups.append(bytes(page[offset:offset + count * ENTRY[k]]))
     plat_data = number(page[8:16])
     fields = fields_of(page[plat_data - b:])[0] if plat_data else []
-    fields = [(tag, None if tag == 3 else value) for tag, value in fields]  # 02, E10: withdrawn
+    fields = [(tag, None if tag == 3 else value) for tag, value in fields]  # request E10: withdrawn
     return (w, e, plat_data, fields, sections), lookups
 
 
 def listing(answer):
-    """The lines of example 14 and the paragraph after it, with 02's lines of the fields (E7)."""
+    """The lines of the listing (LS2 to LS5)."""
     if isinstance(answer, int):
         return f"refused {answer}\n"
     w, e, plat_data, fields, sections = answer
@@ -448,7 +448,7 @@ def padding_and_platform():
                         (B + 4096, "at B + 4,096"), (B + 2**63 + 0x800, "2^63 too high"),
                         (WORD - 1, "2^64 - 1")):
         bad("plat_data", f"plat_data {text}", full().words(8, value))
-    for rule, value, text in (      # 02, E7: good in 01, which does not read what is pointed at
+    for rule, value, text in (      # good before request E7, which has the fields read
             ("fields", B + 4095, "at B + 4,095"),
             ("fields in array", B + 0x200, "at an array's start"),
             ("fields in array", B + 0x315, "inside an array"),
@@ -645,7 +645,7 @@ def console_entries():
 
 
 def console_flags():
-    """02, E3: flags of consoles by the page's minor, for readers of each edition"""
+    """Request E3: flags of consoles by the page's minor, for readers of each edition"""
     def page(minor, *flags):
         listed = [(0x1C090000 + 0x1000 * i, 1, PL011, 24000000, 115200, f)
                   for i, f in enumerate(flags)]
@@ -673,7 +673,7 @@ def console_flags():
 
 
 def field_lengths():
-    """02, E7: the tag and the length of a field"""
+    """Request E7: the tag and the length of a field"""
     def alone(rule, text, *fields, **other):
         page = full(fill=JUNK).facts(0x703, *fields, **other)
         good(text, page) if rule is None else bad(rule, text, page)
@@ -703,7 +703,7 @@ def field_lengths():
 
 
 def field_repeats():
-    """02, E7: tags that appear twice"""
+    """Request E7: tags that appear twice"""
     one = {1: NAME, 2: SERIAL, 3: CHOICE}
     for tag, first in one.items():
         others = [field for other, field in one.items() if other != tag]
@@ -725,7 +725,7 @@ def field_repeats():
 
 
 def withdrawn():
-    """02, E10: tag 3 is withdrawn"""
+    """Request E10: tag 3 is withdrawn"""
     other = (field(4, b"\1"), field(33, b"\3\1\0\1"))
     for order in permutations((CHOICE, *other)):
         at = order.index(CHOICE)
@@ -742,7 +742,7 @@ def withdrawn():
 
 
 def console_names():
-    """02, E10: consoles picked by name"""
+    """Request E10: consoles picked by name"""
     def named(*names):
         return [(0x1C090000 + 4096 * i, 1, number(name), 1, 1, 0) for i, name in enumerate(names)]
 
@@ -760,7 +760,7 @@ def console_names():
 
 
 def field_ends():
-    """02, E7: the end mark, and fields up to the page's end"""
+    """Request E7: the end mark, and fields up to the page's end"""
     for e, core in CORE.items():
         good(f"an end mark alone at the core's end of an empty 0.{e} page", Page(e).facts(core))
         good(f"an end mark alone at the core's end, all else junk, 0.{e}",
@@ -794,7 +794,7 @@ def field_ends():
 
 
 def fields_and_arrays():
-    """02, E7: fields and the arrays that the reader reads"""
+    """Request E7: fields and the arrays that the reader reads"""
     def around(k, before, after):
         """A full page and a field from `before` bytes before the array to `after` bytes after it."""
         size = before - 3 + len(SAMPLE[k]) * ENTRY[k] + after
@@ -829,7 +829,7 @@ def fields_and_arrays():
 
 
 def field_places():
-    """02, E7: where fields may lie, and who reads them"""
+    """Request E7: where fields may lie, and who reads them"""
     for shift in range(8):
         good(f"fields at an address of {shift} modulo 8",
              full(fill=JUNK).facts(0x700 + shift, NAME, field(7, b"abc"), SERIAL))
@@ -859,7 +859,7 @@ def field_places():
 
 
 def many_fields():
-    """02, E7: pages full of fields"""
+    """Request E7: pages full of fields"""
     for w, core in CORE.items():
         room = PAGE - core - 3
         for size in (0, 1, 2, 5) if w == 4 else (1,):
@@ -924,7 +924,7 @@ def later_sections():
 
 
 def two_at_once():
-    """Several rules broken together: the first in 01's order answers"""
+    """Several rules broken together: the first in the order of docs/RULES.md answers"""
     faults = (                      # code, what is changed on a full 0.4 page
         (-5, "length 4,095", {"length": 4095}), (-5, "B zero", {"b": 0}),
         (-5, "B + 8", {"b": B + 8}), (-5, "length 8,192", {"length": 8192}),
@@ -973,7 +973,7 @@ def build_all():
 
 
 def check():
-    """What is known apart from the reader above: 01's examples, the field listings, the spread."""
+    """What is known apart from the reader above: the examples of docs/RULES.md, the field listings, the spread."""
     page = example_14().data
     assert head(page, 0) == [1, 0x80000028, 0xFFFFFFFEDFFFFFD7]     # example 4
     assert listing(read(4, B, page)[0]) == (

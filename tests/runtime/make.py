@@ -56,7 +56,7 @@ Answer = namedtuple("Answer", "fails code x1 x2 told after")
 Case = namedtuple("Case", "text start ops answers")
 
 
-# ---- The operations, from 01's and 02's text. All arithmetic is on plain numbers. ----
+# ---- The operations, from docs/RULES.md. All arithmetic is on plain numbers. ----
 
 def waiting(line):
     """What waits, oldest first. There are eight places, so a higher count means eight."""
@@ -135,7 +135,7 @@ def granule_checks(w, op):
     wrong = index is not None and w.table[index] != (op.id == UNDELEGATE)
     fails = granule_fails(w.record, n, op.x1)
     return [*(Check(name, "BAD_ADDR", fail) for name, fail in fails.items()),
-            Check("shared", "BAD_ADDR", op.id == UNDELEGATE and op.x1 == w.base),     # 02, E8
+            Check("shared", "BAD_ADDR", op.id == UNDELEGATE and op.x1 == w.base),     # request E8
             Check("byte", "BAD_PAS", wrong)]
 
 
@@ -156,7 +156,7 @@ def command_checks(w, op):
 
 
 def checks(w, op):
-    """The checks of an operation in 01's order. 02, E6: the words' number is looked at first, by
+    """The checks of an operation in the order of docs/RULES.md. Request E6: the words' number is looked at first, by
     delegate and undelegate alone."""
     if op.kind == CALL and op.id in (DELEGATE, UNDELEGATE):
         return [Check("words", "INVAL", not fit(w.record, w.lent)),
@@ -994,7 +994,7 @@ def search(text, names, worlds, ops, impossible=(), each=""):
 
 
 def pairs():
-    """Each check alone, and each two of them: the first in 01's order answers"""
+    """Each check alone, and each two of them: the first in the order of docs/RULES.md answers"""
     pas, records = (PA, B - 1, B + 4096, B + 4090, B + 4095), product(("up", "fresh"), (5, 3))
     first, buffer = ("not up", "length"), ("outside", "too long")
     sent = [start(state=state, page=page, session=session) for state, page, session in product(
@@ -1229,7 +1229,7 @@ def kept_and_room():
 
 
 def kept_pairs():
-    """Kept bytes: outside by K and one more check: the first in 01's order answers"""
+    """Kept bytes: outside by K and one more check: the first in the order of docs/RULES.md answers"""
     first, pas = ("not up", "length"), (PA, B + 0x2FF, B)       # the last two are kept
     fresh = {"state": "fresh"}
     worlds = [start(kept=0x300, session=session, page=page, **state) for session, page, state in
@@ -1295,7 +1295,7 @@ def kept_manifests():
 
 
 def kept_fields():
-    """02, E7: fields in the kept bytes are read the same after all commands"""
+    """Request E7: fields in the kept bytes are read the same after all commands"""
     for text, page in (
             ("a full page, fields after its arrays", full().facts(0x703, NAME, SERIAL, CHOICE)),
             ("a full page, 0.9, fields between its arrays", full(9).facts(0x281, NAME, field(9))),
@@ -1324,7 +1324,7 @@ def random_kept():
 
 
 def shared_page():
-    """02, E8: the shared page stays Realm, so keys, hunks and responses go into Realm memory"""
+    """Request E8: the shared page stays Realm, so keys, hunks and responses go into Realm memory"""
     for where, i in (("first", 0), ("middle", 2), ("last", 4)):
         world = start(page=ASKED, record=one(B - 4096 * i, 5), table=bytes([1] * 5),
                       responses=responses(1))
@@ -1342,7 +1342,7 @@ def shared_page():
 
 
 def words_of_each_length():
-    """02, E6: the words beside tables of each length, one too few and one too many"""
+    """Request E6: the words beside tables of each length, one too few and one too many"""
     for n in (0, 1, 63, 64, 65, 127, 128):
         world = start(record=one(G, n) if n else (), table=bytes(n))
         picks = [G + 4096 * i for i in (0, 1, 62, 63, 64, 65, 126, 127) if i < n]
@@ -1362,7 +1362,7 @@ def words_of_each_length():
 
 
 def odd_words():
-    """02, E6: words at odds with the table: it decides, and the granule's bit alone is written"""
+    """Request E6: words at odds with the table: it decides, and the granule's bit alone is written"""
     table = bytes((0, 1, 2, 255)[i % 4] for i in range(130))
     held = realm_words(table)
     steps = [call("", DELEGATE, G), call("byte", DELEGATE, G), call("", UNDELEGATE, G),

@@ -22,7 +22,7 @@ CRATE = ROOT / "crates" / "state_blobs_vectors"
 MOST = 2**32 - 1
 ROOM = 96                               # the buffer, and the longest message of a case
 SET, READ_REQUEST, READ_RESPONSE, COLLECT, WRITE_REQUEST, WRITE_RESPONSE = range(6)
-# The refusals; 0 is "accepted". 02 gives their order, the header their numbers.
+# The refusals; 0 is "accepted". SB4 of docs/RULES.md gives their order and their numbers.
 REFUSALS = ("", "cut short", "too long", "wrong code", "above largest", "failed", "no room",
             "total differs", "past total", "past buffer", "no data")
 
@@ -73,7 +73,7 @@ class Run:
         self.parts, self.length = [0, 0, 0, 0], 0
 
     def make(self, kind, a, b, c, d, room, message):
-        """Every check that fails, in 02's order. The first of them gives the answer."""
+        """Every check that fails, in the order of SB4. The first of them gives the answer."""
         if kind == SET:
             self.collector, self.buffer = [a, b, c], bytearray(message.ljust(ROOM, b"\xEE"))
             return []

@@ -34,7 +34,7 @@ Result = namedtuple("Result", "name r4 session memory request")
 CASES = []
 
 
-# ---- The call, from the text of 02 and 003. All arithmetic is on plain numbers. ----
+# ---- The call, from docs/RULES.md, chapter 21. All arithmetic is on plain numbers. ----
 
 def seeded(length, seed):
     out, x = bytearray(), seed % 65521
@@ -45,7 +45,7 @@ def seeded(length, seed):
 
 
 def failing(call, memory):
-    """Every refusal whose condition holds, in 02's order. The first of them is the answer."""
+    """Every refusal whose condition holds, in the order of TP3. The first of them is the answer."""
     end, execute = len(memory), call.operation == EXECUTE
     holds = {
         "H_FUNCTION": call.forbidden != 0,

@@ -29,7 +29,7 @@ REFUSALS = ("W1", "W2", "W3", "W4", "W5")
 ONES = WORD - 1
 
 
-# ---- The writer, from 01's text in 01's order. All arithmetic is on plain numbers. ----
+# ---- The writer, from docs/RULES.md in its order. All arithmetic is on plain numbers. ----
 
 def raw(words):
     return b"".join(word.to_bytes(8, "little") for word in words)
@@ -50,7 +50,7 @@ def sound(k, entry):
 
 
 def split(fields):
-    """02, E7: the fields of a description, in their order, each as tag, told length and the bytes
+    """Request E7: the fields of a description, in their order, each as tag, told length and the bytes
     that are there; what is left over at its end is a field without a length."""
     listed = []
     while fields:
@@ -62,7 +62,7 @@ def split(fields):
 
 def fields_sound(fields):
     """Whether a description of fields is whole and keeps the reader's rules, with no tag 0 and, by
-    02, E10, no tag 3."""
+    request E10, no tag 3."""
     listed = split(fields)
     once = Counter(tag for tag, _, _ in listed if tag in ONCE)
     return max(once.values(), default=0) <= 1 and all(
@@ -72,7 +72,7 @@ def fields_sound(fields):
 
 
 def refusals(b, edition, lists, fields, length):
-    """Every refusal that applies, in 01's order. The first of them is the writer's answer."""
+    """Every refusal that applies, in the order of docs/RULES.md. The first of them is the writer's answer."""
     core = CORE.get(edition, 0)     # at no known edition the arrays alone may be too long
     facts = len(fields) + len(MARK) if fields else 0
     applies = (
@@ -307,7 +307,7 @@ def checksums():
 
 
 def together():
-    """Several refusals apply: the first in 01's order answers"""
+    """Several refusals apply: the first in the order of docs/RULES.md answers"""
     bank, flagged = SAMPLE[0][0], [*SAMPLE[1][0][:5], 1]
     ways = {                        # what is changed at edition 3, all lists being empty
         "W1": (("length 4,095", {"length": 4095}), ("B zero", {"b": 0}), ("B = 2^52", {"b": TOP})),
@@ -361,7 +361,7 @@ def random_descriptions():
 
 
 def field_rules():
-    """02, E7: the rules for a field, and descriptions that are cut short"""
+    """Request E7: the rules for a field, and descriptions that are cut short"""
     def alone(outcome, text, *fields, **other):
         add(outcome, text, filled(count=1), fields=b"".join(fields), **other)
 
@@ -401,7 +401,7 @@ def field_rules():
 
 
 def field_places():
-    """02, E7: fields after core and arrays, at each edition"""
+    """Request E7: fields after core and arrays, at each edition"""
     for edition in range(1, 5):
         for count in (0, 1, 3) if edition > 1 else (0,):
             for fill in (0xFF, 0):
@@ -415,7 +415,7 @@ def field_places():
 
 
 def field_room():
-    """02, E7: as many bytes of fields as fit, and one more"""
+    """Request E7: as many bytes of fields as fit, and one more"""
     def both(text, lists, room, edition=4):
         """A field that fills the page with its end mark, and one with a byte more."""
         exact = field(99, JUNK[:room - 3 - len(MARK)])
@@ -441,7 +441,7 @@ def field_room():
 
 
 def field_order():
-    """02, E7: several refusals apply, the fields among them"""
+    """Request E7: several refusals apply, the fields among them"""
     bank, twice, much = list(SAMPLE[0][0]), SERIAL + SERIAL, field(9, JUNK)
     add("W1 W3", "B zero, serial twice", filled(), b=0, fields=twice)
     add("W2 W3", "edition 5, serial twice", filled(), 5, fields=twice)
@@ -460,7 +460,7 @@ def field_order():
 
 
 def random_fields():
-    """02, E7: random descriptions with fields that keep all rules"""
+    """Request E7: random descriptions with fields that keep all rules"""
     dice = Random(7)
 
     def pick(n):

@@ -31,8 +31,8 @@ key-acts r page key pa size curve h =
     let l : at ≤ length page = omega (arith, p .whole, p .room) in
     rw h (record { told = refl; written = splice-written at key page l })
 
--- A call is refused only if 01 refuses it: with the record up, a page of 4,096 bytes, a buffer within it, curve 0 and a key that is neither
--- empty nor longer than the buffer, the answer is OK.
+-- A call is refused only if CM4.1 to CM4.5 refuse it: with the record up, a page of 4,096 bytes, a buffer within it, curve 0 and a key that
+-- is neither empty nor longer than the buffer, the answer is OK.
 pub key-passes : (u : Params) (page key : List ℕ) (pa size curve : ℕ) → BufferIn u page pa size → curve ≡ 0 → (length key ≡ 0 → ⊥) →
     length key ≤ size →
     realmKeyOf (Up u) page key pa size curve .answer .code ≡ Ok

@@ -1,4 +1,4 @@
--- When the realm key call gives each of its codes. 01: "outside BAD_ADDR; too long INVAL; curve not 0 INVAL; platform key empty or longer
+-- When the realm key call gives each of its codes. "outside BAD_ADDR; too long INVAL; curve not 0 INVAL; platform key empty or longer
 -- than the buffer UNK (house rule)." Assumes nothing.
 use Prim.Native.Nat.{ℕ, _<_}
 use mathlib.Core.Path.{_≡_, refl}

@@ -1,4 +1,4 @@
--- 0xC40001B2: realm key. Assumes nothing.
+-- 0xC40001B2: realm key (CM4). Assumes nothing.
 use Prim.Native.Nat.{ℕ}
 use mathlib.Core.List.{List}
 use lib.ListN.{length}
@@ -13,11 +13,11 @@ use Rattle.codes.specs.declared.Code.{Code}
 use Rattle.codes.specs.declared.Code.the-variants.{Ok, Unk, Inval}
 use Rattle.codes.specs.declared.Answer.{Answer}
 
--- ".. curve not 0 INVAL; platform key empty or longer than the buffer UNK (house rule)."
+-- ".. curve not 0 INVAL; platform key empty or longer than the buffer UNK (house rule)." (CM4.4, CM4.5)
 unfoldable pub keyRest : ℕ → ℕ → List ℕ → Code
 keyRest size curve key = fails (isFalse (eqb curve 0)) Inval (fails (either (eqb (length key) 0) (ltb size (length key))) Unk Ok)
 
--- "outside BAD_ADDR; too long INVAL;", then the checks of `keyRest`
+-- "outside BAD_ADDR; too long INVAL;" (CM4.2, CM4.3), then the checks of `keyRest`
 unfoldable pub keyCode : (state : Record) (page : List ℕ) (pa size curve : ℕ) (key : List ℕ) → Code
 keyCode r page pa size curve key = andThen (pageCode r (length page) Ok BadAddress pa size) (keyRest size curve key)
 
@@ -26,7 +26,7 @@ pub record Keyed : Type 0 where
   pub answer : Answer
   pub page : List ℕ
 
--- "Writes the key at pa; x1 is its length."
+-- "Writes the key at pa; x1 is its length." (CM4.6)
 unfoldable pub keyed : Code → ℕ → List ℕ → List ℕ → Keyed
 keyed k at page key =
     record {

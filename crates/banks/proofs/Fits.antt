@@ -1,4 +1,4 @@
--- 02, E2: the set-up is OK exactly if the banks shown fit, and a record has granules exactly if its own do. In plain facts. Assumes
+-- Request E2: the set-up is OK exactly if the banks shown fit, and a record has granules exactly if its own do. In plain facts. Assumes
 -- nothing.
 use Prim.Native.Nat.{ℕ, zero, suc, _+_, _*_, _/_, _%_, _^_, _≤_, _<_}
 use mathlib.Core.Path.{_≡_, refl, sym, _∙_}

@@ -1,5 +1,5 @@
 -- Laws of the granule record for other crates: an index is below the table's length, two addresses of the same granule are equal, and every
--- index has an address. And one bank is the single range of 01. Assumes nothing.
+-- index has an address. And one bank is a single range of memory (BN8). Assumes nothing.
 use Prim.Native.Nat.{ℕ, _+_, _-_, _*_, _/_, _%_, _^_, _≤_, _<_}
 use mathlib.Core.Path.{_≡_, refl, sym, ap, _∙_}
 use mathlib.Core.Bool.{Bool, true, false, cond}

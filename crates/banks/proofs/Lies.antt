@@ -1,4 +1,4 @@
--- 02, E2: the granule of an address, in plain facts. Assumes nothing.
+-- Request E2: the granule of an address, in plain facts. Assumes nothing.
 use Prim.Native.Nat.{ℕ, zero, suc, _+_, _-_, _/_, _%_, _≤_, _<_}
 use mathlib.Core.Path.{_≡_, sym, ap, _∙_}
 use native.Mathlib.Omega.{arith}

@@ -49,7 +49,7 @@ fn bank_follows(low: u64, base: u64, size: u64) -> bool
     bank_ok(base, size)
 }
 
-// Returns the number of granules of a record; 0 if the set-up would refuse its banks.
+// Returns the number of granules of a record; 0 if the set-up would refuse its banks (BN5).
 pub fn granule_count(granules: &[u64; 33]) -> u64
     ensures { λ r. ⌜ r ≡ granuleCount (now (granules .entry)) ⌝ }
 {
@@ -84,8 +84,8 @@ fn record_from(shown: &[u8], count: usize) -> [u64; 33]
     made
 }
 
-// Sets up the record for a table of `n` granules. `shown` has the banks that the reader shows, as the array lookup returns them. INVAL
-// leaves the record unchanged.
+// Sets up the record for a table of `n` granules (BN3, BN4). `shown` has the banks that the reader shows, as the array lookup returns them.
+// INVAL leaves the record unchanged.
 pub fn set_up(shown: &[u8], n: u64, granules: &mut [u64; 33]) -> Code
     ensures { λ r. ⌜ _≡_ {A = SetUp} (record { code = r; granules = now (granules .exit) }) (setUpOf (now (shown .entry)) n (now (granules .entry))) ⌝ }
     ensures { λ r. ⌜ numberOf r ≡ cond (takes (now (shown .entry)) n) (pos 0) (minus 5) ⌝ }

@@ -1,5 +1,5 @@
--- Numbers in bytes, the highest byte first: the little-endian numbers of `words` with their bytes reversed. 02, E13: "all numbers 4-byte big-endian".
--- Assumes nothing.
+-- Numbers in bytes, the highest byte first: the little-endian numbers of `words` with their bytes reversed. Request E13: "all numbers
+-- 4-byte big-endian" (SB1). Assumes nothing.
 use Prim.Native.Nat.{ℕ}
 use mathlib.Core.List.{List, reverse}
 use Rattle.words.specs.Word.{leOf, leBytes, part}

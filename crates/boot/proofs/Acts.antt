@@ -1,5 +1,5 @@
--- When a boot succeeds, and what it then does. Each statement lists 01's conditions and uses no definition of the boot's checks. Assumes
--- nothing.
+-- When a boot succeeds, and what it then does. Each statement lists the conditions of BT2 or BT4 and uses no definition of the boot's
+-- checks. Assumes nothing.
 use Prim.Native.Nat.{ℕ, _^_, min, _≤_, _<_}
 use mathlib.Core.Path.{_≡_, refl, sym, ap, _∙_}
 use mathlib.Core.Bool.{Bool, true, false, false≢true, cond}

@@ -1,4 +1,4 @@
--- 02, E5: "K = 0 gives 01 as it stands." Assumes nothing.
+-- Request E5: "K = 0 gives 01 as it stands." Assumes nothing.
 use Prim.Native.Nat.{ℕ, _≤_}
 use mathlib.Core.Path.{_≡_, refl, ap}
 use mathlib.Core.Bool.{Bool, true, false}
@@ -20,7 +20,7 @@ gate-plain true false m n c = refl
 gate-plain false v m n c = refl
 
 module _ (s : Record) (x0 x1 x2 x3 most : ℕ) (page : List ℕ) where
-  -- any K from 0 to 4,096 gives the codes of 01's cold boot
+  -- any K from 0 to 4,096 gives the codes of the cold boot without kept bytes
   pub cold-plain : (kept : ℕ) → kept ≤ 4096 → coldCode s x0 x1 x2 x3 most kept page ≡ plainCode s x0 x1 x2 x3 most page
   unfolding coldCode plainCode
   cold-plain kept h = rw (le-leb kept 4096 h) (gate-plain _ _ _ _ _)

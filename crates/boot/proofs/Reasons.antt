@@ -1,4 +1,4 @@
--- Cold and warm boot give each of their codes as 01's tables require. Assumes nothing.
+-- Cold and warm boot give each of their codes as the tables of BT2 and BT4 require. Assumes nothing.
 use Prim.Native.Nat.{ℕ, _^_, _≤_, _<_}
 use mathlib.Core.Path.{_≡_, refl, sym, ap, _∙_}
 use mathlib.Core.Bool.{Bool, true, false, true≢false, false≢true, cond}
@@ -80,7 +80,7 @@ module _ (x3 : ℕ) (page : List ℕ) where
             };
       }
 
-  -- 02, E5: "K above 4,096 is -5 at cold boot, with the other page checks."
+  -- Request E5: "K above 4,096 is -5 at cold boot, with the other page checks."
   kept-gives : (kept : ℕ) (b : Bool) → leb kept 4096 ≡ b →
       Gives ((4096 < kept) ⊎ (PlaceFacts x3 (length page) → ⊥)) (minus 5) BelowPlace (cond b (codeIn (readOf 4 x3 page)) (minus 5))
   kept-gives kept true e = record { where-it-holds = go; elsewhere = λ n. page-gives .elsewhere (λ p. n (inr p)) }

@@ -4,8 +4,8 @@ ghost use mathlib.Core.Path.{_≡_};
 ghost use Rattle.reader.specs.Fast.{numberIn};
 ghost use Rattle.boot.specs.Boot.{bootNumber, isFresh, coldCode, coldNext, after, cpuCode, warmCode, warmNext};
 
-// What a boot record keeps of its cold boot: x2 (`cpus`), the base B, the agreed interface minor, and K (`manifest_extent`). No runtime command writes
-// the first K bytes of the page.
+// What a boot record keeps of its cold boot: x2 (`cpus`), the base B, the agreed interface minor, and K (`kept`). No runtime command writes
+// the first K bytes of the page (BT1, KB3).
 pub struct Params {
     pub cpus: u64,
     pub base: u64,
@@ -13,7 +13,7 @@ pub struct Params {
     pub kept: u64,
 }
 
-// The boot record: no boot yet, up, or closed for good by a failed boot.
+// The boot record (BT1): no boot yet, up, or closed for good by a failed boot.
 pub enum Record {
     Fresh,
     Up(Params),
@@ -60,7 +60,7 @@ fn is_fresh(state: Record) -> bool
     }
 }
 
-// Refuses a boot: the record is closed for good.
+// Refuses a boot: the record is closed for good (BT6).
 fn failed(code: BootCode) -> BootResult
     ensures { λ r. ⌜ (r .next ≡ Record.Closed) × (r .code ≡ code) ⌝ }
 {
@@ -101,8 +101,8 @@ impl Record {
         Record::Fresh
     }
 
-    // Cold boot with x0 to x3. The monitor supports at most `maxcpus` CPUs, `manifest_extent` bytes at the start of the page are kept, and `page` is the
-    // page at x3, read as edition 4.
+    // Cold boot with x0 to x3 (BT2, BT3). The monitor supports at most `maxcpus` CPUs, the first `kept` bytes of the page are kept,
+    // and `page` is the page at x3, read as edition 4.
     pub fn cold(
         self,
         x0: u64,
@@ -146,7 +146,7 @@ impl Record {
         }
     }
 
-    // Warm boot with x0 to x3; only x0 counts.
+    // Warm boot with x0 to x3 (BT4); only x0 counts (BT5).
     pub fn warm(self, x0: u64, x1: u64, x2: u64, x3: u64) -> BootResult
         ensures { λ r. ⌜ (bootNumber (r .code) ≡ warmCode self x0) × (r .next ≡ warmNext self x0) ⌝ }
     {

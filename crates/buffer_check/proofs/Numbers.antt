@@ -1,4 +1,4 @@
--- The checks that every command on the page starts with, by 01's numbers. Assumes nothing.
+-- The checks that every command on the page starts with, by the numbers of RT1. Assumes nothing.
 use Prim.Native.Nat.{ℕ, _+_, _-_}
 use mathlib.Core.Path.{_≡_, refl, sym, ap, _∙_}
 use mathlib.Core.Bool.{Bool, true, false, cond}

@@ -52,7 +52,7 @@ unfolding either
 neither true b h = absurd (true≢false h)
 neither false b h = (refl, h)
 
--- 02, E5: "K = 0 gives 01 as it stands.": its range check
+-- Request E5: "K = 0 gives 01 as it stands.": its range check
 pub kept-none : (u : Params) (pa : ℕ) → u .kept ≡ 0 → outside u pa ≡ either (ltb pa (u .base)) (leb (u .base + 4096) pa)
 unfolding outside
 kept-none u pa h = rw (h, add-zero)

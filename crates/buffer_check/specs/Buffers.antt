@@ -7,7 +7,7 @@ use Rattle.words.specs.Word.{part}
 use Rattle.boot.specs.declared.Params.{Params}
 
 -- The buffer passes the checks of page and range: the page has 4,096 bytes, pa is in [B + K, B + 4,096), and the size is at most
--- B + 4,096 - pa.
+-- B + 4,096 - pa (RT7 to RT9).
 pub record BufferIn (u : Params) (page : List ℕ) (pa size : ℕ) : Type 0 where
   pub whole : length page ≡ 4096
   pub from : u .base + u .kept ≤ pa

@@ -8,7 +8,7 @@ ghost use lib.IntN.{pos};
 ghost use Rattle.codes.specs.Codes.{bootParams, gated, gateNumber};
 ghost use Rattle.buffer_check.specs.Range.{outsideCode, rangeCode, placeOf, pageCode, pageNumber};
 
-// The code that a command gives to a buffer outside the page: BAD_ADDR or INVAL.
+// The code that a command gives to a buffer outside the page: BAD_ADDR (CM4.2, CM5.3) or INVAL (CM7.3).
 pub enum OutsideAs {
     BadAddress,
     Invalid,
@@ -23,8 +23,8 @@ fn outside_code(out: OutsideAs) -> Code
     }
 }
 
-// Checks a buffer of `size` bytes at `pa` and returns its offset in the page. A buffer that starts in the kept bytes is outside. Subtracts
-// instead of adding, because a sum could overflow.
+// Checks a buffer of `size` bytes at `pa` and returns its offset in the page. A buffer that starts in the kept bytes is outside (KB2).
+// Subtracts instead of adding, because a sum could overflow.
 fn range_gate(params: Params, out: OutsideAs, pa: u64, size: u64) -> Gate
     ensures { λ r. ⌜ r ≡ gated (rangeCode params out pa size) (placeOf params pa) ⌝ }
 {

@@ -1,4 +1,4 @@
--- 01's number of a row of checks: that of the first check that fails. Assumes nothing.
+-- The number (RT1) of a row of checks: that of the first check that fails. Assumes nothing.
 use Prim.Native.Nat.{ℕ}
 use mathlib.Core.Path.{_≡_, refl}
 use mathlib.Core.Bool.{Bool, true, false, cond, not}

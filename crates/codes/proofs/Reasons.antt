@@ -94,7 +94,7 @@ pub then-none : (next : Code) → andThen Ok next ≡ next
 unfolding andThen
 then-none next = refl
 
--- ---- what x0 holds. 01: "OK 0, UNK -1, BAD_ADDR -2, BAD_PAS -3, INVAL -5, AGAIN -6"; "x0 holds the code sign-extended to 64 bits"
+-- ---- what x0 holds. "OK 0, UNK -1, BAD_ADDR -2, BAD_PAS -3, INVAL -5, AGAIN -6"; "x0 holds the code sign-extended to 64 bits"
 pub record X0s (x1 x2 : ℕ) : Type 0 where
   pub ok : answerOf Ok x1 x2 ≡ record { code = Ok; x0 = 0; x1 = x1; x2 = x2 }
   pub unk : answerOf Unk x1 x2 ≡ record { code = Unk; x0 = 0xFFFF_FFFF_FFFF_FFFF; x1 = x1; x2 = x2 }

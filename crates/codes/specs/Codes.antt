@@ -1,5 +1,5 @@
--- Runtime codes. 01: "Runtime codes: OK 0, UNK -1, BAD_ADDR -2, BAD_PAS -3, INVAL -5, AGAIN -6; 002's NOMEM (-4) is not used. x0
--- holds the code sign-extended to 64 bits; unused result registers are 0." Assumes nothing.
+-- Runtime codes. "Runtime codes: OK 0, UNK -1, BAD_ADDR -2, BAD_PAS -3, INVAL -5, AGAIN -6; 002's NOMEM (-4) is not used. x0
+-- holds the code sign-extended to 64 bits; unused result registers are 0." (RT1, RT2) Assumes nothing.
 use Prim.Native.Nat.{ℕ, suc, _-_, _^_}
 use mathlib.Core.Bool.{Bool, true, false, cond}
 use lib.IntN.{ℤ, pos, negsuc}
@@ -13,7 +13,7 @@ use Rattle.codes.specs.declared.Answer.{Answer}
 use Rattle.codes.specs.declared.Gate.{Gate}
 use Rattle.codes.specs.declared.Gate.the-variants.{Stop, Go}
 
--- the number of each code
+-- the number of each code (RT1)
 abbrev pub numberOf : Code → ℤ
 numberOf Ok = pos 0
 numberOf Unk = minus 1
@@ -27,7 +27,7 @@ unfoldable pub extended : ℤ → ℕ
 extended (pos n) = n
 extended (negsuc n) = 2 ^ 64 - suc n
 
--- the code as x0 holds it
+-- the code as x0 holds it (RT2)
 unfoldable pub x0Of : Code → ℕ
 x0Of c = extended (numberOf c)
 
@@ -44,12 +44,13 @@ isOk BadPas = false
 isOk Inval = false
 isOk Again = false
 
--- not
+-- the test does not hold
 unfoldable pub isFalse : Bool → Bool
 isFalse true = false
 isFalse false = true
 
--- one check: the code c if the test holds, otherwise the code of the next checks. A command's checks read downwards in 01's order.
+-- one check: the code c if the test holds, otherwise the code of the next checks. A command's checks read downwards in the order of
+-- docs/RULES.md (GE2).
 unfoldable pub fails : Bool → Code → Code → Code
 fails true c next = c
 fails false c next = next
@@ -60,17 +61,17 @@ isUp Fresh = false
 isUp (Up u) = true
 isUp Closed = false
 
--- "B and the agreed minor come from the boot record", and with 02, E5 the number of kept bytes
+-- "B and the agreed minor come from the boot record" (RT4), and with request E5 the number of kept bytes
 unfoldable pub bootParams : Record → Params
 bootParams Fresh = record { cpus = 0; base = 0; minor = 0; kept = 0 }
 bootParams (Up u) = u
 bootParams Closed = record { cpus = 0; base = 0; minor = 0; kept = 0 }
 
--- "while it is not up, every command but 0xC400018F answers UNK before its own checks"
+-- "while it is not up, every command but 0xC400018F answers UNK before its own checks" (RT6)
 unfoldable pub whenUp : Record → Code → Code
 whenUp s k = fails (isFalse (isUp s)) Unk k
 
--- the new value if the code is OK, otherwise the old value: what a refused call leaves
+-- the new value if the code is OK, otherwise the old value: what a refused call leaves (GE4)
 abbrev pub ifOk : {A : Type 0} → Code → A → A → A
 ifOk k new old = cond (isOk k) new old
 

@@ -6,7 +6,7 @@ ghost use mathlib.Core.Bool.{cond};
 ghost use lib.IntN.{pos};
 ghost use Rattle.codes.specs.Codes.{numberOf, x0Of, answerOf, isOk, fails, isUp, bootParams};
 
-// The code of a runtime command.
+// The code of a runtime command (RT1).
 pub enum Code {
     Ok,
     Unk,
@@ -36,7 +36,7 @@ pub enum Gate {
     Go(usize),
 }
 
-// Returns the code sign-extended to 64 bits, as x0 holds it.
+// Returns the code sign-extended to 64 bits, as x0 holds it (RT2).
 pub fn x0(code: Code) -> u64
     ensures { λ r. ⌜ r ≡ x0Of code ⌝ }
 {

@@ -1,5 +1,5 @@
 // The entries of a section's array, read in the page: their rules (E1 to E5) and their checksum (S4).
-// A section is its number in 01's table: 0 DRAM banks, 1 consoles, 2 non-coherent regions, 3 coherent regions.
+// A section is its number in ML1 (docs/RULES.md): 0 DRAM banks, 1 consoles, 2 non-coherent regions, 3 coherent regions.
 ghost use mathlib.Core.Path.{_≡_};
 ghost use Prim.Native.Nat.{_+_, _*_, _%_, _^_, _≤_};
 ghost use lib.ListN.{length};
@@ -98,7 +98,7 @@ pub fn with_console(bits: Bits, minor: u64, base: u64, pages: u64, flags: u64) -
     }
 }
 
-// Whether every bank or region in `bits` keeps its rule.
+// Whether every bank or region in `bits` keeps its rule (E1 to E4).
 pub fn banks_clear(bits: Bits) -> bool
     ensures { λ r. ⌜ r ≡ bankClear bits ⌝ }
 {
@@ -114,7 +114,7 @@ pub fn banks_clear(bits: Bits) -> bool
     true
 }
 
-// Whether every console in `bits`, on a page of minor `minor`, keeps its rule.
+// Whether every console in `bits`, on a page of minor `minor`, keeps its rule (E1, E3 to E5).
 pub fn consoles_clear(bits: Bits, minor: u64) -> bool
     ensures { λ r. ⌜ r ≡ consoleClear minor bits ⌝ }
 {

@@ -1,4 +1,4 @@
--- The numbered examples of 01 that are marked *, each proved from the definitions, in one record. Assumes nothing.
+-- The examples of docs/RULES.md, chapter 23, that are marked *, each proved from the definitions, in one record. Assumes nothing.
 use Prim.Native.Nat.{ℕ, _+_, _-_, _%_, _^_, _≤_, _<_}
 use mathlib.Core.Bool.{Bool, true, false}
 use mathlib.Core.Path.{_≡_, refl}
@@ -56,37 +56,38 @@ unfoldable pub readWith : ReaderAnswer → List ℕ
 readWith (refused c) = []
 readWith (shows w e q s) = w ∷ e ∷ []
 
--- the examples; each quotation is from 01
+-- the examples
 pub record Examples : Type 0 where
-  -- "1* Version 0x0000000A is later than 0x00000009."
+  -- "1* Version 0x0000000A is later than 0x00000009." (VN2)
   pub e1 : later 0xA 0x9 ≡ true
   -- It is also above every known minor: a page of that version is read as edition 4, and the agreed minor is 5.
   pub e1-read : readWith (readOf 4 0x80000000 (leBytes 4 0xA ++ replicate 4092 0)) ≡ 10 ∷ 4 ∷ []
   pub e1-agreed : agreed 0xA ≡ 5
-  -- "2* 0x80000005 refused."
+  -- "2* 0x80000005 refused." (VN3)
   pub e2 : versionOk 0x80000005 ≡ false
-  -- "3* 0x00010000 refused."
+  -- "3* 0x00010000 refused." (VN3)
   pub e3 : versionOk 0x00010000 ≡ false
-  -- "4* Count 1, pointer 0x80000028, bank 0x90000000 of 0x10000000 bytes: checksum 0xFFFFFFFEDFFFFFD7." No other checksum is accepted.
+  -- "4* Count 1, pointer 0x80000028, bank 0x90000000 of 0x10000000 bytes: checksum 0xFFFFFFFEDFFFFFD7." (ML6) No other checksum is
+  -- accepted.
   pub e4 : (s : ℕ) → s < 2 ^ 64 → checkOk 1 0x80000028 bank s ≡ true → s ≡ 0xFFFFFFFEDFFFFFD7
   pub e4-holds : checkOk 1 0x80000028 bank 0xFFFFFFFEDFFFFFD7 ≡ true
   -- "5* Edition 4: 249 banks fit, 250 do not." 250 banks are refused with W5.
   pub e5 : (isPage (making 4 (banks 249) []) ≡ true) × (making 4 (banks 250) [] ≡ no-page 5)
-  -- "6* Edition 4: 83 consoles fit, 84 do not; edition 3 holds 84."
+  -- "6* Edition 4: 83 consoles fit, 84 do not; edition 3 holds 84." (ML2, W5)
   pub e6 : (isPage (making 4 [] (consoles 83)) ≡ true) × (making 4 [] (consoles 84) ≡ no-page 5) ×
       (isPage (making 3 [] (consoles 84)) ≡ true)
-  -- "7* pa = B + 4,095, size 1 is inside; size 2 too long." Since 02, E5: if K is at most 4,095.
+  -- "7* pa = B + 4,095, size 1 is inside; size 2 too long." (RT8, RT9) Since request E5: if K is at most 4,095.
   pub e7 : (u : Params) → u .kept ≤ 4095 → (outside u (u .base + 4095) ≡ false) × (tooLong u (u .base + 4095) 1 ≡ false) ×
       (tooLong u (u .base + 4095) 2 ≡ true)
-  -- "8* pa = B + 4,096, size 0 is outside." For any K.
+  -- "8* pa = B + 4,096, size 0 is outside." (RT8) For any K.
   pub e8 : (u : Params) → outside u (u .base + 4096) ≡ true
-  -- "9* Code -2 in x0 is 0xFFFFFFFFFFFFFFFE."
+  -- "9* Code -2 in x0 is 0xFFFFFFFFFFFFFFFE." (RT2)
   pub e9 : x0Of BadAddr ≡ 0xFFFFFFFFFFFFFFFE
-  -- "10* Delegating a Realm granule: BAD_PAS." (02, E6: with ceil(granules / 64) realm words)
+  -- "10* Delegating a Realm granule: BAD_PAS." (CM2.5), with ceil(granules / 64) realm words (CM2.1)
   pub e10 : (u : Params) (g : Granules) (t : GranuleTable) (addr i : ℕ) → fitting g t ≡ true →
       granuleAt g (length (t .bytes)) addr ≡ At i → getD (t .bytes) i 0 ≡ 1 →
       delegateOf (Up u) g t addr ≡ record { answer = answerOf BadPas 0 0; table = t }
-  -- "11* m = 7: mecid 255 passes, 256 does not."
+  -- "11* m = 7: mecid 255 passes, 256 does not." (CM8.2)
   pub e11 : (u : Params) → (5 ≤ u .minor → updateCode u 7 255 ≡ Ok) × (updateCode u 7 256 ≡ Inval)
 
 check-one : (s : ℕ) → s < 2 ^ 64 → checkOk 1 0x80000028 bank s ≡ true → s ≡ 0xFFFFFFFEDFFFFFD7

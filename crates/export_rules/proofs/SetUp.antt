@@ -1,4 +1,4 @@
--- 02, E2: "Setting up the record takes the banks shown by the manifest reader." Assumes nothing.
+-- Request E2: "Setting up the record takes the banks shown by the manifest reader." Assumes nothing.
 use Prim.Native.Nat.{ℕ, _+_, _-_, _*_, _/_, _≤_, _<_}
 use mathlib.Core.Path.{_≡_, refl, sym, _∙_}
 use mathlib.Core.Bool.{Bool, true, false, cond}

@@ -1,7 +1,7 @@
--- x0 of each export is the number of the command's code. When a command gives which code is proved in `set-up-passes` and `set-up-refused` of
+-- x0 of each export is the number of the command's code (RT2). Which code a command gives is proved in `set-up-passes`, `set-up-refused` of
 -- `banks`, `move-codes` and `list-codes` of `granule_rules`, `key-codes` of `attest`, `token-codes` of `token_rules`, `features-codes` and
--- `update-codes` of `features`, `signing-codes` of `signing`, and `sign-codes` of `response_rules`. `x0-numbers` of `codes` has the numbers.
--- Assumes nothing.
+-- `update-codes` of `features`, `signing-codes` of `signing`, and `sign-codes` of `response_rules`. `x0-numbers` of `codes` has the
+-- numbers. Assumes nothing.
 use Prim.Native.Nat.{ℕ}
 use mathlib.Core.Path.{_≡_}
 use mathlib.Core.List.{List}

@@ -1,6 +1,6 @@
--- Demand 1 at the C edge. 01: "a refused call returns zero in the other result registers and changes no page, table, session or queue";
--- 02, E6: "no refusal changes a word":
--- what an export leaves if x0 is not 0, for any lent words, including forged images. Assumes nothing.
+-- Demand 1 at the C edge. "a refused call returns zero in the other result registers and changes no page, table, session or queue"
+-- (GE4); request E6: "no refusal changes a word" (RW3): what an export leaves if x0 is not 0, for any lent words, including forged images.
+-- Assumes nothing.
 use Prim.Native.Nat.{ℕ}
 use mathlib.Core.Path.{_≡_}
 use mathlib.Core.List.{List, [], _∷_}
@@ -28,7 +28,7 @@ x0Alone out = getD out 0 0 ∷ 0 ∷ 0 ∷ []
 
 -- for each export, what a refusal leaves
 pub record ExportsRefuse : Type 0 where
-  -- pbeam_set_up_granules. 02, E2: "the set-up answers INVAL, with no record made"
+  -- pbeam_set_up_granules. Request E2: "the set-up answers INVAL, with no record made" (BN4)
   pub setUp : (granules banks : List ℕ) (n : ℕ) →
       let l = setUpIn granules banks n in
       (l .x0 ≡ 0 → ⊥) → l ≡ record { x0 = x0Of Inval; granules = granules }
@@ -36,7 +36,7 @@ pub record ExportsRefuse : Type 0 where
   pub delegation : (d : Direction) (state granules table words : List ℕ) (address : ℕ) →
       let l = moveIn d state granules table words address in
       RefusedCall (l .out) → l ≡ record { out = x0Alone (l .out); table = table; words = words }
-  -- pbeam_delegate_list, pbeam_undelegate_list. 02, E1: each granule counts as a single call, so x1 is the number done, and table and
+  -- pbeam_delegate_list, pbeam_undelegate_list. LG3, LG4: each granule counts as a single call, so x1 is the number done, and table and
   -- words are those after these single calls; also for an accepted list
   pub lists : (d : Direction) (state granules table words addresses : List ℕ) →
       let l = moveListIn d state granules table words addresses in
@@ -82,7 +82,7 @@ pub record ExportsRefuse : Type 0 where
         session = session;
         queue = queue;
       }
-  -- pbeam_realm_count and pbeam_realm_next write 0. 02, E6: "no refusal changes a word": pbeam_realm_build
+  -- pbeam_realm_count and pbeam_realm_next write 0. Request E6: "no refusal changes a word" (RW6): pbeam_realm_build
   pub realmCount : (words : List ℕ) (n : ℕ) →
       let a = realmCountOf words n in
       (numberX0 a ≡ 0 → ⊥) → numberWords a ≡ 0 ∷ []

@@ -1,5 +1,5 @@
--- 02, E6 at the C edge: if words and table agree, they agree after any sequence of exports, and the answers from the words equal those of a
--- full scan of the table. Assumes nothing.
+-- Request E6 at the C edge: if words and table agree, they agree after any sequence of exports, and the answers from the words equal those
+-- of a full scan of the table. Assumes nothing.
 use Prim.Native.Nat.{ℕ, _<_}
 use mathlib.Core.Path.{_≡_, sym, ap, _∙_, subst}
 use mathlib.Core.List.{List, map}

@@ -1,4 +1,4 @@
--- 02, E14: the balance of Realm granules over any sequence of exports, counted from the words of `out`. Assumes nothing.
+-- Request E14: the balance of Realm granules over any sequence of exports, counted from the words of `out`. Assumes nothing.
 use Prim.Native.Nat.{ℕ}
 use mathlib.Core.Path.{_≡_, refl, sym, ap, subst}
 use mathlib.Core.Bool.{Bool, true, false, cond}

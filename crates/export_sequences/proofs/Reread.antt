@@ -1,4 +1,4 @@
--- 02, E5: if the manifest is within the kept bytes, a reader gets the same answer after any sequence of commands. Assumes nothing.
+-- Request E5: if the manifest is within the kept bytes, a reader gets the same answer after any sequence of commands. Assumes nothing.
 use Prim.Native.Nat.{ℕ, _+_, _*_, _/_, _≤_, _<_}
 use mathlib.Core.Path.{_≡_, refl, sym, ap, _∙_, subst}
 use mathlib.Core.Bool.{false, false≢true}
@@ -138,7 +138,8 @@ module _ (g : Granules) (u : Params) (page : List ℕ) (r : ℕ) (c : Covers (u 
   boots-read s w (command x ∷ es) e k t = boots-read s (nextOf g w x) es e (next-kept w x (has-record s x e (t .0)) k) (t .1)
 
 -- "A monitor rereads the manifest at each warm boot": if cold boot accepts a page and the kept bytes cover the named bytes of a reader's
--- edition, that reader gets the same answer at each boot, over any boots and commands in any order, each command with the record at its time
+-- edition, that reader gets the same answer at each boot, over any boots and commands in any order, each command with the record at its
+-- time
 pub boots-reread : (g : Granules) (s : Record) (x0 x1 x2 x3 most n : ℕ) (w : World) (es : List Event) →
     coldCode s x0 x1 x2 x3 most n (w .page) ≡ pos 0 →
     InTurn (coldNext s x0 x1 x2 x3 most n (w .page)) es → (r : ℕ) → Covers n r x3 (w .page) → ReadAtBoots g r x3 (w .page) w es
@@ -149,7 +150,8 @@ boots-reread g s x0 x1 x2 x3 most n w es e t r c =
 
 -- ---- the number that `kept_for` returns
 module _ (r base : ℕ) (page : List ℕ) (w e : ℕ) (q : PlatShown) (t : ℕ → Shown) (h : readOf r base page ≡ shows w e q t) where
-  -- it covers the manifest of a page that the reader accepts: "the core and each array that its sections place within the page", and the fields
+  -- it covers the manifest of a page that the reader accepts: "the core and each array that its sections place within the page", and the
+  -- fields
   pub kept-for-covers : Covers (keptFor (viewAt w e base page) page) r base page
   kept-for-covers i y = go (decLt i (keptFor (viewAt w e base page) page))
     where
@@ -193,8 +195,8 @@ module _ (granules : List ℕ) (m : Lent) (es : List Exported) (l : length (m .q
         exports-kept (paramsOf x1 x2 x3 n) (subst (λ (r : Record). AllHave r (map commandOf es))
         (cold-up s x0 x1 x2 x3 most n (m .page) e) h)
 
-    -- If cold boot accepted the page and the kept bytes cover the named bytes of a reader's edition, that reader gets the same answer and the
-    -- same view again.
+    -- If cold boot accepted the page and the kept bytes cover the named bytes of a reader's edition, that reader gets the same answer and
+    -- the same view again.
     pub exports-reread : (r : ℕ) → Covers n r x3 (m .page) →
         (readOf r x3 (allExported granules m es .page) ≡ readOf r x3 (m .page))
         × (answerWords x3 (allExported granules m es .page) (readOf r x3 (allExported granules m es .page)) ≡ answerWords x3 (m .page)

@@ -1,4 +1,4 @@
--- The granule table over any sequence of exports, for any other lent images; 02, E8 for C callers. Assumes nothing.
+-- The granule table over any sequence of exports, for any other lent images; request E8 for C callers. Assumes nothing.
 use Prim.Native.Nat.{ℕ}
 use mathlib.Core.Path.{_≡_, refl, sym, ap, ap₂, _∙_, subst}
 use mathlib.Core.Bool.{true}
@@ -61,7 +61,7 @@ module _ (granules : List ℕ) where
       exports-table (nextOf granules w (commandOf e)) (lentOn (exportLeft granules m e)) es
       (same-table granules w (lentWorld m) h (commandOf e) ∙ export-table m e)
 
--- ---- 02, E8
+-- ---- request E8
 command-under : (image : List ℕ) (e : Exported) → commandOf (exportUnder image e) ≡ under (recordOf image) (commandOf e)
 unfolding commandOf exportUnder under callLent
 command-under image (pbeam-delegate state address) = refl

@@ -81,7 +81,8 @@ exportLeft granules m (pbeam-call state x busy key token public width) =
     callIn granules (m .session) (m .queue) (m .page) (m .table) (m .words) (callLent state x busy key token public width)
 exportLeft granules m (pbeam-sign signature) = signsLeft (signIn (m .queue) signature) m
 
--- ---- the command that an export runs: a call with id and registers, with only its own arguments lent; the signer's step; or a list of granules
+-- ---- the command that an export runs: a call with id and registers, with only its own arguments lent; the signer's step; or a list of
+-- granules
 abbrev callFor : List ℕ → List ℕ → ℕ → List ℕ → List ℕ → List ℕ → ℕ → Command
 callFor state x busy key token public width = call (callLent state x busy key token public width)
 
@@ -118,7 +119,8 @@ unfoldable pub allExported : List ℕ → Lent → List Exported → Lent
 allExported granules m [] = m
 allExported granules m (e ∷ es) = allExported granules (lentOn (exportLeft granules m e)) es
 
--- ---- 02, E8: "with the same boot .. records": the same export with this image of the boot record; the signer's step takes no record
+-- ---- Request E8: "with the same boot .. records" (SH3): the same export with this image of the boot record; the signer's step takes no
+-- record
 unfoldable pub exportUnder : List ℕ → Exported → Exported
 exportUnder image (pbeam-delegate state address) = pbeam-delegate image address
 exportUnder image (pbeam-undelegate state address) = pbeam-undelegate image address
@@ -150,7 +152,7 @@ pub record LentIntoRealm (granules image : List ℕ) (m : Lent) (pa size : ℕ) 
 abbrev pub Oks : List ℕ → Lent → Exported → Type 0
 Oks granules m e = getD (exportLeft granules m e .out) 0 0 ≡ 0
 
--- each accepted export that writes to the page writes to Realm memory; pbeam_call runs one of these exports (`dispatcher-exports`)
+-- each accepted export that writes to the page writes to Realm memory; pbeam_call runs one of these exports (`dispatcher-exports`) (SH4)
 pub record ExportsIntoRealm (granules image : List ℕ) (m : Lent) : Type 0 where
   pub key : (key : List ℕ) (pa size curve : ℕ) → Oks granules m (pbeam-realm-key image key pa size curve) →
       LentIntoRealm granules image m pa size
@@ -159,11 +161,11 @@ pub record ExportsIntoRealm (granules image : List ℕ) (m : Lent) : Type 0 wher
   pub response : (key : List ℕ) (opcode pa size curve : ℕ) → Oks granules m (pbeam-token-signing image key opcode pa size curve) →
       LentIntoRealm granules image m pa size
 
--- ---- 02, E14: the accepted calls on granules, read from `out`: the address if x0 is 0, or the first x1 addresses of a list
+-- ---- Request E14: the accepted calls on granules, read from `out`: the address if x0 is 0, or the first x1 addresses of a list
 abbrev whenZero : ℕ → List Change → List Change
 whenZero x0 l = cond (eqb x0 0) l []
 
--- the changes that `out` of an export reports
+-- the changes that `out` of an export reports (BO4)
 unfoldable pub changesTold : List ℕ → Exported → List Change
 changesTold out (pbeam-delegate state address) = whenZero (getD out 0 0) (change Direction.Delegate address ∷ [])
 changesTold out (pbeam-undelegate state address) = whenZero (getD out 0 0) (change Direction.Undelegate address ∷ [])
@@ -188,7 +190,8 @@ pub data NoneAt (addr : ℕ) : List Change → Type 0 where
   nowhere : NoneAt addr []
   elsewhere : (c : Change) (cs : List Change) → (c .address ≡ addr → ⊥) → NoneAt addr cs → NoneAt addr (c ∷ cs)
 
--- "Each granule's byte is the one the last accepted call naming it left, or the starting byte if none did.": for granule i, at address addr
+-- "Each granule's byte is the one the last accepted call naming it left, or the starting byte if none did." (BO2): for granule i, at
+-- address addr
 pub record ByAddress (granules : List ℕ) (m : Lent) (es : List Exported) (addr i : ℕ) : Type 0 where
   pub last : (before : List Change) (d : Direction) (behind : List Change) → allTold granules m es ≡ before ++ change d addr ∷ behind →
       NoneAt addr behind → getD (allExported granules m es .table) i 0 ≡ toByte d

@@ -1,4 +1,4 @@
--- 02, E5: "A monitor rereads the manifest at each warm boot". Assumes nothing.
+-- Request E5: "A monitor rereads the manifest at each warm boot" (KB3). Assumes nothing.
 use Prim.Native.Nat.{ℕ, _<_}
 use mathlib.Core.Path.{_≡_}
 use mathlib.Core.List.{List, [], _∷_}
@@ -26,7 +26,7 @@ pub data Event : Type 0 where
   boot : Boot → Event
   command : Command → Event
 
--- each command has the boot record at its time, or one that is not up
+-- each command has the boot record at its time, or one that is not up (KB3)
 unfoldable pub InTurn : Record → List Event → Type 0
 InTurn s [] = Unit {0}
 InTurn s (boot b ∷ es) = InTurn (booted s b) es

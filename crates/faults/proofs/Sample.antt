@@ -1,4 +1,4 @@
--- Example 4's bank with the plain sum as its checksum: the fault reports the checksum that 01 gives. If the size is also not a multiple of
+-- Example 4's bank with the plain sum as its checksum: the fault reports the checksum of the example. If the size is also not a multiple of
 -- 4,096, the fault is the size, because entries come before the checksum. Assumes nothing.
 use Prim.Native.Nat.{ℕ}
 use mathlib.Core.Path.{_≡_, refl}

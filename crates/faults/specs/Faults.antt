@@ -1,6 +1,6 @@
--- The first fault of a page, in the order of the reader's checks (RD2, RD6, RD7): the rule, its place in the page, and the word found there.
--- Each test is the reader's own (crates sections, entries, fields). Law `clear-accepts` proves that there is no fault exactly if the
--- reader accepts. Assumes nothing.
+-- The first fault of a page, in the order of the reader's checks (RD2, RD6, RD7): the rule, its place in the page, and the word found
+-- there. Each test is the reader's own (crates sections, entries, fields). Law `accepts` of `Diagnoses` (Promise.antt) proves that there is
+-- no fault exactly if the reader accepts. Assumes nothing.
 use Prim.Native.Nat.{ℕ, zero, suc, _+_, _-_, _*_, _%_, _^_, min}
 use mathlib.Core.Bool.{Bool, true, false, cond, not}
 use mathlib.Core.List.{List}
@@ -109,7 +109,7 @@ unfoldable pub overlap : List ℕ → ℕ → Diagnosis
 overlap page i = firstOf i (clash rule.ArrayOverlap i (24 + 24 * i) (pointerAt i page) (endOf i page) page)
 
 -- ---- the fields, which start at an offset of the page: bs is the page from there on
--- a fault of field i, with tag + 256 * length as the word found
+-- a fault of field i, with tag + 256 * length as the word found (F1 to F4)
 unfoldable pub fieldFault : (rule : Rule) (i offset tag len : ℕ) → Fault
 fieldFault r i off t m = mkFault r 0 i off (t + 256 * m) 0
 
@@ -133,7 +133,7 @@ walkFault (suc n) s from i at bs =
 unfoldable pub fieldsFault : ℕ → List ℕ → Diagnosis
 fieldsFault from bs = walkFault (length bs) noneSeen from 0 0 bs
 
--- "plat_data is 0 or lies from B + core size of e to B + 4,095", then its fields
+-- "plat_data is 0 or lies from B + core size of e to B + 4,095" (R2), then its fields
 unfoldable pub platFault : ℕ → ℕ → ℕ → List ℕ → Diagnosis
 platFault e base q page =
     cond (eqb q 0) Clear
@@ -141,7 +141,7 @@ platFault e base q page =
     (fieldsFault (q - base) (drop (q - base) page)))
 
 -- ---- the page
--- the rules with code -7, for a page of minor w read as edition e
+-- the rules with code -7, for a page of minor w read as edition e (RD6, RD7)
 unfoldable pub rulesFault : ℕ → ℕ → ℕ → List ℕ → Diagnosis
 rulesFault w e base page =
     let q = wordAt 8 page in
@@ -151,7 +151,7 @@ rulesFault w e base page =
     (firstFault (firstOf (sectionCount e) (overlap page))
     (firstOf (sectionCount e) (clash rule.FieldsOverlap 0 8 q (q + taken (foundAt base page q)) page)))))
 
--- the first fault that a reader of edition r finds in a page at base B
+-- the first fault that a reader of edition r finds in a page at base B (RD2)
 unfoldable pub faultOf : ℕ → ℕ → List ℕ → Diagnosis
 faultOf r base page =
     let v = versionAt page in

@@ -110,11 +110,11 @@ Broken r base page f = BrokenAs (f .rule) r (minorOf (versionAt page)) (min r (m
 
 -- what is proved of every diagnosis
 pub record Diagnoses (r base : ℕ) (page : List ℕ) : Type 0 where
-  -- no fault exactly if the reader accepts, and then it shows the page
+  -- no fault exactly if the reader accepts, and then it shows the page (RD2, RD10)
   pub accepts : faultOf r base page ≡ Clear → readOf r base page ≡ allShown (minorOf (versionAt page)) (min r (minorOf (versionAt page)))
       (platformAt base page) (pageSectionAt base page)
   pub accepted : (w e : ℕ) (q : PlatShown) (s : ℕ → Shown) → readOf r base page ≡ shows w e q s → faultOf r base page ≡ Clear
-  -- the rule's code is the reader's
+  -- the rule's code is the reader's (RD2)
   pub code : (f : Fault) → faultOf r base page ≡ At f → readOf r base page ≡ refused (refusalNumber (refusalOf (f .rule)))
   -- the rule is broken at the place reported
   pub broken : (f : Fault) → faultOf r base page ≡ At f → Broken r base page f

@@ -1,5 +1,5 @@
--- When features and key update are OK, and what they then do. Each statement lists 01's conditions and uses no definition of the checks.
--- Assumes nothing.
+-- When features and key update are OK, and what they then do. Each statement lists the conditions of CM6 or CM8 and uses no definition of
+-- the checks. Assumes nothing.
 use Prim.Native.Nat.{ℕ, _+_, _-_, _^_, min, _≤_}
 use mathlib.Core.Path.{_≡_, refl, sym}
 use mathlib.Core.Bool.{true}

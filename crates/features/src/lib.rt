@@ -15,7 +15,7 @@ pub struct UpdateResult {
     pub work: Work,
 }
 
-// 0xC40001B4: returns feature register `index` in x1. Register 0 is 1: token signing is present.
+// 0xC40001B4 (CM6): returns feature register `index` in x1. Register 0 is 1: token signing is present.
 pub fn features(state: Record, index: u64) -> Answer
     ensures { λ r. ⌜ r ≡ featuresOf state index ⌝ }
 {
@@ -53,7 +53,7 @@ fn refused(code: Code) -> UpdateResult
     }
 }
 
-// 0xC40001B6: returns the mecid to reprogram; `width` is MECIDWidthm1.
+// 0xC40001B6 (CM8): returns the mecid to reprogram; `width` is MECIDWidthm1.
 pub fn key_update(state: Record, width: u64, mecid: u64) -> UpdateResult
     ensures { λ r. ⌜ r ≡ updateOf state width mecid ⌝ }
 {
@@ -79,7 +79,7 @@ pub fn key_update(state: Record, width: u64, mecid: u64) -> UpdateResult
     }
 }
 
-// 0xC400018F: returns the error code to forward to the Non-secure world, for any record. The command has no result.
+// 0xC400018F (CM1): returns the error code to forward to the Non-secure world, for any record. The command has no result.
 pub fn forward(state: Record, x1: u64) -> u64
     ensures { λ r. ⌜ r ≡ forwardOf state x1 ⌝ }
 {

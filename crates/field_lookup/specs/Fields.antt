@@ -1,5 +1,5 @@
--- Lookups in the fields that a page shows (FD10): "The writer takes a list of fields", and a reader shows one in page order (02, E7);
--- "show the console choice as withdrawn without its value" (02, E10). Assumes nothing.
+-- Lookups in the fields that a page shows (FD10): "The writer takes a list of fields", and a reader shows one in page order (request E7);
+-- "show the console choice as withdrawn without its value" (request E10). Assumes nothing.
 use Prim.Native.Nat.{ℕ, zero, suc, _+_}
 use mathlib.Core.Bool.{cond}
 use mathlib.Core.List.{List, [], _∷_}
@@ -11,7 +11,7 @@ use Rattle.fields.specs.Fields.{FieldShown, raw, withdrawn}
 use Rattle.fields.specs.declared.FieldPlace.{FieldPlace}
 use Rattle.fields.specs.declared.FieldPlace.the-variants.{Raw, Withdrawn, Nothing}
 
--- the result of a lookup: a field, or no field
+-- the result of a lookup: a field, or no field (FD10)
 pub data Asked : Type 0 where
   noField : Asked
   field : FieldShown → Asked
@@ -26,7 +26,7 @@ unfoldable pub restIn : List FieldShown → List FieldShown
 restIn [] = []
 restIn (f ∷ fs) = fs
 
--- field i, counted from 0
+-- field i, counted from 0 (FD10)
 unfoldable pub nthIn : ℕ → List FieldShown → Asked
 nthIn zero fs = firstIn fs
 nthIn (suc i) fs = nthIn i (restIn fs)
@@ -36,12 +36,12 @@ unfoldable pub shownTag : FieldShown → ℕ
 shownTag (raw t v) = t
 shownTag withdrawn = 3
 
--- the value of a field; empty if it is withdrawn
+-- the value of a field; empty if it is withdrawn (FD9)
 unfoldable pub shownValue : FieldShown → List ℕ
 shownValue (raw t v) = v
 shownValue withdrawn = []
 
--- the first field with tag t
+-- the first field with tag t (FD10)
 unfoldable pub ofTag : ℕ → List FieldShown → Asked
 ofTag t [] = noField
 ofTag t (f ∷ fs) = cond (eqb (shownTag f) t) (field f) (ofTag t fs)

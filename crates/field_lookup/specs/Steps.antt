@@ -16,7 +16,7 @@ use Rattle.reader.specs.declared.View.{View}
 unfoldable pub shownFrom : ℕ → List ℕ → List FieldShown
 shownFrom at page = shownFields (fieldsFrom at page)
 
--- the cursor at the first field of platform pointer q; the page's length if there is no pointer or the fields are broken
+-- the cursor at the first field of platform pointer q; the page's length if there is no pointer or the fields are broken (FD10, RD15)
 unfoldable pub startAt : ℕ → List ℕ → ℕ
 startAt q page = cond (eqb q 0) (length page) (cond (isEnded (scanOf (drop (q % 4096) page))) (q % 4096) (length page))
 

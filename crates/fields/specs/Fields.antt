@@ -56,7 +56,7 @@ unfoldable pub lengthOk : ℕ → ℕ → Bool
 lengthOk t n =
     cond (eqb t 0) false (cond (eqb t 1) (both (leb 1 n) (leb n 32)) (cond (eqb t 2) (eqb n 8) (cond (eqb t 3) (eqb n 1) (ltb n (2 ^ 16)))))
 
--- each field has a length that its tag allows
+-- each field has a length that its tag allows (F3)
 unfoldable pub lengthsOk : List Field → Bool
 lengthsOk [] = true
 lengthsOk (f ∷ fs) = both (lengthOk (f .tag) (length (f .value))) (lengthsOk fs)
@@ -92,7 +92,7 @@ pub data FieldShown : Type 0 where
   raw : ℕ → List ℕ → FieldShown
   withdrawn : FieldShown
 
--- one field as it is shown
+-- one field as it is shown (FD6, FD8)
 unfoldable pub shownField : Field → FieldShown
 shownField f = cond (eqb (f .tag) 3) withdrawn (raw (f .tag) (f .value))
 
@@ -136,6 +136,6 @@ fieldsDescribed (bare fs) = fs
 unfoldable pub describable : Scanned → Bool
 describable s = both (isBare s) (eqb (count 3 (fieldsDescribed s)) 0)
 
--- the three bytes of the end mark
+-- the three bytes of the end mark (FD1)
 unfoldable pub endMark : List ℕ
 endMark = 0 ∷ 0 ∷ 0 ∷ []

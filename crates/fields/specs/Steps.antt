@@ -1,6 +1,7 @@
 -- For the loops over the fields. `head-scan` (proofs/Scans.antt) proves a step by `headAt` equal to one of `scanAll`; `ok-start`,
--- `ok-more` and `ok-not` (proofs/Rules.antt) `allowed`, field by field, equal to `fieldsOk`; `from-told` (proofs/Walks.antt) `fieldsFrom` equal to `fieldsIn` of
--- `scanOf` (all of these: Fields.antt). `stopOf` and `endTold` define what the enums `Stop` and `FieldsEnd` mean. Assumes nothing.
+-- `ok-more` and `ok-not` (proofs/Rules.antt) `allowed`, field by field, equal to `fieldsOk`; `from-told` (proofs/Walks.antt) `fieldsFrom`
+-- equal to `fieldsIn` of `scanOf` (all of these: Fields.antt). `stopOf` and `endTold` define what the enums `Stop` and `FieldsEnd` mean.
+-- Assumes nothing.
 use Prim.Native.Nat.{ℕ, zero, suc, _+_}
 use mathlib.Core.Bool.{Bool, true, false, cond, not}
 use mathlib.Core.List.{List, [], _∷_}
@@ -33,11 +34,11 @@ headAt at bs =
     let m = numAt 2 (at + 1) bs in
     headOf (ltb (length bs) (at + 3 + m)) (eqb (getD bs at 0) 0) (eqb m 0) (head.Field (getD bs at 0) (at + 3) m (at + 3 + m))
 
--- a field as callers see it: E10: "show the console choice as withdrawn without its value"
+-- a field as callers see it: E10: "show the console choice as withdrawn without its value" (FD8)
 unfoldable pub fieldPlaceOf : ℕ → ℕ → ℕ → FieldPlace
 fieldPlaceOf t at n = cond (eqb t 3) Withdrawn (Raw t at n)
 
--- the field of a head and the offset after it; n, the slice's length, if there is no field
+-- the field of a head and the offset after it; n, the slice's length, if there is no field (FD10, FD11)
 unfoldable pub fieldStepOf : Head → ℕ → FieldStep
 fieldStepOf head.Broken n = record { field = Nothing; next = n }
 fieldStepOf head.End n = record { field = Nothing; next = n }
@@ -47,7 +48,7 @@ fieldStepOf (head.Field t v m x) n = record { field = fieldPlaceOf t v m; next =
 unfoldable pub stepAt : ℕ → List ℕ → FieldStep
 stepAt at bs = fieldStepOf (headAt at bs) (length bs)
 
--- the tag t is one of 1 to 3 and was seen before
+-- the tag t is one of 1 to 3 and was seen before (F4)
 unfoldable pub isSeen : Seen → ℕ → Bool
 isSeen s t = either (both (eqb t 1) (s .name)) (either (both (eqb t 2) (s .serial)) (both (eqb t 3) (s .console)))
 

@@ -1,4 +1,4 @@
--- Which bytes belong to a withdrawn value. Assumes nothing.
+-- Which bytes belong to a withdrawn value (FD9). Assumes nothing.
 use Prim.Native.Nat.{ℕ, _+_, _-_}
 use mathlib.Core.Bool.{Bool, false, cond}
 use mathlib.Core.List.{List, [], _∷_}

@@ -36,8 +36,8 @@ module _ (g : Granules) (n i : ℕ) where
       let f = falls g n addr i h in
       one-address g n addr (addressOf g i) i h (granule-on (f .ok) (f .count) (index-below g n addr i h))
 
--- A call is refused only if 01 or 02 refuses it. The answer is OK if the number of words is right, the record is up, the address is that of
--- a granule of the table (when undelegating, not of the shared page), and its byte is 0 (delegate) or 1 (undelegate).
+-- A call is refused only if CM2 or CM3 refuses it. The answer is OK if the number of words is right, the record is up, the address is that
+-- of a granule of the table (when undelegating, not of the shared page), and its byte is 0 (delegate) or 1 (undelegate).
 pub move-passes : (s : Record) (g : Granules) (d : Direction) (t : GranuleTable) (addr i : ℕ) →
     length (t .words) ≡ wordsFor (granuleCount g) → isUp s ≡ true → granuleAt g (length (t .bytes)) addr ≡ At i →
     (d ≡ Undelegate → addr ≡ bootParams s .base → ⊥) → getD (t .bytes) i 0 ≡ fromByte d → moveOf s g d t addr .answer ≡ answerOf Ok 0 0
@@ -50,7 +50,7 @@ move-passes s g d t addr i f u e n b =
     go Delegate n = refl
     go Undelegate n = ne-eqb addr (bootParams s .base) (n refl)
 
--- 02, E8: with the right number of words and the record up, undelegating the shared page is BAD_ADDR, for any table
+-- Request E8: with the right number of words and the record up, undelegating the shared page is BAD_ADDR, for any table
 pub shared-refused : (s : Record) (g : Granules) (t : GranuleTable) → length (t .words) ≡ wordsFor (granuleCount g) → isUp s ≡ true →
     moveOf s g Undelegate t (bootParams s .base) ≡ record { answer = answerOf BadAddr 0 0; table = t }
 unfolding movedTo isSharedPage

@@ -1,4 +1,4 @@
--- 02, E6: "If words and table agree the answers equal those of the full walk". Delegation and undelegation, and lists of them, keep
+-- Request E6: "If words and table agree the answers equal those of the full walk". Delegation and undelegation, and lists of them, keep
 -- agreement, refused or not. Assumes nothing.
 use Prim.Native.Nat.{ℕ, _<_}
 use mathlib.Core.Path.{_≡_, refl, sym, subst}

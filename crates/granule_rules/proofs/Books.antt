@@ -1,4 +1,4 @@
--- 02, E14: the books balance over each accepted call, and compose from table to table. Assumes nothing.
+-- Request E14: the books balance over each accepted call, and compose from table to table. Assumes nothing.
 use Prim.Native.Nat.{ℕ, zero, suc, _+_, _<_}
 use mathlib.Core.Path.{_≡_, refl, sym, ap, _∙_}
 use mathlib.Core.Bool.{Bool, true, false, cond}

@@ -1,4 +1,4 @@
--- 02, E1: what a list of granules does, in terms of its single calls. Assumes nothing.
+-- Request E1: what a list of granules does, in terms of its single calls. Assumes nothing.
 use Prim.Native.Nat.{ℕ, zero, suc, _+_, _<_, _≤_}
 use mathlib.Core.Path.{_≡_, refl, sym, ap, _∙_}
 use mathlib.Core.Bool.{Bool, true, false, false≢true}

@@ -1,5 +1,5 @@
--- When delegation gives each of its codes. 02, E6: INVAL first, if the number of words is wrong; 01: "BAD_ADDR unless .. the address are
--- multiples of 4,096 and the address falls on a granule of the table"; 02, E8: BAD_ADDR for undelegating the shared page; 01: "BAD_PAS
+-- When delegation gives each of its codes. Request E6: INVAL first, if the number of words is wrong; "BAD_ADDR unless .. the address are
+-- multiples of 4,096 and the address falls on a granule of the table"; request E8: BAD_ADDR for undelegating the shared page; "BAD_PAS
 -- unless that byte is 0 (delegate) or 1 (undelegate)". Assumes nothing.
 use Prim.Native.Nat.{ℕ, _+_, _/_}
 use mathlib.Core.Path.{_≡_, refl, sym, _∙_}
@@ -89,8 +89,8 @@ move-codes s g d t addr =
     gives _ _ Inval _ _ (tells-not _ _ (tells-eq (length (t .words)) ((granuleCount g + 63) / 64))) (λ f.
     while-up s (λ u. granuleCode u d t addr (granuleAt g (length (t .bytes)) addr)) _ (λ u e. granule-gives u g d t addr _ refl))
 
--- 02, E1 and E6: for a list INVAL first, also if it is empty; then the code of the first single call that is refused, or OK (`longest` in
--- Done.antt shows which call that is)
+-- Request E1 and E6: for a list INVAL first, also if it is empty; then the code of the first single call that is refused, or OK (`longest`
+-- in Done.antt shows which call that is)
 pub list-codes : (s : Record) (g : Granules) (d : Direction) (t : GranuleTable) (l : List ℕ) →
     Gives (length (t .words) ≡ (granuleCount g + 63) / 64 → ⊥) Inval
     (λ k. k ≡ codeBy (moveOf s g d) t l)

@@ -1,4 +1,4 @@
--- 02, E8: the shared page stays Realm. Assumes nothing.
+-- Request E8: the shared page stays Realm. Assumes nothing.
 use Prim.Native.Nat.{ℕ}
 use mathlib.Core.Path.{_≡_, refl, sym, ap, _∙_}
 use native.Mathlib.Omega.{arith}

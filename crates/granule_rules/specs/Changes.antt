@@ -17,7 +17,7 @@ pub record Change : Type 0 where
 abbrev pub change : Direction → ℕ → Change
 change d addr = record { way = d; address = addr }
 
--- an address is Realm: it falls on a granule of the table, whose byte is 1
+-- an address is Realm: it falls on a granule of the table, whose byte is 1 (BN2, BN6)
 pub record RealmAt (g : Granules) (addr : ℕ) (t : GranuleTable) : Type 0 where
   pub granule : ℕ
   pub own : granuleAt g (length (t .bytes)) addr ≡ At granule

@@ -1,4 +1,4 @@
--- 02, E1: delegate and undelegate over a list of addresses. Assumes nothing.
+-- Delegate and undelegate over a list of addresses (LG1 to LG6, request E1). Assumes nothing.
 use Prim.Native.Nat.{ℕ, suc, _<_, _≤_}
 use mathlib.Core.Path.{_≡_}
 use mathlib.Core.Bool.{false, cond}
@@ -13,18 +13,19 @@ use Rattle.granule_rules.specs.Granules.{GranuleTable, Moved, movedBy, f
 use Rattle.granule_rules.specs.declared.Direction.{Direction}
 use Rattle.granule_rules.specs.declared.Direction.the-variants.{Delegate, Undelegate}
 
--- "stopping at the first refusal": after k accepted calls comes the single call m, and if it is accepted the rest. "x1 holds the number
--- done on refusal too."
+-- "stopping at the first refusal" (LG1): after k accepted calls comes the single call m, and if it is accepted the rest. "x1 holds the
+-- number done on refusal too." (LG3)
 unfoldable pub onward : Moved → ℕ → Moved → Moved
 onward m k rest = cond (isOk (m .answer .code)) rest (record { answer = answerOf (m .answer .code) k 0; table = m .table })
 
--- "The result, the table and the number done equal single calls made in list order": f is the single call, and k calls are done before
+-- "The result, the table and the number done equal single calls made in list order" (LG1): f is the single call, and k calls are done
+-- before
 unfoldable pub listBy : (GranuleTable → ℕ → Moved) → ℕ → GranuleTable → List ℕ → Moved
 listBy f k t [] = record { answer = answerOf Ok k 0; table = t }
 listBy f k t (a ∷ l) = onward (f t a) k (listBy f (suc k) (f t a .table) l)
 
--- a list of the command's own single calls. "An empty list is OK with 0, up or not." 02, E6: "INVAL, before all other checks of any call on
--- words, an empty list's too"
+-- a list of the command's own single calls. "An empty list is OK with 0, up or not." (LG2.2) Request E6: "INVAL, before all other checks of
+-- any call on words, an empty list's too" (LG2.1)
 unfoldable pub moveListOf : Record → Granules → Direction → GranuleTable → List ℕ → Moved
 moveListOf s g d t l = cond (fitting g t) (listBy (moveOf s g d) 0 t l) (movedBy Inval t t)
 
@@ -37,7 +38,7 @@ abbrev pub undelegateListOf : Record → Granules → GranuleTable → List ℕ 
 undelegateListOf s g t l = moveListOf s g Undelegate t l
 
 -- ---- for the theorems on lists
--- the number of calls accepted before the first refusal
+-- the number of calls accepted before the first refusal (LG3)
 unfoldable pub doneBy : (GranuleTable → ℕ → Moved) → GranuleTable → List ℕ → ℕ
 doneBy f t [] = 0
 doneBy f t (a ∷ l) = cond (isOk (f t a .answer .code)) (suc (doneBy f (f t a .table) l)) 0
@@ -60,7 +61,7 @@ codeBy f t (a ∷ l) = ifOk (f t a .answer .code) (codeBy f (f t a .table) l) (f
 unfoldable pub codeAt : (GranuleTable → ℕ → Moved) → GranuleTable → List ℕ → ℕ → Code
 codeAt f t l i = f (tableBy f t (take i l)) (getD l i 0) .answer .code
 
--- the number done is the length of the longest prefix of calls that are all OK, and the code is that of the first refused call
+-- the number done is the length of the longest prefix of calls that are all OK, and the code is that of the first refused call (LG1, LG3)
 pub record Longest (f : GranuleTable → ℕ → Moved) (t : GranuleTable) (l : List ℕ) : Type 0 where
   pub within : doneBy f t l ≤ length l
   pub done : (i : ℕ) → i < doneBy f t l → codeAt f t l i ≡ Ok

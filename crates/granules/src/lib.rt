@@ -41,7 +41,7 @@ fn to_byte(direction: Direction) -> u8
     }
 }
 
-// Whether a call would undelegate the shared page, which must stay Realm.
+// Whether a call would undelegate the shared page, which must stay Realm (SH1).
 fn is_shared_page(params: Params, direction: Direction, address: u64) -> bool
     ensures { λ r. ⌜ r ≡ isSharedPage params direction address ⌝ }
 {
@@ -238,7 +238,7 @@ fn move_list(
 
 // ---- the commands ----
 
-// 0xC40001B0: makes the granule at `address` Realm, if it is Non-secure.
+// 0xC40001B0 (CM2): makes the granule at `address` Realm, if it is Non-secure.
 pub fn delegate(
     state: Record,
     granules: &[u64; 33],
@@ -256,7 +256,7 @@ pub fn delegate(
     codes::answer_with(code, 0, 0)
 }
 
-// 0xC40001B1: makes the granule at `address` Non-secure, if it is Realm.
+// 0xC40001B1 (CM3): makes the granule at `address` Non-secure, if it is Realm.
 pub fn undelegate(
     state: Record,
     granules: &[u64; 33],
@@ -288,7 +288,7 @@ pub fn undelegate(
     codes::answer_with(code, 0, 0)
 }
 
-// Delegates the granules at `addresses` in order, up to the first refusal; x1 is the number delegated.
+// Delegates the granules at `addresses` in order, up to the first refusal; x1 is the number delegated (LG1 to LG3).
 pub fn delegate_list(
     state: Record,
     granules: &[u64; 33],
@@ -308,7 +308,7 @@ pub fn delegate_list(
     )
 }
 
-// Undelegates the granules at `addresses` in order, up to the first refusal; x1 is the number undelegated.
+// Undelegates the granules at `addresses` in order, up to the first refusal; x1 is the number undelegated (LG1 to LG3).
 pub fn undelegate_list(
     state: Record,
     granules: &[u64; 33],

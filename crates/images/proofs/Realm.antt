@@ -64,7 +64,8 @@ pub built-x0 : (builtX0 true ≡ 0) × (builtX0 false ≡ inval)
 unfolding builtX0 x0Of extended
 built-x0 = (refl, refl)
 
--- ---- when each number is given. 02, E6: "INVAL, before all other checks of any call on words, .. if their number is not the record's granules
+-- ---- when each number is given. Request E6: "INVAL, before all other checks of any call on words, .. if their number is not the record's
+-- granules
 -- over 64, rounded up .. then INVAL for an index not below the granules, or a table of another length in agreement or build. No hit is a
 -- named answer."
 abbrev Fitting : List ℕ → ℕ → Type 0

@@ -1,4 +1,5 @@
--- States and answers as images, the lists of words that a C caller lends. Every image has a state, including a forged one. Assumes nothing.
+-- States and answers as images, the lists of words that a C caller lends (CE1). Every image has a state, also a forged one (CE2). Assumes
+-- nothing.
 use Prim.Native.Nat.{ℕ, _+_}
 use mathlib.Core.Bool.{Bool, cond}
 use mathlib.Core.List.{List, [], _∷_}
@@ -41,7 +42,7 @@ recordWords Fresh = 0 ∷ 0 ∷ 0 ∷ 0 ∷ 0 ∷ []
 recordWords (Up u) = 1 ∷ u .cpus ∷ u .base ∷ u .minor ∷ u .kept ∷ []
 recordWords Closed = 2 ∷ 0 ∷ 0 ∷ 0 ∷ 0 ∷ []
 
--- ---- a flag: any number except 0 is set
+-- ---- a flag: any number except 0 is set (CE2)
 unfoldable pub isSet : ℕ → Bool
 isSet n = isFalse (eqb n 0)
 

@@ -1,5 +1,5 @@
--- What the functions on realm words return to C: x0 of OK or INVAL, and a lent word. 02, E6: "No hit is a named
--- answer": it is 1. Words and table that differ also give 1. The lent word is 0 unless x0 is OK. Assumes nothing.
+-- What the functions on realm words return to C: x0 of OK or INVAL, and a lent word. Request E6: "No hit is a named
+-- answer" (CE5): it is 1. Words and table that differ also give 1. The lent word is 0 unless x0 is OK. Assumes nothing.
 use Prim.Native.Nat.{ℕ}
 use mathlib.Core.Bool.{Bool, true, false}
 use mathlib.Core.List.{List, [], _∷_}

@@ -85,7 +85,7 @@ pub fn put_session(image: &mut [u64; 3], session: Session, code: Code)
     }
 }
 
-// Whether a flag is set: any number except 0 is.
+// Whether a flag is set: any number except 0 is (CE2).
 pub fn is_set(flag: u64) -> bool
     ensures { λ r. ⌜ r ≡ isSet flag ⌝ }
 {
@@ -154,7 +154,8 @@ pub fn section_of(image: &[u64; 15], k: usize) -> Section
     section_in(image, 3 + 3 * k)
 }
 
-// `manifest_extent::kept_for` for the view of an image. Takes the sections one at a time: building the whole view first takes a third longer.
+// `manifest_extent::kept_for` for the view of an image. Takes the sections one at a time: building the whole view first takes a third
+// longer.
 pub fn kept_for(page: &[u8], image: &[u64; 15]) -> u64
     ensures { λ r. ⌜ (r ≡ keptFor (viewOf (now (image .entry))) (now (page .entry))) × (r ≤ 4096) ⌝ }
 {

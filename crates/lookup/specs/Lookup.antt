@@ -1,4 +1,4 @@
--- Where a section's array is in the page. Assumes nothing.
+-- Where a section's array is in the page (RD12). Assumes nothing.
 use Prim.Native.Nat.{ℕ, _+_}
 use mathlib.Core.Bool.{cond}
 use mathlib.Core.List.{List}
@@ -19,7 +19,7 @@ spanOf k Absent n = noSpan
 spanOf k Empty n = noSpan
 spanOf k (Entries at count) n = cond (leb (at + size k count) n) (spanAt at (size k count)) noSpan
 
--- the same for a reader's answer: "a refused page .. gives an empty part"
+-- the same for a reader's answer: "a refused page .. gives an empty part" (RD12)
 unfoldable pub spanIn : ℕ → List ℕ → ReaderAnswer → ℕ → Span
 spanIn base page (refused c) k = noSpan
 spanIn base page (shows w e q s) k = spanOf k (sectionOf (viewAt w e base page) k) (length page)

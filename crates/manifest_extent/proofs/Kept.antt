@@ -1,4 +1,4 @@
--- 02, E5: the kept bytes of a view cover everything that a reader of its edition looks at, and are at most 4,096. Assumes nothing.
+-- Request E5: the kept bytes of a view cover everything that a reader of its edition looks at, and are at most 4,096. Assumes nothing.
 use Prim.Native.Nat.{ℕ, zero, suc, _+_, _-_, _%_, _≤_, _<_, min, max}
 use mathlib.Core.Path.{_≡_, refl, sym, ap, _∙_}
 use mathlib.Core.Bool.{Bool, true, false, cond, false≢true}

@@ -1,5 +1,5 @@
--- 02, E5: for an accepted page, the kept bytes of its view are the fewest that cover what the reader looks at, rounded up to a multiple of
--- 8. Assumes nothing.
+-- Request E5: for an accepted page, the kept bytes of its view are the fewest that cover what the reader looks at, rounded up to a multiple
+-- of 8. Assumes nothing.
 use Prim.Native.Nat.{ℕ, zero, suc, _+_, _-_, _*_, _/_, _%_, _≤_, _<_, min}
 use mathlib.Core.Path.{_≡_, refl, sym, ap, _∙_}
 use mathlib.Core.Bool.{Bool, true, false, false≢true}

@@ -166,7 +166,7 @@ module _ (w e base : ℕ) (q : PagePlatform) (f : ℕ → PageSection) where
   pub keeps-all : (pad : ℕ) → Yes (rules w e base pad q f) → (k : ℕ) → k < sectionCount e → Yes (keepsSection w e base q f k)
   keeps-all pad t k l = keeps-of k (all-left pad t k (omega arith)) (rules-stays w e base q f pad t k l)
 
--- ---- 02's sentence: a section is kept when it obeys its own rule and overlaps none that was kept before it
+-- ---- MD2 and MD3: a section is kept when it obeys its own rule and overlaps none that was kept before it
 apart-cond : (b : Bool) (a : Extent) (j : ℕ) (s : PageSection) →
     apart a (extent j (cond b s noSection)) ≡ either (not b) (apart a (extent j s))
 unfolding either

@@ -1,5 +1,5 @@
--- 02, E12: three sections of a 0.4 page name one array. The first has a wrong checksum and is dropped, so it overlaps nothing and the second is kept;
--- the third overlaps the second and is dropped. Assumes nothing.
+-- Request E12: three sections of a 0.4 page name one array. The first has a wrong checksum and is dropped, so it overlaps nothing and the
+-- second is kept; the third overlaps the second and is dropped. Assumes nothing.
 use Prim.Native.Nat.{ℕ}
 use mathlib.Core.Bool.{true, false}
 use mathlib.Core.Path.{_≡_, refl}

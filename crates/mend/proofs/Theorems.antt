@@ -1,4 +1,4 @@
--- 02's claims of the mender, proved. Assumes nothing.
+-- MD1 to MD7, the claims of the mender, proved. Assumes nothing.
 use Prim.Native.Nat.{ℕ, zero, suc, _+_, _*_, _≤_, _<_, min}
 use mathlib.Core.Bool.{Bool, true, false, cond, not}
 use mathlib.Core.Logic.{_⊎_, inl, inr}

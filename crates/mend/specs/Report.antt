@@ -1,4 +1,4 @@
--- The mender's answer as numbers, for C. Assumes nothing.
+-- The mender's answer as numbers, for C (CE5). Assumes nothing.
 use Prim.Native.Nat.{ℕ}
 use mathlib.Core.Bool.{Bool, cond}
 use mathlib.Core.List.{List, [], _∷_}
@@ -14,7 +14,7 @@ unfoldable pub mendedNumber : Mended → ℤ
 mendedNumber (Done c) = pos 0
 mendedNumber (Refused c) = refusalNumber c
 
--- "for each of the six whether it was changed": 1 if it was
+-- "for each of the six whether it was changed" (MD4, CE5): 1 if it was
 unfoldable pub flagWord : Bool → ℕ
 flagWord b = cond b 1 0
 
@@ -23,7 +23,7 @@ unfoldable pub changeWords : Changes → List ℕ
 changeWords c =
     flagWord (c .padding) ∷ flagWord (c .plat) ∷ flagWord (c .dram) ∷ flagWord (c .console) ∷ flagWord (c .ncoh) ∷ flagWord (c .coh) ∷ []
 
--- the words of the six parts; all zero if the page is refused
+-- the words of the six parts; all zero if the page is refused (MD1, CE3)
 unfoldable pub reportWords : Mended → List ℕ
 reportWords (Done c) = changeWords c
 reportWords (Refused c) = replicate 6 0

@@ -1,5 +1,5 @@
-// The mender: mends a damaged page in place, part by part. The reader's own rules decide whether a part is kept, on the page as mended so far: a part
-// that was dropped is zero there, so it cannot overlap a later part.
+// The mender: mends a damaged page in place, part by part. The reader's own rules decide whether a part is kept, on the page as mended so
+// far: a part that was dropped is zero there, so it cannot overlap a later part.
 use fields::FieldsEnd;
 use reader::Refusal;
 use versions::Edition;
@@ -111,7 +111,7 @@ fn mend_parts(page: &mut [u8], base: u64, minor: u64, e: Edition) -> Changes
     }
 }
 
-// Mends the lent page at `base`, read as edition min(4, minor). A refused page stays unchanged.
+// Mends the lent page at `base`, read as edition min(4, minor) (MD2). A refused page stays unchanged (MD1).
 pub fn mend(page: &mut [u8], base: u64) -> Mended
     ensures { λ r. ⌜ r ≡ mendedOf base (now (page .entry)) ⌝ }
     ensures { λ _. ⌜ now (page .exit) ≡ mendedPage base (now (page .entry)) ⌝ }

@@ -41,7 +41,7 @@ cohTitle = 99 ∷ 111 ∷ 104 ∷ []
 unfoldable pub saidText : Bool → List ℕ
 saidText b = cond b (32 ∷ 121 ∷ 101 ∷ 115 ∷ 10 ∷ []) (32 ∷ 110 ∷ 111 ∷ 10 ∷ [])
 
--- "It reports for each of the six whether it was changed", one line each
+-- "It reports for each of the six whether it was changed" (MD8), one line each
 unfoldable pub lineText : List ℕ → Bool → List ℕ
 lineText title b = title ++ saidText b
 
@@ -55,7 +55,7 @@ changesText c =
     ++ lineText ncohTitle (c .ncoh)
     ++ lineText cohTitle (c .coh)
 
--- `refused` and the code, as in the listing
+-- `refused` and the code, as in the listing (MD8)
 unfoldable pub refusalText : Refusal → List ℕ
 refusalText Place = 114 ∷ 101 ∷ 102 ∷ 117 ∷ 115 ∷ 101 ∷ 100 ∷ 32 ∷ 45 ∷ 53 ∷ 10 ∷ []
 refusalText Version = 114 ∷ 101 ∷ 102 ∷ 117 ∷ 115 ∷ 101 ∷ 100 ∷ 32 ∷ 45 ∷ 54 ∷ 10 ∷ []
@@ -74,8 +74,8 @@ mendedInput input = cond (eqb (length input) 4104) (mendedOf (wordAt 0 input) (p
 unfoldable pub inputLeft : List ℕ → List ℕ
 inputLeft input = cond (eqb (length input) 4104) (mendedPage (wordAt 0 input) (part 8 4096 input)) (part 8 4096 input)
 
--- Reading stops when the room is full or the input ends. So the `n` bytes read into the room are the first min(room, input) bytes of the input. For
--- every such input, `r` is the mender's answer, and if the input has the right length, the room then holds its mended page.
+-- Reading stops when the room is full or the input ends. So the `n` bytes read into the room are the first min(room, input) bytes of the
+-- input. For every such input, `r` is the mender's answer, and if the input has the right length, the room then holds its mended page.
 abbrev pub MendsInput : List ℕ → ℕ → Mended → List ℕ → Type 0
 MendsInput room n r after =
     (input : List ℕ) → take n room ≡ take (length room) input →

@@ -1,4 +1,4 @@
--- What 02, E11 requires of the packer, proved. Assumes nothing.
+-- What request E11 requires of the packer, proved. Assumes nothing.
 use Prim.Native.Nat.{ℕ, _<_}
 use mathlib.Core.Path.{_≡_, sym}
 use mathlib.Core.List.{List}

@@ -1,5 +1,5 @@
--- Packing a page (PK1). 02, E11: "The new page is exactly what the writer makes, at the page's own minor, from what reader edition 4 shows, with fields
--- kept in page order and withdrawn ones dropped." Assumes nothing.
+-- Packing a page (PK1). Request E11: "The new page is exactly what the writer makes, at the page's own minor, from what reader edition 4
+-- shows, with fields kept in page order and withdrawn ones dropped." Assumes nothing.
 use Prim.Native.Nat.{ℕ}
 use mathlib.Core.Bool.{cond}
 use mathlib.Core.List.{List, [], _∷_, _++_}
@@ -21,7 +21,7 @@ entriesIn absent = []
 entriesIn empty = []
 entriesIn (full ws bs) = ws
 
--- "with fields kept in page order and withdrawn ones dropped"
+-- "with fields kept in page order and withdrawn ones dropped" (PK1)
 unfoldable pub fieldsKept : List FieldShown → List ℕ
 fieldsKept [] = []
 fieldsKept (raw t v ∷ fs) = fieldBytes t v ++ fieldsKept fs
@@ -31,7 +31,8 @@ fieldsKept (withdrawn ∷ fs) = fieldsKept fs
 unfoldable pub shownDescription : PlatShown → (ℕ → Shown) → Description
 shownDescription q s = record { lists = λ k. entriesIn (s k); fields = fieldsKept (q .fields) }
 
--- the result of packing: a code, or what the writer makes. PK2: "Refusals: the reader's codes; then -6 for minor 5 and above; then W1 for the target."
+-- the result of packing: a code, or what the writer makes. PK2: "Refusals: the reader's codes; then -6 for minor 5 and above; then W1 for
+-- the target."
 pub data Packed : Type 0 where
   stopped : ℤ → Packed
   written : Made → Packed
@@ -51,7 +52,7 @@ packedBy target Page = written (a-page target)
 packedBy target (Refused c) = stopped (refusalNumber c)
 packedBy target Target = written (no-page 1)
 
--- "The target is untouched.", or the page that was made
+-- "The target is untouched." (PK2), or the page that was made
 unfoldable pub targetAfter : List ℕ → Packed → List ℕ
 targetAfter target (stopped c) = target
 targetAfter target (written m) = pageAfter target m

@@ -107,7 +107,8 @@ pub extern "C" fn pbeam_read(page: &[u8], base: u64, edition: u64, view: &mut [u
     }
 }
 
-// Reads the page at `base` as a reader of `edition`. Writes offset and length of the array of `section` to `place`, (0, 0) if there is no array.
+// Reads the page at `base` as a reader of `edition`. Writes offset and length of the array of `section` to `place`, (0, 0) if there is no
+// array.
 #[no_mangle]
 pub extern "C" fn pbeam_array(
     page: &[u8],
@@ -226,7 +227,8 @@ pub extern "C" fn pbeam_kept_for(page: &[u8], view: &[u64; 15]) -> u64
     images::kept_for(page, view)
 }
 
-// Writes the listing of the page at `base`, read as `edition`, to `text`, cut to the length of `text`. Returns the length of the whole listing.
+// Writes the listing of the page at `base`, read as `edition`, to `text`, cut to the length of `text`. Returns the length of the whole
+// listing.
 #[no_mangle]
 pub extern "C" fn pbeam_listing(page: &[u8], base: u64, edition: u64, text: &mut [u8]) -> usize
     ensures { λ r. ⌜ r ≡ length (listingOf (readOf edition base (now (page .entry)))) ⌝ }
@@ -292,8 +294,8 @@ pub extern "C" fn pbeam_version_0_4_0() -> u64
 
 // ---- Boot ----
 
-// Cold boot with x0 to x3, on a monitor of at most `maxcpus` CPUs, with `manifest_extent` kept bytes at the start of the page, which is at physical
-// address x3. Returns 0 or the code.
+// Cold boot with x0 to x3 (BT2, BT3), on a monitor of at most `maxcpus` CPUs. `page` is the page at physical address x3, and its
+// first `kept` bytes are kept. Returns 0 or the code.
 #[no_mangle]
 pub extern "C" fn pbeam_cold_boot(
     image: &mut [u64; 5],
@@ -350,7 +352,7 @@ pub extern "C" fn pbeam_set_up_granules(granules: &mut [u64; 33], banks: &[u8], 
 
 // ---- Runtime commands ----
 
-// 0xC40001B0: changes the granule at `address` to Realm.
+// 0xC40001B0 (CM2): changes the granule at `address` to Realm.
 #[no_mangle]
 pub extern "C" fn pbeam_delegate(
     state: &[u64; 5],
@@ -372,7 +374,7 @@ pub extern "C" fn pbeam_delegate(
     ));
 }
 
-// 0xC40001B1: changes the granule at `address` to Non-secure.
+// 0xC40001B1 (CM3): changes the granule at `address` to Non-secure.
 #[no_mangle]
 pub extern "C" fn pbeam_undelegate(
     state: &[u64; 5],
@@ -438,7 +440,7 @@ pub extern "C" fn pbeam_undelegate_list(
     ));
 }
 
-// 0xC40001B2: writes the realm key to the page at `pa`.
+// 0xC40001B2 (CM4): writes the realm key to the page at `pa`.
 #[no_mangle]
 pub extern "C" fn pbeam_realm_key(
     state: &[u64; 5],
@@ -462,7 +464,7 @@ pub extern "C" fn pbeam_realm_key(
     ));
 }
 
-// 0xC40001B3: writes the next hunk of the token to the page at `pa`. The session's image changes only if the call is accepted.
+// 0xC40001B3 (CM5): writes the next hunk of the token to the page at `pa`. The session's image changes only if the call is accepted.
 #[no_mangle]
 pub extern "C" fn pbeam_platform_token(
     state: &[u64; 5],
@@ -514,7 +516,7 @@ pub extern "C" fn pbeam_challenge(
     codes::x0(token::challenge_code(record, page, pa, size, csize))
 }
 
-// 0xC40001B4: the feature register at `index`.
+// 0xC40001B4 (CM6): the feature register at `index`.
 #[no_mangle]
 pub extern "C" fn pbeam_features(state: &[u64; 5], index: u64, out: &mut [u64; 3])
     ensures { λ _. ⌜ now (out .exit) ≡ registerWords (featuresOf (recordOf (now (state .entry))) index) ⌝ }
@@ -522,8 +524,8 @@ pub extern "C" fn pbeam_features(state: &[u64; 5], index: u64, out: &mut [u64; 3
     *out = images::registers(features::features(images::record_of(state), index));
 }
 
-// 0xC40001B5: push, pull or key, by `opcode`. An accepted push changes only the requests in the queue's image, an accepted pull only the
-// responses.
+// 0xC40001B5 (CM7): push, pull or key, by `opcode`. An accepted push changes only the requests in the queue's image, an accepted pull only
+// the responses.
 #[no_mangle]
 pub extern "C" fn pbeam_token_signing(
     state: &[u64; 5],
@@ -554,7 +556,7 @@ pub extern "C" fn pbeam_token_signing(
     *out = images::registers(answer);
 }
 
-// 0xC40001B6: writes what the platform must do to `work`.
+// 0xC40001B6 (CM8): writes what the platform must do to `work`.
 #[no_mangle]
 pub extern "C" fn pbeam_key_update(
     state: &[u64; 5],
@@ -573,7 +575,7 @@ pub extern "C" fn pbeam_key_update(
     *out = images::registers(answer);
 }
 
-// 0xC400018F: returns the error code for the Non-secure world.
+// 0xC400018F (CM1): returns the error code for the Non-secure world.
 #[no_mangle]
 pub extern "C" fn pbeam_forward(state: &[u64; 5], x1: u64) -> u64
     ensures { λ r. ⌜ r ≡ forwardOf (recordOf (now (state .entry))) x1 ⌝ }
@@ -669,8 +671,8 @@ pub extern "C" fn pbeam_realm_build(granules: &[u64; 33], table: &[u8], words: &
 // work[0] after 0xC400018F; work[1] is err_code for the Non-secure world.
 const WORK_FORWARD: u64 = 2;
 
-// Runs any runtime command: call[0] is the function id, call[1] to call[4] are x1 to x4. Only the platform token uses the session's image and
-// only token signing the queue's image; an image changes only if the call is accepted.
+// Runs any runtime command: call[0] is the function id, call[1] to call[4] are x1 to x4. Only the platform token uses the session's image
+// and only token signing the queue's image; an image changes only if the call is accepted.
 #[no_mangle]
 pub extern "C" fn pbeam_call(
     state: &[u64; 5],

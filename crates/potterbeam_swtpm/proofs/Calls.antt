@@ -1,5 +1,5 @@
--- Calls of the exported collector are steps of the collector, so the theorems of E13 hold for them; refused calls change nothing that they are lent.
--- Assumes nothing.
+-- Calls of the exported collector are steps of the collector, so the theorems of E13 hold for them; refused calls change nothing that they
+-- are lent. Assumes nothing.
 use Prim.Native.Nat.{ℕ}
 use mathlib.Core.Path.{_≡_, refl, ap, _∙_}
 use mathlib.Core.Bool.{Bool, true, false, cond}
@@ -35,7 +35,7 @@ unfolding collectorAfterAll afterOffers
 call-steps [] l = refl
 call-steps (o ∷ os) l = call-steps os (collectorAfter o l) ∙ ap (afterOffers os) (call-step o l)
 
--- 02, E13: "On refusal collector and lent buffers stay unchanged.": every word of the image, including a forged one
+-- Request E13: "On refusal collector and lent buffers stay unchanged.": every word of the image, including a forged one
 pub exported-refused-changes-nothing : (o : Offer) (l : LentCollector) →
     (collectLeft (collect (o .largest) (o .message) (collectorOf (l .image)) (l .buffer)) (l .image) .answer ≡ 0 → ⊥) →
     collectorAfter o l ≡ l
@@ -71,7 +71,7 @@ from-zeros : (os : List Offer) (b : List ℕ) → heldBy (collectorAfterAll os (
     (started b)
 from-zeros os b = call-steps os (record { image = newImage; buffer = b }) ∙ ap (afterOffers os) (zeros-new b)
 
--- for calls from C: the collector depends on the accepted responses alone, and is complete exactly as 02 defines it
+-- for calls from C: the collector depends on the accepted responses alone, and is complete exactly as SB8 defines it
 pub exported-holds-accepted : (os : List Offer) (b : List ℕ) →
     HoldsJoined (acceptedOf os (started b)) (heldBy (collectorAfterAll os (record { image = newImage; buffer = b })))
 exported-holds-accepted os b = rw (from-zeros os b) (holds-accepted os b)
@@ -81,7 +81,7 @@ pub exported-complete-exactly : (os : List Offer) (b : List ℕ) →
     (acceptedOf os (started b))
 exported-complete-exactly os b = rw (from-zeros os b) (complete-exactly os b)
 
--- 02, E13: "the bytes held are that blob's first ones", for calls from C
+-- Request E13: "the bytes held are that blob's first ones", for calls from C
 pub exported-held-are-first : (blob : List ℕ) (os : List Offer) (b : List ℕ) → Cuts blob os (started b) →
     HoldsFirst blob (heldBy (collectorAfterAll os (record { image = newImage; buffer = b })))
 exported-held-are-first blob os b cuts = rw (from-zeros os b) (held-are-first blob os b cuts)

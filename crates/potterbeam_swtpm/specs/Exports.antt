@@ -1,4 +1,5 @@
--- Answers as numbers, and the collector as three lent words, for C. A refused call leaves each lent word and byte unchanged. Assumes nothing.
+-- Answers as numbers, and the collector as three lent words, for C. A refused call leaves each lent word and byte unchanged. Assumes
+-- nothing.
 use Prim.Native.Nat.{ℕ}
 use mathlib.Core.Bool.{not}
 use mathlib.Core.List.{List, [], _∷_}
@@ -19,7 +20,7 @@ use Rattle.state_blobs.specs.declared.CollectVerdict.{CollectVerdict}
 use Rattle.state_blobs.specs.declared.CollectVerdict.the-variants as verdict
 use Rattle.state_blobs.specs.declared.Collector.{Collector}
 
--- the number of a refusal; 0 is the answer of an accepted call
+-- the number of a refusal; 0 is the answer of an accepted call (SB4)
 unfoldable pub stateRefusalNumber : StateRefusal → ℕ
 stateRefusalNumber refusal.CutShort = 1
 stateRefusalNumber refusal.TooLong = 2
@@ -62,7 +63,7 @@ writtenLeft (wrote.Refused why) len b = record { answer = stateRefusalNumber why
 abbrev pub writeLeft : Message → ℕ → WriteLeft
 writeLeft m len = writtenLeft (m .answer) len (m .buffer)
 
--- ---- the collector as three words: accepted, totlength, bytes held. Any first word except 0 means that a response was accepted.
+-- ---- the collector as three words: accepted, totlength, bytes held. Any first word except 0 means that a response was accepted. (CE1)
 unfoldable pub collectorOf : List ℕ → Collector
 collectorOf image = record { accepted = not (eqb (getD image 0 0) 0); total = getD image 1 0; held = getD image 2 0 }
 

@@ -11,12 +11,12 @@ use Rattle.tpm.specs.declared.TpmSession.the-variants.{None, Open}
 use Rattle.tpm.specs.ReturnCodes.{hcallNumber, isSuccess}
 use Rattle.tpm.specs.Comm.{CommStep, commOf}
 
--- ---- the arguments, in 003's order
+-- ---- the arguments, in the order of TP1
 abbrev pub argumentsOf : (operation inbuffer insize outbuffer outsize : ℕ) → Arguments
 argumentsOf operation inbuffer insize outbuffer outsize =
     record { operation = operation; inbuffer = inbuffer; insize = insize; outbuffer = outbuffer; outsize = outsize }
 
--- ---- the session as a word: 0 none, any other number open
+-- ---- the session as a word: 0 none, any other number open (CE1)
 unfoldable pub tpmSessionOf : ℕ → TpmSession
 tpmSessionOf w = cond (eqb w 0) None Open
 
@@ -46,7 +46,7 @@ commLeft t word =
 abbrev pub leftBy : ℤ → ℕ → ℕ → List ℕ → CommLeft
 leftBy r3 r4 session memory = record { r3 = r3; r4 = r4; session = session; memory = memory }
 
--- a flag of the platform: any number except 0 is true
+-- a flag of the platform: any number except 0 is true (CE2)
 unfoldable pub says : ℕ → Bool
 says flag = not (eqb flag 0)
 

@@ -1,5 +1,5 @@
--- The signing queue as lists, the oldest first. 01: "eight requests waiting: AGAIN; otherwise the request joins the end."; "The oldest
--- request, all its fields, can be asked for; none is a named answer. Freed places are used again." Assumes nothing.
+-- The signing queue as lists, the oldest first. "eight requests waiting: AGAIN; otherwise the request joins the end." (CM7.10, CM7.15);
+-- "The oldest request, all its fields, can be asked for; none is a named answer. Freed places are used again." (SQ3, SQ6) Assumes nothing.
 use Prim.Native.Nat.{ℕ, _-_}
 use mathlib.Core.Bool.{cond}
 use mathlib.Core.List.{List, [], _∷_, _++_, map}
@@ -46,7 +46,7 @@ signedIn r = record { granule = r .granule; ticket = r .ticket; signature = take
 unfoldable pub waitingSigned : Responses → List Signed
 waitingSigned side = map signedIn (waitingItems side)
 
--- both sides of a queue as lists
+-- both sides of a queue as lists (SQ1, SQ7)
 unfoldable pub listsOf : Queue → Lists
 listsOf q = record { requests = waiting (q .requests); responses = waitingSigned (q .responses) }
 
@@ -76,7 +76,7 @@ oldestResponse l = getD l 0 (record { granule = 0; ticket = 0; signature = [] })
 unfoldable pub waitingOf : List Request → Waiting
 waitingOf l = cond (eqb (length l) 0) None Some
 
--- the oldest request, and whether a request waits
+-- the oldest request, and whether a request waits (SQ3)
 unfoldable pub oldestOf : List Request → Oldest
 oldestOf l = record { waiting = waitingOf l; request = oldestRequest l }
 
@@ -97,7 +97,7 @@ responseHolding s = record { granule = s .granule; ticket = s .ticket; len = len
 unfoldable pub responsesHolding : List Signed → Responses
 responsesHolding l = record { items = padTo 8 noResponse (map responseHolding l); count = length l }
 
--- the queue that holds these lists
+-- the queue that holds these lists (SQ6)
 unfoldable pub queueHolding : Lists → Queue
 queueHolding q = record { requests = requestsHolding (q .requests); responses = responsesHolding (q .responses) }
 
@@ -121,7 +121,7 @@ pub record SigningExit : Type 0 where
 abbrev pub signingExit : QueueResult → List ℕ → SigningExit
 signingExit r page = record { answer = r .answer; page = page; queue = r .queue }
 
--- after an OK the queue holds what then waits and nothing else; after a refusal it is unchanged
+-- after an OK the queue holds what then waits and nothing else; after a refusal it is unchanged (SQ6, GE4)
 unfoldable pub queueNext : Code → Lists → Queue → Queue
 queueNext k new old = ifOk k (queueHolding new) old
 

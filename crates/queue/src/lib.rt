@@ -145,7 +145,7 @@ pub fn response_count(side: Responses) -> usize
     n
 }
 
-// Returns the number of bytes of a response's signature; a length above 104 counts as 104.
+// Returns the number of bytes of a response's signature; a length above 104 counts as 104 (SQ7).
 pub fn signature_len(response: Response) -> usize
     ensures { λ r. ⌜ (r ≡ length (signedIn response .signature)) × (r ≤ 104) ⌝ }
 {
@@ -278,7 +278,7 @@ pub fn first_response(side: Responses) -> Response
     responses[0]
 }
 
-// Returns the oldest request with all its fields, and whether a request waits.
+// Returns the oldest request with all its fields, and whether a request waits (SQ3).
 pub fn oldest_request(queue: Queue) -> Oldest
     ensures { λ r. ⌜ r ≡ oldestOf (listsOf queue .requests) ⌝ }
 {

@@ -38,7 +38,7 @@ heldIn row = record { granule = getD row 0 0; ticket = getD row 1 0; len = getD 
 unfoldable pub responseIn : List ℕ → Signed
 responseIn row = signedIn (heldIn row)
 
--- the first word is the number of requests, the second of responses; a number above eight counts as eight
+-- the first word is the number of requests, the second of responses; a number above eight counts as eight (CE1, SQ7)
 unfoldable pub listsIn : List ℕ → Lists
 listsIn w =
     record {

@@ -27,7 +27,7 @@ rowsWaiting s w = min 8 (getD w (s .number) 0)
 unfoldable pub rowsIn : Side → List ℕ → List ℕ
 rowsIn s w = part (s .start) (s .width * rowsWaiting s w) w
 
--- adds a row after those that wait
+-- adds a row after those that wait (CE4)
 unfoldable pub rowJoined : Side → List ℕ → List ℕ → List ℕ
 rowJoined s row w = splice (s .number) (suc (rowsWaiting s w) ∷ []) (splice (s .start + s .width * rowsWaiting s w) row w)
 

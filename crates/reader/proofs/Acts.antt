@@ -1,4 +1,4 @@
--- A reader accepts exactly under 01's conditions, given as plain facts. Assumes nothing.
+-- A reader accepts exactly under the conditions of RD2, given as plain facts. Assumes nothing.
 use Prim.Native.Nat.{ℕ, _+_}
 use mathlib.Core.Path.{_≡_, refl, sym, _∙_}
 use mathlib.Core.Bool.{Bool, true, false}

@@ -1,4 +1,4 @@
--- 02, E7: sample pages of edition 1 with a board name, a serial and a raw field, and what is shown and named of them; also pages whose
+-- Request E7: sample pages of edition 1 with a board name, a serial and a raw field, and what is shown and named of them; also pages whose
 -- fields are refused. Assumes nothing.
 use Prim.Native.Nat.{ℕ, _+_}
 use mathlib.Core.Bool.{Bool, true, false}
@@ -20,7 +20,7 @@ use Rattle.reader.specs.Answer.{namedBy, named}
 unfoldable pub facts : List ℕ
 facts = 1 ∷ 3 ∷ 0 ∷ 112 ∷ 98 ∷ 49 ∷ 2 ∷ 8 ∷ 0 ∷ 8 ∷ 7 ∷ 6 ∷ 5 ∷ 4 ∷ 3 ∷ 2 ∷ 1 ∷ 9 ∷ 0 ∷ 0 ∷ 0 ∷ 0 ∷ 0 ∷ []
 
--- a 0.1 page for B = 0x80000000: the platform pointer is B + offset, `bytes` follows the core, and `read_tail` bytes of 5 follow those
+-- a 0.1 page for B = 0x80000000: the platform pointer is B + offset, `bytes` follows the core, and `rest` bytes of 5 follow those
 unfoldable pub pageWith : ℕ → List ℕ → ℕ → List ℕ
 pageWith offset bytes rest = leBytes 8 1 ++ leBytes 8 (0x80000000 + offset) ++ bytes ++ replicate rest 5
 

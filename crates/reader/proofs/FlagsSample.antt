@@ -1,5 +1,5 @@
--- 02, E3: a sample page with one console whose flags are set, read at the limit. At minor 4 it is refused; at minor 5 it is accepted, the
--- console is shown with flags 0 and its other words unchanged, and the lookup gives the page's bytes. Holds for editions 3 and 4, which
+-- Request E3: a sample page with one console whose flags are set, read at the limit. At minor 4 it is refused; at minor 5 it is accepted,
+-- the console is shown with flags 0 and its other words unchanged, and the lookup gives the page's bytes. Holds for editions 3 and 4, which
 -- have consoles. Assumes nothing.
 use Prim.Native.Nat.{ℕ}
 use mathlib.Core.Path.{_≡_, refl}

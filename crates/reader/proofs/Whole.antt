@@ -187,7 +187,7 @@ module _ (r base : ℕ) (page : List ℕ) where
   pub refused-reads : (c : Refusal) → Wrong c ≡ verdictOf (readingOf r base page) → Refused c ≡ readingOf r base page
   refused-reads c h = verdict-refused c (readingOf r base page) h
 
-  -- a page with verdict `Fine` has 4,096 bytes, keeps its rules and is shown
+  -- a page with verdict `Passed` has 4,096 bytes, keeps its rules and is shown
   pub fine-reads : (w : ℕ) → Passed w ≡ verdictOf (readingOf r base page) →
       (length page ≡ 4096) × (rulesAt w (min r w) base page ≡ true) × (Accepted (viewAt w (min r w) base page) ≡ readingOf r base page)
   unfolding readingOf viewAt

@@ -1,4 +1,4 @@
--- When a reader accepts: 01's conditions as plain facts, without the tests that the code is proved against. Assumes nothing.
+-- When a reader accepts: the conditions of RD2 as plain facts, without the tests that the code is proved against. Assumes nothing.
 use Prim.Native.Nat.{ℕ, _+_, _*_, _^_, min, _≤_, _<_}
 use mathlib.Core.Path.{_≡_}
 use mathlib.Core.Logic.{_⊎_}
@@ -13,11 +13,11 @@ use Rattle.reader.specs.Answer.{Shown, PlatShown, refused, shows, minus,
 use Rattle.reader.specs.Views.{PageShown}
 
 -- a reader of edition r and a page of version v: none of "reader edition not 1 to 4; manifest version not accepted"; "bit 31 zero, major
--- 0, minor 1 or more"
+-- 0, minor 1 or more" (V1, V2)
 abbrev pub VersionFacts : ℕ → ℕ → Type 0
 VersionFacts r v = (1 ≤ r) × (r ≤ 4) × (1 ≤ v) × (v < 2 ^ 16)
 
--- A reader of edition r, on a page of minor w, works with e = min(r, w). "It accepts when all hold":
+-- A reader of edition r, on a page of minor w, works with e = min(r, w). "It accepts when all hold" (RD2):
 pub record Accepts (r base : ℕ) (page : List ℕ) (w e : ℕ) : Type 0 where
   -- no -5: P1 and P2 hold
   pub place : PlaceFacts base (length page)
@@ -36,7 +36,7 @@ pub record Accepts (r base : ℕ) (page : List ℕ) (w e : ℕ) : Type 0 where
   -- "no two arrays overlap" (S5)
   pub apart : (j k : ℕ) → j < k → k < sectionCount e →
       ApartFacts j (wordAt (16 + 24 * j) page) (wordAt (24 + 24 * j) page) k (wordAt (16 + 24 * k) page) (wordAt (24 + 24 * k) page)
-  -- 02, E7: fields "overlap no array that the reader reads" (F5)
+  -- Request E7: fields "overlap no array that the reader reads" (F5)
   pub clear : (k : ℕ) → k < sectionCount e →
       (wordAt 8 page + taken ≤ wordAt (24 + 24 * k) page) ⊎ (wordAt (24 + 24 * k) page + size k (wordAt (16 + 24 * k) page) ≤ wordAt 8 page)
 
@@ -55,10 +55,10 @@ pub record AcceptedPage (r base : ℕ) (page : List ℕ) (w e : ℕ) (q : PlatSh
   pub conditions : Accepts r base page w e
   pub plat : q ≡ platWith page (conditions .fields)
 
--- "in this order of checks": the code of a page that does not meet the conditions
+-- "in this order of checks" (RD2): the code of a page that does not meet the conditions
 pub record Refuses (r base : ℕ) (page : List ℕ) : Type 0 where
   pub place : (PlaceFacts base (length page) → ⊥) → readOf r base page ≡ refused (minus 5)
   pub version : PlaceFacts base (length page) → (VersionFacts r (u32At 0 page) → ⊥) → readOf r base page ≡ refused (minus 6)
-  -- "-7: any other manifest rule broken"
+  -- "-7: any other manifest rule broken" (RD2)
   pub rules : PlaceFacts base (length page) → VersionFacts r (u32At 0 page) → ((w e : ℕ) → Accepts r base page w e → ⊥) →
       readOf r base page ≡ refused (minus 7)

@@ -1,4 +1,4 @@
--- A reader's answer. 01: "A reader of edition r, on a page of minor w, works with e = the smaller of r and w." Assumes nothing.
+-- A reader's answer. "A reader of edition r, on a page of minor w, works with e = the smaller of r and w." (RD1) Assumes nothing.
 use Prim.Native.Nat.{ℕ, _+_, _*_, _/_, min}
 use mathlib.Core.Bool.{Bool, true, false, cond}
 use mathlib.Core.List.{List, []}
@@ -15,18 +15,18 @@ use Rattle.sections.specs.Page.{placeOk, versionAt, paddingAt, countAt, pointer
 use Rattle.sections.specs.Page.{foundAt, platformAt}
 use Rattle.sections.specs.Section.{wordsIn, rules}
 
--- "for each of the four sections absent (not in e), empty, or the entries in order": the words of the entries as they are shown, and the
--- bytes of the array as the lookup gives them
+-- "for each of the four sections absent (not in e), empty, or the entries in order" (RD10): the words of the entries as they are shown, and
+-- the bytes of the array as the lookup gives them
 pub data Shown : Type 0 where
   absent empty : Shown
   full : List ℕ → List ℕ → Shown
 
--- what is shown of the platform data: the pointer, and 02, E7's fields in page order
+-- what is shown of the platform data: the pointer, and request E7's fields in page order
 pub record PlatShown : Type 0 where
   pub pointer : ℕ
   pub fields : List FieldShown
 
--- "a lone reader's answer is its code or, on acceptance, all that it shows": w, e, plat_data and each section
+-- "a lone reader's answer is its code or, on acceptance, all that it shows" (RD10): w, e, plat_data and each section
 pub data ReaderAnswer : Type 0 where
   refused : ℤ → ReaderAnswer
   shows : ℕ → ℕ → PlatShown → (ℕ → Shown) → ReaderAnswer
@@ -39,7 +39,7 @@ minus n = negℤ (pos n)
 unfoldable pub shownSec : ℕ → ℕ → PageSection → Shown
 shownSec w k s = cond (eqb (s .count) 0) empty (full (shownWords w k (wordsIn k s)) (s .bytes))
 
--- section k as it is shown; absent if it is not in edition e or k is above 3
+-- section k as it is shown; absent if it is not in edition e or k is above 3 (RD4, RD10)
 unfoldable pub shown : ℕ → ℕ → ℕ → PageSection → Shown
 shown w e k s = cond (ltb k (sectionCount e)) (shownSec w k s) absent
 
@@ -47,11 +47,12 @@ shown w e k s = cond (ltb k (sectionCount e)) (shownSec w k s) absent
 unfoldable pub platShown : PagePlatform → PlatShown
 platShown q = record { pointer = q .at; fields = shownFields (fieldsIn (q .found)) }
 
--- "It shows w, e, plat_data, and for each of the four sections ..", of a page of minor w read as edition e
+-- "It shows w, e, plat_data, and for each of the four sections .." (RD10), of a page of minor w read as edition e
 unfoldable pub allShown : ℕ → ℕ → PagePlatform → (ℕ → PageSection) → ReaderAnswer
 allShown w e q f = shows w e (platShown q) (λ k. shown w e k (f k))
 
--- The checks in 01's order: length and base (-5), edition and version (-6), the other rules (-7). "A lone reader starts at -5."
+-- The checks in the order of docs/RULES.md: length and base (-5), edition and version (-6), the other rules (-7). "A lone reader starts at
+-- -5." (RD3)
 unfoldable pub readerGate : Bool → Bool → Bool → ReaderAnswer → ReaderAnswer
 readerGate true true true a = a
 readerGate true true false a = refused (minus 7)
@@ -63,7 +64,7 @@ unfoldable pub judge : (reader base n version minor padding : ℕ) (plat : PageP
 judge r base n v w pad q f =
     readerGate (placeOk base n) (both (editionOk r) (versionOk v)) (rules w (min r w) base pad q f) (allShown w (min r w) q f)
 
--- the answer of a reader of edition r at base B
+-- the answer of a reader of edition r at base B (RD1, RD2)
 unfoldable pub readOf : ℕ → ℕ → List ℕ → ReaderAnswer
 readOf r base page =
     judge r base (length page) (versionAt page) (minorOf (versionAt page)) (paddingAt page) (platformAt base page) (pageSectionAt base page)
@@ -80,13 +81,13 @@ shownIn (refused c) k = absent
 shownIn (shows w e q s) k = s k
 
 -- "An array can be asked for as the part of the lent page that holds it, never a copy; a refused page or an absent or empty section gives
--- an empty part." A number above 3 also gives an empty part: it is absent.
+-- an empty part." (RD12) A number above 3 also gives an empty part: it is absent.
 unfoldable pub bytesIn : Shown → List ℕ
 bytesIn absent = []
 bytesIn empty = []
 bytesIn (full ws bs) = bs
 
--- the array bytes of section k of an answer
+-- the array bytes of section k of an answer (RD12)
 unfoldable pub lookIn : ReaderAnswer → ℕ → List ℕ
 lookIn (refused c) k = []
 lookIn (shows w e q s) k = bytesIn (s k)
@@ -101,7 +102,7 @@ entryWord k i j absent = 0
 entryWord k i j empty = 0
 entryWord k i j (full ws bs) = cond (ltb j (wordsPerEntry k)) (getD ws (wordsPerEntry k * i + j) 0) 0
 
--- word j of entry i of section k of an answer
+-- word j of entry i of section k of an answer (RD12)
 unfoldable pub wordIn : ReaderAnswer → ℕ → ℕ → ℕ → ℕ
 wordIn (refused c) k i j = 0
 wordIn (shows w e q s) k i j = entryWord k i j (s k)
@@ -110,18 +111,18 @@ wordIn (shows w e q s) k i j = entryWord k i j (s k)
 unfoldable pub entryCount : ℕ → Shown → ℕ
 entryCount k s = length (bytesIn s) / (8 * wordsPerEntry k)
 
--- the number of entries of section k of an answer
+-- the number of entries of section k of an answer (RD12)
 unfoldable pub countIn : ReaderAnswer → ℕ → ℕ
 countIn (refused c) k = 0
 countIn (shows w e q s) k = entryCount k (s k)
 
--- the fields that an answer shows; 02, E7: "An end mark alone, or no pointer, shows an empty list."
+-- the fields that an answer shows; request E7: "An end mark alone, or no pointer, shows an empty list." (FD5)
 unfoldable pub fieldsShown : ReaderAnswer → List FieldShown
 fieldsShown (refused c) = []
 fieldsShown (shows w e q s) = q .fields
 
 -- the sections of an answer, "less those that came after its edition": "The older reader shows each section that came after its edition as
--- absent."
+-- absent." (CP1)
 unfoldable pub upToEdition : ℕ → (ℕ → Shown) → ℕ → Shown
 upToEdition r s k = cond (ltb k (sectionCount r)) (s k) absent
 
@@ -132,17 +133,18 @@ inArray base page i k =
     both (inPage base (pointerAt k page) (size k (countAt k page)))
     (both (leb (pointerAt k page) (base + i)) (ltb (base + i) (pointerAt k page + size k (countAt k page))))
 
--- byte i is one of the fields, "which every edition names through the end mark, or all from the pointer on if they are broken" (02, E7)
+-- byte i is one of the fields, "which every edition names through the end mark, or all from the pointer on if they are broken" (RD14, since
+-- request E7)
 unfoldable pub inPlat : ℕ → List ℕ → ℕ → Bool
 inPlat base page i =
     both (inPage base (wordAt 8 page) 1)
     (both (leb (wordAt 8 page) (base + i)) (ltb (base + i) (wordAt 8 page + reach (foundAt base page (wordAt 8 page)))))
 
--- "The bytes an edition names are its core and each array that its sections place within the page", and the fields; e is the edition
+-- "The bytes an edition names are its core and each array that its sections place within the page" (RD13), and the fields; e is the edition
 unfoldable pub namedBy : ℕ → ℕ → List ℕ → ℕ → Bool
 namedBy e base page i = either (ltb i (core e)) (either (some (sectionCount e) (inArray base page i)) (inPlat base page i))
 
--- "if the version is not accepted, the first 16 bytes only. Of a lent page not 4,096 bytes long none are named."
+-- "if the version is not accepted, the first 16 bytes only. Of a lent page not 4,096 bytes long none are named." (RD13)
 unfoldable pub named : ℕ → ℕ → List ℕ → ℕ → Bool
 named r base page i =
     both (eqb (length page) 4096)

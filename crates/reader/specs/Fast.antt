@@ -15,7 +15,7 @@ unfoldable pub verdictOf : Reading → Verdict
 verdictOf (Accepted v) = Passed (v .minor)
 verdictOf (Refused c) = Wrong c
 
--- the number of a verdict: 0, or 01's code
+-- the number of a verdict: 0, or the code of the broken rule (RD2)
 unfoldable pub numberIn : Verdict → ℤ
 numberIn (Passed w) = pos 0
 numberIn (Wrong c) = refusalNumber c

@@ -1,4 +1,4 @@
--- The bytes that an edition does not name. Assumes nothing.
+-- The bytes that an edition does not name (RD13, RD14). Assumes nothing.
 use Prim.Native.Nat.{ℕ, min, _+_, _≤_, _<_}
 use mathlib.Core.Bool.{true, false}
 use mathlib.Core.Logic.{_⊎_}
@@ -27,13 +27,13 @@ BesideFields base page i =
     ⊎ (((isEnded (foundAt base page (wordAt 8 page)) ≡ true) × (wordAt 8 page + taken (foundAt base page (wordAt 8 page)) ≤ base + i)) ⊎
     (inPage base (wordAt 8 page) 1 ≡ false))
 
--- no byte is named except those of 01 and of 02, E7; the edition is min(r, w), w being the page's minor
+-- no byte is named except those of RD13 and RD14; the edition is min(r, w), w being the page's minor
 pub record OthersUnnamed (r base : ℕ) (page : List ℕ) : Type 0 where
-  -- "The bytes an edition names are its core and each array that its sections place within the page", and the fields
+  -- "The bytes an edition names are its core and each array that its sections place within the page" (RD13), and the fields
   pub gap : (i : ℕ) → core (min r (minorOf (versionAt page))) ≤ i →
       ((k : ℕ) → k < sectionCount (min r (minorOf (versionAt page))) → BesideArray base page i k) → BesideFields base page i →
       named r base page i ≡ false
-  -- "if the version is not accepted, the first 16 bytes only"
+  -- "if the version is not accepted, the first 16 bytes only" (RD13)
   pub unknown : (i : ℕ) → 16 ≤ i → versionOk (versionAt page) ≡ false → named r base page i ≡ false
-  -- "Of a lent page not 4,096 bytes long none are named."
+  -- "Of a lent page not 4,096 bytes long none are named." (RD13)
   pub cut : (i : ℕ) → (length page ≡ 4096 → ⊥) → named r base page i ≡ false

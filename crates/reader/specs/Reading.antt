@@ -1,4 +1,4 @@
--- What the reader's enums mean: 01's numbers and values, given the page that was read. Assumes nothing.
+-- What the reader's enums mean: the numbers and values of docs/RULES.md, given the page that was read. Assumes nothing.
 use Prim.Native.Nat.{ℕ, zero, suc, _+_, _-_, _%_, min}
 use mathlib.Core.Bool.{Bool, true, false, cond}
 use mathlib.Core.List.{List, []}
@@ -23,7 +23,7 @@ use Rattle.reader.specs.declared.Refusal.the-variants.{Place, Version, R
 use Rattle.reader.specs.declared.Reading.{Reading}
 use Rattle.reader.specs.declared.Reading.the-variants.{Accepted, Refused}
 
--- 01's code of a refusal
+-- the code of a refusal (RD2)
 abbrev pub refusalNumber : Refusal → ℤ
 refusalNumber Place = minus 5
 refusalNumber Version = minus 6
@@ -37,7 +37,7 @@ sectionOf v (suc (suc zero)) = v .ncoh
 sectionOf v (suc (suc (suc zero))) = v .coh
 sectionOf v (suc (suc (suc (suc k)))) = Absent
 
--- Section k of a view on a page of minor w. Entries of a hand-written view that are not within the page count as none.
+-- Section k of a view on a page of minor w. Entries of a hand-written view that are not within the page count as none. (RD15)
 unfoldable pub shownAs : ℕ → ℕ → Section → List ℕ → Shown
 shownAs w k Absent page = absent
 shownAs w k Empty page = empty
@@ -56,7 +56,7 @@ readingAnswer page (Accepted v) =
     shows (v .minor) (v .edition) (record { pointer = v .plat; fields = shownFields (fieldsIn (fieldsOf (v .plat) page)) })
     (λ k. shownAs (v .minor) k (sectionOf v k) page)
 
--- ---- where the arrays are: an array is "the part of the lent page that holds it", at its pointer
+-- ---- where the arrays are: an array is "the part of the lent page that holds it" (RD12), at its pointer
 -- section k of an accepted page read as edition e
 unfoldable pub sectionAt : ℕ → ℕ → List ℕ → ℕ → Section
 sectionAt e base page k =
@@ -76,7 +76,7 @@ viewAt w e base page =
     }
 
 -- ---- the reader's result
--- the checks in 01's order, as in `readerGate`
+-- the checks in the order of docs/RULES.md, as in `readerGate`
 unfoldable pub readingGate : Bool → Bool → Bool → View → Reading
 readingGate true true true v = Accepted v
 readingGate true true false v = Refused Rules

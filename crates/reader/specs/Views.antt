@@ -1,4 +1,4 @@
--- What an accepted page shows, field by field. Assumes nothing.
+-- What an accepted page shows, field by field (RD10). Assumes nothing.
 use Prim.Native.Nat.{ℕ, _+_, _-_, _*_, _≤_, _<_, min}
 use mathlib.Core.Path.{_≡_}
 use mathlib.Core.List.{List}
@@ -11,8 +11,8 @@ use Rattle.fields.specs.Fields.{fieldsIn, shownFields}
 use Rattle.sections.specs.Page.{versionAt, countAt, pointerAt, foundAt}
 use Rattle.reader.specs.Answer.{Shown, absent, empty, full, PlatShown, entryWord}
 
--- "It shows w, e, plat_data, and for each of the four sections absent (not in e), empty, or the entries in order", with the bytes of the
--- array, all as the page has them
+-- "It shows w, e, plat_data, and for each of the four sections absent (not in e), empty, or the entries in order" (RD10), with the bytes of
+-- the array, all as the page has them
 pub record PageShown (r base : ℕ) (page : List ℕ) (w e : ℕ) (q : PlatShown) (s : ℕ → Shown) : Type 0 where
   pub minor : w ≡ minorOf (versionAt page)
   pub edition : e ≡ min r w
@@ -26,5 +26,5 @@ pub record PageShown (r base : ℕ) (page : List ℕ) (w e : ℕ) (q : PlatShown
   -- word j of entry i is the page's own word
   pub words : (k i j : ℕ) → k < sectionCount e → i < countAt k page → j < wordsPerEntry k → (k ≡ 1 → j ≡ 5 → w ≤ 4) →
       entryWord k i j (s k) ≡ wordAt (pointerAt k page - base + 8 * (wordsPerEntry k * i + j)) page
-  -- 02, E3: from minor 5 on "the console is shown and listed with flags 0"
+  -- Request E3: from minor 5 on "the console is shown and listed with flags 0" (RD11)
   pub flags : (i : ℕ) → 1 < sectionCount e → i < countAt 1 page → 4 < w → entryWord 1 i 5 (s 1) ≡ 0

@@ -1,5 +1,5 @@
--- 02, E10: a withdrawn value is not read (FD9). The bytes that an edition names contain it ("through the end mark"), so demand 3 does not
--- cover this. Assumes nothing.
+-- Request E10: a withdrawn value is not read (FD9). The bytes that an edition names contain it ("through the end mark"), so demand 3 does
+-- not cover this. Assumes nothing.
 use Prim.Native.Nat.{ℕ, _+_, _-_}
 use mathlib.Core.Bool.{Bool, false}
 use mathlib.Core.Path.{_≡_}

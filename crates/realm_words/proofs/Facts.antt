@@ -1,5 +1,5 @@
--- 02, E6: words and table agree, in plain facts: "granule i as bit i mod 64 of word i / 64, set where the byte is Realm, spare bits zero".
--- Assumes nothing.
+-- Request E6: words and table agree, in plain facts: "granule i as bit i mod 64 of word i / 64, set where the byte is Realm, spare bits
+-- zero". Assumes nothing.
 use Prim.Native.Nat.{ℕ, zero, suc, _+_, _*_, _/_, _%_, _^_, _≤_, _<_}
 use mathlib.Core.Path.{_≡_, refl, sym, _∙_}
 use mathlib.Core.List.{List}

@@ -1,5 +1,5 @@
--- 02, E6: "If words and table agree the answers equal those of the full walk"; writing a granule's byte and bit together keeps agreement;
--- "a build call sets it up". Words and table agree if the words are `realmWords` of the table. Assumes nothing.
+-- Request E6: "If words and table agree the answers equal those of the full walk"; writing a granule's byte and bit together keeps
+-- agreement; "a build call sets it up". Words and table agree if the words are `realmWords` of the table. Assumes nothing.
 use Prim.Native.Nat.{ℕ, zero, suc, _+_, _-_, _*_, _/_, _%_, _^_, _≤_, _<_}
 use mathlib.Core.Path.{_≡_, refl, sym, ap, _∙_}
 use mathlib.Core.Bool.{Bool, true, false, cond}

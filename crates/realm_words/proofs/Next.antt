@@ -1,5 +1,5 @@
--- 02, E6: "the first one at or after an index": what follows from each of the three answers, and when it is given, in plain facts. Assumes
--- nothing.
+-- Request E6: "the first one at or after an index": what follows from each of the three answers, and when it is given, in plain facts.
+-- Assumes nothing.
 use Prim.Native.Nat.{ℕ, zero, suc, _+_, _-_, _/_, _≤_, _<_}
 use mathlib.Core.Path.{_≡_, refl, sym, ap, _∙_}
 use mathlib.Core.Bool.{Bool, true, false, cond}

@@ -73,7 +73,7 @@ fn realm_bit(byte: u8) -> u64
     0
 }
 
-// Returns the word with the bit of granule `index` set if `read_u8` is Realm, and cleared otherwise.
+// Returns the word with the bit of granule `index` set if `byte` is Realm, and cleared otherwise.
 pub fn with_bit(w: u64, index: usize, byte: u8) -> u64
     ensures { λ r. ⌜ r ≡ withBit w (index % 64) (realmBit byte) ⌝ }
 {
@@ -85,7 +85,7 @@ pub fn with_bit(w: u64, index: usize, byte: u8) -> u64
 
 // ---- answers from the words alone ----
 
-// Returns the number of Realm granules. Spare bits are not counted.
+// Returns the number of Realm granules. Spare bits are not counted (RW7).
 pub fn count(words: &[u64], granules: usize) -> Number
     ensures { λ r. ⌜ r ≡ realmCountOf (now (words .entry)) granules ⌝ }
     ensures { λ r. ⌜ countCode r ≡ wordsCode (now (words .entry)) granules ⌝ }
@@ -162,7 +162,7 @@ fn both_fit(table: &[u8], words: &[u64], granules: usize) -> bool
     true
 }
 
-// Whether words and table agree, with all spare bits zero.
+// Whether words and table agree, with all spare bits zero (RW6).
 pub fn agrees(table: &[u8], words: &[u64], granules: usize) -> Agreement
     ensures { λ r. ⌜ r ≡ realmAgreeOf (now (table .entry)) (now (words .entry)) granules ⌝ }
     ensures { λ r. ⌜ agreeCode r ≡ tableCode (now (table .entry)) (now (words .entry)) granules ⌝ }
@@ -178,7 +178,7 @@ pub fn agrees(table: &[u8], words: &[u64], granules: usize) -> Agreement
     Agreement::Yes
 }
 
-// Makes the words agree with the table. Returns false for INVAL, and then changes no word.
+// Makes the words agree with the table (RW6). Returns false for INVAL, and then changes no word.
 pub fn build(table: &[u8], words: &mut [u64], granules: usize) -> bool
     ensures { λ r. ⌜ _≡_ {A = Built} (record { done = r; words = now (words .exit) }) (realmBuildOf (now (table .entry)) (now (words .entry)) granules) ⌝ }
     ensures { λ r. ⌜ buildCode r ≡ tableCode (now (table .entry)) (now (words .entry)) granules ⌝ }

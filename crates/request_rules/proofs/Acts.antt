@@ -1,4 +1,5 @@
--- When a push is OK, and what it then does. The statement lists 01's conditions and uses no definition of the checks. Assumes nothing.
+-- When a push is OK, and what it then does. The statement lists the conditions of CM7.7 to CM7.10 and uses no definition of the checks.
+-- Assumes nothing.
 use Prim.Native.Nat.{ℕ, _≤_, _<_}
 use mathlib.Core.Path.{_≡_, refl}
 use mathlib.Core.List.{List, [], _∷_, _++_}

@@ -1,4 +1,4 @@
--- Push on the queue's image. Assumes nothing.
+-- Push on the queue's image (CE4). Assumes nothing.
 use Prim.Native.Nat.{ℕ}
 use mathlib.Core.List.{List}
 use Rattle.queue_image.specs.Image.{listsIn, requestWords}

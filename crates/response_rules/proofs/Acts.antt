@@ -1,5 +1,5 @@
--- When a pull and the signer's own step are OK, and what they then do. Each statement lists 01's conditions and uses no definition of the
--- checks. Assumes nothing.
+-- When a pull and the signer's own step are OK, and what they then do. Each statement lists the conditions of CM7 or SQ2 and uses no
+-- definition of the checks. Assumes nothing.
 use Prim.Native.Nat.{ℕ, _+_, _≤_, _<_}
 use mathlib.Core.Path.{_≡_, refl, _∙_}
 use mathlib.Core.List.{List, [], _∷_, _++_}

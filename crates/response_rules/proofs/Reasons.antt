@@ -1,5 +1,5 @@
--- When the signer's own step gives each of its codes. 01: "signature length not 1 to 104 INVAL; no request AGAIN; eight responses waiting AGAIN;"
--- Assumes nothing.
+-- When the signer's own step gives each of its codes. "signature length not 1 to 104 INVAL; no request AGAIN; eight responses waiting
+-- AGAIN;" Assumes nothing.
 use Prim.Native.Nat.{ℕ, _≤_, _<_}
 use mathlib.Core.Path.{_≡_, refl}
 use mathlib.Core.List.{List}

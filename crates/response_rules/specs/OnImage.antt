@@ -1,4 +1,4 @@
--- Pull, and the signer's own step, on the queue's image. Assumes nothing.
+-- Pull, and the signer's own step, on the queue's image (CE4). Assumes nothing.
 use Prim.Native.Nat.{ℕ}
 use mathlib.Core.List.{List}
 use Rattle.codes.specs.Codes.{ifOk}

@@ -1,4 +1,4 @@
--- The signer's own step. Assumes nothing.
+-- The signer's own step (SQ2, SQ4). Assumes nothing.
 use Prim.Native.Nat.{ℕ}
 use mathlib.Core.List.{List, [], _∷_, _++_}
 use lib.ListN.{length, drop}
@@ -12,7 +12,7 @@ use Rattle.queue.specs.declared.Queue.{Queue}
 use Rattle.queue.specs.declared.QueueResult.{QueueResult}
 use Rattle.queue.specs.Queue.{Signed, Lists, oldestRequest, queueNext}
 
--- "signature length not 1 to 104 INVAL; no request AGAIN; eight responses waiting AGAIN;"
+-- "signature length not 1 to 104 INVAL; no request AGAIN; eight responses waiting AGAIN;" (SQ2.1 to SQ2.3)
 unfoldable pub signCode : Lists → List ℕ → Code
 signCode q s =
     fails (eqb (length s) 0) Inval
@@ -21,11 +21,11 @@ signCode q s =
     (fails (leb 8 (length (q .responses))) Again
     Ok)))
 
--- the response to a request; rec_granule and req_ticket never change
+-- the response to a request; rec_granule and req_ticket never change (SQ2, SQ5)
 unfoldable pub signedBy : Request → List ℕ → Signed
 signedBy r s = record { granule = r .granule; ticket = r .ticket; signature = s }
 
--- "otherwise the oldest request becomes the newest response."
+-- "otherwise the oldest request becomes the newest response." (SQ2)
 unfoldable pub signed : Lists → List ℕ → Lists
 signed q s = record { requests = drop 1 (q .requests); responses = q .responses ++ (signedBy (oldestRequest (q .requests)) s ∷ []) }
 

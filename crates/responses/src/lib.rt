@@ -99,7 +99,7 @@ fn sign_code(signature: &[u8], requests: usize, responses: usize) -> Code
     Code::Ok
 }
 
-// The signer's own step: the oldest request becomes the newest response, with the signature that the signer lends.
+// The signer's own step (SQ2): the oldest request becomes the newest response, with the signature that the signer lends.
 pub fn sign(queue: Queue, signature: &[u8]) -> QueueResult
     ensures { λ r. ⌜ r ≡ signExit queue (signOf (listsOf queue) (now (signature .entry))) ⌝ }
 {

@@ -1,5 +1,5 @@
--- 02, E6: if words and table agree, they agree after any sequence of commands, lists and signer's steps, so the answers from the words equal
--- those of a full scan of the table. Assumes nothing.
+-- Request E6: if words and table agree, they agree after any sequence of commands, lists and signer's steps, so the answers from the words
+-- equal those of a full scan of the table. Assumes nothing.
 use Prim.Native.Nat.{ℕ, _<_}
 use mathlib.Core.Path.{_≡_, refl, sym, _∙_}
 use mathlib.Core.List.{List, [], _∷_}

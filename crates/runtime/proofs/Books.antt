@@ -1,4 +1,4 @@
--- 02, E14: the balance of Realm granules over any sequence of commands. Assumes nothing.
+-- Request E14: the balance of Realm granules over any sequence of commands. Assumes nothing.
 use mathlib.Core.Path.{_≡_, sym}
 use mathlib.Core.List.{List}
 use lib.ListN.{length}

@@ -1,4 +1,4 @@
--- 02, E5: no sequence of commands changes a kept byte. Assumes nothing.
+-- Request E5: no sequence of commands changes a kept byte. Assumes nothing.
 use Prim.Native.Nat.{ℕ, _+_, _-_, _≤_}
 use mathlib.Core.Path.{_≡_, refl, sym, ap, _∙_}
 use mathlib.Core.Bool.{Bool, true, false, true≢false}

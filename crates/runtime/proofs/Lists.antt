@@ -1,4 +1,4 @@
--- 02, E1: a list of granules among the commands. Assumes nothing.
+-- Request E1: a list of granules among the commands. Assumes nothing.
 use Prim.Native.Nat.{ℕ}
 use mathlib.Core.Path.{_≡_, refl, ap, _∙_}
 use mathlib.Core.List.{List, [], _∷_, map}

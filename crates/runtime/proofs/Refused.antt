@@ -43,8 +43,8 @@ refused-by KeyUpdate g w c h = ap (λ (u : UpdateResult). afterUpdate u w) (upda
 refused-by Unlisted g w c h = refl
 
 -- "a refused call returns zero in the other result registers and changes no page, table, session or queue": for any records, any
--- world and any command, including the signer's step. 02, E1: "Demand 1 counts each granule of a list as a call of its own, and x1
--- holds the number done on refusal too." 02, E6: "no refusal changes a word": the table is its bytes and its words.
+-- world and any command, including the signer's step. Request E1: "Demand 1 counts each granule of a list as a call of its own, and x1
+-- holds the number done on refusal too." Request E6: "no refusal changes a word": the table is its bytes and its words.
 pub refused : (g : Granules) (w : World) (c : Command) → isOk (replyCode (stepOf g w c .reply)) ≡ false →
     stepOf g w c ≡ refusal (length (doneCalls g w c)) (stepOf g w c) (worldAfter g w (doneCalls g w c))
 unfolding stepOf callOf afterSign afterMove replyCode doneCalls worldAfter

@@ -1,4 +1,4 @@
--- 02, E8: the shared page stays Realm over any sequence of commands, so every write to it goes to Realm memory. Assumes nothing.
+-- Request E8: the shared page stays Realm over any sequence of commands, so every write to it goes to Realm memory. Assumes nothing.
 use Prim.Native.Nat.{ℕ}
 use mathlib.Core.Path.{_≡_, sym, _∙_}
 use mathlib.Core.Bool.{true, false≢true}
@@ -48,8 +48,8 @@ signing-buffer r page q key op pa size curve =
       public = λ p e h. passed-in r page Ok pa size p;
     })
 
--- "A test script undelegated the shared page's granule and the next key went into Non-secure memory.": after any commands, when a realm key,
--- a hunk or a response is written, the page's granule is Realm, if it was Realm at the start
+-- "A test script undelegated the shared page's granule and the next key went into Non-secure memory.": after any commands, when a realm
+-- key, a hunk or a response is written, the page's granule is Realm, if it was Realm at the start
 pub writes-into-realm : (s : Record) (g : Granules) (w : World) (cs : List Command) (c : Call) →
     RealmAt g (bootParams s .base) (w .table) → WritesIntoRealm s g (worldAfter g w (map (under s) cs)) c
 unfolding stepOf callOf callBy kindOf afterKey afterToken afterSigning replyCode tokenCall tokenAccepted tokenStep

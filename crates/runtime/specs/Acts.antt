@@ -14,8 +14,8 @@ use Rattle.signing.specs.Signing.{signingOf}
 use Rattle.runtime.specs.Step.{World, withPage, withTable, withSession, withQueue, Call, callOf}
 use Rattle.runtime.specs.declared.Reply.the-variants.{Forward, Back}
 
--- For each function id of 01, a call returns the answer of that command, with the registers in 01's order, and changes only the part of the
--- world that the command changes.
+-- For each function id of docs/RULES.md, chapter 14, a call returns the answer of that command, with the registers in the order of
+-- docs/RULES.md, and changes only the part of the world that the command changes.
 pub record CallActed (g : Granules) (w : World) (c : Call) : Type 0 where
   pub forwards : c .id ≡ 0xC400018F → callOf g w c ≡ record { reply = Forward (c .x1); next = w }
   pub delegates : c .id ≡ 0xC40001B0 → (m : Moved) → m ≡ delegateOf (c .state) g (w .table) (c .x1) →
@@ -33,7 +33,7 @@ pub record CallActed (g : Granules) (w : World) (c : Call) : Type 0 where
       callOf g w c ≡ record { reply = Back (s .answer) Nothing; next = withQueue (s .queue) (withPage (s .page) w) }
   pub updates : c .id ≡ 0xC40001B6 → (u : UpdateResult) → u ≡ updateOf (c .state) (c .width) (c .x1) →
       callOf g w c ≡ record { reply = Back (u .answer) (u .work); next = w }
-  -- "Any function id not listed below: UNK."
+  -- "Any function id not listed below: UNK." (RT5)
   pub others : (c .id ≡ 0xC400018F → ⊥) → (c .id ≡ 0xC40001B0 → ⊥) → (c .id ≡ 0xC40001B1 → ⊥) → (c .id ≡ 0xC40001B2 → ⊥) →
       (c .id ≡ 0xC40001B3 → ⊥) → (c .id ≡ 0xC40001B4 → ⊥) → (c .id ≡ 0xC40001B5 → ⊥) → (c .id ≡ 0xC40001B6 → ⊥) →
       callOf g w c ≡ record { reply = Back (answerOf Unk 0 0) Nothing; next = w }

@@ -35,7 +35,7 @@ changesOf g w (call c) = cond (accepted g w (call c)) (ofMove (kindOf (c .id)) (
 changesOf g w (sign s) = []
 changesOf g w (list r d l) = map (change d) (take (doneOf r g d (w .table) l) l)
 
--- ---- 02, E8: "with the same boot .. records": the same call with boot record s
+-- ---- Request E8: "with the same boot .. records" (SH3): the same call with boot record s
 abbrev pub callUnder : Record → Call → Call
 callUnder s c = callWith s (c .id) (c .x1) (c .x2) (c .x3) (c .x4) (c .busy) (c .realmKey) (c .token) (c .publicKey) (c .width)
 
@@ -50,7 +50,7 @@ pub record IntoRealm (s : Record) (g : Granules) (w : World) (pa size : ℕ) : T
   pub buffer : BufferIn (bootParams s) (w .page) pa size
   pub realm : RealmAt g (bootParams s .base) (w .table)
 
--- each accepted command that writes to the page writes to Realm memory: realm key, hunk of the platform token, response or public key
+-- each accepted command that writes to the page writes to Realm memory: realm key, hunk of the platform token, response or public key (SH4)
 pub record WritesIntoRealm (s : Record) (g : Granules) (w : World) (c : Call) : Type 0 where
   pub key : c .id ≡ 0xC40001B2 → accepted g w (call (callUnder s c)) ≡ true → IntoRealm s g w (c .x1) (c .x2)
   pub hunk : c .id ≡ 0xC40001B3 → accepted g w (call (callUnder s c)) ≡ true → IntoRealm s g w (c .x1) (c .x2)

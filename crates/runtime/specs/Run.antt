@@ -48,7 +48,8 @@ unfoldable pub singleCall : Record → Direction → ℕ → Command
 singleCall r Direction.Delegate a = call (callWith r 0xC40001B0 a 0 0 0 false [] [] [] 0)
 singleCall r Direction.Undelegate a = call (callWith r 0xC40001B1 a 0 0 0 false [] [] [] 0)
 
--- 02, E1: "Demand 1 counts each granule of a list as a call of its own": the single calls that a list has done, also if it is refused
+-- Request E1: "Demand 1 counts each granule of a list as a call of its own" (LG4): the single calls that a list has done, also if it is
+-- refused
 unfoldable pub doneCalls : Granules → World → Command → List Command
 doneCalls g w (call c) = []
 doneCalls g w (sign s) = []
@@ -130,7 +131,7 @@ makes g w (call c) = []
 makes g w (sign s) = cond (accepted g w (sign s)) (map (λ (q : Request). signedBy q s) (take 1 (w .queue .requests))) []
 makes g w (list r d l) = []
 
--- what identifies a request and its response, unchanged from push to pull: rec_granule and req_ticket
+-- what identifies a request and its response, unchanged from push to pull: rec_granule and req_ticket (SQ5)
 pub record Name : Type 0 where
   pub granule : ℕ
   pub ticket : ℕ

@@ -30,7 +30,7 @@ use Rattle.runtime.specs.declared.Reply.{Reply}
 use Rattle.runtime.specs.declared.Reply.the-variants.{Forward, Back}
 use Rattle.runtime.specs.declared.StepResult.{StepResult}
 
--- everything that a command may change. No command changes the boot record or the granule record.
+-- everything that a command may change. No command changes the boot record or the granule record. (BT7, GE5)
 pub record World : Type 0 where
   pub page : List ℕ
   pub table : GranuleTable
@@ -89,7 +89,7 @@ callWith r id x1 x2 x3 x4 busy key token public width =
       width = width;
     }
 
--- a command: a call of the interface, the signer's step with a signature, or delegation of a list of granules (02, E1), which has
+-- a command: a call of the interface, the signer's step with a signature, or delegation of a list of granules (request E1), which has
 -- no function id
 pub data Command : Type 0 where
   call : Call → Command
@@ -101,7 +101,7 @@ pub record Step : Type 0 where
   pub reply : Reply
   pub next : World
 
--- "Any function id not listed below: UNK. The id is compared as 64 bits."
+-- "Any function id not listed below: UNK. The id is compared as 64 bits." (RT3, RT5)
 unfoldable pub kindOf : ℕ → Kind
 kindOf id =
     cond (eqb id 0xC400018F) ForwardError
@@ -188,7 +188,7 @@ pub record CallExit : Type 0 where
 abbrev pub callExit : StepResult → List ℕ → List ℕ → List ℕ → CallExit
 callExit r page table words = record { reply = r .reply; page = page; table = table; words = words; session = r .session; queue = r .queue }
 
--- only the platform token uses the session
+-- only the platform token uses the session (RT10)
 abbrev pub usesSession : Kind → Bool
 usesSession ForwardError = false
 usesSession Delegate = false
@@ -200,7 +200,7 @@ usesSession TokenSigning = false
 usesSession KeyUpdate = false
 usesSession Unlisted = false
 
--- only token signing uses the queue
+-- only token signing uses the queue (RT10)
 abbrev pub usesQueue : Kind → Bool
 usesQueue ForwardError = false
 usesQueue Delegate = false

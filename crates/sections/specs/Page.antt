@@ -1,4 +1,4 @@
--- What a page holds: "Page" is the shared buffer, 4,096 bytes at physical base B. Assumes nothing.
+-- What a page holds: the page is the shared buffer, 4,096 bytes at physical base B (PG1). Assumes nothing.
 use Prim.Native.Nat.{ℕ, _+_, _-_, _*_, _%_, _^_}
 use mathlib.Core.Bool.{Bool, cond}
 use mathlib.Core.List.{List, []}
@@ -13,11 +13,11 @@ use Rattle.entries.specs.Entry.{size}
 unfoldable pub placeOk : ℕ → ℕ → Bool
 placeOk base n = both (eqb n 4096) (both (ltb 0 base) (both (eqb (base % 4096) 0) (leb base (2 ^ 52 - 4096))))
 
--- Offset 0: version, 4 bytes.
+-- offset 0: version, 4 bytes (ML1)
 abbrev pub versionAt : List ℕ → ℕ
 versionAt page = u32At 0 page
 
--- Offset 4: padding, 4 bytes, zero.
+-- offset 4: padding, 4 bytes, zero (ML1)
 abbrev pub paddingAt : List ℕ → ℕ
 paddingAt page = u32At 4 page
 
@@ -25,11 +25,11 @@ paddingAt page = u32At 4 page
 abbrev pub countAt : ℕ → List ℕ → ℕ
 countAt k page = wordAt (16 + 24 * k) page
 
--- the pointer of section k
+-- the pointer of section k (ML3)
 abbrev pub pointerAt : ℕ → List ℕ → ℕ
 pointerAt k page = wordAt (24 + 24 * k) page
 
--- the checksum of section k
+-- the checksum of section k (ML3)
 abbrev pub checkAt : ℕ → List ℕ → ℕ
 checkAt k page = wordAt (32 + 24 * k) page
 
@@ -58,8 +58,8 @@ pageSectionAt base page k =
     pageSection (countAt k page) (pointerAt k page) (checkAt k page)
     (arrayAt base page (pointerAt k page) (size k (countAt k page)))
 
--- Everything that the page holds of the platform data: the pointer, and the fields that it points at. 02, E7 amends 01's "what it points
--- at is not read".
+-- Everything that the page holds of the platform data: the pointer, and the fields that it points at. Request E7 amended "what it
+-- points at is not read" (ML7).
 pub record PagePlatform : Type 0 where
   pub at : ℕ
   pub found : Scanned
@@ -72,6 +72,6 @@ pagePlatform q s = record { at = q; found = s }
 unfoldable pub foundAt : ℕ → List ℕ → ℕ → Scanned
 foundAt base page q = cond (eqb q 0) (ended [] 0) (cond (inPage base q 1) (scanOf (drop (q - base) page)) broken)
 
--- Offset 8: plat_data pointer, with its fields.
+-- offset 8: the plat_data pointer, with its fields (ML1)
 unfoldable pub platformAt : ℕ → List ℕ → PagePlatform
 platformAt base page = pagePlatform (wordAt 8 page) (foundAt base page (wordAt 8 page))

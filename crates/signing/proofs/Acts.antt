@@ -1,4 +1,4 @@
--- When token signing is OK, and what it then does. The statements list 01's conditions and use no definition of the checks. Assumes
+-- When token signing is OK, and what it then does. The statements list the conditions of CM7 and use no definition of the checks. Assumes
 -- nothing.
 use Prim.Native.Nat.{ℕ, _+_, _-_, _≤_, _<_}
 use mathlib.Core.Path.{_≡_, refl, sym, ap, _∙_}

@@ -1,6 +1,6 @@
--- When token signing gives each of its codes. 01: "opcode not 1 to 3, outside, too long, or opcode 3 with curve not 0: INVAL; minor below 4: UNK.
--- Push (1): size below 80, algorithm id not 0 or hash id not 1: INVAL; eight requests waiting: AGAIN; .. Pull (2): no response AGAIN; 18 +
--- signature length above size INVAL, .. Key (3): empty AGAIN; longer than size INVAL;" Assumes nothing.
+-- When token signing gives each of its codes. "opcode not 1 to 3, outside, too long, or opcode 3 with curve not 0: INVAL; minor below 4:
+-- UNK. Push (1): size below 80, algorithm id not 0 or hash id not 1: INVAL; eight requests waiting: AGAIN; .. Pull (2): no response AGAIN;
+-- 18 + signature length above size INVAL, .. Key (3): empty AGAIN; longer than size INVAL;" Assumes nothing.
 use Prim.Native.Nat.{ℕ, _+_, _-_, _≤_, _<_}
 use mathlib.Core.Path.{_≡_, refl, sym, _∙_}
 use mathlib.Core.Bool.{false}

@@ -23,7 +23,7 @@ pub record SigningActed (x1 : ℕ) (waits : Lists) (at : ℕ) (bytes page : List
   pub left : s .queue ≡ waits
   pub written : WrittenAt at bytes page (s .page)
 
--- "the request joins the end", for the buffer b: nothing else changes
+-- "the request joins the end" (CM7.15), for the buffer b: nothing else changes
 abbrev pub PushActed : List ℕ → List ℕ → Lists → SigningStep → Type 0
 PushActed b page q s =
     s ≡ record {
@@ -42,13 +42,13 @@ PushActed b page q s =
       };
     }
 
--- "writes rec_granule, req_ticket, 2-byte length, signature, and drops it": of the response r, the oldest
+-- "writes rec_granule, req_ticket, 2-byte length, signature, and drops it" (CM7.16): of the response r, the oldest
 abbrev pub PullActed : ℕ → List ℕ → Lists → SigningStep → Type 0
 PullActed at page q s =
     (r : Signed) (rest : List Signed) → q .responses ≡ r ∷ rest →
     SigningActed 0 (record { requests = q .requests; responses = rest }) at
     (leBytes 8 (r .granule) ++ leBytes 8 (r .ticket) ++ leBytes 2 (length (r .signature)) ++ r .signature) page s
 
--- "written at pa, x1 its length": of the public key
+-- "written at pa, x1 its length" (CM7.17): of the public key
 abbrev pub PublicActed : ℕ → List ℕ → Lists → List ℕ → SigningStep → Type 0
 PublicActed at page q key s = SigningActed (length key) q at key page s

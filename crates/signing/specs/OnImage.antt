@@ -1,4 +1,4 @@
--- 0xC40001B5 on the queue's image. Assumes nothing.
+-- 0xC40001B5 on the queue's image (CM7, CE4). Assumes nothing.
 use Prim.Native.Nat.{ℕ}
 use mathlib.Core.List.{List}
 use Rattle.words.specs.Word.{part}

@@ -1,4 +1,4 @@
--- 0xC40001B5: token signing. Assumes nothing.
+-- 0xC40001B5: token signing (CM7). Assumes nothing.
 use Prim.Native.Nat.{ℕ}
 use mathlib.Core.Bool.{Bool, true, false, cond}
 use mathlib.Core.List.{List}
@@ -17,7 +17,7 @@ use Rattle.response_rules.specs.Pull.{pullOf}
 use Rattle.signing.specs.declared.Opcode.{Opcode}
 use Rattle.signing.specs.declared.Opcode.the-variants.{Push, Pull, Key, Other}
 
--- the opcode, compared as 64 bits: "Push (1)", "Pull (2)", "Key (3)"
+-- the opcode, compared as 64 bits: "Push (1)", "Pull (2)", "Key (3)" (CM7.2)
 unfoldable pub opcodeOf : ℕ → Opcode
 opcodeOf n = cond (eqb n 1) Push (cond (eqb n 2) Pull (cond (eqb n 3) Key Other))
 
@@ -28,14 +28,15 @@ isOther Pull = false
 isOther Key = false
 isOther Other = true
 
--- "opcode 3 with curve not 0": the other opcodes have no curve
+-- "opcode 3 with curve not 0" (CM7.5): the other opcodes have no curve
 unfoldable pub badCurve : Opcode → ℕ → Bool
 badCurve Push curve = false
 badCurve Pull curve = false
 badCurve Key curve = isFalse (eqb curve 0)
 badCurve Other curve = false
 
--- "opcode not 1 to 3, outside, too long, or opcode 3 with curve not 0: INVAL; minor below 4: UNK.": the checks that all opcodes share
+-- "opcode not 1 to 3, outside, too long, or opcode 3 with curve not 0: INVAL; minor below 4: UNK." (CM7.2 to CM7.6): the checks that all
+-- opcodes share
 unfoldable pub sharedCode : Record → ℕ → Opcode → ℕ → ℕ → ℕ → Code
 sharedCode r len o pa size curve =
     andThen (pageCode r len (fails (isOther o) Inval Ok) Invalid pa size)
@@ -43,7 +44,7 @@ sharedCode r len o pa size curve =
     (fails (ltb (bootParams r .minor) 4) Unk
     Ok))
 
--- "Key (3): empty AGAIN; longer than size INVAL; else written at pa, x1 its length."
+-- "Key (3): empty AGAIN; longer than size INVAL; else written at pa, x1 its length." (CM7.13, CM7.14, CM7.17)
 unfoldable pub publicCode : ℕ → List ℕ → Code
 publicCode size key = fails (eqb (length key) 0) Again (fails (ltb size (length key)) Inval Ok)
 

@@ -49,13 +49,13 @@ unfolding afterOffers Cuts
 front-after-all blob [] h cuts f = f
 front-after-all blob (o ∷ os) h cuts f = front-after-all blob os (afterOffer o h) (cuts .1) (front-after blob o h (cuts .0) f)
 
--- 02, E13: "From a new collector with one buffer throughout, if each response accepted was cut from one blob at the number of bytes then
--- held, with that blob's length as totlength, the bytes held are that blob's first ones." Any messages; refused ones may be anything.
+-- Request E13: "From a new collector with one buffer throughout, if each response accepted was cut from one blob at the number of bytes
+-- then held, with that blob's length as totlength, the bytes held are that blob's first ones." Any messages; refused ones may be anything.
 pub held-are-first : (blob : List ℕ) (os : List Offer) (b : List ℕ) → Cuts blob os (started b) →
     HoldsFirst blob (afterOffers os (started b))
 held-are-first blob os b cuts = front-after-all blob os (started b) cuts (front-started blob b)
 
--- so a complete collector holds the blob. 02, E13: "complete exactly when a response was accepted and it holds totlength bytes"
+-- so a complete collector holds the blob. Request E13: "complete exactly when a response was accepted and it holds totlength bytes"
 pub complete-holds-blob : (blob : List ℕ) (os : List Offer) (b : List ℕ) → Cuts blob os (started b) →
     isComplete (afterOffers os (started b) .collector) ≡ true →
     HoldsWhole blob (afterOffers os (started b))
@@ -71,7 +71,7 @@ pub new-not-complete : isComplete newCollector ≡ false
 unfolding isComplete newCollector both
 new-not-complete = refl
 
--- ---- 02, E13: "On refusal collector and lent buffers stay unchanged.": a refused message, of any kind, from any state
+-- ---- Request E13: "On refusal collector and lent buffers stay unchanged.": a refused message, of any kind, from any state
 pub refused-changes-nothing : (o : Offer) (h : Held) {why : StateRefusal} →
     collect (o .largest) (o .message) (h .collector) (h .buffer) .verdict ≡ verdict.Refused why → afterOffer o h ≡ h
 unfolding afterOffer

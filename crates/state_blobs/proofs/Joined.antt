@@ -78,13 +78,13 @@ joins-all ps (o ∷ os) h j =
     let qs = acceptedIf (collect (o .largest) (o .message) (h .collector) (h .buffer) .verdict) (readResponse (o .largest) (o .message)) in
     rw (← append-assoc ps qs (acceptedOf os (afterOffer o h))) (joins-all (ps ++ qs) os (afterOffer o h) (step-joins ps o h j))
 
--- 02, E13: "A collector joins responses into a lent buffer, each after the bytes held." From a new collector with one buffer throughout,
--- after any messages, it holds the data of the responses accepted, and no others; its total is that of the first of them.
+-- Request E13: "A collector joins responses into a lent buffer, each after the bytes held." From a new collector with one buffer
+-- throughout, after any messages, it holds the data of the responses accepted, and no others; its total is that of the first of them.
 pub holds-accepted : (os : List Offer) (b : List ℕ) → HoldsJoined (acceptedOf os (started b)) (afterOffers os (started b))
 unfolding started collectorOver newCollector joinedData
 holds-accepted os b = joins-all [] os (started b) (refl, refl)
 
--- 02, E13: "It is complete exactly when a response was accepted and it holds totlength bytes."
+-- Request E13: "It is complete exactly when a response was accepted and it holds totlength bytes."
 complete-over : (ps : List StateResponse) → isComplete (collectorOver ps) ≡ completeOver ps
 unfolding isComplete both collectorOver newCollector completeOver
 complete-over [] = refl

@@ -22,7 +22,7 @@ pub record Held : Type 0 where
   pub collector : Collector
   pub buffer : List ℕ
 
--- "From a new collector with one buffer throughout": any buffer
+-- "From a new collector with one buffer throughout" (SB9): any buffer
 unfoldable pub started : List ℕ → Held
 started b = record { collector = newCollector; buffer = b }
 
@@ -65,11 +65,11 @@ unfoldable pub completeOver : List StateResponse → Bool
 completeOver [] = false
 completeOver (p ∷ ps) = eqb (length (joinedData (p ∷ ps))) (p .total)
 
--- SB9. 02, E13: "cut from one blob at the number of bytes then held, with that blob's length as totlength"
+-- SB9. Request E13: "cut from one blob at the number of bytes then held, with that blob's length as totlength"
 abbrev pub CutFrom : List ℕ → ℕ → StateResponse → Type 0
 CutFrom blob held p = (p .total ≡ length blob) × (p .bytes ≡ part held (length (p .bytes)) blob)
 
--- "if each response accepted was cut": one message, if it is accepted
+-- "if each response accepted was cut" (SB9): one message, if it is accepted
 abbrev pub CutHere : List ℕ → Offer → Held → Type 0
 CutHere blob o h = (p : StateResponse) → readResponse (o .largest) (o .message) ≡ got p →
     collect (o .largest) (o .message) (h .collector) (h .buffer) .verdict ≡ verdict.Accepted → CutFrom blob (h .collector .held) p

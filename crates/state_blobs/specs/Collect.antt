@@ -1,4 +1,4 @@
--- The collector (SB7). 02, E13: "A collector joins responses into a lent buffer, each after the bytes held." Assumes nothing.
+-- The collector (SB7). Request E13: "A collector joins responses into a lent buffer, each after the bytes held." Assumes nothing.
 use Prim.Native.Nat.{ℕ, _+_}
 use mathlib.Core.Bool.{Bool, true, false, cond, not}
 use mathlib.Core.List.{List}
@@ -14,20 +14,20 @@ use Rattle.state_blobs.specs.declared.CollectVerdict.the-variants as ver
 use Rattle.state_blobs.specs.declared.Collector.{Collector}
 use Rattle.state_blobs.specs.declared.CollectResult.{CollectResult}
 
--- a collector that holds nothing
+-- a collector that holds nothing (CE1)
 unfoldable pub newCollector : Collector
 newCollector = record { accepted = false; total = 0; held = 0 }
 
--- SB8. 02, E13: "It is complete exactly when a response was accepted and it holds totlength bytes."
+-- SB8. Request E13: "It is complete exactly when a response was accepted and it holds totlength bytes."
 unfoldable pub isComplete : Collector → Bool
 isComplete c = both (c .accepted) (eqb (c .held) (c .total))
 
--- "totlength differs from the first": from that of the first accepted response
+-- "totlength differs from the first" (SB4): from that of the first accepted response
 unfoldable pub otherTotal : Collector → ℕ → Bool
 otherTotal c total = both (c .accepted) (not (eqb (c .total) total))
 
--- SB4. 02, E13: "in the collector then: totlength differs from the first; held and new bytes past totlength; past the buffer; no data while bytes are
--- missing": for `n` new bytes of a blob, its total, and the size of the buffer
+-- SB4. Request E13: "in the collector then: totlength differs from the first; held and new bytes past totlength; past the buffer; no data
+-- while bytes are missing": for `n` new bytes of a blob, its total, and the size of the buffer
 unfoldable pub decide : Collector → ℕ → ℕ → ℕ → CollectVerdict
 decide c total n room =
     cond (otherTotal c total) (verdict.Refused refusal.TotalDiffers)
@@ -46,11 +46,11 @@ pub record Outcome : Type 0 where
 unfoldable pub outcome : CollectResult → List ℕ → Outcome
 outcome r b = record { verdict = r .verdict; collector = r .collector; buffer = b }
 
--- SB10. 02, E13: "On refusal collector and lent buffers stay unchanged."
+-- SB10. Request E13: "On refusal collector and lent buffers stay unchanged."
 unfoldable pub unchanged : StateRefusal → Collector → List ℕ → Outcome
 unchanged why c b = record { verdict = verdict.Refused why; collector = c; buffer = b }
 
--- "each after the bytes held": the new bytes `vs` are appended
+-- "each after the bytes held" (SB7): the new bytes `vs` are appended
 unfoldable pub pieceAppended : Collector → ℕ → List ℕ → List ℕ → Outcome
 pieceAppended c total vs b =
     record {
@@ -73,6 +73,6 @@ unfoldable pub collectGot : Got → Collector → List ℕ → Outcome
 collectGot (got p) c b = offerBytes c (p .total) (p .bytes) b
 collectGot (rejected why) c b = unchanged why c b
 
--- the outcome for a message, with the largest size of data: the reader's refusals come first
+-- the outcome for a message, with the largest size of data: the reader's refusals come first (SB4)
 unfoldable pub collect : ℕ → List ℕ → Collector → List ℕ → Outcome
 collect largest m c b = collectGot (readResponse largest m) c b

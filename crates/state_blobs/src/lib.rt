@@ -12,7 +12,8 @@ pub enum CollectVerdict {
     Refused(StateRefusal),
 }
 
-// The part of a blob held so far: whether a response was accepted, the totlength of the first accepted response, and the number of bytes held.
+// The part of a blob held so far: whether a response was accepted, the totlength of the first accepted response, and the number of bytes
+// held.
 pub struct Collector {
     pub accepted: bool,
     pub total: u32,
@@ -37,7 +38,7 @@ impl Collector {
         }
     }
 
-    // Whether the whole blob is held.
+    // Whether the whole blob is held (SB8).
     pub fn is_complete(self) -> bool
         ensures { λ r. ⌜ r ≡ isComplete self ⌝ }
     {
@@ -64,8 +65,8 @@ impl Collector {
         false
     }
 
-    // Whether `len` new bytes of a blob of `total` bytes may follow those held, in a buffer of `room` bytes. The sum has 64 bits, so it cannot
-    // overflow.
+    // Whether `len` new bytes of a blob of `total` bytes may follow those held, in a buffer of `room` bytes. The sum has 64 bits, so it
+    // cannot overflow.
     fn decide(self, total: u32, len: usize, room: usize) -> CollectVerdict
         requires { ⌜ len < 0x1_0000_0000 ⌝ }
         ensures { λ r. ⌜ r ≡ decide self total len room ⌝ }
@@ -124,7 +125,7 @@ impl Collector {
         }
     }
 
-    // Adds the data of a response to the bytes held in the buffer. On a refusal, collector and buffer stay unchanged.
+    // Adds the data of a response to the bytes held in the buffer. On a refusal, collector and buffer stay unchanged (SB10).
     pub fn collect(self, message: &[u8], largest: u32, buffer: &mut [u8]) -> CollectResult
         ensures { λ r. ⌜ outcome r (now (buffer .exit)) ≡ collect largest (now (message .entry)) self (now (buffer .entry)) ⌝ }
     {

@@ -1,4 +1,4 @@
--- Reading gives each refusal as 02's order requires, and otherwise the parts of the message. Assumes nothing.
+-- Reading gives each refusal as the order of SB4 requires, and otherwise the parts of the message. Assumes nothing.
 use Prim.Native.Nat.{ℕ, _+_, _*_, _≤_, _<_}
 use mathlib.Core.Path.{_≡_}
 use mathlib.Core.List.{List}
@@ -19,7 +19,7 @@ big-four at m h =
     let d = big-suc 3 at m (omega arith) in
     omega arith
 
--- 02, E13: "Refusals, in order, when reading", for a request
+-- Request E13: "Refusals, in order, when reading", for a request
 pub request-codes : (code : ℕ) (m : List ℕ) → RequestGives code m (readRequest code m)
 unfolding readRequest requestParts
 request-codes code m =

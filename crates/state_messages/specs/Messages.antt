@@ -1,6 +1,6 @@
--- The request for a piece of a state blob and the response that carries one, read and written (SB1, SB2). 02, E13: "all numbers 4-byte big-endian:
--- command code, state_flags, type and offset; the response is tpm_result, state_flags, totlength, length and that many bytes of data".
--- Assumes nothing.
+-- The request for a piece of a state blob and the response that carries one, read and written (SB1, SB2). Request E13: "all numbers 4-byte
+-- big-endian: command code, state_flags, type and offset; the response is tpm_result, state_flags, totlength, length and that many bytes of
+-- data". Assumes nothing.
 use Prim.Native.Nat.{ℕ, _+_, _^_, _<_}
 use mathlib.Core.Bool.{cond}
 use mathlib.Core.List.{List, _++_}
@@ -56,7 +56,7 @@ pub record Fits32Response (p : StateResponse) : Type 0 where
   pub total : p .total < 2 ^ 32
   pub bytes : length (p .bytes) < 2 ^ 32
 
--- ---- reading (SB4). 02, E13: "Refusals, in order, when reading: message cut short or too long; wrong code; length above the largest;
+-- ---- reading (SB4). Request E13: "Refusals, in order, when reading: message cut short or too long; wrong code; length above the largest;
 -- tpm_result not zero". A request has a code and no length, a response a length and no code.
 unfoldable pub requestParts : List ℕ → StateRequest
 requestParts m = record { code = bigAt 4 0 m; flags = bigAt 4 4 m; kind = bigAt 4 8 m; offset = bigAt 4 12 m }
@@ -94,7 +94,8 @@ unfoldable pub responseRead : Got → ResponseRead
 responseRead (got p) = told.Accepted (record { flags = p .flags; total = p .total; at = 16; len = length (p .bytes) })
 responseRead (rejected why) = told.Refused why
 
--- ---- writing, at the start of a buffer (SB4, SB6). 02, E13: "Writing refuses a length above the largest, then no room." and "On refusal ..
+-- ---- writing, at the start of a buffer (SB4, SB6). Request E13: "Writing refuses a length above the largest, then no room." and "On
+-- refusal ..
 -- lent buffers stay unchanged." A request has no length to refuse.
 pub record Message : Type 0 where
   pub answer : MessageWritten
@@ -104,7 +105,7 @@ pub record Message : Type 0 where
 abbrev pub notWritten : StateRefusal → List ℕ → Message
 notWritten why b = record { answer = wrote.Refused why; buffer = b }
 
--- a message written at the start of a buffer, or no room
+-- a message written at the start of a buffer, or no room (SB6)
 unfoldable pub writeMessage : List ℕ → List ℕ → Message
 writeMessage vs b =
     cond (ltb (length b) (length vs)) (notWritten refusal.NoRoom b)
@@ -114,7 +115,7 @@ writeMessage vs b =
 unfoldable pub writeRequest : StateRequest → List ℕ → Message
 writeRequest q b = writeMessage (requestMessage q) b
 
--- a response written: first the check of the largest size, then the room
+-- a response written: first the check of the largest size, then the room (SB4)
 unfoldable pub writeResponse : ℕ → StateResponse → List ℕ → Message
 writeResponse largest p b =
     cond (ltb largest (length (p .bytes))) (notWritten refusal.AboveLargest b)

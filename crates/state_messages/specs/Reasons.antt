@@ -1,6 +1,6 @@
 -- When a reader refuses a message and with which reason, and what it returns otherwise, as plain facts about the message's own bytes
--- (SB4, SB5). 02, E13: "Refusals, in order, when reading: message cut short or too long; wrong code; length above the largest; tpm_result
--- not zero". Assumes nothing.
+-- (SB4, SB5). Request E13: "Refusals, in order, when reading: message cut short or too long; wrong code; length above the largest;
+-- tpm_result not zero". Assumes nothing.
 use Prim.Native.Nat.{ℕ, _+_, _*_, _≤_, _<_}
 use mathlib.Core.Path.{_≡_}
 use mathlib.Core.List.{List}
@@ -13,11 +13,11 @@ use Rattle.state_messages.specs.declared.RequestRead.the-variants as ask
 use Rattle.state_messages.specs.declared.ResponseRead.{ResponseRead}
 use Rattle.state_messages.specs.declared.ResponseRead.the-variants as told
 
--- "4-byte big-endian": the number in the four bytes of `m` from `at` on
+-- "4-byte big-endian" (SB1): the number in the four bytes of `m` from `at` on
 abbrev pub bigNumber : ℕ → List ℕ → ℕ
 bigNumber at m = getD m at 0 * 0x1000000 + getD m (at + 1) 0 * 0x10000 + getD m (at + 2) 0 * 0x100 + getD m (at + 3) 0
 
--- `r` is what reading the request `m` with the expected `code` gives. "command code, state_flags, type and offset": 16 bytes.
+-- `r` is what reading the request `m` with the expected `code` gives. "command code, state_flags, type and offset" (SB2): 16 bytes.
 pub record RequestGives (code : ℕ) (m : List ℕ) (r : RequestRead) : Type 0 where
   pub cut-short : length m < 16 → r ≡ asked.Refused refusal.CutShort
   pub too-long : 16 < length m → r ≡ asked.Refused refusal.TooLong
@@ -26,7 +26,7 @@ pub record RequestGives (code : ℕ) (m : List ℕ) (r : RequestRead) : Type 0 w
       r ≡ asked.Accepted (record { code = code; flags = bigNumber 4 m; kind = bigNumber 8 m; offset = bigNumber 12 m })
 
 -- `r` is what reading the response `m` gives, with data of at most `largest` bytes: `no` of a reason, or `yes`. "tpm_result, state_flags,
--- totlength, length and that many bytes of data": 16 bytes, then as many as the fourth number says.
+-- totlength, length and that many bytes of data" (SB2): 16 bytes, then as many as the fourth number says.
 pub record ResponseGives {A : Type 0} (largest : ℕ) (m : List ℕ) (no : StateRefusal → A) (yes r : A) : Type 0 where
   pub no-head : length m < 16 → r ≡ no refusal.CutShort
   pub cut-short : 16 ≤ length m → length m < 16 + bigNumber 12 m → r ≡ no refusal.CutShort

@@ -1,4 +1,4 @@
--- 01's example 14 by its view, the same page with fields, a console's line, an empty section, and the three codes. Assumes nothing.
+-- Example 14 by its view, the same page with fields, a console's line, an empty section, and the three codes. Assumes nothing.
 use Prim.Native.Nat.{ℕ, zero, suc}
 use mathlib.Core.Path.{_≡_, refl}
 use mathlib.Core.List.{List, [], _∷_, _++_}

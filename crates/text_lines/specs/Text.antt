@@ -1,4 +1,4 @@
--- The listing's text, as ASCII numbers: 01's example 14 and the paragraph after it. Assumes nothing.
+-- The listing's text, as ASCII numbers (LS1 to LS6, example 14). Assumes nothing.
 use Prim.Native.Nat.{ℕ, zero, suc, _+_, _-_, _/_}
 use mathlib.Core.Bool.{cond}
 use mathlib.Core.List.{List, [], _∷_, _++_}
@@ -56,7 +56,7 @@ absentText = 97 ∷ 98 ∷ 115 ∷ 101 ∷ 110 ∷ 116 ∷ []
 unfoldable pub refusedText : List ℕ
 refusedText = 114 ∷ 101 ∷ 102 ∷ 117 ∷ 115 ∷ 101 ∷ 100 ∷ 32 ∷ []
 
--- the name of section k: `dram`, `console`, `ncoh`, `coh`
+-- the name of section k: `dram`, `console`, `ncoh`, `coh` (LS2)
 unfoldable pub titleText : ℕ → List ℕ
 titleText zero = 100 ∷ 114 ∷ 97 ∷ 109 ∷ []
 titleText (suc zero) = 99 ∷ 111 ∷ 110 ∷ 115 ∷ 111 ∷ 108 ∷ 101 ∷ []
@@ -77,7 +77,7 @@ places n = placesIn n n
 unfoldable pub decimal : ℕ → List ℕ
 decimal n = digits 10 (places n) n
 
--- a number in decimal, with `-` if it is negative
+-- a number in decimal, with `-` if it is negative (LS5)
 unfoldable pub signedDecimal : ℤ → List ℕ
 signedDecimal (pos n) = decimal n
 signedDecimal (negsuc n) = dash ++ decimal (suc n)
@@ -87,7 +87,7 @@ signedDecimal (negsuc n) = dash ++ decimal (suc n)
 unfoldable pub hexText : ℕ → List ℕ
 hexText w = zeroX ++ digits 16 16 w
 
--- a byte: two hex digits
+-- a byte: two hex digits (LS2)
 unfoldable pub byteText : ℕ → List ℕ
 byteText b = digits 16 2 b
 
@@ -95,7 +95,7 @@ byteText b = digits 16 2 b
 unfoldable pub nameByte : ℕ → ℕ → List ℕ
 nameByte w i = byteText (getD (leBytes 8 w) i 0)
 
--- the name of a console: its 8 bytes
+-- the name of a console: its 8 bytes (LS3)
 unfoldable pub nameText : ℕ → List ℕ
 nameText w = joined 8 (nameByte w)
 
@@ -113,15 +113,15 @@ gapText (suc j) = space
 unfoldable pub partText : ℕ → Shown → ℕ → ℕ → List ℕ
 partText k s i j = gapText j ++ wordText k j (entryWord k i j s)
 
--- entry i of section k, "all words in file order"
+-- entry i of section k, "all words in file order" (LS2)
 unfoldable pub entryText : ℕ → Shown → ℕ → List ℕ
 entryText k s i = joined (wordsPerEntry k) (partText k s i) ++ newline
 
--- "its count (0 if empty) and then a line an entry"
+-- "its count (0 if empty) and then a line an entry" (LS2)
 unfoldable pub countText : ℕ → Shown → List ℕ
 countText k s = decimal (entryCount k s) ++ newline ++ joined (entryCount k s) (entryText k s)
 
--- "A section has absent, or its count .."
+-- "A section has absent, or its count .." (LS2)
 unfoldable pub stateText : ℕ → Shown → List ℕ
 stateText k absent = absentText ++ newline
 stateText k empty = countText k empty
@@ -132,11 +132,11 @@ unfoldable pub sectionText : (ℕ → Shown) → ℕ → List ℕ
 sectionText s k = titleText k ++ space ++ stateText k (s k)
 
 -- ---- the two lines before the fields
--- "The first line has major.minor and e": w is the minor, and the major of an accepted version is 0
+-- "The first line has major.minor and e" (LS2): w is the minor, and the major of an accepted version is 0
 unfoldable pub headText : ℕ → ℕ → List ℕ
 headText w e = manifestText ++ decimal w ++ readAsText ++ decimal e ++ newline
 
--- "Platform is none or the pointer, written like a word."
+-- "Platform is none or the pointer, written like a word." (LS2)
 unfoldable pub pointerText : ℕ → List ℕ
 pointerText p = cond (eqb p 0) noneText (hexText p)
 
@@ -145,11 +145,11 @@ unfoldable pub platText : ℕ → List ℕ
 platText p = platformText ++ pointerText p ++ newline
 
 -- ---- fields
--- 02, E7: "each byte of the value as two lower-case hex digits, all parted by single spaces"
+-- Request E7: "each byte of the value as two lower-case hex digits, all parted by single spaces" (LS2, LS4)
 unfoldable pub valueByte : List ℕ → ℕ → List ℕ
 valueByte v i = space ++ byteText (getD v i 0)
 
--- all bytes of a value, each after a space
+-- all bytes of a value, each after a space (LS2, LS4)
 unfoldable pub valueText : List ℕ → List ℕ
 valueText v = joined (length v) (valueByte v)
 
@@ -157,12 +157,12 @@ valueText v = joined (length v) (valueByte v)
 unfoldable pub withdrawnText : List ℕ
 withdrawnText = 51 ∷ 32 ∷ 119 ∷ 105 ∷ 116 ∷ 104 ∷ 100 ∷ 114 ∷ 97 ∷ 119 ∷ 110 ∷ []
 
--- "tag and length in decimal, then each byte of the value"; 02, E10: "list it as `3 withdrawn`"
+-- "tag and length in decimal, then each byte of the value" (LS2); request E10: "list it as `3 withdrawn`"
 unfoldable pub fieldText : FieldShown → List ℕ
 fieldText (raw t v) = decimal t ++ space ++ decimal (length v) ++ valueText v ++ newline
 fieldText withdrawn = withdrawnText ++ newline
 
--- "one line a field in page order"
+-- "one line a field in page order" (LS2)
 unfoldable pub fieldsText : List FieldShown → List ℕ
 fieldsText [] = []
 fieldsText (f ∷ fs) = fieldText f ++ fieldsText fs
@@ -178,7 +178,7 @@ listingOf (shows w e q s) = headText w e ++ platText (q .pointer) ++ fieldsText 
 unfoldable pub printed : List ℕ → List ℕ
 printed input = listingOf (cond (eqb (length input) 4104) (readOf 4 (wordAt 0 input) (drop 8 input)) (refused (minus 5)))
 
--- LS6: the length of the longest listing: a 0.65535 page read as edition 1, whose fields take all bytes after the core, each with a tag above 99 and a
--- value of 1,000 bytes or more
+-- LS6: the length of the longest listing: a 0.65535 page read as edition 1, whose fields take all bytes after the core, each with a tag
+-- above 99 and a value of 1,000 bytes or more
 abbrev pub listingRoom : ℕ
 listingRoom = 12336

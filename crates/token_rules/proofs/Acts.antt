@@ -1,4 +1,4 @@
--- When the checks of record, page, platform and buffer pass, and what the lookup of a challenge then shows. The statements list 01's
+-- When the checks of record, page, platform and buffer pass, and what the lookup of a challenge then shows. The statements list the rules'
 -- conditions and use no definition of the checks. Assumes nothing.
 use Prim.Native.Nat.{ℕ, _-_, _≤_}
 use mathlib.Core.Path.{_≡_, refl, sym, ap, _∙_}

@@ -1,4 +1,4 @@
--- The checks of the lookup of the challenge, by 01's numbers. Assumes nothing.
+-- The checks of the lookup of the challenge, by the numbers of RT1. Assumes nothing.
 use Prim.Native.Nat.{ℕ}
 use mathlib.Core.Path.{_≡_, ap, _∙_}
 use mathlib.Core.Bool.{false, cond, not}

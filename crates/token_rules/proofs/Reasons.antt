@@ -1,6 +1,6 @@
--- When the token call gives each of its codes. 01: "platform busy AGAIN; outside BAD_ADDR; too long INVAL; c_size not 0, 32, 48 or 64 INVAL;
--- c_size above the buffer's size INVAL; c_size 0 with no session INVAL; token empty, or with c_size 0 of another length than at the session's
--- start, UNK." Assumes nothing.
+-- When the token call gives each of its codes. "platform busy AGAIN; outside BAD_ADDR; too long INVAL; c_size not 0, 32, 48 or 64 INVAL;
+-- c_size above the buffer's size INVAL; c_size 0 with no session INVAL; token empty, or with c_size 0 of another length than at the
+-- session's start, UNK." Assumes nothing.
 use Prim.Native.Nat.{ℕ, _<_}
 use mathlib.Core.Path.{_≡_, refl}
 use mathlib.Core.Bool.{Bool, true, false}
@@ -109,8 +109,8 @@ token-codes r page s busy token pa size c =
     (gives busy (busy ≡ true) Again next after (tells-yes busy) (λ f. h)))
     (λ u e w o l. rest-gives s (length token) size c))
 
--- The lookup of the challenge: "empty if the record is not up, the page is not 4,096 bytes long, or a BAD_ADDR or INVAL check above fails."; a
--- busy platform does not matter
+-- The lookup of the challenge: "empty if the record is not up, the page is not 4,096 bytes long, or a BAD_ADDR or INVAL check above
+-- fails."; a busy platform does not matter
 pub challenge-codes : (r : Record) (page : List ℕ) (pa size c : ℕ) →
     PageGives r (length page) (λ (after : Code → Type 0). after) BadAddr pa size (λ (u : Params).
     Gives ((c ≡ 0) ⊎ ChallengeSize c → ⊥) Inval

@@ -1,4 +1,4 @@
--- When calls on the platform token are accepted, and what the lookup of a challenge shows. Assumes nothing.
+-- When calls on the platform token are accepted, and what the lookup of a challenge shows (CM5). Assumes nothing.
 use Prim.Native.Nat.{ℕ, _-_, _≤_}
 use mathlib.Core.Path.{_≡_}
 use mathlib.Core.Bool.{Bool, true, false}
@@ -18,7 +18,7 @@ use Rattle.token_rules.specs.declared.Session.the-variants.{Idle}
 use Rattle.token_rules.specs.Token.{wholeOf}
 use Rattle.token_rules.specs.Calls.{TokenCall}
 
--- the sizes of a challenge, by "c_size not 0, 32, 48 or 64 INVAL"
+-- the sizes of a challenge, by "c_size not 0, 32, 48 or 64 INVAL" (CM5.5)
 abbrev pub ChallengeSize : ℕ → Type 0
 ChallengeSize c = (c ≡ 32) ⊎ ((c ≡ 48) ⊎ (c ≡ 64))
 
@@ -36,7 +36,7 @@ pub record TokenPassed (s : Session) (x : TokenCall) : Type 0 where
   pub token : 1 ≤ length (x .token)
   pub begun : x .csize ≡ 0 → (s ≡ Idle → ⊥) × (length (x .token) ≡ wholeOf s)
 
--- "the challenge, c_size bytes at pa, as that part of the page": its bytes, its place, and the code OK
+-- "the challenge, c_size bytes at pa, as that part of the page" (CM5.16): its bytes, its place, and the code OK
 pub record ChallengeActed (u : Params) (page : List ℕ) (pa c : ℕ) (bytes : List ℕ) (place : Span) (code : Code) : Type 0 where
   pub there : bytes ≡ part (pa - u .base) c page
   pub whole : length bytes ≡ c

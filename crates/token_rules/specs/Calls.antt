@@ -1,5 +1,5 @@
--- Calls of 0xC40001B3, one after another. 01: "With a fixed buffer of b bytes, b at least the start's c_size, one start and the same token
--- lent throughout, a token of L bytes takes exactly L / b calls, rounded up, refusals not counted". Assumes nothing.
+-- Calls of 0xC40001B3, one after another. "With a fixed buffer of b bytes, b at least the start's c_size, one start and the same token
+-- lent throughout, a token of L bytes takes exactly L / b calls, rounded up, refusals not counted" (CM5.13). Assumes nothing.
 use Prim.Native.Nat.{ℕ, _+_, _-_, _*_, _/_, min, _≤_, _<_}
 use mathlib.Core.Path.{_≡_}
 use mathlib.Core.Bool.{Bool, true, cond}
@@ -48,7 +48,7 @@ unfoldable pub sessionAfter : Session → List TokenCall → Session
 sessionAfter s [] = s
 sessionAfter s (x ∷ xs) = sessionAfter (tokenStepOf s x .session) xs
 
--- "refusals not counted": the number of calls that are OK
+-- "refusals not counted" (CM5.13): the number of calls that are OK
 unfoldable pub oksOf : Session → List TokenCall → ℕ
 oksOf s [] = 0
 oksOf s (x ∷ xs) = cond (tokenAccepted s x) 1 0 + oksOf (tokenStepOf s x .session) xs
@@ -63,27 +63,28 @@ unfoldable pub leftOf : ℕ → Session → List TokenCall → ℕ
 leftOf r s [] = r
 leftOf r s (x ∷ xs) = leftOf (cond (tokenAccepted s x) (tokenStepOf s x .answer .x2) r) (tokenStepOf s x .session) xs
 
--- "With a fixed buffer of b bytes, .. one start and the same token lent throughout": each call that is OK has c_size 0, this buffer size
--- and this token. A refused call may be any call.
+-- "With a fixed buffer of b bytes, .. one start and the same token lent throughout" (CM5.13): each call that is OK has c_size 0, this
+-- buffer size and this token. A refused call may be any call.
 abbrev pub GoesOn : List ℕ → ℕ → Session → List TokenCall → Type 0
 GoesOn token b s [] = Unit {0}
 GoesOn token b s (x ∷ xs) =
     (tokenAccepted s x ≡ true → (x .csize ≡ 0) × (x .size ≡ b) × (x .token ≡ token)) × GoesOn token b (tokenStepOf s x .session) xs
 
 -- ---- what the calls deliver together
--- "L / b calls, rounded up": ceil(l / b)
+-- "L / b calls, rounded up" (CM5.13): ceil(l / b)
 unfoldable pub ceil : ℕ → ℕ → ℕ
 ceil l b = (l + (b - 1)) / b
 
--- n calls are OK, their hunks joined are `bytes`, x2 of the last OK is `afterMending`, and the session after all is s. If it has ended, n is
--- ceil(L / b) and the hunks are the token; otherwise n is less, and the hunks are the token's first n * b bytes.
+-- n calls are OK, their hunks joined are `bytes`, x2 of the last OK is `left`, and the session after all is s. If it has ended, n
+-- is ceil(L / b) and the hunks are the token; otherwise n is less, and the hunks are the token's first n * b bytes.
 pub record Calls (token : List ℕ) (b n : ℕ) (bytes : List ℕ) (left : ℕ) (s : Session) : Type 0 where
   pub ended : s ≡ Idle → (n ≡ ceil (length token) b) × (bytes ≡ token) × (left ≡ 0)
   pub before : (s ≡ Idle → ⊥) → (n < ceil (length token) b) × (bytes ≡ take (n * b) token) × (left ≡ length token - n * b)
 
 -- ---- what one call makes, with a buffer of any size
--- "Each OK writes the next hunk, the smaller of buffer and rest, at pa; x1 is the hunk, x2 the rest. At rest 0 the session ends. Size 0 with c_size 0
--- moves nothing.": of a call that begins behind `sent` bytes of the token, what it left, and the bytes that then stand at pa
+-- "Each OK writes the next hunk, the smaller of buffer and rest, at pa; x1 is the hunk, x2 the rest. At rest 0 the session ends. Size 0
+-- with c_size 0 moves nothing." (CM5.10 to CM5.12): for a call that starts after `sent` bytes of the token: its answer, the session after
+-- it, and the bytes that are then at pa
 pub record NextHunk (token : List ℕ) (size sent : ℕ) (t : TokenStep) (bytes : List ℕ) : Type 0 where
   pub hunk : bytes ≡ take size (drop sent token)
   pub told : t .answer ≡ record { code = Ok; x0 = 0; x1 = min size (length token - sent); x2 = length token - (sent + size) }

@@ -44,11 +44,11 @@ module _ (s : TpmSession) (a : Arguments) (memory response : List ℕ) (forbidde
   unfolding commOf effectOf refusedStep
   comm-refused h = rw (ap isSuccess (sym code-is) ∙ h) (record { none = refl; session = refl; memory-same = refl })
 
-  -- a refusal happens only for 02's reason, and only if no earlier reason holds
+  -- a refusal happens only for its reason in TP3, and only if no earlier reason holds
   pub comm-reason : Reason a memory response forbidden fault (commOf s a memory response forbidden fault .code)
   comm-reason = subst (Reason a memory response forbidden fault) (sym code-is) (comm-why a memory response forbidden fault)
 
-  -- a call succeeds exactly if 02 has no refusal for it
+  -- a call succeeds exactly if TP3 has no refusal for it
   pub comm-accepts : commOf s a memory response forbidden fault .code ≡ Success → CommAccepts a memory response forbidden fault
   comm-accepts h = accepts a memory response forbidden fault (sym code-is ∙ h)
 

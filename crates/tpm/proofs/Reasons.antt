@@ -1,4 +1,4 @@
--- A refusal happens only for 02's reason, and only if no earlier reason holds. Assumes nothing.
+-- A refusal happens only for its reason in TP3, and only if no earlier reason holds. Assumes nothing.
 use Prim.Native.Nat.{ℕ, _+_, _≤_, _<_}
 use mathlib.Core.Path.{_≡_, refl, subst}
 use mathlib.Core.Bool.{Bool, true, false, cond, not}

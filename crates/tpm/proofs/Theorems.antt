@@ -1,4 +1,4 @@
--- 02, E9, over the definitions that the promises of H_TPM_COMM cite. Assumes nothing.
+-- request E9, over the definitions that the promises of H_TPM_COMM cite. Assumes nothing.
 use Prim.Native.Nat.{ℕ}
 use mathlib.Core.Path.{_≡_, sym, ap, _∙_}
 use mathlib.Core.Bool.{Bool, false}
@@ -24,7 +24,7 @@ pub record CommTheorems (s : TpmSession) (a : Arguments) (memory response : List
   -- TP6: "A refused call changes no memory or session."
   pub refused-changes-nothing : isSuccess (commOf s a memory response forbidden fault .code) ≡ false →
       Unchanged s memory (commOf s a memory response forbidden fault)
-  -- TP3: "Refusals, in order: ..": each code comes for 02's reason, and no earlier reason holds
+  -- TP3: "Refusals, in order: ..": each code comes for its own reason, and no earlier reason holds
   pub refused-with-reason : Reason a memory response forbidden fault (commOf s a memory response forbidden fault .code)
   -- no other call is refused
   pub accepted-otherwise : CommAccepts a memory response forbidden fault → commOf s a memory response forbidden fault .code ≡ Success
@@ -47,13 +47,13 @@ comm-theorems s a memory response forbidden fault =
       close-closes = comm-closed s a memory response forbidden fault;
     }
 
--- TP9: "A closed session closes again without complaint; execute opens one if none is open." Over any sequence of calls, from any session: it is open
--- exactly if the last accepted operation is execute, or no call was accepted and it was open at the start.
+-- TP9: "A closed session closes again without complaint; execute opens one if none is open." Over any sequence of calls, from any session:
+-- it is open exactly if the last accepted operation is execute, or no call was accepted and it was open at the start.
 pub open-exactly : (s : TpmSession) (xs : List CommCall) → OpenExactly s xs
 open-exactly = run-open
 
--- TP7: "The request can be asked for as its part of the first slice, empty for close or where a check before H_RESOURCE refuses.": its part for an execute
--- that the platform allows with both buffers in place, empty for any other call
+-- TP7: "The request can be asked for as its part of the first slice, empty for close or where a check before H_RESOURCE refuses.": its part
+-- for an execute that the platform allows with both buffers in place, empty for any other call
 pub record RequestTheorems (a : Arguments) (memory : List ℕ) (forbidden : Bool) : Type 0 where
   pub request-is-its-part : Reached a forbidden → Placed a (length memory) →
       tpmRequest a memory forbidden ≡ part (a .inbuffer) (a .insize) memory

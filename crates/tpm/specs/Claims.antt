@@ -1,4 +1,5 @@
--- What is proved of one call of H_TPM_COMM, without its chain of checks. Quotes are from 02, E9, or 003. Assumes nothing.
+-- What is proved of one call of H_TPM_COMM, without its chain of checks. Quotes are from request E9 or the H_TPM_COMM document. Assumes
+-- nothing.
 use Prim.Native.Nat.{ℕ, _+_, _≤_, _<_}
 use mathlib.Core.Path.{_≡_}
 use mathlib.Core.Bool.{Bool, true, false}
@@ -19,14 +20,15 @@ pub record Within (start size n : ℕ) : Type 0 where
   pub begins : start < n
   pub ends : start + size ≤ n
 
--- "both buffers lie inside guest memory", with sizes that 003 allows: "Must be less than or equal to 4KB", "Must be at least 4KB"
+-- "both buffers lie inside guest memory", with sizes that the H_TPM_COMM document allows: "Must be less than or equal to 4KB", "Must be at
+-- least 4KB" (TP3.3 to TP3.6)
 pub record Placed (a : Arguments) (n : ℕ) : Type 0 where
   pub input : Within (a .inbuffer) (a .insize) n
   pub output : Within (a .outbuffer) (a .outsize) n
   pub short : a .insize ≤ 4096
   pub wide : 4096 ≤ a .outsize
 
--- an execute with both buffers in place, no fault of the platform, and room for the response
+-- an execute with both buffers in place, no fault of the platform, and room for the response (TP3.3 to TP3.7)
 pub record Executes (a : Arguments) (memory response : List ℕ) (fault : Bool) : Type 0 where
   pub execute : a .operation ≡ 1
   pub placed : Placed a (length memory)
@@ -38,7 +40,7 @@ pub record CommAccepts (a : Arguments) (memory response : List ℕ) (forbidden f
   pub allowed : forbidden ≡ false
   pub kind : (a .operation ≡ 2) ⊎ Executes a memory response fault
 
--- ---- why a call returns its code: 02's condition for it, and none of the conditions before it
+-- ---- why a call returns its code: its condition in TP3, and none of the conditions before it
 -- an execute that the platform allows
 pub record Reached (a : Arguments) (forbidden : Bool) : Type 0 where
   pub allowed : forbidden ≡ false
@@ -75,6 +77,7 @@ pub record Unchanged (s : TpmSession) (memory : List ℕ) (t : CommStep) : Type 
   pub memory-same : t .memory ≡ memory
 
 -- r4 is the length of the response, the session is open, the response is at address `at`, and every byte before and after it is unchanged
+-- (TP4)
 pub record Written (at : ℕ) (memory response : List ℕ) (t : CommStep) : Type 0 where
   pub told : t .r4 ≡ length response
   pub session : t .session ≡ Open

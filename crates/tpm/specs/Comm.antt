@@ -1,4 +1,4 @@
--- H_TPM_COMM, the hypervisor's side, as 003 has it. Quotes are from 02, E9. Assumes nothing.
+-- H_TPM_COMM, the hypervisor's side, as the H_TPM_COMM document has it (TP1 to TP7). Quotes are from request E9. Assumes nothing.
 use Prim.Native.Nat.{ℕ, _+_}
 use mathlib.Core.Bool.{Bool, cond, not}
 use mathlib.Core.List.{List, []}
@@ -15,28 +15,28 @@ use Rattle.tpm.specs.declared.TpmSession.{TpmSession}
 use Rattle.tpm.specs.declared.TpmSession.the-variants.{None, Open}
 use Rattle.tpm.specs.ReturnCodes.{isSuccess, returnsIf}
 
--- "operations 1 (execute) and 2 (close)"
+-- "operations 1 (execute) and 2 (close)" (TP1)
 unfoldable pub isExecute : ℕ → Bool
 isExecute operation = eqb operation 1
 
--- operation 2
+-- operation 2 (TP1)
 unfoldable pub isClose : ℕ → Bool
 isClose operation = eqb operation 2
 
 -- ---- the checks; the last argument is the result of the checks after them
--- One buffer in a memory of `n` bytes, "starting at guest address 0": its start is inside, its size is not unfit by itself, and its end is not past
--- the memory's end.
+-- One buffer in a memory of `n` bytes, "starting at guest address 0" (TP2): its start is inside, its size is not unfit by itself, and its
+-- end is not past the memory's end.
 unfoldable pub bufferChecks : ReturnCode → ReturnCode → Bool → ℕ → ℕ → ℕ → ReturnCode → ReturnCode
 bufferChecks outside badsize unfit start size n rest =
     returnsIf (leb n start) outside
     (returnsIf (either unfit (ltb n (start + size))) badsize
     rest)
 
--- "H_P2 (request start not inside memory), H_P3 (size above 4,096 or past memory's end)"
+-- "H_P2 (request start not inside memory), H_P3 (size above 4,096 or past memory's end)" (TP3.3, TP3.4)
 abbrev pub inputChecks : Arguments → ℕ → ReturnCode → ReturnCode
 inputChecks a n rest = bufferChecks P2 P3 (ltb 4096 (a .insize)) (a .inbuffer) (a .insize) n rest
 
--- "H_P4 and H_P5 (size below 4,096 or past the end) alike for output"
+-- "H_P4 and H_P5 (size below 4,096 or past the end) alike for output" (TP3.5, TP3.6)
 abbrev pub outputChecks : Arguments → ℕ → ReturnCode → ReturnCode
 outputChecks a n rest = bufferChecks P4 P5 (ltb (a .outsize) 4096) (a .outbuffer) (a .outsize) n rest
 
@@ -44,7 +44,7 @@ outputChecks a n rest = bufferChecks P4 P5 (ltb (a .outsize) 4096) (a .outbuffer
 unfoldable pub buffersChecks : Arguments → ℕ → ReturnCode → ReturnCode
 buffersChecks a n rest = inputChecks a n (outputChecks a n rest)
 
--- "H_RESOURCE if the platform reports a fault or a response longer than the output"
+-- "H_RESOURCE if the platform reports a fault or a response longer than the output" (TP3.7)
 unfoldable pub resourceCheck : Arguments → List ℕ → Bool → ReturnCode
 resourceCheck a response fault = returnsIf (either fault (ltb (a .outsize) (length response))) Resource Success
 
@@ -60,7 +60,7 @@ callChecks a forbidden execute =
 unfoldable pub requestCode : Arguments → ℕ → Bool → ReturnCode
 requestCode a n forbidden = callChecks a forbidden (buffersChecks a n Success)
 
--- all checks
+-- all checks (TP3)
 unfoldable pub commCode : Arguments → List ℕ → List ℕ → Bool → Bool → ReturnCode
 commCode a memory response forbidden fault = callChecks a forbidden (buffersChecks a (length memory) (resourceCheck a response fault))
 
@@ -107,6 +107,6 @@ hasRequest a n forbidden = both (isExecute (a .operation)) (isSuccess (requestCo
 unfoldable pub tpmRequest : Arguments → List ℕ → Bool → List ℕ
 tpmRequest a memory forbidden = cond (hasRequest a (length memory) forbidden) (part (a .inbuffer) (a .insize) memory) []
 
--- offset and length of the request in a memory of `n` bytes; both 0 if there is no request
+-- offset and length of the request in a memory of `n` bytes; both 0 if there is no request (TP7)
 unfoldable pub tpmRequestSpan : Arguments → ℕ → Bool → Span
 tpmRequestSpan a n forbidden = cond (hasRequest a n forbidden) (spanAt (a .inbuffer) (a .insize)) noSpan

@@ -1,10 +1,11 @@
--- The return codes of H_TPM_COMM. 003: "r3 : H_Success .. H_FUNCTION". 02, E9: "Answers are by name." Assumes nothing.
+-- The return codes of H_TPM_COMM, whose document has "r3 : H_Success .. H_FUNCTION". Request E9: "Answers are by name." (TP3) Assumes
+-- nothing.
 use mathlib.Core.Bool.{Bool, true, false}
 use lib.IntN.{ℤ, pos, negsuc}
 use Rattle.tpm.specs.declared.ReturnCode.{ReturnCode}
 use Rattle.tpm.specs.declared.ReturnCode.the-variants.{Success, Function, Parameter, P2, P3, P4, P5, Resource}
 
--- their numbers: 003 gives none, these are PAPR's; `negsuc n` is -(n + 1)
+-- their numbers, which are PAPR's (TP3): the H_TPM_COMM document gives none; `negsuc n` is -(n + 1)
 abbrev pub hcallNumber : ReturnCode → ℤ
 hcallNumber Success = pos 0
 hcallNumber Function = negsuc 1

@@ -1,4 +1,4 @@
--- Calls of H_TPM_COMM one after another, and the session over them. Assumes nothing.
+-- Calls of H_TPM_COMM one after another, and the session over them (TP9). Assumes nothing.
 use Prim.Native.Nat.{ℕ}
 use mathlib.Core.Path.{_≡_}
 use mathlib.Core.Bool.{Bool, cond}
@@ -47,7 +47,7 @@ latestOf s [] = no-operation
 latestOf s (x ∷ xs) =
     latestOr (latestOf (commStep s x .session) xs) (cond (commAccepted s x) (operation (x .asked .operation)) no-operation)
 
--- the last accepted operation is execute, or no call was accepted and `start` holds
+-- the last accepted operation is execute, or no call was accepted and `start` holds (TP9)
 abbrev pub OpenBy : Latest → Type 0 → Type 0
 OpenBy l start = (l ≡ operation 1) ⊎ ((l ≡ no-operation) × start)
 

@@ -1,5 +1,5 @@
-// H_TPM_COMM, the hypervisor's side: a guest sends a request to a TPM and gets the response, or closes its TPM session. The guest memory is lent from
-// guest address 0 on, so a guest physical address is an offset into it.
+// H_TPM_COMM, the hypervisor's side: a guest sends a request to a TPM and gets the response, or closes its TPM session. The guest memory is
+// lent from guest address 0 on, so a guest physical address is an offset into it.
 use words::Span;
 ghost use mathlib.Core.Path.{_≡_};
 ghost use lib.ListN.{length};
@@ -8,7 +8,7 @@ ghost use Rattle.tpm.specs.declared.TpmSession.the-variants.{None};
 ghost use Rattle.tpm.specs.ReturnCodes.{hcallNumber, isSuccess};
 ghost use Rattle.tpm.specs.Comm.{bufferChecks, buffersChecks, requestCode, stepLeft, commOf, tpmRequest, tpmRequestSpan};
 
-// The return codes of 003, without their H_.
+// The return codes of H_TPM_COMM, without their H_ (TP3).
 pub enum ReturnCode {
     Success,
     Function,
@@ -42,7 +42,8 @@ pub struct CommResult {
     pub session: TpmSession,
 }
 
-// The arguments of 003, r4 to r8: the operation (1 execute, 2 close), address and size of the request, address and size of the output.
+// The arguments of H_TPM_COMM, r4 to r8 (TP1): the operation (1 execute, 2 close), address and size of the request, address and size
+// of the output.
 pub struct Arguments {
     pub operation: u64,
     pub inbuffer: u64,
@@ -83,8 +84,8 @@ pub fn is_success(code: ReturnCode) -> bool
     }
 }
 
-// Checks one buffer in a memory of `len` bytes: its start, then its size (`unfit` if the caller rejects it by itself), then its end. Subtracts,
-// because the sum could overflow.
+// Checks one buffer in a memory of `len` bytes: its start, then its size (`unfit` if the caller rejects it by itself), then its end.
+// Subtracts, because the sum could overflow.
 fn buffer_check(
     outside: ReturnCode,
     badsize: ReturnCode,
@@ -148,8 +149,8 @@ fn outcome(code: ReturnCode, r4: u64, session: TpmSession) -> CommResult
     CommResult { code, r4, session }
 }
 
-// H_TPM_COMM. Execute writes the platform's response at `outbuffer` and opens a session unless one is open; r4 is the length of the response. Close
-// closes the session. A refused call changes nothing. Read the request before this call: the response may overwrite it.
+// H_TPM_COMM. Execute writes the platform's response at `outbuffer` and opens a session unless one is open; r4 is the length of the
+// response. Close closes the session. A refused call changes nothing. Read the request before this call: the response may overwrite it.
 pub fn comm(
     session: TpmSession,
     asked: Arguments,

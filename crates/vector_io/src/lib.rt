@@ -109,7 +109,7 @@ pub fn same(a: &[u8], b: &[u8]) -> bool
     true
 }
 
-// Prints the name `what`, and whether `waitingItems` equals `expected`.
+// Prints the name `what`, and whether `held` equals `expected`.
 pub fn print_same(what: &[u8], held: &[u8], expected: &[u8]) {
     io::write_all(STDOUT_FILENO, what);
     if same(held, expected) {

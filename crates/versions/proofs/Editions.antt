@@ -10,7 +10,7 @@ use Rattle.words.specs.Tests.{Yes}
 use Rattle.words.proofs.Tests.{both-l, both-r, both-of}
 use Rattle.versions.specs.Edition.{sectionCount, core, editionOk}
 
--- 01's core sizes
+-- the core sizes of ML2
 pub core-sizes : (core 1 ≡ 16) × (core 2 ≡ 40) × (core 3 ≡ 64) × (core 4 ≡ 112)
 unfolding core sectionCount
 core-sizes = (refl, refl, refl, refl)

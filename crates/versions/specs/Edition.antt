@@ -1,4 +1,4 @@
--- 01, Manifest layout: "An edition is a minor of this layout." Assumes nothing.
+-- "An edition is a minor of this layout." (VN5) Assumes nothing.
 use Prim.Native.Nat.{ℕ, zero, suc, _+_, _*_}
 use mathlib.Core.Bool.{Bool}
 use lib.Dec.{leb}

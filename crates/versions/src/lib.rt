@@ -80,7 +80,7 @@ impl Edition {
     // Core size of edition 4, in bytes.
     pub const CORE_4: u64 = 112;
 
-    // The core size of this edition, in bytes.
+    // The core size of this edition, in bytes (ML2).
     pub fn core_size(self) -> u64
         ensures { λ r. ⌜ (r ≡ core (self .minor)) × (r ≤ 112) ⌝ }
     {

@@ -1,4 +1,4 @@
--- Numbers in bytes. 01: "All fields are little-endian (house rule)." Assumes nothing.
+-- Numbers in bytes. "All fields are little-endian (house rule)." (PG2) Assumes nothing.
 use Prim.Native.Nat.{ℕ, zero, suc, _+_, _*_, _/_, _%_, _^_}
 use mathlib.Core.Bool.{Bool, true, cond}
 use mathlib.Core.List.{List, [], _∷_, _++_}
@@ -21,7 +21,7 @@ leBytes (suc n) x = x % 256 ∷ leBytes n (x / 256)
 unfoldable pub part : ℕ → ℕ → List ℕ → List ℕ
 part off n s = take n (drop off s)
 
--- the n-byte number at off; a byte past the end counts as 0
+-- the n-byte number at off; a byte past the end counts as 0 (PG5)
 unfoldable pub numAt : ℕ → ℕ → List ℕ → ℕ
 numAt n off s = leOf (part off n s)
 
@@ -29,7 +29,7 @@ numAt n off s = leOf (part off n s)
 abbrev pub wordAt : ℕ → List ℕ → ℕ
 wordAt off s = numAt 8 off s
 
--- the 4-byte half at off
+-- the 4-byte number at off
 abbrev pub u32At : ℕ → List ℕ → ℕ
 u32At off s = numAt 4 off s
 
@@ -57,7 +57,7 @@ joined (suc n) f = joined n f ++ f n
 unfoldable pub splice : ℕ → List ℕ → List ℕ → List ℕ
 splice off vs s = take off s ++ vs ++ drop (off + length vs) s
 
--- the same if all of vs fits, otherwise s unchanged
+-- the same if all of vs fits, otherwise s unchanged (PG5)
 unfoldable pub laid : ℕ → List ℕ → List ℕ → List ℕ
 laid off vs s = cond (leb (off + length vs) (length s)) (splice off vs s) s
 

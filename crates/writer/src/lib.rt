@@ -154,8 +154,8 @@ fn put_page(
     words::clear(&mut page[end..]);
 }
 
-// Writes the manifest of an edition for a base into the lent page: core, arrays and fields, and zero everywhere else. If a check refuses, in 01's
-// order, the page stays unchanged. The promise that the lists hold 64-bit words is a premise of `written` in demand 3.
+// Writes the manifest of an edition for a base into the lent page: core, arrays and fields, and zero everywhere else. If a check refuses,
+// in the order of WR3, the page stays unchanged. The promise that the lists hold 64-bit words is a premise of `written` in demand 3.
 pub fn write(
     base: u64,
     edition: u64,

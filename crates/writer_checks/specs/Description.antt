@@ -1,5 +1,5 @@
--- The description that the writer takes, and its checks W3 to W5. 01: "four lists of 64-bit words (2 words an entry, 6 for a console)"; 02,
--- E7: "The writer takes a list of fields". Assumes nothing.
+-- The description that the writer takes, and its checks W3 to W5. "four lists of 64-bit words (2 words an entry, 6 for a console)" (WR1);
+-- request E7: "The writer takes a list of fields" (WR2). Assumes nothing.
 use Prim.Native.Nat.{ℕ, zero, suc, _+_, _*_, _/_, _%_}
 use mathlib.Core.Bool.{Bool}
 use mathlib.Core.List.{List, [], _∷_, _++_}
@@ -11,7 +11,7 @@ use Rattle.versions.specs.Edition.{sectionCount, core}
 use Rattle.entries.specs.Entry.{wordsPerEntry, entriesOk}
 use Rattle.fields.specs.Fields.{scanOf, describable, endMark}
 
--- a description: the words of each section's list, and the bytes of the fields without an end mark
+-- a description: the words of each section's list, and the bytes of the fields without an end mark (WR1, WR2)
 pub record Description : Type 0 where
   pub lists : ℕ → List ℕ
   pub fields : List ℕ
@@ -44,7 +44,7 @@ descriptionOk v d = both (listsOk v (d .lists)) (describable (scanOf (d .fields)
 unfoldable pub laterSectionsEmpty : ℕ → (ℕ → List ℕ) → Bool
 laterSectionsEmpty v l = every 4 (λ k. either (ltb k (sectionCount v)) (eqb (length (l k)) 0))
 
--- the fields followed by their end mark; [] if there are no fields
+-- the fields followed by their end mark; [] if there are no fields (WR8)
 unfoldable pub withMark : List ℕ → List ℕ
 withMark [] = []
 withMark (b ∷ bs) = (b ∷ bs) ++ endMark
@@ -53,6 +53,6 @@ withMark (b ∷ bs) = (b ∷ bs) ++ endMark
 unfoldable pub platBytes : Description → List ℕ
 platBytes d = withMark (d .fields)
 
--- W5: "core and arrays exceed 4,096 bytes"; 02, E7: "W5 counts the fields and, if there are any, their end mark"
+-- W5: "core and arrays exceed 4,096 bytes"; request E7: "W5 counts the fields and, if there are any, their end mark"
 unfoldable pub used : ℕ → Description → ℕ
 used v d = core v + 8 * length (joined 4 (d .lists)) + length (platBytes d)

@@ -91,7 +91,7 @@ module _ (base v s : ℕ) (d : Description) (g : Fit base v d) (e : core v ≡ s
   unfolding core
   in-core k h = omega arith
 
-  -- the bytes after the arrays: `afterMending` zeros after the fields and their end mark
+  -- the bytes after the arrays: `left` zeros after the fields and their end mark
   abbrev left : ℕ
   left = 4096 - length (bytesOf (coreWords base v d ++ joined 4 (d .lists)) ++ withMark (d .fields))
 

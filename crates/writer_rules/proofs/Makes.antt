@@ -1,4 +1,5 @@
--- When the writer makes a page and which refusal it returns otherwise, as plain facts. A writer that refuses everything fails here. Assumes nothing.
+-- When the writer makes a page and which refusal it returns otherwise, as plain facts. A writer that refuses everything fails here. Assumes
+-- nothing.
 use Prim.Native.Nat.{ℕ, zero, suc, _+_, _-_, _*_, _/_, _%_, _≤_, _<_}
 use mathlib.Core.Path.{_≡_, refl}
 use mathlib.Core.Bool.{false}
@@ -203,7 +204,7 @@ room-only v d h = (
   λ e. room-at v 112 d (rw e (core-sizes .3)) h,
 )
 
--- ---- "A page is made when the writer does not refuse", and the writer refuses only for 01's reasons
+-- ---- "A page is made when the writer does not refuse", and the writer refuses only for W1 to W5
 module _ (base n v : ℕ) (d : Description) where
   pub makes : Unrefused base n v d → writeOf base n v d ≡ a-page (pageOf base v d)
   makes t =

@@ -1,6 +1,6 @@
--- Where each part of a page that the writer makes is, as plain facts about its bytes (WR6 to WR8). 01: "It writes the core, plat_data 0,
--- then the arrays at once after it in section order, and zero everywhere else. An empty list gives 24 zero bytes." 02, E7: "places them in
--- list order at once after core and arrays and points at them, or writes pointer 0 if there are none". Assumes nothing.
+-- Where each part of a page that the writer makes is, as plain facts about its bytes (WR6 to WR8). "It writes the core, plat_data 0,
+-- then the arrays at once after it in section order, and zero everywhere else. An empty list gives 24 zero bytes." Request E7: "places them
+-- in list order at once after core and arrays and points at them, or writes pointer 0 if there are none". Assumes nothing.
 use Prim.Native.Nat.{ℕ, zero, suc, _+_, _*_, _%_, _^_, _≤_, _<_}
 use mathlib.Core.Path.{_≡_}
 use mathlib.Core.List.{List}
@@ -17,7 +17,7 @@ wordsBefore (suc k) l = wordsBefore k l + length (l k)
 -- WR7: count, pointer and checksum of section k, with c, p and x the three words: `ws` is its list and `a` the address of its array
 pub record SectionIs (k a : ℕ) (ws : List ℕ) (c p x : ℕ) : Type 0 where
   pub empty : length ws ≡ 0 → (c ≡ 0) × (p ≡ 0) × (x ≡ 0)
-  -- "2 words an entry, 6 for a console"; consoles are section 1
+  -- "2 words an entry, 6 for a console" (WR1); consoles are section 1
   pub count : (k ≡ 1 → 6 * c ≡ length ws) × ((k ≡ 1 → ⊥) → 2 * c ≡ length ws)
   pub pointer : 0 < length ws → p ≡ a
   pub checksum : (c + p + sum ws + x) % 2 ^ 64 ≡ 0
@@ -40,7 +40,7 @@ pub record LaidAfter (s base v : ℕ) (d : Description) (page : List ℕ) : Type
   -- zero everywhere else; the end mark of fields is three zero bytes, for which W5 keeps room
   pub rest : (i : ℕ) → s + 8 * wordsBefore 4 (d .lists) + length (d .fields) ≤ i → getD page i 0 ≡ 0
 
--- "Core sizes are 16, 40, 64 and 112 bytes for editions 1 to 4"
+-- "Core sizes are 16, 40, 64 and 112 bytes for editions 1 to 4" (ML2)
 abbrev pub LayoutFacts : ℕ → ℕ → Description → List ℕ → Type 0
 LayoutFacts base v d page =
     (v ≡ 1 → LaidAfter 16 base v d page) × (v ≡ 2 → LaidAfter 40 base v d page)

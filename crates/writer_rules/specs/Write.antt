@@ -1,7 +1,7 @@
--- The writer. 01: "The writer takes B, an edition, four lists of 64-bit words (2 words an entry, 6 for a console) and a page. It
+-- The writer. "The writer takes B, an edition, four lists of 64-bit words (2 words an entry, 6 for a console) and a page. It
 -- writes the core, plat_data 0, then the arrays at once after it in section order, and zero everywhere else. An empty list gives
--- 24 zero bytes." 02, E7: "The writer takes a list of fields, places them in list order at once after core and arrays and points at
--- them, or writes pointer 0 if there are none." Assumes nothing.
+-- 24 zero bytes." (WR1, WR6, WR7) Request E7: "The writer takes a list of fields, places them in list order at once after core and arrays
+-- and points at them, or writes pointer 0 if there are none." (WR6, WR8) Assumes nothing.
 use Prim.Native.Nat.{ℕ, _+_, _-_, _*_, _/_, _%_, _^_}
 use mathlib.Core.Bool.{Bool, true, false, cond}
 use mathlib.Core.List.{List, [], _∷_, _++_}
@@ -16,7 +16,7 @@ use Rattle.reader.specs.Answer.{Shown, absent, empty, full, PlatShown}
 use Rattle.fields.specs.Fields.{scanOf, fieldsDescribed, shownFields}
 use Rattle.writer_checks.specs.Description.{Description, descriptionOk, laterSectionsEmpty, platBytes, used}
 
--- the word that makes a sum 0 modulo 2^64
+-- the word that makes a sum 0 modulo 2^64 (ML6)
 unfoldable pub neg : ℕ → ℕ
 neg x = (2 ^ 64 - x % 2 ^ 64) % 2 ^ 64
 
@@ -27,7 +27,7 @@ descriptor k p (w ∷ ws) =
     let c = length (w ∷ ws) / wordsPerEntry k in
     c ∷ p ∷ neg (c + p + sum (w ∷ ws)) ∷ []
 
--- the address of the array of section `k`: after the core and the first `k` arrays
+-- the address of the array of section `k`: after the core and the first `k` arrays (WR7)
 unfoldable pub arrayAddress : ℕ → ℕ → (ℕ → List ℕ) → ℕ → ℕ
 arrayAddress base v l k = base + (core v + 8 * length (joined k l))
 
@@ -40,7 +40,7 @@ unfoldable pub pointTo : ℕ → List ℕ → ℕ
 pointTo a [] = 0
 pointTo a (b ∷ bs) = a
 
--- the fields start where a fifth array would
+-- the fields start where a fifth array would (WR6, WR8)
 unfoldable pub platWord : ℕ → ℕ → Description → ℕ
 platWord base v d = pointTo (arrayAddress base v (d .lists) 4) (d .fields)
 
@@ -48,7 +48,7 @@ platWord base v d = pointTo (arrayAddress base v (d .lists) 4) (d .fields)
 unfoldable pub coreWords : ℕ → ℕ → Description → List ℕ
 coreWords base v d = v ∷ platWord base v d ∷ joined (sectionCount v) (descriptorAt base v (d .lists))
 
--- the bytes, then zero up to the end of the page
+-- the bytes, then zero up to the end of the page (WR6)
 unfoldable pub filled : List ℕ → List ℕ
 filled bs = bs ++ replicate (4096 - length bs) 0
 
@@ -79,7 +79,7 @@ writeOf base n v d = writerGate (placeOk base n) (editionOk v) (descriptionOk v 
 unfoldable pub descriptionFits : Description → Bool
 descriptionFits d = every 4 (λ k. areWords (d .lists k))
 
--- "as they were described": a list is shown as its words, in order, with their bytes; an empty list as an empty section
+-- "as they were described" (CP5): a list is shown as its words, in order, with their bytes; an empty list as an empty section
 unfoldable pub shownList : List ℕ → Shown
 shownList [] = empty
 shownList (w ∷ ws) = full (w ∷ ws) (bytesOf (w ∷ ws))

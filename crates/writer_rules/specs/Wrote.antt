@@ -7,7 +7,7 @@ use Rattle.writer_rules.specs.Write.{Made, no-page, a-page, writeOf}
 use Rattle.writer_rules.specs.declared.Wrote.{Wrote}
 use Rattle.writer_rules.specs.declared.Wrote.the-variants.{Page, Place, Edition, BadEntry, SectionAfterEdition, TooLong}
 
--- "The writer takes B, an edition, four lists of 64-bit words .. and a page."; 02, E7: "The writer takes a list of fields"
+-- "The writer takes B, an edition, four lists of 64-bit words .. and a page."; request E7: "The writer takes a list of fields" (WR1, WR2)
 abbrev pub writeLists : ℕ → ℕ → List ℕ → List ℕ → List ℕ → List ℕ → List ℕ → List ℕ → Made
 writeLists base v dram console ncoh coh fields page = writeOf base (length page) v (descriptionOf dram console ncoh coh fields)
 
@@ -20,7 +20,7 @@ madeBy page BadEntry = no-page 3
 madeBy page SectionAfterEdition = no-page 4
 madeBy page TooLong = no-page 5
 
--- the lent page at exit: "the page stays untouched", or the one made
+-- the lent page at exit: "the page stays untouched" (WR3), or the one made
 unfoldable pub pageAfter : List ℕ → Made → List ℕ
 pageAfter page (no-page n) = page
 pageAfter page (a-page p) = p
